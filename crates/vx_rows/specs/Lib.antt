@@ -1,0 +1,10 @@
+pub mod Meaning
+pub mod Columns
+pub mod Masks
+pub mod Steps
+pub mod Policies
+pub mod Document
+pub mod Later
+pub mod Text
+pub mod Commands
+pub mod Program

@@ -1,0 +1,7 @@
+pub mod Step
+pub mod Cause
+pub mod Walk
+pub mod Answer
+pub mod Select
+pub mod Applied
+pub mod Laws

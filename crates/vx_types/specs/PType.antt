@@ -1,0 +1,121 @@
+-- The primitive types: their widths, and the numbers that their bytes spell.
+use Rattle.std.specs.Prelude.{◌≡◌, ℕ, ◌^◌, ℤ, pos, neg_ℤ, int_le, zero, suc, refl, Bool, true, false, ◌&&◌, List, take, if◌then◌else◌}
+use Rattle.std.specs.Int.{Width, w8, w16, w32, w64, w128, to_le_bytes, from_le_bytes, cast_signed, cast_unsigned}
+use Rattle.std.proofs.Common.{sym, ap, ◌∙◌}
+use base.Stored.{Gv, gnil, gnum, gcons, Coded}
+use Rattle.vx_types.specs.declared.ptype.PType.{PType}
+use Rattle.vx_types.specs.declared.ptype.PType.TheVariants.{U8, U16, U32, U64, I8, I16, I32, I64}
+
+-- bytes of a value
+abbrev pub width : PType → ℕ
+width U8 = 1
+width U16 = 2
+width U32 = 4
+width U64 = 8
+width I8 = 1
+width I16 = 2
+width I32 = 4
+width I64 = 8
+
+abbrev pub is_int : PType → Bool
+is_int U8 = true
+is_int U16 = true
+is_int U32 = true
+is_int U64 = true
+is_int I8 = true
+is_int I16 = true
+is_int I32 = true
+is_int I64 = true
+
+abbrev pub is_signed : PType → Bool
+is_signed U8 = false
+is_signed U16 = false
+is_signed U32 = false
+is_signed U64 = false
+is_signed I8 = true
+is_signed I16 = true
+is_signed I32 = true
+is_signed I64 = true
+
+-- the Rust type's width
+abbrev pub int_width : PType → Width
+int_width U8 = w8
+int_width U16 = w16
+int_width U32 = w32
+int_width U64 = w64
+int_width I8 = w8
+int_width I16 = w16
+int_width I32 = w32
+int_width I64 = w64
+
+-- the number that a record's bytes spell, the lowest first, in two's complement where the type is signed
+abbrev pub number : PType → List ℕ → ℤ
+number p bytes = if is_signed p then cast_signed (int_width p) (from_le_bytes (int_width p) bytes) else pos (from_le_bytes (int_width p) bytes)
+
+-- the least number of the type
+abbrev pub least : PType → ℤ
+least U8 = pos 0
+least U16 = pos 0
+least U32 = pos 0
+least U64 = pos 0
+least I8 = neg_ℤ (pos (2 ^ 7))
+least I16 = neg_ℤ (pos (2 ^ 15))
+least I32 = neg_ℤ (pos (2 ^ 31))
+least I64 = neg_ℤ (pos (2 ^ 63))
+
+-- the greatest
+abbrev pub greatest : PType → ℤ
+greatest U8 = pos 255
+greatest U16 = pos 65535
+greatest U32 = pos 4294967295
+greatest U64 = pos 18446744073709551615
+greatest I8 = pos 127
+greatest I16 = pos 32767
+greatest I32 = pos 2147483647
+greatest I64 = pos 9223372036854775807
+
+abbrev pub is_in_range : PType → ℤ → Bool
+is_in_range p z = int_le (least p) z && int_le z (greatest p)
+
+-- the lowest w bytes of a number in two's complement, the lowest first
+unfoldable pub record_of : ℕ → ℤ → List ℕ
+record_of w z = take w (to_le_bytes w128 (cast_unsigned w128 z))
+
+-- ---- its code
+abbrev pub ptype_code : PType → Gv
+ptype_code U8 = gnum 0
+ptype_code U16 = gnum 1
+ptype_code U32 = gnum 2
+ptype_code U64 = gnum 3
+ptype_code I8 = gnum 4
+ptype_code I16 = gnum 5
+ptype_code I32 = gnum 6
+ptype_code I64 = gnum 7
+
+abbrev ptype_numbered : ℕ → PType
+ptype_numbered zero = U8
+ptype_numbered (suc zero) = U16
+ptype_numbered (suc (suc zero)) = U32
+ptype_numbered (suc (suc (suc zero))) = U64
+ptype_numbered (suc (suc (suc (suc zero)))) = I8
+ptype_numbered (suc (suc (suc (suc (suc zero))))) = I16
+ptype_numbered (suc (suc (suc (suc (suc (suc zero)))))) = I32
+ptype_numbered (suc (suc (suc (suc (suc (suc (suc n))))))) = I64
+
+abbrev pub ptype_back : Gv → PType
+ptype_back gnil = U8
+ptype_back (gnum n) = ptype_numbered n
+ptype_back (gcons a b) = U8
+
+pub ptype_back_code : (p : PType) → ptype_back (ptype_code p) ≡ p
+ptype_back_code U8 = refl
+ptype_back_code U16 = refl
+ptype_back_code U32 = refl
+ptype_back_code U64 = refl
+ptype_back_code I8 = refl
+ptype_back_code I16 = refl
+ptype_back_code I32 = refl
+ptype_back_code I64 = refl
+
+abbrev pub coded_ptype : Coded PType
+coded_ptype = record { code = ptype_code; inj = λ x y p. sym (ptype_back_code x) ∙ ap ptype_back p ∙ ptype_back_code y }
