@@ -1,0 +1,3 @@
+pub mod Counted
+pub mod Saturating
+pub mod formers
