@@ -1,0 +1,3 @@
+pub mod BitBuffer
+pub mod Made
+pub mod Records

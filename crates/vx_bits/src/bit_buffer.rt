@@ -1,0 +1,220 @@
+//! A shared list of bits.
+ghost use Rattle.std.specs.Prelude.{◌≡◌, ◌+◌, ◌-◌, ◌*◌, ◌%◌, ◌^◌, ◌<◌, ◌≤◌, ◌↔◌, IsTrue, IfOk, length, slice_index_or, slice_range, false};
+ghost use Rattle.vx_bits.specs.BitBuffer.{bit_fault, bits_of, number_of, true_count_of};
+ghost use Rattle.vx_bits.specs.Made.{made};
+
+use crate::buffer::Buffer;
+use crate::error::NoMemory;
+use std::alloc::Global;
+use std::marker::Model;
+
+/// Why bytes do not hold the bits that were asked for.
+#[derive(Debug, Clone, Copy, PartialEq, Eq)]
+pub enum BitError {
+    /// The offset is above 7.
+    Offset,
+    /// The offset and the length pass `usize::MAX`, or the bits that the bytes have.
+    Short,
+}
+
+/// A list of bits that is shared, not copied: `BitBuffer` of the crate.
+///
+/// Clauses see the bits, and the offset of the first one in its byte. In each byte the least
+/// significant bit comes first.
+#[derive(Drop)]
+pub struct BitBuffer {
+    bytes: Buffer<u8>,
+    offset: usize,
+    len: usize,
+}
+
+impl Model for BitBuffer {
+    ghost use Rattle.std.specs.Prelude.{◌≡◌, length, None};
+    ghost use Rattle.vx_bits.specs.BitBuffer.{PlacedBits, bit_fault, bits_of};
+
+    ghost Value = { PlacedBits };
+
+    ghost view = { λ b. record { bits = bits_of b.bytes b.offset b.len; offset = b.offset } };
+
+    ghost invariant = { λ b. bit_fault (length b.bytes) b.offset b.len ≡ None };
+}
+
+impl BitBuffer {
+    /// The `len` bits of `bytes` from bit `offset` on. It takes no memory.
+    ///
+    /// `Offset` exactly where the offset is above 7. Else `Short` exactly where `offset + len`
+    /// passes `usize::MAX` or 8 times the number of bytes.
+    pub fn try_new(bytes: Buffer<u8>, offset: usize, len: usize) -> Result<BitBuffer, BitError>
+        ensures { result ≡ made (bit_fault (length bytes) offset len)
+            (record { bits = bits_of bytes offset len; offset = offset }) }
+    {
+        if offset > 7 {
+            return Err(BitError::Offset);
+        }
+        if !reaches(bytes.len(), offset, len) {
+            return Err(BitError::Short);
+        }
+        Ok(BitBuffer { bytes, offset, len })
+    }
+
+    /// The same bits, the first one at offset 0. `NoMemory` alone.
+    pub fn from_bools(alloc: Global, bits: &[bool]) -> Result<BitBuffer, NoMemory>
+        ensures { IfOk result (λ b. b ≡ record { bits = bits.now; offset = 0 }) }
+    {
+        let bytes = Buffer::from_vec(alloc, packed(alloc, bits)?)?;
+        Ok(BitBuffer {
+            bytes,
+            offset: 0,
+            len: bits.len(),
+        })
+    }
+
+    /// The number of bits.
+    pub fn len(&self) -> usize
+        ensures { result ≡ length self.now.bits }
+    {
+        self.len
+    }
+
+    /// Whether there is no bit.
+    pub fn is_empty(&self) -> bool
+        ensures { IsTrue result ↔ (length self.now.bits ≡ 0) }
+    {
+        self.len() == 0
+    }
+
+    /// Where the first bit lies in its byte, from the least significant bit on.
+    pub fn offset(&self) -> usize
+        ensures value { result ≡ self.now.offset }
+        ensures below { result < 8 }
+    {
+        self.offset
+    }
+
+    /// Bit `i`.
+    pub fn value(&self, i: usize) -> bool
+        requires { i < length self.now.bits }
+        ensures { result ≡ slice_index_or self.now.bits i false }
+    {
+        let place = self.offset + i;
+        let bytes = self.bytes.as_slice();
+        (bytes[place / 8] >> (place % 8)) & 1 == 1
+    }
+
+    /// The number of set bits.
+    pub fn true_count(&self) -> usize
+        ensures { result ≡ true_count_of self.now.bits }
+    {
+        count_between(self.bytes.as_slice(), self.offset, self.offset + self.len)
+    }
+
+    /// The bits from `start` up to `end`, which it leaves out. It takes no memory, and its offset
+    /// is that of its first bit in the first byte that it needs.
+    pub fn slice(&self, start: usize, end: usize) -> BitBuffer
+        requires ordered { start ≤ end }
+        requires within { end ≤ length self.now.bits }
+        ensures bits { result.bits ≡ slice_range self.now.bits start end }
+        ensures offset { result.offset ≡ (self.now.offset + start) % 8 }
+    {
+        let first = self.offset + start;
+        BitBuffer {
+            bytes: self.bytes.slice(first / 8, self.bytes.len()),
+            offset: first % 8,
+            len: end - start,
+        }
+    }
+
+    /// The same bits once more, at the same offset. It takes no memory.
+    pub fn share(&self) -> BitBuffer
+        ensures { result ≡ self.now }
+    {
+        BitBuffer {
+            bytes: self.bytes.share(),
+            offset: self.offset,
+            len: self.len,
+        }
+    }
+}
+
+// How many of the bits from `start` up to `end` are set, by whole bytes where there are any.
+fn count_between(bytes: &[u8], start: usize, end: usize) -> usize
+    requires ordered { start ≤ end }
+    requires within { end ≤ 8 * length bytes.now }
+    ensures { result ≡ true_count_of (bits_of bytes.now start (end - start)) }
+{
+    let first = start.div_ceil(8);
+    let last = end / 8;
+    if first >= last {
+        return count_bits(bytes, start, end);
+    }
+    count_bits(bytes, start, 8 * first)
+        + count_bytes(bytes, first, last)
+        + count_bits(bytes, 8 * last, end)
+}
+
+// The same, bit by bit.
+fn count_bits(bytes: &[u8], start: usize, end: usize) -> usize
+    requires ordered { start ≤ end }
+    requires within { end ≤ 8 * length bytes.now }
+    ensures value { result ≡ true_count_of (bits_of bytes.now start (end - start)) }
+    ensures bound { result ≤ end - start }
+{
+    let mut count = 0;
+    for place in start..end {
+        count += ((bytes[place / 8] >> (place % 8)) & 1) as usize;
+    }
+    count
+}
+
+// How many bits of the bytes from `first` up to `last` are set.
+fn count_bytes(bytes: &[u8], first: usize, last: usize) -> usize
+    requires ordered { first ≤ last }
+    requires within { last ≤ length bytes.now }
+    requires counted { 8 * last < 2 ^ 64 }
+    ensures value { result ≡ true_count_of (bits_of bytes.now (8 * first) (8 * last - 8 * first)) }
+    ensures bound { result ≤ 8 * last - 8 * first }
+{
+    let mut count = 0;
+    for k in first..last {
+        count += bytes[k].count_ones() as usize;
+    }
+    count
+}
+
+// Whether so many bytes have `len` bits from bit `offset` on.
+fn reaches(byte_count: usize, offset: usize, len: usize) -> bool
+    ensures { IsTrue result ↔ ((offset + len < 2 ^ 64) × (offset + len ≤ 8 * byte_count)) }
+{
+    match offset.checked_add(len) {
+        Some(end) => end.div_ceil(8) <= byte_count,
+        None => false,
+    }
+}
+
+// The bytes of these bits, eight to a byte.
+fn packed(alloc: Global, bits: &[bool]) -> Result<Vec<u8>, NoMemory>
+    ensures holds { IfOk result (λ bytes. bits_of bytes.items 0 (length bits.now) ≡ bits.now) }
+    ensures room { IfOk result (λ bytes. length bits.now ≤ 8 * length bytes.items) }
+{
+    let count = bits.len().div_ceil(8);
+    let mut bytes = Vec::with_capacity(alloc, count)?;
+    for k in 0..count {
+        let end = bits.len().min(8 * k + 8);
+        bytes.push(byte_of(&bits[8 * k..end]))?;
+    }
+    Ok(bytes)
+}
+
+// The byte whose lowest bits are these, the first one lowest.
+fn byte_of(bits: &[bool]) -> u8
+    requires { length bits.now ≤ 8 }
+    ensures { result ≡ number_of bits.now }
+{
+    let mut byte = 0;
+    for (k, bit) in bits.iter().enumerate() {
+        if *bit {
+            byte |= 1 << k;
+        }
+    }
+    byte
+}

@@ -1,0 +1,21 @@
+ghost use Rattle.std.specs.Prelude.{◌≡◌};
+ghost use Rattle.vx_types.specs.Nullability.{is_nullable};
+
+/// Whether a type has null rows. The crate's `Nullability`.
+#[derive(Debug, Clone, Copy, PartialEq, Eq)]
+pub enum Nullability {
+    NonNullable,
+    Nullable,
+}
+
+impl Nullability {
+    /// Whether null rows are allowed.
+    pub fn is_nullable(self) -> bool
+        ensures { result ≡ is_nullable self }
+    {
+        match self {
+            Nullability::NonNullable => false,
+            Nullability::Nullable => true,
+        }
+    }
+}

@@ -1,0 +1,143 @@
+ghost use Rattle.std.specs.Prelude.{◌≡◌, ◌≤◌, length};
+ghost use Rattle.vx_types.specs.PType.{width, is_int, is_signed, number, record_of, least, greatest, is_in_range};
+
+/// A primitive type. The crate's `PType`.
+#[derive(Debug, Clone, Copy, PartialEq, Eq)]
+pub enum PType {
+    U8,
+    U16,
+    U32,
+    U64,
+    I8,
+    I16,
+    I32,
+    I64,
+}
+
+/// Writes one arm for each integer type: `match_each_integer_ptype!(ptype, with, args)` is `with!(u8, args)` where the type is
+/// `U8`, and so on. The crate's macro of this name takes a closure-like body in place of a macro's name.
+#[macro_export]
+macro_rules! match_each_integer_ptype {
+    ($ptype:expr, $with:ident $(, $arg:expr)*) => {
+        match $ptype {
+            $crate::PType::U8 => $with!(u8 $(, $arg)*),
+            $crate::PType::U16 => $with!(u16 $(, $arg)*),
+            $crate::PType::U32 => $with!(u32 $(, $arg)*),
+            $crate::PType::U64 => $with!(u64 $(, $arg)*),
+            $crate::PType::I8 => $with!(i8 $(, $arg)*),
+            $crate::PType::I16 => $with!(i16 $(, $arg)*),
+            $crate::PType::I32 => $with!(i32 $(, $arg)*),
+            $crate::PType::I64 => $with!(i64 $(, $arg)*),
+        }
+    };
+}
+
+macro_rules! number_by {
+    ($ty:ty, $bytes:expr) => {
+        i128::from(<$ty>::from_le_bytes(as_array($bytes)))
+    };
+}
+
+impl PType {
+    /// How many bytes a value has. The crate's `byte_width`.
+    pub fn width(self) -> usize
+        ensures { result ≡ width self }
+    {
+        match self {
+            PType::U8 | PType::I8 => 1,
+            PType::U16 | PType::I16 => 2,
+            PType::U32 | PType::I32 => 4,
+            PType::U64 | PType::I64 => 8,
+        }
+    }
+
+    /// Whether its values are whole numbers.
+    pub fn is_int(self) -> bool
+        ensures { result ≡ is_int self }
+    {
+        matches!(
+            self,
+            PType::U8
+                | PType::U16
+                | PType::U32
+                | PType::U64
+                | PType::I8
+                | PType::I16
+                | PType::I32
+                | PType::I64
+        )
+    }
+
+    /// Whether its values are whole numbers in two's complement.
+    pub fn is_signed(self) -> bool
+        ensures { result ≡ is_signed self }
+    {
+        match self {
+            PType::U8 | PType::U16 | PType::U32 | PType::U64 => false,
+            PType::I8 | PType::I16 | PType::I32 | PType::I64 => true,
+        }
+    }
+}
+
+impl PType {
+    /// The least number of the type.
+    fn least(self) -> i128
+        ensures { result ≡ least self }
+    {
+        match self {
+            PType::U8 | PType::U16 | PType::U32 | PType::U64 => 0,
+            PType::I8 => -128,
+            PType::I16 => -32768,
+            PType::I32 => -2147483648,
+            PType::I64 => -9223372036854775808,
+        }
+    }
+
+    /// The greatest number of the type.
+    fn greatest(self) -> i128
+        ensures { result ≡ greatest self }
+    {
+        match self {
+            PType::U8 => 255,
+            PType::U16 => 65535,
+            PType::U32 => 4294967295,
+            PType::U64 => 18446744073709551615,
+            PType::I8 => 127,
+            PType::I16 => 32767,
+            PType::I32 => 2147483647,
+            PType::I64 => 9223372036854775807,
+        }
+    }
+
+    /// Whether it is a number of the type.
+    pub fn is_in_range(self, number: i128) -> bool
+        ensures { result ≡ is_in_range self number }
+    {
+        self.least() <= number && number <= self.greatest()
+    }
+
+    /// The number that a record's bytes spell: little-endian, in two's complement where the type is signed.
+    pub fn number(self, bytes: &[u8]) -> i128
+        requires { length bytes.now ≡ width self }
+        ensures { result ≡ number self bytes.now }
+    {
+        match_each_integer_ptype!(self, number_by, bytes)
+    }
+}
+
+fn as_array<const W: usize>(bytes: &[u8]) -> [u8; W]
+    requires { length bytes.now ≡ W }
+    ensures { result ≡ bytes.now }
+{
+    let mut array = [0; W];
+    array.copy_from_slice(bytes);
+    array
+}
+
+/// The record that stores a number: its lowest W bytes in two's complement, little-endian.
+pub fn record_of<const W: usize>(number: i128) -> [u8; W]
+    requires { W ≤ 16 }
+    ensures { result ≡ record_of W number }
+{
+    as_array(&number.cast_unsigned().to_le_bytes()[..W])
+}
