@@ -1,0 +1,143 @@
+-- Lemmas on indices and runs that ascend.
+use Rattle.std.proofs.Common.{◌≡◌, ℕ, zero, suc, ◌+◌, ◌-◌, ◌<◌, ◌≤◌, Bool, true, false, cond, ◌&&◌, leb, ltb, None, Some, List, [], ◌∷◌, ◌++◌, length, get_or, take, drop, replicate, refl, sym, ap, ap₂, ◌∙◌, subst, add-one, arith}
+use Rattle.std.specs.List.{range_with_len}
+use Rattle.std.proofs.lemmas.List.{take_more, take_all, drop_more, length-append, length-replicate, flat_map_more}
+use Rattle.std.proofs.lemmas.Bool.{leb-true, ltb-true, le-leb, lt-ltb}
+use Rattle.vx_mask.specs.declared.error.MaskError.TheVariants.{Indices, Slices}
+use Rattle.vx_mask.specs.Mask.{FaultlessIndices, FaultlessSlices}
+use Rattle.vx_mask.specs.Positions.{set_of, covered, ascending, runs_ascend}
+use Rattle.vx_mask.proofs.PositionLists.{set_of_clear, set_of_set}
+
+both_true : (a b : Bool) → (a && b) ≡ true → (a ≡ true) × (b ≡ true)
+both_true true b h = (refl, h)
+both_true false b h = cc
+
+-- what the first of the indices keeps
+pub record IsNextIndex (low len index : ℕ) (rest : List ℕ) : Type 0 where
+  pub from : low ≤ index
+  pub within : index < len
+  pub then : ascending (index + 1) len rest ≡ true
+
+index_parts : (low len index : ℕ) (rest : List ℕ) → ascending low len (index ∷ rest) ≡ true → IsNextIndex low len index rest
+index_parts low len index rest h =
+    let a = both_true (leb low index) (ltb index len && ascending (index + 1) len rest) h in
+    let b = both_true (ltb index len) (ascending (index + 1) len rest) a.1 in
+    record { from = leb-true low index a.0; within = ltb-true index len b.0; then = b.1 }
+
+pub next_index : (low len k : ℕ) (indices : List ℕ) → k < length indices → ascending low len (drop k indices) ≡ true → IsNextIndex low len (get_or indices k 0) (drop (k + 1) indices)
+next_index low len k indices p h = index_parts low len (get_or indices k 0) (drop (k + 1) indices) (ap (ascending low len) (sym (drop_more indices k 0 p)) ∙ h)
+
+-- what the first of the runs keeps
+pub record IsNextRun (low len : ℕ) (run : ℕ × ℕ) (rest : List (ℕ × ℕ)) : Type 0 where
+  pub from : low ≤ run.0
+  pub some : run.0 < run.1
+  pub within : run.1 ≤ len
+  pub then : runs_ascend run.1 len rest ≡ true
+
+run_parts : (low len : ℕ) (run : ℕ × ℕ) (rest : List (ℕ × ℕ)) → runs_ascend low len (run ∷ rest) ≡ true → IsNextRun low len run rest
+run_parts low len run rest h =
+    let a = both_true (leb low run.0) (ltb run.0 run.1 && (leb run.1 len && runs_ascend run.1 len rest)) h in
+    let b = both_true (ltb run.0 run.1) (leb run.1 len && runs_ascend run.1 len rest) a.1 in
+    let e = both_true (leb run.1 len) (runs_ascend run.1 len rest) b.1 in
+    record { from = leb-true low run.0 a.0; some = ltb-true run.0 run.1 b.0; within = leb-true run.1 len e.0; then = e.1 }
+
+pub next_run : (low len k : ℕ) (runs : List (ℕ × ℕ)) (d : ℕ × ℕ) → k < length runs → runs_ascend low len (drop k runs) ≡ true → IsNextRun low len (get_or runs k d) (drop (k + 1) runs)
+next_run low len k runs d p h = run_parts low len (get_or runs k d) (drop (k + 1) runs) (ap (runs_ascend low len) (sym (drop_more runs k d p)) ∙ h)
+
+-- bits that were filled up with clear ones to `start` and then with set ones to `end`
+pub set_of_filled : (bits first both : List Bool) (start end : ℕ) → length bits ≤ start → start ≤ end → first ≡ take start bits ++ replicate (start - length bits) false → both ≡ take end first ++ replicate (end - length first) true → (set_of both ≡ set_of bits ++ range_with_len start (end - start)) × (length both ≡ end)
+set_of_filled bits first both start end p q e f =
+    let e2 : first ≡ bits ++ replicate (start - length bits) false = e ∙ ap (λ l. l ++ replicate (start - length bits) false) (take_all start bits p) in
+    let long : length first ≡ start = ap length e2 ∙ length-append bits (replicate (start - length bits) false) ∙ omega (arith, length-replicate (start - length bits) false) in
+    let f2 : both ≡ first ++ replicate (end - start) true = f ∙ ap₂ (λ l n. l ++ replicate (end - n) true) (take_all end first (omega arith)) long in (
+      ap set_of f2 ∙ set_of_set first (end - start) ∙ ap₂ (λ l n. l ++ range_with_len n (end - start)) (ap set_of e2 ∙ set_of_clear bits (start - length bits)) long,
+      ap length f2 ∙ length-append first (replicate (end - start) true) ∙ omega (arith, long, length-replicate (end - start) true),
+    )
+
+-- bits that were filled up with clear ones
+pub set_of_cleared : (bits all : List Bool) (len : ℕ) → length bits ≤ len → all ≡ take len bits ++ replicate (len - length bits) false → (set_of all ≡ set_of bits) × (length all ≡ len)
+set_of_cleared bits all len p e =
+    let e2 : all ≡ bits ++ replicate (len - length bits) false = e ∙ ap (λ l. l ++ replicate (len - length bits) false) (take_all len bits p) in (
+      ap set_of e2 ∙ set_of_clear bits (len - length bits),
+      ap length e2 ∙ length-append bits (replicate (len - length bits) false) ∙ omega (arith, length-replicate (len - length bits) false),
+    )
+
+pub covered_more : (runs : List (ℕ × ℕ)) (k : ℕ) (d : ℕ × ℕ) → k < length runs → covered (take (k + 1) runs) ≡ covered (take k runs) ++ range_with_len (get_or runs k d).0 ((get_or runs k d).1 - (get_or runs k d).0)
+covered_more runs k d p = ap covered (take_more runs k d p) ∙ sym (flat_map_more (λ (run : ℕ × ℕ). range_with_len run.0 (run.1 - run.0)) [] (take k runs) (get_or runs k d))
+
+-- where indices ascend, each is from `low` on and below `len`, and below the next one
+index_in : (low len : ℕ) (indices : List ℕ) → ascending low len indices ≡ true → (k d : ℕ) → k < length indices → (low ≤ get_or indices k d) × (get_or indices k d < len)
+index_in low len [] h k d p = absurd (omega arith)
+index_in low len (index ∷ rest) h zero d p = let a = index_parts low len index rest h in (a.from, a.within)
+index_in low len (index ∷ rest) h (suc k) d p =
+    let a = index_parts low len index rest h in
+    let b = index_in (index + 1) len rest a.then k d (omega arith) in
+    (omega (arith, a.from, b.0), b.1)
+
+index_before : (low len : ℕ) (indices : List ℕ) → ascending low len indices ≡ true → (k d : ℕ) → suc k < length indices → get_or indices k d < get_or indices (suc k) d
+index_before low len [] h k d p = absurd (omega arith)
+index_before low len (index ∷ rest) h zero d p =
+    let a = index_parts low len index rest h in
+    let b = index_in (index + 1) len rest a.then 0 d (omega arith) in
+    omega (arith, b.0)
+index_before low len (index ∷ rest) h (suc k) d p = index_before (index + 1) len rest (index_parts low len index rest h).then k d (omega arith)
+
+ascending_from : (low len : ℕ) (indices : List ℕ) → (0 < length indices → low ≤ get_or indices 0 0) → ((k : ℕ) → k < length indices → get_or indices k 0 < len) → ((k : ℕ) → suc k < length indices → get_or indices k 0 < get_or indices (suc k) 0) → ascending low len indices ≡ true
+ascending_from low len [] first each next = refl
+ascending_from low len (index ∷ rest) first each next =
+    ap (λ b. b && (ltb index len && ascending (index + 1) len rest)) (le-leb low index (first (omega arith)))
+    ∙ ap (λ b. b && ascending (index + 1) len rest) (lt-ltb index len (each 0 (omega arith)))
+    ∙ ascending_from (index + 1) len rest (λ p. let q = next 0 (omega arith) in omega (arith, q)) (λ k p. each (suc k) (omega arith)) (λ k p. next (suc k) (omega arith))
+
+no_fault-true : {E : Type 0} (b : Bool) (e : E) → cond b None (Some e) ≡ None → b ≡ true
+no_fault-true true e h = refl
+no_fault-true false e h = cc
+
+pub faultless_indices : (len : ℕ) (indices : List ℕ) → FaultlessIndices len indices
+faultless_indices len indices = (
+  λ none.
+      let h = no_fault-true (ascending 0 len indices) Indices none in (
+        λ k d p. (index_in 0 len indices h k d p).1,
+        λ k d p. let next = index_before 0 len indices h k d (omega arith) in subst (λ (n : ℕ). get_or indices k d < get_or indices n d) (sym (add-one k)) next,
+      ),
+  λ right.
+      let h = ascending_from 0 len indices (λ p. omega arith) (λ k p. right.0 k 0 p) (λ k p. subst (λ (n : ℕ). get_or indices k 0 < get_or indices n 0) (add-one k) (right.1 k 0 (omega arith))) in
+      ap (λ b. cond b None (Some Indices)) h,
+)
+
+-- where runs ascend, each starts from `low` on and before its end, ends at or before `len`, and
+-- ends at or before the start of the next one
+run_in : (low len : ℕ) (runs : List (ℕ × ℕ)) → runs_ascend low len runs ≡ true → (k : ℕ) (d : ℕ × ℕ) → k < length runs → (low ≤ (get_or runs k d).0) × ((get_or runs k d).0 < (get_or runs k d).1) × ((get_or runs k d).1 ≤ len)
+run_in low len [] h k d p = absurd (omega arith)
+run_in low len (run ∷ rest) h zero d p = let a = run_parts low len run rest h in (a.from, a.some, a.within)
+run_in low len (run ∷ rest) h (suc k) d p =
+    let a = run_parts low len run rest h in
+    let b = run_in run.1 len rest a.then k d (omega arith) in
+    (omega (arith, a.from, a.some, b.0), b.1, b.2)
+
+run_before : (low len : ℕ) (runs : List (ℕ × ℕ)) → runs_ascend low len runs ≡ true → (k : ℕ) (d : ℕ × ℕ) → suc k < length runs → (get_or runs k d).1 ≤ (get_or runs (suc k) d).0
+run_before low len [] h k d p = absurd (omega arith)
+run_before low len (run ∷ rest) h zero d p = (run_in run.1 len rest (run_parts low len run rest h).then 0 d (omega arith)).0
+run_before low len (run ∷ rest) h (suc k) d p = run_before run.1 len rest (run_parts low len run rest h).then k d (omega arith)
+
+runs_ascend_from : (low len : ℕ) (runs : List (ℕ × ℕ)) (d : ℕ × ℕ) → (0 < length runs → low ≤ (get_or runs 0 d).0) → ((k : ℕ) → k < length runs → (get_or runs k d).0 < (get_or runs k d).1) → ((k : ℕ) → k < length runs → (get_or runs k d).1 ≤ len) → ((k : ℕ) → suc k < length runs → (get_or runs k d).1 ≤ (get_or runs (suc k) d).0) → runs_ascend low len runs ≡ true
+runs_ascend_from low len [] d first some within next = refl
+runs_ascend_from low len (run ∷ rest) d first some within next =
+    ap (λ b. b && (ltb run.0 run.1 && (leb run.1 len && runs_ascend run.1 len rest))) (le-leb low run.0 (first (omega arith)))
+    ∙ ap (λ b. b && (leb run.1 len && runs_ascend run.1 len rest)) (lt-ltb run.0 run.1 (some 0 (omega arith)))
+    ∙ ap (λ b. b && runs_ascend run.1 len rest) (le-leb run.1 len (within 0 (omega arith)))
+    ∙ runs_ascend_from run.1 len rest d (λ p. next 0 (omega arith)) (λ k p. some (suc k) (omega arith)) (λ k p. within (suc k) (omega arith)) (λ k p. next (suc k) (omega arith))
+
+pub faultless_slices : (len : ℕ) (slices : List (ℕ × ℕ)) → FaultlessSlices len slices
+faultless_slices len slices = (
+  λ none.
+      let h = no_fault-true (runs_ascend 0 len slices) Slices none in (
+        λ k d p. (run_in 0 len slices h k d p).1,
+        λ k d p. (run_in 0 len slices h k d p).2,
+        λ k d p. let next = run_before 0 len slices h k d (omega arith) in subst (λ (n : ℕ). (get_or slices k d).1 ≤ (get_or slices n d).0) (sym (add-one k)) next,
+      ),
+  λ right.
+      let d : ℕ × ℕ = (0, 0) in
+      let h = runs_ascend_from 0 len slices d (λ p. omega arith) (λ k p. right.0 k d p) (λ k p. right.1 k d p) (λ k p. subst (λ (n : ℕ). (get_or slices k d).1 ≤ (get_or slices n d).0) (add-one k) (right.2 k d (omega arith))) in
+      ap (λ b. cond b None (Some Slices)) h,
+)

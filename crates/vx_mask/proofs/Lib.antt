@@ -1,0 +1,3 @@
+pub mod PositionLists
+pub mod AscendingLists
+pub mod BitsWith

@@ -1,0 +1,130 @@
+-- Lemmas on the set positions of a list of bits.
+use Rattle.std.proofs.Common.{◌≡◌, ℕ, zero, suc, ◌+◌, ◌<◌, ◌≤◌, Bool, true, false, cond, List, [], ◌∷◌, ◌++◌, length, get_or, take, replicate, Some, refl, sym, ap, ◌∙◌, arith}
+use Rattle.std.specs.List.{slice_get, range_with_len}
+use Rattle.std.proofs.lemmas.List.{length-replicate, append-nil}
+use Rattle.std.proofs.lemmas.List.Sums.{sum_by-cons, count_by-le-length}
+use Rattle.std.proofs.lemmas.Option.{slice_get-get_or, slice_get_within}
+use Rattle.vx_bits.specs.BitBuffer.{true_count_of}
+use Rattle.vx_mask.specs.Positions.{positions, set_of, rank_of, RanksAscend, RanksAreTheSet}
+
+pub true_count_of-cons : (bit : Bool) (bits : List Bool) → true_count_of (bit ∷ bits) ≡ cond bit 1 0 + true_count_of bits
+true_count_of-cons bit bits = sum_by-cons (λ b. cond b 1 0) bit bits
+
+pub length-positions : (at : ℕ) (bits : List Bool) → length (positions at bits) ≡ true_count_of bits
+length-positions at [] = refl
+length-positions at (true ∷ bits) = omega (arith, length-positions (at + 1) bits, true_count_of-cons true bits)
+length-positions at (false ∷ bits) = omega (arith, length-positions (at + 1) bits, true_count_of-cons false bits)
+
+-- the k-th position, where the bit is set and k bits are set before it
+pub position_at : (at : ℕ) (bits : List Bool) (i d : ℕ) → i < length bits → get_or bits i false ≡ true → get_or (positions at bits) (true_count_of (take i bits)) d ≡ at + i
+position_at at [] i d h e = absurd (omega arith)
+position_at at (true ∷ bits) zero d h e = omega arith
+position_at at (false ∷ bits) zero d h e = cc
+position_at at (true ∷ bits) (suc i) d h e =
+    let one : true_count_of (true ∷ take i bits) ≡ suc (true_count_of (take i bits)) = omega (arith, true_count_of-cons true (take i bits)) in
+    ap (λ n. get_or (at ∷ positions (at + 1) bits) n d) one ∙ position_at (at + 1) bits i d (omega arith) e ∙ omega arith
+position_at at (false ∷ bits) (suc i) d h e =
+    let none : true_count_of (false ∷ take i bits) ≡ true_count_of (take i bits) = omega (arith, true_count_of-cons false (take i bits)) in
+    ap (λ n. get_or (positions (at + 1) bits) n d) none ∙ position_at (at + 1) bits i d (omega arith) e ∙ omega arith
+
+-- fewer bits are set before a set bit than in all
+pub true_count_before_set : (bits : List Bool) (i : ℕ) → i < length bits → get_or bits i false ≡ true → true_count_of (take i bits) < true_count_of bits
+true_count_before_set [] i h e = absurd (omega arith)
+true_count_before_set (true ∷ bits) zero h e = omega (arith, true_count_of-cons true bits)
+true_count_before_set (false ∷ bits) zero h e = cc
+true_count_before_set (true ∷ bits) (suc i) h e = omega (arith, true_count_before_set bits i (omega arith) e, true_count_of-cons true bits, true_count_of-cons true (take i bits))
+true_count_before_set (false ∷ bits) (suc i) h e = omega (arith, true_count_before_set bits i (omega arith) e, true_count_of-cons false bits, true_count_of-cons false (take i bits))
+
+-- what a rank is the position of
+pub record IsPlace (at : ℕ) (bits : List Bool) (k d i : ℕ) : Type 0 where
+  pub position : get_or (positions at bits) k d ≡ at + i
+  pub within : i < length bits
+  pub set : get_or bits i false ≡ true
+
+pub place_of : (at : ℕ) (bits : List Bool) (k d : ℕ) → k < true_count_of bits → (i : ℕ) × IsPlace at bits k d i
+place_of at [] k d h = absurd (omega arith)
+place_of at (true ∷ bits) zero d h = (0, record { position = omega arith; within = omega arith; set = refl })
+place_of at (true ∷ bits) (suc k) d h =
+    let r = place_of (at + 1) bits k d (omega (arith, true_count_of-cons true bits)) in
+    (suc r.0, record { position = r.1.position ∙ omega arith; within = omega (arith, r.1.within); set = r.1.set })
+place_of at (false ∷ bits) k d h =
+    let r = place_of (at + 1) bits k d (omega (arith, true_count_of-cons false bits)) in
+    (suc r.0, record { position = r.1.position ∙ omega arith; within = omega (arith, r.1.within); set = r.1.set })
+
+positions_from : (at : ℕ) (bits : List Bool) (k d : ℕ) → k < true_count_of bits → at ≤ get_or (positions at bits) k d
+positions_from at bits k d h = let r = place_of at bits k d h in omega (arith, r.1.position)
+
+positions_ascend : (at : ℕ) (bits : List Bool) (j k d : ℕ) → j < k → k < true_count_of bits → get_or (positions at bits) j d < get_or (positions at bits) k d
+positions_ascend at [] j k d p q = absurd (omega arith)
+positions_ascend at (true ∷ bits) j zero d p q = absurd (omega arith)
+positions_ascend at (true ∷ bits) zero (suc k) d p q = omega (arith, positions_from (at + 1) bits k d (omega (arith, true_count_of-cons true bits)))
+positions_ascend at (true ∷ bits) (suc j) (suc k) d p q = positions_ascend (at + 1) bits j k d (omega arith) (omega (arith, true_count_of-cons true bits))
+positions_ascend at (false ∷ bits) j k d p q = positions_ascend (at + 1) bits j k d p (omega (arith, true_count_of-cons false bits))
+
+pub ranks_ascend : (bits : List Bool) → RanksAscend bits
+ranks_ascend bits j k p q = positions_ascend 0 bits j k 0 p q
+
+get_or_of_slice_get : (bits : List Bool) (i : ℕ) → slice_get bits i ≡ Some true → get_or bits i false ≡ true
+get_or_of_slice_get [] i e = cc
+get_or_of_slice_get (bit ∷ bits) zero e = cc
+get_or_of_slice_get (bit ∷ bits) (suc i) e = get_or_of_slice_get bits i e
+
+pub ranks_are_the_set : (bits : List Bool) → RanksAreTheSet bits
+ranks_are_the_set bits p = (
+  λ set.
+      let within = slice_get_within bits p true set in
+      let here = get_or_of_slice_get bits p set in
+      (true_count_of (take p bits), true_count_before_set bits p within here, position_at 0 bits p 0 within here ∙ omega arith),
+  λ rank.
+      let place = place_of 0 bits rank.0 0 rank.1 in
+      let same : place.0 ≡ p = omega (arith, place.1.position, rank.2) in
+      ap (slice_get bits) (sym same) ∙ slice_get-get_or bits place.0 false place.1.within ∙ ap Some place.1.set,
+)
+
+pub rank_within : (bits : List Bool) (k : ℕ) → k < true_count_of bits → rank_of bits k < length bits
+rank_within bits k h = let r = place_of 0 bits k 0 h in omega (arith, r.1.position, r.1.within)
+
+pub none_are_set : (bits : List Bool) → true_count_of bits ≡ 0 → bits ≡ replicate (length bits) false
+none_are_set [] e = refl
+none_are_set (true ∷ bits) e = absurd (omega (arith, true_count_of-cons true bits))
+none_are_set (false ∷ bits) e = ap (λ l. false ∷ l) (none_are_set bits (omega (arith, true_count_of-cons false bits)))
+
+pub all_are_set : (bits : List Bool) → true_count_of bits ≡ length bits → bits ≡ replicate (length bits) true
+all_are_set [] e = refl
+all_are_set (true ∷ bits) e = ap (λ l. true ∷ l) (all_are_set bits (omega (arith, true_count_of-cons true bits)))
+all_are_set (false ∷ bits) e = absurd (omega (arith, true_count_of-cons false bits, count_by-le-length (λ b. b) bits))
+
+position_true : (at n k d : ℕ) → k < n → get_or (positions at (replicate n true)) k d ≡ at + k
+position_true at zero k d h = absurd (omega arith)
+position_true at (suc n) zero d h = omega arith
+position_true at (suc n) (suc k) d h = position_true (at + 1) n k d (omega arith) ∙ omega arith
+
+pub rank_true : (n k : ℕ) → k < true_count_of (replicate n true) → k ≡ rank_of (replicate n true) k
+rank_true n k h = sym (position_true 0 n k 0 (omega (arith, count_by-le-length (λ b. b) (replicate n true), length-replicate n true)) ∙ omega arith)
+
+-- of rows that are all selected, as many as lie before a place
+pub true_before_all : (n p : ℕ) → p ≤ length (replicate n true) → p ≡ true_count_of (take p (replicate n true))
+true_before_all n zero h = refl
+true_before_all zero (suc p) h = absurd (omega arith)
+true_before_all (suc n) (suc p) h = omega (arith, true_before_all n p (omega arith), true_count_of-cons true (take p (replicate n true)))
+
+pub positions-append : (at : ℕ) (xs ys : List Bool) → positions at (xs ++ ys) ≡ positions at xs ++ positions (at + length xs) ys
+positions-append at [] ys = ap (λ n. positions n ys) (omega arith)
+positions-append at (true ∷ xs) ys = ap (λ l. at ∷ l) (positions-append (at + 1) xs ys ∙ ap (λ n. positions (at + 1) xs ++ positions n ys) (omega arith))
+positions-append at (false ∷ xs) ys = positions-append (at + 1) xs ys ∙ ap (λ n. positions (at + 1) xs ++ positions n ys) (omega arith)
+
+positions_false : (at n : ℕ) → positions at (replicate n false) ≡ []
+positions_false at zero = refl
+positions_false at (suc n) = positions_false (at + 1) n
+
+positions_true : (at n : ℕ) → positions at (replicate n true) ≡ range_with_len at n
+positions_true at zero = refl
+positions_true at (suc n) = ap (λ l. at ∷ l) (positions_true (at + 1) n)
+
+-- clear bits at the end add no position
+pub set_of_clear : (bits : List Bool) (n : ℕ) → set_of (bits ++ replicate n false) ≡ set_of bits
+set_of_clear bits n = positions-append 0 bits (replicate n false) ∙ ap (λ l. set_of bits ++ l) (positions_false (0 + length bits) n) ∙ append-nil (set_of bits)
+
+-- set bits at the end add theirs
+pub set_of_set : (bits : List Bool) (n : ℕ) → set_of (bits ++ replicate n true) ≡ set_of bits ++ range_with_len (length bits) n
+set_of_set bits n = positions-append 0 bits (replicate n true) ∙ ap (λ l. set_of bits ++ l) (positions_true (0 + length bits) n) ∙ ap (λ a. set_of bits ++ range_with_len a n) (omega arith)

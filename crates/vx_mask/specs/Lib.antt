@@ -1,0 +1,4 @@
+pub mod Mask
+pub mod MaskValues
+pub mod Policy
+pub mod Positions

@@ -1,0 +1,17 @@
+//! Masks: which rows of a column are selected. And the policy, which chooses between kernels.
+#![tactic(auto)]
+
+mod error;
+mod laws;
+mod mask;
+mod mask_values;
+mod policy;
+
+pub use error::MaskError;
+pub use laws::{indices_law, rank_law, slices_law};
+pub use mask::Mask;
+pub use mask_values::MaskValues;
+pub use policy::{Policy, PolicyError, PolicyFields, Ratio};
+
+#[cfg(test)]
+mod tests;
