@@ -1,0 +1,105 @@
+ghost use Rattle.std.specs.Prelude.{◌≡◌, length, true};
+ghost use Rattle.vx_types.specs.DType.{type_of};
+ghost use Rattle.vx_types.specs.TypeTree.{is_carried, is_flat};
+ghost use Rattle.vx_column.specs.Layout.{column_of};
+
+use crate::primitive::PrimitiveArray;
+use std::marker::Model;
+use vx_types::DType;
+
+/// A column: a type, and rows in one of the layouts. The crate's `Array`.
+pub struct Array {
+    len: usize,
+    layout: Layout,
+}
+
+/// How the rows of a column are stored.
+#[derive(Drop)]
+pub enum Layout {
+    Primitive(PrimitiveArray),
+}
+
+impl Model for Array {
+    ghost use Rattle.std.specs.Prelude.{◌≡◌, length, true};
+    ghost use Rattle.vx_types.specs.TypeTree.{is_carried};
+    ghost use Rattle.vx_column.specs.Column.{Column, coded_column};
+    ghost use Rattle.vx_column.specs.Layout.{column_of};
+
+    ghost Value = { Column };
+
+    ghost coded = { coded_column };
+
+    ghost view = { λ a. column_of a.layout };
+
+    ghost invariant = { λ a. (a.len ≡ length (column_of a.layout).rows) × (is_carried (column_of a.layout).dtype ≡ true) };
+}
+
+// Written out, so that a function that drops an `Array` calls it; a derived one would be opened there, layout by layout.
+impl Drop for Array {
+    fn drop(self) {
+        let Array { len: _, layout } = self;
+        drop(layout)
+    }
+}
+
+impl Layout {
+    /// An equal layout, without memory.
+    pub fn share(&self) -> Layout
+        ensures { result ≡ self.now }
+    {
+        match self {
+            Layout::Primitive(a) => Layout::Primitive(a.share()),
+        }
+    }
+}
+
+impl Array {
+    pub(crate) fn of(len: usize, layout: Layout) -> Array
+        requires long { len ≡ length (column_of layout).rows }
+        requires carried { is_carried (column_of layout).dtype ≡ true }
+        ensures { result ≡ column_of layout }
+    {
+        Array { len, layout }
+    }
+
+    /// Its type, which is one that a column may have.
+    pub fn dtype(&self) -> &DType
+        ensures value { type_of result.now ≡ self.now.dtype }
+        ensures carried { is_carried self.now.dtype ≡ true }
+    {
+        match &self.layout {
+            Layout::Primitive(a) => a.dtype(),
+        }
+    }
+
+    /// How many rows it has.
+    pub fn len(&self) -> usize
+        ensures { result ≡ length self.now.rows }
+    {
+        self.len
+    }
+
+    /// How its rows are stored.
+    pub fn layout(&self) -> &Layout
+        ensures { column_of result.now ≡ self.now }
+    {
+        &self.layout
+    }
+
+    /// Whether its type is null, bool, primitive or decimal.
+    pub fn is_flat(&self) -> bool
+        ensures { result ≡ is_flat self.now.dtype }
+    {
+        self.dtype().is_flat()
+    }
+
+    /// An equal column, without memory.
+    pub fn share(&self) -> Array
+        ensures { result ≡ self.now }
+    {
+        Array {
+            len: self.len,
+            layout: self.layout.share(),
+        }
+    }
+}

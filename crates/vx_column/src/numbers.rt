@@ -1,0 +1,41 @@
+//! Reading one row.
+#![tactic(auto, using(crate::proofs::Rows::primitive_rows))]
+
+ghost use Rattle.std.specs.Prelude.{◌≡◌, ◌↔◌, ◌<◌, [], length, true, None, slice_index_or};
+ghost use Rattle.vx_types.specs.RowValue.{null};
+ghost use Rattle.vx_types.specs.TypeTree.{is_int_type};
+ghost use Rattle.vx_column.specs.Numbers.{number_in};
+ghost use Rattle.vx_column.specs.Plain.{stores_records};
+
+use crate::array::{Array, Layout};
+
+impl Array {
+    /// The stored bytes of row i, of a null row too.
+    pub fn record_at(&self, i: usize) -> &[u8]
+        requires records { stores_records self.now.layout ≡ true }
+        requires row { i < length self.now.rows }
+        ensures { result.now ≡ slice_index_or self.now.stored i [] }
+    {
+        match self.layout() {
+            Layout::Primitive(a) => a.values().record_bytes(i),
+        }
+    }
+
+    /// The number in row i of a column of integer type; none exactly where the row is null. It takes no memory.
+    pub fn number_at(&self, i: usize) -> Option<i128>
+        requires int { is_int_type self.now.dtype ≡ true }
+        requires row { i < length self.now.rows }
+        ensures value { result ≡ number_in self.now.dtype (slice_index_or self.now.rows i null) }
+        ensures null { (result ≡ None) ↔ (slice_index_or self.now.rows i null ≡ null) }
+    {
+        match self.layout() {
+            Layout::Primitive(a) => {
+                if a.validity().is_valid_at(i) {
+                    Some(a.ptype().number(a.values().record_bytes(i)))
+                } else {
+                    None
+                }
+            }
+        }
+    }
+}
