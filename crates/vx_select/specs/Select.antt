@@ -1,8 +1,6 @@
 -- What the calls on a list of steps answer.
-use Rattle.std.specs.Prelude.{◌≡◌, ℕ, length, List, Option, Bool, true, ◌&&◌, Result, MatchResult}
+use Rattle.std.specs.Prelude.{◌≡◌, ℕ, length, List, Bool, ◌&&◌, ◌||◌, Result, MatchResult}
 use Rattle.std.specs.List.{list_all}
-use Rattle.vx_types.specs.TypeTree.{TypeTree}
-use Rattle.vx_types.specs.RowValue.{RowValue}
 use Rattle.vx_column.specs.Column.{Column}
 use Rattle.vx_column.specs.Plain.{is_null_layout, is_plain}
 use Rattle.vx_select.specs.Step.{StepValue, is_slice}
@@ -29,6 +27,6 @@ IsRows (Rows t rows) = Unit {0}
 abbrev pub IsAnswer : Result Column SelectError → Answered → Type 0
 IsAnswer r a = MatchResult r (λ c. a ≡ Rows c.dtype c.rows) (λ e. MatchError e (λ k cause. a ≡ Faulty k cause) (IsRows a))
 
--- over layout `Null`, and for slices alone over a plain column, no step takes memory
+-- any steps over layout `Null`, and slices alone, or no steps, over a plain column: no step takes memory
 abbrev pub needs_no_memory : Column → List StepValue → Bool
-needs_no_memory c steps = is_plain c && list_all is_slice steps
+needs_no_memory c steps = is_null_layout c.layout || (is_plain c && list_all is_slice steps)

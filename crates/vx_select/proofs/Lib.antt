@@ -1,0 +1,4 @@
+pub mod Items
+pub mod Filtering
+pub mod Walks
+pub mod Selecting
