@@ -38,10 +38,18 @@ abbrev pub ramp_records : PType → ℕ → List (List ℕ)
 ramp_records p n = map (λ i. record_of (width p) (pos i)) (range_with_len 0 n)
 
 -- the stored records, by `values` or by `ramp`
+unfoldable pub records_by_values : PType → Data → Option (List (List ℕ))
+records_by_values p d = get (codes "values") d >>= as_array >>= each (value_record p)
+
+unfoldable pub records_by_ramp : PType → Data → Option (List (List ℕ))
+records_by_ramp p d = do
+  len ← get (codes "ramp") d >>= at_most greatest_len
+  Some (ramp_records p len)
+
 unfoldable pub records_in : PType → Data → Option (List (List ℕ))
 records_in p d =
-    if is_closed (codes "layout" ∷ codes "type" ∷ codes "values" ∷ []) d then get (codes "values") d >>= as_array >>= each (value_record p)
-    else (if is_closed (codes "layout" ∷ codes "type" ∷ codes "ramp" ∷ []) d then get (codes "ramp") d >>= at_most greatest_len >>= λ n. Some (ramp_records p n) else None)
+    if is_closed (codes "layout" ∷ codes "type" ∷ codes "values" ∷ []) d then records_by_values p d
+    else (if is_closed (codes "layout" ∷ codes "type" ∷ codes "ramp" ∷ []) d then records_by_ramp p d else None)
 
 abbrev pub column_with : PType → List (List ℕ) → Column
 column_with p records = primitive_column (record { ptype = p; width = width p; records = records; valid = non_nullable })

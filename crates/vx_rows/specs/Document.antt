@@ -20,9 +20,13 @@ pub record DocumentValue : Type 0 where
   pub steps : List StepValue
   pub policy : PolicyFields
 
+unfoldable pub members_of : Data → Option DocumentValue
+members_of d = do
+  column ← get (codes "column") d >>= column_of
+  steps ← get (codes "steps") d >>= steps_of
+  policy ← found_or vortex_fields policy_of (get (codes "policy") d)
+  Some (record { source = column_source column; steps = steps; policy = policy })
+
+-- an object of a column and steps, and perhaps a policy
 unfoldable pub document_of : Data → Option DocumentValue
-document_of d =
-    if is_closed (codes "column" ∷ codes "steps" ∷ codes "policy" ∷ []) d then
-        (get (codes "column") d >>= column_of >>= λ c. get (codes "steps") d >>= steps_of >>= λ steps. found_or vortex_fields policy_of (get (codes "policy") d) >>= λ policy.
-        Some (record { source = column_source c; steps = steps; policy = policy }))
-    else None
+document_of d = if is_closed (codes "column" ∷ codes "steps" ∷ codes "policy" ∷ []) d then members_of d else None

@@ -3,20 +3,43 @@ use Rattle.std.specs.Prelude.{ℕ, ◌&&◌, ◌||◌, List, [], ◌∷◌, Bool
 use Rattle.serde_json.specs.Data.{Data, null, boolean, number, string, array, object, Items, no_items, item, Members, no_members, member}
 use Rattle.vx_rows.specs.Meaning.{is_among}
 
+-- types and columns of plain values, and which rows are null
+unfoldable pub flat_words : List (List ℕ)
+flat_words =
+    codes "Null" ∷ codes "Bool" ∷ codes "Decimal" ∷ codes "f16" ∷ codes "f32" ∷ codes "f64" ∷ codes "null" ∷ codes "bool" ∷ codes "decimal" ∷ codes "nullable" ∷ codes "validity" ∷ codes "precision" ∷ codes "scale" ∷ codes "width" ∷ []
+
+-- masks in other forms, and steps that take rows
+unfoldable pub mask_words : List (List ℕ)
+mask_words =
+    codes "take" ∷ codes "pieces" ∷ codes "starts" ∷ codes "lengths" ∷ codes "multipliers" ∷ []
+
+-- columns over other columns
+unfoldable pub wrapped_words : List (List ℕ)
+wrapped_words =
+    codes "Constant" ∷ codes "Dict" ∷ codes "Filter" ∷ codes "value" ∷ codes "codes" ∷ codes "child" ∷ codes "mask" ∷ codes "offset" ∷ codes "chunks" ∷ []
+
+-- text and other bytes
+unfoldable pub text_words : List (List ℕ)
+text_words =
+    codes "VarBin" ∷ codes "VarBinView" ∷ codes "utf8" ∷ codes "binary" ∷ codes "offsets" ∷ codes "offset_type" ∷ codes "bytes" ∷ codes "views" ∷ codes "buffers" ∷ codes "inline" ∷ codes "prefix" ∷ codes "buffer" ∷ []
+
+-- lists and maps
+unfoldable pub list_words : List (List ℕ)
+list_words =
+    codes "List" ∷ codes "ListView" ∷ codes "FixedSizeList" ∷ codes "Map" ∷ codes "elements" ∷ codes "sizes" ∷ codes "size" ∷ codes "entries" ∷ []
+
+-- records, unions and extensions
+unfoldable pub record_words : List (List ℕ)
+record_words =
+    codes "Struct" ∷ codes "Union" ∷ codes "Extension" ∷ codes "names" ∷ codes "fields" ∷ codes "type_ids" ∷ codes "variants" ∷ codes "id" ∷ codes "name" ∷ codes "children" ∷ codes "storage" ∷ []
+
 -- names of members, layouts and types alike
-unfoldable pub later_words : List (List ℕ)
-later_words =
-    codes "Null" ∷ codes "Bool" ∷ codes "Decimal" ∷ codes "f16" ∷ codes "f32" ∷ codes "f64" ∷ codes "take" ∷ codes "validity" ∷ codes "precision" ∷ codes "scale" ∷ codes "width"
-    ∷ codes "pieces" ∷ codes "starts" ∷ codes "lengths" ∷ codes "multipliers"
-    ∷ codes "Constant" ∷ codes "Dict" ∷ codes "Filter" ∷ codes "null" ∷ codes "bool" ∷ codes "decimal" ∷ codes "nullable" ∷ codes "value" ∷ codes "codes" ∷ codes "child" ∷ codes "mask"
-    ∷ codes "offset" ∷ codes "chunks"
-    ∷ codes "VarBin" ∷ codes "VarBinView" ∷ codes "utf8" ∷ codes "binary" ∷ codes "offsets" ∷ codes "offset_type" ∷ codes "bytes" ∷ codes "views" ∷ codes "buffers" ∷ codes "inline" ∷ codes "prefix" ∷ codes "buffer"
-    ∷ codes "List" ∷ codes "ListView" ∷ codes "FixedSizeList" ∷ codes "Map" ∷ codes "elements" ∷ codes "sizes" ∷ codes "size" ∷ codes "entries"
-    ∷ codes "Struct" ∷ codes "Union" ∷ codes "Extension" ∷ codes "names" ∷ codes "fields" ∷ codes "type_ids" ∷ codes "variants" ∷ codes "id" ∷ codes "name" ∷ codes "children" ∷ codes "storage" ∷ []
+abbrev pub is_later_word : List ℕ → Bool
+is_later_word w = is_among flat_words w || is_among mask_words w || is_among wrapped_words w || is_among text_words w || is_among list_words w || is_among record_words w
 
 -- the text of a `layout` or a `type` is a later word
 abbrev pub is_later_text : List ℕ → Data → Bool
-is_later_text k (string s) = is_among (codes "layout" ∷ codes "type" ∷ []) k && is_among later_words s
+is_later_text k (string s) = is_among (codes "layout" ∷ codes "type" ∷ []) k && is_later_word s
 is_later_text k d = false
 
 -- some object, at any depth, holds a later word: as the name of a member, or as the text of its `layout` or `type`
@@ -35,4 +58,4 @@ abbrev mutual
 
   pub members_later : Members → Bool
   members_later no_members = false
-  members_later (member k d ms) = (is_among later_words k || is_later_text k d) || holds_later d || members_later ms
+  members_later (member k d ms) = (is_later_word k || is_later_text k d) || holds_later d || members_later ms

@@ -5,7 +5,7 @@ use Rattle.serde_json.specs.Find.{get, as_str, as_array, as_bool}
 use Rattle.vx_mask.specs.Positions.{covered, bits_with}
 use Rattle.vx_mask.specs.Mask.{indices_fault, slices_fault}
 use Rattle.vx_mask.specs.declared.error.MaskError.{MaskError}
-use Rattle.vx_rows.specs.Meaning.{◌>>=◌, is_closed, each, pair_by, whole_of, at_most, greatest_len}
+use Rattle.vx_rows.specs.Meaning.{◌>>=◌, is_closed, each, pair_of, whole_of, at_most, greatest_len}
 
 -- `0` is a clear bit, and `1` a set one
 abbrev pub bit_named : ℕ → Option Bool
@@ -37,15 +37,11 @@ bits_by_set d = do
   indices ← get (codes "set") d >>= as_array >>= each whole_of
   unless_fault (indices_fault len indices) (bits_with len indices)
 
--- where a run starts, and where it ends
-unfoldable pub run_of : Data → Option (ℕ × ℕ)
-run_of d = as_array d >>= pair_by (λ start end. Some (start, end)) whole_of
-
--- runs of set bits
+-- runs of set bits, each from where it starts to where it ends
 unfoldable pub bits_by_runs : Data → Option (List Bool)
 bits_by_runs d = do
   len ← get (codes "len") d >>= at_most greatest_len
-  runs ← get (codes "runs") d >>= as_array >>= each run_of
+  runs ← get (codes "runs") d >>= as_array >>= each pair_of
   unless_fault (slices_fault len runs) (bits_with len (covered runs))
 
 -- one answer for every row

@@ -1,7 +1,7 @@
 -- Reading a JSON value by a definition that gives what it means, or none.
 use Rattle.std.specs.Prelude.{◌≡◌, ℕ, ◌&&◌, ◌||◌, ◌≤◌, nat_le, List, [], ◌∷◌, Bool, true, false, if◌then◌else◌, Option, Some, None, option_and_then, Result, Ok, Err, bytes_eq, ⊤}
 use Rattle.serde_json.specs.Data.{Data, Items, no_items, item, Members, no_members, member}
-use Rattle.serde_json.specs.Find.{get, as_number, as_object, as_u64}
+use Rattle.serde_json.specs.Find.{as_number, as_array, as_object, as_u64}
 use Rattle.vx_rows.specs.declared.error.DocError.{DocError}
 use Rattle.vx_rows.specs.declared.error.DocError.TheVariants.{Malformed, NoMemory}
 
@@ -44,19 +44,22 @@ each f (item d ds) = do
   xs ← each f ds
   Some (x ∷ xs)
 
--- what f gives of a list of just two items
-unfoldable pub pair_by : {A : Type 0} → (ℕ → ℕ → Option A) → (Data → Option ℕ) → Items → Option A
-pair_by make f no_items = None
-pair_by make f (item a no_items) = None
-pair_by make f (item a (item b no_items)) = do
-  x ← f a
-  y ← f b
-  make x y
-pair_by make f (item a (item b (item c ds))) = None
-
 -- a whole number from 0 to 2^64 - 1
 unfoldable pub whole_of : Data → Option ℕ
 whole_of d = as_number d >>= as_u64
+
+-- a list of just two whole numbers
+unfoldable pub pair_in : Items → Option (ℕ × ℕ)
+pair_in no_items = None
+pair_in (item a no_items) = None
+pair_in (item a (item b no_items)) = do
+  x ← whole_of a
+  y ← whole_of b
+  Some (x, y)
+pair_in (item a (item b (item c ds))) = None
+
+unfoldable pub pair_of : Data → Option (ℕ × ℕ)
+pair_of d = as_array d >>= pair_in
 
 -- a whole number up to a bound
 unfoldable pub at_most : ℕ → Data → Option ℕ

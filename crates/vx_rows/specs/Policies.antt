@@ -1,15 +1,17 @@
 -- What a JSON value means as a policy: its numbers.
 use Rattle.std.specs.Prelude.{ℕ, List, [], ◌∷◌, ◌++◌, if◌then◌else◌, Option, Some, None, codes, bytes_eq}
 use Rattle.serde_json.specs.Data.{Data}
-use Rattle.serde_json.specs.Find.{get, as_str, as_array}
+use Rattle.serde_json.specs.Find.{get, as_str}
 use Rattle.vx_mask.specs.Policy.{policy_fault, vortex_fields, ratio}
 use Rattle.vx_mask.specs.declared.policy.PolicyFields.{PolicyFields}
 use Rattle.vx_mask.specs.declared.policy.PolicyError.{PolicyError}
 use Rattle.vx_mask.specs.declared.policy.Ratio.{Ratio}
-use Rattle.vx_rows.specs.Meaning.{◌>>=◌, is_closed, pair_by, whole_of}
+use Rattle.vx_rows.specs.Meaning.{◌>>=◌, is_closed, pair_of, whole_of}
 
 unfoldable pub ratio_of : Data → Option Ratio
-ratio_of d = as_array d >>= pair_by (λ num den. Some (ratio num den)) whole_of
+ratio_of d = do
+  pair ← pair_of d
+  Some (ratio pair.0 pair.1)
 
 abbrev pub found_or : {A : Type 0} → A → (Data → Option A) → Option Data → Option A
 found_or usual f None = Some usual
@@ -82,7 +84,12 @@ takes_of f d = do
 
 -- all of them
 unfoldable pub fields_of : PolicyFields → Data → Option PolicyFields
-fields_of f d = densities_of f d >>= λ f. forms_of f d >>= λ f. limits_of f d >>= λ f. sizes_of f d >>= λ f. takes_of f d
+fields_of f d = do
+  a ← densities_of f d
+  b ← forms_of a d
+  c ← limits_of b d
+  e ← sizes_of c d
+  takes_of e d
 
 abbrev pub unless_refused : PolicyFields → Option PolicyError → Option PolicyFields
 unless_refused f None = Some f

@@ -1,9 +1,10 @@
 -- What the program makes of the bytes that it reads.
-use Rattle.std.specs.Prelude.{◌≡◌, ℕ, List, length, nat_lt, if◌then◌else◌, Option, Some, None, option_map, slice_range, ◌++◌}
+use Rattle.std.specs.Prelude.{◌≡◌, ℕ, List, [], length, nat_lt, if◌then◌else◌, Option, Some, None, option_map, IfSome}
 use Rattle.std.specs.Str.{is_utf8}
 use Rattle.serde_json.specs.Data.{Data}
 use Rattle.serde_json.specs.Read.{read}
 use Rattle.vx_select.specs.Answer.{Answered, Faulty, Rows as RowsOf, answer}
+use Rattle.vx_rows.specs.Commands.{command_of, IfCommand}
 use Rattle.vx_rows.specs.Document.{DocumentValue, SourceValue, column_source, document_of}
 use Rattle.vx_rows.specs.Later.{holds_later}
 use Rattle.vx_rows.specs.Text.{text, fault_text}
@@ -83,3 +84,11 @@ status_of (Broken line) = 1
 status_of Malformed = 2
 status_of TooLong = 7
 status_of NotBuilt = 8
+
+-- a fact of what comes of the words and of what the source had, where the words name a command and the source tells its bytes
+abbrev pub IfTold : List (List ℕ) → Option (List ℕ) → (Outcome → Type 0) → Type 0
+IfTold words rest P = IfCommand (command_of words) (λ command. IfSome (outcome_told command rest) P)
+
+-- what a command that has written its text took of the source: `rows` takes all
+abbrev pub HasRead : Command → Option (List ℕ) → Option (List ℕ) → Type 0
+HasRead Rows before after = IfSome after (λ left. left ≡ [])

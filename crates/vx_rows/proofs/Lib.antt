@@ -1,0 +1,6 @@
+pub mod Transfers
+pub mod Each
+pub mod JsonValues
+pub mod BitText
+pub mod Told
+pub mod Printed

@@ -1,0 +1,181 @@
+//! Words of documents that this program doesn't read yet.
+ghost use Rattle.std.specs.Prelude.{◌≡◌};
+ghost use Rattle.serde_json.specs.View.{view, items_view, members_view};
+ghost use Rattle.vx_rows.specs.Meaning.{is_among};
+ghost use Rattle.vx_rows.specs.Later.{flat_words, mask_words, wrapped_words, text_words, list_words, record_words, is_later_word, is_later_text, holds_later, items_later, members_later};
+
+use serde_json::{Map, Value};
+
+/// Types and columns of plain values, and which rows are null.
+#[tactic(auto, unfolding(crate::specs::Later::flat_words))]
+fn is_flat_word(word: &str) -> bool
+    ensures { result ≡ is_among flat_words word.now }
+{
+    match word {
+        "Null"
+        | "Bool"
+        | "Decimal"
+        | "f16"
+        | "f32"
+        | "f64"
+        | "null"
+        | "bool"
+        | "decimal"
+        | "nullable"
+        | "validity"
+        | "precision"
+        | "scale"
+        | "width" => true,
+        _ => false,
+    }
+}
+
+/// Masks in other forms, and steps that take rows.
+#[tactic(auto, unfolding(crate::specs::Later::mask_words))]
+fn is_mask_word(word: &str) -> bool
+    ensures { result ≡ is_among mask_words word.now }
+{
+    match word {
+        "take" | "pieces" | "starts" | "lengths" | "multipliers" => true,
+        _ => false,
+    }
+}
+
+/// Columns over other columns.
+#[tactic(auto, unfolding(crate::specs::Later::wrapped_words))]
+fn is_wrapped_word(word: &str) -> bool
+    ensures { result ≡ is_among wrapped_words word.now }
+{
+    match word {
+        "Constant"
+        | "Dict"
+        | "Filter"
+        | "value"
+        | "codes"
+        | "child"
+        | "mask"
+        | "offset"
+        | "chunks" => true,
+        _ => false,
+    }
+}
+
+/// Text and other bytes.
+#[tactic(auto, unfolding(crate::specs::Later::text_words))]
+fn is_text_word(word: &str) -> bool
+    ensures { result ≡ is_among text_words word.now }
+{
+    match word {
+        "VarBin"
+        | "VarBinView"
+        | "utf8"
+        | "binary"
+        | "offsets"
+        | "offset_type"
+        | "bytes"
+        | "views"
+        | "buffers"
+        | "inline"
+        | "prefix"
+        | "buffer" => true,
+        _ => false,
+    }
+}
+
+/// Lists and maps.
+#[tactic(auto, unfolding(crate::specs::Later::list_words))]
+fn is_list_word(word: &str) -> bool
+    ensures { result ≡ is_among list_words word.now }
+{
+    match word {
+        "List" | "ListView" | "FixedSizeList" | "Map" | "elements" | "sizes" | "size" | "entries" =>
+            true,
+        _ => false,
+    }
+}
+
+/// Records, unions and extensions.
+#[tactic(auto, unfolding(crate::specs::Later::record_words))]
+fn is_record_word(word: &str) -> bool
+    ensures { result ≡ is_among record_words word.now }
+{
+    match word {
+        "Struct"
+        | "Union"
+        | "Extension"
+        | "names"
+        | "fields"
+        | "type_ids"
+        | "variants"
+        | "id"
+        | "name"
+        | "children"
+        | "storage" => true,
+        _ => false,
+    }
+}
+
+/// Whether it is a word of any of these families. They are one pool: each counts as a name and as a text alike.
+fn is_later_word(word: &str) -> bool
+    ensures { result ≡ is_later_word word.now }
+{
+    is_flat_word(word)
+        || is_mask_word(word)
+        || is_wrapped_word(word)
+        || is_text_word(word)
+        || is_list_word(word)
+        || is_record_word(word)
+}
+
+/// Whether a member of this name has a later word for the text of its value, and is a `layout` or a `type`.
+fn is_later_text(name: &str, value: &Value) -> bool
+    ensures { result ≡ is_later_text name.now (view value.now) }
+{
+    match value.as_str() {
+        Some(text) => (name == "layout" || name == "type") && is_later_word(text),
+        None => false,
+    }
+}
+
+/// Whether some object in it, at any depth, has a word that isn't read yet: as the name of a member, or as the text of its
+/// `layout` or `type`.
+#[cycle(later)]
+pub(crate) fn holds_later(value: &Value) -> bool
+    ensures { result ≡ holds_later (view value.now) }
+{
+    match value {
+        Value::Array(items) => items_hold_later(items),
+        Value::Object(members) => members_hold_later(members),
+        _ => false,
+    }
+}
+
+#[cycle(later)]
+fn items_hold_later(items: &Vec<Value>) -> bool
+    ensures { result ≡ items_later (items_view items.now.items) }
+{
+    for item in items {
+        if holds_later(item) {
+            return true;
+        }
+    }
+    false
+}
+
+#[cycle(later)]
+fn members_hold_later(members: &Map<String, Value>) -> bool
+    ensures { result ≡ members_later (members_view members.now.entries) }
+{
+    for (name, member) in members {
+        if is_later_word(name.as_str())
+            || is_later_text(name.as_str(), member)
+            || holds_later(member)
+        {
+            return true;
+        }
+    }
+    false
+}
+
+#[cfg(test)]
+mod tests;

@@ -1,0 +1,79 @@
+//! What is answered to the bytes of a document.
+ghost use Rattle.std.specs.Prelude.{◌≡◌, Some};
+ghost use Rattle.serde_json.specs.View.{view};
+ghost use Rattle.vx_rows.specs.Meaning.{Gives};
+ghost use Rattle.vx_rows.specs.Program.{value_of, outcome_of, of_document};
+ghost use Rattle.vx_rows.specs.Documents.{document_value};
+ghost use Rattle.vx_rows.specs.Reply.{Replies};
+
+use crate::documents::{Document, DocumentSource};
+use crate::error::DocError;
+use crate::later::holds_later;
+use crate::printing::text_of;
+use crate::reading::document;
+use serde_json::Value;
+use std::alloc::Global;
+use vx_select::{Cause, SelectError, select};
+
+/// What comes of bytes that aren't too many.
+#[derive(Drop)]
+pub(crate) enum Reply {
+    /// The text of the rows.
+    Done(Vec<u8>),
+    /// The first broken step, and its cause.
+    Broken { step: usize, cause: Cause },
+    Malformed,
+    NotBuilt,
+    NoMemory,
+}
+
+#[tactic(auto, unfolding(crate::specs::Program::value_of))]
+fn value_of(alloc: Global, bytes: &[u8]) -> Result<Value, DocError>
+    ensures { Gives view result (value_of bytes.now) }
+{
+    match Value::from_slice(alloc, bytes) {
+        Ok(value) => Ok(value),
+        Err(e) => {
+            if e.is_memory() {
+                Err(DocError::NoMemory)
+            } else {
+                Err(DocError::Malformed)
+            }
+        }
+    }
+}
+
+/// What comes of these bytes.
+#[tactic(auto, unfolding(crate::specs::Program::outcome_of))]
+pub(crate) fn reply_to(alloc: Global, bytes: &[u8]) -> Reply
+    ensures { Replies result (outcome_of bytes.now) }
+{
+    let value = match value_of(alloc, bytes) {
+        Ok(value) => value,
+        Err(DocError::Malformed) => return Reply::Malformed,
+        Err(DocError::NoMemory) => return Reply::NoMemory,
+    };
+    if holds_later(&value) {
+        return Reply::NotBuilt;
+    }
+    match document(alloc, &value) {
+        Ok(document) => reply_of(alloc, &document),
+        Err(DocError::Malformed) => Reply::Malformed,
+        Err(DocError::NoMemory) => Reply::NoMemory,
+    }
+}
+
+/// What comes of a document.
+fn reply_of(alloc: Global, document: &Document) -> Reply
+    ensures { Replies result (of_document (Some (document_value document.now))) }
+{
+    let DocumentSource::Column(column) = &document.source;
+    match select(alloc, column, document.steps.as_slice(), &document.policy) {
+        Ok(answer) => match text_of(alloc, &answer) {
+            Ok(text) => Reply::Done(text),
+            Err(_) => Reply::NoMemory,
+        },
+        Err(SelectError::Broken { step, cause }) => Reply::Broken { step, cause },
+        Err(SelectError::NoMemory) => Reply::NoMemory,
+    }
+}
