@@ -1,5 +1,5 @@
 -- What a JSON value means as a column.
-use Rattle.std.specs.Prelude.{ℕ, ℤ, pos, List, [], ◌∷◌, map, if◌then◌else◌, Option, Some, None, codes, bytes_eq, ⊤}
+use Rattle.std.specs.Prelude.{ℕ, pos, List, [], ◌∷◌, map, if◌then◌else◌, Option, Some, None, codes, bytes_eq, ⊤}
 use Rattle.std.specs.List.{range_with_len}
 use Rattle.serde_json.specs.Data.{Data}
 use Rattle.serde_json.specs.Find.{get, as_number, as_str, as_array, as_integer}

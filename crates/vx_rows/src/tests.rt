@@ -604,9 +604,9 @@ fn documents_up_to_the_bound(rt: HostRuntime) -> Result<(), Fail> {
     assert_count(&rt, rt.alloc(), TWO_ROWS, 16_777_217, (7, 0))
 }
 
-// 256 rows take 914 bytes, and the type's line 3
 #[test]
 fn ramps_up_to_the_bound(rt: HostRuntime) -> Result<(), Fail> {
+    // Of 256 rows, 10 take 2 bytes, 90 take 3 and 156 take 4: 914 bytes. The type's line takes 3.
     let document = ramp(
         rt.alloc(),
         16_777_216,

@@ -1,6 +1,6 @@
 use Rattle.std.proofs.lemmas.Result.{err_from_is_err_and}
 use Rattle.vx_rows.specs.Meaning.{pair_of}
-use Rattle.vx_rows.proofs.Each.{reading_starts, reading_goes_on, reading_fails, reading_ends}
+use Rattle.vx_rows.proofs.Each.{reading_goes_on, reading_fails, reading_ends}
 use Rattle.vx_rows.proofs.reading.lists.runs_in.Goals as goal
 
 pub returns-in_err-pair_of : goal.returns-in_err-pair_of
