@@ -1,8 +1,8 @@
 -- Lemmas on the set positions of a list of bits.
-use Rattle.std.proofs.Common.{◌≡◌, ℕ, zero, suc, ◌+◌, ◌<◌, ◌≤◌, Bool, true, false, cond, List, [], ◌∷◌, ◌++◌, length, get_or, take, replicate, Some, refl, sym, ap, ◌∙◌, arith}
-use Rattle.std.specs.List.{slice_get, range_with_len}
-use Rattle.std.proofs.lemmas.List.{length-replicate, append-nil}
-use Rattle.std.proofs.lemmas.List.Sums.{sum_by-cons, count_by-le-length}
+use Rattle.std.proofs.Common.{◌≡◌, ℕ, zero, suc, ◌+◌, ◌<◌, ◌-◌, ◌≤◌, Bool, true, false, cond, List, [], ◌∷◌, ◌++◌, length, get_or, take, drop, replicate, Some, refl, sym, ap, ◌∙◌, arith}
+use Rattle.std.specs.List.{slice_get, slice_range, range_with_len}
+use Rattle.std.proofs.lemmas.List.{length-replicate, append-nil, take-take, drop-take}
+use Rattle.std.proofs.lemmas.List.Sums.{sum_by-cons, sum_by-take-drop, sum_by_more, count_by-le-length}
 use Rattle.std.proofs.lemmas.Option.{slice_get-get_or, slice_get_within}
 use Rattle.vx_bits.specs.BitBuffer.{true_count_of}
 use Rattle.vx_mask.specs.Positions.{positions, set_of, rank_of, RanksAscend, RanksAreTheSet}
@@ -26,6 +26,35 @@ position_at at (true ∷ bits) (suc i) d h e =
 position_at at (false ∷ bits) (suc i) d h e =
     let none : true_count_of (false ∷ take i bits) ≡ true_count_of (take i bits) = omega (arith, true_count_of-cons false (take i bits)) in
     ap (λ n. get_or (positions (at + 1) bits) n d) none ∙ position_at (at + 1) bits i d (omega arith) e ∙ omega arith
+
+-- 1 for a set bit, and 0 for a clear one
+abbrev one_if : Bool → ℕ
+one_if b = cond b 1 0
+
+-- up to a place are the set bits up to an earlier one, and those between
+pub true_count_between : (bits : List Bool) (low high : ℕ) → low ≤ high → true_count_of (take low bits) + true_count_of (slice_range bits low high) ≡ true_count_of (take high bits)
+true_count_between bits low high h =
+    let whole : low + (high - low) ≡ high = omega arith in
+    let after = sym (drop-take low (high - low) bits) ∙ ap (λ n. drop low (take n bits)) whole in
+    let before = take-take low high bits h in
+    let parts : true_count_of (take low (take high bits)) + true_count_of (drop low (take high bits)) ≡ true_count_of (take high bits) = sum_by-take-drop one_if (take high bits) low in
+    omega (arith, parts, ap true_count_of before, ap true_count_of after)
+
+-- where a count is passed by one bit, that bit is set
+pub record IsPassed (bits : List Bool) (k i : ℕ) : Type 0 where
+  pub before : true_count_of (take i bits) ≡ k
+  pub set : get_or bits i false ≡ true
+
+passed_by : (bits : List Bool) (k i : ℕ) (b : Bool) → get_or bits i false ≡ b → true_count_of (take (i + 1) bits) ≡ true_count_of (take i bits) + one_if (get_or bits i false) → true_count_of (take i bits) ≤ k → k < true_count_of (take (i + 1) bits) → IsPassed bits k i
+passed_by bits k i true e more p q =
+    let value : one_if (get_or bits i false) ≡ 1 = ap one_if e in
+    record { before = omega (arith, more, value, p, q); set = e }
+passed_by bits k i false e more p q =
+    let value : one_if (get_or bits i false) ≡ 0 = ap one_if e in
+    absurd (omega (arith, more, value, p, q))
+
+pub is_passed : (bits : List Bool) (k i : ℕ) → i < length bits → true_count_of (take i bits) ≤ k → k < true_count_of (take (i + 1) bits) → IsPassed bits k i
+is_passed bits k i h p q = passed_by bits k i (get_or bits i false) refl (sum_by_more one_if bits i false h) p q
 
 -- fewer bits are set before a set bit than in all
 pub true_count_before_set : (bits : List Bool) (i : ℕ) → i < length bits → get_or bits i false ≡ true → true_count_of (take i bits) < true_count_of bits

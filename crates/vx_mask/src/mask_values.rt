@@ -68,22 +68,26 @@ impl MaskValues {
         self.bits.value(i)
     }
 
-    /// The `k`-th set position, from 0.
+    /// The `k`-th set position, from 0. It counts each bit once at most: a half of the rows, then a
+    /// half of what is left.
     pub fn rank(&self, k: usize) -> usize
         requires { k < true_count_of self.now.bits.bits }
         ensures rank { result ≡ rank_of self.now.bits.bits k }
         ensures within { result < length self.now.bits.bits }
     {
-        let mut seen = 0;
-        for i in 0..self.len() {
-            if self.value(i) {
-                if seen == k {
-                    return i;
-                }
-                seen += 1;
+        let (mut low, mut high) = (0, self.len());
+        let mut left = k;
+        'halving: while high - low > 1 {
+            let middle = low + (high - low) / 2;
+            let count = self.bits.slice(low, middle).true_count();
+            if left < count {
+                high = middle;
+            } else {
+                left -= count;
+                low = middle;
             }
         }
-        unreachable!()
+        low
     }
 
     /// The number of set positions below `p`.
@@ -91,13 +95,7 @@ impl MaskValues {
         requires { p ≤ length self.now.bits.bits }
         ensures { result ≡ true_count_of (take p self.now.bits.bits) }
     {
-        let mut count = 0;
-        for i in 0..p {
-            if self.value(i) {
-                count += 1;
-            }
-        }
-        count
+        self.bits.slice(0, p).true_count()
     }
 
     /// The same mask once more, with what it keeps. It takes no memory.

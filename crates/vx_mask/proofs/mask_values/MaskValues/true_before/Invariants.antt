@@ -1,6 +1,0 @@
-use Rattle.std.proofs.Common.{◌≡◌, ◌≤◌, take}
-use Rattle.vx_bits.specs.BitBuffer.{true_count_of}
-use Rattle.vx_mask.proofs.mask_values.MaskValues.true_before.Given as goal
-
-abbrev pub invariant-loop-i : goal.invariant-loop-i
-invariant-loop-i l = record { counted : l.count ≡ true_count_of (take l.i l.self.bits.bits); small : l.count ≤ l.i }
