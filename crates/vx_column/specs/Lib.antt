@@ -1,6 +1,5 @@
-pub mod Column
-pub mod Valid
-pub mod Primitive
+pub mod Cell
 pub mod Layout
 pub mod Plain
-pub mod Numbers
+pub mod Primitive
+pub mod Validity

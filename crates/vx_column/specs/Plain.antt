@@ -1,48 +1,22 @@
--- Columns whose rows lie one after another, and slices that take no memory.
-use Rattle.std.specs.Prelude.{◌≡◌, ℕ, Bool, true, false, ◌&&◌, ◌||◌, Option, MatchOption, slice_range}
-use Rattle.vx_column.specs.Column.{Column, LayoutTag, null_layout, bool_layout, primitive_layout, decimal_layout, Cover, constant_form, by_bools}
+-- Columns whose rows are stored as records, and none of them null.
+use Rattle.std.specs.Prelude.{◌≡◌, true, false, map, Option, Some, MatchOption}
+use Rattle.vx_bits.specs.Records.{records_of, width_of}
+use Rattle.vx_bits.specs.declared.records.Records.{Records}
+use Rattle.vx_types.specs.RowValue.{bytes}
+use Rattle.vx_types.specs.Nullability.{is_nullable}
+use Rattle.vx_types.specs.TypeTree.{type_nullability, type_width}
+use Rattle.vx_model.specs.Column.{Column}
+use Rattle.vx_model.specs.Plain.{stores_records}
 
-abbrev pub is_null_layout : LayoutTag → Bool
-is_null_layout null_layout = true
-is_null_layout t = false
+-- the rows are these records, which are as wide as the type
+pub record AreRowsOf (c : Column) (records : Records) : Type 0 where
+  pub rows : c.rows ≡ map bytes (records_of records)
+  pub width : Some (width_of records) ≡ type_width c.dtype
+  pub stored : stores_records c.layout ≡ true
 
--- layouts that store a row's bits or bytes in its place
-abbrev pub is_row_layout : LayoutTag → Bool
-is_row_layout bool_layout = true
-is_row_layout primitive_layout = true
-is_row_layout decimal_layout = true
-is_row_layout t = false
-
--- layouts that store a row as a record of bytes
-abbrev pub stores_records : LayoutTag → Bool
-stores_records primitive_layout = true
-stores_records decimal_layout = true
-stores_records t = false
-
-abbrev pub is_constant_form : Cover → Bool
-is_constant_form constant_form = true
-is_constant_form c = false
-
-abbrev pub is_bools : Cover → Bool
-is_bools by_bools = true
-is_bools c = false
-
--- layout `Null`; or `Bool`, `Primitive` or `Decimal`, with a validity of constant form or an array of layout `Bool`
-abbrev pub is_unwrapped : Column → Bool
-is_unwrapped c = is_null_layout c.layout || (is_row_layout c.layout && (is_constant_form c.cover || is_bools c.cover))
-
--- layout `Null`; or `Bool`, `Primitive` or `Decimal`, with a validity of constant form
-abbrev pub is_plain : Column → Bool
-is_plain c = is_null_layout c.layout || (is_row_layout c.layout && is_constant_form c.cover)
-
--- a has the rows of c from start up to end, and its type, and is as plain
-pub record IsSlice (c : Column) (start end : ℕ) (a : Column) : Type 0 where
-  pub rows : a.rows ≡ slice_range c.rows start end
-  pub dtype : a.dtype ≡ c.dtype
-  pub plain : is_plain a ≡ is_plain c
-  pub unwrapped : is_unwrapped a ≡ is_unwrapped c
-  pub depth : a.depth ≡ c.depth
-
--- the slice of a plain column, and none of another
-abbrev pub IsPlainSlice : Column → ℕ → ℕ → Option Column → Type 0
-IsPlainSlice c start end r = MatchOption r (is_plain c ≡ false) (λ a. (is_plain c ≡ true) × IsSlice c start end a)
+-- the records of the rows; none where the type has nulls, or the layout stores no records
+abbrev pub HasRecords : Column → Option Records → Type 0
+HasRecords c r =
+    MatchOption r
+    (stores_records c.layout ≡ true → is_nullable (type_nullability c.dtype) ≡ true)
+    (λ records. AreRowsOf c records)

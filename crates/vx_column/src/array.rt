@@ -1,3 +1,4 @@
+//! Columns of any layout.
 ghost use Rattle.std.specs.Prelude.{◌≡◌, length, true};
 ghost use Rattle.vx_types.specs.DType.{type_of};
 ghost use Rattle.vx_types.specs.TypeTree.{is_carried, is_flat};
@@ -7,8 +8,9 @@ use crate::primitive::PrimitiveArray;
 use std::marker::Model;
 use vx_types::DType;
 
-/// A column: a type, and rows in one of the layouts. The crate's `Array`.
+/// A column: a type, and rows in one of the layouts. Vortex's `Array`.
 pub struct Array {
+    dtype: DType,
     len: usize,
     layout: Layout,
 }
@@ -16,14 +18,13 @@ pub struct Array {
 /// How the rows of a column are stored.
 #[derive(Drop)]
 pub enum Layout {
+    /// A record of a primitive type a row.
     Primitive(PrimitiveArray),
 }
 
 impl Model for Array {
-    ghost use Rattle.std.specs.Prelude.{◌≡◌, length, true};
-    ghost use Rattle.vx_types.specs.TypeTree.{is_carried};
-    ghost use Rattle.vx_column.specs.Column.{Column, coded_column};
-    ghost use Rattle.vx_column.specs.Layout.{column_of};
+    ghost use Rattle.vx_model.specs.Column.{Column, coded_column};
+    ghost use Rattle.vx_column.specs.Layout.{IsTyped, column_of};
 
     ghost Value = { Column };
 
@@ -31,19 +32,24 @@ impl Model for Array {
 
     ghost view = { λ a. column_of a.layout };
 
-    ghost invariant = { λ a. (a.len ≡ length (column_of a.layout).rows) × (is_carried (column_of a.layout).dtype ≡ true) };
+    ghost invariant = { λ a. IsTyped a.dtype a.len (column_of a.layout) };
 }
 
-// Written out, so that a function that drops an `Array` calls it; a derived one would be opened there, layout by layout.
+// Written out, so that a function that drops an `Array` calls it; a derived one would be opened
+// there, layout by layout.
 impl Drop for Array {
     fn drop(self) {
-        let Array { len: _, layout } = self;
+        let Array {
+            dtype: _,
+            len: _,
+            layout,
+        } = self;
         drop(layout)
     }
 }
 
 impl Layout {
-    /// An equal layout, without memory.
+    /// The same layout once more. It takes no memory.
     pub fn share(&self) -> Layout
         ensures { result ≡ self.now }
     {
@@ -54,12 +60,14 @@ impl Layout {
 }
 
 impl Array {
-    pub(crate) fn of(len: usize, layout: Layout) -> Array
+    // The column of this layout, which is of this type and has so many rows.
+    pub(crate) fn new(dtype: DType, len: usize, layout: Layout) -> Array
+        requires typed { type_of dtype ≡ (column_of layout).dtype }
         requires long { len ≡ length (column_of layout).rows }
         requires carried { is_carried (column_of layout).dtype ≡ true }
         ensures { result ≡ column_of layout }
     {
-        Array { len, layout }
+        Array { dtype, len, layout }
     }
 
     /// Its type, which is one that a column may have.
@@ -67,9 +75,7 @@ impl Array {
         ensures value { type_of result.now ≡ self.now.dtype }
         ensures carried { is_carried self.now.dtype ≡ true }
     {
-        match &self.layout {
-            Layout::Primitive(a) => a.dtype(),
-        }
+        &self.dtype
     }
 
     /// How many rows it has.
@@ -90,14 +96,15 @@ impl Array {
     pub fn is_flat(&self) -> bool
         ensures { result ≡ is_flat self.now.dtype }
     {
-        self.dtype().is_flat()
+        self.dtype.is_flat()
     }
 
-    /// An equal column, without memory.
+    /// The same column once more. It takes no memory.
     pub fn share(&self) -> Array
         ensures { result ≡ self.now }
     {
         Array {
+            dtype: self.dtype.share(),
             len: self.len,
             layout: self.layout.share(),
         }

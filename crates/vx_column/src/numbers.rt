@@ -1,16 +1,17 @@
-//! Reading one row.
-#![tactic(auto, using(crate::proofs::Rows::primitive_rows))]
-
+//! Reading one row as bytes or as a number.
 ghost use Rattle.std.specs.Prelude.{◌≡◌, ◌↔◌, ◌<◌, [], length, true, None, slice_index_or};
 ghost use Rattle.vx_types.specs.RowValue.{null};
 ghost use Rattle.vx_types.specs.TypeTree.{is_int_type};
-ghost use Rattle.vx_column.specs.Numbers.{number_in};
-ghost use Rattle.vx_column.specs.Plain.{stores_records};
+ghost use Rattle.vx_model.specs.Numbers.{number_in};
+ghost use Rattle.vx_model.specs.Plain.{stores_records};
 
 use crate::array::{Array, Layout};
+use crate::cell::Cell;
+use vx_types::DType;
 
 impl Array {
-    /// The stored bytes of row i, of a null row too.
+    /// The stored bytes of row `i`, of a null row too.
+    #[tactic(auto, using(vx_model::proofs::PrimitiveSteps::primitive_rows))]
     pub fn record_at(&self, i: usize) -> &[u8]
         requires records { stores_records self.now.layout ≡ true }
         requires row { i < length self.now.rows }
@@ -21,21 +22,21 @@ impl Array {
         }
     }
 
-    /// The number in row i of a column of integer type; none exactly where the row is null. It takes no memory.
+    /// The number in row `i` of a column of integer type; none exactly where the row is null. It
+    /// takes no memory.
     pub fn number_at(&self, i: usize) -> Option<i128>
         requires int { is_int_type self.now.dtype ≡ true }
         requires row { i < length self.now.rows }
         ensures value { result ≡ number_in self.now.dtype (slice_index_or self.now.rows i null) }
         ensures null { (result ≡ None) ↔ (slice_index_or self.now.rows i null ≡ null) }
     {
-        match self.layout() {
-            Layout::Primitive(a) => {
-                if a.validity().is_valid_at(i) {
-                    Some(a.ptype().number(a.values().record_bytes(i)))
-                } else {
-                    None
-                }
+        match self.cell_at(i) {
+            Cell::Bytes(bytes) => {
+                let DType::Primitive(ptype, _) = self.dtype();
+                Some(ptype.number(bytes))
             }
+            Cell::Null => None,
+            Cell::Bit(_) => unreachable!(),
         }
     }
 }

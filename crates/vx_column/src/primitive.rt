@@ -1,11 +1,11 @@
-#![tactic(auto, using(crate::proofs::Rows::primitive_rows))]
-
-ghost use Rattle.std.specs.Prelude.{◌≡◌, length, None};
-ghost use Rattle.vx_bits.specs.Records.{records_of, width_of};
-ghost use Rattle.vx_types.specs.DType.{type_of};
+//! Layout `Primitive`: a record of a primitive type a row.
+ghost use Rattle.std.specs.Prelude.{◌≡◌, ◌≤◌, ◌-◌, length, true, None, slice_range};
 ghost use Rattle.vx_bits.specs.Made.{made};
-ghost use Rattle.vx_column.specs.Valid.{valid_of};
-ghost use Rattle.vx_column.specs.Primitive.{primitive_parts, primitive_fault, primitive_column};
+ghost use Rattle.vx_bits.specs.Records.{records_of, width_of};
+ghost use Rattle.vx_model.specs.Valid.{is_fitting};
+ghost use Rattle.vx_model.specs.Primitive.{primitive_fault, primitive_column, primitive_with};
+ghost use Rattle.vx_column.specs.Validity.{valid_of};
+ghost use Rattle.vx_column.specs.Primitive.{primitive_parts};
 
 use crate::array::{Array, Layout};
 use crate::validity::Validity;
@@ -13,10 +13,9 @@ use std::marker::Model;
 use vx_bits::Records;
 use vx_types::{ColumnError, DType, PType};
 
-/// A column of records of a primitive type. The crate's `PrimitiveArray`.
+/// A column of records of a primitive type: Vortex's `PrimitiveArray`.
 #[derive(Drop)]
 pub struct PrimitiveArray {
-    dtype: DType,
     ptype: PType,
     values: Records,
     validity: Validity,
@@ -24,8 +23,8 @@ pub struct PrimitiveArray {
 
 impl Model for PrimitiveArray {
     ghost use Rattle.std.specs.Prelude.{◌≡◌, None};
-    ghost use Rattle.vx_types.specs.DType.{type_of};
-    ghost use Rattle.vx_column.specs.Primitive.{PrimitiveParts, coded_primitive, primitive_parts, primitive_fault, primitive_column};
+    ghost use Rattle.vx_model.specs.Primitive.{PrimitiveParts, coded_primitive, primitive_fault};
+    ghost use Rattle.vx_column.specs.Primitive.{primitive_parts};
 
     ghost Value = { PrimitiveParts };
 
@@ -33,39 +32,33 @@ impl Model for PrimitiveArray {
 
     ghost view = { λ a. primitive_parts a.ptype a.values a.validity };
 
-    ghost invariant = { λ a. (type_of a.dtype ≡ (primitive_column (primitive_parts a.ptype a.values a.validity)).dtype)
-        × (primitive_fault (primitive_parts a.ptype a.values a.validity) ≡ None) };
+    ghost invariant = { λ a. primitive_fault (primitive_parts a.ptype a.values a.validity) ≡ None };
 }
 
 impl PrimitiveArray {
-    /// A column with one row a record. `WrongWidth` where the records aren't as wide as the type, `BadValidity` where the
-    /// validity can't be that of so many rows. It takes no memory.
+    /// A column with one row a record. It takes no memory.
+    ///
+    /// `WrongWidth` exactly where the records aren't as wide as the type. Else `BadValidity`
+    /// exactly where the validity can't be that of so many rows.
     pub fn try_new(
         ptype: PType,
         values: Records,
         validity: Validity,
     ) -> Result<PrimitiveArray, ColumnError>
-        ensures { result ≡ made (primitive_fault (primitive_parts ptype values validity)) (primitive_parts ptype values validity) }
+        ensures { result ≡ made (primitive_fault (primitive_parts ptype values validity))
+            (primitive_parts ptype values validity) }
     {
         if ptype.width() != values.width() {
             return Err(ColumnError::WrongWidth);
         }
-        if !validity.fits(values.len()) {
+        if !validity.is_fitting(values.len()) {
             return Err(ColumnError::BadValidity);
         }
         Ok(PrimitiveArray {
-            dtype: DType::Primitive(ptype, validity.nullability()),
             ptype,
             values,
             validity,
         })
-    }
-
-    /// Its type.
-    pub fn dtype(&self) -> &DType
-        ensures { type_of result.now ≡ (primitive_column self.now).dtype }
-    {
-        &self.dtype
     }
 
     /// The type of its records.
@@ -75,17 +68,11 @@ impl PrimitiveArray {
         self.ptype
     }
 
-    /// How many rows it has.
-    pub fn len(&self) -> usize
-        ensures { result ≡ length self.now.records }
-    {
-        self.values.len()
-    }
-
     /// Its records, one a row, null rows too.
     pub fn values(&self) -> &Records
         ensures records { records_of result.now ≡ self.now.records }
         ensures width { width_of result.now ≡ self.now.width }
+        ensures valid { primitive_fault self.now ≡ None }
     {
         &self.values
     }
@@ -98,12 +85,26 @@ impl PrimitiveArray {
         &self.validity
     }
 
-    /// An equal column, without memory.
+    /// The same records with another validity, from `start` up to `end`. It takes no memory.
+    pub fn slice(&self, start: usize, end: usize, validity: Validity) -> PrimitiveArray
+        requires ordered { start ≤ end }
+        requires within { end ≤ length self.now.records }
+        requires fitting { is_fitting (valid_of validity) (end - start) ≡ true }
+        ensures { result ≡ primitive_with self.now
+            (slice_range self.now.records start end) (valid_of validity) }
+    {
+        PrimitiveArray {
+            ptype: self.ptype,
+            values: self.values.slice(start, end),
+            validity,
+        }
+    }
+
+    /// The same column once more. It takes no memory.
     pub fn share(&self) -> PrimitiveArray
         ensures { result ≡ self.now }
     {
         PrimitiveArray {
-            dtype: self.dtype.share(),
             ptype: self.ptype,
             values: self.values.share(),
             validity: self.validity.share(),
@@ -111,10 +112,12 @@ impl PrimitiveArray {
     }
 
     /// The column of this layout. It takes no memory.
+    #[tactic(auto, using(vx_model::proofs::PrimitiveSteps::primitive_rows))]
     pub fn into_array(self) -> Array
         ensures { result ≡ primitive_column self }
     {
-        let len = self.len();
-        Array::of(len, Layout::Primitive(self))
+        let dtype = DType::Primitive(self.ptype, self.validity.nullability());
+        let len = self.values.len();
+        Array::new(dtype, len, Layout::Primitive(self))
     }
 }

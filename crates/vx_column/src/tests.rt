@@ -1,4 +1,4 @@
-use crate::{Array, ColumnError, PType, PrimitiveArray, Validity};
+use crate::{Array, Cell, ColumnError, PType, PrimitiveArray, Validity};
 use std::alloc::Global;
 use std::test::Fail;
 use vx_bits::{Buffer, NoMemory, Records};
@@ -16,12 +16,12 @@ fn u32_records(alloc: Global, numbers: &[i128]) -> Result<Records, NoMemory> {
 fn a_column_keeps_its_records(rt: HostRuntime) -> Result<(), Fail> {
     let values = u32_records(rt.alloc(), &[1500, 7, 4294967295])?;
     let primitive = PrimitiveArray::try_new(PType::U32, values, Validity::NonNullable)?;
-    assert_eq!(rt; primitive.len(), 3);
     assert_eq!(rt; primitive.ptype(), PType::U32);
-    assert!(rt; !primitive.dtype().is_nullable());
     let column: Array = primitive.share().into_array();
     assert_eq!(rt; column.len(), 3);
     assert!(rt; column.is_flat());
+    assert_eq!(rt; column.present_records().map(|r| r.len()), Some(3));
+    assert!(rt; matches!(column.cell_at(1), Cell::Bytes([7, 0, 0, 0])));
     assert_eq!(rt; column.dtype().width(), Some(4));
     assert_eq!(rt; column.record_at(0), [0xdc, 0x05, 0, 0].as_slice());
     assert_eq!(rt; column.number_at(0), Some(1500));

@@ -1,10 +1,11 @@
+//! Which rows of a column are there, and which are null.
 ghost use Rattle.std.specs.Prelude.{◌≡◌};
-ghost use Rattle.vx_column.specs.Valid.{valid_of, valid_fits, is_present, nullability_by, cover_by};
-ghost use Rattle.vx_column.specs.Plain.{is_constant_form};
+ghost use Rattle.vx_model.specs.Valid.{is_fitting, is_present, nullability_by, cover_by, is_constant_form};
+ghost use Rattle.vx_column.specs.Validity.{valid_of};
 
 use vx_types::Nullability;
 
-/// Which rows of a column are there. The crate's `Validity`.
+/// Which rows of a column are there: Vortex's `Validity`.
 #[derive(Drop)]
 pub enum Validity {
     /// Every row, and the type has no null.
@@ -12,7 +13,7 @@ pub enum Validity {
 }
 
 impl Validity {
-    /// An equal validity, without memory.
+    /// The same validity once more. It takes no memory.
     pub fn share(&self) -> Validity
         ensures { result ≡ self.now }
     {
@@ -30,9 +31,9 @@ impl Validity {
         }
     }
 
-    /// Whether it can be that of this many rows.
-    pub fn fits(&self, len: usize) -> bool
-        ensures { result ≡ valid_fits (valid_of self.now) len }
+    /// Whether it can be that of so many rows.
+    pub fn is_fitting(&self, len: usize) -> bool
+        ensures { result ≡ is_fitting (valid_of self.now) len }
     {
         let _ = len;
         match self {
@@ -40,7 +41,7 @@ impl Validity {
         }
     }
 
-    /// Whether row i isn't null.
+    /// Whether row `i` isn't null.
     pub fn is_valid_at(&self, i: usize) -> bool
         ensures { result ≡ is_present (valid_of self.now) i }
     {

@@ -1,4 +1,1 @@
-pub mod Items
-pub mod Filtering
-pub mod Walks
 pub mod Selecting

@@ -1,18 +1,18 @@
 -- The rows that a list of steps picks.
-use Rattle.std.proofs.Common.{◌≡◌, ℕ, zero, suc, ◌<◌, Bool, true, false, ◌&&◌, ◌||◌, List, [], ◌∷◌, length, get_or, Option, Some, None, refl, sym, ap, ◌∙◌, arith}
+use Rattle.std.proofs.Common.{◌≡◌, ℕ, zero, suc, ◌<◌, Bool, true, false, ◌&&◌, ◌||◌, ◌⊎◌, inl, inr, List, [], ◌∷◌, length, get_or, Option, Some, None, refl, sym, ap, ◌∙◌, arith}
 use Rattle.std.specs.List.{range_with_len, list_all}
 use Rattle.std.proofs.lemmas.List.{length-map}
 use Rattle.std.proofs.lemmas.Simd.{map-map}
 use Rattle.std.proofs.lemmas.List.FromFn.{fill_by_all}
 use Rattle.vx_types.specs.TypeTree.{TypeTree}
 use Rattle.vx_types.specs.RowValue.{RowValue, null}
-use Rattle.vx_column.specs.Column.{Column}
-use Rattle.vx_column.specs.Plain.{is_null_layout, is_plain}
-use Rattle.vx_select.specs.Step.{StepValue, slice_step, filter_step, is_slice}
-use Rattle.vx_select.specs.Walk.{apply, all_positions, Picked, walk}
-use Rattle.vx_select.specs.Answer.{row_at, rows_at, type_after, answer_of_walk, Rows, answer}
+use Rattle.vx_model.specs.Column.{Column}
+use Rattle.vx_model.specs.Plain.{is_null_layout, is_plain}
+use Rattle.vx_steps.specs.Step.{StepValue, slice_step, filter_step, is_slice}
+use Rattle.vx_steps.specs.Walk.{apply, all_positions, walk_picks, walk}
+use Rattle.vx_steps.specs.Answer.{row_at, rows_at, type_after, type_after_step, answer_of_walk, answer_rows, answer}
 use Rattle.vx_select.specs.Select.{needs_no_memory}
-use Rattle.vx_select.proofs.Walks.{map-apply}
+use Rattle.vx_steps.proofs.Walks.{map-apply}
 
 -- at every position lie just the rows
 pub rows_at-all_positions : (rows : List RowValue) → rows_at rows (all_positions (length rows)) ≡ rows
@@ -28,13 +28,17 @@ pub length-rows_at : (rows : List RowValue) (picks : List (Option ℕ)) (now : L
 length-rows_at rows picks now h = ap length (sym h) ∙ length-map picks (row_at rows)
 
 -- slices and filters leave the type
+pub type_after_step-stays : (t : TypeTree) (s : StepValue) → type_after_step t s ≡ t
+type_after_step-stays t (slice_step start end) = refl
+type_after_step-stays t (filter_step bits) = refl
+
 type_stays : (t : TypeTree) (steps : List StepValue) → type_after t steps ≡ t
 type_stays t [] = refl
 type_stays t (slice_step s e ∷ steps) = type_stays t steps
 type_stays t (filter_step bits ∷ steps) = type_stays t steps
 
-pub answered : (c : Column) (steps : List StepValue) (picks : List (Option ℕ)) (t : TypeTree) (rows : List RowValue) → walk (length c.rows) steps ≡ Picked picks → t ≡ c.dtype → rows_at c.rows picks ≡ rows → answer c steps ≡ Rows t rows
-answered c steps picks t rows w d r = ap (answer_of_walk (type_after c.dtype steps) c.rows) w ∙ ap (λ u. Rows u (rows_at c.rows picks)) (type_stays c.dtype steps ∙ sym d) ∙ ap (Rows t) r
+pub answered : (c : Column) (steps : List StepValue) (picks : List (Option ℕ)) (t : TypeTree) (rows : List RowValue) → walk (length c.rows) steps ≡ walk_picks picks → t ≡ c.dtype → rows_at c.rows picks ≡ rows → answer c steps ≡ answer_rows t rows
+answered c steps picks t rows w d r = ap (answer_of_walk (type_after c.dtype steps) c.rows) w ∙ ap (λ u. answer_rows u (rows_at c.rows picks)) (type_stays c.dtype steps ∙ sym d) ∙ ap (answer_rows t) r
 
 slice_among : (steps : List StepValue) (k : ℕ) (s : StepValue) → list_all is_slice steps ≡ true → k < length steps → s ≡ get_or steps k s → is_slice s ≡ true
 slice_among [] k s a h is = absurd (omega arith)
@@ -43,11 +47,13 @@ slice_among (filter_step bits ∷ steps) zero s a h is = cc
 slice_among (slice_step b e ∷ steps) (suc k) s a h is = slice_among steps k s a (omega arith) is
 slice_among (filter_step bits ∷ steps) (suc k) s a h is = cc
 
-all_slices : (none plain slices : Bool) → none ≡ false → (none || (plain && slices)) ≡ true → slices ≡ true
-all_slices false true slices n h = h
-all_slices false false slices n h = cc
-all_slices true plain slices n h = cc
+free_of : (none plain slices : Bool) → (none || (plain && slices)) ≡ true → (none ≡ true) ⊎ (slices ≡ true)
+free_of true plain slices h = inl refl
+free_of false true slices h = inr h
+free_of false false slices h = let no : false ≡ true = h in cc
 
--- of slices alone each is one
-pub slice_of_slices : (c : Column) (steps : List StepValue) (k : ℕ) (s : StepValue) → is_null_layout c.layout ≡ false → needs_no_memory c steps ≡ true → k < length steps → s ≡ get_or steps k s → is_slice s ≡ true
-slice_of_slices c steps k s n a h is = slice_among steps k s (all_slices (is_null_layout c.layout) (is_plain c) (list_all is_slice steps) n a) h is
+-- a step that wants no memory: any over layout `Null`, and of slices alone each is one
+pub free_step : (c : Column) (steps : List StepValue) (k : ℕ) (s : StepValue) → needs_no_memory c steps ≡ true → k < length steps → s ≡ get_or steps k s → (is_null_layout c.layout ≡ true) ⊎ (is_slice s ≡ true)
+free_step c steps k s a h is =
+    elim (free_of (is_null_layout c.layout) (is_plain c) (list_all is_slice steps) a)
+    [ inl none ↦ inl none | inr slices ↦ inr (slice_among steps k s slices h is) ]

@@ -1,4 +1,5 @@
--- What a `Counted` owns and shares. c points to a `Block` with a count and the value x, of the row R.
+-- What a `Counted` owns and shares. c points to a `Block` with a count and the value x, of the row
+-- R.
 use Rattle.std.specs.Prelude.{ℕ, []}
 use base.Fraction.{full_share}
 use base.Fml.{Lft, Key, Fml, ffalse, fsep, fex, fleft}

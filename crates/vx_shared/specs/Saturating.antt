@@ -1,8 +1,13 @@
 -- A count of owners that saturates: what is kept beside the count, and what each owner has.
--- The value is shared for a lifetime ν of its own, which is a.0. A second one, σ or a.1, lives for as long as the count is exact.
---     S n      the cell of the count, at n.        P      the value with its block, whole.        t      what a `&` to the value holds
--- While σ lives, each owner has one of the 2 ^ 64 parts of ν's token, and the invariant at the key k has the others, the right to have P back once ν is over, and σ's token. So an owner that shows σ dead is not among these.
--- Another owner at a full count ends σ. The right to P is let go, and each owner that is made from then on gets a half of what the invariant still has of ν's token.
+-- The value is shared for a lifetime ν of its own, which is a.0. A second one, σ or a.1, lives for
+-- as long as the count is exact.
+--     S n      the cell of the count, at n.        P      the value with its block, whole.        t
+--      what a `&` to the value holds
+-- While σ lives, each owner has one of the 2 ^ 64 parts of ν's token, and the invariant at the key
+-- k has the others, the right to have P back once ν is over, and σ's token. So an owner that shows
+-- σ dead is not among these.
+-- Another owner at a full count ends σ. The right to P is let go, and each owner that is made from
+-- then on gets a half of what the invariant still has of ν's token.
 use Rattle.std.specs.Prelude.{◌≡◌, ℕ, ◌^◌, ◌-◌, Bool, true, false, [], ◌∷◌}
 use base.Fraction.{full_share}
 use base.FractionLaws.{Counts}

@@ -1,7 +1,8 @@
 //! A counted pointer whose `share` can't be refused.
 //!
-//! A [`Shared`] is one owner of a value on the heap. The last owner drops the value. Another owner takes no memory, and there is
-//! always one more: a count of owners that is full stays full, and its value is then never dropped.
+//! A [`Shared`] is one owner of a value on the heap. The last owner drops the value. Another owner
+//! takes no memory, and there is always one more: a count of owners that is full stays full, and
+//! its value is then never dropped.
 #![tactic(auto)]
 
 ghost use Rattle.std.specs.Prelude.{◌≡◌, IfOk, IfErr, ⊤};

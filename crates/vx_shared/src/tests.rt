@@ -1,4 +1,5 @@
-//! Shared values in use: many owners, the traits through a bound, and types that lead back to themselves through a `Shared`.
+//! Shared values in use: many owners, the traits through a bound, and types that lead back to
+//! themselves through a `Shared`.
 ghost use Rattle.std.specs.Prelude.{◌≡◌, ◌≤◌, ◌<◌};
 
 use crate::Shared;
@@ -110,49 +111,55 @@ fn a_vector_with_a_thousand_owners(rt: HostRuntime) -> Result<(), Fail> {
     Ok(())
 }
 
-#[test]
-fn a_shared_tree(rt: HostRuntime) -> Result<(), Fail> {
+// A tree whose two children are one, and what it has.
+fn tree_has(alloc: Global, item: u64) -> Result<bool, Fail> {
     let leaf = Shared::new(
-        rt.alloc(),
+        alloc,
         Node {
             item: 7,
-            kids: Vec::new(rt.alloc()),
+            kids: Vec::new(alloc),
         },
     )?;
     let root = Node {
         item: 1,
-        kids: vec![in rt.alloc(); leaf.share(), leaf]?,
+        kids: vec![in alloc; leaf.share(), leaf]?,
     };
-    assert!(rt; root.has(7));
-    assert!(rt; !root.has(8));
-    Ok(())
+    Ok(root.has(item))
 }
 
-#[test]
-fn a_chain_with_two_heads(rt: HostRuntime) -> Result<(), Fail> {
-    let end = Shared::new(rt.alloc(), Chain::Leaf)?;
-    let tail = Shared::new(rt.alloc(), Chain::One(2, end))?;
+// Two heads of one chain, and what the second one has.
+fn other_head_has(alloc: Global, item: u8) -> Result<bool, Fail> {
+    let end = Shared::new(alloc, Chain::Leaf)?;
+    let tail = Shared::new(alloc, Chain::One(2, end))?;
     let head = Chain::One(1, tail.share());
     let other = Chain::One(3, tail);
-    assert!(rt; head.has(2) && other.has(2));
-    assert!(rt; !other.has(1));
-    Ok(())
+    Ok(head.has(2) && other.has(item))
 }
 
-#[test]
-fn a_tower_on_a_tower(rt: HostRuntime) -> Result<(), Fail> {
+// The height of the tower on the ground, below another one.
+fn ground_below(alloc: Global) -> Result<Option<u64>, Fail> {
     let ground = Tower {
         height: 4,
         below: None,
     };
-    let second = Shared::new(rt.alloc(), ground)?;
-    if second.as_ref().height < 9 {
-        let top = Tower {
-            height: 9,
-            below: Some(second),
-        };
-        assert_eq!(rt; top.ground(), 4);
+    let second = Shared::new(alloc, ground)?;
+    if second.as_ref().height >= 9 {
+        return Ok(None);
     }
+    let top = Tower {
+        height: 9,
+        below: Some(second),
+    };
+    Ok(Some(top.ground()))
+}
+
+#[test]
+fn types_lead_back_to_themselves(rt: HostRuntime) -> Result<(), Fail> {
+    assert!(rt; tree_has(rt.alloc(), 7)?);
+    assert!(rt; !tree_has(rt.alloc(), 8)?);
+    assert!(rt; other_head_has(rt.alloc(), 2)?);
+    assert!(rt; !other_head_has(rt.alloc(), 1)?);
+    assert_eq!(rt; ground_below(rt.alloc())?, Some(4));
     Ok(())
 }
 

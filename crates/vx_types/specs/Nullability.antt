@@ -30,4 +30,9 @@ nullability_back_code NonNullable = refl
 nullability_back_code Nullable = refl
 
 abbrev pub coded_nullability : Coded Nullability
-coded_nullability = record { code = nullability_code; inj = λ x y p. sym (nullability_back_code x) ∙ ap nullability_back p ∙ nullability_back_code y }
+coded_nullability =
+    record {
+      code = nullability_code;
+      inj = λ x y p.
+          sym (nullability_back_code x) ∙ ap nullability_back p ∙ nullability_back_code y;
+    }

@@ -48,9 +48,12 @@ int_width I16 = w16
 int_width I32 = w32
 int_width I64 = w64
 
--- the number that a record's bytes spell, the lowest first, in two's complement where the type is signed
+-- the number that a record's bytes spell, the lowest first, in two's complement where the type is
+-- signed
 abbrev pub number : PType → List ℕ → ℤ
-number p bytes = if is_signed p then cast_signed (int_width p) (from_le_bytes (int_width p) bytes) else pos (from_le_bytes (int_width p) bytes)
+number p bytes =
+    if is_signed p then cast_signed (int_width p) (from_le_bytes (int_width p) bytes)
+    else pos (from_le_bytes (int_width p) bytes)
 
 -- the least number of the type
 abbrev pub least : PType → ℤ
@@ -118,4 +121,8 @@ ptype_back_code I32 = refl
 ptype_back_code I64 = refl
 
 abbrev pub coded_ptype : Coded PType
-coded_ptype = record { code = ptype_code; inj = λ x y p. sym (ptype_back_code x) ∙ ap ptype_back p ∙ ptype_back_code y }
+coded_ptype =
+    record {
+      code = ptype_code;
+      inj = λ x y p. sym (ptype_back_code x) ∙ ap ptype_back p ∙ ptype_back_code y;
+    }

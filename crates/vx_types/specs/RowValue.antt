@@ -81,4 +81,8 @@ mutual
   back_codes (more x xs) = λ i. more (back_code x i) (back_codes xs i)
 
 abbrev pub coded_row : Coded RowValue
-coded_row = record { code = code; inj = λ x y p. sym (back_code x) ∙ ap (λ g. (back g).0) p ∙ back_code y }
+coded_row =
+    record {
+      code = code;
+      inj = λ x y p. sym (back_code x) ∙ ap (λ g. (back g).0) p ∙ back_code y;
+    }

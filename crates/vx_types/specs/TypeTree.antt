@@ -113,7 +113,8 @@ abbrev mutual
   is_carried_as (map_type ns ts n) m = are_entries ts && are_carried ts
   is_carried_as (struct_type ns ts n) m = are_carried ts
   is_carried_as (union_type is ns ts n) m = are_carried ts
-  is_carried_as (extension_type s t n) m = (is_nullable m || not (is_null_type t)) && is_carried_as t m
+  is_carried_as (extension_type s t n) m =
+      (is_nullable m || not (is_null_type t)) && is_carried_as t m
 
   pub are_carried : TypeTrees → Bool
   are_carried no_types = true
@@ -151,15 +152,18 @@ abbrev mutual
   code null_type = node 0 gnil gnil
   code (bool_type n) = node 1 gnil (nullability_code n)
   code (primitive_type p n) = node 2 gnil (gcons (ptype_code p) (nullability_code n))
-  code (decimal_type p s w n) = node 3 gnil (gcons (gcons (gnum p) (int_code s)) (gcons (gnum w) (nullability_code n)))
+  code (decimal_type p s w n) =
+      node 3 gnil (gcons (gcons (gnum p) (int_code s)) (gcons (gnum w) (nullability_code n)))
   code (utf8_type n) = node 4 gnil (nullability_code n)
   code (binary_type n) = node 5 gnil (nullability_code n)
   code (list_type t n) = node 6 (gcons (code t) gnil) (nullability_code n)
   code (fixed_type t k n) = node 7 (gcons (code t) gnil) (gcons (gnum k) (nullability_code n))
   code (map_type ns ts n) = node 8 (codes ts) (gcons (names_code ns) (nullability_code n))
   code (struct_type ns ts n) = node 9 (codes ts) (gcons (names_code ns) (nullability_code n))
-  code (union_type is ns ts n) = node 10 (codes ts) (gcons (bytes_code is) (gcons (names_code ns) (nullability_code n)))
-  code (extension_type s t n) = node 11 (gcons (code t) gnil) (gcons (bytes_code s) (nullability_code n))
+  code (union_type is ns ts n) =
+      node 10 (codes ts) (gcons (bytes_code is) (gcons (names_code ns) (nullability_code n)))
+  code (extension_type s t n) =
+      node 11 (gcons (code t) gnil) (gcons (bytes_code s) (nullability_code n))
 
   pub codes : TypeTrees → Gv
   codes no_types = gnil
@@ -178,40 +182,66 @@ first_type (more_types t ts) = t
 abbrev type_numbered : ℕ → TypeTrees → Gv → TypeTree
 type_numbered zero ts r = null_type
 type_numbered (suc zero) ts r = bool_type (nullability_back r)
-type_numbered (suc (suc zero)) ts r = primitive_type (ptype_back (head r)) (nullability_back (tail r))
-type_numbered (suc (suc (suc zero))) ts r = decimal_type (num (head (head r))) (int_back (tail (head r))) (num (head (tail r))) (nullability_back (tail (tail r)))
+type_numbered (suc (suc zero)) ts r =
+    primitive_type (ptype_back (head r)) (nullability_back (tail r))
+type_numbered (suc (suc (suc zero))) ts r =
+    decimal_type (num (head
+    (head r))) (int_back (tail (head r))) (num (head (tail r))) (nullability_back (tail (tail r)))
 type_numbered (suc (suc (suc (suc zero)))) ts r = utf8_type (nullability_back r)
 type_numbered (suc (suc (suc (suc (suc zero))))) ts r = binary_type (nullability_back r)
-type_numbered (suc (suc (suc (suc (suc (suc zero)))))) ts r = list_type (first_type ts) (nullability_back r)
-type_numbered (suc (suc (suc (suc (suc (suc (suc zero))))))) ts r = fixed_type (first_type ts) (num (head r)) (nullability_back (tail r))
-type_numbered (suc (suc (suc (suc (suc (suc (suc (suc zero)))))))) ts r = map_type (names_back (head r)) ts (nullability_back (tail r))
-type_numbered (suc (suc (suc (suc (suc (suc (suc (suc (suc zero))))))))) ts r = struct_type (names_back (head r)) ts (nullability_back (tail r))
-type_numbered (suc (suc (suc (suc (suc (suc (suc (suc (suc (suc zero)))))))))) ts r = union_type (bytes_back (head r)) (names_back (head (tail r))) ts (nullability_back (tail (tail r)))
-type_numbered (suc (suc (suc (suc (suc (suc (suc (suc (suc (suc (suc n))))))))))) ts r = extension_type (bytes_back (head r)) (first_type ts) (nullability_back (tail r))
+type_numbered (suc (suc (suc (suc (suc (suc zero)))))) ts r =
+    list_type (first_type ts) (nullability_back r)
+type_numbered (suc (suc (suc (suc (suc (suc (suc zero))))))) ts r =
+    fixed_type (first_type ts) (num (head r)) (nullability_back (tail r))
+type_numbered (suc (suc (suc (suc (suc (suc (suc (suc zero)))))))) ts r =
+    map_type (names_back (head r)) ts (nullability_back (tail r))
+type_numbered (suc (suc (suc (suc (suc (suc (suc (suc (suc zero))))))))) ts r =
+    struct_type (names_back (head r)) ts (nullability_back (tail r))
+type_numbered (suc (suc (suc (suc (suc (suc (suc (suc (suc (suc zero)))))))))) ts r =
+    union_type (bytes_back (head r)) (names_back (head
+    (tail r))) ts (nullability_back (tail (tail r)))
+type_numbered (suc (suc (suc (suc (suc (suc (suc (suc (suc (suc (suc n))))))))))) ts r =
+    extension_type (bytes_back (head r)) (first_type ts) (nullability_back (tail r))
 
 abbrev pub back : Gv → Back
 back gnil = record { one = null_type; all = no_types; first = no_types }
 back (gnum n) = record { one = null_type; all = no_types; first = no_types }
-back (gcons a b) = record { one = type_numbered (num a) (back b).first (tail b); all = more_types (back a).one (back b).all; first = (back a).all }
+back (gcons a b) =
+    record {
+      one = type_numbered (num a) (back b).first (tail b);
+      all = more_types (back a).one (back b).all;
+      first = (back a).all;
+    }
 
 mutual
   pub back_code : (t : TypeTree) → (back (code t)).one ≡ t
   back_code null_type = refl
   back_code (bool_type n) = λ i. bool_type (nullability_back_code n i)
-  back_code (primitive_type p n) = λ i. primitive_type (ptype_back_code p i) (nullability_back_code n i)
-  back_code (decimal_type p s w n) = λ i. decimal_type p (int_back_code s i) w (nullability_back_code n i)
+  back_code (primitive_type p n) =
+      λ i. primitive_type (ptype_back_code p i) (nullability_back_code n i)
+  back_code (decimal_type p s w n) =
+      λ i. decimal_type p (int_back_code s i) w (nullability_back_code n i)
   back_code (utf8_type n) = λ i. utf8_type (nullability_back_code n i)
   back_code (binary_type n) = λ i. binary_type (nullability_back_code n i)
   back_code (list_type t n) = λ i. list_type (back_code t i) (nullability_back_code n i)
   back_code (fixed_type t k n) = λ i. fixed_type (back_code t i) k (nullability_back_code n i)
-  back_code (map_type ns ts n) = λ i. map_type (names_back_code ns i) (back_codes ts i) (nullability_back_code n i)
-  back_code (struct_type ns ts n) = λ i. struct_type (names_back_code ns i) (back_codes ts i) (nullability_back_code n i)
-  back_code (union_type is ns ts n) = λ i. union_type (bytes_back_code is i) (names_back_code ns i) (back_codes ts i) (nullability_back_code n i)
-  back_code (extension_type s t n) = λ i. extension_type (bytes_back_code s i) (back_code t i) (nullability_back_code n i)
+  back_code (map_type ns ts n) =
+      λ i. map_type (names_back_code ns i) (back_codes ts i) (nullability_back_code n i)
+  back_code (struct_type ns ts n) =
+      λ i. struct_type (names_back_code ns i) (back_codes ts i) (nullability_back_code n i)
+  back_code (union_type is ns ts n) =
+      λ i. union_type
+      (bytes_back_code is i) (names_back_code ns i) (back_codes ts i) (nullability_back_code n i)
+  back_code (extension_type s t n) =
+      λ i. extension_type (bytes_back_code s i) (back_code t i) (nullability_back_code n i)
 
   pub back_codes : (ts : TypeTrees) → (back (codes ts)).all ≡ ts
   back_codes no_types = refl
   back_codes (more_types t ts) = λ i. more_types (back_code t i) (back_codes ts i)
 
 abbrev pub coded_type : Coded TypeTree
-coded_type = record { code = code; inj = λ x y p. sym (back_code x) ∙ ap (λ g. (back g).one) p ∙ back_code y }
+coded_type =
+    record {
+      code = code;
+      inj = λ x y p. sym (back_code x) ∙ ap (λ g. (back g).one) p ∙ back_code y;
+    }

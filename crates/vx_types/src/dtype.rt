@@ -1,3 +1,4 @@
+//! The types of columns.
 ghost use Rattle.std.specs.Prelude.{◌≡◌, None, Some};
 ghost use Rattle.vx_types.specs.DType.{type_of};
 ghost use Rattle.vx_types.specs.TypeTree.{type_nullability, with_nullability, is_flat, type_width};
@@ -6,7 +7,7 @@ ghost use Rattle.vx_types.specs.Nullability.{is_nullable};
 use crate::nullability::Nullability;
 use crate::ptype::PType;
 
-/// The type of a column. The crate's `DType`.
+/// The type of a column: Vortex's `DType`.
 #[derive(Drop)]
 pub enum DType {
     /// Whole numbers of one width, stored as little-endian bytes.

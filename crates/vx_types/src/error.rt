@@ -1,3 +1,5 @@
+//! What constructors refuse.
+
 /// What a constructor of a type or a column refuses, in the order in which it tests.
 #[derive(Debug, Clone, Copy, PartialEq, Eq)]
 pub enum ColumnError {

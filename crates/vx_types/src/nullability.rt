@@ -1,10 +1,13 @@
+//! Whether a type has null rows.
 ghost use Rattle.std.specs.Prelude.{◌≡◌};
 ghost use Rattle.vx_types.specs.Nullability.{is_nullable};
 
-/// Whether a type has null rows. The crate's `Nullability`.
+/// Whether a type has null rows: Vortex's `Nullability`.
 #[derive(Debug, Clone, Copy, PartialEq, Eq)]
 pub enum Nullability {
+    /// No row is null.
     NonNullable,
+    /// A row may be null.
     Nullable,
 }
 

@@ -1,7 +1,8 @@
+//! The primitive types, and the numbers that their records spell.
 ghost use Rattle.std.specs.Prelude.{◌≡◌, ◌≤◌, length};
 ghost use Rattle.vx_types.specs.PType.{width, is_int, is_signed, number, record_of, least, greatest, is_in_range};
 
-/// A primitive type. The crate's `PType`.
+/// A primitive type: Vortex's `PType`.
 #[derive(Debug, Clone, Copy, PartialEq, Eq)]
 pub enum PType {
     U8,
@@ -14,8 +15,9 @@ pub enum PType {
     I64,
 }
 
-/// Writes one arm for each integer type: `match_each_integer_ptype!(ptype, with, args)` is `with!(u8, args)` where the type is
-/// `U8`, and so on. The crate's macro of this name takes a closure-like body in place of a macro's name.
+/// Writes one arm for each integer type: `match_each_integer_ptype!(ptype, with, args)` is
+/// `with!(u8, args)` where the type is `U8`, and so on. Vortex's macro of this name takes a
+/// closure-like body in place of a macro's name.
 #[macro_export]
 macro_rules! match_each_integer_ptype {
     ($ptype:expr, $with:ident $(, $arg:expr)*) => {
@@ -39,7 +41,7 @@ macro_rules! number_by {
 }
 
 impl PType {
-    /// How many bytes a value has. The crate's `byte_width`.
+    /// How many bytes a value has: Vortex's `byte_width`.
     pub fn width(self) -> usize
         ensures { result ≡ width self }
     {
@@ -116,7 +118,8 @@ impl PType {
         self.least() <= number && number <= self.greatest()
     }
 
-    /// The number that a record's bytes spell: little-endian, in two's complement where the type is signed.
+    /// The number that a record's bytes spell: little-endian, in two's complement where the type
+    /// is signed.
     pub fn number(self, bytes: &[u8]) -> i128
         requires { length bytes.now ≡ width self }
         ensures { result ≡ number self bytes.now }
@@ -125,6 +128,7 @@ impl PType {
     }
 }
 
+// These bytes, of which there are just W.
 fn as_array<const W: usize>(bytes: &[u8]) -> [u8; W]
     requires { length bytes.now ≡ W }
     ensures { result ≡ bytes.now }

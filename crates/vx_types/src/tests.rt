@@ -1,3 +1,4 @@
+//! Records and numbers, and what a type keeps.
 use crate::{DType, Nullability, PType, match_each_integer_ptype, record_of};
 use std::test::Fail;
 
@@ -47,7 +48,7 @@ fn a_record_spells_a_number(rt: HostRuntime) {
 }
 
 #[test]
-fn ranges_are_those_of_the_rust_types(rt: HostRuntime) {
+fn ranges_are_those_of_the_rust_types_and_a_type_keeps_its_parts(rt: HostRuntime) {
     for ptype in INTEGERS {
         let greatest = match_each_integer_ptype!(ptype, greatest_by);
         assert!(rt; ptype.is_in_range(greatest));
@@ -55,10 +56,6 @@ fn ranges_are_those_of_the_rust_types(rt: HostRuntime) {
         assert_eq!(rt; ptype.is_in_range(-1), ptype.is_signed());
     }
     assert!(rt; !PType::I16.is_in_range(-32769));
-}
-
-#[test]
-fn a_type_keeps_its_parts(rt: HostRuntime) {
     let plain = DType::Primitive(PType::U32, Nullability::NonNullable);
     assert!(rt; !plain.is_nullable());
     assert!(rt; plain.share().is_flat());

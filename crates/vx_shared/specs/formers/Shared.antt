@@ -1,4 +1,5 @@
--- `Shared` as a type that may hold the type that holds it. Its value is the one that its owners share.
+-- `Shared` as a type that may hold the type that holds it. Its value is the one that its owners
+-- share.
 use mathlib.Core.Path.{refl}
 use mathlib.Core.Former.{Former, this, const, pair, via}
 use base.Stored.{gnil}
@@ -28,26 +29,38 @@ the_weighed w = w
 
 -- the fields: a pointer and an allocator, and the value
 abbrev fields : Former {0}
-fields = via (pair (const (Ptr × Global)) this) Inside (λ X a. ((a.counted.ptr, a.alloc), a.counted.value))
-    (λ X v. record { counted = record { ptr = v.0.0; value = v.1 }; alloc = v.0.1 }) (λ X a. refl) (λ X v. refl)
+fields =
+    via (pair (const
+    (Ptr × Global)) this) Inside (λ X a. ((a.counted.ptr, a.alloc), a.counted.value))
+    (λ X v. record {
+      counted =
+          record { ptr = v.0.0; value = v.1 };
+      alloc = v.0.1;
+    }) (λ X a. refl) (λ X v. refl)
 
 abbrev with_value : {X Y : Type 0} → Counted X → Y → Counted Y
 with_value c y = record { ptr = c.ptr; value = y }
 
 module _ (R S : RattleType) (h : R.Denot → S.Denot) where
-  counted_places : Alike R S h → Alike (counted.the_row R) (counted.the_row S) (λ c. with_value c (h c.value))
+  counted_places : Alike R S h
+      → Alike (counted.the_row R) (counted.the_row S) (λ c. with_value c (h c.value))
   unfolding part_of
   counted_places a = record {
-    mir_same = λ i. (counted.the_row (one_value R (a.mir_same i) (λ _. ftrue) (λ _ _. nothing) gnil)).mir;
+    mir_same =
+        λ i. (counted.the_row (one_value R (a.mir_same i) (λ _. ftrue) (λ _ _. nothing) gnil)).mir;
     own_same = λ c i. (counted.the_row (one_value R (a.mir_same i) (a.own_same c.value i) (a.shr_same c.value i) gnil)).own_val (with_value c tt);
     shr_same = λ c i. (counted.the_row (one_value R (a.mir_same i) (a.own_same c.value i) (a.shr_same c.value i) gnil)).shr_at (with_value c tt);
   }
 
-  pub the_places : Alike R S h → Alike (C.the_row R) (C.the_row S) ((the_former this).map R.Denot S.Denot h)
-  the_places a = view_places fields this view (λ X Y k u. refl) (λ X u. refl) R.Denot S.Denot h (C.the_row R).coded (C.the_row S).coded
+  pub the_places : Alike R S h
+      → Alike (C.the_row R) (C.the_row S) ((the_former this).map R.Denot S.Denot h)
+  the_places a =
+      view_places fields this view
+      (λ X Y k u. refl) (λ X u. refl) R.Denot S.Denot h (C.the_row R).coded (C.the_row S).coded
       (invariant R.Denot) (invariant S.Denot) (λ u p q. refl) (λ u p q. refl) (λ u e. tt) (λ u e. tt)
       (over (I.the_row R)) (over (I.the_row S))
       (struct_places (I.the_type R) (I.the_type S) ((λ c. with_value c (h c.value)), (λ n. n, tt)) _ (λ d. refl) refl (laid _ _ _ (counted_places a), ((refl, (λ n. refl, λ n. refl)), tt)))
 
-  pub the_codes_placed : Recodes R S h → Recodes (C.the_row R) (C.the_row S) ((the_former this).map R.Denot S.Denot h)
+  pub the_codes_placed : Recodes R S h
+      → Recodes (C.the_row R) (C.the_row S) ((the_former this).map R.Denot S.Denot h)
   the_codes_placed e d = e d

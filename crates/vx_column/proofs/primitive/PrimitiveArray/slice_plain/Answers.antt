@@ -1,17 +1,19 @@
--- The sliced records make the sliced column.
-use Rattle.std.proofs.Common.{◌≡◌, true, rules, sym, ap, ◌∙◌, slice_range}
-use Rattle.vx_bits.specs.Records.{records_of}
-use Rattle.vx_column.proofs.Slicing.{made_ok, primitive_sliced}
-use Rattle.vx_column.specs.Valid.{valid_of, cover_by}
-use Rattle.vx_column.specs.Primitive.{primitive_parts}
-use Rattle.vx_column.specs.Plain.{is_constant_form}
+-- The sliced parts make the sliced column.
+use Rattle.std.proofs.Common.{◌≡◌, ◌≤◌, length, true, rules, sym, ap, ◌∙◌, slice_range, arith}
+use Rattle.vx_model.specs.Valid.{cover_by, is_constant_form}
+use Rattle.vx_model.specs.Primitive.{primitive_column, primitive_with}
+use Rattle.vx_model.proofs.PrimitiveSteps.{is_slice-primitive, length-primitive, is_fitting-primitive}
+use Rattle.vx_model.proofs.ShownRows.{is_left-slice}
+use Rattle.vx_column.specs.Validity.{valid_of}
 use Rattle.vx_column.proofs.primitive.PrimitiveArray.slice_plain.Goals as goal
 
 pub returns : goal.returns
 returns c =
-    let m = made_ok _ _ c.in-Ok.a (sym c.try_new.ensures ∙ c.in-Ok.is) in
-    let k : is_constant_form (cover_by c.args.self.now.valid) ≡ true = search rules in
-    let v : valid_of c.share.result ≡ c.args.self.now.valid = ap valid_of c.share.ensures ∙ c.validity-2.ensures.value in
-    let r : records_of c.slice-values.result ≡ slice_range c.args.self.now.records c.args.start c.args.end = search rules in
-    let b = primitive_parts c.ptype.result c.slice-values.result c.share.result in
-    rw (c.into_array.ensures, m.0) (k, primitive_sliced c.args.self.now b c.args.start c.args.end c.requires.ordered c.requires.within k c.ptype.ensures v r)
+    let p = c.args.self.now in let s = c.args.start in let e = c.args.end in
+    let sound = c.validity.ensures.valid in
+    let k : is_constant_form (cover_by p.valid) ≡ true = search rules in
+    let v : valid_of c.share-validity.result ≡ p.valid = ap valid_of c.share-validity.ensures ∙ c.validity-2.ensures.value in
+    let inside : e ≤ length p.records = omega (arith, length-primitive p sound, c.requires.within) in
+    let left = is_left-slice p.valid (length p.records) s e k c.requires.ordered inside (is_fitting-primitive p sound) in
+    let made = c.into_array.ensures ∙ ap primitive_column (c.slice.ensures ∙ ap (primitive_with p (slice_range p.records s e)) v) in
+    rw made (k, is_slice-primitive p p.valid s e sound c.requires.ordered inside left)

@@ -1,0 +1,18 @@
+-- One stored row.
+use Rattle.std.specs.Prelude.{◌≡◌, Some, length}
+use Rattle.vx_types.specs.RowValue.{RowValue, null, bit, bytes}
+use Rattle.vx_types.specs.TypeTree.{TypeTree, bool_type, type_nullability, type_width}
+use Rattle.vx_column.specs.declared.cell.Cell.{Cell}
+use Rattle.vx_column.specs.declared.cell.Cell.TheVariants as cells
+
+-- the row that it stands for
+abbrev pub row_of : Cell → RowValue
+row_of cells.Null = null
+row_of (cells.Bit b) = bit b
+row_of (cells.Bytes b) = bytes b.now
+
+-- a bit is one of a bool type, and bytes are as many as the type has
+abbrev pub IsOfType : Cell → TypeTree → Type 0
+IsOfType cells.Null t = Unit {0}
+IsOfType (cells.Bit b) t = t ≡ bool_type (type_nullability t)
+IsOfType (cells.Bytes b) t = Some (length b.now) ≡ type_width t

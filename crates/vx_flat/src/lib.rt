@@ -1,0 +1,11 @@
+//! The rows of flat layouts at the set positions of a mask, with the new validity handed in.
+#![tactic(auto)]
+
+mod primitive;
+mod records;
+
+pub use primitive::filter_primitive;
+pub use records::filter_records;
+
+#[cfg(test)]
+mod tests;

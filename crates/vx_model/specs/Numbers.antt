@@ -1,0 +1,15 @@
+-- The numbers of a column of integer type.
+use Rattle.std.specs.Prelude.{ℕ, List, Option, Some, None, ℤ}
+use Rattle.vx_types.specs.PType.{number}
+use Rattle.vx_types.specs.TypeTree.{TypeTree, primitive_type}
+use Rattle.vx_types.specs.RowValue.{RowValue, bytes}
+
+-- the number that bytes spell in a column of this type
+abbrev pub number_by : TypeTree → List ℕ → Option ℤ
+number_by (primitive_type p n) b = Some (number p b)
+number_by t b = None
+
+-- the number in a row of a column of this type; none where the row is null
+abbrev pub number_in : TypeTree → RowValue → Option ℤ
+number_in t (bytes b) = number_by t b
+number_in t x = None

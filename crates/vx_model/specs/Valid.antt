@@ -1,0 +1,129 @@
+-- Which rows are there, and which are null.
+use Rattle.std.specs.Prelude.{◌≡◌, ℕ, zero, suc, ◌+◌, ◌≤◌, ◌⊎◌, ◌==◌, ◌&&◌, ◌||◌, length, List, [], ◌∷◌, map, replicate, Bool, true, false, not, refl, slice_index_or, if◌then◌else◌}
+use Rattle.std.proofs.Common.{inl, inr}
+use Rattle.std.specs.Coded.{Coded, code_by, coded⊎, coded_ℕ}
+use Rattle.vx_types.specs.RowValue.{RowValue, null, bit}
+use Rattle.vx_types.specs.TypeTree.{TypeTree, bool_type}
+use Rattle.vx_types.specs.Nullability.{is_nullable}
+use Rattle.vx_types.specs.declared.layout_name.LayoutName.{LayoutName}
+use Rattle.vx_types.specs.declared.layout_name.LayoutName.TheVariants.{Bool as BoolLayout}
+use Rattle.vx_types.specs.declared.nullability.Nullability.{Nullability}
+use Rattle.vx_types.specs.declared.nullability.Nullability.TheVariants.{NonNullable, Nullable}
+use Rattle.vx_model.specs.Column.{Column, coded_column, Cover, constant_form, by_bools, by_other}
+
+-- what a contract sees of a validity: a constant form, or a column of bits
+pub data Valid : Type 0 where
+  non_nullable : Valid
+  all_valid : Valid
+  all_invalid : Valid
+  by_column : Column → Valid
+
+abbrev pub is_yes : RowValue → Bool
+is_yes (bit b) = b
+is_yes x = false
+
+-- for each of n rows whether it is there
+abbrev pub present_bits : Valid → ℕ → List Bool
+present_bits non_nullable n = replicate n true
+present_bits all_valid n = replicate n true
+present_bits all_invalid n = replicate n false
+present_bits (by_column c) n = map is_yes c.rows
+
+-- row i is there
+abbrev pub is_present : Valid → ℕ → Bool
+is_present non_nullable i = true
+is_present all_valid i = true
+is_present all_invalid i = false
+is_present (by_column c) i = is_yes (slice_index_or c.rows i null)
+
+-- the rows that are there, and null in place of each other one
+abbrev pub shown_rows : List Bool → List RowValue → List RowValue
+shown_rows [] rows = []
+shown_rows (b ∷ bits) [] = []
+shown_rows (b ∷ bits) (x ∷ rows) = (if b then x else null) ∷ shown_rows bits rows
+
+-- the nullability of the type of a column with this validity
+abbrev pub nullability_by : Valid → Nullability
+nullability_by non_nullable = NonNullable
+nullability_by all_valid = Nullable
+nullability_by all_invalid = Nullable
+nullability_by (by_column c) = Nullable
+
+abbrev pub is_bool_layout : LayoutName → Bool
+is_bool_layout BoolLayout = true
+is_bool_layout t = false
+
+-- how it is stored
+abbrev pub cover_by : Valid → Cover
+cover_by non_nullable = constant_form
+cover_by all_valid = constant_form
+cover_by all_invalid = constant_form
+cover_by (by_column c) = if is_bool_layout c.layout then by_bools else by_other
+
+abbrev pub is_non_null_bool : TypeTree → Bool
+is_non_null_bool (bool_type n) = not (is_nullable n)
+is_non_null_bool t = false
+
+-- a validity array is a non-nullable bool column as long as the n rows
+abbrev pub is_fitting : Valid → ℕ → Bool
+is_fitting non_nullable n = true
+is_fitting all_valid n = true
+is_fitting all_invalid n = true
+is_fitting (by_column c) n = is_non_null_bool c.dtype && (length c.rows == n)
+
+-- how deep it nests
+abbrev pub valid_size : Valid → ℕ
+valid_size non_nullable = 0
+valid_size all_valid = 0
+valid_size all_invalid = 0
+valid_size (by_column c) = c.depth + 1
+
+-- it is stored as one answer for all rows
+abbrev pub is_constant_form : Cover → Bool
+is_constant_form constant_form = true
+is_constant_form c = false
+
+abbrev pub is_bools : Cover → Bool
+is_bools by_bools = true
+is_bools c = false
+
+-- what a step makes of a validity is as nullable, stored as plainly, and no deeper
+pub record IsAsBefore (before after : Valid) : Type 0 where
+  pub nullability : nullability_by after ≡ nullability_by before
+  pub constant : is_constant_form (cover_by before) ≡ true
+      → is_constant_form (cover_by after) ≡ true
+  pub bools : (is_constant_form (cover_by before) || is_bools (cover_by before)) ≡ true
+      → (is_constant_form (cover_by after) || is_bools (cover_by after)) ≡ true
+  pub depth : valid_size after ≤ valid_size before
+
+-- these bits are what a step leaves of a validity
+pub record IsLeft (before : Valid) (left : List Bool) (after : Valid) : Type 0 where
+  pub bits : present_bits after (length left) ≡ left
+  pub fitting : is_fitting after (length left) ≡ true
+  pub as_before : IsAsBefore before after
+
+-- ---- its code
+abbrev valid_split : Valid → ℕ ⊎ Column
+valid_split non_nullable = inl 0
+valid_split all_valid = inl 1
+valid_split all_invalid = inl 2
+valid_split (by_column c) = inr c
+
+abbrev valid_numbered : ℕ → Valid
+valid_numbered zero = non_nullable
+valid_numbered (suc zero) = all_valid
+valid_numbered (suc (suc n)) = all_invalid
+
+abbrev valid_joined : ℕ ⊎ Column → Valid
+valid_joined (inl n) = valid_numbered n
+valid_joined (inr c) = by_column c
+
+pub valid_joined_split : (v : Valid) → valid_joined (valid_split v) ≡ v
+valid_joined_split non_nullable = refl
+valid_joined_split all_valid = refl
+valid_joined_split all_invalid = refl
+valid_joined_split (by_column c) = refl
+
+abbrev pub coded_valid : Coded Valid
+coded_valid =
+    code_by (ℕ ⊎ Column) (coded⊎ coded_ℕ coded_column) valid_split valid_joined valid_joined_split

@@ -1,0 +1,43 @@
+-- The answer to a column and a list of steps.
+use Rattle.std.specs.Prelude.{ℕ, length, List, [], ◌∷◌, map, Option, Some, None, slice_index_or}
+use Rattle.vx_types.specs.TypeTree.{TypeTree}
+use Rattle.vx_types.specs.RowValue.{RowValue, null}
+use Rattle.vx_model.specs.Column.{Column}
+use Rattle.vx_steps.specs.Step.{StepValue, slice_step, filter_step}
+use Rattle.vx_steps.specs.Walk.{Walk, walk_fault, walk_picks, walk}
+use Rattle.vx_steps.specs.declared.cause.Cause.{Cause}
+
+-- the row at a pick; null at none
+abbrev pub row_at : List RowValue → Option ℕ → RowValue
+row_at rows None = null
+row_at rows (Some i) = slice_index_or rows i null
+
+-- the rows at the picks, in order
+abbrev pub rows_at : List RowValue → List (Option ℕ) → List RowValue
+rows_at rows picks = map (row_at rows) picks
+
+-- the type after a step: slices and filters leave it
+abbrev pub type_after_step : TypeTree → StepValue → TypeTree
+type_after_step t (slice_step start end) = t
+type_after_step t (filter_step bits) = t
+
+abbrev pub type_after : TypeTree → List StepValue → TypeTree
+type_after t [] = t
+type_after t (s ∷ ss) = type_after (type_after_step t s) ss
+
+pub data Answer : Type 0 where
+  -- the first broken step, and its cause
+  answer_fault : ℕ → Cause → Answer
+  -- the type and the rows
+  answer_rows : TypeTree → List RowValue → Answer
+
+abbrev pub answer_of_walk : TypeTree → List RowValue → Walk → Answer
+answer_of_walk t rows (walk_fault k cause) = answer_fault k cause
+answer_of_walk t rows (walk_picks picks) = answer_rows t (rows_at rows picks)
+
+-- of a type, rows and steps
+abbrev pub answer_of : TypeTree → List RowValue → List StepValue → Answer
+answer_of t rows steps = answer_of_walk (type_after t steps) rows (walk (length rows) steps)
+
+abbrev pub answer : Column → List StepValue → Answer
+answer c steps = answer_of c.dtype c.rows steps

@@ -1,0 +1,6 @@
+pub mod Answer
+pub mod Cause
+pub mod Check
+pub mod Laws
+pub mod Step
+pub mod Walk

@@ -1,0 +1,50 @@
+//! Why a list of steps has no answer.
+
+use vx_bits::NoMemory;
+
+/// The rule that a step breaks, with what the step asked for and what was there. All counts are
+/// rows.
+#[derive(Debug, Clone, Copy, PartialEq, Eq)]
+pub enum Cause {
+    /// A slice that doesn't begin at or before its end, or ends past the rows.
+    BadRange {
+        /// Where the slice begins.
+        start: usize,
+        /// Where it ends.
+        end: usize,
+        /// How many rows there were.
+        len: usize,
+    },
+    /// A mask that isn't as long as the rows.
+    BadMask {
+        /// How long the mask is.
+        mask_len: usize,
+        /// How many rows there were.
+        len: usize,
+    },
+}
+
+/// Why a list of steps has no answer.
+#[derive(Debug, Clone, Copy, PartialEq, Eq)]
+pub enum SelectError {
+    /// The first step that breaks a rule, and its cause.
+    Broken {
+        /// The step's number, counted from 0.
+        step: usize,
+        /// The rule that it breaks.
+        cause: Cause,
+    },
+    /// Want of memory, though no step breaks a rule.
+    NoMemory,
+}
+
+impl From<NoMemory> for SelectError {
+    ghost use Rattle.std.specs.Prelude.{◌≡◌};
+    ghost use Rattle.vx_steps.specs.declared.cause.SelectError.TheVariants.{NoMemory as OutOfMemory};
+
+    ghost from_gives = { λ _ e. e ≡ OutOfMemory };
+
+    fn from(_: NoMemory) -> SelectError {
+        SelectError::NoMemory
+    }
+}

@@ -1,0 +1,63 @@
+//! The rule that a step breaks, and the first step of a list that breaks one.
+ghost use Rattle.std.specs.Prelude.{◌≡◌, map, length, option_map};
+ghost use Rattle.vx_steps.specs.Step.{step_value};
+ghost use Rattle.vx_steps.specs.Walk.{walk, broken, rows_left};
+ghost use Rattle.vx_steps.specs.Check.{IsChecked};
+
+use crate::cause::{Cause, SelectError};
+use crate::step::Step;
+
+impl Step {
+    // The rule that the step breaks over `len` rows; none where it breaks none.
+    pub(crate) fn broken(&self, len: usize) -> Option<Cause>
+        ensures { result ≡ broken (step_value self.now) len }
+    {
+        match self {
+            Step::Slice { start, end } => {
+                if start <= end && *end <= len {
+                    None
+                } else {
+                    Some(Cause::BadRange {
+                        start: *start,
+                        end: *end,
+                        len,
+                    })
+                }
+            }
+            Step::Filter(mask) => {
+                let mask_len = mask.len();
+                if mask_len == len {
+                    None
+                } else {
+                    Some(Cause::BadMask { mask_len, len })
+                }
+            }
+        }
+    }
+
+    // How many rows the step leaves, where it breaks no rule.
+    pub(crate) fn rows_left(&self) -> usize
+        ensures { result ≡ rows_left (step_value self.now) }
+    {
+        match self {
+            Step::Slice { start, end } => end.saturating_sub(*start),
+            Step::Filter(mask) => mask.true_count(),
+        }
+    }
+}
+
+/// How many rows the steps leave of `len` rows. It takes no memory.
+///
+/// `Broken` exactly where a step breaks a rule, with the first one, and never `NoMemory`.
+pub fn check_steps(len: usize, steps: &[Step]) -> Result<usize, SelectError>
+    ensures { IsChecked result (walk len (map step_value steps.now)) }
+{
+    let mut left = len;
+    for (step, s) in steps.iter().enumerate() {
+        if let Some(cause) = s.broken(left) {
+            return Err(SelectError::Broken { step, cause });
+        }
+        left = s.rows_left();
+    }
+    Ok(left)
+}

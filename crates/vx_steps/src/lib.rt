@@ -1,0 +1,15 @@
+//! Lists of steps: the rule that a step breaks, the picks that the steps leave, and the answer.
+#![tactic(auto)]
+
+mod cause;
+mod check;
+mod laws;
+mod step;
+
+pub use cause::{Cause, SelectError};
+pub use check::check_steps;
+pub use laws::slice_of_slice;
+pub use step::Step;
+
+#[cfg(test)]
+mod tests;

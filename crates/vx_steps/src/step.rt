@@ -1,0 +1,17 @@
+//! One step of a list.
+
+use vx_mask::Mask;
+
+/// One step over the rows that the steps before it left.
+#[derive(Drop)]
+pub enum Step {
+    /// The rows from `start` up to `end`.
+    Slice {
+        /// The first row.
+        start: usize,
+        /// The row after the last one.
+        end: usize,
+    },
+    /// The rows at the mask's set positions.
+    Filter(Mask),
+}
