@@ -3,14 +3,14 @@ use Rattle.std.specs.Int.{bit_at}
 use Rattle.std.proofs.lemmas.List.{append-nil, append_assoc}
 use Rattle.std.proofs.lemmas.Nat.Bits.{shr_and_one}
 use Rattle.vx_bits.specs.Words.{word_bits}
-use Rattle.vx_bits.proofs.WordBits.{word_bits-zero, word_bits_more}
+use Rattle.vx_bits.proofs.WordBits.{word_bits-none, word_bits_more}
 use Rattle.vx_bits.proofs.bit_builder.BitBuilder.append_word.Goals as goal
 
 pub loop-k-init : goal.loop-k-init
 loop-k-init c =
     let items = c.reserve.new.self.items in
     record {
-      items = sym (ap (λ l. items ++ l) (word_bits-zero c.args.word) ∙ append-nil items);
+      items = sym (ap (λ l. items ++ l) (word_bits-none c.args.word) ∙ append-nil items);
       room = omega (arith, c.in_ok-reserve.ensures.ok);
     }
 
