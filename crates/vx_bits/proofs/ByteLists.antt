@@ -29,7 +29,7 @@ bits_joined xs ys =
     ap (bits_of (xs ++ ys) 0) whole
     ∙ bits_split (xs ++ ys) 0 n (8 * length ys)
     ∙ ap₂ ◌++◌ (bits_front xs ys n (omega arith))
-      (ap (λ j. bits_of (xs ++ ys) j (8 * length ys)) (sym there) ∙ sym (bits_drop (xs ++ ys) (length xs) 0 (8 * length ys)) ∙ ap (λ l. bits_of l 0 (8 * length ys)) (drop_at xs ys (length xs) refl))
+    (ap (λ j. bits_of (xs ++ ys) j (8 * length ys)) (sym there) ∙ sym (bits_drop (xs ++ ys) (length xs) 0 (8 * length ys)) ∙ ap (λ l. bits_of l 0 (8 * length ys)) (drop_at xs ys (length xs) refl))
 
 -- ---- bytes that are all alike
 

@@ -1,4 +1,5 @@
 pub mod BitLists
+pub mod BuiltLists
 pub mod ByteLists
 pub mod Cuts
 pub mod FirstSet
