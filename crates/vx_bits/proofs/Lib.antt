@@ -4,3 +4,4 @@ pub mod ByteLists
 pub mod Cuts
 pub mod FirstSet
 pub mod WordBits
+pub mod WordLists
