@@ -85,7 +85,7 @@ bits_slice bytes o n s e p q =
     ∙ bits_cut bytes o n s e p q
 
 -- the number of one more bit
-number_push : (bits : List Bool) (b : Bool) → number_of (bits ++ b ∷ []) ≡ number_of bits + cond b 1 0 * 2 ^ length bits
+pub number_push : (bits : List Bool) (b : Bool) → number_of (bits ++ b ∷ []) ≡ number_of bits + cond b 1 0 * 2 ^ length bits
 number_push [] b = omega arith
 number_push (a ∷ bits) b =
     let e = number_push bits b in

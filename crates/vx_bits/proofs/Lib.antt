@@ -1,6 +1,7 @@
 pub mod BitLists
 pub mod BuiltLists
 pub mod ByteLists
+pub mod ByteWords
 pub mod Cuts
 pub mod FirstSet
 pub mod WordBits
