@@ -3,6 +3,6 @@ pub mod BuiltLists
 pub mod ByteLists
 pub mod ByteWords
 pub mod Cuts
-pub mod FirstSet
+pub mod SetBits
 pub mod WordBits
 pub mod WordLists

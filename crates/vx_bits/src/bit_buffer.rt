@@ -156,9 +156,10 @@ impl BitBuffer {
     pub fn first_set(&self) -> Option<usize>
         ensures { result ≡ position (λ bit. bit) self.now.bits }
     {
-        for i in 0..self.len() {
-            if self.value(i) {
-                return Some(i);
+        for i in 0..self.len().div_ceil(64) {
+            let word = self.word(i);
+            if word != 0 {
+                return Some(64 * i + word.trailing_zeros() as usize);
             }
         }
         None
@@ -168,11 +169,12 @@ impl BitBuffer {
     pub fn last_set(&self) -> Option<usize>
         ensures { MatchOption result (true_count_of self.now.bits ≡ 0) (IsLastSet self.now.bits) }
     {
-        let len = self.len();
-        for passed in 0..len {
-            let i = len - 1 - passed;
-            if self.value(i) {
-                return Some(i);
+        let words = self.len().div_ceil(64);
+        for passed in 0..words {
+            let i = words - 1 - passed;
+            let word = self.word(i);
+            if word != 0 {
+                return Some(64 * i + word.ilog2() as usize);
             }
         }
         None
