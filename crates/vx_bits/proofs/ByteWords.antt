@@ -3,7 +3,7 @@ use Rattle.std.proofs.Common.{◌≡◌, ℕ, zero, suc, ◌+◌, ◌-◌, ◌*�
 use Rattle.std.specs.Int.{bit_at, w64, from_le_bytes}
 use Rattle.std.specs.Int.RustNames.{count_ones}
 use Rattle.std.proofs.lemmas.Bool.{cases_eq, cases_lt}
-use Rattle.std.proofs.lemmas.List.{drop_at, get_or-drop, get_or-take, get_or_past, length-drop, take_all, take_at, length-take-le, take-append-drop}
+use Rattle.std.proofs.lemmas.List.{drop_at, drop_more, get_or-drop, get_or-take, get_or_past, length-drop, take_all, take_at, length-take-le, take-append-drop}
 use Rattle.std.proofs.lemmas.Nat.{and_mask, div-add-mod', mod_below, mod_low, mod-pow-add, one_shl, or_comm, or_shifted, pow-add, pow_pos, shr_below, shr_high}
 use Rattle.std.proofs.lemmas.Nat.Bits.{bit_at-lt, shr_and_one}
 use Rattle.vx_bits.specs.BitBuffer.{bit_of, bits_of, number_of, true_count_of}
@@ -32,6 +32,29 @@ eight_from bytes start h fits =
     ∙ ap (λ l. bits_of l 0 64) (take-append-drop 8 rest)
     ∙ bits_drop bytes start 0 64
     ∙ ap (λ j. bits_of bytes j 64) (add-zero (8 * start))
+
+next_item : (bytes : List ℕ) (start m k : ℕ) → start + m < length bytes → take (suc k) (drop (start + m) bytes) ≡ get_or bytes (start + m) 0 ∷ take k (drop (start + (m + 1)) bytes)
+next_item bytes start m k h =
+    let next : start + m + 1 ≡ start + (m + 1) = omega arith in
+    ap (take (suc k)) (drop_more bytes (start + m) 0 h) ∙ ap (λ j. get_or bytes (start + m) 0 ∷ take k (drop j bytes)) next
+
+-- eight bytes from `start` on, one by one
+pub eight_items : (bytes : List ℕ) (start : ℕ) → start + 8 ≤ length bytes
+    → get_or bytes start 0 ∷ get_or bytes (start + 1) 0 ∷ get_or bytes (start + 2) 0 ∷ get_or bytes (start + 3) 0 ∷ get_or bytes (start + 4) 0 ∷ get_or bytes (start + 5) 0 ∷ get_or bytes (start + 6) 0 ∷ get_or bytes (start + 7) 0 ∷ []
+    ≡ take 8 (drop start bytes)
+eight_items bytes start h =
+    let from : start + 0 ≡ start = omega arith in
+    sym (
+    ap (λ j. take 8 (drop j bytes)) (sym from)
+    ∙ next_item bytes start 0 7 (omega arith)
+    ∙ ap₂ (λ j l. get_or bytes j 0 ∷ l) from (
+    next_item bytes start 1 6 (omega arith) ∙ ap (λ l. get_or bytes (start + 1) 0 ∷ l) (
+    next_item bytes start 2 5 (omega arith) ∙ ap (λ l. get_or bytes (start + 2) 0 ∷ l) (
+    next_item bytes start 3 4 (omega arith) ∙ ap (λ l. get_or bytes (start + 3) 0 ∷ l) (
+    next_item bytes start 4 3 (omega arith) ∙ ap (λ l. get_or bytes (start + 4) 0 ∷ l) (
+    next_item bytes start 5 2 (omega arith) ∙ ap (λ l. get_or bytes (start + 5) 0 ∷ l) (
+    next_item bytes start 6 1 (omega arith) ∙ ap (λ l. get_or bytes (start + 6) 0 ∷ l) (
+    next_item bytes start 7 0 (omega arith)))))))))
 
 -- a word's lowest bits, and those above them
 word_split : (x s k : ℕ) → word_bits x (s + k) ≡ word_bits x s ++ word_bits (x / 2 ^ s) k

@@ -214,9 +214,16 @@ fn eight_bytes(bytes: &[u8], start: usize) -> u64
     requires { start + 8 ≤ length bytes.now }
     ensures { word_bits result 64 ≡ bits_of bytes.now (8 * start) 64 }
 {
-    let mut eight = [0; 8];
-    eight.copy_from_slice(&bytes[start..start + 8]);
-    u64::from_le_bytes(eight)
+    u64::from_le_bytes([
+        bytes[start],
+        bytes[start + 1],
+        bytes[start + 2],
+        bytes[start + 3],
+        bytes[start + 4],
+        bytes[start + 5],
+        bytes[start + 6],
+        bytes[start + 7],
+    ])
 }
 
 // The 64 bits from bit `shift` of byte `start` on.
