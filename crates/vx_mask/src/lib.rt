@@ -1,11 +1,15 @@
 //! Masks: which rows of a column are selected. And the policy, which chooses between kernels.
 #![tactic(auto)]
 
+mod agreement;
+mod blocks;
 mod error;
 mod laws;
 mod mask;
 mod mask_values;
 mod policy;
+mod positions;
+mod runs;
 
 pub use error::MaskError;
 pub use laws::{indices_law, rank_law, slices_law};

@@ -1,6 +1,6 @@
 use Rattle.std.proofs.Common.{◌≡◌, ◌≤◌, length, take, drop, true}
 use Rattle.vx_mask.specs.Positions.{set_of, ascending}
-use Rattle.vx_mask.proofs.mask.bits_at.Given as goal
+use Rattle.vx_mask.proofs.positions.bits_at.Given as goal
 
 abbrev pub invariant-loop-index : goal.invariant-loop-index
 invariant-loop-index l = record {

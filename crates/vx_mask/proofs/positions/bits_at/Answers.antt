@@ -3,10 +3,11 @@ use Rattle.std.specs.List.{range_with_len}
 use Rattle.std.proofs.lemmas.Grind.{common_steps}
 use Rattle.std.proofs.lemmas.List.{take_more, take_all}
 use Rattle.std.proofs.lemmas.Result.{IfOk-weaker}
-use Rattle.vx_bits.specs.BitBuffer.{PlacedBits}
+use Rattle.vx_mask.specs.Mask.{at_front}
+use Rattle.vx_mask.proofs.BitsWith.{bits_told}
 use Rattle.vx_mask.specs.Positions.{set_of, ascending}
 use Rattle.vx_mask.proofs.AscendingLists.{next_index, set_of_filled, set_of_cleared}
-use Rattle.vx_mask.proofs.mask.bits_at.Goals as goal
+use Rattle.vx_mask.proofs.positions.bits_at.Goals as goal
 
 pub loop-index-preserved : goal.loop-index-preserved
 loop-index-preserved c =
@@ -27,12 +28,13 @@ loop-index-preserved c =
       within = omega (arith, filled.1, next.within);
     }
 
-pub returns-clause-set : goal.returns-clause-set
-returns-clause-set c =
+pub returns : goal.returns
+returns c =
     let indices = c.args.indices.now in
     let k = c.loop-index.index-index in
     let bits = c.loop-index.flags.items in
     let held = c.loop-index.flags.ok.0 in
     let all : c.resize-2.new.self.items ≡ take c.args.len bits ++ replicate (c.args.len - length bits) false = grind (arith, common_steps, held) in
     let cleared = set_of_cleared bits c.resize-2.new.self.items c.args.len c.loop-index.invariant.within all in
-    IfOk-weaker c.from_bools.result _ _ (λ b h. ap (λ (p : PlacedBits). set_of p.bits) h ∙ ap set_of c.as_slice.ensures.value ∙ cleared.0 ∙ c.loop-index.invariant.set ∙ take_all k indices (omega arith)) c.from_bools.ensures
+    let set = cleared.0 ∙ c.loop-index.invariant.set ∙ take_all k indices (omega arith) in
+    IfOk-weaker c.from_bools.result _ _ (λ b h. h ∙ ap at_front (c.as_slice.ensures.value ∙ bits_told c.resize-2.new.self.items c.args.len indices cleared.1 set)) c.from_bools.ensures

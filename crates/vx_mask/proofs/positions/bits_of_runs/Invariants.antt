@@ -1,6 +1,6 @@
 use Rattle.std.proofs.Common.{◌≡◌, ◌≤◌, length, take, drop, true}
 use Rattle.vx_mask.specs.Positions.{set_of, covered, runs_ascend}
-use Rattle.vx_mask.proofs.mask.bits_of_runs.Given as goal
+use Rattle.vx_mask.proofs.positions.bits_of_runs.Given as goal
 
 abbrev pub invariant-loop-run : goal.invariant-loop-run
 invariant-loop-run l = record {
