@@ -5,3 +5,8 @@ pub mod RunLists
 pub mod BlockCounts
 pub mod Partial
 pub mod AgreeingLists
+pub mod WordPlaces
+pub mod LowestBit
+pub mod WordCounts
+pub mod WordPositions
+pub mod MadeBits

@@ -140,3 +140,8 @@ pub total_is : (len count : ℕ) (slices seen : List (ℕ × ℕ)) → Some coun
 total_is len count slices seen e f =
     let told = total_told (runs_ascend 0 len seen) (length (covered seen)) count e in
     record { ascend = sym (ap (runs_ascend 0 len) f) ∙ told.0; counted = told.1 ∙ ap (λ l. length (covered l)) f }
+
+-- the indices that a mask keeps
+pub kept_set : (mask seen : PartialMask) (count : ℕ) (indices : List ℕ) → IsPartial mask count → mask.indices ≡ Some indices → mask ≡ seen → indices ≡ set_of seen.bits.bits
+kept_set mask seen count indices h e same =
+    subst (λ (o : Option (List ℕ)). IfSome o (λ is. is ≡ set_of mask.bits.bits)) e h.indices_agree ∙ ap (λ (m : PartialMask). set_of m.bits.bits) same

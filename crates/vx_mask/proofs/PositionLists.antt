@@ -142,7 +142,7 @@ positions-append at [] ys = ap (λ n. positions n ys) (omega arith)
 positions-append at (true ∷ xs) ys = ap (λ l. at ∷ l) (positions-append (at + 1) xs ys ∙ ap (λ n. positions (at + 1) xs ++ positions n ys) (omega arith))
 positions-append at (false ∷ xs) ys = positions-append (at + 1) xs ys ∙ ap (λ n. positions (at + 1) xs ++ positions n ys) (omega arith)
 
-positions_false : (at n : ℕ) → positions at (replicate n false) ≡ []
+pub positions_false : (at n : ℕ) → positions at (replicate n false) ≡ []
 positions_false at zero = refl
 positions_false at (suc n) = positions_false (at + 1) n
 

@@ -2,3 +2,4 @@ pub mod Mask
 pub mod MaskValues
 pub mod Policy
 pub mod Positions
+pub mod Ranks

@@ -1,10 +1,11 @@
 -- Masks that select some rows and not all.
-use Rattle.std.specs.Prelude.{◌≡◌, ℕ, ◌+◌, ◌*◌, ◌/◌, ◌<◌, ◌==◌, ◌&&◌, ◌||◌, Bool, true, not, nat_lt, List, Option, None, Some, IfSome, length, map, take, if◌then◌else◌, unwrap_or}
-use Rattle.std.specs.List.{All, list_all, range_with_len}
+use Rattle.std.specs.Prelude.{◌≡◌, ℕ, ◌<◌, ◌==◌, ◌&&◌, ◌||◌, Bool, true, not, nat_lt, List, Option, None, Some, IfSome, length, if◌then◌else◌, unwrap_or}
+use Rattle.std.specs.List.{All, list_all}
 use Rattle.vx_bits.specs.BitBuffer.{PlacedBits, true_count_of}
 use Rattle.vx_mask.specs.declared.error.MaskError.{MaskError}
 use Rattle.vx_mask.specs.declared.error.MaskError.TheVariants.{Count, NotSelective, Indices, Slices}
 use Rattle.vx_mask.specs.Positions.{set_of, covered, maximal_runs, same_numbers}
+use Rattle.vx_mask.specs.Ranks.{blocks_of}
 
 -- what a clause sees of a `MaskValues`: its bits, and what it keeps beside them
 pub record PartialMask : Type 0 where
@@ -25,9 +26,7 @@ pub record AreSlicesOf (mask : PartialMask) (slices : List (ℕ × ℕ)) : Type 
 
 -- for each multiple of 512 up to the length, the number of set bits before it
 abbrev pub block_counts : PartialMask → List ℕ
-block_counts mask =
-    map (λ b. true_count_of (take (512 * b) mask.bits.bits))
-    (range_with_len 0 (length mask.bits.bits / 512 + 1))
+block_counts mask = blocks_of mask.bits.bits
 
 -- some bits are set and not all, they are so many, and what is kept agrees with them
 pub record IsPartial (mask : PartialMask) (true_count : ℕ) : Type 0 where

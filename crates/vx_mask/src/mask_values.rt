@@ -9,10 +9,11 @@ ghost use Rattle.vx_mask.specs.Positions.{rank_of, set_of};
 use crate::agreement::{indices_agree, slices_agree};
 use crate::blocks::counts_of;
 use crate::error::MaskError;
+use crate::ranks::{rank_from, rank_words, words_before};
 use crate::runs::{positions_of, runs_of};
 use std::alloc::Global;
 use std::marker::Model;
-use vx_bits::{BitBuffer, Buffer, NoMemory};
+use vx_bits::{BitBuffer, Buffer, NoMemory, PlainWords};
 
 /// The bits of a mask that has at least one set and one clear bit: Vortex's `MaskValues`.
 ///
@@ -224,34 +225,49 @@ impl MaskValues {
         self.bits.value(i)
     }
 
-    /// The `k`-th set position, from 0. It counts each bit once at most: a half of the rows, then a
-    /// half of what is left.
+    /// The `k`-th set position, from 0: by the indices where they are kept, by the block counts
+    /// where these are, else by the words up to that position. It takes no memory.
     pub fn rank(&self, k: usize) -> usize
         requires { k < true_count_of self.now.bits.bits }
         ensures rank { result ≡ rank_of self.now.bits.bits k }
         ensures within { result < length self.now.bits.bits }
     {
-        let (mut low, mut high) = (0, self.len());
-        let mut left = k;
-        'halving: while high - low > 1 {
-            let middle = low + (high - low) / 2;
-            let count = self.bits.slice(low, middle).true_count();
-            if left < count {
-                high = middle;
-            } else {
-                left -= count;
-                low = middle;
-            }
+        match &self.indices {
+            Some(indices) => indices.as_slice()[k],
+            None => self.rank_by_words(k),
         }
-        low
     }
 
-    /// The number of set positions below `p`.
+    // The same, by the block counts where they are kept, else by the words up to that position.
+    fn rank_by_words(&self, k: usize) -> usize
+        requires { k < true_count_of self.now.bits.bits }
+        ensures rank { result ≡ rank_of self.now.bits.bits k }
+        ensures within { result < length self.now.bits.bits }
+    {
+        let mut words = PlainWords::new(self.bits.share());
+        match &self.blocks {
+            Some(blocks) => rank_words(&mut words, blocks.as_slice(), k),
+            None => {
+                // The number of words is bounded by that of bits.
+                let _ = self.len();
+                rank_from(&mut words, 0, 0, k)
+            }
+        }
+    }
+
+    /// The number of set positions below `p`: by the block counts where they are kept, else by the
+    /// words up to there. It takes no memory.
     pub fn true_before(&self, p: usize) -> usize
         requires { p ≤ length self.now.bits.bits }
         ensures { result ≡ true_count_of (take p self.now.bits.bits) }
     {
-        self.bits.slice(0, p).true_count()
+        match &self.blocks {
+            Some(blocks) => {
+                let mut words = PlainWords::new(self.bits.share());
+                words_before(&mut words, blocks.as_slice(), p)
+            }
+            None => self.bits.count_range(0, p),
+        }
     }
 
     /// The same mask once more, with what it keeps. It takes no memory.

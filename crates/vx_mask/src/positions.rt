@@ -4,7 +4,7 @@ ghost use Rattle.vx_mask.specs.Mask.{at_front};
 ghost use Rattle.vx_mask.specs.Positions.{covered, ascending, bits_with, runs_ascend};
 
 use std::alloc::Global;
-use vx_bits::{BitBuffer, NoMemory};
+use vx_bits::{BitBuffer, BitBuilder, NoMemory};
 
 // Whether the indices strictly ascend below the length.
 pub(crate) fn ascend(indices: &[usize], len: usize) -> bool
@@ -42,13 +42,12 @@ pub(crate) fn bits_at(alloc: Global, len: usize, indices: &[usize]) -> Result<Bi
     requires { ascending 0 len indices.now ≡ true }
     ensures { IfOk result (λ b. b ≡ at_front (bits_with len indices.now)) }
 {
-    let mut flags = Vec::with_capacity(alloc, len)?;
+    let mut bits = BitBuilder::with_capacity(alloc, len)?;
+    bits.append_n(false, len)?;
     for index in indices {
-        flags.resize(*index, false)?;
-        flags.resize(*index + 1, true)?;
+        bits.set(*index);
     }
-    flags.resize(len, false)?;
-    BitBuffer::from_bools(alloc, flags.as_slice())
+    bits.finish()
 }
 
 // The bits that are set in these runs.
@@ -56,11 +55,13 @@ pub(crate) fn bits_of_runs(alloc: Global, len: usize, runs: &[(usize, usize)]) -
     requires { runs_ascend 0 len runs.now ≡ true }
     ensures { IfOk result (λ b. b ≡ at_front (bits_with len (covered runs.now))) }
 {
-    let mut flags = Vec::with_capacity(alloc, len)?;
+    let mut bits = BitBuilder::with_capacity(alloc, len)?;
+    let mut at = 0;
     for run in runs {
-        flags.resize(run.0, false)?;
-        flags.resize(run.1, true)?;
+        bits.append_n(false, run.0 - at)?;
+        bits.append_n(true, run.1 - run.0)?;
+        at = run.1;
     }
-    flags.resize(len, false)?;
-    BitBuffer::from_bools(alloc, flags.as_slice())
+    bits.append_n(false, len - at)?;
+    bits.finish()
 }
