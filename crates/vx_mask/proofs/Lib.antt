@@ -10,3 +10,4 @@ pub mod LowestBit
 pub mod WordCounts
 pub mod WordPositions
 pub mod MadeBits
+pub mod Spans

@@ -3,3 +3,4 @@ pub mod MaskValues
 pub mod Policy
 pub mod Positions
 pub mod Ranks
+pub mod Reuse

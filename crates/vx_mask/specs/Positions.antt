@@ -74,6 +74,11 @@ span_of bits =
     then Some (start, start + count)
     else None
 
+-- the set positions are all those from `start` up to `end`, and there are some
+pub record IsSpan (bits : List Bool) (start end : ℕ) : Type 0 where
+  pub some : start < end
+  pub set : set_of bits ≡ range_with_len start (end - start)
+
 -- runs behind one more set bit: the first of them begins with it where it lay just behind it, else
 -- the bit is a run by itself
 abbrev pub runs_with : ℕ → List (ℕ × ℕ) → List (ℕ × ℕ)

@@ -1,15 +1,16 @@
 //! Masks of any kind.
-ghost use Rattle.std.specs.Prelude.{◌≡◌, ◌<◌, ◌≤◌, IfOk, IfSome, length, slice_index_or, take, false, true};
+ghost use Rattle.std.specs.Prelude.{◌≡◌, ◌*◌, ◌<◌, ◌≤◌, ◌↔◌, IsTrue, IfOk, IfSome, length, slice_index_or, take, false, true};
 ghost use Rattle.std.specs.Option.{option_copied};
 ghost use Rattle.vx_bits.specs.BitBuffer.{true_count_of};
 ghost use Rattle.vx_bits.specs.Made.{FailsBy};
-ghost use Rattle.vx_mask.specs.Positions.{set_of, rank_of, covered, bits_with};
+ghost use Rattle.vx_mask.specs.Positions.{IsSpan, set_of, rank_of, covered, bits_with, span_of};
 ghost use Rattle.vx_mask.specs.Mask.{mask_bits, partial_of, indices_fault, slices_fault, if_partial, mask_by_indices, mask_by_slices, indices_in, slices_in, blocks_in, keeping};
 ghost use Rattle.vx_mask.specs.MaskValues.{bits_alone, keep_indices, keep_slices, keep_blocks};
 
 use crate::error::MaskError;
 use crate::mask_values::MaskValues;
 use crate::positions::{ascend, bits_at, bits_of_runs, run_total};
+use crate::reuse::product;
 use std::alloc::Global;
 use vx_bits::{BitBuffer, Buffer, NoMemory};
 
@@ -231,6 +232,33 @@ impl Mask {
             Mask::Values(values) => Ok(Mask::Values(values.keep_blocks(alloc)?)),
             _ => Ok(self.share()),
         }
+    }
+
+    /// Where the set positions are all those from a start up to an end, which is left out, that
+    /// run. `None` exactly where they are not, or where there is none. It takes no memory.
+    pub fn contiguous(&self) -> Option<(usize, usize)>
+        ensures value { result ≡ span_of (mask_bits self.now) }
+        ensures run { IfSome result (λ run. IsSpan (mask_bits self.now) run.0 run.1) }
+    {
+        match self {
+            Mask::AllFalse(_) => None,
+            Mask::AllTrue(len) => {
+                if *len == 0 {
+                    None
+                } else {
+                    Some((0, *len))
+                }
+            }
+            Mask::Values(values) => values.contiguous(),
+        }
+    }
+
+    /// Whether at least `num` of each `den` rows are selected, exactly. It takes no memory.
+    pub fn density_at_least(&self, num: u64, den: u64) -> bool
+        ensures { IsTrue result ↔ (num * length (mask_bits self.now)
+            ≤ true_count_of (mask_bits self.now) * den) }
+    {
+        product(num, self.len() as u64) <= product(self.true_count() as u64, den)
     }
 
     /// The same mask once more. It takes no memory.

@@ -4,13 +4,13 @@ ghost use Rattle.std.specs.Option.{option_copied};
 ghost use Rattle.vx_bits.specs.BitBuffer.{true_count_of};
 ghost use Rattle.vx_bits.specs.Made.{made};
 ghost use Rattle.vx_mask.specs.MaskValues.{AreSlicesOf, IsPartial, bits_alone, block_counts, keep_blocks, keep_indices, keep_slices, parts_fault};
-ghost use Rattle.vx_mask.specs.Positions.{rank_of, set_of};
+ghost use Rattle.vx_mask.specs.Positions.{rank_of, set_of, span_of};
 
 use crate::agreement::{indices_agree, slices_agree};
 use crate::blocks::counts_of;
 use crate::error::MaskError;
 use crate::ranks::{rank_from, rank_words, words_before};
-use crate::runs::{positions_of, runs_of};
+use crate::runs::{next_with, positions_of, runs_of};
 use std::alloc::Global;
 use std::marker::Model;
 use vx_bits::{BitBuffer, Buffer, NoMemory, PlainWords};
@@ -163,6 +163,19 @@ impl MaskValues {
         match &self.blocks {
             Some(blocks) => Some(blocks.as_slice()),
             None => None,
+        }
+    }
+
+    // Where the set positions are all those from a start up to an end, that run.
+    pub(crate) fn contiguous(&self) -> Option<(usize, usize)>
+        ensures { result ≡ span_of self.now.bits.bits }
+    {
+        let start = next_with(&self.bits, 0, true);
+        let end = next_with(&self.bits, start, false);
+        if end - start == self.true_count {
+            Some((start, end))
+        } else {
+            None
         }
     }
 
