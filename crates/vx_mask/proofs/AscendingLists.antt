@@ -1,6 +1,6 @@
 -- Lemmas on indices and runs that ascend.
 use Rattle.std.proofs.Common.{◌≡◌, ℕ, zero, suc, ◌+◌, ◌-◌, ◌<◌, ◌≤◌, Bool, true, false, cond, ◌&&◌, leb, ltb, None, Some, List, [], ◌∷◌, ◌++◌, length, get_or, take, drop, replicate, refl, sym, ap, ap₂, ◌∙◌, subst, add-one, arith}
-use Rattle.std.specs.List.{range_with_len}
+use Rattle.std.specs.List.{All, range_with_len}
 use Rattle.std.proofs.lemmas.List.{take_more, take_all, drop_more, length-append, length-replicate, flat_map_more}
 use Rattle.std.proofs.lemmas.Bool.{leb-true, ltb-true, le-leb, lt-ltb}
 use Rattle.vx_mask.specs.declared.error.MaskError.TheVariants.{Indices, Slices}
@@ -18,11 +18,17 @@ pub record IsNextIndex (low len index : ℕ) (rest : List ℕ) : Type 0 where
   pub within : index < len
   pub then : ascending (index + 1) len rest ≡ true
 
-index_parts : (low len index : ℕ) (rest : List ℕ) → ascending low len (index ∷ rest) ≡ true → IsNextIndex low len index rest
+pub index_parts : (low len index : ℕ) (rest : List ℕ) → ascending low len (index ∷ rest) ≡ true → IsNextIndex low len index rest
 index_parts low len index rest h =
     let a = both_true (leb low index) (ltb index len && ascending (index + 1) len rest) h in
     let b = both_true (ltb index len) (ascending (index + 1) len rest) a.1 in
     record { from = leb-true low index a.0; within = ltb-true index len b.0; then = b.1 }
+
+pub ascending_first : (low len index : ℕ) (rest : List ℕ) → low ≤ index → index < len → ascending (index + 1) len rest ≡ true → ascending low len (index ∷ rest) ≡ true
+ascending_first low len index rest p q h =
+    ap (λ b. b && (ltb index len && ascending (index + 1) len rest)) (le-leb low index p)
+    ∙ ap (λ b. b && ascending (index + 1) len rest) (lt-ltb index len q)
+    ∙ h
 
 pub next_index : (low len k : ℕ) (indices : List ℕ) → k < length indices → ascending low len (drop k indices) ≡ true → IsNextIndex low len (get_or indices k 0) (drop (k + 1) indices)
 next_index low len k indices p h = index_parts low len (get_or indices k 0) (drop (k + 1) indices) (ap (ascending low len) (sym (drop_more indices k 0 p)) ∙ h)
@@ -34,7 +40,7 @@ pub record IsNextRun (low len : ℕ) (run : ℕ × ℕ) (rest : List (ℕ × ℕ
   pub within : run.1 ≤ len
   pub then : runs_ascend run.1 len rest ≡ true
 
-run_parts : (low len : ℕ) (run : ℕ × ℕ) (rest : List (ℕ × ℕ)) → runs_ascend low len (run ∷ rest) ≡ true → IsNextRun low len run rest
+pub run_parts : (low len : ℕ) (run : ℕ × ℕ) (rest : List (ℕ × ℕ)) → runs_ascend low len (run ∷ rest) ≡ true → IsNextRun low len run rest
 run_parts low len run rest h =
     let a = both_true (leb low run.0) (ltb run.0 run.1 && (leb run.1 len && runs_ascend run.1 len rest)) h in
     let b = both_true (ltb run.0 run.1) (leb run.1 len && runs_ascend run.1 len rest) a.1 in
@@ -141,3 +147,39 @@ faultless_slices len slices = (
       let h = runs_ascend_from 0 len slices d (λ p. omega arith) (λ k p. right.0 k d p) (λ k p. right.1 k d p) (λ k p. subst (λ (n : ℕ). (get_or slices k d).1 ≤ (get_or slices n d).0) (add-one k) (right.2 k d (omega arith))) in
       ap (λ b. cond b None (Some Slices)) h,
 )
+
+-- positions that ascend behind a run that is not empty
+ascending_run : (low len start n : ℕ) (rest : List ℕ) → low ≤ start → start + suc n ≤ len → ascending (start + suc n) len rest ≡ true → ascending low len (range_with_len start (suc n) ++ rest) ≡ true
+ascending_run low len start zero rest p q h =
+    ascending_first low len start rest p (omega arith) (ap (λ a. ascending a len rest) (omega arith) ∙ h)
+ascending_run low len start (suc n) rest p q h =
+    let more : start + 1 + suc n ≡ start + suc (suc n) = omega arith in
+    ascending_first low len start (range_with_len (start + 1) (suc n) ++ rest) p (omega arith)
+    (ascending_run (start + 1) len (start + 1) n rest (omega arith) (omega arith) (ap (λ a. ascending a len rest) more ∙ h))
+
+-- the positions of runs that ascend do too
+pub ascending-covered : (low len : ℕ) (runs : List (ℕ × ℕ)) → runs_ascend low len runs ≡ true → ascending low len (covered runs) ≡ true
+ascending-covered low len [] h = refl
+ascending-covered low len (run ∷ runs) h =
+    let parts = run_parts low len run runs h in
+    let from = parts.from in
+    let some = parts.some in
+    let within = parts.within in
+    let n = run.1 - run.0 - 1 in
+    let long : run.1 - run.0 ≡ suc n = omega arith in
+    let whole : run.1 ≡ run.0 + suc n = omega arith in
+    ap (λ k. ascending low len (range_with_len run.0 k ++ covered runs)) long
+    ∙ ascending_run low len run.0 n (covered runs) from (omega arith) (ap (λ a. ascending a len (covered runs)) (sym whole) ∙ ascending-covered run.1 len runs parts.then)
+
+-- one run on
+pub next_runs_ascend : (low len k : ℕ) (runs : List (ℕ × ℕ)) → k < length runs → low ≤ (get_or runs k (0, 0)).0 → (get_or runs k (0, 0)).0 < (get_or runs k (0, 0)).1 → (get_or runs k (0, 0)).1 ≤ len → runs_ascend (get_or runs k (0, 0)).1 len (drop (k + 1) runs) ≡ runs_ascend low len (drop k runs)
+next_runs_ascend low len k runs h p q r =
+    let run = get_or runs k (0, 0) in
+    let rest = drop (k + 1) runs in
+    sym (ap (runs_ascend low len) (drop_more runs k (0, 0) h)
+    ∙ ap (λ b. b && (ltb run.0 run.1 && (leb run.1 len && runs_ascend run.1 len rest))) (le-leb low run.0 p)
+    ∙ ap (λ b. b && (leb run.1 len && runs_ascend run.1 len rest)) (lt-ltb run.0 run.1 q)
+    ∙ ap (λ b. b && runs_ascend run.1 len rest) (le-leb run.1 len r))
+
+pub runs_not_empty : (low len : ℕ) (runs : List (ℕ × ℕ)) → runs_ascend low len runs ≡ true → All (λ run. run.0 < run.1) runs
+runs_not_empty low len runs h k d p = (run_in low len runs h k d p).1

@@ -1,3 +1,13 @@
 pub mod PositionLists
 pub mod AscendingLists
 pub mod BitsWith
+pub mod RunLists
+pub mod BlockCounts
+pub mod Partial
+pub mod AgreeingLists
+pub mod WordPlaces
+pub mod LowestBit
+pub mod WordCounts
+pub mod WordPositions
+pub mod MadeBits
+pub mod Spans

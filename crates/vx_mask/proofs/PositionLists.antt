@@ -93,7 +93,7 @@ positions_ascend at (false ∷ bits) j k d p q = positions_ascend (at + 1) bits 
 pub ranks_ascend : (bits : List Bool) → RanksAscend bits
 ranks_ascend bits j k p q = positions_ascend 0 bits j k 0 p q
 
-get_or_of_slice_get : (bits : List Bool) (i : ℕ) → slice_get bits i ≡ Some true → get_or bits i false ≡ true
+pub get_or_of_slice_get : (bits : List Bool) (i : ℕ) → slice_get bits i ≡ Some true → get_or bits i false ≡ true
 get_or_of_slice_get [] i e = cc
 get_or_of_slice_get (bit ∷ bits) zero e = cc
 get_or_of_slice_get (bit ∷ bits) (suc i) e = get_or_of_slice_get bits i e
@@ -142,11 +142,11 @@ positions-append at [] ys = ap (λ n. positions n ys) (omega arith)
 positions-append at (true ∷ xs) ys = ap (λ l. at ∷ l) (positions-append (at + 1) xs ys ∙ ap (λ n. positions (at + 1) xs ++ positions n ys) (omega arith))
 positions-append at (false ∷ xs) ys = positions-append (at + 1) xs ys ∙ ap (λ n. positions (at + 1) xs ++ positions n ys) (omega arith)
 
-positions_false : (at n : ℕ) → positions at (replicate n false) ≡ []
+pub positions_false : (at n : ℕ) → positions at (replicate n false) ≡ []
 positions_false at zero = refl
 positions_false at (suc n) = positions_false (at + 1) n
 
-positions_true : (at n : ℕ) → positions at (replicate n true) ≡ range_with_len at n
+pub positions_true : (at n : ℕ) → positions at (replicate n true) ≡ range_with_len at n
 positions_true at zero = refl
 positions_true at (suc n) = ap (λ l. at ∷ l) (positions_true (at + 1) n)
 

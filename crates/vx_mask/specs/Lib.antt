@@ -2,3 +2,5 @@ pub mod Mask
 pub mod MaskValues
 pub mod Policy
 pub mod Positions
+pub mod Ranks
+pub mod Reuse

@@ -1,12 +1,13 @@
 -- Masks of any kind.
-use Rattle.std.specs.Prelude.{◌≡◌, ◌↔◌, ℕ, ◌<◌, ◌≤◌, Bool, true, false, List, length, replicate, Option, None, Some, if◌then◌else◌}
+use Rattle.std.specs.Prelude.{◌≡◌, ◌↔◌, ℕ, ◌<◌, ◌≤◌, ◌&&◌, Bool, true, false, nat_lt, List, length, replicate, Option, None, Some, if◌then◌else◌}
 use Rattle.std.specs.List.{All, AllAdjacentBelow}
+use Rattle.vx_bits.specs.BitBuffer.{PlacedBits, true_count_of}
 use Rattle.vx_mask.specs.declared.error.MaskError.{MaskError}
 use Rattle.vx_mask.specs.declared.error.MaskError.TheVariants.{Indices, Slices}
 use Rattle.vx_mask.specs.declared.mask.Mask.{Mask}
 use Rattle.vx_mask.specs.declared.mask.Mask.TheVariants.{AllTrue, AllFalse, Values}
-use Rattle.vx_mask.specs.MaskValues.{PartialMask}
-use Rattle.vx_mask.specs.Positions.{ascending, runs_ascend}
+use Rattle.vx_mask.specs.MaskValues.{PartialMask, bits_alone}
+use Rattle.vx_mask.specs.Positions.{ascending, bits_with, covered, runs_ascend}
 
 -- a bit for each row, set where the row is selected
 abbrev pub mask_bits : Mask → List Bool
@@ -19,6 +20,51 @@ abbrev pub partial_of : Mask → Option PartialMask
 partial_of (AllTrue len) = None
 partial_of (AllFalse len) = None
 partial_of (Values mask) = Some mask
+
+-- the mask where some of its bits are set and not all
+abbrev pub if_partial : PartialMask → Option PartialMask
+if_partial mask =
+    let bits = mask.bits.bits in
+    if nat_lt 0 (true_count_of bits) && nat_lt (true_count_of bits) (length bits) then Some mask
+    else None
+
+-- bits from the front of a byte on
+abbrev pub at_front : List Bool → PlacedBits
+at_front bits = record { bits = bits; offset = 0 }
+
+-- the mask of `len` rows that keeps the indices that it is made from
+abbrev pub mask_by_indices : ℕ → List ℕ → PartialMask
+mask_by_indices len indices =
+    record (bits_alone (at_front (bits_with len indices))) { indices = Some indices }
+
+-- the mask of `len` rows that keeps the runs that it is made from
+abbrev pub mask_by_slices : ℕ → List (ℕ × ℕ) → PartialMask
+mask_by_slices len slices =
+    record (bits_alone (at_front (bits_with len (covered slices)))) { slices = Some slices }
+
+-- the indices that the mask keeps
+abbrev pub indices_in : Mask → Option (List ℕ)
+indices_in (AllTrue len) = None
+indices_in (AllFalse len) = None
+indices_in (Values mask) = mask.indices
+
+-- the slices that the mask keeps
+abbrev pub slices_in : Mask → Option (List (ℕ × ℕ))
+slices_in (AllTrue len) = None
+slices_in (AllFalse len) = None
+slices_in (Values mask) = mask.slices
+
+-- the block counts that the mask keeps
+abbrev pub blocks_in : Mask → Option (List ℕ)
+blocks_in (AllTrue len) = None
+blocks_in (AllFalse len) = None
+blocks_in (Values mask) = mask.blocks
+
+-- the same mask, and what it keeps beside its bits where it selects some rows and not all
+abbrev pub keeping : (PartialMask → PartialMask) → Mask → Mask
+keeping more (AllTrue len) = AllTrue len
+keeping more (AllFalse len) = AllFalse len
+keeping more (Values mask) = Values (more mask)
 
 -- why the indices are no mask of `len` rows, if they are none
 abbrev pub indices_fault : ℕ → List ℕ → Option MaskError

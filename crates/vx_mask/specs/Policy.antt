@@ -53,7 +53,7 @@ sparse_limit_of f width =
 abbrev pub ratio : ℕ → ℕ → Ratio
 ratio num den = record { num = num; den = den }
 
--- the crate's numbers
+-- the numbers of Vortex
 abbrev pub vortex_fields : PolicyFields
 vortex_fields =
     record {

@@ -1,13 +1,19 @@
-//! Why positions are no mask.
+//! Why positions or parts are no mask.
 
 use vx_bits::NoMemory;
 
 /// Why a mask was not made.
 #[derive(Debug, Clone, Copy, PartialEq, Eq)]
 pub enum MaskError {
-    /// The indices do not strictly ascend, or one is not below the length.
+    /// The true count is not the number of set bits.
+    Count,
+    /// No bit is set, or all are.
+    NotSelective,
+    /// Indices do not strictly ascend, or one is not below the length; or, beside bits, they are
+    /// not just the set positions.
     Indices,
-    /// A run is empty, starts before the end of the one before, or ends past the length.
+    /// A run is empty, starts before the end of the one before, or ends past the length; or, beside
+    /// bits, the runs do not cover just the set positions.
     Slices,
     /// Want of memory.
     NoMemory,

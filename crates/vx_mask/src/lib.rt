@@ -1,16 +1,24 @@
 //! Masks: which rows of a column are selected. And the policy, which chooses between kernels.
 #![tactic(auto)]
 
+mod agreement;
+mod blocks;
 mod error;
 mod laws;
 mod mask;
 mod mask_values;
 mod policy;
+mod positions;
+mod ranks;
+mod reuse;
+mod runs;
 
 pub use error::MaskError;
 pub use laws::{indices_law, rank_law, slices_law};
 pub use mask::Mask;
 pub use mask_values::MaskValues;
+pub use reuse::prepare_mask_for_reuse;
+pub use ranks::{rank_words, words_before};
 pub use policy::{Policy, PolicyError, PolicyFields, Ratio};
 
 #[cfg(test)]

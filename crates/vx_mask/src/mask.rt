@@ -1,17 +1,20 @@
 //! Masks of any kind.
-ghost use Rattle.std.specs.Prelude.{◌≡◌, ◌<◌, ◌≤◌, None, Some, IfOk, IfSome, IsSomeAnd, length, slice_index_or, take, false, true};
+ghost use Rattle.std.specs.Prelude.{◌≡◌, ◌*◌, ◌<◌, ◌≤◌, ◌↔◌, IsTrue, IfOk, IfSome, length, slice_index_or, take, false, true};
 ghost use Rattle.std.specs.Option.{option_copied};
 ghost use Rattle.vx_bits.specs.BitBuffer.{true_count_of};
 ghost use Rattle.vx_bits.specs.Made.{FailsBy};
-ghost use Rattle.vx_mask.specs.Positions.{set_of, rank_of, covered, bits_with, ascending, runs_ascend};
-ghost use Rattle.vx_mask.specs.Mask.{mask_bits, partial_of, indices_fault, slices_fault};
+ghost use Rattle.vx_mask.specs.Positions.{IsSpan, set_of, rank_of, covered, bits_with, span_of};
+ghost use Rattle.vx_mask.specs.Mask.{mask_bits, partial_of, indices_fault, slices_fault, if_partial, mask_by_indices, mask_by_slices, indices_in, slices_in, blocks_in, keeping};
+ghost use Rattle.vx_mask.specs.MaskValues.{bits_alone, keep_indices, keep_slices, keep_blocks};
 
 use crate::error::MaskError;
 use crate::mask_values::MaskValues;
+use crate::positions::{ascend, bits_at, bits_of_runs, run_total};
+use crate::reuse::product;
 use std::alloc::Global;
-use vx_bits::{BitBuffer, NoMemory};
+use vx_bits::{BitBuffer, Buffer, NoMemory};
 
-/// Which rows are selected: `Mask` of the crate.
+/// Which rows are selected: Vortex's `Mask`.
 #[derive(Drop)]
 pub enum Mask {
     /// All of so many rows.
@@ -33,9 +36,7 @@ impl Mask {
         ensures all_true { 0 < true_count_of bits.bits
             → true_count_of bits.bits ≡ length bits.bits
             → result ≡ Mask.AllTrue (length bits.bits) }
-        ensures values { 0 < true_count_of bits.bits
-            → true_count_of bits.bits < length bits.bits
-            → IsSomeAnd (partial_of result) (λ m. m.bits ≡ bits) }
+        ensures values { partial_of result ≡ if_partial (bits_alone bits) }
     {
         let len = bits.len();
         let count = bits.true_count();
@@ -51,23 +52,35 @@ impl Mask {
     /// The rows at `indices`, of `len` rows.
     ///
     /// `Indices` exactly where they do not strictly ascend or one is not below `len`. Else a mask
-    /// or `NoMemory`.
+    /// or `NoMemory`. A mask that selects some rows and not all keeps the indices.
     pub fn from_indices(alloc: Global, len: usize, indices: Vec<usize>) -> Result<Mask, MaskError>
         ensures refusal { FailsBy result (indices_fault len indices.items) MaskError.NoMemory }
         ensures set { IfOk result (λ m. set_of (mask_bits m) ≡ indices.items) }
         ensures bits { IfOk result (λ m. mask_bits m ≡ bits_with len indices.items) }
         ensures len { IfOk result (λ m. length (mask_bits m) ≡ len) }
+        ensures kept { IfOk result (λ m. partial_of m
+            ≡ if_partial (mask_by_indices len indices.items)) }
     {
         if !ascend(indices.as_slice(), len) {
             return Err(MaskError::Indices);
         }
-        Ok(Mask::from_buffer(bits_at(alloc, len, indices.as_slice())?))
+        let count = indices.len();
+        if count == 0 {
+            return Ok(Mask::AllFalse(len));
+        }
+        if count == len {
+            return Ok(Mask::AllTrue(len));
+        }
+        let bits = bits_at(alloc, len, indices.as_slice())?;
+        let indices = Buffer::from_vec(alloc, indices)?;
+        Ok(Mask::Values(MaskValues::with_lists(bits, count, Some(indices), None)))
     }
 
     /// The rows of the runs `slices`, each from its start up to its end, of `len` rows.
     ///
     /// `Slices` exactly where a run is empty, starts before the end of the one before, or ends
-    /// past `len`. Else a mask or `NoMemory`.
+    /// past `len`. Else a mask or `NoMemory`. A mask that selects some rows and not all keeps the
+    /// slices.
     pub fn from_slices(
         alloc: Global,
         len: usize,
@@ -77,11 +90,21 @@ impl Mask {
         ensures set { IfOk result (λ m. set_of (mask_bits m) ≡ covered slices.items) }
         ensures bits { IfOk result (λ m. mask_bits m ≡ bits_with len (covered slices.items)) }
         ensures len { IfOk result (λ m. length (mask_bits m) ≡ len) }
+        ensures kept { IfOk result (λ m. partial_of m
+            ≡ if_partial (mask_by_slices len slices.items)) }
     {
-        if !are_runs(slices.as_slice(), len) {
+        let Some(count) = run_total(slices.as_slice(), len) else {
             return Err(MaskError::Slices);
+        };
+        if count == 0 {
+            return Ok(Mask::AllFalse(len));
         }
-        Ok(Mask::from_buffer(bits_of_runs(alloc, len, slices.as_slice())?))
+        if count == len {
+            return Ok(Mask::AllTrue(len));
+        }
+        let bits = bits_of_runs(alloc, len, slices.as_slice())?;
+        let slices = Buffer::from_vec(alloc, slices)?;
+        Ok(Mask::Values(MaskValues::with_lists(bits, count, None, Some(slices))))
     }
 
     /// The number of rows that the mask is for.
@@ -153,6 +176,91 @@ impl Mask {
         }
     }
 
+    /// The set positions, ascending, where the mask keeps them.
+    pub fn cached_indices(&self) -> Option<&[usize]>
+        ensures value { option_copied result ≡ indices_in self.now }
+        ensures set { IfSome result (λ indices. indices.now ≡ set_of (mask_bits self.now)) }
+    {
+        self.values()?.cached_indices()
+    }
+
+    /// Runs that cover just the set positions, ascending, where the mask keeps them. Runs may
+    /// touch.
+    pub fn cached_slices(&self) -> Option<&[(usize, usize)]>
+        ensures value { option_copied result ≡ slices_in self.now }
+        ensures cover { IfSome result (λ slices. covered slices.now ≡ set_of (mask_bits self.now)) }
+    {
+        self.values()?.cached_slices()
+    }
+
+    /// For each multiple of 512 up to the length, the number of set bits before it, where the mask
+    /// keeps these counts.
+    pub fn cached_blocks(&self) -> Option<&[usize]>
+        ensures { option_copied result ≡ blocks_in self.now }
+    {
+        self.values()?.cached_blocks()
+    }
+
+    /// The same mask, with its set positions beside it where it selects some rows and not all.
+    /// What else it keeps stays. `NoMemory` alone.
+    pub fn with_indices(&self, alloc: Global) -> Result<Mask, NoMemory>
+        ensures { IfOk result (λ m. m ≡ keeping keep_indices self.now) }
+    {
+        match self {
+            Mask::Values(values) => Ok(Mask::Values(values.keep_indices(alloc)?)),
+            _ => Ok(self.share()),
+        }
+    }
+
+    /// The same mask, with slices beside it where it selects some rows and not all: those that it
+    /// keeps, or else its maximal runs. What else it keeps stays. `NoMemory` alone.
+    pub fn with_slices(&self, alloc: Global) -> Result<Mask, NoMemory>
+        ensures { IfOk result (λ m. m ≡ keeping keep_slices self.now) }
+    {
+        match self {
+            Mask::Values(values) => Ok(Mask::Values(values.keep_slices(alloc)?)),
+            _ => Ok(self.share()),
+        }
+    }
+
+    /// The same mask, with its block counts beside it where it selects some rows and not all. What
+    /// else it keeps stays. `NoMemory` alone.
+    pub fn with_blocks(&self, alloc: Global) -> Result<Mask, NoMemory>
+        ensures { IfOk result (λ m. m ≡ keeping keep_blocks self.now) }
+    {
+        match self {
+            Mask::Values(values) => Ok(Mask::Values(values.keep_blocks(alloc)?)),
+            _ => Ok(self.share()),
+        }
+    }
+
+    /// Where the set positions are all those from a start up to an end, which is left out, that
+    /// run. `None` exactly where they are not, or where there is none. It takes no memory.
+    pub fn contiguous(&self) -> Option<(usize, usize)>
+        ensures value { result ≡ span_of (mask_bits self.now) }
+        ensures run { IfSome result (λ run. IsSpan (mask_bits self.now) run.0 run.1) }
+    {
+        match self {
+            Mask::AllFalse(_) => None,
+            Mask::AllTrue(len) => {
+                if *len == 0 {
+                    None
+                } else {
+                    Some((0, *len))
+                }
+            }
+            Mask::Values(values) => values.contiguous(),
+        }
+    }
+
+    /// Whether at least `num` of each `den` rows are selected, exactly. It takes no memory.
+    pub fn density_at_least(&self, num: u64, den: u64) -> bool
+        ensures { IsTrue result ↔ (num * length (mask_bits self.now)
+            ≤ true_count_of (mask_bits self.now) * den) }
+    {
+        product(num, self.len() as u64) <= product(self.true_count() as u64, den)
+    }
+
     /// The same mask once more. It takes no memory.
     pub fn share(&self) -> Mask
         ensures { result ≡ self.now }
@@ -163,62 +271,4 @@ impl Mask {
             Mask::Values(values) => Mask::Values(values.share()),
         }
     }
-}
-
-// Whether the indices strictly ascend below the length.
-fn ascend(indices: &[usize], len: usize) -> bool
-    ensures { result ≡ ascending 0 len indices.now }
-{
-    let mut low = 0;
-    for index in indices {
-        if *index < low || *index >= len {
-            return false;
-        }
-        low = *index + 1;
-    }
-    true
-}
-
-// Whether the runs are not empty, ascend, do not overlap and end within the length.
-fn are_runs(runs: &[(usize, usize)], len: usize) -> bool
-    ensures { result ≡ runs_ascend 0 len runs.now }
-{
-    let mut low = 0;
-    for run in runs {
-        if run.0 < low || run.1 <= run.0 || run.1 > len {
-            return false;
-        }
-        low = run.1;
-    }
-    true
-}
-
-// The bits that are set at these indices.
-fn bits_at(alloc: Global, len: usize, indices: &[usize]) -> Result<BitBuffer, NoMemory>
-    requires { ascending 0 len indices.now ≡ true }
-    ensures set { IfOk result (λ b. set_of b.bits ≡ indices.now) }
-    ensures len { IfOk result (λ b. length b.bits ≡ len) }
-{
-    let mut flags = Vec::with_capacity(alloc, len)?;
-    for index in indices {
-        flags.resize(*index, false)?;
-        flags.resize(*index + 1, true)?;
-    }
-    flags.resize(len, false)?;
-    BitBuffer::from_bools(alloc, flags.as_slice())
-}
-
-// The bits that are set in these runs.
-fn bits_of_runs(alloc: Global, len: usize, runs: &[(usize, usize)]) -> Result<BitBuffer, NoMemory>
-    requires { runs_ascend 0 len runs.now ≡ true }
-    ensures set { IfOk result (λ b. set_of b.bits ≡ covered runs.now) }
-    ensures len { IfOk result (λ b. length b.bits ≡ len) }
-{
-    let mut flags = Vec::with_capacity(alloc, len)?;
-    for run in runs {
-        flags.resize(run.0, false)?;
-        flags.resize(run.1, true)?;
-    }
-    flags.resize(len, false)?;
-    BitBuffer::from_bools(alloc, flags.as_slice())
 }

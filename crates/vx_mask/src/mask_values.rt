@@ -1,12 +1,21 @@
 //! Masks that select some rows and not all.
-ghost use Rattle.std.specs.Prelude.{◌≡◌, ◌<◌, ◌≤◌, length, slice_index_or, take, false};
+ghost use Rattle.std.specs.Prelude.{◌≡◌, ◌<◌, ◌≤◌, None, IfOk, IfSome, length, slice_index_or, take, false};
+ghost use Rattle.std.specs.Option.{option_copied};
 ghost use Rattle.vx_bits.specs.BitBuffer.{true_count_of};
-ghost use Rattle.vx_mask.specs.Positions.{rank_of};
+ghost use Rattle.vx_bits.specs.Made.{made};
+ghost use Rattle.vx_mask.specs.MaskValues.{AreSlicesOf, IsPartial, bits_alone, block_counts, keep_blocks, keep_indices, keep_slices, parts_fault};
+ghost use Rattle.vx_mask.specs.Positions.{rank_of, set_of, span_of};
 
+use crate::agreement::{indices_agree, slices_agree};
+use crate::blocks::counts_of;
+use crate::error::MaskError;
+use crate::ranks::{rank_from, rank_words, words_before};
+use crate::runs::{next_with, positions_of, runs_of};
+use std::alloc::Global;
 use std::marker::Model;
-use vx_bits::BitBuffer;
+use vx_bits::{BitBuffer, Buffer, NoMemory, PlainWords};
 
-/// The bits of a mask that has at least one set and one clear bit: `MaskValues` of the crate.
+/// The bits of a mask that has at least one set and one clear bit: Vortex's `MaskValues`.
 ///
 /// Clauses see the bits, and the indices, slices and block counts that the mask keeps beside
 /// them, where it keeps any.
@@ -14,27 +23,89 @@ use vx_bits::BitBuffer;
 pub struct MaskValues {
     bits: BitBuffer,
     true_count: usize,
+    indices: Option<Buffer<usize>>,
+    slices: Option<Buffer<(usize, usize)>>,
+    blocks: Option<Buffer<usize>>,
 }
 
 impl Model for MaskValues {
-    ghost use Rattle.vx_mask.specs.MaskValues.{PartialMask, IsPartial, bits_alone};
+    ghost use Rattle.vx_mask.specs.MaskValues.{PartialMask, IsPartial};
 
     ghost Value = { PartialMask };
 
-    ghost view = { λ m. bits_alone m.bits };
+    ghost view = { λ m. record { bits = m.bits; indices = m.indices; slices = m.slices; blocks = m.blocks } };
 
-    ghost invariant = { λ m. IsPartial (bits_alone m.bits) m.true_count };
+    ghost invariant = { λ m. IsPartial (record { bits = m.bits; indices = m.indices; slices = m.slices; blocks = m.blocks }) m.true_count };
 }
 
 impl MaskValues {
+    /// The mask of these bits, with the set positions and the runs of them that are handed in. It
+    /// takes no memory.
+    ///
+    /// In this order: `Count` exactly where `true_count` is not the number of set bits,
+    /// `NotSelective` exactly where it is 0 or the length, `Indices` exactly where there are
+    /// indices and they are not just the set positions, ascending, `Slices` exactly where there
+    /// are slices and one is empty, or they do not cover just the set positions in their order.
+    /// Slices that touch are no fault.
+    pub fn try_from_parts(
+        bits: BitBuffer,
+        true_count: usize,
+        indices: Option<Buffer<usize>>,
+        slices: Option<Buffer<(usize, usize)>>,
+    ) -> Result<MaskValues, MaskError>
+        ensures { result ≡ made (parts_fault bits.bits true_count indices slices)
+            (record { bits = bits; indices = indices; slices = slices; blocks = None }) }
+    {
+        if true_count != bits.true_count() {
+            return Err(MaskError::Count);
+        }
+        if true_count == 0 || true_count == bits.len() {
+            return Err(MaskError::NotSelective);
+        }
+        if !indices_agree(&bits, &indices) {
+            return Err(MaskError::Indices);
+        }
+        if !slices_agree(&bits, &slices) {
+            return Err(MaskError::Slices);
+        }
+        Ok(MaskValues::with_lists(bits, true_count, indices, slices))
+    }
+
     // The mask of bits of which some are set and not all, with their count.
     pub(crate) fn new(bits: BitBuffer, true_count: usize) -> MaskValues
         requires counted { true_count ≡ true_count_of bits.bits }
         requires some { 0 < true_count }
         requires not_all { true_count < length bits.bits }
-        ensures { result.bits ≡ bits }
+        ensures { result ≡ bits_alone bits }
     {
-        MaskValues { bits, true_count }
+        MaskValues {
+            bits,
+            true_count,
+            indices: None,
+            slices: None,
+            blocks: None,
+        }
+    }
+
+    // The mask of these bits with their count, and of lists that agree with them.
+    pub(crate) fn with_lists(
+        bits: BitBuffer,
+        true_count: usize,
+        indices: Option<Buffer<usize>>,
+        slices: Option<Buffer<(usize, usize)>>,
+    ) -> MaskValues
+        requires { IsPartial (record { bits = bits; indices = indices; slices = slices; blocks = None })
+            true_count }
+        ensures { result
+            ≡ record { bits = bits; indices = indices; slices = slices; blocks = None } }
+    {
+        MaskValues {
+            bits,
+            true_count,
+            indices,
+            slices,
+            blocks: None,
+        }
     }
 
     /// The number of rows that the mask is for.
@@ -60,6 +131,105 @@ impl MaskValues {
         &self.bits
     }
 
+    /// The set positions, ascending, where the mask keeps them.
+    pub fn cached_indices(&self) -> Option<&[usize]>
+        ensures value { option_copied result ≡ self.now.indices }
+        ensures set { IfSome result (λ indices. indices.now ≡ set_of self.now.bits.bits) }
+    {
+        match &self.indices {
+            Some(indices) => Some(indices.as_slice()),
+            None => None,
+        }
+    }
+
+    /// Runs that cover just the set positions, ascending, where the mask keeps them. Runs may
+    /// touch.
+    pub fn cached_slices(&self) -> Option<&[(usize, usize)]>
+        ensures value { option_copied result ≡ self.now.slices }
+        ensures cover { IfSome result (λ slices. AreSlicesOf self.now slices.now) }
+    {
+        match &self.slices {
+            Some(slices) => Some(slices.as_slice()),
+            None => None,
+        }
+    }
+
+    /// For each multiple of 512 up to the length, the number of set bits before it, where the mask
+    /// keeps these counts.
+    pub fn cached_blocks(&self) -> Option<&[usize]>
+        ensures value { option_copied result ≡ self.now.blocks }
+        ensures counts { IfSome result (λ blocks. blocks.now ≡ block_counts self.now) }
+    {
+        match &self.blocks {
+            Some(blocks) => Some(blocks.as_slice()),
+            None => None,
+        }
+    }
+
+    // Where the set positions are all those from a start up to an end, that run.
+    pub(crate) fn contiguous(&self) -> Option<(usize, usize)>
+        ensures { result ≡ span_of self.now.bits.bits }
+    {
+        let start = next_with(&self.bits, 0, true);
+        let end = next_with(&self.bits, start, false);
+        if end - start == self.true_count {
+            Some((start, end))
+        } else {
+            None
+        }
+    }
+
+    // The same mask with its set positions beside it.
+    pub(crate) fn keep_indices(&self, alloc: Global) -> Result<MaskValues, NoMemory>
+        ensures { IfOk result (λ m. m ≡ keep_indices self.now) }
+    {
+        let indices = match &self.indices {
+            Some(indices) => indices.share(),
+            None => Buffer::from_vec(alloc, positions_of(alloc, &self.bits, self.true_count)?)?,
+        };
+        Ok(MaskValues {
+            bits: self.bits.share(),
+            true_count: self.true_count,
+            indices: Some(indices),
+            slices: shared(&self.slices),
+            blocks: shared(&self.blocks),
+        })
+    }
+
+    // The same mask with slices beside it: those that it has, or else its maximal runs.
+    pub(crate) fn keep_slices(&self, alloc: Global) -> Result<MaskValues, NoMemory>
+        ensures { IfOk result (λ m. m ≡ keep_slices self.now) }
+    {
+        let slices = match &self.slices {
+            Some(slices) => slices.share(),
+            None => Buffer::from_vec(alloc, runs_of(alloc, &self.bits)?)?,
+        };
+        Ok(MaskValues {
+            bits: self.bits.share(),
+            true_count: self.true_count,
+            indices: shared(&self.indices),
+            slices: Some(slices),
+            blocks: shared(&self.blocks),
+        })
+    }
+
+    // The same mask with its block counts beside it.
+    pub(crate) fn keep_blocks(&self, alloc: Global) -> Result<MaskValues, NoMemory>
+        ensures { IfOk result (λ m. m ≡ keep_blocks self.now) }
+    {
+        let blocks = match &self.blocks {
+            Some(blocks) => blocks.share(),
+            None => Buffer::from_vec(alloc, counts_of(alloc, &self.bits)?)?,
+        };
+        Ok(MaskValues {
+            bits: self.bits.share(),
+            true_count: self.true_count,
+            indices: shared(&self.indices),
+            slices: shared(&self.slices),
+            blocks: Some(blocks),
+        })
+    }
+
     /// Whether row `i` is selected.
     pub fn value(&self, i: usize) -> bool
         requires { i < length self.now.bits.bits }
@@ -68,34 +238,49 @@ impl MaskValues {
         self.bits.value(i)
     }
 
-    /// The `k`-th set position, from 0. It counts each bit once at most: a half of the rows, then a
-    /// half of what is left.
+    /// The `k`-th set position, from 0: by the indices where they are kept, by the block counts
+    /// where these are, else by the words up to that position. It takes no memory.
     pub fn rank(&self, k: usize) -> usize
         requires { k < true_count_of self.now.bits.bits }
         ensures rank { result ≡ rank_of self.now.bits.bits k }
         ensures within { result < length self.now.bits.bits }
     {
-        let (mut low, mut high) = (0, self.len());
-        let mut left = k;
-        'halving: while high - low > 1 {
-            let middle = low + (high - low) / 2;
-            let count = self.bits.slice(low, middle).true_count();
-            if left < count {
-                high = middle;
-            } else {
-                left -= count;
-                low = middle;
-            }
+        match &self.indices {
+            Some(indices) => indices.as_slice()[k],
+            None => self.rank_by_words(k),
         }
-        low
     }
 
-    /// The number of set positions below `p`.
+    // The same, by the block counts where they are kept, else by the words up to that position.
+    fn rank_by_words(&self, k: usize) -> usize
+        requires { k < true_count_of self.now.bits.bits }
+        ensures rank { result ≡ rank_of self.now.bits.bits k }
+        ensures within { result < length self.now.bits.bits }
+    {
+        let mut words = PlainWords::new(self.bits.share());
+        match &self.blocks {
+            Some(blocks) => rank_words(&mut words, blocks.as_slice(), k),
+            None => {
+                // The number of words is bounded by that of bits.
+                let _ = self.len();
+                rank_from(&mut words, 0, 0, k)
+            }
+        }
+    }
+
+    /// The number of set positions below `p`: by the block counts where they are kept, else by the
+    /// words up to there. It takes no memory.
     pub fn true_before(&self, p: usize) -> usize
         requires { p ≤ length self.now.bits.bits }
         ensures { result ≡ true_count_of (take p self.now.bits.bits) }
     {
-        self.bits.slice(0, p).true_count()
+        match &self.blocks {
+            Some(blocks) => {
+                let mut words = PlainWords::new(self.bits.share());
+                words_before(&mut words, blocks.as_slice(), p)
+            }
+            None => self.bits.count_range(0, p),
+        }
     }
 
     /// The same mask once more, with what it keeps. It takes no memory.
@@ -105,6 +290,19 @@ impl MaskValues {
         MaskValues {
             bits: self.bits.share(),
             true_count: self.true_count,
+            indices: shared(&self.indices),
+            slices: shared(&self.slices),
+            blocks: shared(&self.blocks),
         }
+    }
+}
+
+// The same list once more, where there is one.
+fn shared<T: Copy>(list: &Option<Buffer<T>>) -> Option<Buffer<T>>
+    ensures { result ≡ list.now }
+{
+    match list {
+        Some(list) => Some(list.share()),
+        None => None,
     }
 }

@@ -161,7 +161,7 @@ impl Policy {
         Ok(Policy { fields })
     }
 
-    /// The policy with the crate's numbers.
+    /// The policy with the numbers of Vortex.
     pub fn vortex() -> Policy
         ensures { result ≡ vortex_fields }
     {
