@@ -1,0 +1,7 @@
+pub mod Meaning
+pub mod Members
+pub mod Items
+pub mod Wholes
+pub mod Values
+pub mod Masks
+pub mod Policies
