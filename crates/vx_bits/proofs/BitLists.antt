@@ -54,7 +54,7 @@ are_fields bytes o n placed view_is no_fault =
     }
 
 -- a cut of the bits begins at another bit
-bits_cut : (bytes : List ℕ) (o n s e : ℕ) → s ≤ e → e ≤ n → bits_of bytes (o + s) (e - s) ≡ take (e - s) (drop s (bits_of bytes o n))
+pub bits_cut : (bytes : List ℕ) (o n s e : ℕ) → s ≤ e → e ≤ n → bits_of bytes (o + s) (e - s) ≡ take (e - s) (drop s (bits_of bytes o n))
 bits_cut bytes o n s e p q =
     let long = length_bits bytes o n in
     let fits : s + (e - s) ≤ length (bits_of bytes o n) = omega arith in

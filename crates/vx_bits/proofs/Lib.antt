@@ -1,2 +1,4 @@
 pub mod BitLists
 pub mod Cuts
+pub mod FirstSet
+pub mod WordBits

@@ -1,5 +1,5 @@
 -- Lists of bits in bytes.
-use Rattle.std.specs.Prelude.{ℕ, ◌+◌, ◌*◌, ◌/◌, ◌%◌, ◌^◌, Bool, List, [], ◌∷◌, map, slice_index, ◌==◌, if◌then◌else◌, count_by, nat_le, nat_lt, Option, None, Some}
+use Rattle.std.specs.Prelude.{◌≡◌, ℕ, ◌+◌, ◌*◌, ◌/◌, ◌%◌, ◌^◌, Bool, true, List, [], ◌∷◌, map, drop, slice_index, slice_get, ◌==◌, if◌then◌else◌, count_by, nat_le, nat_lt, Option, None, Some}
 use Rattle.std.specs.Int.{bit_at}
 use Rattle.std.specs.List.{range_with_len}
 use Rattle.vx_bits.specs.declared.bit_buffer.BitError.{BitError}
@@ -29,6 +29,11 @@ bit_fault byte_count offset len =
 -- how many bits are set
 abbrev pub true_count_of : List Bool → ℕ
 true_count_of bits = count_by (λ bit. bit) bits
+
+-- bit i is set, and none behind it
+pub record IsLastSet (bits : List Bool) (i : ℕ) : Type 0 where
+  pub set : slice_get bits i ≡ Some true
+  pub last : true_count_of (drop (i + 1) bits) ≡ 0
 
 -- the number whose bit k is item k, and zero past the items
 abbrev pub number_of : List Bool → ℕ

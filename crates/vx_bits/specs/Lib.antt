@@ -1,3 +1,5 @@
 pub mod BitBuffer
 pub mod Made
 pub mod Records
+pub mod WordReader
+pub mod Words

@@ -1,7 +1,8 @@
 //! A shared list of bits.
-ghost use Rattle.std.specs.Prelude.{◌≡◌, ◌+◌, ◌-◌, ◌*◌, ◌%◌, ◌^◌, ◌<◌, ◌≤◌, ◌↔◌, IsTrue, IfOk, length, slice_index_or, slice_range, false};
-ghost use Rattle.vx_bits.specs.BitBuffer.{bit_fault, bits_of, number_of, true_count_of};
+ghost use Rattle.std.specs.Prelude.{◌≡◌, ◌+◌, ◌-◌, ◌*◌, ◌/◌, ◌%◌, ◌^◌, ◌<◌, ◌≤◌, ◌↔◌, IsTrue, IfOk, MatchOption, length, position, slice_index_or, slice_range, false};
+ghost use Rattle.vx_bits.specs.BitBuffer.{IsLastSet, bit_fault, bits_of, number_of, true_count_of};
 ghost use Rattle.vx_bits.specs.Made.{made};
+ghost use Rattle.vx_bits.specs.Words.{word_at};
 
 use crate::buffer::Buffer;
 use crate::error::NoMemory;
@@ -17,7 +18,7 @@ pub enum BitError {
     Short,
 }
 
-/// A list of bits that is shared, not copied: `BitBuffer` of the crate.
+/// A list of bits that is shared, not copied: Vortex's `BitBuffer`.
 ///
 /// Clauses see the bits, and the offset of the first one in its byte. In each byte the least
 /// significant bit comes first.
@@ -106,6 +107,62 @@ impl BitBuffer {
         ensures { result ≡ true_count_of self.now.bits }
     {
         count_between(self.bytes.as_slice(), self.offset, self.offset + self.len)
+    }
+
+    /// The number of set bits from `start` up to `end`, which it leaves out.
+    pub fn count_range(&self, start: usize, end: usize) -> usize
+        requires ordered { start ≤ end }
+        requires within { end ≤ length self.now.bits }
+        ensures { result ≡ true_count_of (slice_range self.now.bits start end) }
+    {
+        count_between(
+            self.bytes.as_slice(),
+            self.offset + start,
+            self.offset + end,
+        )
+    }
+
+    /// Word `i`: its bit k is bit `64 * i + k`, and zero past the end.
+    pub fn word(&self, i: usize) -> u64
+        requires { i ≤ length self.now.bits / 64 }
+        ensures { result ≡ word_at self.now.bits i }
+    {
+        let len = self.len();
+        let base = 64 * i;
+        let held = (len - base).min(64);
+        let mut word = 0;
+        for k in 0..held {
+            if self.value(base + k) {
+                word |= 1 << k;
+            }
+        }
+        word
+    }
+
+    /// The position of the first set bit. `None` exactly where no bit is set.
+    pub fn first_set(&self) -> Option<usize>
+        ensures { result ≡ position (λ bit. bit) self.now.bits }
+    {
+        for i in 0..self.len() {
+            if self.value(i) {
+                return Some(i);
+            }
+        }
+        None
+    }
+
+    /// The position of the last set bit. `None` exactly where no bit is set.
+    pub fn last_set(&self) -> Option<usize>
+        ensures { MatchOption result (true_count_of self.now.bits ≡ 0) (IsLastSet self.now.bits) }
+    {
+        let len = self.len();
+        for passed in 0..len {
+            let i = len - 1 - passed;
+            if self.value(i) {
+                return Some(i);
+            }
+        }
+        None
     }
 
     /// The bits from `start` up to `end`, which it leaves out. It takes no memory, and its offset

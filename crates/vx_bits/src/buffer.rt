@@ -6,7 +6,7 @@ use std::alloc::Global;
 use std::marker::Model;
 use vx_shared::Shared;
 
-/// A list of values that is shared, not copied: `Buffer` of the crate.
+/// A list of values that is shared, not copied: Vortex's `Buffer`.
 ///
 /// Clauses see the list. A slice of a buffer keeps the whole list alive.
 #[derive(Drop)]

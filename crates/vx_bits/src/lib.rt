@@ -2,16 +2,20 @@
 #![tactic(auto)]
 
 mod bit_buffer;
+mod bit_builder;
 mod buffer;
 mod error;
 mod record;
 mod records;
+mod word_reader;
 
 pub use bit_buffer::{BitBuffer, BitError};
+pub use bit_builder::BitBuilder;
 pub use buffer::Buffer;
 pub use error::{Failed, NoMemory};
 pub use record::Record;
 pub use records::Records;
+pub use word_reader::{CountedWords, PlainWords, WordReader};
 
 #[cfg(test)]
 mod tests;
