@@ -1,4 +1,3 @@
 pub mod Reading
 pub mod PairLists
 pub mod BitText
-pub mod Fields

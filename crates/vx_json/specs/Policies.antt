@@ -34,6 +34,17 @@ with_ratio f name r =
     then Some (record f { list_indices_below = r })
     else None
 
+-- these fields, with this number in the place of that name, of lists and takes
+unfoldable pub with_size : PolicyFields → List ℕ → ℕ → Option PolicyFields
+with_size f name n =
+    if bytes_eq name (codes "crop_min") then Some (record f { crop_min = n })
+    else if bytes_eq name (codes "crop_factor") then Some (record f { crop_factor = n })
+    else if bytes_eq name (codes "cached_list_size") then Some (record f { cached_list_size = n })
+    else if bytes_eq name (codes "big_filtered_len") then Some (record f { big_filtered_len = n })
+    else if bytes_eq name (codes "big_take_len") then Some (record f { big_take_len = n })
+    else if bytes_eq name (codes "big_take_ratio") then Some (record f { big_take_ratio = n })
+    else None
+
 -- these fields, with this number in the place of that name
 unfoldable pub with_number : PolicyFields → List ℕ → ℕ → Option PolicyFields
 with_number f name n =
@@ -46,13 +57,7 @@ with_number f name n =
     else if bytes_eq name (codes "rank_lookup_divisor")
     then Some (record f { rank_lookup_divisor = n })
     else if bytes_eq name (codes "rank_lookup_cap") then Some (record f { rank_lookup_cap = n })
-    else if bytes_eq name (codes "crop_min") then Some (record f { crop_min = n })
-    else if bytes_eq name (codes "crop_factor") then Some (record f { crop_factor = n })
-    else if bytes_eq name (codes "cached_list_size") then Some (record f { cached_list_size = n })
-    else if bytes_eq name (codes "big_filtered_len") then Some (record f { big_filtered_len = n })
-    else if bytes_eq name (codes "big_take_len") then Some (record f { big_take_len = n })
-    else if bytes_eq name (codes "big_take_ratio") then Some (record f { big_take_ratio = n })
-    else None
+    else with_size f name n
 
 -- these fields, with what a member says, by the kind of its value: a list is a ratio
 abbrev pub with_value : PolicyFields → List ℕ → Data → Option Items → Option PolicyFields

@@ -3,7 +3,7 @@ ghost use Rattle.std.specs.Prelude.{◌≡◌, option_map, Some};
 ghost use Rattle.serde_json.specs.View.{view, members_view};
 ghost use Rattle.vx_mask.specs.Policy.{vortex_fields};
 ghost use Rattle.vx_json.specs.Meaning.{Gives, found_or};
-ghost use Rattle.vx_json.specs.Policies.{ratio_of, with_ratio, with_number, with_member, with_members, policy_by_members, policy_of};
+ghost use Rattle.vx_json.specs.Policies.{ratio_of, with_ratio, with_size, with_number, with_member, with_members, policy_by_members, policy_of};
 
 use crate::error::DocError;
 use crate::wholes::{pair_of, whole_of};
@@ -44,6 +44,23 @@ fn with_ratio(f: PolicyFields, name: &str, ratio: Ratio) -> Option<PolicyFields>
     Some(fields)
 }
 
+/// These fields with this number in the place of that name, of lists and takes.
+#[tactic(auto, unfolding(crate::specs::Policies::with_size))]
+fn with_size(f: PolicyFields, name: &str, number: usize) -> Option<PolicyFields>
+    ensures { result ≡ with_size f name.now number }
+{
+    let fields = match name {
+        "crop_min" => PolicyFields { crop_min: number, ..f },
+        "crop_factor" => PolicyFields { crop_factor: number, ..f },
+        "cached_list_size" => PolicyFields { cached_list_size: number, ..f },
+        "big_filtered_len" => PolicyFields { big_filtered_len: number, ..f },
+        "big_take_len" => PolicyFields { big_take_len: number, ..f },
+        "big_take_ratio" => PolicyFields { big_take_ratio: number, ..f },
+        _ => return None,
+    };
+    Some(fields)
+}
+
 /// These fields with this number in the place of that name.
 #[tactic(auto, unfolding(crate::specs::Policies::with_number))]
 fn with_number(f: PolicyFields, name: &str, number: usize) -> Option<PolicyFields>
@@ -58,13 +75,7 @@ fn with_number(f: PolicyFields, name: &str, number: usize) -> Option<PolicyField
         "sparse_other" => PolicyFields { sparse_other: number, ..f },
         "rank_lookup_divisor" => PolicyFields { rank_lookup_divisor: number, ..f },
         "rank_lookup_cap" => PolicyFields { rank_lookup_cap: number, ..f },
-        "crop_min" => PolicyFields { crop_min: number, ..f },
-        "crop_factor" => PolicyFields { crop_factor: number, ..f },
-        "cached_list_size" => PolicyFields { cached_list_size: number, ..f },
-        "big_filtered_len" => PolicyFields { big_filtered_len: number, ..f },
-        "big_take_len" => PolicyFields { big_take_len: number, ..f },
-        "big_take_ratio" => PolicyFields { big_take_ratio: number, ..f },
-        _ => return None,
+        _ => return with_size(f, name, number),
     };
     Some(fields)
 }

@@ -1,5 +1,5 @@
 //! The values of a column of integers, and the numbers from 0 on, as records.
-ghost use Rattle.std.specs.Prelude.{◌≡◌, IfOk};
+ghost use Rattle.std.specs.Prelude.{◌≡◌, ◌≤◌, IfOk};
 ghost use Rattle.serde_json.specs.View.{view, items_view};
 ghost use Rattle.vx_bits.specs.Records.{records_of, width_of};
 ghost use Rattle.vx_types.specs.PType.{width, record_of};
@@ -36,6 +36,7 @@ pub fn ptype_named(text: &str) -> Result<PType, DocError>
 #[derive(Clone, Copy)]
 struct RecordItem<const W: usize> {
     ptype: PType,
+    ghost short: { W ≤ 16 },
 }
 
 impl<const W: usize> ReadItem for RecordItem<W> {
