@@ -1,3 +1,4 @@
 pub mod Reading
 pub mod PairLists
-pub mod BitText
+pub mod Digits
+pub mod BitReading

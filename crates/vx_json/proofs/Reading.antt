@@ -4,16 +4,12 @@ use Rattle.std.proofs.lemmas.List.{append-nil, drop_all}
 use Rattle.serde_json.specs.Data.{Data, item}
 use Rattle.serde_json.specs.View.{view, items_view}
 use Rattle.serde_json.specs.declared.value.Value.{Value}
-use Rattle.vx_json.specs.Meaning.{◌>>=◌, Fails}
+use Rattle.vx_json.specs.Meaning.{◌>>=◌, Fails, behind}
 use Rattle.vx_json.specs.Items.{each}
 use Rattle.vx_json.specs.declared.error.DocError.{DocError}
 use Rattle.vx_json.specs.declared.error.DocError.TheVariants.{Malformed, NoMemory}
 
--- what was read, in front of what the rest gives
-abbrev pub behind : {A : Type 0} → List A → Option (List A) → Option (List A)
-behind read rest = rest >>= λ xs. Some (read ++ xs)
-
-behind-one : {A : Type 0} (read : List A) (x : A) (rest : Option (List A)) → behind read (rest >>= λ xs. Some (x ∷ xs)) ≡ behind (read ++ x ∷ []) rest
+pub behind-one : {A : Type 0} (read : List A) (x : A) (rest : Option (List A)) → behind read (rest >>= λ xs. Some (x ∷ xs)) ≡ behind (read ++ x ∷ []) rest
 behind-one read x None = refl
 behind-one read x (Some xs) = ap Some (simp append_assoc)
 

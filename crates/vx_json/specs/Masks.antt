@@ -9,19 +9,8 @@ use Rattle.vx_json.specs.declared.wholes.TheConstants.{GREATEST_LEN}
 use Rattle.vx_json.specs.Meaning.{◌>>=◌}
 use Rattle.vx_json.specs.Members.{is_closed}
 use Rattle.vx_json.specs.Items.{each}
+use Rattle.vx_json.specs.BitText.{bits_in}
 use Rattle.vx_json.specs.Wholes.{pair_of, whole_of, at_most}
-
--- `0` is a clear bit, and `1` a set one
-abbrev pub bit_named : ℕ → Option Bool
-bit_named c = if c == 48 then Some false else (if c == 49 then Some true else None)
-
--- a text of `0` and `1`
-unfoldable pub bits_in : List ℕ → Option (List Bool)
-bits_in [] = Some []
-bits_in (c ∷ cs) = do
-  bit ← bit_named c
-  bits ← bits_in cs
-  Some (bit ∷ bits)
 
 -- those bits, at a bit offset from 0 to 7
 unfoldable pub placed_bits : Data → Option (List Bool)

@@ -2,6 +2,7 @@
 //! policies, and the values of integer columns.
 #![tactic(auto)]
 
+mod bit_text;
 mod error;
 mod items;
 mod letting_go;

@@ -1,57 +1,24 @@
 //! Masks.
-ghost use Rattle.std.specs.Prelude.{◌≡◌, ◌++◌, replicate, false, IfOk, ◌≤◌};
 ghost use Rattle.serde_json.specs.View.{view};
 ghost use Rattle.vx_mask.specs.Mask.{mask_bits};
 ghost use Rattle.vx_json.specs.Meaning.{Gives};
-ghost use Rattle.vx_json.specs.Masks.{bit_named, bits_in, placed_bits, bits_by_set, bits_by_runs, bits_by_every, bits_by_members, mask_of};
+ghost use Rattle.vx_json.specs.Masks.{placed_bits, bits_by_set, bits_by_runs, bits_by_every, bits_by_members, mask_of};
 
+use crate::bit_text::bits_in;
 use crate::error::DocError;
 use crate::members::{bool_in, is_closed, items_in, member, text_in};
 use crate::wholes::{GREATEST_LEN, at_most, pairs_in, wholes_in};
 use serde_json::Value;
 use std::alloc::Global;
-use vx_bits::{BitBuffer, NoMemory};
 use vx_mask::{Mask, MaskError};
-
-fn bit_named(byte: u8) -> Result<bool, DocError>
-    ensures { Gives (λ b. b) result (bit_named byte) }
-{
-    match byte {
-        b'0' => Ok(false),
-        b'1' => Ok(true),
-        _ => Err(DocError::Malformed),
-    }
-}
-
-/// The bits of a text of `0` and `1`.
-fn bits_in(alloc: Global, text: &[u8]) -> Result<Vec<bool>, DocError>
-    ensures { Gives (λ v. v.items) result (bits_in text.now) }
-{
-    let mut bits = Vec::with_capacity(alloc, text.len())?;
-    for byte in text {
-        bits.push(bit_named(*byte)?)?;
-    }
-    Ok(bits)
-}
-
-/// These bits behind so many others.
-fn placed(alloc: Global, bits: &[bool], offset: usize) -> Result<Mask, NoMemory>
-    requires { offset ≤ 7 }
-    ensures { IfOk result (λ m. mask_bits m ≡ bits.now) }
-{
-    let mut padded = vec![in alloc; false; offset]?;
-    padded.extend_from_slice(bits)?;
-    let all = BitBuffer::from_bools(alloc, &padded)?;
-    Ok(Mask::from_buffer(all.slice(offset, all.len())))
-}
 
 #[tactic(auto, unfolding(crate::specs::Masks::placed_bits))]
 fn placed_mask(alloc: Global, value: &Value) -> Result<Mask, DocError>
     ensures { Gives mask_bits result (placed_bits (view value.now)) }
 {
-    let bits = bits_in(alloc, text_in(member(value, "bits")?)?.as_bytes())?;
+    let text = text_in(member(value, "bits")?)?;
     let offset = at_most(7, member(value, "offset")?)?;
-    Ok(placed(alloc, &bits, offset)?)
+    Ok(Mask::from_buffer(bits_in(alloc, text.as_bytes(), offset)?))
 }
 
 #[tactic(auto, unfolding(crate::specs::Masks::bits_by_set))]
@@ -114,10 +81,7 @@ pub fn mask_of(alloc: Global, value: &Value) -> Result<Mask, DocError>
     ensures { Gives mask_bits result (mask_of (view value.now)) }
 {
     match value.as_str() {
-        Some(text) => {
-            let bits = bits_in(alloc, text.as_bytes())?;
-            Ok(Mask::from_buffer(BitBuffer::from_bools(alloc, &bits)?))
-        }
+        Some(text) => Ok(Mask::from_buffer(bits_in(alloc, text.as_bytes(), 0)?)),
         None => mask_by_members(alloc, value),
     }
 }

@@ -27,18 +27,54 @@ fn with_ratio(f: PolicyFields, name: &str, ratio: Ratio) -> Option<PolicyFields>
     ensures { result ≡ with_ratio f name.now ratio }
 {
     let fields = match name {
-        "dense_w1" => PolicyFields { dense_w1: ratio, ..f },
-        "dense_w2" => PolicyFields { dense_w2: ratio, ..f },
-        "dense_w4" => PolicyFields { dense_w4: ratio, ..f },
-        "dense_w8" => PolicyFields { dense_w8: ratio, ..f },
-        "dense_other" => PolicyFields { dense_other: ratio, ..f },
-        "cached_indices_max" => PolicyFields { cached_indices_max: ratio, ..f },
-        "in_place_min" => PolicyFields { in_place_min: ratio, ..f },
-        "bool_sparse_below" => PolicyFields { bool_sparse_below: ratio, ..f },
-        "reuse_two_max" => PolicyFields { reuse_two_max: ratio, ..f },
-        "reuse_more_max" => PolicyFields { reuse_more_max: ratio, ..f },
-        "text_indices_below" => PolicyFields { text_indices_below: ratio, ..f },
-        "list_indices_below" => PolicyFields { list_indices_below: ratio, ..f },
+        "dense_w1" => PolicyFields {
+            dense_w1: ratio,
+            ..f
+        },
+        "dense_w2" => PolicyFields {
+            dense_w2: ratio,
+            ..f
+        },
+        "dense_w4" => PolicyFields {
+            dense_w4: ratio,
+            ..f
+        },
+        "dense_w8" => PolicyFields {
+            dense_w8: ratio,
+            ..f
+        },
+        "dense_other" => PolicyFields {
+            dense_other: ratio,
+            ..f
+        },
+        "cached_indices_max" => PolicyFields {
+            cached_indices_max: ratio,
+            ..f
+        },
+        "in_place_min" => PolicyFields {
+            in_place_min: ratio,
+            ..f
+        },
+        "bool_sparse_below" => PolicyFields {
+            bool_sparse_below: ratio,
+            ..f
+        },
+        "reuse_two_max" => PolicyFields {
+            reuse_two_max: ratio,
+            ..f
+        },
+        "reuse_more_max" => PolicyFields {
+            reuse_more_max: ratio,
+            ..f
+        },
+        "text_indices_below" => PolicyFields {
+            text_indices_below: ratio,
+            ..f
+        },
+        "list_indices_below" => PolicyFields {
+            list_indices_below: ratio,
+            ..f
+        },
         _ => return None,
     };
     Some(fields)
@@ -50,12 +86,30 @@ fn with_size(f: PolicyFields, name: &str, number: usize) -> Option<PolicyFields>
     ensures { result ≡ with_size f name.now number }
 {
     let fields = match name {
-        "crop_min" => PolicyFields { crop_min: number, ..f },
-        "crop_factor" => PolicyFields { crop_factor: number, ..f },
-        "cached_list_size" => PolicyFields { cached_list_size: number, ..f },
-        "big_filtered_len" => PolicyFields { big_filtered_len: number, ..f },
-        "big_take_len" => PolicyFields { big_take_len: number, ..f },
-        "big_take_ratio" => PolicyFields { big_take_ratio: number, ..f },
+        "crop_min" => PolicyFields {
+            crop_min: number,
+            ..f
+        },
+        "crop_factor" => PolicyFields {
+            crop_factor: number,
+            ..f
+        },
+        "cached_list_size" => PolicyFields {
+            cached_list_size: number,
+            ..f
+        },
+        "big_filtered_len" => PolicyFields {
+            big_filtered_len: number,
+            ..f
+        },
+        "big_take_len" => PolicyFields {
+            big_take_len: number,
+            ..f
+        },
+        "big_take_ratio" => PolicyFields {
+            big_take_ratio: number,
+            ..f
+        },
         _ => return None,
     };
     Some(fields)
@@ -67,14 +121,38 @@ fn with_number(f: PolicyFields, name: &str, number: usize) -> Option<PolicyField
     ensures { result ≡ with_number f name.now number }
 {
     let fields = match name {
-        "min_average_run" => PolicyFields { min_average_run: number, ..f },
-        "min_run_bytes" => PolicyFields { min_run_bytes: number, ..f },
-        "sparse_w1" => PolicyFields { sparse_w1: number, ..f },
-        "sparse_w2" => PolicyFields { sparse_w2: number, ..f },
-        "sparse_w4" => PolicyFields { sparse_w4: number, ..f },
-        "sparse_other" => PolicyFields { sparse_other: number, ..f },
-        "rank_lookup_divisor" => PolicyFields { rank_lookup_divisor: number, ..f },
-        "rank_lookup_cap" => PolicyFields { rank_lookup_cap: number, ..f },
+        "min_average_run" => PolicyFields {
+            min_average_run: number,
+            ..f
+        },
+        "min_run_bytes" => PolicyFields {
+            min_run_bytes: number,
+            ..f
+        },
+        "sparse_w1" => PolicyFields {
+            sparse_w1: number,
+            ..f
+        },
+        "sparse_w2" => PolicyFields {
+            sparse_w2: number,
+            ..f
+        },
+        "sparse_w4" => PolicyFields {
+            sparse_w4: number,
+            ..f
+        },
+        "sparse_other" => PolicyFields {
+            sparse_other: number,
+            ..f
+        },
+        "rank_lookup_divisor" => PolicyFields {
+            rank_lookup_divisor: number,
+            ..f
+        },
+        "rank_lookup_cap" => PolicyFields {
+            rank_lookup_cap: number,
+            ..f
+        },
         _ => return with_size(f, name, number),
     };
     Some(fields)
