@@ -20,3 +20,6 @@ pub use members::{bool_in, is_among, is_closed, items_in, member, text_in};
 pub use policies::policy_found;
 pub use values::{ptype_named, ramp_of, values_of};
 pub use wholes::{GREATEST_LEN, at_most, pair_of, pairs_in, whole_of, wholes_in};
+
+#[cfg(test)]
+mod tests;
