@@ -11,7 +11,9 @@ use lib.Count.{ones_step, ones-le}
 use Rattle.std.specs.Int.RustNames.{count_ones}
 use Rattle.std.proofs.Math.Nat.{pow-suc, mul_comm, one-mul}
 use Rattle.vx_bits.specs.BitBuffer.{PlacedBits, bit_of, bits_of, bit_fault, number_of, true_count_of}
+use Rattle.vx_bits.specs.Words.{word_bits}
 use Rattle.vx_bits.proofs.Cuts.{length_of_cut}
+use Rattle.vx_bits.proofs.WordBits.{length-word_bits, get_or-word_bits, true_count_of-word_bits}
 
 -- what the bytes hold where there is no fault
 pub record Reaches (byte_count offset len : ℕ) : Type 0 where
@@ -64,7 +66,7 @@ bits_cut bytes o n s e p q =
     ∙ sym (get_or-take (e - s) _ k d below ∙ get_or-drop s _ k d ∙ bit_in bytes o n (s + k) d (omega arith)))
 
 -- whole bytes before the bits play no part
-bits_drop : (bytes : List ℕ) (q r n : ℕ) → bits_of (drop q bytes) r n ≡ bits_of bytes (8 * q + r) n
+pub bits_drop : (bytes : List ℕ) (q r n : ℕ) → bits_of (drop q bytes) r n ≡ bits_of bytes (8 * q + r) n
 bits_drop bytes q r n = same_lists _ _ (length_bits (drop q bytes) r n ∙ sym (length_bits bytes (8 * q + r) n)) (λ k d h.
     let below : k < n = omega (arith, length_bits (drop q bytes) r n) in
     let byte : q + (r + k) / 8 ≡ (8 * q + r + k) / 8 = omega arith in
@@ -96,7 +98,7 @@ number_push (a ∷ bits) b =
 pub number_more : (bits : List Bool) (k : ℕ) → k < length bits → number_of (take (k + 1) bits) ≡ number_of (take k bits) + cond (get_or bits k false) 1 0 * 2 ^ k
 number_more bits k h = ap number_of (take_more bits k false h) ∙ number_push (take k bits) (get_or bits k false) ∙ ap (λ n. number_of (take k bits) + cond (get_or bits k false) 1 0 * 2 ^ n) (length-take-le k bits (omega arith))
 
-number_below : (bits : List Bool) → number_of bits < 2 ^ length bits
+pub number_below : (bits : List Bool) → number_of bits < 2 ^ length bits
 number_below [] = omega arith
 number_below (true ∷ bits) = let h = number_below bits in let p : 2 ^ suc (length bits) ≡ 2 * 2 ^ length bits = pow-suc 2 (length bits) ∙ mul_comm _ 2 in omega arith
 number_below (false ∷ bits) = let h = number_below bits in let p : 2 ^ suc (length bits) ≡ 2 * 2 ^ length bits = pow-suc 2 (length bits) ∙ mul_comm _ 2 in omega arith
@@ -148,11 +150,14 @@ range_split a (suc m) k =
     let n : suc m + k ≡ suc (m + k) = omega arith in
     ap (range_with_len a) n ∙ ap (λ l. a ∷ l) (range_split (a + 1) m k ∙ ap (λ j. range_with_len (a + 1) m ++ range_with_len j k) (omega arith))
 
+-- some bits, and those behind them
+pub bits_split : (bytes : List ℕ) (o m k : ℕ) → bits_of bytes o (m + k) ≡ bits_of bytes o m ++ bits_of bytes (o + m) k
+bits_split bytes o m k = ap (map (bit_of bytes)) (range_split o m k) ∙ map-append (bit_of bytes) (range_with_len o m) (range_with_len (o + m) k)
+
 -- the count of some bits and of those behind them
 pub true_count_split : (bytes : List ℕ) (o m k : ℕ) → true_count_of (bits_of bytes o (m + k)) ≡ true_count_of (bits_of bytes o m) + true_count_of (bits_of bytes (o + m) k)
 true_count_split bytes o m k =
-    ap (λ l. true_count_of (map (bit_of bytes) l)) (range_split o m k)
-    ∙ ap true_count_of (map-append (bit_of bytes) (range_with_len o m) (range_with_len (o + m) k))
+    ap true_count_of (bits_split bytes o m k)
     ∙ sum_by-append (λ bit. cond bit 1 0) (bits_of bytes o m) (bits_of bytes (o + m) k)
 
 -- the same, where the bits end at `mid` and at `end`
@@ -176,36 +181,16 @@ true_count_of_one bytes j =
     let d = bit_at (get_or bytes (j / 8) 0) (j % 8) in
     sum_by-cons (λ bit. cond bit 1 0) (eqb d 1) [] ∙ omega (arith, digit d (bit_at-lt (get_or bytes (j / 8) 0) (j % 8)))
 
--- a number's lowest digits, lowest first
-abbrev low_bits : ℕ → ℕ → List Bool
-low_bits zero n = []
-low_bits (suc w) n = eqb (n % 2) 1 ∷ low_bits w (n / 2)
-
-length-low_bits : (w n : ℕ) → length (low_bits w n) ≡ w
-length-low_bits zero n = refl
-length-low_bits (suc w) n = ap suc (length-low_bits w (n / 2))
-
-get_or-low_bits : (w n k : ℕ) (d : Bool) → k < w → get_or (low_bits w n) k d ≡ eqb (bit_at n k) 1
-get_or-low_bits zero n k d h = absurd (omega arith)
-get_or-low_bits (suc w) n zero d h = ap (λ r. eqb r 1) (sym (bit_at_lowest n))
-get_or-low_bits (suc w) n (suc k) d h = get_or-low_bits w (n / 2) k d (omega arith) ∙ ap (λ r. eqb r 1) (sym (bit_at-suc n k))
-
-true_count_of-low_bits : (w n : ℕ) → n < 2 ^ w → true_count_of (low_bits w n) ≡ count_ones n
-true_count_of-low_bits zero n h = omega (arith, ones-le 0 n h)
-true_count_of-low_bits (suc w) n h =
-    let half : n / 2 < 2 ^ w = omega (arith, pow-suc 2 w) in
-    omega (arith, sum_by-cons (λ bit. cond bit 1 0) (eqb (n % 2) 1) (low_bits w (n / 2)), digit (n % 2) (omega arith), ones_step n, true_count_of-low_bits w (n / 2) half)
-
 -- the bits of a whole byte
-bits_of_byte : (bytes : List ℕ) (k : ℕ) → bits_of bytes (8 * k) 8 ≡ low_bits 8 (get_or bytes k 0)
-bits_of_byte bytes k = same_lists _ _ (length_bits bytes (8 * k) 8 ∙ sym (length-low_bits 8 (get_or bytes k 0))) (λ i d p.
+pub bits_of_byte : (bytes : List ℕ) (k : ℕ) → bits_of bytes (8 * k) 8 ≡ word_bits (get_or bytes k 0) 8
+bits_of_byte bytes k = same_lists _ _ (length_bits bytes (8 * k) 8 ∙ sym (length-word_bits (get_or bytes k 0) 8)) (λ i d p.
     let below : i < 8 = subst (λ (n : ℕ). i < n) (length_bits bytes (8 * k) 8) p in
     let byte : (8 * k + i) / 8 ≡ k = omega (arith, below) in
     let place : (8 * k + i) % 8 ≡ i = omega (arith, below) in
     bit_in bytes (8 * k) 8 i d below
     ∙ ap₂ (λ q r. eqb (bit_at (get_or bytes q 0) r) 1) byte place
-    ∙ sym (get_or-low_bits 8 (get_or bytes k 0) i d below))
+    ∙ sym (get_or-word_bits (get_or bytes k 0) 8 i d below))
 
 -- the count of a whole byte
 pub true_count_of_byte : (bytes : List ℕ) (k : ℕ) → get_or bytes k 0 < 256 → true_count_of (bits_of bytes (8 * k) 8) ≡ count_ones (get_or bytes k 0)
-true_count_of_byte bytes k h = ap true_count_of (bits_of_byte bytes k) ∙ true_count_of-low_bits 8 (get_or bytes k 0) h
+true_count_of_byte bytes k h = ap true_count_of (bits_of_byte bytes k) ∙ true_count_of-word_bits (get_or bytes k 0) 8 h

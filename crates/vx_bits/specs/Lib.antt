@@ -1,4 +1,5 @@
 pub mod BitBuffer
+pub mod BitBuilder
 pub mod Made
 pub mod Records
 pub mod WordReader

@@ -70,6 +70,18 @@ impl BitBuffer {
         })
     }
 
+    // The first `len` bits of the bytes.
+    pub(crate) fn from_start(bytes: Buffer<u8>, len: usize) -> BitBuffer
+        requires { len ≤ 8 * length bytes }
+        ensures { result ≡ record { bits = bits_of bytes 0 len; offset = 0 } }
+    {
+        BitBuffer {
+            bytes,
+            offset: 0,
+            len,
+        }
+    }
+
     /// The number of bits.
     pub fn len(&self) -> usize
         ensures { result ≡ length self.now.bits }

@@ -1,27 +1,38 @@
 //! A list of bits that grows.
-ghost use Rattle.std.specs.Prelude.{◌≡◌, ◌<◌, ◌≤◌, [], ◌∷◌, ◌++◌, true, IfOk, OnOk, OnErr, length, replicate, slice_set};
+ghost use Rattle.std.specs.Prelude.{◌≡◌, ◌+◌, ◌-◌, ◌*◌, ◌/◌, ◌%◌, ◌^◌, ◌<◌, ◌≤◌, [], ◌∷◌, ◌++◌, true, if◌then◌else◌, IfOk, OnOk, OnErr, length, replicate, slice_set, vec_len, vec_capacity};
+ghost use Rattle.std.specs.Int.{to_le_bytes, w64};
 ghost use Rattle.vx_bits.specs.Words.{word_bits};
 
 use crate::bit_buffer::BitBuffer;
+use crate::buffer::Buffer;
 use crate::error::NoMemory;
 use std::alloc::Global;
 use std::marker::Model;
 
+// The most whole bytes: with fewer than 64 bits behind them they are at most `usize::MAX` bits.
+const MOST_BYTES: usize = 0x1fff_ffff_ffff_fff8;
+
 /// A list of bits that grows, and becomes a `BitBuffer`.
 ///
-/// Clauses see the bits. A refused append leaves them as they were.
+/// Clauses see the bits. A refused append leaves them as they were. More than `usize::MAX` bits
+/// are want of memory.
 #[derive(Drop)]
 pub struct BitBuilder {
     alloc: Global,
-    bits: Vec<bool>,
+    bytes: Vec<u8>,
+    next: u64,
+    held: u32,
 }
 
 impl Model for BitBuilder {
-    ghost use Rattle.std.specs.Prelude.{Bool, List};
+    ghost use Rattle.std.specs.Prelude.{Bool, List, vec_len};
+    ghost use Rattle.vx_bits.specs.BitBuilder.{IsBuilder, built};
 
     ghost Value = { List Bool };
 
-    ghost view = { λ b. b.bits.items };
+    ghost view = { λ b. built b.bytes.items b.next b.held };
+
+    ghost invariant = { λ b. IsBuilder (vec_len b.bytes) b.next b.held };
 }
 
 impl BitBuilder {
@@ -31,7 +42,9 @@ impl BitBuilder {
     {
         BitBuilder {
             alloc,
-            bits: Vec::new(alloc),
+            bytes: Vec::new(alloc),
+            next: 0,
+            held: 0,
         }
     }
 
@@ -41,7 +54,9 @@ impl BitBuilder {
     {
         Ok(BitBuilder {
             alloc,
-            bits: Vec::with_capacity(alloc, bits)?,
+            bytes: Vec::with_capacity(alloc, 8 * (bits / 64) + 8)?,
+            next: 0,
+            held: 0,
         })
     }
 
@@ -49,7 +64,7 @@ impl BitBuilder {
     pub fn len(&self) -> usize
         ensures { result ≡ length self.now }
     {
-        self.bits.len()
+        8 * self.bytes.len() + self.held as usize
     }
 
     /// Appends a bit. `NoMemory` alone.
@@ -57,8 +72,7 @@ impl BitBuilder {
         ensures ok { OnOk result (self.new ≡ self.old ++ bit ∷ []) }
         ensures err { OnErr result (self.new ≡ self.old) }
     {
-        self.bits.push(bit)?;
-        Ok(())
+        self.append_word(word_alike(bit), 1)
     }
 
     /// Appends a bit `n` times over. `NoMemory` alone.
@@ -66,40 +80,169 @@ impl BitBuilder {
         ensures ok { OnOk result (self.new ≡ self.old ++ replicate n bit) }
         ensures err { OnErr result (self.new ≡ self.old) }
     {
-        self.bits.reserve(n)?;
-        for k in 0..n {
-            let _ = k;
-            self.bits.push_reserved(bit);
+        let word = word_alike(bit);
+        let room = 64 - self.held as usize;
+        if n < room {
+            return self.append_word(word, n);
         }
+        let first = low_half(joined(self.next, self.held, lowest_bits(word, room as u32)));
+        push_words(&mut self.bytes, first, byte_alike(bit), (n - room) / 64)?;
+        let rest = ((n - room) % 64) as u32;
+        self.next = lowest_bits(word, rest);
+        self.held = rest;
         Ok(())
     }
 
     /// Appends the lowest `n` bits of the word, the lowest first. `NoMemory` alone.
+    #[inline]
     pub fn append_word(&mut self, word: u64, n: usize) -> Result<(), NoMemory>
         requires { n ≤ 64 }
         ensures ok { OnOk result (self.new ≡ self.old ++ word_bits word n) }
         ensures err { OnErr result (self.new ≡ self.old) }
     {
-        self.bits.reserve(n)?;
-        for k in 0..n {
-            self.bits.push_reserved((word >> k) & 1 == 1);
+        let all = joined(self.next, self.held, lowest_bits(word, n as u32));
+        let held = self.held + n as u32;
+        if held < 64 {
+            self.next = low_half(all);
+            self.held = held;
+            return Ok(());
         }
+        push_word(&mut self.bytes, low_half(all))?;
+        self.next = high_half(all);
+        self.held = held - 64;
         Ok(())
     }
 
     /// Turns bit `i` on.
+    #[inline]
     pub fn set(&mut self, i: usize)
         requires { i < length self.old }
         ensures { self.new ≡ slice_set self.old i true }
     {
-        self.bits[i] = true;
+        let whole = 8 * self.bytes.len();
+        if i < whole {
+            self.bytes[i / 8] |= 1 << (i % 8);
+        } else {
+            self.next |= 1 << (i - whole);
+        }
     }
 
     /// The bits, the first one at offset 0. `NoMemory` alone.
     pub fn finish(self) -> Result<BitBuffer, NoMemory>
         ensures { IfOk result (λ b. b ≡ record { bits = self; offset = 0 }) }
     {
-        let BitBuilder { alloc, bits } = self;
-        BitBuffer::from_bools(alloc, bits.as_slice())
+        let len = self.len();
+        let BitBuilder {
+            alloc,
+            mut bytes,
+            next,
+            held: _,
+        } = self;
+        bytes.reserve(8)?;
+        put_eight(&mut bytes, next);
+        Ok(BitBuffer::from_start(Buffer::from_vec(alloc, bytes)?, len))
     }
+}
+
+// The word whose bits are all this one.
+#[inline(always)]
+fn word_alike(bit: bool) -> u64
+    ensures { result ≡ (if bit then 2 ^ 64 - 1 else 0) }
+{
+    if bit { u64::MAX } else { 0 }
+}
+
+// The byte whose bits are all this one.
+#[inline(always)]
+fn byte_alike(bit: bool) -> u8
+    ensures { result ≡ (if bit then 255 else 0) }
+{
+    if bit { 0xff } else { 0 }
+}
+
+// The lowest `n` bits of a word, and zero above them.
+#[inline(always)]
+fn lowest_bits(word: u64, n: u32) -> u64
+    requires { n ≤ 64 }
+    ensures { result ≡ word % 2 ^ n }
+{
+    if n == 64 { word } else { word & ((1 << n) - 1) }
+}
+
+// A word with `held` bits, and behind them the bits of another.
+#[inline(always)]
+fn joined(next: u64, held: u32, more: u64) -> u128
+    requires open_word { held < 64 }
+    requires clean { next < 2 ^ held }
+    ensures { result ≡ more * 2 ^ held + next }
+{
+    u128::from(next) | (u128::from(more) << (held % 64))
+}
+
+#[inline(always)]
+fn low_half(x: u128) -> u64
+    ensures { result ≡ x % 2 ^ 64 }
+{
+    (x & 0xffff_ffff_ffff_ffff) as u64
+}
+
+#[inline(always)]
+fn high_half(x: u128) -> u64
+    ensures { result ≡ x / 2 ^ 64 }
+{
+    (x >> 64) as u64
+}
+
+// Appends the eight bytes of a word, the lowest first.
+#[inline(always)]
+fn put_eight(bytes: &mut Vec<u8>, word: u64)
+    requires { vec_len bytes.old + 8 ≤ vec_capacity bytes.old }
+    ensures items { bytes.new.items ≡ bytes.old.items ++ to_le_bytes w64 word }
+    ensures len { vec_len bytes.new ≡ vec_len bytes.old + 8 }
+    ensures capacity { vec_capacity bytes.new ≡ vec_capacity bytes.old }
+{
+    let eight = word.to_le_bytes();
+    bytes.push_reserved(eight[0]);
+    bytes.push_reserved(eight[1]);
+    bytes.push_reserved(eight[2]);
+    bytes.push_reserved(eight[3]);
+    bytes.push_reserved(eight[4]);
+    bytes.push_reserved(eight[5]);
+    bytes.push_reserved(eight[6]);
+    bytes.push_reserved(eight[7]);
+}
+
+// The same, as long as the bits are not too many.
+#[inline(always)]
+fn push_word(bytes: &mut Vec<u8>, word: u64) -> Result<(), NoMemory>
+    ensures ok { OnOk result (bytes.new.items ≡ bytes.old.items ++ to_le_bytes w64 word) }
+    ensures err { OnErr result (bytes.new.items ≡ bytes.old.items) }
+    ensures counted { OnOk result (vec_len bytes.new + 8 ≤ 2 ^ 61) }
+{
+    if bytes.len() > MOST_BYTES - 8 {
+        return Err(NoMemory);
+    }
+    bytes.reserve(8)?;
+    put_eight(bytes, word);
+    Ok(())
+}
+
+// The same, and behind it the byte so many times eight times over.
+fn push_words(bytes: &mut Vec<u8>, first: u64, byte: u8, words: usize) -> Result<(), NoMemory>
+    requires before { vec_len bytes.old + 8 ≤ 2 ^ 61 }
+    requires more { words < 2 ^ 58 }
+    ensures ok { OnOk result (bytes.new.items
+        ≡ (bytes.old.items ++ to_le_bytes w64 first) ++ replicate (8 * words) byte) }
+    ensures err { OnErr result (bytes.new.items ≡ bytes.old.items) }
+    ensures counted { OnOk result (vec_len bytes.new + 8 ≤ 2 ^ 61) }
+{
+    let more = 8 * words + 8;
+    if bytes.len() + more > MOST_BYTES {
+        return Err(NoMemory);
+    }
+    bytes.reserve(more)?;
+    put_eight(bytes, first);
+    let len = bytes.len();
+    bytes.resize(len + 8 * words, byte)?;
+    Ok(())
 }
