@@ -1,20 +1,27 @@
 -- A text of digits, read part by part.
-use Rattle.std.proofs.Common.{◌≡◌, ℕ, suc, ◌+◌, ◌-◌, ◌<◌, ◌≤◌, Bool, List, [], ◌∷◌, ◌++◌, length, get_or, take, drop, slice_range, Option, Some, None, refl, sym, ap, subst, ◌∙◌, append_assoc, take-append-drop, add-one, drop-cons, arith}
-use Rattle.std.proofs.lemmas.List.{append-nil, drop_all, drop-drop}
+use Rattle.std.proofs.Common.{◌≡◌, ℕ, suc, ◌+◌, ◌-◌, ◌*◌, ◌%◌, ◌^◌, ◌<◌, ◌≤◌, Bool, List, [], ◌∷◌, ◌++◌, length, get_or, take, drop, Option, Some, None, refl, sym, ap, ap₂, subst, ◌∙◌, append_assoc, take-append-drop, add-one, drop-cons, arith}
+use Rattle.std.proofs.lemmas.List.{append-nil, drop_all, drop-drop, take_rest}
+use Rattle.std.proofs.lemmas.Nat.{pow-add}
+use Rattle.std.proofs.Math.Nat.{mul-le-mul_right}
+use Rattle.std.proofs.Math.Pow.{pow_mono}
+use Rattle.std.proofs.Math.Seq.{drop-append_seam}
+use Rattle.vx_bits.specs.Words.{word_bits}
+use Rattle.vx_bits.proofs.WordBits.{word_bits-append}
 use Rattle.vx_json.specs.Meaning.{◌>>=◌, Fails, behind}
 use Rattle.vx_json.specs.BitText.{bit_named, bits_in}
 use Rattle.vx_json.specs.declared.error.DocError.{DocError}
 use Rattle.vx_json.specs.declared.error.DocError.TheVariants.{Malformed, NoMemory}
 use Rattle.vx_json.proofs.Reading.{behind-one}
 
+-- before the first digit
+pub none_read : (rest : Option (List Bool)) → behind [] rest ≡ rest
+none_read None = refl
+none_read (Some bits) = refl
+
 -- what two parts mean, one behind the other
 bits_in-append : (xs ys : List ℕ) → bits_in (xs ++ ys) ≡ (bits_in xs >>= λ bits. behind bits (bits_in ys))
 unfolding bits_in
-bits_in-append [] ys = none (bits_in ys)
-  where
-    none : (rest : Option (List Bool)) → rest ≡ behind [] rest
-    none None = refl
-    none (Some bits) = refl
+bits_in-append [] ys = sym (none_read (bits_in ys))
 bits_in-append (c ∷ cs) ys = rw (bits_in-append cs ys) (regroup (bit_named c) (bits_in cs) (bits_in ys))
   where
     regroup : (o : Option Bool) (p r : Option (List Bool))
@@ -89,3 +96,34 @@ module _ (text : List ℕ) (k : ℕ) (old : List Bool) (whole : Option (List Boo
       let fails = part_fails old (take n (drop k text)) (drop (k + n) text) Malformed (ap (behind old) is) in
       sym so_far ∙ ap (λ l. behind old (bits_in l)) (cut_at text k n) ∙ fails
   no_next_part n NoMemory is = tt
+
+-- what stands behind the first bits is what the digits mean
+pub read_behind : (old : List Bool) (text : List ℕ) (all rest : List Bool) → behind old (bits_in text) ≡ Some all → rest ≡ take (length all - length old) (drop (length old) all) → bits_in text ≡ Some rest
+read_behind old text all rest is cut = by (bits_in text) is
+  where
+    by : (p : Option (List Bool)) → behind old p ≡ Some all → p ≡ Some rest
+    by None e = cc
+    by (Some bits) e =
+        let same : all ≡ old ++ bits = cc in
+        ap Some (sym (cut ∙ take_rest all (length old) ∙ ap (drop (length old)) same ∙ drop-append_seam old bits))
+
+-- a word of k bytes with one byte more
+pub record IsMore (word byte k more : ℕ) : Type 0 where
+  pub bits : word_bits more (8 * (k + 1)) ≡ word_bits word (8 * k) ++ word_bits byte 8
+  pub below : more < 2 ^ (8 * (k + 1))
+  pub fits : more < 2 ^ 64
+
+pub word_more : (word byte k : ℕ) → k < 8 → word < 2 ^ (8 * k) → byte < 256 → IsMore word byte k (word + byte * 2 ^ (8 * k) % 2 ^ 64)
+word_more word byte k few below small =
+    let p : ℕ = 2 ^ (8 * k) in
+    let next : 8 * (k + 1) ≡ 8 * k + 8 = omega arith in
+    let grows : 2 ^ (8 * (k + 1)) ≡ p * 256 = ap (λ (n : ℕ). 2 ^ n) next ∙ pow-add 2 (8 * k) 8 in
+    let most : 2 ^ (8 * (k + 1)) ≤ 2 ^ 64 = pow_mono {i = 8 * (k + 1)} {j = 64} (omega arith) in
+    let times : byte * p ≤ 255 * p = mul-le-mul_right p (omega arith) in
+    let same : byte * p % 2 ^ 64 ≡ byte * p = omega arith in
+    let turned : word + byte * p % 2 ^ 64 ≡ byte * p + word = omega arith in
+    record {
+      bits = ap₂ word_bits turned next ∙ word_bits-append word (8 * k) byte 8 below;
+      below = omega arith;
+      fits = omega arith;
+    }

@@ -1,12 +1,11 @@
 -- The bits that digits name, eight at a time.
-use Rattle.std.proofs.Common.{◌≡◌, ◌≢◌, ℕ, zero, suc, ◌+◌, ◌*◌, ◌/◌, ◌%◌, ◌^◌, ◌-◌, ◌<◌, ◌≤◌, ◌==◌, Bool, true, false, List, [], ◌∷◌, ◌++◌, map, replicate, length, get_or, min, Option, Some, None, refl, sym, ap, ap₂, ◌∙◌, arith, bit_and, Fits, w8, ◌⊎◌, inl, inr}
+use Rattle.std.proofs.Common.{◌≡◌, ◌≢◌, ℕ, zero, suc, ◌+◌, ◌*◌, ◌/◌, ◌%◌, ◌^◌, ◌-◌, ◌<◌, ◌≤◌, ◌==◌, Bool, true, false, List, [], ◌∷◌, map, replicate, length, get_or, min, Some, None, refl, sym, ap, ap₂, ◌∙◌, arith, bit_and, Fits, w8, inl, inr}
 use Rattle.std.specs.Int.{w64, from_le_bytes, bit_at}
 use Rattle.std.proofs.lemmas.Bool.{cases_lt}
 use Rattle.std.proofs.lemmas.Bool.Decides.{nat_tests}
 use Rattle.std.proofs.lemmas.Nat.{and_le_l, and_mask}
 use Rattle.std.proofs.lemmas.Nat.Bits.{same_from_bits, bit_at_and, bit_at_cat_low, bit_at_cat_high, and_high_mask}
 use Rattle.vx_bits.specs.Words.{word_bits}
-use Rattle.vx_json.specs.Meaning.{◌>>=◌}
 use Rattle.vx_json.specs.BitText.{bit_named, bits_in}
 
 -- the number that bytes spell, the lowest first

@@ -1,5 +1,5 @@
 -- What a JSON value means as a mask: its bits.
-use Rattle.std.specs.Prelude.{ℕ, ◌==◌, List, [], ◌∷◌, replicate, Bool, true, false, if◌then◌else◌, Option, Some, None, codes}
+use Rattle.std.specs.Prelude.{ℕ, List, [], ◌∷◌, replicate, Bool, if◌then◌else◌, Option, Some, None, codes}
 use Rattle.serde_json.specs.Data.{Data}
 use Rattle.serde_json.specs.Find.{get, as_str, as_array, as_bool}
 use Rattle.vx_mask.specs.Positions.{covered, bits_with}

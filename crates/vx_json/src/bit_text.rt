@@ -1,5 +1,5 @@
 //! Texts of `0` and `1`, as bits.
-ghost use Rattle.std.specs.Prelude.{◌≡◌, ◌%◌, ◌≤◌, IfOk, length};
+ghost use Rattle.std.specs.Prelude.{◌≡◌, ◌%◌, ◌<◌, ◌≤◌, IfOk, length};
 ghost use Rattle.vx_bits.specs.Words.{word_bits};
 ghost use Rattle.vx_json.specs.Meaning.{Gives, Leaves, behind};
 ghost use Rattle.vx_json.specs.BitText.{bit_named, bits_in};
@@ -24,7 +24,8 @@ fn bit_named(byte: u8) -> Result<bool, DocError>
 #[inline(always)]
 fn byte_named(digits: &[u8]) -> Result<u64, DocError>
     requires { length digits.now ≡ 8 }
-    ensures { Gives (λ b. word_bits b 8) result (bits_in digits.now) }
+    ensures bits { Gives (λ b. word_bits b 8) result (bits_in digits.now) }
+    ensures byte { IfOk result (λ b. b < 256) }
 {
     let mut bytes = [0; 8];
     bytes.copy_from_slice(digits);
@@ -33,6 +34,30 @@ fn byte_named(digits: &[u8]) -> Result<u64, DocError>
         return Err(DocError::Malformed);
     }
     Ok((word & 0x0101_0101_0101_0101).wrapping_mul(0x0102_0408_1020_4080) >> 56)
+}
+
+/// The bits that 64 digits name, the first one lowest.
+#[inline(always)]
+fn word_named(digits: &[u8]) -> Result<u64, DocError>
+    requires { length digits.now ≡ 64 }
+    ensures { Gives (λ w. word_bits w 64) result (bits_in digits.now) }
+{
+    let mut word = 0;
+    for k in 0..8usize {
+        word += byte_named(&digits[8 * k..8 * k + 8])? << (8 * k);
+    }
+    Ok(word)
+}
+
+/// Appends the bits that the digits name, 64 at a time.
+fn append_words(bits: &mut BitBuilder, text: &[u8]) -> Result<(), DocError>
+    requires { length text.now % 64 ≡ 0 }
+    ensures { Leaves result bits.new (behind bits.old (bits_in text.now)) }
+{
+    for i in 0..text.len() / 64 {
+        bits.append_word(word_named(&text[64 * i..64 * i + 64])?, 64)?;
+    }
+    Ok(())
 }
 
 /// Appends the bits that the digits name, eight at a time.
@@ -56,12 +81,22 @@ fn append_digits(bits: &mut BitBuilder, text: &[u8]) -> Result<(), DocError>
     Ok(())
 }
 
+/// Appends the bits that a few digits name, by bytes and then one at a time.
+fn append_few(bits: &mut BitBuilder, text: &[u8]) -> Result<(), DocError>
+    ensures { Leaves result bits.new (behind bits.old (bits_in text.now)) }
+{
+    let whole = text.len() - text.len() % 8;
+    append_bytes(bits, &text[..whole])?;
+    append_digits(bits, &text[whole..])
+}
+
+/// Appends the bits that the digits name, by words and then a few.
 fn append_text(bits: &mut BitBuilder, text: &[u8]) -> Result<(), DocError>
     ensures { Leaves result bits.new (behind bits.old (bits_in text.now)) }
 {
-    let few = text.len() - text.len() % 8;
-    append_bytes(bits, &text[..few])?;
-    append_digits(bits, &text[few..])
+    let whole = text.len() - text.len() % 64;
+    append_words(bits, &text[..whole])?;
+    append_few(bits, &text[whole..])
 }
 
 /// The bits that the digits name, the first one at that offset in its byte. `Malformed` where one

@@ -1,5 +1,5 @@
 -- One item after another.
-use Rattle.std.proofs.Common.{◌≡◌, map, ◌++◌, ◌∷◌, [], ap, sym, ◌∙◌, subst, List, ◌+◌, arith}
+use Rattle.std.proofs.Common.{map, ◌∷◌, [], ap, sym, ◌∙◌, subst, List, ◌+◌, arith}
 use Rattle.std.proofs.lemmas.List.{map-append}
 use Rattle.std.proofs.lemmas.Result.{err_from_is_err_and}
 use Rattle.vx_json.proofs.Reading.{IsReading, reading_goes_on, reading_fails, reading_ends}
