@@ -1,0 +1,73 @@
+-- Words of documents that aren't read yet.
+use Rattle.std.specs.Prelude.{ℕ, ◌&&◌, ◌||◌, List, [], ◌∷◌, Bool, false, codes}
+use Rattle.serde_json.specs.Data.{Data, null, boolean, number, string, array, object, Items, no_items, item, Members, no_members, member}
+use Rattle.vx_json.specs.Members.{is_among}
+
+-- types and columns of plain values, which rows are null, and steps that take rows
+unfoldable pub flat_words : List (List ℕ)
+flat_words =
+    codes "Null" ∷ codes "Bool" ∷ codes "Decimal" ∷ codes "f16" ∷ codes "f32" ∷ codes "f64"
+    ∷ codes "take" ∷ codes "validity" ∷ codes "precision" ∷ codes "scale" ∷ codes "width" ∷ []
+
+-- index lists by pieces, and columns over other columns
+unfoldable pub lazy_words : List (List ℕ)
+lazy_words =
+    codes "pieces" ∷ codes "starts" ∷ codes "lengths" ∷ codes "multipliers"
+    ∷ codes "Constant" ∷ codes "Dict" ∷ codes "Filter"
+    ∷ codes "null" ∷ codes "bool" ∷ codes "decimal" ∷ codes "nullable"
+    ∷ codes "value" ∷ codes "codes" ∷ codes "child" ∷ codes "mask" ∷ []
+
+-- bits at an offset, and chunks
+unfoldable pub chunk_words : List (List ℕ)
+chunk_words = codes "offset" ∷ codes "chunks" ∷ []
+
+-- text and other bytes
+unfoldable pub text_words : List (List ℕ)
+text_words =
+    codes "VarBin" ∷ codes "VarBinView" ∷ codes "utf8" ∷ codes "binary"
+    ∷ codes "offsets" ∷ codes "offset_type" ∷ codes "bytes" ∷ codes "views"
+    ∷ codes "buffers" ∷ codes "inline" ∷ codes "prefix" ∷ codes "buffer" ∷ []
+
+-- lists and maps
+unfoldable pub list_words : List (List ℕ)
+list_words =
+    codes "List" ∷ codes "ListView" ∷ codes "FixedSizeList" ∷ codes "Map"
+    ∷ codes "elements" ∷ codes "sizes" ∷ codes "size" ∷ codes "entries" ∷ []
+
+-- records, unions and extensions
+unfoldable pub record_words : List (List ℕ)
+record_words =
+    codes "Struct" ∷ codes "Union" ∷ codes "Extension" ∷ codes "names" ∷ codes "fields"
+    ∷ codes "type_ids" ∷ codes "variants" ∷ codes "id" ∷ codes "name" ∷ codes "children"
+    ∷ codes "storage" ∷ []
+
+-- names of members, layouts and types alike
+abbrev pub is_later_word : List ℕ → Bool
+is_later_word w =
+    is_among flat_words w || is_among lazy_words w || is_among chunk_words w
+    || is_among text_words w || is_among list_words w || is_among record_words w
+
+-- the text of a `layout` or a `type` is a later word
+abbrev pub is_later_text : List ℕ → Data → Bool
+is_later_text k (string s) = is_among (codes "layout" ∷ codes "type" ∷ []) k && is_later_word s
+is_later_text k d = false
+
+-- some object, at any depth, holds a later word: as the name of a member, or as the text of its
+-- `layout` or `type`
+abbrev mutual
+  pub holds_later : Data → Bool
+  holds_later null = false
+  holds_later (boolean b) = false
+  holds_later (number n) = false
+  holds_later (string s) = false
+  holds_later (array ds) = items_later ds
+  holds_later (object ms) = members_later ms
+
+  pub items_later : Items → Bool
+  items_later no_items = false
+  items_later (item d ds) = holds_later d || items_later ds
+
+  pub members_later : Members → Bool
+  members_later no_members = false
+  members_later (member k d ms) =
+      (is_later_word k || is_later_text k d) || holds_later d || members_later ms

@@ -1,0 +1,56 @@
+//! What a document asks for.
+ghost use Rattle.std.specs.Prelude.{◌≡◌};
+
+use std::marker::Model;
+use vx_column::Array;
+use vx_mask::Policy;
+use vx_select::Step;
+
+/// Where the rows of a document are.
+#[derive(Drop)]
+pub enum DocumentSource {
+    /// In a column.
+    Column(Array),
+}
+
+/// A list of steps. Clauses see it as the list.
+#[derive(Drop)]
+pub struct StepList {
+    steps: Vec<Step>,
+}
+
+impl Model for StepList {
+    ghost use Rattle.std.specs.Prelude.{List};
+    ghost use Rattle.vx_select.specs.declared.step.Step.{Step};
+
+    ghost Value = { List Step };
+
+    ghost view = { λ l. l.steps.items };
+}
+
+impl StepList {
+    /// The list of these steps. It takes no memory.
+    pub fn from_vec(values: Vec<Step>) -> StepList
+        ensures { result ≡ values.items }
+    {
+        StepList { steps: values }
+    }
+
+    /// The steps, in order.
+    pub fn as_slice(&self) -> &[Step]
+        ensures { result.now ≡ self.now }
+    {
+        self.steps.as_slice()
+    }
+}
+
+/// What a document asks for: these steps over this source, by this policy.
+#[derive(Drop)]
+pub struct Document {
+    /// Where the rows are.
+    pub source: DocumentSource,
+    /// The steps, in order.
+    pub steps: StepList,
+    /// The policy.
+    pub policy: Policy,
+}

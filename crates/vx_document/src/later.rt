@@ -1,0 +1,196 @@
+//! Words of documents that aren't read yet.
+ghost use Rattle.std.specs.Prelude.{◌≡◌};
+ghost use Rattle.serde_json.specs.View.{view, items_view, members_view};
+ghost use Rattle.vx_json.specs.Members.{is_among};
+ghost use Rattle.vx_document.specs.Later.{flat_words, lazy_words, chunk_words, text_words, list_words, record_words, is_later_word, is_later_text, holds_later, items_later, members_later};
+
+use serde_json::{Map, Value};
+use vx_json::is_among;
+
+/// Types and columns of plain values, which rows are null, and steps that take rows.
+#[tactic(auto, unfolding(crate::specs::Later::flat_words))]
+fn is_flat_word(word: &str) -> bool
+    ensures { result ≡ is_among flat_words word.now }
+{
+    is_among(
+        &[
+            "Null",
+            "Bool",
+            "Decimal",
+            "f16",
+            "f32",
+            "f64",
+            "take",
+            "validity",
+            "precision",
+            "scale",
+            "width",
+        ],
+        word,
+    )
+}
+
+/// Index lists by pieces, and columns over other columns.
+#[tactic(auto, unfolding(crate::specs::Later::lazy_words))]
+fn is_lazy_word(word: &str) -> bool
+    ensures { result ≡ is_among lazy_words word.now }
+{
+    is_among(
+        &[
+            "pieces",
+            "starts",
+            "lengths",
+            "multipliers",
+            "Constant",
+            "Dict",
+            "Filter",
+            "null",
+            "bool",
+            "decimal",
+            "nullable",
+            "value",
+            "codes",
+            "child",
+            "mask",
+        ],
+        word,
+    )
+}
+
+/// Bits at an offset, and chunks.
+#[tactic(auto, unfolding(crate::specs::Later::chunk_words))]
+fn is_chunk_word(word: &str) -> bool
+    ensures { result ≡ is_among chunk_words word.now }
+{
+    is_among(&["offset", "chunks"], word)
+}
+
+/// Text and other bytes.
+#[tactic(auto, unfolding(crate::specs::Later::text_words))]
+fn is_text_word(word: &str) -> bool
+    ensures { result ≡ is_among text_words word.now }
+{
+    is_among(
+        &[
+            "VarBin",
+            "VarBinView",
+            "utf8",
+            "binary",
+            "offsets",
+            "offset_type",
+            "bytes",
+            "views",
+            "buffers",
+            "inline",
+            "prefix",
+            "buffer",
+        ],
+        word,
+    )
+}
+
+/// Lists and maps.
+#[tactic(auto, unfolding(crate::specs::Later::list_words))]
+fn is_list_word(word: &str) -> bool
+    ensures { result ≡ is_among list_words word.now }
+{
+    is_among(
+        &[
+            "List",
+            "ListView",
+            "FixedSizeList",
+            "Map",
+            "elements",
+            "sizes",
+            "size",
+            "entries",
+        ],
+        word,
+    )
+}
+
+/// Records, unions and extensions.
+#[tactic(auto, unfolding(crate::specs::Later::record_words))]
+fn is_record_word(word: &str) -> bool
+    ensures { result ≡ is_among record_words word.now }
+{
+    is_among(
+        &[
+            "Struct",
+            "Union",
+            "Extension",
+            "names",
+            "fields",
+            "type_ids",
+            "variants",
+            "id",
+            "name",
+            "children",
+            "storage",
+        ],
+        word,
+    )
+}
+
+/// Whether it is a word of any of these lists. They are one pool: each counts as a name and as a
+/// text alike.
+fn is_later_word(word: &str) -> bool
+    ensures { result ≡ is_later_word word.now }
+{
+    is_flat_word(word)
+        || is_lazy_word(word)
+        || is_chunk_word(word)
+        || is_text_word(word)
+        || is_list_word(word)
+        || is_record_word(word)
+}
+
+/// Whether a member of this name is a `layout` or a `type` with a later word for its text.
+fn is_later_text(name: &str, value: &Value) -> bool
+    ensures { result ≡ is_later_text name.now (view value.now) }
+{
+    match value.as_str() {
+        Some(text) => is_among(&["layout", "type"], name) && is_later_word(text),
+        None => false,
+    }
+}
+
+/// Whether some object in it, at any depth, has a word that isn't read yet: as the name of a
+/// member, or as the text of its `layout` or `type`.
+#[cycle(later)]
+pub fn holds_later(value: &Value) -> bool
+    ensures { result ≡ holds_later (view value.now) }
+{
+    match value {
+        Value::Array(items) => items_hold_later(items),
+        Value::Object(members) => members_hold_later(members),
+        _ => false,
+    }
+}
+
+#[cycle(later)]
+fn items_hold_later(items: &Vec<Value>) -> bool
+    ensures { result ≡ items_later (items_view items.now.items) }
+{
+    for item in items {
+        if holds_later(item) {
+            return true;
+        }
+    }
+    false
+}
+
+#[cycle(later)]
+fn members_hold_later(members: &Map<String, Value>) -> bool
+    ensures { result ≡ members_later (members_view members.now.entries) }
+{
+    for (name, member) in members {
+        if is_later_word(name.as_str())
+            || is_later_text(name.as_str(), member)
+            || holds_later(member)
+        {
+            return true;
+        }
+    }
+    false
+}

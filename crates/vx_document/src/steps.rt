@@ -1,0 +1,63 @@
+//! Steps.
+ghost use Rattle.std.specs.Prelude.{map};
+ghost use Rattle.serde_json.specs.View.{view};
+ghost use Rattle.vx_select.specs.Step.{step_value};
+ghost use Rattle.vx_json.specs.Meaning.{Gives};
+ghost use Rattle.vx_document.specs.Steps.{slice_of, filter_of, step_of, steps_of};
+
+use crate::documents::StepList;
+use serde_json::Value;
+use std::alloc::Global;
+use vx_json::{DocError, ReadItem, is_closed, items_in, mask_of, member, pair_of, read_each};
+use vx_select::Step;
+
+#[tactic(auto, unfolding(crate::specs::Steps::slice_of))]
+fn slice_of(value: &Value) -> Result<Step, DocError>
+    ensures { Gives step_value result (slice_of (view value.now)) }
+{
+    let (start, end) = pair_of(member(value, "slice")?)?;
+    Ok(Step::Slice { start, end })
+}
+
+#[tactic(auto, unfolding(crate::specs::Steps::filter_of))]
+fn filter_of(alloc: Global, value: &Value) -> Result<Step, DocError>
+    ensures { Gives step_value result (filter_of (view value.now)) }
+{
+    Ok(Step::Filter(mask_of(alloc, member(value, "filter")?)?))
+}
+
+/// Reads a step.
+#[derive(Clone, Copy)]
+struct StepItem;
+
+impl ReadItem for StepItem {
+    ghost use Rattle.vx_select.specs.Step.{StepValue};
+
+    type Out = Step;
+
+    ghost Seen = { StepValue };
+
+    ghost seen = { λ s. step_value s };
+
+    ghost meaning = { λ _ d. step_of d };
+
+    #[tactic(auto, unfolding(crate::specs::Steps::step_of))]
+    fn read(&self, alloc: Global, value: &Value) -> Result<Step, DocError> {
+        if is_closed(value, &["slice"]) {
+            slice_of(value)
+        } else if is_closed(value, &["filter"]) {
+            filter_of(alloc, value)
+        } else {
+            Err(DocError::Malformed)
+        }
+    }
+}
+
+/// The list of steps that the value means.
+#[tactic(auto, unfolding(crate::specs::Steps::steps_of))]
+pub(crate) fn steps_of(alloc: Global, value: &Value) -> Result<StepList, DocError>
+    ensures { Gives (map step_value) result (steps_of (view value.now)) }
+{
+    let steps = read_each(alloc, &StepItem, items_in(value)?)?;
+    Ok(StepList::from_vec(steps))
+}

@@ -1,0 +1,4 @@
+pub mod Reading
+pub mod PairLists
+pub mod Digits
+pub mod BitReading

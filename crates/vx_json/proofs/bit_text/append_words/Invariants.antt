@@ -1,0 +1,8 @@
+use Rattle.std.proofs.Common.{◌≡◌, ◌*◌, drop}
+use Rattle.vx_json.specs.Meaning.{behind}
+use Rattle.vx_json.specs.BitText.{bits_in}
+use Rattle.vx_json.proofs.bit_text.append_words.Given as goal
+
+-- what the digits that are left mean, behind what was appended, is what all mean
+abbrev pub invariant-loop-i : goal.invariant-loop-i
+invariant-loop-i l = behind l.bits (bits_in (drop (64 * l.i) l.text)) ≡ behind l.fn.bits (bits_in l.text)

@@ -1,0 +1,39 @@
+//! Why a JSON value isn't read.
+ghost use Rattle.std.specs.Prelude.{◌≡◌};
+ghost use Rattle.vx_json.specs.declared.error.DocError.TheVariants.{NoMemory as OutOfMemory};
+
+use std::alloc::{AllocError, AllocFailed};
+use vx_bits::NoMemory;
+
+/// Why a JSON value gives no document, or no part of one.
+#[derive(Clone, Copy, Debug, PartialEq, Eq)]
+pub enum DocError {
+    /// It has no meaning as one.
+    Malformed,
+    /// Want of memory.
+    NoMemory,
+}
+
+impl From<NoMemory> for DocError {
+    ghost from_gives = { λ _ e. e ≡ OutOfMemory };
+
+    fn from(_: NoMemory) -> Self {
+        DocError::NoMemory
+    }
+}
+
+impl From<AllocError> for DocError {
+    ghost from_gives = { λ _ e. e ≡ OutOfMemory };
+
+    fn from(_: AllocError) -> Self {
+        DocError::NoMemory
+    }
+}
+
+impl<T: Drop> From<AllocFailed<T>> for DocError {
+    ghost from_gives = { λ _ e. e ≡ OutOfMemory };
+
+    fn from(_: AllocFailed<T>) -> Self {
+        DocError::NoMemory
+    }
+}

@@ -1,0 +1,87 @@
+//! Masks.
+ghost use Rattle.serde_json.specs.View.{view};
+ghost use Rattle.vx_mask.specs.Mask.{mask_bits};
+ghost use Rattle.vx_json.specs.Meaning.{Gives};
+ghost use Rattle.vx_json.specs.Masks.{placed_bits, bits_by_set, bits_by_runs, bits_by_every, bits_by_members, mask_of};
+
+use crate::bit_text::bits_in;
+use crate::error::DocError;
+use crate::members::{bool_in, is_closed, items_in, member, text_in};
+use crate::wholes::{GREATEST_LEN, at_most, pairs_in, wholes_in};
+use serde_json::Value;
+use std::alloc::Global;
+use vx_mask::{Mask, MaskError};
+
+#[tactic(auto, unfolding(crate::specs::Masks::placed_bits))]
+fn placed_mask(alloc: Global, value: &Value) -> Result<Mask, DocError>
+    ensures { Gives mask_bits result (placed_bits (view value.now)) }
+{
+    let text = text_in(member(value, "bits")?)?;
+    let offset = at_most(7, member(value, "offset")?)?;
+    Ok(Mask::from_buffer(bits_in(alloc, text.as_bytes(), offset)?))
+}
+
+#[tactic(auto, unfolding(crate::specs::Masks::bits_by_set))]
+fn mask_by_set(alloc: Global, value: &Value) -> Result<Mask, DocError>
+    ensures { Gives mask_bits result (bits_by_set (view value.now)) }
+{
+    let len = at_most(GREATEST_LEN, member(value, "len")?)?;
+    let indices = wholes_in(alloc, items_in(member(value, "set")?)?)?;
+    match Mask::from_indices(alloc, len, indices) {
+        Ok(mask) => Ok(mask),
+        Err(MaskError::NoMemory) => Err(DocError::NoMemory),
+        Err(_) => Err(DocError::Malformed),
+    }
+}
+
+#[tactic(auto, unfolding(crate::specs::Masks::bits_by_runs))]
+fn mask_by_runs(alloc: Global, value: &Value) -> Result<Mask, DocError>
+    ensures { Gives mask_bits result (bits_by_runs (view value.now)) }
+{
+    let len = at_most(GREATEST_LEN, member(value, "len")?)?;
+    let runs = pairs_in(alloc, items_in(member(value, "runs")?)?)?;
+    match Mask::from_slices(alloc, len, runs) {
+        Ok(mask) => Ok(mask),
+        Err(MaskError::NoMemory) => Err(DocError::NoMemory),
+        Err(_) => Err(DocError::Malformed),
+    }
+}
+
+#[tactic(auto, unfolding(crate::specs::Masks::bits_by_every))]
+fn mask_by_every(value: &Value) -> Result<Mask, DocError>
+    ensures { Gives mask_bits result (bits_by_every (view value.now)) }
+{
+    let len = at_most(GREATEST_LEN, member(value, "len")?)?;
+    if bool_in(member(value, "every")?)? {
+        Ok(Mask::AllTrue(len))
+    } else {
+        Ok(Mask::AllFalse(len))
+    }
+}
+
+#[tactic(auto, unfolding(crate::specs::Masks::bits_by_members))]
+fn mask_by_members(alloc: Global, value: &Value) -> Result<Mask, DocError>
+    ensures { Gives mask_bits result (bits_by_members (view value.now)) }
+{
+    if is_closed(value, &["bits", "offset"]) {
+        placed_mask(alloc, value)
+    } else if is_closed(value, &["len", "set"]) {
+        mask_by_set(alloc, value)
+    } else if is_closed(value, &["len", "runs"]) {
+        mask_by_runs(alloc, value)
+    } else if is_closed(value, &["len", "every"]) {
+        mask_by_every(value)
+    } else {
+        Err(DocError::Malformed)
+    }
+}
+
+#[tactic(auto, unfolding(crate::specs::Masks::mask_of))]
+pub fn mask_of(alloc: Global, value: &Value) -> Result<Mask, DocError>
+    ensures { Gives mask_bits result (mask_of (view value.now)) }
+{
+    match value.as_str() {
+        Some(text) => Ok(Mask::from_buffer(bits_in(alloc, text.as_bytes(), 0)?)),
+        None => mask_by_members(alloc, value),
+    }
+}

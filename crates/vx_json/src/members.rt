@@ -1,0 +1,84 @@
+//! The members of an object, and what kind of value a member is.
+ghost use Rattle.std.specs.Prelude.{◌≡◌, map};
+ghost use Rattle.serde_json.specs.Find.{as_array, as_str, as_bool, get};
+ghost use Rattle.serde_json.specs.View.{view, items_view, members_view};
+ghost use Rattle.vx_json.specs.Meaning.{Gives};
+ghost use Rattle.vx_json.specs.Members.{is_among, has_only, is_closed};
+
+use crate::error::DocError;
+use serde_json::{Map, Value};
+
+/// The member of this name. `Malformed` where there is none, or the value is no object.
+pub fn member<'v>(value: &'v Value, name: &str) -> Result<&'v Value, DocError>
+    ensures { Gives (λ v. view v.now) result (get name.now (view value.now)) }
+{
+    match value.get(name) {
+        Some(found) => Ok(found),
+        None => Err(DocError::Malformed),
+    }
+}
+
+/// The items of a list. `Malformed` where the value is none.
+pub fn items_in(value: &Value) -> Result<&Vec<Value>, DocError>
+    ensures { Gives (λ v. items_view v.now.items) result (as_array (view value.now)) }
+{
+    match value.as_array() {
+        Some(items) => Ok(items),
+        None => Err(DocError::Malformed),
+    }
+}
+
+/// The bytes' text. `Malformed` where the value is no text.
+pub fn text_in(value: &Value) -> Result<&str, DocError>
+    ensures { Gives (λ s. s.now) result (as_str (view value.now)) }
+{
+    match value.as_str() {
+        Some(text) => Ok(text),
+        None => Err(DocError::Malformed),
+    }
+}
+
+/// `true` or `false`. `Malformed` where the value is neither.
+pub fn bool_in(value: &Value) -> Result<bool, DocError>
+    ensures { Gives (λ b. b) result (as_bool (view value.now)) }
+{
+    match value.as_bool() {
+        Some(b) => Ok(b),
+        None => Err(DocError::Malformed),
+    }
+}
+
+/// Whether the name is one of these.
+pub fn is_among(names: &[&str], name: &str) -> bool
+    ensures { result ≡ is_among (map (λ n. n.now) names.now) name.now }
+{
+    for n in names {
+        if name == *n {
+            return true;
+        }
+    }
+    false
+}
+
+/// Whether each member's name is one of these.
+fn has_only(members: &Map<String, Value>, names: &[&str]) -> bool
+    ensures { result ≡ has_only (map (λ n. n.now) names.now) (members_view members.now.entries) }
+{
+    for (name, _) in members {
+        if !is_among(names, name.as_str()) {
+            return false;
+        }
+    }
+    true
+}
+
+/// Whether it is an object with no other members than these.
+#[tactic(auto, unfolding(crate::specs::Members::is_closed))]
+pub fn is_closed(value: &Value, names: &[&str]) -> bool
+    ensures { result ≡ is_closed (map (λ n. n.now) names.now) (view value.now) }
+{
+    match value.as_object() {
+        Some(members) => has_only(members, names),
+        None => false,
+    }
+}
