@@ -5,19 +5,35 @@ ghost use Rattle.std.specs.Prelude.{◌≤◌, IfOk};
 use super::*;
 use std::alloc::Global;
 use std::io::{self, ErrorKind, Read, Write};
+use std::process::Abort;
 use std::test::Fail;
 use vx_bits::{Buffer, NoMemory};
 
-fn read_into<S: Source>(source: &mut S, dst: &mut [u8]) -> Result<usize, Failed> {
-    source.read(dst)
+// Reads of at most four bytes, each with its answer and what stands in `dst` after it.
+fn reads<S: Source + Drop>(
+    rt: &impl Abort,
+    mut source: S,
+    rows: &[(Result<usize, Failed>, &[u8; 4])],
+) {
+    let mut dst = *b"....";
+    for (want, after) in rows {
+        assert_eq!(rt; source.read(&mut dst), *want);
+        assert_eq!(rt; dst, **after);
+    }
 }
 
-fn write_to<K: Sink>(sink: &mut K, piece: &[u8]) -> Result<usize, Failed> {
-    sink.write(piece)
+// Writes, each with its answer.
+fn writes<K: Sink>(rt: &impl Abort, sink: &mut K, rows: &[(&[u8], Result<usize, Failed>)]) {
+    for (piece, want) in rows {
+        assert_eq!(rt; sink.write(piece), *want);
+    }
 }
 
-fn finish_of<K: Sink>(sink: &mut K) -> Result<(), Failed> {
-    sink.finish()
+// Finishes, each with its answer.
+fn finishes<K: Sink>(rt: &impl Abort, sink: &mut K, rows: &[Result<(), Failed>]) {
+    for want in rows {
+        assert_eq!(rt; sink.finish(), *want);
+    }
 }
 
 fn bytes_of(alloc: Global, bytes: &[u8]) -> Result<Buffer<u8>, NoMemory> {
@@ -30,45 +46,46 @@ fn calls_of(alloc: Global, calls: &[usize]) -> Result<Buffer<usize>, NoMemory> {
 
 #[test]
 fn memory_is_moved_in_pieces_and_fails_by_number(rt: HostRuntime) -> Result<(), Fail> {
-    let mut dst = [0; 4];
     let failing = calls_of(rt.alloc(), &[1, 4])?;
-    let mut source = MemorySource::new(bytes_of(rt.alloc(), b"abcdefg")?, 3, failing);
-    for (want, left) in [
-        (Ok(3), *b"abc\0"),
-        (Err(Failed), *b"abc\0"),
-        (Ok(3), *b"def\0"),
-        (Ok(1), *b"gef\0"),
-        (Err(Failed), *b"gef\0"),
-        (Ok(0), *b"gef\0"),
-    ] {
-        assert_eq!(rt; read_into(&mut source, &mut dst), want);
-        assert_eq!(rt; dst, left);
-    }
-    let mut steady = SteadySource::new(bytes_of(rt.alloc(), b"abcde")?, 3);
-    for want in [Ok(3), Ok(2), Ok(0)] {
-        assert_eq!(rt; read_into(&mut steady, &mut dst), want);
-    }
+    let source = MemorySource::new(bytes_of(rt.alloc(), b"abcdefg")?, 3, failing);
+    reads(
+        &rt,
+        source,
+        &[
+            (Ok(3), b"abc."),
+            (Err(Failed), b"abc."),
+            (Ok(3), b"def."),
+            (Ok(1), b"gef."),
+            (Err(Failed), b"gef."),
+            (Ok(0), b"gef."),
+        ],
+    );
+    let source = SteadySource::new(bytes_of(rt.alloc(), b"abcde")?, 3);
+    reads(
+        &rt,
+        source,
+        &[(Ok(3), b"abc."), (Ok(2), b"dec."), (Ok(0), b"dec.")],
+    );
 
-    let failing = calls_of(rt.alloc(), &[1, 5])?;
-    let mut sink = MemorySink::new(rt.alloc(), 3, failing, 5)?;
-    for (piece, want) in [
-        (b"abcdefg".as_slice(), Ok(3)),
-        (b"defg".as_slice(), Err(Failed)),
-        (b"defg".as_slice(), Ok(2)),
-        (b"fg".as_slice(), Err(Failed)),
-        (b"".as_slice(), Ok(0)),
-    ] {
-        assert_eq!(rt; write_to(&mut sink, piece), want);
-    }
-    for want in [Err(Failed), Ok(())] {
-        assert_eq!(rt; finish_of(&mut sink), want);
-    }
+    let mut sink = MemorySink::new(rt.alloc(), 3, calls_of(rt.alloc(), &[1, 5])?, 5)?;
+    writes(
+        &rt,
+        &mut sink,
+        &[
+            (b"abcdefg", Ok(3)),
+            (b"defg", Err(Failed)),
+            (b"defg", Ok(2)),
+            (b"fg", Err(Failed)),
+            (b"", Ok(0)),
+        ],
+    );
+    finishes(&rt, &mut sink, &[Err(Failed), Ok(())]);
     assert_eq!(rt; sink.bytes(), b"abcde".as_slice());
 
-    let mut counting = CountingSink::new();
-    assert_eq!(rt; write_to(&mut counting, b"abcde"), Ok(5));
-    assert_eq!(rt; finish_of(&mut counting), Ok(()));
-    assert_eq!(rt; counting.taken(), 5);
+    let mut sink = CountingSink::new();
+    writes(&rt, &mut sink, &[(b"abcde", Ok(5))]);
+    finishes(&rt, &mut sink, &[Ok(())]);
+    assert_eq!(rt; sink.taken(), 5);
     Ok(())
 }
 
@@ -133,16 +150,16 @@ fn an_interruption_alone_is_tried_again(rt: HostRuntime) {
             broken,
             idle,
         };
-        assert_eq!(rt; read_into(&mut StdSource::new(flaky), &mut [0; 4]), read);
-        assert_eq!(rt; write_to(&mut StdSink::new(flaky), b"abcde"), written);
-        assert_eq!(rt; finish_of(&mut StdSink::new(flaky)), finished);
+        reads(&rt, StdSource::new(flaky), &[(read, b"....")]);
+        writes(&rt, &mut StdSink::new(flaky), &[(b"abcde", written)]);
+        finishes(&rt, &mut StdSink::new(flaky), &[finished]);
     }
     let flaky = Flaky {
         interrupted: 0,
         broken: 0,
         idle: 1,
     };
-    assert_eq!(rt; write_to(&mut StdSink::new(flaky), b""), Ok(0));
+    writes(&rt, &mut StdSink::new(flaky), &[(b"", Ok(0))]);
 }
 
 #[test]
