@@ -1,5 +1,5 @@
 -- How the rows of a column are stored.
-use Rattle.std.specs.Prelude.{◌≡◌, ℕ, length, map, Some, Option, MatchOption, ⊤}
+use Rattle.std.specs.Prelude.{◌≡◌, length, map, Some, Option, MatchOption, ⊤}
 use Rattle.vx_bits.specs.Records.{records_of, width_of}
 use Rattle.vx_bits.specs.declared.records.Records.{Records}
 use Rattle.vx_types.specs.RowValue.{RowValue, null, bytes}

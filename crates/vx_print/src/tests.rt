@@ -59,8 +59,8 @@ fn rows_are_lines_behind_the_type(rt: HostRuntime) -> Result<(), Fail> {
     let unsigned = "u64\n18446744073709551615\n9223372036854775808\n";
     assert_text(&rt, a, PType::U64, Records::W8(eights.share()), unsigned)?;
     let signed = "i64\n-1\n-9223372036854775808\n";
-    assert_text(&rt, a, PType::I64, Records::W8(eights.share()), signed)?;
-    assert_text(&rt, a, PType::U64, Records::W8(eights.slice(1, 1)), "u64\n")
+    assert_text(&rt, a, PType::I64, Records::W8(eights), signed)?;
+    assert_text(&rt, a, PType::U64, Records::W8(list_of(a, &[])?), "u64\n")
 }
 
 #[test]
