@@ -2,7 +2,7 @@
 use Rattle.std.specs.Prelude.{ℕ, List, if◌then◌else◌, Option, None, codes, bytes_eq}
 use Rattle.serde_json.specs.Data.{Data}
 use Rattle.serde_json.specs.Find.{get, as_str}
-use Rattle.vx_column.specs.Column.{Column}
+use Rattle.vx_model.specs.Column.{Column}
 use Rattle.vx_json.specs.Meaning.{◌>>=◌}
 use Rattle.vx_document.specs.Primitive.{primitive_of}
 

@@ -1,8 +1,8 @@
 -- What a document asks for, as a value.
 use Rattle.std.specs.Prelude.{List, map}
 use Rattle.vx_mask.specs.declared.policy.PolicyFields.{PolicyFields}
-use Rattle.vx_column.specs.Column.{Column}
-use Rattle.vx_select.specs.Step.{StepValue, step_value}
+use Rattle.vx_model.specs.Column.{Column}
+use Rattle.vx_steps.specs.Step.{StepValue, step_value}
 use Rattle.vx_document.specs.declared.documents.Document.{Document}
 use Rattle.vx_document.specs.declared.documents.DocumentSource.{DocumentSource}
 use Rattle.vx_document.specs.declared.documents.DocumentSource.TheVariants.{Column as in_column}

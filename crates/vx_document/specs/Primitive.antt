@@ -4,9 +4,9 @@ use Rattle.serde_json.specs.Data.{Data}
 use Rattle.serde_json.specs.Find.{get, as_str, as_array}
 use Rattle.vx_types.specs.PType.{width}
 use Rattle.vx_types.specs.declared.ptype.PType.{PType}
-use Rattle.vx_column.specs.Column.{Column}
-use Rattle.vx_column.specs.Valid.{non_nullable}
-use Rattle.vx_column.specs.Primitive.{primitive_column}
+use Rattle.vx_model.specs.Column.{Column}
+use Rattle.vx_model.specs.Valid.{non_nullable}
+use Rattle.vx_model.specs.Primitive.{primitive_column}
 use Rattle.vx_json.specs.Meaning.{◌>>=◌}
 use Rattle.vx_json.specs.Members.{is_closed}
 use Rattle.vx_json.specs.Items.{each}

@@ -2,7 +2,7 @@
 use Rattle.std.specs.Prelude.{List, [], ◌∷◌, if◌then◌else◌, Option, Some, None, codes}
 use Rattle.serde_json.specs.Data.{Data}
 use Rattle.serde_json.specs.Find.{get, as_array}
-use Rattle.vx_select.specs.Step.{StepValue, slice_step, filter_step}
+use Rattle.vx_steps.specs.Step.{StepValue, slice_step, filter_step}
 use Rattle.vx_json.specs.Meaning.{◌>>=◌}
 use Rattle.vx_json.specs.Members.{is_closed}
 use Rattle.vx_json.specs.Items.{each}

@@ -4,7 +4,7 @@ ghost use Rattle.std.specs.Prelude.{◌≡◌};
 use std::marker::Model;
 use vx_column::Array;
 use vx_mask::Policy;
-use vx_select::Step;
+use vx_steps::Step;
 
 /// Where the rows of a document are.
 #[derive(Drop)]
@@ -21,7 +21,7 @@ pub struct StepList {
 
 impl Model for StepList {
     ghost use Rattle.std.specs.Prelude.{List};
-    ghost use Rattle.vx_select.specs.declared.step.Step.{Step};
+    ghost use Rattle.vx_steps.specs.declared.step.Step.{Step};
 
     ghost Value = { List Step };
 

@@ -1,7 +1,7 @@
 //! Steps.
 ghost use Rattle.std.specs.Prelude.{map};
 ghost use Rattle.serde_json.specs.View.{view};
-ghost use Rattle.vx_select.specs.Step.{step_value};
+ghost use Rattle.vx_steps.specs.Step.{step_value};
 ghost use Rattle.vx_json.specs.Meaning.{Gives};
 ghost use Rattle.vx_document.specs.Steps.{slice_of, filter_of, step_of, steps_of};
 
@@ -9,7 +9,7 @@ use crate::documents::StepList;
 use serde_json::Value;
 use std::alloc::Global;
 use vx_json::{DocError, ReadItem, is_closed, items_in, mask_of, member, pair_of, read_each};
-use vx_select::Step;
+use vx_steps::Step;
 
 #[tactic(auto, unfolding(crate::specs::Steps::slice_of))]
 fn slice_of(value: &Value) -> Result<Step, DocError>
@@ -31,7 +31,7 @@ fn filter_of(alloc: Global, value: &Value) -> Result<Step, DocError>
 struct StepItem;
 
 impl ReadItem for StepItem {
-    ghost use Rattle.vx_select.specs.Step.{StepValue};
+    ghost use Rattle.vx_steps.specs.Step.{StepValue};
 
     type Out = Step;
 

@@ -1,0 +1,67 @@
+//! The line of a broken step, written without memory.
+ghost use Rattle.std.specs.Prelude.{◌≡◌, ◌+◌, ◌≤◌, ◌++◌, length, take, decimal};
+ghost use Rattle.vx_print.specs.Fault.{cause_text, fault_text};
+
+use itoa::Buffer;
+use vx_steps::Cause;
+
+/// How many bytes the line of a broken step has room for.
+pub const FAULT_ROOM: usize = 160;
+
+// Writes a part of the line behind what is there, and answers where it ends.
+fn put(dst: &mut [u8; FAULT_ROOM], at: usize, part: &str) -> usize
+    requires { at + length part.now ≤ FAULT_ROOM }
+    ensures len { result ≡ at + length part.now }
+    ensures put { take result dst.new ≡ take at dst.old ++ part.now }
+{
+    let end = at + part.len();
+    dst[at..end].copy_from_slice(part.as_bytes());
+    end
+}
+
+// The same of a number in decimal digits.
+fn put_number(dst: &mut [u8; FAULT_ROOM], at: usize, number: usize) -> usize
+    requires { at + 20 ≤ FAULT_ROOM }
+    ensures len { result ≤ at + 20 }
+    ensures put { take result dst.new ≡ take at dst.old ++ decimal number }
+{
+    let mut buffer = Buffer::new();
+    put(dst, at, buffer.format(number))
+}
+
+// The same of a broken rule, behind at most 30 bytes.
+fn put_cause(dst: &mut [u8; FAULT_ROOM], at: usize, cause: &Cause) -> usize
+    requires { at ≤ 30 }
+    ensures len { result ≤ at + 80 }
+    ensures put { take result dst.new ≡ take at dst.old ++ cause_text cause.now }
+{
+    match cause {
+        Cause::BadRange { start, end, len } => {
+            let at = put(dst, at, "BadRange ");
+            let at = put_number(dst, at, *start);
+            let at = put(dst, at, "..");
+            let at = put_number(dst, at, *end);
+            let at = put(dst, at, " of ");
+            put_number(dst, at, *len)
+        }
+        Cause::BadMask { mask_len, len } => {
+            let at = put(dst, at, "BadMask ");
+            let at = put_number(dst, at, *mask_len);
+            let at = put(dst, at, " of ");
+            put_number(dst, at, *len)
+        }
+    }
+}
+
+/// Writes the line of a broken step, counted from 0, and its cause to the front of `dst`, and
+/// answers its length. It takes no memory.
+pub fn fault_line(step: usize, cause: &Cause, dst: &mut [u8; FAULT_ROOM]) -> usize
+    ensures len { result ≤ FAULT_ROOM }
+    ensures text { take result dst.new ≡ fault_text step cause.now }
+{
+    let at = put(dst, 0, "step ");
+    let at = put_number(dst, at, step);
+    let at = put(dst, at, ": ");
+    let at = put_cause(dst, at, cause);
+    put(dst, at, "\n")
+}
