@@ -1,4 +1,3 @@
 pub mod Text
 pub mod Numbers
-pub mod Stored
 pub mod Fault

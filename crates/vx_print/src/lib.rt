@@ -3,7 +3,6 @@
 
 mod fault;
 mod numbers;
-mod stored;
 mod text;
 
 pub use fault::{FAULT_ROOM, fault_line};

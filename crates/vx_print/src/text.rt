@@ -7,15 +7,14 @@ ghost use Rattle.vx_bits.specs.Records.{records_of, width_of};
 ghost use Rattle.vx_types.specs.DType.{type_of};
 ghost use Rattle.vx_types.specs.RowValue.{bytes};
 ghost use Rattle.vx_types.specs.TypeTree.{type_width};
-ghost use Rattle.vx_print.specs.Stored.{row_of, IsOfType};
+ghost use Rattle.vx_column.specs.Cell.{row_of, IsOfType};
 ghost use Rattle.vx_print.specs.Text.{ptype_text, type_text, row_text, row_line, text};
 
 use crate::numbers::push_numbers;
-use crate::stored::{Cell, cell_at, present_records};
 use itoa::Buffer;
 use std::alloc::Global;
 use vx_bits::{NoMemory, Records};
-use vx_column::{Array, DType, PType};
+use vx_column::{Array, Cell, DType, PType};
 
 fn ptype_text(ptype: PType) -> &'static str
     ensures { result.now ≡ ptype_text ptype }
@@ -67,6 +66,7 @@ fn push_row(text: &mut Vec<u8>, dtype: &DType, row: Cell<'_>) -> Result<(), NoMe
             text.extend_from_slice(b"null")?;
             Ok(())
         }
+        (Cell::Bit(_), _) => unreachable!(),
         (Cell::Bytes(record), DType::Primitive(ptype, _)) => {
             push_number(text, ptype.number(record))
         }
@@ -79,7 +79,7 @@ fn push_rows(text: &mut Vec<u8>, column: &Array) -> Result<(), NoMemory>
         text.new.items ≡ text.old.items ++ flat_map (row_line column.now.dtype) column.now.rows }
 {
     for i in 0..column.len() {
-        push_row(text, column.dtype(), cell_at(column, i))?;
+        push_row(text, column.dtype(), column.cell_at(i))?;
         text.push(b'\n')?;
     }
     Ok(())
@@ -103,7 +103,7 @@ pub fn text_of(alloc: Global, column: &Array) -> Result<Vec<u8>, NoMemory>
     let mut text = Vec::new(alloc);
     push_type(&mut text, column.dtype())?;
     text.push(b'\n')?;
-    match present_records(column) {
+    match column.present_records() {
         Some(records) => push_records(&mut text, column.dtype(), records)?,
         None => push_rows(&mut text, column)?,
     }

@@ -1,6 +1,3 @@
-pub mod Transfers
-pub mod Each
+pub mod Delivered
 pub mod JsonValues
-pub mod BitText
 pub mod Told
-pub mod Printed

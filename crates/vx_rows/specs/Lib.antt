@@ -1,17 +1,3 @@
-pub mod Bytes
-pub mod MemorySink
-pub mod MemorySource
-pub mod Standard
-pub mod SteadySource
-pub mod Meaning
-pub mod Columns
-pub mod Masks
-pub mod Steps
-pub mod Policies
-pub mod Document
-pub mod Documents
-pub mod Later
-pub mod Text
 pub mod Commands
 pub mod Program
 pub mod Reply

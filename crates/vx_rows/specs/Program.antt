@@ -3,11 +3,14 @@ use Rattle.std.specs.Prelude.{◌≡◌, ℕ, List, [], length, nat_lt, if◌the
 use Rattle.std.specs.Str.{is_utf8}
 use Rattle.serde_json.specs.Data.{Data}
 use Rattle.serde_json.specs.Read.{read}
-use Rattle.vx_select.specs.Answer.{Answered, Faulty, Rows as RowsOf, answer}
+use Rattle.vx_steps.specs.Answer.{Answer, answer_fault, answer_rows, answer}
 use Rattle.vx_rows.specs.Commands.{command_of, IfCommand}
-use Rattle.vx_rows.specs.Document.{DocumentValue, SourceValue, column_source, document_of}
-use Rattle.vx_rows.specs.Later.{holds_later}
-use Rattle.vx_rows.specs.Text.{text, fault_text}
+use Rattle.vx_document.specs.Documents.{DocumentValue, SourceValue, column_source}
+use Rattle.vx_document.specs.Later.{holds_later}
+use Rattle.vx_document.specs.Reading.{document_of}
+use Rattle.vx_outside.specs.declared.transfer.TheConstants.{MAX_BYTES}
+use Rattle.vx_print.specs.Fault.{fault_text}
+use Rattle.vx_print.specs.Text.{text}
 use Rattle.vx_rows.specs.declared.command.Command.{Command}
 use Rattle.vx_rows.specs.declared.command.Command.TheVariants.{Rows}
 
@@ -29,11 +32,11 @@ pub data Outcome : Type 0 where
 unfoldable pub value_of : List ℕ → Option Data
 value_of bytes = if is_utf8 bytes then read bytes else None
 
-abbrev pub of_answer : Answered → Outcome
-of_answer (Faulty step cause) = Broken (fault_text step cause)
-of_answer (RowsOf t rows) = Done (text t rows) None
+abbrev pub of_answer : Answer → Outcome
+of_answer (answer_fault step cause) = Broken (fault_text step cause)
+of_answer (answer_rows t rows) = Done (text t rows) None
 
-abbrev pub answer_to : SourceValue → DocumentValue → Answered
+abbrev pub answer_to : SourceValue → DocumentValue → Answer
 answer_to (column_source c) d = answer c d.steps
 
 abbrev pub of_document : Option DocumentValue → Outcome
@@ -48,12 +51,8 @@ of_value (Some d) = if holds_later d then NotBuilt else of_document (document_of
 unfoldable pub outcome_of : List ℕ → Outcome
 outcome_of bytes = of_value (value_of bytes)
 
--- a document has at most so many bytes
-abbrev pub max_bytes : ℕ
-max_bytes = 16777216
-
 unfoldable pub program : List ℕ → Outcome
-program bytes = if nat_lt max_bytes (length bytes) then TooLong else outcome_of bytes
+program bytes = if nat_lt MAX_BYTES (length bytes) then TooLong else outcome_of bytes
 
 -- what comes of a command, where the source tells its bytes
 abbrev pub outcome_told : Command → Option (List ℕ) → Option Outcome
@@ -85,7 +84,8 @@ status_of Malformed = 2
 status_of TooLong = 7
 status_of NotBuilt = 8
 
--- a fact of what comes of the words and of what the source had, where the words name a command and the source tells its bytes
+-- a fact of what comes of the words and of what the source had, where the words name a command and
+-- the source tells its bytes
 abbrev pub IfTold : List (List ℕ) → Option (List ℕ) → (Outcome → Type 0) → Type 0
 IfTold words rest P = IfCommand (command_of words) (λ command. IfSome (outcome_told command rest) P)
 

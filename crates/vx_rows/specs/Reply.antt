@@ -1,14 +1,34 @@
 -- What a `Reply` stands for.
-use Rattle.std.specs.Prelude.{◌≡◌, None}
+use Rattle.std.specs.Prelude.{◌≡◌, ℕ, List, Option, None, Some}
+use Rattle.vx_steps.specs.Answer.{Answer, answer_fault, answer_rows}
+use Rattle.vx_print.specs.Fault.{fault_text}
+use Rattle.vx_rows.specs.Program.{Outcome, Malformed, NotBuilt, Broken, Done}
 use Rattle.vx_rows.specs.declared.reply.Reply.{Reply}
 use Rattle.vx_rows.specs.declared.reply.Reply.TheVariants as replies
-use Rattle.vx_rows.specs.Text.{fault_text}
-use Rattle.vx_rows.specs.Program.{Outcome, Malformed, NotBuilt, Broken, Done}
 
--- a reply is the outcome; memory may run out instead
+-- a reply is the outcome; memory may be wanting instead
 abbrev pub Replies : Reply → Outcome → Type 0
 Replies (replies.Done text) o = o ≡ Done text.items None
 Replies (replies.Broken step cause) o = o ≡ Broken (fault_text step cause)
 Replies replies.Malformed o = o ≡ Malformed
 Replies replies.NotBuilt o = o ≡ NotBuilt
 Replies replies.NoMemory o = Unit {0}
+
+-- memory isn't wanting where a step is broken
+abbrev pub IsHonest : Reply → Answer → Type 0
+IsHonest replies.NoMemory (answer_fault k cause) = ⊥
+IsHonest r a = Unit {0}
+
+-- what is written
+abbrev pub text_of_reply : Reply → Option (List ℕ)
+text_of_reply (replies.Done text) = Some text.items
+text_of_reply (replies.Broken step cause) = Some (fault_text step cause)
+text_of_reply r = None
+
+-- the program's status, where no sink fails
+abbrev pub status_of_reply : Reply → ℕ
+status_of_reply (replies.Done text) = 0
+status_of_reply (replies.Broken step cause) = 1
+status_of_reply replies.Malformed = 2
+status_of_reply replies.NotBuilt = 8
+status_of_reply replies.NoMemory = 6

@@ -2,35 +2,16 @@
 #![tactic(auto)]
 
 mod command;
-mod counting_sink;
-mod documents;
-mod error;
-mod later;
-mod memory_sink;
-mod memory_source;
-mod printing;
+mod delivery;
 mod program;
-mod reading;
 mod reply;
-mod sink;
-mod source;
-mod standard;
-mod steady_source;
-mod transfer;
 
-pub use counting_sink::CountingSink;
-pub use documents::{Document, DocumentSource, StepList};
-pub use error::DocError;
-pub use memory_sink::MemorySink;
-pub use memory_source::MemorySource;
-pub use printing::{fault_line, text_of};
 pub use program::run;
-pub use reading::document;
-pub use sink::Sink;
-pub use source::Source;
-pub use standard::{StdSink, StdSource};
-pub use steady_source::SteadySource;
-pub use vx_bits::Failed;
+pub use vx_document::{DocError, Document, DocumentSource, StepList, document};
+pub use vx_outside::{
+    CountingSink, Failed, MemorySink, MemorySource, Sink, Source, StdSink, StdSource, SteadySource,
+};
+pub use vx_print::{fault_line, text_of};
 
 #[cfg(test)]
 mod tests;

@@ -1,17 +1,16 @@
 //! All that the program does, over any source and sink.
 ghost use Rattle.std.specs.Prelude.{◌≡◌, ◌≢◌, ◌↔◌, ◌⊎◌, ◌≤◌, ◌+◌, ℕ, [], take, map, string_bytes, IfSome, None};
-ghost use Rattle.vx_rows.specs.Bytes.{Rose, Loses, with_back};
+ghost use Rattle.vx_outside.specs.Bytes.{Rose, Loses, with_back};
 ghost use Rattle.vx_rows.specs.Program.{TooLong, Malformed, NotBuilt, program, IsDone, IsBroken, IsPrinted, status_of, IfTold, HasRead};
 ghost use Rattle.vx_rows.specs.Commands.{command_of, IfCommand};
 
 use crate::command::{Command, command_of};
-use crate::printing::fault_line;
-use crate::reply::{Reply, reply_to};
-use crate::sink::Sink;
-use crate::source::Source;
-use crate::transfer::{MAX_BYTES, Stop, read_all, write_all};
+use crate::delivery::deliver_reply;
+use crate::reply::reply_to;
 use std::alloc::Global;
+use vx_outside::{MAX_BYTES, Sink, Source, Stop, read_all};
 
+// Reads a document, and prints its rows or its fault.
 fn run_rows<S: Source, K: Sink>(alloc: Global, source: &mut S, sink: &mut K) -> u8
     ensures known { result ≤ 8 }
     ensures other_words { result ≢ 3 }
@@ -32,8 +31,12 @@ fn run_rows<S: Source, K: Sink>(alloc: Global, source: &mut S, sink: &mut K) -> 
     ensures past { result ≡ 7 → Loses (S.rest source.old) (S.rest source.new) (MAX_BYTES + 1) }
     ensures not_built { result ≡ 8 → IfSome (S.rest source.old) (λ b. program b ≡ NotBuilt) }
 
+    ensures source_fault_told { result ≢ 4 → S.faults source.new ≡ S.faults source.old }
+    ensures sink_fault_told { result ≢ 5 → K.faults sink.new ≡ K.faults sink.old }
+
     ensures quiet { result ≢ 0 → result ≢ 1 → result ≢ 5 → sink.new ≡ sink.old }
-    ensures complete { ¬ Rose (S.faults source.old) (S.faults source.new) → ¬ Rose (K.faults sink.old) (K.faults sink.new)
+    ensures complete { ¬ Rose (S.faults source.old) (S.faults source.new)
+        → ¬ Rose (K.faults sink.old) (K.faults sink.new)
         → (result ≡ 6) ⊎ IfSome (S.rest source.old) (λ b. result ≡ status_of (program b)) }
 {
     let bytes = match read_all(alloc, source) {
@@ -42,28 +45,13 @@ fn run_rows<S: Source, K: Sink>(alloc: Global, source: &mut S, sink: &mut K) -> 
         Err(Stop::TooLong) => return 7,
         Err(Stop::NoMemory) => return 6,
     };
-    match reply_to(alloc, &bytes) {
-        Reply::Malformed => 2,
-        Reply::NotBuilt => 8,
-        Reply::NoMemory => 6,
-        Reply::Broken { step, cause } => {
-            let mut line = [0u8; 160];
-            let len = fault_line(step, &cause, &mut line);
-            match write_all(sink, &line[..len]) {
-                Ok(()) => 1,
-                Err(_) => 5,
-            }
-        }
-        Reply::Done(text) => match write_all(sink, &text) {
-            Ok(()) => 0,
-            Err(_) => 5,
-        },
-    }
+    deliver_reply(sink, &reply_to(alloc, &bytes))
 }
 
-/// Does what the words ask, and answers the program's status. The words leave out the program's own name.
+/// Does what the words ask, and answers the program's status. The words leave out the program's
+/// own name.
 ///
-/// | status | comes only where |
+/// | status | stands for |
 /// |---|---|
 /// | 0 | no step is broken; the whole text was written and finished |
 /// | 1 | a step is broken; the fault's line was written and finished |
@@ -81,28 +69,38 @@ pub fn run<S: Source, K: Sink>(alloc: Global, words: &[String], source: &mut S, 
     ensures words { (result ≡ 3) ↔ (command_of (map string_bytes words.now) ≡ None) }
     ensures untouched { result ≡ 3 → source.new ≡ source.old }
 
-    ensures done { result ≡ 0 → IfTold (map string_bytes words.now) (S.rest source.old) (λ o. IsDone o
-        (λ text. K.held sink.new ≡ with_back (K.held sink.old) text)) }
-    ensures broken { result ≡ 1 → IfTold (map string_bytes words.now) (S.rest source.old) (λ o. IsBroken o
-        (λ line. K.held sink.new ≡ with_back (K.held sink.old) line)) }
+    ensures done { result ≡ 0 → IfTold (map string_bytes words.now) (S.rest source.old)
+        (λ o. IsDone o (λ text. K.held sink.new ≡ with_back (K.held sink.old) text)) }
+    ensures broken { result ≡ 1 → IfTold (map string_bytes words.now) (S.rest source.old)
+        (λ o. IsBroken o (λ line. K.held sink.new ≡ with_back (K.held sink.old) line)) }
     ensures finished { result ≤ 1 → IfSome (K.held sink.old) (λ _. K.pending sink.new ≡ 0) }
     ensures read { result ≤ 1 → IfCommand (command_of (map string_bytes words.now))
         (λ command. HasRead command (S.rest source.old) (S.rest source.new)) }
 
-    ensures malformed { result ≡ 2 → IfTold (map string_bytes words.now) (S.rest source.old) (λ o. o ≡ Malformed) }
+    ensures malformed { result ≡ 2 →
+        IfTold (map string_bytes words.now) (S.rest source.old) (λ o. o ≡ Malformed) }
     ensures source_fault { result ≡ 4 → Rose (S.faults source.old) (S.faults source.new) }
     ensures sink_fault { result ≡ 5 → Rose (K.faults sink.old) (K.faults sink.new) }
-    ensures part { result ≡ 5 → IfTold (map string_bytes words.now) (S.rest source.old) (λ o. IsPrinted o
-        (λ text. (n : ℕ) × (K.held sink.new ≡ with_back (K.held sink.old) (take n text)))) }
-    ensures too_long { result ≡ 7 → IfTold (map string_bytes words.now) (S.rest source.old) (λ o. o ≡ TooLong) }
+    ensures part { result ≡ 5 → IfTold (map string_bytes words.now) (S.rest source.old)
+        (λ o. IsPrinted o (λ text.
+        (n : ℕ) × (K.held sink.new ≡ with_back (K.held sink.old) (take n text)))) }
+    ensures too_long { result ≡ 7 →
+        IfTold (map string_bytes words.now) (S.rest source.old) (λ o. o ≡ TooLong) }
     ensures past { result ≡ 7 → Loses (S.rest source.old) (S.rest source.new) (MAX_BYTES + 1) }
-    ensures not_built { result ≡ 8 → IfTold (map string_bytes words.now) (S.rest source.old) (λ o. o ≡ NotBuilt) }
+    ensures not_built { result ≡ 8 →
+        IfTold (map string_bytes words.now) (S.rest source.old) (λ o. o ≡ NotBuilt) }
+
+    // A fault is not forgotten.
+    ensures source_fault_told { result ≢ 4 → S.faults source.new ≡ S.faults source.old }
+    ensures sink_fault_told { result ≢ 5 → K.faults sink.new ≡ K.faults sink.old }
 
     // Nothing is written at any other status.
     ensures quiet { result ≢ 0 → result ≢ 1 → result ≢ 5 → sink.new ≡ sink.old }
     // Where neither count of faults rose, the status is that of the bytes, or memory is wanting.
-    ensures complete { ¬ Rose (S.faults source.old) (S.faults source.new) → ¬ Rose (K.faults sink.old) (K.faults sink.new)
-        → (result ≡ 3) ⊎ (result ≡ 6) ⊎ IfTold (map string_bytes words.now) (S.rest source.old) (λ o. result ≡ status_of o) }
+    ensures complete { ¬ Rose (S.faults source.old) (S.faults source.new)
+        → ¬ Rose (K.faults sink.old) (K.faults sink.new)
+        → (result ≡ 3) ⊎ (result ≡ 6)
+        ⊎ IfTold (map string_bytes words.now) (S.rest source.old) (λ o. result ≡ status_of o) }
 {
     match command_of(words) {
         None => 3,

@@ -1,18 +1,16 @@
 //! What is answered to the bytes of a document.
 ghost use Rattle.std.specs.Prelude.{◌≡◌, Some};
 ghost use Rattle.serde_json.specs.View.{view};
-ghost use Rattle.vx_rows.specs.Meaning.{Gives};
-ghost use Rattle.vx_rows.specs.Program.{value_of, outcome_of, of_document};
-ghost use Rattle.vx_rows.specs.Documents.{document_value};
-ghost use Rattle.vx_rows.specs.Reply.{Replies};
+ghost use Rattle.vx_json.specs.Meaning.{Gives};
+ghost use Rattle.vx_document.specs.Documents.{document_value};
+ghost use Rattle.vx_rows.specs.Program.{value_of, outcome_of, answer_to, of_document};
+ghost use Rattle.vx_rows.specs.Reply.{Replies, IsHonest};
 
-use crate::documents::{Document, DocumentSource};
-use crate::error::DocError;
-use crate::later::holds_later;
-use crate::printing::text_of;
-use crate::reading::document;
 use serde_json::Value;
 use std::alloc::Global;
+use vx_document::{DocError, Document, DocumentSource, document, holds_later};
+use vx_json::let_go;
+use vx_print::text_of;
 use vx_select::{Cause, SelectError, select};
 
 /// What comes of bytes that aren't too many.
@@ -21,9 +19,17 @@ pub(crate) enum Reply {
     /// The text of the rows.
     Done(Vec<u8>),
     /// The first broken step, and its cause.
-    Broken { step: usize, cause: Cause },
+    Broken {
+        /// The step's number, from 0.
+        step: usize,
+        /// The rule that it breaks.
+        cause: Cause,
+    },
+    /// The bytes have no meaning.
     Malformed,
+    /// The document has a word that isn't read yet.
     NotBuilt,
+    /// Want of memory.
     NoMemory,
 }
 
@@ -43,7 +49,7 @@ fn value_of(alloc: Global, bytes: &[u8]) -> Result<Value, DocError>
     }
 }
 
-/// What comes of these bytes.
+/// What comes of these bytes. The JSON value is let go before the rows are made.
 #[tactic(auto, unfolding(crate::specs::Program::outcome_of))]
 pub(crate) fn reply_to(alloc: Global, bytes: &[u8]) -> Reply
     ensures { Replies result (outcome_of bytes.now) }
@@ -56,16 +62,20 @@ pub(crate) fn reply_to(alloc: Global, bytes: &[u8]) -> Reply
     if holds_later(&value) {
         return Reply::NotBuilt;
     }
-    match document(alloc, &value) {
+    let document = document(alloc, &value);
+    let_go(value);
+    match document {
         Ok(document) => reply_of(alloc, &document),
         Err(DocError::Malformed) => Reply::Malformed,
         Err(DocError::NoMemory) => Reply::NoMemory,
     }
 }
 
-/// What comes of a document.
+/// What comes of a document. Memory isn't wanting where a step is broken.
 fn reply_of(alloc: Global, document: &Document) -> Reply
-    ensures { Replies result (of_document (Some (document_value document.now))) }
+    ensures reply { Replies result (of_document (Some (document_value document.now))) }
+    ensures honest { IsHonest result
+        (answer_to (document_value document.now).source (document_value document.now)) }
 {
     let DocumentSource::Column(column) = &document.source;
     match select(alloc, column, document.steps.as_slice(), &document.policy) {

@@ -1,9 +1,0 @@
-use Rattle.std.proofs.Common.{arith}
-use Rattle.vx_rows.proofs.Each.{pair_in-short, pair_in-long}
-use Rattle.vx_rows.proofs.reading.lists.pair_in.Goals as goal
-
-pub returns-in_default : goal.returns-in_default
-returns-in_default c = pair_in-short c.args.items.now.items (grind arith)
-
-pub returns-in_default-2 : goal.returns-in_default-2
-returns-in_default-2 c = pair_in-long c.args.items.now.items (grind arith)

@@ -1,0 +1,71 @@
+//! One row of the input.
+ghost use Rattle.std.specs.Prelude.{◌<◌, IfOk};
+
+use std::alloc::Global;
+use std::test::Fail;
+use vx_bits::Buffer;
+
+/// A run of the program: what it is given, and what of it fails.
+#[derive(Drop)]
+pub struct Row {
+    /// The program's words.
+    pub words: Vec<String>,
+    /// How many bytes a read or a write takes at most, one at least.
+    pub piece: usize,
+    /// The numbers of the reads that fail, from 0.
+    pub failing_reads: Buffer<usize>,
+    /// The numbers of the writes and finishes that fail, from 0.
+    pub failing_writes: Buffer<usize>,
+    /// The document.
+    pub document: String,
+    ghost some: { 0 < piece },
+}
+
+/// The words of a field, between blanks.
+fn words_of(alloc: Global, field: &str) -> Result<Vec<String>, Fail> {
+    let mut words = Vec::new(alloc);
+    for word in field.split_whitespace() {
+        words.push(String::from_str(alloc, word)?)?;
+    }
+    Ok(words)
+}
+
+/// The numbers of a field, between blanks.
+fn numbers_of(alloc: Global, field: &str) -> Result<Buffer<usize>, Fail> {
+    let mut numbers = Vec::new(alloc);
+    for word in field.split_whitespace() {
+        numbers.push(word.parse::<usize>()?)?;
+    }
+    Ok(Buffer::from_vec(alloc, numbers)?)
+}
+
+/// How many bytes a call takes at most.
+fn piece_of(field: &str) -> Result<usize, Fail>
+    ensures { IfOk result (λ piece. 0 < piece) }
+{
+    let piece = field.trim().parse::<usize>()?;
+    if piece == 0 {
+        return Err("a piece has no byte".into());
+    }
+    Ok(piece)
+}
+
+/// The field up to the next `|`, and what is behind it.
+fn field_of(line: &str) -> Result<(&str, &str), Fail> {
+    Ok(line.split_once('|').ok_or("a row has five fields")?)
+}
+
+/// The row that a line spells.
+pub fn row_of(alloc: Global, line: &str) -> Result<Row, Fail> {
+    let (words, line) = field_of(line)?;
+    let (piece, line) = field_of(line)?;
+    let (failing_reads, line) = field_of(line)?;
+    let (failing_writes, document) = field_of(line)?;
+    Ok(Row {
+        words: words_of(alloc, words)?,
+        piece: piece_of(piece)?,
+        failing_reads: numbers_of(alloc, failing_reads)?,
+        failing_writes: numbers_of(alloc, failing_writes)?,
+        document: String::from_str(alloc, document)?,
+    })
+}
