@@ -241,6 +241,7 @@ fn word_from(bytes: &[u8], start: usize, shift: u32) -> u64
 }
 
 // The word of the `count` bits from bit `shift` of byte `start` on, and zeros.
+#[inline(never)]
 fn last_word(bytes: &[u8], start: usize, shift: u32, count: u32) -> u64
     requires below { shift < 8 }
     requires short { count < 64 }
