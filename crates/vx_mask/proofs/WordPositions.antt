@@ -21,7 +21,7 @@ word_is bits w =
     (64 - length part, ap (word_bits (number_of part)) whole ∙ word_bits-number_of part (64 - length part))
 
 -- the positions of a word's bits
-positions_in : (bits : List Bool) (w word at : ℕ) → word ≡ word_at bits w → positions at (word_bits word 64) ≡ positions at (take 64 (drop (64 * w) bits))
+pub positions_in : (bits : List Bool) (w word at : ℕ) → word ≡ word_at bits w → positions at (word_bits word 64) ≡ positions at (take 64 (drop (64 * w) bits))
 positions_in bits w word at e =
     let is = word_is bits w in
     let part = take 64 (drop (64 * w) bits) in

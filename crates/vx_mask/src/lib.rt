@@ -4,6 +4,7 @@
 mod agreement;
 mod blocks;
 mod error;
+mod intersect;
 mod laws;
 mod mask;
 mod mask_values;
@@ -14,7 +15,7 @@ mod reuse;
 mod runs;
 
 pub use error::MaskError;
-pub use laws::{indices_law, rank_law, slices_law};
+pub use laws::{filters_law, indices_law, rank_law, slices_law};
 pub use mask::Mask;
 pub use mask_values::MaskValues;
 pub use reuse::prepare_mask_for_reuse;

@@ -1,5 +1,5 @@
 //! Masks of any kind.
-ghost use Rattle.std.specs.Prelude.{◌≡◌, ◌*◌, ◌<◌, ◌≤◌, ◌↔◌, IsTrue, IfOk, IfSome, length, slice_index_or, take, false, true};
+ghost use Rattle.std.specs.Prelude.{◌≡◌, ◌*◌, ◌<◌, ◌≤◌, ◌↔◌, IsTrue, IfOk, IfSome, length, map, slice_index_or, take, false, true};
 ghost use Rattle.std.specs.Option.{option_copied};
 ghost use Rattle.vx_bits.specs.BitBuffer.{true_count_of};
 ghost use Rattle.vx_bits.specs.Made.{FailsBy};
@@ -8,6 +8,7 @@ ghost use Rattle.vx_mask.specs.Mask.{mask_bits, partial_of, indices_fault, slice
 ghost use Rattle.vx_mask.specs.MaskValues.{bits_alone, keep_indices, keep_slices, keep_blocks};
 
 use crate::error::MaskError;
+use crate::intersect::bits_by_rank;
 use crate::mask_values::MaskValues;
 use crate::positions::{ascend, bits_at, bits_of_runs, run_total};
 use crate::reuse::product;
@@ -231,6 +232,28 @@ impl Mask {
         match self {
             Mask::Values(values) => Ok(Mask::Values(values.keep_blocks(alloc)?)),
             _ => Ok(self.share()),
+        }
+    }
+
+    /// The rows at the set positions of this mask whose rank is set in `other`: what is left of
+    /// the rows where `other` selects among those that this mask selects. `NoMemory` alone.
+    pub fn intersect_by_rank(&self, alloc: Global, other: &Mask) -> Result<Mask, NoMemory>
+        requires { length (mask_bits other.now) ≡ true_count_of (mask_bits self.now) }
+        ensures set { IfOk result (λ m. set_of (mask_bits m)
+            ≡ map (rank_of (mask_bits self.now)) (set_of (mask_bits other.now))) }
+        ensures len { IfOk result (λ m. length (mask_bits m) ≡ length (mask_bits self.now)) }
+    {
+        match self {
+            Mask::AllTrue(_) => Ok(other.share()),
+            Mask::AllFalse(len) => Ok(Mask::AllFalse(*len)),
+            Mask::Values(values) => match other {
+                Mask::AllTrue(_) => Ok(self.share()),
+                Mask::AllFalse(_) => Ok(Mask::AllFalse(values.len())),
+                Mask::Values(by) => {
+                    let bits = bits_by_rank(alloc, values.bits(), by.bits())?;
+                    Ok(Mask::from_buffer(bits))
+                }
+            },
         }
     }
 
