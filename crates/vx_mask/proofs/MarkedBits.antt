@@ -1,12 +1,11 @@
 -- Bits that are turned on at the positions of a list, in order, where other bits say so.
-use Rattle.std.proofs.Common.{◌≡◌, ◌≢◌, ℕ, zero, suc, ◌+◌, ◌-◌, ◌*◌, ◌/◌, ◌^◌, ◌<◌, ◌≤◌, Bool, true, false, cond, List, [], ◌∷◌, ◌++◌, length, get_or, take, drop, set, replicate, refl, sym, ap, ap₂, ◌∙◌, subst, inl, inr, arith, append_assoc}
+use Rattle.std.proofs.Common.{◌≡◌, ◌≢◌, ℕ, ◌+◌, ◌-◌, ◌*◌, ◌^◌, ◌<◌, ◌≤◌, Bool, true, false, cond, List, [], ◌∷◌, ◌++◌, length, get_or, take, drop, set, replicate, refl, sym, ap, ap₂, ◌∙◌, subst, inl, inr, arith, append_assoc}
 use Rattle.std.specs.Int.RustNames.{count_ones}
 use Rattle.std.specs.List.{items_where_true}
-use Rattle.std.proofs.lemmas.List.{length-set, length-take, length-take-le, length-drop, length-replicate, get_or-replicate, get_or-set_same, get_or-set_other, take_all, take-set, take-append-drop, drop-drop, drop_more, drop_all, append-nil}
+use Rattle.std.proofs.lemmas.List.{length-set, length-take, length-take-le, length-drop, get_or-set_same, get_or-set_other, take_all, take-set, take-append-drop, drop-drop, drop_more, drop_all, append-nil}
 use Rattle.std.proofs.lemmas.Bool.{cases_lt}
 use lib.Bits.{bit_and}
 use lib.Count.{count_trailing_zeros}
-use Rattle.vx_bits.specs.BitBuffer.{true_count_of}
 use Rattle.vx_bits.specs.Words.{word_at, word_bits}
 use Rattle.vx_bits.proofs.WordBits.{true_count_of-word_bits}
 use Rattle.vx_mask.specs.Positions.{AllBits, ascending, positions, set_of}

@@ -1,5 +1,5 @@
 -- Items at set positions, and at the ranks of set positions.
-use Rattle.std.proofs.Common.{◌≡◌, ℕ, zero, suc, ◌+◌, ◌<◌, ◌≤◌, Bool, true, false, List, [], ◌∷◌, ◌++◌, length, get_or, map, drop, replicate, None, Some, refl, sym, ap, ap₂, ◌∙◌, arith, append_assoc}
+use Rattle.std.proofs.Common.{◌≡◌, ℕ, zero, suc, ◌+◌, ◌<◌, ◌≤◌, Bool, true, false, List, [], ◌∷◌, ◌++◌, length, get_or, map, replicate, None, Some, refl, sym, ap, ap₂, ◌∙◌, arith, append_assoc}
 use Rattle.std.specs.List.{items_where_true, slice_get}
 use Rattle.std.proofs.lemmas.List.{length_push, length-replicate, get_or_at, nil_from_length}
 use Rattle.std.proofs.lemmas.List.FromFn.{length-range_with_len}

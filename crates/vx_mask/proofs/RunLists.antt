@@ -1,12 +1,12 @@
 -- Stretches of bits that are all the same, and maximal runs.
 use Rattle.std.proofs.Common.{◌≡◌, ℕ, zero, suc, ◌+◌, ◌-◌, ◌<◌, ◌≤◌, Bool, true, false, cond, List, [], ◌∷◌, ◌++◌, length, get_or, take, drop, replicate, refl, sym, ap, ap₂, ◌∙◌, subst, inl, inr, arith, eqb}
 use Rattle.std.specs.List.{All, range_with_len}
-use Rattle.std.proofs.lemmas.List.{take-append-drop, take-take, take_all, drop-take, drop-drop, drop_all, drop_more, take_more, length-take-le, length-drop, length-replicate, get_or-take, get_or-drop, get_or-replicate, get_or_default, same_lists, append_assoc, append-nil}
+use Rattle.std.proofs.lemmas.List.{take-append-drop, take-take, take_all, drop-take, drop-drop, drop_all, length-take-le, length-drop, length-replicate, get_or-take, get_or-drop, get_or-replicate, get_or_default, same_lists, append_assoc, append-nil}
 use Rattle.std.proofs.lemmas.Bool.{cases_lt}
 use Rattle.std.proofs.lemmas.Bool.Decides.{nat_tests}
 use Rattle.vx_bits.specs.BitBuffer.{true_count_of}
 use Rattle.vx_mask.specs.Positions.{AllBits, positions, set_of, covered, runs_with, runs_from, maximal_runs}
-use Rattle.vx_mask.proofs.PositionLists.{set_of_set, set_of_clear, positions-append, length-positions}
+use Rattle.vx_mask.proofs.PositionLists.{set_of_set, set_of_clear, length-positions}
 
 -- bits that are all the same are that bit again and again
 pub part_filled : (bits : List Bool) (a b : ℕ) (value : Bool) → a ≤ b → b ≤ length bits → AllBits bits a b value → take (b - a) (drop a bits) ≡ replicate (b - a) value

@@ -1,14 +1,12 @@
 -- The set positions of a list of bits, word by word.
-use Rattle.std.proofs.Common.{◌≡◌, ℕ, zero, suc, ◌+◌, ◌-◌, ◌*◌, ◌^◌, ◌<◌, ◌≤◌, Bool, false, List, ◌++◌, length, take, drop, replicate, refl, sym, ap, ap₂, ◌∙◌, inl, inr, arith, append-nil}
+use Rattle.std.proofs.Common.{◌≡◌, ℕ, ◌+◌, ◌-◌, ◌*◌, ◌^◌, ◌<◌, ◌≤◌, Bool, false, List, ◌++◌, length, take, drop, replicate, sym, ap, ap₂, ◌∙◌, arith, append-nil}
 use Rattle.std.specs.Int.RustNames.{count_ones}
-use Rattle.std.proofs.lemmas.List.{take-append-drop, take-take, take_all, drop-take, length-take, length-drop, length-take-le}
-use Rattle.std.proofs.lemmas.Bool.{cases_lt}
+use Rattle.std.proofs.lemmas.List.{take-append-drop, take-take, drop-take, length-take, length-take-le}
 use Rattle.vx_bits.specs.BitBuffer.{number_of, true_count_of}
 use Rattle.vx_bits.specs.Words.{word_at, word_bits}
 use Rattle.vx_bits.proofs.WordBits.{word_bits-number_of}
 use Rattle.vx_mask.specs.Positions.{positions, set_of}
 use Rattle.vx_mask.proofs.PositionLists.{positions-append, positions_false, length-positions}
-use Rattle.vx_mask.proofs.BlockCounts.{count_all}
 use Rattle.vx_mask.proofs.WordCounts.{count_of_word, counts_rise}
 
 -- the bits of a word are some of the list, and clear ones behind them

@@ -1,12 +1,10 @@
-use Rattle.std.proofs.Common.{◌≡◌, ◌+◌, ◌*◌, ◌^◌, ◌<◌, ◌≤◌, ◌++◌, false, length, get_or, replicate, refl, sym, ap, subst, ◌∙◌, arith}
-use Rattle.std.specs.List.{items_where_true}
+use Rattle.std.proofs.Common.{◌≡◌, ◌+◌, ◌*◌, ◌++◌, false, length, get_or, replicate, refl, sym, ap, ◌∙◌, arith}
 use Rattle.std.proofs.lemmas.List.{length-replicate, get_or-replicate}
 use Rattle.std.proofs.lemmas.List.Sums.{count_by-le-length}
 use Rattle.std.proofs.lemmas.Result.{IfOk-weaker}
-use Rattle.vx_bits.specs.BitBuffer.{PlacedBits, true_count_of}
-use Rattle.vx_mask.specs.Positions.{AllBits, positions, set_of}
+use Rattle.vx_bits.specs.BitBuffer.{PlacedBits}
+use Rattle.vx_mask.specs.Positions.{set_of}
 use Rattle.vx_mask.proofs.BlockCounts.{count_fits}
-use Rattle.vx_mask.proofs.PositionLists.{positions_false}
 use Rattle.vx_mask.proofs.WordCounts.{count_of_word, counts_rise}
 use Rattle.vx_mask.proofs.MarkedBits.{no_mark, word_within_bits, one_word, all_words}
 use Rattle.vx_mask.proofs.intersect.bits_by_rank.Goals as goal

@@ -1,4 +1,4 @@
-use Rattle.std.proofs.Common.{◌≡◌, ◌*◌, ◌≤◌, length, arith}
+use Rattle.std.proofs.Common.{◌*◌, arith}
 use Rattle.vx_mask.proofs.RunLists.{all_positions}
 use Rattle.vx_mask.proofs.WordPositions.{word_pushed, word_fits}
 use Rattle.vx_mask.proofs.runs.positions_of.Goals as goal

@@ -1,4 +1,4 @@
-use Rattle.std.proofs.Common.{◌≡◌, ◌+◌, ◌-◌, ◌^◌, ◌<◌, arith, ◌∙◌}
+use Rattle.std.proofs.Common.{◌^◌, ◌<◌, arith, ◌∙◌}
 use Rattle.std.specs.Int.{w64}
 use Rattle.std.proofs.lemmas.Nat.Bits.{bit_at-trailing_zeros}
 use Rattle.vx_mask.proofs.LowestBit.{one_less, position_pushed, positions_done, some_left}
