@@ -85,7 +85,7 @@ bits_slice bytes o n s e p q =
     ∙ bits_cut bytes o n s e p q
 
 -- the number of one more bit
-number_push : (bits : List Bool) (b : Bool) → number_of (bits ++ b ∷ []) ≡ number_of bits + cond b 1 0 * 2 ^ length bits
+pub number_push : (bits : List Bool) (b : Bool) → number_of (bits ++ b ∷ []) ≡ number_of bits + cond b 1 0 * 2 ^ length bits
 number_push [] b = omega arith
 number_push (a ∷ bits) b =
     let e = number_push bits b in
@@ -98,7 +98,7 @@ number_push (a ∷ bits) b =
 pub number_more : (bits : List Bool) (k : ℕ) → k < length bits → number_of (take (k + 1) bits) ≡ number_of (take k bits) + cond (get_or bits k false) 1 0 * 2 ^ k
 number_more bits k h = ap number_of (take_more bits k false h) ∙ number_push (take k bits) (get_or bits k false) ∙ ap (λ n. number_of (take k bits) + cond (get_or bits k false) 1 0 * 2 ^ n) (length-take-le k bits (omega arith))
 
-number_below : (bits : List Bool) → number_of bits < 2 ^ length bits
+pub number_below : (bits : List Bool) → number_of bits < 2 ^ length bits
 number_below [] = omega arith
 number_below (true ∷ bits) = let h = number_below bits in let p : 2 ^ suc (length bits) ≡ 2 * 2 ^ length bits = pow-suc 2 (length bits) ∙ mul_comm _ 2 in omega arith
 number_below (false ∷ bits) = let h = number_below bits in let p : 2 ^ suc (length bits) ≡ 2 * 2 ^ length bits = pow-suc 2 (length bits) ∙ mul_comm _ 2 in omega arith

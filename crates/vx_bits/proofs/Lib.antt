@@ -1,6 +1,8 @@
 pub mod BitLists
 pub mod BuiltLists
 pub mod ByteLists
+pub mod ByteWords
 pub mod Cuts
-pub mod FirstSet
+pub mod SetBits
 pub mod WordBits
+pub mod WordLists

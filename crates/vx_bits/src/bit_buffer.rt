@@ -2,7 +2,7 @@
 ghost use Rattle.std.specs.Prelude.{◌≡◌, ◌+◌, ◌-◌, ◌*◌, ◌/◌, ◌%◌, ◌^◌, ◌<◌, ◌≤◌, ◌↔◌, IsTrue, IfOk, MatchOption, length, position, slice_index_or, slice_range, false};
 ghost use Rattle.vx_bits.specs.BitBuffer.{IsLastSet, bit_fault, bits_of, number_of, true_count_of};
 ghost use Rattle.vx_bits.specs.Made.{made};
-ghost use Rattle.vx_bits.specs.Words.{word_at};
+ghost use Rattle.vx_bits.specs.Words.{word_at, word_bits};
 
 use crate::buffer::Buffer;
 use crate::error::NoMemory;
@@ -135,29 +135,31 @@ impl BitBuffer {
     }
 
     /// Word `i`: its bit k is bit `64 * i + k`, and zero past the end.
+    #[inline]
     pub fn word(&self, i: usize) -> u64
         requires { i ≤ length self.now.bits / 64 }
         ensures { result ≡ word_at self.now.bits i }
     {
-        let len = self.len();
-        let base = 64 * i;
-        let held = (len - base).min(64);
-        let mut word = 0;
-        for k in 0..held {
-            if self.value(base + k) {
-                word |= 1 << k;
-            }
+        let left = self.len - 64 * i;
+        if left < 64 {
+            return last_word(
+                self.bytes.as_slice(),
+                8 * i,
+                self.offset as u32,
+                left as u32,
+            );
         }
-        word
+        word_from(self.bytes.as_slice(), 8 * i, self.offset as u32)
     }
 
     /// The position of the first set bit. `None` exactly where no bit is set.
     pub fn first_set(&self) -> Option<usize>
         ensures { result ≡ position (λ bit. bit) self.now.bits }
     {
-        for i in 0..self.len() {
-            if self.value(i) {
-                return Some(i);
+        for i in 0..self.len().div_ceil(64) {
+            let word = self.word(i);
+            if word != 0 {
+                return Some(64 * i + word.trailing_zeros() as usize);
             }
         }
         None
@@ -167,11 +169,12 @@ impl BitBuffer {
     pub fn last_set(&self) -> Option<usize>
         ensures { MatchOption result (true_count_of self.now.bits ≡ 0) (IsLastSet self.now.bits) }
     {
-        let len = self.len();
-        for passed in 0..len {
-            let i = len - 1 - passed;
-            if self.value(i) {
-                return Some(i);
+        let words = self.len().div_ceil(64);
+        for passed in 0..words {
+            let i = words - 1 - passed;
+            let word = self.word(i);
+            if word != 0 {
+                return Some(64 * i + word.ilog2() as usize);
             }
         }
         None
@@ -205,7 +208,61 @@ impl BitBuffer {
     }
 }
 
-// How many of the bits from `start` up to `end` are set, by whole bytes where there are any.
+// The word that eight bytes from `start` on spell.
+#[inline(always)]
+fn eight_bytes(bytes: &[u8], start: usize) -> u64
+    requires { start + 8 ≤ length bytes.now }
+    ensures { word_bits result 64 ≡ bits_of bytes.now (8 * start) 64 }
+{
+    u64::from_le_bytes([
+        bytes[start],
+        bytes[start + 1],
+        bytes[start + 2],
+        bytes[start + 3],
+        bytes[start + 4],
+        bytes[start + 5],
+        bytes[start + 6],
+        bytes[start + 7],
+    ])
+}
+
+// The 64 bits from bit `shift` of byte `start` on.
+#[inline(always)]
+fn word_from(bytes: &[u8], start: usize, shift: u32) -> u64
+    requires below { shift < 8 }
+    requires within { 8 * start + shift + 64 ≤ 8 * length bytes.now }
+    ensures { word_bits result 64 ≡ bits_of bytes.now (8 * start + shift) 64 }
+{
+    let low = eight_bytes(bytes, start);
+    if shift == 0 {
+        return low;
+    }
+    (low >> shift) | (u64::from(bytes[start + 8]) << (64 - shift))
+}
+
+// The word of the `count` bits from bit `shift` of byte `start` on, and zeros.
+#[inline(never)]
+fn last_word(bytes: &[u8], start: usize, shift: u32, count: u32) -> u64
+    requires below { shift < 8 }
+    requires short { count < 64 }
+    requires within { 8 * start + shift + count ≤ 8 * length bytes.now }
+    requires counted { 8 * start + shift + count < 2 ^ 64 }
+    ensures { result ≡ number_of (bits_of bytes.now (8 * start + shift) count) }
+{
+    if bytes.len() - start > 8 {
+        return word_from(bytes, start, shift) & ((1 << count) - 1);
+    }
+    let mut word = 0;
+    for k in 0..count {
+        let place = 8 * start + shift as usize + k as usize;
+        if (bytes[place / 8] >> (place % 8)) & 1 == 1 {
+            word |= 1 << k;
+        }
+    }
+    word
+}
+
+// How many of the bits from `start` up to `end` are set, by words and bytes where there are any.
 fn count_between(bytes: &[u8], start: usize, end: usize) -> usize
     requires ordered { start ≤ end }
     requires within { end ≤ 8 * length bytes.now }
@@ -216,8 +273,10 @@ fn count_between(bytes: &[u8], start: usize, end: usize) -> usize
     if first >= last {
         return count_bits(bytes, start, end);
     }
+    let middle = first + (last - first) / 8 * 8;
     count_bits(bytes, start, 8 * first)
-        + count_bytes(bytes, first, last)
+        + count_words(bytes, first, (last - first) / 8)
+        + count_bytes(bytes, middle, last)
         + count_bits(bytes, 8 * last, end)
 }
 
@@ -231,6 +290,20 @@ fn count_bits(bytes: &[u8], start: usize, end: usize) -> usize
     let mut count = 0;
     for place in start..end {
         count += ((bytes[place / 8] >> (place % 8)) & 1) as usize;
+    }
+    count
+}
+
+// How many bits of so many times eight bytes from `first` on are set.
+fn count_words(bytes: &[u8], first: usize, words: usize) -> usize
+    requires within { first + 8 * words ≤ length bytes.now }
+    requires counted { 8 * first + 64 * words < 2 ^ 64 }
+    ensures value { result ≡ true_count_of (bits_of bytes.now (8 * first) (64 * words)) }
+    ensures bound { result ≤ 64 * words }
+{
+    let mut count = 0;
+    for k in 0..words {
+        count += eight_bytes(bytes, first + 8 * k).count_ones() as usize;
     }
     count
 }

@@ -81,10 +81,10 @@ impl BitBuilder {
         ensures err { OnErr result (self.new ≡ self.old) }
     {
         let word = word_alike(bit);
-        let room = 64 - self.held as usize;
-        if n < room {
+        if n <= 64 {
             return self.append_word(word, n);
         }
+        let room = 64 - self.held as usize;
         let first = low_half(joined(self.next, self.held, lowest_bits(word, room as u32)));
         push_words(&mut self.bytes, first, byte_alike(bit), (n - room) / 64)?;
         let rest = ((n - room) % 64) as u32;

@@ -1,6 +1,6 @@
-use Rattle.std.proofs.Common.{◌≡◌, ◌-◌, length, drop}
-use Rattle.vx_bits.specs.BitBuffer.{true_count_of}
+use Rattle.std.proofs.Common.{◌*◌, ◌-◌, length}
+use Rattle.vx_bits.proofs.SetBits.{IsClear}
 use Rattle.vx_bits.proofs.bit_buffer.BitBuffer.last_set.Given as goal
 
 abbrev pub invariant-loop-passed : goal.invariant-loop-passed
-invariant-loop-passed l = true_count_of (drop (l.len - l.passed) l.self.bits) ≡ 0
+invariant-loop-passed l = IsClear l.self.bits (64 * (l.words - l.passed)) (length l.self.bits)

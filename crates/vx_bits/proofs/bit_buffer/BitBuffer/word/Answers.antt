@@ -1,30 +1,56 @@
-use Rattle.std.proofs.Common.{ℕ, ◌*◌, ◌<◌, ◌^◌, ◌∙◌, take, drop, false, sym, ap, subst, arith}
-use Rattle.std.proofs.lemmas.List.{length-drop, get_or-drop, take_min}
-use Rattle.vx_bits.specs.BitBuffer.{number_of}
-use Rattle.vx_bits.proofs.BitLists.{number_more, number_take_below, set_next_at}
+use Rattle.std.proofs.Common.{◌≡◌, ◌+◌, ◌-◌, ◌*◌, ◌/◌, ◌<◌, ◌≤◌, length, take, drop, sym, ap, ap₂, ◌∙◌, rules, arith}
+use Rattle.vx_bits.specs.BitBuffer.{bits_of, number_of}
 use Rattle.vx_bits.specs.Words.{word_at}
-use Rattle.vx_bits.proofs.bit_buffer.BitBuffer.word.Goals.{then-value, else-value}
+use Rattle.vx_bits.proofs.BitLists.{are_fields}
+use Rattle.vx_bits.proofs.ByteWords.{front_word, inner_word}
 use Rattle.vx_bits.proofs.bit_buffer.BitBuffer.word.Goals as goal
 
-pub loop-k-preserved : goal.loop-k-preserved
-loop-k-preserved c =
-    let k = c.loop-k.k in
-    let all = c.args.self.now.bits in
-    let bits = drop (64 * c.args.i) all in
-    let left = length-drop (64 * c.args.i) all in
-    let more = number_more bits k (omega arith) in
-    let at = get_or-drop (64 * c.args.i) all k false in
-    let below = subst (λ (w : ℕ). w < 2 ^ k) (sym c.loop-k.invariant) (number_take_below bits k (omega arith)) in
-    let plus = set_next_at 64 c.loop-k.word k below (omega arith) in
-    elim c.if-value.branch [
-      | then-value w ↦ grind (arith, more, at, plus)
-      | else-value w ↦ grind (arith, more, at)
-    ]
+pub overflow_mul-left : goal.overflow_mul-left
+overflow_mul-left c =
+    let b = c.self.inside in
+    let fields = are_fields b.bytes b.offset b.len _ c.self.view_is c.self.invariant in
+    search (rules, arith, fields.long, fields.counted)
+
+pub overflow_sub-left : goal.overflow_sub-left
+overflow_sub-left c =
+    let b = c.self.inside in
+    let fields = are_fields b.bytes b.offset b.len _ c.self.view_is c.self.invariant in
+    omega (arith, fields.long)
+
+pub overflow_mul-i : goal.overflow_mul-i
+overflow_mul-i c =
+    let b = c.self.inside in
+    let fields = are_fields b.bytes b.offset b.len _ c.self.view_is c.self.invariant in
+    search (rules, arith, fields.long, fields.counted)
+
+pub last_word-requires-clause-within : goal.last_word-requires-clause-within
+last_word-requires-clause-within c =
+    let b = c.self.inside in
+    let fields = are_fields b.bytes b.offset b.len _ c.self.view_is c.self.invariant in
+    omega (arith, fields.long, fields.within, ap length c.as_slice.ensures)
+
+pub last_word-requires-clause-counted : goal.last_word-requires-clause-counted
+last_word-requires-clause-counted c =
+    let b = c.self.inside in
+    let fields = are_fields b.bytes b.offset b.len _ c.self.view_is c.self.invariant in
+    omega (arith, fields.long, fields.counted)
+
+pub returns-then-left-lt64 : goal.returns-then-left-lt64
+returns-then-left-lt64 c =
+    let b = c.self.inside in
+    let fields = are_fields b.bytes b.offset b.len _ c.self.view_is c.self.invariant in
+    let left = b.len - 64 * c.args.i in
+    let base : 64 * c.args.i ≤ b.len = omega (arith, fields.long) in
+    c.last_word.ensures
+    ∙ ap (λ l. number_of (bits_of l (8 * (8 * c.args.i) + b.offset) left)) c.as_slice.ensures
+    ∙ front_word b.bytes b.offset b.len c.args.i base (omega arith)
+    ∙ ap (λ l. word_at l c.args.i) fields.bits
 
 pub returns : goal.returns
-unfolding word_at
 returns c =
-    let all = c.args.self.now.bits in
-    let bits = drop (64 * c.args.i) all in
-    let left = length-drop (64 * c.args.i) all in
-    c.loop-k.invariant ∙ ap (λ n. number_of (take n bits)) (omega arith) ∙ ap number_of (take_min 64 bits)
+    let b = c.self.inside in
+    let fields = are_fields b.bytes b.offset b.len _ c.self.view_is c.self.invariant in
+    let inside : 64 * c.args.i + 64 ≤ b.len = omega (arith, c.if-left-lt64.false) in
+    inner_word b.bytes b.offset b.len c.args.i c.word_from.result inside (omega arith)
+    (c.word_from.ensures ∙ ap (λ l. bits_of l (8 * (8 * c.args.i) + b.offset) 64) c.as_slice-2.ensures)
+    ∙ ap (λ l. word_at l c.args.i) fields.bits

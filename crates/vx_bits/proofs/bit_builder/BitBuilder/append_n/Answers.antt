@@ -4,8 +4,8 @@ use Rattle.vx_bits.proofs.BuiltLists.{built_alike, word_alike}
 use Rattle.vx_bits.specs.Words.{word_bits}
 use Rattle.vx_bits.proofs.bit_builder.BitBuilder.append_n.Goals as goal
 
-pub returns-then-n-room-clause-ok : goal.returns-then-n-room-clause-ok
-returns-then-n-room-clause-ok c =
+pub returns-then-n-le64-clause-ok : goal.returns-then-n-le64-clause-ok
+returns-then-n-le64-clause-ok c =
     let bits = ap (λ w. word_bits w c.args.n) c.word_alike-word.ensures ∙ word_alike c.args.bit c.args.n (omega arith) in
     rw bits at c.append_word.ensures.ok
 
