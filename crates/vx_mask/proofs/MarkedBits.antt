@@ -73,20 +73,20 @@ marked kept new len top p false bs rest long below h e =
 pub bit_marked : (kept new by : List Bool) (len base left rank p : ℕ) → 0 < left → left < 2 ^ 64 → rank < length by → p ≡ base + count_trailing_zeros 64 left → p < base + 64 → length kept ≡ len → IsOpen kept len (base + 64) (positions base (word_bits left 64)) → new ≡ cond (get_or by rank false) (set kept p true) kept → IsMarked kept new len (base + 64) p (get_or by rank false) (drop (rank + 1) by) (positions base (word_bits (bit_and left (left - 1)) 64))
 bit_marked kept new by len base left rank p some fits enough place below long open_bits e =
     let rest = positions base (word_bits (bit_and left (left - 1)) 64) in
-    let first = lowest_position base 64 left some fits ∙ ap (λ n. n ∷ rest) (sym place) in
+    let first = lowest_position base left some fits ∙ ap (λ n. n ∷ rest) (sym place) in
     marked kept new len (base + 64) p (get_or by rank false) (drop (rank + 1) by) rest long below (subst (λ (l : List ℕ). IsOpen kept len (base + 64) l) first open_bits) e
 
 pub next_mark : (kept new by : List Bool) (len base left rank p : ℕ) (all : List ℕ) → 0 < left → left < 2 ^ 64 → rank < length by → p ≡ base + count_trailing_zeros 64 left → IsMarked kept new len (base + 64) p (get_or by rank false) (drop (rank + 1) by) (positions base (word_bits (bit_and left (left - 1)) 64)) → set_of kept ++ items_where_true (drop rank by) (positions base (word_bits left 64)) ≡ all → set_of new ++ items_where_true (drop (rank + 1) by) (positions base (word_bits (bit_and left (left - 1)) 64)) ≡ all
 next_mark kept new by len base left rank p all some fits enough place h e =
     let rest = positions base (word_bits (bit_and left (left - 1)) 64) in
-    let first = lowest_position base 64 left some fits ∙ ap (λ n. n ∷ rest) (sym place) in
+    let first = lowest_position base left some fits ∙ ap (λ n. n ∷ rest) (sym place) in
     h.set ∙ sym (ap₂ (λ bs ps. set_of kept ++ items_where_true bs ps) (drop_more by rank false enough) first) ∙ e
 
 -- the lowest set bit of a word lies within the list
 pub place_within : (kept : List Bool) (len base left p : ℕ) → 0 < left → left < 2 ^ 64 → p ≡ base + count_trailing_zeros 64 left → IsOpen kept len (base + 64) (positions base (word_bits left 64)) → p < len
 place_within kept len base left p some fits place h =
     let rest = positions base (word_bits (bit_and left (left - 1)) 64) in
-    let first = lowest_position base 64 left some fits ∙ ap (λ n. n ∷ rest) (sym place) in
+    let first = lowest_position base left some fits ∙ ap (λ n. n ∷ rest) (sym place) in
     let parts = index_parts h.low len p rest (sym (ap (ascending h.low len) first) ∙ h.ascend) in
     parts.within
 
@@ -97,7 +97,7 @@ where_none (b ∷ bs) = refl
 -- no set bit is left
 pub word_marked : (kept by : List Bool) (base left rank : ℕ) (all : List ℕ) → left ≡ 0 → set_of kept ++ items_where_true (drop rank by) (positions base (word_bits left 64)) ≡ all → set_of kept ≡ all
 word_marked kept by base left rank all none e =
-    let empty : positions base (word_bits left 64) ≡ [] = ap (λ n. positions base (word_bits n 64)) none ∙ no_positions base 64 in
+    let empty : positions base (word_bits left 64) ≡ [] = ap (λ n. positions base (word_bits n 64)) none ∙ no_positions base in
     sym (append-nil (set_of kept)) ∙ sym (ap (λ l. set_of kept ++ l) (ap (items_where_true (drop rank by)) empty ∙ where_none (drop rank by))) ∙ e
 
 -- ---- all words

@@ -52,11 +52,6 @@ set_of_bit bits a h e =
     let one : a + 1 - a ≡ 1 = omega arith in
     set_of_run bits a (a + 1) (omega arith) (omega arith) (one_bit bits a true e) ∙ ap (λ n. set_of (take a bits) ++ range_with_len a n) one
 
--- the next set position, and the clear bits behind it
-pub next_position : (bits : List Bool) (indices new : List ℕ) (at next : ℕ) → at < length bits → get_or bits at false ≡ true → at + 1 ≤ next → next ≤ length bits → AllBits bits (at + 1) next false → indices ≡ set_of (take at bits) → new ≡ indices ++ at ∷ [] → new ≡ set_of (take next bits)
-next_position bits indices new at next h set p q clear e f =
-    f ∙ ap (λ l. l ++ at ∷ []) e ∙ sym (set_of_bit bits at h set) ∙ sym (set_of_passed bits (at + 1) next p q clear)
-
 pub all_positions : (bits : List Bool) (indices : List ℕ) (at : ℕ) → length bits ≤ at → indices ≡ set_of (take at bits) → indices ≡ set_of bits
 all_positions bits indices at h e = e ∙ ap set_of (take_all at bits h)
 

@@ -5,9 +5,10 @@ use Rattle.std.proofs.lemmas.Nat.Bits.{bit_at-trailing_zeros}
 use Rattle.std.specs.List.{items_where_true}
 use lib.Bits.{bit_and}
 use lib.Count.{count_trailing_zeros}
+use Rattle.vx_bits.proofs.WordLists.{one_less}
 use Rattle.vx_bits.specs.Words.{word_bits}
 use Rattle.vx_mask.specs.Positions.{positions, set_of}
-use Rattle.vx_mask.proofs.LowestBit.{one_less, some_left}
+use Rattle.vx_mask.proofs.LowestBit.{some_left}
 use Rattle.vx_mask.proofs.MarkedBits.{bit_marked, next_mark, word_marked, place_within}
 use Rattle.vx_mask.proofs.intersect.mark_word.Goals as goal
 
