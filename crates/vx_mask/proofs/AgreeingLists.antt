@@ -139,10 +139,10 @@ head_begins bits low start n p h =
 rest_covered : (bits : List Bool) (runs : List (ℕ × ℕ)) (k low : ℕ) → low ≤ length bits → covered (take k runs) ≡ set_of (take low bits) → covered runs ≡ set_of bits → positions low (drop low bits) ≡ covered (drop k runs)
 rest_covered bits runs k low p found all =
     let split_set : set_of bits ≡ set_of (take low bits) ++ positions low (drop low bits) =
-        ap set_of (sym (take-append-drop low bits)) ∙ positions-append 0 (take low bits) (drop low bits)
-        ∙ ap (λ n. set_of (take low bits) ++ positions n (drop low bits)) (omega (arith, length-take-le low bits p)) in
+    ap set_of (sym (take-append-drop low bits)) ∙ positions-append 0 (take low bits) (drop low bits)
+    ∙ ap (λ n. set_of (take low bits) ++ positions n (drop low bits)) (omega (arith, length-take-le low bits p)) in
     let split_runs : covered runs ≡ covered (take k runs) ++ covered (drop k runs) =
-        ap covered (sym (take-append-drop k runs)) ∙ flat_map-append (λ (run : ℕ × ℕ). range_with_len run.0 (run.1 - run.0)) (take k runs) (drop k runs) in
+    ap covered (sym (take-append-drop k runs)) ∙ flat_map-append (λ (run : ℕ × ℕ). range_with_len run.0 (run.1 - run.0)) (take k runs) (drop k runs) in
     append_cancel_left (set_of (take low bits)) (positions low (drop low bits)) (covered (drop k runs))
     (sym split_set ∙ sym all ∙ split_runs ∙ ap (λ l. l ++ covered (drop k runs)) found)
 

@@ -60,7 +60,7 @@ filters_join bits next items h e =
     let kept = items_where_true bits items in
     let long = length-items bits items h in
     let rank : (k : ℕ) → 0 ≤ k → k < 0 + length next → slice_get kept k ≡ slice_get items (rank_of bits k) = λ k p q.
-        sym (slice_get-some kept k) ∙ ap (λ l. get_or l k None) (items_at_the_set bits items h) ∙ get_or-map-get items (set_of bits) k (omega (arith, length-positions 0 bits)) in
+    sym (slice_get-some kept k) ∙ ap (λ l. get_or l k None) (items_at_the_set bits items h) ∙ get_or-map-get items (set_of bits) k (omega (arith, length-positions 0 bits)) in
     items_at_the_set next kept (omega arith) ∙ map_positions (slice_get kept) (λ k. slice_get items (rank_of bits k)) 0 next rank
 
 -- ---- set positions by rank

@@ -87,13 +87,13 @@ span_none bits start end run apart =
     ] in
     no_span bits (ltb 0 all) (same_numbers (set_of bits) (range_with_len (rank_of bits 0) all))
     (λ e.
-        let set = (bytes_eq-Decides (set_of bits) (range_with_len (rank_of bits 0) all)).0 e ∙ ap (λ a. range_with_len a all) (first_rank bits start end run) in
-        let some = run.some in
-        let at : rank_of bits n ≡ end = ap (λ l. get_or l n 0) set ∙ get_or-range start all n fewer ∙ omega arith in
-        let there = (ranks_are_the_set bits end).1 (n, fewer, at) in
-        let clear = run.stop (slice_get_within bits end true there) in
-        let bit = get_or_of_slice_get bits end there in
-        cc)
+    let set = (bytes_eq-Decides (set_of bits) (range_with_len (rank_of bits 0) all)).0 e ∙ ap (λ a. range_with_len a all) (first_rank bits start end run) in
+    let some = run.some in
+    let at : rank_of bits n ≡ end = ap (λ l. get_or l n 0) set ∙ get_or-range start all n fewer ∙ omega arith in
+    let there = (ranks_are_the_set bits end).1 (n, fewer, at) in
+    let clear = run.stop (slice_get_within bits end true there) in
+    let bit = get_or_of_slice_get bits end there in
+    cc)
     (rank_of bits 0, rank_of bits 0 + all)
 
 -- rows that are all selected

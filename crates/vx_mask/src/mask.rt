@@ -265,13 +265,7 @@ impl Mask {
     {
         match self {
             Mask::AllFalse(_) => None,
-            Mask::AllTrue(len) => {
-                if *len == 0 {
-                    None
-                } else {
-                    Some((0, *len))
-                }
-            }
+            Mask::AllTrue(len) => { if *len == 0 { None } else { Some((0, *len)) } }
             Mask::Values(values) => values.contiguous(),
         }
     }

@@ -42,21 +42,33 @@ fn masks_of_every_kind(rt: HostRuntime) -> Result<(), Fail> {
     let bits = BitBuffer::from_bools(alloc, &[false, true, false, true, true])?;
     let mask = Mask::from_buffer(bits);
     assert_eq!(rt; mask.cached_indices(), None);
-    let all = mask.with_indices(alloc)?.with_slices(alloc)?.with_blocks(alloc)?;
+    let all = mask
+        .with_indices(alloc)?
+        .with_slices(alloc)?
+        .with_blocks(alloc)?;
     assert_eq!(rt; all.cached_indices(), Some([1, 3, 4].as_slice()));
     assert_eq!(rt; all.cached_slices(), Some([(1, 2), (3, 5)].as_slice()));
     assert_eq!(rt; all.cached_blocks(), Some([0].as_slice()));
     let made = by_indices(alloc, 5, &[1, 3, 4])?;
     assert_eq!(rt; made.cached_indices(), Some([1, 3, 4].as_slice()));
     let made = by_slices(alloc, 5, &[(1, 2), (3, 4), (4, 5)])?.with_slices(alloc)?;
-    assert_eq!(rt; made.cached_slices(), Some([(1, 2), (3, 4), (4, 5)].as_slice()));
+    assert_eq!(rt;
+        made.cached_slices(),
+        Some([(1, 2), (3, 4), (4, 5)].as_slice())
+    );
     assert_eq!(rt; made.contiguous(), None);
-    assert_eq!(rt; by_slices(alloc, 5, &[(1, 2), (2, 4)])?.contiguous(), Some((1, 4)));
+    assert_eq!(rt;
+        by_slices(alloc, 5, &[(1, 2), (2, 4)])?.contiguous(),
+        Some((1, 4))
+    );
     let other = by_indices(alloc, 3, &[0, 2])?;
     let both = made.intersect_by_rank(alloc, &other)?.with_indices(alloc)?;
     assert_eq!(rt; both.cached_indices(), Some([1, 4].as_slice()));
     for indices in [[3, 3], [4, 3], [4, 5]] {
-        assert_eq!(rt; by_indices(alloc, 5, &indices).err(), Some(MaskError::Indices));
+        assert_eq!(rt;
+            by_indices(alloc, 5, &indices).err(),
+            Some(MaskError::Indices)
+        );
     }
     for slices in [[(0, 1), (1, 1)], [(0, 2), (1, 3)], [(0, 1), (4, 6)]] {
         assert_eq!(rt; by_slices(alloc, 5, &slices).err(), Some(MaskError::Slices));
