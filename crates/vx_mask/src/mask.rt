@@ -5,6 +5,7 @@ ghost use Rattle.vx_bits.specs.BitBuffer.{true_count_of};
 ghost use Rattle.vx_bits.specs.Made.{FailsBy};
 ghost use Rattle.vx_mask.specs.Positions.{IsSpan, set_of, rank_of, covered, bits_with, span_of};
 ghost use Rattle.vx_mask.specs.Mask.{mask_bits, partial_of, indices_fault, slices_fault, if_partial, mask_by_indices, mask_by_slices, indices_in, slices_in, blocks_in, keeping};
+ghost use Rattle.vx_mask.specs.Ranks.{blocks_of};
 ghost use Rattle.vx_mask.specs.MaskValues.{bits_alone, keep_indices, keep_slices, keep_blocks};
 
 use crate::error::MaskError;
@@ -197,7 +198,8 @@ impl Mask {
     /// For each multiple of 512 up to the length, the number of set bits before it, where the mask
     /// keeps these counts.
     pub fn cached_blocks(&self) -> Option<&[usize]>
-        ensures { option_copied result ≡ blocks_in self.now }
+        ensures value { option_copied result ≡ blocks_in self.now }
+        ensures counts { IfSome result (λ blocks. blocks.now ≡ blocks_of (mask_bits self.now)) }
     {
         self.values()?.cached_blocks()
     }
@@ -205,7 +207,8 @@ impl Mask {
     /// The same mask, with its set positions beside it where it selects some rows and not all.
     /// What else it keeps stays. `NoMemory` alone.
     pub fn with_indices(&self, alloc: Global) -> Result<Mask, NoMemory>
-        ensures { IfOk result (λ m. m ≡ keeping keep_indices self.now) }
+        ensures value { IfOk result (λ m. m ≡ keeping keep_indices self.now) }
+        ensures bits { IfOk result (λ m. mask_bits m ≡ mask_bits self.now) }
     {
         match self {
             Mask::Values(values) => Ok(Mask::Values(values.keep_indices(alloc)?)),
@@ -216,7 +219,8 @@ impl Mask {
     /// The same mask, with slices beside it where it selects some rows and not all: those that it
     /// keeps, or else its maximal runs. What else it keeps stays. `NoMemory` alone.
     pub fn with_slices(&self, alloc: Global) -> Result<Mask, NoMemory>
-        ensures { IfOk result (λ m. m ≡ keeping keep_slices self.now) }
+        ensures value { IfOk result (λ m. m ≡ keeping keep_slices self.now) }
+        ensures bits { IfOk result (λ m. mask_bits m ≡ mask_bits self.now) }
     {
         match self {
             Mask::Values(values) => Ok(Mask::Values(values.keep_slices(alloc)?)),
@@ -227,7 +231,8 @@ impl Mask {
     /// The same mask, with its block counts beside it where it selects some rows and not all. What
     /// else it keeps stays. `NoMemory` alone.
     pub fn with_blocks(&self, alloc: Global) -> Result<Mask, NoMemory>
-        ensures { IfOk result (λ m. m ≡ keeping keep_blocks self.now) }
+        ensures value { IfOk result (λ m. m ≡ keeping keep_blocks self.now) }
+        ensures bits { IfOk result (λ m. mask_bits m ≡ mask_bits self.now) }
     {
         match self {
             Mask::Values(values) => Ok(Mask::Values(values.keep_blocks(alloc)?)),
