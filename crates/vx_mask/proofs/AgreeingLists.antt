@@ -1,9 +1,9 @@
 -- Whether lists beside bits agree with them.
-use Rattle.std.proofs.Common.{◌≡◌, ◌≢◌, ℕ, zero, suc, ◌+◌, ◌-◌, ◌<◌, ◌≤◌, Bool, true, false, ◌&&◌, List, [], ◌∷◌, ◌++◌, Option, None, Some, IfSome, length, get_or, take, drop, replicate, refl, sym, ap, ap₂, ◌∙◌, subst, inl, inr, arith, eqb, ltb}
+use Rattle.std.proofs.Common.{◌≡◌, ℕ, zero, suc, ◌+◌, ◌-◌, ◌<◌, ◌≤◌, Bool, true, false, ◌&&◌, List, [], ◌∷◌, ◌++◌, Option, None, Some, IfSome, length, get_or, take, drop, replicate, refl, sym, ap, ap₂, ◌∙◌, subst, inl, inr, arith, eqb, ltb}
 use Rattle.std.specs.List.{range_with_len, list_all, slice_range}
-use Rattle.std.proofs.lemmas.List.{append_assoc, append_cancel_left, drop_more, take-append-drop, take_more, take_all, length-take-le, length-drop, length-append, length-replicate, get_or-take, get_or-drop, get_or-replicate, get_or_append_left, get_or-append_right}
+use Rattle.std.proofs.lemmas.List.{append_cancel_left, drop_more, take-append-drop, take_more, take_all, length-take-le, length-drop, length-append, length-replicate, get_or-take, get_or-drop, get_or-replicate, get_or_append_left, get_or-append_right}
 use Rattle.std.proofs.lemmas.List.Folds.{list_all_at, list_all_more}
-use Rattle.std.proofs.lemmas.Bool.{cases_lt, ltb-true, lt-ltb, eq-eqb, ne_eqb}
+use Rattle.std.proofs.lemmas.Bool.{cases_lt, lt-ltb, eq-eqb, ne_eqb}
 use Rattle.std.proofs.lemmas.Slice.Eq.{bytes_eq-Decides}
 use Rattle.std.proofs.lemmas.Bool.Decides.{nat_tests}
 use Rattle.std.proofs.lemmas.List.FromFn.{length-range_with_len}
@@ -139,10 +139,10 @@ head_begins bits low start n p h =
 rest_covered : (bits : List Bool) (runs : List (ℕ × ℕ)) (k low : ℕ) → low ≤ length bits → covered (take k runs) ≡ set_of (take low bits) → covered runs ≡ set_of bits → positions low (drop low bits) ≡ covered (drop k runs)
 rest_covered bits runs k low p found all =
     let split_set : set_of bits ≡ set_of (take low bits) ++ positions low (drop low bits) =
-        ap set_of (sym (take-append-drop low bits)) ∙ positions-append 0 (take low bits) (drop low bits)
-        ∙ ap (λ n. set_of (take low bits) ++ positions n (drop low bits)) (omega (arith, length-take-le low bits p)) in
+    ap set_of (sym (take-append-drop low bits)) ∙ positions-append 0 (take low bits) (drop low bits)
+    ∙ ap (λ n. set_of (take low bits) ++ positions n (drop low bits)) (omega (arith, length-take-le low bits p)) in
     let split_runs : covered runs ≡ covered (take k runs) ++ covered (drop k runs) =
-        ap covered (sym (take-append-drop k runs)) ∙ flat_map-append (λ (run : ℕ × ℕ). range_with_len run.0 (run.1 - run.0)) (take k runs) (drop k runs) in
+    ap covered (sym (take-append-drop k runs)) ∙ flat_map-append (λ (run : ℕ × ℕ). range_with_len run.0 (run.1 - run.0)) (take k runs) (drop k runs) in
     append_cancel_left (set_of (take low bits)) (positions low (drop low bits)) (covered (drop k runs))
     (sym split_set ∙ sym all ∙ split_runs ∙ ap (λ l. l ++ covered (drop k runs)) found)
 

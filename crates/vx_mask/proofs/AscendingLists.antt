@@ -1,12 +1,11 @@
 -- Lemmas on indices and runs that ascend.
-use Rattle.std.proofs.Common.{◌≡◌, ℕ, zero, suc, ◌+◌, ◌-◌, ◌<◌, ◌≤◌, Bool, true, false, cond, ◌&&◌, leb, ltb, None, Some, List, [], ◌∷◌, ◌++◌, length, get_or, take, drop, replicate, refl, sym, ap, ap₂, ◌∙◌, subst, add-one, arith}
+use Rattle.std.proofs.Common.{◌≡◌, ℕ, zero, suc, ◌+◌, ◌-◌, ◌<◌, ◌≤◌, Bool, true, false, cond, ◌&&◌, leb, ltb, None, Some, List, [], ◌∷◌, ◌++◌, length, get_or, take, drop, refl, sym, ap, ◌∙◌, subst, add-one, arith}
 use Rattle.std.specs.List.{All, range_with_len}
-use Rattle.std.proofs.lemmas.List.{take_more, take_all, drop_more, length-append, length-replicate, flat_map_more}
+use Rattle.std.proofs.lemmas.List.{take_more, drop_more, flat_map_more}
 use Rattle.std.proofs.lemmas.Bool.{leb-true, ltb-true, le-leb, lt-ltb}
 use Rattle.vx_mask.specs.declared.error.MaskError.TheVariants.{Indices, Slices}
 use Rattle.vx_mask.specs.Mask.{FaultlessIndices, FaultlessSlices}
-use Rattle.vx_mask.specs.Positions.{set_of, covered, ascending, runs_ascend}
-use Rattle.vx_mask.proofs.PositionLists.{set_of_clear, set_of_set}
+use Rattle.vx_mask.specs.Positions.{covered, ascending, runs_ascend}
 
 both_true : (a b : Bool) → (a && b) ≡ true → (a ≡ true) × (b ≡ true)
 both_true true b h = (refl, h)
@@ -49,24 +48,6 @@ run_parts low len run rest h =
 
 pub next_run : (low len k : ℕ) (runs : List (ℕ × ℕ)) (d : ℕ × ℕ) → k < length runs → runs_ascend low len (drop k runs) ≡ true → IsNextRun low len (get_or runs k d) (drop (k + 1) runs)
 next_run low len k runs d p h = run_parts low len (get_or runs k d) (drop (k + 1) runs) (ap (runs_ascend low len) (sym (drop_more runs k d p)) ∙ h)
-
--- bits that were filled up with clear ones to `start` and then with set ones to `end`
-pub set_of_filled : (bits first both : List Bool) (start end : ℕ) → length bits ≤ start → start ≤ end → first ≡ take start bits ++ replicate (start - length bits) false → both ≡ take end first ++ replicate (end - length first) true → (set_of both ≡ set_of bits ++ range_with_len start (end - start)) × (length both ≡ end)
-set_of_filled bits first both start end p q e f =
-    let e2 : first ≡ bits ++ replicate (start - length bits) false = e ∙ ap (λ l. l ++ replicate (start - length bits) false) (take_all start bits p) in
-    let long : length first ≡ start = ap length e2 ∙ length-append bits (replicate (start - length bits) false) ∙ omega (arith, length-replicate (start - length bits) false) in
-    let f2 : both ≡ first ++ replicate (end - start) true = f ∙ ap₂ (λ l n. l ++ replicate (end - n) true) (take_all end first (omega arith)) long in (
-      ap set_of f2 ∙ set_of_set first (end - start) ∙ ap₂ (λ l n. l ++ range_with_len n (end - start)) (ap set_of e2 ∙ set_of_clear bits (start - length bits)) long,
-      ap length f2 ∙ length-append first (replicate (end - start) true) ∙ omega (arith, long, length-replicate (end - start) true),
-    )
-
--- bits that were filled up with clear ones
-pub set_of_cleared : (bits all : List Bool) (len : ℕ) → length bits ≤ len → all ≡ take len bits ++ replicate (len - length bits) false → (set_of all ≡ set_of bits) × (length all ≡ len)
-set_of_cleared bits all len p e =
-    let e2 : all ≡ bits ++ replicate (len - length bits) false = e ∙ ap (λ l. l ++ replicate (len - length bits) false) (take_all len bits p) in (
-      ap set_of e2 ∙ set_of_clear bits (len - length bits),
-      ap length e2 ∙ length-append bits (replicate (len - length bits) false) ∙ omega (arith, length-replicate (len - length bits) false),
-    )
 
 pub covered_more : (runs : List (ℕ × ℕ)) (k : ℕ) (d : ℕ × ℕ) → k < length runs → covered (take (k + 1) runs) ≡ covered (take k runs) ++ range_with_len (get_or runs k d).0 ((get_or runs k d).1 - (get_or runs k d).0)
 covered_more runs k d p = ap covered (take_more runs k d p) ∙ sym (flat_map_more (λ (run : ℕ × ℕ). range_with_len run.0 (run.1 - run.0)) [] (take k runs) (get_or runs k d))

@@ -67,7 +67,7 @@ first_is at n first rest h here behind true e =
     let same : first ≡ at = eqb-true first at e in
     let shown = ap (λ b. cond (b || list_any (λ p. eqb p at) rest) (at ∷ positions (at + 1) (bits_from_with (at + 1) n (first ∷ rest))) (positions (at + 1) (bits_from_with (at + 1) n (first ∷ rest)))) e in
     let others = same_from (λ i. eqb first i || list_any (λ p. eqb p i) rest) (λ i. list_any (λ p. eqb p i) rest) (at + 1) n
-        (λ i k. let other : eqb first i ≡ false = not_same first i (omega arith) in ap (λ b. b || list_any (λ p. eqb p i) rest) other) in
+    (λ i k. let other : eqb first i ≡ false = not_same first i (omega arith) in ap (λ b. b || list_any (λ p. eqb p i) rest) other) in
     let next = here (ap₂ (λ m l. ascending (m + 1) l rest) (sym same) (sym long) ∙ parts.then) in
     shown ∙ ap (λ l. at ∷ positions (at + 1) l) others ∙ ap (λ l. at ∷ l) next ∙ ap (λ m. m ∷ rest) (sym same)
 first_is at n first rest h here behind false e =

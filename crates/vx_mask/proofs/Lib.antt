@@ -11,3 +11,5 @@ pub mod WordCounts
 pub mod WordPositions
 pub mod MadeBits
 pub mod Spans
+pub mod RankedItems
+pub mod MarkedBits

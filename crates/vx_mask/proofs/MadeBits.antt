@@ -1,11 +1,9 @@
 -- Bits that are made from positions and from runs.
-use Rattle.std.proofs.Common.{◌≡◌, ◌≢◌, ℕ, zero, suc, ◌+◌, ◌-◌, ◌<◌, ◌≤◌, Bool, true, false, List, [], ◌∷◌, ◌++◌, length, get_or, take, drop, set, replicate, refl, sym, ap, ap₂, ◌∙◌, subst, inl, inr, arith}
+use Rattle.std.proofs.Common.{◌≡◌, ◌≢◌, ℕ, ◌+◌, ◌-◌, ◌<◌, ◌≤◌, Bool, true, false, List, [], ◌∷◌, ◌++◌, length, get_or, take, drop, set, replicate, refl, sym, ap, ap₂, ◌∙◌, arith}
 use Rattle.std.specs.List.{range_with_len}
-use Rattle.std.proofs.lemmas.List.{length-set, length-append, length-replicate, length-take-le, get_or-replicate, get_or-set_same, get_or-set_other, take_all, take_more, take-set, append-nil}
-use Rattle.vx_bits.specs.BitBuffer.{PlacedBits}
-use Rattle.vx_mask.specs.Mask.{at_front}
+use Rattle.std.proofs.lemmas.List.{length-set, length-append, length-replicate, get_or-replicate, get_or-set_same, get_or-set_other, take_all, take_more, take-set}
 use Rattle.vx_mask.specs.Positions.{AllBits, set_of, covered, ascending, runs_ascend, bits_with}
-use Rattle.vx_mask.proofs.PositionLists.{set_of_clear, set_of_set, positions_false}
+use Rattle.vx_mask.proofs.PositionLists.{set_of_clear, set_of_set}
 use Rattle.vx_mask.proofs.AscendingLists.{next_index, next_run, covered_more}
 use Rattle.vx_mask.proofs.BitsWith.{bits_told}
 use Rattle.vx_mask.proofs.RunLists.{set_of_passed, set_of_bit}

@@ -1,7 +1,6 @@
 -- Masks that select some rows and not all, and what they keep.
 use Rattle.std.proofs.Common.{◌≡◌, ℕ, ◌<◌, Bool, true, false, ◌&&◌, cond, ltb, List, Option, None, Some, IfSome, length, replicate, refl, sym, ap, ◌∙◌, subst, inl, inr, arith}
-use Rattle.std.specs.List.{All}
-use Rattle.std.proofs.lemmas.Bool.{lt-ltb, cases_lt}
+use Rattle.std.proofs.lemmas.Bool.{cases_lt}
 use Rattle.std.proofs.lemmas.List.Sums.{count_by-le-length}
 use Rattle.std.proofs.lemmas.Bool.Decides.{nat_tests}
 use Rattle.vx_bits.specs.BitBuffer.{PlacedBits, true_count_of}
@@ -29,12 +28,6 @@ pub all_partial : (mask : PartialMask) → true_count_of mask.bits.bits ≡ leng
 all_partial mask h =
     let n = true_count_of mask.bits.bits in
     sym (ap (λ b. cond b (Some mask) None) (and_false (ltb 0 n) (ltb n (length mask.bits.bits)) (not_below n (length mask.bits.bits) h)))
-
--- some are, and not all
-pub some_partial : (mask : PartialMask) → 0 < true_count_of mask.bits.bits → true_count_of mask.bits.bits < length mask.bits.bits → Some mask ≡ if_partial mask
-some_partial mask p q =
-    let n = true_count_of mask.bits.bits in
-    sym (ap (λ b. cond (b && ltb n (length mask.bits.bits)) (Some mask) None) (lt-ltb 0 n p) ∙ ap (λ b. cond b (Some mask) None) (lt-ltb n (length mask.bits.bits) q))
 
 -- ---- masks by positions
 

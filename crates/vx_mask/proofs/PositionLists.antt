@@ -157,3 +157,9 @@ set_of_clear bits n = positions-append 0 bits (replicate n false) ∙ ap (λ l. 
 -- set bits at the end add theirs
 pub set_of_set : (bits : List Bool) (n : ℕ) → set_of (bits ++ replicate n true) ≡ set_of bits ++ range_with_len (length bits) n
 set_of_set bits n = positions-append 0 bits (replicate n true) ∙ ap (λ l. set_of bits ++ l) (positions_true (0 + length bits) n) ∙ ap (λ a. set_of bits ++ range_with_len a n) (omega arith)
+
+-- item k of a run
+pub get_or-range : (a n k : ℕ) → k < n → get_or (range_with_len a n) k 0 ≡ a + k
+get_or-range a zero k h = absurd (omega arith)
+get_or-range a (suc n) zero h = omega arith
+get_or-range a (suc n) (suc k) h = get_or-range (a + 1) n k (omega arith) ∙ omega arith

@@ -1,12 +1,12 @@
 -- Stretches of bits that are all the same, and maximal runs.
 use Rattle.std.proofs.Common.{◌≡◌, ℕ, zero, suc, ◌+◌, ◌-◌, ◌<◌, ◌≤◌, Bool, true, false, cond, List, [], ◌∷◌, ◌++◌, length, get_or, take, drop, replicate, refl, sym, ap, ap₂, ◌∙◌, subst, inl, inr, arith, eqb}
 use Rattle.std.specs.List.{All, range_with_len}
-use Rattle.std.proofs.lemmas.List.{take-append-drop, take-take, take_all, drop-take, drop-drop, drop_all, drop_more, take_more, length-take-le, length-drop, length-replicate, get_or-take, get_or-drop, get_or-replicate, get_or_default, same_lists, append_assoc, append-nil}
+use Rattle.std.proofs.lemmas.List.{take-append-drop, take-take, take_all, drop-take, drop-drop, drop_all, length-take-le, length-drop, length-replicate, get_or-take, get_or-drop, get_or-replicate, get_or_default, same_lists, append_assoc, append-nil}
 use Rattle.std.proofs.lemmas.Bool.{cases_lt}
 use Rattle.std.proofs.lemmas.Bool.Decides.{nat_tests}
 use Rattle.vx_bits.specs.BitBuffer.{true_count_of}
 use Rattle.vx_mask.specs.Positions.{AllBits, positions, set_of, covered, runs_with, runs_from, maximal_runs}
-use Rattle.vx_mask.proofs.PositionLists.{set_of_set, set_of_clear, positions-append, length-positions}
+use Rattle.vx_mask.proofs.PositionLists.{set_of_set, set_of_clear, length-positions}
 
 -- bits that are all the same are that bit again and again
 pub part_filled : (bits : List Bool) (a b : ℕ) (value : Bool) → a ≤ b → b ≤ length bits → AllBits bits a b value → take (b - a) (drop a bits) ≡ replicate (b - a) value
@@ -51,11 +51,6 @@ pub set_of_bit : (bits : List Bool) (a : ℕ) → a < length bits → get_or bit
 set_of_bit bits a h e =
     let one : a + 1 - a ≡ 1 = omega arith in
     set_of_run bits a (a + 1) (omega arith) (omega arith) (one_bit bits a true e) ∙ ap (λ n. set_of (take a bits) ++ range_with_len a n) one
-
--- the next set position, and the clear bits behind it
-pub next_position : (bits : List Bool) (indices new : List ℕ) (at next : ℕ) → at < length bits → get_or bits at false ≡ true → at + 1 ≤ next → next ≤ length bits → AllBits bits (at + 1) next false → indices ≡ set_of (take at bits) → new ≡ indices ++ at ∷ [] → new ≡ set_of (take next bits)
-next_position bits indices new at next h set p q clear e f =
-    f ∙ ap (λ l. l ++ at ∷ []) e ∙ sym (set_of_bit bits at h set) ∙ sym (set_of_passed bits (at + 1) next p q clear)
 
 pub all_positions : (bits : List Bool) (indices : List ℕ) (at : ℕ) → length bits ≤ at → indices ≡ set_of (take at bits) → indices ≡ set_of bits
 all_positions bits indices at h e = e ∙ ap set_of (take_all at bits h)

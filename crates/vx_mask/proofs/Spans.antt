@@ -1,20 +1,15 @@
 -- Set positions that are a single run.
-use Rattle.std.proofs.Common.{◌≡◌, ℕ, zero, suc, ◌+◌, ◌-◌, ◌<◌, ◌≤◌, Bool, true, false, cond, ◌&&◌, List, [], ◌∷◌, ◌++◌, None, Some, IfSome, length, get_or, take, drop, replicate, refl, sym, ap, ap₂, ◌∙◌, subst, inl, inr, arith, ltb}
-use Rattle.std.specs.List.{range_with_len, slice_get}
+use Rattle.std.proofs.Common.{◌≡◌, ℕ, ◌+◌, ◌-◌, ◌<◌, ◌≤◌, Bool, true, false, cond, ◌&&◌, List, [], ◌++◌, None, Some, length, get_or, take, drop, replicate, refl, sym, ap, ap₂, ◌∙◌, subst, inl, inr, arith, ltb}
+use Rattle.std.specs.List.{range_with_len}
 use Rattle.std.proofs.lemmas.List.{length-append, take-append-drop, take_all, length-take-le, get_or_append_left, append-nil, nil_from_length}
 use Rattle.std.proofs.lemmas.List.FromFn.{length-range_with_len}
-use Rattle.std.proofs.lemmas.Bool.{cases_lt, cases_eq, lt-ltb, ltb-true}
+use Rattle.std.proofs.lemmas.Bool.{cases_lt, cases_eq, lt-ltb}
 use Rattle.std.proofs.lemmas.Option.{slice_get_within}
 use Rattle.std.proofs.lemmas.Slice.Eq.{bytes_eq-Decides}
 use Rattle.vx_bits.specs.BitBuffer.{true_count_of}
 use Rattle.vx_mask.specs.Positions.{AllBits, IsSpan, positions, set_of, rank_of, span_of, same_numbers}
-use Rattle.vx_mask.proofs.PositionLists.{positions-append, length-positions, positions_true, ranks_are_the_set, get_or_of_slice_get}
+use Rattle.vx_mask.proofs.PositionLists.{positions-append, length-positions, positions_true, get_or-range, ranks_are_the_set, get_or_of_slice_get}
 use Rattle.vx_mask.proofs.RunLists.{set_of_passed, set_of_run}
-
-get_or-range : (a n k : ℕ) → k < n → get_or (range_with_len a n) k 0 ≡ a + k
-get_or-range a zero k h = absurd (omega arith)
-get_or-range a (suc n) zero h = omega arith
-get_or-range a (suc n) (suc k) h = get_or-range (a + 1) n k (omega arith) ∙ omega arith
 
 -- the first run of set bits, and what is behind it
 pub record FirstRun (bits : List Bool) (start end : ℕ) : Type 0 where
@@ -92,35 +87,15 @@ span_none bits start end run apart =
     ] in
     no_span bits (ltb 0 all) (same_numbers (set_of bits) (range_with_len (rank_of bits 0) all))
     (λ e.
-        let set = (bytes_eq-Decides (set_of bits) (range_with_len (rank_of bits 0) all)).0 e ∙ ap (λ a. range_with_len a all) (first_rank bits start end run) in
-        let some = run.some in
-        let at : rank_of bits n ≡ end = ap (λ l. get_or l n 0) set ∙ get_or-range start all n fewer ∙ omega arith in
-        let there = (ranks_are_the_set bits end).1 (n, fewer, at) in
-        let clear = run.stop (slice_get_within bits end true there) in
-        let bit = get_or_of_slice_get bits end there in
-        cc)
+    let set = (bytes_eq-Decides (set_of bits) (range_with_len (rank_of bits 0) all)).0 e ∙ ap (λ a. range_with_len a all) (first_rank bits start end run) in
+    let some = run.some in
+    let at : rank_of bits n ≡ end = ap (λ l. get_or l n 0) set ∙ get_or-range start all n fewer ∙ omega arith in
+    let there = (ranks_are_the_set bits end).1 (n, fewer, at) in
+    let clear = run.stop (slice_get_within bits end true there) in
+    let bit = get_or_of_slice_get bits end there in
+    cc)
     (rank_of bits 0, rank_of bits 0 + all)
 
 -- rows that are all selected
 pub span_all : (len : ℕ) → 0 < len → IsSpan (replicate len true) 0 len
 span_all len h = let n : len ≡ len - 0 = omega arith in record { some = h; set = positions_true 0 len ∙ ap (range_with_len 0) n }
-
-some_is : (x y : ℕ × ℕ) → Some x ≡ Some y → x ≡ y
-some_is x y e = cc
-
-pub span_told : (bits : List Bool) (run : ℕ × ℕ) → Some run ≡ span_of bits → IsSpan bits run.0 run.1
-span_told bits run e = by_tests bits run (ltb 0 (true_count_of bits)) (same_numbers (set_of bits) (range_with_len (rank_of bits 0) (true_count_of bits))) refl refl e
-  where
-    by_tests : (bits : List Bool) (run : ℕ × ℕ) (a b : Bool) → ltb 0 (true_count_of bits) ≡ a → same_numbers (set_of bits) (range_with_len (rank_of bits 0) (true_count_of bits)) ≡ b → Some run ≡ cond (a && b) (Some (rank_of bits 0, rank_of bits 0 + true_count_of bits)) None → IsSpan bits run.0 run.1
-    by_tests bits run true true e f g =
-        let r = rank_of bits 0 in
-        let n = true_count_of bits in
-        let start : run.0 ≡ r = ap (λ (x : ℕ × ℕ). x.0) (some_is run (r, r + n) g) in
-        let end : run.1 ≡ r + n = ap (λ (x : ℕ × ℕ). x.1) (some_is run (r, r + n) g) in
-        let more = ltb-true 0 n e in
-        record {
-          some = omega arith;
-          set = (bytes_eq-Decides (set_of bits) (range_with_len r n)).0 f ∙ ap₂ range_with_len (sym start) (omega arith);
-        }
-    by_tests bits run true false e f g = cc
-    by_tests bits run false b e f g = cc

@@ -1,21 +1,20 @@
 -- The set bits of words, and the words that are read.
-use Rattle.std.proofs.Common.{◌≡◌, ℕ, zero, suc, ◌+◌, ◌*◌, ◌-◌, ◌/◌, ◌%◌, ◌^◌, ◌<◌, ◌≤◌, Bool, true, false, cond, ◌&&◌, leb, ltb, None, Some, Option, List, [], ◌∷◌, ◌++◌, length, get_or, take, drop, map, bit_and, refl, sym, ap, ap₂, ◌∙◌, inl, inr, arith, zero-add}
+use Rattle.std.proofs.Common.{◌≡◌, ℕ, zero, suc, ◌+◌, ◌*◌, ◌-◌, ◌/◌, ◌%◌, ◌^◌, ◌<◌, ◌≤◌, Bool, true, false, cond, ◌&&◌, leb, ltb, None, Some, Option, List, [], ◌∷◌, ◌++◌, length, get_or, take, bit_and, refl, sym, ap, ap₂, ◌∙◌, inl, inr, arith, zero-add}
 use Rattle.std.specs.List.{range_with_len, filter}
 use Rattle.std.specs.Int.{bit_at}
 use Rattle.std.specs.Int.RustNames.{count_ones}
-use Rattle.std.proofs.lemmas.List.{take-take, take_all, length-take, append_assoc, append-nil}
+use Rattle.std.proofs.lemmas.List.{append_assoc, append-nil}
 use Rattle.std.proofs.lemmas.List.Elements.{filter-append}
-use Rattle.std.proofs.lemmas.List.FromFn.{get_or-map-range_with_len, length-map-range_with_len, map-range_with_len_more}
-use Rattle.std.proofs.lemmas.List.Sums.{sum_by-cons, count_by-le-length}
 use Rattle.std.proofs.lemmas.Nat.{mod-pow-add, mod_below, pow_pos, one_shl, and_mask}
 use Rattle.std.proofs.lemmas.Nat.Bits.{bit_at-lt}
 use Rattle.std.proofs.lemmas.Bool.{cases_lt}
 use Rattle.std.proofs.lemmas.Bool.Decides.{nat_tests}
 use lib.Count.{ones_step, ones_cat, ones-le}
-use Rattle.vx_bits.specs.BitBuffer.{number_of, true_count_of}
+use Rattle.vx_bits.specs.BitBuffer.{true_count_of}
 use Rattle.vx_mask.proofs.PositionLists.{true_count_between, is_passed, position_at}
 use Rattle.vx_bits.specs.WordReader.{then_told}
 use Rattle.vx_bits.specs.Words.{word_at}
+use Rattle.vx_bits.proofs.WordLists.{count_in_word, count_of_word as count_after}
 use Rattle.vx_mask.specs.Positions.{set_of, rank_of}
 use Rattle.vx_mask.specs.Ranks.{words_between}
 use Rattle.vx_mask.proofs.BlockCounts.{count_all}
@@ -25,43 +24,9 @@ use Rattle.vx_mask.proofs.BlockCounts.{count_all}
 zero_ones : count_ones 0 ≡ 0
 zero_ones = omega (arith, ones-le 0 0 (omega arith))
 
--- the set bits of a number's lowest n bits
-ones_of_low : (n : ℕ) (bits : List Bool) → count_ones (number_of bits % 2 ^ n) ≡ true_count_of (take n bits)
-ones_of_low zero bits = let none : number_of bits % 2 ^ 0 ≡ 0 = omega arith in ap count_ones none ∙ zero_ones
-ones_of_low (suc n) [] = let none : 0 % 2 ^ suc n ≡ 0 = omega arith in ap count_ones none ∙ zero_ones
-ones_of_low (suc n) (true ∷ bits) =
-    let all = number_of bits in
-    let more : n + 1 ≡ suc n = omega arith in
-    let parts = ap (λ e. (1 + 2 * all) % 2 ^ e) (sym more) ∙ mod-pow-add (1 + 2 * all) n 1 in
-    let half : (1 + 2 * all) / 2 ≡ all = omega arith in
-    let low : (1 + 2 * all) % 2 ≡ 1 = omega arith in
-    let is : (1 + 2 * all) % 2 ^ suc n ≡ all % 2 ^ n * 2 + 1 = parts ∙ ap₂ (λ h l. h % 2 ^ n * 2 + l) half low in
-    ap count_ones is ∙ ones_cat 1 (all % 2 ^ n) 1 (omega arith) ∙ omega (arith, ones_of_low n bits, ones_step 1, zero_ones, sum_by-cons (λ b. cond b 1 0) true (take n bits))
-ones_of_low (suc n) (false ∷ bits) =
-    let all = number_of bits in
-    let more : n + 1 ≡ suc n = omega arith in
-    let parts = ap (λ e. (0 + 2 * all) % 2 ^ e) (sym more) ∙ mod-pow-add (0 + 2 * all) n 1 in
-    let half : (0 + 2 * all) / 2 ≡ all = omega arith in
-    let low : (0 + 2 * all) % 2 ≡ 0 = omega arith in
-    let is : (0 + 2 * all) % 2 ^ suc n ≡ all % 2 ^ n * 2 + 0 = parts ∙ ap₂ (λ h l. h % 2 ^ n * 2 + l) half low in
-    ap count_ones is ∙ ones_cat 1 (all % 2 ^ n) 0 (omega arith) ∙ omega (arith, ones_of_low n bits, zero_ones, sum_by-cons (λ b. cond b 1 0) false (take n bits))
-
--- up to bit n of a word, the set bits before the word and those of its lowest n bits
-count_in_word : (bits : List Bool) (w n : ℕ) → n ≤ 64 → true_count_of (take (64 * w + n) bits) ≡ true_count_of (take (64 * w) bits) + count_ones (word_at bits w % 2 ^ n)
-unfolding word_at
-count_in_word bits w n h =
-    let behind = drop (64 * w) bits in
-    let long : 64 * w + n - 64 * w ≡ n = omega arith in
-    let part = ap (λ m. true_count_of (take m behind)) long in
-    let low = ones_of_low n (take 64 behind) ∙ ap true_count_of (take-take n 64 behind h) in
-    omega (arith, true_count_between bits (64 * w) (64 * w + n) (omega arith), part, low)
-
--- the same of a whole word
-pub count_of_word : (bits : List Bool) (w word : ℕ) → word ≡ word_at bits w → word < 2 ^ 64 → true_count_of (take (64 * (w + 1)) bits) ≡ true_count_of (take (64 * w) bits) + count_ones word
-count_of_word bits w word e h =
-    let next : 64 * (w + 1) ≡ 64 * w + 64 = omega arith in
-    let whole : word_at bits w % 2 ^ 64 ≡ word = omega (arith, e, h) in
-    ap (λ n. true_count_of (take n bits)) next ∙ count_in_word bits w 64 (omega arith) ∙ ap (λ n. true_count_of (take (64 * w) bits) + count_ones n) whole
+-- up to the end of a word, the set bits before it and its own
+pub count_of_word : (bits : List Bool) (w word : ℕ) → word ≡ word_at bits w → true_count_of (take (64 * (w + 1)) bits) ≡ true_count_of (take (64 * w) bits) + count_ones word
+count_of_word bits w word e = count_after bits w ∙ ap (λ n. true_count_of (take (64 * w) bits) + count_ones n) (sym e)
 
 -- no more bits are set before a place than in all
 pub counts_rise : (bits : List Bool) (n : ℕ) → true_count_of (take n bits) ≤ true_count_of bits
@@ -91,12 +56,6 @@ ones_more n k =
     let parts = ap (λ e. n % 2 ^ e) more ∙ mod-pow-add n 1 k in
     let cat = ones_cat k (bit_at n k) (n % 2 ^ k) (mod_below n (2 ^ k) (pow_pos k)) in
     ap count_ones parts ∙ omega (arith, cat, digit_ones (bit_at n k) (bit_at-lt n k))
-
-pub ones_whole : (n : ℕ) → n < 2 ^ 64 → count_ones (n % 2 ^ 64) ≡ count_ones n
-ones_whole n h = let whole : n % 2 ^ 64 ≡ n = omega arith in ap count_ones whole
-
-pub ones_none : (n : ℕ) → count_ones (n % 2 ^ 0) ≡ 0
-ones_none n = let none : n % 2 ^ 0 ≡ 0 = omega arith in ap count_ones none ∙ zero_ones
 
 -- ---- ranks
 

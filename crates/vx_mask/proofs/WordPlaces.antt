@@ -1,18 +1,12 @@
 -- Places that are found by words.
-use Rattle.std.proofs.Common.{◌≡◌, ℕ, ◌+◌, ◌-◌, ◌*◌, ◌/◌, ◌%◌, ◌^◌, ◌<◌, ◌≤◌, Bool, true, false, not, cond, eqb, List, get_or, take, drop, bit_and, sym, ap, subst, ◌∙◌, inl, inr, arith, eq-eqb}
+use Rattle.std.proofs.Common.{◌≡◌, ℕ, ◌+◌, ◌-◌, ◌*◌, ◌/◌, ◌%◌, ◌^◌, ◌<◌, ◌≤◌, Bool, true, false, not, cond, eqb, List, get_or, bit_and, sym, ap, subst, ◌∙◌, inl, inr, arith, eq-eqb}
 use Rattle.std.specs.Int.{bit_at, trailing_zeros, w64}
 use Rattle.std.proofs.lemmas.Bool.{cases_lt, cases_eq}
 use Rattle.std.proofs.lemmas.Nat.{and_le_r}
-use Rattle.std.proofs.lemmas.List.{get_or-take, get_or-drop}
 use Rattle.std.proofs.lemmas.Nat.Bits.{bit_at-lt, bit_at_and, bit_at_not, bit_at_ones, bit_at_mask_inside, bit_at_mask_below, ones_shl, bit_at-trailing_zeros, bit_at-zero}
-use Rattle.vx_bits.proofs.BitLists.{bit_of_number}
+use Rattle.vx_bits.proofs.WordLists.{bit_in_word}
 use Rattle.vx_bits.specs.Words.{word_at}
 use Rattle.vx_mask.specs.Positions.{AllBits}
-
--- bit i of a word is a bit of the list
-bit_in_word : (bits : List Bool) (w i : ℕ) → i < 64 → eqb (bit_at (word_at bits w) i) 1 ≡ get_or bits (64 * w + i) false
-unfolding word_at
-bit_in_word bits w i h = bit_of_number (take 64 (drop (64 * w) bits)) i ∙ get_or-take 64 (drop (64 * w) bits) i false h ∙ get_or-drop (64 * w) bits i false
 
 -- the bits of a list that are `want`, as the bits of a word
 abbrev pub wanted_of : ℕ → Bool → ℕ

@@ -70,5 +70,5 @@ fn is_next_run(bits: &BitBuffer, low: usize, start: usize, end: usize) -> bool
     if next_with(bits, low, true) != start {
         return false;
     }
-    bits.slice(start, end).true_count() == end - start
+    bits.count_range(start, end) == end - start
 }

@@ -4,6 +4,7 @@
 mod agreement;
 mod blocks;
 mod error;
+mod intersect;
 mod laws;
 mod mask;
 mod mask_values;
@@ -14,12 +15,12 @@ mod reuse;
 mod runs;
 
 pub use error::MaskError;
-pub use laws::{indices_law, rank_law, slices_law};
+pub use laws::{filters_law, indices_law, rank_law, slices_law};
 pub use mask::Mask;
 pub use mask_values::MaskValues;
-pub use reuse::prepare_mask_for_reuse;
-pub use ranks::{rank_words, words_before};
 pub use policy::{Policy, PolicyError, PolicyFields, Ratio};
+pub use ranks::{rank_words, words_before};
+pub use reuse::prepare_mask_for_reuse;
 
 #[cfg(test)]
 mod tests;

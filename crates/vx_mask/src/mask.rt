@@ -1,13 +1,15 @@
 //! Masks of any kind.
-ghost use Rattle.std.specs.Prelude.{◌≡◌, ◌*◌, ◌<◌, ◌≤◌, ◌↔◌, IsTrue, IfOk, IfSome, length, slice_index_or, take, false, true};
+ghost use Rattle.std.specs.Prelude.{◌≡◌, ◌*◌, ◌<◌, ◌≤◌, ◌↔◌, IsTrue, IfOk, IfSome, length, map, slice_index_or, take, false, true};
 ghost use Rattle.std.specs.Option.{option_copied};
 ghost use Rattle.vx_bits.specs.BitBuffer.{true_count_of};
 ghost use Rattle.vx_bits.specs.Made.{FailsBy};
 ghost use Rattle.vx_mask.specs.Positions.{IsSpan, set_of, rank_of, covered, bits_with, span_of};
 ghost use Rattle.vx_mask.specs.Mask.{mask_bits, partial_of, indices_fault, slices_fault, if_partial, mask_by_indices, mask_by_slices, indices_in, slices_in, blocks_in, keeping};
+ghost use Rattle.vx_mask.specs.Ranks.{blocks_of};
 ghost use Rattle.vx_mask.specs.MaskValues.{bits_alone, keep_indices, keep_slices, keep_blocks};
 
 use crate::error::MaskError;
+use crate::intersect::bits_by_rank;
 use crate::mask_values::MaskValues;
 use crate::positions::{ascend, bits_at, bits_of_runs, run_total};
 use crate::reuse::product;
@@ -196,7 +198,8 @@ impl Mask {
     /// For each multiple of 512 up to the length, the number of set bits before it, where the mask
     /// keeps these counts.
     pub fn cached_blocks(&self) -> Option<&[usize]>
-        ensures { option_copied result ≡ blocks_in self.now }
+        ensures value { option_copied result ≡ blocks_in self.now }
+        ensures counts { IfSome result (λ blocks. blocks.now ≡ blocks_of (mask_bits self.now)) }
     {
         self.values()?.cached_blocks()
     }
@@ -204,7 +207,8 @@ impl Mask {
     /// The same mask, with its set positions beside it where it selects some rows and not all.
     /// What else it keeps stays. `NoMemory` alone.
     pub fn with_indices(&self, alloc: Global) -> Result<Mask, NoMemory>
-        ensures { IfOk result (λ m. m ≡ keeping keep_indices self.now) }
+        ensures value { IfOk result (λ m. m ≡ keeping keep_indices self.now) }
+        ensures bits { IfOk result (λ m. mask_bits m ≡ mask_bits self.now) }
     {
         match self {
             Mask::Values(values) => Ok(Mask::Values(values.keep_indices(alloc)?)),
@@ -215,7 +219,8 @@ impl Mask {
     /// The same mask, with slices beside it where it selects some rows and not all: those that it
     /// keeps, or else its maximal runs. What else it keeps stays. `NoMemory` alone.
     pub fn with_slices(&self, alloc: Global) -> Result<Mask, NoMemory>
-        ensures { IfOk result (λ m. m ≡ keeping keep_slices self.now) }
+        ensures value { IfOk result (λ m. m ≡ keeping keep_slices self.now) }
+        ensures bits { IfOk result (λ m. mask_bits m ≡ mask_bits self.now) }
     {
         match self {
             Mask::Values(values) => Ok(Mask::Values(values.keep_slices(alloc)?)),
@@ -226,11 +231,34 @@ impl Mask {
     /// The same mask, with its block counts beside it where it selects some rows and not all. What
     /// else it keeps stays. `NoMemory` alone.
     pub fn with_blocks(&self, alloc: Global) -> Result<Mask, NoMemory>
-        ensures { IfOk result (λ m. m ≡ keeping keep_blocks self.now) }
+        ensures value { IfOk result (λ m. m ≡ keeping keep_blocks self.now) }
+        ensures bits { IfOk result (λ m. mask_bits m ≡ mask_bits self.now) }
     {
         match self {
             Mask::Values(values) => Ok(Mask::Values(values.keep_blocks(alloc)?)),
             _ => Ok(self.share()),
+        }
+    }
+
+    /// The rows at the set positions of this mask whose rank is set in `other`: what is left of
+    /// the rows where `other` selects among those that this mask selects. `NoMemory` alone.
+    pub fn intersect_by_rank(&self, alloc: Global, other: &Mask) -> Result<Mask, NoMemory>
+        requires { length (mask_bits other.now) ≡ true_count_of (mask_bits self.now) }
+        ensures set { IfOk result (λ m. set_of (mask_bits m)
+            ≡ map (rank_of (mask_bits self.now)) (set_of (mask_bits other.now))) }
+        ensures len { IfOk result (λ m. length (mask_bits m) ≡ length (mask_bits self.now)) }
+    {
+        match self {
+            Mask::AllTrue(_) => Ok(other.share()),
+            Mask::AllFalse(len) => Ok(Mask::AllFalse(*len)),
+            Mask::Values(values) => match other {
+                Mask::AllTrue(_) => Ok(self.share()),
+                Mask::AllFalse(_) => Ok(Mask::AllFalse(values.len())),
+                Mask::Values(by) => {
+                    let bits = bits_by_rank(alloc, values.bits(), by.bits())?;
+                    Ok(Mask::from_buffer(bits))
+                }
+            },
         }
     }
 
@@ -242,13 +270,7 @@ impl Mask {
     {
         match self {
             Mask::AllFalse(_) => None,
-            Mask::AllTrue(len) => {
-                if *len == 0 {
-                    None
-                } else {
-                    Some((0, *len))
-                }
-            }
+            Mask::AllTrue(len) => { if *len == 0 { None } else { Some((0, *len)) } }
             Mask::Values(values) => values.contiguous(),
         }
     }

@@ -51,7 +51,11 @@ pub(crate) fn bits_at(alloc: Global, len: usize, indices: &[usize]) -> Result<Bi
 }
 
 // The bits that are set in these runs.
-pub(crate) fn bits_of_runs(alloc: Global, len: usize, runs: &[(usize, usize)]) -> Result<BitBuffer, NoMemory>
+pub(crate) fn bits_of_runs(
+    alloc: Global,
+    len: usize,
+    runs: &[(usize, usize)],
+) -> Result<BitBuffer, NoMemory>
     requires { runs_ascend 0 len runs.now ≡ true }
     ensures { IfOk result (λ b. b ≡ at_front (bits_with len (covered runs.now))) }
 {

@@ -58,12 +58,7 @@ pub fn words_before<R: WordReader>(bits: &mut R, blocks: &[usize], p: usize) -> 
 
 // The position of the `k`-th set bit, from 0, where `before` bits are set before word `first`. It
 // reads the words from there on, up to the one that has the bit.
-pub(crate) fn rank_from<R: WordReader>(
-    bits: &mut R,
-    first: usize,
-    before: usize,
-    k: usize,
-) -> usize
+pub(crate) fn rank_from<R: WordReader>(bits: &mut R, first: usize, before: usize, k: usize) -> usize
     requires counted { before ≡ true_count_of (take (64 * first) (R.bits bits.old)) }
     requires behind { before ≤ k }
     requires within { k < true_count_of (R.bits bits.old) }

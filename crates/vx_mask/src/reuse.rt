@@ -46,7 +46,11 @@ fn wants_indices(mask: &MaskValues, consumers: usize, fields: &PolicyFields) -> 
     if consumers < 2 {
         return false;
     }
-    is_at_most(reuse_limit(fields, consumers), mask.true_count(), mask.len())
+    is_at_most(
+        reuse_limit(fields, consumers),
+        mask.true_count(),
+        mask.len(),
+    )
 }
 
 // The greatest density of a mask that gets indices.

@@ -1,75 +1,189 @@
+use crate::blocks::counts_of;
 use crate::error::MaskError;
-use crate::laws::{indices_law, rank_law, slices_law};
+use crate::laws::{filters_law, indices_law, rank_law, slices_law};
 use crate::mask::Mask;
+use crate::mask_values::MaskValues;
 use crate::policy::{Policy, PolicyError, PolicyFields};
+use crate::ranks::{rank_words, words_before};
+use crate::reuse::prepare_mask_for_reuse;
 use std::alloc::Global;
 use std::test::Fail;
-use vx_bits::{BitBuffer, NoMemory};
+use vx_bits::{BitBuffer, Buffer, CountedWords, NoMemory};
 
-// The set positions, by their ranks.
-fn positions(alloc: Global, mask: &Mask) -> Result<Vec<usize>, NoMemory> {
-    let mut found = Vec::new(alloc);
-    for k in 0..mask.true_count() {
-        found.push(mask.rank(k))?;
-    }
-    Ok(found)
-}
-
-fn by_indices(alloc: Global, indices: &[usize]) -> Result<Mask, MaskError> {
+fn by_indices(alloc: Global, len: usize, indices: &[usize]) -> Result<Mask, MaskError> {
     let indices = Vec::from_slice(alloc, indices).map_err(|_| MaskError::NoMemory)?;
-    Mask::from_indices(alloc, 5, indices)
+    Mask::from_indices(alloc, len, indices)
 }
 
-fn by_slices(alloc: Global, slices: &[(usize, usize)]) -> Result<Mask, MaskError> {
+fn by_slices(alloc: Global, len: usize, slices: &[(usize, usize)]) -> Result<Mask, MaskError> {
     let slices = Vec::from_slice(alloc, slices).map_err(|_| MaskError::NoMemory)?;
-    Mask::from_slices(alloc, 5, slices)
+    Mask::from_slices(alloc, len, slices)
+}
+
+// What the mask keeps: its indices, its slices' starts and ends, its block counts.
+fn kept(alloc: Global, mask: &Mask) -> Result<Vec<usize>, NoMemory> {
+    let mut kept = Vec::new(alloc);
+    if let Some(indices) = mask.cached_indices() {
+        kept.extend_from_slice(indices)?;
+    }
+    if let Some(slices) = mask.cached_slices() {
+        for (start, end) in slices {
+            kept.extend_from_slice(&[*start, *end])?;
+        }
+    }
+    if let Some(blocks) = mask.cached_blocks() {
+        kept.extend_from_slice(blocks)?;
+    }
+    Ok(kept)
+}
+
+// The bits 01011 with all lists.
+fn with_all(alloc: Global) -> Result<Mask, NoMemory> {
+    let bits = BitBuffer::from_bools(alloc, &[false, true, false, true, true])?;
+    let mask = Mask::from_buffer(bits);
+    mask.with_indices(alloc)?
+        .with_slices(alloc)?
+        .with_blocks(alloc)
+}
+
+// The bits 01011 by their slices, of which two touch.
+fn touching(alloc: Global) -> Result<Mask, MaskError> {
+    let mask = by_slices(alloc, 5, &[(1, 2), (3, 4), (4, 5)])?;
+    Ok(mask.with_slices(alloc)?)
+}
+
+// The bits 01011 by 101, by rank.
+fn intersected(alloc: Global) -> Result<Mask, MaskError> {
+    let mask = by_indices(alloc, 5, &[1, 3, 4])?;
+    let other = by_indices(alloc, 3, &[0, 2])?;
+    if other.len() != mask.true_count() {
+        return Ok(other);
+    }
+    Ok(mask.intersect_by_rank(alloc, &other)?.with_indices(alloc)?)
+}
+
+// Why the bits 011 are no mask with this count, these indices and these slices.
+fn refusal(
+    alloc: Global,
+    true_count: usize,
+    indices: &[usize],
+    slices: &[(usize, usize)],
+) -> Result<Option<MaskError>, NoMemory> {
+    let bits = BitBuffer::from_bools(alloc, &[false, true, true])?;
+    let indices = Buffer::from_vec(alloc, Vec::from_slice(alloc, indices)?)?;
+    let slices = Buffer::from_vec(alloc, Vec::from_slice(alloc, slices)?)?;
+    Ok(MaskValues::try_from_parts(bits, true_count, Some(indices), Some(slices)).err())
 }
 
 #[test]
-fn masks_of_indices_and_slices(rt: HostRuntime) -> Result<(), Fail> {
-    let mask = by_indices(rt.alloc(), &[1, 3, 4])?;
-    assert_eq!(rt;
-        positions(rt.alloc(), &mask)?.as_slice(),
-        [1, 3, 4].as_slice()
-    );
-    let mask = by_slices(rt.alloc(), &[(1, 2), (3, 5)])?.share();
-    assert_eq!(rt;
-        positions(rt.alloc(), &mask)?.as_slice(),
-        [1, 3, 4].as_slice()
-    );
-    assert_eq!(rt; mask.len(), 5);
-    assert_eq!(rt; mask.true_before(4), 2);
-    assert!(rt; mask.value(3));
+fn masks_of_every_kind(rt: HostRuntime) -> Result<(), Fail> {
+    let all = kept(rt.alloc(), &with_all(rt.alloc())?)?;
+    assert_eq!(rt; all.as_slice(), [1, 3, 4, 1, 2, 3, 5, 0].as_slice());
+    let slices = kept(rt.alloc(), &touching(rt.alloc())?)?;
+    assert_eq!(rt; slices.as_slice(), [1, 2, 3, 4, 4, 5].as_slice());
+    let ranked = kept(rt.alloc(), &intersected(rt.alloc())?)?;
+    assert_eq!(rt; ranked.as_slice(), [1, 4].as_slice());
     for indices in [[3, 3], [4, 3], [4, 5]] {
-        let refusal = by_indices(rt.alloc(), &indices).err();
-        assert_eq!(rt; refusal, Some(MaskError::Indices));
+        assert_eq!(rt;
+            by_indices(rt.alloc(), 5, &indices).err(),
+            Some(MaskError::Indices)
+        );
     }
     for slices in [[(0, 1), (1, 1)], [(0, 2), (1, 3)], [(0, 1), (4, 6)]] {
-        let refusal = by_slices(rt.alloc(), &slices).err();
-        assert_eq!(rt; refusal, Some(MaskError::Slices));
+        assert_eq!(rt;
+            by_slices(rt.alloc(), 5, &slices).err(),
+            Some(MaskError::Slices)
+        );
     }
+    let runs = [(1, 2), (2, 3)];
+    for (count, indices, want) in [
+        (2, [1, 2], None),
+        (1, [1, 2], Some(MaskError::Count)),
+        (2, [2, 1], Some(MaskError::Indices)),
+    ] {
+        assert_eq!(rt; refusal(rt.alloc(), count, &indices, &runs)?, want);
+    }
+    let refused = refusal(rt.alloc(), 2, &[1, 2], &[(1, 2)])?;
+    assert_eq!(rt; refused, Some(MaskError::Slices));
     Ok(())
+}
+
+// 2,000 bits, set where the position is a multiple of 3.
+fn thirds(alloc: Global) -> Result<BitBuffer, NoMemory> {
+    let mut flags = Vec::new(alloc);
+    for i in 0..2000 {
+        flags.push(i % 3 == 0)?;
+    }
+    BitBuffer::from_bools(alloc, flags.as_slice())
+}
+
+// A rank among them, and behind it the numbers of the words that were read.
+fn rank_and_reads(alloc: Global, k: usize) -> Result<Vec<usize>, NoMemory> {
+    let bits = thirds(alloc)?;
+    let blocks = counts_of(alloc, &bits)?;
+    let mut words = CountedWords::new(alloc, bits.share(), 8)?;
+    let mut told = Vec::new(alloc);
+    if k < bits.true_count() {
+        told.push(rank_words(&mut words, blocks.as_slice(), k))?;
+        told.extend_from_slice(words.reads())?;
+    }
+    Ok(told)
+}
+
+// The same of the set positions below `p`.
+fn count_and_reads(alloc: Global, p: usize) -> Result<Vec<usize>, NoMemory> {
+    let bits = thirds(alloc)?;
+    let blocks = counts_of(alloc, &bits)?;
+    let mut words = CountedWords::new(alloc, bits.share(), 8)?;
+    let mut told = Vec::new(alloc);
+    if p <= bits.len() {
+        told.push(words_before(&mut words, blocks.as_slice(), p))?;
+        told.extend_from_slice(words.reads())?;
+    }
+    Ok(told)
+}
+
+// A rank and a count of a mask.
+fn rank_and_count(mask: &Mask, k: usize, p: usize) -> Option<(usize, usize)> {
+    if k < mask.true_count() && p <= mask.len() {
+        Some((mask.rank(k), mask.true_before(p)))
+    } else {
+        None
+    }
 }
 
 #[test]
-fn masks_of_bits(rt: HostRuntime) -> Result<(), Fail> {
-    let none = Mask::from_buffer(BitBuffer::from_bools(rt.alloc(), &[])?);
-    assert!(rt; matches!(&none, Mask::AllFalse(0)));
-    let all = Mask::from_buffer(BitBuffer::from_bools(rt.alloc(), &[true, true])?);
-    assert!(rt; matches!(&all, Mask::AllTrue(2)));
-    assert!(rt; all.values().is_none());
-    let some = Mask::from_buffer(BitBuffer::from_bools(rt.alloc(), &[false, true])?);
-    let values = some.values().ok_or("all or none")?.share();
-    assert_eq!(rt; values.len(), 2);
-    assert_eq!(rt; values.bits().true_count(), 1);
-    rank_law();
-    indices_law();
-    slices_law();
+fn ranks_by_blocks(rt: HostRuntime) -> Result<(), Fail> {
+    let mask = Mask::from_buffer(thirds(rt.alloc())?);
+    let blocks = mask.with_blocks(rt.alloc())?;
+    let counts = kept(rt.alloc(), &blocks)?;
+    assert_eq!(rt; counts.as_slice(), [0, 171, 342, 512].as_slice());
+    for (k, position) in [(600, 1800), (512, 1536)] {
+        assert_eq!(rt; rank_and_count(&mask, k, 1537), Some((position, 513)));
+        assert_eq!(rt; rank_and_count(&blocks, k, 1537), Some((position, 513)));
+    }
+    let told = rank_and_reads(rt.alloc(), 600)?;
+    assert_eq!(rt; told.as_slice(), [1800, 24, 25, 26, 27, 28].as_slice());
+    let told = rank_and_reads(rt.alloc(), 512)?;
+    assert_eq!(rt; told.as_slice(), [1536, 24].as_slice());
+    let told = count_and_reads(rt.alloc(), 1537)?;
+    assert_eq!(rt; told.as_slice(), [513, 24].as_slice());
     Ok(())
 }
 
-fn refusal(fields: PolicyFields) -> Option<PolicyError> {
+fn policy_refusal(fields: PolicyFields) -> Option<PolicyError> {
     Policy::try_new(fields).err()
+}
+
+// What 100 bits of which bits 3 and 50 are set keep for so many consumers.
+fn prepared(alloc: Global, consumers: usize) -> Result<Vec<usize>, MaskError> {
+    let made = by_indices(alloc, 100, &[3, 50])?;
+    let mask = match made.values() {
+        Some(values) => Mask::from_buffer(values.bits().share()),
+        None => Mask::AllFalse(100),
+    };
+    let mask = prepare_mask_for_reuse(alloc, &mask, consumers, &Policy::vortex())?;
+    Ok(kept(alloc, &mask)?)
 }
 
 #[test]
@@ -78,13 +192,24 @@ fn policies(rt: HostRuntime) -> Result<(), Fail> {
     for (width, want) in [(1, 16), (2, 32), (4, 64), (8, 160)] {
         assert_eq!(rt; vortex.sparse_limit(width), want, "at {width}");
     }
+    let once = prepared(rt.alloc(), 1)?;
+    assert_eq!(rt; once.len(), 0);
+    let twice = prepared(rt.alloc(), 2)?;
+    assert_eq!(rt; twice.as_slice(), [3, 50].as_slice());
+    let run = by_slices(rt.alloc(), 5, &[(1, 2), (2, 4)])?.share();
+    assert_eq!(rt; run.contiguous(), Some((1, 4)));
+    assert!(rt; run.density_at_least(3, 5) && !run.density_at_least(61, 100));
     let mut fields = *vortex.fields();
-    assert_eq!(rt; refusal(fields), None);
+    assert_eq!(rt; policy_refusal(fields), None);
     fields.sparse_w1 = 161;
-    assert_eq!(rt; refusal(fields), Some(PolicyError::SparseLimit));
+    assert_eq!(rt; policy_refusal(fields), Some(PolicyError::SparseLimit));
     fields.rank_lookup_cap = 0;
-    assert_eq!(rt; refusal(fields), Some(PolicyError::ZeroLookupCap));
+    assert_eq!(rt; policy_refusal(fields), Some(PolicyError::ZeroLookupCap));
     fields.list_indices_below.den = 0;
-    assert_eq!(rt; refusal(fields), Some(PolicyError::ZeroDivisor));
+    assert_eq!(rt; policy_refusal(fields), Some(PolicyError::ZeroDivisor));
+    rank_law();
+    indices_law();
+    slices_law();
+    filters_law::<u8>();
     Ok(())
 }

@@ -1,4 +1,4 @@
-use Rattle.std.proofs.Common.{◌≡◌, ◌+◌, ◌<◌, ◌≤◌, length, get_or, take, sym, ap, ◌∙◌, arith, eqb}
+use Rattle.std.proofs.Common.{◌<◌, length, sym, ap, ◌∙◌, arith, eqb}
 use Rattle.std.proofs.lemmas.List.{take_all}
 use Rattle.vx_mask.proofs.AgreeingLists.{position_more, position_is, ends, no_position}
 use Rattle.vx_mask.proofs.agreement.are_set_positions.Goals as goal

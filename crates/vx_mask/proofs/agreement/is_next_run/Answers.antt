@@ -1,5 +1,4 @@
-use Rattle.std.proofs.Common.{◌≡◌, ◌-◌, ap, ◌∙◌, sym, arith, eq-eqb, eqb-true}
-use Rattle.vx_bits.specs.BitBuffer.{true_count_of}
+use Rattle.std.proofs.Common.{◌≡◌, ◌-◌, ◌∙◌, sym, arith, eq-eqb, eqb-true}
 use Rattle.vx_mask.proofs.AgreeingLists.{run_begins, run_counts, run_starts}
 use Rattle.vx_mask.proofs.agreement.is_next_run.Goals as goal
 
@@ -15,10 +14,10 @@ returns c =
     let bits = c.args.bits.now.bits in
     let n = c.next_with.ensures in
     let same : c.next_with.result ≡ c.args.start = omega (arith, c.if-next_with-start.false) in
-    let count = c.true_count-2.ensures ∙ ap true_count_of c.slice.ensures.bits in (
+    let count = c.count_range.ensures in (
       λ yes.
-          let all = eqb-true c.true_count-2.result (c.args.end - c.args.start) yes in
+          let all = eqb-true c.count_range.result (c.args.end - c.args.start) yes in
           run_begins bits c.args.low c.args.start c.args.end (omega (arith, c.if-start-low.false)) (omega (arith, c.if-end-start.false)) (omega (arith, c.if-end-len.false, c.len.ensures))
           (λ k p q. n.passed k p (omega arith)) (sym count ∙ all),
-      λ begins. eq-eqb c.true_count-2.result (c.args.end - c.args.start) (count ∙ run_counts bits c.args.low c.args.start c.args.end begins),
+      λ begins. eq-eqb c.count_range.result (c.args.end - c.args.start) (count ∙ run_counts bits c.args.low c.args.start c.args.end begins),
     )

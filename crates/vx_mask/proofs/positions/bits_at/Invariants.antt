@@ -1,5 +1,3 @@
-use Rattle.std.proofs.Common.{◌≡◌, ◌≤◌, length, take, drop, true, false}
-use Rattle.vx_mask.specs.Positions.{set_of, ascending}
 use Rattle.vx_mask.proofs.MadeBits.{IsMadeTo}
 use Rattle.vx_mask.proofs.positions.bits_at.Given as goal
 

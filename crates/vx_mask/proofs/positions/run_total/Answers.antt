@@ -1,8 +1,8 @@
-use Rattle.std.proofs.Common.{◌≡◌, ◌+◌, ◌-◌, ◌∙◌, length, get_or, take, drop, ap, rules, arith}
+use Rattle.std.proofs.Common.{◌-◌, ◌∙◌, length, get_or, take, ap, arith}
 use Rattle.std.specs.List.{range_with_len}
 use Rattle.std.proofs.lemmas.List.{length-append}
 use Rattle.std.proofs.lemmas.List.FromFn.{length-range_with_len}
-use Rattle.vx_mask.specs.Positions.{covered, runs_ascend}
+use Rattle.vx_mask.specs.Positions.{covered}
 use Rattle.vx_mask.proofs.AscendingLists.{covered_more, next_runs_ascend}
 use Rattle.vx_mask.proofs.positions.run_total.Goals as goal
 

@@ -1,4 +1,4 @@
-use Rattle.std.proofs.Common.{◌≡◌, ◌+◌, ◌-◌, ◌*◌, ◌/◌, length, refl, sym, ap, ◌∙◌, arith}
+use Rattle.std.proofs.Common.{◌≡◌, ◌+◌, ◌-◌, ◌*◌, ◌/◌, refl, sym, ap, ◌∙◌, arith}
 use Rattle.std.specs.List.{range_with_len}
 use Rattle.vx_bits.specs.WordReader.{then_told}
 use Rattle.vx_bits.specs.Words.{word_at}
@@ -56,7 +56,7 @@ loop-w-preserved g c =
     let bits = g.R.WordReader.bits c.args.bits.now in
     let word = c.word-word.ensures.value ∙ ap (λ b. word_at b c.loop-w.w) c.loop-w.invariant.same in
     record {
-      counted = omega (arith, count_of_word bits c.loop-w.w c.word-word.result word (omega arith), c.loop-w.invariant.counted, c.if-left-count.false);
+      counted = omega (arith, count_of_word bits c.loop-w.w c.word-word.result word, c.loop-w.invariant.counted, c.if-left-count.false);
       same = c.word-word.ensures.same ∙ c.loop-w.invariant.same;
       reads = told_next _ _ _ _ _ c.loop-w.auto.w c.loop-w.invariant.reads c.word-word.ensures.told;
       cost = omega (arith, c.word-word.ensures.cost, c.loop-w.invariant.cost, c.loop-w.auto.w);

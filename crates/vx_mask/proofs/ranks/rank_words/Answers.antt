@@ -1,5 +1,4 @@
-use Rattle.std.proofs.Common.{◌≡◌, ◌+◌, ◌-◌, ◌*◌, ◌/◌, ◌<◌, ◌≤◌, length, take, sym, ap, subst, ◌∙◌, arith}
-use Rattle.vx_bits.specs.BitBuffer.{true_count_of}
+use Rattle.std.proofs.Common.{◌≡◌, ◌+◌, ◌-◌, ◌*◌, ◌/◌, ◌<◌, length, sym, ap, ◌∙◌, arith}
 use Rattle.vx_bits.specs.WordReader.{then_told}
 use Rattle.vx_mask.specs.Ranks.{words_between}
 use Rattle.vx_mask.proofs.BlockCounts.{length_blocks, block_start, block_end, count_fits}

@@ -22,7 +22,7 @@ pub overflow_add-count : goal.overflow_add-count
 overflow_add-count g c =
     let bits = g.R.WordReader.bits c.args.bits.now in
     let word = c.word.ensures.value ∙ ap (λ b. word_at b c.loop-w.w) c.loop-w.invariant.same in
-    let more = count_of_word bits c.loop-w.w c.word.result word (omega arith) in
+    let more = count_of_word bits c.loop-w.w c.word.result word in
     let fits = count_fits bits (64 * (c.loop-w.w + 1)) in
     let counted = c.loop-w.invariant.counted in
     search (rules, arith)
@@ -32,7 +32,7 @@ loop-w-preserved g c =
     let bits = g.R.WordReader.bits c.args.bits.now in
     let word = c.word.ensures.value ∙ ap (λ b. word_at b c.loop-w.w) c.loop-w.invariant.same in
     record {
-      counted = omega (arith, count_of_word bits c.loop-w.w c.word.result word (omega arith), c.loop-w.invariant.counted);
+      counted = omega (arith, count_of_word bits c.loop-w.w c.word.result word, c.loop-w.invariant.counted);
       same = c.word.ensures.same ∙ c.loop-w.invariant.same;
       reads = told_next _ _ _ _ _ c.loop-w.auto.w c.loop-w.invariant.reads c.word.ensures.told;
       cost = omega (arith, c.word.ensures.cost, c.loop-w.invariant.cost, c.loop-w.auto.w);

@@ -1,4 +1,4 @@
-use Rattle.std.proofs.Common.{◌≡◌, ◌*◌, ◌≤◌, length, arith}
+use Rattle.std.proofs.Common.{◌*◌, arith}
 use Rattle.vx_mask.proofs.RunLists.{all_positions}
 use Rattle.vx_mask.proofs.WordPositions.{word_pushed, word_fits}
 use Rattle.vx_mask.proofs.runs.positions_of.Goals as goal
@@ -7,7 +7,7 @@ pub push_positions-requires-clause-room : goal.push_positions-requires-clause-ro
 push_positions-requires-clause-room c =
     let v = c.loop-w.invariant in
     let held = c.loop-w.indices.ok.0 in
-    omega (arith, word_fits c.args.bits.now.bits c.loop-w.indices.items c.loop-w.w c.word.result c.word.ensures (omega arith) v.found, v.room, c.requires)
+    omega (arith, word_fits c.args.bits.now.bits c.loop-w.indices.items c.loop-w.w c.word.result c.word.ensures v.found, v.room, c.requires)
 
 pub loop-w-preserved : goal.loop-w-preserved
 loop-w-preserved c =

@@ -1,7 +1,8 @@
-use Rattle.std.proofs.Common.{◌≡◌, ◌+◌, ◌-◌, ◌^◌, ◌<◌, arith, ◌∙◌}
+use Rattle.std.proofs.Common.{◌^◌, ◌<◌, arith, ◌∙◌}
 use Rattle.std.specs.Int.{w64}
 use Rattle.std.proofs.lemmas.Nat.Bits.{bit_at-trailing_zeros}
-use Rattle.vx_mask.proofs.LowestBit.{one_less, position_pushed, positions_done, some_left}
+use Rattle.vx_bits.proofs.WordLists.{one_less}
+use Rattle.vx_mask.proofs.LowestBit.{position_pushed, positions_done, some_left}
 use Rattle.vx_mask.proofs.runs.push_positions.Goals as goal
 
 pub overflow_add-base : goal.overflow_add-base

@@ -1,8 +1,8 @@
-use Rattle.std.proofs.Common.{◌≡◌, ◌<◌, replicate, true, sym, ap, ◌∙◌, subst, arith}
+use Rattle.std.proofs.Common.{replicate, true, sym, ap, ◌∙◌, subst, arith}
 use Rattle.vx_mask.specs.Mask.{mask_bits}
 use Rattle.vx_mask.specs.Positions.{IsSpan, span_of}
 use Rattle.vx_mask.specs.declared.mask.Mask.{Mask}
-use Rattle.vx_mask.proofs.Spans.{span_all, span_is, span_told}
+use Rattle.vx_mask.proofs.Spans.{span_all, span_is}
 use Rattle.vx_mask.proofs.mask.Mask.contiguous.Goals as goal
 
 pub returns-else-len-eq0-clause-value : goal.returns-else-len-eq0-clause-value

@@ -1,4 +1,4 @@
-use Rattle.std.proofs.Common.{◌≡◌, ap, sym, ◌∙◌, arith, length, true}
+use Rattle.std.proofs.Common.{ap, ◌∙◌, arith, length}
 use Rattle.vx_bits.specs.BitBuffer.{PlacedBits}
 use Rattle.vx_mask.specs.Mask.{mask_by_slices, at_front}
 use Rattle.vx_mask.specs.MaskValues.{PartialMask}

@@ -1,5 +1,4 @@
-use Rattle.std.proofs.Common.{◌≡◌, ◌<◌, ◌-◌, ap, subst, sym, ◌∙◌, arith}
-use Rattle.vx_bits.specs.BitBuffer.{PlacedBits, true_count_of}
+use Rattle.std.proofs.Common.{ap, sym, ◌∙◌, arith}
 use Rattle.vx_mask.specs.MaskValues.{PartialMask}
 use Rattle.vx_mask.specs.Positions.{span_of}
 use Rattle.vx_mask.proofs.Spans.{first_run, one_span, span_is, span_none}

@@ -1,4 +1,4 @@
-use Rattle.std.proofs.Common.{◌≡◌, List, ℕ, Option, Some, IfSome, sym, ap, subst, ◌∙◌}
+use Rattle.std.proofs.Common.{◌≡◌, List, ℕ, Option, IfSome, sym, subst, ◌∙◌}
 use Rattle.vx_mask.specs.MaskValues.{PartialMask, AreSlicesOf, block_counts}
 use Rattle.vx_mask.specs.Positions.{set_of}
 use Rattle.vx_mask.proofs.Partial.{agreeing, maximal_agree}

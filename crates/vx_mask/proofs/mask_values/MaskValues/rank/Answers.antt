@@ -1,6 +1,4 @@
-use Rattle.std.proofs.Common.{◌≡◌, ◌<◌, List, ℕ, Option, IfSome, get_or, length, ap, subst, sym, ◌∙◌, arith}
-use Rattle.vx_mask.specs.MaskValues.{PartialMask}
-use Rattle.vx_mask.specs.Positions.{set_of}
+use Rattle.std.proofs.Common.{◌<◌, List, ℕ, get_or, length, ap, subst, sym, ◌∙◌, arith}
 use Rattle.vx_mask.proofs.PositionLists.{length-positions, rank_within}
 use Rattle.vx_mask.proofs.Partial.{kept_set}
 use Rattle.vx_mask.proofs.mask_values.MaskValues.rank.Goals as goal
