@@ -24,7 +24,8 @@ fn read(alloc: Global, json: &str) -> Result<(usize, Option<usize>, usize), DocE
 fn documents(rt: HostRuntime) -> Result<(), Fail> {
     for (json, want) in [
         (
-            r#"{"column":{"layout":"Primitive","type":"i16","values":[-2,300,7]},"steps":[{"slice":[1,9]},{"filter":"01"}],"policy":{"crop_min":5}}"#,
+            r#"{"column":{"layout":"Primitive","type":"i16","values":[-2,300,7]},
+                "steps":[{"slice":[1,9]},{"filter":"01"}],"policy":{"crop_min":5}}"#,
             Ok((3, Some(1), 5)),
         ),
         (
