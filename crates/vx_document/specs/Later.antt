@@ -6,7 +6,8 @@ use Rattle.vx_json.specs.Members.{is_among}
 -- types and columns of plain values, which rows are null, and steps that take rows
 unfoldable pub flat_words : List (List ℕ)
 flat_words =
-    codes "Null" ∷ codes "Bool" ∷ codes "Decimal" ∷ codes "f16" ∷ codes "f32" ∷ codes "f64"
+    codes "Null" ∷ codes "Bool" ∷ codes "Decimal"
+    ∷ codes "f16" ∷ codes "f32" ∷ codes "f64"
     ∷ codes "take" ∷ codes "validity" ∷ codes "precision" ∷ codes "scale" ∷ codes "width" ∷ []
 
 -- index lists by pieces, and columns over other columns
@@ -60,14 +61,14 @@ abbrev mutual
   holds_later (boolean b) = false
   holds_later (number n) = false
   holds_later (string s) = false
-  holds_later (array ds) = items_later ds
-  holds_later (object ms) = members_later ms
+  holds_later (array ds) = items_hold_later ds
+  holds_later (object ms) = members_hold_later ms
 
-  pub items_later : Items → Bool
-  items_later no_items = false
-  items_later (item d ds) = holds_later d || items_later ds
+  pub items_hold_later : Items → Bool
+  items_hold_later no_items = false
+  items_hold_later (item d ds) = holds_later d || items_hold_later ds
 
-  pub members_later : Members → Bool
-  members_later no_members = false
-  members_later (member k d ms) =
-      (is_later_word k || is_later_text k d) || holds_later d || members_later ms
+  pub members_hold_later : Members → Bool
+  members_hold_later no_members = false
+  members_hold_later (member k d ms) =
+      (is_later_word k || is_later_text k d) || holds_later d || members_hold_later ms

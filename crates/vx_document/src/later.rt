@@ -2,7 +2,7 @@
 ghost use Rattle.std.specs.Prelude.{◌≡◌};
 ghost use Rattle.serde_json.specs.View.{view, items_view, members_view};
 ghost use Rattle.vx_json.specs.Members.{is_among};
-ghost use Rattle.vx_document.specs.Later.{flat_words, lazy_words, chunk_words, text_words, list_words, record_words, is_later_word, is_later_text, holds_later, items_later, members_later};
+ghost use Rattle.vx_document.specs.Later.{flat_words, lazy_words, chunk_words, text_words, list_words, record_words, is_later_word, is_later_text, holds_later, items_hold_later, members_hold_later};
 
 use serde_json::{Map, Value};
 use vx_json::is_among;
@@ -170,7 +170,7 @@ pub fn holds_later(value: &Value) -> bool
 
 #[cycle(later)]
 fn items_hold_later(items: &Vec<Value>) -> bool
-    ensures { result ≡ items_later (items_view items.now.items) }
+    ensures { result ≡ items_hold_later (items_view items.now.items) }
 {
     for item in items {
         if holds_later(item) {
@@ -182,7 +182,7 @@ fn items_hold_later(items: &Vec<Value>) -> bool
 
 #[cycle(later)]
 fn members_hold_later(members: &Map<String, Value>) -> bool
-    ensures { result ≡ members_later (members_view members.now.entries) }
+    ensures { result ≡ members_hold_later (members_view members.now.entries) }
 {
     for (name, member) in members {
         if is_later_word(name.as_str())

@@ -12,3 +12,6 @@ pub use documents::{Document, DocumentSource, StepList};
 pub use later::holds_later;
 pub use reading::document;
 pub use vx_json::DocError;
+
+#[cfg(test)]
+mod tests;

@@ -7,25 +7,20 @@ use Rattle.std.proofs.Math.Pow.{pow_mono}
 use Rattle.std.proofs.Math.Seq.{drop-append_seam}
 use Rattle.vx_bits.specs.Words.{word_bits}
 use Rattle.vx_bits.proofs.WordBits.{word_bits-append}
-use Rattle.vx_json.specs.Meaning.{◌>>=◌, Fails, behind}
+use Rattle.vx_json.specs.Meaning.{◌>>=◌, Fails, with_read}
 use Rattle.vx_json.specs.BitText.{bit_named, bits_in}
 use Rattle.vx_json.specs.declared.error.DocError.{DocError}
 use Rattle.vx_json.specs.declared.error.DocError.TheVariants.{Malformed, NoMemory}
-use Rattle.vx_json.proofs.Reading.{behind-one}
-
--- before the first digit
-pub none_read : (rest : Option (List Bool)) → behind [] rest ≡ rest
-none_read None = refl
-none_read (Some bits) = refl
+use Rattle.vx_json.proofs.Reading.{none_read, with_read-one}
 
 -- what two parts mean, one behind the other
-bits_in-append : (xs ys : List ℕ) → bits_in (xs ++ ys) ≡ (bits_in xs >>= λ bits. behind bits (bits_in ys))
+bits_in-append : (xs ys : List ℕ) → bits_in (xs ++ ys) ≡ (bits_in xs >>= λ bits. with_read bits (bits_in ys))
 unfolding bits_in
 bits_in-append [] ys = sym (none_read (bits_in ys))
 bits_in-append (c ∷ cs) ys = rw (bits_in-append cs ys) (regroup (bit_named c) (bits_in cs) (bits_in ys))
   where
     regroup : (o : Option Bool) (p r : Option (List Bool))
-        → (o >>= λ b. ((p >>= λ bits. behind bits r) >>= λ bits. Some (b ∷ bits))) ≡ ((o >>= λ b. (p >>= λ bits. Some (b ∷ bits))) >>= λ bits. behind bits r)
+        → (o >>= λ b. ((p >>= λ bits. with_read bits r) >>= λ bits. Some (b ∷ bits))) ≡ ((o >>= λ b. (p >>= λ bits. Some (b ∷ bits))) >>= λ bits. with_read bits r)
     regroup None p r = refl
     regroup (Some b) None r = refl
     regroup (Some b) (Some bits) None = refl
@@ -33,24 +28,24 @@ bits_in-append (c ∷ cs) ys = rw (bits_in-append cs ys) (regroup (bit_named c) 
 
 module _ (old : List Bool) (front rest : List ℕ) where
   -- the first part is read
-  pub part_read : (mid : List Bool) → behind old (bits_in front) ≡ Some mid → behind old (bits_in (front ++ rest)) ≡ behind mid (bits_in rest)
+  pub part_read : (mid : List Bool) → with_read old (bits_in front) ≡ Some mid → with_read old (bits_in (front ++ rest)) ≡ with_read mid (bits_in rest)
   part_read mid is = rw (bits_in-append front rest) (by (bits_in front) is)
     where
-      join : (bits : List Bool) (r : Option (List Bool)) → behind old (behind bits r) ≡ behind (old ++ bits) r
+      join : (bits : List Bool) (r : Option (List Bool)) → with_read old (with_read bits r) ≡ with_read (old ++ bits) r
       join bits None = refl
       join bits (Some more) = ap Some (sym (append_assoc old bits more))
 
-      by : (p : Option (List Bool)) → behind old p ≡ Some mid → behind old (p >>= λ bits. behind bits (bits_in rest)) ≡ behind mid (bits_in rest)
+      by : (p : Option (List Bool)) → with_read old p ≡ Some mid → with_read old (p >>= λ bits. with_read bits (bits_in rest)) ≡ with_read mid (bits_in rest)
       by None e = cc
       by (Some bits) e =
           let same : old ++ bits ≡ mid = cc in
-          join bits (bits_in rest) ∙ ap (λ m. behind m (bits_in rest)) same
+          join bits (bits_in rest) ∙ ap (λ m. with_read m (bits_in rest)) same
 
   -- it means nothing
-  pub part_fails : (e : DocError) → Fails e (behind old (bits_in front)) → Fails e (behind old (bits_in (front ++ rest)))
+  pub part_fails : (e : DocError) → Fails e (with_read old (bits_in front)) → Fails e (with_read old (bits_in (front ++ rest)))
   part_fails Malformed none = rw (bits_in-append front rest) (by (bits_in front) none)
     where
-      by : (p : Option (List Bool)) → behind old p ≡ None → behind old (p >>= λ bits. behind bits (bits_in rest)) ≡ None
+      by : (p : Option (List Bool)) → with_read old p ≡ None → with_read old (p >>= λ bits. with_read bits (bits_in rest)) ≡ None
       by None e = refl
       by (Some bits) e = cc
   part_fails NoMemory none = tt
@@ -60,48 +55,48 @@ cut_at : (text : List ℕ) (k n : ℕ) → drop k text ≡ take n (drop k text) 
 cut_at text k n = sym (take-append-drop n (drop k text)) ∙ ap (λ l. take n (drop k text) ++ l) (drop-drop n k text)
 
 -- one digit more
-digit_read : (old : List Bool) (c : ℕ) (cs : List ℕ) (b : Bool) → bit_named c ≡ Some b → behind old (bits_in (c ∷ cs)) ≡ behind (old ++ b ∷ []) (bits_in cs)
+digit_read : (old : List Bool) (c : ℕ) (cs : List ℕ) (b : Bool) → bit_named c ≡ Some b → with_read old (bits_in (c ∷ cs)) ≡ with_read (old ++ b ∷ []) (bits_in cs)
 unfolding bits_in
-digit_read old c cs b is = rw is (behind-one old b (bits_in cs))
+digit_read old c cs b is = rw is (with_read-one old b (bits_in cs))
 
-digit_fails : (old : List Bool) (c : ℕ) (cs : List ℕ) (e : DocError) → Fails e (bit_named c) → Fails e (behind old (bits_in (c ∷ cs)))
+digit_fails : (old : List Bool) (c : ℕ) (cs : List ℕ) (e : DocError) → Fails e (bit_named c) → Fails e (with_read old (bits_in (c ∷ cs)))
 unfolding bits_in
 digit_fails old c cs Malformed is = rw is refl
 digit_fails old c cs NoMemory is = tt
 
-pub none_left : (new : List Bool) (text : List ℕ) (k : ℕ) → length text ≤ k → behind new (bits_in (drop k text)) ≡ Some new
+pub none_left : (new : List Bool) (text : List ℕ) (k : ℕ) → length text ≤ k → with_read new (bits_in (drop k text)) ≡ Some new
 unfolding bits_in
 none_left new text k h = rw (drop_all k text h) (ap Some (append-nil new))
 
 -- the same, of what is left of a text whose reading goes by `whole`
-module _ (text : List ℕ) (k : ℕ) (old : List Bool) (whole : Option (List Bool)) (so_far : behind old (bits_in (drop k text)) ≡ whole) where
-  pub next_digit : (b : Bool) → k < length text → bit_named (get_or text k 0) ≡ Some b → behind (old ++ b ∷ []) (bits_in (drop (k + 1) text)) ≡ whole
+module _ (text : List ℕ) (k : ℕ) (old : List Bool) (whole : Option (List Bool)) (so_far : with_read old (bits_in (drop k text)) ≡ whole) where
+  pub next_digit : (b : Bool) → k < length text → bit_named (get_or text k 0) ≡ Some b → with_read (old ++ b ∷ []) (bits_in (drop (k + 1) text)) ≡ whole
   next_digit b h is =
-      let cut = ap (λ l. behind old (bits_in l)) (drop-cons text k 0 h) in
-      let one : behind (old ++ b ∷ []) (bits_in (drop (k + 1) text)) ≡ behind old (bits_in (get_or text k 0 ∷ drop (suc k) text)) = rw add-one (sym (digit_read old (get_or text k 0) (drop (suc k) text) b is)) in
+      let cut = ap (λ l. with_read old (bits_in l)) (drop-cons text k 0 h) in
+      let one : with_read (old ++ b ∷ []) (bits_in (drop (k + 1) text)) ≡ with_read old (bits_in (get_or text k 0 ∷ drop (suc k) text)) = rw add-one (sym (digit_read old (get_or text k 0) (drop (suc k) text) b is)) in
       one ∙ sym cut ∙ so_far
 
   pub no_next_digit : (e : DocError) → k < length text → Fails e (bit_named (get_or text k 0)) → Fails e whole
   no_next_digit e h is =
-      let cut = ap (λ l. behind old (bits_in l)) (drop-cons text k 0 h) in
+      let cut = ap (λ l. with_read old (bits_in l)) (drop-cons text k 0 h) in
       subst (Fails e) (sym cut ∙ so_far) (digit_fails old (get_or text k 0) (drop (suc k) text) e is)
 
-  pub next_part : (n : ℕ) (bits : List Bool) → bits_in (take n (drop k text)) ≡ Some bits → behind (old ++ bits) (bits_in (drop (k + n) text)) ≡ whole
+  pub next_part : (n : ℕ) (bits : List Bool) → bits_in (take n (drop k text)) ≡ Some bits → with_read (old ++ bits) (bits_in (drop (k + n) text)) ≡ whole
   next_part n bits is =
-      let read = part_read old (take n (drop k text)) (drop (k + n) text) (old ++ bits) (ap (behind old) is) in
-      sym read ∙ ap (λ l. behind old (bits_in l)) (sym (cut_at text k n)) ∙ so_far
+      let read = part_read old (take n (drop k text)) (drop (k + n) text) (old ++ bits) (ap (with_read old) is) in
+      sym read ∙ ap (λ l. with_read old (bits_in l)) (sym (cut_at text k n)) ∙ so_far
 
   pub no_next_part : (n : ℕ) (e : DocError) → Fails e (bits_in (take n (drop k text))) → Fails e whole
   no_next_part n Malformed is =
-      let fails = part_fails old (take n (drop k text)) (drop (k + n) text) Malformed (ap (behind old) is) in
-      sym so_far ∙ ap (λ l. behind old (bits_in l)) (cut_at text k n) ∙ fails
+      let fails = part_fails old (take n (drop k text)) (drop (k + n) text) Malformed (ap (with_read old) is) in
+      sym so_far ∙ ap (λ l. with_read old (bits_in l)) (cut_at text k n) ∙ fails
   no_next_part n NoMemory is = tt
 
 -- what stands behind the first bits is what the digits mean
-pub read_behind : (old : List Bool) (text : List ℕ) (all rest : List Bool) → behind old (bits_in text) ≡ Some all → rest ≡ take (length all - length old) (drop (length old) all) → bits_in text ≡ Some rest
+pub read_behind : (old : List Bool) (text : List ℕ) (all rest : List Bool) → with_read old (bits_in text) ≡ Some all → rest ≡ take (length all - length old) (drop (length old) all) → bits_in text ≡ Some rest
 read_behind old text all rest is cut = by (bits_in text) is
   where
-    by : (p : Option (List Bool)) → behind old p ≡ Some all → p ≡ Some rest
+    by : (p : Option (List Bool)) → with_read old p ≡ Some all → p ≡ Some rest
     by None e = cc
     by (Some bits) e =
         let same : all ≡ old ++ bits = cc in

@@ -96,10 +96,10 @@ not_all_digits [] h e = absurd (e refl)
 not_all_digits (b ∷ bs) h e = by (not_all_digits bs h.1) (even b == 48) refl
   where
     by : (le (map even bs) ≢ le (replicate (length bs) 48) → bits_in bs ≡ None) → (v : Bool) → (even b == 48) ≡ v → bits_in (b ∷ bs) ≡ None
-    by behind true t =
+    by tail true t =
         let this : even b ≡ 48 = grind (arith, nat_tests) in
-        rw (digit b this, behind (λ rest. e (ap₂ (λ (x : ℕ) (y : ℕ). x + 256 * y) this rest))) refl
-    by behind false t =
+        rw (digit b this, tail (λ rest. e (ap₂ (λ (x : ℕ) (y : ℕ). x + 256 * y) this rest))) refl
+    by tail false t =
         let other : even b ≢ 48 = grind (arith, nat_tests) in
         rw (no_digit b other) refl
 

@@ -4,14 +4,19 @@ use Rattle.std.proofs.lemmas.List.{append-nil, drop_all}
 use Rattle.serde_json.specs.Data.{Data, item}
 use Rattle.serde_json.specs.View.{view, items_view}
 use Rattle.serde_json.specs.declared.value.Value.{Value}
-use Rattle.vx_json.specs.Meaning.{◌>>=◌, Fails, behind}
+use Rattle.vx_json.specs.Meaning.{◌>>=◌, Fails, with_read}
 use Rattle.vx_json.specs.Items.{each}
 use Rattle.vx_json.specs.declared.error.DocError.{DocError}
 use Rattle.vx_json.specs.declared.error.DocError.TheVariants.{Malformed, NoMemory}
 
-pub behind-one : {A : Type 0} (read : List A) (x : A) (rest : Option (List A)) → behind read (rest >>= λ xs. Some (x ∷ xs)) ≡ behind (read ++ x ∷ []) rest
-behind-one read x None = refl
-behind-one read x (Some xs) = ap Some (simp append_assoc)
+-- before the first item
+pub none_read : {A : Type 0} (rest : Option (List A)) → with_read [] rest ≡ rest
+none_read None = refl
+none_read (Some xs) = refl
+
+pub with_read-one : {A : Type 0} (read : List A) (x : A) (rest : Option (List A)) → with_read read (rest >>= λ xs. Some (x ∷ xs)) ≡ with_read (read ++ x ∷ []) rest
+with_read-one read x None = refl
+with_read-one read x (Some xs) = ap Some (simp append_assoc)
 
 -- the items from place k on begin with the one there
 items_from : (vs : List Value) (k : ℕ) (v : Value) → k < length vs → v ≡ get_or vs k v → items_view (drop k vs) ≡ item (view v) (items_view (drop (k + 1) vs))
@@ -19,28 +24,24 @@ items_from vs k v h is = ap items_view (drop-cons vs k v h) ∙ rw (← is, add-
 
 -- The state of a loop that has read the items before place k: what they gave, behind which the rest gives the whole.
 pub record IsReading {A : Type 0} (f : Data → Option A) (vs : List Value) (k : ℕ) (read : List A) : Type 0 where
-  pub so_far : behind read (each f (items_view (drop k vs))) ≡ each f (items_view vs)
+  pub so_far : with_read read (each f (items_view (drop k vs))) ≡ each f (items_view vs)
 
 pub reading_starts : {A : Type 0} (f : Data → Option A) (vs : List Value) → IsReading f vs 0 []
-reading_starts {A} f vs = record { so_far = whole (each f (items_view vs)) }
-  where
-    whole : (rest : Option (List A)) → behind [] rest ≡ rest
-    whole None = refl
-    whole (Some xs) = refl
+reading_starts f vs = record { so_far = none_read (each f (items_view vs)) }
 
 module _ {A : Type 0} (f : Data → Option A) (vs : List Value) (k : ℕ) (read : List A) (r : IsReading f vs k read) where
   -- one item more
   pub reading_goes_on : (v : Value) (x : A) → k < length vs → v ≡ get_or vs k v → f (view v) ≡ Some x → IsReading f vs (k + 1) (read ++ x ∷ [])
   unfolding each
   reading_goes_on v x h is gives =
-      let one : behind read (each f (items_view (drop k vs))) ≡ behind (read ++ x ∷ []) (each f (items_view (drop (k + 1) vs))) = rw (items_from vs k v h is, gives) (behind-one read x _) in
+      let one : with_read read (each f (items_view (drop k vs))) ≡ with_read (read ++ x ∷ []) (each f (items_view (drop (k + 1) vs))) = rw (items_from vs k v h is, gives) (with_read-one read x _) in
       record { so_far = sym one ∙ r.so_far }
 
   -- an item that gives nothing
   pub reading_fails : (e : DocError) (v : Value) → k < length vs → v ≡ get_or vs k v → Fails e (f (view v)) → Fails e (each f (items_view vs))
   unfolding each
   reading_fails Malformed v h is none =
-      let one : behind read (each f (items_view (drop k vs))) ≡ None = rw (items_from vs k v h is, none) refl in
+      let one : with_read read (each f (items_view (drop k vs))) ≡ None = rw (items_from vs k v h is, none) refl in
       sym r.so_far ∙ one
   reading_fails NoMemory v h is none = tt
 
@@ -48,5 +49,5 @@ module _ {A : Type 0} (f : Data → Option A) (vs : List Value) (k : ℕ) (read 
   pub reading_ends : length vs ≤ k → each f (items_view vs) ≡ Some read
   unfolding each
   reading_ends h =
-      let one : behind read (each f (items_view (drop k vs))) ≡ Some read = rw (drop_all k vs h) (ap Some (append-nil read)) in
+      let one : with_read read (each f (items_view (drop k vs))) ≡ Some read = rw (drop_all k vs h) (ap Some (append-nil read)) in
       sym r.so_far ∙ one

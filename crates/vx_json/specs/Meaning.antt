@@ -29,5 +29,5 @@ found_or usual f None = Some usual
 found_or usual f (Some d) = f d
 
 -- what was read, in front of what the rest means, where it means something
-abbrev pub behind : {A : Type 0} → List A → Option (List A) → Option (List A)
-behind read rest = rest >>= λ xs. Some (read ++ xs)
+abbrev pub with_read : {A : Type 0} → List A → Option (List A) → Option (List A)
+with_read read rest = rest >>= λ xs. Some (read ++ xs)

@@ -8,14 +8,14 @@ is_among [] name = false
 is_among (n ∷ names) name = bytes_eq name n || is_among names name
 
 -- each member is one of these
-abbrev pub has_only : List (List ℕ) → Members → Bool
-has_only names no_members = true
-has_only names (member k d ms) = is_among names k && has_only names ms
+abbrev pub are_among : List (List ℕ) → Members → Bool
+are_among names no_members = true
+are_among names (member k d ms) = is_among names k && are_among names ms
 
-abbrev pub members_closed : List (List ℕ) → Option Members → Bool
-members_closed names None = false
-members_closed names (Some ms) = has_only names ms
+abbrev pub is_object_of : List (List ℕ) → Option Members → Bool
+is_object_of names None = false
+is_object_of names (Some ms) = are_among names ms
 
 -- an object with no other members than these
 unfoldable pub is_closed : List (List ℕ) → Data → Bool
-is_closed names d = members_closed names (as_object d)
+is_closed names d = is_object_of names (as_object d)

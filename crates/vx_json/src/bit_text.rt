@@ -1,7 +1,7 @@
 //! Texts of `0` and `1`, as bits.
 ghost use Rattle.std.specs.Prelude.{◌≡◌, ◌%◌, ◌<◌, ◌≤◌, IfOk, length};
 ghost use Rattle.vx_bits.specs.Words.{word_bits};
-ghost use Rattle.vx_json.specs.Meaning.{Gives, Leaves, behind};
+ghost use Rattle.vx_json.specs.Meaning.{Gives, Leaves, with_read};
 ghost use Rattle.vx_json.specs.BitText.{bit_named, bits_in};
 
 use crate::error::DocError;
@@ -52,7 +52,7 @@ fn word_named(digits: &[u8]) -> Result<u64, DocError>
 /// Appends the bits that the digits name, 64 at a time.
 fn append_words(bits: &mut BitBuilder, text: &[u8]) -> Result<(), DocError>
     requires { length text.now % 64 ≡ 0 }
-    ensures { Leaves result bits.new (behind bits.old (bits_in text.now)) }
+    ensures { Leaves result bits.new (with_read bits.old (bits_in text.now)) }
 {
     for i in 0..text.len() / 64 {
         bits.append_word(word_named(&text[64 * i..64 * i + 64])?, 64)?;
@@ -63,7 +63,7 @@ fn append_words(bits: &mut BitBuilder, text: &[u8]) -> Result<(), DocError>
 /// Appends the bits that the digits name, eight at a time.
 fn append_bytes(bits: &mut BitBuilder, text: &[u8]) -> Result<(), DocError>
     requires { length text.now % 8 ≡ 0 }
-    ensures { Leaves result bits.new (behind bits.old (bits_in text.now)) }
+    ensures { Leaves result bits.new (with_read bits.old (bits_in text.now)) }
 {
     for i in 0..text.len() / 8 {
         bits.append_word(byte_named(&text[8 * i..8 * i + 8])?, 8)?;
@@ -73,7 +73,7 @@ fn append_bytes(bits: &mut BitBuilder, text: &[u8]) -> Result<(), DocError>
 
 /// Appends the bits that the digits name, one at a time.
 fn append_digits(bits: &mut BitBuilder, text: &[u8]) -> Result<(), DocError>
-    ensures { Leaves result bits.new (behind bits.old (bits_in text.now)) }
+    ensures { Leaves result bits.new (with_read bits.old (bits_in text.now)) }
 {
     for byte in text {
         bits.append(bit_named(*byte)?)?;
@@ -83,7 +83,7 @@ fn append_digits(bits: &mut BitBuilder, text: &[u8]) -> Result<(), DocError>
 
 /// Appends the bits that a few digits name, by bytes and then one at a time.
 fn append_few(bits: &mut BitBuilder, text: &[u8]) -> Result<(), DocError>
-    ensures { Leaves result bits.new (behind bits.old (bits_in text.now)) }
+    ensures { Leaves result bits.new (with_read bits.old (bits_in text.now)) }
 {
     let whole = text.len() - text.len() % 8;
     append_bytes(bits, &text[..whole])?;
@@ -92,7 +92,7 @@ fn append_few(bits: &mut BitBuilder, text: &[u8]) -> Result<(), DocError>
 
 /// Appends the bits that the digits name, by words and then a few.
 fn append_text(bits: &mut BitBuilder, text: &[u8]) -> Result<(), DocError>
-    ensures { Leaves result bits.new (behind bits.old (bits_in text.now)) }
+    ensures { Leaves result bits.new (with_read bits.old (bits_in text.now)) }
 {
     let whole = text.len() - text.len() % 64;
     append_words(bits, &text[..whole])?;

@@ -2,8 +2,8 @@
 
 use serde_json::Value;
 
-/// Lets a value go. A list's numbers have nothing to free, so they are passed over here, without a call of the type's own drop for
-/// each.
+/// Lets a value go, and with it all that it holds. A list's numbers have nothing to free, so they
+/// are passed over here, without a call of the type's own drop for each.
 pub fn let_go(value: Value) {
     match value {
         Value::Array(items) => for item in items {

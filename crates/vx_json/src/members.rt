@@ -3,7 +3,7 @@ ghost use Rattle.std.specs.Prelude.{◌≡◌, map};
 ghost use Rattle.serde_json.specs.Find.{as_array, as_str, as_bool, get};
 ghost use Rattle.serde_json.specs.View.{view, items_view, members_view};
 ghost use Rattle.vx_json.specs.Meaning.{Gives};
-ghost use Rattle.vx_json.specs.Members.{is_among, has_only, is_closed};
+ghost use Rattle.vx_json.specs.Members.{is_among, are_among, is_closed};
 
 use crate::error::DocError;
 use serde_json::{Map, Value};
@@ -28,7 +28,7 @@ pub fn items_in(value: &Value) -> Result<&Vec<Value>, DocError>
     }
 }
 
-/// The bytes' text. `Malformed` where the value is no text.
+/// The text, as bytes of UTF-8. `Malformed` where the value is none.
 pub fn text_in(value: &Value) -> Result<&str, DocError>
     ensures { Gives (λ s. s.now) result (as_str (view value.now)) }
 {
@@ -61,8 +61,8 @@ pub fn is_among(names: &[&str], name: &str) -> bool
 }
 
 /// Whether each member's name is one of these.
-fn has_only(members: &Map<String, Value>, names: &[&str]) -> bool
-    ensures { result ≡ has_only (map (λ n. n.now) names.now) (members_view members.now.entries) }
+fn are_among(members: &Map<String, Value>, names: &[&str]) -> bool
+    ensures { result ≡ are_among (map (λ n. n.now) names.now) (members_view members.now.entries) }
 {
     for (name, _) in members {
         if !is_among(names, name.as_str()) {
@@ -78,7 +78,7 @@ pub fn is_closed(value: &Value, names: &[&str]) -> bool
     ensures { result ≡ is_closed (map (λ n. n.now) names.now) (view value.now) }
 {
     match value.as_object() {
-        Some(members) => has_only(members, names),
+        Some(members) => are_among(members, names),
         None => false,
     }
 }

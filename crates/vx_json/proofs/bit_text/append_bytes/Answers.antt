@@ -2,7 +2,7 @@
 use Rattle.std.proofs.Common.{◌≡◌, ◌+◌, ◌-◌, ◌*◌, sym, ◌∙◌, arith}
 use Rattle.std.proofs.lemmas.Result.{err_from_is_err_and}
 use Rattle.vx_bits.specs.Words.{word_bits}
-use Rattle.vx_json.specs.Meaning.{behind}
+use Rattle.vx_json.specs.Meaning.{with_read}
 use Rattle.vx_json.specs.BitText.{bits_in}
 use Rattle.vx_json.proofs.BitReading.{next_part, no_next_part, none_left}
 use Rattle.vx_json.proofs.bit_text.append_bytes.Goals as goal
@@ -12,13 +12,13 @@ returns-in_err-byte_named c =
     let r = c.from_residual in
     let p = err_from_is_err_and r.result r.ensures.1 in
     let k = 8 * c.loop-i.i in
-    rw (p.1, p.2) (no_next_part c.args.text.now k c.loop-i.bits (behind c.args.bits.now (bits_in c.args.text.now)) c.loop-i.invariant (k + 8 - k) c.in_err-byte_named.field-0.0 c.in_err-byte_named.ensures.bits)
+    rw (p.1, p.2) (no_next_part c.args.text.now k c.loop-i.bits (with_read c.args.bits.now (bits_in c.args.text.now)) c.loop-i.invariant (k + 8 - k) c.in_err-byte_named.field-0.0 c.in_err-byte_named.ensures.bits)
 
 pub loop-i-preserved : goal.loop-i-preserved
 loop-i-preserved c =
     let k = 8 * c.loop-i.i in let bits = word_bits c.in_ok-byte_named.field-0 8 in
     let at : 8 * (c.loop-i.i + 1) ≡ k + (k + 8 - k) = omega arith in
-    let next = next_part c.args.text.now k c.loop-i.bits (behind c.args.bits.now (bits_in c.args.text.now)) c.loop-i.invariant (k + 8 - k) bits c.in_ok-byte_named.ensures.bits in
+    let next = next_part c.args.text.now k c.loop-i.bits (with_read c.args.bits.now (bits_in c.args.text.now)) c.loop-i.invariant (k + 8 - k) bits c.in_ok-byte_named.ensures.bits in
     rw (c.in_ok-append_word.ensures.ok, at) next
 
 pub returns : goal.returns

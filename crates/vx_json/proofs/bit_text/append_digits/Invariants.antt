@@ -1,8 +1,9 @@
+-- What a loop over digits keeps.
 use Rattle.std.proofs.Common.{◌≡◌, drop}
-use Rattle.vx_json.specs.Meaning.{behind}
+use Rattle.vx_json.specs.Meaning.{with_read}
 use Rattle.vx_json.specs.BitText.{bits_in}
 use Rattle.vx_json.proofs.bit_text.append_digits.Given as goal
 
 -- what the digits that are left mean, behind what was appended, is what all mean
 abbrev pub invariant-loop-byte : goal.invariant-loop-byte
-invariant-loop-byte l = behind l.bits (bits_in (drop l.byte-index l.text)) ≡ behind l.fn.bits (bits_in l.text)
+invariant-loop-byte l = with_read l.bits (bits_in (drop l.byte-index l.text)) ≡ with_read l.fn.bits (bits_in l.text)

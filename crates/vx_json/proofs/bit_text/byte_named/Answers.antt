@@ -1,3 +1,4 @@
+-- Eight digits as one word.
 use Rattle.std.proofs.Common.{◌∙◌, ap}
 use Rattle.std.specs.Int.{w64, from_le_bytes}
 use Rattle.vx_json.proofs.Digits.{digits_read, digits_fail}

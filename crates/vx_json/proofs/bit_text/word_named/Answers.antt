@@ -3,9 +3,10 @@ use Rattle.std.proofs.Common.{◌≡◌, ◌+◌, ◌-◌, ◌*◌, ℕ, drop, s
 use Rattle.std.proofs.lemmas.Result.{err_from_is_err_and}
 use Rattle.vx_bits.specs.Words.{word_bits}
 use Rattle.vx_bits.proofs.WordBits.{word_bits-none}
-use Rattle.vx_json.specs.Meaning.{behind}
+use Rattle.vx_json.specs.Meaning.{with_read}
 use Rattle.vx_json.specs.BitText.{bits_in}
-use Rattle.vx_json.proofs.BitReading.{next_part, no_next_part, none_left, none_read, word_more}
+use Rattle.vx_json.proofs.BitReading.{next_part, no_next_part, none_left, word_more}
+use Rattle.vx_json.proofs.Reading.{none_read}
 use Rattle.vx_json.proofs.bit_text.word_named.Goals as goal
 
 pub loop-k-init : goal.loop-k-init
@@ -38,4 +39,4 @@ loop-k-preserved c =
 pub returns : goal.returns
 returns c =
     let all : 8 * c.loop-k.k ≡ 64 = omega arith in
-    sym c.loop-k.invariant.reading ∙ ap (λ (n : ℕ). behind (word_bits c.loop-k.word n) (bits_in (drop n c.args.digits.now))) all ∙ none_left (word_bits c.loop-k.word 64) c.args.digits.now 64 (omega arith)
+    sym c.loop-k.invariant.reading ∙ ap (λ (n : ℕ). with_read (word_bits c.loop-k.word n) (bits_in (drop n c.args.digits.now))) all ∙ none_left (word_bits c.loop-k.word 64) c.args.digits.now 64 (omega arith)

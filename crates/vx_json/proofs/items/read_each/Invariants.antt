@@ -1,3 +1,4 @@
+-- What a loop over items keeps.
 use Rattle.std.proofs.Common.{◌≡◌, map, vec_len, length}
 use Rattle.std.specs.Vec.{vec_capacity}
 use Rattle.vx_json.proofs.Reading.{IsReading}

@@ -1,3 +1,4 @@
+-- What a search for a name keeps.
 use Rattle.std.proofs.Common.{◌≡◌, drop, map}
 use Rattle.vx_json.specs.Members.{is_among}
 use Rattle.vx_json.proofs.members.is_among.Given as goal

@@ -1,3 +1,4 @@
+-- What a loop over members keeps.
 use Rattle.std.proofs.Common.{◌≡◌}
 use Rattle.serde_json.specs.View.{members_view}
 use Rattle.vx_json.specs.Policies.{with_members}

@@ -1,3 +1,4 @@
+-- What a loop over the numbers keeps.
 use Rattle.std.proofs.Common.{◌≡◌, map, pos, ℕ, vec_len}
 use Rattle.std.specs.Vec.{vec_capacity}
 use Rattle.std.specs.List.{range_with_len}

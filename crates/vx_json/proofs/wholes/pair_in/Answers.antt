@@ -1,3 +1,4 @@
+-- Lists of another length than two.
 use Rattle.std.proofs.Common.{arith}
 use Rattle.vx_json.proofs.PairLists.{pair_in-short, pair_in-long}
 use Rattle.vx_json.proofs.wholes.pair_in.Goals as goal
