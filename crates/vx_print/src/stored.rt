@@ -14,6 +14,8 @@ use vx_column::{Array, Layout, Validity};
 pub(crate) enum Cell<'a> {
     /// A null row.
     Null,
+    /// A row of a column of bools.
+    Bit(bool),
     /// A row's record.
     Bytes(&'a [u8]),
 }

@@ -67,6 +67,7 @@ fn push_row(text: &mut Vec<u8>, dtype: &DType, row: Cell<'_>) -> Result<(), NoMe
             text.extend_from_slice(b"null")?;
             Ok(())
         }
+        (Cell::Bit(_), DType::Primitive(..)) => unreachable!(),
         (Cell::Bytes(record), DType::Primitive(ptype, _)) => {
             push_number(text, ptype.number(record))
         }
