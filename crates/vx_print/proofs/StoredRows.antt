@@ -5,6 +5,7 @@ use Rattle.std.proofs.lemmas.List.FromFn.{fill_by_all}
 use Rattle.vx_types.specs.RowValue.{RowValue, bytes}
 use Rattle.vx_column.specs.Valid.{non_nullable}
 use Rattle.vx_column.specs.Primitive.{PrimitiveParts, primitive_column}
+use Rattle.vx_column.proofs.Rows.{primitive_rows}
 
 map_bytes-map : (at : ℕ → List ℕ) (is : List ℕ) → map (λ i. bytes (at i)) is ≡ map bytes (map at is)
 map_bytes-map at [] = refl
@@ -19,4 +20,4 @@ by_record rs =
 pub rows_primitive : (p : PrimitiveParts) → p.valid ≡ non_nullable → (primitive_column p).rows ≡ map bytes p.records
 rows_primitive p h = ap (λ v. (primitive_column (record p { valid = v })).rows) h ∙ by_record p.records
 
-pub ruleset stored_rows = (rows_primitive)
+pub ruleset stored_rows = (rows_primitive, primitive_rows)

@@ -1,5 +1,5 @@
 //! How the rows of a column are stored.
-#![tactic(auto, using(vx_column::proofs::Rows::primitive_rows, crate::proofs::StoredRows::stored_rows))]
+#![tactic(auto, using(crate::proofs::StoredRows::stored_rows))]
 
 ghost use Rattle.std.specs.Prelude.{◌≡◌, ◌<◌, length, slice_index_or};
 ghost use Rattle.std.specs.Option.{option_map};
