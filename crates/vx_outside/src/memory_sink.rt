@@ -9,7 +9,7 @@ use std::marker::Model;
 use vx_bits::{Buffer, Failed, NoMemory};
 
 /// Bytes that are kept in memory, up to a room. It takes them in pieces. Some calls fail, by
-/// their numbers.
+/// their numbers, and so does each write of a piece where no room is left.
 #[derive(Drop)]
 pub struct MemorySink {
     bytes: Vec<u8>,
@@ -45,7 +45,7 @@ impl Model for MemorySink {
 impl MemorySink {
     /// An empty sink, with room for `room` bytes. It takes no memory later. It takes at most
     /// `piece` bytes a call. A call fails where its number, from 0, is in `failing`, and a `finish`
-    /// counts as a call too.
+    /// counts as a call too. `NoMemory` alone.
     pub fn new(
         alloc: Global,
         piece: usize,

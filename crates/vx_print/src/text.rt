@@ -66,7 +66,7 @@ fn push_row(text: &mut Vec<u8>, dtype: &DType, row: Cell<'_>) -> Result<(), NoMe
             text.extend_from_slice(b"null")?;
             Ok(())
         }
-        (Cell::Bit(_), _) => unreachable!(),
+        (Cell::Bit(_), DType::Primitive(..)) => unreachable!(),
         (Cell::Bytes(record), DType::Primitive(ptype, _)) => {
             push_number(text, ptype.number(record))
         }
@@ -88,8 +88,8 @@ fn push_rows(text: &mut Vec<u8>, column: &Array) -> Result<(), NoMemory>
 // Appends a line for each record, a row of this type.
 fn push_records(text: &mut Vec<u8>, dtype: &DType, records: &Records) -> Result<(), NoMemory>
     requires { Some (width_of records.now) ≡ type_width (type_of dtype.now) }
-    ensures { IsOk result → text.new.items
-        ≡ text.old.items ++ flat_map (row_line (type_of dtype.now)) (map bytes (records_of records.now)) }
+    ensures { IsOk result → text.new.items ≡ text.old.items
+        ++ flat_map (row_line (type_of dtype.now)) (map bytes (records_of records.now)) }
 {
     match dtype {
         DType::Primitive(ptype, _) => push_numbers(text, *ptype, records),
