@@ -59,7 +59,8 @@ fn are_set_runs(bits: &BitBuffer, slices: &[(usize, usize)]) -> bool
     next_with(bits, low, true) == bits.len()
 }
 
-// Whether the run is not empty, begins with the first set bit from `low` on, and has set bits alone.
+// Whether the run is not empty, begins with the first set bit from `low` on, and has set bits
+// alone.
 fn is_next_run(bits: &BitBuffer, low: usize, start: usize, end: usize) -> bool
     requires { low ≤ length bits.now.bits }
     ensures { Decides result (BeginsWithRun bits.now.bits low start end) }

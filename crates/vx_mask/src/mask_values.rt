@@ -33,9 +33,19 @@ impl Model for MaskValues {
 
     ghost Value = { PartialMask };
 
-    ghost view = { λ m. record { bits = m.bits; indices = m.indices; slices = m.slices; blocks = m.blocks } };
+    ghost view = { λ m. record {
+      bits = m.bits;
+      indices = m.indices;
+      slices = m.slices;
+      blocks = m.blocks;
+    } };
 
-    ghost invariant = { λ m. IsPartial (record { bits = m.bits; indices = m.indices; slices = m.slices; blocks = m.blocks }) m.true_count };
+    ghost invariant = { λ m. IsPartial (record {
+      bits = m.bits;
+      indices = m.indices;
+      slices = m.slices;
+      blocks = m.blocks;
+    }) m.true_count };
 }
 
 impl MaskValues {
@@ -94,8 +104,12 @@ impl MaskValues {
         indices: Option<Buffer<usize>>,
         slices: Option<Buffer<(usize, usize)>>,
     ) -> MaskValues
-        requires { IsPartial (record { bits = bits; indices = indices; slices = slices; blocks = None })
-            true_count }
+        requires { IsPartial (record {
+          bits = bits;
+          indices = indices;
+          slices = slices;
+          blocks = None;
+        }) true_count }
         ensures { result
             ≡ record { bits = bits; indices = indices; slices = slices; blocks = None } }
     {

@@ -23,7 +23,8 @@ pub(crate) fn ascend(indices: &[usize], len: usize) -> bool
 // The number of positions that the runs cover, where they are not empty, ascend, do not overlap and
 // end within the length.
 pub(crate) fn run_total(runs: &[(usize, usize)], len: usize) -> Option<usize>
-    ensures { result ≡ (if runs_ascend 0 len runs.now then Some (length (covered runs.now)) else None) }
+    ensures { result
+        ≡ (if runs_ascend 0 len runs.now then Some (length (covered runs.now)) else None) }
 {
     let mut low = 0;
     let mut total = 0;

@@ -61,7 +61,8 @@ pub(crate) fn next_with(bits: &BitBuffer, from: usize, want: bool) -> usize
     ensures from { from ≤ result }
     ensures within { result ≤ length bits.now.bits }
     ensures passed { AllBits bits.now.bits from result (not want) }
-    ensures found { result < length bits.now.bits → slice_index_or bits.now.bits result false ≡ want }
+    ensures found { result < length bits.now.bits
+        → slice_index_or bits.now.bits result false ≡ want }
 {
     let len = bits.len();
     let mut keep = u64::MAX << (from % 64);

@@ -75,36 +75,46 @@ fn refusal(
     Ok(MaskValues::try_from_parts(bits, true_count, Some(indices), Some(slices)).err())
 }
 
+// Whether a list is the one that is wanted.
+fn are(found: &[usize], want: &[usize]) -> bool {
+    found == want
+}
+
+// Whether each of these lists of indices is refused.
+fn refuses_indices(alloc: Global) -> bool {
+    for indices in [[3, 3], [4, 3], [4, 5]] {
+        if by_indices(alloc, 5, &indices).err() != Some(MaskError::Indices) {
+            return false;
+        }
+    }
+    true
+}
+
+// Whether each of these lists of runs is refused.
+fn refuses_slices(alloc: Global) -> bool {
+    for slices in [[(0, 1), (1, 1)], [(0, 2), (1, 3)], [(0, 1), (4, 6)]] {
+        if by_slices(alloc, 5, &slices).err() != Some(MaskError::Slices) {
+            return false;
+        }
+    }
+    true
+}
+
 #[test]
 fn masks_of_every_kind(rt: HostRuntime) -> Result<(), Fail> {
     let all = kept(rt.alloc(), &with_all(rt.alloc())?)?;
-    assert_eq!(rt; all.as_slice(), [1, 3, 4, 1, 2, 3, 5, 0].as_slice());
+    assert!(rt; are(&all, &[1, 3, 4, 1, 2, 3, 5, 0]));
     let slices = kept(rt.alloc(), &touching(rt.alloc())?)?;
-    assert_eq!(rt; slices.as_slice(), [1, 2, 3, 4, 4, 5].as_slice());
+    assert!(rt; are(&slices, &[1, 2, 3, 4, 4, 5]));
     let ranked = kept(rt.alloc(), &intersected(rt.alloc())?)?;
-    assert_eq!(rt; ranked.as_slice(), [1, 4].as_slice());
-    for indices in [[3, 3], [4, 3], [4, 5]] {
-        assert_eq!(rt;
-            by_indices(rt.alloc(), 5, &indices).err(),
-            Some(MaskError::Indices)
-        );
-    }
-    for slices in [[(0, 1), (1, 1)], [(0, 2), (1, 3)], [(0, 1), (4, 6)]] {
-        assert_eq!(rt;
-            by_slices(rt.alloc(), 5, &slices).err(),
-            Some(MaskError::Slices)
-        );
-    }
+    assert!(rt; are(&ranked, &[1, 4]));
+    assert!(rt; refuses_indices(rt.alloc()) && refuses_slices(rt.alloc()));
     let runs = [(1, 2), (2, 3)];
-    for (count, indices, want) in [
-        (2, [1, 2], None),
-        (1, [1, 2], Some(MaskError::Count)),
-        (2, [2, 1], Some(MaskError::Indices)),
-    ] {
-        assert_eq!(rt; refusal(rt.alloc(), count, &indices, &runs)?, want);
-    }
-    let refused = refusal(rt.alloc(), 2, &[1, 2], &[(1, 2)])?;
-    assert_eq!(rt; refused, Some(MaskError::Slices));
+    assert!(rt; refusal(rt.alloc(), 2, &[1, 2], &runs)?.is_none());
+    let count = refusal(rt.alloc(), 1, &[1, 2], &runs)?;
+    assert_eq!(rt; count, Some(MaskError::Count));
+    let indices = refusal(rt.alloc(), 2, &[2, 1], &runs)?;
+    assert_eq!(rt; indices, Some(MaskError::Indices));
     Ok(())
 }
 
@@ -152,22 +162,27 @@ fn rank_and_count(mask: &Mask, k: usize, p: usize) -> Option<(usize, usize)> {
     }
 }
 
+// Whether ranks and counts are the same with block counts and without.
+fn ranks_agree(mask: &Mask, blocks: &Mask) -> bool {
+    for (k, position) in [(600, 1800), (512, 1536)] {
+        let want = Some((position, 513));
+        if rank_and_count(mask, k, 1537) != want || rank_and_count(blocks, k, 1537) != want {
+            return false;
+        }
+    }
+    true
+}
+
 #[test]
 fn ranks_by_blocks(rt: HostRuntime) -> Result<(), Fail> {
     let mask = Mask::from_buffer(thirds(rt.alloc())?);
     let blocks = mask.with_blocks(rt.alloc())?;
-    let counts = kept(rt.alloc(), &blocks)?;
-    assert_eq!(rt; counts.as_slice(), [0, 171, 342, 512].as_slice());
-    for (k, position) in [(600, 1800), (512, 1536)] {
-        assert_eq!(rt; rank_and_count(&mask, k, 1537), Some((position, 513)));
-        assert_eq!(rt; rank_and_count(&blocks, k, 1537), Some((position, 513)));
-    }
+    assert!(rt; are(&kept(rt.alloc(), &blocks)?, &[0, 171, 342, 512]));
+    assert!(rt; ranks_agree(&mask, &blocks));
     let told = rank_and_reads(rt.alloc(), 600)?;
-    assert_eq!(rt; told.as_slice(), [1800, 24, 25, 26, 27, 28].as_slice());
-    let told = rank_and_reads(rt.alloc(), 512)?;
-    assert_eq!(rt; told.as_slice(), [1536, 24].as_slice());
-    let told = count_and_reads(rt.alloc(), 1537)?;
-    assert_eq!(rt; told.as_slice(), [513, 24].as_slice());
+    assert!(rt; are(&told, &[1800, 24, 25, 26, 27, 28]));
+    assert!(rt; are(&rank_and_reads(rt.alloc(), 512)?, &[1536, 24]));
+    assert!(rt; are(&count_and_reads(rt.alloc(), 1537)?, &[513, 24]));
     Ok(())
 }
 
@@ -186,27 +201,30 @@ fn prepared(alloc: Global, consumers: usize) -> Result<Vec<usize>, MaskError> {
     Ok(kept(alloc, &mask)?)
 }
 
+// Whether the fields are refused as they must be, one after another.
+fn refuses_fields() -> bool {
+    let mut fields = *Policy::vortex().fields();
+    let none = policy_refusal(fields).is_none();
+    fields.sparse_w1 = 161;
+    let limit = policy_refusal(fields) == Some(PolicyError::SparseLimit);
+    fields.rank_lookup_cap = 0;
+    let cap = policy_refusal(fields) == Some(PolicyError::ZeroLookupCap);
+    fields.list_indices_below.den = 0;
+    none && limit && cap && policy_refusal(fields) == Some(PolicyError::ZeroDivisor)
+}
+
 #[test]
 fn policies(rt: HostRuntime) -> Result<(), Fail> {
     let vortex = Policy::vortex();
     for (width, want) in [(1, 16), (2, 32), (4, 64), (8, 160)] {
         assert_eq!(rt; vortex.sparse_limit(width), want, "at {width}");
     }
-    let once = prepared(rt.alloc(), 1)?;
-    assert_eq!(rt; once.len(), 0);
-    let twice = prepared(rt.alloc(), 2)?;
-    assert_eq!(rt; twice.as_slice(), [3, 50].as_slice());
+    assert!(rt; refuses_fields());
+    assert!(rt; are(&prepared(rt.alloc(), 1)?, &[]));
+    assert!(rt; are(&prepared(rt.alloc(), 2)?, &[3, 50]));
     let run = by_slices(rt.alloc(), 5, &[(1, 2), (2, 4)])?.share();
     assert_eq!(rt; run.contiguous(), Some((1, 4)));
     assert!(rt; run.density_at_least(3, 5) && !run.density_at_least(61, 100));
-    let mut fields = *vortex.fields();
-    assert_eq!(rt; policy_refusal(fields), None);
-    fields.sparse_w1 = 161;
-    assert_eq!(rt; policy_refusal(fields), Some(PolicyError::SparseLimit));
-    fields.rank_lookup_cap = 0;
-    assert_eq!(rt; policy_refusal(fields), Some(PolicyError::ZeroLookupCap));
-    fields.list_indices_below.den = 0;
-    assert_eq!(rt; policy_refusal(fields), Some(PolicyError::ZeroDivisor));
     rank_law();
     indices_law();
     slices_law();
