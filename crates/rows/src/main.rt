@@ -1,4 +1,5 @@
-//! The program: it hands its words, standard input and standard output to [`run`], and ends with the status.
+//! The program: it hands its words, standard input and standard output to [`run`], and ends with
+//! the status.
 #![tactic(auto)]
 
 use std::env;

@@ -1,16 +1,16 @@
 -- The bits that a builder holds, as it grows.
-use Rattle.std.proofs.Common.{◌≡◌, ◌≢◌, ℕ, zero, suc, ◌+◌, ◌-◌, ◌*◌, ◌/◌, ◌%◌, ◌^◌, ◌<◌, ◌≤◌, Bool, true, false, cond, eqb, List, [], ◌∷◌, ◌++◌, length, get_or, set, take, drop, replicate, bit_or, bit_and, inl, inr, refl, sym, ap, ap₂, subst, ◌∙◌, arith, zero-add}
+use Rattle.std.proofs.Common.{◌≡◌, ◌≢◌, ℕ, suc, ◌+◌, ◌-◌, ◌*◌, ◌/◌, ◌%◌, ◌^◌, ◌<◌, ◌≤◌, Bool, true, false, cond, eqb, List, [], ◌∷◌, ◌++◌, length, get_or, set, take, replicate, bit_or, bit_and, inl, inr, refl, sym, ap, ap₂, subst, ◌∙◌, arith, zero-add}
 use Rattle.std.specs.Int.{bit_at, w8, w64, to_le_bytes}
 use Rattle.std.proofs.lemmas.Bool.{cases_eq}
-use Rattle.std.proofs.lemmas.List.{same_lists, append_assoc, append-nil, length-append, length-set, length-replicate, get_or_default, get_or-set_same, get_or-set_other, take_at, set-append_left, set-append_right, replicate-append-replicate}
-use Rattle.std.proofs.lemmas.Nat.{and_mask, div-add-mod', mod_below, mul-add-lt, one_shl, or_comm, or_shifted, or_lt, pow-add, pow_pos, shl_whole, shr_below}
+use Rattle.std.proofs.lemmas.List.{same_lists, append_assoc, length-append, length-set, length-replicate, get_or_default, get_or-set_same, get_or-set_other, take_at, set-append_left, set-append_right, replicate-append-replicate}
+use Rattle.std.proofs.lemmas.Nat.{and_mask, mod_below, mul-add-lt, one_shl, or_comm, or_shifted, or_lt, pow-add, pow_pos, shl_whole}
 use Rattle.std.proofs.lemmas.Nat.Bits.{bit_at_set_same, bit_at_set_other}
 use Rattle.std.proofs.Math.Pow.{pow_mono}
 use Rattle.vx_bits.specs.BitBuffer.{bit_of, bits_of}
-use Rattle.vx_bits.specs.BitBuilder.{IsBuilder, built}
+use Rattle.vx_bits.specs.BitBuilder.{built}
 use Rattle.vx_bits.specs.Words.{word_bits}
 use Rattle.vx_bits.proofs.BitLists.{length_bits, bit_in, bits_split}
-use Rattle.vx_bits.proofs.ByteLists.{bits_front, bits_joined, bits_of_ones, bits_of_word, bits_of_zeros}
+use Rattle.vx_bits.proofs.ByteLists.{bits_joined, bits_of_ones, bits_of_word, bits_of_zeros}
 use Rattle.vx_bits.proofs.WordBits.{get_or-word_bits, length-word_bits, ones-word_bits, take-word_bits, word_bits-append, word_bits-none, word_bits_low, zero-word_bits}
 
 -- ---- numbers

@@ -1,11 +1,11 @@
 -- The bits of bytes that are joined, and of bytes that spell a word.
-use Rattle.std.proofs.Common.{◌≡◌, ℕ, zero, suc, ◌+◌, ◌-◌, ◌*◌, ◌/◌, ◌%◌, ◌^◌, ◌<◌, ◌≤◌, Bool, true, false, cond, eqb, List, [], ◌∷◌, ◌++◌, length, get_or, take, drop, replicate, refl, sym, ap, ap₂, subst, ◌∙◌, arith, zero-add}
+use Rattle.std.proofs.Common.{◌≡◌, ℕ, zero, suc, ◌+◌, ◌*◌, ◌/◌, ◌%◌, ◌^◌, ◌<◌, ◌≤◌, Bool, true, false, eqb, List, [], ◌∷◌, ◌++◌, length, get_or, replicate, refl, sym, ap, ap₂, ◌∙◌, arith}
 use Rattle.std.specs.Int.{bit_at, w64, from_le_bytes, to_le_bytes}
 use Rattle.std.specs.List.{flat_map}
-use Rattle.std.proofs.lemmas.List.{same_lists, append_assoc, append-nil, length-append, length-replicate, get_or-replicate, get_or_append_left, drop_at}
+use Rattle.std.proofs.lemmas.List.{same_lists, append-nil, length-append, length-replicate, get_or-replicate, get_or_append_left, drop_at}
 use Rattle.std.proofs.lemmas.Nat.{from_le_bytes-to_le_bytes_8}
 use Rattle.std.proofs.lemmas.Nat.Bits.{bit_at_ones, bit_at-zero}
-use Rattle.vx_bits.specs.BitBuffer.{bit_of, bits_of}
+use Rattle.vx_bits.specs.BitBuffer.{bits_of}
 use Rattle.vx_bits.specs.Words.{word_bits}
 use Rattle.vx_bits.proofs.BitLists.{length_bits, bit_in, bits_split, bits_drop, bits_of_byte}
 use Rattle.vx_bits.proofs.WordBits.{word_bits-append}

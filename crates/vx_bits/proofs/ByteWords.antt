@@ -1,10 +1,10 @@
 -- Words that are read from bytes.
-use Rattle.std.proofs.Common.{◌≡◌, ℕ, zero, suc, ◌+◌, ◌-◌, ◌*◌, ◌/◌, ◌%◌, ◌^◌, ◌<◌, ◌≤◌, Bool, true, false, cond, eqb, List, [], ◌∷◌, ◌++◌, length, get_or, take, drop, bit_or, bit_and, inl, inr, refl, sym, ap, ap₂, subst, ◌∙◌, arith, add-zero}
+use Rattle.std.proofs.Common.{◌≡◌, ℕ, suc, ◌+◌, ◌-◌, ◌*◌, ◌/◌, ◌%◌, ◌^◌, ◌<◌, ◌≤◌, Bool, true, false, cond, eqb, List, [], ◌∷◌, ◌++◌, length, get_or, take, drop, bit_or, bit_and, inl, inr, sym, ap, ap₂, subst, ◌∙◌, arith, add-zero}
 use Rattle.std.specs.Int.{bit_at, w64, from_le_bytes}
 use Rattle.std.specs.Int.RustNames.{count_ones}
 use Rattle.std.proofs.lemmas.Bool.{cases_eq, cases_lt}
 use Rattle.std.proofs.lemmas.List.{drop_at, drop_more, get_or-drop, get_or-take, get_or_past, length-drop, take_all, take_at, length-take-le, take-append-drop}
-use Rattle.std.proofs.lemmas.Nat.{and_mask, div-add-mod', mod_below, mod_low, mod-pow-add, one_shl, or_comm, or_shifted, pow-add, pow_pos, shr_below, shr_high}
+use Rattle.std.proofs.lemmas.Nat.{and_mask, div-add-mod', mod_below, mod_low, mod-pow-add, one_shl, or_comm, or_shifted, pow_pos, shr_below, shr_high}
 use Rattle.std.proofs.lemmas.Nat.Bits.{bit_at-lt, shr_and_one}
 use Rattle.vx_bits.specs.BitBuffer.{bit_of, bits_of, number_of, true_count_of}
 use Rattle.vx_bits.specs.Words.{word_at, word_bits}

@@ -1,13 +1,12 @@
 -- Lists of bits as their words: what a kernel that walks words needs.
-use Rattle.std.proofs.Common.{◌≡◌, ℕ, zero, suc, ◌+◌, ◌-◌, ◌*◌, ◌/◌, ◌%◌, ◌^◌, ◌<◌, ◌≤◌, min, Bool, true, false, cond, eqb, List, [], ◌∷◌, ◌++◌, length, get_or, take, drop, replicate, bit_and, inl, inr, refl, sym, ap, ap₂, subst, ◌∙◌, arith, zero-add, add-zero}
-use Rattle.std.specs.Int.{bit_at, div_ceil, trailing_zeros, w64}
+use Rattle.std.proofs.Common.{◌≡◌, ℕ, zero, suc, ◌+◌, ◌-◌, ◌*◌, ◌/◌, ◌%◌, ◌^◌, ◌<◌, ◌≤◌, min, Bool, true, false, cond, eqb, List, [], ◌∷◌, ◌++◌, length, get_or, take, drop, replicate, bit_and, inl, inr, refl, sym, ap, ap₂, ◌∙◌, arith, zero-add}
+use Rattle.std.specs.Int.{bit_at}
 use Rattle.std.specs.Int.RustNames.{count_ones}
-use Rattle.std.specs.List.{items_where_true, flat_map, range_with_len}
-use Rattle.std.proofs.lemmas.Bool.{cases_eq, cases_lt}
-use Rattle.std.proofs.lemmas.List.{append_assoc, append-nil, drop-drop, drop-replicate, get_or-drop, get_or-take, length-drop, length-take, length-take-le, length-replicate, take-append-drop, take-replicate, take-take, take_all, take_more}
-use Rattle.std.proofs.lemmas.List.Sums.{count_by-le-length, sum_by-append, sum_by-cons}
-use Rattle.std.proofs.lemmas.Nat.{mod-pow-add, mod_below, pow_pos, zero_from_ones}
-use Rattle.std.proofs.lemmas.Nat.Bits.{bit_at-lt, bit_at-trailing_zeros}
+use Rattle.std.specs.List.{items_where_true}
+use Rattle.std.proofs.lemmas.Bool.{cases_lt}
+use Rattle.std.proofs.lemmas.List.{append-nil, drop-replicate, get_or-drop, get_or-take, length-drop, length-take, length-take-le, take-replicate, take-take, take_all}
+use Rattle.std.proofs.lemmas.List.Sums.{sum_by-append, sum_by-cons}
+use Rattle.std.proofs.lemmas.Nat.{mod-pow-add, zero_from_ones}
 use Rattle.std.proofs.Math.Nat.{mod-eq_of_lt, mod-lt, pow-suc, zero-lt-suc}
 use Rattle.std.proofs.Math.Pow.{pow_mono}
 use lib.Bits.{and_step, and_self}
@@ -15,7 +14,7 @@ use lib.Count.{count_trailing_zeros, under, ones_cat, ones_step, ones-le}
 use Rattle.vx_bits.specs.BitBuffer.{number_of, true_count_of}
 use Rattle.vx_bits.specs.Words.{word_at, word_bits, word_count}
 use Rattle.vx_bits.proofs.BitLists.{bit_of_number, number_below}
-use Rattle.vx_bits.proofs.WordBits.{full-word_bits, get_or-word_bits, length-word_bits, number_is, number_of-word_bits, true_count_of-word_bits, word_bits-number_of, word_bits_low, zero-word_bits}
+use Rattle.vx_bits.proofs.WordBits.{full-word_bits, number_is, word_bits-number_of, zero-word_bits}
 
 -- ---- one word
 

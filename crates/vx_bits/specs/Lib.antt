@@ -1,6 +1,6 @@
 pub mod BitBuffer
 pub mod BitBuilder
-pub mod Made
+pub mod Results
 pub mod Records
 pub mod WordReader
 pub mod Words

@@ -1,7 +1,7 @@
 //! A shared list of bits.
 ghost use Rattle.std.specs.Prelude.{◌≡◌, ◌+◌, ◌-◌, ◌*◌, ◌/◌, ◌%◌, ◌^◌, ◌<◌, ◌≤◌, ◌↔◌, IsTrue, IfOk, MatchOption, length, position, slice_index_or, slice_range, false};
 ghost use Rattle.vx_bits.specs.BitBuffer.{IsLastSet, bit_fault, bits_of, number_of, true_count_of};
-ghost use Rattle.vx_bits.specs.Made.{made};
+ghost use Rattle.vx_bits.specs.Results.{ok_unless};
 ghost use Rattle.vx_bits.specs.Words.{word_at, word_bits};
 
 use crate::buffer::Buffer;
@@ -46,7 +46,7 @@ impl BitBuffer {
     /// `Offset` exactly where the offset is above 7. Else `Short` exactly where `offset + len`
     /// passes `usize::MAX` or 8 times the number of bytes.
     pub fn try_new(bytes: Buffer<u8>, offset: usize, len: usize) -> Result<BitBuffer, BitError>
-        ensures { result ≡ made (bit_fault (length bytes) offset len)
+        ensures { result ≡ ok_unless (bit_fault (length bytes) offset len)
             (record { bits = bits_of bytes offset len; offset = offset }) }
     {
         if offset > 7 {

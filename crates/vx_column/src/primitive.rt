@@ -1,6 +1,6 @@
 //! Layout `Primitive`: a record of a primitive type a row.
 ghost use Rattle.std.specs.Prelude.{◌≡◌, ◌≤◌, ◌-◌, length, true, None, slice_range};
-ghost use Rattle.vx_bits.specs.Made.{made};
+ghost use Rattle.vx_bits.specs.Results.{ok_unless};
 ghost use Rattle.vx_bits.specs.Records.{records_of, width_of};
 ghost use Rattle.vx_model.specs.Valid.{is_fitting};
 ghost use Rattle.vx_model.specs.Primitive.{primitive_fault, primitive_column, primitive_with};
@@ -45,7 +45,7 @@ impl PrimitiveArray {
         values: Records,
         validity: Validity,
     ) -> Result<PrimitiveArray, ColumnError>
-        ensures { result ≡ made (primitive_fault (primitive_parts ptype values validity))
+        ensures { result ≡ ok_unless (primitive_fault (primitive_parts ptype values validity))
             (primitive_parts ptype values validity) }
     {
         if ptype.width() != values.width() {

@@ -2,7 +2,7 @@
 use Rattle.std.specs.Prelude.{ℕ, List, [], ◌∷◌, replicate, Bool, if◌then◌else◌, Option, Some, None, codes}
 use Rattle.serde_json.specs.Data.{Data}
 use Rattle.serde_json.specs.Find.{get, as_str, as_array, as_bool}
-use Rattle.vx_mask.specs.Positions.{covered, bits_with}
+use Rattle.vx_mask.specs.Positions.{run_positions, bits_with}
 use Rattle.vx_mask.specs.Mask.{indices_fault, slices_fault}
 use Rattle.vx_mask.specs.declared.error.MaskError.{MaskError}
 use Rattle.vx_json.specs.declared.wholes.TheConstants.{GREATEST_LEN}
@@ -35,7 +35,7 @@ unfoldable pub bits_by_runs : Data → Option (List Bool)
 bits_by_runs d = do
   len ← get (codes "len") d >>= at_most GREATEST_LEN
   runs ← get (codes "runs") d >>= as_array >>= each pair_of
-  unless_fault (slices_fault len runs) (bits_with len (covered runs))
+  unless_fault (slices_fault len runs) (bits_with len (run_positions runs))
 
 -- one answer for every row
 unfoldable pub bits_by_every : Data → Option (List Bool)

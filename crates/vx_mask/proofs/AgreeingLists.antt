@@ -11,7 +11,7 @@ use Rattle.std.proofs.lemmas.List.Concat.{flat_map-append}
 use Rattle.std.proofs.lemmas.List.Sums.{count_by-le-length}
 use Rattle.vx_bits.specs.BitBuffer.{PlacedBits, true_count_of}
 use Rattle.vx_mask.specs.MaskValues.{PartialMask, IsPartial, AreSlicesOf, are_set_positions, are_set_runs, passes}
-use Rattle.vx_mask.specs.Positions.{AllBits, BeginsWithRun, positions, set_of, covered, same_numbers}
+use Rattle.vx_mask.specs.Positions.{AllBits, BeginsWithRun, positions, set_of, run_positions, same_numbers}
 use Rattle.vx_mask.proofs.PositionLists.{positions-append, length-positions, position_at, true_count_before_set, all_are_set, set_of_set}
 use Rattle.vx_mask.proofs.AscendingLists.{covered_more}
 use Rattle.vx_mask.proofs.RunLists.{some_run, part_filled, set_of_passed, set_of_bit, set_of_run}
@@ -136,15 +136,15 @@ head_begins bits low start n p h =
     }
 
 -- what the runs from a place on cover, where those before it cover what is set before it
-rest_covered : (bits : List Bool) (runs : List (ℕ × ℕ)) (k low : ℕ) → low ≤ length bits → covered (take k runs) ≡ set_of (take low bits) → covered runs ≡ set_of bits → positions low (drop low bits) ≡ covered (drop k runs)
+rest_covered : (bits : List Bool) (runs : List (ℕ × ℕ)) (k low : ℕ) → low ≤ length bits → run_positions (take k runs) ≡ set_of (take low bits) → run_positions runs ≡ set_of bits → positions low (drop low bits) ≡ run_positions (drop k runs)
 rest_covered bits runs k low p found all =
     let split_set : set_of bits ≡ set_of (take low bits) ++ positions low (drop low bits) =
     ap set_of (sym (take-append-drop low bits)) ∙ positions-append 0 (take low bits) (drop low bits)
     ∙ ap (λ n. set_of (take low bits) ++ positions n (drop low bits)) (omega (arith, length-take-le low bits p)) in
-    let split_runs : covered runs ≡ covered (take k runs) ++ covered (drop k runs) =
-    ap covered (sym (take-append-drop k runs)) ∙ flat_map-append (λ (run : ℕ × ℕ). range_with_len run.0 (run.1 - run.0)) (take k runs) (drop k runs) in
-    append_cancel_left (set_of (take low bits)) (positions low (drop low bits)) (covered (drop k runs))
-    (sym split_set ∙ sym all ∙ split_runs ∙ ap (λ l. l ++ covered (drop k runs)) found)
+    let split_runs : run_positions runs ≡ run_positions (take k runs) ++ run_positions (drop k runs) =
+    ap run_positions (sym (take-append-drop k runs)) ∙ flat_map-append (λ (run : ℕ × ℕ). range_with_len run.0 (run.1 - run.0)) (take k runs) (drop k runs) in
+    append_cancel_left (set_of (take low bits)) (positions low (drop low bits)) (run_positions (drop k runs))
+    (sym split_set ∙ sym all ∙ split_runs ∙ ap (λ l. l ++ run_positions (drop k runs)) found)
 
 abbrev is_some_run : ℕ × ℕ → Bool
 is_some_run run = ltb run.0 run.1
@@ -162,24 +162,24 @@ ltb-none a b p = grind (arith, nat_tests)
 
 -- in runs that cover just the set positions, and of which none is empty, the next one begins with
 -- the next set bit
-next_begins : (bits : List Bool) (runs : List (ℕ × ℕ)) (k low : ℕ) → k < length runs → low ≤ length bits → covered (take k runs) ≡ set_of (take low bits) → covered runs ≡ set_of bits → (get_or runs k (0, 0)).0 < (get_or runs k (0, 0)).1 → BeginsWithRun bits low (get_or runs k (0, 0)).0 (get_or runs k (0, 0)).1
+next_begins : (bits : List Bool) (runs : List (ℕ × ℕ)) (k low : ℕ) → k < length runs → low ≤ length bits → run_positions (take k runs) ≡ set_of (take low bits) → run_positions runs ≡ set_of bits → (get_or runs k (0, 0)).0 < (get_or runs k (0, 0)).1 → BeginsWithRun bits low (get_or runs k (0, 0)).0 (get_or runs k (0, 0)).1
 next_begins bits runs k low h p found all some =
     let run = get_or runs k (0, 0) in
     let n = run.1 - run.0 - 1 in
     let long : run.1 - run.0 ≡ suc n = omega arith in
     let whole : run.0 + suc n ≡ run.1 = omega arith in
-    let rest = rest_covered bits runs k low p found all ∙ ap covered (drop_more runs k (0, 0) h) ∙ ap (λ m. range_with_len run.0 m ++ covered (drop (k + 1) runs)) long in
-    let begins = head_begins bits low run.0 n p (head_run low run.0 n (drop low bits) (covered (drop (k + 1) runs)) rest) in
+    let rest = rest_covered bits runs k low p found all ∙ ap run_positions (drop_more runs k (0, 0) h) ∙ ap (λ m. range_with_len run.0 m ++ run_positions (drop (k + 1) runs)) long in
+    let begins = head_begins bits low run.0 n p (head_run low run.0 n (drop low bits) (run_positions (drop (k + 1) runs)) rest) in
     subst (λ (e : ℕ). BeginsWithRun bits low run.0 e) whole begins
 
-pub no_run : (bits : List Bool) (runs : List (ℕ × ℕ)) (k low : ℕ) → k < length runs → low ≤ length bits → covered (take k runs) ≡ set_of (take low bits) → (BeginsWithRun bits low (get_or runs k (0, 0)).0 (get_or runs k (0, 0)).1 → ⊥) → false ≡ are_set_runs bits runs
+pub no_run : (bits : List Bool) (runs : List (ℕ × ℕ)) (k low : ℕ) → k < length runs → low ≤ length bits → run_positions (take k runs) ≡ set_of (take low bits) → (BeginsWithRun bits low (get_or runs k (0, 0)).0 (get_or runs k (0, 0)).1 → ⊥) → false ≡ are_set_runs bits runs
 no_run bits runs k low h p found not_next = by_test (are_set_runs bits runs) refl
   where
     by_test : (b : Bool) → are_set_runs bits runs ≡ b → false ≡ b
     by_test false e = refl
     by_test true e =
-        let both = and_parts (list_all is_some_run runs) (same_numbers (covered runs) (set_of bits)) e in
-        let all = (bytes_eq-Decides (covered runs) (set_of bits)).0 both.1 in
+        let both = and_parts (list_all is_some_run runs) (same_numbers (run_positions runs) (set_of bits)) e in
+        let all = (bytes_eq-Decides (run_positions runs) (set_of bits)).0 both.1 in
         elim (cases_lt (get_or runs k (0, 0)).0 (get_or runs k (0, 0)).1) [
           | inl some ↦ absurd (not_next (next_begins bits runs k low h p found all some))
           | inr empty ↦ absurd (false_true (list_all is_some_run runs) both.0 (list_all_at is_some_run runs k (0, 0) h (ltb-none (get_or runs k (0, 0)).0 (get_or runs k (0, 0)).1 empty)))
@@ -188,7 +188,7 @@ no_run bits runs k low h p found not_next = by_test (are_set_runs bits runs) ref
 -- what was found of the runs
 pub record AreRunsTo (bits : List Bool) (runs : List (ℕ × ℕ)) (low : ℕ) : Type 0 where
   pub some : list_all (λ run. ltb run.0 run.1) runs ≡ true
-  pub cover : covered runs ≡ set_of (take low bits)
+  pub cover : run_positions runs ≡ set_of (take low bits)
 
 pub run_more : (bits : List Bool) (runs : List (ℕ × ℕ)) (k low : ℕ) → k < length runs → AreRunsTo bits (take k runs) low → BeginsWithRun bits low (get_or runs k (0, 0)).0 (get_or runs k (0, 0)).1 → AreRunsTo bits (take (k + 1) runs) (get_or runs k (0, 0)).1
 run_more bits runs k low h found next =
@@ -205,8 +205,8 @@ run_more bits runs k low h found next =
 pub runs_end : (bits : List Bool) (runs : List (ℕ × ℕ)) (k low next : ℕ) → length runs ≤ k → low ≤ next → next ≤ length bits → AllBits bits low next false → (next < length bits → get_or bits next false ≡ true) → AreRunsTo bits (take k runs) low → eqb next (length bits) ≡ are_set_runs bits runs
 runs_end bits runs k low next h p q clear here found =
     let whole = take_all k runs h in
-    ends bits (covered runs) low next p q clear here (ap covered (sym whole) ∙ found.cover)
-    ∙ sym (ap (λ b. b && same_numbers (covered runs) (set_of bits)) (ap (list_all is_some_run) (sym whole) ∙ found.some))
+    ends bits (run_positions runs) low next p q clear here (ap run_positions (sym whole) ∙ found.cover)
+    ∙ sym (ap (λ b. b && same_numbers (run_positions runs) (set_of bits)) (ap (list_all is_some_run) (sym whole) ∙ found.some))
 
 -- ---- one run
 
@@ -251,8 +251,8 @@ run_starts bits low start end next p q clear here h =
 
 runs_agree : (bits : PlacedBits) (runs : List (ℕ × ℕ)) → 0 < true_count_of bits.bits → are_set_runs bits.bits runs ≡ true → (mask : PartialMask) → mask.bits ≡ bits → AreSlicesOf mask runs
 runs_agree bits runs some e mask same =
-    let both = and_parts (list_all is_some_run runs) (same_numbers (covered runs) (set_of bits.bits)) e in
-    let cover = (bytes_eq-Decides (covered runs) (set_of bits.bits)).0 both.1 in
+    let both = and_parts (list_all is_some_run runs) (same_numbers (run_positions runs) (set_of bits.bits)) e in
+    let cover = (bytes_eq-Decides (run_positions runs) (set_of bits.bits)).0 both.1 in
     record {
       some = some_run bits.bits runs cover some;
       none_empty = λ k d p. elim (cases_lt (get_or runs k d).0 (get_or runs k d).1) [

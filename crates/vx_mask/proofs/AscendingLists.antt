@@ -5,7 +5,7 @@ use Rattle.std.proofs.lemmas.List.{take_more, drop_more, flat_map_more}
 use Rattle.std.proofs.lemmas.Bool.{leb-true, ltb-true, le-leb, lt-ltb}
 use Rattle.vx_mask.specs.declared.error.MaskError.TheVariants.{Indices, Slices}
 use Rattle.vx_mask.specs.Mask.{FaultlessIndices, FaultlessSlices}
-use Rattle.vx_mask.specs.Positions.{covered, ascending, runs_ascend}
+use Rattle.vx_mask.specs.Positions.{run_positions, ascending, runs_ascend}
 
 both_true : (a b : Bool) → (a && b) ≡ true → (a ≡ true) × (b ≡ true)
 both_true true b h = (refl, h)
@@ -49,8 +49,8 @@ run_parts low len run rest h =
 pub next_run : (low len k : ℕ) (runs : List (ℕ × ℕ)) (d : ℕ × ℕ) → k < length runs → runs_ascend low len (drop k runs) ≡ true → IsNextRun low len (get_or runs k d) (drop (k + 1) runs)
 next_run low len k runs d p h = run_parts low len (get_or runs k d) (drop (k + 1) runs) (ap (runs_ascend low len) (sym (drop_more runs k d p)) ∙ h)
 
-pub covered_more : (runs : List (ℕ × ℕ)) (k : ℕ) (d : ℕ × ℕ) → k < length runs → covered (take (k + 1) runs) ≡ covered (take k runs) ++ range_with_len (get_or runs k d).0 ((get_or runs k d).1 - (get_or runs k d).0)
-covered_more runs k d p = ap covered (take_more runs k d p) ∙ sym (flat_map_more (λ (run : ℕ × ℕ). range_with_len run.0 (run.1 - run.0)) [] (take k runs) (get_or runs k d))
+pub covered_more : (runs : List (ℕ × ℕ)) (k : ℕ) (d : ℕ × ℕ) → k < length runs → run_positions (take (k + 1) runs) ≡ run_positions (take k runs) ++ range_with_len (get_or runs k d).0 ((get_or runs k d).1 - (get_or runs k d).0)
+covered_more runs k d p = ap run_positions (take_more runs k d p) ∙ sym (flat_map_more (λ (run : ℕ × ℕ). range_with_len run.0 (run.1 - run.0)) [] (take k runs) (get_or runs k d))
 
 -- where indices ascend, each is from `low` on and below `len`, and below the next one
 index_in : (low len : ℕ) (indices : List ℕ) → ascending low len indices ≡ true → (k d : ℕ) → k < length indices → (low ≤ get_or indices k d) × (get_or indices k d < len)
@@ -139,9 +139,9 @@ ascending_run low len start (suc n) rest p q h =
     (ascending_run (start + 1) len (start + 1) n rest (omega arith) (omega arith) (ap (λ a. ascending a len rest) more ∙ h))
 
 -- the positions of runs that ascend do too
-pub ascending-covered : (low len : ℕ) (runs : List (ℕ × ℕ)) → runs_ascend low len runs ≡ true → ascending low len (covered runs) ≡ true
-ascending-covered low len [] h = refl
-ascending-covered low len (run ∷ runs) h =
+pub ascending-run_positions : (low len : ℕ) (runs : List (ℕ × ℕ)) → runs_ascend low len runs ≡ true → ascending low len (run_positions runs) ≡ true
+ascending-run_positions low len [] h = refl
+ascending-run_positions low len (run ∷ runs) h =
     let parts = run_parts low len run runs h in
     let from = parts.from in
     let some = parts.some in
@@ -149,8 +149,8 @@ ascending-covered low len (run ∷ runs) h =
     let n = run.1 - run.0 - 1 in
     let long : run.1 - run.0 ≡ suc n = omega arith in
     let whole : run.1 ≡ run.0 + suc n = omega arith in
-    ap (λ k. ascending low len (range_with_len run.0 k ++ covered runs)) long
-    ∙ ascending_run low len run.0 n (covered runs) from (omega arith) (ap (λ a. ascending a len (covered runs)) (sym whole) ∙ ascending-covered run.1 len runs parts.then)
+    ap (λ k. ascending low len (range_with_len run.0 k ++ run_positions runs)) long
+    ∙ ascending_run low len run.0 n (run_positions runs) from (omega arith) (ap (λ a. ascending a len (run_positions runs)) (sym whole) ∙ ascending-run_positions run.1 len runs parts.then)
 
 -- one run on
 pub next_runs_ascend : (low len k : ℕ) (runs : List (ℕ × ℕ)) → k < length runs → low ≤ (get_or runs k (0, 0)).0 → (get_or runs k (0, 0)).0 < (get_or runs k (0, 0)).1 → (get_or runs k (0, 0)).1 ≤ len → runs_ascend (get_or runs k (0, 0)).1 len (drop (k + 1) runs) ≡ runs_ascend low len (drop k runs)

@@ -2,7 +2,7 @@
 use Rattle.std.proofs.Common.{◌≡◌, ◌≢◌, ℕ, ◌+◌, ◌-◌, ◌<◌, ◌≤◌, Bool, true, false, List, [], ◌∷◌, ◌++◌, length, get_or, take, drop, set, replicate, refl, sym, ap, ap₂, ◌∙◌, arith}
 use Rattle.std.specs.List.{range_with_len}
 use Rattle.std.proofs.lemmas.List.{length-set, length-append, length-replicate, get_or-replicate, get_or-set_same, get_or-set_other, take_all, take_more, take-set}
-use Rattle.vx_mask.specs.Positions.{AllBits, set_of, covered, ascending, runs_ascend, bits_with}
+use Rattle.vx_mask.specs.Positions.{AllBits, set_of, run_positions, ascending, runs_ascend, bits_with}
 use Rattle.vx_mask.proofs.PositionLists.{set_of_clear, set_of_set}
 use Rattle.vx_mask.proofs.AscendingLists.{next_index, next_run, covered_more}
 use Rattle.vx_mask.proofs.BitsWith.{bits_told}
@@ -63,7 +63,7 @@ all_made bits indices len k h made =
 
 -- bits up to the end of the first k runs
 pub record AreMadeTo (bits : List Bool) (runs : List (ℕ × ℕ)) (len k at : ℕ) : Type 0 where
-  pub found : set_of bits ≡ covered (take k runs)
+  pub found : set_of bits ≡ run_positions (take k runs)
   pub long : length bits ≡ at
   pub within : at ≤ len
   pub rest : runs_ascend at len (drop k runs) ≡ true
@@ -84,9 +84,9 @@ run_made bits first both runs len k at h made e f =
       rest = next.then;
     }
 
-pub runs_made : (bits all : List Bool) (runs : List (ℕ × ℕ)) (len k at : ℕ) → length runs ≤ k → AreMadeTo bits runs len k at → all ≡ bits ++ replicate (len - at) false → all ≡ bits_with len (covered runs)
+pub runs_made : (bits all : List Bool) (runs : List (ℕ × ℕ)) (len k at : ℕ) → length runs ≤ k → AreMadeTo bits runs len k at → all ≡ bits ++ replicate (len - at) false → all ≡ bits_with len (run_positions runs)
 runs_made bits all runs len k at h made e =
     let bits_long = made.long in
     let within = made.within in
-    bits_told all len (covered runs) (ap length e ∙ length-append bits (replicate (len - at) false) ∙ omega (arith, length-replicate (len - at) false))
-    (ap set_of e ∙ set_of_clear bits (len - at) ∙ made.found ∙ ap covered (take_all k runs h))
+    bits_told all len (run_positions runs) (ap length e ∙ length-append bits (replicate (len - at) false) ∙ omega (arith, length-replicate (len - at) false))
+    (ap set_of e ∙ set_of_clear bits (len - at) ∙ made.found ∙ ap run_positions (take_all k runs h))

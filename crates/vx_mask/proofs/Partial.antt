@@ -6,9 +6,9 @@ use Rattle.std.proofs.lemmas.Bool.Decides.{nat_tests}
 use Rattle.vx_bits.specs.BitBuffer.{PlacedBits, true_count_of}
 use Rattle.vx_mask.specs.Mask.{if_partial, at_front, mask_by_indices, mask_by_slices}
 use Rattle.vx_mask.specs.MaskValues.{PartialMask, IsPartial, AreSlicesOf, bits_alone, block_counts}
-use Rattle.vx_mask.specs.Positions.{set_of, covered, bits_with, ascending, runs_ascend, maximal_runs}
+use Rattle.vx_mask.specs.Positions.{set_of, run_positions, bits_with, ascending, runs_ascend, maximal_runs}
 use Rattle.vx_mask.proofs.PositionLists.{none_are_set, all_are_set}
-use Rattle.vx_mask.proofs.AscendingLists.{ascending-covered, runs_not_empty}
+use Rattle.vx_mask.proofs.AscendingLists.{ascending-run_positions, runs_not_empty}
 use Rattle.vx_mask.proofs.BitsWith.{bits_with-made}
 use Rattle.vx_mask.proofs.RunLists.{some_run, maximal_runs_cover}
 
@@ -53,16 +53,16 @@ partial_by_indices len indices h p q =
       blocks_agree = tt;
     }
 
-pub partial_by_slices : (len : ℕ) (slices : List (ℕ × ℕ)) → runs_ascend 0 len slices ≡ true → 0 < length (covered slices) → length (covered slices) < len → IsPartial (mask_by_slices len slices) (length (covered slices))
+pub partial_by_slices : (len : ℕ) (slices : List (ℕ × ℕ)) → runs_ascend 0 len slices ≡ true → 0 < length (run_positions slices) → length (run_positions slices) < len → IsPartial (mask_by_slices len slices) (length (run_positions slices))
 partial_by_slices len slices h p q =
-    let made = bits_with-made len (covered slices) (ascending-covered 0 len slices h) in
+    let made = bits_with-made len (run_positions slices) (ascending-run_positions 0 len slices h) in
     record {
       counted = sym made.count;
       some = p;
       not_all = omega (arith, made.long);
       indices_agree = tt;
       slices_agree = record {
-        some = some_run (bits_with len (covered slices)) slices (sym made.positions) (omega (arith, made.count));
+        some = some_run (bits_with len (run_positions slices)) slices (sym made.positions) (omega (arith, made.count));
         none_empty = runs_not_empty 0 len slices h;
         cover = sym made.positions;
       };
@@ -114,25 +114,25 @@ partial_with_indices len count bits indices kept h e some apart f g =
     let P : PlacedBits → List ℕ → ℕ → Type 0 = λ b l n. IsPartial (record { bits = b; indices = Some l; slices = None; blocks = None }) n in
     subst (λ n. P bits kept n) (sym e) (subst (λ l. P bits l (length indices)) (sym g) (subst (λ b. P b indices (length indices)) (sym f) is))
 
-pub partial_with_slices : (len count : ℕ) (bits : PlacedBits) (slices kept : List (ℕ × ℕ)) → runs_ascend 0 len slices ≡ true → count ≡ length (covered slices) → 0 < count → (count ≡ len → ⊥) → bits ≡ at_front (bits_with len (covered slices)) → kept ≡ slices → IsPartial (record { bits = bits; indices = None; slices = Some kept; blocks = None }) count
+pub partial_with_slices : (len count : ℕ) (bits : PlacedBits) (slices kept : List (ℕ × ℕ)) → runs_ascend 0 len slices ≡ true → count ≡ length (run_positions slices) → 0 < count → (count ≡ len → ⊥) → bits ≡ at_front (bits_with len (run_positions slices)) → kept ≡ slices → IsPartial (record { bits = bits; indices = None; slices = Some kept; blocks = None }) count
 partial_with_slices len count bits slices kept h e some apart f g =
-    let is = partial_by_slices len slices h (omega arith) (fewer len (covered slices) (ascending-covered 0 len slices h) (λ same. apart (e ∙ same))) in
+    let is = partial_by_slices len slices h (omega arith) (fewer len (run_positions slices) (ascending-run_positions 0 len slices h) (λ same. apart (e ∙ same))) in
     let P : PlacedBits → List (ℕ × ℕ) → ℕ → Type 0 = λ b l n. IsPartial (record { bits = b; indices = None; slices = Some l; blocks = None }) n in
-    subst (λ n. P bits kept n) (sym e) (subst (λ l. P bits l (length (covered slices))) (sym g) (subst (λ b. P b slices (length (covered slices))) (sym f) is))
+    subst (λ n. P bits kept n) (sym e) (subst (λ l. P bits l (length (run_positions slices))) (sym g) (subst (λ b. P b slices (length (run_positions slices))) (sym f) is))
 
 -- what the walk over runs told
 pub record IsTotal (len count : ℕ) (slices : List (ℕ × ℕ)) : Type 0 where
   pub ascend : runs_ascend 0 len slices ≡ true
-  pub counted : count ≡ length (covered slices)
+  pub counted : count ≡ length (run_positions slices)
 
 total_told : (b : Bool) (n count : ℕ) → Some count ≡ cond b (Some n) None → (b ≡ true) × (count ≡ n)
 total_told true n count e = (refl, cc)
 total_told false n count e = cc
 
-pub total_is : (len count : ℕ) (slices seen : List (ℕ × ℕ)) → Some count ≡ cond (runs_ascend 0 len seen) (Some (length (covered seen))) None → seen ≡ slices → IsTotal len count slices
+pub total_is : (len count : ℕ) (slices seen : List (ℕ × ℕ)) → Some count ≡ cond (runs_ascend 0 len seen) (Some (length (run_positions seen))) None → seen ≡ slices → IsTotal len count slices
 total_is len count slices seen e f =
-    let told = total_told (runs_ascend 0 len seen) (length (covered seen)) count e in
-    record { ascend = sym (ap (runs_ascend 0 len) f) ∙ told.0; counted = told.1 ∙ ap (λ l. length (covered l)) f }
+    let told = total_told (runs_ascend 0 len seen) (length (run_positions seen)) count e in
+    record { ascend = sym (ap (runs_ascend 0 len) f) ∙ told.0; counted = told.1 ∙ ap (λ l. length (run_positions l)) f }
 
 -- the indices that a mask keeps
 pub kept_set : (mask seen : PartialMask) (count : ℕ) (indices : List ℕ) → IsPartial mask count → mask.indices ≡ Some indices → mask ≡ seen → indices ≡ set_of seen.bits.bits

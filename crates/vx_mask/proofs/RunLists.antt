@@ -5,7 +5,7 @@ use Rattle.std.proofs.lemmas.List.{take-append-drop, take-take, take_all, drop-t
 use Rattle.std.proofs.lemmas.Bool.{cases_lt}
 use Rattle.std.proofs.lemmas.Bool.Decides.{nat_tests}
 use Rattle.vx_bits.specs.BitBuffer.{true_count_of}
-use Rattle.vx_mask.specs.Positions.{AllBits, positions, set_of, covered, runs_with, runs_from, maximal_runs}
+use Rattle.vx_mask.specs.Positions.{AllBits, positions, set_of, run_positions, runs_with, runs_from, maximal_runs}
 use Rattle.vx_mask.proofs.PositionLists.{set_of_set, set_of_clear, length-positions}
 
 -- bits that are all the same are that bit again and again
@@ -146,7 +146,7 @@ runs_all bits runs at h e = sym (append-nil runs) ∙ sym (ap (λ l. runs ++ run
 -- runs that are not empty and cover these positions
 pub record Cover (runs : List (ℕ × ℕ)) (set : List ℕ) : Type 0 where
   pub none_empty : All (λ run. run.0 < run.1) runs
-  pub cover : covered runs ≡ set
+  pub cover : run_positions runs ≡ set
 
 All-first : (run : ℕ × ℕ) (runs : List (ℕ × ℕ)) → run.0 < run.1 → All (λ run. run.0 < run.1) runs → All (λ run. run.0 < run.1) (run ∷ runs)
 All-first run runs p h = λ k d q. place k d q
@@ -158,8 +158,8 @@ All-first run runs p h = λ k d q. place k d q
 range_first : (a b : ℕ) → a + 1 ≤ b → range_with_len a (b - a) ≡ a ∷ range_with_len (a + 1) (b - (a + 1))
 range_first a b p = let more : b - a ≡ suc (b - (a + 1)) = omega arith in ap (range_with_len a) more
 
-one_covered : (at : ℕ) (runs : List (ℕ × ℕ)) → covered ((at, at + 1) ∷ runs) ≡ at ∷ covered runs
-one_covered at runs = let one : at + 1 - at ≡ 1 = omega arith in ap (λ n. range_with_len at n ++ covered runs) one
+one_covered : (at : ℕ) (runs : List (ℕ × ℕ)) → run_positions ((at, at + 1) ∷ runs) ≡ at ∷ run_positions runs
+one_covered at runs = let one : at + 1 - at ≡ 1 = omega arith in ap (λ n. range_with_len at n ++ run_positions runs) one
 
 Cover-with : (at : ℕ) (runs : List (ℕ × ℕ)) (set : List ℕ) → Cover runs set → Cover (runs_with at runs) (at ∷ set)
 Cover-with at [] set h = record {
@@ -174,7 +174,7 @@ Cover-with at (run ∷ runs) set h = by_test (eqb run.0 (at + 1)) refl
         let some : run.0 < run.1 = h.none_empty 0 (0, 0) (omega arith) in
         record {
           none_empty = All-first (at, run.1) runs (omega arith) (λ k d q. h.none_empty (suc k) d (omega arith));
-          cover = ap (λ l. l ++ covered runs) (range_first at run.1 (omega arith) ∙ ap (λ a. at ∷ range_with_len a (run.1 - a)) (sym same)) ∙ ap (λ l. at ∷ l) h.cover;
+          cover = ap (λ l. l ++ run_positions runs) (range_first at run.1 (omega arith) ∙ ap (λ a. at ∷ range_with_len a (run.1 - a)) (sym same)) ∙ ap (λ l. at ∷ l) h.cover;
         }
     by_test false e = record {
       none_empty = All-first (at, at + 1) (run ∷ runs) (omega arith) h.none_empty;
@@ -190,6 +190,6 @@ pub maximal_runs_cover : (bits : List Bool) → Cover (maximal_runs bits) (set_o
 maximal_runs_cover bits = Cover-from 0 bits
 
 -- where some bit is set there is a run
-pub some_run : (bits : List Bool) (runs : List (ℕ × ℕ)) → covered runs ≡ set_of bits → 0 < true_count_of bits → 0 < length runs
+pub some_run : (bits : List Bool) (runs : List (ℕ × ℕ)) → run_positions runs ≡ set_of bits → 0 < true_count_of bits → 0 < length runs
 some_run bits [] e h = absurd (omega (arith, length-positions 0 bits, ap length e))
 some_run bits (run ∷ runs) e h = omega arith

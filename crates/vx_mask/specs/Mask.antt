@@ -7,7 +7,7 @@ use Rattle.vx_mask.specs.declared.error.MaskError.TheVariants.{Indices, Slices}
 use Rattle.vx_mask.specs.declared.mask.Mask.{Mask}
 use Rattle.vx_mask.specs.declared.mask.Mask.TheVariants.{AllTrue, AllFalse, Values}
 use Rattle.vx_mask.specs.MaskValues.{PartialMask, bits_alone}
-use Rattle.vx_mask.specs.Positions.{ascending, bits_with, covered, runs_ascend}
+use Rattle.vx_mask.specs.Positions.{ascending, bits_with, run_positions, runs_ascend}
 
 -- a bit for each row, set where the row is selected
 abbrev pub mask_bits : Mask → List Bool
@@ -40,7 +40,7 @@ mask_by_indices len indices =
 -- the mask of `len` rows that keeps the runs that it is made from
 abbrev pub mask_by_slices : ℕ → List (ℕ × ℕ) → PartialMask
 mask_by_slices len slices =
-    record (bits_alone (at_front (bits_with len (covered slices)))) { slices = Some slices }
+    record (bits_alone (at_front (bits_with len (run_positions slices)))) { slices = Some slices }
 
 -- the indices that the mask keeps
 abbrev pub indices_in : Mask → Option (List ℕ)

@@ -4,7 +4,7 @@ use Rattle.std.specs.List.{All, list_all}
 use Rattle.vx_bits.specs.BitBuffer.{PlacedBits, true_count_of}
 use Rattle.vx_mask.specs.declared.error.MaskError.{MaskError}
 use Rattle.vx_mask.specs.declared.error.MaskError.TheVariants.{Count, NotSelective, Indices, Slices}
-use Rattle.vx_mask.specs.Positions.{set_of, covered, maximal_runs, same_numbers}
+use Rattle.vx_mask.specs.Positions.{set_of, run_positions, maximal_runs, same_numbers}
 use Rattle.vx_mask.specs.Ranks.{blocks_of}
 
 -- what a clause sees of a `MaskValues`: its bits, and what it keeps beside them
@@ -22,7 +22,7 @@ bits_alone bits = record { bits = bits; indices = None; slices = None; blocks = 
 pub record AreSlicesOf (mask : PartialMask) (slices : List (ℕ × ℕ)) : Type 0 where
   pub some : 0 < length slices
   pub none_empty : All (λ run. run.0 < run.1) slices
-  pub cover : covered slices ≡ set_of mask.bits.bits
+  pub cover : run_positions slices ≡ set_of mask.bits.bits
 
 -- for each multiple of 512 up to the length, the number of set bits before it
 abbrev pub block_counts : PartialMask → List ℕ
@@ -44,7 +44,7 @@ are_set_positions bits indices = same_numbers indices (set_of bits)
 -- whether no run is empty, and they cover just the set positions in their order
 abbrev pub are_set_runs : List Bool → List (ℕ × ℕ) → Bool
 are_set_runs bits slices =
-    list_all (λ run. nat_lt run.0 run.1) slices && same_numbers (covered slices) (set_of bits)
+    list_all (λ run. nat_lt run.0 run.1) slices && same_numbers (run_positions slices) (set_of bits)
 
 -- whether what is there passes a test
 abbrev pub passes : {X : Type 0} → (X → Bool) → Option X → Bool

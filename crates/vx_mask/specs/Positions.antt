@@ -18,8 +18,8 @@ abbrev pub rank_of : List Bool → ℕ → ℕ
 rank_of bits k = slice_index (set_of bits) k
 
 -- the positions of the runs, one run after another
-abbrev pub covered : List (ℕ × ℕ) → List ℕ
-covered runs = flat_map (λ run. range_with_len run.0 (run.1 - run.0)) runs
+abbrev pub run_positions : List (ℕ × ℕ) → List ℕ
+run_positions runs = flat_map (λ run. range_with_len run.0 (run.1 - run.0)) runs
 
 -- `len` bits, set at just these positions
 abbrev pub bits_with : ℕ → List ℕ → List Bool

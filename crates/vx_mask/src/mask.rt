@@ -2,8 +2,8 @@
 ghost use Rattle.std.specs.Prelude.{◌≡◌, ◌*◌, ◌<◌, ◌≤◌, ◌↔◌, IsTrue, IfOk, IfSome, length, map, slice_index_or, take, false, true};
 ghost use Rattle.std.specs.Option.{option_copied};
 ghost use Rattle.vx_bits.specs.BitBuffer.{true_count_of};
-ghost use Rattle.vx_bits.specs.Made.{FailsBy};
-ghost use Rattle.vx_mask.specs.Positions.{IsSpan, set_of, rank_of, covered, bits_with, span_of};
+ghost use Rattle.vx_bits.specs.Results.{FailsBy};
+ghost use Rattle.vx_mask.specs.Positions.{IsSpan, set_of, rank_of, run_positions, bits_with, span_of};
 ghost use Rattle.vx_mask.specs.Mask.{mask_bits, partial_of, indices_fault, slices_fault, if_partial, mask_by_indices, mask_by_slices, indices_in, slices_in, blocks_in, keeping};
 ghost use Rattle.vx_mask.specs.Ranks.{blocks_of};
 ghost use Rattle.vx_mask.specs.MaskValues.{bits_alone, keep_indices, keep_slices, keep_blocks};
@@ -89,8 +89,8 @@ impl Mask {
         slices: Vec<(usize, usize)>,
     ) -> Result<Mask, MaskError>
         ensures refusal { FailsBy result (slices_fault len slices.items) MaskError.NoMemory }
-        ensures set { IfOk result (λ m. set_of (mask_bits m) ≡ covered slices.items) }
-        ensures bits { IfOk result (λ m. mask_bits m ≡ bits_with len (covered slices.items)) }
+        ensures set { IfOk result (λ m. set_of (mask_bits m) ≡ run_positions slices.items) }
+        ensures bits { IfOk result (λ m. mask_bits m ≡ bits_with len (run_positions slices.items)) }
         ensures len { IfOk result (λ m. length (mask_bits m) ≡ len) }
         ensures kept { IfOk result (λ m. partial_of m
             ≡ if_partial (mask_by_slices len slices.items)) }
@@ -190,7 +190,8 @@ impl Mask {
     /// touch.
     pub fn cached_slices(&self) -> Option<&[(usize, usize)]>
         ensures value { option_copied result ≡ slices_in self.now }
-        ensures cover { IfSome result (λ slices. covered slices.now ≡ set_of (mask_bits self.now)) }
+        ensures cover { IfSome result
+            (λ slices. run_positions slices.now ≡ set_of (mask_bits self.now)) }
     {
         self.values()?.cached_slices()
     }

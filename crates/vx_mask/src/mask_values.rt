@@ -2,7 +2,7 @@
 ghost use Rattle.std.specs.Prelude.{◌≡◌, ◌<◌, ◌≤◌, None, IfOk, IfSome, length, slice_index_or, take, false};
 ghost use Rattle.std.specs.Option.{option_copied};
 ghost use Rattle.vx_bits.specs.BitBuffer.{true_count_of};
-ghost use Rattle.vx_bits.specs.Made.{made};
+ghost use Rattle.vx_bits.specs.Results.{ok_unless};
 ghost use Rattle.vx_mask.specs.MaskValues.{AreSlicesOf, IsPartial, bits_alone, block_counts, keep_blocks, keep_indices, keep_slices, parts_fault};
 ghost use Rattle.vx_mask.specs.Positions.{rank_of, set_of, span_of};
 
@@ -63,7 +63,7 @@ impl MaskValues {
         indices: Option<Buffer<usize>>,
         slices: Option<Buffer<(usize, usize)>>,
     ) -> Result<MaskValues, MaskError>
-        ensures { result ≡ made (parts_fault bits.bits true_count indices slices)
+        ensures { result ≡ ok_unless (parts_fault bits.bits true_count indices slices)
             (record { bits = bits; indices = indices; slices = slices; blocks = None }) }
     {
         if true_count != bits.true_count() {

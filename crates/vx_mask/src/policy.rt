@@ -1,6 +1,6 @@
 //! The numbers that choose between kernels.
 ghost use Rattle.std.specs.Prelude.{◌≡◌, ◌≤◌, None};
-ghost use Rattle.vx_bits.specs.Made.{made};
+ghost use Rattle.vx_bits.specs.Results.{ok_unless};
 ghost use Rattle.vx_mask.specs.Policy.{has_zero_divisor, has_wide_sparse_limit, policy_fault, sparse_limit_of, vortex_fields};
 
 use std::marker::Model;
@@ -147,7 +147,7 @@ impl Policy {
     /// `min_run_bytes` is 0, `ZeroLookupCap` exactly where `rank_lookup_cap` is 0, `SparseLimit`
     /// exactly where one of the four sparse limits is above 160.
     pub fn try_new(fields: PolicyFields) -> Result<Policy, PolicyError>
-        ensures { result ≡ made (policy_fault fields) fields }
+        ensures { result ≡ ok_unless (policy_fault fields) fields }
     {
         if fields.has_zero_divisor() {
             return Err(PolicyError::ZeroDivisor);

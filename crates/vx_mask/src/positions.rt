@@ -1,7 +1,7 @@
 //! Lists of positions and of runs, and the bits that they set.
 ghost use Rattle.std.specs.Prelude.{◌≡◌, IfOk, None, Some, length, true, if◌then◌else◌};
 ghost use Rattle.vx_mask.specs.Mask.{at_front};
-ghost use Rattle.vx_mask.specs.Positions.{covered, ascending, bits_with, runs_ascend};
+ghost use Rattle.vx_mask.specs.Positions.{run_positions, ascending, bits_with, runs_ascend};
 
 use std::alloc::Global;
 use vx_bits::{BitBuffer, BitBuilder, NoMemory};
@@ -24,7 +24,7 @@ pub(crate) fn ascend(indices: &[usize], len: usize) -> bool
 // end within the length.
 pub(crate) fn run_total(runs: &[(usize, usize)], len: usize) -> Option<usize>
     ensures { result
-        ≡ (if runs_ascend 0 len runs.now then Some (length (covered runs.now)) else None) }
+        ≡ (if runs_ascend 0 len runs.now then Some (length (run_positions runs.now)) else None) }
 {
     let mut low = 0;
     let mut total = 0;
@@ -58,7 +58,7 @@ pub(crate) fn bits_of_runs(
     runs: &[(usize, usize)],
 ) -> Result<BitBuffer, NoMemory>
     requires { runs_ascend 0 len runs.now ≡ true }
-    ensures { IfOk result (λ b. b ≡ at_front (bits_with len (covered runs.now))) }
+    ensures { IfOk result (λ b. b ≡ at_front (bits_with len (run_positions runs.now))) }
 {
     let mut bits = BitBuilder::with_capacity(alloc, len)?;
     let mut at = 0;

@@ -56,8 +56,8 @@ fn bytes_that_no_line_can_say(rt: HostRuntime) -> Result<(), Fail> {
         assert_eq!(rt; status, 2, "{bytes:?}");
         assert_eq!(rt; text.as_str(), "");
     }
-    let blanks =
-        b" {\"steps\":[ ] ,\n\t\"column\":{\"values\":[7] ,\"type\":\"u8\",\"layout\":\"Primitive\"}}\r\n";
+    let blanks = b" {\"steps\":[ ] ,\n\t\"column\":{\"values\":[7] ,\"type\":\"u8\",
+        \"layout\":\"Primitive\"}}\r\n";
     let (status, text) = answer_of(rt.alloc(), blanks)?;
     assert_eq!(rt; status, 0);
     assert_eq!(rt; text.as_str(), "u8\n7\n");

@@ -48,8 +48,14 @@ module _ (R S : RattleType) (h : R.Denot → S.Denot) where
   counted_places a = record {
     mir_same =
         λ i. (counted.the_row (one_value R (a.mir_same i) (λ _. ftrue) (λ _ _. nothing) gnil)).mir;
-    own_same = λ c i. (counted.the_row (one_value R (a.mir_same i) (a.own_same c.value i) (a.shr_same c.value i) gnil)).own_val (with_value c tt);
-    shr_same = λ c i. (counted.the_row (one_value R (a.mir_same i) (a.own_same c.value i) (a.shr_same c.value i) gnil)).shr_at (with_value c tt);
+    own_same = λ c i.
+        (counted.the_row
+        (one_value R (a.mir_same i) (a.own_same c.value i) (a.shr_same c.value i) gnil)).own_val
+        (with_value c tt);
+    shr_same = λ c i.
+        (counted.the_row
+        (one_value R (a.mir_same i) (a.own_same c.value i) (a.shr_same c.value i) gnil)).shr_at
+        (with_value c tt);
   }
 
   pub the_places : Alike R S h
@@ -57,9 +63,12 @@ module _ (R S : RattleType) (h : R.Denot → S.Denot) where
   the_places a =
       view_places fields this view
       (λ X Y k u. refl) (λ X u. refl) R.Denot S.Denot h (C.the_row R).coded (C.the_row S).coded
-      (invariant R.Denot) (invariant S.Denot) (λ u p q. refl) (λ u p q. refl) (λ u e. tt) (λ u e. tt)
+      (invariant R.Denot) (invariant S.Denot) (λ u p q. refl) (λ u p q. refl)
+      (λ u e. tt) (λ u e. tt)
       (over (I.the_row R)) (over (I.the_row S))
-      (struct_places (I.the_type R) (I.the_type S) ((λ c. with_value c (h c.value)), (λ n. n, tt)) _ (λ d. refl) refl (laid _ _ _ (counted_places a), ((refl, (λ n. refl, λ n. refl)), tt)))
+      (struct_places (I.the_type R) (I.the_type S)
+      ((λ c. with_value c (h c.value)), (λ n. n, tt)) _ (λ d. refl) refl
+      (laid _ _ _ (counted_places a), ((refl, (λ n. refl, λ n. refl)), tt)))
 
   pub the_codes_placed : Recodes R S h
       → Recodes (C.the_row R) (C.the_row S) ((the_former this).map R.Denot S.Denot h)

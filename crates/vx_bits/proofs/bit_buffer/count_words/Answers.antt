@@ -1,4 +1,4 @@
-use Rattle.std.proofs.Common.{◌+◌, ◌*◌, arith}
+use Rattle.std.proofs.Common.{arith}
 use Rattle.vx_bits.proofs.ByteWords.{count_more_word}
 use Rattle.vx_bits.proofs.bit_buffer.count_words.Goals as goal
 use lib.Count.{ones-le}

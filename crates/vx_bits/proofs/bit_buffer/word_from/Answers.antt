@@ -1,4 +1,4 @@
-use Rattle.std.proofs.Common.{◌≡◌, ◌+◌, ◌*◌, ◌-◌, ◌/◌, ◌%◌, ◌^◌, bit_or, sym, ap, ◌∙◌, arith}
+use Rattle.std.proofs.Common.{◌≡◌, ◌+◌, ◌*◌, ◌-◌, ◌/◌, ◌%◌, ◌^◌, bit_or, ap, ◌∙◌, arith}
 use Rattle.vx_bits.specs.BitBuffer.{bits_of}
 use Rattle.vx_bits.proofs.ByteWords.{shifted_bits}
 use Rattle.vx_bits.proofs.bit_buffer.word_from.Goals as goal

@@ -1,4 +1,4 @@
-use Rattle.std.proofs.Common.{◌≡◌, ◌+◌, ◌-◌, take, drop, ap, ap₂, sym, ◌∙◌, rules, arith, length}
+use Rattle.std.proofs.Common.{◌≡◌, ◌+◌, ◌-◌, take, drop, ap, ap₂, ◌∙◌, rules, arith, length}
 use Rattle.vx_bits.specs.BitBuffer.{bits_of, true_count_of}
 use Rattle.vx_bits.proofs.BitLists.{are_fields, bits_cut}
 use Rattle.vx_bits.proofs.bit_buffer.BitBuffer.count_range.Goals as goal

@@ -1,4 +1,4 @@
-use Rattle.std.proofs.Common.{◌≡◌, ◌+◌, ◌-◌, ◌*◌, ◌/◌, ◌<◌, ◌≤◌, length, take, drop, sym, ap, ap₂, ◌∙◌, rules, arith}
+use Rattle.std.proofs.Common.{◌+◌, ◌-◌, ◌*◌, ◌≤◌, length, ap, ◌∙◌, rules, arith}
 use Rattle.vx_bits.specs.BitBuffer.{bits_of, number_of}
 use Rattle.vx_bits.specs.Words.{word_at}
 use Rattle.vx_bits.proofs.BitLists.{are_fields}

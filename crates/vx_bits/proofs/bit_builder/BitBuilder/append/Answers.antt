@@ -1,5 +1,4 @@
-use Rattle.std.proofs.Common.{◌++◌, ap, ◌∙◌, arith}
-use Rattle.std.specs.Result.{OnOk}
+use Rattle.std.proofs.Common.{ap, ◌∙◌, arith}
 use Rattle.vx_bits.proofs.BuiltLists.{word_alike}
 use Rattle.vx_bits.specs.Words.{word_bits}
 use Rattle.vx_bits.proofs.bit_builder.BitBuilder.append.Goals as goal

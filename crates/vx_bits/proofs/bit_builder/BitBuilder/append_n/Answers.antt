@@ -1,4 +1,4 @@
-use Rattle.std.proofs.Common.{◌≡◌, ◌+◌, ◌-◌, ◌*◌, ◌%◌, ◌/◌, ◌^◌, ◌++◌, cond, replicate, ap, sym, ◌∙◌, refl, arith}
+use Rattle.std.proofs.Common.{◌-◌, ◌*◌, ◌%◌, ◌/◌, ◌^◌, ◌++◌, replicate, ap, ◌∙◌, refl, arith}
 use Rattle.std.specs.Int.{to_le_bytes, w64}
 use Rattle.vx_bits.proofs.BuiltLists.{built_alike, word_alike}
 use Rattle.vx_bits.specs.Words.{word_bits}

@@ -2,9 +2,9 @@
 use Rattle.std.specs.Prelude.{◌≡◌, Option, None, Some, Result, Ok, Err, MatchResult, unwrap_or}
 
 -- the value where there is no fault, and else just that fault
-abbrev pub made : {T E : Type 0} → Option E → T → Result T E
-made None value = Ok value
-made (Some fault) value = Err fault
+abbrev pub ok_unless : {T E : Type 0} → Option E → T → Result T E
+ok_unless None value = Ok value
+ok_unless (Some fault) value = Err fault
 
 -- an error is that fault, or want of memory where there is none, and a value comes only where
 -- there is none
