@@ -173,8 +173,12 @@ fn items_hold_later(items: &Vec<Value>) -> bool
     ensures { result ≡ items_hold_later (items_view items.now.items) }
 {
     for item in items {
-        if holds_later(item) {
-            return true;
+        match item {
+            // most lists are of numbers, which hold nothing
+            Value::Number(_) => {}
+            other => if holds_later(other) {
+                return true;
+            },
         }
     }
     false

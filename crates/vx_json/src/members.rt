@@ -48,7 +48,9 @@ pub fn bool_in(value: &Value) -> Result<bool, DocError>
     }
 }
 
-/// Whether the name is one of these.
+/// Whether the name is one of these. It is inlined, so that over a literal list each comparison is
+/// of constants.
+#[inline(always)]
 pub fn is_among(names: &[&str], name: &str) -> bool
     ensures { result ≡ is_among (map (λ n. n.now) names.now) name.now }
 {
