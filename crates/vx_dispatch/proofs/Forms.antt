@@ -1,6 +1,6 @@
 -- The forms of validity.
-use Rattle.std.proofs.Common.{◌≡◌, ℕ, Bool, refl, subst, sym, List}
-use Rattle.vx_model.specs.Valid.{Valid, non_nullable, IsLeft}
+use Rattle.std.proofs.Common.{◌≡◌, refl}
+use Rattle.vx_model.specs.Valid.{non_nullable}
 use Rattle.vx_column.specs.Validity.{valid_of}
 use Rattle.vx_column.specs.declared.validity.Validity.{Validity}
 use Rattle.vx_column.specs.declared.validity.Validity.TheVariants.{NonNullable}

@@ -1,5 +1,5 @@
 -- A mask of all rows or of none.
-use Rattle.std.proofs.Common.{◌≡◌, length, refl, arith, ◌∙◌, sym, ap}
+use Rattle.std.proofs.Common.{length, refl, arith, ◌∙◌, sym, ap}
 use Rattle.std.specs.Prelude.{true}
 use Rattle.std.proofs.lemmas.List.{length-replicate}
 use Rattle.vx_mask.specs.Mask.{mask_bits}

@@ -1,5 +1,5 @@
 -- The parts that are kept make the column that is kept.
-use Rattle.std.proofs.Common.{◌≡◌, length, sym, ap, ◌∙◌}
+use Rattle.std.proofs.Common.{length, ap, ◌∙◌}
 use Rattle.std.specs.List.{items_where_true}
 use Rattle.vx_model.specs.Valid.{present_bits, IsLeft}
 use Rattle.vx_model.specs.Primitive.{primitive_column}

@@ -1,7 +1,7 @@
 -- The sliced parts make the sliced column.
-use Rattle.std.proofs.Common.{◌≡◌, ◌≤◌, length, sym, ap, ◌∙◌, slice_range, arith}
-use Rattle.vx_model.specs.Valid.{Valid, present_bits, IsLeft}
-use Rattle.vx_model.specs.Primitive.{primitive_column, primitive_with}
+use Rattle.std.proofs.Common.{◌≡◌, ◌≤◌, length, ap, ◌∙◌, slice_range, arith}
+use Rattle.vx_model.specs.Valid.{present_bits, IsLeft}
+use Rattle.vx_model.specs.Primitive.{primitive_column}
 use Rattle.vx_model.proofs.PrimitiveSteps.{is_slice-primitive, length-primitive}
 use Rattle.vx_column.specs.Validity.{valid_of}
 use Rattle.vx_dispatch.proofs.primitive.slice_of.Goals as goal

@@ -1,5 +1,5 @@
 -- The one form of validity says the same of every row.
-use Rattle.std.proofs.Common.{◌≡◌, refl}
+use Rattle.std.proofs.Common.{refl}
 use Rattle.vx_model.proofs.ShownRows.{is_left-slice}
 use Rattle.vx_model.specs.Valid.{non_nullable}
 use Rattle.vx_dispatch.proofs.Forms.{valid_of-form}

@@ -1,5 +1,5 @@
 -- Each step in turn over the rows that the ones before left.
-use Rattle.std.proofs.Common.{◌≡◌, map, length, sym, ap, ◌∙◌, None, true, false, refl, arith, ◌⊎◌, inl, inr}
+use Rattle.std.proofs.Common.{◌≡◌, map, length, sym, ap, ◌∙◌, None, true, false, refl, arith, inl, inr}
 use Rattle.vx_steps.specs.Step.{step_value}
 use Rattle.vx_steps.specs.Walk.{broken, walk}
 use Rattle.vx_steps.specs.Check.{HasCount}

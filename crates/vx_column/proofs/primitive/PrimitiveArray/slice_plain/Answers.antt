@@ -1,5 +1,5 @@
 -- The sliced parts make the sliced column.
-use Rattle.std.proofs.Common.{◌≡◌, ◌≤◌, length, true, rules, sym, ap, ◌∙◌, slice_range, arith}
+use Rattle.std.proofs.Common.{◌≡◌, ◌≤◌, length, true, rules, ap, ◌∙◌, slice_range, arith}
 use Rattle.vx_model.specs.Valid.{cover_by, is_constant_form}
 use Rattle.vx_model.specs.Primitive.{primitive_column, primitive_with}
 use Rattle.vx_model.proofs.PrimitiveSteps.{is_slice-primitive, length-primitive, is_fitting-primitive}
