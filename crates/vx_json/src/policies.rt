@@ -26,57 +26,22 @@ fn ratio_of(value: &Value) -> Result<Ratio, DocError>
 fn with_ratio(f: PolicyFields, name: &str, ratio: Ratio) -> Option<PolicyFields>
     ensures { result ≡ with_ratio f name.now ratio }
 {
-    let fields = match name {
-        "dense_w1" => PolicyFields {
-            dense_w1: ratio,
-            ..f
-        },
-        "dense_w2" => PolicyFields {
-            dense_w2: ratio,
-            ..f
-        },
-        "dense_w4" => PolicyFields {
-            dense_w4: ratio,
-            ..f
-        },
-        "dense_w8" => PolicyFields {
-            dense_w8: ratio,
-            ..f
-        },
-        "dense_other" => PolicyFields {
-            dense_other: ratio,
-            ..f
-        },
-        "cached_indices_max" => PolicyFields {
-            cached_indices_max: ratio,
-            ..f
-        },
-        "in_place_min" => PolicyFields {
-            in_place_min: ratio,
-            ..f
-        },
-        "bool_sparse_below" => PolicyFields {
-            bool_sparse_below: ratio,
-            ..f
-        },
-        "reuse_two_max" => PolicyFields {
-            reuse_two_max: ratio,
-            ..f
-        },
-        "reuse_more_max" => PolicyFields {
-            reuse_more_max: ratio,
-            ..f
-        },
-        "text_indices_below" => PolicyFields {
-            text_indices_below: ratio,
-            ..f
-        },
-        "list_indices_below" => PolicyFields {
-            list_indices_below: ratio,
-            ..f
-        },
+    let mut fields = f;
+    match name {
+        "dense_w1" => fields.dense_w1 = ratio,
+        "dense_w2" => fields.dense_w2 = ratio,
+        "dense_w4" => fields.dense_w4 = ratio,
+        "dense_w8" => fields.dense_w8 = ratio,
+        "dense_other" => fields.dense_other = ratio,
+        "cached_indices_max" => fields.cached_indices_max = ratio,
+        "in_place_min" => fields.in_place_min = ratio,
+        "bool_sparse_below" => fields.bool_sparse_below = ratio,
+        "reuse_two_max" => fields.reuse_two_max = ratio,
+        "reuse_more_max" => fields.reuse_more_max = ratio,
+        "text_indices_below" => fields.text_indices_below = ratio,
+        "list_indices_below" => fields.list_indices_below = ratio,
         _ => return None,
-    };
+    }
     Some(fields)
 }
 
@@ -85,33 +50,16 @@ fn with_ratio(f: PolicyFields, name: &str, ratio: Ratio) -> Option<PolicyFields>
 fn with_size(f: PolicyFields, name: &str, number: usize) -> Option<PolicyFields>
     ensures { result ≡ with_size f name.now number }
 {
-    let fields = match name {
-        "crop_min" => PolicyFields {
-            crop_min: number,
-            ..f
-        },
-        "crop_factor" => PolicyFields {
-            crop_factor: number,
-            ..f
-        },
-        "cached_list_size" => PolicyFields {
-            cached_list_size: number,
-            ..f
-        },
-        "big_filtered_len" => PolicyFields {
-            big_filtered_len: number,
-            ..f
-        },
-        "big_take_len" => PolicyFields {
-            big_take_len: number,
-            ..f
-        },
-        "big_take_ratio" => PolicyFields {
-            big_take_ratio: number,
-            ..f
-        },
+    let mut fields = f;
+    match name {
+        "crop_min" => fields.crop_min = number,
+        "crop_factor" => fields.crop_factor = number,
+        "cached_list_size" => fields.cached_list_size = number,
+        "big_filtered_len" => fields.big_filtered_len = number,
+        "big_take_len" => fields.big_take_len = number,
+        "big_take_ratio" => fields.big_take_ratio = number,
         _ => return None,
-    };
+    }
     Some(fields)
 }
 
@@ -120,41 +68,18 @@ fn with_size(f: PolicyFields, name: &str, number: usize) -> Option<PolicyFields>
 fn with_number(f: PolicyFields, name: &str, number: usize) -> Option<PolicyFields>
     ensures { result ≡ with_number f name.now number }
 {
-    let fields = match name {
-        "min_average_run" => PolicyFields {
-            min_average_run: number,
-            ..f
-        },
-        "min_run_bytes" => PolicyFields {
-            min_run_bytes: number,
-            ..f
-        },
-        "sparse_w1" => PolicyFields {
-            sparse_w1: number,
-            ..f
-        },
-        "sparse_w2" => PolicyFields {
-            sparse_w2: number,
-            ..f
-        },
-        "sparse_w4" => PolicyFields {
-            sparse_w4: number,
-            ..f
-        },
-        "sparse_other" => PolicyFields {
-            sparse_other: number,
-            ..f
-        },
-        "rank_lookup_divisor" => PolicyFields {
-            rank_lookup_divisor: number,
-            ..f
-        },
-        "rank_lookup_cap" => PolicyFields {
-            rank_lookup_cap: number,
-            ..f
-        },
+    let mut fields = f;
+    match name {
+        "min_average_run" => fields.min_average_run = number,
+        "min_run_bytes" => fields.min_run_bytes = number,
+        "sparse_w1" => fields.sparse_w1 = number,
+        "sparse_w2" => fields.sparse_w2 = number,
+        "sparse_w4" => fields.sparse_w4 = number,
+        "sparse_other" => fields.sparse_other = number,
+        "rank_lookup_divisor" => fields.rank_lookup_divisor = number,
+        "rank_lookup_cap" => fields.rank_lookup_cap = number,
         _ => return with_size(f, name, number),
-    };
+    }
     Some(fields)
 }
 
