@@ -1,7 +1,8 @@
-//! The kernels over slices.
+//! The choice between the kernels.
 ghost use Rattle.std.specs.Prelude.{◌≡◌, IfOk, length};
 ghost use Rattle.std.specs.List.{items_where_true};
 
+use crate::bitmap::filter_slice_by_bitmap;
 use std::alloc::Global;
 use vx_bits::NoMemory;
 use vx_mask::{MaskValues, Policy};
@@ -19,23 +20,4 @@ pub fn filter_slice<T: Copy>(
     ensures { IfOk result (λ kept. kept.items ≡ items_where_true mask.now.bits.bits src.now) }
 {
     filter_slice_by_bitmap(alloc, src, mask)
-}
-
-/// The items of `src` at the set positions of `mask`, in order, by one walk over its bits.
-/// `NoMemory` alone.
-pub fn filter_slice_by_bitmap<T: Copy>(
-    alloc: Global,
-    src: &[T],
-    mask: &MaskValues,
-) -> Result<Vec<T>, NoMemory>
-    requires { length mask.now.bits.bits ≡ length src.now }
-    ensures { IfOk result (λ kept. kept.items ≡ items_where_true mask.now.bits.bits src.now) }
-{
-    let mut kept = Vec::with_capacity(alloc, mask.true_count())?;
-    for (i, item) in src.iter().enumerate() {
-        if mask.value(i) {
-            kept.push(*item)?;
-        }
-    }
-    Ok(kept)
 }
