@@ -1,9 +1,8 @@
 -- What the status of a reply says of the outcome.
-use Rattle.std.proofs.Common.{◌≡◌, ℕ, List, Option, Some, None, IfSome, refl, sym, ap, subst, arith}
+use Rattle.std.proofs.Common.{◌≡◌, ℕ, List, None, IfSome, refl, sym, ap, arith}
 use Rattle.std.specs.Prelude.{◌⊎◌, ◌≢◌, ◌≤◌, IsSomeAnd}
 use Rattle.std.proofs.Common.{inl, inr}
-use Rattle.vx_print.specs.Fault.{fault_text}
-use Rattle.vx_rows.specs.Program.{Outcome, Malformed, NotBuilt, Broken, Done, IsDone, IsBroken, IsPrinted, status_of}
+use Rattle.vx_rows.specs.Program.{Outcome, Malformed, NotBuilt, IsDone, IsBroken, IsPrinted, status_of}
 use Rattle.vx_rows.specs.Reply.{Replies, text_of_reply, status_of_reply}
 use Rattle.vx_rows.specs.declared.reply.Reply.{Reply}
 use Rattle.vx_rows.specs.declared.reply.Reply.TheVariants as replies

@@ -1,6 +1,6 @@
 -- What a `Reply` stands for.
 use Rattle.std.specs.Prelude.{◌≡◌, ℕ, List, Option, None, Some}
-use Rattle.vx_steps.specs.Answer.{Answer, answer_fault, answer_rows}
+use Rattle.vx_steps.specs.Answer.{Answer, answer_fault}
 use Rattle.vx_print.specs.Fault.{fault_text}
 use Rattle.vx_rows.specs.Program.{Outcome, Malformed, NotBuilt, Broken, Done}
 use Rattle.vx_rows.specs.declared.reply.Reply.{Reply}

@@ -1,9 +1,8 @@
 -- What was delivered, by what was read.
 use Rattle.std.proofs.Common.{◌≡◌, ℕ, List, Err, take, ap, refl, sym, ◌∙◌, inl, inr, arith}
-use Rattle.std.specs.Prelude.{◌≢◌, ◌⊎◌}
+use Rattle.std.specs.Prelude.{◌≢◌}
 use Rattle.vx_outside.specs.Bytes.{with_back}
-use Rattle.vx_rows.specs.Program.{TooLong, Malformed, NotBuilt, Outcome, IsBroken, IsDone, IsPrinted, outcome_of, status_of}
-use Rattle.vx_rows.specs.Reply.{status_of_reply}
+use Rattle.vx_rows.specs.Program.{TooLong, Malformed, NotBuilt, IsBroken, IsDone, IsPrinted, status_of}
 use Rattle.vx_rows.proofs.Delivered.{is_done, is_broken, is_printed, is_malformed, is_not_built, status_or_memory}
 use Rattle.vx_rows.proofs.Told.{told, told_long}
 use Rattle.vx_rows.proofs.program.run_rows.Goals as goal
