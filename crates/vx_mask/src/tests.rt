@@ -192,8 +192,8 @@ fn policy_refusal(fields: PolicyFields) -> Option<PolicyError> {
 
 // What 100 bits of which bits 3 and 50 are set keep for so many consumers.
 fn prepared(alloc: Global, consumers: usize) -> Result<Vec<usize>, MaskError> {
-    let ok_unless = by_indices(alloc, 100, &[3, 50])?;
-    let mask = match ok_unless.values() {
+    let made = by_indices(alloc, 100, &[3, 50])?;
+    let mask = match made.values() {
         Some(values) => Mask::from_buffer(values.bits().share()),
         None => Mask::AllFalse(100),
     };

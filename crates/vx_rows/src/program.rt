@@ -45,7 +45,7 @@ fn run_rows<S: Source, K: Sink>(alloc: Global, source: &mut S, sink: &mut K) -> 
         Err(Stop::TooLong) => return 7,
         Err(Stop::NoMemory) => return 6,
     };
-    deliver_reply(sink, &reply_to(alloc, &bytes))
+    deliver_reply(sink, &reply_to(alloc, bytes))
 }
 
 /// Does what the words ask, and answers the program's status. The words leave out the program's

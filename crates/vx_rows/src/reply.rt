@@ -49,16 +49,18 @@ fn value_of(alloc: Global, bytes: &[u8]) -> Result<Value, DocError>
     }
 }
 
-/// What comes of these bytes. The JSON value is let go before the rows are made.
+/// What comes of these bytes. They are let go before the document is made, and the JSON value
+/// before the rows are.
 #[tactic(auto, unfolding(crate::specs::Program::outcome_of))]
-pub(crate) fn reply_to(alloc: Global, bytes: &[u8]) -> Reply
-    ensures { Replies result (outcome_of bytes.now) }
+pub(crate) fn reply_to(alloc: Global, bytes: Vec<u8>) -> Reply
+    ensures { Replies result (outcome_of bytes.items) }
 {
-    let value = match value_of(alloc, bytes) {
+    let value = match value_of(alloc, &bytes) {
         Ok(value) => value,
         Err(DocError::Malformed) => return Reply::Malformed,
         Err(DocError::NoMemory) => return Reply::NoMemory,
     };
+    drop(bytes);
     if holds_later(&value) {
         return Reply::NotBuilt;
     }

@@ -20,7 +20,7 @@ returns-clause-done g c = λ zero.
     let e = c.in-Ok.ensures in let d = c.deliver_reply.ensures in let held = g.K.Sink.held in
     let Q = λ (text : List ℕ). held c.deliver_reply.new.sink ≡ with_back (held c.args.sink.now) text in
     let other : c.deliver_reply.result ≢ 5 = λ five. absurd (omega arith) in
-    told (λ o. IsDone o Q) _ _ _ _ e.taken e.end e.short c.deref.ensures.value _ refl
+    told (λ o. IsDone o Q) _ _ _ _ e.taken e.end e.short refl _ refl
     (is_done c.reply_to.result _ Q c.reply_to.ensures (sym (d.status other) ∙ zero) (d.written other))
 
 pub returns-clause-broken : goal.returns-clause-broken
@@ -28,28 +28,28 @@ returns-clause-broken g c = λ one.
     let e = c.in-Ok.ensures in let d = c.deliver_reply.ensures in let held = g.K.Sink.held in
     let Q = λ (text : List ℕ). held c.deliver_reply.new.sink ≡ with_back (held c.args.sink.now) text in
     let other : c.deliver_reply.result ≢ 5 = λ five. absurd (omega arith) in
-    told (λ o. IsBroken o Q) _ _ _ _ e.taken e.end e.short c.deref.ensures.value _ refl
+    told (λ o. IsBroken o Q) _ _ _ _ e.taken e.end e.short refl _ refl
     (is_broken c.reply_to.result _ Q c.reply_to.ensures (sym (d.status other) ∙ one) (d.written other))
 
 pub returns-clause-malformed : goal.returns-clause-malformed
 returns-clause-malformed g c = λ two.
     let e = c.in-Ok.ensures in
     let other : c.deliver_reply.result ≢ 5 = λ five. absurd (omega arith) in
-    told (λ o. o ≡ Malformed) _ _ _ _ e.taken e.end e.short c.deref.ensures.value _ refl
+    told (λ o. o ≡ Malformed) _ _ _ _ e.taken e.end e.short refl _ refl
     (is_malformed c.reply_to.result _ c.reply_to.ensures (sym (c.deliver_reply.ensures.status other) ∙ two))
 
 pub returns-clause-part : goal.returns-clause-part
 returns-clause-part g c = λ five.
     let e = c.in-Ok.ensures in let held = g.K.Sink.held in
     let Q = λ (text : List ℕ). (n : ℕ) × (held c.deliver_reply.new.sink ≡ with_back (held c.args.sink.now) (take n text)) in
-    told (λ o. IsPrinted o Q) _ _ _ _ e.taken e.end e.short c.deref.ensures.value _ refl
+    told (λ o. IsPrinted o Q) _ _ _ _ e.taken e.end e.short refl _ refl
     (is_printed c.reply_to.result _ Q c.reply_to.ensures (c.deliver_reply.ensures.part five))
 
 pub returns-clause-not_built : goal.returns-clause-not_built
 returns-clause-not_built g c = λ eight.
     let e = c.in-Ok.ensures in
     let other : c.deliver_reply.result ≢ 5 = λ five. absurd (omega arith) in
-    told (λ o. o ≡ NotBuilt) _ _ _ _ e.taken e.end e.short c.deref.ensures.value _ refl
+    told (λ o. o ≡ NotBuilt) _ _ _ _ e.taken e.end e.short refl _ refl
     (is_not_built c.reply_to.result _ c.reply_to.ensures (sym (c.deliver_reply.ensures.status other) ∙ eight))
 
 pub returns-clause-complete : goal.returns-clause-complete
@@ -59,5 +59,5 @@ returns-clause-complete g c = λ _ sound.
     let is = c.deliver_reply.ensures.status other in
     elim (status_or_memory c.reply_to.result _ c.reply_to.ensures) [
       | inl six ↦ inl (is ∙ six)
-      | inr same ↦ inr (told (λ o. c.deliver_reply.result ≡ status_of o) _ _ _ _ e.taken e.end e.short c.deref.ensures.value _ refl (is ∙ same))
+      | inr same ↦ inr (told (λ o. c.deliver_reply.result ≡ status_of o) _ _ _ _ e.taken e.end e.short refl _ refl (is ∙ same))
     ]
