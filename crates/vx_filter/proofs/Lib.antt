@@ -1,2 +1,3 @@
-pub mod KeptLists
+pub mod Moves
+pub mod Picks
 pub mod WordItems

@@ -1,0 +1,34 @@
+//! Filtering by the kernel that serves a mask best.
+ghost use Rattle.std.specs.Prelude.{◌≡◌, IfOk, length};
+ghost use Rattle.std.specs.List.{items_where_true};
+
+use crate::bitmap::filter_slice_by_bitmap;
+use crate::choice::{useful_indices, useful_slices};
+use crate::lists::{filter_slice_by_indices, filter_slice_by_slices};
+use std::alloc::Global;
+use vx_bits::NoMemory;
+use vx_mask::{MaskValues, Policy};
+
+/// The items of `src` at the set positions of `mask`, in order: Vortex's `filter_slice_by_mask`.
+/// `NoMemory` alone.
+///
+/// By runs that the mask keeps where they are one or long enough, else by indices that it keeps
+/// where they are few enough, else by its words. The items do not depend on the policy.
+pub fn filter_slice<T: Copy>(
+    alloc: Global,
+    src: &[T],
+    mask: &MaskValues,
+    policy: &Policy,
+) -> Result<Vec<T>, NoMemory>
+    requires { length mask.now.bits.bits ≡ length src.now }
+    ensures { IfOk result (λ kept. kept.items ≡ items_where_true mask.now.bits.bits src.now) }
+{
+    let fields = policy.fields();
+    if let Some(slices) = useful_slices(mask, fields) {
+        return filter_slice_by_slices(alloc, src, slices);
+    }
+    if let Some(indices) = useful_indices(mask, fields) {
+        return filter_slice_by_indices(alloc, src, indices);
+    }
+    filter_slice_by_bitmap(alloc, src, mask)
+}
