@@ -93,7 +93,7 @@ module _ {X : Type 0} where
   drop_written [] new p at n h b e = absurd (omega arith)
   drop_written (y ∷ ys) new p at n h b e = ap (drop n) (e y) ∙ drop-set-lt n (y ∷ ys) at (get_or (y ∷ ys) p y) b
 
-  get_or-default : (xs : List X) (k : ℕ) (d x : X) → k < length xs → get_or xs k d ≡ get_or xs k x
+  pub get_or-default : (xs : List X) (k : ℕ) (d x : X) → k < length xs → get_or xs k d ≡ get_or xs k x
   get_or-default [] k d x h = absurd (omega arith)
   get_or-default (y ∷ ys) zero d x h = refl
   get_or-default (y ∷ ys) (suc k) d x h = get_or-default ys k d x (omega arith)

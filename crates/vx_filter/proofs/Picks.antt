@@ -59,7 +59,7 @@ module _ {X : Type 0} where
 pub set_ascends : (bits : List Bool) (n : ℕ) → length bits ≡ n → ascending 0 n (set_of bits) ≡ true
 set_ascends bits n h = ascending-positions 0 n bits (omega arith)
 
-ascending_below : (low n : ℕ) (ps : List ℕ) → ascending low n ps ≡ true → All (λ p. p < n) ps
+pub ascending_below : (low n : ℕ) (ps : List ℕ) → ascending low n ps ≡ true → All (λ p. p < n) ps
 ascending_below low n [] h = All-nil (λ p. p < n)
 ascending_below low n (p ∷ ps) h =
     let parts = index_parts low n p ps h in
