@@ -2,7 +2,7 @@
 use Rattle.std.proofs.Common.{◌≡◌, ℕ, zero, suc, ◌+◌, ◌-◌, ◌*◌, ◌^◌, ◌<◌, ◌≤◌, Bool, true, false, cond, List, [], ◌∷◌, ◌++◌, length, get_or, take, drop, set, map, bit_and, Option, Some, inl, inr, refl, sym, ap, ap₂, subst, ◌∙◌, arith, append_assoc, append-nil}
 use Rattle.std.specs.Int.{w64}
 use Rattle.std.specs.Int.RustNames.{count_ones}
-use Rattle.std.specs.List.{All, items_where_true, slice_get}
+use Rattle.std.specs.List.{All, items_where_true, range_with_len, slice_get}
 use Rattle.std.proofs.lemmas.List.{drop-set-lt, drop_more, flat_map_more, get_or-append-add, get_or_append_left, length-append, length-drop, length-take-le, map-append, take-append-drop, take_all, take_more, take_more_set}
 use Rattle.std.proofs.lemmas.Grind.{flat_map-append}
 use Rattle.std.proofs.lemmas.Bool.{cases_lt}
@@ -19,10 +19,11 @@ use Rattle.vx_bits.specs.Words.{word_bits}
 use Rattle.vx_bits.proofs.WordBits.{length-word_bits, true_count_of-word_bits}
 use Rattle.vx_mask.specs.Positions.{AllBits, positions, set_of}
 use Rattle.vx_mask.proofs.PositionLists.{positions-append}
-use Rattle.vx_filter.specs.Compact.{bits_of_words}
+use Rattle.vx_filter.specs.Compact.{IsLowestRun, bits_of_words}
 use Rattle.vx_mask.proofs.LowestBit.{lowest_position, no_positions}
 use Rattle.vx_mask.proofs.RunLists.{set_of_passed}
 use Rattle.vx_filter.proofs.Picks.{picked_at_the_set}
+use Rattle.vx_filter.proofs.Bytes.{All-right}
 use Rattle.vx_filter.proofs.Moves.{cut_picked, full_word_places, get_or-default, same_further}
 
 pub length-bits_of_words : (words : List ℕ) → length (bits_of_words words) ≡ 64 * length words
@@ -182,3 +183,36 @@ module _ {X : Type 0} where
       picked_front (suc n) (b ∷ bits) [] h = refl
       picked_front (suc n) (true ∷ bits) (x ∷ xs) h = ap (λ l. x ∷ l) (picked_front n bits xs (omega arith))
       picked_front (suc n) (false ∷ bits) (x ∷ xs) h = picked_front n bits xs (omega arith)
+
+module _ {X : Type 0} where
+  -- ---- runs
+
+  -- the lowest run of a word lies within the items
+  pub run_within : (all : List (Option X)) (src old dst : List X) (kept base left low count rest : ℕ) → IsLowestRun left low count rest → IsCopying all src old dst kept (positions base (word_bits left 64)) → base + low + count ≤ length src
+  run_within all src old dst kept base left low count rest run h =
+      let places = run.places base in
+      let range = range_with_len (base + low) count in
+      let long = length-range_with_len (base + low) count in
+      let some = run.some in
+      let k = count - 1 in
+      let last = h.within k 0 (omega (arith, ap length places, length-append range (positions base (word_bits rest 64)), long, some)) in
+      let is = ap (λ l. get_or l k 0) places ∙ get_or_append_left range (positions base (word_bits rest 64)) 0 k (omega (arith, long, some)) ∙ get_or-range_with_len (base + low) count k 0 (omega (arith, some)) in
+      omega (arith, last, is, some)
+
+  -- the lowest run of a word was copied
+  pub run_copied : (all : List (Option X)) (src old dst new : List X) (kept base left low count rest : ℕ) → IsLowestRun left low count rest → take (kept + count) new ≡ take kept dst ++ take count (drop (base + low) src) → drop (kept + count) new ≡ drop (kept + count) dst → IsCopying all src old dst kept (positions base (word_bits left 64)) → IsCopying all src old new (kept + count) (positions base (word_bits rest 64))
+  run_copied all src old dst new kept base left low count rest run front after h =
+      let within = run_within all src old dst kept base left low count rest run h in
+      let range = range_with_len (base + low) count in
+      let places = positions base (word_bits rest 64) in
+      let m = copying_as all src old dst kept _ (range ++ places) (run.places base) h in
+      record {
+        whole =
+          ap (λ l. map Some l ++ map (slice_get src) places) front
+          ∙ ap (λ l. l ++ map (slice_get src) places) (map-append Some (take kept dst) (take count (drop (base + low) src)) ∙ ap (λ l. map Some (take kept dst) ++ l) (cut_picked src (base + low) count within))
+          ∙ append_assoc (map Some (take kept dst)) (map (slice_get src) range) (map (slice_get src) places)
+          ∙ ap (λ l. map Some (take kept dst) ++ l) (sym (map-append (slice_get src) range places))
+          ∙ m.whole;
+        within = All-right (λ p. p < length src) range places m.within;
+        after = after ∙ same_further old dst kept (kept + count) (omega arith) h.after;
+      }

@@ -1,5 +1,6 @@
 pub mod Bytes
 pub mod Copies
+pub mod LowestRuns
 pub mod Moves
 pub mod Picks
 pub mod WordItems

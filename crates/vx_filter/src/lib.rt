@@ -11,7 +11,7 @@ mod laws;
 mod lists;
 
 pub use bitmap::filter_slice_by_bitmap;
-pub use compact::compact_words;
+pub use compact::{compact_runs, compact_words};
 pub use compress::{CompressTable, byte_compress};
 pub use in_place::{filter_slice_in_place, filter_vec};
 pub use ladder::filter_slice;
