@@ -1,2 +1,6 @@
-pub mod KeptLists
+pub mod Bytes
+pub mod Copies
+pub mod LowestRuns
+pub mod Moves
+pub mod Picks
 pub mod WordItems

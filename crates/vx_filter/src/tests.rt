@@ -1,22 +1,24 @@
 use crate::bitmap::filter_slice_by_bitmap;
+use crate::compact::{compact_runs, compact_words};
+use crate::compress::{CompressTable, byte_compress};
+use crate::in_place::{filter_slice_in_place, filter_vec};
+use crate::ladder::filter_slice;
 use crate::laws::filter_law;
-use crate::slices::filter_slice;
+use crate::lists::{filter_slice_by_indices, filter_slice_by_slices};
+use std::alloc::Global;
 use std::test::Fail;
 use vx_bits::BitBuffer;
 use vx_mask::{Mask, Policy};
 
-#[test]
-fn keeps_the_items_at_the_set_positions(rt: HostRuntime) -> Result<(), Fail> {
-    let bits = [true, false, true, true, false];
-    let mask = Mask::from_buffer(BitBuffer::from_bools(rt.alloc(), &bits)?);
-    let mask = mask.values().ok_or("not partial")?;
-    assert_eq!(rt; mask.len(), 5);
-    let src = [10u8, 20, 30, 40, 50];
-    let kept = filter_slice(rt.alloc(), &src, mask, &Policy::vortex())?;
-    assert_eq!(rt; kept.as_slice(), [10, 30, 40].as_slice());
-    let src = [[1u8, 1], [2, 2], [3, 3], [4, 4], [5, 5]];
-    let kept = filter_slice_by_bitmap(rt.alloc(), &src, mask)?;
-    assert_eq!(rt; kept.as_slice(), [[1, 1], [3, 3], [4, 4]].as_slice());
-    filter_law::<u8>();
-    Ok(())
+// Records of `W` bytes, the first byte of each its number.
+fn records<const W: usize>(alloc: Global, count: u8) -> Result<Vec<[u8; W]>, Fail> {
+    let mut records = Vec::new(alloc);
+    for i in 0..count {
+        let mut record = [0; W];
+        if W > 0 {
+            record[0] = i;
+        }
+        records.push(record)?;
+    }
+    Ok(records)
 }

@@ -1,0 +1,160 @@
+//! Copying the selected items to the front of another list.
+ghost use Rattle.std.specs.Prelude.{◌≡◌, ◌+◌, ◌*◌, ◌^◌, ◌<◌, ◌≤◌, ◌++◌, Some, true, false, length, take, drop, map, slice_get, slice_index_or, slice_set};
+ghost use Rattle.std.specs.List.{All, items_where_true};
+ghost use Rattle.std.specs.Int.RustNames.{count_ones};
+ghost use Rattle.vx_bits.specs.BitBuffer.{true_count_of};
+ghost use Rattle.vx_bits.specs.Words.{word_bits, word_count};
+ghost use Rattle.vx_filter.specs.Compact.{IsLowestRun, bits_of_words};
+ghost use Rattle.vx_mask.specs.Positions.{AllBits, positions};
+
+/// Copies the items of `src` where the bits of the words are set to the front of `dst`, in order,
+/// and answers their number. The rest of `dst` stays. It takes no memory.
+///
+/// The items of a full word are copied whole, those of any other word one after another.
+pub fn compact_words<T: Copy>(src: &[T], words: &[u64], dst: &mut [T]) -> usize
+    requires words { length words.now ≡ word_count (length src.now) }
+    requires clear { AllBits (bits_of_words words.now) (length src.now) (64 * length words.now)
+        false }
+    requires room { true_count_of (bits_of_words words.now) ≤ length dst.old }
+    ensures count { result ≡ true_count_of (bits_of_words words.now) }
+    ensures front { take result dst.new
+        ≡ items_where_true (bits_of_words words.now) src.now }
+    ensures rest { drop result dst.new ≡ drop result dst.old }
+{
+    let mut kept = 0;
+    for (w, word) in words.iter().enumerate() {
+        kept = copy_picked(dst, kept, src, 64 * w, *word);
+    }
+    kept
+}
+
+/// The same, run after run: the carry of a sum clears the lowest run of a word.
+pub fn compact_runs<T: Copy>(src: &[T], words: &[u64], dst: &mut [T]) -> usize
+    requires words { length words.now ≡ word_count (length src.now) }
+    requires clear { AllBits (bits_of_words words.now) (length src.now) (64 * length words.now)
+        false }
+    requires room { true_count_of (bits_of_words words.now) ≤ length dst.old }
+    ensures count { result ≡ true_count_of (bits_of_words words.now) }
+    ensures front { take result dst.new
+        ≡ items_where_true (bits_of_words words.now) src.now }
+    ensures rest { drop result dst.new ≡ drop result dst.old }
+{
+    let mut kept = 0;
+    for (w, word) in words.iter().enumerate() {
+        kept = copy_runs(dst, kept, src, 64 * w, *word);
+    }
+    kept
+}
+
+// Copies the items that a word picks behind those that are kept, and answers how many are kept
+// then. The word's first bit has position `base`.
+#[inline(always)]
+fn copy_picked<T: Copy>(dst: &mut [T], kept: usize, src: &[T], base: usize, word: u64) -> usize
+    requires within { All (λ p. p < length src.now) (positions base (word_bits word 64)) }
+    requires room { kept + count_ones word ≤ length dst.old }
+    ensures count { result ≡ kept + count_ones word }
+    ensures front { map Some (take result dst.new) ≡ map Some (take kept dst.old)
+        ++ map (slice_get src.now) (positions base (word_bits word 64)) }
+    ensures rest { drop result dst.new ≡ drop result dst.old }
+{
+    if word == u64::MAX {
+        dst[kept..kept + 64].copy_from_slice(&src[base..base + 64]);
+        kept + 64
+    } else if word != 0 {
+        copy_word(dst, kept, src, base, word)
+    } else {
+        kept
+    }
+}
+
+// The same, one item after another, the lowest set bit first.
+#[inline(always)]
+fn copy_word<T: Copy>(dst: &mut [T], kept: usize, src: &[T], base: usize, word: u64) -> usize
+    requires within { All (λ p. p < length src.now) (positions base (word_bits word 64)) }
+    requires room { kept + count_ones word ≤ length dst.old }
+    ensures count { result ≡ kept + count_ones word }
+    ensures front { map Some (take result dst.new) ≡ map Some (take kept dst.old)
+        ++ map (slice_get src.now) (positions base (word_bits word 64)) }
+    ensures rest { drop result dst.new ≡ drop result dst.old }
+{
+    let mut next = kept;
+    let mut left = word;
+    for k in 0..word.count_ones() {
+        let _ = k;
+        copy_one(dst, next, src, base + left.trailing_zeros() as usize);
+        next += 1;
+        left &= left - 1;
+    }
+    next
+}
+
+// Copies the item at `from` to `to`.
+#[inline(always)]
+fn copy_one<T: Copy>(dst: &mut [T], to: usize, src: &[T], from: usize)
+    requires from { from < length src.now }
+    requires to { to < length dst.old }
+    ensures { (d : T) → dst.new ≡ slice_set dst.old to (slice_index_or src.now from d) }
+{
+    dst[to] = src[from];
+}
+
+// Copies the items that a word picks behind those that are kept, run after run, and answers how
+// many are kept then. The word's first bit has position `base`.
+#[inline(always)]
+fn copy_runs<T: Copy>(dst: &mut [T], kept: usize, src: &[T], base: usize, word: u64) -> usize
+    requires within { All (λ p. p < length src.now) (positions base (word_bits word 64)) }
+    requires room { kept + count_ones word ≤ length dst.old }
+    ensures count { result ≡ kept + count_ones word }
+    ensures front { map Some (take result dst.new) ≡ map Some (take kept dst.old)
+        ++ map (slice_get src.now) (positions base (word_bits word 64)) }
+    ensures rest { drop result dst.new ≡ drop result dst.old }
+{
+    let mut next = kept;
+    let mut left = word;
+    'run: while left != 0 {
+        let run = lowest_run(left);
+        copy_run(dst, next, src, base + run.low, run.count);
+        next += run.count;
+        left = run.rest;
+    }
+    next
+}
+
+// The lowest run of set bits of a word, and the word without it.
+#[derive(Clone, Copy)]
+struct LowestRun {
+    low: usize,
+    count: usize,
+    rest: u64,
+}
+
+// The lowest run of a word that is not 0.
+//
+// The run's lowest bit is added to the word, so that the carry clears the run, and only bits that
+// the word had are kept. The sum wraps where the run ends at bit 63.
+#[inline(always)]
+fn lowest_run(word: u64) -> LowestRun
+    requires { 0 < word }
+    ensures { IsLowestRun word result.low result.count result.rest }
+{
+    let low = word.trailing_zeros();
+    let count = (word >> low).trailing_ones();
+    let rest = word & word.wrapping_add(1 << low);
+    LowestRun {
+        low: low as usize,
+        count: count as usize,
+        rest,
+    }
+}
+
+// Copies `count` items from `from` on to `to` on.
+#[inline(always)]
+fn copy_run<T: Copy>(dst: &mut [T], to: usize, src: &[T], from: usize, count: usize)
+    requires from { from + count ≤ length src.now }
+    requires to { to + count ≤ length dst.old }
+    ensures front { take (to + count) dst.new
+        ≡ take to dst.old ++ take count (drop from src.now) }
+    ensures rest { drop (to + count) dst.new ≡ drop (to + count) dst.old }
+{
+    dst[to..to + count].copy_from_slice(&src[from..from + count]);
+}
