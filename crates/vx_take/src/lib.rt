@@ -1,8 +1,10 @@
 //! Lists of optional positions, and what stands there.
 #![tactic(auto)]
 
+mod bits;
 mod slices;
 mod picks;
 
+pub use bits::{gather_bits, valid_bits};
 pub use slices::{gather, gather_runs};
 pub use picks::Picks;
