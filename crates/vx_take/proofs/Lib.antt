@@ -1,2 +1,3 @@
 pub mod PackedBits
 pub mod PickLists
+pub mod RankedPicks

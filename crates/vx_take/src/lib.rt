@@ -2,9 +2,11 @@
 #![tactic(auto)]
 
 mod bits;
+mod ranks;
 mod slices;
 mod picks;
 
 pub use bits::{gather_bits, valid_bits};
+pub use ranks::translate_ranks;
 pub use slices::{gather, gather_runs};
 pub use picks::Picks;
