@@ -1,3 +1,4 @@
+pub mod NeededBits
 pub mod PackedBits
 pub mod PickLists
 pub mod RankedPicks
