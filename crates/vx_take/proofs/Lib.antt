@@ -2,3 +2,4 @@ pub mod NeededBits
 pub mod PackedBits
 pub mod PickLists
 pub mod RankedPicks
+pub mod TakenLists
