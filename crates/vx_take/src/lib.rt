@@ -14,3 +14,6 @@ pub use slices::{gather, gather_runs};
 pub use laws::{filter_take_law, needed_law, takes_law, translated_law};
 pub use needs::{needed, ranks_in};
 pub use picks::Picks;
+
+#[cfg(test)]
+mod tests;
