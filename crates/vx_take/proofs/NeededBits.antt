@@ -1,5 +1,5 @@
 -- Lemmas on bits that are turned on at places, and on picks among the set positions.
-use Rattle.std.proofs.Common.{◌≡◌, ◌≢◌, ℕ, zero, suc, ◌+◌, ◌<◌, ◌≤◌, ◌-◌, ◌^◌, Bool, true, false, cond, List, [], ◌∷◌, length, get_or, map, take, None, Some, refl, sym, ap, ap₂, subst, ◌∙◌, arith}
+use Rattle.std.proofs.Common.{◌≡◌, ℕ, zero, suc, ◌<◌, ◌≤◌, Bool, true, false, cond, List, [], ◌∷◌, length, get_or, map, take, None, Some, refl, sym, ap, ap₂, subst, ◌∙◌, arith}
 use Rattle.std.specs.Prelude.{IfSome, Option, ◌==◌}
 use Rattle.std.specs.List.{slice_get}
 use Rattle.std.specs.Option.{option_map}
@@ -103,9 +103,9 @@ module _ (bits : List Bool) (fits : length bits ≤ null_place) where
   pub ranked_places : (picks : List (Option ℕ)) → AreSet bits picks → ArePlaces (map (place_before bits) picks) (true_count_of bits)
   ranked_places picks set = record {
     each = λ k h.
-      let inside : k < length picks = omega (arith, h, length-map picks (place_before bits)) in
-      let P : ℕ → Type 0 = λ n. IsPlace n (true_count_of bits) in
-      subst P (sym (get_or-map (place_before bits) picks k None 0 inside)) (is_ranked bits (get_or picks k None) fits (set k None inside)).below
+        let inside : k < length picks = omega (arith, h, length-map picks (place_before bits)) in
+        let P : ℕ → Type 0 = λ n. IsPlace n (true_count_of bits) in
+        subst P (sym (get_or-map (place_before bits) picks k None 0 inside)) (is_ranked bits (get_or picks k None) fits (set k None inside)).below;
   }
 
   pub ranked_back : (picks : List (Option ℕ)) → AreSet bits picks → translated bits (ranked bits picks) ≡ picks

@@ -1,5 +1,5 @@
 -- Lemmas for bits that are made of places, a word at a time.
-use Rattle.std.proofs.Common.{◌≡◌, ℕ, ◌+◌, ◌-◌, ◌*◌, ◌^◌, ◌<◌, ◌≤◌, min, Bool, true, false, cond, List, [], ◌∷◌, ◌++◌, length, get_or, map, take, drop, replicate, refl, sym, ap, ap₂, subst, ◌∙◌, arith}
+use Rattle.std.proofs.Common.{◌≡◌, ℕ, ◌+◌, ◌-◌, ◌*◌, ◌^◌, ◌<◌, ◌≤◌, min, Bool, true, false, cond, List, ◌++◌, length, get_or, map, take, drop, sym, ap, ap₂, subst, ◌∙◌, arith}
 use Rattle.std.proofs.lemmas.List.{append-nil, drop-take, length-drop, length-map, length-take-le, map-append, map_more, take-append-drop, take-take, take_all, take_min}
 use Rattle.vx_bits.specs.BitBuffer.{number_of}
 use Rattle.vx_bits.specs.Words.{word_bits}
@@ -27,7 +27,7 @@ module _ (f : ℕ → Bool) where
       let b = f (get_or places k 0) in
       let more = ap number_of (map_more f places k 0 h) ∙ number_push bits b in
       let value : cond b 1 0 * 2 ^ length bits ≡ cond bit (2 ^ k) 0 =
-          ap (λ n. cond b 1 0 * 2 ^ n) (bits_long places k (omega arith)) ∙ one_times b (2 ^ k) ∙ ap (λ v. cond v (2 ^ k) 0) (sym own) in
+      ap (λ n. cond b 1 0 * 2 ^ n) (bits_long places k (omega arith)) ∙ one_times b (2 ^ k) ∙ ap (λ v. cond v (2 ^ k) 0) (sym own) in
       put ∙ ap₂ ◌+◌ e (sym value) ∙ sym more
 
   -- the word of all of them

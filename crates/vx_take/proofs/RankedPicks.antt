@@ -1,6 +1,6 @@
 -- Lemmas on ranks, and on the places of the set positions that they name.
-use Rattle.std.proofs.Common.{◌≡◌, ◌≢◌, ℕ, zero, suc, ◌+◌, ◌<◌, ◌≤◌, ◌-◌, ◌^◌, Bool, true, false, cond, List, [], ◌∷◌, length, get_or, map, None, Some, refl, sym, ap, ap₂, subst, ◌∙◌, arith}
-use Rattle.std.specs.Prelude.{IfSome, Option, ◌==◌}
+use Rattle.std.proofs.Common.{◌≡◌, ℕ, zero, suc, ◌+◌, ◌<◌, ◌≤◌, Bool, cond, List, [], ◌∷◌, length, get_or, None, Some, refl, sym, ap, ap₂, subst, ◌∙◌, arith}
+use Rattle.std.specs.Prelude.{IfSome, Option}
 use Rattle.std.specs.List.{range_with_len}
 use Rattle.std.specs.Option.{option_map}
 use Rattle.std.proofs.lemmas.Bool.{ne_eqb}
@@ -55,7 +55,7 @@ set_picks bits bound (rank ∷ ranks) few fits h =
 pub set_places : (bits : List Bool) (bound : ℕ) (ranks : List (Option ℕ)) → bound ≤ true_count_of bits → length bits ≤ null_place → AreBelow ranks bound → ArePlaces (at null_place (set_of bits) ranks) (length bits)
 set_places bits bound ranks few fits h = record {
   each = λ k p.
-    let within : k < length ranks = omega (arith, p, length-map ranks (item_at null_place (set_of bits))) in
-    let P : ℕ → Type 0 = λ n. IsPlace n (length bits) in
-    subst P (sym (get_or-map (item_at null_place (set_of bits)) ranks k None 0 within)) (set_place bits bound (get_or ranks k None) few fits (h k None within)).below
+      let within : k < length ranks = omega (arith, p, length-map ranks (item_at null_place (set_of bits))) in
+      let P : ℕ → Type 0 = λ n. IsPlace n (length bits) in
+      subst P (sym (get_or-map (item_at null_place (set_of bits)) ranks k None 0 within)) (set_place bits bound (get_or ranks k None) few fits (h k None within)).below;
 }

@@ -1,6 +1,6 @@
 -- Lemmas on lists at picks, at set positions and at ranks.
-use Rattle.std.proofs.Common.{◌≡◌, ℕ, zero, suc, ◌+◌, ◌<◌, ◌≤◌, Bool, true, false, List, [], ◌∷◌, length, get_or, map, take, None, Some, inl, inr, refl, sym, ap, ap₂, ◌∙◌, arith}
-use Rattle.std.specs.Prelude.{IfSome, Option, unwrap_or, Contains}
+use Rattle.std.proofs.Common.{◌≡◌, ℕ, zero, suc, ◌+◌, ◌<◌, Bool, true, false, List, [], ◌∷◌, length, get_or, map, take, None, Some, inl, inr, refl, sym, ap, ap₂, ◌∙◌, arith}
+use Rattle.std.specs.Prelude.{IfSome, Option, unwrap_or}
 use Rattle.std.specs.List.{items_where_true, slice_get}
 use Rattle.std.specs.Option.{option_map}
 use Rattle.std.proofs.lemmas.Bool.{cases_lt}
@@ -11,9 +11,9 @@ use Rattle.vx_bits.specs.BitBuffer.{true_count_of}
 use Rattle.vx_mask.specs.Positions.{rank_of, set_of}
 use Rattle.vx_mask.proofs.PositionLists.{get_or_of_slice_get, length-positions, position_at, ranks_ascend, true_count_before_set, true_count_of-cons}
 use Rattle.vx_mask.proofs.RankedItems.{items_at_the_set}
-use Rattle.vx_take.specs.Laws.{EachIsOneRank, IsLookedUp, IsOneRank, IsTakeAtTheSet, IsTakeOfFilter, SetAscends, TakesJoin}
+use Rattle.vx_take.specs.Laws.{EachIsOneRank, SetAscends}
 use Rattle.vx_take.specs.Picks.{AreBelow, at, item_at}
-use Rattle.vx_take.specs.Ranks.{AreJustSet, AreSet, ranked, translated}
+use Rattle.vx_take.specs.Ranks.{AreSet, ranked, translated}
 
 pub set_ascends : (bits : List Bool) → SetAscends bits
 set_ascends bits k d h =

@@ -1,5 +1,5 @@
 -- Lists of optional positions, and lists at them.
-use Rattle.std.specs.Prelude.{◌≡◌, ◌≢◌, ℕ, ◌-◌, ◌^◌, ◌<◌, ◌==◌, List, length, map, take, drop, Option, None, Some, IfSome, slice_index, slice_index_or, if◌then◌else◌}
+use Rattle.std.specs.Prelude.{◌≢◌, ℕ, ◌-◌, ◌^◌, ◌<◌, ◌==◌, List, length, map, take, drop, Option, None, Some, IfSome, slice_index, slice_index_or, if◌then◌else◌}
 use Rattle.std.specs.List.{All, flat_map}
 
 -- what a clause sees of a `Picks`: its picks, and what each position is below

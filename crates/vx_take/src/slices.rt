@@ -8,12 +8,7 @@ use std::alloc::Global;
 use vx_bits::NoMemory;
 
 /// The items of `src` at the picks, in order, and `fill` at each null. `NoMemory` alone.
-pub fn gather<T: Copy>(
-    alloc: Global,
-    src: &[T],
-    picks: &Picks,
-    fill: T,
-) -> Result<Vec<T>, NoMemory>
+pub fn gather<T: Copy>(alloc: Global, src: &[T], picks: &Picks, fill: T) -> Result<Vec<T>, NoMemory>
     requires { picks.now.bound ≤ length src.now }
     ensures { IfOk result (λ items. items.items ≡ at fill src.now picks.now.picks) }
 {
@@ -31,7 +26,11 @@ fn item_or<T: Copy>(src: &[T], place: usize, fill: T) -> T
     requires { IsPlace place (length src.now) }
     ensures { result ≡ item_at fill src.now (pick_of place) }
 {
-    if place == NULL_PLACE { fill } else { src[place] }
+    if place == NULL_PLACE {
+        fill
+    } else {
+        src[place]
+    }
 }
 
 /// The items of `src` in the runs, each its start and its length, one run after another.

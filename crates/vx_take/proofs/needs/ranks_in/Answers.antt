@@ -1,5 +1,4 @@
-use Rattle.std.proofs.Common.{◌≡◌, ◌≤◌, ℕ, Bool, List, length, map, ap, sym, subst, ◌∙◌, arith}
-use Rattle.vx_bits.specs.BitBuffer.{true_count_of}
+use Rattle.std.proofs.Common.{◌≤◌, ℕ, Bool, List, length, map, ap, sym, subst, ◌∙◌, arith}
 use Rattle.vx_mask.specs.Mask.{mask_bits}
 use Rattle.vx_take.specs.Picks.{ArePlaces, BoundedPicks, null_place, picks_of}
 use Rattle.vx_take.specs.Ranks.{AreSet, place_before, translated}

@@ -1,8 +1,6 @@
 use Rattle.std.proofs.Common.{◌≡◌, ◌-◌, length, take}
 use Rattle.std.specs.List.{range_with_len}
 use Rattle.std.specs.Vec.{vec_capacity}
-use Rattle.vx_mask.specs.Mask.{mask_bits}
-use Rattle.vx_mask.specs.Positions.{set_of}
 use Rattle.vx_take.specs.Picks.{at, null_place, picks_of}
 use Rattle.vx_take.proofs.ranks.in_one_run.Given as goal
 

@@ -1,4 +1,4 @@
-use Rattle.std.proofs.Common.{◌≡◌, ap, sym, subst, List}
+use Rattle.std.proofs.Common.{◌≡◌, ap, subst, List}
 use Rattle.std.specs.Prelude.{ℕ, Option}
 use Rattle.vx_take.specs.Picks.{AreBelow, BoundedPicks, picks_of}
 use Rattle.vx_take.proofs.PickLists.{places_below}
