@@ -93,8 +93,22 @@ fn behind(run: (usize, usize), rank: usize) -> usize
     }
 }
 
-// The places of ranks, each looked up by itself.
+// The places of ranks, each looked up by itself: by the list of set positions where the mask keeps
+// one, else by block counts, so that no look-up walks all words.
 fn one_by_one(alloc: Global, filter: &Mask, ranks: &Picks) -> Result<Vec<usize>, NoMemory>
+    requires { ranks.now.bound ≤ true_count_of (mask_bits filter.now) }
+    ensures { IfOk result (λ places. places.items
+        ≡ at null_place (set_of (mask_bits filter.now)) ranks.now.picks) }
+{
+    if filter.cached_indices().is_some() {
+        return by_rank(alloc, filter, ranks);
+    }
+    let counted = filter.with_blocks(alloc)?;
+    by_rank(alloc, &counted, ranks)
+}
+
+// The same by what the mask keeps.
+fn by_rank(alloc: Global, filter: &Mask, ranks: &Picks) -> Result<Vec<usize>, NoMemory>
     requires { ranks.now.bound ≤ true_count_of (mask_bits filter.now) }
     ensures { IfOk result (λ places. places.items
         ≡ at null_place (set_of (mask_bits filter.now)) ranks.now.picks) }
@@ -129,6 +143,6 @@ fn by_list(alloc: Global, filter: &Mask, ranks: &Picks) -> Result<Vec<usize>, No
     let listed = filter.with_indices(alloc)?;
     match listed.cached_indices() {
         Some(indices) => gather(alloc, indices, ranks, NULL_PLACE),
-        None => one_by_one(alloc, filter, ranks),
+        None => by_rank(alloc, filter, ranks),
     }
 }

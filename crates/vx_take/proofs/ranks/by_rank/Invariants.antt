@@ -3,7 +3,7 @@ use Rattle.std.specs.Vec.{vec_capacity}
 use Rattle.vx_mask.specs.Mask.{mask_bits}
 use Rattle.vx_mask.specs.Positions.{set_of}
 use Rattle.vx_take.specs.Picks.{at, null_place, picks_of}
-use Rattle.vx_take.proofs.ranks.one_by_one.Given as goal
+use Rattle.vx_take.proofs.ranks.by_rank.Given as goal
 
 abbrev pub invariant-loop-rank : goal.invariant-loop-rank
 invariant-loop-rank l = record {
