@@ -1,0 +1,19 @@
+//! Lists of optional positions, and what stands there.
+#![tactic(auto)]
+
+mod bits;
+mod laws;
+mod needs;
+mod picks;
+mod ranks;
+mod slices;
+
+pub use bits::{gather_bits, valid_bits};
+pub use laws::{filter_take_law, needed_law, takes_law, translated_law};
+pub use needs::{needed, ranks_in};
+pub use picks::Picks;
+pub use ranks::translate_ranks;
+pub use slices::{gather, gather_runs};
+
+#[cfg(test)]
+mod tests;

@@ -1,0 +1,82 @@
+//! Which positions picks need, and the picks among just these.
+ghost use Rattle.std.specs.Prelude.{◌≡◌, ◌<◌, ◌≤◌, IfOk, IfSome, length, slice_set, true, if◌then◌else◌, ◌==◌, map};
+ghost use Rattle.vx_bits.specs.BitBuffer.{true_count_of};
+ghost use Rattle.vx_mask.specs.Mask.{mask_bits};
+ghost use Rattle.vx_take.specs.Picks.{AreBelow, IsPlace, null_place, pick_of};
+ghost use Rattle.vx_take.specs.Ranks.{AreJustSet, AreSet, place_before, ranked, translated};
+
+use crate::picks::{NULL_PLACE, Picks};
+use std::alloc::Global;
+use vx_bits::{BitBuilder, NoMemory};
+use vx_mask::Mask;
+
+/// The mask of the bound's length whose set positions are just the non-null picks. `NoMemory`
+/// alone.
+pub fn needed(alloc: Global, picks: &Picks) -> Result<Mask, NoMemory>
+    ensures set { IfOk result (λ m. AreJustSet (mask_bits m) picks.now.picks) }
+    ensures each { IfOk result (λ m. AreSet (mask_bits m) picks.now.picks) }
+    ensures len { IfOk result (λ m. length (mask_bits m) ≡ picks.now.bound) }
+{
+    let len = picks.bound();
+    let mut bits = BitBuilder::with_capacity(alloc, len)?;
+    bits.append_n(false, len)?;
+    for place in picks.places() {
+        set_there(&mut bits, *place);
+    }
+    Ok(Mask::from_buffer(bits.finish()?))
+}
+
+// Turns the bit at a place on, if it stands for no null.
+#[inline(always)]
+fn set_there(bits: &mut BitBuilder, place: usize)
+    requires { IsPlace place (length bits.old) }
+    ensures { bits.new
+        ≡ (if place == null_place then bits.old else slice_set bits.old place true) }
+{
+    if place != NULL_PLACE {
+        bits.set(place);
+    }
+}
+
+/// For each pick its rank among the set positions of `mask`. Null stays null, and the bound is the
+/// number of set positions. `NoMemory` alone.
+pub fn ranks_in(alloc: Global, picks: &Picks, mask: &Mask) -> Result<Picks, NoMemory>
+    requires { AreSet (mask_bits mask.now) picks.now.picks }
+    ensures ranks { IfOk result (λ r. r.picks ≡ ranked (mask_bits mask.now) picks.now.picks) }
+    ensures inverse { IfOk result (λ r. translated (mask_bits mask.now) r.picks
+        ≡ picks.now.picks) }
+    ensures bound { IfOk result (λ r. r.bound ≡ true_count_of (mask_bits mask.now)) }
+{
+    // The number of rows fits a place.
+    let _ = mask.len();
+    let counted = mask.with_blocks(alloc)?;
+    let places = rank_places(alloc, picks, &counted)?;
+    Ok(Picks::from_places(places, mask.true_count()))
+}
+
+// The places of the ranks of picks.
+fn rank_places(alloc: Global, picks: &Picks, mask: &Mask) -> Result<Vec<usize>, NoMemory>
+    requires { AreSet (mask_bits mask.now) picks.now.picks }
+    ensures { IfOk result (λ places. places.items
+        ≡ map (place_before (mask_bits mask.now)) picks.now.picks) }
+{
+    let from = picks.places();
+    let mut places = Vec::with_capacity(alloc, from.len())?;
+    for place in from {
+        places.push_reserved(rank_at(mask, *place));
+    }
+    Ok(places)
+}
+
+// The rank of a place, by block counts where the mask keeps them.
+#[inline(always)]
+fn rank_at(mask: &Mask, place: usize) -> usize
+    requires { IfSome (pick_of place) (λ p. p < length (mask_bits mask.now)) }
+    ensures { result ≡ place_before (mask_bits mask.now) (pick_of place) }
+{
+    if place == NULL_PLACE {
+        NULL_PLACE
+    } else {
+        mask.true_before(place)
+    }
+}
