@@ -6,3 +6,4 @@ pub mod Cuts
 pub mod SetBits
 pub mod WordBits
 pub mod WordLists
+pub mod WordsJoined

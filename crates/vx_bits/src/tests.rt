@@ -60,6 +60,7 @@ fn bit_buffers_are_their_bits(rt: HostRuntime) -> Result<(), Fail> {
     }
     let bytes = [0xa6, 0x07, 0xff, 0x01, 0, 0, 0, 0, 0xf8, 0x0f];
     let bits = bits_of(rt.alloc(), &bytes, 3, 72)?.ok().ok_or("refused")?;
+    assert_eq!(rt; bits.len(), 72);
     assert_eq!(rt; (bits.word(0), bits.word(1)), (0x3f_e0f4, 0xff));
     assert_eq!(rt; (bits.true_count(), bits.count_range(4, 70)), (22, 19));
     assert_eq!(rt; (bits.first_set(), bits.last_set()), (Some(2), Some(71)));
