@@ -1,0 +1,3 @@
+pub mod PackedBits
+pub mod PackedLaws
+pub mod FilteredWords

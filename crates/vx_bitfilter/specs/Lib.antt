@@ -1,0 +1,2 @@
+pub mod Pext
+pub mod Words
