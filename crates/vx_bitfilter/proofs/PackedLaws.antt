@@ -1,5 +1,5 @@
 -- Bit k of what a word packs of another.
-use Rattle.std.proofs.Common.{◌≡◌, ℕ, zero, suc, ◌+◌, ◌^◌, ◌<◌, ◌≤◌, Bool, true, false, eqb, List, [], ◌∷◌, length, get_or, map, Option, None, Some, refl, sym, ap, ap₂, ◌∙◌, arith}
+use Rattle.std.proofs.Common.{◌≡◌, ℕ, zero, suc, ◌+◌, ◌^◌, ◌<◌, ◌≤◌, Bool, true, false, eqb, List, [], ◌∷◌, length, get_or, map, Option, None, Some, append-nil, refl, sym, ap, ap₂, ◌∙◌, arith}
 use Rattle.std.specs.Int.{bit_at}
 use Rattle.std.specs.Int.RustNames.{count_ones}
 use Rattle.std.specs.List.{items_where_true, slice_get}
@@ -9,7 +9,7 @@ use Rattle.std.proofs.lemmas.Nat.Bits.{bit_at-lt}
 use Rattle.vx_bits.specs.BitBuffer.{number_of}
 use Rattle.vx_bits.specs.Words.{word_bits}
 use Rattle.vx_bits.proofs.BitLists.{bit_of_number}
-use Rattle.vx_bits.proofs.WordBits.{get_or-word_bits, length-word_bits, true_count_of-word_bits}
+use Rattle.vx_bits.proofs.WordBits.{get_or-word_bits, length-word_bits, true_count_of-word_bits, word_bits-number_of}
 use Rattle.vx_mask.specs.Positions.{set_of, rank_of}
 use Rattle.vx_mask.proofs.PositionLists.{length-positions}
 use Rattle.vx_mask.proofs.RankedItems.{items_at_the_set}
@@ -79,3 +79,11 @@ unfolding pext
 zero_above src mask h k above =
     let bits = picked_bits src mask in
     clear_bit _ (bit_at-lt (number_of bits) k) (bit_of_number bits k ∙ get_or_past bits k (omega (arith, count_picked src mask h)))
+
+-- the bits of what is packed are those that the mask picks
+pub pext-word_bits : (src mask packed : ℕ) → mask < 2 ^ 64 → packed ≡ pext src mask → word_bits packed (count_ones mask) ≡ picked_bits src mask
+unfolding pext
+pext-word_bits src mask packed h e =
+    let bits = picked_bits src mask in
+    let long : count_ones mask ≡ length bits + 0 = omega (arith, count_picked src mask h) in
+    ap₂ word_bits e long ∙ word_bits-number_of bits 0 ∙ append-nil bits

@@ -3,8 +3,10 @@
 
 mod laws;
 mod pext;
+mod sparse;
 mod words;
 
 pub use laws::pext_law;
 pub use pext::pext_fallback;
-pub use words::filter_words;
+pub use sparse::filter_sparse;
+pub use words::{filter_bitbuffer_by_mask, filter_words};

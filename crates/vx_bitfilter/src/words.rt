@@ -10,7 +10,29 @@ ghost use Rattle.vx_mask.specs.Mask.{at_front};
 
 use crate::pext::pext_fallback;
 use std::alloc::Global;
-use vx_bits::{BitBuffer, BitBuilder, NoMemory, WordReader};
+use vx_bits::{BitBuffer, BitBuilder, NoMemory, PlainWords, WordReader};
+
+/// The source's bits at the mask's set positions, from offset 0 on, wherever the bits of each lie
+/// in their bytes: Vortex's `filter_bitbuffer_by_mask`. `NoMemory` alone.
+///
+/// `true_count` is the number of the mask's set bits.
+pub fn filter_bitbuffer_by_mask(
+    alloc: Global,
+    src: &BitBuffer,
+    mask_buf: &BitBuffer,
+    true_count: usize,
+) -> Result<BitBuffer, NoMemory>
+    requires same_len { length src.now.bits ≡ length mask_buf.now.bits }
+    requires counted { true_count ≡ true_count_of mask_buf.now.bits }
+    ensures { IfOk result (λ b. b
+        ≡ at_front (items_where_true mask_buf.now.bits src.now.bits)) }
+{
+    // The number of words is bounded by that of bits.
+    let _ = mask_buf.len();
+    let mut src = PlainWords::new(src.share());
+    let mut mask = PlainWords::new(mask_buf.share());
+    filter_words(alloc, &mut src, &mut mask, true_count)
+}
 
 /// The source's bits at the mask's set positions, from offset 0 on. `NoMemory` alone.
 ///
