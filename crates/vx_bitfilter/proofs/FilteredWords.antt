@@ -1,6 +1,6 @@
 -- A bit filter, word by word.
-use Rattle.std.proofs.Common.{◌≡◌, ℕ, zero, suc, ◌+◌, ◌-◌, ◌*◌, ◌<◌, ◌≤◌, min, Bool, true, false, cond, eqb, not, List, [], ◌∷◌, ◌++◌, length, take, drop, replicate, Option, None, Some, Result, Ok, Err, OnErr, eq-eqb, ne_eqb, refl, sym, ap, ap₂, ◌∙◌, arith, append_assoc, append-nil, zero-add}
-use Rattle.std.specs.List.{items_where_true, range_with_len, filter}
+use Rattle.std.proofs.Common.{◌≡◌, ℕ, ◌+◌, ◌-◌, ◌*◌, ◌≤◌, Bool, true, false, cond, eqb, not, List, [], ◌∷◌, ◌++◌, length, take, drop, replicate, Option, None, Some, Result, Ok, Err, OnErr, eq-eqb, ne_eqb, refl, sym, ap, ap₂, ◌∙◌, arith, append_assoc, append-nil}
+use Rattle.std.specs.List.{items_where_true, filter}
 use Rattle.std.proofs.lemmas.List.{map-id, take-append-drop}
 use Rattle.std.proofs.lemmas.List.FromFn.{map-range_with_len_more}
 use Rattle.std.proofs.lemmas.List.Elements.{filter-append}

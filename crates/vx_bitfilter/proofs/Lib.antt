@@ -2,3 +2,4 @@ pub mod PackedBits
 pub mod PackedLaws
 pub mod FilteredWords
 pub mod SparseBits
+pub mod PackedBytes

@@ -1,17 +1,15 @@
 -- The bits of a word that another word picks.
-use Rattle.std.proofs.Common.{◌≡◌, ℕ, zero, suc, ◌+◌, ◌-◌, ◌*◌, ◌/◌, ◌%◌, ◌^◌, ◌<◌, ◌≤◌, Bool, true, false, cond, eqb, List, [], ◌∷◌, ◌++◌, length, get_or, map, None, Some, bit_and, bit_or, inl, inr, refl, sym, ap, ap₂, ◌∙◌, arith, append_assoc, append-nil}
+use Rattle.std.proofs.Common.{◌≡◌, ℕ, zero, suc, ◌+◌, ◌-◌, ◌*◌, ◌/◌, ◌%◌, ◌^◌, ◌<◌, Bool, false, eqb, List, [], ◌∷◌, ◌++◌, bit_and, bit_or, refl, sym, ap, ◌∙◌, arith, append_assoc, append-nil}
 use Rattle.std.specs.Int.{bit_at, w64}
-use Rattle.std.specs.Int.RustNames.{count_ones}
 use Rattle.std.specs.List.{items_where_true}
-use Rattle.std.proofs.lemmas.Bool.{cases_eq}
-use Rattle.std.proofs.lemmas.Nat.{or_comm, or_shifted, shl_whole, zero_from_ones}
+use Rattle.std.proofs.lemmas.Nat.{or_comm, or_shifted, shl_whole}
 use Rattle.std.proofs.lemmas.Nat.Bits.{bit_at-lt, bit_at-trailing_zeros, shr_and_one}
 use Rattle.std.proofs.Math.Nat.{mod-eq_of_lt}
 use lib.Count.{count_trailing_zeros}
 use Rattle.vx_bits.specs.BitBuffer.{number_of}
 use Rattle.vx_bits.specs.Words.{word_bits}
 use Rattle.vx_bits.proofs.BuiltLists.{joined_below}
-use Rattle.vx_bits.proofs.WordBits.{get_or-word_bits, length-word_bits, number_of-word_bits, word_bits-append, word_bits-none}
+use Rattle.vx_bits.proofs.WordBits.{get_or-word_bits, length-word_bits, number_of-word_bits, word_bits-append}
 use Rattle.vx_bits.proofs.WordLists.{picked_lowest, picked_no_word}
 use Rattle.vx_bitfilter.specs.Pext.{pext}
 

@@ -1,16 +1,15 @@
 -- Bit k of what a word packs of another.
-use Rattle.std.proofs.Common.{◌≡◌, ℕ, zero, suc, ◌+◌, ◌^◌, ◌<◌, ◌≤◌, Bool, true, false, eqb, List, [], ◌∷◌, length, get_or, map, Option, None, Some, append-nil, refl, sym, ap, ap₂, ◌∙◌, arith}
-use Rattle.std.specs.Int.{bit_at}
+use Rattle.std.proofs.Common.{◌≡◌, ℕ, zero, suc, ◌+◌, ◌^◌, ◌<◌, ◌≤◌, Bool, false, eqb, List, [], ◌∷◌, length, get_or, map, None, Some, append-nil, refl, sym, ap, ap₂, ◌∙◌, arith}
 use Rattle.std.specs.Int.RustNames.{count_ones}
 use Rattle.std.specs.List.{items_where_true, slice_get}
 use Rattle.std.proofs.lemmas.List.{length-map}
-use Rattle.std.proofs.lemmas.Option.{get_or_from_slice_get, slice_get_within, unwrap_or-slice_get, slice_get-get_or}
+use Rattle.std.proofs.lemmas.Option.{get_or_from_slice_get, slice_get_within, slice_get-get_or}
 use Rattle.std.proofs.lemmas.Nat.Bits.{bit_at-lt}
 use Rattle.vx_bits.specs.BitBuffer.{number_of}
 use Rattle.vx_bits.specs.Words.{word_bits}
 use Rattle.vx_bits.proofs.BitLists.{bit_of_number}
 use Rattle.vx_bits.proofs.WordBits.{get_or-word_bits, length-word_bits, true_count_of-word_bits, word_bits-number_of}
-use Rattle.vx_mask.specs.Positions.{set_of, rank_of}
+use Rattle.vx_mask.specs.Positions.{set_of}
 use Rattle.vx_mask.proofs.PositionLists.{length-positions}
 use Rattle.vx_mask.proofs.RankedItems.{items_at_the_set}
 use Rattle.vx_bitfilter.specs.Pext.{pext, HasPackedBits, IsZeroAbove}
@@ -55,14 +54,14 @@ packed_bits src mask h k below =
     let count = count_picked src mask h in
     let places : length (set_of wm) ≡ count_ones mask = length-positions 0 wm ∙ true_count_of-word_bits mask 64 h in
     let here : slice_get bits k ≡ slice_get ws (get_or (set_of wm) k 0) =
-        sym (get_or-map-some bits k)
-        ∙ ap (λ l. get_or l k None) (items_at_the_set wm ws (length-word_bits mask 64 ∙ sym (length-word_bits src 64)))
-        ∙ get_or-map-get ws (set_of wm) k (omega arith) in
+    sym (get_or-map-some bits k)
+    ∙ ap (λ l. get_or l k None) (items_at_the_set wm ws (length-word_bits mask 64 ∙ sym (length-word_bits src 64)))
+    ∙ get_or-map-get ws (set_of wm) k (omega arith) in
     let there : slice_get ws (get_or (set_of wm) k 0) ≡ Some (get_or bits k false) = sym here ∙ slice_get-get_or bits k false (omega arith) in
     let inside = slice_get_within ws (get_or (set_of wm) k 0) (get_or bits k false) there in
     let bit = get_or_from_slice_get ws (get_or (set_of wm) k 0) (get_or bits k false) false there in
     same_bit _ _ (bit_at-lt (number_of bits) k) (bit_at-lt src (get_or (set_of wm) k 0))
-        (bit_of_number bits k ∙ sym bit ∙ get_or-word_bits src 64 (get_or (set_of wm) k 0) false (omega (arith, length-word_bits src 64)))
+    (bit_of_number bits k ∙ sym bit ∙ get_or-word_bits src 64 (get_or (set_of wm) k 0) false (omega (arith, length-word_bits src 64)))
 
 clear_bit : (a : ℕ) → a < 2 → eqb a 1 ≡ false → a ≡ 0
 clear_bit zero h e = refl

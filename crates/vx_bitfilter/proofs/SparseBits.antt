@@ -1,8 +1,8 @@
 -- The bits at a list of places, 64 at a time.
-use Rattle.std.proofs.Common.{◌≡◌, ℕ, zero, suc, ◌+◌, ◌-◌, ◌*◌, ◌%◌, ◌^◌, ◌<◌, ◌≤◌, min, Bool, true, false, cond, eqb, List, [], ◌∷◌, ◌++◌, length, get_or, map, take, drop, None, Some, bit_or, refl, sym, ap, ap₂, ◌∙◌, arith}
+use Rattle.std.proofs.Common.{◌≡◌, ℕ, ◌+◌, ◌*◌, ◌%◌, ◌^◌, ◌<◌, ◌≤◌, min, Bool, true, false, eqb, List, [], ◌∷◌, ◌++◌, length, get_or, map, take, drop, Some, bit_or, refl, sym, ap, ap₂, ◌∙◌, arith}
 use mir.Val.{bool_byte}
 use Rattle.std.specs.List.{All, items_where_true, slice_get}
-use Rattle.std.proofs.lemmas.List.{drop-take, map-append, take-append-drop, take-take, take_all, take_min, take_more}
+use Rattle.std.proofs.lemmas.List.{drop-take, map-append, take-append-drop, take-take, take_min, take_more}
 use Rattle.std.proofs.lemmas.List.Elements.{All-from_get_or}
 use Rattle.std.proofs.lemmas.Option.{get_or_from_slice_get}
 use Rattle.vx_bits.specs.Words.{word_bits}
@@ -45,7 +45,7 @@ next_places src places k n e =
     let f = λ (place : ℕ). get_or src place false in
     let next : 64 * (k + 1) ≡ 64 * k + 64 = omega arith in
     let cut : take (64 * k + 64) places ≡ take (64 * k) places ++ take 64 (drop (64 * k) places) =
-        sym (take-append-drop (64 * k) (take (64 * k + 64) places)) ∙ ap₂ ◌++◌ (take-take (64 * k) (64 * k + 64) places (omega arith)) (drop-take (64 * k) 64 places) in
+    sym (take-append-drop (64 * k) (take (64 * k + 64) places)) ∙ ap₂ ◌++◌ (take-take (64 * k) (64 * k + 64) places (omega arith)) (drop-take (64 * k) 64 places) in
     ap (λ m. map f (take m places)) next ∙ ap (map f) cut ∙ map-append f (take (64 * k) places) (take 64 (drop (64 * k) places))
     ∙ ap (λ l. map f (take (64 * k) places) ++ map f l) (sym (ap (λ m. take m (drop (64 * k) places)) e ∙ take_min 64 (drop (64 * k) places)))
 

@@ -1,4 +1,4 @@
-use Rattle.std.proofs.Common.{◌≡◌, length, ap, ◌∙◌}
+use Rattle.std.proofs.Common.{length, ap, ◌∙◌}
 use Rattle.std.proofs.lemmas.Result.{IfOk-weaker}
 use Rattle.vx_mask.specs.Mask.{at_front}
 use Rattle.vx_bitfilter.proofs.SparseBits.{bits_at, bits_at_the_set, set_within}

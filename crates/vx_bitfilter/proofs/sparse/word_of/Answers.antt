@@ -1,8 +1,7 @@
-use Rattle.std.proofs.Common.{◌≡◌, ◌<◌, length, take, refl, ap, sym, ◌∙◌, arith}
+use Rattle.std.proofs.Common.{refl, ap, ◌∙◌, arith}
 use mir.Val.{bool_byte}
-use Rattle.std.proofs.lemmas.List.{take_all}
 use Rattle.vx_bits.proofs.WordBits.{word_bits-none}
-use Rattle.vx_bitfilter.proofs.SparseBits.{bits_at, next_place}
+use Rattle.vx_bitfilter.proofs.SparseBits.{next_place}
 use Rattle.vx_bitfilter.proofs.sparse.word_of.Goals as goal
 
 pub loop-k-init : goal.loop-k-init

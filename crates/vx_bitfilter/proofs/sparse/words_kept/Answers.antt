@@ -1,5 +1,4 @@
-use Rattle.std.proofs.Common.{◌≡◌, ◌*◌, ◌≤◌, ◌++◌, length, sym, ap, ap₂, ◌∙◌, arith}
-use Rattle.vx_bitfilter.specs.Pext.{pext}
+use Rattle.std.proofs.Common.{◌*◌, ◌≤◌, ◌++◌, length, sym, ap, ap₂, ◌∙◌, arith}
 use Rattle.vx_bitfilter.proofs.FilteredWords.{no_word_kept, word_kept}
 use Rattle.vx_bitfilter.proofs.PackedBits.{picked_bits}
 use Rattle.vx_bitfilter.proofs.PackedLaws.{pext-word_bits}

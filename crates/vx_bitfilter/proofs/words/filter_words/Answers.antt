@@ -1,7 +1,5 @@
-use Rattle.std.proofs.Common.{◌≡◌, ℕ, ◌+◌, ◌*◌, ◌≤◌, ◌++◌, length, sym, ap, ap₂, ◌∙◌, arith}
-use Rattle.vx_bits.specs.WordReader.{then_told}
+use Rattle.std.proofs.Common.{◌+◌, ◌*◌, ◌≤◌, ◌++◌, length, sym, ap, ap₂, ◌∙◌, arith}
 use Rattle.vx_bits.specs.Words.{word_at, word_count}
-use Rattle.vx_bitfilter.specs.Words.{busy_words, first_words}
 use Rattle.vx_bitfilter.proofs.FilteredWords.{busy_told, idle_told, next_told, no_word_kept, on_err, word_kept}
 use Rattle.vx_bitfilter.proofs.PackedBits.{picked_bits}
 use Rattle.vx_bitfilter.proofs.words.filter_words.Goals.{then-picks-ne0+in_ok-append_word, else-picks-ne0}
@@ -34,7 +32,7 @@ loop-i-preserved g c =
       | then-picks-ne0+in_ok-append_word w ↦
           let word = w.word-word.ensures.value ∙ ap (λ b. word_at b i) v.src_bits in
           record {
-            value = word_kept mask src _ _ i c.requires.same_len within v.value (w.kept-is ∙ w.in_ok-append_word.ensures.ok ∙ ap (λ l. c.loop-i.kept ++ l) (w.packed.ensures ∙ ap₂ picked_bits word picks));
+            value = word_kept mask src _ _ i c.requires.same_len within v.value (w.kept-is ∙ w.in_ok-append_word.ensures.ok ∙ ap (λ l. c.loop-i.kept ++ l) (w.packed-bits.ensures ∙ ap₂ picked_bits word picks));
             mask_bits = c.word-picks.ensures.same ∙ v.mask_bits;
             src_bits = ap g.S.WordReader.bits w.src-is ∙ w.word-word.ensures.same ∙ v.src_bits;
             mask_reads = mask_told;
