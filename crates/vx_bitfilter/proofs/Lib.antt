@@ -1,0 +1,5 @@
+pub mod PackedBits
+pub mod PackedLaws
+pub mod FilteredWords
+pub mod SparseBits
+pub mod PackedBytes

@@ -1,0 +1,20 @@
+use Rattle.std.proofs.Common.{◌*◌, ◌≤◌, ◌++◌, length, sym, ap, ap₂, ◌∙◌, arith}
+use Rattle.vx_bitfilter.proofs.FilteredWords.{no_word_kept, word_kept}
+use Rattle.vx_bitfilter.proofs.PackedBits.{picked_bits}
+use Rattle.vx_bitfilter.proofs.PackedLaws.{pext-word_bits}
+use Rattle.vx_bitfilter.proofs.sparse.words_kept.Goals.{then-picks-ne0+in_ok-append_word, else-picks-ne0}
+use Rattle.vx_bitfilter.proofs.sparse.words_kept.Goals as goal
+
+pub loop-i-preserved : goal.loop-i-preserved
+loop-i-preserved c =
+    let i = c.loop-i.i in
+    let mask = c.args.mask.now.bits in
+    let src = c.args.src.now.bits in
+    let within : 64 * i ≤ length mask = omega (arith, c.div_ceil-i-end.ensures, c.len.ensures, c.loop-i-test.true) in
+    elim c.if-picks-ne0.branch [
+      | then-picks-ne0+in_ok-append_word w ↦
+          let bits = pext-word_bits w.word.result c.word-picks.result _ (omega arith) w.pext_fallback-bits.ensures in
+          word_kept mask src _ _ i c.requires within c.loop-i.invariant (w.kept-is ∙ w.in_ok-append_word.ensures.ok ∙ ap (λ l. c.loop-i.kept ++ l) (bits ∙ ap₂ picked_bits w.word.ensures c.word-picks.ensures))
+      | else-picks-ne0 w ↦
+          w.kept-is ∙ no_word_kept mask src _ i within (sym c.word-picks.ensures ∙ w.if-picks-ne0.false) c.loop-i.invariant
+    ]

@@ -1,0 +1,3 @@
+pub mod Pext
+pub mod Table
+pub mod Words

@@ -1,0 +1,78 @@
+//! The bit filter for masks with few set bits.
+ghost use Rattle.std.specs.Prelude.{◌≡◌, ◌<◌, ◌≤◌, false, IfOk, length, map, slice_index_or};
+ghost use Rattle.std.specs.List.{All, items_where_true};
+ghost use Rattle.vx_bits.specs.Words.{word_bits};
+ghost use Rattle.vx_mask.specs.Mask.{at_front};
+
+use crate::pext::pext_fallback;
+use std::alloc::Global;
+use vx_bits::{BitBuffer, BitBuilder, NoMemory};
+use vx_mask::MaskValues;
+
+/// The source's bits at the mask's set positions, from offset 0 on: Vortex's `filter_sparse`.
+/// `NoMemory` alone.
+///
+/// It walks the set positions, by the mask's indices where it keeps them, else by its words.
+pub fn filter_sparse(
+    alloc: Global,
+    src: &BitBuffer,
+    mask: &MaskValues,
+) -> Result<BitBuffer, NoMemory>
+    requires { length src.now.bits ≡ length mask.now.bits.bits }
+    ensures { IfOk result (λ b. b
+        ≡ at_front (items_where_true mask.now.bits.bits src.now.bits)) }
+{
+    match mask.cached_indices() {
+        Some(indices) => bits_at(alloc, src, indices),
+        None => words_kept(alloc, src, mask.bits(), mask.true_count()),
+    }
+}
+
+// The bits at these places, 64 at a time.
+fn bits_at(alloc: Global, src: &BitBuffer, places: &[usize]) -> Result<BitBuffer, NoMemory>
+    requires { All (λ place. place < length src.now.bits) places.now }
+    ensures { IfOk result (λ b. b
+        ≡ at_front (map (λ place. slice_index_or src.now.bits place false) places.now)) }
+{
+    let mut kept = BitBuilder::with_capacity(alloc, places.len())?;
+    for k in 0..places.len().div_ceil(64) {
+        let end = places.len().min(64 * k + 64);
+        kept.append_word(word_of(src, &places[64 * k..end]), end - 64 * k)?;
+    }
+    kept.finish()
+}
+
+// The word whose lowest bits are those at these places, the first one lowest.
+fn word_of(src: &BitBuffer, places: &[usize]) -> u64
+    requires short { length places.now ≤ 64 }
+    requires within { All (λ place. place < length src.now.bits) places.now }
+    ensures { word_bits result (length places.now)
+        ≡ map (λ place. slice_index_or src.now.bits place false) places.now }
+{
+    let mut word: u64 = 0;
+    for (k, place) in places.iter().enumerate() {
+        word |= u64::from(src.value(*place)) << k;
+    }
+    word
+}
+
+// The bits where the mask's are set, word by word. An empty word of the mask is passed over.
+fn words_kept(
+    alloc: Global,
+    src: &BitBuffer,
+    mask: &BitBuffer,
+    true_count: usize,
+) -> Result<BitBuffer, NoMemory>
+    requires { length src.now.bits ≡ length mask.now.bits }
+    ensures { IfOk result (λ b. b ≡ at_front (items_where_true mask.now.bits src.now.bits)) }
+{
+    let mut kept = BitBuilder::with_capacity(alloc, true_count)?;
+    for i in 0..mask.len().div_ceil(64) {
+        let picks = mask.word(i);
+        if picks != 0 {
+            let bits = pext_fallback(src.word(i), picks);
+            kept.append_word(bits, picks.count_ones() as usize)?;
+        }
+    }
+    kept.finish()
+}

@@ -1,0 +1,105 @@
+//! The bit filter over words.
+ghost use Rattle.std.specs.Prelude.{◌≡◌, ℕ, ◌+◌, ◌≤◌, if◌then◌else◌, IfOk, OnOk, OnErr, None, Some, length, nat_lt};
+ghost use Rattle.std.specs.Int.RustNames.{count_ones};
+ghost use Rattle.std.specs.List.{items_where_true};
+ghost use Rattle.vx_bits.specs.BitBuffer.{true_count_of};
+ghost use Rattle.vx_bits.specs.WordReader.{then_told};
+ghost use Rattle.vx_bits.specs.Words.{word_bits, word_count};
+ghost use Rattle.vx_bitfilter.specs.Table.{pext_entries};
+ghost use Rattle.vx_bitfilter.specs.Words.{busy_words, first_words};
+ghost use Rattle.vx_mask.specs.Mask.{at_front};
+
+use crate::pext::pext_fallback;
+use crate::table::PextTable;
+use std::alloc::Global;
+use vx_bits::{BitBuffer, BitBuilder, NoMemory, PlainWords, WordReader};
+
+/// The source's bits at the mask's set positions, from offset 0 on, wherever the bits of each lie
+/// in their bytes: Vortex's `filter_bitbuffer_by_mask`. `NoMemory` alone.
+///
+/// `true_count` is the number of the mask's set bits.
+pub fn filter_bitbuffer_by_mask(
+    alloc: Global,
+    src: &BitBuffer,
+    mask_buf: &BitBuffer,
+    true_count: usize,
+) -> Result<BitBuffer, NoMemory>
+    requires same_len { length src.now.bits ≡ length mask_buf.now.bits }
+    requires counted { true_count ≡ true_count_of mask_buf.now.bits }
+    ensures { IfOk result (λ b. b
+        ≡ at_front (items_where_true mask_buf.now.bits src.now.bits)) }
+{
+    // The number of words is bounded by that of bits.
+    let _ = mask_buf.len();
+    let mut src = PlainWords::new(src.share());
+    let mut mask = PlainWords::new(mask_buf.share());
+    filter_words(alloc, &mut src, &mut mask, true_count)
+}
+
+/// The source's bits at the mask's set positions, from offset 0 on. `NoMemory` alone.
+///
+/// The mask is asked for each word that holds a bit, once, ascending, and the source for those at
+/// which the mask's word is not 0. `true_count` is the number of the mask's set bits.
+pub fn filter_words<S: WordReader, M: WordReader>(
+    alloc: Global,
+    src: &mut S,
+    mask: &mut M,
+    true_count: usize,
+) -> Result<BitBuffer, NoMemory>
+    requires same_len { length (S.bits src.old) ≡ length (M.bits mask.old) }
+    requires counted { true_count ≡ true_count_of (M.bits mask.old) }
+    requires src_spare { word_count (length (M.bits mask.old)) ≤ S.spare src.old }
+    requires mask_spare { word_count (length (M.bits mask.old)) ≤ M.spare mask.old }
+    ensures value { IfOk result (λ b. b
+        ≡ at_front (items_where_true (M.bits mask.old) (S.bits src.old))) }
+    ensures mask_reads { OnOk result (M.reads mask.new
+        ≡ then_told (M.reads mask.old) (first_words (word_count (length (M.bits mask.old))))) }
+    ensures src_reads { OnOk result (S.reads src.new ≡ then_told (S.reads src.old)
+        (busy_words (M.bits mask.old) (word_count (length (M.bits mask.old))))) }
+    ensures prefix { OnErr result ((n : ℕ)
+        × (n ≤ word_count (length (M.bits mask.old)))
+        × (M.reads mask.new ≡ then_told (M.reads mask.old) (first_words n))
+        × (S.reads src.new ≡ then_told (S.reads src.old) (busy_words (M.bits mask.old) n))) }
+    ensures src_bits { S.bits src.new ≡ S.bits src.old }
+    ensures mask_bits { M.bits mask.new ≡ M.bits mask.old }
+    ensures src_cost { S.spare src.old ≤ S.spare src.new + word_count (length (M.bits mask.old)) }
+    ensures mask_cost { M.spare mask.old ≤ M.spare mask.new + word_count (length (M.bits mask.old)) }
+{
+    let table = table_for(alloc, mask.len())?;
+    let mut kept = BitBuilder::with_capacity(alloc, true_count)?;
+    for i in 0..mask.len().div_ceil(64) {
+        let picks = mask.word(i);
+        if picks != 0 {
+            let word = src.word(i);
+            let bits = packed(&table, word, picks);
+            kept.append_word(bits, picks.count_ones() as usize)?;
+        }
+    }
+    kept.finish()
+}
+
+// A table where there are so many bits that it pays.
+fn table_for(alloc: Global, len: usize) -> Result<Option<PextTable>, NoMemory>
+    ensures { IfOk result (λ table. table ≡ (if nat_lt len 4096 then None else Some pext_entries)) }
+{
+    if len < 4_096 {
+        return Ok(None);
+    }
+    Ok(Some(PextTable::new(alloc)?))
+}
+
+// The bits that a mask's word picks, packed from bit 0: by the table where there is one. A full
+// mask takes the word whole.
+#[inline]
+fn packed(table: &Option<PextTable>, word: u64, picks: u64) -> u64
+    ensures { word_bits result (count_ones picks)
+        ≡ items_where_true (word_bits picks 64) (word_bits word 64) }
+{
+    if picks == u64::MAX {
+        return word;
+    }
+    match table {
+        Some(table) => table.pext(word, picks),
+        None => pext_fallback(word, picks),
+    }
+}
