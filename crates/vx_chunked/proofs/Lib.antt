@@ -1,0 +1,3 @@
+pub mod Ascends
+pub mod Counts
+pub mod ValuesAt
