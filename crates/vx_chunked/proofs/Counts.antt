@@ -70,3 +70,17 @@ told_next now new total limit all places rest chunk n m h t e inside beyond c =
 pub told_end : (now total : Option (List Call)) (limit : ℕ) (rest : List ℕ) (chunk n : ℕ) → n ≡ 0 → then_told now (calls_from limit rest chunk n) ≡ total → now ≡ total
 told_end now total limit rest chunk n e h =
     told_none now ∙ ap (then_told now) (sym (calls_none limit rest chunk) ∙ ap (calls_from limit rest chunk) (sym e)) ∙ h
+
+-- no value asks for no call
+pub calls_of_none : (limit : ℕ) (values : List ℕ) (chunk n : ℕ) → length values ≡ 0 → calls_from limit values chunk n ≡ []
+unfolding calls_from
+calls_of_none limit [] chunk zero e = refl
+calls_of_none limit [] chunk (suc n) e = calls_of_none limit [] (chunk + 1) n e
+calls_of_none limit (v ∷ values) chunk n e = absurd (omega arith)
+
+pub told_of_none : (calls : Option (List Call)) (limit : ℕ) (values : List ℕ) (n : ℕ) → length values ≡ 0 → calls ≡ then_told calls (calls_from limit values 0 n)
+told_of_none calls limit values n e = told_none calls ∙ ap (then_told calls) (sym (calls_of_none limit values 0 n e))
+
+pub read_of_none : {X : Type 0} (f : ℕ → X) (values : List ℕ) → length values ≡ 0 → [] ≡ map f values
+read_of_none f [] e = refl
+read_of_none f (v ∷ values) e = absurd (omega arith)

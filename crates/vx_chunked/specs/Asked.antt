@@ -1,7 +1,8 @@
 -- The calls that selected values ask for.
-use Rattle.std.specs.Prelude.{ℕ, ◌+◌, ◌*◌, ◌/◌, Bool, false, List, [], ◌∷◌, ◌||◌, Option, None, Some, map, count_by, nat_le, ◌==◌, if◌then◌else◌}
+use Rattle.std.specs.Prelude.{◌≡◌, ℕ, ◌+◌, ◌*◌, ◌/◌, Bool, false, true, List, [], ◌∷◌, ◌||◌, Option, None, Some, map, count_by, nat_le, ◌==◌, if◌then◌else◌}
 use Rattle.std.specs.List.{range_with_len, flat_map}
 use Rattle.std.specs.Int.{div_ceil}
+use Rattle.vx_mask.specs.Positions.{ascending}
 use Rattle.vx_chunked.specs.declared.call.Call.{Call}
 use Rattle.vx_chunked.specs.declared.call.Call.TheVariants.{Whole, Only}
 
@@ -53,3 +54,8 @@ picked_in offset picks chunk =
 unfoldable pub asked_by_picks : ℕ → List (Option ℕ) → ℕ → ℕ → List Call
 asked_by_picks offset picks limit n =
     flat_map (λ chunk. call_for limit chunk (picked_in offset picks chunk)) (range_with_len 0 n)
+
+-- positions that ascend ask for the same calls as they do where they are handed in as picks
+abbrev pub AskAlike : ℕ → ℕ → List ℕ → ℕ → ℕ → Type 0
+AskAlike offset len set limit n =
+    ascending 0 len set ≡ true → asked_by_picks offset (map Some set) limit n ≡ asked offset set limit n

@@ -73,6 +73,9 @@ pub(crate) fn filter_at<T: Record, D: ChunkDecoder<T>, C: Cursor>(
     ensures same { D.values decoder.new ≡ D.values decoder.old }
     ensures cost { D.spare decoder.old ≤ D.spare decoder.new + chunks_for end }
 {
+    if total == 0 {
+        return Ok(Vec::new(alloc));
+    }
     let mut places = vec![in alloc; 0; FILTER_CHUNK_LEN]?;
     let mut scratch = vec![in alloc; T::zero(); FILTER_CHUNK_LEN]?;
     let mut out = vec![in alloc; T::zero(); total]?;
