@@ -1,2 +1,5 @@
-pub mod KeptLists
+pub mod Bytes
+pub mod Copies
+pub mod Moves
+pub mod Picks
 pub mod WordItems

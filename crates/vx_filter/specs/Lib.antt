@@ -1,1 +1,4 @@
+pub mod Choice
+pub mod Compact
+pub mod Compress
 pub mod Kept

@@ -2,12 +2,21 @@
 #![tactic(auto)]
 
 mod bitmap;
+mod choice;
+mod compact;
+mod compress;
+mod in_place;
+mod ladder;
 mod laws;
-mod slices;
+mod lists;
 
 pub use bitmap::filter_slice_by_bitmap;
+pub use compact::compact_words;
+pub use compress::{CompressTable, byte_compress};
+pub use in_place::{filter_slice_in_place, filter_vec};
+pub use ladder::filter_slice;
 pub use laws::filter_law;
-pub use slices::filter_slice;
+pub use lists::{filter_slice_by_indices, filter_slice_by_slices};
 
 #[cfg(test)]
 mod tests;

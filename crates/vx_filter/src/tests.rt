@@ -1,6 +1,6 @@
 use crate::bitmap::filter_slice_by_bitmap;
 use crate::laws::filter_law;
-use crate::slices::filter_slice;
+use crate::ladder::filter_slice;
 use std::test::Fail;
 use vx_bits::BitBuffer;
 use vx_mask::{Mask, Policy};

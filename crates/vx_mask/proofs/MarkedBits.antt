@@ -115,7 +115,7 @@ ascending_lower low from len (x ∷ xs) p h =
     let at = parts.from in
     ascending_first low len x xs (omega arith) parts.within parts.then
 
-ascending-positions : (at len : ℕ) (bits : List Bool) → at + length bits ≤ len → ascending at len (positions at bits) ≡ true
+pub ascending-positions : (at len : ℕ) (bits : List Bool) → at + length bits ≤ len → ascending at len (positions at bits) ≡ true
 ascending-positions at len [] h = refl
 ascending-positions at len (true ∷ bits) h = ascending_first at len at (positions (at + 1) bits) (omega arith) (omega arith) (ascending-positions (at + 1) len bits (omega arith))
 ascending-positions at len (false ∷ bits) h = ascending_lower at (at + 1) len (positions (at + 1) bits) (omega arith) (ascending-positions (at + 1) len bits (omega arith))

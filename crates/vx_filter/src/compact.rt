@@ -1,0 +1,81 @@
+//! Copying the selected items to the front of another list.
+ghost use Rattle.std.specs.Prelude.{◌≡◌, ◌+◌, ◌*◌, ◌^◌, ◌<◌, ◌≤◌, ◌++◌, Some, true, false, length, take, drop, map, slice_get, slice_index_or, slice_set};
+ghost use Rattle.std.specs.List.{All, items_where_true};
+ghost use Rattle.std.specs.Int.RustNames.{count_ones};
+ghost use Rattle.vx_bits.specs.BitBuffer.{true_count_of};
+ghost use Rattle.vx_bits.specs.Words.{word_bits, word_count};
+ghost use Rattle.vx_filter.specs.Compact.{bits_of_words};
+ghost use Rattle.vx_mask.specs.Positions.{AllBits, positions};
+
+/// Copies the items of `src` where the bits of the words are set to the front of `dst`, in order,
+/// and answers their number. The rest of `dst` stays. It takes no memory.
+///
+/// The items of a full word are copied whole, those of any other word one after another.
+pub fn compact_words<T: Copy>(src: &[T], words: &[u64], dst: &mut [T]) -> usize
+    requires words { length words.now ≡ word_count (length src.now) }
+    requires clear { AllBits (bits_of_words words.now) (length src.now) (64 * length words.now)
+        false }
+    requires room { true_count_of (bits_of_words words.now) ≤ length dst.old }
+    ensures count { result ≡ true_count_of (bits_of_words words.now) }
+    ensures front { take result dst.new
+        ≡ items_where_true (bits_of_words words.now) src.now }
+    ensures rest { drop result dst.new ≡ drop result dst.old }
+{
+    let mut kept = 0;
+    for (w, word) in words.iter().enumerate() {
+        kept = copy_picked(dst, kept, src, 64 * w, *word);
+    }
+    kept
+}
+
+// Copies the items that a word picks behind those that are kept, and answers how many are kept
+// then. The word's first bit has position `base`.
+#[inline(always)]
+fn copy_picked<T: Copy>(dst: &mut [T], kept: usize, src: &[T], base: usize, word: u64) -> usize
+    requires within { All (λ p. p < length src.now) (positions base (word_bits word 64)) }
+    requires room { kept + count_ones word ≤ length dst.old }
+    ensures count { result ≡ kept + count_ones word }
+    ensures front { map Some (take result dst.new) ≡ map Some (take kept dst.old)
+        ++ map (slice_get src.now) (positions base (word_bits word 64)) }
+    ensures rest { drop result dst.new ≡ drop result dst.old }
+{
+    if word == u64::MAX {
+        dst[kept..kept + 64].copy_from_slice(&src[base..base + 64]);
+        kept + 64
+    } else if word != 0 {
+        copy_word(dst, kept, src, base, word)
+    } else {
+        kept
+    }
+}
+
+// The same, one item after another, the lowest set bit first.
+#[inline(always)]
+fn copy_word<T: Copy>(dst: &mut [T], kept: usize, src: &[T], base: usize, word: u64) -> usize
+    requires within { All (λ p. p < length src.now) (positions base (word_bits word 64)) }
+    requires room { kept + count_ones word ≤ length dst.old }
+    ensures count { result ≡ kept + count_ones word }
+    ensures front { map Some (take result dst.new) ≡ map Some (take kept dst.old)
+        ++ map (slice_get src.now) (positions base (word_bits word 64)) }
+    ensures rest { drop result dst.new ≡ drop result dst.old }
+{
+    let mut next = kept;
+    let mut left = word;
+    for k in 0..word.count_ones() {
+        let _ = k;
+        copy_one(dst, next, src, base + left.trailing_zeros() as usize);
+        next += 1;
+        left &= left - 1;
+    }
+    next
+}
+
+// Copies the item at `from` to `to`.
+#[inline(always)]
+fn copy_one<T: Copy>(dst: &mut [T], to: usize, src: &[T], from: usize)
+    requires from { from < length src.now }
+    requires to { to < length dst.old }
+    ensures { (d : T) → dst.new ≡ slice_set dst.old to (slice_index_or src.now from d) }
+{
+    dst[to] = src[from];
+}

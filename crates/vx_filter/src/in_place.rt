@@ -1,0 +1,172 @@
+//! Filtering in place.
+ghost use Rattle.std.specs.Prelude.{◌≡◌, ◌+◌, ◌<◌, ◌≤◌, ◌++◌, IfOk, IsOk, Some, true, length, take, drop, map, slice_get, slice_index_or, slice_set};
+ghost use Rattle.std.specs.List.{All, items_where_true};
+ghost use Rattle.std.specs.Int.RustNames.{count_ones};
+ghost use Rattle.vx_bits.specs.BitBuffer.{true_count_of};
+ghost use Rattle.vx_bits.specs.Words.{word_bits};
+ghost use Rattle.vx_filter.specs.Choice.{IsDense};
+ghost use Rattle.vx_mask.specs.Positions.{ascending, covered, positions, set_of};
+
+use crate::choice::{is_dense, useful_indices, useful_slices};
+use crate::ladder::filter_slice;
+use std::alloc::Global;
+use vx_bits::{BitBuffer, NoMemory};
+use vx_mask::{MaskValues, Policy};
+
+/// Moves the values at the set positions of `mask` to the front, in order, and answers their
+/// number. It takes no memory. What stands behind them then is not said.
+///
+/// Runs that the mask keeps are moved as such where they are one or long enough, else the values
+/// at the indices that it keeps where they are few enough, else those of its words. The values do
+/// not depend on the policy.
+pub fn filter_slice_in_place<T: Copy>(
+    values: &mut [T],
+    mask: &MaskValues,
+    policy: &Policy,
+) -> usize
+    requires { length mask.now.bits.bits ≡ length values.old }
+    ensures count { result ≡ true_count_of mask.now.bits.bits }
+    ensures front { take result values.new
+        ≡ items_where_true mask.now.bits.bits values.old }
+{
+    let fields = policy.fields();
+    if let Some(slices) = useful_slices(mask, fields) {
+        return keep_slices(values, slices);
+    }
+    if let Some(indices) = useful_indices(mask, fields) {
+        return keep_indices(values, indices);
+    }
+    keep_set(values, mask.bits())
+}
+
+/// The values at the set positions of `mask`, in order: in place where the mask's density is at
+/// least the policy's `in_place_min`, else a copy. `NoMemory` alone, and never in place.
+pub fn filter_vec<T: Copy>(
+    alloc: Global,
+    mut values: Vec<T>,
+    mask: &MaskValues,
+    policy: &Policy,
+) -> Result<Vec<T>, NoMemory>
+    requires { length mask.now.bits.bits ≡ length values.items }
+    ensures items { IfOk result (λ kept. kept.items
+        ≡ items_where_true mask.now.bits.bits values.items) }
+    ensures in_place { IsDense mask.now policy.now.in_place_min → IsOk result }
+{
+    if is_dense(mask, policy.fields().in_place_min) {
+        let count = filter_slice_in_place(values.as_mut_slice(), mask, policy);
+        values.truncate(count);
+        return Ok(values);
+    }
+    filter_slice(alloc, values.as_slice(), mask, policy)
+}
+
+// Moves the values at the indices, which ascend, to the front, and answers their number.
+fn keep_indices<T: Copy>(values: &mut [T], indices: &[usize]) -> usize
+    requires { ascending 0 (length values.old) indices.now ≡ true }
+    ensures count { result ≡ length indices.now }
+    ensures front { map Some (take result values.new)
+        ≡ map (slice_get values.old) indices.now }
+{
+    for (i, index) in indices.iter().enumerate() {
+        move_one(values, *index, i);
+    }
+    indices.len()
+}
+
+// Moves the values of the runs, which ascend and are not empty, to the front, and answers their
+// number.
+fn keep_slices<T: Copy>(values: &mut [T], slices: &[(usize, usize)]) -> usize
+    requires some { All (λ run. run.0 < run.1) slices.now }
+    requires ascend { ascending 0 (length values.old) (covered slices.now) ≡ true }
+    ensures count { result ≡ length (covered slices.now) }
+    ensures front { map Some (take result values.new)
+        ≡ map (slice_get values.old) (covered slices.now) }
+{
+    let mut kept = 0;
+    for run in slices {
+        let count = run.1 - run.0;
+        move_down(values, run.0, kept, count);
+        kept += count;
+    }
+    kept
+}
+
+// Moves the values where bits are set to the front, and answers their number.
+fn keep_set<T: Copy>(values: &mut [T], bits: &BitBuffer) -> usize
+    requires { length bits.now.bits ≡ length values.old }
+    ensures count { result ≡ true_count_of bits.now.bits }
+    ensures front { map Some (take result values.new)
+        ≡ map (slice_get values.old) (set_of bits.now.bits) }
+{
+    let mut kept = 0;
+    for w in 0..bits.len().div_ceil(64) {
+        kept = keep_picked(values, kept, 64 * w, bits.word(w));
+    }
+    kept
+}
+
+// Moves the values that a word picks to those that are kept, and answers how many are kept then.
+// The word's first bit has position `base`.
+#[inline(always)]
+fn keep_picked<T: Copy>(values: &mut [T], kept: usize, base: usize, word: u64) -> usize
+    requires behind { kept ≤ base }
+    requires within { ascending base (length values.old) (positions base (word_bits word 64))
+        ≡ true }
+    ensures count { result ≡ kept + count_ones word }
+    ensures front { map Some (take result values.new) ≡ map Some (take kept values.old)
+        ++ map (slice_get values.old) (positions base (word_bits word 64)) }
+    ensures after { drop (base + 64) values.new ≡ drop (base + 64) values.old }
+{
+    if word == u64::MAX {
+        move_down(values, base, kept, 64);
+        kept + 64
+    } else if word != 0 {
+        keep_word(values, kept, base, word)
+    } else {
+        kept
+    }
+}
+
+// The same, one value after another, the lowest set bit first.
+#[inline(always)]
+fn keep_word<T: Copy>(values: &mut [T], kept: usize, base: usize, word: u64) -> usize
+    requires behind { kept ≤ base }
+    requires within { ascending base (length values.old) (positions base (word_bits word 64))
+        ≡ true }
+    ensures count { result ≡ kept + count_ones word }
+    ensures front { map Some (take result values.new) ≡ map Some (take kept values.old)
+        ++ map (slice_get values.old) (positions base (word_bits word 64)) }
+    ensures after { drop (base + 64) values.new ≡ drop (base + 64) values.old }
+{
+    let mut next = kept;
+    let mut left = word;
+    for k in 0..word.count_ones() {
+        let _ = k;
+        move_one(values, base + left.trailing_zeros() as usize, next);
+        next += 1;
+        left &= left - 1;
+    }
+    next
+}
+
+// Moves the value at `from` to `to`.
+#[inline(always)]
+fn move_one<T: Copy>(values: &mut [T], from: usize, to: usize)
+    requires from { from < length values.old }
+    requires to { to < length values.old }
+    ensures { (d : T) → values.new
+        ≡ slice_set values.old to (slice_index_or values.old from d) }
+{
+    values[to] = values[from];
+}
+
+// Moves `count` values from `from` on to `to` on, where they came from below.
+fn move_down<T: Copy>(values: &mut [T], from: usize, to: usize, count: usize)
+    requires down { to ≤ from }
+    requires within { from + count ≤ length values.old }
+    ensures front { take (to + count) values.new
+        ≡ take to values.old ++ take count (drop from values.old) }
+    ensures after { drop (to + count) values.new ≡ drop (to + count) values.old }
+{
+    values.copy_within(from..from + count, to);
+}

@@ -1,0 +1,53 @@
+//! Filtering by set positions, and by runs of them.
+ghost use Rattle.std.specs.Prelude.{◌≡◌, ◌<◌, ◌≤◌, IfOk, Some, length, map, slice_get, slice_range};
+ghost use Rattle.std.specs.List.{All, flat_map};
+
+use std::alloc::Global;
+use vx_bits::NoMemory;
+
+/// The items of `src` at the indices, in their order: Vortex's `filter_slice_by_indices`.
+/// `NoMemory` alone.
+pub fn filter_slice_by_indices<T: Copy>(
+    alloc: Global,
+    src: &[T],
+    indices: &[usize],
+) -> Result<Vec<T>, NoMemory>
+    requires { All (λ index. index < length src.now) indices.now }
+    ensures { IfOk result (λ kept. map Some kept.items ≡ map (slice_get src.now) indices.now) }
+{
+    let mut kept = Vec::with_capacity(alloc, indices.len())?;
+    for index in indices {
+        kept.push_reserved(src[*index]);
+    }
+    Ok(kept)
+}
+
+/// The items of `src` of the runs, each from its start up to its end, joined: Vortex's
+/// `filter_slice_by_slices`. `NoMemory` alone.
+pub fn filter_slice_by_slices<T: Copy>(
+    alloc: Global,
+    src: &[T],
+    slices: &[(usize, usize)],
+) -> Result<Vec<T>, NoMemory>
+    requires ordered { All (λ run. run.0 ≤ run.1) slices.now }
+    requires within { All (λ run. run.1 ≤ length src.now) slices.now }
+    ensures { IfOk result (λ kept. kept.items
+        ≡ flat_map (λ run. slice_range src.now run.0 run.1) slices.now) }
+{
+    let mut kept = Vec::with_capacity(alloc, joined_length(slices))?;
+    for run in slices {
+        kept.extend_from_slice(&src[run.0..run.1])?;
+    }
+    Ok(kept)
+}
+
+// The number of items in the runs, or the greatest number where they are more.
+fn joined_length(slices: &[(usize, usize)]) -> usize
+    requires { All (λ run. run.0 ≤ run.1) slices.now }
+{
+    let mut total: usize = 0;
+    for run in slices {
+        total = total.saturating_add(run.1 - run.0);
+    }
+    total
+}
