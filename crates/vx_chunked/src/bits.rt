@@ -36,7 +36,7 @@ fn front_of_bits(
     ensures few { result.count ≤ 1024 }
     ensures taken { map (λ i. offset + i) (positions_from first mask.now.bits.bits)
         ≡ map (λ p. 1024 * chunk + p) (take result.count places.new)
-            ++ map (λ i. offset + i) (positions_from result.at mask.now.bits.bits) }
+        ++ map (λ i. offset + i) (positions_from result.at mask.now.bits.bits) }
     ensures inside { All (λ p. p < 1024) (take result.count places.new) }
     ensures beyond { All (λ p. 1024 * (chunk + 1) ≤ p)
         (map (λ i. offset + i) (positions_from result.at mask.now.bits.bits)) }

@@ -30,7 +30,7 @@ fn take_chunks<T: Record, D: ChunkDecoder<T>, C: Cursor>(
         ≡ map (slice_get (D.values decoder.old)) (C.rest cursor.old) }
     ensures told { D.calls decoder.new
         ≡ then_told (D.calls decoder.old)
-            (calls_from limit (C.rest cursor.old) 0 (chunks_for end)) }
+        (calls_from limit (C.rest cursor.old) 0 (chunks_for end)) }
     ensures same { D.values decoder.new ≡ D.values decoder.old }
     ensures cost { D.spare decoder.old ≤ D.spare decoder.new + chunks_for end }
 {
@@ -68,7 +68,7 @@ pub(crate) fn filter_at<T: Record, D: ChunkDecoder<T>, C: Cursor>(
         ≡ map (slice_get (D.values decoder.old)) (C.rest cursor.old)) }
     ensures told { OnOk result (D.calls decoder.new
         ≡ then_told (D.calls decoder.old)
-            (calls_from limit (C.rest cursor.old) 0 (chunks_for end))) }
+        (calls_from limit (C.rest cursor.old) 0 (chunks_for end))) }
     ensures untold { OnErr result (D.calls decoder.new ≡ D.calls decoder.old) }
     ensures same { D.values decoder.new ≡ D.values decoder.old }
     ensures cost { D.spare decoder.old ≤ D.spare decoder.new + chunks_for end }

@@ -44,7 +44,7 @@ pub fn filter_chunked_by_indices<T: Record, D: ChunkDecoder<T>>(
         ≡ map (λ p. slice_get (D.values decoder.old) (offset + p)) indices.now) }
     ensures told { OnOk result (D.calls decoder.new
         ≡ then_told (D.calls decoder.old)
-            (asked offset indices.now (sparse_limit_of policy.now T.WIDTH) (touched offset len))) }
+        (asked offset indices.now (sparse_limit_of policy.now T.WIDTH) (touched offset len))) }
     ensures untold { OnErr result (D.calls decoder.new ≡ D.calls decoder.old) }
     ensures same { D.values decoder.new ≡ D.values decoder.old }
     ensures cost { D.spare decoder.old ≤ D.spare decoder.new + touched offset len }
@@ -85,8 +85,8 @@ pub fn filter_chunked_by_slices<T: Record, D: ChunkDecoder<T>>(
         ≡ map (λ p. slice_get (D.values decoder.old) (offset + p)) (covered slices.now)) }
     ensures told { OnOk result (D.calls decoder.new
         ≡ then_told (D.calls decoder.old)
-            (asked offset (covered slices.now) (sparse_limit_of policy.now T.WIDTH)
-                (touched offset len))) }
+        (asked offset (covered slices.now) (sparse_limit_of policy.now T.WIDTH)
+        (touched offset len))) }
     ensures untold { OnErr result (D.calls decoder.new ≡ D.calls decoder.old) }
     ensures same { D.values decoder.new ≡ D.values decoder.old }
     ensures cost { D.spare decoder.old ≤ D.spare decoder.new + touched offset len }
@@ -120,8 +120,8 @@ fn filter_by<T: Record, D: ChunkDecoder<T>, C: Cursor>(
         ≡ map (λ p. slice_get (D.values decoder.old) (offset + p)) (set_of mask.now.bits.bits)) }
     ensures told { OnOk result (D.calls decoder.new
         ≡ then_told (D.calls decoder.old)
-            (asked offset (set_of mask.now.bits.bits) (sparse_limit_of policy.now T.WIDTH)
-                (touched offset (length mask.now.bits.bits)))) }
+        (asked offset (set_of mask.now.bits.bits) (sparse_limit_of policy.now T.WIDTH)
+        (touched offset (length mask.now.bits.bits)))) }
     ensures untold { OnErr result (D.calls decoder.new ≡ D.calls decoder.old) }
     ensures same { D.values decoder.new ≡ D.values decoder.old }
     ensures cost { D.spare decoder.old
@@ -151,8 +151,8 @@ pub fn filter_chunked<T: Record, D: ChunkDecoder<T>>(
         ≡ map (λ p. slice_get (D.values decoder.old) (offset + p)) (set_of mask.now.bits.bits)) }
     ensures told { OnOk result (D.calls decoder.new
         ≡ then_told (D.calls decoder.old)
-            (asked offset (set_of mask.now.bits.bits) (sparse_limit_of policy.now T.WIDTH)
-                (touched offset (length mask.now.bits.bits)))) }
+        (asked offset (set_of mask.now.bits.bits) (sparse_limit_of policy.now T.WIDTH)
+        (touched offset (length mask.now.bits.bits)))) }
     ensures untold { OnErr result (D.calls decoder.new ≡ D.calls decoder.old) }
     ensures same { D.values decoder.new ≡ D.values decoder.old }
     ensures cost { D.spare decoder.old
@@ -197,8 +197,8 @@ fn filter_front<T: Record, D: ChunkDecoder<T>>(
         ≡ map (λ p. slice_get (D.values decoder.old) (offset + p)) (range_with_len 0 count)) }
     ensures told { OnOk result (D.calls decoder.new
         ≡ then_told (D.calls decoder.old)
-            (asked offset (range_with_len 0 count) (sparse_limit_of policy.now T.WIDTH)
-                (touched offset len))) }
+        (asked offset (range_with_len 0 count) (sparse_limit_of policy.now T.WIDTH)
+        (touched offset len))) }
     ensures untold { OnErr result (D.calls decoder.new ≡ D.calls decoder.old) }
     ensures same { D.values decoder.new ≡ D.values decoder.old }
     ensures cost { D.spare decoder.old ≤ D.spare decoder.new + touched offset len }
@@ -229,8 +229,8 @@ pub fn filter_chunked_mask<T: Record, D: ChunkDecoder<T>>(
         ≡ map (λ p. slice_get (D.values decoder.old) (offset + p)) (set_of (mask_bits mask.now))) }
     ensures told { OnOk result (D.calls decoder.new
         ≡ then_told (D.calls decoder.old)
-            (asked offset (set_of (mask_bits mask.now)) (sparse_limit_of policy.now T.WIDTH)
-                (touched offset (length (mask_bits mask.now))))) }
+        (asked offset (set_of (mask_bits mask.now)) (sparse_limit_of policy.now T.WIDTH)
+        (touched offset (length (mask_bits mask.now))))) }
     ensures untold { OnErr result (D.calls decoder.new ≡ D.calls decoder.old) }
     ensures same { D.values decoder.new ≡ D.values decoder.old }
     ensures cost { D.spare decoder.old

@@ -22,7 +22,7 @@ fn front_places(indices: &[usize], offset: usize, chunk: usize, places: &mut [us
     ensures few { result ≤ 1024 }
     ensures taken { map (λ i. offset + i) indices.now
         ≡ map (λ p. 1024 * chunk + p) (take result places.new)
-            ++ map (λ i. offset + i) (drop result indices.now) }
+        ++ map (λ i. offset + i) (drop result indices.now) }
     ensures inside { All (λ p. p < 1024) (take result places.new) }
     ensures beyond { All (λ p. 1024 * (chunk + 1) ≤ p)
         (map (λ i. offset + i) (drop result indices.now)) }

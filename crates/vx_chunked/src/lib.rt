@@ -18,7 +18,9 @@ mod stored;
 
 pub use call::{Call, CallLog};
 pub use decoder::{ChunkDecoder, FILTER_CHUNK_LEN};
-pub use filter::{filter_chunked, filter_chunked_by_indices, filter_chunked_by_slices, filter_chunked_mask};
+pub use filter::{
+    filter_chunked, filter_chunked_by_indices, filter_chunked_by_slices, filter_chunked_mask,
+};
 pub use laws::asked_law;
 pub use logged::Logged;
 pub use stored::StoredChunks;

@@ -52,8 +52,8 @@ fn front_of_runs(
     ensures few { result.count ≤ 1024 }
     ensures taken { map (λ i. offset + i) (with_runs first last later.now)
         ≡ map (λ p. 1024 * chunk + p) (take result.count places.new)
-            ++ map (λ i. offset + i)
-                (with_runs result.start result.end (drop result.used later.now)) }
+        ++ map (λ i. offset + i)
+        (with_runs result.start result.end (drop result.used later.now)) }
     ensures inside { All (λ p. p < 1024) (take result.count places.new) }
     ensures beyond { All (λ p. 1024 * (chunk + 1) ≤ p)
         (map (λ i. offset + i) (with_runs result.start result.end (drop result.used later.now))) }
