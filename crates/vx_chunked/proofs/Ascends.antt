@@ -1,0 +1,90 @@
+-- Positions that ascend.
+use Rattle.std.proofs.Common.{◌≡◌, refl, true, ℕ, zero, suc, ◌+◌, ◌<◌, ◌≤◌, List, [], ◌∷◌, ◌++◌, length, get_or, take, drop, map, set, sym, ap, ap₂, subst, ◌∙◌, arith}
+use Rattle.std.proofs.lemmas.List.{drop_more, drop_all, append_assoc, map_push, take_more_set}
+use Rattle.std.specs.List.{All, range_with_len}
+use Rattle.std.proofs.lemmas.List.Elements.{All-head, All-tail}
+use Rattle.vx_mask.specs.Positions.{ascending}
+use Rattle.vx_mask.proofs.AscendingLists.{ascending_first, index_parts}
+use Rattle.vx_chunked.specs.Positions.{AscendFrom}
+
+-- what a test of indices says
+pub ascend_of : (low high : ℕ) (xs : List ℕ) → ascending low high xs ≡ true → AscendFrom low high xs
+ascend_of low high [] h = tt
+ascend_of low high (x ∷ xs) h =
+    let first = index_parts low high x xs h in
+    (first.from, first.within, ascend_of (x + 1) high xs first.then)
+
+pub ascending_of : (low high : ℕ) (xs : List ℕ) → AscendFrom low high xs → ascending low high xs ≡ true
+ascending_of low high [] h = refl
+ascending_of low high (x ∷ xs) h = ascending_first low high x xs h.0 h.1 (ascending_of (x + 1) high xs h.2)
+
+pub ascend_lower : (a b high : ℕ) (xs : List ℕ) → AscendFrom a high xs → b ≤ a → AscendFrom b high xs
+ascend_lower a b high [] h le = tt
+ascend_lower a b high (x ∷ xs) h le = (omega (arith, h.0), h.1, h.2)
+
+pub ascend_raise : (low a b : ℕ) (xs : List ℕ) → AscendFrom low a xs → a ≤ b → AscendFrom low b xs
+ascend_raise low a b [] h le = tt
+ascend_raise low a b (x ∷ xs) h le = (h.0, omega (arith, h.1), ascend_raise (x + 1) a b xs h.2 le)
+
+-- what comes after a front
+pub ascend_rest : (mid low high : ℕ) (xs ys : List ℕ) → AscendFrom low high (xs ++ ys) → All (λ p. mid ≤ p) ys → AscendFrom mid high ys
+ascend_rest mid low high [] [] h a = tt
+ascend_rest mid low high [] (y ∷ ys) h a = (All-head (λ p. mid ≤ p) y ys a, h.1, h.2)
+ascend_rest mid low high (x ∷ xs) ys h a = ascend_rest mid (x + 1) high xs ys h.2 a
+
+-- the front, as places from a base on
+pub ascend_front : (base low high : ℕ) (places rest : List ℕ) → AscendFrom (base + low) high (map (λ p. base + p) places ++ rest) → All (λ p. p < 1024) places → AscendFrom low 1024 places
+ascend_front base low high [] rest h a = tt
+ascend_front base low high (p ∷ places) rest h a =
+    let next = ascend_lower (base + p + 1) (base + (p + 1)) high (map (λ q. base + q) places ++ rest) h.2 (omega arith) in
+    (omega (arith, h.0), All-head (λ q. q < 1024) p places a, ascend_front base (p + 1) high places rest next (All-tail (λ q. q < 1024) p places a))
+
+pub ascend_few : (low high : ℕ) (xs : List ℕ) → low ≤ high → AscendFrom low high xs → length xs + low ≤ high
+ascend_few low high [] le h = omega arith
+ascend_few low high (x ∷ xs) le h = omega (arith, h.0, h.1, ascend_few (x + 1) high xs (omega (arith, h.1)) h.2)
+
+pub ascend_all : (low high mid : ℕ) (xs : List ℕ) → AscendFrom low high xs → mid ≤ low → All (λ p. mid ≤ p) xs
+ascend_all low high mid [] h le k d p = absurd (omega arith)
+ascend_all low high mid (x ∷ xs) h le zero d p = omega (arith, h.0)
+ascend_all low high mid (x ∷ xs) h le (suc k) d p = ascend_all (x + 1) high mid xs h.2 (omega (arith, h.0)) k d (omega arith)
+
+pub ascend_below : (low high top : ℕ) (xs : List ℕ) → AscendFrom low high xs → high ≤ top → All (λ p. p < top) xs
+ascend_below low high top [] h le k d p = absurd (omega arith)
+ascend_below low high top (x ∷ xs) h le zero d p = omega (arith, h.1)
+ascend_below low high top (x ∷ xs) h le (suc k) d p = ascend_below (x + 1) high top xs h.2 le k d (omega arith)
+
+-- as many as there is room for are all of them
+pub ascend_full : (low high : ℕ) (xs : List ℕ) → AscendFrom low high xs → length xs + low ≡ high → xs ≡ range_with_len low (length xs)
+ascend_full low high [] h e = refl
+ascend_full low high (x ∷ xs) h e =
+    let few = ascend_few (x + 1) high xs (omega (arith, h.1)) h.2 in
+    let first : x ≡ low = omega (arith, h.0) in
+    let next : x + 1 ≡ low + 1 = omega arith in
+    ap₂ ◌∷◌ first (ascend_full (x + 1) high xs h.2 (omega arith) ∙ ap (λ n. range_with_len n (length xs)) next)
+
+-- the next of the positions, and those after it
+pub ascend_next : (f : ℕ → ℕ) (low high : ℕ) (xs : List ℕ) (k : ℕ) → AscendFrom low high (map f (drop k xs)) → k < length xs → (low ≤ f (get_or xs k 0)) × (f (get_or xs k 0) < high) × AscendFrom (f (get_or xs k 0) + 1) high (map f (drop (k + 1) xs))
+ascend_next f low high xs k h p = subst (λ (l : List ℕ). AscendFrom low high (map f l)) (drop_more xs k 0 p) h
+
+-- where the next lies beyond, all do
+pub ascend_past : (f : ℕ → ℕ) (low high mid : ℕ) (xs : List ℕ) (k : ℕ) → AscendFrom low high (map f (drop k xs)) → k < length xs → mid ≤ f (get_or xs k 0) → All (λ p. mid ≤ p) (map f (drop k xs))
+ascend_past f low high mid xs k h p le =
+    let next = ascend_next f low high xs k h p in
+    subst (λ (l : List ℕ). All (λ q. mid ≤ q) (map f l)) (sym (drop_more xs k 0 p))
+    (ascend_all mid high mid (f (get_or xs k 0) ∷ map f (drop (k + 1) xs)) (le, next.1, next.2) (omega arith))
+
+pub ascend_done : (f : ℕ → ℕ) (mid : ℕ) (xs : List ℕ) (k : ℕ) → length xs ≤ k → All (λ p. mid ≤ p) (map f (drop k xs))
+ascend_done f mid xs k p = subst (λ (l : List ℕ). All (λ q. mid ≤ q) (map f l)) (sym (drop_all k xs p)) (λ j d h. absurd (omega arith))
+
+-- one more place is taken
+pub take_place : (f : ℕ → ℕ) (base : ℕ) (all places xs : List ℕ) (k p : ℕ) → all ≡ map (λ q. base + q) (take k places) ++ map f (drop k xs) → k < length places → k < length xs → base + p ≡ f (get_or xs k 0) → all ≡ map (λ q. base + q) (take (k + 1) (set places k p)) ++ map f (drop (k + 1) xs)
+take_place f base all places xs k p h a b e =
+    h ∙ ap (λ l. map (λ q. base + q) (take k places) ++ map f l) (drop_more xs k 0 b)
+    ∙ ap (λ y. map (λ q. base + q) (take k places) ++ y ∷ map f (drop (k + 1) xs)) (sym e)
+    ∙ sym (append_assoc (map (λ q. base + q) (take k places)) ((base + p) ∷ []) (map f (drop (k + 1) xs)))
+    ∙ ap (λ l. l ++ map f (drop (k + 1) xs)) (sym (map_push (λ q. base + q) (take k places) p) ∙ ap (map (λ q. base + q)) (sym (take_more_set places k p a)))
+
+-- no number lies between
+pub ascend_none : (low high : ℕ) (xs : List ℕ) → AscendFrom low high xs → high ≤ low → xs ≡ []
+ascend_none low high [] h le = refl
+ascend_none low high (x ∷ xs) h le = absurd (omega (arith, h.0, h.1))

@@ -1,0 +1,86 @@
+-- The calls that ascending positions ask for, chunk by chunk.
+use Rattle.std.proofs.Common.{◌≡◌, refl, ℕ, zero, suc, ◌+◌, ◌*◌, ◌/◌, ◌<◌, ◌≤◌, cond, eqb, List, [], ◌∷◌, ◌++◌, length, map, Option, None, Some, sym, ap, ap₂, ◌∙◌, arith, eq-eqb, ne_eqb}
+use Rattle.vx_bits.specs.WordReader.{then_told}
+use Rattle.std.specs.List.{All, range_with_len, flat_map}
+use Rattle.std.proofs.lemmas.List.{append_assoc, append-nil}
+use Rattle.std.proofs.lemmas.List.Elements.{All-head, All-tail}
+use Rattle.std.proofs.lemmas.List.Sums.{sum_by-cons, sum_by-append}
+use Rattle.vx_chunked.specs.declared.call.Call.{Call}
+use Rattle.vx_chunked.specs.Asked.{call_for, count_in, calls_from}
+
+pub told_more : {X : Type 0} (r : Option (List X)) (xs ys : List X) → then_told (then_told r xs) ys ≡ then_told r (xs ++ ys)
+told_more None xs ys = refl
+told_more (Some before) xs ys = ap Some (append_assoc before xs ys)
+
+pub told_none : {X : Type 0} (r : Option (List X)) → r ≡ then_told r []
+told_none None = refl
+told_none (Some before) = ap Some (sym (append-nil before))
+
+-- all places lie in their chunk
+counts_here : (chunk : ℕ) (places : List ℕ) → All (λ p. p < 1024) places → count_in (map (λ p. 1024 * chunk + p) places) chunk ≡ length places
+counts_here chunk [] a = refl
+counts_here chunk (p ∷ places) a =
+    let below = All-head (λ q. q < 1024) p places a in
+    sum_by-cons (λ q. cond (eqb (q / 1024) chunk) 1 0) (1024 * chunk + p) (map (λ q. 1024 * chunk + q) places)
+    ∙ ap₂ (λ b n. cond b 1 0 + n) (eq-eqb ((1024 * chunk + p) / 1024) chunk (omega arith)) (counts_here chunk places (All-tail (λ q. q < 1024) p places a))
+    ∙ omega arith
+
+-- and none in another
+counts_none : (chunk other : ℕ) (places : List ℕ) → All (λ p. p < 1024) places → chunk < other → count_in (map (λ p. 1024 * chunk + p) places) other ≡ 0
+counts_none chunk other [] a h = refl
+counts_none chunk other (p ∷ places) a h =
+    let below = All-head (λ q. q < 1024) p places a in
+    sum_by-cons (λ q. cond (eqb (q / 1024) other) 1 0) (1024 * chunk + p) (map (λ q. 1024 * chunk + q) places)
+    ∙ ap₂ (λ b n. cond b 1 0 + n) (ne_eqb ((1024 * chunk + p) / 1024) other (λ e. omega arith)) (counts_none chunk other places (All-tail (λ q. q < 1024) p places a) h)
+
+-- none of those beyond a chunk lies in it
+counts_beyond : (chunk : ℕ) (xs : List ℕ) → All (λ p. 1024 * (chunk + 1) ≤ p) xs → count_in xs chunk ≡ 0
+counts_beyond chunk [] a = refl
+counts_beyond chunk (x ∷ xs) a =
+    let above = All-head (λ q. 1024 * (chunk + 1) ≤ q) x xs a in
+    sum_by-cons (λ q. cond (eqb (q / 1024) chunk) 1 0) x xs
+    ∙ ap₂ (λ b n. cond b 1 0 + n) (ne_eqb (x / 1024) chunk (λ e. omega arith)) (counts_beyond chunk xs (All-tail (λ q. 1024 * (chunk + 1) ≤ q) x xs a))
+
+pub flat_map_range : {A : Type 0} (f g : ℕ → List A) (a n : ℕ) → ((j : ℕ) → a ≤ j → f j ≡ g j) → flat_map f (range_with_len a n) ≡ flat_map g (range_with_len a n)
+flat_map_range f g a zero h = refl
+flat_map_range f g a (suc n) h = ap₂ ◌++◌ (h a (omega arith)) (flat_map_range f g (a + 1) n (λ j p. h j (omega arith)))
+
+-- one chunk's call, and those for the rest
+pub calls_next : (limit : ℕ) (all places rest : List ℕ) (chunk n m : ℕ) → all ≡ map (λ p. 1024 * chunk + p) places ++ rest → All (λ p. p < 1024) places → All (λ p. 1024 * (chunk + 1) ≤ p) rest → n ≡ suc m → calls_from limit all chunk n ≡ call_for limit chunk (length places) ++ calls_from limit rest (chunk + 1) m
+unfolding calls_from
+calls_next limit all places rest chunk n m e inside beyond c =
+    let here = map (λ p. 1024 * chunk + p) places in
+    let split : (j : ℕ) → count_in all j ≡ count_in here j + count_in rest j = λ j. ap (λ l. count_in l j) e ∙ sum_by-append (λ q. cond (eqb (q / 1024) j) 1 0) here rest in
+    let first : count_in all chunk ≡ length places = split chunk ∙ ap₂ ◌+◌ (counts_here chunk places inside) (counts_beyond chunk rest beyond) ∙ omega arith in
+    let later : (j : ℕ) → chunk + 1 ≤ j → call_for limit j (count_in all j) ≡ call_for limit j (count_in rest j) = λ j p. let none : 0 + count_in rest j ≡ count_in rest j = omega arith in ap (call_for limit j) (split j ∙ ap (λ n. n + count_in rest j) (counts_none chunk j places inside (omega arith)) ∙ none) in
+    ap (λ k. flat_map (λ j. call_for limit j (count_in all j)) (range_with_len chunk k)) c
+    ∙ ap₂ ◌++◌ (ap (call_for limit chunk) first) (flat_map_range (λ j. call_for limit j (count_in all j)) (λ j. call_for limit j (count_in rest j)) (chunk + 1) m later)
+
+pub calls_none : (limit : ℕ) (all : List ℕ) (chunk : ℕ) → calls_from limit all chunk 0 ≡ []
+unfolding calls_from
+calls_none limit all chunk = refl
+
+-- one chunk's call was told
+pub told_next : (now new total : Option (List Call)) (limit : ℕ) (all places rest : List ℕ) (chunk n m : ℕ) → then_told now (calls_from limit all chunk n) ≡ total → new ≡ then_told now (call_for limit chunk (length places)) → all ≡ map (λ p. 1024 * chunk + p) places ++ rest → All (λ p. p < 1024) places → All (λ p. 1024 * (chunk + 1) ≤ p) rest → n ≡ suc m → then_told new (calls_from limit rest (chunk + 1) m) ≡ total
+told_next now new total limit all places rest chunk n m h t e inside beyond c =
+    ap (λ r. then_told r (calls_from limit rest (chunk + 1) m)) t
+    ∙ told_more now (call_for limit chunk (length places)) (calls_from limit rest (chunk + 1) m)
+    ∙ ap (then_told now) (sym (calls_next limit all places rest chunk n m e inside beyond c)) ∙ h
+
+pub told_end : (now total : Option (List Call)) (limit : ℕ) (rest : List ℕ) (chunk n : ℕ) → n ≡ 0 → then_told now (calls_from limit rest chunk n) ≡ total → now ≡ total
+told_end now total limit rest chunk n e h =
+    told_none now ∙ ap (then_told now) (sym (calls_none limit rest chunk) ∙ ap (calls_from limit rest chunk) (sym e)) ∙ h
+
+-- no value asks for no call
+pub calls_of_none : (limit : ℕ) (values : List ℕ) (chunk n : ℕ) → length values ≡ 0 → calls_from limit values chunk n ≡ []
+unfolding calls_from
+calls_of_none limit [] chunk zero e = refl
+calls_of_none limit [] chunk (suc n) e = calls_of_none limit [] (chunk + 1) n e
+calls_of_none limit (v ∷ values) chunk n e = absurd (omega arith)
+
+pub told_of_none : (calls : Option (List Call)) (limit : ℕ) (values : List ℕ) (n : ℕ) → length values ≡ 0 → calls ≡ then_told calls (calls_from limit values 0 n)
+told_of_none calls limit values n e = told_none calls ∙ ap (then_told calls) (sym (calls_of_none limit values 0 n e))
+
+pub read_of_none : {X : Type 0} (f : ℕ → X) (values : List ℕ) → length values ≡ 0 → [] ≡ map f values
+read_of_none f [] e = refl
+read_of_none f (v ∷ values) e = absurd (omega arith)

@@ -1,0 +1,7 @@
+pub mod Ascends
+pub mod Counts
+pub mod Handed
+pub mod PickedOnce
+pub mod SetBits
+pub mod Spans
+pub mod ValuesAt

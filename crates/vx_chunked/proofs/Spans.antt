@@ -1,0 +1,133 @@
+-- Runs of positions.
+use Rattle.std.proofs.Common.{◌≡◌, refl, ℕ, zero, suc, ◌+◌, ◌-◌, ◌<◌, ◌≤◌, List, [], ◌∷◌, ◌++◌, length, get_or, take, drop, map, set, sym, ap, ap₂, subst, ◌∙◌, true, arith}
+use Rattle.std.specs.List.{All, range_with_len}
+use Rattle.std.proofs.lemmas.List.{drop_more, drop_all, append_assoc, map-append, take_more, take_more_set, append-nil, length-append, length-map}
+use Rattle.std.proofs.lemmas.List.Concat.{flat_map-append}
+use Rattle.std.proofs.lemmas.List.FromFn.{length-range_with_len}
+use Rattle.std.proofs.lemmas.List.Elements.{All-same}
+use Rattle.vx_mask.specs.Positions.{covered, runs_ascend}
+use Rattle.vx_mask.proofs.AscendingLists.{run_parts}
+use Rattle.vx_chunked.specs.Positions.{AscendFrom, with_runs}
+use Rattle.vx_chunked.proofs.Ascends.{ascend_lower, ascend_all}
+use Rattle.vx_chunked.proofs.ValuesAt.{map_range}
+
+pub range_split : (a m k : ℕ) → range_with_len a (m + k) ≡ range_with_len a m ++ range_with_len (a + m) k
+range_split a zero k = ap₂ range_with_len (omega arith) (omega arith)
+range_split a (suc m) k =
+    let n : suc m + k ≡ suc (m + k) = omega arith in
+    ap (range_with_len a) n ∙ ap (λ l. a ∷ l) (range_split (a + 1) m k ∙ ap (λ j. range_with_len (a + 1) m ++ range_with_len j k) (omega arith))
+
+pub put_more : (now old : List ℕ) (at first k : ℕ) → take (at + k) now ≡ take at old ++ range_with_len first k → at + k < length now → take (at + (k + 1)) (set now (at + k) (first + k)) ≡ take at old ++ range_with_len first (k + 1)
+put_more now old at first k h p =
+    let e : at + (k + 1) ≡ at + k + 1 = omega arith in
+    ap (λ n. take n (set now (at + k) (first + k))) e
+    ∙ take_more_set now (at + k) (first + k) p
+    ∙ ap (λ l. l ++ (first + k) ∷ []) h
+    ∙ append_assoc (take at old) (range_with_len first k) ((first + k) ∷ [])
+    ∙ ap (λ l. take at old ++ l) (sym (range_split first k 1))
+
+pub runs_split : (start end more : ℕ) (runs : List (ℕ × ℕ)) → more ≤ end - start → with_runs start end runs ≡ range_with_len start more ++ with_runs (start + more) end runs
+unfolding with_runs
+runs_split start end more runs h =
+    let e : end - start ≡ more + (end - (start + more)) = omega arith in
+    ap (λ n. range_with_len start n ++ covered runs) e
+    ∙ ap (λ l. l ++ covered runs) (range_split start more (end - (start + more)))
+    ∙ append_assoc (range_with_len start more) (range_with_len (start + more) (end - (start + more))) (covered runs)
+
+pub runs_next : (start end : ℕ) (later : List (ℕ × ℕ)) (k : ℕ) (r : ℕ × ℕ) → end ≤ start → k < length later → r ≡ get_or later k r → with_runs start end (drop k later) ≡ with_runs r.0 r.1 (drop (k + 1) later)
+unfolding with_runs
+runs_next start end later k r h p e =
+    let none : end - start ≡ 0 = omega arith in
+    ap (λ n. range_with_len start n ++ covered (drop k later)) none
+    ∙ ap covered (drop_more later k r p ∙ ap (λ q. q ∷ drop (k + 1) later) (sym e))
+
+pub runs_done : (start end : ℕ) (later : List (ℕ × ℕ)) (k : ℕ) → end ≤ start → length later ≤ k → with_runs start end (drop k later) ≡ []
+unfolding with_runs
+runs_done start end later k h p =
+    let none : end - start ≡ 0 = omega arith in
+    ap (λ n. range_with_len start n ++ covered (drop k later)) none ∙ ap covered (drop_all k later p)
+
+pub ascend_skip : (low high : ℕ) (xs ys : List ℕ) → AscendFrom low high (xs ++ ys) → AscendFrom (low + length xs) high ys
+ascend_skip low high [] ys h = ascend_lower low (low + 0) high ys h (omega arith)
+ascend_skip low high (x ∷ xs) ys h = ascend_lower (x + 1 + length xs) (low + suc (length xs)) high ys (ascend_skip (x + 1) high xs ys h.2) (omega (arith, h.0))
+
+pub range_below : (a n high : ℕ) → a + n ≤ high → All (λ p. p < high) (range_with_len a n)
+range_below a zero high h k d p = absurd (omega arith)
+range_below a (suc n) high h zero d p = omega arith
+range_below a (suc n) high h (suc k) d p = range_below (a + 1) n high (omega arith) k d (omega arith)
+
+pub length_runs_split : (start end more : ℕ) (runs : List (ℕ × ℕ)) → more ≤ end - start → length (with_runs start end runs) ≡ more + length (with_runs (start + more) end runs)
+length_runs_split start end more runs h =
+    ap length (runs_split start end more runs h) ∙ simp (length-append, length-range_with_len)
+
+-- a part of a run is taken
+module _ (base offset chunk start end more : ℕ) (runs : List (ℕ × ℕ)) (within : more ≤ end - start) where
+  left : List ℕ
+  left = map (λ i. offset + i) (with_runs (start + more) end runs)
+
+  pub run_cut : map (λ i. offset + i) (with_runs start end runs) ≡ map (λ i. offset + i) (range_with_len start more) ++ map (λ i. offset + i) (with_runs (start + more) end runs)
+  run_cut = ap (map (λ i. offset + i)) (runs_split start end more runs within) ∙ map-append (λ i. offset + i) (range_with_len start more) (with_runs (start + more) end runs)
+
+  pub take_run : (all old now : List ℕ) (k place : ℕ) → all ≡ map (λ p. base + p) (take k old) ++ map (λ i. offset + i) (with_runs start end runs) → take (k + more) now ≡ take k old ++ range_with_len place more → base + place ≡ offset + start → all ≡ map (λ p. base + p) (take (k + more) now) ++ map (λ i. offset + i) (with_runs (start + more) end runs)
+  take_run all old now k place h put e =
+      let same : (j : ℕ) → j < more → offset + (start + j) ≡ base + (place + j) = λ j p. omega arith in
+      h ∙ ap (λ l. map (λ p. base + p) (take k old) ++ l) run_cut
+      ∙ sym (append_assoc (map (λ p. base + p) (take k old)) (map (λ i. offset + i) (range_with_len start more)) (map (λ i. offset + i) (with_runs (start + more) end runs)))
+      ∙ ap (λ l. l ++ map (λ i. offset + i) (with_runs (start + more) end runs))
+      (ap (λ l. map (λ p. base + p) (take k old) ++ l) (map_range (λ i. offset + i) (λ p. base + p) start place more same)
+      ∙ sym (map-append (λ p. base + p) (take k old) (range_with_len place more)) ∙ ap (map (λ p. base + p)) (sym put))
+
+  pub ahead_run : (low high : ℕ) → AscendFrom low high (map (λ i. offset + i) (with_runs start end runs)) → AscendFrom (low + more) high (map (λ i. offset + i) (with_runs (start + more) end runs))
+  ahead_run low high h =
+      let long : length (map (λ i. offset + i) (range_with_len start more)) ≡ more = simp (length-map, length-range_with_len) in
+      subst (λ (n : ℕ). AscendFrom (low + n) high (map (λ i. offset + i) (with_runs (start + more) end runs))) long
+      (ascend_skip low high (map (λ i. offset + i) (range_with_len start more)) (map (λ i. offset + i) (with_runs (start + more) end runs)) (subst (AscendFrom low high) run_cut h))
+
+-- the first position that is left
+pub first_of_run : (offset low high start end : ℕ) (runs : List (ℕ × ℕ)) → start < end → AscendFrom low high (map (λ i. offset + i) (with_runs start end runs)) → (low ≤ offset + start) × (offset + start < high) × AscendFrom (offset + start + 1) high (map (λ i. offset + i) (with_runs (start + 1) end runs))
+first_of_run offset low high start end runs p h = subst (AscendFrom low high) (run_cut 0 offset 0 start end 1 runs (omega arith)) h
+
+pub run_beyond : (offset low high mid start end : ℕ) (runs : List (ℕ × ℕ)) → start < end → AscendFrom low high (map (λ i. offset + i) (with_runs start end runs)) → mid ≤ offset + start → All (λ p. mid ≤ p) (map (λ i. offset + i) (with_runs start end runs))
+run_beyond offset low high mid start end runs p h le =
+    let next = first_of_run offset low high start end runs p h in
+    All-same (λ q. mid ≤ q) _ _ (run_cut 0 offset 0 start end 1 runs (omega arith))
+    (ascend_all mid high mid ((offset + start) ∷ map (λ i. offset + i) (with_runs (start + 1) end runs)) (le, next.1, next.2) (omega arith))
+
+pub runs_beyond : (offset mid start end : ℕ) (later : List (ℕ × ℕ)) (k : ℕ) → end ≤ start → length later ≤ k → All (λ p. mid ≤ p) (map (λ i. offset + i) (with_runs start end (drop k later)))
+runs_beyond offset mid start end later k h p = All-same (λ q. mid ≤ q) _ _ (ap (map (λ i. offset + i)) (runs_done start end later k h p)) (λ j d q. absurd (omega arith))
+
+-- each run is non-empty
+pub run_is : (low high : ℕ) (runs : List (ℕ × ℕ)) (k : ℕ) → runs_ascend low high runs ≡ true → k < length runs → (get_or runs k (0, 0)).0 < (get_or runs k (0, 0)).1
+run_is low high [] k h p = absurd (omega arith)
+run_is low high (r ∷ runs) zero h p = (run_parts low high r runs h).some
+run_is low high (r ∷ runs) (suc k) h p = run_is r.1 high runs k (run_parts low high r runs h).then (omega arith)
+
+-- one more run is counted
+pub covered_more : (runs : List (ℕ × ℕ)) (k : ℕ) → k < length runs → length (covered (take (k + 1) runs)) ≡ length (covered (take k runs)) + ((get_or runs k (0, 0)).1 - (get_or runs k (0, 0)).0)
+covered_more runs k p =
+    let r = get_or runs k (0, 0) in
+    ap (λ l. length (covered l)) (take_more runs k (0, 0) p)
+    ∙ ap length (flat_map-append (λ (q : ℕ × ℕ). range_with_len q.0 (q.1 - q.0)) (take k runs) (r ∷ []))
+    ∙ length-append (covered (take k runs)) (covered (r ∷ []))
+    ∙ ap (λ n. length (covered (take k runs)) + n) (ap length (append-nil (range_with_len r.0 (r.1 - r.0))) ∙ length-range_with_len r.0 (r.1 - r.0))
+
+-- no more than all are counted
+pub covered_part : (runs : List (ℕ × ℕ)) (k : ℕ) → length (covered (take k runs)) ≤ length (covered runs)
+covered_part runs zero = omega arith
+covered_part [] (suc k) = omega arith
+covered_part (r ∷ runs) (suc k) = omega (arith, covered_part runs k, length-append (range_with_len r.0 (r.1 - r.0)) (covered (take k runs)), length-append (range_with_len r.0 (r.1 - r.0)) (covered runs))
+
+pub runs_all : (runs : List (ℕ × ℕ)) → with_runs 0 0 runs ≡ covered runs
+unfolding with_runs
+runs_all runs = refl
+
+-- the positions from 0 up to a count
+pub runs_front : (count : ℕ) → with_runs 0 count [] ≡ range_with_len 0 count
+unfolding with_runs
+runs_front count =
+    let e : count - 0 ≡ count = omega arith in
+    append-nil (range_with_len 0 (count - 0)) ∙ ap (range_with_len 0) e
+
+pub ascend_front_range : (a n high : ℕ) → a + n ≤ high → AscendFrom a high (range_with_len a n)
+ascend_front_range a zero high h = tt
+ascend_front_range a (suc n) high h = (omega arith, omega arith, ascend_front_range (a + 1) n high (omega arith))

@@ -1,0 +1,20 @@
+use Rattle.std.proofs.Common.{◌≡◌, ◌+◌, ◌*◌, ◌-◌, ◌≤◌, ◌++◌, length, map, take, Some}
+use Rattle.std.specs.Prelude.{slice_get}
+use Rattle.vx_chunked.specs.Positions.{AscendFrom}
+use Rattle.vx_bits.specs.WordReader.{then_told}
+use Rattle.vx_chunked.specs.Asked.{calls_from}
+use Rattle.vx_chunked.proofs.driver.take_chunks.Given as goal
+
+abbrev pub invariant-loop-chunk : goal.invariant-loop-chunk
+invariant-loop-chunk g l =
+    let values = g.D.ChunkDecoder.values l.fn.decoder in
+    let all = g.C.Cursor.rest l.fn.cursor in
+    let rest = g.C.Cursor.rest l.cursor in
+    record {
+      room : l.filled + length rest ≡ length l.out;
+      value : map Some (take l.filled l.out) ++ map (slice_get values) rest ≡ map (slice_get values) all;
+      told : then_told (g.D.ChunkDecoder.calls l.decoder) (calls_from l.limit rest l.chunk (l.chunks - l.chunk)) ≡ then_told (g.D.ChunkDecoder.calls l.fn.decoder) (calls_from l.limit all 0 l.chunks);
+      ahead : AscendFrom (1024 * l.chunk) l.end rest;
+      same : g.D.ChunkDecoder.values l.decoder ≡ values;
+      cost : g.D.ChunkDecoder.spare l.fn.decoder ≤ g.D.ChunkDecoder.spare l.decoder + l.chunk;
+    }

@@ -1,0 +1,53 @@
+use Rattle.std.proofs.Common.{◌≡◌, ◌+◌, true, ℕ, List, Some, IfOk, length, map, subst, sym, ap, ap₂, ◌∙◌}
+use Rattle.std.specs.Prelude.{slice_get, false, replicate}
+use Rattle.std.specs.List.{range_with_len}
+use Rattle.std.proofs.lemmas.List.{length-replicate}
+use Rattle.vx_bits.specs.WordReader.{then_told}
+use Rattle.vx_mask.specs.declared.mask.Mask.{Mask}
+use Rattle.vx_mask.specs.declared.mask.Mask.TheVariants.{AllTrue, AllFalse}
+use Rattle.vx_mask.specs.Mask.{mask_bits}
+use Rattle.vx_mask.specs.Policy.{sparse_limit_of}
+use Rattle.vx_mask.specs.Positions.{set_of}
+use Rattle.vx_mask.proofs.PositionLists.{positions_false, positions_true}
+use Rattle.vx_chunked.specs.Asked.{asked, touched}
+use Rattle.vx_chunked.proofs.Handed.{on_ok_same}
+use Rattle.vx_chunked.proofs.filter.filter_chunked_mask.Goals as goal
+
+module _ (mask : Mask) (len : ℕ) where
+  none : mask ≡ AllFalse len → range_with_len 0 0 ≡ set_of (mask_bits mask)
+  none is = sym (ap (λ m. set_of (mask_bits m)) is ∙ positions_false 0 len)
+
+  none_len : mask ≡ AllFalse len → len ≡ length (mask_bits mask)
+  none_len is = sym (ap (λ m. length (mask_bits m)) is ∙ length-replicate len false)
+
+  all : mask ≡ AllTrue len → range_with_len 0 len ≡ set_of (mask_bits mask)
+  all is = sym (ap (λ m. set_of (mask_bits m)) is ∙ positions_true 0 len)
+
+  all_len : mask ≡ AllTrue len → len ≡ length (mask_bits mask)
+  all_len is = sym (ap (λ m. length (mask_bits m)) is ∙ length-replicate len true)
+
+pub returns-in-AllFalse-clause-value : goal.returns-in-AllFalse-clause-value
+returns-in-AllFalse-clause-value g c =
+    let values = g.D.ChunkDecoder.values c.args.decoder.now in
+    subst (λ (l : List ℕ). IfOk c.filter_front.result (λ kept. map Some kept.items ≡ map (λ p. slice_get values (c.args.offset + p)) l))
+    (none c.args.mask.now _ c.in-AllFalse.is) c.filter_front.ensures.value
+
+pub returns-in-AllFalse-clause-told : goal.returns-in-AllFalse-clause-told
+returns-in-AllFalse-clause-told g c =
+    let old = g.D.ChunkDecoder.calls c.args.decoder.now in
+    let limit = sparse_limit_of c.args.policy.now g.T.Record.WIDTH in
+    on_ok_same c.filter_front.result _ _ _ c.filter_front.ensures.told
+    (ap₂ (λ set n. then_told old (asked c.args.offset set limit (touched c.args.offset n))) (none c.args.mask.now _ c.in-AllFalse.is) (none_len c.args.mask.now _ c.in-AllFalse.is))
+
+pub returns-in-AllTrue-clause-value : goal.returns-in-AllTrue-clause-value
+returns-in-AllTrue-clause-value g c =
+    let values = g.D.ChunkDecoder.values c.args.decoder.now in
+    subst (λ (l : List ℕ). IfOk c.filter_front-in-AllTrue.result (λ kept. map Some kept.items ≡ map (λ p. slice_get values (c.args.offset + p)) l))
+    (all c.args.mask.now _ c.in-AllTrue.is) c.filter_front-in-AllTrue.ensures.value
+
+pub returns-in-AllTrue-clause-told : goal.returns-in-AllTrue-clause-told
+returns-in-AllTrue-clause-told g c =
+    let old = g.D.ChunkDecoder.calls c.args.decoder.now in
+    let limit = sparse_limit_of c.args.policy.now g.T.Record.WIDTH in
+    on_ok_same c.filter_front-in-AllTrue.result _ _ _ c.filter_front-in-AllTrue.ensures.told
+    (ap₂ (λ set n. then_told old (asked c.args.offset set limit (touched c.args.offset n))) (all c.args.mask.now _ c.in-AllTrue.is) (all_len c.args.mask.now _ c.in-AllTrue.is))
