@@ -5,7 +5,7 @@ use Rattle.std.proofs.lemmas.List.{drop_more, drop_all, append_assoc, map-append
 use Rattle.std.proofs.lemmas.List.Concat.{flat_map-append}
 use Rattle.std.proofs.lemmas.List.FromFn.{length-range_with_len}
 use Rattle.std.proofs.lemmas.List.Elements.{All-same}
-use Rattle.vx_mask.specs.Positions.{covered, runs_ascend}
+use Rattle.vx_mask.specs.Positions.{run_positions, runs_ascend}
 use Rattle.vx_mask.proofs.AscendingLists.{run_parts}
 use Rattle.vx_chunked.specs.Positions.{AscendFrom, with_runs}
 use Rattle.vx_chunked.proofs.Ascends.{ascend_lower, ascend_all}
@@ -30,22 +30,22 @@ pub runs_split : (start end more : ℕ) (runs : List (ℕ × ℕ)) → more ≤ 
 unfolding with_runs
 runs_split start end more runs h =
     let e : end - start ≡ more + (end - (start + more)) = omega arith in
-    ap (λ n. range_with_len start n ++ covered runs) e
-    ∙ ap (λ l. l ++ covered runs) (range_split start more (end - (start + more)))
-    ∙ append_assoc (range_with_len start more) (range_with_len (start + more) (end - (start + more))) (covered runs)
+    ap (λ n. range_with_len start n ++ run_positions runs) e
+    ∙ ap (λ l. l ++ run_positions runs) (range_split start more (end - (start + more)))
+    ∙ append_assoc (range_with_len start more) (range_with_len (start + more) (end - (start + more))) (run_positions runs)
 
 pub runs_next : (start end : ℕ) (later : List (ℕ × ℕ)) (k : ℕ) (r : ℕ × ℕ) → end ≤ start → k < length later → r ≡ get_or later k r → with_runs start end (drop k later) ≡ with_runs r.0 r.1 (drop (k + 1) later)
 unfolding with_runs
 runs_next start end later k r h p e =
     let none : end - start ≡ 0 = omega arith in
-    ap (λ n. range_with_len start n ++ covered (drop k later)) none
-    ∙ ap covered (drop_more later k r p ∙ ap (λ q. q ∷ drop (k + 1) later) (sym e))
+    ap (λ n. range_with_len start n ++ run_positions (drop k later)) none
+    ∙ ap run_positions (drop_more later k r p ∙ ap (λ q. q ∷ drop (k + 1) later) (sym e))
 
 pub runs_done : (start end : ℕ) (later : List (ℕ × ℕ)) (k : ℕ) → end ≤ start → length later ≤ k → with_runs start end (drop k later) ≡ []
 unfolding with_runs
 runs_done start end later k h p =
     let none : end - start ≡ 0 = omega arith in
-    ap (λ n. range_with_len start n ++ covered (drop k later)) none ∙ ap covered (drop_all k later p)
+    ap (λ n. range_with_len start n ++ run_positions (drop k later)) none ∙ ap run_positions (drop_all k later p)
 
 pub ascend_skip : (low high : ℕ) (xs ys : List ℕ) → AscendFrom low high (xs ++ ys) → AscendFrom (low + length xs) high ys
 ascend_skip low high [] ys h = ascend_lower low (low + 0) high ys h (omega arith)
@@ -103,21 +103,21 @@ run_is low high (r ∷ runs) zero h p = (run_parts low high r runs h).some
 run_is low high (r ∷ runs) (suc k) h p = run_is r.1 high runs k (run_parts low high r runs h).then (omega arith)
 
 -- one more run is counted
-pub covered_more : (runs : List (ℕ × ℕ)) (k : ℕ) → k < length runs → length (covered (take (k + 1) runs)) ≡ length (covered (take k runs)) + ((get_or runs k (0, 0)).1 - (get_or runs k (0, 0)).0)
+pub covered_more : (runs : List (ℕ × ℕ)) (k : ℕ) → k < length runs → length (run_positions (take (k + 1) runs)) ≡ length (run_positions (take k runs)) + ((get_or runs k (0, 0)).1 - (get_or runs k (0, 0)).0)
 covered_more runs k p =
     let r = get_or runs k (0, 0) in
-    ap (λ l. length (covered l)) (take_more runs k (0, 0) p)
+    ap (λ l. length (run_positions l)) (take_more runs k (0, 0) p)
     ∙ ap length (flat_map-append (λ (q : ℕ × ℕ). range_with_len q.0 (q.1 - q.0)) (take k runs) (r ∷ []))
-    ∙ length-append (covered (take k runs)) (covered (r ∷ []))
-    ∙ ap (λ n. length (covered (take k runs)) + n) (ap length (append-nil (range_with_len r.0 (r.1 - r.0))) ∙ length-range_with_len r.0 (r.1 - r.0))
+    ∙ length-append (run_positions (take k runs)) (run_positions (r ∷ []))
+    ∙ ap (λ n. length (run_positions (take k runs)) + n) (ap length (append-nil (range_with_len r.0 (r.1 - r.0))) ∙ length-range_with_len r.0 (r.1 - r.0))
 
 -- no more than all are counted
-pub covered_part : (runs : List (ℕ × ℕ)) (k : ℕ) → length (covered (take k runs)) ≤ length (covered runs)
+pub covered_part : (runs : List (ℕ × ℕ)) (k : ℕ) → length (run_positions (take k runs)) ≤ length (run_positions runs)
 covered_part runs zero = omega arith
 covered_part [] (suc k) = omega arith
-covered_part (r ∷ runs) (suc k) = omega (arith, covered_part runs k, length-append (range_with_len r.0 (r.1 - r.0)) (covered (take k runs)), length-append (range_with_len r.0 (r.1 - r.0)) (covered runs))
+covered_part (r ∷ runs) (suc k) = omega (arith, covered_part runs k, length-append (range_with_len r.0 (r.1 - r.0)) (run_positions (take k runs)), length-append (range_with_len r.0 (r.1 - r.0)) (run_positions runs))
 
-pub runs_all : (runs : List (ℕ × ℕ)) → with_runs 0 0 runs ≡ covered runs
+pub runs_all : (runs : List (ℕ × ℕ)) → with_runs 0 0 runs ≡ run_positions runs
 unfolding with_runs
 runs_all runs = refl
 

@@ -11,6 +11,7 @@ pub whole_chunks_are_bounded : {X : Type 0} (xs : List X) → length (whole_chun
 whole_chunks_are_bounded xs =
     omega (arith, length-take-le (min (length xs) (2 ^ 64 - 1) / 1024 * 1024) xs (omega arith))
 
-pub whole_chunks_same : {X : Type 0} (xs : List X) → length xs % 1024 ≡ 0 → length xs < 2 ^ 64 → whole_chunks xs ≡ xs
+pub whole_chunks_same : {X : Type 0} (xs : List X) → length xs % 1024 ≡ 0 → length xs < 2 ^ 64
+    → whole_chunks xs ≡ xs
 whole_chunks_same xs h b =
     take_all (min (length xs) (2 ^ 64 - 1) / 1024 * 1024) xs (omega arith)

@@ -4,7 +4,7 @@ ghost use Rattle.std.specs.List.{range_with_len};
 ghost use Rattle.vx_bits.specs.WordReader.{then_told};
 ghost use Rattle.vx_mask.specs.Mask.{mask_bits};
 ghost use Rattle.vx_mask.specs.Policy.{sparse_limit_of};
-ghost use Rattle.vx_mask.specs.Positions.{ascending, covered, runs_ascend, set_of};
+ghost use Rattle.vx_mask.specs.Positions.{ascending, run_positions, runs_ascend, set_of};
 ghost use Rattle.vx_chunked.specs.Asked.{asked, end_of, touched};
 
 use crate::bits::BitCursor;
@@ -58,7 +58,7 @@ pub fn filter_chunked_by_indices<T: Record, D: ChunkDecoder<T>>(
 // How many positions the runs have.
 fn total_of(len: usize, slices: &[(usize, usize)]) -> usize
     requires { runs_ascend 0 len slices.now ≡ true }
-    ensures { result ≡ length (covered slices.now) }
+    ensures { result ≡ length (run_positions slices.now) }
 {
     let mut total = 0;
     for (start, end) in slices {
@@ -82,10 +82,10 @@ pub fn filter_chunked_by_slices<T: Record, D: ChunkDecoder<T>>(
     requires spare { touched offset len ≤ D.spare decoder.old }
     requires runs { runs_ascend 0 len slices.now ≡ true }
     ensures value { IfOk result (λ kept. map Some kept.items
-        ≡ map (λ p. slice_get (D.values decoder.old) (offset + p)) (covered slices.now)) }
+        ≡ map (λ p. slice_get (D.values decoder.old) (offset + p)) (run_positions slices.now)) }
     ensures told { OnOk result (D.calls decoder.new
         ≡ then_told (D.calls decoder.old)
-        (asked offset (covered slices.now) (sparse_limit_of policy.now T.WIDTH)
+        (asked offset (run_positions slices.now) (sparse_limit_of policy.now T.WIDTH)
         (touched offset len))) }
     ensures untold { OnErr result (D.calls decoder.new ≡ D.calls decoder.old) }
     ensures same { D.values decoder.new ≡ D.values decoder.old }

@@ -13,7 +13,7 @@ use lib.Count.{count_trailing_zeros}
 use Rattle.vx_bits.specs.BitBuffer.{true_count_of}
 use Rattle.vx_bits.specs.Words.{word_at, word_bits}
 use Rattle.vx_bits.proofs.WordBits.{full-word_bits, true_count_of-word_bits}
-use Rattle.vx_mask.specs.Positions.{ascending, covered, positions, set_of}
+use Rattle.vx_mask.specs.Positions.{ascending, run_positions, positions, set_of}
 use Rattle.vx_mask.proofs.AscendingLists.{index_parts}
 use Rattle.vx_mask.proofs.LowestBit.{lowest_position, no_positions}
 use Rattle.vx_mask.proofs.MarkedBits.{word_within_bits}
@@ -45,16 +45,16 @@ run_first_of low len start zero rest p h = absurd (omega arith)
 run_first_of low len start (suc n) rest p h = run_first low len start n rest h
 
 -- runs that cover places below `len` end at or before it
-pub runs_within : (low len : ℕ) (runs : List (ℕ × ℕ)) → All (λ run. run.0 < run.1) runs → ascending low len (covered runs) ≡ true → All (λ run. run.1 ≤ len) runs
+pub runs_within : (low len : ℕ) (runs : List (ℕ × ℕ)) → All (λ run. run.0 < run.1) runs → ascending low len (run_positions runs) ≡ true → All (λ run. run.1 ≤ len) runs
 runs_within low len [] p h = All-nil (λ (run : ℕ × ℕ). run.1 ≤ len)
 runs_within low len (run ∷ runs) p h =
     let some : run.0 < run.1 = p 0 (0, 0) (omega arith) in
-    let first = run_first_of low len run.0 (run.1 - run.0) (covered runs) (omega arith) h in
+    let first = run_first_of low len run.0 (run.1 - run.0) (run_positions runs) (omega arith) h in
     All-cons (λ (r : ℕ × ℕ). r.1 ≤ len) run runs (omega (arith, first.within)) (runs_within (run.0 + (run.1 - run.0)) len runs (All-tail (λ (r : ℕ × ℕ). r.0 < r.1) run runs p) first.then)
 
 -- the places of a run and of the runs behind it
-covered_first : (runs : List (ℕ × ℕ)) (k : ℕ) (d : ℕ × ℕ) → k < length runs → covered (drop k runs) ≡ range_with_len (get_or runs k d).0 ((get_or runs k d).1 - (get_or runs k d).0) ++ covered (drop (k + 1) runs)
-covered_first runs k d h = ap covered (drop_more runs k d h)
+covered_first : (runs : List (ℕ × ℕ)) (k : ℕ) (d : ℕ × ℕ) → k < length runs → run_positions (drop k runs) ≡ range_with_len (get_or runs k d).0 ((get_or runs k d).1 - (get_or runs k d).0) ++ run_positions (drop (k + 1) runs)
+covered_first runs k d h = ap run_positions (drop_more runs k d h)
 
 -- the places of a full word
 pub full_word_places : (base word : ℕ) → word ≡ 2 ^ 64 - 1 → positions base (word_bits word 64) ≡ range_with_len base 64
@@ -222,18 +222,18 @@ module _ {X : Type 0} where
     pub within : run.1 ≤ length now
     pub behind : kept ≤ run.0
 
-  pub next_run_place : (all : List (Option X)) (now : List X) (kept k : ℕ) (runs : List (ℕ × ℕ)) (d : ℕ × ℕ) → k < length runs → All (λ run. run.0 < run.1) runs → IsMovingOn all now kept (covered (drop k runs)) → IsNextRun now kept (get_or runs k d)
+  pub next_run_place : (all : List (Option X)) (now : List X) (kept k : ℕ) (runs : List (ℕ × ℕ)) (d : ℕ × ℕ) → k < length runs → All (λ run. run.0 < run.1) runs → IsMovingOn all now kept (run_positions (drop k runs)) → IsNextRun now kept (get_or runs k d)
   next_run_place all now kept k runs d h p m =
       let run = get_or runs k d in
       let some : run.0 < run.1 = p k d h in
-      let first = run_first_of m.low (length now) run.0 (run.1 - run.0) (covered (drop (k + 1) runs)) (omega arith) (ap (ascending m.low (length now)) (sym (covered_first runs k d h)) ∙ m.moving.ahead) in
+      let first = run_first_of m.low (length now) run.0 (run.1 - run.0) (run_positions (drop (k + 1) runs)) (omega arith) (ap (ascending m.low (length now)) (sym (covered_first runs k d h)) ∙ m.moving.ahead) in
       record { some = some; within = omega (arith, first.within); behind = omega (arith, m.moving.behind, first.from) }
 
-  pub next_run_moved : (all : List (Option X)) (now new : List X) (kept n k : ℕ) (runs : List (ℕ × ℕ)) (d : ℕ × ℕ) → k < length runs → All (λ run. run.0 < run.1) runs → n ≡ (get_or runs k d).1 - (get_or runs k d).0 → length new ≡ length now → take (kept + n) new ≡ take kept now ++ take n (drop (get_or runs k d).0 now) → drop (kept + n) new ≡ drop (kept + n) now → IsMovingOn all now kept (covered (drop k runs)) → IsMovingOn all new (kept + n) (covered (drop (k + 1) runs))
+  pub next_run_moved : (all : List (Option X)) (now new : List X) (kept n k : ℕ) (runs : List (ℕ × ℕ)) (d : ℕ × ℕ) → k < length runs → All (λ run. run.0 < run.1) runs → n ≡ (get_or runs k d).1 - (get_or runs k d).0 → length new ≡ length now → take (kept + n) new ≡ take kept now ++ take n (drop (get_or runs k d).0 now) → drop (kept + n) new ≡ drop (kept + n) now → IsMovingOn all now kept (run_positions (drop k runs)) → IsMovingOn all new (kept + n) (run_positions (drop (k + 1) runs))
   next_run_moved all now new kept n k runs d h p is long front after m =
       let run = get_or runs k d in
       let some : run.0 < run.1 = p k d h in
-      let rest = covered (drop (k + 1) runs) in
+      let rest = run_positions (drop (k + 1) runs) in
       let places = covered_first runs k d h ∙ ap (λ n. range_with_len run.0 n ++ rest) (sym is) in
       record {
         low = run.0 + n;

@@ -4,7 +4,7 @@ use Rattle.std.specs.List.{All, flat_map, items_where_true, range_with_len, slic
 use Rattle.std.proofs.lemmas.List.{map-append, take_more, get_or-drop}
 use Rattle.std.proofs.lemmas.List.Elements.{All-cons, All-nil, All-tail}
 use Rattle.std.proofs.lemmas.Option.{slice_get-get_or}
-use Rattle.vx_mask.specs.Positions.{ascending, covered, positions, set_of}
+use Rattle.vx_mask.specs.Positions.{ascending, run_positions, positions, set_of}
 use Rattle.vx_mask.proofs.AscendingLists.{index_parts}
 use Rattle.vx_mask.proofs.MarkedBits.{ascending-positions}
 use Rattle.vx_mask.proofs.RankedItems.{items_at_the_set}
@@ -34,7 +34,7 @@ module _ {X : Type 0} where
       ∙ sym (map-append (slice_get src) (take i indices) (p ∷ [])) ∙ ap (map (slice_get src)) (sym (take_more indices i 0 h))
 
   -- the items of runs are those at the places that the runs cover
-  pub runs_picked : (src : List X) (runs : List (ℕ × ℕ)) → All (λ run. run.0 ≤ run.1) runs → All (λ run. run.1 ≤ length src) runs → map Some (flat_map (λ run. slice_range src run.0 run.1) runs) ≡ map (slice_get src) (covered runs)
+  pub runs_picked : (src : List X) (runs : List (ℕ × ℕ)) → All (λ run. run.0 ≤ run.1) runs → All (λ run. run.1 ≤ length src) runs → map Some (flat_map (λ run. slice_range src run.0 run.1) runs) ≡ map (slice_get src) (run_positions runs)
   runs_picked src [] p q = refl
   runs_picked src (run ∷ runs) p q =
       let ordered : run.0 ≤ run.1 = p 0 (0, 0) (omega arith) in
@@ -43,10 +43,10 @@ module _ {X : Type 0} where
       let more = flat_map (λ (r : ℕ × ℕ). slice_range src r.0 r.1) runs in
       map-append Some cut more
       ∙ ap₂ ◌++◌ (cut_picked src run.0 (run.1 - run.0) (omega arith)) (runs_picked src runs (All-tail (λ (r : ℕ × ℕ). r.0 ≤ r.1) run runs p) (All-tail (λ (r : ℕ × ℕ). r.1 ≤ length src) run runs q))
-      ∙ sym (map-append (slice_get src) (range_with_len run.0 (run.1 - run.0)) (covered runs))
+      ∙ sym (map-append (slice_get src) (range_with_len run.0 (run.1 - run.0)) (run_positions runs))
 
   -- so items of runs that cover the set positions are what the bits pick
-  pub runs_picked_set : (bits : List Bool) (src : List X) (runs : List (ℕ × ℕ)) → length bits ≡ length src → covered runs ≡ set_of bits → All (λ run. run.0 ≤ run.1) runs → All (λ run. run.1 ≤ length src) runs → flat_map (λ run. slice_range src run.0 run.1) runs ≡ items_where_true bits src
+  pub runs_picked_set : (bits : List Bool) (src : List X) (runs : List (ℕ × ℕ)) → length bits ≡ length src → run_positions runs ≡ set_of bits → All (λ run. run.0 ≤ run.1) runs → All (λ run. run.1 ≤ length src) runs → flat_map (λ run. slice_range src run.0 run.1) runs ≡ items_where_true bits src
   runs_picked_set bits src runs h cover p q = picked_at_the_set bits src (flat_map (λ (run : ℕ × ℕ). slice_range src run.0 run.1) runs) h (runs_picked src runs p q ∙ ap (map (slice_get src)) cover)
 
   -- the same of an answer

@@ -5,7 +5,7 @@ ghost use Rattle.std.specs.Int.RustNames.{count_ones};
 ghost use Rattle.vx_bits.specs.BitBuffer.{true_count_of};
 ghost use Rattle.vx_bits.specs.Words.{word_bits};
 ghost use Rattle.vx_filter.specs.Choice.{IsDense};
-ghost use Rattle.vx_mask.specs.Positions.{ascending, covered, positions, set_of};
+ghost use Rattle.vx_mask.specs.Positions.{ascending, run_positions, positions, set_of};
 
 use crate::choice::{is_dense, useful_indices, useful_slices};
 use crate::ladder::filter_slice;
@@ -77,10 +77,10 @@ fn keep_indices<T: Copy>(values: &mut [T], indices: &[usize]) -> usize
 // number.
 fn keep_slices<T: Copy>(values: &mut [T], slices: &[(usize, usize)]) -> usize
     requires some { All (λ run. run.0 < run.1) slices.now }
-    requires ascend { ascending 0 (length values.old) (covered slices.now) ≡ true }
-    ensures count { result ≡ length (covered slices.now) }
+    requires ascend { ascending 0 (length values.old) (run_positions slices.now) ≡ true }
+    ensures count { result ≡ length (run_positions slices.now) }
     ensures front { map Some (take result values.new)
-        ≡ map (slice_get values.old) (covered slices.now) }
+        ≡ map (slice_get values.old) (run_positions slices.now) }
 {
     let mut kept = 0;
     for run in slices {

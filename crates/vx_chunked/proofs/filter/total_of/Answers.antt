@@ -1,6 +1,6 @@
 use Rattle.std.proofs.Common.{◌+◌, arith}
-use Rattle.vx_mask.specs.Positions.{covered}
-use Rattle.vx_mask.proofs.AscendingLists.{ascending-covered}
+use Rattle.vx_mask.specs.Positions.{run_positions}
+use Rattle.vx_mask.proofs.AscendingLists.{ascending-run_positions}
 use Rattle.vx_chunked.proofs.Ascends.{ascend_few, ascend_of}
 use Rattle.vx_chunked.proofs.Spans.{run_is, covered_more, covered_part}
 use Rattle.vx_chunked.proofs.filter.total_of.Goals as goal
@@ -14,7 +14,7 @@ overflow_add-total c =
     let k = c.loop-start.start-index in
     let more = covered_more runs k (omega arith) in
     let part = covered_part runs (k + 1) in
-    let few = ascend_few 0 c.args.len (covered runs) (omega arith) (ascend_of 0 c.args.len (covered runs) (ascending-covered 0 c.args.len runs c.requires)) in
+    let few = ascend_few 0 c.args.len (run_positions runs) (omega arith) (ascend_of 0 c.args.len (run_positions runs) (ascending-run_positions 0 c.args.len runs c.requires)) in
     omega (arith, more, part, few, c.loop-start.invariant)
 
 pub loop-start-preserved : goal.loop-start-preserved

@@ -2,7 +2,7 @@ use Rattle.std.proofs.Common.{◌≡◌, ◌+◌, ◌-◌, ◌<◌, ◌≤◌, �
 use Rattle.std.specs.List.{range_with_len}
 use Rattle.std.proofs.lemmas.List.{length-append}
 use Rattle.std.proofs.lemmas.List.FromFn.{length-range_with_len}
-use Rattle.vx_mask.specs.Positions.{covered}
+use Rattle.vx_mask.specs.Positions.{run_positions}
 use Rattle.vx_mask.proofs.AscendingLists.{covered_more}
 use Rattle.vx_filter.proofs.Moves.{next_run_moved, next_run_place}
 use Rattle.vx_filter.proofs.in_place.keep_slices.Goals as goal
@@ -28,5 +28,5 @@ loop-run-preserved g c =
     let k = c.loop-run.run-index in
     record {
       moving = next_run_moved _ c.loop-run.values _ c.loop-run.kept _ k runs (0, 0) c.loop-run-test.true c.requires.some refl (omega arith) c.move_down.ensures.front c.move_down.ensures.after v.moving;
-      count = omega (arith, v.count, ap length (covered_more runs k (0, 0) c.loop-run-test.true), length-append (covered (take k runs)) (range_with_len (get_or runs k (0, 0)).0 ((get_or runs k (0, 0)).1 - (get_or runs k (0, 0)).0)), length-range_with_len (get_or runs k (0, 0)).0 ((get_or runs k (0, 0)).1 - (get_or runs k (0, 0)).0));
+      count = omega (arith, v.count, ap length (covered_more runs k (0, 0) c.loop-run-test.true), length-append (run_positions (take k runs)) (range_with_len (get_or runs k (0, 0)).0 ((get_or runs k (0, 0)).1 - (get_or runs k (0, 0)).0)), length-range_with_len (get_or runs k (0, 0)).0 ((get_or runs k (0, 0)).1 - (get_or runs k (0, 0)).0));
     }
