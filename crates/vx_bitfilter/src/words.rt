@@ -63,7 +63,8 @@ pub fn filter_words<S: WordReader, M: WordReader>(
     ensures src_bits { S.bits src.new ≡ S.bits src.old }
     ensures mask_bits { M.bits mask.new ≡ M.bits mask.old }
     ensures src_cost { S.spare src.old ≤ S.spare src.new + word_count (length (M.bits mask.old)) }
-    ensures mask_cost { M.spare mask.old ≤ M.spare mask.new + word_count (length (M.bits mask.old)) }
+    ensures mask_cost { M.spare mask.old
+        ≤ M.spare mask.new + word_count (length (M.bits mask.old)) }
 {
     let table = table_for(alloc, mask.len())?;
     let mut kept = BitBuilder::with_capacity(alloc, true_count)?;
