@@ -107,10 +107,10 @@ module _ {X : Type 0} where
   pub moved : (all : List (Option X)) (now new xs : List X) (kept low n next : ℕ) (first rest : List ℕ) → IsMoving all now kept low (first ++ rest) → length new ≡ length now → take (kept + n) new ≡ take kept now ++ xs → map Some xs ≡ map (slice_get now) first → drop (kept + n) new ≡ drop (kept + n) now → kept + n ≤ next → ascending next (length now) rest ≡ true → IsMoving all new (kept + n) next rest
   moved all now new xs kept low n next first rest h long front is after below ahead = record {
     whole =
-      ap₂ ◌++◌ (ap (map Some) front ∙ map-append Some (take kept now) xs ∙ ap (λ l. map Some (take kept now) ++ l) is) (same_picks now new (kept + n) next (length now) rest after below ahead)
-      ∙ append_assoc (map Some (take kept now)) (map (slice_get now) first) (map (slice_get now) rest)
-      ∙ ap (λ l. map Some (take kept now) ++ l) (sym (map-append (slice_get now) first rest))
-      ∙ h.whole;
+        ap₂ ◌++◌ (ap (map Some) front ∙ map-append Some (take kept now) xs ∙ ap (λ l. map Some (take kept now) ++ l) is) (same_picks now new (kept + n) next (length now) rest after below ahead)
+        ∙ append_assoc (map Some (take kept now)) (map (slice_get now) first) (map (slice_get now) rest)
+        ∙ ap (λ l. map Some (take kept now) ++ l) (sym (map-append (slice_get now) first rest))
+        ∙ h.whole;
     behind = below;
     ahead = ap (λ n. ascending next n rest) long ∙ ahead;
   }

@@ -31,13 +31,13 @@ loop-w-preserved g c =
     let h : 64 * w ≤ length bits = omega arith in
     elim c.if-word-ne0.branch [
       | then-word-ne0 u ↦ record {
-          items = places_pushed bits c.args.src.now c.loop-w.kept.items _ w c.word-word.result h is (ap (λ k. map Some k.items) u.kept-is ∙ u.push_bytes.ensures.items) v.items;
-          room = ap (λ k. vec_capacity k) u.kept-is ∙ u.push_bytes.ensures.capacity ∙ v.room;
-        }
+        items = places_pushed bits c.args.src.now c.loop-w.kept.items _ w c.word-word.result h is (ap (λ k. map Some k.items) u.kept-is ∙ u.push_bytes.ensures.items) v.items;
+        room = ap (λ k. vec_capacity k) u.kept-is ∙ u.push_bytes.ensures.capacity ∙ v.room;
+      }
       | else-word-ne0 u ↦ record {
-          items = ap (λ k. map Some k.items) u.kept-is ∙ places_passed bits c.args.src.now c.loop-w.kept.items w c.word-word.result h is u.if-word-ne0.false v.items;
-          room = ap (λ k. vec_capacity k) u.kept-is ∙ v.room;
-        }
+        items = ap (λ k. map Some k.items) u.kept-is ∙ places_passed bits c.args.src.now c.loop-w.kept.items w c.word-word.result h is u.if-word-ne0.false v.items;
+        room = ap (λ k. vec_capacity k) u.kept-is ∙ v.room;
+      }
     ]
 
 pub returns : goal.returns
