@@ -1,8 +1,8 @@
-use Rattle.std.proofs.Common.{◌≡◌, ◌+◌, ◌*◌, ◌<◌, ◌≤◌, ◌++◌, [], length, map, take, Some, refl, sym, ap, ap₂, subst, ◌∙◌, arith}
+use Rattle.std.proofs.Common.{◌*◌, ◌≤◌, length, map, Some, ap, ◌∙◌, arith}
 use Rattle.std.specs.List.{slice_get}
 use Rattle.std.specs.Vec.{vec_capacity}
-use Rattle.vx_bits.specs.Words.{word_at, word_bits}
-use Rattle.vx_mask.specs.Positions.{positions, set_of}
+use Rattle.vx_bits.specs.Words.{word_at}
+use Rattle.vx_mask.specs.Positions.{set_of}
 use Rattle.vx_filter.proofs.Bytes.{places_fit, places_in, places_passed, places_pushed}
 use Rattle.vx_filter.proofs.Picks.{picked_at_the_set}
 use Rattle.vx_bits.proofs.WordLists.{take_all_words}
