@@ -106,7 +106,7 @@ byte_places base word n byte e =
     let is : byte ≡ y % 2 ^ 8 = e ∙ lowest_is y 8 (omega arith) in
     let own : word_bits y 8 ≡ word_bits byte 8 = sym (word_bits_low y 8) ∙ ap (λ x. word_bits x 8) (sym is) in
     let split : word_bits word (n + 8) ≡ word_bits word n ++ word_bits byte 8 =
-        ap (λ x. word_bits x (n + 8)) (sym (div-add-mod' word (2 ^ n))) ∙ word_bits-append (word % 2 ^ n) n y 8 (mod_below word (2 ^ n) (pow_pos n)) ∙ ap₂ ◌++◌ low own in
+    ap (λ x. word_bits x (n + 8)) (sym (div-add-mod' word (2 ^ n))) ∙ word_bits-append (word % 2 ^ n) n y 8 (mod_below word (2 ^ n) (pow_pos n)) ∙ ap₂ ◌++◌ low own in
     let at : base + length (word_bits word n) ≡ base + n + 0 = omega (arith, length-word_bits word n) in
     ap (positions base) split ∙ positions-append base (word_bits word n) (word_bits byte 8)
     ∙ ap (λ l. positions base (word_bits word n) ++ l) (ap (λ a. positions a (word_bits byte 8)) at ∙ positions-shift (base + n) 0 (word_bits byte 8))

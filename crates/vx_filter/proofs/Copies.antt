@@ -1,6 +1,5 @@
 -- Items that are copied to the front of another list.
-use Rattle.std.proofs.Common.{◌≡◌, ℕ, zero, suc, ◌+◌, ◌-◌, ◌*◌, ◌^◌, ◌<◌, ◌≤◌, Bool, true, false, cond, List, [], ◌∷◌, ◌++◌, length, get_or, take, drop, set, map, bit_and, Option, Some, inl, inr, refl, sym, ap, ap₂, subst, ◌∙◌, arith, append_assoc, append-nil}
-use Rattle.std.specs.Int.{w64}
+use Rattle.std.proofs.Common.{◌≡◌, ℕ, zero, suc, ◌+◌, ◌-◌, ◌*◌, ◌^◌, ◌<◌, ◌≤◌, Bool, true, false, cond, List, [], ◌∷◌, ◌++◌, length, get_or, take, drop, set, map, bit_and, Option, Some, inl, inr, refl, sym, ap, subst, ◌∙◌, arith, append_assoc, append-nil}
 use Rattle.std.specs.Int.RustNames.{count_ones}
 use Rattle.std.specs.List.{All, items_where_true, range_with_len, slice_get}
 use Rattle.std.proofs.lemmas.List.{drop-set-lt, drop_more, flat_map_more, get_or-append-add, get_or_append_left, length-append, length-drop, length-take-le, map-append, take-append-drop, take_all, take_more, take_more_set}
@@ -74,10 +73,10 @@ word_clear words w len h clear =
     let short = length-take-le w words (omega arith) in
     let whole : bits_of_words words ≡ front ++ (word_bits word 64 ++ bits_of_words (drop (w + 1) words)) = words_behind words w ∙ ap (λ l. front ++ bits_of_words l) (drop_more words w 0 h) in
     positions_clear (64 * w) (word_bits word 64) len (λ k p q.
-        let inside : k < 64 = omega (arith, length-word_bits word 64) in
-        let at : 64 * w + k ≡ length front + k = omega (arith, long, short) in
-        sym (ap (λ l. get_or l (64 * w + k) false) whole ∙ ap (λ n. get_or (front ++ (word_bits word 64 ++ bits_of_words (drop (w + 1) words))) n false) at ∙ get_or-append-add front (word_bits word 64 ++ bits_of_words (drop (w + 1) words)) k false ∙ get_or_append_left (word_bits word 64) (bits_of_words (drop (w + 1) words)) false k q)
-        ∙ clear (64 * w + k) p (omega arith))
+    let inside : k < 64 = omega (arith, length-word_bits word 64) in
+    let at : 64 * w + k ≡ length front + k = omega (arith, long, short) in
+    sym (ap (λ l. get_or l (64 * w + k) false) whole ∙ ap (λ n. get_or (front ++ (word_bits word 64 ++ bits_of_words (drop (w + 1) words))) n false) at ∙ get_or-append-add front (word_bits word 64 ++ bits_of_words (drop (w + 1) words)) k false ∙ get_or_append_left (word_bits word 64) (bits_of_words (drop (w + 1) words)) false k q)
+    ∙ clear (64 * w + k) p (omega arith))
 
 module _ {X : Type 0} where
   -- some items were copied to the front of dst, others are left, and the rest of dst is as it was
@@ -92,10 +91,10 @@ module _ {X : Type 0} where
       let here : Some x ≡ slice_get src p = ap Some item ∙ sym (slice_get-get_or src p x within) in
       record {
         whole =
-          ap (λ l. map Some l ++ map (slice_get src) rest) (take_more_set dst kept x room)
-          ∙ ap (λ l. l ++ map (slice_get src) rest) (map-append Some (take kept dst) (x ∷ []) ∙ ap (λ y. map Some (take kept dst) ++ y ∷ []) here)
-          ∙ append_assoc (map Some (take kept dst)) (slice_get src p ∷ []) (map (slice_get src) rest)
-          ∙ h.whole;
+            ap (λ l. map Some l ++ map (slice_get src) rest) (take_more_set dst kept x room)
+            ∙ ap (λ l. l ++ map (slice_get src) rest) (map-append Some (take kept dst) (x ∷ []) ∙ ap (λ y. map Some (take kept dst) ++ y ∷ []) here)
+            ∙ append_assoc (map Some (take kept dst)) (slice_get src p ∷ []) (map (slice_get src) rest)
+            ∙ h.whole;
         within = All-tail (λ p. p < length src) p rest h.within;
         after = drop-set-lt (kept + 1) dst kept x (omega arith) ∙ same_further old dst kept (kept + 1) (omega arith) h.after;
       }
@@ -208,11 +207,11 @@ module _ {X : Type 0} where
       let m = copying_as all src old dst kept _ (range ++ places) (run.places base) h in
       record {
         whole =
-          ap (λ l. map Some l ++ map (slice_get src) places) front
-          ∙ ap (λ l. l ++ map (slice_get src) places) (map-append Some (take kept dst) (take count (drop (base + low) src)) ∙ ap (λ l. map Some (take kept dst) ++ l) (cut_picked src (base + low) count within))
-          ∙ append_assoc (map Some (take kept dst)) (map (slice_get src) range) (map (slice_get src) places)
-          ∙ ap (λ l. map Some (take kept dst) ++ l) (sym (map-append (slice_get src) range places))
-          ∙ m.whole;
+            ap (λ l. map Some l ++ map (slice_get src) places) front
+            ∙ ap (λ l. l ++ map (slice_get src) places) (map-append Some (take kept dst) (take count (drop (base + low) src)) ∙ ap (λ l. map Some (take kept dst) ++ l) (cut_picked src (base + low) count within))
+            ∙ append_assoc (map Some (take kept dst)) (map (slice_get src) range) (map (slice_get src) places)
+            ∙ ap (λ l. map Some (take kept dst) ++ l) (sym (map-append (slice_get src) range places))
+            ∙ m.whole;
         within = All-right (λ p. p < length src) range places m.within;
         after = after ∙ same_further old dst kept (kept + count) (omega arith) h.after;
       }

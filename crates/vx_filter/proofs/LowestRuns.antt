@@ -1,8 +1,7 @@
 -- The lowest run of a word.
-use Rattle.std.proofs.Common.{◌≡◌, ℕ, zero, suc, ◌+◌, ◌-◌, ◌*◌, ◌/◌, ◌%◌, ◌^◌, ◌<◌, ◌≤◌, min, true, false, [], ◌∷◌, ◌++◌, length, replicate, bit_and, refl, sym, ap, ap₂, subst, ◌∙◌, inl, inr, arith}
+use Rattle.std.proofs.Common.{◌≡◌, ℕ, zero, suc, ◌+◌, ◌-◌, ◌*◌, ◌/◌, ◌%◌, ◌^◌, ◌<◌, ◌≤◌, min, true, false, ◌++◌, length, replicate, bit_and, sym, ap, ap₂, subst, ◌∙◌, inl, inr, arith}
 use Rattle.std.specs.List.{range_with_len}
 use Rattle.std.specs.Int.{bit_at, bit_not, trailing_zeros, trailing_ones, w64}
-use Rattle.std.specs.Int.RustNames.{count_ones}
 use Rattle.std.proofs.Math.Nat.{pow-suc, add-mul, mul-lt-mul_of_pos_right, div-le_self}
 use Rattle.std.proofs.lemmas.Bool.{cases_lt}
 use Rattle.std.proofs.lemmas.List.{length-append, length-replicate}
@@ -151,7 +150,7 @@ lowest_run_is x pos fits =
     let left : word_bits rest 64 ≡ replicate t false ++ (replicate c false ++ more) = ap (λ n. word_bits n 64) gone ∙ pieces t c 0 z run.inside (pow_pos c) ∙ ap (λ l. replicate t false ++ (l ++ more)) (zero-word_bits c) in
     let behind = λ (base : ℕ). ap (positions base) left ∙ clear_places base t (replicate c false ++ more) ∙ clear_places (base + t) c more in
     let places : (base : ℕ) → positions base (word_bits x 64) ≡ range_with_len (base + t) c ++ positions base (word_bits rest 64) = λ base.
-        ap (positions base) bits ∙ clear_places base t (replicate c true ++ more) ∙ set_places (base + t) c more ∙ ap (λ l. range_with_len (base + t) c ++ l) (sym (behind base)) in
+    ap (positions base) bits ∙ clear_places base t (replicate c true ++ more) ∙ set_places (base + t) c more ∙ ap (λ l. range_with_len (base + t) c ++ l) (sym (behind base)) in
     let less : z * 2 ^ c + 0 < z * 2 ^ c + (2 ^ c - 1) = omega (arith, two_le c run.some) in
     let smaller : rest < x = omega (arith, gone, run.is, mul-lt-mul_of_pos_right less (pow_pos t)) in
     record {

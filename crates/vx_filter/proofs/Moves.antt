@@ -1,10 +1,9 @@
 -- Items that move to the front of their own list, or to that of another one.
-use Rattle.std.proofs.Common.{◌≡◌, ℕ, zero, suc, ◌+◌, ◌-◌, ◌*◌, ◌^◌, ◌<◌, ◌≤◌, Bool, true, false, List, [], ◌∷◌, ◌++◌, length, get_or, take, drop, set, map, replicate, bit_and, Option, Some, inl, inr, refl, sym, ap, ap₂, subst, ◌∙◌, arith, append_assoc, append-nil}
+use Rattle.std.proofs.Common.{◌≡◌, ℕ, zero, suc, ◌+◌, ◌-◌, ◌*◌, ◌^◌, ◌<◌, ◌≤◌, Bool, true, List, [], ◌∷◌, ◌++◌, length, get_or, take, drop, set, map, bit_and, Option, Some, refl, sym, ap, ap₂, subst, ◌∙◌, arith, append_assoc, append-nil}
 use Rattle.std.specs.Int.{w64}
 use Rattle.std.specs.Int.RustNames.{count_ones}
 use Rattle.std.specs.List.{All, range_with_len, slice_get}
-use Rattle.std.proofs.lemmas.Bool.{cases_lt}
-use Rattle.std.proofs.lemmas.List.{drop-drop, drop-set-lt, drop_more, get_or-drop, length-append, length-drop, length-set, length-take-le, map-append, take_more_set}
+use Rattle.std.proofs.lemmas.List.{drop-drop, drop-set-lt, drop_more, length-set, map-append, take_more_set}
 use Rattle.std.proofs.lemmas.List.Elements.{All-cons, All-nil, All-tail}
 use Rattle.std.proofs.lemmas.Option.{slice_get-get_or}
 use Rattle.std.proofs.lemmas.Nat.{zero_from_ones}
@@ -107,10 +106,10 @@ module _ {X : Type 0} where
   pub moved : (all : List (Option X)) (now new xs : List X) (kept low n next : ℕ) (first rest : List ℕ) → IsMoving all now kept low (first ++ rest) → length new ≡ length now → take (kept + n) new ≡ take kept now ++ xs → map Some xs ≡ map (slice_get now) first → drop (kept + n) new ≡ drop (kept + n) now → kept + n ≤ next → ascending next (length now) rest ≡ true → IsMoving all new (kept + n) next rest
   moved all now new xs kept low n next first rest h long front is after below ahead = record {
     whole =
-      ap₂ ◌++◌ (ap (map Some) front ∙ map-append Some (take kept now) xs ∙ ap (λ l. map Some (take kept now) ++ l) is) (same_picks now new (kept + n) next (length now) rest after below ahead)
-      ∙ append_assoc (map Some (take kept now)) (map (slice_get now) first) (map (slice_get now) rest)
-      ∙ ap (λ l. map Some (take kept now) ++ l) (sym (map-append (slice_get now) first rest))
-      ∙ h.whole;
+        ap₂ ◌++◌ (ap (map Some) front ∙ map-append Some (take kept now) xs ∙ ap (λ l. map Some (take kept now) ++ l) is) (same_picks now new (kept + n) next (length now) rest after below ahead)
+        ∙ append_assoc (map Some (take kept now)) (map (slice_get now) first) (map (slice_get now) rest)
+        ∙ ap (λ l. map Some (take kept now) ++ l) (sym (map-append (slice_get now) first rest))
+        ∙ h.whole;
     behind = below;
     ahead = ap (λ n. ascending next n rest) long ∙ ahead;
   }

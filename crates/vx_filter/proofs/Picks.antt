@@ -1,10 +1,10 @@
 -- The items of a list at places, one after another.
-use Rattle.std.proofs.Common.{◌≡◌, ℕ, zero, suc, ◌+◌, ◌-◌, ◌<◌, ◌≤◌, Bool, true, false, List, [], ◌∷◌, ◌++◌, length, get_or, take, drop, map, Some, Ok, Err, Result, IfOk, refl, sym, ap, ap₂, ◌∙◌, arith}
+use Rattle.std.proofs.Common.{◌≡◌, ℕ, ◌+◌, ◌-◌, ◌<◌, ◌≤◌, Bool, true, List, [], ◌∷◌, ◌++◌, length, get_or, take, map, Some, Ok, Err, Result, IfOk, refl, sym, ap, ap₂, ◌∙◌, arith}
 use Rattle.std.specs.List.{All, flat_map, items_where_true, range_with_len, slice_get, slice_range}
-use Rattle.std.proofs.lemmas.List.{map-append, take_more, get_or-drop}
+use Rattle.std.proofs.lemmas.List.{map-append, take_more}
 use Rattle.std.proofs.lemmas.List.Elements.{All-cons, All-nil, All-tail}
 use Rattle.std.proofs.lemmas.Option.{slice_get-get_or}
-use Rattle.vx_mask.specs.Positions.{ascending, run_positions, positions, set_of}
+use Rattle.vx_mask.specs.Positions.{ascending, run_positions, set_of}
 use Rattle.vx_mask.proofs.AscendingLists.{index_parts}
 use Rattle.vx_mask.proofs.MarkedBits.{ascending-positions}
 use Rattle.vx_mask.proofs.RankedItems.{items_at_the_set}

@@ -23,10 +23,7 @@ pub(crate) fn useful_slices<'a>(
 }
 
 // The set positions that a mask keeps, where its density is at most what the policy says.
-pub(crate) fn useful_indices<'a>(
-    mask: &'a MaskValues,
-    fields: &PolicyFields,
-) -> Option<&'a [usize]>
+pub(crate) fn useful_indices<'a>(mask: &'a MaskValues, fields: &PolicyFields) -> Option<&'a [usize]>
     ensures { IfSome result (λ indices. indices.now ≡ set_of mask.now.bits.bits) }
 {
     let indices = mask.cached_indices()?;

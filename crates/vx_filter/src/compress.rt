@@ -91,13 +91,7 @@ pub fn byte_compress<T: Copy>(
 // Appends the items where the bits of a word are set, whose first bit has position `base`. There is
 // room for them.
 #[inline(always)]
-fn push_bytes<T: Copy>(
-    kept: &mut Vec<T>,
-    src: &[T],
-    base: usize,
-    word: u64,
-    table: &CompressTable,
-)
+fn push_bytes<T: Copy>(kept: &mut Vec<T>, src: &[T], base: usize, word: u64, table: &CompressTable)
     requires places { base + 64 ≤ 2 ^ 64 }
     requires within { All (λ p. p < length src.now) (positions base (word_bits word 64)) }
     requires room { vec_len kept.old + length (positions base (word_bits word 64))

@@ -19,11 +19,7 @@ use vx_mask::{MaskValues, Policy};
 /// Runs that the mask keeps are moved as such where they are one or long enough, else the values
 /// at the indices that it keeps where they are few enough, else those of its words. The values do
 /// not depend on the policy.
-pub fn filter_slice_in_place<T: Copy>(
-    values: &mut [T],
-    mask: &MaskValues,
-    policy: &Policy,
-) -> usize
+pub fn filter_slice_in_place<T: Copy>(values: &mut [T], mask: &MaskValues, policy: &Policy) -> usize
     requires { length mask.now.bits.bits ≡ length values.old }
     ensures count { result ≡ true_count_of mask.now.bits.bits }
     ensures front { take result values.new

@@ -1,4 +1,4 @@
-use Rattle.std.proofs.Common.{◌≡◌, ℕ, ◌+◌, ◌*◌, ◌^◌, ◌<◌, ◌≤◌, ◌++◌, length, take, drop, ap, sym, subst, ◌∙◌, arith}
+use Rattle.std.proofs.Common.{ℕ, ◌*◌, ◌^◌, ◌<◌, length, ap, sym, subst, ◌∙◌, arith}
 use Rattle.std.specs.List.{items_where_true}
 use Rattle.vx_bits.specs.Words.{word_at, word_bits}
 use Rattle.vx_filter.proofs.WordItems.{items_behind, word_fits, word_pushed, word_within}

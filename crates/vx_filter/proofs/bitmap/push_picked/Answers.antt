@@ -1,4 +1,4 @@
-use Rattle.std.proofs.Common.{◌≡◌, ◌++◌, ◌<◌, ◌≤◌, ◌^◌, ◌-◌, ◌∙◌, ap, sym, arith, length, append-nil, subst}
+use Rattle.std.proofs.Common.{◌++◌, ◌<◌, ◌^◌, ◌∙◌, ap, sym, length, append-nil, subst}
 use Rattle.std.proofs.lemmas.List.{length-take-le}
 use Rattle.vx_bits.proofs.WordLists.{picked_full_word, picked_no_word}
 use Rattle.vx_filter.proofs.WordItems.{full_within}

@@ -1,6 +1,5 @@
-use Rattle.std.proofs.Common.{◌≡◌, ℕ, ◌+◌, ◌*◌, ◌^◌, ◌<◌, ◌≤◌, false, length, get_or, map, take, drop, Some, sym, ap, subst, ◌∙◌, arith, take_all}
+use Rattle.std.proofs.Common.{ℕ, ◌+◌, false, length, map, sym, ap, subst, ◌∙◌, arith, take_all}
 use Rattle.std.specs.List.{slice_get}
-use Rattle.vx_bits.specs.BitBuffer.{true_count_of}
 use Rattle.vx_mask.specs.Positions.{AllBits, set_of}
 use Rattle.vx_filter.specs.Compact.{bits_of_words}
 use Rattle.vx_filter.proofs.Copies.{count_below, count_more, length-bits_of_words, picked_by_words, word_clear, word_gone}

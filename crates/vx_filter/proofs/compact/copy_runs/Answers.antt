@@ -1,4 +1,4 @@
-use Rattle.std.proofs.Common.{◌≡◌, ◌+◌, ◌<◌, ◌≤◌, length, take, drop, map, Some, sym, ap, ◌∙◌, arith}
+use Rattle.std.proofs.Common.{arith}
 use Rattle.std.proofs.lemmas.Nat.{ones_le_self}
 use Rattle.vx_filter.proofs.Copies.{run_copied, run_within, word_all_copied}
 use Rattle.vx_filter.proofs.compact.copy_runs.Goals as goal

@@ -1,4 +1,4 @@
-use Rattle.std.proofs.Common.{◌≡◌, ◌+◌, ◌-◌, ◌^◌, ◌<◌, ◌≤◌, length, take, drop, map, Some, refl, sym, ap, ◌∙◌, arith}
+use Rattle.std.proofs.Common.{◌^◌, ◌<◌, refl, arith}
 use Rattle.vx_bits.proofs.WordLists.{one_less}
 use Rattle.vx_mask.proofs.LowestBit.{some_left}
 use Rattle.vx_filter.proofs.Copies.{next_within, word_copied, word_all_copied}

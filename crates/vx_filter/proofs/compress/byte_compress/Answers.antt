@@ -1,8 +1,8 @@
-use Rattle.std.proofs.Common.{◌≡◌, ◌+◌, ◌*◌, ◌<◌, ◌≤◌, ◌++◌, [], length, map, take, Some, refl, sym, ap, ap₂, subst, ◌∙◌, arith}
+use Rattle.std.proofs.Common.{◌*◌, ◌≤◌, length, map, Some, ap, ◌∙◌, arith}
 use Rattle.std.specs.List.{slice_get}
 use Rattle.std.specs.Vec.{vec_capacity}
-use Rattle.vx_bits.specs.Words.{word_at, word_bits}
-use Rattle.vx_mask.specs.Positions.{positions, set_of}
+use Rattle.vx_bits.specs.Words.{word_at}
+use Rattle.vx_mask.specs.Positions.{set_of}
 use Rattle.vx_filter.proofs.Bytes.{places_fit, places_in, places_passed, places_pushed}
 use Rattle.vx_filter.proofs.Picks.{picked_at_the_set}
 use Rattle.vx_bits.proofs.WordLists.{take_all_words}
@@ -31,13 +31,13 @@ loop-w-preserved g c =
     let h : 64 * w ≤ length bits = omega arith in
     elim c.if-word-ne0.branch [
       | then-word-ne0 u ↦ record {
-          items = places_pushed bits c.args.src.now c.loop-w.kept.items _ w c.word-word.result h is (ap (λ k. map Some k.items) u.kept-is ∙ u.push_bytes.ensures.items) v.items;
-          room = ap (λ k. vec_capacity k) u.kept-is ∙ u.push_bytes.ensures.capacity ∙ v.room;
-        }
+        items = places_pushed bits c.args.src.now c.loop-w.kept.items _ w c.word-word.result h is (ap (λ k. map Some k.items) u.kept-is ∙ u.push_bytes.ensures.items) v.items;
+        room = ap (λ k. vec_capacity k) u.kept-is ∙ u.push_bytes.ensures.capacity ∙ v.room;
+      }
       | else-word-ne0 u ↦ record {
-          items = ap (λ k. map Some k.items) u.kept-is ∙ places_passed bits c.args.src.now c.loop-w.kept.items w c.word-word.result h is u.if-word-ne0.false v.items;
-          room = ap (λ k. vec_capacity k) u.kept-is ∙ v.room;
-        }
+        items = ap (λ k. map Some k.items) u.kept-is ∙ places_passed bits c.args.src.now c.loop-w.kept.items w c.word-word.result h is u.if-word-ne0.false v.items;
+        room = ap (λ k. vec_capacity k) u.kept-is ∙ v.room;
+      }
     ]
 
 pub returns : goal.returns

@@ -1,5 +1,4 @@
-use Rattle.std.proofs.Common.{◌≡◌, ◌<◌, ◌≤◌, length, take, drop, sym, ap, ◌∙◌, arith}
-use Rattle.std.proofs.lemmas.List.{length-take-le}
+use Rattle.std.proofs.Common.{arith}
 use Rattle.vx_filter.proofs.Bytes.{placed}
 use Rattle.vx_filter.proofs.compress.places_at.Goals as goal
 

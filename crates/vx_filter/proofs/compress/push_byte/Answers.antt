@@ -1,4 +1,4 @@
-use Rattle.std.proofs.Common.{◌≡◌, ◌+◌, ◌<◌, get_or, length, map, Some, ◌∙◌, arith}
+use Rattle.std.proofs.Common.{map, Some, ◌∙◌, arith}
 use Rattle.vx_filter.proofs.Bytes.{byte_pick_pushed}
 use Rattle.vx_filter.proofs.compress.push_byte.Goals as goal
 

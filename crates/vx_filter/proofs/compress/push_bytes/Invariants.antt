@@ -1,4 +1,4 @@
-use Rattle.std.proofs.Common.{◌≡◌, ◌+◌, ◌*◌, ◌++◌, Some, length, map, vec_len}
+use Rattle.std.proofs.Common.{◌≡◌, ◌*◌, ◌++◌, Some, map}
 use Rattle.std.specs.List.{slice_get}
 use Rattle.std.specs.Vec.{vec_capacity}
 use Rattle.vx_bits.specs.Words.{word_bits}

@@ -1,6 +1,5 @@
-use Rattle.std.proofs.Common.{◌≡◌, length, map, take, sym, ap, ◌∙◌, arith}
+use Rattle.std.proofs.Common.{length, map, ap, ◌∙◌}
 use Rattle.std.specs.List.{slice_get}
-use Rattle.vx_bits.specs.BitBuffer.{true_count_of}
 use Rattle.vx_mask.specs.Positions.{ascending, set_of}
 use Rattle.vx_mask.proofs.PositionLists.{length-positions}
 use Rattle.vx_filter.proofs.Picks.{picked_at_the_set, set_ascends}

@@ -1,4 +1,4 @@
-use Rattle.std.proofs.Common.{◌≡◌, ◌+◌, ◌<◌, length, take, arith}
+use Rattle.std.proofs.Common.{arith}
 use Rattle.vx_filter.proofs.Moves.{index_moved}
 use Rattle.vx_filter.proofs.in_place.keep_indices.Goals as goal
 

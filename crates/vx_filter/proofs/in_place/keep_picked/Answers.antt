@@ -1,4 +1,4 @@
-use Rattle.std.proofs.Common.{◌≡◌, ◌+◌, ◌<◌, ◌≤◌, length, take, drop, sym, ap, ◌∙◌, arith}
+use Rattle.std.proofs.Common.{◌+◌, sym, ap, arith}
 use Rattle.vx_filter.proofs.Moves.{empty_moved, full_moved, full_place, ones_of_full, same_further}
 use Rattle.vx_filter.proofs.in_place.keep_picked.Goals as goal
 

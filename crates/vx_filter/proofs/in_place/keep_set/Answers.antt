@@ -1,7 +1,6 @@
-use Rattle.std.proofs.Common.{◌≡◌, ◌+◌, ◌*◌, ◌<◌, ◌≤◌, length, take, drop, subst, sym, ap, ◌∙◌, arith}
+use Rattle.std.proofs.Common.{◌≡◌, ◌+◌, ◌*◌, length, drop, subst, ap, ◌∙◌, arith}
 use Rattle.std.specs.Int.RustNames.{count_ones}
 use Rattle.vx_bits.proofs.WordLists.{count_of_word}
-use Rattle.vx_mask.specs.Positions.{ascending}
 use Rattle.vx_mask.proofs.MarkedBits.{word_within_bits}
 use Rattle.vx_filter.proofs.Moves.{same_further, word_gone}
 use Rattle.vx_filter.proofs.in_place.keep_set.Goals as goal

@@ -1,4 +1,4 @@
-use Rattle.std.proofs.Common.{◌≡◌, ◌+◌, ◌++◌, take, drop, map, Some}
+use Rattle.std.proofs.Common.{◌≡◌, ◌+◌, ◌++◌, take, map, Some}
 use Rattle.std.specs.Int.RustNames.{count_ones}
 use Rattle.std.specs.List.{slice_get}
 use Rattle.vx_bits.specs.Words.{word_bits}

@@ -1,5 +1,5 @@
-use Rattle.std.proofs.Common.{◌≡◌, ◌<◌, IfOk, Some, length, map, subst, sym, ap, ◌∙◌, arith}
-use Rattle.std.specs.List.{All, slice_get}
+use Rattle.std.proofs.Common.{◌≡◌, ◌<◌, IfOk, length, subst, sym, ap, ◌∙◌}
+use Rattle.std.specs.List.{All}
 use Rattle.vx_mask.specs.Positions.{ascending}
 use Rattle.vx_filter.proofs.Moves.{runs_within}
 use Rattle.vx_filter.proofs.Picks.{ordered_runs, ok_picked, runs_picked_set, set_ascends, set_below}

@@ -1,4 +1,4 @@
-use Rattle.std.proofs.Common.{◌<◌, get_or, length, ◌∙◌, arith}
+use Rattle.std.proofs.Common.{◌<◌, length, ◌∙◌}
 use Rattle.std.proofs.lemmas.List.Elements.{All-get_or}
 use Rattle.vx_filter.proofs.Picks.{pick_pushed}
 use Rattle.vx_filter.proofs.lists.filter_slice_by_indices.Goals as goal

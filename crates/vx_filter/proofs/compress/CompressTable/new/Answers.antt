@@ -1,6 +1,6 @@
-use Rattle.std.proofs.Common.{◌≡◌, ◌++◌, sym, ap, refl, subst, ◌∙◌, arith}
+use Rattle.std.proofs.Common.{◌≡◌, ◌++◌, sym, ap, subst, ◌∙◌, arith}
 use Rattle.vx_filter.specs.Compress.{IsEachStart, places_of, places_to}
-use Rattle.vx_filter.proofs.Bytes.{places_more, starts_more, starts_none}
+use Rattle.vx_filter.proofs.Bytes.{places_more, starts_more}
 use Rattle.vx_filter.proofs.compress.CompressTable.new.Goals as goal
 
 pub loop-byte-preserved : goal.loop-byte-preserved
