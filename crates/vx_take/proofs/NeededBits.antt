@@ -1,17 +1,21 @@
 -- Lemmas on bits that are turned on at places, and on picks among the set positions.
-use Rattle.std.proofs.Common.{◌≡◌, ℕ, zero, suc, ◌<◌, ◌≤◌, Bool, true, false, cond, List, [], ◌∷◌, length, get_or, map, take, None, Some, refl, sym, ap, ap₂, subst, ◌∙◌, arith}
+use Rattle.std.proofs.Common.{◌≡◌, ◌-◌, ◌+◌, ◌^◌, ◌*◌, ◌/◌, ◌%◌, bit_and, ℕ, zero, suc, ◌<◌, ◌≤◌, Bool, true, false, cond, List, [], ◌∷◌, length, get_or, map, take, None, Some, refl, sym, ap, ap₂, subst, ◌∙◌, arith}
 use Rattle.std.specs.Prelude.{IfSome, Option, ◌==◌}
+use Rattle.std.specs.Int.RustNames.{count_ones}
 use Rattle.std.specs.List.{slice_get}
 use Rattle.std.specs.Option.{option_map}
 use Rattle.std.proofs.lemmas.Bool.{eqb-false}
 use Rattle.std.proofs.lemmas.List.{get_or_default, get_or-map, length-map}
+use Rattle.std.proofs.lemmas.List.FromFn.{get_or-map-range_with_len, length-map-range_with_len}
 use Rattle.std.proofs.lemmas.Option.{slice_get-get_or, slice_get_within}
 use Rattle.vx_bits.specs.BitBuffer.{true_count_of}
+use Rattle.vx_bits.specs.Words.{word_at}
 use Rattle.vx_mask.specs.Positions.{rank_of}
 use Rattle.vx_mask.proofs.BlockCounts.{count_fits}
+use Rattle.vx_mask.proofs.WordCounts.{count_before}
 use Rattle.vx_mask.proofs.PositionLists.{get_or_of_slice_get, position_at, true_count_before_set}
 use Rattle.vx_take.specs.Picks.{ArePlaces, IsPlace, null_place, pick_of, picks_of}
-use Rattle.vx_take.specs.Ranks.{AreJustSet, AreSet, place_before, ranked, translated}
+use Rattle.vx_take.specs.Ranks.{AreJustSet, AreSet, place_before, ranked, translated, word_counts}
 use Rattle.vx_take.proofs.RankedPicks.{pick_there}
 
 -- ---- bits at places
@@ -111,3 +115,20 @@ module _ (bits : List Bool) (fits : length bits ≤ null_place) where
   pub ranked_back : (picks : List (Option ℕ)) → AreSet bits picks → translated bits (ranked bits picks) ≡ picks
   ranked_back [] set = refl
   ranked_back (pick ∷ picks) set = ap₂ ◌∷◌ (is_ranked bits pick fits (set zero None (omega arith))).back (ranked_back picks (λ k d h. set (suc k) d (omega arith)))
+
+-- ---- counts before words
+
+pub position_below : (bits : List Bool) (place : ℕ) → (place ≡ null_place → ⊥) → IfSome (pick_of place) (λ p. p < length bits) → place < length bits
+position_below bits place there h =
+    let P : Option ℕ → Type 0 = λ o. IfSome o (λ p. p < length bits) in
+    subst P (pick_there place there) h
+
+pub counts_long : (bits : List Bool) (counts : List ℕ) → counts ≡ word_counts bits → length counts ≡ length bits / 64 + 1
+counts_long bits counts e = ap length e ∙ length-map-range_with_len (λ w. true_count_of (take (64 * w) bits)) 0 (length bits / 64 + 1)
+
+-- the set bits before the word, and those of the word before the place
+pub counted_before : (bits : List Bool) (counts : List ℕ) (p word : ℕ) → counts ≡ word_counts bits → p < length bits → word ≡ word_at bits (p / 64) → get_or counts (p / 64) 0 + count_ones (bit_and word (1 * 2 ^ (p % 64) % 2 ^ 64 - 1)) ≡ true_count_of (take p bits)
+counted_before bits counts p word e h own =
+    let within : p / 64 < length bits / 64 + 1 = omega arith in
+    let first = ap (λ l. get_or l (p / 64) 0) e ∙ get_or-map-range_with_len (λ w. true_count_of (take (64 * w) bits)) 0 (length bits / 64 + 1) (p / 64) (p / 64) 0 within (omega arith) in
+    ap (λ n. n + count_ones (bit_and word (1 * 2 ^ (p % 64) % 2 ^ 64 - 1))) first ∙ count_before bits p word own

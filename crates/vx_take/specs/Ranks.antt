@@ -1,6 +1,6 @@
 -- Picks among the set positions of a mask.
-use Rattle.std.specs.Prelude.{◌≡◌, ◌↔◌, ℕ, Bool, true, List, map, take, Contains, Option, None, Some, IfSome, slice_get}
-use Rattle.std.specs.List.{All}
+use Rattle.std.specs.Prelude.{◌≡◌, ◌↔◌, ℕ, ◌+◌, ◌*◌, ◌/◌, Bool, true, List, length, map, take, Contains, Option, None, Some, IfSome, slice_get}
+use Rattle.std.specs.List.{All, range_with_len}
 use Rattle.std.specs.Option.{option_map}
 use Rattle.vx_bits.specs.BitBuffer.{true_count_of}
 use Rattle.vx_mask.specs.Positions.{rank_of}
@@ -26,3 +26,8 @@ AreJustSet bits picks = (p : ℕ) → (slice_get bits p ≡ Some true) ↔ Conta
 abbrev pub place_before : List Bool → Option ℕ → ℕ
 place_before bits None = null_place
 place_before bits (Some p) = true_count_of (take p bits)
+
+-- for each word of bits, the number of set bits before it
+abbrev pub word_counts : List Bool → List ℕ
+word_counts bits =
+    map (λ w. true_count_of (take (64 * w) bits)) (range_with_len 0 (length bits / 64 + 1))

@@ -3,11 +3,11 @@ ghost use Rattle.std.specs.Prelude.{◌≡◌, ◌<◌, ◌≤◌, IfOk, IfSome,
 ghost use Rattle.vx_bits.specs.BitBuffer.{true_count_of};
 ghost use Rattle.vx_mask.specs.Mask.{mask_bits};
 ghost use Rattle.vx_take.specs.Picks.{AreBelow, IsPlace, null_place, pick_of};
-ghost use Rattle.vx_take.specs.Ranks.{AreJustSet, AreSet, place_before, ranked, translated};
+ghost use Rattle.vx_take.specs.Ranks.{AreJustSet, AreSet, place_before, ranked, translated, word_counts};
 
 use crate::picks::{NULL_PLACE, Picks};
 use std::alloc::Global;
-use vx_bits::{BitBuilder, NoMemory};
+use vx_bits::{BitBuffer, BitBuilder, NoMemory};
 use vx_mask::Mask;
 
 /// The mask of the bound's length whose set positions are just the non-null picks. `NoMemory`
@@ -49,13 +49,24 @@ pub fn ranks_in(alloc: Global, picks: &Picks, mask: &Mask) -> Result<Picks, NoMe
 {
     // The number of rows fits a place.
     let _ = mask.len();
-    let counted = mask.with_blocks(alloc)?;
-    let places = rank_places(alloc, picks, &counted)?;
+    let places = rank_places(alloc, picks, mask)?;
     Ok(Picks::from_places(places, mask.true_count()))
 }
 
 // The places of the ranks of picks.
 fn rank_places(alloc: Global, picks: &Picks, mask: &Mask) -> Result<Vec<usize>, NoMemory>
+    requires { AreSet (mask_bits mask.now) picks.now.picks }
+    ensures { IfOk result (λ places. places.items
+        ≡ map (place_before (mask_bits mask.now)) picks.now.picks) }
+{
+    match mask.values() {
+        Some(values) => by_counts(alloc, picks, values.bits()),
+        None => one_by_one(alloc, picks, mask),
+    }
+}
+
+// The places of the ranks of picks, where a mask selects all rows or none.
+fn one_by_one(alloc: Global, picks: &Picks, mask: &Mask) -> Result<Vec<usize>, NoMemory>
     requires { AreSet (mask_bits mask.now) picks.now.picks }
     ensures { IfOk result (λ places. places.items
         ≡ map (place_before (mask_bits mask.now)) picks.now.picks) }
@@ -68,7 +79,7 @@ fn rank_places(alloc: Global, picks: &Picks, mask: &Mask) -> Result<Vec<usize>, 
     Ok(places)
 }
 
-// The rank of a place, by block counts where the mask keeps them.
+// The rank of a place.
 #[inline(always)]
 fn rank_at(mask: &Mask, place: usize) -> usize
     requires { IfSome (pick_of place) (λ p. p < length (mask_bits mask.now)) }
@@ -78,5 +89,49 @@ fn rank_at(mask: &Mask, place: usize) -> usize
         NULL_PLACE
     } else {
         mask.true_before(place)
+    }
+}
+
+// The places of the ranks of picks, by the set bits before each word, counted once.
+fn by_counts(alloc: Global, picks: &Picks, bits: &BitBuffer) -> Result<Vec<usize>, NoMemory>
+    requires { AreSet bits.now.bits picks.now.picks }
+    ensures { IfOk result (λ places. places.items
+        ≡ map (place_before bits.now.bits) picks.now.picks) }
+{
+    let counts = counts_before(alloc, bits)?;
+    let from = picks.places();
+    let mut places = Vec::with_capacity(alloc, from.len())?;
+    for place in from {
+        places.push_reserved(rank_by_counts(bits, counts.as_slice(), *place));
+    }
+    Ok(places)
+}
+
+// For each word the number of set bits before it.
+fn counts_before(alloc: Global, bits: &BitBuffer) -> Result<Vec<usize>, NoMemory>
+    ensures { IfOk result (λ counts. counts.items ≡ word_counts bits.now.bits) }
+{
+    let words = bits.len() / 64 + 1;
+    let mut counts = Vec::with_capacity(alloc, words)?;
+    let mut count = 0;
+    for w in 0..words {
+        counts.push_reserved(count);
+        count += bits.word(w).count_ones() as usize;
+    }
+    Ok(counts)
+}
+
+// The rank of a place: the set bits before its word, and those of its word before it.
+#[inline(always)]
+fn rank_by_counts(bits: &BitBuffer, counts: &[usize], place: usize) -> usize
+    requires within { IfSome (pick_of place) (λ p. p < length bits.now.bits) }
+    requires counted { counts.now ≡ word_counts bits.now.bits }
+    ensures { result ≡ place_before bits.now.bits (pick_of place) }
+{
+    if place == NULL_PLACE {
+        NULL_PLACE
+    } else {
+        let before = bits.word(place / 64) & ((1 << (place % 64)) - 1);
+        counts[place / 64] + before.count_ones() as usize
     }
 }

@@ -3,7 +3,7 @@ use Rattle.std.specs.Vec.{vec_capacity}
 use Rattle.vx_mask.specs.Mask.{mask_bits}
 use Rattle.vx_take.specs.Picks.{picks_of}
 use Rattle.vx_take.specs.Ranks.{place_before}
-use Rattle.vx_take.proofs.needs.rank_places.Given as goal
+use Rattle.vx_take.proofs.needs.one_by_one.Given as goal
 
 abbrev pub invariant-loop-place : goal.invariant-loop-place
 invariant-loop-place l = record {

@@ -1,7 +1,7 @@
 use Rattle.std.proofs.Common.{arith}
 use Rattle.vx_mask.specs.Mask.{mask_bits}
 use Rattle.vx_take.proofs.NeededBits.{place_within}
-use Rattle.vx_take.proofs.needs.rank_places.Goals as goal
+use Rattle.vx_take.proofs.needs.one_by_one.Goals as goal
 
 pub rank_at-requires : goal.rank_at-requires
 rank_at-requires c =

@@ -1,0 +1,12 @@
+use Rattle.std.proofs.Common.{◌≡◌, length, map, take}
+use Rattle.std.specs.Vec.{vec_capacity}
+use Rattle.vx_take.specs.Picks.{picks_of}
+use Rattle.vx_take.specs.Ranks.{place_before}
+use Rattle.vx_take.proofs.needs.by_counts.Given as goal
+
+abbrev pub invariant-loop-place : goal.invariant-loop-place
+invariant-loop-place l = record {
+  items : l.places.items ≡ map (place_before l.bits.bits) (picks_of (take l.place-index l.from));
+  len : length l.places.items ≡ l.place-index;
+  room : vec_capacity l.places ≡ length l.from;
+}
