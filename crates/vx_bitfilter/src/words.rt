@@ -88,8 +88,8 @@ fn table_for(alloc: Global, len: usize) -> Result<Option<PextTable>, NoMemory>
     Ok(Some(PextTable::new(alloc)?))
 }
 
-// The bits that a mask's word picks, packed from bit 0: by the table where there is one. A full
-// mask takes the word whole.
+// The bits that a mask's word picks, packed from bit 0: by the table where there is one, and the
+// bits are not so few that a turn for each is less work. A full mask takes the word whole.
 #[inline]
 fn packed(table: &Option<PextTable>, word: u64, picks: u64) -> u64
     ensures { word_bits result (count_ones picks)
@@ -97,6 +97,9 @@ fn packed(table: &Option<PextTable>, word: u64, picks: u64) -> u64
 {
     if picks == u64::MAX {
         return word;
+    }
+    if picks.count_ones() <= 10 {
+        return pext_fallback(word, picks);
     }
     match table {
         Some(table) => table.pext(word, picks),
