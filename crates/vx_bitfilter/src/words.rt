@@ -59,11 +59,14 @@ pub fn filter_words<S: WordReader, M: WordReader>(
     ensures prefix { OnErr result ((n : ℕ)
         × (n ≤ word_count (length (M.bits mask.old)))
         × (M.reads mask.new ≡ then_told (M.reads mask.old) (first_words n))
-        × (S.reads src.new ≡ then_told (S.reads src.old) (busy_words (M.bits mask.old) n))) }
+        × (S.reads src.new
+        ≡ then_told (S.reads src.old) (busy_words (M.bits mask.old) n))) }
     ensures src_bits { S.bits src.new ≡ S.bits src.old }
     ensures mask_bits { M.bits mask.new ≡ M.bits mask.old }
-    ensures src_cost { S.spare src.old ≤ S.spare src.new + word_count (length (M.bits mask.old)) }
-    ensures mask_cost { M.spare mask.old ≤ M.spare mask.new + word_count (length (M.bits mask.old)) }
+    ensures src_cost { S.spare src.old
+        ≤ S.spare src.new + word_count (length (M.bits mask.old)) }
+    ensures mask_cost { M.spare mask.old
+        ≤ M.spare mask.new + word_count (length (M.bits mask.old)) }
 {
     let table = table_for(alloc, mask.len())?;
     let mut kept = BitBuilder::with_capacity(alloc, true_count)?;
@@ -80,7 +83,8 @@ pub fn filter_words<S: WordReader, M: WordReader>(
 
 // A table where there are so many bits that it pays.
 fn table_for(alloc: Global, len: usize) -> Result<Option<PextTable>, NoMemory>
-    ensures { IfOk result (λ table. table ≡ (if nat_lt len 4096 then None else Some pext_entries)) }
+    ensures { IfOk result (λ table. table
+        ≡ (if nat_lt len 4096 then None else Some pext_entries)) }
 {
     if len < 4_096 {
         return Ok(None);
