@@ -21,7 +21,14 @@ fn packed_words(rt: HostRuntime) -> Result<(), Fail> {
     let table = PextTable::new(rt.alloc())?;
     assert!(rt; packs(&table, 0b1011_0110, 0b1100_1010, 0b1001));
     assert!(rt; packs(&table, 0xff, 0, 0));
-    assert!(rt; packs(&table, 0x0123_4567_89ab_cdef, 0xff00_ff00_ff00_ff00, 0x0145_89cd));
+    assert!(rt;
+        packs(
+            &table,
+            0x0123_4567_89ab_cdef,
+            0xff00_ff00_ff00_ff00,
+            0x0145_89cd
+        )
+    );
     pext_law();
     Ok(())
 }

@@ -59,10 +59,12 @@ pub fn filter_words<S: WordReader, M: WordReader>(
     ensures prefix { OnErr result ((n : ℕ)
         × (n ≤ word_count (length (M.bits mask.old)))
         × (M.reads mask.new ≡ then_told (M.reads mask.old) (first_words n))
-        × (S.reads src.new ≡ then_told (S.reads src.old) (busy_words (M.bits mask.old) n))) }
+        × (S.reads src.new
+        ≡ then_told (S.reads src.old) (busy_words (M.bits mask.old) n))) }
     ensures src_bits { S.bits src.new ≡ S.bits src.old }
     ensures mask_bits { M.bits mask.new ≡ M.bits mask.old }
-    ensures src_cost { S.spare src.old ≤ S.spare src.new + word_count (length (M.bits mask.old)) }
+    ensures src_cost { S.spare src.old
+        ≤ S.spare src.new + word_count (length (M.bits mask.old)) }
     ensures mask_cost { M.spare mask.old
         ≤ M.spare mask.new + word_count (length (M.bits mask.old)) }
 {
@@ -81,7 +83,8 @@ pub fn filter_words<S: WordReader, M: WordReader>(
 
 // A table where there are so many bits that it pays.
 fn table_for(alloc: Global, len: usize) -> Result<Option<PextTable>, NoMemory>
-    ensures { IfOk result (λ table. table ≡ (if nat_lt len 4096 then None else Some pext_entries)) }
+    ensures { IfOk result (λ table. table
+        ≡ (if nat_lt len 4096 then None else Some pext_entries)) }
 {
     if len < 4_096 {
         return Ok(None);
@@ -89,8 +92,8 @@ fn table_for(alloc: Global, len: usize) -> Result<Option<PextTable>, NoMemory>
     Ok(Some(PextTable::new(alloc)?))
 }
 
-// The bits that a mask's word picks, packed from bit 0: by the table where there is one. A full
-// mask takes the word whole.
+// The bits that a mask's word picks, packed from bit 0: by the table where there is one, and the
+// bits are not so few that a turn for each is less work. A full mask takes the word whole.
 #[inline]
 fn packed(table: &Option<PextTable>, word: u64, picks: u64) -> u64
     ensures { word_bits result (count_ones picks)
@@ -98,6 +101,9 @@ fn packed(table: &Option<PextTable>, word: u64, picks: u64) -> u64
 {
     if picks == u64::MAX {
         return word;
+    }
+    if picks.count_ones() <= 10 {
+        return pext_fallback(word, picks);
     }
     match table {
         Some(table) => table.pext(word, picks),

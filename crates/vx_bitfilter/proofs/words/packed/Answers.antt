@@ -14,8 +14,11 @@ returns-then-picks-eq18446744073709551615 c =
     ap (λ n. word_bits c.args.word n) (ap count_ones full ∙ ones-ones 64)
     ∙ sym (picked_full_word c.args.picks (word_bits c.args.word 64) full ∙ take_all 64 (word_bits c.args.word 64) (omega (arith, length-word_bits c.args.word 64)))
 
+pub returns-then-picks-le10 : goal.returns-then-picks-le10
+returns-then-picks-le10 c = pext-word_bits c.args.word c.args.picks _ c.ranges.picks.fits c.pext_fallback.ensures
+
 pub returns-in-Some : goal.returns-in-Some
 returns-in-Some c = pext-word_bits c.args.word c.args.picks _ c.ranges.picks.fits c.pext.ensures
 
 pub returns-in-None : goal.returns-in-None
-returns-in-None c = pext-word_bits c.args.word c.args.picks _ c.ranges.picks.fits c.pext_fallback.ensures
+returns-in-None c = pext-word_bits c.args.word c.args.picks _ c.ranges.picks.fits c.pext_fallback-in-None.ensures
