@@ -1,4 +1,4 @@
-use Rattle.std.proofs.Common.{◌≡◌, Some, Option, IfOk, List, ℕ, map, subst, sym, ap, ◌∙◌, ◌+◌, true, arith}
+use Rattle.std.proofs.Common.{◌≡◌, Some, Option, IfOk, List, ℕ, map, subst, sym, ap, ◌∙◌, ◌+◌, true}
 use Rattle.vx_mask.specs.Positions.{covered, runs_ascend}
 use Rattle.vx_mask.proofs.AscendingLists.{ascending-covered}
 use Rattle.vx_chunked.specs.Positions.{AscendFrom, with_runs}
