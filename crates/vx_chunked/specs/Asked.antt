@@ -58,4 +58,5 @@ asked_by_picks offset picks limit n =
 -- positions that ascend ask for the same calls as they do where they are handed in as picks
 abbrev pub AskAlike : ℕ → ℕ → List ℕ → ℕ → ℕ → Type 0
 AskAlike offset len set limit n =
-    ascending 0 len set ≡ true → asked_by_picks offset (map Some set) limit n ≡ asked offset set limit n
+    ascending 0 len set ≡ true
+    → asked_by_picks offset (map Some set) limit n ≡ asked offset set limit n

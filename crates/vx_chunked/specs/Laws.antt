@@ -1,5 +1,5 @@
 -- What holds of whole chunks.
-use Rattle.std.proofs.Common.{◌≡◌, ℕ, ◌+◌, ◌*◌, ◌-◌, ◌/◌, ◌%◌, ◌^◌, ◌<◌, ◌≤◌, min, List, length, take, drop, arith}
+use Rattle.std.proofs.Common.{◌≡◌, ◌*◌, ◌-◌, ◌/◌, ◌%◌, ◌^◌, ◌<◌, min, List, length, arith}
 use Rattle.std.proofs.lemmas.List.{length-take-le, take_all}
 use Rattle.vx_chunked.specs.Told.{whole_chunks}
 

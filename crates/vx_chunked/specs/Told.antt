@@ -1,5 +1,5 @@
 -- Calls that are kept, and values in whole chunks.
-use Rattle.std.specs.Prelude.{ℕ, ◌*◌, ◌/◌, ◌-◌, ◌^◌, min, List, [], Option, Some, None, take, length}
+use Rattle.std.specs.Prelude.{◌*◌, ◌/◌, ◌-◌, ◌^◌, min, List, [], Option, Some, None, take, length}
 
 -- the items of a list that may be there, and none where it is not
 abbrev pub items_in : {X : Type 0} → Option (List X) → List X

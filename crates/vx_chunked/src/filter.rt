@@ -226,7 +226,8 @@ pub fn filter_chunked_mask<T: Record, D: ChunkDecoder<T>>(
     requires within { offset + length (mask_bits mask.now) ≤ length (D.values decoder.old) }
     requires spare { touched offset (length (mask_bits mask.now)) ≤ D.spare decoder.old }
     ensures value { IfOk result (λ kept. map Some kept.items
-        ≡ map (λ p. slice_get (D.values decoder.old) (offset + p)) (set_of (mask_bits mask.now))) }
+        ≡ map (λ p. slice_get (D.values decoder.old) (offset + p))
+        (set_of (mask_bits mask.now))) }
     ensures told { OnOk result (D.calls decoder.new
         ≡ then_told (D.calls decoder.old)
         (asked offset (set_of (mask_bits mask.now)) (sparse_limit_of policy.now T.WIDTH)

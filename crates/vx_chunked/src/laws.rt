@@ -6,5 +6,6 @@ ghost use Rattle.vx_chunked.specs.Asked.{AskAlike};
 /// null, stand in any order and be repeated.
 #[tactic(auto, using(crate::proofs::PickedOnce::asked_is))]
 pub fn asked_law()
-    ensures { (offset len : ℕ) (set : List ℕ) (limit n : ℕ) → AskAlike offset len set limit n }
+    ensures { (offset len : ℕ) (set : List ℕ) (limit n : ℕ)
+        → AskAlike offset len set limit n }
 {}

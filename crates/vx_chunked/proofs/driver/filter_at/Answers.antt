@@ -1,4 +1,4 @@
-use Rattle.std.proofs.Common.{◌≡◌, Some, ap, map, sym, ◌∙◌, arith}
+use Rattle.std.proofs.Common.{Some, ap, map, ◌∙◌, arith}
 use Rattle.std.specs.Prelude.{slice_get}
 use Rattle.vx_chunked.specs.Asked.{chunks_for}
 use Rattle.vx_chunked.proofs.Counts.{read_of_none, told_of_none}

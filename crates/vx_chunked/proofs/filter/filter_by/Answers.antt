@@ -1,4 +1,4 @@
-use Rattle.std.proofs.Common.{◌≡◌, Some, Option, IfOk, List, length, map, subst, sym, ap, ◌∙◌, arith}
+use Rattle.std.proofs.Common.{◌≡◌, Some, Option, IfOk, List, length, map, subst, sym, ap, ◌∙◌}
 use Rattle.vx_mask.specs.Positions.{set_of}
 use Rattle.vx_mask.proofs.PositionLists.{length-positions}
 use Rattle.vx_chunked.specs.Asked.{end_of}

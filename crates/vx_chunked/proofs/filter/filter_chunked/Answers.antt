@@ -1,4 +1,4 @@
-use Rattle.std.proofs.Common.{◌≡◌, ◌+◌, map, ap, ◌∙◌}
+use Rattle.std.proofs.Common.{◌+◌, map, ap, ◌∙◌}
 use Rattle.vx_chunked.proofs.Handed.{all_positions}
 use Rattle.vx_chunked.proofs.Spans.{runs_all}
 use Rattle.vx_chunked.proofs.filter.filter_chunked.Goals as goal

@@ -1,7 +1,7 @@
 use Rattle.std.proofs.Common.{◌≡◌, Some, Option, IfOk, List, map, subst, refl, ap, ◌∙◌, ◌+◌}
 use Rattle.vx_chunked.proofs.Ascends.{ascend_of}
 use Rattle.vx_mask.specs.Policy.{sparse_limit_of}
-use Rattle.vx_chunked.proofs.Handed.{on_ok_same, handed_ascend, handed_count, handed_values, handed_calls}
+use Rattle.vx_chunked.proofs.Handed.{on_ok_same, handed_ascend, handed_values, handed_calls}
 use Rattle.vx_chunked.proofs.filter.filter_chunked_by_indices.Goals as goal
 
 pub filter_at-requires-clause-ascend : goal.filter_at-requires-clause-ascend

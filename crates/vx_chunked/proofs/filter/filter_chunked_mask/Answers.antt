@@ -1,5 +1,5 @@
 use Rattle.std.proofs.Common.{◌≡◌, ◌+◌, true, ℕ, List, Some, IfOk, length, map, subst, sym, ap, ap₂, ◌∙◌}
-use Rattle.std.specs.Prelude.{slice_get, false, replicate}
+use Rattle.std.specs.Prelude.{slice_get, false}
 use Rattle.std.specs.List.{range_with_len}
 use Rattle.std.proofs.lemmas.List.{length-replicate}
 use Rattle.vx_bits.specs.WordReader.{then_told}

@@ -1,8 +1,8 @@
-use Rattle.std.proofs.Common.{◌≡◌, ◌≤◌, Some, Option, IfOk, List, [], ℕ, map, subst, sym, ap, ◌∙◌, ◌+◌, arith}
+use Rattle.std.proofs.Common.{◌≡◌, Some, Option, IfOk, List, [], ℕ, map, subst, sym, ap, ◌∙◌, ◌+◌, arith}
 use Rattle.std.specs.List.{range_with_len}
 use Rattle.std.proofs.lemmas.List.FromFn.{length-range_with_len}
 use Rattle.vx_mask.specs.Policy.{sparse_limit_of}
-use Rattle.vx_chunked.specs.Positions.{AscendFrom, with_runs}
+use Rattle.vx_chunked.specs.Positions.{with_runs}
 use Rattle.vx_chunked.proofs.Spans.{runs_front, ascend_front_range}
 use Rattle.vx_chunked.proofs.Handed.{on_ok_same, handed_ascend, handed_count, handed_values, handed_calls}
 use Rattle.vx_chunked.proofs.filter.filter_front.Goals as goal
