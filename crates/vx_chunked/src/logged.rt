@@ -26,7 +26,8 @@ impl<T: Copy, D: ChunkDecoder<T> + Drop> Model for Logged<T, D> {
 
     ghost view = { λ s. (s.inner, s.made.items, s.room) };
 
-    ghost invariant = { λ s. (vec_len s.made + s.room ≤ vec_capacity s.made) × (s.room ≤ D.spare s.inner) };
+    ghost invariant = { λ s. (vec_len s.made + s.room ≤ vec_capacity s.made)
+        × (s.room ≤ D.spare s.inner) };
 }
 
 impl<T: Copy, D: ChunkDecoder<T> + Drop> Logged<T, D> {

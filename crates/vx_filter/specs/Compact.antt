@@ -14,6 +14,8 @@ bits_of_words words = flat_map (λ word. word_bits word 64) words
 pub record IsLowestRun (word low count rest : ℕ) : Type 0 where
   pub some : 0 < count
   pub inside : low + count ≤ 64
-  pub places : (base : ℕ) → positions base (word_bits word 64) ≡ range_with_len (base + low) count ++ positions base (word_bits rest 64)
+  pub places : (base : ℕ)
+      → positions base (word_bits word 64)
+        ≡ range_with_len (base + low) count ++ positions base (word_bits rest 64)
   pub ones : count_ones word ≡ count + count_ones rest
   pub smaller : rest < word
