@@ -16,6 +16,6 @@ pub record IsLowestRun (word low count rest : ℕ) : Type 0 where
   pub inside : low + count ≤ 64
   pub places : (base : ℕ)
       → positions base (word_bits word 64)
-        ≡ range_with_len (base + low) count ++ positions base (word_bits rest 64)
+      ≡ range_with_len (base + low) count ++ positions base (word_bits rest 64)
   pub ones : count_ones word ≡ count + count_ones rest
   pub smaller : rest < word
