@@ -18,6 +18,7 @@ use Rattle.vx_mask.proofs.MarkedBits.{word_within_bits}
 use Rattle.vx_mask.proofs.PositionLists.{length-positions, positions-append}
 use Rattle.vx_mask.proofs.WordCounts.{counts_rise}
 use Rattle.vx_mask.proofs.WordPositions.{word_pushed}
+use Rattle.vx_filter.proofs.Moves.{cut_picked, full_word_places}
 use Rattle.vx_filter.proofs.Picks.{ascending_below}
 use Rattle.vx_filter.specs.Compress.{IsEachStart, places_of, places_to}
 
@@ -192,6 +193,12 @@ module _ {X : Type 0} where
       let places = positions (64 * w) (word_bits word 64) in
       step ∙ ap (λ l. l ++ map (slice_get src) places) f ∙ sym (map-append (slice_get src) front places)
       ∙ ap (map (slice_get src)) (word_pushed bits front (front ++ places) w word h e refl refl)
+
+  -- the items of a full word were put out
+  pub full_pushed : (src kept new : List X) (base word : ℕ) → word ≡ 2 ^ 64 - 1 → base + 64 ≤ length src → new ≡ kept ++ take 64 (drop base src) → map Some new ≡ map Some kept ++ map (slice_get src) (positions base (word_bits word 64))
+  full_pushed src kept new base word full h e =
+      ap (map Some) e ∙ map-append Some kept (take 64 (drop base src))
+      ∙ ap (λ l. map Some kept ++ l) (cut_picked src base 64 h ∙ ap (map (slice_get src)) (sym (full_word_places base word full)))
 
   -- or there are none
   pub places_passed : (bits : List Bool) (src kept : List X) (w word : ℕ) → 64 * w ≤ length bits → word ≡ word_at bits w → word ≡ 0 → map Some kept ≡ map (slice_get src) (set_of (take (64 * w) bits)) → map Some kept ≡ map (slice_get src) (set_of (take (64 * (w + 1)) bits))

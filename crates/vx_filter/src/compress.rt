@@ -1,5 +1,5 @@
 //! Filtering by the bytes of a mask, whose set positions a table has.
-ghost use Rattle.std.specs.Prelude.{◌≡◌, ◌+◌, ◌^◌, ◌<◌, ◌≤◌, ◌++◌, IfOk, OnOk, Some, length, map, slice_get, vec_len, vec_capacity};
+ghost use Rattle.std.specs.Prelude.{◌≡◌, ◌+◌, ◌^◌, ◌<◌, ◌≤◌, ◌++◌, IfOk, OnOk, Some, length, take, map, slice_get, vec_len, vec_capacity};
 ghost use Rattle.std.specs.List.{All, items_where_true};
 ghost use Rattle.std.specs.Int.RustNames.{count_ones};
 ghost use Rattle.vx_bits.specs.Words.{word_bits};
@@ -68,7 +68,7 @@ fn push_places(places: &mut Vec<u8>, byte: u8) -> Result<(), NoMemory>
 /// The items of `src` at the set positions of `mask`, in order, byte by byte: Vortex's
 /// `byte_compress`. `NoMemory` alone.
 ///
-/// A word without a set bit is passed over.
+/// A word without a set bit is passed over, and the items of a full word are copied whole.
 pub fn byte_compress<T: Copy>(
     alloc: Global,
     src: &[T],
@@ -81,11 +81,23 @@ pub fn byte_compress<T: Copy>(
     let mut kept = Vec::with_capacity(alloc, mask.true_count())?;
     for w in 0..mask.len().div_ceil(64) {
         let word = mask.bits().word(w);
-        if word != 0 {
+        if word == u64::MAX {
+            push_full(&mut kept, &src[64 * w..])?;
+        } else if word != 0 {
             push_bytes(&mut kept, src, 64 * w, word, &table);
         }
     }
     Ok(kept)
+}
+
+// Appends the first 64 items.
+#[inline(always)]
+fn push_full<T: Copy>(kept: &mut Vec<T>, items: &[T]) -> Result<(), NoMemory>
+    requires { 64 ≤ length items.now }
+    ensures items { OnOk result (kept.new.items ≡ kept.old.items ++ take 64 items.now) }
+    ensures capacity { OnOk result (vec_capacity kept.old ≤ vec_capacity kept.new) }
+{
+    Ok(kept.extend_from_slice(&items[..64])?)
 }
 
 // Appends the items where the bits of a word are set, whose first bit has position `base`. There is

@@ -76,6 +76,8 @@ fn mask_by_members(alloc: Global, value: &Value) -> Result<Mask, DocError>
     }
 }
 
+/// The mask that a value means, in any of its forms. `Malformed` exactly where it means none;
+/// `NoMemory`.
 #[tactic(auto, unfolding(crate::specs::Masks::mask_of))]
 pub fn mask_of(alloc: Global, value: &Value) -> Result<Mask, DocError>
     ensures { Gives mask_bits result (mask_of (view value.now)) }
