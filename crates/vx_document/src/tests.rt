@@ -3,7 +3,7 @@ use super::{DocError, Document, DocumentSource, document, holds_later};
 use serde_json::Value;
 use std::alloc::Global;
 use std::test::Fail;
-use vx_select::Step;
+use vx_steps::Step;
 
 /// How many rows, where the first step starts, and a number of the policy.
 fn numbers(document: &Document) -> (usize, Option<usize>, usize) {
