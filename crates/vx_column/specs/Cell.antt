@@ -1,7 +1,8 @@
 -- One stored row.
-use Rattle.std.specs.Prelude.{◌≡◌, Some, length}
+use Rattle.std.specs.Prelude.{◌≡◌, ℕ, ◌<◌, Some, length}
 use Rattle.vx_types.specs.RowValue.{RowValue, null, bit, bytes}
 use Rattle.vx_types.specs.TypeTree.{TypeTree, bool_type, type_nullability, type_width}
+use Rattle.vx_model.specs.Valid.{Valid, non_nullable, all_valid, all_invalid, by_column}
 use Rattle.vx_column.specs.declared.cell.Cell.{Cell}
 use Rattle.vx_column.specs.declared.cell.Cell.TheVariants as cells
 
@@ -16,3 +17,10 @@ abbrev pub IsOfType : Cell → TypeTree → Type 0
 IsOfType cells.Null t = Unit {0}
 IsOfType (cells.Bit b) t = t ≡ bool_type (type_nullability t)
 IsOfType (cells.Bytes b) t = Some (length b.now) ≡ type_width t
+
+-- a validity array has row i
+abbrev pub HasRow : Valid → ℕ → Type 0
+HasRow non_nullable i = Unit {0}
+HasRow all_valid i = Unit {0}
+HasRow all_invalid i = Unit {0}
+HasRow (by_column c) i = i < length c.rows

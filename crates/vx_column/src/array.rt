@@ -1,14 +1,24 @@
 //! Columns of any layout.
-ghost use Rattle.std.specs.Prelude.{◌≡◌, length, true};
+ghost use Rattle.std.specs.Prelude.{◌≡◌, length, true, IfOk};
 ghost use Rattle.vx_types.specs.DType.{type_of};
 ghost use Rattle.vx_types.specs.TypeTree.{is_carried, is_flat};
 ghost use Rattle.vx_column.specs.Layout.{column_of};
 
+use crate::boolean::BoolArray;
+use crate::decimal::DecimalArray;
+use crate::null::NullArray;
 use crate::primitive::PrimitiveArray;
+use std::alloc::Global;
 use std::marker::Model;
+use vx_bits::NoMemory;
+use vx_shared::Shared;
 use vx_types::DType;
 
+/// A shared column: Vortex's `ArrayRef`.
+pub type ArrayRef = Shared<Array>;
+
 /// A column: a type, and rows in one of the layouts. Vortex's `Array`.
+#[cycle(array)]
 pub struct Array {
     dtype: DType,
     len: usize,
@@ -16,28 +26,43 @@ pub struct Array {
 }
 
 /// How the rows of a column are stored.
+#[cycle(array)]
 #[derive(Drop)]
 pub enum Layout {
+    /// Rows that are all null.
+    Null(NullArray),
+    /// A bit a row.
+    Bool(BoolArray),
     /// A record of a primitive type a row.
     Primitive(PrimitiveArray),
+    /// A record of a decimal number a row.
+    Decimal(DecimalArray),
 }
 
 impl Model for Array {
     ghost use Rattle.vx_model.specs.Column.{Column, coded_column};
-    ghost use Rattle.vx_column.specs.Layout.{IsTyped, column_of};
 
     ghost Value = { Column };
 
     ghost coded = { coded_column };
 
+    ghost use Rattle.std.proofs.Common.{arith};
+    ghost use Rattle.vx_column.specs.Layout.{column_of};
+    ghost use Rattle.vx_column.specs.Typed.{IsTyped};
+
     ghost view = { λ a. column_of a.layout };
 
     ghost invariant = { λ a. IsTyped a.dtype a.len (column_of a.layout) };
+
+    ghost size = { λ c. c.depth };
+
+    ghost size_decreases = { λ a h. Prim.grind arith };
 }
 
 // Written out, so that a function that drops an `Array` calls it; a derived one would be opened
 // there, layout by layout.
 impl Drop for Array {
+    #[cycle(drops)]
     fn drop(self) {
         let Array {
             dtype: _,
@@ -54,7 +79,10 @@ impl Layout {
         ensures { result ≡ self.now }
     {
         match self {
+            Layout::Null(a) => Layout::Null(a.share()),
+            Layout::Bool(a) => Layout::Bool(a.share()),
             Layout::Primitive(a) => Layout::Primitive(a.share()),
+            Layout::Decimal(a) => Layout::Decimal(a.share()),
         }
     }
 }
@@ -108,5 +136,12 @@ impl Array {
             len: self.len,
             layout: self.layout.share(),
         }
+    }
+
+    /// The column behind a counted pointer. `NoMemory` alone.
+    pub fn into_ref(self, alloc: Global) -> Result<ArrayRef, NoMemory>
+        ensures { IfOk result (λ r. r ≡ self) }
+    {
+        Ok(Shared::new(alloc, self)?)
     }
 }

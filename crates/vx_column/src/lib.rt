@@ -5,18 +5,28 @@
 #![tactic(auto)]
 
 mod array;
+mod boolean;
 mod cell;
+mod decimal;
+mod flat;
+mod null;
 mod numbers;
 mod plain;
 mod primitive;
+mod rows;
 mod validity;
 
-pub use array::{Array, Layout};
+pub use array::{Array, ArrayRef, Layout};
+pub use boolean::BoolArray;
 pub use cell::Cell;
+pub use decimal::DecimalArray;
+pub use flat::FlatRef;
+pub use null::NullArray;
 pub use primitive::PrimitiveArray;
 pub use validity::Validity;
 pub use vx_types::{
-    ColumnError, DType, LayoutName, Nullability, PType, match_each_integer_ptype, record_of,
+    ByteList, ColumnError, DType, DecimalDType, LayoutName, Nullability, PType, Row, Runs,
+    ScalarValue, match_each_integer_ptype, record_of,
 };
 
 #[cfg(test)]

@@ -1,6 +1,6 @@
 //! Reading one row as bytes or as a number.
-ghost use Rattle.std.specs.Prelude.{◌≡◌, ◌↔◌, ◌<◌, [], length, true, None, slice_index_or};
-ghost use Rattle.vx_types.specs.RowValue.{null};
+ghost use Rattle.std.specs.Prelude.{◌≡◌, ◌↔◌, ◌<◌, [], length, not, true, None, slice_index_or};
+ghost use Rattle.vx_types.specs.RowValue.{null, is_null};
 ghost use Rattle.vx_types.specs.TypeTree.{is_int_type};
 ghost use Rattle.vx_model.specs.Numbers.{number_in};
 ghost use Rattle.vx_model.specs.Plain.{stores_records};
@@ -10,15 +10,28 @@ use crate::cell::Cell;
 use vx_types::DType;
 
 impl Array {
+    /// Whether row `i` isn't null.
+    pub fn is_valid_at(&self, i: usize) -> bool
+        requires { i < length self.now.rows }
+        ensures { result ≡ not (is_null (slice_index_or self.now.rows i null)) }
+    {
+        match self.cell_at(i) {
+            Cell::Null => false,
+            Cell::Bit(_) | Cell::Bytes(_) => true,
+        }
+    }
+
     /// The stored bytes of row `i`, of a null row too.
-    #[tactic(auto, using(vx_model::proofs::PrimitiveSteps::primitive_rows))]
+    #[tactic(auto, using(vx_model::proofs::Layouts::layout_rows))]
     pub fn record_at(&self, i: usize) -> &[u8]
         requires records { stores_records self.now.layout ≡ true }
         requires row { i < length self.now.rows }
         ensures { result.now ≡ slice_index_or self.now.stored i [] }
     {
         match self.layout() {
+            Layout::Null(_) | Layout::Bool(_) => unreachable!(),
             Layout::Primitive(a) => a.values().record_bytes(i),
+            Layout::Decimal(a) => a.values().record_bytes(i),
         }
     }
 
@@ -31,12 +44,12 @@ impl Array {
         ensures null { (result ≡ None) ↔ (slice_index_or self.now.rows i null ≡ null) }
     {
         match self.cell_at(i) {
-            Cell::Bytes(bytes) => {
-                let DType::Primitive(ptype, _) = self.dtype();
-                Some(ptype.number(bytes))
-            }
             Cell::Null => None,
             Cell::Bit(_) => unreachable!(),
+            Cell::Bytes(bytes) => match self.dtype() {
+                DType::Primitive(ptype, _) => Some(ptype.number(bytes)),
+                _ => unreachable!(),
+            },
         }
     }
 }

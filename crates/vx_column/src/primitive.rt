@@ -1,5 +1,5 @@
 //! Layout `Primitive`: a record of a primitive type a row.
-ghost use Rattle.std.specs.Prelude.{◌≡◌, ◌≤◌, ◌-◌, length, true, None, slice_range};
+ghost use Rattle.std.specs.Prelude.{◌≡◌, length, true, None};
 ghost use Rattle.vx_bits.specs.Results.{ok_unless};
 ghost use Rattle.vx_bits.specs.Records.{records_of, width_of};
 ghost use Rattle.vx_model.specs.Valid.{is_fitting};
@@ -14,6 +14,7 @@ use vx_bits::Records;
 use vx_types::{ColumnError, DType, PType};
 
 /// A column of records of a primitive type: Vortex's `PrimitiveArray`.
+#[cycle(array)]
 #[derive(Drop)]
 pub struct PrimitiveArray {
     ptype: PType,
@@ -22,17 +23,25 @@ pub struct PrimitiveArray {
 }
 
 impl Model for PrimitiveArray {
-    ghost use Rattle.std.specs.Prelude.{◌≡◌, None};
-    ghost use Rattle.vx_model.specs.Primitive.{PrimitiveParts, coded_primitive, primitive_fault};
-    ghost use Rattle.vx_column.specs.Primitive.{primitive_parts};
+    ghost use Rattle.vx_model.specs.Primitive.{PrimitiveParts, coded_primitive};
 
     ghost Value = { PrimitiveParts };
 
     ghost coded = { coded_primitive };
 
+    ghost use Rattle.std.specs.Prelude.{◌≡◌, None};
+    ghost use Rattle.std.proofs.Common.{arith};
+    ghost use Rattle.vx_model.specs.Valid.{valid_size};
+    ghost use Rattle.vx_model.specs.Primitive.{primitive_fault};
+    ghost use Rattle.vx_column.specs.Primitive.{primitive_parts};
+
     ghost view = { λ a. primitive_parts a.ptype a.values a.validity };
 
     ghost invariant = { λ a. primitive_fault (primitive_parts a.ptype a.values a.validity) ≡ None };
+
+    ghost size = { λ p. valid_size p.valid };
+
+    ghost size_decreases = { λ a h. Prim.grind arith };
 }
 
 impl PrimitiveArray {
@@ -85,17 +94,16 @@ impl PrimitiveArray {
         &self.validity
     }
 
-    /// The same records with another validity, from `start` up to `end`. It takes no memory.
-    pub fn slice(&self, start: usize, end: usize, validity: Validity) -> PrimitiveArray
-        requires ordered { start ≤ end }
-        requires within { end ≤ length self.now.records }
-        requires fitting { is_fitting (valid_of validity) (end - start) ≡ true }
-        ensures { result ≡ primitive_with self.now
-            (slice_range self.now.records start end) (valid_of validity) }
+    /// The same type over other records and another validity: what a step leaves. It takes no
+    /// memory.
+    pub fn with_rows(&self, values: Records, validity: Validity) -> PrimitiveArray
+        requires width { width_of values ≡ self.now.width }
+        requires fitting { is_fitting (valid_of validity) (length (records_of values)) ≡ true }
+        ensures { result ≡ primitive_with self.now (records_of values) (valid_of validity) }
     {
         PrimitiveArray {
             ptype: self.ptype,
-            values: self.values.slice(start, end),
+            values,
             validity,
         }
     }
@@ -112,7 +120,7 @@ impl PrimitiveArray {
     }
 
     /// The column of this layout. It takes no memory.
-    #[tactic(auto, using(vx_model::proofs::PrimitiveSteps::primitive_rows))]
+    #[tactic(auto, using(vx_model::proofs::Layouts::layout_rows))]
     pub fn into_array(self) -> Array
         ensures { result ≡ primitive_column self }
     {

@@ -1,15 +1,23 @@
 //! Which rows of a column are there, and which are null.
 ghost use Rattle.std.specs.Prelude.{◌≡◌};
-ghost use Rattle.vx_model.specs.Valid.{is_fitting, is_present, nullability_by, cover_by, is_constant_form};
+ghost use Rattle.vx_model.specs.Valid.{is_fitting, nullability_by, cover_by, is_constant_form};
 ghost use Rattle.vx_column.specs.Validity.{valid_of};
 
-use vx_types::Nullability;
+use crate::array::ArrayRef;
+use vx_types::{DType, Nullability};
 
-/// Which rows of a column are there: Vortex's `Validity`.
+/// Which rows of a column are there: Vortex's `Validity`. The first three are the constant forms.
+#[cycle(array)]
 #[derive(Drop)]
 pub enum Validity {
     /// Every row, and the type has no null.
     NonNullable,
+    /// Every row.
+    AllValid,
+    /// No row.
+    AllInvalid,
+    /// The rows at which this column of bools is set.
+    Array(ArrayRef),
 }
 
 impl Validity {
@@ -19,6 +27,9 @@ impl Validity {
     {
         match self {
             Validity::NonNullable => Validity::NonNullable,
+            Validity::AllValid => Validity::AllValid,
+            Validity::AllInvalid => Validity::AllInvalid,
+            Validity::Array(array) => Validity::Array(array.share()),
         }
     }
 
@@ -28,26 +39,21 @@ impl Validity {
     {
         match self {
             Validity::NonNullable => Nullability::NonNullable,
+            Validity::AllValid | Validity::AllInvalid | Validity::Array(_) => Nullability::Nullable,
         }
     }
 
-    /// Whether it can be that of so many rows.
+    /// Whether it can be that of so many rows: of a constant form, or an array that is
+    /// non-nullable bool and as long.
     pub fn is_fitting(&self, len: usize) -> bool
         ensures { result ≡ is_fitting (valid_of self.now) len }
     {
-        let _ = len;
         match self {
-            Validity::NonNullable => true,
-        }
-    }
-
-    /// Whether row `i` isn't null.
-    pub fn is_valid_at(&self, i: usize) -> bool
-        ensures { result ≡ is_present (valid_of self.now) i }
-    {
-        let _ = i;
-        match self {
-            Validity::NonNullable => true,
+            Validity::NonNullable | Validity::AllValid | Validity::AllInvalid => true,
+            Validity::Array(array) => match array.dtype() {
+                DType::Bool(Nullability::NonNullable) => array.len() == len,
+                _ => false,
+            },
         }
     }
 
@@ -56,7 +62,8 @@ impl Validity {
         ensures { result ≡ is_constant_form (cover_by (valid_of self.now)) }
     {
         match self {
-            Validity::NonNullable => true,
+            Validity::NonNullable | Validity::AllValid | Validity::AllInvalid => true,
+            Validity::Array(_) => false,
         }
     }
 }

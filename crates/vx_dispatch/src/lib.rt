@@ -1,8 +1,11 @@
 //! One step over a column of any layout: this crate alone goes over the layouts.
 #![tactic(auto)]
 
+mod boolean;
+mod decimal;
 mod executing;
 mod filtering;
+mod null;
 mod primitive;
 mod slicing;
 mod validity;

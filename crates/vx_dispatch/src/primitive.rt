@@ -1,8 +1,9 @@
 //! Layout `Primitive`.
-ghost use Rattle.std.specs.Prelude.{◌≡◌, ◌≤◌, length, IfOk};
+ghost use Rattle.std.specs.Prelude.{◌≡◌, ◌≤◌, length, true, IfOk, IsOk};
 ghost use Rattle.std.specs.List.{items_where_true};
 ghost use Rattle.vx_model.specs.Primitive.{primitive_column};
-ghost use Rattle.vx_model.specs.Step.{IsSlice, IsStep};
+ghost use Rattle.vx_model.specs.Plain.{is_plain};
+ghost use Rattle.vx_model.specs.Step.{IsSlice, IsCut};
 
 use crate::validity::{filter_validity, slice_validity};
 use std::alloc::Global;
@@ -11,17 +12,26 @@ use vx_column::{Array, PrimitiveArray};
 use vx_flat::filter_primitive;
 use vx_mask::{MaskValues, Policy};
 
-#[tactic(auto, using(vx_model::proofs::PrimitiveSteps::primitive_rows))]
-pub(crate) fn slice_of(array: &PrimitiveArray, start: usize, end: usize) -> Array
+#[cycle(slice)]
+#[tactic(auto, using(vx_model::proofs::Layouts::layout_rows))]
+pub(crate) fn slice_of(
+    alloc: Global,
+    array: &PrimitiveArray,
+    start: usize,
+    end: usize,
+) -> Result<Array, NoMemory>
     requires ordered { start ≤ end }
     requires within { end ≤ length (primitive_column array.now).rows }
-    ensures { IsSlice (primitive_column array.now) start end result }
+    ensures cut { IfOk result (IsSlice (primitive_column array.now) start end) }
+    ensures plain { is_plain (primitive_column array.now) ≡ true → IsOk result }
 {
-    let validity = slice_validity(array.validity(), array.values().len(), start, end);
-    array.slice(start, end, validity).into_array()
+    let values = array.values();
+    let validity = slice_validity(alloc, array.validity(), values.len(), start, end)?;
+    Ok(array.with_rows(values.slice(start, end), validity).into_array())
 }
 
-#[tactic(auto, using(vx_model::proofs::PrimitiveSteps::primitive_rows))]
+#[cycle(filter)]
+#[tactic(auto, using(vx_model::proofs::Layouts::layout_rows))]
 pub(crate) fn filter_of(
     alloc: Global,
     array: &PrimitiveArray,
@@ -29,11 +39,9 @@ pub(crate) fn filter_of(
     policy: &Policy,
 ) -> Result<Array, NoMemory>
     requires { length mask.now.bits.bits ≡ length (primitive_column array.now).rows }
-    ensures { IfOk result (IsStep (primitive_column array.now)
-        (items_where_true mask.now.bits.bits (primitive_column array.now).rows)
-        (primitive_column array.now).dtype) }
+    ensures { IfOk result (IsCut (primitive_column array.now)
+        (items_where_true mask.now.bits.bits (primitive_column array.now).rows)) }
 {
-    let validity = filter_validity(array.validity(), mask);
-    let _ = array.values();
+    let validity = filter_validity(alloc, array.validity(), mask, policy)?;
     Ok(filter_primitive(alloc, array, mask, policy, validity)?.into_array())
 }

@@ -1,17 +1,25 @@
 //! The rows from one position up to another, over every layout.
-ghost use Rattle.std.specs.Prelude.{◌≡◌, ◌≤◌, length};
+ghost use Rattle.std.specs.Prelude.{◌≡◌, ◌≤◌, length, true, IfOk, IsOk};
+ghost use Rattle.vx_model.specs.Plain.{is_plain};
 ghost use Rattle.vx_model.specs.Step.{IsSlice};
 
-use crate::primitive;
+use crate::{boolean, decimal, null, primitive};
+use std::alloc::Global;
+use vx_bits::NoMemory;
 use vx_column::{Array, Layout};
 
-/// The rows from `start` up to `end`. It takes no memory.
-pub fn slice(array: &Array, start: usize, end: usize) -> Array
+/// The rows from `start` up to `end`. `NoMemory` alone, and never over a plain column.
+#[cycle(slice)]
+pub fn slice(alloc: Global, array: &Array, start: usize, end: usize) -> Result<Array, NoMemory>
     requires ordered { start ≤ end }
     requires within { end ≤ length array.now.rows }
-    ensures { IsSlice array.now start end result }
+    ensures cut { IfOk result (IsSlice array.now start end) }
+    ensures plain { is_plain array.now ≡ true → IsOk result }
 {
     match array.layout() {
-        Layout::Primitive(a) => primitive::slice_of(a, start, end),
+        Layout::Null(a) => Ok(null::slice_of(a, start, end)),
+        Layout::Bool(a) => boolean::slice_of(alloc, a, start, end),
+        Layout::Primitive(a) => primitive::slice_of(alloc, a, start, end),
+        Layout::Decimal(a) => decimal::slice_of(alloc, a, start, end),
     }
 }

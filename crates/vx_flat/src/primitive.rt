@@ -13,6 +13,7 @@ use vx_column::{PrimitiveArray, Validity};
 use vx_mask::{MaskValues, Policy};
 
 /// The records at the set positions of `mask`, in order, with this validity. `NoMemory` alone.
+#[tactic(auto, using(vx_model::proofs::Items::kept_items))]
 pub fn filter_primitive(
     alloc: Global,
     array: &PrimitiveArray,
@@ -26,8 +27,5 @@ pub fn filter_primitive(
         (items_where_true mask.now.bits.bits array.now.records) (valid_of validity)) }
 {
     let values = filter_records(alloc, array.values(), mask, policy)?;
-    match PrimitiveArray::try_new(array.ptype(), values, validity) {
-        Ok(kept) => Ok(kept),
-        Err(_) => unreachable!(),
-    }
+    Ok(array.with_rows(values, validity))
 }

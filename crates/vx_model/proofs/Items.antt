@@ -1,5 +1,5 @@
 -- The items at set bits, and cuts of lists.
-use Rattle.std.proofs.Common.{◌≡◌, ℕ, zero, suc, ◌-◌, ◌≤◌, Bool, true, false, List, [], ◌∷◌, map, length, take, drop, slice_range, refl, sym, ap, ◌∙◌, arith, length-drop, length-take}
+use Rattle.std.proofs.Common.{◌≡◌, ℕ, zero, suc, ◌+◌, ◌-◌, ◌≤◌, Bool, true, false, List, [], ◌∷◌, map, length, take, drop, slice_range, refl, sym, ap, ◌∙◌, arith, length-drop, length-take}
 use Rattle.std.specs.Prelude.{replicate}
 use Rattle.std.specs.List.{items_where_true}
 use Rattle.std.proofs.lemmas.List.{take-map, drop-map, take-replicate, drop-replicate}
@@ -49,3 +49,6 @@ length-slice_range xs s e h k = omega (arith, length-take (e - s) (drop s xs), l
 
 pub slice_range-replicate : {X : Type 0} (n : ℕ) (x : X) (s e : ℕ) → s ≤ e → e ≤ n → slice_range (replicate n x) s e ≡ replicate (e - s) x
 slice_range-replicate n x s e h k = ap (take (e - s)) (drop-replicate s n x) ∙ take-replicate (e - s) (n - s) x (omega arith)
+
+-- how many items a filter keeps
+pub ruleset kept_items = (length-items_where_true)

@@ -1,3 +1,6 @@
 pub mod Items
-pub mod PrimitiveSteps
+pub mod Layouts
 pub mod ShownRows
+pub mod Steps
+pub mod StoredRows
+pub mod Validities

@@ -1,12 +1,13 @@
 -- Rows of which some are null.
-use Rattle.std.proofs.Common.{◌≡◌, ℕ, zero, suc, ◌-◌, ◌≤◌, ◌<◌, Bool, true, false, List, [], ◌∷◌, length, get_or, take, drop, slice_range, refl, sym, ap, ◌∙◌, arith}
-use Rattle.std.specs.Prelude.{if◌then◌else◌, replicate}
+use Rattle.std.proofs.Common.{◌≡◌, ℕ, zero, suc, ◌-◌, ◌≤◌, ◌<◌, Bool, true, false, List, [], ◌∷◌, map, length, get_or, take, drop, slice_range, refl, sym, ap, ◌∙◌, arith}
+use Rattle.std.specs.Prelude.{if◌then◌else◌, ◌==◌, ◌&&◌, replicate}
 use Rattle.std.specs.List.{items_where_true}
+use Rattle.std.proofs.Math.Seq.{take-nil, drop-nil}
 use Rattle.std.proofs.lemmas.List.{length-replicate, length-map, get_or-replicate, get_or-map}
 use Rattle.std.proofs.lemmas.Bool.Decides.{nat_tests}
 use Rattle.vx_types.specs.RowValue.{RowValue, null}
 use Rattle.vx_bits.specs.BitBuffer.{true_count_of}
-use Rattle.vx_model.specs.Valid.{Valid, non_nullable, all_valid, all_invalid, by_column, is_yes, is_fitting, is_constant_form, cover_by, is_present, present_bits, shown_rows, IsAsBefore, IsLeft}
+use Rattle.vx_model.specs.Valid.{Valid, non_nullable, all_valid, all_invalid, by_column, is_yes, is_fitting, is_constant_form, cover_by, is_present, present_bits, nullability_by, shown_rows, IsAsPlain, IsLeft}
 use Rattle.vx_model.proofs.Items.{items_where_true-replicate, slice_range-replicate, length-slice_range, length-items_where_true}
 
 pub length-shown_rows : (bits : List Bool) (rows : List RowValue) → length bits ≡ length rows → length (shown_rows bits rows) ≡ length rows
@@ -97,26 +98,27 @@ is_fitting-constant all_valid n h = refl
 is_fitting-constant all_invalid n h = refl
 is_fitting-constant (by_column c) n h = grind arith
 
--- a validity that a step leaves
-pub is_as_before : (v : Valid) → IsAsBefore v v
-is_as_before v = record { nullability = refl; constant = λ h. h; bools = λ h. h; depth = omega arith }
-
 -- a constant form stays what it is: over a slice
-pub is_left-slice : (v : Valid) (n s e : ℕ) → is_constant_form (cover_by v) ≡ true → s ≤ e → e ≤ n → is_fitting v n ≡ true → IsLeft v (slice_range (present_bits v n) s e) v
+pub is_left-slice : (v : Valid) (n s e : ℕ) → is_constant_form (cover_by v) ≡ true → s ≤ e → e ≤ n → is_fitting v n ≡ true → IsLeft v (nullability_by v) (slice_range (present_bits v n) s e) v
 is_left-slice v n s e k h l f =
     let long : length (slice_range (present_bits v n) s e) ≡ e - s = length-slice_range (present_bits v n) s e h (omega (arith, length-present_bits v n f)) in
     record {
       bits = ap (present_bits v) long ∙ slice_range-present_bits v n s e k h l;
       fitting = is_fitting-constant v _ k;
-      as_before = is_as_before v;
+      nullability = refl;
+      flat = λ h. h;
     }
 
 -- and over what a filter keeps
-pub is_left-filter : (v : Valid) (mask : List Bool) → is_constant_form (cover_by v) ≡ true → is_fitting v (length mask) ≡ true → IsLeft v (items_where_true mask (present_bits v (length mask))) v
+pub is_left-filter : (v : Valid) (mask : List Bool) → is_constant_form (cover_by v) ≡ true → is_fitting v (length mask) ≡ true → IsLeft v (nullability_by v) (items_where_true mask (present_bits v (length mask))) v
 is_left-filter v mask k f =
     let long = length-items_where_true mask (present_bits v (length mask)) (sym (length-present_bits v (length mask) f)) in
     record {
       bits = ap (present_bits v) long ∙ items_where_true-present_bits v mask k;
       fitting = is_fitting-constant v _ k;
-      as_before = is_as_before v;
+      nullability = refl;
+      flat = λ h. h;
     }
+
+pub is_as_plain : (v : Valid) → IsAsPlain v v
+is_as_plain v = record { constant = λ h. h; depth = omega arith }

@@ -1,6 +1,10 @@
+pub mod Bool
 pub mod Column
+pub mod Decimal
+pub mod Null
 pub mod Numbers
 pub mod Plain
 pub mod Primitive
 pub mod Step
+pub mod Stored
 pub mod Valid

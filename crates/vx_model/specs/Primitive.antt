@@ -1,5 +1,5 @@
 -- Layout `Primitive`: a record of a primitive type a row.
-use Rattle.std.specs.Prelude.{ℕ, ◌+◌, ◌==◌, length, List, map, Option, Some, None, if◌then◌else◌, refl}
+use Rattle.std.specs.Prelude.{ℕ, ◌==◌, length, List, map, Option, Some, None, if◌then◌else◌, refl}
 use Rattle.std.specs.Coded.{Coded, code_by, coded×, coded_ℕ, coded_list}
 use Rattle.vx_types.specs.PType.{width, coded_ptype}
 use Rattle.vx_types.specs.TypeTree.{primitive_type}
@@ -9,7 +9,8 @@ use Rattle.vx_types.specs.declared.layout_name.LayoutName.TheVariants.{Primitive
 use Rattle.vx_types.specs.declared.error.ColumnError.{ColumnError}
 use Rattle.vx_types.specs.declared.error.ColumnError.TheVariants.{WrongWidth, BadValidity}
 use Rattle.vx_model.specs.Column.{Column}
-use Rattle.vx_model.specs.Valid.{Valid, coded_valid, is_fitting, valid_size, present_bits, shown_rows, nullability_by, cover_by}
+use Rattle.vx_model.specs.Valid.{Valid, coded_valid, is_fitting}
+use Rattle.vx_model.specs.Stored.{stored_column}
 
 -- what a contract sees of a `PrimitiveArray`
 pub record PrimitiveParts : Type 0 where
@@ -29,15 +30,7 @@ primitive_fault p =
 -- a row is its record's bytes, or null where the validity says no
 abbrev pub primitive_column : PrimitiveParts → Column
 primitive_column p =
-    record {
-      dtype = primitive_type p.ptype (nullability_by p.valid);
-      rows = shown_rows (present_bits p.valid (length p.records)) (map bytes p.records);
-      layout = Primitive;
-      cover = cover_by p.valid;
-      stored = p.records;
-      constant = None;
-      depth = valid_size p.valid + 1;
-    }
+    stored_column Primitive (primitive_type p.ptype) p.valid (map bytes p.records) p.records
 
 -- the same with other records and another validity: what a step leaves
 abbrev pub primitive_with : PrimitiveParts → List (List ℕ) → Valid → PrimitiveParts

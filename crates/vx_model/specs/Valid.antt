@@ -42,6 +42,10 @@ shown_rows [] rows = []
 shown_rows (b ∷ bits) [] = []
 shown_rows (b ∷ bits) (x ∷ rows) = (if b then x else null) ∷ shown_rows bits rows
 
+-- the stored rows, and null in place of each that isn't there
+abbrev pub stored_rows : Valid → List RowValue → List RowValue
+stored_rows v items = shown_rows (present_bits v (length items)) items
+
 -- the nullability of the type of a column with this validity
 abbrev pub nullability_by : Valid → Nullability
 nullability_by non_nullable = NonNullable
@@ -87,20 +91,23 @@ abbrev pub is_bools : Cover → Bool
 is_bools by_bools = true
 is_bools c = false
 
--- what a step makes of a validity is as nullable, stored as plainly, and no deeper
-pub record IsAsBefore (before after : Valid) : Type 0 where
-  pub nullability : nullability_by after ≡ nullability_by before
+-- a step keeps a validity that is one answer for all rows, or an array of layout `Bool`, and nests
+-- it no deeper
+pub record IsAsPlain (before after : Valid) : Type 0 where
   pub constant : is_constant_form (cover_by before) ≡ true
       → is_constant_form (cover_by after) ≡ true
-  pub bools : (is_constant_form (cover_by before) || is_bools (cover_by before)) ≡ true
-      → (is_constant_form (cover_by after) || is_bools (cover_by after)) ≡ true
   pub depth : valid_size after ≤ valid_size before
 
--- these bits are what a step leaves of a validity
-pub record IsLeft (before : Valid) (left : List Bool) (after : Valid) : Type 0 where
+-- it is one answer for all rows, or an array of layout `Bool`
+abbrev pub is_flat_cover : Cover → Bool
+is_flat_cover c = is_constant_form c || is_bools c
+
+-- these bits are what a step leaves of a validity, and rows may be null where n says so
+pub record IsLeft (before : Valid) (n : Nullability) (left : List Bool) (after : Valid) : Type 0 where
   pub bits : present_bits after (length left) ≡ left
   pub fitting : is_fitting after (length left) ≡ true
-  pub as_before : IsAsBefore before after
+  pub nullability : nullability_by after ≡ n
+  pub flat : is_flat_cover (cover_by before) ≡ true → is_flat_cover (cover_by after) ≡ true
 
 -- ---- its code
 abbrev valid_split : Valid → ℕ ⊎ Column

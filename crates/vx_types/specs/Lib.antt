@@ -1,6 +1,9 @@
+pub mod Code
+pub mod DType
+pub mod Decimal
 pub mod Nullability
 pub mod PType
-pub mod Code
-pub mod TypeTree
-pub mod DType
+pub mod Row
 pub mod RowValue
+pub mod Scalar
+pub mod TypeTree

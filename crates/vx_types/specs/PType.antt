@@ -4,7 +4,7 @@ use Rattle.std.specs.Int.{Width, w8, w16, w32, w64, w128, to_le_bytes, from_le_b
 use Rattle.std.proofs.Common.{sym, ap, ◌∙◌}
 use base.Stored.{Gv, gnil, gnum, gcons, Coded}
 use Rattle.vx_types.specs.declared.ptype.PType.{PType}
-use Rattle.vx_types.specs.declared.ptype.PType.TheVariants.{U8, U16, U32, U64, I8, I16, I32, I64}
+use Rattle.vx_types.specs.declared.ptype.PType.TheVariants.{U8, U16, U32, U64, I8, I16, I32, I64, F16, F32, F64}
 
 -- bytes of a value
 abbrev pub width : PType → ℕ
@@ -16,6 +16,9 @@ width I8 = 1
 width I16 = 2
 width I32 = 4
 width I64 = 8
+width F16 = 2
+width F32 = 4
+width F64 = 8
 
 abbrev pub is_int : PType → Bool
 is_int U8 = true
@@ -26,6 +29,9 @@ is_int I8 = true
 is_int I16 = true
 is_int I32 = true
 is_int I64 = true
+is_int F16 = false
+is_int F32 = false
+is_int F64 = false
 
 abbrev pub is_signed : PType → Bool
 is_signed U8 = false
@@ -36,6 +42,9 @@ is_signed I8 = true
 is_signed I16 = true
 is_signed I32 = true
 is_signed I64 = true
+is_signed F16 = false
+is_signed F32 = false
+is_signed F64 = false
 
 -- the Rust type's width
 abbrev pub int_width : PType → Width
@@ -47,6 +56,9 @@ int_width I8 = w8
 int_width I16 = w16
 int_width I32 = w32
 int_width I64 = w64
+int_width F16 = w16
+int_width F32 = w32
+int_width F64 = w64
 
 -- the number that a record's bytes spell, the lowest first, in two's complement where the type is
 -- signed
@@ -65,6 +77,7 @@ least I8 = neg_ℤ (pos (2 ^ 7))
 least I16 = neg_ℤ (pos (2 ^ 15))
 least I32 = neg_ℤ (pos (2 ^ 31))
 least I64 = neg_ℤ (pos (2 ^ 63))
+least p = pos 0
 
 -- the greatest
 abbrev pub greatest : PType → ℤ
@@ -76,9 +89,10 @@ greatest I8 = pos 127
 greatest I16 = pos 32767
 greatest I32 = pos 2147483647
 greatest I64 = pos 9223372036854775807
+greatest p = pos 0
 
 abbrev pub is_in_range : PType → ℤ → Bool
-is_in_range p z = int_le (least p) z && int_le z (greatest p)
+is_in_range p z = is_int p && (int_le (least p) z && int_le z (greatest p))
 
 -- the lowest w bytes of a number in two's complement, the lowest first
 unfoldable pub record_of : ℕ → ℤ → List ℕ
@@ -94,6 +108,9 @@ ptype_code I8 = gnum 4
 ptype_code I16 = gnum 5
 ptype_code I32 = gnum 6
 ptype_code I64 = gnum 7
+ptype_code F16 = gnum 8
+ptype_code F32 = gnum 9
+ptype_code F64 = gnum 10
 
 abbrev ptype_numbered : ℕ → PType
 ptype_numbered zero = U8
@@ -103,7 +120,10 @@ ptype_numbered (suc (suc (suc zero))) = U64
 ptype_numbered (suc (suc (suc (suc zero)))) = I8
 ptype_numbered (suc (suc (suc (suc (suc zero))))) = I16
 ptype_numbered (suc (suc (suc (suc (suc (suc zero)))))) = I32
-ptype_numbered (suc (suc (suc (suc (suc (suc (suc n))))))) = I64
+ptype_numbered (suc (suc (suc (suc (suc (suc (suc zero))))))) = I64
+ptype_numbered (suc (suc (suc (suc (suc (suc (suc (suc zero)))))))) = F16
+ptype_numbered (suc (suc (suc (suc (suc (suc (suc (suc (suc zero))))))))) = F32
+ptype_numbered (suc (suc (suc (suc (suc (suc (suc (suc (suc (suc n)))))))))) = F64
 
 abbrev pub ptype_back : Gv → PType
 ptype_back gnil = U8
@@ -119,6 +139,9 @@ ptype_back_code I8 = refl
 ptype_back_code I16 = refl
 ptype_back_code I32 = refl
 ptype_back_code I64 = refl
+ptype_back_code F16 = refl
+ptype_back_code F32 = refl
+ptype_back_code F64 = refl
 
 abbrev pub coded_ptype : Coded PType
 coded_ptype =

@@ -1,5 +1,5 @@
 -- A type as a tree, with no pointers: what a `DType` stands for.
-use Rattle.std.specs.Prelude.{◌≡◌, ℕ, ◌+◌, max, ℤ, zero, suc, refl, Bool, true, false, ◌&&◌, ◌||◌, not, List, [], ◌∷◌, Option, Some, None}
+use Rattle.std.specs.Prelude.{◌≡◌, ℕ, ◌+◌, max, ℤ, zero, suc, refl, Bool, true, false, ◌&&◌, ◌||◌, not, List, [], ◌∷◌, Option, Some, None, if◌then◌else◌}
 use Rattle.std.proofs.Common.{sym, ap, ◌∙◌}
 use base.Stored.{Gv, gnil, gnum, gcons, num, Coded}
 use Rattle.vx_types.specs.Code.{head, tail, bytes_code, bytes_back, bytes_back_code, names_code, names_back, names_back_code, int_code, int_back, int_back_code}
@@ -87,6 +87,11 @@ type_width t = None
 abbrev pub is_int_type : TypeTree → Bool
 is_int_type (primitive_type p n) = is_int p
 is_int_type t = false
+
+-- the primitive type, of a type of whole numbers
+abbrev pub int_type_of : TypeTree → Option PType
+int_type_of (primitive_type p n) = if is_int p then Some p else None
+int_type_of t = None
 
 abbrev pub is_null_type : TypeTree → Bool
 is_null_type null_type = true

@@ -1,26 +1,48 @@
 //! The types of columns.
 ghost use Rattle.std.specs.Prelude.{◌≡◌, None, Some};
 ghost use Rattle.vx_types.specs.DType.{type_of};
-ghost use Rattle.vx_types.specs.TypeTree.{type_nullability, with_nullability, is_flat, type_width};
+ghost use Rattle.vx_types.specs.TypeTree.{type_nullability, with_nullability, is_flat, int_type_of, type_width};
 ghost use Rattle.vx_types.specs.Nullability.{is_nullable};
 
+use crate::decimal::DecimalDType;
 use crate::nullability::Nullability;
 use crate::ptype::PType;
 
 /// The type of a column: Vortex's `DType`.
 #[derive(Drop)]
 pub enum DType {
-    /// Whole numbers of one width, stored as little-endian bytes.
+    /// Rows that are all null.
+    Null,
+    /// A bit a row.
+    Bool(Nullability),
+    /// Numbers of one width, stored as little-endian bytes.
     Primitive(PType, Nullability),
+    /// Decimal numbers, stored as little-endian bytes.
+    Decimal(DecimalDType, Nullability),
 }
 
 impl DType {
-    /// An equal type, without memory.
+    /// The same type once more. It takes no memory.
     pub fn share(&self) -> DType
         ensures { result ≡ self.now }
     {
         match self {
+            DType::Null => DType::Null,
+            DType::Bool(nullability) => DType::Bool(*nullability),
             DType::Primitive(ptype, nullability) => DType::Primitive(*ptype, *nullability),
+            DType::Decimal(decimal, nullability) => DType::Decimal(*decimal, *nullability),
+        }
+    }
+
+    /// The outer nullability; `Null` is always nullable.
+    pub fn nullability(&self) -> Nullability
+        ensures { result ≡ type_nullability (type_of self.now) }
+    {
+        match self {
+            DType::Null => Nullability::Nullable,
+            DType::Bool(nullability)
+            | DType::Primitive(_, nullability)
+            | DType::Decimal(_, nullability) => *nullability,
         }
     }
 
@@ -28,17 +50,18 @@ impl DType {
     pub fn is_nullable(&self) -> bool
         ensures { result ≡ is_nullable (type_nullability (type_of self.now)) }
     {
-        match self {
-            DType::Primitive(_, nullability) => nullability.is_nullable(),
-        }
+        self.nullability().is_nullable()
     }
 
-    /// The same type with this outer nullability.
+    /// The same type with this outer nullability; `Null` stays as it is.
     pub fn with_nullability(&self, n: Nullability) -> DType
         ensures { type_of result ≡ with_nullability (type_of self.now) n }
     {
         match self {
+            DType::Null => DType::Null,
+            DType::Bool(_) => DType::Bool(n),
             DType::Primitive(ptype, _) => DType::Primitive(*ptype, n),
+            DType::Decimal(decimal, _) => DType::Decimal(*decimal, n),
         }
     }
 
@@ -47,16 +70,28 @@ impl DType {
         ensures { result ≡ is_flat (type_of self.now) }
     {
         match self {
-            DType::Primitive(_, _) => true,
+            DType::Null | DType::Bool(_) | DType::Primitive(..) | DType::Decimal(..) => true,
         }
     }
 
-    /// How many bytes a value has; none where the type isn't of one width.
+    /// The primitive type, where it is one of whole numbers.
+    pub fn int_type(&self) -> Option<PType>
+        ensures { result ≡ int_type_of (type_of self.now) }
+    {
+        match self {
+            DType::Primitive(ptype, _) if ptype.is_int() => Some(*ptype),
+            _ => None,
+        }
+    }
+
+    /// How many bytes a value has; none where the type isn't primitive or decimal.
     pub fn width(&self) -> Option<usize>
         ensures { result ≡ type_width (type_of self.now) }
     {
         match self {
+            DType::Null | DType::Bool(_) => None,
             DType::Primitive(ptype, _) => Some(ptype.width()),
+            DType::Decimal(decimal, _) => Some(decimal.width() as usize),
         }
     }
 }

@@ -4,17 +4,25 @@
 //! (`specs/TypeTree.antt`), and a row by `specs/RowValue.antt`.
 #![tactic(auto)]
 
+mod decimal;
 mod dtype;
 mod error;
 mod layout_name;
 mod nullability;
 mod ptype;
+mod row;
+mod runs;
+mod scalar;
 
+pub use decimal::DecimalDType;
 pub use dtype::DType;
 pub use error::ColumnError;
 pub use layout_name::LayoutName;
 pub use nullability::Nullability;
 pub use ptype::{PType, record_of};
+pub use row::{ByteList, Row};
+pub use runs::Runs;
+pub use scalar::ScalarValue;
 
 #[cfg(test)]
 mod tests;

@@ -1,23 +1,37 @@
 //! The primitive types, and the numbers that their records spell.
-ghost use Rattle.std.specs.Prelude.{◌≡◌, ◌≤◌, length};
+ghost use Rattle.std.specs.Prelude.{◌≡◌, ◌≤◌, length, true};
 ghost use Rattle.vx_types.specs.PType.{width, is_int, is_signed, number, record_of, least, greatest, is_in_range};
 
 /// A primitive type: Vortex's `PType`.
 #[derive(Debug, Clone, Copy, PartialEq, Eq)]
 pub enum PType {
+    /// Whole numbers of 8 bits, from 0 on.
     U8,
+    /// Whole numbers of 16 bits, from 0 on.
     U16,
+    /// Whole numbers of 32 bits, from 0 on.
     U32,
+    /// Whole numbers of 64 bits, from 0 on.
     U64,
+    /// Whole numbers of 8 bits, in two's complement.
     I8,
+    /// Whole numbers of 16 bits, in two's complement.
     I16,
+    /// Whole numbers of 32 bits, in two's complement.
     I32,
+    /// Whole numbers of 64 bits, in two's complement.
     I64,
+    /// Floating numbers of 16 bits, which are moved as bytes.
+    F16,
+    /// Floating numbers of 32 bits, likewise.
+    F32,
+    /// Floating numbers of 64 bits, likewise.
+    F64,
 }
 
 /// Writes one arm for each integer type: `match_each_integer_ptype!(ptype, with, args)` is
 /// `with!(u8, args)` where the type is `U8`, and so on. Vortex's macro of this name takes a
-/// closure-like body in place of a macro's name.
+/// closure-like body in place of a macro's name. The type is known to be one of these.
 #[macro_export]
 macro_rules! match_each_integer_ptype {
     ($ptype:expr, $with:ident $(, $arg:expr)*) => {
@@ -30,6 +44,7 @@ macro_rules! match_each_integer_ptype {
             $crate::PType::I16 => $with!(i16 $(, $arg)*),
             $crate::PType::I32 => $with!(i32 $(, $arg)*),
             $crate::PType::I64 => $with!(i64 $(, $arg)*),
+            $crate::PType::F16 | $crate::PType::F32 | $crate::PType::F64 => unreachable!(),
         }
     };
 }
@@ -47,9 +62,9 @@ impl PType {
     {
         match self {
             PType::U8 | PType::I8 => 1,
-            PType::U16 | PType::I16 => 2,
-            PType::U32 | PType::I32 => 4,
-            PType::U64 | PType::I64 => 8,
+            PType::U16 | PType::I16 | PType::F16 => 2,
+            PType::U32 | PType::I32 | PType::F32 => 4,
+            PType::U64 | PType::I64 | PType::F64 => 8,
         }
     }
 
@@ -57,17 +72,7 @@ impl PType {
     pub fn is_int(self) -> bool
         ensures { result ≡ is_int self }
     {
-        matches!(
-            self,
-            PType::U8
-                | PType::U16
-                | PType::U32
-                | PType::U64
-                | PType::I8
-                | PType::I16
-                | PType::I32
-                | PType::I64
-        )
+        !matches!(self, PType::F16 | PType::F32 | PType::F64)
     }
 
     /// Whether its values are whole numbers in two's complement.
@@ -75,15 +80,16 @@ impl PType {
         ensures { result ≡ is_signed self }
     {
         match self {
-            PType::U8 | PType::U16 | PType::U32 | PType::U64 => false,
             PType::I8 | PType::I16 | PType::I32 | PType::I64 => true,
+            _ => false,
         }
     }
 }
 
 impl PType {
-    /// The least number of the type.
+    // The least number of an integer type.
     fn least(self) -> i128
+        requires { is_int self ≡ true }
         ensures { result ≡ least self }
     {
         match self {
@@ -92,11 +98,13 @@ impl PType {
             PType::I16 => -32768,
             PType::I32 => -2147483648,
             PType::I64 => -9223372036854775808,
+            PType::F16 | PType::F32 | PType::F64 => unreachable!(),
         }
     }
 
-    /// The greatest number of the type.
+    // The greatest number of an integer type.
     fn greatest(self) -> i128
+        requires { is_int self ≡ true }
         ensures { result ≡ greatest self }
     {
         match self {
@@ -108,20 +116,25 @@ impl PType {
             PType::I16 => 32767,
             PType::I32 => 2147483647,
             PType::I64 => 9223372036854775807,
+            PType::F16 | PType::F32 | PType::F64 => unreachable!(),
         }
     }
 
-    /// Whether it is a number of the type.
+    /// Whether it is a number of the type; none is one of a floating type.
     pub fn is_in_range(self, number: i128) -> bool
         ensures { result ≡ is_in_range self number }
     {
+        if !self.is_int() {
+            return false;
+        }
         self.least() <= number && number <= self.greatest()
     }
 
     /// The number that a record's bytes spell: little-endian, in two's complement where the type
     /// is signed.
     pub fn number(self, bytes: &[u8]) -> i128
-        requires { length bytes.now ≡ width self }
+        requires int { is_int self ≡ true }
+        requires width { length bytes.now ≡ width self }
         ensures { result ≡ number self bytes.now }
     {
         match_each_integer_ptype!(self, number_by, bytes)

@@ -1,11 +1,11 @@
 -- Each step in turn over the rows that the ones before left.
-use Rattle.std.proofs.Common.{◌≡◌, map, length, sym, ap, ◌∙◌, None, true, false, refl, arith, inl, inr}
+use Rattle.std.proofs.Common.{◌≡◌, map, length, sym, ap, ◌∙◌, None, true, false, refl, arith, ◌⊎◌, inl, inr}
 use Rattle.vx_steps.specs.Step.{step_value}
 use Rattle.vx_steps.specs.Walk.{broken, walk}
 use Rattle.vx_steps.specs.Check.{HasCount}
 use Rattle.vx_steps.specs.Answer.{rows_at}
 use Rattle.vx_steps.proofs.Walks.{reached_start, reached_next, reached_sound, reached_end, step_at, step_within, steps_end}
-use Rattle.vx_select.proofs.Selecting.{rows_at-all_positions, rows_at-apply, length-rows_at, type_after_step-stays, answered, free_step}
+use Rattle.vx_select.proofs.Selecting.{rows_at-all_positions, rows_at-apply, length-rows_at, answered, free_step, null_stays, cut_after_cut}
 use Rattle.vx_select.proofs.selection.select.Goals as goal
 
 pub loop-step-init : goal.loop-step-init
@@ -13,7 +13,7 @@ loop-step-init c =
     let rows = c.args.column.now.rows in
     record {
       reached = reached_start (length rows) (map step_value c.args.steps.now) (λ picks. rows_at rows picks ≡ c.share-current.result.rows) (rows_at-all_positions rows ∙ rw c.share-current.ensures refl);
-      left = rw c.share-current.ensures (record { rows = refl; dtype = refl; null = λ h. h; plain = λ h. h; unwrapped = λ h. h; depth = omega arith });
+      left = rw c.share-current.ensures (record { step = record { rows = refl; dtype = refl; layout = λ _. refl; unwrapped = λ h. h }; plain = λ h. h; depth = omega arith });
     }
 
 pub apply-requires : goal.apply-requires
@@ -29,8 +29,8 @@ returns-in_err-current-clause-no_memory_wanted c = λ free e.
     let steps = c.args.steps.now in let k = c.loop-step.step-index in let x = c.step-item in
     let one = free_step c.args.column.now (map step_value steps) k (step_value x.result) free (step_within steps k c.loop-step-test.true) (step_at steps k x.result c.loop-step-test.true x.is) in
     elim one [
-      | inl none ↦ let no : false ≡ true = c.in_err-current.ensures.null (c.loop-step.invariant.left.null none) in cc
-      | inr slice ↦ let no : false ≡ true = c.in_err-current.ensures.slice slice in cc
+      | inl none ↦ let no : false ≡ true = c.in_err-current.ensures.null (null_stays c.args.column.now c.loop-step.current _ c.loop-step.invariant.left none) in cc
+      | inr (plain, slice) ↦ let no : false ≡ true = c.in_err-current.ensures.slice slice (c.loop-step.invariant.left.plain plain) in cc
     ]
 
 pub loop-step-preserved : goal.loop-step-preserved
@@ -40,18 +40,11 @@ loop-step-preserved c =
     let sound : broken s (length v.reached.picks) ≡ None =
     let count : HasCount (walk (length rows) (map step_value steps)) c.in_ok-check_steps.field-0 = rw (← c.len.ensures) c.in_ok-check_steps.ensures in
     reached_sound (length rows) (map step_value steps) k (λ picks. rows_at rows picks ≡ c.loop-step.current.rows) v.reached s (step_within steps k c.loop-step-test.true) (step_at steps k x.result c.loop-step-test.true x.is) c.in_ok-check_steps.field-0 count in
-    let now = c.in_ok-current.ensures.step in
+    let now = c.in_ok-current.ensures.cut in
     record {
       reached = reached_next (length rows) (map step_value steps) k (λ picks. rows_at rows picks ≡ c.loop-step.current.rows) v.reached s (step_within steps k c.loop-step-test.true) (step_at steps k x.result c.loop-step-test.true x.is)
-          (λ picks. rows_at rows picks ≡ c.in_ok-current.current.rows) sound (rows_at-apply rows s v.reached.picks c.loop-step.current.rows v.reached.so ∙ sym now.rows);
-      left = record {
-        rows = refl;
-        dtype = now.dtype ∙ type_after_step-stays c.loop-step.current.dtype s ∙ v.left.dtype;
-        null = λ h. now.null (v.left.null h);
-        plain = λ h. now.plain (v.left.plain h);
-        unwrapped = λ h. now.unwrapped (v.left.unwrapped h);
-        depth = omega (arith, now.depth, v.left.depth);
-      };
+          (λ picks. rows_at rows picks ≡ c.in_ok-current.current.rows) sound (rows_at-apply rows s v.reached.picks c.loop-step.current.rows v.reached.so ∙ sym now.step.rows);
+      left = cut_after_cut c.args.column.now c.loop-step.current c.in_ok-current.current _ _ v.left now;
     }
 
 pub returns-clause-answer : goal.returns-clause-answer
@@ -60,7 +53,7 @@ returns-clause-answer c =
     let whole = c.execute.ensures.same in
     answered c.args.column.now (map step_value steps) v.reached.picks c.execute.result.dtype c.execute.result.rows
     (reached_end (length rows) (map step_value steps) c.loop-step.step-index (λ picks. rows_at rows picks ≡ c.loop-step.current.rows) v.reached (steps_end steps c.loop-step.step-index c.loop-step-test.false))
-    (whole.dtype ∙ v.left.dtype) (v.reached.so ∙ sym whole.rows)
+    (whole.dtype ∙ v.left.step.dtype) (v.reached.so ∙ sym whole.rows)
 
 pub returns-clause-unwrapped : goal.returns-clause-unwrapped
-returns-clause-unwrapped c = λ flat. c.execute.ensures.unwrapped (rw c.loop-step.invariant.left.dtype flat)
+returns-clause-unwrapped c = λ flat. c.execute.ensures.unwrapped (rw c.loop-step.invariant.left.step.dtype flat)

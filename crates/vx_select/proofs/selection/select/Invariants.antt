@@ -1,6 +1,6 @@
 -- What holds before each step.
 use Rattle.std.proofs.Common.{◌≡◌, map, length}
-use Rattle.vx_model.specs.Step.{IsStep}
+use Rattle.vx_model.specs.Step.{IsCut}
 use Rattle.vx_steps.specs.Step.{step_value}
 use Rattle.vx_steps.specs.Answer.{rows_at}
 use Rattle.vx_steps.proofs.Walks.{Reached}
@@ -10,5 +10,5 @@ use Rattle.vx_select.proofs.selection.select.Given as goal
 abbrev pub invariant-loop-step : goal.invariant-loop-step
 invariant-loop-step l = record {
   reached : Reached (length l.column.rows) (map step_value l.steps) l.step-index (λ picks. rows_at l.column.rows picks ≡ l.current.rows);
-  left : IsStep l.column l.current.rows l.column.dtype l.current;
+  left : IsCut l.column l.current.rows l.current;
 }

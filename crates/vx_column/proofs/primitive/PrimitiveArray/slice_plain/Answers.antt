@@ -1,9 +1,10 @@
 -- The sliced parts make the sliced column.
-use Rattle.std.proofs.Common.{◌≡◌, ◌≤◌, length, true, rules, ap, ◌∙◌, slice_range, arith}
+use Rattle.std.proofs.Common.{◌≡◌, ◌≤◌, length, true, rules, ap, ap₂, ◌∙◌, slice_range, arith}
 use Rattle.vx_model.specs.Valid.{cover_by, is_constant_form}
 use Rattle.vx_model.specs.Primitive.{primitive_column, primitive_with}
-use Rattle.vx_model.proofs.PrimitiveSteps.{is_slice-primitive, length-primitive, is_fitting-primitive}
-use Rattle.vx_model.proofs.ShownRows.{is_left-slice}
+use Rattle.vx_model.proofs.Layouts.{length-primitive, is_fitting-primitive}
+use Rattle.vx_model.proofs.ShownRows.{is_left-slice, is_as_plain}
+use Rattle.vx_model.proofs.Steps.{is_slice-primitive}
 use Rattle.vx_column.specs.Validity.{valid_of}
 use Rattle.vx_column.proofs.primitive.PrimitiveArray.slice_plain.Goals as goal
 
@@ -12,8 +13,9 @@ returns c =
     let p = c.args.self.now in let s = c.args.start in let e = c.args.end in
     let sound = c.validity.ensures.valid in
     let k : is_constant_form (cover_by p.valid) ≡ true = search rules in
-    let v : valid_of c.share-validity.result ≡ p.valid = ap valid_of c.share-validity.ensures ∙ c.validity-2.ensures.value in
+    let v : valid_of c.share.result ≡ p.valid = ap valid_of c.share.ensures ∙ c.validity-2.ensures.value in
     let inside : e ≤ length p.records = omega (arith, length-primitive p sound, c.requires.within) in
     let left = is_left-slice p.valid (length p.records) s e k c.requires.ordered inside (is_fitting-primitive p sound) in
-    let made = c.into_array.ensures ∙ ap primitive_column (c.slice.ensures ∙ ap (primitive_with p (slice_range p.records s e)) v) in
-    rw made (k, is_slice-primitive p p.valid s e sound c.requires.ordered inside left)
+    let cut = c.slice-values.ensures.records ∙ ap (λ r. slice_range r s e) c.values.ensures.records in
+    let whole = c.into_array.ensures ∙ ap primitive_column (c.with_rows.ensures ∙ ap₂ (primitive_with p) cut v) in
+    rw whole (k, is_slice-primitive p p.valid s e sound c.requires.ordered inside left (is_as_plain p.valid))

@@ -1,0 +1,101 @@
+//! Layout `Bool`: a bit a row.
+ghost use Rattle.std.specs.Prelude.{◌≡◌, length, true, None};
+ghost use Rattle.vx_bits.specs.Results.{ok_unless};
+ghost use Rattle.vx_model.specs.Valid.{is_fitting};
+ghost use Rattle.vx_model.specs.Bool.{bool_fault, bool_column, bool_with};
+ghost use Rattle.vx_column.specs.Validity.{valid_of};
+
+use crate::array::{Array, Layout};
+use crate::validity::Validity;
+use std::marker::Model;
+use vx_bits::BitBuffer;
+use vx_types::{ColumnError, DType};
+
+/// A column of bits: Vortex's `BoolArray`.
+#[cycle(array)]
+#[derive(Drop)]
+pub struct BoolArray {
+    bits: BitBuffer,
+    validity: Validity,
+}
+
+impl Model for BoolArray {
+    ghost use Rattle.vx_model.specs.Bool.{BoolParts, coded_bools};
+
+    ghost Value = { BoolParts };
+
+    ghost coded = { coded_bools };
+
+    ghost use Rattle.std.specs.Prelude.{◌≡◌, None};
+    ghost use Rattle.std.proofs.Common.{arith};
+    ghost use Rattle.vx_model.specs.Valid.{valid_size};
+    ghost use Rattle.vx_model.specs.Bool.{bool_fault};
+    ghost use Rattle.vx_column.specs.Validity.{valid_of};
+
+    ghost view = { λ a. record { bits = a.bits; valid = valid_of a.validity } };
+
+    ghost invariant = { λ a. bool_fault (record { bits = a.bits; valid = valid_of a.validity }) ≡ None };
+
+    ghost size = { λ p. valid_size p.valid };
+
+    ghost size_decreases = { λ a h. Prim.grind arith };
+}
+
+impl BoolArray {
+    /// A column with one row a bit. It takes no memory.
+    ///
+    /// `BadValidity` exactly where the validity can't be that of so many rows.
+    pub fn try_new(bits: BitBuffer, validity: Validity) -> Result<BoolArray, ColumnError>
+        ensures { result ≡ ok_unless (bool_fault (record { bits = bits; valid = valid_of validity }))
+            (record { bits = bits; valid = valid_of validity }) }
+    {
+        if !validity.is_fitting(bits.len()) {
+            return Err(ColumnError::BadValidity);
+        }
+        Ok(BoolArray { bits, validity })
+    }
+
+    /// Its bits, one a row, null rows too.
+    pub fn bits(&self) -> &BitBuffer
+        ensures bits { result.now ≡ self.now.bits }
+        ensures valid { bool_fault self.now ≡ None }
+    {
+        &self.bits
+    }
+
+    /// Which rows are there.
+    pub fn validity(&self) -> &Validity
+        ensures value { valid_of result.now ≡ self.now.valid }
+        ensures valid { bool_fault self.now ≡ None }
+    {
+        &self.validity
+    }
+
+    /// A column of bits with a validity that fits: what a step leaves. It takes no memory.
+    pub fn of(bits: BitBuffer, validity: Validity) -> BoolArray
+        requires { is_fitting (valid_of validity) (length bits.bits) ≡ true }
+        ensures { result ≡ bool_with bits.bits bits.offset (valid_of validity) }
+    {
+        BoolArray { bits, validity }
+    }
+
+    /// The same column once more. It takes no memory.
+    pub fn share(&self) -> BoolArray
+        ensures { result ≡ self.now }
+    {
+        BoolArray {
+            bits: self.bits.share(),
+            validity: self.validity.share(),
+        }
+    }
+
+    /// The column of this layout. It takes no memory.
+    #[tactic(auto, using(vx_model::proofs::Layouts::layout_rows))]
+    pub fn into_array(self) -> Array
+        ensures { result ≡ bool_column self }
+    {
+        let dtype = DType::Bool(self.validity.nullability());
+        let len = self.bits.len();
+        Array::new(dtype, len, Layout::Bool(self))
+    }
+}

@@ -1,0 +1,47 @@
+//! Layout `Bool`.
+ghost use Rattle.std.specs.Prelude.{◌≡◌, ◌≤◌, length, true, IfOk, IsOk};
+ghost use Rattle.std.specs.List.{items_where_true};
+ghost use Rattle.vx_model.specs.Bool.{bool_column};
+ghost use Rattle.vx_model.specs.Plain.{is_plain};
+ghost use Rattle.vx_model.specs.Step.{IsSlice, IsCut};
+
+use crate::validity::{filter_validity, slice_validity};
+use std::alloc::Global;
+use vx_bits::NoMemory;
+use vx_column::{Array, BoolArray};
+use vx_flat::filter_bool;
+use vx_mask::{MaskValues, Policy};
+
+#[cycle(slice)]
+#[tactic(auto, using(vx_model::proofs::Layouts::layout_rows))]
+pub(crate) fn slice_of(
+    alloc: Global,
+    array: &BoolArray,
+    start: usize,
+    end: usize,
+) -> Result<Array, NoMemory>
+    requires ordered { start ≤ end }
+    requires within { end ≤ length (bool_column array.now).rows }
+    ensures cut { IfOk result (IsSlice (bool_column array.now) start end) }
+    ensures plain { is_plain (bool_column array.now) ≡ true → IsOk result }
+{
+    let bits = array.bits();
+    let validity = slice_validity(alloc, array.validity(), bits.len(), start, end)?;
+    Ok(BoolArray::of(bits.slice(start, end), validity).into_array())
+}
+
+#[cycle(filter)]
+#[tactic(auto, using(vx_model::proofs::Layouts::layout_rows))]
+pub(crate) fn filter_of(
+    alloc: Global,
+    array: &BoolArray,
+    mask: &MaskValues,
+    policy: &Policy,
+) -> Result<Array, NoMemory>
+    requires { length mask.now.bits.bits ≡ length (bool_column array.now).rows }
+    ensures { IfOk result (IsCut (bool_column array.now)
+        (items_where_true mask.now.bits.bits (bool_column array.now).rows)) }
+{
+    let validity = filter_validity(alloc, array.validity(), mask, policy)?;
+    Ok(filter_bool(alloc, array, mask, validity)?.into_array())
+}

@@ -1,0 +1,31 @@
+//! Layout `Decimal`.
+ghost use Rattle.std.specs.Prelude.{◌≡◌, length, true, IfOk};
+ghost use Rattle.std.specs.List.{items_where_true};
+ghost use Rattle.vx_bits.specs.BitBuffer.{true_count_of};
+ghost use Rattle.vx_model.specs.Valid.{is_fitting};
+ghost use Rattle.vx_model.specs.Decimal.{decimal_with};
+ghost use Rattle.vx_column.specs.Validity.{valid_of};
+
+use crate::records::filter_records;
+use std::alloc::Global;
+use vx_bits::NoMemory;
+use vx_column::{DecimalArray, Validity};
+use vx_mask::{MaskValues, Policy};
+
+/// The records at the set positions of `mask`, in order, with this validity. `NoMemory` alone.
+#[tactic(auto, using(vx_model::proofs::Items::kept_items))]
+pub fn filter_decimal(
+    alloc: Global,
+    array: &DecimalArray,
+    mask: &MaskValues,
+    policy: &Policy,
+    validity: Validity,
+) -> Result<DecimalArray, NoMemory>
+    requires long { length mask.now.bits.bits ≡ length array.now.records }
+    requires fitting { is_fitting (valid_of validity) (true_count_of mask.now.bits.bits) ≡ true }
+    ensures { IfOk result (λ a. a ≡ decimal_with array.now
+        (items_where_true mask.now.bits.bits array.now.records) (valid_of validity)) }
+{
+    let values = filter_records(alloc, array.values(), mask, policy)?;
+    Ok(array.with_rows(values, validity))
+}
