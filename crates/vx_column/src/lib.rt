@@ -14,6 +14,7 @@ mod numbers;
 mod plain;
 mod primitive;
 mod rows;
+mod shown;
 mod validity;
 
 pub use array::{Array, ArrayRef, Layout};
