@@ -1,12 +1,10 @@
 //! A shared list of bits.
-ghost use Rattle.std.specs.Prelude.{◌≡◌, ◌+◌, ◌-◌, ◌*◌, ◌/◌, ◌%◌, ◌^◌, ◌<◌, ◌≤◌, ◌↔◌, IsTrue, IfOk, MatchOption, length, position, slice_index_or, slice_range, false};
+ghost use Rattle.std.specs.Prelude.{◌≡◌, ◌+◌, ◌-◌, ◌*◌, ◌/◌, ◌%◌, ◌^◌, ◌<◌, ◌≤◌, ◌↔◌, IsTrue, MatchOption, length, position, slice_index_or, slice_range, false};
 ghost use Rattle.vx_bits.specs.BitBuffer.{IsLastSet, bit_fault, bits_of, number_of, true_count_of};
 ghost use Rattle.vx_bits.specs.Results.{ok_unless};
 ghost use Rattle.vx_bits.specs.Words.{word_at, word_bits};
 
 use crate::buffer::Buffer;
-use crate::error::NoMemory;
-use std::alloc::Global;
 use std::marker::Model;
 
 /// Why bytes do not hold the bits that were asked for.
@@ -56,18 +54,6 @@ impl BitBuffer {
             return Err(BitError::Short);
         }
         Ok(BitBuffer { bytes, offset, len })
-    }
-
-    /// The same bits, the first one at offset 0. `NoMemory` alone.
-    pub fn from_bools(alloc: Global, bits: &[bool]) -> Result<BitBuffer, NoMemory>
-        ensures { IfOk result (λ b. b ≡ record { bits = bits.now; offset = 0 }) }
-    {
-        let bytes = Buffer::from_vec(alloc, packed(alloc, bits)?)?;
-        Ok(BitBuffer {
-            bytes,
-            offset: 0,
-            len: bits.len(),
-        })
     }
 
     // The first `len` bits of the bytes.
@@ -331,32 +317,4 @@ fn reaches(byte_count: usize, offset: usize, len: usize) -> bool
         Some(end) => end.div_ceil(8) <= byte_count,
         None => false,
     }
-}
-
-// The bytes of these bits, eight to a byte.
-fn packed(alloc: Global, bits: &[bool]) -> Result<Vec<u8>, NoMemory>
-    ensures holds { IfOk result (λ bytes. bits_of bytes.items 0 (length bits.now) ≡ bits.now) }
-    ensures room { IfOk result (λ bytes. length bits.now ≤ 8 * length bytes.items) }
-{
-    let count = bits.len().div_ceil(8);
-    let mut bytes = Vec::with_capacity(alloc, count)?;
-    for k in 0..count {
-        let end = bits.len().min(8 * k + 8);
-        bytes.push(byte_of(&bits[8 * k..end]))?;
-    }
-    Ok(bytes)
-}
-
-// The byte whose lowest bits are these, the first one lowest.
-fn byte_of(bits: &[bool]) -> u8
-    requires { length bits.now ≤ 8 }
-    ensures { result ≡ number_of bits.now }
-{
-    let mut byte = 0;
-    for (k, bit) in bits.iter().enumerate() {
-        if *bit {
-            byte |= 1 << k;
-        }
-    }
-    byte
 }

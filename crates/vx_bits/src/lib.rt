@@ -3,6 +3,7 @@
 
 mod bit_buffer;
 mod bit_builder;
+mod bools;
 mod buffer;
 mod error;
 mod record;

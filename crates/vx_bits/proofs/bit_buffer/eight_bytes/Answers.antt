@@ -8,4 +8,4 @@ pub returns : goal.returns
 returns c =
     let bytes = c.args.bytes.now in
     let start = c.args.start in
-    ap (λ x. word_bits x 64) (c.from_le_bytes.ensures ∙ ap (from_le_bytes w64) (eight_items bytes start c.requires)) ∙ eight_from bytes start c.requires (λ i. omega (arith, c.type_inv.bytes i))
+    ap (λ x. word_bits x 64) (c.from_le_bytes.ensures ∙ ap (from_le_bytes w64) (eight_items bytes start 0 c.requires)) ∙ eight_from bytes start c.requires (λ i. omega (arith, c.type_inv.bytes i))
