@@ -5,6 +5,7 @@ ghost use Rattle.vx_bits.specs.Results.{ok_unless};
 ghost use Rattle.vx_bits.specs.Words.{word_at, word_bits};
 
 use crate::buffer::Buffer;
+use crate::words::{Words, eight_bytes};
 use std::marker::Model;
 
 /// Why bytes do not hold the bits that were asked for.
@@ -126,16 +127,15 @@ impl BitBuffer {
         requires { i ≤ length self.now.bits / 64 }
         ensures { result ≡ word_at self.now.bits i }
     {
-        let left = self.len - 64 * i;
-        if left < 64 {
-            return last_word(
-                self.bytes.as_slice(),
-                8 * i,
-                self.offset as u32,
-                left as u32,
-            );
-        }
-        word_from(self.bytes.as_slice(), 8 * i, self.offset as u32)
+        self.words().word(i)
+    }
+
+    /// The words of these bits, for a loop over many.
+    #[inline]
+    pub fn words(&self) -> Words<'_>
+        ensures { result ≡ self.now.bits }
+    {
+        Words::new(self.bytes.as_slice(), self.offset as u32, self.len)
     }
 
     /// The position of the first set bit. `None` exactly where no bit is set.
@@ -192,60 +192,6 @@ impl BitBuffer {
             len: self.len,
         }
     }
-}
-
-// The word that eight bytes from `start` on spell.
-#[inline(always)]
-fn eight_bytes(bytes: &[u8], start: usize) -> u64
-    requires { start + 8 ≤ length bytes.now }
-    ensures { word_bits result 64 ≡ bits_of bytes.now (8 * start) 64 }
-{
-    u64::from_le_bytes([
-        bytes[start],
-        bytes[start + 1],
-        bytes[start + 2],
-        bytes[start + 3],
-        bytes[start + 4],
-        bytes[start + 5],
-        bytes[start + 6],
-        bytes[start + 7],
-    ])
-}
-
-// The 64 bits from bit `shift` of byte `start` on.
-#[inline(always)]
-fn word_from(bytes: &[u8], start: usize, shift: u32) -> u64
-    requires below { shift < 8 }
-    requires within { 8 * start + shift + 64 ≤ 8 * length bytes.now }
-    ensures { word_bits result 64 ≡ bits_of bytes.now (8 * start + shift) 64 }
-{
-    let low = eight_bytes(bytes, start);
-    if shift == 0 {
-        return low;
-    }
-    (low >> shift) | (u64::from(bytes[start + 8]) << (64 - shift))
-}
-
-// The word of the `count` bits from bit `shift` of byte `start` on, and zeros.
-#[inline(never)]
-fn last_word(bytes: &[u8], start: usize, shift: u32, count: u32) -> u64
-    requires below { shift < 8 }
-    requires short { count < 64 }
-    requires within { 8 * start + shift + count ≤ 8 * length bytes.now }
-    requires counted { 8 * start + shift + count < 2 ^ 64 }
-    ensures { result ≡ number_of (bits_of bytes.now (8 * start + shift) count) }
-{
-    if bytes.len() - start > 8 {
-        return word_from(bytes, start, shift) & ((1 << count) - 1);
-    }
-    let mut word = 0;
-    for k in 0..count {
-        let place = 8 * start + shift as usize + k as usize;
-        if (bytes[place / 8] >> (place % 8)) & 1 == 1 {
-            word |= 1 << k;
-        }
-    }
-    word
 }
 
 // How many of the bits from `start` up to `end` are set, by words and bytes where there are any.

@@ -9,6 +9,7 @@ mod error;
 mod record;
 mod records;
 mod word_reader;
+mod words;
 
 pub use bit_buffer::{BitBuffer, BitError};
 pub use bit_builder::BitBuilder;
@@ -17,6 +18,7 @@ pub use error::{Failed, NoMemory};
 pub use record::Record;
 pub use records::Records;
 pub use word_reader::{CountedWords, PlainWords, WordReader};
+pub use words::Words;
 
 #[cfg(test)]
 mod tests;

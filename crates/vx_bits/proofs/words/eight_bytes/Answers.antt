@@ -2,7 +2,7 @@ use Rattle.std.proofs.Common.{ap, ◌∙◌, arith}
 use Rattle.std.specs.Int.{from_le_bytes, w64}
 use Rattle.vx_bits.specs.Words.{word_bits}
 use Rattle.vx_bits.proofs.ByteWords.{eight_from, eight_items}
-use Rattle.vx_bits.proofs.bit_buffer.eight_bytes.Goals as goal
+use Rattle.vx_bits.proofs.words.eight_bytes.Goals as goal
 
 pub returns : goal.returns
 returns c =
