@@ -58,6 +58,10 @@ word_bits_in bits i n e =
 pub whole_word : (bits : List Bool) (i : ℕ) → 64 * i + 64 ≤ length bits → word_bits (word_at bits i) 64 ≡ bits_in bits i
 whole_word bits i h = word_bits_in bits i 64 (omega (arith, length-bits_in bits i))
 
+-- a word of a view of the bits is theirs
+pub is_word : {bits view : List Bool} {word : ℕ} (i : ℕ) → word ≡ word_at view i → view ≡ bits → word ≡ word_at bits i
+is_word i e same = e ∙ ap (λ l. word_at l i) same
+
 -- a word below 2 ^ 64 with the list's bits is the list's word
 pub word_is : (bits : List Bool) (i word n : ℕ) → word < 2 ^ n → bits_in bits i ≡ word_bits word n → word ≡ word_at bits i
 unfolding word_at
