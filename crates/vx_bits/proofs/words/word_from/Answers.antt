@@ -1,7 +1,7 @@
 use Rattle.std.proofs.Common.{◌≡◌, ◌+◌, ◌*◌, ◌-◌, ◌/◌, ◌%◌, ◌^◌, bit_or, ap, ◌∙◌, arith}
 use Rattle.vx_bits.specs.BitBuffer.{bits_of}
 use Rattle.vx_bits.proofs.ByteWords.{shifted_bits}
-use Rattle.vx_bits.proofs.bit_buffer.word_from.Goals as goal
+use Rattle.vx_bits.proofs.words.word_from.Goals as goal
 
 pub returns-then-shift-eq0 : goal.returns-then-shift-eq0
 returns-then-shift-eq0 c =

@@ -1,7 +1,7 @@
 use Rattle.std.proofs.Common.{◌+◌, ◌*◌, arith}
 use Rattle.vx_bits.proofs.ByteWords.{masked_number, number_with_bit, number_without_bit}
-use Rattle.vx_bits.proofs.bit_buffer.last_word.Goals.{then-bytes-place-eq1, else-bytes-place-eq1}
-use Rattle.vx_bits.proofs.bit_buffer.last_word.Goals as goal
+use Rattle.vx_bits.proofs.words.last_word.Goals.{then-bytes-place-eq1, else-bytes-place-eq1}
+use Rattle.vx_bits.proofs.words.last_word.Goals as goal
 
 pub returns-then-bytes-start-gt8 : goal.returns-then-bytes-start-gt8
 returns-then-bytes-start-gt8 c = masked_number c.args.bytes.now (8 * c.args.start + c.args.shift) c.word_from.result c.args.count c.requires.short c.word_from.ensures
