@@ -10,8 +10,11 @@ use std::alloc::Global;
 use vx_bits::NoMemory;
 use vx_mask::MaskValues;
 
-// A mask with fewer set bits is not worth the table that its bytes are looked up in.
-const TABLE_PAYS_FROM: usize = 1 << 14;
+// A mask with fewer set bits, or fewer clear ones, is not worth the table that its bytes are looked
+// up in: few of its words are neither empty nor full.
+const TABLE_PAYS_FROM_SET: usize = 1 << 14;
+
+const TABLE_PAYS_FROM_CLEAR: usize = 1 << 9;
 
 /// The set bit positions of each byte: Vortex's table of `byte_compress`.
 ///
@@ -67,8 +70,8 @@ fn row_of(byte: u8) -> [u8; 8]
 /// The items of `src` at the set positions of `mask`, in order, byte by byte: Vortex's
 /// `byte_compress`. `NoMemory` alone.
 ///
-/// A mask with few set bits, a word with few and a full word are done by words: there that is less
-/// work.
+/// A mask with few set bits or few clear ones, and a word with few set bits or all, are done by
+/// words: there that is less work.
 pub fn byte_compress<T: Copy>(
     alloc: Global,
     src: &[T],
@@ -77,7 +80,7 @@ pub fn byte_compress<T: Copy>(
     requires { length mask.now.bits.bits ≡ length src.now }
     ensures { IfOk result (λ kept. kept.items ≡ items_where_true mask.now.bits.bits src.now) }
 {
-    if mask.true_count() < TABLE_PAYS_FROM {
+    if !pays_by_table(mask.true_count(), mask.len()) {
         return filter_slice_by_bitmap(alloc, src, mask);
     }
     let table = CompressTable::new(alloc)?;
@@ -94,6 +97,13 @@ pub fn byte_compress<T: Copy>(
         }
     }
     Ok(kept)
+}
+
+// Whether a mask of so many set bits is worth the table.
+fn pays_by_table(true_count: usize, len: usize) -> bool
+    requires { true_count ≤ len }
+{
+    true_count >= TABLE_PAYS_FROM_SET && len - true_count >= TABLE_PAYS_FROM_CLEAR
 }
 
 // Whether a word has all its items, and eight writes a byte are less work than one an item. A full
