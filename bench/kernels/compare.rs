@@ -122,6 +122,10 @@ unsafe extern "C" {
         s: *const u8, n: usize, offset: usize, b: *const u8, m: usize, o: *mut u64, k: usize,
         len: usize, which: usize, times: usize,
     ) -> usize;
+    fn filter_chunks(
+        s: *const u8, n: usize, b: *const u8, m: usize, len: usize, o: *mut u8, k: usize,
+        width: usize, which: usize, times: usize,
+    ) -> usize;
 }
 
 const NULL: usize = usize::MAX;
@@ -414,6 +418,145 @@ fn takes(dice: &mut Dice) -> bool {
     is_equal & compare("translated ranks", ROWS, ours, || plain_positions(black_box(&mask), &ranks))
 }
 
+/// The values of one chunk that are asked for, few of them by themselves and others by the chunk.
+struct PlainChunks<'a, const W: usize> {
+    values: &'a [[u8; W]],
+    scratch: Vec<[u8; W]>,
+    limit: usize,
+}
+
+impl<const W: usize> PlainChunks<'_, W> {
+    fn take(&mut self, chunk: usize, places: &[usize], kept: &mut Vec<[u8; W]>) {
+        let values = &self.values[1024 * chunk..1024 * (chunk + 1)];
+        if places.len() == 1024 {
+            kept.extend_from_slice(values);
+        } else if places.len() <= self.limit {
+            kept.extend(places.iter().map(|p| values[*p]));
+        } else {
+            self.scratch.copy_from_slice(values);
+            kept.extend(places.iter().map(|p| self.scratch[*p]));
+        }
+    }
+}
+
+#[inline(never)]
+fn plain_chunks_by_bits<const W: usize>(
+    chunks: &mut PlainChunks<W>,
+    mask: &[u64],
+    total: usize,
+) -> Vec<[u8; W]> {
+    let mut kept = Vec::with_capacity(total);
+    let mut places = Vec::with_capacity(1024);
+    for (chunk, words) in mask.chunks(16).enumerate() {
+        let count = words.iter().map(|w| w.count_ones() as usize).sum::<usize>();
+        let values = &chunks.values[1024 * chunk..1024 * (chunk + 1)];
+        if count == 1024 {
+            kept.extend_from_slice(values);
+        } else if count > chunks.limit {
+            chunks.scratch.copy_from_slice(values);
+            for (items, word) in chunks.scratch.chunks(64).zip(words) {
+                let mut word = *word;
+                if word == u64::MAX {
+                    kept.extend_from_slice(items);
+                    continue;
+                }
+                while word != 0 {
+                    kept.push(items[word.trailing_zeros() as usize]);
+                    word &= word - 1;
+                }
+            }
+        } else if count > 0 {
+            places.clear();
+            for (w, word) in words.iter().enumerate() {
+                let mut word = *word;
+                while word != 0 {
+                    places.push(64 * w + word.trailing_zeros() as usize);
+                    word &= word - 1;
+                }
+            }
+            chunks.take(chunk, &places, &mut kept);
+        }
+    }
+    kept
+}
+
+#[inline(never)]
+fn plain_chunks_by_indices<const W: usize>(
+    chunks: &mut PlainChunks<W>,
+    indices: &[usize],
+) -> Vec<[u8; W]> {
+    let mut kept = Vec::with_capacity(indices.len());
+    let mut places = Vec::with_capacity(1024);
+    for here in indices.chunk_by(|a, b| a / 1024 == b / 1024) {
+        places.clear();
+        places.extend(here.iter().map(|i| i % 1024));
+        chunks.take(here[0] / 1024, &places, &mut kept);
+    }
+    kept
+}
+
+#[inline(never)]
+fn plain_chunks_by_slices<const W: usize>(
+    chunks: &mut PlainChunks<W>,
+    slices: &[(usize, usize)],
+    total: usize,
+) -> Vec<[u8; W]> {
+    let mut kept = Vec::with_capacity(total);
+    let mut places = Vec::with_capacity(1024);
+    let mut chunk = 0;
+    for (start, end) in slices {
+        let mut at = *start;
+        while at < *end {
+            if at / 1024 != chunk {
+                chunks.take(chunk, &places, &mut kept);
+                places.clear();
+                chunk = at / 1024;
+            }
+            let part = (*end).min(1024 * (chunk + 1));
+            places.extend(at % 1024..at % 1024 + part - at);
+            at = part;
+        }
+    }
+    chunks.take(chunk, &places, &mut kept);
+    kept
+}
+
+fn slices_of(mask: &[u64]) -> Vec<(usize, usize)> {
+    let set = set_of(mask);
+    set.chunk_by(|a, b| a + 1 == *b).map(|run| (run[0], run[run.len() - 1] + 1)).collect()
+}
+
+fn chunk_filters<const W: usize>(name: &str, bytes: &[u8], limit: usize) -> bool
+where
+    [u8; W]: Default,
+{
+    let mask = words(bytes);
+    let (indices, slices) = (set_of(&mask), slices_of(&mask));
+    let src: Vec<u8> = (0..W * ROWS.next_multiple_of(1024)).map(|i| (i * 7 / 3) as u8).collect();
+    let (values, _) = src.as_chunks::<W>();
+    let mut chunks = PlainChunks { values, scratch: vec![[0; W]; 1024], limit };
+    let mut is_equal = true;
+    for (which, way) in [(0, "bits"), (3, "indices"), (4, "slices")] {
+        let ours = |out: &mut [[u8; W]], times| unsafe {
+            let (s, b, o) = (src.as_ptr(), bytes.as_ptr(), out.as_mut_ptr() as *mut u8);
+            filter_chunks(s, src.len(), b, bytes.len(), ROWS, o, W * out.len(), W, which, times)
+        };
+        let plain = || match which {
+            0 => plain_chunks_by_bits(black_box(&mut chunks), black_box(&mask), indices.len()),
+            3 => plain_chunks_by_indices(black_box(&mut chunks), black_box(&indices)),
+            _ => plain_chunks_by_slices(black_box(&mut chunks), black_box(&slices), indices.len()),
+        };
+        is_equal &= compare(&format!("chunks by {way} {name}"), ROWS, ours, plain);
+    }
+    is_equal
+}
+
+fn all_chunk_filters(density: f64, bytes: &[u8]) -> bool {
+    chunk_filters::<1>(&format!("u8 at {density}"), bytes, 16)
+        & chunk_filters::<4>(&format!("u32 at {density}"), bytes, 64)
+        & chunk_filters::<8>(&format!("u64 at {density}"), bytes, 160)
+}
+
 fn main() {
     println!("{:34}{:>8}{:>8}{:>8}   (nanoseconds a row)", "", "ours", "plain", "ratio");
     let mut dice = Dice(88_172_645_463_325_252);
@@ -431,6 +574,7 @@ fn main() {
         let items: Vec<u64> = (0..ROWS as u64).collect();
         let calls: (Filter<_>, InPlace<_>, Compact<_>) = (filter_u64, in_place_u64, compact_u64);
         is_equal &= filters(&format!("u64 at {density}"), &items, &bytes, calls);
+        is_equal &= all_chunk_filters(density, &bytes);
     }
     if !is_equal {
         std::process::exit(1);

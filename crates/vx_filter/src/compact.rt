@@ -46,10 +46,10 @@ pub fn compact_runs<T: Copy>(src: &[T], words: &[u64], dst: &mut [T]) -> usize
     kept
 }
 
-// Copies the items that a word picks behind those that are kept, and answers how many are kept
-// then. The word's first bit has position `base`.
+/// Copies the items that a word picks behind those that are kept, and answers how many are kept
+/// then. The word's first bit has position `base`.
 #[inline(always)]
-fn copy_picked<T: Copy>(dst: &mut [T], kept: usize, src: &[T], base: usize, word: u64) -> usize
+pub fn copy_picked<T: Copy>(dst: &mut [T], kept: usize, src: &[T], base: usize, word: u64) -> usize
     requires within { All (λ p. p < length src.now) (positions base (word_bits word 64)) }
     requires room { kept + count_ones word ≤ length dst.old }
     ensures count { result ≡ kept + count_ones word }
