@@ -29,6 +29,3 @@ pub use vx_types::{
     ByteList, ColumnError, DType, DecimalDType, LayoutName, Nullability, PType, Row, Runs,
     ScalarValue, match_each_integer_ptype, record_of,
 };
-
-#[cfg(test)]
-mod tests;

@@ -8,11 +8,10 @@ mod filtering;
 mod null;
 mod primitive;
 mod slicing;
+mod taking;
 mod validity;
 
 pub use executing::execute;
 pub use filtering::filter;
 pub use slicing::slice;
-
-#[cfg(test)]
-mod tests;
+pub use taking::take;

@@ -1,7 +1,7 @@
 -- What a take leaves of a layout's parts makes what it leaves of the column.
 use Rattle.std.proofs.Common.{◌≡◌, ℕ, zero, suc, ◌<◌, Bool, true, false, List, [], ◌∷◌, map, length, get_or, Option, None, Some, refl, sym, ap, ap₂, ◌∙◌, subst, arith}
 use Rattle.std.specs.Prelude.{if◌then◌else◌, IfSome, is_some, replicate, ◌==◌}
-use Rattle.std.specs.List.{All}
+use Rattle.std.specs.List.{list_all}
 use Rattle.std.proofs.lemmas.List.{length-map, get_or-replicate, length-replicate}
 use Rattle.std.proofs.lemmas.Simd.{map-map}
 use Rattle.std.proofs.lemmas.Bool.Decides.{nat_tests}
@@ -16,13 +16,13 @@ use Rattle.vx_take.specs.Picks.{AreBelow, at, item_at}
 use Rattle.vx_model.specs.Column.{Column}
 use Rattle.vx_model.specs.Valid.{Valid, non_nullable, all_valid, all_invalid, by_column, is_yes, is_fitting, is_non_null_bool, is_flat_cover, cover_by, nullability_by, present_bits, shown_rows, stored_rows, IsLeft}
 use Rattle.vx_model.specs.Null.{null_column}
-use Rattle.vx_model.specs.Bool.{BoolParts, bool_fault, bool_column, bool_with}
+use Rattle.vx_model.specs.Bool.{BoolParts, bool_fault, bool_column, bool_with, bits_column}
 use Rattle.vx_model.specs.Primitive.{PrimitiveParts, primitive_fault, primitive_column, primitive_with}
 use Rattle.vx_model.specs.Decimal.{DecimalParts, decimal_array_fault, decimal_column, decimal_with}
 use Rattle.vx_model.specs.Step.{IsTake}
 use Rattle.vx_model.proofs.ShownRows.{length-present_bits, shown_rows-all}
 use Rattle.vx_model.proofs.StoredRows.{is_step-stored}
-use Rattle.vx_model.proofs.Layouts.{is_fitting-bool, is_fitting-primitive, is_fitting-decimal}
+use Rattle.vx_model.proofs.Layouts.{length-bool, is_fitting-bool, is_fitting-primitive, is_fitting-decimal}
 
 -- ---- lists at picks
 
@@ -103,10 +103,6 @@ module _ (w : Valid) (picks : List (Option ℕ)) (n : Nullability) where
 
 -- ---- the validity
 
--- the column of these bits, none of them null
-abbrev pub bits_column : List Bool → ℕ → Column
-bits_column bits offset = bool_column (bool_with bits offset non_nullable)
-
 yes_bits : (bits : List Bool) → map is_yes (map bit bits) ≡ bits
 yes_bits [] = refl
 yes_bits (b ∷ bits) = ap (λ l. b ∷ l) (yes_bits bits)
@@ -139,8 +135,11 @@ yes-bool p h =
     ∙ ap (map is_yes) (shown_rows-all _ (map bit p.bits.bits) refl)
     ∙ yes_bits p.bits.bits
 
--- one answer for all rows, at picks of which none is null
-all_there : (m : ℕ) (picks : List (Option ℕ)) → AreBelow picks m → map is_some picks ≡ at false (replicate m true) picks
+-- what a proof about the bits of such a column needs
+pub ruleset bool_bits = (length-bool, yes-bool)
+
+-- the picks that are there, of rows that all are
+pub all_there : (m : ℕ) (picks : List (Option ℕ)) → AreBelow picks m → map is_some picks ≡ at false (replicate m true) picks
 all_there m [] h = refl
 all_there m (None ∷ picks) h = ap (λ l. false ∷ l) (all_there m picks (λ k d l. h (suc k) d (omega arith)))
 all_there m (Some p ∷ picks) h =
@@ -155,3 +154,35 @@ none_there m (Some p ∷ picks) = ap₂ ◌∷◌ (no_bit m p) (none_there m pic
     no_bit zero p = refl
     no_bit (suc m) zero = refl
     no_bit (suc m) (suc p) = no_bit m p
+
+-- where the picks are all there
+each_there : (m : ℕ) (picks : List (Option ℕ)) → AreBelow picks m → list_all is_some picks ≡ true → at false (replicate m true) picks ≡ replicate (length picks) true
+each_there m [] h k = refl
+each_there m (None ∷ picks) h k = cc
+each_there m (Some p ∷ picks) h k =
+    ap₂ ◌∷◌ (get_or-replicate m p true false (h zero None (omega arith))) (each_there m picks (λ i d l. h (suc i) d (omega arith)) k)
+
+-- a validity of one answer stays what it is where no pick is a null
+module _ (n : Nullability) (m : ℕ) (picks : List (Option ℕ)) where
+  pub is_left-take-none : IsLeft all_invalid (either_nullable Nullable n) (at false (replicate m false) picks) all_invalid
+  is_left-take-none =
+      record { bits = ap (λ k. replicate k false) (length-at false (replicate m false) picks) ∙ sym (none_there m picks); fitting = refl; nullability = refl; flat = λ h. h }
+
+  pub is_left-take-all : (v : Valid) → ((k : ℕ) → present_bits v k ≡ replicate k true) → ((k : ℕ) → is_fitting v k ≡ true) → AreBelow picks m → list_all is_some picks ≡ true → IsLeft v (nullability_by v) (at false (replicate m true) picks) v
+  is_left-take-all v all fits below there =
+      record {
+        bits = all _ ∙ ap (λ k. replicate k true) (length-at false (replicate m true) picks) ∙ sym (each_there m picks below there);
+        fitting = fits _;
+        nullability = refl;
+        flat = λ h. h;
+      }
+
+-- what a take leaves of a validity, by the bits that it has
+module _ (v w : Valid) (n : Nullability) (m : ℕ) (picks : List (Option ℕ)) where
+  -- a column of them
+  pub left_by_bits : (bits : List Bool) (offset : ℕ) → either_nullable (nullability_by v) n ≡ Nullable → bits ≡ at false (present_bits v m) picks → w ≡ by_column (bits_column bits offset) → IsLeft v (either_nullable (nullability_by v) n) (at false (present_bits v m) picks) w
+  left_by_bits bits offset e b is = rw (← b, is) (is_left-bits_column v bits offset _ e)
+
+  -- the same validity, where no pick is a null
+  pub left_the_same : present_bits v m ≡ replicate m true → ((k : ℕ) → present_bits v k ≡ replicate k true) → ((k : ℕ) → is_fitting v k ≡ true) → either_nullable (nullability_by v) n ≡ nullability_by v → AreBelow picks m → list_all is_some picks ≡ true → w ≡ v → IsLeft v (either_nullable (nullability_by v) n) (at false (present_bits v m) picks) w
+  left_the_same here all fits e below there is = rw (is, e, here) (is_left-take-all n m picks v all fits below there)
