@@ -1,4 +1,8 @@
+pub mod Validity
+pub mod Null
+pub mod Boolean
 pub mod Primitive
+pub mod Decimal
 pub mod Columns
 pub mod Steps
 pub mod Documents

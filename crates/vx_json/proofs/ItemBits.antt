@@ -6,6 +6,9 @@ use Rattle.std.proofs.Math.Pow.{pow_mono}
 use Rattle.serde_json.specs.Data.{Items, no_items, item}
 use Rattle.vx_bits.specs.Words.{word_bits}
 use Rattle.vx_bits.proofs.WordBits.{word_bits-append}
+use Rattle.vx_json.specs.Meaning.{Fails}
+use Rattle.vx_json.specs.declared.error.DocError.{DocError}
+use Rattle.vx_json.specs.declared.error.DocError.TheVariants.{Malformed, NoMemory}
 use Rattle.vx_json.specs.Items.{each}
 use Rattle.vx_json.specs.Bools.{is_there, presence}
 
@@ -49,3 +52,8 @@ pub each-presence : (ds : Items) → each (λ d. Some (is_there d)) ds ≡ Some 
 unfolding each
 each-presence no_items = refl
 each-presence (item d ds) = rw (each-presence ds) refl
+
+-- which never fails
+pub each-presence_fails : {Y : Type 0} (ds : Items) (e : DocError) (y : Y) → Fails e (each (λ d. Some (is_there d)) ds) → Fails e (Some y)
+each-presence_fails ds Malformed y none = let all = each-presence ds in absurd cc
+each-presence_fails ds NoMemory y none = tt

@@ -1,5 +1,5 @@
 //! Lists of bits, an item a bit, and which items of a list are there.
-ghost use Rattle.std.specs.Prelude.{◌≡◌, ◌≤◌, IfOk, length, option_map};
+ghost use Rattle.std.specs.Prelude.{◌≡◌, ◌≤◌, Some, length, option_map};
 ghost use Rattle.serde_json.specs.Find.{as_bool};
 ghost use Rattle.serde_json.specs.View.{view, items_view};
 ghost use Rattle.vx_bits.specs.Words.{word_bits};
@@ -117,7 +117,7 @@ pub fn bools_or_nulls_of(alloc: Global, items: &Vec<Value>) -> Result<BitBuffer,
 }
 
 /// Whether an item is null.
-fn has_null(items: &Vec<Value>) -> bool
+pub fn has_null(items: &Vec<Value>) -> bool
     ensures { result ≡ has_null (items_view items.now.items) }
 {
     for item in items {
@@ -131,8 +131,8 @@ fn has_null(items: &Vec<Value>) -> bool
 /// A bit for each item, set where the item isn't null; `None` exactly
 /// where no item is null. `NoMemory` alone.
 pub fn presence_of(alloc: Global, items: &Vec<Value>) -> Result<Option<BitBuffer>, DocError>
-    ensures { IfOk result (λ o. option_map (λ b. b.bits) o
-        ≡ presence_of (items_view items.now.items)) }
+    ensures { Gives (λ o. option_map (λ b. b.bits) o) result
+        (Some (presence_of (items_view items.now.items))) }
 {
     if !has_null(items) {
         return Ok(None);

@@ -15,7 +15,7 @@ mod values;
 mod wholes;
 
 pub use bit_text::bits_in;
-pub use bools::{bools_of, bools_or_nulls_of, presence_of};
+pub use bools::{bools_of, bools_or_nulls_of, has_null, presence_of};
 pub use decimals::decimal_of;
 pub use error::DocError;
 pub use items::{ReadItem, read_each};

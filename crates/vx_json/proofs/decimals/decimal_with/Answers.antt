@@ -10,11 +10,11 @@ unfolding decimal_with
 returns-in-Ok c =
     let fits = c.ranges.scale in
     let made_of = simp to_z-of_z at c.try_new.ensures in
-    made _ _ _ (sym made_of ∙ c.in-Ok.is)
+    made (λ d. d) _ _ _ (sym made_of ∙ c.in-Ok.is)
 
 pub returns-in-Err : goal.returns-in-Err
 unfolding decimal_with
 returns-in-Err c =
     let fits = c.ranges.scale in
     let made_of = simp to_z-of_z at c.try_new.ensures in
-    refused _ _ _ (sym made_of ∙ c.in-Err.is)
+    refused (λ d. d) _ _ _ (sym made_of ∙ c.in-Err.is)
