@@ -1,6 +1,7 @@
 -- One stored row.
-use Rattle.std.specs.Prelude.{◌≡◌, ℕ, ◌<◌, Some, length}
+use Rattle.std.specs.Prelude.{◌≡◌, ℕ, ◌<◌, true, Some, length}
 use Rattle.vx_types.specs.RowValue.{RowValue, null, bit, bytes}
+use Rattle.vx_types.specs.Nullability.{is_nullable}
 use Rattle.vx_types.specs.TypeTree.{TypeTree, bool_type, type_nullability, type_width}
 use Rattle.vx_model.specs.Valid.{Valid, non_nullable, all_valid, all_invalid, by_column}
 use Rattle.vx_column.specs.declared.cell.Cell.{Cell}
@@ -12,9 +13,9 @@ row_of cells.Null = null
 row_of (cells.Bit b) = bit b
 row_of (cells.Bytes b) = bytes b.now
 
--- a bit is one of a bool type, and bytes are as many as the type has
+-- a null is one of a nullable type, a bit one of a bool type, and bytes are as many as the type has
 abbrev pub IsOfType : Cell → TypeTree → Type 0
-IsOfType cells.Null t = Unit {0}
+IsOfType cells.Null t = is_nullable (type_nullability t) ≡ true
 IsOfType (cells.Bit b) t = t ≡ bool_type (type_nullability t)
 IsOfType (cells.Bytes b) t = Some (length b.now) ≡ type_width t
 

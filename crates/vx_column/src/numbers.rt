@@ -1,7 +1,8 @@
 //! Reading one row as bytes or as a number.
 ghost use Rattle.std.specs.Prelude.{◌≡◌, ◌↔◌, ◌<◌, [], length, not, true, None, slice_index_or};
 ghost use Rattle.vx_types.specs.RowValue.{null, is_null};
-ghost use Rattle.vx_types.specs.TypeTree.{is_int_type};
+ghost use Rattle.vx_types.specs.Nullability.{is_nullable};
+ghost use Rattle.vx_types.specs.TypeTree.{is_int_type, type_nullability};
 ghost use Rattle.vx_model.specs.Numbers.{number_in};
 ghost use Rattle.vx_model.specs.Plain.{stores_records};
 
@@ -42,6 +43,7 @@ impl Array {
         requires row { i < length self.now.rows }
         ensures value { result ≡ number_in self.now.dtype (slice_index_or self.now.rows i null) }
         ensures null { (result ≡ None) ↔ (slice_index_or self.now.rows i null ≡ null) }
+        ensures nullable { result ≡ None → is_nullable (type_nullability self.now.dtype) ≡ true }
     {
         match self.cell_at(i) {
             Cell::Null => None,

@@ -3,14 +3,17 @@ ghost use Rattle.std.specs.Prelude.{◌≡◌, ◌≤◌, length, true, IfOk, Is
 ghost use Rattle.std.specs.List.{items_where_true};
 ghost use Rattle.vx_model.specs.Bool.{bool_column};
 ghost use Rattle.vx_model.specs.Plain.{is_plain};
-ghost use Rattle.vx_model.specs.Step.{IsSlice, IsCut};
+ghost use Rattle.vx_model.specs.Step.{IsSlice, IsCut, IsTake};
+ghost use Rattle.vx_pieces.specs.Indices.{AllThere};
+ghost use Rattle.vx_types.specs.declared.nullability.Nullability.TheVariants.{NonNullable};
 
-use crate::validity::{filter_validity, slice_validity};
+use crate::validity::{filter_validity, slice_validity, take_validity};
 use std::alloc::Global;
 use vx_bits::NoMemory;
-use vx_column::{Array, BoolArray};
-use vx_flat::filter_bool;
+use vx_column::{Array, BoolArray, Nullability};
+use vx_flat::{filter_bool, take_bool};
 use vx_mask::{MaskValues, Policy};
+use vx_take::Picks;
 
 #[cycle(slice)]
 #[tactic(auto, using(vx_model::proofs::Layouts::layout_rows))]
@@ -43,5 +46,20 @@ pub(crate) fn filter_of(
         (items_where_true mask.now.bits.bits (bool_column array.now).rows)) }
 {
     let validity = filter_validity(alloc, array.validity(), mask, policy)?;
-    Ok(filter_bool(alloc, array, mask, validity)?.into_array())
+    Ok(filter_bool(alloc, array, mask, policy, validity)?.into_array())
+}
+
+#[tactic(auto, using(vx_model::proofs::Layouts::layout_rows))]
+pub(crate) fn take_of(
+    alloc: Global,
+    array: &BoolArray,
+    picks: &Picks,
+    nullability: Nullability,
+) -> Result<Array, NoMemory>
+    requires bound { picks.now.bound ≡ length (bool_column array.now).rows }
+    requires there { nullability ≡ NonNullable → AllThere picks.now.picks }
+    ensures { IfOk result (IsTake (bool_column array.now) picks.now.picks nullability) }
+{
+    let validity = take_validity(alloc, array.validity(), picks, nullability)?;
+    Ok(take_bool(alloc, array, picks, validity)?.into_array())
 }

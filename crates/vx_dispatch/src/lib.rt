@@ -8,11 +8,13 @@ mod filtering;
 mod null;
 mod primitive;
 mod slicing;
+mod taking;
 mod validity;
 
 pub use executing::execute;
 pub use filtering::filter;
 pub use slicing::slice;
+pub use taking::take;
 
 #[cfg(test)]
 mod tests;

@@ -1,15 +1,21 @@
 //! What a step leaves of a validity.
-ghost use Rattle.std.specs.Prelude.{◌≡◌, ◌≤◌, length, true, slice_range, IfOk, IsOk};
+ghost use Rattle.std.specs.Prelude.{◌≡◌, ◌≤◌, length, map, is_some, true, false, slice_range, IfOk, IsOk};
 ghost use Rattle.std.specs.List.{items_where_true};
-ghost use Rattle.vx_model.specs.Valid.{is_fitting, is_constant_form, cover_by, nullability_by, present_bits, IsLeft, IsAsPlain};
+ghost use Rattle.vx_types.specs.Nullability.{either_nullable};
+ghost use Rattle.vx_types.specs.declared.nullability.Nullability.TheVariants.{NonNullable};
+ghost use Rattle.vx_take.specs.Picks.{at};
+ghost use Rattle.vx_pieces.specs.Indices.{AllThere};
+ghost use Rattle.vx_model.specs.Bool.{bits_column};
+ghost use Rattle.vx_model.specs.Valid.{by_column, is_yes, is_non_null_bool, is_fitting, is_constant_form, cover_by, nullability_by, present_bits, IsLeft, IsAsPlain};
 ghost use Rattle.vx_column.specs.Validity.{valid_of};
 
 use crate::filtering::filter_values;
 use crate::slicing::slice;
 use std::alloc::Global;
-use vx_bits::NoMemory;
-use vx_column::Validity;
+use vx_bits::{BitBuffer, NoMemory};
+use vx_column::{Array, BoolArray, Layout, Nullability, Validity};
 use vx_mask::{MaskValues, Policy};
+use vx_take::{Picks, gather_bits, valid_bits};
 
 // The validity of the rows from `start` up to `end`, of so many rows.
 #[cycle(slice)]
@@ -62,5 +68,62 @@ pub(crate) fn filter_validity(
             let kept = filter_values(alloc, array, mask, policy)?;
             Ok(Validity::Array(kept.into_ref(alloc)?))
         }
+    }
+}
+
+// The bits of a non-nullable column of bools at the picks, and false at a null.
+#[tactic(auto, using(vx_model::proofs::Takes::bool_bits))]
+fn taken_bits(alloc: Global, array: &Array, picks: &Picks) -> Result<BitBuffer, NoMemory>
+    requires bools { is_non_null_bool array.now.dtype ≡ true }
+    requires bound { picks.now.bound ≡ length array.now.rows }
+    ensures { IfOk result
+        (λ b. b.bits ≡ at false (map is_yes array.now.rows) picks.now.picks) }
+{
+    match array.layout() {
+        Layout::Bool(a) => Ok(gather_bits(alloc, a.bits(), picks, false)?),
+        Layout::Null(_) | Layout::Primitive(_) | Layout::Decimal(_) => unreachable!(),
+    }
+}
+
+// The validity that is a column of these bits.
+fn by_bits(alloc: Global, bits: BitBuffer) -> Result<Validity, NoMemory>
+    ensures { IfOk result (λ v. valid_of v ≡ by_column (bits_column bits.bits bits.offset)) }
+{
+    let array = BoolArray::of(bits, Validity::NonNullable).into_array();
+    Ok(Validity::Array(array.into_ref(alloc)?))
+}
+
+// The validity that says which picks are there.
+fn by_picks(alloc: Global, picks: &Picks) -> Result<Validity, NoMemory>
+    ensures { IfOk result
+        (λ v. valid_of v ≡ by_column (bits_column (map is_some picks.now.picks) 0)) }
+{
+    by_bits(alloc, valid_bits(alloc, picks)?)
+}
+
+// The validity of the rows at the picks, where a null pick leaves a null. `nullability` says
+// whether there may be one.
+pub(crate) fn take_validity(
+    alloc: Global,
+    validity: &Validity,
+    picks: &Picks,
+    nullability: Nullability,
+) -> Result<Validity, NoMemory>
+    requires fitting { is_fitting (valid_of validity.now) picks.now.bound ≡ true }
+    requires there { nullability ≡ NonNullable → AllThere picks.now.picks }
+    ensures { IfOk result (λ v. IsLeft (valid_of validity.now)
+        (either_nullable (nullability_by (valid_of validity.now)) nullability)
+        (at false (present_bits (valid_of validity.now) picks.now.bound) picks.now.picks)
+        (valid_of v)) }
+{
+    // each pick is below the bound
+    let _ = picks.bound();
+    match (validity, nullability) {
+        (Validity::AllInvalid, _) => Ok(Validity::AllInvalid),
+        (Validity::Array(array), _) => Ok(by_bits(alloc, taken_bits(alloc, array, picks)?)?),
+        (Validity::NonNullable, Nullability::NonNullable) => Ok(Validity::NonNullable),
+        (Validity::AllValid, Nullability::NonNullable) => Ok(Validity::AllValid),
+        (Validity::NonNullable, Nullability::Nullable) => Ok(by_picks(alloc, picks)?),
+        (Validity::AllValid, Nullability::Nullable) => Ok(by_picks(alloc, picks)?),
     }
 }

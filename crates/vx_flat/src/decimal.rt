@@ -1,16 +1,19 @@
 //! Layout `Decimal`.
-ghost use Rattle.std.specs.Prelude.{◌≡◌, length, true, IfOk};
+ghost use Rattle.std.specs.Prelude.{◌≡◌, ◌≤◌, length, true, IfOk};
 ghost use Rattle.std.specs.List.{items_where_true};
 ghost use Rattle.vx_bits.specs.BitBuffer.{true_count_of};
 ghost use Rattle.vx_model.specs.Valid.{is_fitting};
 ghost use Rattle.vx_model.specs.Decimal.{decimal_with};
 ghost use Rattle.vx_column.specs.Validity.{valid_of};
+ghost use Rattle.vx_take.specs.Picks.{at};
+ghost use Rattle.vx_flat.specs.Records.{zero_record};
 
-use crate::records::filter_records;
+use crate::records::{filter_records, take_records};
 use std::alloc::Global;
 use vx_bits::NoMemory;
 use vx_column::{DecimalArray, Validity};
 use vx_mask::{MaskValues, Policy};
+use vx_take::Picks;
 
 /// The records at the set positions of `mask`, in order, with this validity. `NoMemory` alone.
 #[tactic(auto, using(vx_model::proofs::Items::kept_items))]
@@ -27,5 +30,22 @@ pub fn filter_decimal(
         (items_where_true mask.now.bits.bits array.now.records) (valid_of validity)) }
 {
     let values = filter_records(alloc, array.values(), mask, policy)?;
+    Ok(array.with_rows(values, validity))
+}
+
+/// The records at the picks, in order, with this validity. `NoMemory` alone.
+#[tactic(auto, using(vx_model::proofs::Takes::taken_items))]
+pub fn take_decimal(
+    alloc: Global,
+    array: &DecimalArray,
+    picks: &Picks,
+    validity: Validity,
+) -> Result<DecimalArray, NoMemory>
+    requires within { picks.now.bound ≤ length array.now.records }
+    requires fitting { is_fitting (valid_of validity) (length picks.now.picks) ≡ true }
+    ensures { IfOk result (λ a. a ≡ decimal_with array.now
+        (at (zero_record array.now.width) array.now.records picks.now.picks) (valid_of validity)) }
+{
+    let values = take_records(alloc, array.values(), picks)?;
     Ok(array.with_rows(values, validity))
 }

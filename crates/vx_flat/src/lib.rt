@@ -1,4 +1,5 @@
-//! The rows of flat layouts at the set positions of a mask, with the new validity handed in.
+//! The rows of flat layouts at the set positions of a mask, or at picks, with the new validity
+//! handed in.
 #![tactic(auto)]
 
 mod boolean;
@@ -6,10 +7,10 @@ mod decimal;
 mod primitive;
 mod records;
 
-pub use boolean::filter_bool;
-pub use decimal::filter_decimal;
-pub use primitive::filter_primitive;
-pub use records::filter_records;
+pub use boolean::{filter_bool, take_bool};
+pub use decimal::{filter_decimal, take_decimal};
+pub use primitive::{filter_primitive, take_primitive};
+pub use records::{filter_records, take_records};
 
 #[cfg(test)]
 mod tests;

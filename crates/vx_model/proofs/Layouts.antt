@@ -4,7 +4,8 @@ use Rattle.std.specs.Prelude.{if◌then◌else◌}
 use Rattle.std.proofs.lemmas.List.{length-map, get_or-map, length-replicate, get_or-replicate}
 use Rattle.vx_types.specs.PType.{width}
 use Rattle.vx_types.specs.RowValue.{RowValue, null, bit, bytes}
-use Rattle.vx_model.specs.Valid.{Valid, non_nullable, all_valid, is_fitting, is_present, stored_rows}
+use Rattle.vx_types.specs.Nullability.{is_nullable}
+use Rattle.vx_model.specs.Valid.{Valid, non_nullable, all_valid, all_invalid, by_column, is_fitting, is_present, nullability_by, stored_rows}
 use Rattle.vx_model.specs.Null.{null_column}
 use Rattle.vx_model.specs.Bool.{BoolParts, bool_fault, bool_column}
 use Rattle.vx_model.specs.Primitive.{PrimitiveParts, primitive_fault, primitive_column}
@@ -73,8 +74,15 @@ row-decimal p i h l =
     get_or-stored_rows p.valid (map bytes p.records) i (fits p.valid _ _ long (is_fitting-decimal p h)) (omega (arith, long))
     ∙ ap (λ (x : RowValue). if is_present p.valid i then x else null) (get_or-map bytes p.records i [] null l)
 
+-- a row is absent only where the type is nullable
+pub absent_nullable : (v : Valid) (i : ℕ) → is_present v i ≡ false → is_nullable (nullability_by v) ≡ true
+absent_nullable non_nullable i h = cc
+absent_nullable all_valid i h = refl
+absent_nullable all_invalid i h = refl
+absent_nullable (by_column c) i h = refl
+
 -- what a proof about the length or about one row needs
-pub ruleset layout_rows = (length-null, length-bool, length-primitive, length-decimal, row-null, row-bool, row-primitive, row-decimal, width-primitive, width-decimal)
+pub ruleset layout_rows = (length-null, length-bool, length-primitive, length-decimal, row-null, row-bool, row-primitive, row-decimal, width-primitive, width-decimal, absent_nullable)
 
 -- where no row is null, the rows are the records
 pub rows-primitive-non_nullable : (p : PrimitiveParts) → p.valid ≡ non_nullable → (primitive_column p).rows ≡ map bytes p.records

@@ -8,7 +8,7 @@ use Rattle.vx_types.specs.declared.layout_name.LayoutName.TheVariants.{Bool as B
 use Rattle.vx_types.specs.declared.error.ColumnError.{ColumnError}
 use Rattle.vx_types.specs.declared.error.ColumnError.TheVariants.{BadValidity}
 use Rattle.vx_model.specs.Column.{Column}
-use Rattle.vx_model.specs.Valid.{Valid, coded_valid, is_fitting}
+use Rattle.vx_model.specs.Valid.{Valid, non_nullable, coded_valid, is_fitting}
 use Rattle.vx_model.specs.Stored.{stored_column}
 
 -- what a contract sees of a `BoolArray`
@@ -27,6 +27,10 @@ bool_column p = stored_column BoolLayout bool_type p.valid (map bit p.bits.bits)
 -- the same with other bits and another validity: what a step leaves
 abbrev pub bool_with : List Bool → ℕ → Valid → BoolParts
 bool_with bits offset valid = record { bits = record { bits = bits; offset = offset }; valid = valid }
+
+-- the column of these bits, none of them null
+abbrev pub bits_column : List Bool → ℕ → Column
+bits_column bits offset = bool_column (bool_with bits offset non_nullable)
 
 abbrev pub coded_bools : Coded BoolParts
 coded_bools =

@@ -1,7 +1,9 @@
 -- What one step leaves of a column.
 use Rattle.std.specs.Prelude.{◌≡◌, ◌≤◌, ℕ, true, false, List, Option, MatchOption, slice_range}
-use Rattle.vx_types.specs.TypeTree.{TypeTree}
-use Rattle.vx_types.specs.RowValue.{RowValue}
+use Rattle.vx_types.specs.TypeTree.{TypeTree, also_nullable}
+use Rattle.vx_types.specs.RowValue.{RowValue, null}
+use Rattle.vx_types.specs.declared.nullability.Nullability.{Nullability}
+use Rattle.vx_take.specs.Picks.{at}
 use Rattle.vx_model.specs.Column.{Column}
 use Rattle.vx_model.specs.Plain.{is_in_place, is_plain, is_unwrapped}
 
@@ -12,6 +14,10 @@ pub record IsStep (c : Column) (left : List RowValue) (t : TypeTree) (a : Column
   pub dtype : a.dtype ≡ t
   pub layout : is_in_place c.layout ≡ true → a.layout ≡ c.layout
   pub unwrapped : is_unwrapped c ≡ true → is_unwrapped a ≡ true
+
+-- a has the rows of c at the picks, null at a null, and its type, nullable also where n is
+abbrev pub IsTake : Column → List (Option ℕ) → Nullability → Column → Type 0
+IsTake c picks n a = IsStep c (at null c.rows picks) (also_nullable c.dtype n) a
 
 -- a has the rows that are left, the type of c, is as plain, and nests no deeper
 pub record IsCut (c : Column) (left : List RowValue) (a : Column) : Type 0 where

@@ -1,49 +1,78 @@
 -- The rows that a list of steps picks.
-use Rattle.std.proofs.Common.{◌≡◌, ℕ, zero, suc, ◌<◌, Bool, true, false, ◌&&◌, ◌||◌, ◌⊎◌, inl, inr, List, [], ◌∷◌, length, get_or, Option, Some, None, refl, sym, ap, ◌∙◌, arith}
+use Rattle.std.proofs.Common.{◌≡◌, ℕ, zero, suc, ◌+◌, ◌<◌, ◌≤◌, add-one, drop, drop-cons, Bool, true, false, ◌&&◌, ◌||◌, ◌⊎◌, inl, inr, List, [], ◌∷◌, length, get_or, Option, Some, None, refl, sym, ap, ◌∙◌, arith}
 use Rattle.std.specs.List.{range_with_len, list_all}
-use Rattle.std.proofs.lemmas.List.{length-map}
+use Rattle.std.proofs.lemmas.List.{length-map, drop_all}
 use Rattle.std.proofs.lemmas.Simd.{map-map}
 use Rattle.std.proofs.lemmas.List.FromFn.{fill_by_all}
-use Rattle.vx_types.specs.TypeTree.{TypeTree}
+use Rattle.vx_types.specs.TypeTree.{TypeTree, null_type, bool_type, primitive_type, decimal_type, utf8_type, binary_type, list_type, fixed_type, map_type, struct_type, union_type, extension_type, is_flat, also_nullable}
+use Rattle.vx_types.specs.declared.nullability.Nullability.{Nullability}
 use Rattle.vx_types.specs.RowValue.{RowValue, null}
 use Rattle.vx_model.specs.Column.{Column}
 use Rattle.vx_types.specs.declared.layout_name.LayoutName.{LayoutName}
 use Rattle.vx_model.specs.Plain.{is_null_layout, is_in_place, is_plain}
-use Rattle.vx_model.specs.Step.{IsCut}
-use Rattle.vx_steps.specs.Step.{StepValue, slice_step, filter_step, is_slice}
+use Rattle.vx_take.specs.Picks.{at, item_at}
+use Rattle.vx_pieces.specs.Indices.{index_nullability}
+use Rattle.vx_model.specs.Step.{IsStep}
+use Rattle.vx_steps.specs.Step.{StepValue, slice_step, filter_step, take_step, is_slice}
 use Rattle.vx_steps.specs.Walk.{apply, all_positions, walk_picks, walk}
-use Rattle.vx_steps.specs.Answer.{row_at, rows_at, type_after, answer_of_walk, answer_rows, answer}
+use Rattle.vx_steps.specs.Answer.{type_after, type_after_step, answer_of_walk, answer_rows, answer}
 use Rattle.vx_select.specs.Select.{needs_no_memory}
 use Rattle.vx_steps.proofs.Walks.{map-apply}
 
 -- at every position lie just the rows
-pub rows_at-all_positions : (rows : List RowValue) → rows_at rows (all_positions (length rows)) ≡ rows
-rows_at-all_positions rows =
+pub at-all_positions : (rows : List RowValue) → at null rows (all_positions (length rows)) ≡ rows
+at-all_positions rows =
     let f = λ (i : ℕ). get_or rows i null in
-    map-map (row_at rows) (λ (i : ℕ). Some i) (range_with_len 0 (length rows)) ∙ sym (fill_by_all f rows (length rows) null refl (λ k h. refl))
+    map-map (item_at null rows) (λ (i : ℕ). Some i) (range_with_len 0 (length rows)) ∙ sym (fill_by_all f rows (length rows) null refl (λ k h. refl))
 
 -- a step picks of the rows at picks what it does of the picks
-pub rows_at-apply : (rows : List RowValue) (s : StepValue) (picks : List (Option ℕ)) (now : List RowValue) → rows_at rows picks ≡ now → rows_at rows (apply None s picks) ≡ apply null s now
-rows_at-apply rows s picks now h = map-apply (row_at rows) None s picks ∙ ap (apply null s) h
+pub at-apply : (rows : List RowValue) (s : StepValue) (picks : List (Option ℕ)) (now : List RowValue) → at null rows picks ≡ now → at null rows (apply None s picks) ≡ apply null s now
+at-apply rows s picks now h = map-apply (item_at null rows) None s picks ∙ ap (apply null s) h
 
-pub length-rows_at : (rows : List RowValue) (picks : List (Option ℕ)) (now : List RowValue) → rows_at rows picks ≡ now → length now ≡ length picks
-length-rows_at rows picks now h = ap length (sym h) ∙ length-map picks (row_at rows)
+pub length-now : (rows : List RowValue) (picks : List (Option ℕ)) (now : List RowValue) → at null rows picks ≡ now → length now ≡ length picks
+length-now rows picks now h = ap length (sym h) ∙ length-map picks (item_at null rows)
 
--- slices and filters leave the type
-type_stays : (t : TypeTree) (steps : List StepValue) → type_after t steps ≡ t
-type_stays t [] = refl
-type_stays t (slice_step s e ∷ steps) = type_stays t steps
-type_stays t (filter_step bits ∷ steps) = type_stays t steps
+pub answered : (c : Column) (steps : List StepValue) (picks : List (Option ℕ)) (t : TypeTree) (rows : List RowValue) → walk (length c.rows) steps ≡ walk_picks picks → type_after c.dtype steps ≡ t → at null c.rows picks ≡ rows → answer c steps ≡ answer_rows t rows
+answered c steps picks t rows w d r = ap (answer_of_walk (type_after c.dtype steps) c.rows) w ∙ ap (λ u. answer_rows u (at null c.rows picks)) d ∙ ap (answer_rows t) r
 
-pub answered : (c : Column) (steps : List StepValue) (picks : List (Option ℕ)) (t : TypeTree) (rows : List RowValue) → walk (length c.rows) steps ≡ walk_picks picks → t ≡ c.dtype → rows_at c.rows picks ≡ rows → answer c steps ≡ answer_rows t rows
-answered c steps picks t rows w d r = ap (answer_of_walk (type_after c.dtype steps) c.rows) w ∙ ap (λ u. answer_rows u (rows_at c.rows picks)) (type_stays c.dtype steps ∙ sym d) ∙ ap (answer_rows t) r
+-- the type after the steps that are left, of which the next one is s
+pub type_after-next : (t : TypeTree) (steps : List StepValue) (k : ℕ) (s : StepValue) → k < length steps → s ≡ get_or steps k s → type_after t (drop k steps) ≡ type_after (type_after_step t s) (drop (k + 1) steps)
+type_after-next t steps k s h is =
+    let cut : drop k steps ≡ s ∷ drop (k + 1) steps = drop-cons steps k s h ∙ rw (← is, add-one) refl in
+    ap (type_after t) cut
+
+-- and where none is left
+pub left_at_end : (t : TypeTree) (steps : List StepValue) (k : ℕ) → length steps ≤ k → type_after t (drop k steps) ≡ t
+left_at_end t steps k h = ap (type_after t) (drop_all k steps h)
+
+-- a step leaves a flat type flat
+pub is_flat-also : (t : TypeTree) (n : Nullability) → is_flat (also_nullable t n) ≡ is_flat t
+is_flat-also null_type n = refl
+is_flat-also (bool_type m) n = refl
+is_flat-also (primitive_type p m) n = refl
+is_flat-also (decimal_type p s w m) n = refl
+is_flat-also (utf8_type m) n = refl
+is_flat-also (binary_type m) n = refl
+is_flat-also (list_type t m) n = refl
+is_flat-also (fixed_type t k m) n = refl
+is_flat-also (map_type ns ts m) n = refl
+is_flat-also (struct_type ns ts m) n = refl
+is_flat-also (union_type is ns ts m) n = refl
+is_flat-also (extension_type s t m) n = refl
+
+pub is_flat-step : (t : TypeTree) (s : StepValue) → is_flat (type_after_step t s) ≡ is_flat t
+is_flat-step t (slice_step start end) = refl
+is_flat-step t (filter_step bits) = refl
+is_flat-step t (take_step indices) = is_flat-also t (index_nullability indices)
 
 slice_among : (steps : List StepValue) (k : ℕ) (s : StepValue) → list_all is_slice steps ≡ true → k < length steps → s ≡ get_or steps k s → is_slice s ≡ true
 slice_among [] k s a h is = absurd (omega arith)
 slice_among (slice_step b e ∷ steps) zero s a h is = ap is_slice is
 slice_among (filter_step bits ∷ steps) zero s a h is = cc
+slice_among (take_step i ∷ steps) zero s a h is = cc
 slice_among (slice_step b e ∷ steps) (suc k) s a h is = slice_among steps k s a (omega arith) is
 slice_among (filter_step bits ∷ steps) (suc k) s a h is = cc
+slice_among (take_step i ∷ steps) (suc k) s a h is = cc
 
 free_of : (none plain slices : Bool) → (none || (plain && slices)) ≡ true → (none ≡ true) ⊎ ((plain ≡ true) × (slices ≡ true))
 free_of true plain slices h = inl refl
@@ -60,20 +89,29 @@ free_step c steps k s a h is =
 null_in_place : (l : LayoutName) → is_null_layout l ≡ true → is_in_place l ≡ true
 null_in_place l h = rw h refl
 
--- layout `Null` stays
-pub null_stays : (c d : Column) (left : List RowValue) → IsCut c left d → is_null_layout c.layout ≡ true → is_null_layout d.layout ≡ true
-null_stays c d left cut h = ap is_null_layout (cut.step.layout (null_in_place c.layout h)) ∙ h
+-- what the steps so far left of c: layout `Null` stays, a flat type stays flat, and where all are
+-- slices what was plain stays so
+pub record IsLeftOf (c : Column) (steps : List StepValue) (k : ℕ) (now : Column) : Type 0 where
+  pub dtype : type_after now.dtype (drop k steps) ≡ type_after c.dtype steps
+  pub null : is_null_layout c.layout ≡ true → is_null_layout now.layout ≡ true
+  pub flat : is_flat now.dtype ≡ is_flat c.dtype
+  pub plain : list_all is_slice steps ≡ true → is_plain c ≡ true → is_plain now ≡ true
 
--- what a cut of a cut leaves
-pub cut_after_cut : (c d e : Column) (one two : List RowValue) → IsCut c one d → IsCut d two e → IsCut c e.rows e
-cut_after_cut c d e one two a b =
-    record {
-      step = record {
-        rows = refl;
-        dtype = b.step.dtype ∙ a.step.dtype;
-        layout = λ h. b.step.layout (ap is_in_place (a.step.layout h) ∙ h) ∙ a.step.layout h;
-        unwrapped = λ h. b.step.unwrapped (a.step.unwrapped h);
-      };
-      plain = λ h. b.plain (a.plain h);
-      depth = omega (arith, a.depth, b.depth);
-    }
+pub left_at_start : (c : Column) (steps : List StepValue) → IsLeftOf c steps 0 c
+left_at_start c steps = record { dtype = refl; null = λ h. h; flat = refl; plain = λ s p. p }
+
+module _ (c : Column) (steps : List StepValue) (k : ℕ) (now next : Column) (left : IsLeftOf c steps k now) (s : StepValue) (h : k < length steps) (is : s ≡ get_or steps k s) where
+  pub left_by_step : (rows : List RowValue) → IsStep now rows (type_after_step now.dtype s) next → (is_slice s ≡ true → is_plain now ≡ true → is_plain next ≡ true) → IsLeftOf c steps (k + 1) next
+  left_by_step rows step plain =
+      record {
+        dtype = ap (λ t. type_after t (drop (k + 1) steps)) step.dtype ∙ sym (type_after-next now.dtype steps k s h is) ∙ left.dtype;
+        null = λ e. let was = left.null e in ap is_null_layout (step.layout (null_in_place now.layout was)) ∙ was;
+        flat = ap is_flat step.dtype ∙ is_flat-step now.dtype s ∙ left.flat;
+        plain = λ all p. plain (slice_among steps k s all h is) (left.plain all p);
+      }
+
+-- a step that wants no memory: any over layout `Null`, and each of slices alone over a plain column
+pub free_step : (c now : Column) (steps : List StepValue) (k : ℕ) (s : StepValue) → needs_no_memory c steps ≡ true → IsLeftOf c steps k now → k < length steps → s ≡ get_or steps k s → (is_null_layout now.layout ≡ true) ⊎ ((is_slice s ≡ true) × (is_plain now ≡ true))
+free_step c now steps k s a left h is =
+    elim (free_of (is_null_layout c.layout) (is_plain c) (list_all is_slice steps) a)
+    [ inl none ↦ inl (left.null none) | inr (plain, slices) ↦ inr (slice_among steps k s slices h is, left.plain slices plain) ]

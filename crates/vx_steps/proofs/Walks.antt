@@ -3,11 +3,13 @@ use Rattle.std.proofs.Common.{◌≡◌, ℕ, ◌+◌, ◌<◌, ◌≤◌, List,
 use Rattle.std.proofs.lemmas.List.{length-map, get_or-map, drop_all}
 use Rattle.std.proofs.lemmas.List.FromFn.{length-map-range_with_len}
 use Rattle.std.proofs.lemmas.Bool.Decides.{nat_tests}
-use Rattle.vx_steps.specs.Step.{StepValue, slice_step, filter_step, step_value}
+use Rattle.vx_pieces.specs.Indices.{index_picks}
+use Rattle.vx_steps.specs.Step.{StepValue, slice_step, filter_step, take_step, step_value}
 use Rattle.vx_steps.specs.declared.step.Step.{Step}
 use Rattle.vx_steps.specs.Walk.{broken, apply, rows_left, Walk, walk_fault, walk_picks, unless_broken, walk_from, all_positions, walk}
 use Rattle.vx_steps.specs.Check.{HasCount}
 use Rattle.vx_steps.specs.declared.cause.Cause.{Cause}
+use Rattle.vx_model.proofs.Takes.{length-at, map-at}
 use Rattle.vx_model.proofs.Items.{length-items_where_true, length-slice_range, map-slice_range, map-items_where_true}
 
 -- the steps before number k are done: picks are left, of which P holds, and the rest of the walk goes on from them
@@ -51,11 +53,13 @@ length-apply missing (slice_step start end) items n count sound =
 length-apply missing (filter_step bits) items n count sound =
     let same : length bits ≡ n = grind (arith, nat_tests) in
     length-items_where_true bits items (same ∙ sym count)
+length-apply missing (take_step indices) items n count sound = length-at missing items (index_picks indices)
 
 -- what a step does to a list of things that are made of others, it does to the others
 pub map-apply : {X Y : Type 0} (f : X → Y) (missing : X) (s : StepValue) (items : List X) → map f (apply missing s items) ≡ apply (f missing) s (map f items)
 map-apply f missing (slice_step start end) items = map-slice_range f items start end
 map-apply f missing (filter_step bits) items = map-items_where_true f bits items
+map-apply f missing (take_step indices) items = map-at f missing items (index_picks indices)
 
 pub length-all_positions : (n : ℕ) → length (all_positions n) ≡ n
 length-all_positions n = length-map-range_with_len (λ (i : ℕ). Some i) 0 n

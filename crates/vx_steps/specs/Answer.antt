@@ -1,25 +1,20 @@
 -- The answer to a column and a list of steps.
-use Rattle.std.specs.Prelude.{ℕ, length, List, [], ◌∷◌, map, Option, Some, None, slice_index_or}
-use Rattle.vx_types.specs.TypeTree.{TypeTree}
+use Rattle.std.specs.Prelude.{ℕ, length, List, [], ◌∷◌}
+use Rattle.vx_types.specs.TypeTree.{TypeTree, also_nullable}
 use Rattle.vx_types.specs.RowValue.{RowValue, null}
 use Rattle.vx_model.specs.Column.{Column}
-use Rattle.vx_steps.specs.Step.{StepValue, slice_step, filter_step}
+use Rattle.vx_take.specs.Picks.{at}
+use Rattle.vx_pieces.specs.Indices.{index_nullability}
+use Rattle.vx_steps.specs.Step.{StepValue, slice_step, filter_step, take_step}
 use Rattle.vx_steps.specs.Walk.{Walk, walk_fault, walk_picks, walk}
 use Rattle.vx_steps.specs.declared.cause.Cause.{Cause}
 
--- the row at a pick; null at none
-abbrev pub row_at : List RowValue → Option ℕ → RowValue
-row_at rows None = null
-row_at rows (Some i) = slice_index_or rows i null
-
--- the rows at the picks, in order
-abbrev pub rows_at : List RowValue → List (Option ℕ) → List RowValue
-rows_at rows picks = map (row_at rows) picks
-
--- the type after a step: slices and filters leave it
+-- the type after a step: slices and filters leave it, and a take by a nullable column makes it
+-- nullable
 abbrev pub type_after_step : TypeTree → StepValue → TypeTree
 type_after_step t (slice_step start end) = t
 type_after_step t (filter_step bits) = t
+type_after_step t (take_step indices) = also_nullable t (index_nullability indices)
 
 abbrev pub type_after : TypeTree → List StepValue → TypeTree
 type_after t [] = t
@@ -33,7 +28,7 @@ pub data Answer : Type 0 where
 
 abbrev pub answer_of_walk : TypeTree → List RowValue → Walk → Answer
 answer_of_walk t rows (walk_fault k cause) = answer_fault k cause
-answer_of_walk t rows (walk_picks picks) = answer_rows t (rows_at rows picks)
+answer_of_walk t rows (walk_picks picks) = answer_rows t (at null rows picks)
 
 -- of a type, rows and steps
 abbrev pub answer_of : TypeTree → List RowValue → List StepValue → Answer

@@ -22,6 +22,15 @@ pub enum Cause {
         /// How many rows there were.
         len: usize,
     },
+    /// Indices that are no integers.
+    InvalidIndices,
+    /// An index that is negative, or not below the rows.
+    OutOfBounds {
+        /// The first such index.
+        index: i128,
+        /// How many rows there were.
+        len: usize,
+    },
 }
 
 /// Why a list of steps has no answer.

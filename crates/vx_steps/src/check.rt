@@ -1,11 +1,12 @@
 //! The rule that a step breaks, and the first step of a list that breaks one.
 ghost use Rattle.std.specs.Prelude.{◌≡◌, map, length, option_map};
 ghost use Rattle.vx_steps.specs.Step.{step_value};
-ghost use Rattle.vx_steps.specs.Walk.{walk, broken, rows_left};
+ghost use Rattle.vx_steps.specs.Walk.{walk, broken, cause_of, rows_left};
 ghost use Rattle.vx_steps.specs.Check.{IsChecked};
 
 use crate::cause::{Cause, SelectError};
 use crate::step::Step;
+use vx_pieces::IndexFault;
 
 impl Step {
     // The rule that the step breaks over `len` rows; none where it breaks none.
@@ -32,6 +33,7 @@ impl Step {
                     Some(Cause::BadMask { mask_len, len })
                 }
             }
+            Step::Take(indices) => cause_of(indices.fault(len), len),
         }
     }
 
@@ -42,7 +44,19 @@ impl Step {
         match self {
             Step::Slice { start, end } => end.saturating_sub(*start),
             Step::Filter(mask) => mask.true_count(),
+            Step::Take(indices) => indices.len(),
         }
+    }
+}
+
+// The rule that a take from `len` rows breaks, by the fault of its indices.
+fn cause_of(fault: Option<IndexFault>, len: usize) -> Option<Cause>
+    ensures { result ≡ option_map (cause_of len) fault }
+{
+    match fault {
+        None => None,
+        Some(IndexFault::InvalidIndices) => Some(Cause::InvalidIndices),
+        Some(IndexFault::OutOfBounds { index }) => Some(Cause::OutOfBounds { index, len }),
     }
 }
 

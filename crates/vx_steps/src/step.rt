@@ -1,6 +1,7 @@
 //! One step of a list.
 
 use vx_mask::Mask;
+use vx_pieces::Indices;
 
 /// One step over the rows that the steps before it left.
 #[derive(Drop)]
@@ -14,4 +15,6 @@ pub enum Step {
     },
     /// The rows at the mask's set positions.
     Filter(Mask),
+    /// The rows that the indices name, and a null for each null.
+    Take(Indices),
 }

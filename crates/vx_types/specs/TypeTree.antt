@@ -3,7 +3,7 @@ use Rattle.std.specs.Prelude.{◌≡◌, ℕ, ◌+◌, max, ℤ, zero, suc, refl
 use Rattle.std.proofs.Common.{sym, ap, ◌∙◌}
 use base.Stored.{Gv, gnil, gnum, gcons, num, Coded}
 use Rattle.vx_types.specs.Code.{head, tail, bytes_code, bytes_back, bytes_back_code, names_code, names_back, names_back_code, int_code, int_back, int_back_code}
-use Rattle.vx_types.specs.Nullability.{is_nullable, nullability_code, nullability_back, nullability_back_code}
+use Rattle.vx_types.specs.Nullability.{is_nullable, either_nullable, nullability_code, nullability_back, nullability_back_code}
 use Rattle.vx_types.specs.PType.{width, is_int, ptype_code, ptype_back, ptype_back_code}
 use Rattle.vx_types.specs.declared.ptype.PType.{PType}
 use Rattle.vx_types.specs.declared.nullability.Nullability.{Nullability}
@@ -67,6 +67,10 @@ with_nullability (map_type ns ts n) m = map_type ns ts m
 with_nullability (struct_type ns ts n) m = struct_type ns ts m
 with_nullability (union_type is ns ts n) m = union_type is ns ts m
 with_nullability (extension_type s t n) m = extension_type s t m
+
+-- the same type, nullable also where n is
+abbrev pub also_nullable : TypeTree → Nullability → TypeTree
+also_nullable t n = with_nullability t (either_nullable (type_nullability t) n)
 
 -- ---- kinds
 

@@ -1,6 +1,6 @@
 //! Whether a type has null rows.
 ghost use Rattle.std.specs.Prelude.{◌≡◌};
-ghost use Rattle.vx_types.specs.Nullability.{is_nullable};
+ghost use Rattle.vx_types.specs.Nullability.{is_nullable, either_nullable};
 
 /// Whether a type has null rows: Vortex's `Nullability`.
 #[derive(Debug, Clone, Copy, PartialEq, Eq)]
@@ -19,6 +19,16 @@ impl Nullability {
         match self {
             Nullability::NonNullable => false,
             Nullability::Nullable => true,
+        }
+    }
+
+    /// Nullable where one of the two is: Vortex's `|`.
+    pub fn or(self, other: Nullability) -> Nullability
+        ensures { result ≡ either_nullable self other }
+    {
+        match self {
+            Nullability::NonNullable => other,
+            Nullability::Nullable => Nullability::Nullable,
         }
     }
 }

@@ -1,19 +1,22 @@
 -- Each step in turn over the rows that the ones before left.
 use Rattle.std.proofs.Common.{◌≡◌, map, length, sym, ap, ◌∙◌, None, true, false, refl, arith, ◌⊎◌, inl, inr}
+use Rattle.vx_types.specs.RowValue.{null}
+use Rattle.vx_types.specs.TypeTree.{is_flat}
+use Rattle.vx_take.specs.Picks.{at}
 use Rattle.vx_steps.specs.Step.{step_value}
 use Rattle.vx_steps.specs.Walk.{broken, walk}
 use Rattle.vx_steps.specs.Check.{HasCount}
-use Rattle.vx_steps.specs.Answer.{rows_at}
+use Rattle.vx_steps.specs.Answer.{type_after}
 use Rattle.vx_steps.proofs.Walks.{reached_start, reached_next, reached_sound, reached_end, step_at, step_within, steps_end}
-use Rattle.vx_select.proofs.Selecting.{rows_at-all_positions, rows_at-apply, length-rows_at, answered, free_step, null_stays, cut_after_cut}
+use Rattle.vx_select.proofs.Selecting.{at-all_positions, at-apply, length-now, answered, free_step, left_at_start, left_by_step, left_at_end}
 use Rattle.vx_select.proofs.selection.select.Goals as goal
 
 pub loop-step-init : goal.loop-step-init
 loop-step-init c =
     let rows = c.args.column.now.rows in
     record {
-      reached = reached_start (length rows) (map step_value c.args.steps.now) (λ picks. rows_at rows picks ≡ c.share-current.result.rows) (rows_at-all_positions rows ∙ rw c.share-current.ensures refl);
-      left = rw c.share-current.ensures (record { step = record { rows = refl; dtype = refl; layout = λ _. refl; unwrapped = λ h. h }; plain = λ h. h; depth = omega arith });
+      reached = reached_start (length rows) (map step_value c.args.steps.now) (λ picks. at null rows picks ≡ c.share-current.result.rows) (at-all_positions rows ∙ rw c.share-current.ensures refl);
+      left = rw c.share-current.ensures (left_at_start c.args.column.now (map step_value c.args.steps.now));
     }
 
 pub apply-requires : goal.apply-requires
@@ -21,16 +24,16 @@ apply-requires c =
     let rows = c.args.column.now.rows in let steps = c.args.steps.now in let k = c.loop-step.step-index in let x = c.step-item in
     let r = c.loop-step.invariant.reached in
     let count : HasCount (walk (length rows) (map step_value steps)) c.in_ok-check_steps.field-0 = rw (← c.len.ensures) c.in_ok-check_steps.ensures in
-    ap (broken (step_value x.result)) (length-rows_at rows r.picks c.loop-step.current.rows r.so)
-    ∙ reached_sound (length rows) (map step_value steps) k (λ picks. rows_at rows picks ≡ c.loop-step.current.rows) r (step_value x.result) (step_within steps k c.loop-step-test.true) (step_at steps k x.result c.loop-step-test.true x.is) c.in_ok-check_steps.field-0 count
+    ap (broken (step_value x.result)) (length-now rows r.picks c.loop-step.current.rows r.so)
+    ∙ reached_sound (length rows) (map step_value steps) k (λ picks. at null rows picks ≡ c.loop-step.current.rows) r (step_value x.result) (step_within steps k c.loop-step-test.true) (step_at steps k x.result c.loop-step-test.true x.is) c.in_ok-check_steps.field-0 count
 
 pub returns-in_err-current-clause-no_memory_wanted : goal.returns-in_err-current-clause-no_memory_wanted
 returns-in_err-current-clause-no_memory_wanted c = λ free e.
     let steps = c.args.steps.now in let k = c.loop-step.step-index in let x = c.step-item in
-    let one = free_step c.args.column.now (map step_value steps) k (step_value x.result) free (step_within steps k c.loop-step-test.true) (step_at steps k x.result c.loop-step-test.true x.is) in
+    let one = free_step c.args.column.now c.loop-step.current (map step_value steps) k (step_value x.result) free c.loop-step.invariant.left (step_within steps k c.loop-step-test.true) (step_at steps k x.result c.loop-step-test.true x.is) in
     elim one [
-      | inl none ↦ let no : false ≡ true = c.in_err-current.ensures.null (null_stays c.args.column.now c.loop-step.current _ c.loop-step.invariant.left none) in cc
-      | inr (plain, slice) ↦ let no : false ≡ true = c.in_err-current.ensures.slice slice (c.loop-step.invariant.left.plain plain) in cc
+      | inl none ↦ let no : false ≡ true = c.in_err-current.ensures.null none in cc
+      | inr (slice, plain) ↦ absurd (c.in_err-current.ensures.plain slice plain)
     ]
 
 pub loop-step-preserved : goal.loop-step-preserved
@@ -39,12 +42,12 @@ loop-step-preserved c =
     let v = c.loop-step.invariant in let s = step_value x.result in
     let sound : broken s (length v.reached.picks) ≡ None =
     let count : HasCount (walk (length rows) (map step_value steps)) c.in_ok-check_steps.field-0 = rw (← c.len.ensures) c.in_ok-check_steps.ensures in
-    reached_sound (length rows) (map step_value steps) k (λ picks. rows_at rows picks ≡ c.loop-step.current.rows) v.reached s (step_within steps k c.loop-step-test.true) (step_at steps k x.result c.loop-step-test.true x.is) c.in_ok-check_steps.field-0 count in
-    let now = c.in_ok-current.ensures.cut in
+    reached_sound (length rows) (map step_value steps) k (λ picks. at null rows picks ≡ c.loop-step.current.rows) v.reached s (step_within steps k c.loop-step-test.true) (step_at steps k x.result c.loop-step-test.true x.is) c.in_ok-check_steps.field-0 count in
+    let now = c.in_ok-current.ensures.step in
     record {
-      reached = reached_next (length rows) (map step_value steps) k (λ picks. rows_at rows picks ≡ c.loop-step.current.rows) v.reached s (step_within steps k c.loop-step-test.true) (step_at steps k x.result c.loop-step-test.true x.is)
-          (λ picks. rows_at rows picks ≡ c.in_ok-current.current.rows) sound (rows_at-apply rows s v.reached.picks c.loop-step.current.rows v.reached.so ∙ sym now.step.rows);
-      left = cut_after_cut c.args.column.now c.loop-step.current c.in_ok-current.current _ _ v.left now;
+      reached = reached_next (length rows) (map step_value steps) k (λ picks. at null rows picks ≡ c.loop-step.current.rows) v.reached s (step_within steps k c.loop-step-test.true) (step_at steps k x.result c.loop-step-test.true x.is)
+          (λ picks. at null rows picks ≡ c.in_ok-current.current.rows) sound (at-apply rows s v.reached.picks c.loop-step.current.rows v.reached.so ∙ sym now.rows);
+      left = left_by_step c.args.column.now (map step_value steps) k c.loop-step.current c.in_ok-current.current v.left s (step_within steps k c.loop-step-test.true) (step_at steps k x.result c.loop-step-test.true x.is) _ now c.in_ok-current.ensures.plain;
     }
 
 pub returns-clause-answer : goal.returns-clause-answer
@@ -52,8 +55,8 @@ returns-clause-answer c =
     let rows = c.args.column.now.rows in let steps = c.args.steps.now in let v = c.loop-step.invariant in
     let whole = c.execute.ensures.same in
     answered c.args.column.now (map step_value steps) v.reached.picks c.execute.result.dtype c.execute.result.rows
-    (reached_end (length rows) (map step_value steps) c.loop-step.step-index (λ picks. rows_at rows picks ≡ c.loop-step.current.rows) v.reached (steps_end steps c.loop-step.step-index c.loop-step-test.false))
-    (whole.dtype ∙ v.left.step.dtype) (v.reached.so ∙ sym whole.rows)
+    (reached_end (length rows) (map step_value steps) c.loop-step.step-index (λ picks. at null rows picks ≡ c.loop-step.current.rows) v.reached (steps_end steps c.loop-step.step-index c.loop-step-test.false))
+    (sym v.left.dtype ∙ left_at_end c.loop-step.current.dtype (map step_value steps) c.loop-step.step-index (steps_end steps c.loop-step.step-index c.loop-step-test.false) ∙ sym whole.dtype) (v.reached.so ∙ sym whole.rows)
 
 pub returns-clause-unwrapped : goal.returns-clause-unwrapped
-returns-clause-unwrapped c = λ flat. c.execute.ensures.unwrapped (rw c.loop-step.invariant.left.step.dtype flat)
+returns-clause-unwrapped c = λ flat. c.execute.ensures.unwrapped (c.loop-step.invariant.left.flat ∙ flat)

@@ -1,0 +1,2 @@
+pub mod Indices
+pub use Rattle.vx_take.specs.Picks
