@@ -4,6 +4,7 @@ pub mod Boolean
 pub mod Primitive
 pub mod Decimal
 pub mod Columns
+pub mod Indices
 pub mod Steps
 pub mod Documents
 pub mod Reading

@@ -5,6 +5,7 @@ mod boolean;
 mod columns;
 mod decimal;
 mod documents;
+mod indices;
 mod later;
 mod null;
 mod primitive;
