@@ -21,33 +21,33 @@ pub(crate) enum Form {
 
 // Writes a record so that it ends at `end`, and answers where it begins.
 #[inline(always)]
-fn put_record(form: Form, record: &[u8], dst: &mut [u8; ROOM], end: usize) -> usize
-    requires width { IsWide form (length record.now) }
+fn put_record(form: Form, value: &[u8], dst: &mut [u8; ROOM], end: usize) -> usize
+    requires width { IsWide form (length value.now) }
     requires room { ROW ≤ end }
     requires within { end ≤ ROOM }
     ensures room { end ≤ result + ROW }
     ensures within { result ≤ end }
-    ensures put { drop result dst.new ≡ record_text form record.now ++ drop end dst.old }
+    ensures put { drop result dst.new ≡ record_text form value.now ++ drop end dst.old }
 {
     match form {
-        Form::Number(ptype) => put_number(ptype, record, dst, end),
-        Form::Hex => put_hex(record, dst, end),
+        Form::Number(ptype) => put_number(ptype, value, dst, end),
+        Form::Hex => put_hex(value, dst, end),
     }
 }
 
 // Writes a row that is this record, or null.
 #[inline(always)]
-fn put_row(form: Form, record: &[u8], is_there: bool, dst: &mut [u8; ROOM], end: usize) -> usize
-    requires width { IsWide form (length record.now) }
+fn put_row(form: Form, value: &[u8], is_there: bool, dst: &mut [u8; ROOM], end: usize) -> usize
+    requires width { IsWide form (length value.now) }
     requires room { ROW ≤ end }
     requires within { end ≤ ROOM }
     ensures room { end ≤ result + ROW }
     ensures within { result ≤ end }
     ensures put { drop result dst.new ≡ row_text_by (record_text form)
-        (if is_there then bytes record.now else null) ++ drop end dst.old }
+        (if is_there then bytes value.now else null) ++ drop end dst.old }
 {
     if is_there {
-        put_record(form, record, dst, end)
+        put_record(form, value, dst, end)
     } else {
         put_word(b"null", dst, end)
     }
