@@ -1,14 +1,49 @@
--- What a JSON value means as a column.
+-- What a JSON value means as a column, which may hold columns.
 use Rattle.std.specs.Prelude.{ℕ, List, if◌then◌else◌, Option, None, codes, bytes_eq}
-use Rattle.serde_json.specs.Data.{Data}
+use Rattle.std.specs.Ordering.{nat_cmp, match_ordering}
+use Rattle.std.specs.Cmp.Lexicographic.{slice_cmp}
+use Rattle.serde_json.specs.Data.{Data, null, boolean, number, string, array, object, Members, no_members, member}
 use Rattle.serde_json.specs.Find.{get, as_str}
 use Rattle.vx_model.specs.Column.{Column}
 use Rattle.vx_json.specs.Meaning.{◌>>=◌}
-use Rattle.vx_document.specs.Primitive.{primitive_of}
+use Rattle.vx_document.specs.Validity.{validity_stated}
+use Rattle.vx_document.specs.Null.{null_by}
+use Rattle.vx_document.specs.Boolean.{bool_by}
+use Rattle.vx_document.specs.Primitive.{primitive_by}
+use Rattle.vx_document.specs.Decimal.{decimal_by}
 
--- by its layout
-abbrev pub column_by : Data → List ℕ → Option Column
-column_by d layout = if bytes_eq layout (codes "Primitive") then primitive_of d else None
+-- the column that each member of an object means, by the member's name
+abbrev pub Inner : Type 0
+Inner = List ℕ → Option Column
 
-unfoldable pub column_of : Data → Option Column
-column_of d = get (codes "layout") d >>= as_str >>= column_by d
+-- by the name of a layout
+abbrev pub by_layout : Data → Inner → List ℕ → Option Column
+by_layout d inner layout =
+    if bytes_eq layout (codes "Null") then null_by d
+    else if bytes_eq layout (codes "Bool") then validity_stated d inner >>= bool_by d
+    else if bytes_eq layout (codes "Primitive") then validity_stated d inner >>= primitive_by d
+    else if bytes_eq layout (codes "Decimal") then validity_stated d inner >>= decimal_by d
+    else None
+
+-- by what the members mean
+unfoldable pub column_by : Data → Inner → Option Column
+column_by d inner = get (codes "layout") d >>= as_str >>= by_layout d inner
+
+abbrev mutual
+  pub column_of : Data → Option Column
+  column_of null = None
+  column_of (boolean b) = None
+  column_of (number n) = None
+  column_of (string s) = None
+  column_of (array ds) = None
+  column_of (object ms) = column_by (object ms) (λ k. column_in k ms)
+
+  -- the column that the member k means
+  pub column_in : List ℕ → Members → Option Column
+  column_in k no_members = None
+  column_in k (member l d ms) =
+      match_ordering (slice_cmp nat_cmp k l) (column_in k ms) (column_of d) (column_in k ms)
+
+-- the columns that the members of a value mean
+abbrev pub inner_of : Data → Inner
+inner_of d k = get k d >>= column_of

@@ -3,13 +3,6 @@ use Rattle.std.specs.Prelude.{ℕ, ◌&&◌, ◌||◌, List, [], ◌∷◌, Bool
 use Rattle.serde_json.specs.Data.{Data, null, boolean, number, string, array, object, Items, no_items, item, Members, no_members, member}
 use Rattle.vx_json.specs.Members.{is_among}
 
--- types and columns of plain values, which rows are null, and steps that take rows
-unfoldable pub flat_words : List (List ℕ)
-flat_words =
-    codes "Null" ∷ codes "Bool" ∷ codes "Decimal"
-    ∷ codes "f16" ∷ codes "f32" ∷ codes "f64"
-    ∷ codes "take" ∷ codes "validity" ∷ codes "precision" ∷ codes "scale" ∷ codes "width" ∷ []
-
 -- index lists by pieces, and columns over other columns
 unfoldable pub lazy_words : List (List ℕ)
 lazy_words =
@@ -45,8 +38,8 @@ record_words =
 -- names of members, layouts and types alike
 abbrev pub is_later_word : List ℕ → Bool
 is_later_word w =
-    is_among flat_words w || is_among lazy_words w || is_among chunk_words w
-    || is_among text_words w || is_among list_words w || is_among record_words w
+    is_among lazy_words w || is_among chunk_words w || is_among text_words w
+    || is_among list_words w || is_among record_words w
 
 -- the text of a `layout` or a `type` is a later word
 abbrev pub is_later_text : List ℕ → Data → Bool

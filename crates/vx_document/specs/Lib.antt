@@ -1,5 +1,10 @@
+pub mod Validity
+pub mod Null
+pub mod Boolean
 pub mod Primitive
+pub mod Decimal
 pub mod Columns
+pub mod Indices
 pub mod Steps
 pub mod Documents
 pub mod Reading

@@ -1,44 +1,55 @@
 -- What a JSON value means as a column of layout `Primitive`.
-use Rattle.std.specs.Prelude.{ℕ, List, [], ◌∷◌, if◌then◌else◌, Option, Some, None, codes}
-use Rattle.serde_json.specs.Data.{Data}
+use Rattle.std.specs.Prelude.{ℕ, List, [], ◌∷◌, if◌then◌else◌, Option, None, codes}
+use Rattle.serde_json.specs.Data.{Data, Items}
 use Rattle.serde_json.specs.Find.{get, as_str, as_array}
-use Rattle.vx_types.specs.PType.{width}
+use Rattle.vx_types.specs.PType.{width, is_int}
 use Rattle.vx_types.specs.declared.ptype.PType.{PType}
 use Rattle.vx_model.specs.Column.{Column}
-use Rattle.vx_model.specs.Valid.{non_nullable}
-use Rattle.vx_model.specs.Primitive.{primitive_column}
-use Rattle.vx_json.specs.Meaning.{◌>>=◌}
+use Rattle.vx_model.specs.Valid.{Valid}
+use Rattle.vx_model.specs.Primitive.{PrimitiveParts, primitive_fault, primitive_column}
+use Rattle.vx_json.specs.Meaning.{◌>>=◌, unless_fault}
 use Rattle.vx_json.specs.Members.{is_closed}
 use Rattle.vx_json.specs.Items.{each}
 use Rattle.vx_json.specs.Wholes.{at_most}
-use Rattle.vx_json.specs.Values.{ptype_named, value_record, ramp_records}
+use Rattle.vx_json.specs.Values.{ptype_named, value_or_zero, ramp_records}
 use Rattle.vx_json.specs.declared.wholes.TheConstants.{GREATEST_LEN}
+use Rattle.vx_document.specs.Validity.{validity_alone, validity_beside}
 
--- the stored records, by `values` or by `ramp`
-unfoldable pub records_by_values : PType → Data → Option (List (List ℕ))
-records_by_values p d = get (codes "values") d >>= as_array >>= each (value_record (width p) p)
+abbrev pub primitive_parts : PType → List (List ℕ) → Valid → PrimitiveParts
+primitive_parts p records valid =
+    record { ptype = p; width = width p; records = records; valid = valid }
 
-unfoldable pub records_by_ramp : PType → Data → Option (List (List ℕ))
-records_by_ramp p d = do
+-- the column of these records, where the validity can be theirs
+unfoldable pub primitive_made : PType → List (List ℕ) → Valid → Option Column
+primitive_made p records valid =
+    unless_fault (primitive_fault (primitive_parts p records valid))
+    (primitive_column (primitive_parts p records valid))
+
+-- a list of values and nulls
+unfoldable pub primitive_by_items : PType → Option Valid → Items → Option Column
+primitive_by_items p stated items = do
+  valid ← validity_beside stated items
+  records ← each (value_or_zero (width p) p) items
+  primitive_made p records valid
+
+-- the numbers from 0 on, of an integer type
+unfoldable pub primitive_by_ramp : PType → Option Valid → Data → Option Column
+primitive_by_ramp p stated d = do
   len ← get (codes "ramp") d >>= at_most GREATEST_LEN
-  Some (ramp_records p len)
+  if is_int p then primitive_made p (ramp_records p len) (validity_alone stated) else None
 
-unfoldable pub records_in : PType → Data → Option (List (List ℕ))
-records_in p d =
-    if is_closed (codes "layout" ∷ codes "type" ∷ codes "values" ∷ []) d
-    then records_by_values p d
-    else if is_closed (codes "layout" ∷ codes "type" ∷ codes "ramp" ∷ []) d
-    then records_by_ramp p d
+unfoldable pub primitive_by_values : PType → Option Valid → Data → Option Column
+primitive_by_values p stated d = get (codes "values") d >>= as_array >>= primitive_by_items p stated
+
+unfoldable pub primitive_by_type : PType → Option Valid → Data → Option Column
+primitive_by_type p stated d =
+    if is_closed (codes "layout" ∷ codes "type" ∷ codes "values" ∷ codes "validity" ∷ []) d
+    then primitive_by_values p stated d
+    else if is_closed (codes "layout" ∷ codes "type" ∷ codes "ramp" ∷ codes "validity" ∷ []) d
+    then primitive_by_ramp p stated d
     else None
 
--- a column of these records, none of them null
-abbrev pub column_with : PType → List (List ℕ) → Column
-column_with p records =
-    primitive_column
-    (record { ptype = p; width = width p; records = records; valid = non_nullable })
-
-unfoldable pub primitive_of : Data → Option Column
-primitive_of d = do
+unfoldable pub primitive_by : Data → Option Valid → Option Column
+primitive_by d stated = do
   ptype ← get (codes "type") d >>= as_str >>= ptype_named
-  records ← records_in ptype d
-  Some (column_with ptype records)
+  primitive_by_type ptype stated d

@@ -2,12 +2,13 @@
 use Rattle.std.specs.Prelude.{List, [], ◌∷◌, if◌then◌else◌, Option, Some, None, codes}
 use Rattle.serde_json.specs.Data.{Data}
 use Rattle.serde_json.specs.Find.{get, as_array}
-use Rattle.vx_steps.specs.Step.{StepValue, slice_step, filter_step}
+use Rattle.vx_steps.specs.Step.{StepValue, slice_step, filter_step, take_step}
 use Rattle.vx_json.specs.Meaning.{◌>>=◌}
 use Rattle.vx_json.specs.Members.{is_closed}
 use Rattle.vx_json.specs.Items.{each}
 use Rattle.vx_json.specs.Wholes.{pair_of}
 use Rattle.vx_json.specs.Masks.{mask_of}
+use Rattle.vx_document.specs.Indices.{indices_of}
 
 unfoldable pub slice_of : Data → Option StepValue
 slice_of d = do
@@ -19,11 +20,17 @@ filter_of d = do
   bits ← get (codes "filter") d >>= mask_of
   Some (filter_step bits)
 
+unfoldable pub take_of : Data → Option StepValue
+take_of d = do
+  indices ← get (codes "take") d >>= indices_of
+  Some (take_step indices)
+
 -- an object with one member
 unfoldable pub step_of : Data → Option StepValue
 step_of d =
     if is_closed (codes "slice" ∷ []) d then slice_of d
     else if is_closed (codes "filter" ∷ []) d then filter_of d
+    else if is_closed (codes "take" ∷ []) d then take_of d
     else None
 
 unfoldable pub steps_of : Data → Option (List StepValue)

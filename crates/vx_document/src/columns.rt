@@ -1,21 +1,60 @@
-//! Columns of any layout.
+//! Columns of any layout, and the columns in them.
+ghost use Rattle.std.specs.Option.{option_map};
 ghost use Rattle.serde_json.specs.View.{view};
+ghost use Rattle.vx_column.specs.Validity.{valid_of};
 ghost use Rattle.vx_json.specs.Meaning.{Gives};
-ghost use Rattle.vx_document.specs.Columns.{column_of};
+ghost use Rattle.vx_document.specs.Validity.{validity_from, validity_stated};
+ghost use Rattle.vx_document.specs.Columns.{column_of, inner_of};
 
-use crate::primitive::primitive_of;
+use crate::boolean::bool_by;
+use crate::decimal::decimal_by;
+use crate::null::null_by;
+use crate::primitive::primitive_by;
+use crate::validity::{validity_listed, validity_named};
 use serde_json::Value;
 use std::alloc::Global;
-use vx_column::Array;
+use vx_column::{Array, Validity};
 use vx_json::{DocError, member, text_in};
 
 /// The column that the value means, by its layout.
-#[tactic(auto, unfolding(crate::specs::Columns::column_of))]
+#[cycle(columns)]
+#[tactic(auto, unfolding(crate::specs::Columns::column_by))]
 pub(crate) fn column_of(alloc: Global, value: &Value) -> Result<Array, DocError>
     ensures { Gives (λ c. c) result (column_of (view value.now)) }
 {
     match text_in(member(value, "layout")?)? {
-        "Primitive" => primitive_of(alloc, value),
+        "Null" => null_by(value),
+        "Bool" => bool_by(alloc, value, validity_stated(alloc, value)?),
+        "Primitive" => primitive_by(alloc, value, validity_stated(alloc, value)?),
+        "Decimal" => decimal_by(alloc, value, validity_stated(alloc, value)?),
         _ => Err(DocError::Malformed),
+    }
+}
+
+/// The validity that the value states, if it states one.
+#[cycle(columns)]
+#[tactic(auto, unfolding(crate::specs::Validity::validity_stated))]
+fn validity_stated(alloc: Global, value: &Value) -> Result<Option<Validity>, DocError>
+    ensures { Gives (λ v. option_map valid_of v) result
+        (validity_stated (view value.now) (inner_of (view value.now))) }
+{
+    match value.get("validity") {
+        Some(stated) => Ok(Some(validity_from(alloc, stated)?)),
+        None => Ok(None),
+    }
+}
+
+/// The validity that a member means: a text, a list of bools, or else a column.
+#[cycle(columns)]
+#[tactic(auto, unfolding(crate::specs::Validity::validity_from))]
+fn validity_from(alloc: Global, value: &Value) -> Result<Validity, DocError>
+    ensures { Gives valid_of result (validity_from (view value.now) (column_of (view value.now))) }
+{
+    if let Some(text) = value.as_str() {
+        return validity_named(text);
+    }
+    match value.as_array() {
+        Some(items) => validity_listed(alloc, items),
+        None => Ok(Validity::Array(column_of(alloc, value)?.into_ref(alloc)?)),
     }
 }

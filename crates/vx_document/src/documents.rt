@@ -21,9 +21,13 @@ pub struct StepList {
 
 impl Model for StepList {
     ghost use Rattle.std.specs.Prelude.{List};
+    ghost use Rattle.std.specs.Coded.{coded_list};
     ghost use Rattle.vx_steps.specs.declared.step.Step.{Step};
+    ghost use Rattle.vx_steps.specs.contracts.step.Step.{the_row};
 
     ghost Value = { List Step };
+
+    ghost coded = { coded_list the_row.coded };
 
     ghost view = { λ l. l.steps.items };
 }

@@ -2,33 +2,10 @@
 ghost use Rattle.std.specs.Prelude.{◌≡◌};
 ghost use Rattle.serde_json.specs.View.{view, items_view, members_view};
 ghost use Rattle.vx_json.specs.Members.{is_among};
-ghost use Rattle.vx_document.specs.Later.{flat_words, lazy_words, chunk_words, text_words, list_words, record_words, is_later_word, is_later_text, holds_later, items_hold_later, members_hold_later};
+ghost use Rattle.vx_document.specs.Later.{lazy_words, chunk_words, text_words, list_words, record_words, is_later_word, is_later_text, holds_later, items_hold_later, members_hold_later};
 
 use serde_json::{Map, Value};
 use vx_json::is_among;
-
-/// Types and columns of plain values, which rows are null, and steps that take rows.
-#[tactic(auto, unfolding(crate::specs::Later::flat_words))]
-fn is_flat_word(word: &str) -> bool
-    ensures { result ≡ is_among flat_words word.now }
-{
-    is_among(
-        &[
-            "Null",
-            "Bool",
-            "Decimal",
-            "f16",
-            "f32",
-            "f64",
-            "take",
-            "validity",
-            "precision",
-            "scale",
-            "width",
-        ],
-        word,
-    )
-}
 
 /// Index lists by pieces, and columns over other columns.
 #[tactic(auto, unfolding(crate::specs::Later::lazy_words))]
@@ -137,8 +114,7 @@ fn is_record_word(word: &str) -> bool
 fn is_later_word(word: &str) -> bool
     ensures { result ≡ is_later_word word.now }
 {
-    is_flat_word(word)
-        || is_lazy_word(word)
+    is_lazy_word(word)
         || is_chunk_word(word)
         || is_text_word(word)
         || is_list_word(word)

@@ -1,17 +1,19 @@
 //! Documents: a column, the steps over it and the policy, read from a JSON value.
 #![tactic(auto)]
 
+mod boolean;
 mod columns;
+mod decimal;
 mod documents;
+mod indices;
 mod later;
+mod null;
 mod primitive;
 mod reading;
 mod steps;
+mod validity;
 
 pub use documents::{Document, DocumentSource, StepList};
 pub use later::holds_later;
 pub use reading::document;
 pub use vx_json::DocError;
-
-#[cfg(test)]
-mod tests;

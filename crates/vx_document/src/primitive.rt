@@ -1,11 +1,14 @@
 //! Columns of layout `Primitive`.
-ghost use Rattle.std.specs.Prelude.{◌≡◌, IfOk};
-ghost use Rattle.serde_json.specs.View.{view};
+ghost use Rattle.std.specs.Prelude.{◌≡◌};
+ghost use Rattle.std.specs.Option.{option_map};
+ghost use Rattle.serde_json.specs.View.{view, items_view};
 ghost use Rattle.vx_bits.specs.Records.{records_of, width_of};
 ghost use Rattle.vx_types.specs.PType.{width};
+ghost use Rattle.vx_column.specs.Validity.{valid_of};
 ghost use Rattle.vx_json.specs.Meaning.{Gives};
-ghost use Rattle.vx_document.specs.Primitive.{records_by_values, records_by_ramp, records_in, primitive_of};
+ghost use Rattle.vx_document.specs.Primitive.{primitive_made, primitive_by_items, primitive_by_ramp, primitive_by_values, primitive_by_type, primitive_by};
 
+use crate::validity::{validity_alone, validity_beside};
 use serde_json::Value;
 use std::alloc::Global;
 use vx_bits::Records;
@@ -15,46 +18,94 @@ use vx_json::{
     values_of,
 };
 
-#[tactic(auto, unfolding(crate::specs::Primitive::records_by_values))]
-fn records_by_values(alloc: Global, ptype: PType, value: &Value) -> Result<Records, DocError>
-    ensures value { Gives records_of result (records_by_values ptype (view value.now)) }
-    ensures width { IfOk result (λ r. width_of r ≡ width ptype) }
+/// The column of these records. `Malformed` where the validity can't be theirs.
+fn primitive_made(ptype: PType, values: Records, validity: Validity) -> Result<Array, DocError>
+    requires { width_of values ≡ width ptype }
+    ensures { Gives (λ c. c) result
+        (primitive_made ptype (records_of values) (valid_of validity)) }
 {
-    values_of(alloc, ptype, items_in(member(value, "values")?)?)
+    match PrimitiveArray::try_new(ptype, values, validity) {
+        Ok(column) => Ok(column.into_array()),
+        Err(_) => Err(DocError::Malformed),
+    }
 }
 
-#[tactic(auto, unfolding(crate::specs::Primitive::records_by_ramp))]
-fn records_by_ramp(alloc: Global, ptype: PType, value: &Value) -> Result<Records, DocError>
-    ensures value { Gives records_of result (records_by_ramp ptype (view value.now)) }
-    ensures width { IfOk result (λ r. width_of r ≡ width ptype) }
+/// The column of a list of values of that type and nulls, by the validity that is stated beside
+/// it. `Malformed` where an item is neither, or the validity can't be theirs.
+#[tactic(auto, unfolding(crate::specs::Primitive::primitive_by_items))]
+pub(crate) fn primitive_by_items(
+    alloc: Global,
+    ptype: PType,
+    stated: Option<Validity>,
+    items: &Vec<Value>,
+) -> Result<Array, DocError>
+    ensures { Gives (λ c. c) result
+        (primitive_by_items ptype (option_map valid_of stated) (items_view items.now.items)) }
+{
+    let validity = validity_beside(alloc, stated, items)?;
+    let values = values_of(alloc, ptype, items)?;
+    primitive_made(ptype, values, validity)
+}
+
+#[tactic(auto, unfolding(crate::specs::Primitive::primitive_by_ramp))]
+fn primitive_by_ramp(
+    alloc: Global,
+    ptype: PType,
+    stated: Option<Validity>,
+    value: &Value,
+) -> Result<Array, DocError>
+    ensures { Gives (λ c. c) result
+        (primitive_by_ramp ptype (option_map valid_of stated) (view value.now)) }
 {
     let len = at_most(GREATEST_LEN, member(value, "ramp")?)?;
-    Ok(ramp_of(alloc, ptype, len)?)
-}
-
-#[tactic(auto, unfolding(crate::specs::Primitive::records_in))]
-fn records_in(alloc: Global, ptype: PType, value: &Value) -> Result<Records, DocError>
-    ensures value { Gives records_of result (records_in ptype (view value.now)) }
-    ensures width { IfOk result (λ r. width_of r ≡ width ptype) }
-{
-    if is_closed(value, &["layout", "type", "values"]) {
-        records_by_values(alloc, ptype, value)
-    } else if is_closed(value, &["layout", "type", "ramp"]) {
-        records_by_ramp(alloc, ptype, value)
+    if ptype.is_int() {
+        primitive_made(ptype, ramp_of(alloc, ptype, len)?, validity_alone(stated))
     } else {
         Err(DocError::Malformed)
     }
 }
 
-/// The column of that layout that the value means.
-#[tactic(auto, unfolding(crate::specs::Primitive::primitive_of))]
-pub(crate) fn primitive_of(alloc: Global, value: &Value) -> Result<Array, DocError>
-    ensures { Gives (λ c. c) result (primitive_of (view value.now)) }
+#[tactic(auto, unfolding(crate::specs::Primitive::primitive_by_values))]
+fn primitive_by_values(
+    alloc: Global,
+    ptype: PType,
+    stated: Option<Validity>,
+    value: &Value,
+) -> Result<Array, DocError>
+    ensures { Gives (λ c. c) result
+        (primitive_by_values ptype (option_map valid_of stated) (view value.now)) }
+{
+    primitive_by_items(alloc, ptype, stated, items_in(member(value, "values")?)?)
+}
+
+#[tactic(auto, unfolding(crate::specs::Primitive::primitive_by_type))]
+fn primitive_by_type(
+    alloc: Global,
+    ptype: PType,
+    stated: Option<Validity>,
+    value: &Value,
+) -> Result<Array, DocError>
+    ensures { Gives (λ c. c) result
+        (primitive_by_type ptype (option_map valid_of stated) (view value.now)) }
+{
+    if is_closed(value, &["layout", "type", "values", "validity"]) {
+        primitive_by_values(alloc, ptype, stated, value)
+    } else if is_closed(value, &["layout", "type", "ramp", "validity"]) {
+        primitive_by_ramp(alloc, ptype, stated, value)
+    } else {
+        Err(DocError::Malformed)
+    }
+}
+
+/// The column of that layout that the value means, by the validity that it states.
+#[tactic(auto, unfolding(crate::specs::Primitive::primitive_by))]
+pub(crate) fn primitive_by(
+    alloc: Global,
+    value: &Value,
+    stated: Option<Validity>,
+) -> Result<Array, DocError>
+    ensures { Gives (λ c. c) result (primitive_by (view value.now) (option_map valid_of stated)) }
 {
     let ptype = ptype_named(text_in(member(value, "type")?)?)?;
-    let records = records_in(alloc, ptype, value)?;
-    match PrimitiveArray::try_new(ptype, records, Validity::NonNullable) {
-        Ok(column) => Ok(column.into_array()),
-        Err(_) => unreachable!(),
-    }
+    primitive_by_type(alloc, ptype, stated, value)
 }

@@ -3,9 +3,10 @@ ghost use Rattle.std.specs.Prelude.{map};
 ghost use Rattle.serde_json.specs.View.{view};
 ghost use Rattle.vx_steps.specs.Step.{step_value};
 ghost use Rattle.vx_json.specs.Meaning.{Gives};
-ghost use Rattle.vx_document.specs.Steps.{slice_of, filter_of, step_of, steps_of};
+ghost use Rattle.vx_document.specs.Steps.{slice_of, filter_of, take_of, step_of, steps_of};
 
 use crate::documents::StepList;
+use crate::indices::indices_of;
 use serde_json::Value;
 use std::alloc::Global;
 use vx_json::{DocError, ReadItem, is_closed, items_in, mask_of, member, pair_of, read_each};
@@ -24,6 +25,13 @@ fn filter_of(alloc: Global, value: &Value) -> Result<Step, DocError>
     ensures { Gives step_value result (filter_of (view value.now)) }
 {
     Ok(Step::Filter(mask_of(alloc, member(value, "filter")?)?))
+}
+
+#[tactic(auto, unfolding(crate::specs::Steps::take_of))]
+fn take_of(alloc: Global, value: &Value) -> Result<Step, DocError>
+    ensures { Gives step_value result (take_of (view value.now)) }
+{
+    Ok(Step::Take(indices_of(alloc, member(value, "take")?)?))
 }
 
 /// Reads a step.
@@ -47,6 +55,8 @@ impl ReadItem for StepItem {
             slice_of(value)
         } else if is_closed(value, &["filter"]) {
             filter_of(alloc, value)
+        } else if is_closed(value, &["take"]) {
+            take_of(alloc, value)
         } else {
             Err(DocError::Malformed)
         }

@@ -2,7 +2,9 @@ pub mod Meaning
 pub mod Members
 pub mod Items
 pub mod Wholes
+pub mod Bools
 pub mod Values
+pub mod Decimals
 pub mod BitText
 pub mod Masks
 pub mod Policies

@@ -4,9 +4,8 @@ use Rattle.serde_json.specs.Data.{Data}
 use Rattle.serde_json.specs.Find.{get, as_str, as_array, as_bool}
 use Rattle.vx_mask.specs.Positions.{run_positions, bits_with}
 use Rattle.vx_mask.specs.Mask.{indices_fault, slices_fault}
-use Rattle.vx_mask.specs.declared.error.MaskError.{MaskError}
 use Rattle.vx_json.specs.declared.wholes.TheConstants.{GREATEST_LEN}
-use Rattle.vx_json.specs.Meaning.{◌>>=◌}
+use Rattle.vx_json.specs.Meaning.{◌>>=◌, unless_fault}
 use Rattle.vx_json.specs.Members.{is_closed}
 use Rattle.vx_json.specs.Items.{each}
 use Rattle.vx_json.specs.BitText.{bits_in}
@@ -18,10 +17,6 @@ placed_bits d = do
   bits ← get (codes "bits") d >>= as_str >>= bits_in
   offset ← get (codes "offset") d >>= at_most 7
   Some bits
-
-abbrev pub unless_fault : {A : Type 0} → Option MaskError → A → Option A
-unless_fault None a = Some a
-unless_fault (Some e) a = None
 
 -- the positions of the set bits
 unfoldable pub bits_by_set : Data → Option (List Bool)

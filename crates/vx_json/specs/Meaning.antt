@@ -31,3 +31,8 @@ found_or usual f (Some d) = f d
 -- what was read, in front of what the rest means, where it means something
 abbrev pub with_read : {A : Type 0} → List A → Option (List A) → Option (List A)
 with_read read rest = rest >>= λ xs. Some (read ++ xs)
+
+-- what a constructor gives that refuses where there is a fault
+abbrev pub unless_fault : {A E : Type 0} → Option E → A → Option A
+unless_fault None a = Some a
+unless_fault (Some e) a = None

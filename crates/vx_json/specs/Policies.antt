@@ -4,9 +4,8 @@ use Rattle.serde_json.specs.Data.{Data, Items, Members, no_members, member}
 use Rattle.serde_json.specs.Find.{as_str, as_array, as_object}
 use Rattle.vx_mask.specs.Policy.{policy_fault, vortex_fields, ratio}
 use Rattle.vx_mask.specs.declared.policy.PolicyFields.{PolicyFields}
-use Rattle.vx_mask.specs.declared.policy.PolicyError.{PolicyError}
 use Rattle.vx_mask.specs.declared.policy.Ratio.{Ratio}
-use Rattle.vx_json.specs.Meaning.{◌>>=◌}
+use Rattle.vx_json.specs.Meaning.{◌>>=◌, unless_fault}
 use Rattle.vx_json.specs.Wholes.{pair_of, whole_of}
 
 unfoldable pub ratio_of : Data → Option Ratio
@@ -72,16 +71,12 @@ abbrev pub with_members : PolicyFields → Members → Option PolicyFields
 with_members f no_members = Some f
 with_members f (member name d ms) = with_member f name d >>= λ g. with_members g ms
 
-abbrev pub unless_refused : PolicyFields → Option PolicyError → Option PolicyFields
-unless_refused f None = Some f
-unless_refused f (Some e) = None
-
 -- an object of some of the fields, over the usual ones
 unfoldable pub policy_by_members : Data → Option PolicyFields
 policy_by_members d = do
   members ← as_object d
   fields ← with_members vortex_fields members
-  unless_refused fields (policy_fault fields)
+  unless_fault (policy_fault fields) fields
 
 abbrev pub policy_named : List ℕ → Option PolicyFields
 policy_named s = if bytes_eq s (codes "vortex") then Some vortex_fields else None

@@ -99,9 +99,9 @@ fn append_text(bits: &mut BitBuilder, text: &[u8]) -> Result<(), DocError>
     append_few(bits, &text[whole..])
 }
 
-/// The bits that the digits name, the first one at that offset in its byte. `Malformed` where one
-/// is no digit.
-pub(crate) fn bits_in(alloc: Global, text: &[u8], offset: usize) -> Result<BitBuffer, DocError>
+/// The bits that digits `0` and `1` name, the first one at that offset in its byte. `Malformed`
+/// where one is no digit.
+pub fn bits_in(alloc: Global, text: &[u8], offset: usize) -> Result<BitBuffer, DocError>
     requires { offset ≤ 7 }
     ensures bits { Gives (λ b. b.bits) result (bits_in text.now) }
     ensures offset { IfOk result (λ b. b.offset ≡ offset) }

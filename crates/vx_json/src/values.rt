@@ -1,20 +1,34 @@
-//! The values of a column of integers, and the numbers from 0 on, as records.
-ghost use Rattle.std.specs.Prelude.{◌≡◌, ◌≤◌, IfOk};
+//! The values of a column, and the numbers from 0 on, as records.
+ghost use Rattle.std.specs.Prelude.{◌≡◌, ◌≤◌, IfOk, true};
 ghost use Rattle.serde_json.specs.View.{view, items_view};
 ghost use Rattle.vx_bits.specs.Records.{records_of, width_of};
 ghost use Rattle.vx_types.specs.PType.{width, record_of};
+ghost use Rattle.vx_types.specs.Decimal.{is_width};
 ghost use Rattle.vx_json.specs.Meaning.{Gives};
 ghost use Rattle.vx_json.specs.Items.{each};
-ghost use Rattle.vx_json.specs.Values.{ptype_named, value_record, ramp_records};
+ghost use Rattle.vx_json.specs.Values.{float_named, ptype_named, whole_record, or_zero, value_or_zero, hex_or_zero, ramp_records};
 
 use crate::error::DocError;
 use crate::items::{ReadItem, read_each};
+use hex::FromHex;
 use serde_json::Value;
 use std::alloc::Global;
 use vx_bits::{Buffer, NoMemory, Records};
 use vx_types::{PType, record_of};
 
-/// The integer type of this name. `Malformed` where there is none.
+#[tactic(auto, unfolding(crate::specs::Values::float_named))]
+fn float_named(text: &str) -> Result<PType, DocError>
+    ensures { Gives (λ p. p) result (float_named text.now) }
+{
+    match text {
+        "f16" => Ok(PType::F16),
+        "f32" => Ok(PType::F32),
+        "f64" => Ok(PType::F64),
+        _ => Err(DocError::Malformed),
+    }
+}
+
+/// The primitive type of this name. `Malformed` where there is none.
 #[tactic(auto, unfolding(crate::specs::Values::ptype_named))]
 pub fn ptype_named(text: &str) -> Result<PType, DocError>
     ensures { Gives (λ p. p) result (ptype_named text.now) }
@@ -28,19 +42,20 @@ pub fn ptype_named(text: &str) -> Result<PType, DocError>
         "i16" => Ok(PType::I16),
         "i32" => Ok(PType::I32),
         "i64" => Ok(PType::I64),
-        _ => Err(DocError::Malformed),
+        _ => float_named(text),
     }
 }
 
-/// Reads whole numbers in a type's range, as records of its width.
+/// Reads whole numbers in a type's range, as records of its width, and nulls as zeros.
 #[derive(Clone, Copy)]
-struct RecordItem<const W: usize> {
+struct WholeItem<const W: usize> {
     ptype: PType,
     ghost short: { W ≤ 16 },
 }
 
-impl<const W: usize> ReadItem for RecordItem<W> {
+impl<const W: usize> ReadItem for WholeItem<W> {
     ghost use Rattle.std.specs.Prelude.{ℕ, List};
+    ghost use Rattle.vx_json.specs.Values.{or_zero, whole_record};
 
     type Out = [u8; W];
 
@@ -48,58 +63,120 @@ impl<const W: usize> ReadItem for RecordItem<W> {
 
     ghost seen = { λ r. r };
 
-    ghost meaning = { λ i d. value_record W i.ptype d };
+    ghost meaning = { λ i d. or_zero W (whole_record W i.ptype) d };
 
     #[inline(always)]
-    #[tactic(auto, unfolding(crate::specs::Values::value_record))]
+    #[tactic(auto, unfolding(crate::specs::Values::whole_record))]
     fn read(&self, _alloc: Global, value: &Value) -> Result<[u8; W], DocError> {
-        let number = match value.as_number() {
-            Some(number) => number,
-            None => return Err(DocError::Malformed),
-        };
-        match number.as_i128() {
-            Some(z) => {
-                if self.ptype.is_in_range(z) {
+        match value {
+            Value::Number(number) => match number.as_i128() {
+                Some(z) => if self.ptype.is_in_range(z) {
                     Ok(record_of::<W>(z))
                 } else {
                     Err(DocError::Malformed)
-                }
-            }
-            None => Err(DocError::Malformed),
+                },
+                None => Err(DocError::Malformed),
+            },
+            Value::Null => Ok([0; W]),
+            _ => Err(DocError::Malformed),
+        }
+    }
+}
+
+/// Reads texts of hexadecimal digits, as records, and nulls as zeros.
+#[derive(Clone, Copy)]
+struct HexItem<const W: usize>;
+
+impl<const W: usize> ReadItem for HexItem<W> {
+    ghost use Rattle.std.specs.Prelude.{ℕ, List};
+    ghost use Rattle.vx_json.specs.Values.{hex_or_zero};
+
+    type Out = [u8; W];
+
+    ghost Seen = { List ℕ };
+
+    ghost seen = { λ r. r };
+
+    ghost meaning = { λ _ d. hex_or_zero W d };
+
+    #[inline(always)]
+    #[tactic(auto, unfolding(crate::specs::Values::hex_record))]
+    fn read(&self, _alloc: Global, value: &Value) -> Result<[u8; W], DocError> {
+        match value {
+            Value::String(text) => match <[u8; W] as FromHex>::from_hex(text.as_str()) {
+                Ok(record) => Ok(record),
+                Err(_) => Err(DocError::Malformed),
+            },
+            Value::Null => Ok([0; W]),
+            _ => Err(DocError::Malformed),
         }
     }
 }
 
 #[inline(always)]
-fn value_records<const W: usize>(
+fn whole_records<const W: usize>(
     alloc: Global,
     ptype: PType,
     items: &Vec<Value>,
 ) -> Result<Buffer<[u8; W]>, DocError>
     requires { W ≡ width ptype }
-    ensures { Gives (λ b. b) result (each (value_record W ptype) (items_view items.now.items)) }
+    ensures { Gives (λ b. b) result
+        (each (or_zero W (whole_record W ptype)) (items_view items.now.items)) }
 {
-    let records = read_each(alloc, &RecordItem::<W> { ptype }, items)?;
+    let records = read_each(alloc, &WholeItem::<W> { ptype }, items)?;
     Ok(Buffer::from_vec(alloc, records)?)
 }
 
-/// The records of a list of whole numbers in the type's range. `Malformed` where an item is none.
+fn hex_records<const W: usize>(
+    alloc: Global,
+    items: &Vec<Value>,
+) -> Result<Buffer<[u8; W]>, DocError>
+    ensures { Gives (λ b. b) result (each (hex_or_zero W) (items_view items.now.items)) }
+{
+    let records = read_each(alloc, &HexItem::<W>, items)?;
+    Ok(Buffer::from_vec(alloc, records)?)
+}
+
+/// The records of a list of values of the type: whole numbers in its range, or texts of two
+/// hexadecimal digits a byte where it is a floating one, and zeros for each null. `Malformed` where
+/// an item is neither.
 ///
-/// Each arm is a loop of its own, in which the type is known.
+/// Each arm of whole numbers is a loop of its own, in which the type is known.
 pub fn values_of(alloc: Global, ptype: PType, items: &Vec<Value>) -> Result<Records, DocError>
     ensures value { Gives records_of result
-        (each (value_record (width ptype) ptype) (items_view items.now.items)) }
+        (each (value_or_zero (width ptype) ptype) (items_view items.now.items)) }
     ensures width { IfOk result (λ r. width_of r ≡ width ptype) }
 {
     match ptype {
-        PType::U8 => Ok(Records::W1(value_records(alloc, PType::U8, items)?)),
-        PType::U16 => Ok(Records::W2(value_records(alloc, PType::U16, items)?)),
-        PType::U32 => Ok(Records::W4(value_records(alloc, PType::U32, items)?)),
-        PType::U64 => Ok(Records::W8(value_records(alloc, PType::U64, items)?)),
-        PType::I8 => Ok(Records::W1(value_records(alloc, PType::I8, items)?)),
-        PType::I16 => Ok(Records::W2(value_records(alloc, PType::I16, items)?)),
-        PType::I32 => Ok(Records::W4(value_records(alloc, PType::I32, items)?)),
-        PType::I64 => Ok(Records::W8(value_records(alloc, PType::I64, items)?)),
+        PType::U8 => Ok(Records::W1(whole_records(alloc, PType::U8, items)?)),
+        PType::U16 => Ok(Records::W2(whole_records(alloc, PType::U16, items)?)),
+        PType::U32 => Ok(Records::W4(whole_records(alloc, PType::U32, items)?)),
+        PType::U64 => Ok(Records::W8(whole_records(alloc, PType::U64, items)?)),
+        PType::I8 => Ok(Records::W1(whole_records(alloc, PType::I8, items)?)),
+        PType::I16 => Ok(Records::W2(whole_records(alloc, PType::I16, items)?)),
+        PType::I32 => Ok(Records::W4(whole_records(alloc, PType::I32, items)?)),
+        PType::I64 => Ok(Records::W8(whole_records(alloc, PType::I64, items)?)),
+        PType::F16 => Ok(Records::W2(hex_records(alloc, items)?)),
+        PType::F32 => Ok(Records::W4(hex_records(alloc, items)?)),
+        PType::F64 => Ok(Records::W8(hex_records(alloc, items)?)),
+    }
+}
+
+/// The records, of that many bytes each, of a list of texts of two hexadecimal digits a byte, and
+/// zeros for each null. `Malformed` where an item is neither.
+pub fn hex_values_of(alloc: Global, width: usize, items: &Vec<Value>) -> Result<Records, DocError>
+    requires { is_width width ≡ true }
+    ensures value { Gives records_of result (each (hex_or_zero width) (items_view items.now.items)) }
+    ensures width { IfOk result (λ r. width_of r ≡ width) }
+{
+    match width {
+        1 => Ok(Records::W1(hex_records(alloc, items)?)),
+        2 => Ok(Records::W2(hex_records(alloc, items)?)),
+        4 => Ok(Records::W4(hex_records(alloc, items)?)),
+        8 => Ok(Records::W8(hex_records(alloc, items)?)),
+        16 => Ok(Records::W16(hex_records(alloc, items)?)),
+        32 => Ok(Records::W32(hex_records(alloc, items)?)),
+        _ => unreachable!(),
     }
 }
 
@@ -125,8 +202,8 @@ pub fn ramp_of(alloc: Global, ptype: PType, len: usize) -> Result<Records, NoMem
 {
     match ptype {
         PType::U8 | PType::I8 => Ok(Records::W1(ramp_records(alloc, ptype, len)?)),
-        PType::U16 | PType::I16 => Ok(Records::W2(ramp_records(alloc, ptype, len)?)),
-        PType::U32 | PType::I32 => Ok(Records::W4(ramp_records(alloc, ptype, len)?)),
-        PType::U64 | PType::I64 => Ok(Records::W8(ramp_records(alloc, ptype, len)?)),
+        PType::U16 | PType::I16 | PType::F16 => Ok(Records::W2(ramp_records(alloc, ptype, len)?)),
+        PType::U32 | PType::I32 | PType::F32 => Ok(Records::W4(ramp_records(alloc, ptype, len)?)),
+        PType::U64 | PType::I64 | PType::F64 => Ok(Records::W8(ramp_records(alloc, ptype, len)?)),
     }
 }

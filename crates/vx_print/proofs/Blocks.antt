@@ -5,19 +5,6 @@ use Rattle.std.proofs.lemmas.List.{drop-take, get_or-take, get_or_default, lengt
 use Rattle.std.proofs.lemmas.List.Concat.{flat_map-append}
 use Rattle.vx_print.specs.Text.{line, lines}
 
--- one line more, in front of those of the last k items
-pub line_more : {X : Type 0} (f : X → List ℕ) (xs : List X) (k : ℕ) (x : X) → k < length xs → x ≡ get_or xs (length xs - 1 - k) x → f x ++ 10 ∷ lines f (drop (length xs - k) xs) ≡ lines f (drop (length xs - (k + 1)) xs)
-line_more f xs k x h is =
-    let j = length xs - 1 - k in
-    let lt : j < length xs = omega arith in
-    let behind : length xs - k ≡ suc j = omega arith in
-    let here : j ≡ length xs - (k + 1) = omega arith in
-    let rest = drop (suc j) xs in
-    ap (λ (n : ℕ). f x ++ 10 ∷ lines f (drop n xs)) behind
-    ∙ sym (append_assoc (f x) (10 ∷ []) (lines f rest))
-    ∙ ap (lines f) (ap (λ y. y ∷ rest) is ∙ sym (drop-cons xs j x lt))
-    ∙ ap (λ (n : ℕ). lines f (drop n xs)) here
-
 take_capped : {X : Type 0} (xs : List X) (m n : ℕ) → m ≤ n → (m < n → length xs ≤ m) → take m xs ≡ take n xs
 take_capped xs zero zero h e = refl
 take_capped [] zero (suc n) h e = refl
@@ -42,13 +29,15 @@ block_more f bs xs start end is h =
 pub row_more : {X : Type 0} (f : X → List ℕ) (xs : List X) (end k : ℕ) (x d : X) → k < end → end ≤ length xs → x ≡ get_or xs (end - 1 - k) d → f x ++ 10 ∷ lines f (drop (end - k) (take end xs)) ≡ lines f (drop (end - (k + 1)) (take end xs))
 row_more f xs end k x d h within is =
     let ys = take end xs in
-    let long : length ys ≡ end = length-take-le end xs within in
-    let same : get_or ys (end - 1 - k) x ≡ get_or xs (end - 1 - k) x = get_or-take end xs (end - 1 - k) x (omega arith) in
-    let lt : end - 1 - k < length xs = omega arith in
-    let here : x ≡ get_or ys (length ys - 1 - k) x = is ∙ get_or_default xs (end - 1 - k) d x lt ∙ sym same ∙ ap (λ (n : ℕ). get_or ys (n - 1 - k) x) (sym long) in
-    ap (λ (n : ℕ). f x ++ 10 ∷ lines f (drop (n - k) ys)) (sym long)
-    ∙ line_more f ys k x (omega arith) here
-    ∙ ap (λ (n : ℕ). lines f (drop (n - (k + 1)) ys)) long
+    let j = end - 1 - k in
+    let lt : j < length ys = omega (arith, length-take-le end xs within) in
+    let behind : end - k ≡ suc j = omega arith in
+    let here : j ≡ end - (k + 1) = omega arith in
+    let same : x ≡ get_or ys j x = is ∙ get_or_default xs j d x (omega arith) ∙ sym (get_or-take end xs j x (omega arith)) in
+    ap (λ (n : ℕ). f x ++ 10 ∷ lines f (drop n ys)) behind
+    ∙ sym (append_assoc (f x) (10 ∷ []) (lines f (drop (suc j) ys)))
+    ∙ ap (lines f) (ap (λ y. y ∷ drop (suc j) ys) same ∙ sym (drop-cons ys j x lt))
+    ∙ ap (λ (n : ℕ). lines f (drop n ys)) here
 
 -- the rows from `start` up to `end` are those of the first `end` that are left behind `start`
 pub rows_between : {X : Type 0} (xs : List X) (start end : ℕ) → start ≤ end → drop start (take end xs) ≡ take (end - start) (drop start xs)

@@ -58,12 +58,16 @@ bytes_text (primitive_type p n) b = primitive_text p b
 bytes_text (decimal_type p s w n) b = hex_text b
 bytes_text t b = []
 
+-- a row, with the text of bytes by f
+abbrev pub row_text_by : (List ℕ → List ℕ) → RowValue → List ℕ
+row_text_by f null = codes "null"
+row_text_by f (bit b) = bit_text b
+row_text_by f (bytes b) = f b
+row_text_by f x = []
+
 -- a row of a column of this type
 abbrev pub row_text : TypeTree → RowValue → List ℕ
-row_text t null = codes "null"
-row_text t (bit b) = bit_text b
-row_text t (bytes b) = bytes_text t b
-row_text t x = []
+row_text t x = row_text_by (bytes_text t) x
 
 abbrev pub line : List ℕ → List ℕ
 line text = text ++ 10 ∷ []

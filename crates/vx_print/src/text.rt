@@ -1,16 +1,16 @@
 //! The text of a column.
-ghost use Rattle.std.specs.Prelude.{◌≡◌, ◌++◌, Some, map, IfOk, IsOk};
+ghost use Rattle.std.specs.Prelude.{◌≡◌, ◌++◌, length, Some, IfOk, IsOk};
 ghost use Rattle.vx_bits.specs.Records.{records_of, width_of};
 ghost use Rattle.vx_types.specs.DType.{type_of};
-ghost use Rattle.vx_types.specs.RowValue.{bytes};
 ghost use Rattle.vx_types.specs.TypeTree.{type_width};
 ghost use Rattle.vx_print.specs.Text.{ptype_text, decimal_text, mark, type_text, row_text, lines, text};
+ghost use Rattle.vx_print.specs.Records.{record_rows, bits_in, IsLong};
 
 use crate::cells::push_rows;
 use crate::records::{push_hex, push_primitive};
 use itoa::{Buffer, Integer};
 use std::alloc::Global;
-use vx_bits::{NoMemory, Records};
+use vx_bits::{BitBuffer, NoMemory, Records};
 use vx_column::{Array, DType, DecimalDType, Nullability, PType};
 
 fn ptype_text(ptype: PType) -> &'static str
@@ -87,16 +87,37 @@ fn push_type(text: &mut Vec<u8>, dtype: &DType) -> Result<(), NoMemory>
     }
 }
 
-// Appends a line for each record, a row of this type.
-fn push_records(text: &mut Vec<u8>, dtype: &DType, records: &Records) -> Result<(), NoMemory>
-    requires { Some (width_of records.now) ≡ type_width (type_of dtype.now) }
-    ensures { IsOk result → text.new.items ≡ text.old.items
-        ++ lines (row_text (type_of dtype.now)) (map bytes (records_of records.now)) }
+// Appends a line for each row of this type: a record, or null where there are bits and the row's
+// bit is clear.
+fn push_records(
+    text: &mut Vec<u8>,
+    dtype: &DType,
+    records: &Records,
+    bits: Option<&BitBuffer>,
+) -> Result<(), NoMemory>
+    requires width { Some (width_of records.now) ≡ type_width (type_of dtype.now) }
+    requires long { IsLong (bits_in bits) (length (records_of records.now)) }
+    ensures { IsOk result → text.new.items ≡ text.old.items ++ lines (row_text (type_of dtype.now))
+        (record_rows (bits_in bits.entry) (records_of records.now)) }
 {
     match dtype {
         DType::Null | DType::Bool(_) => unreachable!(),
-        DType::Primitive(ptype, _) => push_primitive(text, *ptype, records),
-        DType::Decimal(..) => push_hex(text, records),
+        DType::Primitive(ptype, _) => push_primitive(text, *ptype, records, bits),
+        DType::Decimal(..) => push_hex(text, records, bits),
+    }
+}
+
+// Appends a line for each row.
+fn push_lines(text: &mut Vec<u8>, column: &Array) -> Result<(), NoMemory>
+    ensures { IsOk result → text.new.items
+        ≡ text.old.items ++ lines (row_text column.now.dtype) column.now.rows }
+{
+    if let Some(records) = column.present_records() {
+        return push_records(text, column.dtype(), records, None);
+    }
+    match column.shown_records() {
+        Some((records, bits)) => push_records(text, column.dtype(), records, Some(bits)),
+        None => push_rows(text, column),
     }
 }
 
@@ -107,9 +128,6 @@ pub fn text_of(alloc: Global, column: &Array) -> Result<Vec<u8>, NoMemory>
     let mut text = Vec::new(alloc);
     push_type(&mut text, column.dtype())?;
     text.push(b'\n')?;
-    match column.present_records() {
-        Some(records) => push_records(&mut text, column.dtype(), records)?,
-        None => push_rows(&mut text, column)?,
-    }
+    push_lines(&mut text, column)?;
     Ok(text)
 }

@@ -1,0 +1,14 @@
+-- How the depth of a value goes down.
+use Rattle.std.proofs.Common.{◌+◌, ◌*◌}
+use Rattle.serde_json.specs.Data.{depth}
+use Rattle.serde_json.specs.View.{view}
+use Rattle.vx_document.proofs.columns.+columns.Given as goal
+
+abbrev pub decreases-column_of : goal.decreases-column_of
+decreases-column_of l = 3 * depth (view l.value.now) + 1
+
+abbrev pub decreases-validity_stated : goal.decreases-validity_stated
+decreases-validity_stated l = 3 * depth (view l.value.now)
+
+abbrev pub decreases-validity_from : goal.decreases-validity_from
+decreases-validity_from l = 3 * depth (view l.value.now) + 2

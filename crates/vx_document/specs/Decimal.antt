@@ -1,0 +1,44 @@
+-- What a JSON value means as a column of layout `Decimal`.
+use Rattle.std.specs.Prelude.{ℕ, List, [], ◌∷◌, if◌then◌else◌, Option, None, codes}
+use Rattle.serde_json.specs.Data.{Data, Items}
+use Rattle.serde_json.specs.Find.{get, as_array}
+use Rattle.vx_types.specs.Decimal.{DecimalValue}
+use Rattle.vx_model.specs.Column.{Column}
+use Rattle.vx_model.specs.Valid.{Valid}
+use Rattle.vx_model.specs.Decimal.{DecimalParts, decimal_array_fault, decimal_column}
+use Rattle.vx_json.specs.Meaning.{◌>>=◌, unless_fault}
+use Rattle.vx_json.specs.Members.{is_closed}
+use Rattle.vx_json.specs.Items.{each}
+use Rattle.vx_json.specs.Decimals.{decimal_of}
+use Rattle.vx_json.specs.Values.{hex_or_zero}
+use Rattle.vx_document.specs.Validity.{validity_beside}
+
+abbrev pub decimal_parts : DecimalValue → List (List ℕ) → Valid → DecimalParts
+decimal_parts t records valid =
+    record { decimal = t; width = t.width; records = records; valid = valid }
+
+-- the column of these records, where the validity can be theirs
+unfoldable pub decimal_made : DecimalValue → List (List ℕ) → Valid → Option Column
+decimal_made t records valid =
+    unless_fault (decimal_array_fault (decimal_parts t records valid))
+    (decimal_column (decimal_parts t records valid))
+
+-- a list of records and nulls
+unfoldable pub decimal_by_items : DecimalValue → Option Valid → Items → Option Column
+decimal_by_items t stated items = do
+  valid ← validity_beside stated items
+  records ← each (hex_or_zero t.width) items
+  decimal_made t records valid
+
+unfoldable pub decimal_by_values : Option Valid → Data → Option Column
+decimal_by_values stated d = do
+  decimal ← decimal_of d
+  items ← get (codes "values") d >>= as_array
+  decimal_by_items decimal stated items
+
+unfoldable pub decimal_by : Data → Option Valid → Option Column
+decimal_by d stated =
+    if is_closed (codes "layout" ∷ codes "precision" ∷ codes "scale" ∷ codes "width"
+    ∷ codes "values" ∷ codes "validity" ∷ []) d
+    then decimal_by_values stated d
+    else None

@@ -1,0 +1,73 @@
+//! Columns of layout `Bool`.
+ghost use Rattle.std.specs.Option.{option_map};
+ghost use Rattle.serde_json.specs.View.{view, items_view};
+ghost use Rattle.vx_column.specs.Validity.{valid_of};
+ghost use Rattle.vx_json.specs.Meaning.{Gives};
+ghost use Rattle.vx_document.specs.Boolean.{bool_made, bool_by_items, bool_by_text, bool_by_values, bool_by};
+
+use crate::validity::{validity_alone, validity_beside};
+use serde_json::Value;
+use std::alloc::Global;
+use vx_bits::BitBuffer;
+use vx_column::{Array, BoolArray, Validity};
+use vx_json::{DocError, bits_in, bools_or_nulls_of, is_closed, items_in, member};
+
+/// The column of these bits. `Malformed` where the validity can't be theirs.
+fn bool_made(bits: BitBuffer, validity: Validity) -> Result<Array, DocError>
+    ensures { Gives (λ c. c) result (bool_made bits.bits (valid_of validity)) }
+{
+    match BoolArray::try_new(bits, validity) {
+        Ok(column) => Ok(column.into_array()),
+        Err(_) => Err(DocError::Malformed),
+    }
+}
+
+#[tactic(auto, unfolding(crate::specs::Boolean::bool_by_items))]
+fn bool_by_items(
+    alloc: Global,
+    stated: Option<Validity>,
+    items: &Vec<Value>,
+) -> Result<Array, DocError>
+    ensures { Gives (λ c. c) result
+        (bool_by_items (option_map valid_of stated) (items_view items.now.items)) }
+{
+    let validity = validity_beside(alloc, stated, items)?;
+    let bits = bools_or_nulls_of(alloc, items)?;
+    bool_made(bits, validity)
+}
+
+#[tactic(auto, unfolding(crate::specs::Boolean::bool_by_text))]
+fn bool_by_text(alloc: Global, stated: Option<Validity>, text: &str) -> Result<Array, DocError>
+    ensures { Gives (λ c. c) result (bool_by_text (option_map valid_of stated) text.now) }
+{
+    let bits = bits_in(alloc, text.as_bytes(), 0)?;
+    bool_made(bits, validity_alone(stated))
+}
+
+#[tactic(auto, unfolding(crate::specs::Boolean::bool_by_values))]
+fn bool_by_values(alloc: Global, stated: Option<Validity>, value: &Value) -> Result<Array, DocError>
+    ensures { Gives (λ c. c) result
+        (bool_by_values (option_map valid_of stated) (view value.now)) }
+{
+    let values = member(value, "values")?;
+    match values.as_str() {
+        Some(text) => bool_by_text(alloc, stated, text),
+        None => bool_by_items(alloc, stated, items_in(values)?),
+    }
+}
+
+/// The column of that layout that the value means, by the validity that it states.
+#[tactic(auto, unfolding(crate::specs::Boolean::bool_by))]
+pub(crate) fn bool_by(
+    alloc: Global,
+    value: &Value,
+    stated: Option<Validity>,
+) -> Result<Array, DocError>
+    ensures { Gives (λ c. c) result (bool_by (view value.now) (option_map valid_of stated)) }
+{
+    if is_closed(value, &["layout", "values", "validity"]) {
+        bool_by_values(alloc, stated, value)
+    } else {
+        Err(DocError::Malformed)
+    }
+}

@@ -1,0 +1,86 @@
+//! Columns of layout `Decimal`.
+ghost use Rattle.std.specs.Prelude.{◌≡◌};
+ghost use Rattle.std.specs.Option.{option_map};
+ghost use Rattle.serde_json.specs.View.{view, items_view};
+ghost use Rattle.vx_bits.specs.Records.{records_of, width_of};
+ghost use Rattle.vx_column.specs.Validity.{valid_of};
+ghost use Rattle.vx_json.specs.Meaning.{Gives};
+ghost use Rattle.vx_document.specs.Decimal.{decimal_made, decimal_by_items, decimal_by_values, decimal_by};
+
+use crate::validity::validity_beside;
+use serde_json::Value;
+use std::alloc::Global;
+use vx_bits::Records;
+use vx_column::{Array, DecimalArray, DecimalDType, Validity};
+use vx_json::{DocError, decimal_of, hex_values_of, is_closed, items_in, member};
+
+/// The column of these records. `Malformed` where the validity can't be theirs.
+fn decimal_made(
+    decimal: DecimalDType,
+    values: Records,
+    validity: Validity,
+) -> Result<Array, DocError>
+    requires { width_of values ≡ decimal.width }
+    ensures { Gives (λ c. c) result
+        (decimal_made decimal (records_of values) (valid_of validity)) }
+{
+    match DecimalArray::try_new(decimal, values, validity) {
+        Ok(column) => Ok(column.into_array()),
+        Err(_) => Err(DocError::Malformed),
+    }
+}
+
+#[tactic(auto, unfolding(crate::specs::Decimal::decimal_by_items))]
+fn decimal_by_items(
+    alloc: Global,
+    decimal: DecimalDType,
+    stated: Option<Validity>,
+    items: &Vec<Value>,
+) -> Result<Array, DocError>
+    ensures { Gives (λ c. c) result
+        (decimal_by_items decimal (option_map valid_of stated) (items_view items.now.items)) }
+{
+    let validity = validity_beside(alloc, stated, items)?;
+    let values = hex_values_of(alloc, decimal.width() as usize, items)?;
+    decimal_made(decimal, values, validity)
+}
+
+#[tactic(auto, unfolding(crate::specs::Decimal::decimal_by_values))]
+fn decimal_by_values(
+    alloc: Global,
+    stated: Option<Validity>,
+    value: &Value,
+) -> Result<Array, DocError>
+    ensures { Gives (λ c. c) result
+        (decimal_by_values (option_map valid_of stated) (view value.now)) }
+{
+    let decimal = decimal_of(value)?;
+    let items = items_in(member(value, "values")?)?;
+    decimal_by_items(alloc, decimal, stated, items)
+}
+
+/// The column of that layout that the value means, by the validity that it states.
+#[tactic(auto, unfolding(crate::specs::Decimal::decimal_by))]
+pub(crate) fn decimal_by(
+    alloc: Global,
+    value: &Value,
+    stated: Option<Validity>,
+) -> Result<Array, DocError>
+    ensures { Gives (λ c. c) result (decimal_by (view value.now) (option_map valid_of stated)) }
+{
+    if is_closed(
+        value,
+        &[
+            "layout",
+            "precision",
+            "scale",
+            "width",
+            "values",
+            "validity",
+        ],
+    ) {
+        decimal_by_values(alloc, stated, value)
+    } else {
+        Err(DocError::Malformed)
+    }
+}
