@@ -12,6 +12,3 @@ pub use vx_outside::{
     CountingSink, Failed, MemorySink, MemorySource, Sink, Source, StdSink, StdSource, SteadySource,
 };
 pub use vx_print::{fault_line, text_of};
-
-#[cfg(test)]
-mod tests;

@@ -4,7 +4,8 @@
 //! write takes at most, the numbers of the reads that fail, the numbers of the writes and finishes
 //! that fail, and the document, which may hold a `|` itself. A row that begins with `#` is a
 //! heading, and is printed as it stands. For each other row the status is printed, and what was
-//! written, with a `\` behind it where no line end is its last byte.
+//! written, with a `\` behind it where no line end is its last byte. Behind the rows stands what
+//! none of them can say.
 #![tactic(auto)]
 
 use row::{Row, row_of};
@@ -14,6 +15,7 @@ use vx_bits::Buffer;
 use vx_rows::{MemorySink, MemorySource, run};
 
 mod row;
+mod unsaid;
 
 /// How many bytes a sink has room for.
 const ROOM: usize = 65_536;
@@ -42,5 +44,7 @@ fn main(rt: HostRuntime) -> Result<(), Fail> {
             println!(rt; "\\")?;
         }
     }
-    Ok(())
+    unsaid::print_bounds(&rt, rt.alloc())?;
+    unsaid::print_bytes(&rt, rt.alloc())?;
+    unsaid::print_longest_line(&rt)
 }
