@@ -59,6 +59,8 @@ type Filter<T> =
     unsafe extern "C" fn(*const T, usize, *const u8, usize, *mut T, usize, usize, usize) -> usize;
 type InPlace<T> =
     unsafe extern "C" fn(*const T, usize, *const u8, usize, *mut T, usize, usize) -> usize;
+type Compact<T> =
+    unsafe extern "C" fn(*const T, usize, *const u64, usize, *mut T, usize, usize, usize) -> usize;
 type Gather<T> =
     unsafe extern "C" fn(*const T, usize, *const usize, usize, *mut T, usize, usize) -> usize;
 
@@ -84,6 +86,18 @@ unsafe extern "C" {
     fn in_place_u64(
         s: *const u64, n: usize, b: *const u8, m: usize, o: *mut u64, k: usize, times: usize,
     ) -> usize;
+    fn compact_u8(
+        s: *const u8, n: usize, w: *const u64, m: usize, o: *mut u8, k: usize, which: usize,
+        times: usize,
+    ) -> usize;
+    fn compact_u32(
+        s: *const u32, n: usize, w: *const u64, m: usize, o: *mut u32, k: usize, which: usize,
+        times: usize,
+    ) -> usize;
+    fn compact_u64(
+        s: *const u64, n: usize, w: *const u64, m: usize, o: *mut u64, k: usize, which: usize,
+        times: usize,
+    ) -> usize;
     fn gather_u8(
         s: *const u8, n: usize, l: *const usize, m: usize, o: *mut u8, k: usize, times: usize,
     ) -> usize;
@@ -108,11 +122,16 @@ unsafe extern "C" {
         s: *const u8, n: usize, offset: usize, b: *const u8, m: usize, o: *mut u64, k: usize,
         len: usize, which: usize, times: usize,
     ) -> usize;
+    fn filter_chunks(
+        s: *const u8, n: usize, b: *const u8, m: usize, len: usize, o: *mut u8, k: usize,
+        width: usize, which: usize, times: usize,
+    ) -> usize;
 }
 
 const NULL: usize = usize::MAX;
 const ROWS: usize = 65_536 + 37;
-const TIMES: usize = 200;
+const ROUNDS: usize = 5;
+const TIMES: usize = 40;
 
 /// Random numbers by xorshift.
 struct Dice(u64);
@@ -260,7 +279,8 @@ fn plain_positions(mask: &[u64], ranks: &[usize]) -> Vec<usize> {
     ranks.iter().map(|k| if *k == NULL { NULL } else { set[*k] }).collect()
 }
 
-/// Compares the answers, and prints the nanoseconds a row of both and their ratio.
+/// Compares the answers, and prints the nanoseconds a row of both, in the fastest of some rounds,
+/// and their ratio.
 fn compare<T: PartialEq + Copy + Default + Debug>(
     name: &str,
     room: usize,
@@ -272,9 +292,13 @@ fn compare<T: PartialEq + Copy + Default + Debug>(
     let answer = plain();
     let is_equal = out[..answer.len()] == answer[..];
     let time = |work: &mut dyn FnMut()| {
-        let begin = Instant::now();
-        work();
-        begin.elapsed().as_nanos() as f64 / (TIMES * ROWS) as f64
+        let once = |work: &mut dyn FnMut()| {
+            let begin = Instant::now();
+            work();
+            begin.elapsed().as_nanos()
+        };
+        let least = (0..ROUNDS).map(|_| once(work)).min().expect("a round");
+        least as f64 / (TIMES * ROWS) as f64
     };
     let mine = time(&mut || {
         black_box(ours(black_box(&mut out), TIMES));
@@ -296,7 +320,7 @@ fn filters<T: PartialEq + Copy + Default + Debug>(
     name: &str,
     src: &[T],
     bytes: &[u8],
-    calls: (Filter<T>, InPlace<T>),
+    calls: (Filter<T>, InPlace<T>, Compact<T>),
 ) -> bool {
     let mask = words(bytes);
     let count = mask.iter().map(|w| w.count_ones() as usize).sum();
@@ -306,6 +330,14 @@ fn filters<T: PartialEq + Copy + Default + Debug>(
         let ours = |out: &mut [T], times| unsafe {
             let (s, b, o) = (src.as_ptr(), bytes.as_ptr(), out.as_mut_ptr());
             calls.0(s, src.len(), b, bytes.len(), o, out.len(), which, times)
+        };
+        let plain = || plain_filter(black_box(src), black_box(&mask), count);
+        is_equal &= compare(&format!("{way} {name}"), ROWS, ours, plain);
+    }
+    for (which, way) in ["to the front by words", "to the front by runs"].iter().enumerate() {
+        let ours = |out: &mut [T], times| unsafe {
+            let (s, w, o) = (src.as_ptr(), mask.as_ptr(), out.as_mut_ptr());
+            calls.2(s, src.len(), w, mask.len(), o, out.len(), which, times)
         };
         let plain = || plain_filter(black_box(src), black_box(&mask), count);
         is_equal &= compare(&format!("{way} {name}"), ROWS, ours, plain);
@@ -386,6 +418,145 @@ fn takes(dice: &mut Dice) -> bool {
     is_equal & compare("translated ranks", ROWS, ours, || plain_positions(black_box(&mask), &ranks))
 }
 
+/// The values of one chunk that are asked for, few of them by themselves and others by the chunk.
+struct PlainChunks<'a, const W: usize> {
+    values: &'a [[u8; W]],
+    scratch: Vec<[u8; W]>,
+    limit: usize,
+}
+
+impl<const W: usize> PlainChunks<'_, W> {
+    fn take(&mut self, chunk: usize, places: &[usize], kept: &mut Vec<[u8; W]>) {
+        let values = &self.values[1024 * chunk..1024 * (chunk + 1)];
+        if places.len() == 1024 {
+            kept.extend_from_slice(values);
+        } else if places.len() <= self.limit {
+            kept.extend(places.iter().map(|p| values[*p]));
+        } else {
+            self.scratch.copy_from_slice(values);
+            kept.extend(places.iter().map(|p| self.scratch[*p]));
+        }
+    }
+}
+
+#[inline(never)]
+fn plain_chunks_by_bits<const W: usize>(
+    chunks: &mut PlainChunks<W>,
+    mask: &[u64],
+    total: usize,
+) -> Vec<[u8; W]> {
+    let mut kept = Vec::with_capacity(total);
+    let mut places = Vec::with_capacity(1024);
+    for (chunk, words) in mask.chunks(16).enumerate() {
+        let count = words.iter().map(|w| w.count_ones() as usize).sum::<usize>();
+        let values = &chunks.values[1024 * chunk..1024 * (chunk + 1)];
+        if count == 1024 {
+            kept.extend_from_slice(values);
+        } else if count > chunks.limit {
+            chunks.scratch.copy_from_slice(values);
+            for (items, word) in chunks.scratch.chunks(64).zip(words) {
+                let mut word = *word;
+                if word == u64::MAX {
+                    kept.extend_from_slice(items);
+                    continue;
+                }
+                while word != 0 {
+                    kept.push(items[word.trailing_zeros() as usize]);
+                    word &= word - 1;
+                }
+            }
+        } else if count > 0 {
+            places.clear();
+            for (w, word) in words.iter().enumerate() {
+                let mut word = *word;
+                while word != 0 {
+                    places.push(64 * w + word.trailing_zeros() as usize);
+                    word &= word - 1;
+                }
+            }
+            chunks.take(chunk, &places, &mut kept);
+        }
+    }
+    kept
+}
+
+#[inline(never)]
+fn plain_chunks_by_indices<const W: usize>(
+    chunks: &mut PlainChunks<W>,
+    indices: &[usize],
+) -> Vec<[u8; W]> {
+    let mut kept = Vec::with_capacity(indices.len());
+    let mut places = Vec::with_capacity(1024);
+    for here in indices.chunk_by(|a, b| a / 1024 == b / 1024) {
+        places.clear();
+        places.extend(here.iter().map(|i| i % 1024));
+        chunks.take(here[0] / 1024, &places, &mut kept);
+    }
+    kept
+}
+
+#[inline(never)]
+fn plain_chunks_by_slices<const W: usize>(
+    chunks: &mut PlainChunks<W>,
+    slices: &[(usize, usize)],
+    total: usize,
+) -> Vec<[u8; W]> {
+    let mut kept = Vec::with_capacity(total);
+    let mut places = Vec::with_capacity(1024);
+    let mut chunk = 0;
+    for (start, end) in slices {
+        let mut at = *start;
+        while at < *end {
+            if at / 1024 != chunk {
+                chunks.take(chunk, &places, &mut kept);
+                places.clear();
+                chunk = at / 1024;
+            }
+            let part = (*end).min(1024 * (chunk + 1));
+            places.extend(at % 1024..at % 1024 + part - at);
+            at = part;
+        }
+    }
+    chunks.take(chunk, &places, &mut kept);
+    kept
+}
+
+fn slices_of(mask: &[u64]) -> Vec<(usize, usize)> {
+    let set = set_of(mask);
+    set.chunk_by(|a, b| a + 1 == *b).map(|run| (run[0], run[run.len() - 1] + 1)).collect()
+}
+
+fn chunk_filters<const W: usize>(name: &str, bytes: &[u8], limit: usize) -> bool
+where
+    [u8; W]: Default,
+{
+    let mask = words(bytes);
+    let (indices, slices) = (set_of(&mask), slices_of(&mask));
+    let src: Vec<u8> = (0..W * ROWS.next_multiple_of(1024)).map(|i| (i * 7 / 3) as u8).collect();
+    let (values, _) = src.as_chunks::<W>();
+    let mut chunks = PlainChunks { values, scratch: vec![[0; W]; 1024], limit };
+    let mut is_equal = true;
+    for (which, way) in [(0, "bits"), (3, "indices"), (4, "slices")] {
+        let ours = |out: &mut [[u8; W]], times| unsafe {
+            let (s, b, o) = (src.as_ptr(), bytes.as_ptr(), out.as_mut_ptr() as *mut u8);
+            filter_chunks(s, src.len(), b, bytes.len(), ROWS, o, W * out.len(), W, which, times)
+        };
+        let plain = || match which {
+            0 => plain_chunks_by_bits(black_box(&mut chunks), black_box(&mask), indices.len()),
+            3 => plain_chunks_by_indices(black_box(&mut chunks), black_box(&indices)),
+            _ => plain_chunks_by_slices(black_box(&mut chunks), black_box(&slices), indices.len()),
+        };
+        is_equal &= compare(&format!("chunks by {way} {name}"), ROWS, ours, plain);
+    }
+    is_equal
+}
+
+fn all_chunk_filters(density: f64, bytes: &[u8]) -> bool {
+    chunk_filters::<1>(&format!("u8 at {density}"), bytes, 16)
+        & chunk_filters::<4>(&format!("u32 at {density}"), bytes, 64)
+        & chunk_filters::<8>(&format!("u64 at {density}"), bytes, 160)
+}
+
 fn main() {
     println!("{:34}{:>8}{:>8}{:>8}   (nanoseconds a row)", "", "ours", "plain", "ratio");
     let mut dice = Dice(88_172_645_463_325_252);
@@ -395,11 +566,15 @@ fn main() {
         let src = dice.bytes(0.5).into_iter().chain([0]).collect::<Vec<_>>();
         is_equal &= bit_filters(&format!("at {density}"), &src, &bytes);
         let items: Vec<u8> = (0..ROWS).map(|i| i as u8).collect();
-        is_equal &= filters(&format!("u8 at {density}"), &items, &bytes, (filter_u8, in_place_u8));
+        let calls: (Filter<_>, InPlace<_>, Compact<_>) = (filter_u8, in_place_u8, compact_u8);
+        is_equal &= filters(&format!("u8 at {density}"), &items, &bytes, calls);
         let items: Vec<u32> = (0..ROWS as u32).collect();
-        is_equal &= filters(&format!("u32 at {density}"), &items, &bytes, (filter_u32, in_place_u32));
+        let calls: (Filter<_>, InPlace<_>, Compact<_>) = (filter_u32, in_place_u32, compact_u32);
+        is_equal &= filters(&format!("u32 at {density}"), &items, &bytes, calls);
         let items: Vec<u64> = (0..ROWS as u64).collect();
-        is_equal &= filters(&format!("u64 at {density}"), &items, &bytes, (filter_u64, in_place_u64));
+        let calls: (Filter<_>, InPlace<_>, Compact<_>) = (filter_u64, in_place_u64, compact_u64);
+        is_equal &= filters(&format!("u64 at {density}"), &items, &bytes, calls);
+        is_equal &= all_chunk_filters(density, &bytes);
     }
     if !is_equal {
         std::process::exit(1);

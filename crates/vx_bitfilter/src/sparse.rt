@@ -66,11 +66,13 @@ fn words_kept(
     requires { length src.now.bits ≡ length mask.now.bits }
     ensures { IfOk result (λ b. b ≡ at_front (items_where_true mask.now.bits src.now.bits)) }
 {
+    let src_words = src.words();
+    let mask_words = mask.words();
     let mut kept = BitBuilder::with_capacity(alloc, true_count)?;
     for i in 0..mask.len().div_ceil(64) {
-        let picks = mask.word(i);
+        let picks = mask_words.word(i);
         if picks != 0 {
-            let bits = pext_fallback(src.word(i), picks);
+            let bits = pext_fallback(src_words.word(i), picks);
             kept.append_word(bits, picks.count_ones() as usize)?;
         }
     }

@@ -68,7 +68,7 @@ pub fn filter_words<S: WordReader, M: WordReader>(
     ensures mask_cost { M.spare mask.old
         ≤ M.spare mask.new + word_count (length (M.bits mask.old)) }
 {
-    let table = table_for(alloc, mask.len())?;
+    let table = table_for(alloc, true_count)?;
     let mut kept = BitBuilder::with_capacity(alloc, true_count)?;
     for i in 0..mask.len().div_ceil(64) {
         let picks = mask.word(i);
@@ -81,12 +81,12 @@ pub fn filter_words<S: WordReader, M: WordReader>(
     kept.finish()
 }
 
-// A table where there are so many bits that it pays.
-fn table_for(alloc: Global, len: usize) -> Result<Option<PextTable>, NoMemory>
+// A table where so many bits are packed that it pays.
+fn table_for(alloc: Global, true_count: usize) -> Result<Option<PextTable>, NoMemory>
     ensures { IfOk result (λ table. table
-        ≡ (if nat_lt len 4096 then None else Some pext_entries)) }
+        ≡ (if nat_lt true_count 24576 then None else Some pext_entries)) }
 {
-    if len < 4_096 {
+    if true_count < 24_576 {
         return Ok(None);
     }
     Ok(Some(PextTable::new(alloc)?))

@@ -2,7 +2,7 @@
 use Rattle.std.proofs.Common.{◌≡◌, ℕ, zero, suc, ◌+◌, ◌*◌, ◌-◌, ◌/◌, ◌%◌, ◌^◌, ◌<◌, ◌≤◌, Bool, true, false, cond, None, List, [], ◌∷◌, ◌++◌, length, get_or, take, drop, map, eqb, bit_or, refl, sym, ap, ap₂, subst, ◌∙◌, arith}
 use Rattle.std.specs.List.{range_with_len}
 use Rattle.std.specs.Int.{bit_at}
-use Rattle.std.proofs.lemmas.List.{same_lists, get_or-drop, get_or-take, get_or_default, length-take-le, take_rest, take_more, map-append}
+use Rattle.std.proofs.lemmas.List.{same_lists, get_or-drop, get_or-take, length-take-le, take_rest, take_more, map-append}
 use Rattle.std.proofs.lemmas.List.FromFn.{length-map-range_with_len, get_or-map-range_with_len}
 use Rattle.std.proofs.lemmas.Nat.{one_shl, or_comm, or_shifted}
 use Rattle.std.proofs.lemmas.List.Sums.{sum_by-append, sum_by-cons}
@@ -117,31 +117,6 @@ bit_of_number (true ∷ bits) zero = let low : (1 + 2 * number_of bits) % 2 ≡ 
 bit_of_number (false ∷ bits) zero = let low : (0 + 2 * number_of bits) % 2 ≡ 0 = omega arith in ap (λ n. eqb n 1) (bit_at_lowest (0 + 2 * number_of bits) ∙ low)
 bit_of_number (true ∷ bits) (suc k) = let half : (1 + 2 * number_of bits) / 2 ≡ number_of bits = omega arith in ap (λ n. eqb n 1) (bit_at-suc (1 + 2 * number_of bits) k ∙ ap (λ n. bit_at n k) half) ∙ bit_of_number bits k
 bit_of_number (false ∷ bits) (suc k) = let half : (0 + 2 * number_of bits) / 2 ≡ number_of bits = omega arith in ap (λ n. eqb n 1) (bit_at-suc (0 + 2 * number_of bits) k ∙ ap (λ n. bit_at n k) half) ∙ bit_of_number bits k
-
--- byte k of the bits
-abbrev pub byte_at : List Bool → ℕ → ℕ
-byte_at bits k = number_of (take 8 (drop (8 * k) bits))
-
--- the bits of enough such bytes are the bits
-pub bits_of_bytes : (bits : List Bool) (count : ℕ) → length bits ≤ 8 * count → bits_of (map (byte_at bits) (range_with_len 0 count)) 0 (length bits) ≡ bits
-bits_of_bytes bits count fits =
-    let bytes = map (byte_at bits) (range_with_len 0 count) in
-    same_lists _ _ (length_bits bytes 0 (length bits)) (λ k d h.
-    let below : k < length bits = omega (arith, length_bits bytes 0 (length bits)) in
-    let q = k / 8 in
-    let r = k % 8 in
-    let part = take 8 (drop (8 * q) bits) in
-    let whole : 8 * q + r ≡ k = omega arith in
-    let byte : get_or bytes q 0 ≡ byte_at bits q = get_or-map-range_with_len (byte_at bits) 0 count q q 0 (omega arith) (omega arith) in
-    let start : 0 + k ≡ k = omega arith in
-    bit_in bytes 0 (length bits) k d below
-    ∙ ap (bit_of bytes) start
-    ∙ ap (λ n. eqb (bit_at n r) 1) byte
-    ∙ bit_of_number part r
-    ∙ get_or-take 8 (drop (8 * q) bits) r false (omega arith)
-    ∙ get_or-drop (8 * q) bits r false
-    ∙ ap (λ n. get_or bits n false) whole
-    ∙ get_or_default bits k false d below)
 
 range_split : (a m k : ℕ) → range_with_len a (m + k) ≡ range_with_len a m ++ range_with_len (a + m) k
 range_split a zero k = ap₂ range_with_len (omega arith) (omega arith)

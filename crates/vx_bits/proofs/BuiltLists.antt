@@ -103,7 +103,7 @@ built_alike bytes new next held n words rest first low low_rest bit open_word cl
     let word = cond bit (2 ^ 64 - 1) 0 in
     let front = bits_of bytes 0 (8 * length bytes) in
     let mid = bytes ++ to_le_bytes w64 first in
-    let tail = replicate (8 * words) (cond bit 255 0) in
+    let tail : List ℕ = replicate (8 * words) (cond bit 255 0) in
     let long : length tail ≡ 8 * words = length-replicate (8 * words) (cond bit 255 0) in
     let full : held + room ≡ 64 = omega arith in
     let below : low * 2 ^ held + next < 2 ^ 64 = subst (λ (k : ℕ). low * 2 ^ held + next < 2 ^ k) full (joined_below next held low room (low * 2 ^ held + next) clean (subst (λ (x : ℕ). x < 2 ^ room) (sym e_low) (mod_below word (2 ^ room) (pow_pos room))) refl) in

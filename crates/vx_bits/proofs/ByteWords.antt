@@ -33,28 +33,29 @@ eight_from bytes start h fits =
     ∙ bits_drop bytes start 0 64
     ∙ ap (λ j. bits_of bytes j 64) (add-zero (8 * start))
 
-next_item : (bytes : List ℕ) (start m k : ℕ) → start + m < length bytes → take (suc k) (drop (start + m) bytes) ≡ get_or bytes (start + m) 0 ∷ take k (drop (start + (m + 1)) bytes)
-next_item bytes start m k h =
-    let next : start + m + 1 ≡ start + (m + 1) = omega arith in
-    ap (take (suc k)) (drop_more bytes (start + m) 0 h) ∙ ap (λ j. get_or bytes (start + m) 0 ∷ take k (drop j bytes)) next
+module _ {X : Type 0} (xs : List X) (start : ℕ) (d : X) where
+  next_item : (m k : ℕ) → start + m < length xs → take (suc k) (drop (start + m) xs) ≡ get_or xs (start + m) d ∷ take k (drop (start + (m + 1)) xs)
+  next_item m k h =
+      let next : start + m + 1 ≡ start + (m + 1) = omega arith in
+      ap (take (suc k)) (drop_more xs (start + m) d h) ∙ ap (λ j. get_or xs (start + m) d ∷ take k (drop j xs)) next
 
--- eight bytes from `start` on, one by one
-pub eight_items : (bytes : List ℕ) (start : ℕ) → start + 8 ≤ length bytes
-    → get_or bytes start 0 ∷ get_or bytes (start + 1) 0 ∷ get_or bytes (start + 2) 0 ∷ get_or bytes (start + 3) 0 ∷ get_or bytes (start + 4) 0 ∷ get_or bytes (start + 5) 0 ∷ get_or bytes (start + 6) 0 ∷ get_or bytes (start + 7) 0 ∷ []
-    ≡ take 8 (drop start bytes)
-eight_items bytes start h =
-    let from : start + 0 ≡ start = omega arith in
-    sym (
-    ap (λ j. take 8 (drop j bytes)) (sym from)
-    ∙ next_item bytes start 0 7 (omega arith)
-    ∙ ap₂ (λ j l. get_or bytes j 0 ∷ l) from (
-    next_item bytes start 1 6 (omega arith) ∙ ap (λ l. get_or bytes (start + 1) 0 ∷ l) (
-    next_item bytes start 2 5 (omega arith) ∙ ap (λ l. get_or bytes (start + 2) 0 ∷ l) (
-    next_item bytes start 3 4 (omega arith) ∙ ap (λ l. get_or bytes (start + 3) 0 ∷ l) (
-    next_item bytes start 4 3 (omega arith) ∙ ap (λ l. get_or bytes (start + 4) 0 ∷ l) (
-    next_item bytes start 5 2 (omega arith) ∙ ap (λ l. get_or bytes (start + 5) 0 ∷ l) (
-    next_item bytes start 6 1 (omega arith) ∙ ap (λ l. get_or bytes (start + 6) 0 ∷ l) (
-    next_item bytes start 7 0 (omega arith)))))))))
+  -- eight items from `start` on, one by one
+  pub eight_items : start + 8 ≤ length xs
+      → get_or xs start d ∷ get_or xs (start + 1) d ∷ get_or xs (start + 2) d ∷ get_or xs (start + 3) d ∷ get_or xs (start + 4) d ∷ get_or xs (start + 5) d ∷ get_or xs (start + 6) d ∷ get_or xs (start + 7) d ∷ []
+      ≡ take 8 (drop start xs)
+  eight_items h =
+      let from : start + 0 ≡ start = omega arith in
+      sym (
+      ap (λ j. take 8 (drop j xs)) (sym from)
+      ∙ next_item 0 7 (omega arith)
+      ∙ ap₂ (λ j l. get_or xs j d ∷ l) from (
+      next_item 1 6 (omega arith) ∙ ap (λ l. get_or xs (start + 1) d ∷ l) (
+      next_item 2 5 (omega arith) ∙ ap (λ l. get_or xs (start + 2) d ∷ l) (
+      next_item 3 4 (omega arith) ∙ ap (λ l. get_or xs (start + 3) d ∷ l) (
+      next_item 4 3 (omega arith) ∙ ap (λ l. get_or xs (start + 4) d ∷ l) (
+      next_item 5 2 (omega arith) ∙ ap (λ l. get_or xs (start + 5) d ∷ l) (
+      next_item 6 1 (omega arith) ∙ ap (λ l. get_or xs (start + 6) d ∷ l) (
+      next_item 7 0 (omega arith)))))))))
 
 -- a word's lowest bits, and those above them
 word_split : (x s k : ℕ) → word_bits x (s + k) ≡ word_bits x s ++ word_bits (x / 2 ^ s) k

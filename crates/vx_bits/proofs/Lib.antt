@@ -3,6 +3,7 @@ pub mod BuiltLists
 pub mod ByteLists
 pub mod ByteWords
 pub mod Cuts
+pub mod PackedBits
 pub mod SetBits
 pub mod WordBits
 pub mod WordLists

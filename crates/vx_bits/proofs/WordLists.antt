@@ -4,7 +4,7 @@ use Rattle.std.specs.Int.{bit_at}
 use Rattle.std.specs.Int.RustNames.{count_ones}
 use Rattle.std.specs.List.{items_where_true}
 use Rattle.std.proofs.lemmas.Bool.{cases_lt}
-use Rattle.std.proofs.lemmas.List.{append-nil, drop-replicate, get_or-drop, get_or-take, length-drop, length-take, length-take-le, take-replicate, take-take, take_all}
+use Rattle.std.proofs.lemmas.List.{append-nil, drop-replicate, get_or-drop, get_or-take, length-drop, length-take, length-take-le, take-replicate, take-take, take_all, take_min}
 use Rattle.std.proofs.lemmas.List.Sums.{sum_by-append, sum_by-cons}
 use Rattle.std.proofs.lemmas.Nat.{mod-pow-add, zero_from_ones}
 use Rattle.std.proofs.Math.Nat.{mod-eq_of_lt, mod-lt, pow-suc, zero-lt-suc}
@@ -58,6 +58,10 @@ word_bits_in bits i n e =
 pub whole_word : (bits : List Bool) (i : ℕ) → 64 * i + 64 ≤ length bits → word_bits (word_at bits i) 64 ≡ bits_in bits i
 whole_word bits i h = word_bits_in bits i 64 (omega (arith, length-bits_in bits i))
 
+-- a word of a view of the bits is theirs
+pub is_word : {bits view : List Bool} {word : ℕ} (i : ℕ) → word ≡ word_at view i → view ≡ bits → word ≡ word_at bits i
+is_word i e same = e ∙ ap (λ l. word_at l i) same
+
 -- a word below 2 ^ 64 with the list's bits is the list's word
 pub word_is : (bits : List Bool) (i word n : ℕ) → word < 2 ^ n → bits_in bits i ≡ word_bits word n → word ≡ word_at bits i
 unfolding word_at
@@ -65,7 +69,8 @@ word_is bits i word n h e = sym (number_is (bits_in bits i) word n h e)
 
 -- ---- one word after another
 
-take_both : {X : Type 0} (m n : ℕ) (xs : List X) → take (m + n) xs ≡ take m xs ++ take n (drop m xs)
+-- some items, and those behind them
+pub take_both : {X : Type 0} (m n : ℕ) (xs : List X) → take (m + n) xs ≡ take m xs ++ take n (drop m xs)
 take_both zero n xs = ap (λ k. take k xs) (zero-add n)
 take_both (suc m) n [] = take_all (suc m + n) [] (omega arith) ∙ sym (take_all n [] (omega arith))
 take_both (suc m) n (x ∷ xs) = let e : suc m + n ≡ suc (m + n) = omega arith in ap (λ k. take k (x ∷ xs)) e ∙ ap (λ l. x ∷ l) (take_both m n xs)
@@ -75,6 +80,16 @@ pub take_words : (bits : List Bool) (i : ℕ) → take (64 * (i + 1)) bits ≡ t
 take_words bits i =
     let next : 64 * (i + 1) ≡ 64 * i + 64 = omega arith in
     ap (λ n. take n bits) next ∙ take_both (64 * i) 64 bits
+
+-- the same of the word that the next bits spell
+pub with_next_word : (bits : List Bool) (i word n : ℕ) → n ≡ min 64 (length bits - 64 * i) → word ≡ number_of (take n (drop (64 * i) bits)) → take (64 * i) bits ++ word_bits word n ≡ take (64 * (i + 1)) bits
+with_next_word bits i word n short e =
+    let behind = drop (64 * i) bits in
+    let part = bits_in bits i in
+    let cut : n ≡ min 64 (length behind) = short ∙ sym (ap (min 64) (length-drop (64 * i) bits)) in
+    let same : take n behind ≡ part = ap (λ m. take m behind) cut ∙ take_min 64 behind in
+    let whole : n ≡ length part + 0 = omega (arith, short, length-bits_in bits i) in
+    ap (λ l. take (64 * i) bits ++ l) (ap₂ word_bits (e ∙ ap number_of same) whole ∙ word_bits-number_of part 0 ∙ append-nil part) ∙ sym (take_words bits i)
 
 -- all the words are all the bits
 pub take_all_words : (bits : List Bool) (count : ℕ) → word_count (length bits) ≤ count → take (64 * count) bits ≡ bits
@@ -248,7 +263,7 @@ module _ {X : Type 0} where
   picked_nothing (b ∷ bits) = refl
 
   -- items past the bits play no part
-  picked_short : (bits : List Bool) (xs : List X) (n : ℕ) → length bits ≤ n → items_where_true bits (take n xs) ≡ items_where_true bits xs
+  pub picked_short : (bits : List Bool) (xs : List X) (n : ℕ) → length bits ≤ n → items_where_true bits (take n xs) ≡ items_where_true bits xs
   picked_short [] xs n h = refl
   picked_short (b ∷ bits) xs zero h = absurd (omega arith)
   picked_short (b ∷ bits) [] (suc n) h = refl

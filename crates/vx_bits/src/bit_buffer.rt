@@ -1,12 +1,11 @@
 //! A shared list of bits.
-ghost use Rattle.std.specs.Prelude.{◌≡◌, ◌+◌, ◌-◌, ◌*◌, ◌/◌, ◌%◌, ◌^◌, ◌<◌, ◌≤◌, ◌↔◌, IsTrue, IfOk, MatchOption, length, position, slice_index_or, slice_range, false};
+ghost use Rattle.std.specs.Prelude.{◌≡◌, ◌+◌, ◌-◌, ◌*◌, ◌/◌, ◌%◌, ◌^◌, ◌<◌, ◌≤◌, ◌↔◌, IsTrue, MatchOption, length, position, slice_index_or, slice_range, false};
 ghost use Rattle.vx_bits.specs.BitBuffer.{IsLastSet, bit_fault, bits_of, number_of, true_count_of};
 ghost use Rattle.vx_bits.specs.Results.{ok_unless};
 ghost use Rattle.vx_bits.specs.Words.{word_at, word_bits};
 
 use crate::buffer::Buffer;
-use crate::error::NoMemory;
-use std::alloc::Global;
+use crate::words::{Words, eight_bytes};
 use std::marker::Model;
 
 /// Why bytes do not hold the bits that were asked for.
@@ -56,18 +55,6 @@ impl BitBuffer {
             return Err(BitError::Short);
         }
         Ok(BitBuffer { bytes, offset, len })
-    }
-
-    /// The same bits, the first one at offset 0. `NoMemory` alone.
-    pub fn from_bools(alloc: Global, bits: &[bool]) -> Result<BitBuffer, NoMemory>
-        ensures { IfOk result (λ b. b ≡ record { bits = bits.now; offset = 0 }) }
-    {
-        let bytes = Buffer::from_vec(alloc, packed(alloc, bits)?)?;
-        Ok(BitBuffer {
-            bytes,
-            offset: 0,
-            len: bits.len(),
-        })
     }
 
     // The first `len` bits of the bytes.
@@ -140,16 +127,15 @@ impl BitBuffer {
         requires { i ≤ length self.now.bits / 64 }
         ensures { result ≡ word_at self.now.bits i }
     {
-        let left = self.len - 64 * i;
-        if left < 64 {
-            return last_word(
-                self.bytes.as_slice(),
-                8 * i,
-                self.offset as u32,
-                left as u32,
-            );
-        }
-        word_from(self.bytes.as_slice(), 8 * i, self.offset as u32)
+        self.words().word(i)
+    }
+
+    /// The words of these bits, for a loop over many.
+    #[inline]
+    pub fn words(&self) -> Words<'_>
+        ensures { result ≡ self.now.bits }
+    {
+        Words::new(self.bytes.as_slice(), self.offset as u32, self.len)
     }
 
     /// The position of the first set bit. `None` exactly where no bit is set.
@@ -206,60 +192,6 @@ impl BitBuffer {
             len: self.len,
         }
     }
-}
-
-// The word that eight bytes from `start` on spell.
-#[inline(always)]
-fn eight_bytes(bytes: &[u8], start: usize) -> u64
-    requires { start + 8 ≤ length bytes.now }
-    ensures { word_bits result 64 ≡ bits_of bytes.now (8 * start) 64 }
-{
-    u64::from_le_bytes([
-        bytes[start],
-        bytes[start + 1],
-        bytes[start + 2],
-        bytes[start + 3],
-        bytes[start + 4],
-        bytes[start + 5],
-        bytes[start + 6],
-        bytes[start + 7],
-    ])
-}
-
-// The 64 bits from bit `shift` of byte `start` on.
-#[inline(always)]
-fn word_from(bytes: &[u8], start: usize, shift: u32) -> u64
-    requires below { shift < 8 }
-    requires within { 8 * start + shift + 64 ≤ 8 * length bytes.now }
-    ensures { word_bits result 64 ≡ bits_of bytes.now (8 * start + shift) 64 }
-{
-    let low = eight_bytes(bytes, start);
-    if shift == 0 {
-        return low;
-    }
-    (low >> shift) | (u64::from(bytes[start + 8]) << (64 - shift))
-}
-
-// The word of the `count` bits from bit `shift` of byte `start` on, and zeros.
-#[inline(never)]
-fn last_word(bytes: &[u8], start: usize, shift: u32, count: u32) -> u64
-    requires below { shift < 8 }
-    requires short { count < 64 }
-    requires within { 8 * start + shift + count ≤ 8 * length bytes.now }
-    requires counted { 8 * start + shift + count < 2 ^ 64 }
-    ensures { result ≡ number_of (bits_of bytes.now (8 * start + shift) count) }
-{
-    if bytes.len() - start > 8 {
-        return word_from(bytes, start, shift) & ((1 << count) - 1);
-    }
-    let mut word = 0;
-    for k in 0..count {
-        let place = 8 * start + shift as usize + k as usize;
-        if (bytes[place / 8] >> (place % 8)) & 1 == 1 {
-            word |= 1 << k;
-        }
-    }
-    word
 }
 
 // How many of the bits from `start` up to `end` are set, by words and bytes where there are any.
@@ -331,32 +263,4 @@ fn reaches(byte_count: usize, offset: usize, len: usize) -> bool
         Some(end) => end.div_ceil(8) <= byte_count,
         None => false,
     }
-}
-
-// The bytes of these bits, eight to a byte.
-fn packed(alloc: Global, bits: &[bool]) -> Result<Vec<u8>, NoMemory>
-    ensures holds { IfOk result (λ bytes. bits_of bytes.items 0 (length bits.now) ≡ bits.now) }
-    ensures room { IfOk result (λ bytes. length bits.now ≤ 8 * length bytes.items) }
-{
-    let count = bits.len().div_ceil(8);
-    let mut bytes = Vec::with_capacity(alloc, count)?;
-    for k in 0..count {
-        let end = bits.len().min(8 * k + 8);
-        bytes.push(byte_of(&bits[8 * k..end]))?;
-    }
-    Ok(bytes)
-}
-
-// The byte whose lowest bits are these, the first one lowest.
-fn byte_of(bits: &[bool]) -> u8
-    requires { length bits.now ≤ 8 }
-    ensures { result ≡ number_of bits.now }
-{
-    let mut byte = 0;
-    for (k, bit) in bits.iter().enumerate() {
-        if *bit {
-            byte |= 1 << k;
-        }
-    }
-    byte
 }

@@ -3,11 +3,13 @@
 
 mod bit_buffer;
 mod bit_builder;
+mod bools;
 mod buffer;
 mod error;
 mod record;
 mod records;
 mod word_reader;
+mod words;
 
 pub use bit_buffer::{BitBuffer, BitError};
 pub use bit_builder::BitBuilder;
@@ -16,6 +18,7 @@ pub use error::{Failed, NoMemory};
 pub use record::Record;
 pub use records::Records;
 pub use word_reader::{CountedWords, PlainWords, WordReader};
+pub use words::Words;
 
 #[cfg(test)]
 mod tests;

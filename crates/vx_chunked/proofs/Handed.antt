@@ -10,7 +10,7 @@ use Rattle.vx_chunked.specs.Asked.{asked, calls_from, chunks_for, end_of, touche
 use Rattle.vx_chunked.specs.Positions.{AscendFrom, positions_from}
 use Rattle.vx_chunked.proofs.Ascends.{ascend_lower}
 
-positions_ascend : (low high at : ℕ) (bits : List Bool) → low ≤ at → at + length bits ≤ high → AscendFrom low high (positions at bits)
+pub positions_ascend : (low high at : ℕ) (bits : List Bool) → low ≤ at → at + length bits ≤ high → AscendFrom low high (positions at bits)
 positions_ascend low high at [] p q = tt
 positions_ascend low high at (true ∷ bits) p q = (p, omega arith, positions_ascend (at + 1) high (at + 1) bits (omega arith) (omega arith))
 positions_ascend low high at (false ∷ bits) p q = positions_ascend low high (at + 1) bits (omega arith) (omega arith)

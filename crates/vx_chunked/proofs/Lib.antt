@@ -2,6 +2,6 @@ pub mod Ascends
 pub mod Counts
 pub mod Handed
 pub mod PickedOnce
-pub mod SetBits
+pub mod Marks
 pub mod Spans
 pub mod ValuesAt

@@ -1,4 +1,5 @@
 pub mod Asked
 pub mod Laws
 pub mod Positions
+pub mod SelectedPlaces
 pub mod Told

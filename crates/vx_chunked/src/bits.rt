@@ -1,71 +1,81 @@
 //! A cursor over the bits of a mask.
-ghost use Rattle.std.specs.Prelude.{◌≡◌, ℕ, ◌+◌, ◌*◌, ◌^◌, ◌<◌, ◌≤◌, ◌++◌, length, map, take, drop};
+ghost use Rattle.std.specs.Prelude.{◌≡◌, ℕ, ◌+◌, ◌*◌, ◌^◌, ◌<◌, ◌≤◌, ◌++◌, [], length, map};
 ghost use Rattle.std.specs.List.{All};
+ghost use Rattle.vx_mask.specs.Positions.{set_of};
 ghost use Rattle.vx_chunked.specs.Positions.{AscendFrom, positions_from};
+ghost use Rattle.vx_chunked.specs.SelectedPlaces.{Fits, selected};
 
 use crate::cursor::Cursor;
 use crate::decoder::FILTER_CHUNK_LEN;
+use crate::selection::Selection;
+use vx_bits::BitBuffer;
 use vx_mask::MaskValues;
 
-// The bits of a mask from `at` on, each a position that counts from value `offset` on.
+// Bits from `at` on, each a position that counts from value `offset` on.
 #[derive(Drop)]
 pub(crate) struct BitCursor<'a> {
-    pub(crate) mask: &'a MaskValues,
-    pub(crate) at: usize,
-    pub(crate) offset: usize,
+    bits: &'a BitBuffer,
+    at: usize,
+    offset: usize,
+    ghost counted: { offset + length bits.now.bits < 2 ^ 64 },
+    ghost within: { at ≤ length bits.now.bits },
 }
 
-// What was taken of the bits: so many places, and the bits before `at`.
+impl BitCursor<'_> {
+    // A cursor over the bits of a mask.
+    pub(crate) fn new<'a>(mask: &'a MaskValues, offset: usize) -> BitCursor<'a>
+        requires { offset + length mask.now.bits.bits < 2 ^ 64 }
+        ensures { map (λ i. result.offset + i) (positions_from result.at result.bits.now.bits)
+            ≡ map (λ i. offset + i) (set_of mask.now.bits.bits) }
+    {
+        BitCursor {
+            bits: mask.bits(),
+            at: 0,
+            offset,
+        }
+    }
+}
+
+// What was taken of the bits: the places of a chunk, and the bits before `at`.
 struct Passed {
-    count: usize,
+    front: Selection,
     at: usize,
 }
 
-// Writes the set bits that lie in the chunk, as places.
-fn front_of_bits(
-    mask: &MaskValues,
-    first: usize,
-    offset: usize,
-    chunk: usize,
-    places: &mut [usize],
-) -> Passed
-    requires room { length places.old ≡ 1024 }
+// The bits from `first` on that lie in the chunk.
+fn front_of_bits(bits: &BitBuffer, first: usize, offset: usize, chunk: usize) -> Passed
+    requires counted { offset + length bits.now.bits < 2 ^ 64 }
+    requires within { first ≤ length bits.now.bits }
     requires fits { 1024 * chunk < 2 ^ 64 }
     requires ahead { AscendFrom (1024 * chunk) (2 ^ 64)
-        (map (λ i. offset + i) (positions_from first mask.now.bits.bits)) }
-    ensures few { result.count ≤ 1024 }
-    ensures taken { map (λ i. offset + i) (positions_from first mask.now.bits.bits)
-        ≡ map (λ p. 1024 * chunk + p) (take result.count places.new)
-        ++ map (λ i. offset + i) (positions_from result.at mask.now.bits.bits) }
-    ensures inside { All (λ p. p < 1024) (take result.count places.new) }
+        (map (λ i. offset + i) (positions_from first bits.now.bits)) }
+    ensures within { result.at ≤ length bits.now.bits }
+    ensures fits { Fits [] result.front }
+    ensures taken { map (λ i. offset + i) (positions_from first bits.now.bits)
+        ≡ map (λ p. 1024 * chunk + p) (selected [] result.front)
+        ++ map (λ i. offset + i) (positions_from result.at bits.now.bits) }
     ensures beyond { All (λ p. 1024 * (chunk + 1) ≤ p)
-        (map (λ i. offset + i) (positions_from result.at mask.now.bits.bits)) }
+        (map (λ i. offset + i) (positions_from result.at bits.now.bits)) }
 {
     let base = FILTER_CHUNK_LEN * chunk;
-    let mut count = 0;
-    let mut at = first;
-    while at < mask.len() {
-        if !mask.value(at) {
-            at += 1;
-            continue;
-        }
-        let position = offset + at;
-        if position / FILTER_CHUNK_LEN != chunk {
-            break;
-        }
-        places[count] = position - base;
-        count += 1;
-        at += 1;
+    let len = bits.len();
+    let start = first.max(base.saturating_sub(offset)).min(len);
+    let from = (offset + start).saturating_sub(base).min(FILTER_CHUNK_LEN);
+    let end = start + (FILTER_CHUNK_LEN - from).min(len - start);
+    let bits = bits.slice(start, end);
+    let count = bits.true_count();
+    Passed {
+        front: Selection::Marked { bits, from, count },
+        at: end,
     }
-    Passed { count, at }
 }
 
 impl Cursor for BitCursor<'_> {
-    ghost rest = { λ s. map (λ i. s.offset + i) (positions_from s.at s.mask.now.bits.bits) };
+    ghost rest = { λ s. map (λ i. s.offset + i) (positions_from s.at s.bits.now.bits) };
 
-    fn next_places(&mut self, chunk: usize, places: &mut [usize]) -> usize {
-        let Passed { count, at } = front_of_bits(self.mask, self.at, self.offset, chunk, places);
+    fn next_places(&mut self, chunk: usize, places: &mut [usize]) -> Selection {
+        let Passed { front, at } = front_of_bits(self.bits, self.at, self.offset, chunk);
         self.at = at;
-        count
+        front
     }
 }

@@ -37,11 +37,13 @@ fn take_chunks<T: Record, D: ChunkDecoder<T>, C: Cursor>(
     let mut filled = 0;
     let chunks = end.div_ceil(FILTER_CHUNK_LEN);
     for chunk in 0..chunks {
-        let count = cursor.next_places(chunk, places);
+        let selection = cursor.next_places(chunk, places);
+        let count = selection.count();
         take_chunk(
             decoder,
             chunk,
-            &places[..count],
+            &selection,
+            places,
             limit,
             scratch,
             &mut out[filled..filled + count],

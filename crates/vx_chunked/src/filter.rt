@@ -8,7 +8,6 @@ ghost use Rattle.vx_mask.specs.Positions.{ascending, run_positions, runs_ascend,
 ghost use Rattle.vx_chunked.specs.Asked.{asked, end_of, touched};
 
 use crate::bits::BitCursor;
-use crate::choice::{useful_indices, useful_slices};
 use crate::cursor::Cursor;
 use crate::decoder::ChunkDecoder;
 use crate::driver::filter_at;
@@ -16,6 +15,7 @@ use crate::indices::IndexCursor;
 use crate::runs::RunCursor;
 use std::alloc::Global;
 use vx_bits::{NoMemory, Record};
+use vx_filter::{useful_indices, useful_slices};
 use vx_mask::{Mask, MaskValues, Policy};
 
 // Where the `len` values from `offset` on end; at 0 where there are none.
@@ -172,11 +172,7 @@ pub fn filter_chunked<T: Record, D: ChunkDecoder<T>>(
         let mut cursor = IndexCursor { indices, offset };
         return filter_by(alloc, decoder, &mut cursor, offset, mask, policy);
     }
-    let mut cursor = BitCursor {
-        mask,
-        at: 0,
-        offset,
-    };
+    let mut cursor = BitCursor::new(mask, offset);
     filter_by(alloc, decoder, &mut cursor, offset, mask, policy)
 }
 

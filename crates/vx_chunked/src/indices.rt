@@ -5,6 +5,7 @@ ghost use Rattle.vx_chunked.specs.Positions.{AscendFrom};
 
 use crate::cursor::Cursor;
 use crate::decoder::FILTER_CHUNK_LEN;
+use crate::selection::Selection;
 
 // Indices that are left, each a position that counts from value `offset` on.
 #[derive(Drop)]
@@ -39,9 +40,9 @@ fn front_places(indices: &[usize], offset: usize, chunk: usize, places: &mut [us
 impl Cursor for IndexCursor<'_> {
     ghost rest = { λ s. map (λ i. s.offset + i) s.indices.now };
 
-    fn next_places(&mut self, chunk: usize, places: &mut [usize]) -> usize {
+    fn next_places(&mut self, chunk: usize, places: &mut [usize]) -> Selection {
         let count = front_places(self.indices, self.offset, chunk, places);
         self.indices = &self.indices[count..];
-        count
+        Selection::Listed { count }
     }
 }

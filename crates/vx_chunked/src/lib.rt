@@ -3,7 +3,6 @@
 
 mod bits;
 mod call;
-mod choice;
 mod cursor;
 mod decoder;
 mod driver;
@@ -13,6 +12,7 @@ mod laws;
 mod logged;
 mod places;
 mod runs;
+mod selection;
 mod step;
 mod stored;
 

@@ -5,6 +5,7 @@ ghost use Rattle.vx_chunked.specs.Positions.{AscendFrom, with_runs};
 
 use crate::cursor::Cursor;
 use crate::decoder::FILTER_CHUNK_LEN;
+use crate::selection::Selection;
 
 // What is left of a run, and the runs after it, each a range of positions that count from value
 // `offset` on.
@@ -25,6 +26,37 @@ fn put_range(places: &mut [usize], at: usize, first: usize, count: usize)
     for k in 0..count {
         places[at + k] = first + k;
     }
+}
+
+// Writes the positions from `start` up to `end` that lie in the chunk, as places from `at` on, and
+// says how many they are: none where the first lies beyond.
+fn put_part(
+    places: &mut [usize],
+    at: usize,
+    start: usize,
+    end: usize,
+    offset: usize,
+    chunk: usize,
+) -> usize
+    requires room { length places.old ≡ 1024 }
+    requires some { start < end }
+    requires fits { offset + start < 2 ^ 64 }
+    requires ahead { 1024 * chunk + at ≤ offset + start }
+    ensures few { result ≤ end - start }
+    ensures counted { start + result < 2 ^ 64 }
+    ensures none { result ≡ 0 → 1024 * (chunk + 1) ≤ offset + start }
+    ensures inside { 0 < result → offset + start + result ≤ 1024 * (chunk + 1) }
+    ensures places { take (at + result) places.new
+        ≡ take at places.old ++ range_with_len (offset + start - 1024 * chunk) result }
+{
+    let position = offset + start;
+    if position / FILTER_CHUNK_LEN != chunk {
+        return 0;
+    }
+    let place = position - FILTER_CHUNK_LEN * chunk;
+    let count = (end - start).min(FILTER_CHUNK_LEN - place);
+    put_range(places, at, place, count);
+    count
 }
 
 // What was taken of the runs: so many places, and so many of the later runs; the rest of a run.
@@ -58,20 +90,16 @@ fn front_of_runs(
     ensures beyond { All (λ p. 1024 * (chunk + 1) ≤ p)
         (map (λ i. offset + i) (with_runs result.start result.end (drop result.used later.now))) }
 {
-    let base = FILTER_CHUNK_LEN * chunk;
     let mut start = first;
     let mut end = last;
     let mut used = 0;
     let mut count = 0;
     loop {
         if start < end {
-            let position = offset + start;
-            if position / FILTER_CHUNK_LEN != chunk {
+            let more = put_part(places, count, start, end, offset, chunk);
+            if more == 0 {
                 break;
             }
-            let place = position - base;
-            let more = (end - start).min(FILTER_CHUNK_LEN - place);
-            put_range(places, count, place, more);
             count += more;
             start += more;
         } else {
@@ -95,7 +123,7 @@ fn front_of_runs(
 impl Cursor for RunCursor<'_> {
     ghost rest = { λ s. map (λ i. s.offset + i) (with_runs s.start s.end s.later.now) };
 
-    fn next_places(&mut self, chunk: usize, places: &mut [usize]) -> usize {
+    fn next_places(&mut self, chunk: usize, places: &mut [usize]) -> Selection {
         let Taken {
             count,
             used,
@@ -105,6 +133,6 @@ impl Cursor for RunCursor<'_> {
         self.start = start;
         self.end = end;
         self.later = &self.later[used..];
-        count
+        Selection::Listed { count }
     }
 }

@@ -4,5 +4,6 @@ pub mod Flat
 pub mod Layout
 pub mod Plain
 pub mod Primitive
+pub mod Shown
 pub mod Typed
 pub mod Validity

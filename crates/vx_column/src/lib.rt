@@ -14,6 +14,7 @@ mod numbers;
 mod plain;
 mod primitive;
 mod rows;
+mod shown;
 mod validity;
 
 pub use array::{Array, ArrayRef, Layout};
@@ -28,6 +29,3 @@ pub use vx_types::{
     ByteList, ColumnError, DType, DecimalDType, LayoutName, Nullability, PType, Row, Runs,
     ScalarValue, match_each_integer_ptype, record_of,
 };
-
-#[cfg(test)]
-mod tests;

@@ -34,12 +34,7 @@ pub(crate) fn filter_values(
 
 /// The rows at the set positions of a mask that is as long. `NoMemory` alone, and never where the
 /// mask keeps all rows, nor where it keeps none of a plain column, nor over layout `Null`.
-pub fn filter(
-    alloc: Global,
-    array: &Array,
-    mask: &Mask,
-    policy: &Policy,
-) -> Result<Array, NoMemory>
+pub fn filter(alloc: Global, array: &Array, mask: &Mask, policy: &Policy) -> Result<Array, NoMemory>
     requires { length (mask_bits mask.now) ≡ length array.now.rows }
     ensures cut { IfOk result (IsCut array.now (items_where_true (mask_bits mask.now) array.now.rows)) }
     ensures all_or_none { partial_of mask.now ≡ None → is_plain array.now ≡ true → IsOk result }

@@ -15,6 +15,3 @@ pub use executing::execute;
 pub use filtering::filter;
 pub use slicing::slice;
 pub use taking::take;
-
-#[cfg(test)]
-mod tests;

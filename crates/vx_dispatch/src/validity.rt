@@ -56,7 +56,7 @@ pub(crate) fn filter_validity(
     requires { is_fitting (valid_of validity.now) (length mask.now.bits.bits) ≡ true }
     ensures left { IfOk result (λ v. IsLeft (valid_of validity.now) (nullability_by (valid_of validity.now))
         (items_where_true mask.now.bits.bits
-            (present_bits (valid_of validity.now) (length mask.now.bits.bits)))
+        (present_bits (valid_of validity.now) (length mask.now.bits.bits)))
         (valid_of v)) }
     ensures plain { IfOk result (λ v. IsAsPlain (valid_of validity.now) (valid_of v)) }
 {

@@ -1,138 +1,110 @@
 -- The set positions of bytes, one after another.
-use Rattle.std.proofs.Common.{◌≡◌, ℕ, zero, suc, ◌+◌, ◌-◌, ◌*◌, ◌/◌, ◌%◌, ◌^◌, ◌<◌, ◌≤◌, Bool, true, false, List, [], ◌∷◌, ◌++◌, length, get_or, take, drop, map, eqb, bit_and, Option, Some, inl, inr, refl, sym, ap, ap₂, subst, ◌∙◌, arith, add-one, append_assoc, append-nil}
+use Rattle.std.proofs.Common.{◌≡◌, ℕ, ◌+◌, ◌-◌, ◌*◌, ◌/◌, ◌%◌, ◌^◌, ◌<◌, ◌≤◌, Bool, true, false, List, [], ◌∷◌, ◌++◌, length, get_or, take, drop, set, map, eqb, bit_and, Option, Some, inl, inr, refl, sym, ap, ap₂, subst, ◌∙◌, arith, append_assoc, append-nil, take_all}
 use Rattle.std.specs.Int.{bit_at}
-use Rattle.std.specs.List.{All, slice_get}
+use Rattle.std.specs.Int.RustNames.{count_ones}
+use Rattle.std.specs.List.{All, items_where_true, slice_get}
 use Rattle.std.proofs.lemmas.Bool.{cases_lt}
-use Rattle.std.proofs.lemmas.List.{get_or-append-add, get_or_append_left, length-append, length_push, length-map, map-append, take-append-drop, take_more}
-use Rattle.std.proofs.lemmas.List.Elements.{All-cons, All-nil, All-tail}
+use Rattle.std.proofs.lemmas.List.{drop-append-le, get_or-append-add, length-append, length-drop, length-map, length-take-le, map-append, take-append-le, take-map, take-set, take_more, take_more_set}
 use Rattle.std.proofs.lemmas.Option.{slice_get-get_or}
-use Rattle.std.proofs.Math.Seq.{drop-append_seam, get_or-append_seam, take-append_seam}
+use Rattle.std.proofs.Math.Seq.{drop-append_seam, take-append-add}
 use Rattle.std.proofs.lemmas.Nat.{div-add-mod', mod_below, pow_pos}
+use Rattle.std.proofs.lemmas.Nat.Bits.{bit_at-lt}
 use Rattle.vx_bits.specs.BitBuffer.{true_count_of}
-use Rattle.vx_bits.specs.Words.{word_at, word_bits}
+use Rattle.vx_bits.specs.Words.{word_bits}
 use Rattle.vx_bits.proofs.BuiltLists.{lowest_is}
-use Rattle.vx_bits.proofs.WordBits.{length-word_bits, take-word_bits, word_bits-append, word_bits_low, word_bits_more}
+use Rattle.vx_bits.proofs.WordBits.{length-word_bits, take-word_bits, true_count_of-word_bits, word_bits-append, word_bits_low, word_bits_more}
 use Rattle.vx_mask.specs.Positions.{positions, set_of}
-use Rattle.vx_mask.proofs.LowestBit.{no_positions}
-use Rattle.vx_mask.proofs.MarkedBits.{word_within_bits}
 use Rattle.vx_mask.proofs.PositionLists.{length-positions, positions-append}
+use Rattle.vx_mask.proofs.RankedItems.{items_at_the_set}
 use Rattle.vx_mask.proofs.WordCounts.{counts_rise}
-use Rattle.vx_mask.proofs.WordPositions.{word_pushed}
-use Rattle.vx_filter.proofs.Moves.{cut_picked, full_word_places}
-use Rattle.vx_filter.proofs.Picks.{ascending_below}
-use Rattle.vx_filter.specs.Compress.{IsEachStart, places_of, places_to}
+use Rattle.vx_filter.proofs.Picks.{same_items}
+use Rattle.vx_filter.proofs.WordItems.{items_behind}
+use Rattle.vx_filter.specs.Compress.{IsPlacesRow, IsTable, places_of}
 
 -- ---- the table
 
-pub places_more : (b : ℕ) → places_to (b + 1) ≡ places_to b ++ places_of b
-places_more b = ap places_to (add-one b)
-
-more_places : (n m : ℕ) → n ≤ m → (r : List ℕ) × (places_to m ≡ places_to n ++ r)
-more_places n zero h = let none : n ≡ 0 = omega arith in ([], ap (λ k. places_to k ++ []) (sym none))
-more_places n (suc m) h = elim (cases_lt n (suc m)) [
-  | inl below ↦
-      let p = more_places n m (omega arith) in
-      (p.0 ++ places_of m, ap (λ l. l ++ places_of m) p.1 ∙ append_assoc (places_to n) p.0 (places_of m))
-  | inr past ↦
-      let all : suc m ≡ n = omega arith in
-      ([], ap places_to all ∙ sym (append-nil (places_to n)))
-]
-
--- where the places of a byte stand
-pub record IsPlaced (b : ℕ) (starts places : List ℕ) : Type 0 where
-  pub ordered : get_or starts b 0 ≤ get_or starts (b + 1) 0
-  pub within : get_or starts (b + 1) 0 ≤ length places
-  pub is : take (get_or starts (b + 1) 0 - get_or starts b 0) (drop (get_or starts b 0) places) ≡ places_of b
-
-pub placed : (b : ℕ) (starts places : List ℕ) → b < 256 → places ≡ places_to 256 → IsEachStart 256 starts → IsPlaced b starts places
-placed b starts places h e s =
-    let front = places_to b in
-    let own = places_of b in
-    let r = more_places (b + 1) 256 (omega arith) in
-    let whole = e ∙ r.1 ∙ ap (λ l. l ++ r.0) (places_more b) ∙ append_assoc front own r.0 in
-    let at = s.start b (omega arith) in
-    let end = s.start (b + 1) (omega arith) ∙ ap length (places_more b) ∙ length-append front own in
-    let count : get_or starts (b + 1) 0 - get_or starts b 0 ≡ length own = omega (arith, at, end) in
-    record {
-      ordered = omega (arith, at, end);
-      within = omega (arith, at, end, ap length whole, length-append front (own ++ r.0), length-append own r.0);
-      is = ap₂ (λ n l. take n l) count (ap₂ drop at whole ∙ drop-append_seam front (own ++ r.0)) ∙ take-append_seam own r.0;
-    }
-
-pub starts_none : IsEachStart 0 (0 ∷ [])
-starts_none = record { long = refl; start = λ k h. let none : k ≡ 0 = omega arith in ap (λ n. get_or (0 ∷ []) n 0) none ∙ ap (λ n. length (places_to n)) (sym none) }
-
-pub starts_more : (b x : ℕ) (starts new places : List ℕ) → places ≡ places_to (b + 1) → x ≡ length places → new ≡ starts ++ x ∷ [] → IsEachStart b starts → IsEachStart (b + 1) new
-starts_more b x starts new places p e n s = record {
-  long = ap length n ∙ length_push starts x ∙ ap (λ k. k + 1) s.long;
-  start = λ k h. elim (cases_lt k (b + 1)) [
-    | inl below ↦ ap (λ l. get_or l k 0) n ∙ get_or_append_left starts (x ∷ []) 0 k (omega (arith, s.long)) ∙ s.start k below
-    | inr past ↦
-        let here : k ≡ length starts = omega (arith, s.long) in
-        let last : b + 1 ≡ k = omega arith in
-        ap (λ l. get_or l k 0) n ∙ ap (λ i. get_or (starts ++ x ∷ []) i 0) here ∙ get_or-append_seam starts x [] 0 ∙ e ∙ ap length p ∙ ap (λ i. length (places_to i)) last
-  ];
-}
-
 -- one bit more of a byte
-pub place_set : (byte bit : ℕ) → bit_at byte bit ≡ 1 → set_of (word_bits byte (bit + 1)) ≡ set_of (word_bits byte bit) ++ bit ∷ []
+place_set : (byte bit : ℕ) → bit_at byte bit ≡ 1 → set_of (word_bits byte (bit + 1)) ≡ set_of (word_bits byte bit) ++ bit ∷ []
 place_set byte bit e =
     let at : 0 + length (word_bits byte bit) ≡ bit = omega (arith, length-word_bits byte bit) in
     ap set_of (word_bits_more byte bit ∙ ap (λ r. word_bits byte bit ++ eqb r 1 ∷ []) e)
     ∙ positions-append 0 (word_bits byte bit) (true ∷ [])
     ∙ ap (λ n. set_of (word_bits byte bit) ++ n ∷ []) at
 
-pub place_clear : (byte bit : ℕ) → bit_at byte bit ≡ 0 → set_of (word_bits byte (bit + 1)) ≡ set_of (word_bits byte bit)
+place_clear : (byte bit : ℕ) → bit_at byte bit ≡ 0 → set_of (word_bits byte (bit + 1)) ≡ set_of (word_bits byte bit)
 place_clear byte bit e =
     ap set_of (word_bits_more byte bit ∙ ap (λ r. word_bits byte bit ++ eqb r 1 ∷ []) e)
     ∙ positions-append 0 (word_bits byte bit) (false ∷ [])
     ∙ append-nil (set_of (word_bits byte bit))
 
--- the tests of a bit
-pub is_one : (byte bit : ℕ) → bit_and (byte / 2 ^ bit) 1 ≡ bit_at byte bit
-is_one byte bit = lowest_is (byte / 2 ^ bit) 1 (omega arith)
+pub digit_below : (byte bit : ℕ) → bit_and (byte / 2 ^ bit) 1 < 2
+digit_below byte bit = omega (arith, lowest_is (byte / 2 ^ bit) 1 (omega arith))
+
+-- a bit's position was written behind those of the set bits, and stays if the bit is set
+pub place_written : (byte bit count x : ℕ) (row : List ℕ) → x ≡ bit_and (byte / 2 ^ bit) 1 → count < length row → take count row ≡ set_of (word_bits byte bit) → take (count + x) (set row count bit) ≡ set_of (word_bits byte (bit + 1))
+place_written byte bit count x row is h f =
+    let value : x ≡ bit_at byte bit = is ∙ lowest_is (byte / 2 ^ bit) 1 (omega arith) in
+    elim (cases_lt (bit_at byte bit) 1) [
+      | inl none ↦
+          let clear : bit_at byte bit ≡ 0 = omega arith in
+          let same : count + x ≡ count = omega arith in
+          ap (λ n. take n (set row count bit)) same ∙ take-set row count bit ∙ f ∙ sym (place_clear byte bit clear)
+      | inr some ↦
+          let one : bit_at byte bit ≡ 1 = omega (arith, bit_at-lt byte bit) in
+          let next : count + x ≡ count + 1 = omega arith in
+          ap (λ n. take n (set row count bit)) next ∙ take_more_set row count bit h ∙ ap (λ l. l ++ bit ∷ []) f ∙ sym (place_set byte bit one)
+    ]
+
+-- all eight bits were written
+pub row_written : (byte bit count : ℕ) (row : List ℕ) → byte < 2 ^ 8 → bit ≡ 8 → length row ≡ 8 → count ≤ 8 → All (λ place. place < 8) row → take count row ≡ set_of (word_bits byte bit) → IsPlacesRow byte row
+row_written byte bit count row fits all eight h small f =
+    let whole : take count row ≡ places_of byte = f ∙ ap (λ n. set_of (word_bits byte n)) all in
+    let ones : count_ones byte ≡ count = omega (arith, true_count_of-word_bits byte 8 fits, length-positions 0 (word_bits byte 8), ap length whole, length-take-le count row (omega arith)) in
+    record { eight = eight; small = small; front = ap (λ n. take n row) ones ∙ whole }
+
+-- one row more
+pub rows_more : (b : ℕ) (places new row : List ℕ) → new ≡ places ++ row → IsPlacesRow b row → IsTable b places → IsTable (b + 1) new
+rows_more b places new row e r t = record {
+  long = omega (arith, ap length e, length-append places row, r.eight, t.long);
+  row = λ k h. elim (cases_lt k b) [
+    | inl below ↦
+        let long : 8 ≤ length (drop (8 * k) places) = omega (arith, length-drop (8 * k) places, t.long) in
+        let same : take 8 (drop (8 * k) new) ≡ take 8 (drop (8 * k) places) = ap (λ l. take 8 (drop (8 * k) l)) e ∙ ap (take 8) (drop-append-le (8 * k) places row (omega (arith, t.long))) ∙ take-append-le 8 (drop (8 * k) places) row long in
+        subst (IsPlacesRow k) (sym same) (t.row k below)
+    | inr past ↦
+        let last : b ≡ k = omega arith in
+        let at : 8 * k ≡ length places = omega (arith, t.long) in
+        let own : take 8 (drop (8 * k) new) ≡ row = ap (λ l. take 8 (drop (8 * k) l)) e ∙ ap (λ n. take 8 (drop n (places ++ row))) at ∙ ap (take 8) (drop-append_seam places row) ∙ take_all 8 row (omega (arith, r.eight)) in
+        subst (λ (n : ℕ). IsPlacesRow n (take 8 (drop (8 * k) new))) last (subst (IsPlacesRow b) (sym own) r)
+  ];
+}
 
 -- ---- the bytes of a word
 
-pub positions-shift : (a b : ℕ) (bits : List Bool) → positions (a + b) bits ≡ map (λ p. a + p) (positions b bits)
+positions-shift : (a b : ℕ) (bits : List Bool) → positions (a + b) bits ≡ map (λ p. a + p) (positions b bits)
 positions-shift a b [] = refl
 positions-shift a b (true ∷ bits) = let next : a + b + 1 ≡ a + (b + 1) = omega arith in ap (λ l. (a + b) ∷ l) (ap (λ n. positions n bits) next ∙ positions-shift a (b + 1) bits)
 positions-shift a b (false ∷ bits) = let next : a + b + 1 ≡ a + (b + 1) = omega arith in ap (λ n. positions n bits) next ∙ positions-shift a (b + 1) bits
 
 -- the places of the bits of one byte more
-pub byte_places : (base word n byte : ℕ) → byte ≡ bit_and (word / 2 ^ n) 255 → positions base (word_bits word (n + 8)) ≡ positions base (word_bits word n) ++ map (λ p. base + n + p) (places_of byte)
-byte_places base word n byte e =
+byte_places : (word n byte : ℕ) → byte ≡ bit_and (word / 2 ^ n) 255 → set_of (word_bits word (n + 8)) ≡ set_of (word_bits word n) ++ map (λ p. n + p) (places_of byte)
+byte_places word n byte e =
     let y = word / 2 ^ n in
     let low = word_bits_low word n in
     let is : byte ≡ y % 2 ^ 8 = e ∙ lowest_is y 8 (omega arith) in
     let own : word_bits y 8 ≡ word_bits byte 8 = sym (word_bits_low y 8) ∙ ap (λ x. word_bits x 8) (sym is) in
     let split : word_bits word (n + 8) ≡ word_bits word n ++ word_bits byte 8 =
     ap (λ x. word_bits x (n + 8)) (sym (div-add-mod' word (2 ^ n))) ∙ word_bits-append (word % 2 ^ n) n y 8 (mod_below word (2 ^ n) (pow_pos n)) ∙ ap₂ ◌++◌ low own in
-    let at : base + length (word_bits word n) ≡ base + n + 0 = omega (arith, length-word_bits word n) in
-    ap (positions base) split ∙ positions-append base (word_bits word n) (word_bits byte 8)
-    ∙ ap (λ l. positions base (word_bits word n) ++ l) (ap (λ a. positions a (word_bits byte 8)) at ∙ positions-shift (base + n) 0 (word_bits byte 8))
-
--- the first places of a word are the front of its places
-pub front_places : (base word n : ℕ) → n ≤ 64 → positions base (word_bits word 64) ≡ positions base (word_bits word n) ++ positions (base + n) (drop n (word_bits word 64))
-front_places base word n h =
-    let all = word_bits word 64 in
-    let front = take-word_bits word n 64 h in
-    ap (positions base) (sym (take-append-drop n all)) ∙ positions-append base (take n all) (drop n all)
-    ∙ ap₂ (λ l k. positions base l ++ positions (base + k) (drop n all)) front (ap length front ∙ length-word_bits word n)
+    let at : 0 + length (word_bits word n) ≡ n + 0 = omega (arith, length-word_bits word n) in
+    ap set_of split ∙ positions-append 0 (word_bits word n) (word_bits byte 8)
+    ∙ ap (λ l. set_of (word_bits word n) ++ l) (ap (λ a. positions a (word_bits byte 8)) at ∙ positions-shift n 0 (word_bits byte 8))
 
 -- a map of a map
 map-map : {X Y Z : Type 0} (f : Y → Z) (g : X → Y) (xs : List X) → map f (map g xs) ≡ map (λ x. f (g x)) xs
 map-map f g [] = refl
 map-map f g (x ∷ xs) = ap (λ l. f (g x) ∷ l) (map-map f g xs)
 
-shifted-length : (f : ℕ → ℕ) (xs : List ℕ) → length (map f xs) ≡ length xs
-shifted-length f [] = refl
-shifted-length f (x ∷ xs) = ap suc (shifted-length f xs)
-
 module _ {X : Type 0} where
-  pub All-left : (P : X → Type 0) (xs ys : List X) → All P (xs ++ ys) → All P xs
-  All-left P xs ys h k d p = subst P (get_or_append_left xs ys d k p) (h k d (omega (arith, length-append xs ys)))
-
   pub All-right : (P : X → Type 0) (xs ys : List X) → All P (xs ++ ys) → All P ys
   All-right P xs ys h k d p = subst P (get_or-append-add xs ys k d) (h (length xs + k) d (omega (arith, length-append xs ys)))
 
@@ -146,70 +118,54 @@ module _ {X : Type 0} where
       ∙ append_assoc all (map pick (take i places)) (pick p ∷ [])
       ∙ ap (λ l. all ++ l) (sym (map-append pick (take i places) (p ∷ [])) ∙ ap (map pick) (sym (take_more places i 0 h)))
 
+  -- the items at all of a row were put out, and those behind the first places cut off again
+  pub row_cut : (old kept new : List X) (pick : ℕ → Option X) (row : List ℕ) (i count end : ℕ) → length row ≤ i → end ≡ length old + count → new ≡ take end kept → map Some kept ≡ map Some old ++ map pick (take i row) → map Some new ≡ map Some old ++ map pick (take count row)
+  row_cut old kept new pick row i count end all at cut f =
+      let front = map Some old in
+      let place : end ≡ length front + count = omega (arith, at, length-map old (λ x. Some x)) in
+      ap (map Some) cut ∙ sym (take-map Some end kept) ∙ ap (take end) (f ∙ ap (λ l. front ++ map pick l) (take_all i row all))
+      ∙ ap (λ n. take n (front ++ map pick row)) place ∙ take-append-add front (map pick row) count
+      ∙ ap (λ l. front ++ l) (take-map pick count row)
+
   -- the items of one more byte were put out
-  pub byte_pushed : (src kept new : List X) (all : List (Option X)) (base word n byte : ℕ) (places : List ℕ) → byte ≡ bit_and (word / 2 ^ n) 255 → places ≡ places_of byte → map Some new ≡ map Some kept ++ map (λ p. slice_get src (base + n + p)) places → map Some kept ≡ all ++ map (slice_get src) (positions base (word_bits word n)) → map Some new ≡ all ++ map (slice_get src) (positions base (word_bits word (n + 8)))
-  byte_pushed src kept new all base word n byte places e is step f =
-      let front = positions base (word_bits word n) in
-      let shift = λ (p : ℕ). base + n + p in
-      step ∙ ap₂ ◌++◌ f (ap (map (λ p. slice_get src (base + n + p))) is ∙ sym (map-map (slice_get src) shift (places_of byte)))
+  pub byte_pushed : (src kept new : List X) (all : List (Option X)) (word n byte : ℕ) (places : List ℕ) → byte ≡ bit_and (word / 2 ^ n) 255 → places ≡ places_of byte → map Some new ≡ map Some kept ++ map (λ p. slice_get src (n + p)) places → map Some kept ≡ all ++ map (slice_get src) (set_of (word_bits word n)) → map Some new ≡ all ++ map (slice_get src) (set_of (word_bits word (n + 8)))
+  byte_pushed src kept new all word n byte places e is step f =
+      let front = set_of (word_bits word n) in
+      let shift = λ (p : ℕ). n + p in
+      step ∙ ap₂ ◌++◌ f (ap (map (λ p. slice_get src (n + p))) is ∙ sym (map-map (slice_get src) shift (places_of byte)))
       ∙ append_assoc all (map (slice_get src) front) (map (slice_get src) (map shift (places_of byte)))
-      ∙ ap (λ l. all ++ l) (sym (map-append (slice_get src) front (map shift (places_of byte))) ∙ ap (map (slice_get src)) (sym (byte_places base word n byte e)))
+      ∙ ap (λ l. all ++ l) (sym (map-append (slice_get src) front (map shift (places_of byte))) ∙ ap (map (slice_get src)) (sym (byte_places word n byte e)))
 
--- what one byte of a word asks for
-pub record IsByteWithin (base word n len : ℕ) (places : List ℕ) : Type 0 where
-  pub within : All (λ p. base + n + p < len) places
-  pub fewer : length (positions base (word_bits word n)) + length places ≤ length (positions base (word_bits word 64))
+  -- the first bytes of a word put out no more items than the word has set bits
+  pub bytes_fit : (src kept old : List X) (word n : ℕ) → word < 2 ^ 64 → n ≤ 64 → map Some kept ≡ map Some old ++ map (slice_get src) (set_of (word_bits word n)) → length kept ≤ length old + count_ones word
+  bytes_fit src kept old word n fits h f =
+      let places = set_of (word_bits word n) in
+      let fewer : true_count_of (word_bits word n) ≤ true_count_of (word_bits word 64) = omega (arith, counts_rise (word_bits word 64) n, ap true_count_of (take-word_bits word n 64 h)) in
+      omega (arith, ap length f, length-append (map Some old) (map (slice_get src) places), length-map places (slice_get src), length-map kept (λ x. Some x), length-map old (λ x. Some x), length-positions 0 (word_bits word n), fewer, true_count_of-word_bits word 64 fits)
 
-All-map : (P : ℕ → Type 0) (f : ℕ → ℕ) (xs : List ℕ) → All P (map f xs) → All (λ x. P (f x)) xs
-All-map P f [] h = All-nil (λ x. P (f x))
-All-map P f (x ∷ xs) h = All-cons (λ x. P (f x)) x xs (h 0 0 (omega arith)) (All-map P f xs (All-tail P (f x) (map f xs) h))
+  -- all bytes of a word put out what the word picks
+  pub bytes_done : (src kept old : List X) (word n : ℕ) → n ≡ 64 → length src ≡ 64 → map Some kept ≡ map Some old ++ map (slice_get src) (set_of (word_bits word n)) → kept ≡ old ++ items_where_true (word_bits word 64) src
+  bytes_done src kept old word n all long f =
+      let bits = word_bits word 64 in
+      let picked = items_where_true bits src in
+      same_items kept (old ++ picked) (
+      f ∙ ap (λ k. map Some old ++ map (slice_get src) (set_of (word_bits word k))) all
+      ∙ ap (λ l. map Some old ++ l) (sym (items_at_the_set bits src (length-word_bits word 64 ∙ sym long)))
+      ∙ sym (map-append Some old picked)
+      )
 
-pub byte_within : (base word n byte len : ℕ) (places : List ℕ) → n + 8 ≤ 64 → byte ≡ bit_and (word / 2 ^ n) 255 → places ≡ places_of byte → All (λ p. p < len) (positions base (word_bits word 64)) → IsByteWithin base word n len places
-byte_within base word n byte len places h e is all =
-    let shift = λ (p : ℕ). base + n + p in
-    let front = positions base (word_bits word n) in
-    let own = map shift (places_of byte) in
-    let rest = positions base (word_bits word (n + 8)) in
-    let behind = positions (base + (n + 8)) (drop (n + 8) (word_bits word 64)) in
-    let whole : positions base (word_bits word 64) ≡ (front ++ own) ++ behind = front_places base word (n + 8) h ∙ ap (λ l. l ++ behind) (byte_places base word n byte e) in
-    let both = All-left (λ p. p < len) (front ++ own) behind (subst (All (λ p. p < len)) whole all) in
-    let mine = All-map (λ p. p < len) shift (places_of byte) (All-right (λ p. p < len) front own both) in
-    record {
-      within = subst (All (λ p. base + n + p < len)) (sym is) mine;
-      fewer = omega (arith, ap length whole, length-append (front ++ own) behind, length-append front own, shifted-length shift (places_of byte), ap length is);
-    }
+  -- what bits pick of a list they pick of as many of its items
+  picked_first : (bits : List Bool) (xs : List X) → length bits ≤ length xs → items_where_true bits (take (length bits) xs) ≡ items_where_true bits xs
+  picked_first [] xs h = refl
+  picked_first (b ∷ bits) [] h = absurd (omega arith)
+  picked_first (true ∷ bits) (x ∷ xs) h = ap (λ l. x ∷ l) (picked_first bits xs (omega arith))
+  picked_first (false ∷ bits) (x ∷ xs) h = picked_first bits xs (omega arith)
 
--- ---- word by word
-
--- the places of a word lie within the items
-pub places_in : (bits : List Bool) (w word len : ℕ) → 64 * w ≤ length bits → length bits ≡ len → word ≡ word_at bits w → All (λ p. p < len) (positions (64 * w) (word_bits word 64))
-places_in bits w word len h same e = ascending_below (64 * w) len (positions (64 * w) (word_bits word 64)) (word_within_bits bits w word len h same e)
-
-module _ {X : Type 0} where
-  -- one more word's items were put out
-  pub places_pushed : (bits : List Bool) (src kept new : List X) (w word : ℕ) → 64 * w ≤ length bits → word ≡ word_at bits w → map Some new ≡ map Some kept ++ map (slice_get src) (positions (64 * w) (word_bits word 64)) → map Some kept ≡ map (slice_get src) (set_of (take (64 * w) bits)) → map Some new ≡ map (slice_get src) (set_of (take (64 * (w + 1)) bits))
-  places_pushed bits src kept new w word h e step f =
-      let front = set_of (take (64 * w) bits) in
-      let places = positions (64 * w) (word_bits word 64) in
-      step ∙ ap (λ l. l ++ map (slice_get src) places) f ∙ sym (map-append (slice_get src) front places)
-      ∙ ap (map (slice_get src)) (word_pushed bits front (front ++ places) w word h e refl refl)
-
-  -- the items of a full word were put out
-  pub full_pushed : (src kept new : List X) (base word : ℕ) → word ≡ 2 ^ 64 - 1 → base + 64 ≤ length src → new ≡ kept ++ take 64 (drop base src) → map Some new ≡ map Some kept ++ map (slice_get src) (positions base (word_bits word 64))
-  full_pushed src kept new base word full h e =
-      ap (map Some) e ∙ map-append Some kept (take 64 (drop base src))
-      ∙ ap (λ l. map Some kept ++ l) (cut_picked src base 64 h ∙ ap (map (slice_get src)) (sym (full_word_places base word full)))
-
-  -- or there are none
-  pub places_passed : (bits : List Bool) (src kept : List X) (w word : ℕ) → 64 * w ≤ length bits → word ≡ word_at bits w → word ≡ 0 → map Some kept ≡ map (slice_get src) (set_of (take (64 * w) bits)) → map Some kept ≡ map (slice_get src) (set_of (take (64 * (w + 1)) bits))
-  places_passed bits src kept w word h e none f =
-      let no : positions (64 * w) (word_bits word 64) ≡ [] = ap (λ n. positions (64 * w) (word_bits n 64)) none ∙ no_positions (64 * w) in
-      places_pushed bits src kept kept w word h e (sym (append-nil (map Some kept)) ∙ ap (λ l. map Some kept ++ map (slice_get src) l) (sym no)) f
-
-  -- there is room for them
-  pub places_fit : (bits : List Bool) (src kept : List X) (w word : ℕ) → 64 * w ≤ length bits → word ≡ word_at bits w → map Some kept ≡ map (slice_get src) (set_of (take (64 * w) bits)) → length kept + length (positions (64 * w) (word_bits word 64)) ≤ true_count_of bits
-  places_fit bits src kept w word h e f =
-      let front = set_of (take (64 * w) bits) in
-      let places = positions (64 * w) (word_bits word 64) in
-      let next = ap length (word_pushed bits front (front ++ places) w word h e refl refl) ∙ length-positions 0 (take (64 * (w + 1)) bits) in
-      omega (arith, next, length-append front places, counts_rise bits (64 * (w + 1)), ap length f, length-map kept (λ x. Some x), length-map front (slice_get src))
+  -- so what a word picks behind a place it picks of the 64 items there
+  pub first_picked : (word : ℕ) (src : List X) (at : ℕ) → 64 ≤ length (take (length src - at) (drop at src)) → items_where_true (word_bits word 64) (take 64 (take (length src - at) (drop at src))) ≡ items_where_true (word_bits word 64) (drop at src)
+  first_picked word src at h =
+      let bits = word_bits word 64 in
+      let whole = items_behind src at in
+      let same : 64 ≡ length bits = sym (length-word_bits word 64) in
+      ap (λ l. items_where_true bits (take 64 l)) whole ∙ ap (λ n. items_where_true bits (take n (drop at src))) same
+      ∙ picked_first bits (drop at src) (omega (arith, h, ap length whole, same))

@@ -25,7 +25,7 @@ use Rattle.vx_filter.proofs.Picks.{picked_at_the_set}
 use Rattle.vx_filter.proofs.Bytes.{All-right}
 use Rattle.vx_filter.proofs.Moves.{cut_picked, full_word_places, get_or-default, same_further}
 
-pub length-bits_of_words : (words : List ℕ) → length (bits_of_words words) ≡ 64 * length words
+length-bits_of_words : (words : List ℕ) → length (bits_of_words words) ≡ 64 * length words
 length-bits_of_words [] = refl
 length-bits_of_words (w ∷ words) = omega (arith, length-append (word_bits w 64) (bits_of_words words), length-word_bits w 64, length-bits_of_words words)
 
@@ -34,7 +34,7 @@ bits_more : (words : List ℕ) (w : ℕ) → w < length words → bits_of_words 
 bits_more words w h = ap bits_of_words (take_more words w 0 h) ∙ sym (flat_map_more (λ (x : ℕ). word_bits x 64) [] (take w words) (get_or words w 0))
 
 -- how many bits of the first words and of one more are set
-pub count_more : (words : List ℕ) (w : ℕ) → w < length words → get_or words w 0 < 2 ^ 64 → true_count_of (bits_of_words (take (w + 1) words)) ≡ true_count_of (bits_of_words (take w words)) + count_ones (get_or words w 0)
+count_more : (words : List ℕ) (w : ℕ) → w < length words → get_or words w 0 < 2 ^ 64 → true_count_of (bits_of_words (take (w + 1) words)) ≡ true_count_of (bits_of_words (take w words)) + count_ones (get_or words w 0)
 count_more words w h fits =
     ap true_count_of (bits_more words w h) ∙ sum_by-append (λ bit. cond bit 1 0) (bits_of_words (take w words)) (word_bits (get_or words w 0) 64)
     ∙ ap (λ n. true_count_of (bits_of_words (take w words)) + n) (true_count_of-word_bits (get_or words w 0) 64 fits)
@@ -43,18 +43,16 @@ count_more words w h fits =
 words_behind : (words : List ℕ) (w : ℕ) → bits_of_words words ≡ bits_of_words (take w words) ++ bits_of_words (drop w words)
 words_behind words w = ap bits_of_words (sym (take-append-drop w words)) ∙ flat_map-append (λ (x : ℕ). word_bits x 64) (take w words) (drop w words)
 
-pub count_below : (words : List ℕ) (w : ℕ) → true_count_of (bits_of_words (take w words)) ≤ true_count_of (bits_of_words words)
+count_below : (words : List ℕ) (w : ℕ) → true_count_of (bits_of_words (take w words)) ≤ true_count_of (bits_of_words words)
 count_below words w = omega (arith, ap true_count_of (words_behind words w), sum_by-append (λ bit. cond bit 1 0) (bits_of_words (take w words)) (bits_of_words (drop w words)))
 
 -- the places of the first words and of one more
-pub words_more : (words : List ℕ) (w : ℕ) → w < length words → set_of (bits_of_words (take (w + 1) words)) ≡ set_of (bits_of_words (take w words)) ++ positions (64 * w) (word_bits (get_or words w 0) 64)
+words_more : (words : List ℕ) (w : ℕ) → w < length words → set_of (bits_of_words (take (w + 1) words)) ≡ set_of (bits_of_words (take w words)) ++ positions (64 * w) (word_bits (get_or words w 0) 64)
 words_more words w h =
     let front = bits_of_words (take w words) in
     let word = get_or words w 0 in
     let long : 0 + length front ≡ 64 * w = omega (arith, length-bits_of_words (take w words), length-take-le w words (omega arith)) in
     ap set_of (bits_more words w h) ∙ positions-append 0 front (word_bits word 64) ∙ ap (λ n. set_of front ++ positions n (word_bits word 64)) long
-
--- one more word was gone through
 
 -- bits that are clear from a length on are set below it
 positions_clear : (at : ℕ) (bits : List Bool) (len : ℕ) → ((k : ℕ) → len ≤ at + k → k < length bits → get_or bits k false ≡ false) → All (λ p. p < len) (positions at bits)
@@ -155,19 +153,11 @@ module _ {X : Type 0} where
   empty_copied src dst kept base word e =
       sym (append-nil (map Some (take kept dst))) ∙ ap (λ l. map Some (take kept dst) ++ map (slice_get src) l) (sym (ap (λ n. positions base (word_bits n 64)) e ∙ no_positions base))
 
-  -- one more word was gone through
-  pub word_gone : (src old now new : List X) (words : List ℕ) (kept next w : ℕ) → w < length words → map Some (take kept now) ≡ map (slice_get src) (set_of (bits_of_words (take w words))) → map Some (take next new) ≡ map Some (take kept now) ++ map (slice_get src) (positions (64 * w) (word_bits (get_or words w 0) 64)) → map Some (take next new) ≡ map (slice_get src) (set_of (bits_of_words (take (w + 1) words)))
-  word_gone src old now new words kept next w h front step =
-      let places = positions (64 * w) (word_bits (get_or words w 0) 64) in
-      step ∙ ap (λ l. l ++ map (slice_get src) places) front
-      ∙ sym (map-append (slice_get src) (set_of (bits_of_words (take w words))) places)
-      ∙ ap (map (slice_get src)) (sym (words_more words w h))
-
 -- ---- bits that reach past the items
 
 module _ {X : Type 0} where
   -- what stands at the set positions is what the bits pick, where bits past the items are clear
-  pub picked_by_words : (bits : List Bool) (src kept : List X) → length src ≤ length bits → AllBits bits (length src) (length bits) false → map Some kept ≡ map (slice_get src) (set_of bits) → kept ≡ items_where_true bits src
+  picked_by_words : (bits : List Bool) (src kept : List X) → length src ≤ length bits → AllBits bits (length src) (length bits) false → map Some kept ≡ map (slice_get src) (set_of bits) → kept ≡ items_where_true bits src
   picked_by_words bits src kept h clear e =
       let n = length src in
       let same = set_of_passed bits n (length bits) h (omega arith) clear in
@@ -182,6 +172,37 @@ module _ {X : Type 0} where
       picked_front (suc n) (b ∷ bits) [] h = refl
       picked_front (suc n) (true ∷ bits) (x ∷ xs) h = ap (λ l. x ∷ l) (picked_front n bits xs (omega arith))
       picked_front (suc n) (false ∷ bits) (x ∷ xs) h = picked_front n bits xs (omega arith)
+
+-- ---- word after word
+
+module _ {X : Type 0} where
+  -- the items of the first words were copied, and the rest of dst is as it was
+  pub record IsCompacted (src old now : List X) (words : List ℕ) (kept w : ℕ) : Type 0 where
+    pub front : map Some (take kept now) ≡ map (slice_get src) (set_of (bits_of_words (take w words)))
+    pub rest : drop kept now ≡ drop kept old
+    pub count : kept ≡ true_count_of (bits_of_words (take w words))
+
+  -- there is room for one more word's
+  pub compacted_room : (src old now : List X) (words : List ℕ) (kept w : ℕ) → w < length words → get_or words w 0 < 2 ^ 64 → IsCompacted src old now words kept w → kept + count_ones (get_or words w 0) ≤ true_count_of (bits_of_words words)
+  compacted_room src old now words kept w h fits v = omega (arith, count_more words w h fits, count_below words (w + 1), v.count)
+
+  -- one more word was gone through
+  pub compacted_more : (src old now new : List X) (words : List ℕ) (kept next w : ℕ) → w < length words → get_or words w 0 < 2 ^ 64 → next ≡ kept + count_ones (get_or words w 0) → map Some (take next new) ≡ map Some (take kept now) ++ map (slice_get src) (positions (64 * w) (word_bits (get_or words w 0) 64)) → drop next new ≡ drop next now → IsCompacted src old now words kept w → IsCompacted src old new words next (w + 1)
+  compacted_more src old now new words kept next w h fits count step rest v =
+      let places = positions (64 * w) (word_bits (get_or words w 0) 64) in
+      record {
+        front = step ∙ ap (λ l. l ++ map (slice_get src) places) v.front
+            ∙ sym (map-append (slice_get src) (set_of (bits_of_words (take w words))) places)
+            ∙ ap (map (slice_get src)) (sym (words_more words w h));
+        rest = rest ∙ same_further old now kept next (omega (arith, count)) v.rest;
+        count = omega (arith, count, v.count, count_more words w h fits);
+      }
+
+  -- all words were gone through
+  pub compacted_all : (src old now : List X) (words : List ℕ) (kept w : ℕ) → length words ≤ w → length src ≤ 64 * length words → AllBits (bits_of_words words) (length src) (64 * length words) false → IsCompacted src old now words kept w → take kept now ≡ items_where_true (bits_of_words words) src
+  compacted_all src old now words kept w all enough clear v =
+      let long = length-bits_of_words words in
+      picked_by_words (bits_of_words words) src (take kept now) (omega (arith, long)) (subst (λ (n : ℕ). AllBits (bits_of_words words) (length src) n false) (sym long) clear) (v.front ∙ ap (λ l. map (slice_get src) (set_of (bits_of_words l))) (take_all w words all))
 
 module _ {X : Type 0} where
   -- ---- runs

@@ -20,17 +20,21 @@ pub fn filter_slice_by_bitmap<T: Copy>(
     requires { length mask.now.bits.bits ≡ length src.now }
     ensures { IfOk result (λ kept. kept.items ≡ items_where_true mask.now.bits.bits src.now) }
 {
-    let bits = mask.bits();
+    let words = mask.bits().words();
     let mut kept = Vec::with_capacity(alloc, mask.true_count())?;
-    for w in 0..bits.len().div_ceil(64) {
-        push_picked(&mut kept, &src[64 * w..], bits.word(w))?;
+    for w in 0..mask.len().div_ceil(64) {
+        push_picked(&mut kept, &src[64 * w..], words.word(w))?;
     }
     Ok(kept)
 }
 
 // Appends the items that a word picks. There is room for them, and no bit is set past the items.
 #[inline(always)]
-fn push_picked<T: Copy>(kept: &mut Vec<T>, items: &[T], word: u64) -> Result<(), NoMemory>
+pub(crate) fn push_picked<T: Copy>(
+    kept: &mut Vec<T>,
+    items: &[T],
+    word: u64,
+) -> Result<(), NoMemory>
     requires within { word < 2 ^ length items.now }
     requires room { vec_len kept.old + count_ones word ≤ vec_capacity kept.old }
     ensures items { OnOk result (kept.new.items

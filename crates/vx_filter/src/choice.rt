@@ -6,8 +6,8 @@ ghost use Rattle.vx_mask.specs.Positions.{set_of};
 
 use vx_mask::{MaskValues, PolicyFields, Ratio};
 
-// The runs that a mask keeps, where they are one, or as long on average as the policy asks.
-pub(crate) fn useful_slices<'a>(
+/// The runs that a mask keeps, where they are one, or as long on average as the policy asks.
+pub fn useful_slices<'a>(
     mask: &'a MaskValues,
     fields: &PolicyFields,
 ) -> Option<&'a [(usize, usize)]>
@@ -22,8 +22,8 @@ pub(crate) fn useful_slices<'a>(
     }
 }
 
-// The set positions that a mask keeps, where its density is at most what the policy says.
-pub(crate) fn useful_indices<'a>(mask: &'a MaskValues, fields: &PolicyFields) -> Option<&'a [usize]>
+/// The set positions that a mask keeps, where its density is at most what the policy says.
+pub fn useful_indices<'a>(mask: &'a MaskValues, fields: &PolicyFields) -> Option<&'a [usize]>
     ensures { IfSome result (λ indices. indices.now ≡ set_of mask.now.bits.bits) }
 {
     let indices = mask.cached_indices()?;

@@ -28,7 +28,7 @@ pub fn compact_words<T: Copy>(src: &[T], words: &[u64], dst: &mut [T]) -> usize
     kept
 }
 
-/// The same, run after run: the carry of a sum clears the lowest run of a word.
+/// The same, run after run where the runs of a word are long: the carry of a sum clears the lowest.
 pub fn compact_runs<T: Copy>(src: &[T], words: &[u64], dst: &mut [T]) -> usize
     requires words { length words.now ≡ word_count (length src.now) }
     requires clear { AllBits (bits_of_words words.now) (length src.now) (64 * length words.now)
@@ -46,10 +46,10 @@ pub fn compact_runs<T: Copy>(src: &[T], words: &[u64], dst: &mut [T]) -> usize
     kept
 }
 
-// Copies the items that a word picks behind those that are kept, and answers how many are kept
-// then. The word's first bit has position `base`.
+/// Copies the items that a word picks behind those that are kept, and answers how many are kept
+/// then. The word's first bit has position `base`.
 #[inline(always)]
-fn copy_picked<T: Copy>(dst: &mut [T], kept: usize, src: &[T], base: usize, word: u64) -> usize
+pub fn copy_picked<T: Copy>(dst: &mut [T], kept: usize, src: &[T], base: usize, word: u64) -> usize
     requires within { All (λ p. p < length src.now) (positions base (word_bits word 64)) }
     requires room { kept + count_ones word ≤ length dst.old }
     ensures count { result ≡ kept + count_ones word }
@@ -98,8 +98,8 @@ fn copy_one<T: Copy>(dst: &mut [T], to: usize, src: &[T], from: usize)
     dst[to] = src[from];
 }
 
-// Copies the items that a word picks behind those that are kept, run after run, and answers how
-// many are kept then. The word's first bit has position `base`.
+// Copies the items that a word picks behind those that are kept, run after run where they are long,
+// and answers how many are kept then. The word's first bit has position `base`.
 #[inline(always)]
 fn copy_runs<T: Copy>(dst: &mut [T], kept: usize, src: &[T], base: usize, word: u64) -> usize
     requires within { All (λ p. p < length src.now) (positions base (word_bits word 64)) }
@@ -109,6 +109,9 @@ fn copy_runs<T: Copy>(dst: &mut [T], kept: usize, src: &[T], base: usize, word: 
         ++ map (slice_get src.now) (positions base (word_bits word 64)) }
     ensures rest { drop result dst.new ≡ drop result dst.old }
 {
+    if !has_long_runs(word) {
+        return copy_picked(dst, kept, src, base, word);
+    }
     let mut next = kept;
     let mut left = word;
     'run: while left != 0 {
@@ -118,6 +121,14 @@ fn copy_runs<T: Copy>(dst: &mut [T], kept: usize, src: &[T], base: usize, word: 
         left = run.rest;
     }
     next
+}
+
+// Whether the runs of a word have sixteen bits on average: else one call a run is more work than a
+// turn an item.
+#[inline(always)]
+fn has_long_runs(word: u64) -> bool {
+    let runs = (word & !(word << 1)).count_ones();
+    16 * runs <= word.count_ones()
 }
 
 // The lowest run of set bits of a word, and the word without it.

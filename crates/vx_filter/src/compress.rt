@@ -1,35 +1,38 @@
 //! Filtering by the bytes of a mask, whose set positions a table has.
-ghost use Rattle.std.specs.Prelude.{◌≡◌, ◌+◌, ◌^◌, ◌<◌, ◌≤◌, ◌++◌, IfOk, OnOk, Some, length, take, map, slice_get, vec_len, vec_capacity};
+ghost use Rattle.std.specs.Prelude.{◌≡◌, ◌+◌, ◌^◌, ◌<◌, ◌≤◌, ◌++◌, IfOk, IsTrue, Some, length, take, map, slice_get, vec_len, vec_capacity};
 ghost use Rattle.std.specs.List.{All, items_where_true};
 ghost use Rattle.std.specs.Int.RustNames.{count_ones};
 ghost use Rattle.vx_bits.specs.Words.{word_bits};
-ghost use Rattle.vx_filter.specs.Compress.{IsEachStart, places_of, places_to};
-ghost use Rattle.vx_mask.specs.Positions.{positions};
+ghost use Rattle.vx_filter.specs.Compress.{IsPlacesRow, IsTable, places_of};
 
+use crate::bitmap::{filter_slice_by_bitmap, push_picked};
 use std::alloc::Global;
 use vx_bits::NoMemory;
 use vx_mask::MaskValues;
 
+// A mask with fewer set bits, or fewer clear ones, is not worth the table that its bytes are looked
+// up in: few of its words are neither empty nor full.
+const TABLE_PAYS_FROM_SET: usize = 1 << 14;
+
+const TABLE_PAYS_FROM_CLEAR: usize = 1 << 9;
+
 /// The set bit positions of each byte: Vortex's table of `byte_compress`.
+///
+/// Each byte has a row of eight: its positions, ascending, and then what is never read.
 #[derive(Drop)]
 pub struct CompressTable {
     places: Vec<u8>,
-    starts: Vec<usize>,
-    ghost all_places: { places.items ≡ places_to 256 },
-    ghost each_start: { IsEachStart 256 starts.items },
+    ghost all_rows: { IsTable 256 places.items },
 }
 
 impl CompressTable {
     /// The table. `NoMemory` alone.
     pub fn new(alloc: Global) -> Result<CompressTable, NoMemory> {
-        let mut places = Vec::with_capacity(alloc, 1024)?;
-        let mut starts = Vec::with_capacity(alloc, 257)?;
-        starts.push(0)?;
+        let mut places = Vec::with_capacity(alloc, 2048)?;
         for byte in 0..256u16 {
-            push_places(&mut places, byte as u8)?;
-            starts.push(places.len())?;
+            places.extend_from_slice(&row_of(byte as u8))?;
         }
-        Ok(CompressTable { places, starts })
+        Ok(CompressTable { places })
     }
 
     /// The positions of the set bits of a byte, ascending.
@@ -37,38 +40,38 @@ impl CompressTable {
     pub fn positions(&self, byte: u8) -> &[u8]
         ensures { result.now ≡ places_of byte }
     {
-        places_at(self.places.as_slice(), self.starts.as_slice(), byte)
+        &self.row(byte)[..byte.count_ones() as usize]
+    }
+
+    // The row of a byte.
+    #[inline(always)]
+    fn row(&self, byte: u8) -> &[u8]
+        ensures { IsPlacesRow byte result.now }
+    {
+        let start = 8 * byte as usize;
+        &self.places[start..start + 8]
     }
 }
 
-// The places of a byte, among those of all bytes.
-#[inline(always)]
-fn places_at<'a>(places: &'a [u8], starts: &[usize], byte: u8) -> &'a [u8]
-    requires all_places { places.now ≡ places_to 256 }
-    requires each_start { IsEachStart 256 starts.now }
-    ensures { result.now ≡ places_of byte }
+// The positions of a byte's set bits, ascending, in a row of eight. Each position is written, and
+// stays if its bit is set.
+fn row_of(byte: u8) -> [u8; 8]
+    ensures { IsPlacesRow byte result }
 {
-    let start = starts[byte as usize];
-    let end = starts[byte as usize + 1];
-    &places[start..end]
-}
-
-// Appends the positions of a byte's set bits.
-fn push_places(places: &mut Vec<u8>, byte: u8) -> Result<(), NoMemory>
-    ensures { OnOk result (places.new.items ≡ places.old.items ++ places_of byte) }
-{
+    let mut row = [0; 8];
+    let mut count = 0;
     for bit in 0..8u8 {
-        if (byte >> bit) & 1 == 1 {
-            places.push(bit)?;
-        }
+        row[count] = bit;
+        count += ((byte >> bit) & 1) as usize;
     }
-    Ok(())
+    row
 }
 
 /// The items of `src` at the set positions of `mask`, in order, byte by byte: Vortex's
 /// `byte_compress`. `NoMemory` alone.
 ///
-/// A word without a set bit is passed over, and the items of a full word are copied whole.
+/// A mask with few set bits or few clear ones, and a word with few set bits or all, are done by
+/// words: there that is less work.
 pub fn byte_compress<T: Copy>(
     alloc: Global,
     src: &[T],
@@ -77,57 +80,77 @@ pub fn byte_compress<T: Copy>(
     requires { length mask.now.bits.bits ≡ length src.now }
     ensures { IfOk result (λ kept. kept.items ≡ items_where_true mask.now.bits.bits src.now) }
 {
+    if !pays_by_table(mask.true_count(), mask.len()) {
+        return filter_slice_by_bitmap(alloc, src, mask);
+    }
     let table = CompressTable::new(alloc)?;
-    let mut kept = Vec::with_capacity(alloc, mask.true_count())?;
+    let room = mask.true_count().checked_add(8).ok_or(NoMemory)?;
+    let mut kept = Vec::with_capacity(alloc, room)?;
+    let words = mask.bits().words();
     for w in 0..mask.len().div_ceil(64) {
-        let word = mask.bits().word(w);
-        if word == u64::MAX {
-            push_full(&mut kept, &src[64 * w..])?;
-        } else if word != 0 {
-            push_bytes(&mut kept, src, 64 * w, word, &table);
+        let word = words.word(w);
+        let items = &src[64 * w..];
+        if pays_by_bytes(items.len(), word) {
+            push_bytes(&mut kept, &items[..64], word, &table);
+        } else {
+            push_picked(&mut kept, items, word)?;
         }
     }
     Ok(kept)
 }
 
-// Appends the first 64 items.
-#[inline(always)]
-fn push_full<T: Copy>(kept: &mut Vec<T>, items: &[T]) -> Result<(), NoMemory>
-    requires { 64 ≤ length items.now }
-    ensures items { OnOk result (kept.new.items ≡ kept.old.items ++ take 64 items.now) }
-    ensures capacity { OnOk result (vec_capacity kept.old ≤ vec_capacity kept.new) }
+// Whether a mask of so many set bits is worth the table.
+fn pays_by_table(true_count: usize, len: usize) -> bool
+    requires { true_count ≤ len }
 {
-    Ok(kept.extend_from_slice(&items[..64])?)
+    true_count >= TABLE_PAYS_FROM_SET && len - true_count >= TABLE_PAYS_FROM_CLEAR
 }
 
-// Appends the items where the bits of a word are set, whose first bit has position `base`. There is
-// room for them.
+// Whether a word has all its items, and eight writes a byte are less work than one an item. A full
+// word is copied whole.
 #[inline(always)]
-fn push_bytes<T: Copy>(kept: &mut Vec<T>, src: &[T], base: usize, word: u64, table: &CompressTable)
-    requires places { base + 64 ≤ 2 ^ 64 }
-    requires within { All (λ p. p < length src.now) (positions base (word_bits word 64)) }
-    requires room { vec_len kept.old + length (positions base (word_bits word 64))
-        ≤ vec_capacity kept.old }
-    ensures items { map Some kept.new.items ≡ map Some kept.old.items
-        ++ map (slice_get src.now) (positions base (word_bits word 64)) }
+fn pays_by_bytes(items: usize, word: u64) -> bool
+    ensures { IsTrue result → 64 ≤ items }
+{
+    let count = word.count_ones();
+    40 < count && count < 64 && 64 <= items
+}
+
+// Appends the items where the bits of a word are set. There is room for them and eight more.
+#[inline(always)]
+fn push_bytes<T: Copy>(kept: &mut Vec<T>, items: &[T], word: u64, table: &CompressTable)
+    requires all_there { length items.now ≡ 64 }
+    requires room { vec_len kept.old + count_ones word + 8 ≤ vec_capacity kept.old }
+    ensures items { kept.new.items
+        ≡ kept.old.items ++ items_where_true (word_bits word 64) items.now }
     ensures capacity { vec_capacity kept.new ≡ vec_capacity kept.old }
 {
     for k in 0..8 {
         let byte = ((word >> (8 * k)) & 0xff) as u8;
-        push_byte(kept, src, base + 8 * k, table.positions(byte));
+        push_byte(
+            kept,
+            items,
+            8 * k,
+            table.row(byte),
+            byte.count_ones() as usize,
+        );
     }
 }
 
-// Appends the items at the places, counted from `base` on. There is room for them.
+// Appends the items at the first places of a row, counted from `base` on. All of the row are
+// written, without a test, and those behind the first are cut off again.
 #[inline(always)]
-fn push_byte<T: Copy>(kept: &mut Vec<T>, src: &[T], base: usize, places: &[u8])
-    requires within { All (λ p. base + p < length src.now) places.now }
-    requires room { vec_len kept.old + length places.now ≤ vec_capacity kept.old }
+fn push_byte<T: Copy>(kept: &mut Vec<T>, items: &[T], base: usize, row: &[u8], count: usize)
+    requires within { All (λ p. base + p < length items.now) row.now }
+    requires room { vec_len kept.old + length row.now ≤ vec_capacity kept.old }
+    requires some { count ≤ length row.now }
     ensures items { map Some kept.new.items ≡ map Some kept.old.items
-        ++ map (λ p. slice_get src.now (base + p)) places.now }
+        ++ map (λ p. slice_get items.now (base + p)) (take count row.now) }
     ensures capacity { vec_capacity kept.new ≡ vec_capacity kept.old }
 {
-    for place in places {
-        kept.push_reserved(src[base + *place as usize]);
+    let end = kept.len() + count;
+    for place in row {
+        kept.push_reserved(items[base + *place as usize]);
     }
+    kept.truncate(end);
 }

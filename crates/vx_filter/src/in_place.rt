@@ -94,9 +94,10 @@ fn keep_set<T: Copy>(values: &mut [T], bits: &BitBuffer) -> usize
     ensures front { map Some (take result values.new)
         ≡ map (slice_get values.old) (set_of bits.now.bits) }
 {
+    let words = bits.words();
     let mut kept = 0;
     for w in 0..bits.len().div_ceil(64) {
-        kept = keep_picked(values, kept, 64 * w, bits.word(w));
+        kept = keep_picked(values, kept, 64 * w, words.word(w));
     }
     kept
 }
@@ -114,7 +115,7 @@ fn keep_picked<T: Copy>(values: &mut [T], kept: usize, base: usize, word: u64) -
     ensures after { drop (base + 64) values.new ≡ drop (base + 64) values.old }
 {
     if word == u64::MAX {
-        move_down(values, base, kept, 64);
+        move_64(values, base, kept);
         kept + 64
     } else if word != 0 {
         keep_word(values, kept, base, word)
@@ -154,6 +155,21 @@ fn move_one<T: Copy>(values: &mut [T], from: usize, to: usize)
         ≡ slice_set values.old to (slice_index_or values.old from d) }
 {
     values[to] = values[from];
+}
+
+// Moves 64 values from `from` on to `to` on. They are copied out first, since the two may overlap.
+#[inline(always)]
+fn move_64<T: Copy>(values: &mut [T], from: usize, to: usize)
+    requires from { from + 64 ≤ length values.old }
+    requires to { to + 64 ≤ length values.old }
+    ensures front { take (to + 64) values.new
+        ≡ take to values.old ++ take 64 (drop from values.old) }
+    ensures after { drop (to + 64) values.new ≡ drop (to + 64) values.old }
+{
+    if let Some(block) = values[from..].first_chunk::<64>() {
+        let block = *block;
+        values[to..to + 64].copy_from_slice(&block);
+    }
 }
 
 // Moves `count` values from `from` on to `to` on, where they came from below.

@@ -10,9 +10,6 @@ use std::alloc::Global;
 use vx_bits::NoMemory;
 use vx_mask::{MaskValues, Policy};
 
-// A mask of fewer rows is not worth the table that its bytes are looked up in.
-const TABLE_PAYS_FROM: usize = 1 << 14;
-
 /// The items of `src` at the set positions of `mask`, in order: Vortex's `filter_slice_by_mask`.
 /// `NoMemory` alone.
 ///
@@ -35,7 +32,7 @@ pub fn filter_slice<T: Copy>(
     if let Some(indices) = useful_indices(mask, fields) {
         return filter_slice_by_indices(alloc, src, indices);
     }
-    if src.len() >= TABLE_PAYS_FROM && is_dense(mask, dense_from(fields, width_of(src))) {
+    if !src.is_empty() && is_dense(mask, dense_from(fields, width_of(src))) {
         return byte_compress(alloc, src, mask);
     }
     filter_slice_by_bitmap(alloc, src, mask)

@@ -11,7 +11,8 @@ mod laws;
 mod lists;
 
 pub use bitmap::filter_slice_by_bitmap;
-pub use compact::{compact_runs, compact_words};
+pub use choice::{useful_indices, useful_slices};
+pub use compact::{compact_runs, compact_words, copy_picked};
 pub use compress::{CompressTable, byte_compress};
 pub use in_place::{filter_slice_in_place, filter_vec};
 pub use ladder::filter_slice;

@@ -11,6 +11,3 @@ pub use boolean::{filter_bool, take_bool};
 pub use decimal::{filter_decimal, take_decimal};
 pub use primitive::{filter_primitive, take_primitive};
 pub use records::{filter_records, take_records};
-
-#[cfg(test)]
-mod tests;

@@ -1,16 +1,16 @@
 -- Masks that select some rows and not all, and what they keep.
-use Rattle.std.proofs.Common.{◌≡◌, ℕ, ◌<◌, Bool, true, false, ◌&&◌, cond, ltb, List, Option, None, Some, IfSome, length, replicate, refl, sym, ap, ◌∙◌, subst, inl, inr, arith}
+use Rattle.std.proofs.Common.{◌≡◌, ℕ, ◌<◌, Bool, true, false, ◌&&◌, cond, ltb, List, Option, None, Some, IfSome, length, replicate, unwrap_or, refl, sym, ap, ◌∙◌, subst, inl, inr, arith}
 use Rattle.std.proofs.lemmas.Bool.{cases_lt}
 use Rattle.std.proofs.lemmas.List.Sums.{count_by-le-length}
 use Rattle.std.proofs.lemmas.Bool.Decides.{nat_tests}
 use Rattle.vx_bits.specs.BitBuffer.{PlacedBits, true_count_of}
 use Rattle.vx_mask.specs.Mask.{if_partial, at_front, mask_by_indices, mask_by_slices}
-use Rattle.vx_mask.specs.MaskValues.{PartialMask, IsPartial, AreSlicesOf, bits_alone, block_counts}
-use Rattle.vx_mask.specs.Positions.{set_of, run_positions, bits_with, ascending, runs_ascend, maximal_runs}
+use Rattle.vx_mask.specs.MaskValues.{PartialMask, IsPartial, AreSlicesOf, bits_alone, block_counts, keep_slices}
+use Rattle.vx_mask.specs.Positions.{AreMaximalRuns, set_of, run_positions, bits_with, ascending, runs_ascend, maximal_runs}
 use Rattle.vx_mask.proofs.PositionLists.{none_are_set, all_are_set}
 use Rattle.vx_mask.proofs.AscendingLists.{ascending-run_positions, runs_not_empty}
 use Rattle.vx_mask.proofs.BitsWith.{bits_with-made}
-use Rattle.vx_mask.proofs.RunLists.{some_run, maximal_runs_cover}
+use Rattle.vx_mask.proofs.RunLists.{are_maximal_runs, some_run, maximal_runs_cover}
 
 -- no bit is set
 pub none_partial : (mask : PartialMask) → true_count_of mask.bits.bits ≡ 0 → None ≡ if_partial mask
@@ -96,6 +96,12 @@ maximal_agree mask count h =
       none_empty = runs.none_empty;
       cover = runs.cover;
     }
+
+-- slices are made where there are none
+pub new_slices : (mask : PartialMask) → mask.slices ≡ None → IfSome (keep_slices mask).slices (AreMaximalRuns mask.bits.bits)
+new_slices mask none =
+    let bits = mask.bits.bits in
+    subst (λ (slices : Option (List (ℕ × ℕ))). AreMaximalRuns bits (unwrap_or slices (maximal_runs bits))) (sym none) (are_maximal_runs bits)
 
 -- fewer set bits than rows, where they are not as many
 fewer : (len : ℕ) (set : List ℕ) → ascending 0 len set ≡ true → (length set ≡ len → ⊥) → length set < len

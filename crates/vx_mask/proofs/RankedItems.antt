@@ -32,12 +32,12 @@ module _ {X : Type 0} where
   pub items_at_the_set : (bits : List Bool) (xs : List X) → length bits ≡ length xs → map Some (items_where_true bits xs) ≡ map (slice_get xs) (set_of bits)
   items_at_the_set bits xs h = items_from 0 [] bits xs refl h
 
-  slice_get-some : (xs : List X) (k : ℕ) → get_or (map Some xs) k None ≡ slice_get xs k
+  pub slice_get-some : (xs : List X) (k : ℕ) → get_or (map Some xs) k None ≡ slice_get xs k
   slice_get-some [] k = refl
   slice_get-some (x ∷ xs) zero = refl
   slice_get-some (x ∷ xs) (suc k) = slice_get-some xs k
 
-  get_or-map-get : (xs : List X) (ps : List ℕ) (k : ℕ) → k < length ps → get_or (map (slice_get xs) ps) k None ≡ slice_get xs (get_or ps k 0)
+  pub get_or-map-get : (xs : List X) (ps : List ℕ) (k : ℕ) → k < length ps → get_or (map (slice_get xs) ps) k None ≡ slice_get xs (get_or ps k 0)
   get_or-map-get xs [] k h = absurd (omega arith)
   get_or-map-get xs (p ∷ ps) zero h = refl
   get_or-map-get xs (p ∷ ps) (suc k) h = get_or-map-get xs ps k (omega arith)

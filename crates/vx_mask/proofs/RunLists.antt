@@ -1,11 +1,11 @@
 -- Stretches of bits that are all the same, and maximal runs.
-use Rattle.std.proofs.Common.{◌≡◌, ℕ, zero, suc, ◌+◌, ◌-◌, ◌<◌, ◌≤◌, Bool, true, false, cond, List, [], ◌∷◌, ◌++◌, length, get_or, take, drop, replicate, refl, sym, ap, ap₂, ◌∙◌, subst, inl, inr, arith, eqb}
+use Rattle.std.proofs.Common.{◌≡◌, ℕ, zero, suc, ◌+◌, ◌-◌, ◌<◌, ◌≤◌, Bool, true, false, cond, List, [], ◌∷◌, ◌++◌, length, get_or, take, drop, replicate, refl, sym, ap, ap₂, ◌∙◌, subst, inl, inr, arith, add-one, eqb}
 use Rattle.std.specs.List.{All, range_with_len}
 use Rattle.std.proofs.lemmas.List.{take-append-drop, take-take, take_all, drop-take, drop-drop, drop_all, length-take-le, length-drop, length-replicate, get_or-take, get_or-drop, get_or-replicate, get_or_default, same_lists, append_assoc, append-nil}
 use Rattle.std.proofs.lemmas.Bool.{cases_lt}
 use Rattle.std.proofs.lemmas.Bool.Decides.{nat_tests}
 use Rattle.vx_bits.specs.BitBuffer.{true_count_of}
-use Rattle.vx_mask.specs.Positions.{AllBits, positions, set_of, run_positions, runs_with, runs_from, maximal_runs}
+use Rattle.vx_mask.specs.Positions.{AllBits, AreMaximalRuns, positions, set_of, run_positions, runs_with, runs_from, maximal_runs}
 use Rattle.vx_mask.proofs.PositionLists.{set_of_set, set_of_clear, length-positions}
 
 -- bits that are all the same are that bit again and again
@@ -188,6 +188,44 @@ Cover-from at (false ∷ bits) = Cover-from (at + 1) bits
 
 pub maximal_runs_cover : (bits : List Bool) → Cover (maximal_runs bits) (set_of bits)
 maximal_runs_cover bits = Cover-from 0 bits
+
+-- each run starts beyond the end of the one before
+abbrev Apart : List (ℕ × ℕ) → Type 0
+Apart runs = (k : ℕ) (d : ℕ × ℕ) → suc k < length runs → (get_or runs k d).1 < (get_or runs (suc k) d).0
+
+Apart-joined : (at : ℕ) (run : ℕ × ℕ) (runs : List (ℕ × ℕ)) → Apart (run ∷ runs) → Apart ((at, run.1) ∷ runs)
+Apart-joined at run runs h zero d p = h zero d (omega arith)
+Apart-joined at run runs h (suc k) d p = h (suc k) d (omega arith)
+
+Apart-first : (at : ℕ) (run : ℕ × ℕ) (runs : List (ℕ × ℕ)) → at + 1 < run.0 → Apart (run ∷ runs) → Apart ((at, at + 1) ∷ run ∷ runs)
+Apart-first at run runs past h zero d p = past
+Apart-first at run runs past h (suc k) d p = h k d (omega arith)
+
+Apart-with : (at : ℕ) (runs : List (ℕ × ℕ)) → ((run : ℕ × ℕ) (more : List (ℕ × ℕ)) → runs ≡ run ∷ more → at + 1 ≤ run.0) → Apart runs → Apart (runs_with at runs)
+Apart-with at [] first h = λ k d p. absurd (omega arith)
+Apart-with at (run ∷ runs) first h = by_test (eqb run.0 (at + 1)) refl
+  where
+    by_test : (b : Bool) → eqb run.0 (at + 1) ≡ b → Apart (cond b ((at, run.1) ∷ runs) ((at, at + 1) ∷ run ∷ runs))
+    by_test true e = Apart-joined at run runs h
+    by_test false e =
+        let from : at + 1 ≤ run.0 = first run runs refl in
+        let past : at + 1 < run.0 = grind (arith, nat_tests) in
+        Apart-first at run runs past h
+
+Apart-from : (at : ℕ) (bits : List Bool) → Apart (runs_from at bits)
+Apart-from at [] = λ k d p. absurd (omega arith)
+Apart-from at (true ∷ bits) = Apart-with at (runs_from (at + 1) bits) (runs_from-first (at + 1) bits) (Apart-from (at + 1) bits)
+Apart-from at (false ∷ bits) = Apart-from (at + 1) bits
+
+pub are_maximal_runs : (bits : List Bool) → AreMaximalRuns bits (maximal_runs bits)
+are_maximal_runs bits =
+    let covered = maximal_runs_cover bits in
+    let runs = maximal_runs bits in
+    record {
+      none_empty = covered.none_empty;
+      apart = λ k d p. subst (λ (n : ℕ). (get_or runs k d).1 < (get_or runs n d).0) (sym (add-one k)) (Apart-from 0 bits k d (omega arith));
+      cover = covered.cover;
+    }
 
 -- where some bit is set there is a run
 pub some_run : (bits : List Bool) (runs : List (ℕ × ℕ)) → run_positions runs ≡ set_of bits → 0 < true_count_of bits → 0 < length runs

@@ -1,6 +1,6 @@
 -- The set positions of a list of bits.
 use Rattle.std.specs.Prelude.{◌≡◌, ◌↔◌, ℕ, ◌+◌, ◌-◌, ◌<◌, ◌≤◌, ◌==◌, ◌&&◌, Bool, true, false, List, [], ◌∷◌, length, map, Option, None, Some, slice_get, slice_index, slice_index_or, if◌then◌else◌, nat_le, nat_lt}
-use Rattle.std.specs.List.{range_with_len, flat_map, items_where_true, list_any}
+use Rattle.std.specs.List.{All, AllAdjacentBelow, range_with_len, flat_map, items_where_true, list_any}
 use Rattle.std.specs.Str.{bytes_eq}
 use Rattle.vx_bits.specs.BitBuffer.{true_count_of}
 
@@ -95,6 +95,13 @@ runs_from at (bit ∷ bits) =
 -- the maximal runs of set bits, ascending: none is empty, and no two touch
 abbrev pub maximal_runs : List Bool → List (ℕ × ℕ)
 maximal_runs bits = runs_from 0 bits
+
+-- no run is empty, each starts beyond the end of the one before, and they cover just the set
+-- positions
+pub record AreMaximalRuns (bits : List Bool) (runs : List (ℕ × ℕ)) : Type 0 where
+  pub none_empty : All (λ run. run.0 < run.1) runs
+  pub apart : AllAdjacentBelow (λ run next. run.1 < next.0) runs (length runs)
+  pub cover : run_positions runs ≡ set_of bits
 
 -- the items that a first mask keeps, and of those the ones that a second mask keeps, are the items
 -- at the first mask's ranks of the second one's set positions

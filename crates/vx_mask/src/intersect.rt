@@ -23,9 +23,10 @@ pub(crate) fn bits_by_rank(
     let len = bits.len();
     let mut kept = BitBuilder::with_capacity(alloc, len)?;
     kept.append_n(false, len)?;
+    let words = bits.words();
     let mut from = 0;
     for w in 0..len / 64 + 1 {
-        let word = bits.word(w);
+        let word = words.word(w);
         mark_word(&mut kept, 64 * w, word, by, from);
         from += word.count_ones() as usize;
     }

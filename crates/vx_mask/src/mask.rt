@@ -1,9 +1,9 @@
 //! Masks of any kind.
-ghost use Rattle.std.specs.Prelude.{◌≡◌, ◌*◌, ◌<◌, ◌≤◌, ◌↔◌, IsTrue, IfOk, IfSome, length, map, slice_index_or, take, false, true};
+ghost use Rattle.std.specs.Prelude.{◌≡◌, ◌*◌, ◌<◌, ◌≤◌, ◌↔◌, IsTrue, None, IfOk, IfSome, length, map, slice_index_or, take, false, true};
 ghost use Rattle.std.specs.Option.{option_copied};
 ghost use Rattle.vx_bits.specs.BitBuffer.{true_count_of};
 ghost use Rattle.vx_bits.specs.Results.{FailsBy};
-ghost use Rattle.vx_mask.specs.Positions.{IsSpan, set_of, rank_of, run_positions, bits_with, span_of};
+ghost use Rattle.vx_mask.specs.Positions.{AreMaximalRuns, IsSpan, set_of, rank_of, run_positions, bits_with, span_of};
 ghost use Rattle.vx_mask.specs.Mask.{mask_bits, partial_of, indices_fault, slices_fault, if_partial, mask_by_indices, mask_by_slices, indices_in, slices_in, blocks_in, keeping};
 ghost use Rattle.vx_mask.specs.Ranks.{blocks_of};
 ghost use Rattle.vx_mask.specs.MaskValues.{bits_alone, keep_indices, keep_slices, keep_blocks};
@@ -221,6 +221,8 @@ impl Mask {
     /// keeps, or else its maximal runs. What else it keeps stays. `NoMemory` alone.
     pub fn with_slices(&self, alloc: Global) -> Result<Mask, NoMemory>
         ensures value { IfOk result (λ m. m ≡ keeping keep_slices self.now) }
+        ensures maximal { slices_in self.now ≡ None → IfOk result
+            (λ m. IfSome (slices_in m) (AreMaximalRuns (mask_bits self.now))) }
         ensures bits { IfOk result (λ m. mask_bits m ≡ mask_bits self.now) }
     {
         match self {

@@ -18,8 +18,9 @@ pub(crate) fn positions_of(
     ensures { IfOk result (λ indices. indices.items ≡ set_of bits.now.bits) }
 {
     let mut indices = Vec::with_capacity(alloc, count)?;
+    let words = bits.words();
     for w in 0..bits.len() / 64 + 1 {
-        push_positions(&mut indices, 64 * w, bits.word(w));
+        push_positions(&mut indices, 64 * w, words.word(w));
     }
     Ok(indices)
 }
@@ -65,9 +66,10 @@ pub(crate) fn next_with(bits: &BitBuffer, from: usize, want: bool) -> usize
         → slice_index_or bits.now.bits result false ≡ want }
 {
     let len = bits.len();
+    let words = bits.words();
     let mut keep = u64::MAX << (from % 64);
     for w in from / 64..len / 64 + 1 {
-        let found = wanted(bits.word(w), want) & keep;
+        let found = wanted(words.word(w), want) & keep;
         if found != 0 {
             let place = found.trailing_zeros() as usize;
             return if place < len - 64 * w {

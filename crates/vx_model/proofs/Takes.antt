@@ -65,7 +65,7 @@ module _ {X : Type 0} (f : X → RowValue) (missing : X) (items : List X) (v w :
   take-stored left =
       let bits = present_bits v (length items) in
       let long : length (map f (at missing items picks)) ≡ length (at false bits picks) =
-          length-map (at missing items picks) f ∙ length-at missing items picks ∙ sym (length-at false bits picks) in
+      length-map (at missing items picks) f ∙ length-at missing items picks ∙ sym (length-at false bits picks) in
       let same : length bits ≡ length (map f items) = length-present_bits v (length items) fit ∙ sym (length-map items f) in
       ap (λ m. shown_rows (present_bits w m) (map f (at missing items picks))) long
       ∙ ap₂ shown_rows left.bits (map-at f missing items picks)

@@ -23,7 +23,7 @@ pub record DecimalParts : Type 0 where
 abbrev pub decimal_array_fault : DecimalParts → Option ColumnError
 decimal_array_fault p =
     if p.decimal.width == p.width then
-      (if is_fitting p.valid (length p.records) then None else Some BadValidity)
+    (if is_fitting p.valid (length p.records) then None else Some BadValidity)
     else Some WrongWidth
 
 -- a row is its record's bytes, or null where the validity says no

@@ -1,24 +1,9 @@
 -- Lines behind lines.
 use Rattle.std.proofs.Common.{◌≡◌, ℕ, zero, suc, ◌+◌, ◌-◌, ◌<◌, ◌≤◌, List, [], ◌∷◌, ◌++◌, length, take, drop, get_or, min, refl, sym, ap, ◌∙◌, append_assoc, drop-cons, length-drop, arith}
 use Rattle.std.proofs.Math.Seq.{take-add}
+use Rattle.std.proofs.lemmas.List.{drop-take, get_or-take, get_or_default, length-take-le}
 use Rattle.std.proofs.lemmas.List.Concat.{flat_map-append}
-use Rattle.std.specs.Fmt.{signed_decimal}
-use Rattle.vx_types.specs.PType.{number}
-use Rattle.vx_types.specs.declared.ptype.PType.{PType}
-use Rattle.vx_print.specs.Numbers.{number_line, number_lines}
-
--- one line more, in front of those of the last k records
-pub line_more : (p : PType) (rs : List (List ℕ)) (k : ℕ) (r : List ℕ) → k < length rs → r ≡ get_or rs (length rs - 1 - k) r → signed_decimal (number p r) ++ 10 ∷ number_lines p (drop (length rs - k) rs) ≡ number_lines p (drop (length rs - (k + 1)) rs)
-line_more p rs k r h is =
-    let j = length rs - 1 - k in
-    let lt : j < length rs = omega arith in
-    let behind : length rs - k ≡ suc j = omega arith in
-    let here : j ≡ length rs - (k + 1) = omega arith in
-    let rest = drop (suc j) rs in
-    ap (λ (n : ℕ). signed_decimal (number p r) ++ 10 ∷ number_lines p (drop n rs)) behind
-    ∙ sym (append_assoc (signed_decimal (number p r)) (10 ∷ []) (number_lines p rest))
-    ∙ ap (number_lines p) (ap (λ x. x ∷ rest) is ∙ sym (drop-cons rs j r lt))
-    ∙ ap (λ (n : ℕ). number_lines p (drop n rs)) here
+use Rattle.vx_print.specs.Text.{line, lines}
 
 take_capped : {X : Type 0} (xs : List X) (m n : ℕ) → m ≤ n → (m < n → length xs ≤ m) → take m xs ≡ take n xs
 take_capped xs zero zero h e = refl
@@ -29,13 +14,33 @@ take_capped [] (suc m) (suc n) h e = refl
 take_capped (x ∷ xs) (suc m) (suc n) h e = ap (λ l. x ∷ l) (take_capped xs m n (omega arith) (λ l. let f : length (x ∷ xs) ≤ suc m = e (omega arith) in omega arith))
 
 -- one block more, behind the first k
-pub block_more : (p : PType) (bs : List ℕ) (rs : List (List ℕ)) (start end : ℕ) → end ≡ min (length rs) (start + 64) → start ≤ end → (bs ++ number_lines p (take start rs)) ++ number_lines p (take (end - start) (drop start rs)) ≡ bs ++ number_lines p (take (start + 64) rs)
-block_more p bs rs start end is h =
-    let part = drop start rs in
-    let long : length part ≡ length rs - start = length-drop start rs in
+pub block_more : {X : Type 0} (f : X → List ℕ) (bs : List ℕ) (xs : List X) (start end : ℕ) → end ≡ start + min (length xs - start) 64 → start ≤ length xs → (bs ++ lines f (take start xs)) ++ lines f (take (end - start) (drop start xs)) ≡ bs ++ lines f (take (start + 64) xs)
+block_more f bs xs start end is h =
+    let part = drop start xs in
+    let long : length part ≡ length xs - start = length-drop start xs in
     let capped : take (end - start) part ≡ take 64 part = take_capped part (end - start) 64 (omega arith) (λ l. omega arith) in
-    let joined : number_lines p (take start rs ++ take 64 part) ≡ number_lines p (take start rs) ++ number_lines p (take 64 part) = flat_map-append (number_line p) (take start rs) (take 64 part) in
-    let whole : take (start + 64) rs ≡ take start rs ++ take 64 part = take-add start 64 rs in
-    append_assoc bs (number_lines p (take start rs)) (number_lines p (take (end - start) part))
-    ∙ ap (λ l. bs ++ (number_lines p (take start rs) ++ number_lines p l)) capped
-    ∙ sym (ap (λ l. bs ++ l) (ap (number_lines p) whole ∙ joined))
+    let joined : lines f (take start xs ++ take 64 part) ≡ lines f (take start xs) ++ lines f (take 64 part) = flat_map-append (λ x. line (f x)) (take start xs) (take 64 part) in
+    let whole : take (start + 64) xs ≡ take start xs ++ take 64 part = take-add start 64 xs in
+    append_assoc bs (lines f (take start xs)) (lines f (take (end - start) part))
+    ∙ ap (λ l. bs ++ (lines f (take start xs) ++ lines f l)) capped
+    ∙ sym (ap (λ l. bs ++ l) (ap (lines f) whole ∙ joined))
+
+-- one row more, in front of the last k of those before `end`
+pub row_more : {X : Type 0} (f : X → List ℕ) (xs : List X) (end k : ℕ) (x d : X) → k < end → end ≤ length xs → x ≡ get_or xs (end - 1 - k) d → f x ++ 10 ∷ lines f (drop (end - k) (take end xs)) ≡ lines f (drop (end - (k + 1)) (take end xs))
+row_more f xs end k x d h within is =
+    let ys = take end xs in
+    let j = end - 1 - k in
+    let lt : j < length ys = omega (arith, length-take-le end xs within) in
+    let behind : end - k ≡ suc j = omega arith in
+    let here : j ≡ end - (k + 1) = omega arith in
+    let same : x ≡ get_or ys j x = is ∙ get_or_default xs j d x (omega arith) ∙ sym (get_or-take end xs j x (omega arith)) in
+    ap (λ (n : ℕ). f x ++ 10 ∷ lines f (drop n ys)) behind
+    ∙ sym (append_assoc (f x) (10 ∷ []) (lines f (drop (suc j) ys)))
+    ∙ ap (lines f) (ap (λ y. y ∷ drop (suc j) ys) same ∙ sym (drop-cons ys j x lt))
+    ∙ ap (λ (n : ℕ). lines f (drop n ys)) here
+
+-- the rows from `start` up to `end` are those of the first `end` that are left behind `start`
+pub rows_between : {X : Type 0} (xs : List X) (start end : ℕ) → start ≤ end → drop start (take end xs) ≡ take (end - start) (drop start xs)
+rows_between xs start end h =
+    let whole : end ≡ start + (end - start) = omega arith in
+    ap (λ (n : ℕ). drop start (take n xs)) whole ∙ drop-take start (end - start) xs

@@ -1,24 +1,21 @@
--- Lines of rows, one behind the other.
-use Rattle.std.proofs.Common.{◌≡◌, ℕ, ◌+◌, ◌<◌, ◌≤◌, List, [], ◌∷◌, ◌++◌, length, map, take, get_or, flat_map, sym, ap, ◌∙◌}
-use Rattle.std.proofs.lemmas.List.{flat_map_more, take_more, take_all, append_assoc}
-use Rattle.std.proofs.lemmas.List.Folds.{flat_map-map}
+-- Rows that are stored as records.
+use Rattle.std.proofs.Common.{◌≡◌, ℕ, ◌<◌, Bool, true, false, List, [], map, length, get_or, Option, Some, None, refl, sym, ap, ◌∙◌, arith}
+use Rattle.std.specs.Prelude.{if◌then◌else◌}
+use Rattle.std.proofs.lemmas.List.{length-map, get_or-map}
 use Rattle.vx_types.specs.RowValue.{RowValue, null, bytes}
-use Rattle.vx_types.specs.TypeTree.{TypeTree, primitive_type}
-use Rattle.vx_types.specs.declared.nullability.Nullability.{Nullability}
-use Rattle.vx_types.specs.declared.ptype.PType.{PType}
-use Rattle.vx_print.specs.Numbers.{number_lines}
-use Rattle.vx_print.specs.Text.{row_text, row_line}
+use Rattle.vx_model.proofs.ShownRows.{length-shown_rows, get_or-shown_rows}
+use Rattle.vx_print.specs.Records.{record_rows, is_there, IsLong}
 
--- the lines of the first i rows, and then that of row i
-pub row_lines_more : (t : TypeTree) (rows : List RowValue) (bs : List ℕ) (i : ℕ) → i < length rows
-    → ((bs ++ flat_map (row_line t) (take i rows)) ++ row_text t (get_or rows i null)) ++ 10 ∷ [] ≡ bs ++ flat_map (row_line t) (take (i + 1) rows)
-row_lines_more t rows bs i h =
-    append_assoc (bs ++ flat_map (row_line t) (take i rows)) (row_text t (get_or rows i null)) (10 ∷ [])
-    ∙ flat_map_more (row_line t) bs (take i rows) (get_or rows i null)
-    ∙ ap (λ xs. bs ++ flat_map (row_line t) xs) (sym (take_more rows i null h))
+-- there are as many rows as records
+pub length-record_rows : (bits : Option (List Bool)) (rs : List (List ℕ)) → IsLong bits (length rs) → length (record_rows bits rs) ≡ length rs
+length-record_rows None rs h = length-map rs bytes
+length-record_rows (Some bits) rs h = length-shown_rows bits (map bytes rs) (h ∙ sym (length-map rs bytes)) ∙ length-map rs bytes
 
--- the lines of numbers are those of the rows
-pub row_lines_by_number : (p : PType) (n : Nullability) (rs : List (List ℕ)) → flat_map (row_line (primitive_type p n)) (map bytes rs) ≡ number_lines p rs
-row_lines_by_number p n rs = flat_map-map (row_line (primitive_type p n)) bytes rs
-
-pub ruleset row_lines = (row_lines_more, row_lines_by_number, take_all)
+-- row i
+pub get_or-record_rows : (bits : Option (List Bool)) (rs : List (List ℕ)) (i : ℕ) (r : List ℕ) → IsLong bits (length rs) → i < length rs → r ≡ get_or rs i r → (if is_there bits i then bytes r else null) ≡ get_or (record_rows bits rs) i null
+get_or-record_rows None rs i r h l is = ap bytes is ∙ sym (get_or-map bytes rs i r null l)
+get_or-record_rows (Some bits) rs i r h l is =
+    let long = length-map rs bytes in
+    ap (λ (x : List ℕ). if get_or bits i false then bytes x else null) is
+    ∙ ap (λ (x : RowValue). if get_or bits i false then x else null) (sym (get_or-map bytes rs i r null l))
+    ∙ sym (get_or-shown_rows bits (map bytes rs) i (h ∙ sym long) (omega (arith, long)))

@@ -1,3 +1,3 @@
 pub mod Text
-pub mod Numbers
+pub mod Records
 pub mod Fault

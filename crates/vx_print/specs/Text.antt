@@ -1,13 +1,14 @@
 -- The text of a column: a line for its type, and one for each row.
-use Rattle.std.specs.Prelude.{ℕ, List, [], ◌∷◌, ◌++◌, codes, flat_map, if◌then◌else◌}
+use Rattle.std.specs.Prelude.{ℕ, ℤ, Bool, true, false, List, [], ◌∷◌, ◌++◌, codes, decimal, flat_map, if◌then◌else◌}
 use Rattle.std.specs.Fmt.{signed_decimal}
+use Rattle.hex.specs.Hex.{encode_lower}
 use Rattle.vx_types.specs.Nullability.{is_nullable}
-use Rattle.vx_types.specs.PType.{number}
-use Rattle.vx_types.specs.TypeTree.{TypeTree, primitive_type}
-use Rattle.vx_types.specs.RowValue.{RowValue, null, bytes}
+use Rattle.vx_types.specs.PType.{is_int, number}
+use Rattle.vx_types.specs.TypeTree.{TypeTree, null_type, bool_type, primitive_type, decimal_type}
+use Rattle.vx_types.specs.RowValue.{RowValue, null, bit, bytes}
 use Rattle.vx_types.specs.declared.nullability.Nullability.{Nullability}
 use Rattle.vx_types.specs.declared.ptype.PType.{PType}
-use Rattle.vx_types.specs.declared.ptype.PType.TheVariants.{U8, U16, U32, U64, I8, I16, I32, I64}
+use Rattle.vx_types.specs.declared.ptype.PType.TheVariants.{U8, U16, U32, U64, I8, I16, I32, I64, F16, F32, F64}
 
 abbrev pub ptype_text : PType → List ℕ
 ptype_text U8 = codes "u8"
@@ -18,28 +19,63 @@ ptype_text I8 = codes "i8"
 ptype_text I16 = codes "i16"
 ptype_text I32 = codes "i32"
 ptype_text I64 = codes "i64"
+ptype_text F16 = codes "f16"
+ptype_text F32 = codes "f32"
+ptype_text F64 = codes "f64"
 
--- a nullable type has a mark at its end
+-- precision, scale, and the stored width in bytes
+abbrev pub decimal_text : ℕ → ℤ → ℕ → List ℕ
+decimal_text precision scale width =
+    codes "decimal(" ++ decimal precision ++ codes "," ++ signed_decimal scale ++ codes ","
+    ++ decimal width ++ codes ")"
+
+-- a nullable type other than null has a mark at its end
 abbrev pub mark : Nullability → List ℕ
 mark n = if is_nullable n then codes "?" else []
 
 -- other types have no name yet, and no column has them
 abbrev pub type_text : TypeTree → List ℕ
+type_text null_type = codes "null"
+type_text (bool_type n) = codes "bool" ++ mark n
 type_text (primitive_type p n) = ptype_text p ++ mark n
+type_text (decimal_type p s w n) = decimal_text p s w ++ mark n
 type_text t = []
 
--- a row of a column of this type: an integer in decimal digits
+abbrev pub bit_text : Bool → List ℕ
+bit_text true = codes "true"
+bit_text false = codes "false"
+
+-- bytes in stored order, each as two digits
+abbrev pub hex_text : List ℕ → List ℕ
+hex_text b = codes "0x" ++ encode_lower b
+
+-- a record of a primitive type: an integer in decimal digits, a float in hexadecimal ones
+abbrev pub primitive_text : PType → List ℕ → List ℕ
+primitive_text p b = if is_int p then signed_decimal (number p b) else hex_text b
+
+abbrev pub bytes_text : TypeTree → List ℕ → List ℕ
+bytes_text (primitive_type p n) b = primitive_text p b
+bytes_text (decimal_type p s w n) b = hex_text b
+bytes_text t b = []
+
+-- a row, with the text of bytes by f
+abbrev pub row_text_by : (List ℕ → List ℕ) → RowValue → List ℕ
+row_text_by f null = codes "null"
+row_text_by f (bit b) = bit_text b
+row_text_by f (bytes b) = f b
+row_text_by f x = []
+
+-- a row of a column of this type
 abbrev pub row_text : TypeTree → RowValue → List ℕ
-row_text t null = codes "null"
-row_text (primitive_type p n) (bytes b) = signed_decimal (number p b)
-row_text t x = []
+row_text t x = row_text_by (bytes_text t) x
 
 abbrev pub line : List ℕ → List ℕ
 line text = text ++ 10 ∷ []
 
-abbrev pub row_line : TypeTree → RowValue → List ℕ
-row_line t x = line (row_text t x)
+-- a line for each item, with its text by f
+abbrev pub lines : {X : Type 0} → (X → List ℕ) → List X → List ℕ
+lines f xs = flat_map (λ x. line (f x)) xs
 
 -- the type's line, and a line for each row
 abbrev pub text : TypeTree → List RowValue → List ℕ
-text t rows = line (type_text t) ++ flat_map (row_line t) rows
+text t rows = line (type_text t) ++ lines (row_text t) rows

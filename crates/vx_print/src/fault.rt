@@ -1,5 +1,6 @@
 //! The line of a broken step, written without memory.
 ghost use Rattle.std.specs.Prelude.{◌≡◌, ◌+◌, ◌≤◌, ◌++◌, length, take, decimal};
+ghost use Rattle.std.specs.Fmt.{signed_decimal};
 ghost use Rattle.vx_print.specs.Fault.{cause_text, fault_text};
 
 use itoa::Buffer;
@@ -29,6 +30,16 @@ fn put_number(dst: &mut [u8; FAULT_ROOM], at: usize, number: usize) -> usize
     put(dst, at, buffer.format(number))
 }
 
+// The same of an index, which may be negative.
+fn put_index(dst: &mut [u8; FAULT_ROOM], at: usize, index: &i128) -> usize
+    requires { at + 40 ≤ FAULT_ROOM }
+    ensures len { result ≤ at + 40 }
+    ensures put { take result dst.new ≡ take at dst.old ++ signed_decimal index.now }
+{
+    let mut buffer = Buffer::new();
+    put(dst, at, buffer.format(*index))
+}
+
 // The same of a broken rule, behind at most 30 bytes.
 fn put_cause(dst: &mut [u8; FAULT_ROOM], at: usize, cause: &Cause) -> usize
     requires { at ≤ 30 }
@@ -47,6 +58,13 @@ fn put_cause(dst: &mut [u8; FAULT_ROOM], at: usize, cause: &Cause) -> usize
         Cause::BadMask { mask_len, len } => {
             let at = put(dst, at, "BadMask ");
             let at = put_number(dst, at, *mask_len);
+            let at = put(dst, at, " of ");
+            put_number(dst, at, *len)
+        }
+        Cause::InvalidIndices => put(dst, at, "InvalidIndices"),
+        Cause::OutOfBounds { index, len } => {
+            let at = put(dst, at, "OutOfBounds ");
+            let at = put_index(dst, at, index);
             let at = put(dst, at, " of ");
             put_number(dst, at, *len)
         }

@@ -1,20 +1,17 @@
 //! The text of a column.
-#![tactic(auto, using(crate::proofs::Lines::row_lines))]
-
-ghost use Rattle.std.specs.Prelude.{◌≡◌, ◌++◌, Some, map, flat_map, IfOk, IsOk};
-ghost use Rattle.std.specs.Fmt.{signed_decimal};
+ghost use Rattle.std.specs.Prelude.{◌≡◌, ◌++◌, length, Some, IfOk, IsOk};
 ghost use Rattle.vx_bits.specs.Records.{records_of, width_of};
 ghost use Rattle.vx_types.specs.DType.{type_of};
-ghost use Rattle.vx_types.specs.RowValue.{bytes};
 ghost use Rattle.vx_types.specs.TypeTree.{type_width};
-ghost use Rattle.vx_column.specs.Cell.{row_of, IsOfType};
-ghost use Rattle.vx_print.specs.Text.{ptype_text, type_text, row_text, row_line, text};
+ghost use Rattle.vx_print.specs.Text.{ptype_text, decimal_text, mark, type_text, row_text, lines, text};
+ghost use Rattle.vx_print.specs.Records.{record_rows, bits_in, IsLong};
 
-use crate::numbers::push_numbers;
-use itoa::Buffer;
+use crate::cells::push_rows;
+use crate::records::{push_hex, push_primitive};
+use itoa::{Buffer, Integer};
 use std::alloc::Global;
-use vx_bits::{NoMemory, Records};
-use vx_column::{Array, Cell, DType, PType};
+use vx_bits::{BitBuffer, NoMemory, Records};
+use vx_column::{Array, DType, DecimalDType, Nullability, PType};
 
 fn ptype_text(ptype: PType) -> &'static str
     ensures { result.now ≡ ptype_text ptype }
@@ -28,7 +25,42 @@ fn ptype_text(ptype: PType) -> &'static str
         PType::I16 => "i16",
         PType::I32 => "i32",
         PType::I64 => "i64",
+        PType::F16 => "f16",
+        PType::F32 => "f32",
+        PType::F64 => "f64",
     }
+}
+
+// Appends a word and a number behind it.
+fn push_number<I: Integer>(text: &mut Vec<u8>, word: &[u8], number: I) -> Result<(), NoMemory>
+    ensures { IsOk result → text.new.items ≡ text.old.items ++ word.now ++ I.text number }
+{
+    text.extend_from_slice(word)?;
+    let mut buffer = Buffer::new();
+    text.extend_from_slice(buffer.format(number).as_bytes())?;
+    Ok(())
+}
+
+// Appends precision, scale and width of a decimal type.
+fn push_decimal(text: &mut Vec<u8>, decimal: DecimalDType) -> Result<(), NoMemory>
+    ensures { IsOk result → text.new.items ≡ text.old.items
+        ++ decimal_text decimal.precision decimal.scale decimal.width }
+{
+    push_number(text, b"decimal(", decimal.precision())?;
+    push_number(text, b",", decimal.scale())?;
+    push_number(text, b",", decimal.width())?;
+    text.push(b')')?;
+    Ok(())
+}
+
+// Appends the mark of a nullable type.
+fn push_mark(text: &mut Vec<u8>, nullability: Nullability) -> Result<(), NoMemory>
+    ensures { IsOk result → text.new.items ≡ text.old.items ++ mark nullability }
+{
+    if nullability.is_nullable() {
+        text.push(b'?')?;
+    }
+    Ok(())
 }
 
 // Appends a type, marked where it is nullable.
@@ -36,63 +68,56 @@ fn push_type(text: &mut Vec<u8>, dtype: &DType) -> Result<(), NoMemory>
     ensures { IsOk result → text.new.items ≡ text.old.items ++ type_text (type_of dtype.now) }
 {
     match dtype {
+        DType::Null => {
+            text.extend_from_slice(b"null")?;
+            Ok(())
+        }
+        DType::Bool(nullability) => {
+            text.extend_from_slice(b"bool")?;
+            push_mark(text, *nullability)
+        }
         DType::Primitive(ptype, nullability) => {
             text.extend_from_slice(ptype_text(*ptype).as_bytes())?;
-            if nullability.is_nullable() {
-                text.push(b'?')?;
-            }
-            Ok(())
+            push_mark(text, *nullability)
+        }
+        DType::Decimal(decimal, nullability) => {
+            push_decimal(text, *decimal)?;
+            push_mark(text, *nullability)
         }
     }
 }
 
-// Appends a number in decimal digits.
-fn push_number(text: &mut Vec<u8>, number: i128) -> Result<(), NoMemory>
-    ensures { IsOk result → text.new.items ≡ text.old.items ++ signed_decimal number }
+// Appends a line for each row of this type: a record, or null where there are bits and the row's
+// bit is clear.
+fn push_records(
+    text: &mut Vec<u8>,
+    dtype: &DType,
+    records: &Records,
+    bits: Option<&BitBuffer>,
+) -> Result<(), NoMemory>
+    requires width { Some (width_of records.now) ≡ type_width (type_of dtype.now) }
+    requires long { IsLong (bits_in bits) (length (records_of records.now)) }
+    ensures { IsOk result → text.new.items ≡ text.old.items ++ lines (row_text (type_of dtype.now))
+        (record_rows (bits_in bits.entry) (records_of records.now)) }
 {
-    let mut buffer = Buffer::new();
-    text.extend_from_slice(buffer.format(number).as_bytes())?;
-    Ok(())
-}
-
-// Appends one row of this type.
-fn push_row(text: &mut Vec<u8>, dtype: &DType, row: Cell<'_>) -> Result<(), NoMemory>
-    requires { IsOfType row (type_of dtype.now) }
-    ensures { IsOk result →
-        text.new.items ≡ text.old.items ++ row_text (type_of dtype.now) (row_of row.entry) }
-{
-    match (row, dtype) {
-        (Cell::Null, _) => {
-            text.extend_from_slice(b"null")?;
-            Ok(())
-        }
-        (Cell::Bit(_), DType::Primitive(..)) => unreachable!(),
-        (Cell::Bytes(record), DType::Primitive(ptype, _)) => {
-            push_number(text, ptype.number(record))
-        }
+    match dtype {
+        DType::Null | DType::Bool(_) => unreachable!(),
+        DType::Primitive(ptype, _) => push_primitive(text, *ptype, records, bits),
+        DType::Decimal(..) => push_hex(text, records, bits),
     }
 }
 
 // Appends a line for each row.
-fn push_rows(text: &mut Vec<u8>, column: &Array) -> Result<(), NoMemory>
-    ensures { IsOk result →
-        text.new.items ≡ text.old.items ++ flat_map (row_line column.now.dtype) column.now.rows }
+fn push_lines(text: &mut Vec<u8>, column: &Array) -> Result<(), NoMemory>
+    ensures { IsOk result → text.new.items
+        ≡ text.old.items ++ lines (row_text column.now.dtype) column.now.rows }
 {
-    for i in 0..column.len() {
-        push_row(text, column.dtype(), column.cell_at(i))?;
-        text.push(b'\n')?;
+    if let Some(records) = column.present_records() {
+        return push_records(text, column.dtype(), records, None);
     }
-    Ok(())
-}
-
-// Appends a line for each record, a row of this type.
-fn push_records(text: &mut Vec<u8>, dtype: &DType, records: &Records) -> Result<(), NoMemory>
-    requires { Some (width_of records.now) ≡ type_width (type_of dtype.now) }
-    ensures { IsOk result → text.new.items ≡ text.old.items
-        ++ flat_map (row_line (type_of dtype.now)) (map bytes (records_of records.now)) }
-{
-    match dtype {
-        DType::Primitive(ptype, _) => push_numbers(text, *ptype, records),
+    match column.shown_records() {
+        Some((records, bits)) => push_records(text, column.dtype(), records, Some(bits)),
+        None => push_rows(text, column),
     }
 }
 
@@ -103,9 +128,6 @@ pub fn text_of(alloc: Global, column: &Array) -> Result<Vec<u8>, NoMemory>
     let mut text = Vec::new(alloc);
     push_type(&mut text, column.dtype())?;
     text.push(b'\n')?;
-    match column.present_records() {
-        Some(records) => push_records(&mut text, column.dtype(), records)?,
-        None => push_rows(&mut text, column)?,
-    }
+    push_lines(&mut text, column)?;
     Ok(text)
 }

@@ -79,13 +79,6 @@ free_of true plain slices h = inl refl
 free_of false true slices h = inr (refl, h)
 free_of false false slices h = let no : false ≡ true = h in cc
 
--- a step that wants no memory: any over layout `Null`, and of slices alone over a plain column each
--- is one
-pub free_step : (c : Column) (steps : List StepValue) (k : ℕ) (s : StepValue) → needs_no_memory c steps ≡ true → k < length steps → s ≡ get_or steps k s → (is_null_layout c.layout ≡ true) ⊎ ((is_plain c ≡ true) × (is_slice s ≡ true))
-free_step c steps k s a h is =
-    elim (free_of (is_null_layout c.layout) (is_plain c) (list_all is_slice steps) a)
-    [ inl none ↦ inl none | inr (plain, slices) ↦ inr (plain, slice_among steps k s slices h is) ]
-
 null_in_place : (l : LayoutName) → is_null_layout l ≡ true → is_in_place l ≡ true
 null_in_place l h = rw h refl
 

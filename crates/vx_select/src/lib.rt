@@ -5,6 +5,3 @@ mod selection;
 
 pub use selection::select;
 pub use vx_steps::{Cause, SelectError, Step, check_steps, slice_of_slice};
-
-#[cfg(test)]
-mod tests;

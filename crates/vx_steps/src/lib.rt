@@ -10,6 +10,3 @@ pub use cause::{Cause, SelectError};
 pub use check::check_steps;
 pub use laws::slice_of_slice;
 pub use step::Step;
-
-#[cfg(test)]
-mod tests;

@@ -23,6 +23,3 @@ pub use ptype::{PType, record_of};
 pub use row::{ByteList, Row};
 pub use runs::Runs;
 pub use scalar::ScalarValue;
-
-#[cfg(test)]
-mod tests;

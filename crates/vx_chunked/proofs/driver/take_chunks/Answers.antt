@@ -1,25 +1,49 @@
-use Rattle.std.proofs.Common.{◌≡◌, ◌+◌, ◌*◌, ◌-◌, ◌^◌, ◌++◌, ℕ, Some, length, map, take, ap, subst, ◌∙◌, arith}
+use Rattle.std.proofs.Common.{rules, ◌≡◌, ◌≤◌, ◌+◌, ◌*◌, ◌-◌, ◌^◌, ◌++◌, ℕ, List, Some, length, map, take, ap, subst, sym, ◌∙◌, arith}
 use Rattle.std.specs.Prelude.{slice_get}
 use Rattle.std.proofs.lemmas.Slice.{take-put_mid}
-use Rattle.std.proofs.lemmas.List.{length-take-le, length-append, length-map}
+use Rattle.std.proofs.lemmas.List.{length-append, length-map}
 use Rattle.std.proofs.lemmas.Grind.{common_steps}
 use Rattle.vx_chunked.specs.Positions.{AscendFrom}
 use Rattle.vx_bits.specs.WordReader.{then_told}
-use Rattle.vx_chunked.specs.Asked.{calls_from}
+use Rattle.vx_chunked.specs.Asked.{call_for, calls_from}
+use Rattle.vx_chunked.specs.SelectedPlaces.{selected}
+use Rattle.vx_chunked.proofs.Marks.{selected_long}
 use Rattle.vx_chunked.proofs.Ascends.{ascend_raise, ascend_rest, ascend_front, ascend_none}
 use Rattle.vx_chunked.proofs.ValuesAt.{value_next, value_end}
 use Rattle.vx_chunked.proofs.Counts.{told_next, told_end}
 use Rattle.vx_chunked.proofs.driver.take_chunks.Goals as goal
 
-pub next_places-count-requires-clause-ahead : goal.next_places-count-requires-clause-ahead
-next_places-count-requires-clause-ahead g c = ascend_raise (1024 * c.loop-chunk.chunk) c.args.end (2 ^ 64) (g.C.Cursor.rest c.loop-chunk.cursor) c.loop-chunk.invariant.ahead (omega arith)
+pub next_places-selection-requires-clause-ahead : goal.next_places-selection-requires-clause-ahead
+next_places-selection-requires-clause-ahead g c = ascend_raise (1024 * c.loop-chunk.chunk) c.args.end (2 ^ 64) (g.C.Cursor.rest c.loop-chunk.cursor) c.loop-chunk.invariant.ahead (omega arith)
 
 pub take_chunk-requires-clause-ascend : goal.take_chunk-requires-clause-ascend
 take_chunk-requires-clause-ascend g c =
     let chunk = c.loop-chunk.chunk in
-    let places = take c.next_places-count.result c.next_places-count.new.places in
-    let ahead = subst (AscendFrom (1024 * chunk) c.args.end) c.next_places-count.ensures.taken c.loop-chunk.invariant.ahead in
-    ascend_front (1024 * chunk) 0 c.args.end places (g.C.Cursor.rest c.next_places-count.new.self) (subst (λ (n : ℕ). AscendFrom n c.args.end (map (λ p. 1024 * chunk + p) places ++ g.C.Cursor.rest c.next_places-count.new.self)) (omega arith) ahead) c.next_places-count.ensures.inside
+    let places = selected c.next_places-selection.new.places c.next_places-selection.result in
+    let ahead = subst (AscendFrom (1024 * chunk) c.args.end) c.next_places-selection.ensures.taken c.loop-chunk.invariant.ahead in
+    ascend_front (1024 * chunk) 0 c.args.end places (g.C.Cursor.rest c.next_places-selection.new.self) (subst (λ (n : ℕ). AscendFrom n c.args.end (map (λ p. 1024 * chunk + p) places ++ g.C.Cursor.rest c.next_places-selection.new.self)) (omega arith) ahead) c.next_places-selection.ensures.inside
+
+-- there is room for the values of the chunk
+room : (rest left places : List ℕ) (filled count out base : ℕ) → filled + length rest ≡ out → rest ≡ map (λ p. base + p) places ++ left → length places ≡ count → filled + count ≤ out
+room rest left places filled count out base h e long =
+    let split : length rest ≡ length places + length left = ap length e ∙ simp (length-append, length-map) in
+    omega (arith, h, split, long)
+
+pub overflow_add-filled : goal.overflow_add-filled
+overflow_add-filled g c =
+    let listed = c.next_places-selection.new.places in
+    let places = selected listed c.next_places-selection.result in
+    let long : length places ≡ c.count-count.result = selected_long listed c.next_places-selection.result c.next_places-selection.ensures.fits ∙ sym c.count-count.ensures in
+    let fits = room (g.C.Cursor.rest c.loop-chunk.cursor) (g.C.Cursor.rest c.next_places-selection.new.self) places c.loop-chunk.filled c.count-count.result (length c.loop-chunk.out) (1024 * c.loop-chunk.chunk) c.loop-chunk.invariant.room c.next_places-selection.ensures.taken long in
+    omega (arith, fits)
+
+pub slice_bounds-take_chunk-end : goal.slice_bounds-take_chunk-end
+slice_bounds-take_chunk-end g c =
+    let listed = c.next_places-selection.new.places in
+    let places = selected listed c.next_places-selection.result in
+    let long : length places ≡ c.count-count.result = selected_long listed c.next_places-selection.result c.next_places-selection.ensures.fits ∙ sym c.count-count.ensures in
+    let fits : c.loop-chunk.filled + c.count-count.result ≤ length c.loop-chunk.out = room (g.C.Cursor.rest c.loop-chunk.cursor) (g.C.Cursor.rest c.next_places-selection.new.self) places c.loop-chunk.filled c.count-count.result (length c.loop-chunk.out) (1024 * c.loop-chunk.chunk) c.loop-chunk.invariant.room c.next_places-selection.ensures.taken long in
+    search (rules, arith)
 
 pub loop-chunk-preserved : goal.loop-chunk-preserved
 loop-chunk-preserved g c =
@@ -30,11 +54,12 @@ loop-chunk-preserved g c =
     let high = c.args.end in
     let chunks = c.div_ceil-chunks.result in
     let rest = g.C.Cursor.rest c.loop-chunk.cursor in
-    let left = g.C.Cursor.rest c.next_places-count.new.self in
-    let count = c.next_places-count.result in
-    let places = take count c.next_places-count.new.places in
-    let taken = c.next_places-count.ensures.taken in
-    let long : length places ≡ count = length-take-le count c.next_places-count.new.places (omega arith) in
+    let left = g.C.Cursor.rest c.next_places-selection.new.self in
+    let count = c.count-count.result in
+    let listed = c.next_places-selection.new.places in
+    let places = selected listed c.next_places-selection.result in
+    let taken = c.next_places-selection.ensures.taken in
+    let long : length places ≡ count = selected_long listed c.next_places-selection.result c.next_places-selection.ensures.fits ∙ sym c.count-count.ensures in
     let split : length rest ≡ count + length left = ap length taken ∙ simp (length-append, length-map) (omega arith) in
     let fresh = c.take_chunk.new.dst in
     let wide : length fresh ≡ count = omega arith in
@@ -44,8 +69,8 @@ loop-chunk-preserved g c =
       value = ap (λ l. map Some l ++ map f left) put
           ∙ value_next f (take c.loop-chunk.filled c.loop-chunk.out) fresh base places rest left _ c.loop-chunk.invariant.value taken
           (c.take_chunk.ensures.value ∙ ap (λ v. map (λ p. slice_get v (base + p)) places) c.loop-chunk.invariant.same);
-      told = told_next _ _ _ c.args.limit rest places left chunk (chunks - chunk) (chunks - (chunk + 1)) c.loop-chunk.invariant.told c.take_chunk.ensures.told taken c.next_places-count.ensures.inside c.next_places-count.ensures.beyond (omega arith);
-      ahead = ascend_rest (1024 * (chunk + 1)) base high (map (λ p. base + p) places) left (subst (AscendFrom base high) taken c.loop-chunk.invariant.ahead) c.next_places-count.ensures.beyond;
+      told = told_next _ _ _ c.args.limit rest places left chunk (chunks - chunk) (chunks - (chunk + 1)) c.loop-chunk.invariant.told (c.take_chunk.ensures.told ∙ ap (λ n. then_told (g.D.ChunkDecoder.calls c.loop-chunk.decoder) (call_for c.args.limit chunk n)) (sym c.count-count.ensures ∙ sym long)) taken c.next_places-selection.ensures.inside c.next_places-selection.ensures.beyond (omega arith);
+      ahead = ascend_rest (1024 * (chunk + 1)) base high (map (λ p. base + p) places) left (subst (AscendFrom base high) taken c.loop-chunk.invariant.ahead) c.next_places-selection.ensures.beyond;
       same = c.take_chunk.ensures.same ∙ c.loop-chunk.invariant.same;
       cost = omega (arith, c.take_chunk.ensures.cost, c.loop-chunk.invariant.cost);
     }

@@ -1,12 +1,7 @@
 use Rattle.std.proofs.Common.{◌+◌, map, ap, ◌∙◌}
-use Rattle.vx_chunked.proofs.Handed.{all_positions}
 use Rattle.vx_chunked.proofs.Spans.{runs_all}
 use Rattle.vx_chunked.proofs.filter.filter_chunked.Goals as goal
 
 pub filter_by-requires-clause-rest : goal.filter_by-requires-clause-rest
 filter_by-requires-clause-rest g c =
     ap (map (λ i. c.args.offset + i)) (runs_all c.in-Some.slices.now ∙ c.in-Some.ensures.cover)
-
-pub filter_by-requires-2-clause-rest : goal.filter_by-requires-2-clause-rest
-filter_by-requires-2-clause-rest g c =
-    ap (map (λ i. c.args.offset + i)) (all_positions c.args.mask.now.bits.bits)

@@ -2,9 +2,14 @@ use Rattle.std.proofs.Common.{◌+◌, sym, ap, arith}
 use Rattle.vx_filter.proofs.Moves.{empty_moved, full_moved, full_place, ones_of_full, same_further}
 use Rattle.vx_filter.proofs.in_place.keep_picked.Goals as goal
 
-pub move_down-requires-clause-within : goal.move_down-requires-clause-within
-move_down-requires-clause-within g c =
+pub move_64-requires-clause-from : goal.move_64-requires-clause-from
+move_64-requires-clause-from g c =
     full_place c.args.values.now c.args.base c.args.word c.if-word-eq18446744073709551615.true c.requires.within
+
+pub move_64-requires-clause-to : goal.move_64-requires-clause-to
+move_64-requires-clause-to g c =
+    let inside = full_place c.args.values.now c.args.base c.args.word c.if-word-eq18446744073709551615.true c.requires.within in
+    omega (arith, inside, c.requires.behind)
 
 pub overflow_add-result : goal.overflow_add-result
 overflow_add-result g c =
@@ -17,11 +22,11 @@ returns-then-word-eq18446744073709551615-clause-count g c =
 
 pub returns-then-word-eq18446744073709551615-clause-front : goal.returns-then-word-eq18446744073709551615-clause-front
 returns-then-word-eq18446744073709551615-clause-front g c =
-    full_moved c.args.values.now _ c.args.kept c.args.base c.args.word c.if-word-eq18446744073709551615.true c.requires.behind c.requires.within c.move_down.ensures.front
+    full_moved c.args.values.now _ c.args.kept c.args.base c.args.word c.if-word-eq18446744073709551615.true c.requires.behind c.requires.within c.move_64.ensures.front
 
 pub returns-then-word-eq18446744073709551615-clause-after : goal.returns-then-word-eq18446744073709551615-clause-after
 returns-then-word-eq18446744073709551615-clause-after g c =
-    same_further c.args.values.now _ (c.args.kept + 64) (c.args.base + 64) (omega (arith, c.requires.behind)) c.move_down.ensures.after
+    same_further c.args.values.now _ (c.args.kept + 64) (c.args.base + 64) (omega (arith, c.requires.behind)) c.move_64.ensures.after
 
 pub returns-else-word-ne0-clause-front : goal.returns-else-word-ne0-clause-front
 returns-else-word-ne0-clause-front g c =

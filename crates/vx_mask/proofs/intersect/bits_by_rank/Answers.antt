@@ -7,6 +7,7 @@ use Rattle.vx_mask.specs.Positions.{set_of}
 use Rattle.vx_mask.proofs.BlockCounts.{count_fits}
 use Rattle.vx_mask.proofs.WordCounts.{count_of_word, counts_rise}
 use Rattle.vx_mask.proofs.MarkedBits.{no_mark, word_within_bits, one_word, all_words}
+use Rattle.vx_bits.proofs.WordLists.{is_word}
 use Rattle.vx_mask.proofs.intersect.bits_by_rank.Goals as goal
 
 pub loop-w-init : goal.loop-w-init
@@ -27,7 +28,7 @@ mark_word-requires-clause-ranks c =
 pub mark_word-requires-clause-enough : goal.mark_word-requires-clause-enough
 mark_word-requires-clause-enough c =
     let bits = c.args.bits.now.bits in
-    omega (arith, c.loop-w.invariant.ranks, count_of_word bits c.loop-w.w c.word-word.result c.word-word.ensures, counts_rise bits (64 * (c.loop-w.w + 1)), c.requires)
+    omega (arith, c.loop-w.invariant.ranks, count_of_word bits c.loop-w.w c.word-word.result (is_word c.loop-w.w c.word-word.ensures c.words-words.ensures), counts_rise bits (64 * (c.loop-w.w + 1)), c.requires)
 
 pub mark_word-requires-clause-clear : goal.mark_word-requires-clause-clear
 mark_word-requires-clause-clear c = λ k p q. c.loop-w.invariant.clear k p (omega (arith, c.loop-w.invariant.long, q))
@@ -35,12 +36,12 @@ mark_word-requires-clause-clear c = λ k p q. c.loop-w.invariant.clear k p (omeg
 pub mark_word-requires-clause-within : goal.mark_word-requires-clause-within
 mark_word-requires-clause-within c =
     let bits = c.args.bits.now.bits in
-    word_within_bits bits c.loop-w.w c.word-word.result _ (omega arith) (sym c.loop-w.invariant.long) c.word-word.ensures
+    word_within_bits bits c.loop-w.w c.word-word.result _ (omega arith) (sym c.loop-w.invariant.long) (is_word c.loop-w.w c.word-word.ensures c.words-words.ensures)
 
 pub overflow_add-from : goal.overflow_add-from
 overflow_add-from c =
     let bits = c.args.bits.now.bits in
-    omega (arith, c.loop-w.invariant.ranks, count_of_word bits c.loop-w.w c.word-word.result c.word-word.ensures, counts_rise bits (64 * (c.loop-w.w + 1)), count_by-le-length (λ b. b) bits, c.len-len.ensures, c.len-len.type_inv)
+    omega (arith, c.loop-w.invariant.ranks, count_of_word bits c.loop-w.w c.word-word.result (is_word c.loop-w.w c.word-word.ensures c.words-words.ensures), counts_rise bits (64 * (c.loop-w.w + 1)), count_by-le-length (λ b. b) bits, c.len-len.ensures, c.len-len.type_inv)
 
 pub loop-w-preserved : goal.loop-w-preserved
 loop-w-preserved c =
@@ -50,8 +51,8 @@ loop-w-preserved c =
     let w = c.loop-w.w in
     let next : 64 * w + 64 ≡ 64 * (w + 1) = omega arith in
     record {
-      ranks = omega (arith, v.ranks, count_of_word bits w c.word-word.result c.word-word.ensures);
-      set = one_word bits c.args.by.now.bits c.loop-w.kept c.mark_word.new.kept w c.word-word.result c.loop-w.from _ (omega arith) c.word-word.ensures (omega arith) v.set m.set;
+      ranks = omega (arith, v.ranks, count_of_word bits w c.word-word.result (is_word c.loop-w.w c.word-word.ensures c.words-words.ensures));
+      set = one_word bits c.args.by.now.bits c.loop-w.kept c.mark_word.new.kept w c.word-word.result c.loop-w.from _ (omega arith) (is_word c.loop-w.w c.word-word.ensures c.words-words.ensures) (omega arith) v.set m.set;
       long = m.len ∙ v.long;
       clear = λ k p q. m.clear k (omega arith) (omega (arith, v.long, q));
     }

@@ -1,9 +1,5 @@
-use Rattle.std.proofs.Common.{◌≡◌}
-use Rattle.vx_filter.specs.Compress.{IsEachStart, places_to}
+use Rattle.vx_filter.specs.Compress.{IsTable}
 use Rattle.vx_filter.proofs.compress.CompressTable.new.Given as goal
 
 abbrev pub invariant-loop-byte : goal.invariant-loop-byte
-invariant-loop-byte l = record {
-  places : l.places.items ≡ places_to l.byte;
-  starts : IsEachStart l.byte l.starts.items;
-}
+invariant-loop-byte l = IsTable l.byte l.places.items

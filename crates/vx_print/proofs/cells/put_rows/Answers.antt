@@ -1,0 +1,45 @@
+use Rattle.std.proofs.Common.{◌≡◌, ◌+◌, ◌-◌, ◌++◌, ◌∷◌, ◌∙◌, ◌<◌, ℕ, ap, sym, take, drop, length, set, arith}
+use Rattle.std.proofs.lemmas.List.{drop-set, drop_all, length-take-le}
+use Rattle.vx_types.specs.RowValue.{null}
+use Rattle.vx_column.specs.Cell.{row_of}
+use Rattle.vx_print.specs.Text.{lines, row_text}
+use Rattle.vx_print.proofs.Blocks.{row_more, rows_between}
+use Rattle.vx_print.proofs.cells.put_rows.Goals as goal
+
+pub loop-k-init : goal.loop-k-init
+loop-k-init c =
+    let rows = c.args.column.now.rows in
+    let end = c.args.end in
+    let long : length (take end rows) ≡ end = length-take-le end rows (omega arith) in
+    record {
+      room = omega arith;
+      within = omega arith;
+      put = drop_all 4288 c.args.dst.now (omega arith) ∙ sym (ap (lines (row_text c.args.column.now.dtype)) (drop_all (end - 0) (take end rows) (omega arith)));
+    }
+
+pub loop-k-preserved : goal.loop-k-preserved
+loop-k-preserved c =
+    let s = c.loop-k in
+    let v = s.invariant in
+    let f = row_text c.args.column.now.dtype in
+    let rows = c.args.column.now.rows in
+    let end = c.args.end in
+    let x = row_of c.cell_at.result in
+    let there : s.at - 1 + 1 ≡ s.at = omega arith in
+    let below : s.at - 1 < length s.dst = omega arith in
+    let feed : drop (s.at - 1) (set s.dst (s.at - 1) 10) ≡ 10 ∷ lines f (drop (end - s.k) (take end rows)) = drop-set s.dst (s.at - 1) 10 below ∙ ap (λ (n : ℕ). 10 ∷ drop n s.dst) there ∙ ap (λ l. 10 ∷ l) v.put in
+    record {
+      room = omega arith;
+      within = omega arith;
+      put = c.put_row-at.ensures.put ∙ ap (λ t. row_text t x ++ drop (s.at - 1) (set s.dst (s.at - 1) 10)) c.dtype.ensures.value ∙ ap (λ l. f x ++ l) feed ∙ row_more f rows end s.k x null (omega arith) (omega arith) c.cell_at.ensures.row;
+    }
+
+pub returns-clause-put : goal.returns-clause-put
+returns-clause-put c =
+    let s = c.loop-k in
+    let f = row_text c.args.column.now.dtype in
+    let rows = c.args.column.now.rows in
+    let start = c.args.start in
+    let end = c.args.end in
+    let first : end - s.k ≡ start = omega arith in
+    s.invariant.put ∙ ap (λ (n : ℕ). lines f (drop n (take end rows))) first ∙ ap (lines f) (rows_between rows start end (omega arith))

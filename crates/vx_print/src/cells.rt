@@ -1,0 +1,89 @@
+//! Lines of rows, read as cells and written by blocks: each block from its last row back to its
+//! first.
+ghost use Rattle.std.specs.Prelude.{◌≡◌, ◌+◌, ◌≤◌, ◌++◌, length, drop, IsOk, slice_range};
+ghost use Rattle.vx_types.specs.DType.{type_of};
+ghost use Rattle.vx_types.specs.PType.{width};
+ghost use Rattle.vx_column.specs.Cell.{row_of, IsOfType};
+ghost use Rattle.vx_print.specs.Text.{lines, primitive_text, row_text};
+
+use crate::row::{BLOCK, ROOM, ROW, put_hex, put_number, put_word};
+use vx_bits::NoMemory;
+use vx_column::{Array, Cell, DType, PType};
+
+// Writes a record of a primitive type so that it ends at `end`, and answers where it begins.
+#[inline(always)]
+#[tactic(auto, using(crate::proofs::Widths::width_short))]
+fn put_primitive(ptype: PType, bytes: &[u8], dst: &mut [u8; ROOM], end: usize) -> usize
+    requires width { length bytes.now ≡ width ptype }
+    requires room { ROW ≤ end }
+    requires within { end ≤ ROOM }
+    ensures room { end ≤ result + ROW }
+    ensures within { result ≤ end }
+    ensures put { drop result dst.new ≡ primitive_text ptype bytes.now ++ drop end dst.old }
+{
+    if ptype.is_int() {
+        put_number(ptype, bytes, dst, end)
+    } else {
+        put_hex(bytes, dst, end)
+    }
+}
+
+// Writes a row of this type so that it ends at `end`, and answers where it begins.
+#[inline(always)]
+#[tactic(auto, using(crate::proofs::Widths::decimal_short))]
+fn put_row(dtype: &DType, row: Cell<'_>, dst: &mut [u8; ROOM], end: usize) -> usize
+    requires of_type { IsOfType row (type_of dtype.now) }
+    requires room { ROW ≤ end }
+    requires within { end ≤ ROOM }
+    ensures room { end ≤ result + ROW }
+    ensures within { result ≤ end }
+    ensures put { drop result dst.new
+        ≡ row_text (type_of dtype.now) (row_of row.entry) ++ drop end dst.old }
+{
+    match (row, dtype) {
+        (Cell::Null, _) => put_word(b"null", dst, end),
+        (Cell::Bit(true), _) => put_word(b"true", dst, end),
+        (Cell::Bit(false), _) => put_word(b"false", dst, end),
+        (Cell::Bytes(bytes), DType::Primitive(ptype, _)) => put_primitive(*ptype, bytes, dst, end),
+        (Cell::Bytes(bytes), DType::Decimal(decimal, _)) => {
+            let width = decimal.width();
+            prove!(width <= 32);
+            put_hex(bytes, dst, end)
+        }
+        (Cell::Bytes(_), DType::Null | DType::Bool(_)) => unreachable!(),
+    }
+}
+
+// Writes the lines of the rows from `start` up to `end` so that they end where `dst` does, and
+// answers where they begin.
+fn put_rows(column: &Array, start: usize, end: usize, dst: &mut [u8; ROOM]) -> usize
+    requires ordered { start ≤ end }
+    requires block { end ≤ start + BLOCK }
+    requires within { end ≤ length column.now.rows }
+    ensures within { result ≤ ROOM }
+    ensures put { drop result dst.new
+        ≡ lines (row_text column.now.dtype) (slice_range column.now.rows start end) }
+{
+    let mut at = ROOM;
+    for k in 0..end - start {
+        at -= 1;
+        dst[at] = b'\n';
+        at = put_row(column.dtype(), column.cell_at(end - 1 - k), dst, at);
+    }
+    at
+}
+
+/// Appends a line for each row. `NoMemory` alone.
+pub(crate) fn push_rows(text: &mut Vec<u8>, column: &Array) -> Result<(), NoMemory>
+    ensures { IsOk result → text.new.items
+        ≡ text.old.items ++ lines (row_text column.now.dtype) column.now.rows }
+{
+    let mut dst = [0; ROOM];
+    for k in 0..column.len().div_ceil(BLOCK) {
+        let start = BLOCK * k;
+        let end = start + (column.len() - start).min(BLOCK);
+        let at = put_rows(column, start, end, &mut dst);
+        text.extend_from_slice(&dst[at..])?;
+    }
+    Ok(())
+}
