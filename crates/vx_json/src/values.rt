@@ -166,7 +166,8 @@ pub fn values_of(alloc: Global, ptype: PType, items: &Vec<Value>) -> Result<Reco
 /// zeros for each null. `Malformed` where an item is neither.
 pub fn hex_values_of(alloc: Global, width: usize, items: &Vec<Value>) -> Result<Records, DocError>
     requires { is_width width ≡ true }
-    ensures value { Gives records_of result (each (hex_or_zero width) (items_view items.now.items)) }
+    ensures value { Gives records_of result
+        (each (hex_or_zero width) (items_view items.now.items)) }
     ensures width { IfOk result (λ r. width_of r ≡ width) }
 {
     match width {
