@@ -33,7 +33,8 @@ impl BoolArray {
 impl Validity {
     // The bits that say which rows are there, where it is a column of layout `Bool`.
     fn bits(&self) -> Option<&BitBuffer>
-        ensures bits { IfSome result (λ b. (n : ℕ) → present_bits (valid_of self.now) n ≡ b.now.bits) }
+        ensures bits { IfSome result
+            (λ b. (n : ℕ) → present_bits (valid_of self.now) n ≡ b.now.bits) }
         ensures nullable { IfSome result (λ _. nullability_by (valid_of self.now) ≡ Nullable) }
     {
         match self {
