@@ -19,6 +19,3 @@ pub use standard::{StdSink, StdSource};
 pub use steady_source::SteadySource;
 pub use transfer::{MAX_BYTES, Stop, deliver, read_all};
 pub use vx_bits::Failed;
-
-#[cfg(test)]
-mod tests;
