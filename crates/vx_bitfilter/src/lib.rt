@@ -12,6 +12,3 @@ pub use pext::pext_fallback;
 pub use sparse::filter_sparse;
 pub use table::PextTable;
 pub use words::{filter_bitbuffer_by_mask, filter_words};
-
-#[cfg(test)]
-mod tests;

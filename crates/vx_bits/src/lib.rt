@@ -19,6 +19,3 @@ pub use record::Record;
 pub use records::Records;
 pub use word_reader::{CountedWords, PlainWords, WordReader};
 pub use words::Words;
-
-#[cfg(test)]
-mod tests;

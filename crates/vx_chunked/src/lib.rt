@@ -24,6 +24,3 @@ pub use filter::{
 pub use laws::asked_law;
 pub use logged::Logged;
 pub use stored::StoredChunks;
-
-#[cfg(test)]
-mod tests;

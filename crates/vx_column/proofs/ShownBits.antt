@@ -6,7 +6,7 @@ use Rattle.vx_model.specs.Column.{Column}
 use Rattle.vx_model.specs.Valid.{Valid, non_nullable, by_column, is_yes, is_fitting, present_bits, shown_rows, stored_rows}
 use Rattle.vx_model.specs.Bool.{BoolParts, bool_column}
 use Rattle.vx_model.specs.Primitive.{PrimitiveParts, primitive_fault, primitive_column}
-use Rattle.vx_model.specs.Decimal.{DecimalParts, decimal_array_fault, decimal_column}
+use Rattle.vx_model.specs.Decimal.{DecimalParts, decimals_fault, decimal_column}
 use Rattle.vx_model.proofs.ShownRows.{shown_rows-all, length-present_bits}
 use Rattle.vx_model.proofs.Layouts.{is_fitting-primitive, is_fitting-decimal, width-primitive, width-decimal}
 
@@ -33,7 +33,7 @@ rows-decimal-shown p bits h = ap (λ b. shown_rows b (map bytes p.records)) (h _
 pub length-primitive-shown : (p : PrimitiveParts) (bits : List Bool) → primitive_fault p ≡ None → ((n : ℕ) → present_bits p.valid n ≡ bits) → length bits ≡ length p.records
 length-primitive-shown p bits f h = ap length (sym (h (length p.records))) ∙ length-present_bits p.valid (length p.records) (is_fitting-primitive p f)
 
-pub length-decimal-shown : (p : DecimalParts) (bits : List Bool) → decimal_array_fault p ≡ None → ((n : ℕ) → present_bits p.valid n ≡ bits) → length bits ≡ length p.records
+pub length-decimal-shown : (p : DecimalParts) (bits : List Bool) → decimals_fault p ≡ None → ((n : ℕ) → present_bits p.valid n ≡ bits) → length bits ≡ length p.records
 length-decimal-shown p bits f h = ap length (sym (h (length p.records))) ∙ length-present_bits p.valid (length p.records) (is_fitting-decimal p f)
 
 pub ruleset shown = (rows-bool, present-bools, rows-primitive-shown, rows-decimal-shown, length-primitive-shown, length-decimal-shown, width-primitive, width-decimal)

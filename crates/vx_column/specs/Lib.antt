@@ -1,3 +1,4 @@
+pub mod Bool
 pub mod Cell
 pub mod Decimal
 pub mod Flat

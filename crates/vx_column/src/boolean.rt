@@ -4,6 +4,7 @@ ghost use Rattle.vx_bits.specs.Results.{ok_unless};
 ghost use Rattle.vx_model.specs.Valid.{is_fitting};
 ghost use Rattle.vx_model.specs.Bool.{bool_fault, bool_column, bool_with};
 ghost use Rattle.vx_column.specs.Validity.{valid_of};
+ghost use Rattle.vx_column.specs.Bool.{bool_parts};
 
 use crate::array::{Array, Layout};
 use crate::validity::Validity;
@@ -30,11 +31,11 @@ impl Model for BoolArray {
     ghost use Rattle.std.proofs.Common.{arith};
     ghost use Rattle.vx_model.specs.Valid.{valid_size};
     ghost use Rattle.vx_model.specs.Bool.{bool_fault};
-    ghost use Rattle.vx_column.specs.Validity.{valid_of};
+    ghost use Rattle.vx_column.specs.Bool.{bool_parts};
 
-    ghost view = { λ a. record { bits = a.bits; valid = valid_of a.validity } };
+    ghost view = { λ a. bool_parts a.bits a.validity };
 
-    ghost invariant = { λ a. bool_fault (record { bits = a.bits; valid = valid_of a.validity }) ≡ None };
+    ghost invariant = { λ a. bool_fault (bool_parts a.bits a.validity) ≡ None };
 
     ghost size = { λ p. valid_size p.valid };
 
@@ -46,8 +47,8 @@ impl BoolArray {
     ///
     /// `BadValidity` exactly where the validity can't be that of so many rows.
     pub fn try_new(bits: BitBuffer, validity: Validity) -> Result<BoolArray, ColumnError>
-        ensures { result ≡ ok_unless (bool_fault (record { bits = bits; valid = valid_of validity }))
-            (record { bits = bits; valid = valid_of validity }) }
+        ensures { result
+            ≡ ok_unless (bool_fault (bool_parts bits validity)) (bool_parts bits validity) }
     {
         if !validity.is_fitting(bits.len()) {
             return Err(ColumnError::BadValidity);

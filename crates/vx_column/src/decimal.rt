@@ -3,7 +3,7 @@ ghost use Rattle.std.specs.Prelude.{◌≡◌, length, true, None};
 ghost use Rattle.vx_bits.specs.Results.{ok_unless};
 ghost use Rattle.vx_bits.specs.Records.{records_of, width_of};
 ghost use Rattle.vx_model.specs.Valid.{is_fitting};
-ghost use Rattle.vx_model.specs.Decimal.{decimal_array_fault, decimal_column, decimal_with};
+ghost use Rattle.vx_model.specs.Decimal.{decimals_fault, decimal_column, decimal_with};
 ghost use Rattle.vx_column.specs.Validity.{valid_of};
 ghost use Rattle.vx_column.specs.Decimal.{decimal_parts};
 
@@ -32,12 +32,12 @@ impl Model for DecimalArray {
     ghost use Rattle.std.specs.Prelude.{◌≡◌, None};
     ghost use Rattle.std.proofs.Common.{arith};
     ghost use Rattle.vx_model.specs.Valid.{valid_size};
-    ghost use Rattle.vx_model.specs.Decimal.{decimal_array_fault};
+    ghost use Rattle.vx_model.specs.Decimal.{decimals_fault};
     ghost use Rattle.vx_column.specs.Decimal.{decimal_parts};
 
     ghost view = { λ a. decimal_parts a.decimal a.values a.validity };
 
-    ghost invariant = { λ a. decimal_array_fault (decimal_parts a.decimal a.values a.validity) ≡ None };
+    ghost invariant = { λ a. decimals_fault (decimal_parts a.decimal a.values a.validity) ≡ None };
 
     ghost size = { λ p. valid_size p.valid };
 
@@ -54,7 +54,7 @@ impl DecimalArray {
         values: Records,
         validity: Validity,
     ) -> Result<DecimalArray, ColumnError>
-        ensures { result ≡ ok_unless (decimal_array_fault (decimal_parts decimal values validity))
+        ensures { result ≡ ok_unless (decimals_fault (decimal_parts decimal values validity))
             (decimal_parts decimal values validity) }
     {
         if decimal.width() as usize != values.width() {
@@ -81,7 +81,7 @@ impl DecimalArray {
     pub fn values(&self) -> &Records
         ensures records { records_of result.now ≡ self.now.records }
         ensures width { width_of result.now ≡ self.now.width }
-        ensures valid { decimal_array_fault self.now ≡ None }
+        ensures valid { decimals_fault self.now ≡ None }
     {
         &self.values
     }
@@ -89,7 +89,7 @@ impl DecimalArray {
     /// Which rows are there.
     pub fn validity(&self) -> &Validity
         ensures value { valid_of result.now ≡ self.now.valid }
-        ensures valid { decimal_array_fault self.now ≡ None }
+        ensures valid { decimals_fault self.now ≡ None }
     {
         &self.validity
     }

@@ -18,7 +18,9 @@ impl Array {
         match self.cell_at(i) {
             Cell::Null => Ok(Row::Null),
             Cell::Bit(bit) => Ok(Row::Bit(bit)),
-            Cell::Bytes(bytes) => Ok(Row::Bytes(ByteList::from_vec(Vec::from_slice(alloc, bytes)?))),
+            Cell::Bytes(bytes) => Ok(Row::Bytes(ByteList::from_vec(Vec::from_slice(
+                alloc, bytes,
+            )?))),
         }
     }
 }

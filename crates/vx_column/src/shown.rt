@@ -3,7 +3,8 @@
 
 ghost use Rattle.std.specs.Prelude.{◌≡◌, ℕ, map, IfSome};
 ghost use Rattle.vx_types.specs.RowValue.{bit};
-ghost use Rattle.vx_model.specs.Valid.{present_bits};
+ghost use Rattle.vx_types.specs.declared.nullability.Nullability.TheVariants.{Nullable};
+ghost use Rattle.vx_model.specs.Valid.{nullability_by, present_bits};
 ghost use Rattle.vx_model.specs.Bool.{bool_column};
 ghost use Rattle.vx_model.specs.Primitive.{primitive_column};
 ghost use Rattle.vx_model.specs.Decimal.{decimal_column};
@@ -32,7 +33,9 @@ impl BoolArray {
 impl Validity {
     // The bits that say which rows are there, where it is a column of layout `Bool`.
     fn bits(&self) -> Option<&BitBuffer>
-        ensures { IfSome result (λ b. (n : ℕ) → present_bits (valid_of self.now) n ≡ b.now.bits) }
+        ensures bits { IfSome result
+            (λ b. (n : ℕ) → present_bits (valid_of self.now) n ≡ b.now.bits) }
+        ensures nullable { IfSome result (λ _. nullability_by (valid_of self.now) ≡ Nullable) }
     {
         match self {
             Validity::NonNullable | Validity::AllValid | Validity::AllInvalid => None,

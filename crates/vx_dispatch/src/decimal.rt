@@ -30,7 +30,11 @@ pub(crate) fn slice_of(
 {
     let values = array.values();
     let validity = slice_validity(alloc, array.validity(), values.len(), start, end)?;
-    Ok(array.with_rows(values.slice(start, end), validity).into_array())
+    Ok(
+        array
+            .with_rows(values.slice(start, end), validity)
+            .into_array(),
+    )
 }
 
 #[cycle(filter)]

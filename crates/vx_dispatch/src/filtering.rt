@@ -21,7 +21,8 @@ pub(crate) fn filter_values(
     policy: &Policy,
 ) -> Result<Array, NoMemory>
     requires { length mask.now.bits.bits ≡ length array.now.rows }
-    ensures cut { IfOk result (IsCut array.now (items_where_true mask.now.bits.bits array.now.rows)) }
+    ensures cut { IfOk result
+        (IsCut array.now (items_where_true mask.now.bits.bits array.now.rows)) }
     ensures null { is_null_layout array.now.layout ≡ true → IsOk result }
 {
     match array.layout() {
@@ -34,14 +35,10 @@ pub(crate) fn filter_values(
 
 /// The rows at the set positions of a mask that is as long. `NoMemory` alone, and never where the
 /// mask keeps all rows, nor where it keeps none of a plain column, nor over layout `Null`.
-pub fn filter(
-    alloc: Global,
-    array: &Array,
-    mask: &Mask,
-    policy: &Policy,
-) -> Result<Array, NoMemory>
+pub fn filter(alloc: Global, array: &Array, mask: &Mask, policy: &Policy) -> Result<Array, NoMemory>
     requires { length (mask_bits mask.now) ≡ length array.now.rows }
-    ensures cut { IfOk result (IsCut array.now (items_where_true (mask_bits mask.now) array.now.rows)) }
+    ensures cut { IfOk result
+        (IsCut array.now (items_where_true (mask_bits mask.now) array.now.rows)) }
     ensures all_or_none { partial_of mask.now ≡ None → is_plain array.now ≡ true → IsOk result }
     ensures null { is_null_layout array.now.layout ≡ true → IsOk result }
 {

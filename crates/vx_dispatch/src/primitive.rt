@@ -10,7 +10,7 @@ ghost use Rattle.vx_types.specs.declared.nullability.Nullability.TheVariants.{No
 use crate::validity::{filter_validity, slice_validity, take_validity};
 use std::alloc::Global;
 use vx_bits::NoMemory;
-use vx_column::{Array, PrimitiveArray, Nullability};
+use vx_column::{Array, Nullability, PrimitiveArray};
 use vx_flat::{filter_primitive, take_primitive};
 use vx_mask::{MaskValues, Policy};
 use vx_take::Picks;
@@ -30,7 +30,11 @@ pub(crate) fn slice_of(
 {
     let values = array.values();
     let validity = slice_validity(alloc, array.validity(), values.len(), start, end)?;
-    Ok(array.with_rows(values.slice(start, end), validity).into_array())
+    Ok(
+        array
+            .with_rows(values.slice(start, end), validity)
+            .into_array(),
+    )
 }
 
 #[cycle(filter)]

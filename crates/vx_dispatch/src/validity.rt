@@ -29,7 +29,8 @@ pub(crate) fn slice_validity(
     requires fitting { is_fitting (valid_of validity.now) len ≡ true }
     requires ordered { start ≤ end }
     requires within { end ≤ len }
-    ensures left { IfOk result (λ v. IsLeft (valid_of validity.now) (nullability_by (valid_of validity.now))
+    ensures left { IfOk result (λ v. IsLeft (valid_of validity.now)
+        (nullability_by (valid_of validity.now))
         (slice_range (present_bits (valid_of validity.now) len) start end) (valid_of v)) }
     ensures plain { IfOk result (λ v. IsAsPlain (valid_of validity.now) (valid_of v)) }
     ensures constant { is_constant_form (cover_by (valid_of validity.now)) ≡ true → IsOk result }
@@ -54,9 +55,10 @@ pub(crate) fn filter_validity(
     policy: &Policy,
 ) -> Result<Validity, NoMemory>
     requires { is_fitting (valid_of validity.now) (length mask.now.bits.bits) ≡ true }
-    ensures left { IfOk result (λ v. IsLeft (valid_of validity.now) (nullability_by (valid_of validity.now))
+    ensures left { IfOk result (λ v. IsLeft (valid_of validity.now)
+        (nullability_by (valid_of validity.now))
         (items_where_true mask.now.bits.bits
-            (present_bits (valid_of validity.now) (length mask.now.bits.bits)))
+        (present_bits (valid_of validity.now) (length mask.now.bits.bits)))
         (valid_of v)) }
     ensures plain { IfOk result (λ v. IsAsPlain (valid_of validity.now) (valid_of v)) }
 {

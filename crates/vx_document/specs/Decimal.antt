@@ -5,7 +5,7 @@ use Rattle.serde_json.specs.Find.{get, as_array}
 use Rattle.vx_types.specs.Decimal.{DecimalValue}
 use Rattle.vx_model.specs.Column.{Column}
 use Rattle.vx_model.specs.Valid.{Valid}
-use Rattle.vx_model.specs.Decimal.{DecimalParts, decimal_array_fault, decimal_column}
+use Rattle.vx_model.specs.Decimal.{DecimalParts, decimals_fault, decimal_column}
 use Rattle.vx_json.specs.Meaning.{◌>>=◌, unless_fault}
 use Rattle.vx_json.specs.Members.{is_closed}
 use Rattle.vx_json.specs.Items.{each}
@@ -20,7 +20,7 @@ decimal_parts t records valid =
 -- the column of these records, where the validity can be theirs
 unfoldable pub decimal_made : DecimalValue → List (List ℕ) → Valid → Option Column
 decimal_made t records valid =
-    unless_fault (decimal_array_fault (decimal_parts t records valid))
+    unless_fault (decimals_fault (decimal_parts t records valid))
     (decimal_column (decimal_parts t records valid))
 
 -- a list of records and nulls

@@ -150,8 +150,8 @@ fn items_hold_later(items: &Vec<Value>) -> bool
 {
     for item in items {
         match item {
-            // most lists are of numbers, which hold nothing
-            Value::Number(_) => {}
+            // most lists are of these, which hold nothing
+            Value::Number(_) | Value::String(_) | Value::Bool(_) | Value::Null => {}
             other => if holds_later(other) {
                 return true;
             },

@@ -18,6 +18,3 @@ pub use in_place::{filter_slice_in_place, filter_vec};
 pub use ladder::filter_slice;
 pub use laws::filter_law;
 pub use lists::{filter_slice_by_indices, filter_slice_by_slices};
-
-#[cfg(test)]
-mod tests;

@@ -104,7 +104,7 @@ not_all_digits (b ∷ bs) h e = by (not_all_digits bs h.1) (even b == 48) refl
         rw (no_digit b other) refl
 
 -- ---- eight low bits into one byte
-word_bits-cons : (d r n : ℕ) → d < 2 → word_bits (d + 2 * r) (suc n) ≡ (d == 1) ∷ word_bits r n
+pub word_bits-cons : (d r n : ℕ) → d < 2 → word_bits (d + 2 * r) (suc n) ≡ (d == 1) ∷ word_bits r n
 unfolding word_bits
 word_bits-cons d r n h =
     let low : (d + 2 * r) % 2 ≡ d = omega arith in

@@ -1,5 +1,5 @@
 -- The items of a list, part by part.
-use Rattle.std.proofs.Common.{◌≡◌, ℕ, ◌+◌, List, [], ◌∷◌, ◌++◌, take, drop, Option, Some, None, refl, sym, ap, ◌∙◌, append_assoc, take-append-drop, length, ◌≤◌, arith}
+use Rattle.std.proofs.Common.{◌≡◌, ℕ, ◌+◌, List, [], ◌∷◌, ◌++◌, take, drop, Option, Some, None, refl, sym, ap, ◌∙◌, append_assoc, take-append-drop, length, get_or, ◌<◌, ◌≤◌, arith}
 use Rattle.std.proofs.lemmas.List.{drop-drop, length-take, length-drop}
 use Rattle.serde_json.specs.Data.{Data}
 use Rattle.serde_json.specs.View.{view, items_view}
@@ -8,7 +8,7 @@ use Rattle.vx_json.specs.Meaning.{◌>>=◌, Fails, with_read}
 use Rattle.vx_json.specs.Items.{each}
 use Rattle.vx_json.specs.declared.error.DocError.{DocError}
 use Rattle.vx_json.specs.declared.error.DocError.TheVariants.{Malformed, NoMemory}
-use Rattle.vx_json.proofs.Reading.{none_read, IsReading}
+use Rattle.vx_json.proofs.Reading.{none_read, items_from, IsReading}
 
 -- what two parts mean, one behind the other
 each-append : {A : Type 0} (f : Data → Option A) (vs ws : List Value) → each f (items_view (vs ++ ws)) ≡ (each f (items_view vs) >>= λ xs. with_read xs (each f (items_view ws)))
@@ -49,3 +49,20 @@ module _ {A : Type 0} (f : Data → Option A) (vs : List Value) (k : ℕ) (read 
   pub part_fails : (e : DocError) → Fails e (each f (items_view (take n (drop k vs)))) → Fails e (each f (items_view vs))
   part_fails Malformed none = let whole : with_read read (None >>= λ xs. with_read xs (each f (items_view (drop (k + n) vs)))) ≡ each f (items_view vs) = rw none at parts in sym whole
   part_fails NoMemory none = tt
+
+-- ---- from the last item back
+module _ {A : Type 0} (f : Data → Option A) (vs : List Value) (k : ℕ) (v : Value) (h : k < length vs) (is : v ≡ get_or vs k v) where
+  pub front_read : (x : A) (xs : List A) → f (view v) ≡ Some x → each f (items_view (drop (k + 1) vs)) ≡ Some xs → each f (items_view (drop k vs)) ≡ Some (x ∷ xs)
+  unfolding each
+  front_read x xs gives rest = rw (items_from vs k v h is, gives, rest) refl
+
+  pub front_fails : (e : DocError) → Fails e (f (view v)) → Fails e (each f (items_view vs))
+  unfolding each
+  front_fails Malformed none =
+      let from : each f (items_view (drop k vs)) ≡ None = rw (items_from vs k v h is, none) refl in
+      ap (λ l. each f (items_view l)) (sym (take-append-drop k vs)) ∙ each-append f (take k vs) (drop k vs) ∙ rw from (nothing (each f (items_view (take k vs))))
+    where
+      nothing : (o : Option (List A)) → (o >>= λ xs. with_read xs None) ≡ None
+      nothing None = refl
+      nothing (Some xs) = refl
+  front_fails NoMemory none = tt

@@ -1,7 +1,7 @@
 pub mod Reading
-pub mod ItemParts
-pub mod ItemBits
 pub mod PairLists
 pub mod Digits
 pub mod BitReading
+pub mod ItemParts
+pub mod ItemBits
 pub mod Made

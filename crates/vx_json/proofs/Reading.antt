@@ -19,7 +19,7 @@ with_read-one read x None = refl
 with_read-one read x (Some xs) = ap Some (simp append_assoc)
 
 -- the items from place k on begin with the one there
-items_from : (vs : List Value) (k : ℕ) (v : Value) → k < length vs → v ≡ get_or vs k v → items_view (drop k vs) ≡ item (view v) (items_view (drop (k + 1) vs))
+pub items_from : (vs : List Value) (k : ℕ) (v : Value) → k < length vs → v ≡ get_or vs k v → items_view (drop k vs) ≡ item (view v) (items_view (drop (k + 1) vs))
 items_from vs k v h is = ap items_view (drop-cons vs k v h) ∙ rw (← is, add-one) refl
 
 -- The state of a loop that has read the items before place k: what they gave, behind which the rest gives the whole.

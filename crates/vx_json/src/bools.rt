@@ -26,7 +26,7 @@ trait ReadBit {
         ensures { Gives (λ b. b) result (bit self.now (view value.now)) };
 }
 
-/// The bits that a word's items mean, the first one lowest.
+/// The bits that a word's items mean, the first one lowest: from the last item back.
 #[inline(always)]
 fn read_word<R: ReadBit>(reader: &R, items: &[Value]) -> Result<u64, DocError>
     requires { length items.now ≤ 64 }
@@ -34,8 +34,9 @@ fn read_word<R: ReadBit>(reader: &R, items: &[Value]) -> Result<u64, DocError>
         (each (R.bit reader.now) (items_view items.now)) }
 {
     let mut word = 0;
-    for k in 0..items.len() {
-        word += u64::from(reader.read(&items[k])?) << k;
+    for passed in 0..items.len() {
+        let bit = reader.read(&items[items.len() - 1 - passed])?;
+        word = 2 * word + u64::from(bit);
     }
     Ok(word)
 }

@@ -68,18 +68,20 @@ impl<const W: usize> ReadItem for WholeItem<W> {
     #[inline(always)]
     #[tactic(auto, unfolding(crate::specs::Values::whole_record))]
     fn read(&self, _alloc: Global, value: &Value) -> Result<[u8; W], DocError> {
-        match value {
-            Value::Number(number) => match number.as_i128() {
+        if let Value::Number(number) = value {
+            return match number.as_i128() {
                 Some(z) => if self.ptype.is_in_range(z) {
                     Ok(record_of::<W>(z))
                 } else {
                     Err(DocError::Malformed)
                 },
                 None => Err(DocError::Malformed),
-            },
-            Value::Null => Ok([0; W]),
-            _ => Err(DocError::Malformed),
+            };
         }
+        if let Value::Null = value {
+            return Ok([0; W]);
+        }
+        Err(DocError::Malformed)
     }
 }
 
@@ -166,7 +168,8 @@ pub fn values_of(alloc: Global, ptype: PType, items: &Vec<Value>) -> Result<Reco
 /// zeros for each null. `Malformed` where an item is neither.
 pub fn hex_values_of(alloc: Global, width: usize, items: &Vec<Value>) -> Result<Records, DocError>
     requires { is_width width ≡ true }
-    ensures value { Gives records_of result (each (hex_or_zero width) (items_view items.now.items)) }
+    ensures value { Gives records_of result
+        (each (hex_or_zero width) (items_view items.now.items)) }
     ensures width { IfOk result (λ r. width_of r ≡ width) }
 {
     match width {

@@ -21,6 +21,3 @@ pub use mask_values::MaskValues;
 pub use policy::{Policy, PolicyError, PolicyFields, Ratio};
 pub use ranks::{rank_words, words_before};
 pub use reuse::prepare_mask_for_reuse;
-
-#[cfg(test)]
-mod tests;

@@ -9,7 +9,7 @@ use Rattle.vx_model.specs.Valid.{Valid, non_nullable, all_valid, all_invalid, by
 use Rattle.vx_model.specs.Null.{null_column}
 use Rattle.vx_model.specs.Bool.{BoolParts, bool_fault, bool_column}
 use Rattle.vx_model.specs.Primitive.{PrimitiveParts, primitive_fault, primitive_column}
-use Rattle.vx_model.specs.Decimal.{DecimalParts, decimal_array_fault, decimal_column}
+use Rattle.vx_model.specs.Decimal.{DecimalParts, decimals_fault, decimal_column}
 use Rattle.vx_model.proofs.ShownRows.{shown_rows-all}
 use Rattle.vx_model.proofs.StoredRows.{length-stored_rows, get_or-stored_rows}
 
@@ -23,14 +23,14 @@ is_fitting-bool p h = grind arith
 pub is_fitting-primitive : (p : PrimitiveParts) → primitive_fault p ≡ None → is_fitting p.valid (length p.records) ≡ true
 is_fitting-primitive p h = grind arith
 
-pub is_fitting-decimal : (p : DecimalParts) → decimal_array_fault p ≡ None → is_fitting p.valid (length p.records) ≡ true
+pub is_fitting-decimal : (p : DecimalParts) → decimals_fault p ≡ None → is_fitting p.valid (length p.records) ≡ true
 is_fitting-decimal p h = grind arith
 
 -- the records are as wide as the type
 pub width-primitive : (p : PrimitiveParts) → primitive_fault p ≡ None → width p.ptype ≡ p.width
 width-primitive p h = grind arith
 
-pub width-decimal : (p : DecimalParts) → decimal_array_fault p ≡ None → p.decimal.width ≡ p.width
+pub width-decimal : (p : DecimalParts) → decimals_fault p ≡ None → p.decimal.width ≡ p.width
 width-decimal p h = grind arith
 
 -- there are as many rows as bits or records
@@ -47,7 +47,7 @@ length-primitive p h =
     let long = length-map p.records bytes in
     length-stored_rows p.valid (map bytes p.records) (fits p.valid _ _ long (is_fitting-primitive p h)) ∙ long
 
-pub length-decimal : (p : DecimalParts) → decimal_array_fault p ≡ None → length (decimal_column p).rows ≡ length p.records
+pub length-decimal : (p : DecimalParts) → decimals_fault p ≡ None → length (decimal_column p).rows ≡ length p.records
 length-decimal p h =
     let long = length-map p.records bytes in
     length-stored_rows p.valid (map bytes p.records) (fits p.valid _ _ long (is_fitting-decimal p h)) ∙ long
@@ -68,7 +68,7 @@ row-primitive p i h l =
     get_or-stored_rows p.valid (map bytes p.records) i (fits p.valid _ _ long (is_fitting-primitive p h)) (omega (arith, long))
     ∙ ap (λ (x : RowValue). if is_present p.valid i then x else null) (get_or-map bytes p.records i [] null l)
 
-pub row-decimal : (p : DecimalParts) (i : ℕ) → decimal_array_fault p ≡ None → i < length p.records → get_or (decimal_column p).rows i null ≡ (if is_present p.valid i then bytes (get_or p.records i []) else null)
+pub row-decimal : (p : DecimalParts) (i : ℕ) → decimals_fault p ≡ None → i < length p.records → get_or (decimal_column p).rows i null ≡ (if is_present p.valid i then bytes (get_or p.records i []) else null)
 row-decimal p i h l =
     let long = length-map p.records bytes in
     get_or-stored_rows p.valid (map bytes p.records) i (fits p.valid _ _ long (is_fitting-decimal p h)) (omega (arith, long))

@@ -11,7 +11,7 @@ use Rattle.vx_model.specs.Valid.{Valid, is_fitting, nullability_by, present_bits
 use Rattle.vx_model.specs.Null.{null_column}
 use Rattle.vx_model.specs.Bool.{BoolParts, bool_fault, bool_column, bool_with}
 use Rattle.vx_model.specs.Primitive.{PrimitiveParts, primitive_fault, primitive_column, primitive_with}
-use Rattle.vx_model.specs.Decimal.{DecimalParts, decimal_array_fault, decimal_column, decimal_with}
+use Rattle.vx_model.specs.Decimal.{DecimalParts, decimals_fault, decimal_column, decimal_with}
 use Rattle.vx_model.specs.Step.{IsCut, IsSlice}
 use Rattle.vx_model.proofs.Items.{map-items_where_true, map-slice_range, items_where_true-replicate, slice_range-replicate}
 use Rattle.vx_model.proofs.StoredRows.{slice_range-stored_rows, items_where_true-stored_rows, is_cut-stored}
@@ -67,7 +67,7 @@ pub is_slice-primitive : (p : PrimitiveParts) (w : Valid) (s e : ℕ) → primit
 is_slice-primitive p w s e f h l left plain =
     is_cut-stored layouts.Primitive (primitive_type p.ptype) p.valid w _ _ _ _ _ _ (slice-stored bytes p.records p.valid w (is_fitting-primitive p f) s e h l left) left plain
 
-pub is_slice-decimal : (p : DecimalParts) (w : Valid) (s e : ℕ) → decimal_array_fault p ≡ None → s ≤ e → e ≤ length p.records → IsLeft p.valid (nullability_by p.valid) (slice_range (present_bits p.valid (length p.records)) s e) w → IsAsPlain p.valid w → IsSlice (decimal_column p) s e (decimal_column (decimal_with p (slice_range p.records s e) w))
+pub is_slice-decimal : (p : DecimalParts) (w : Valid) (s e : ℕ) → decimals_fault p ≡ None → s ≤ e → e ≤ length p.records → IsLeft p.valid (nullability_by p.valid) (slice_range (present_bits p.valid (length p.records)) s e) w → IsAsPlain p.valid w → IsSlice (decimal_column p) s e (decimal_column (decimal_with p (slice_range p.records s e) w))
 is_slice-decimal p w s e f h l left plain =
     is_cut-stored layouts.Decimal (decimal_type p.decimal.precision p.decimal.scale p.decimal.width) p.valid w _ _ _ _ _ _ (slice-stored bytes p.records p.valid w (is_fitting-decimal p f) s e h l left) left plain
 
@@ -80,6 +80,6 @@ pub is_filter-primitive : (p : PrimitiveParts) (w : Valid) (mask : List Bool) �
 is_filter-primitive p w mask f h left plain =
     is_cut-stored layouts.Primitive (primitive_type p.ptype) p.valid w _ _ _ _ _ _ (filter-stored bytes p.records p.valid w (is_fitting-primitive p f) mask h left) left plain
 
-pub is_filter-decimal : (p : DecimalParts) (w : Valid) (mask : List Bool) → decimal_array_fault p ≡ None → length mask ≡ length p.records → IsLeft p.valid (nullability_by p.valid) (items_where_true mask (present_bits p.valid (length mask))) w → IsAsPlain p.valid w → IsCut (decimal_column p) (items_where_true mask (decimal_column p).rows) (decimal_column (decimal_with p (items_where_true mask p.records) w))
+pub is_filter-decimal : (p : DecimalParts) (w : Valid) (mask : List Bool) → decimals_fault p ≡ None → length mask ≡ length p.records → IsLeft p.valid (nullability_by p.valid) (items_where_true mask (present_bits p.valid (length mask))) w → IsAsPlain p.valid w → IsCut (decimal_column p) (items_where_true mask (decimal_column p).rows) (decimal_column (decimal_with p (items_where_true mask p.records) w))
 is_filter-decimal p w mask f h left plain =
     is_cut-stored layouts.Decimal (decimal_type p.decimal.precision p.decimal.scale p.decimal.width) p.valid w _ _ _ _ _ _ (filter-stored bytes p.records p.valid w (is_fitting-decimal p f) mask h left) left plain

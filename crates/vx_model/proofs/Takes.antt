@@ -18,7 +18,7 @@ use Rattle.vx_model.specs.Valid.{Valid, non_nullable, all_valid, all_invalid, by
 use Rattle.vx_model.specs.Null.{null_column}
 use Rattle.vx_model.specs.Bool.{BoolParts, bool_fault, bool_column, bool_with, bits_column}
 use Rattle.vx_model.specs.Primitive.{PrimitiveParts, primitive_fault, primitive_column, primitive_with}
-use Rattle.vx_model.specs.Decimal.{DecimalParts, decimal_array_fault, decimal_column, decimal_with}
+use Rattle.vx_model.specs.Decimal.{DecimalParts, decimals_fault, decimal_column, decimal_with}
 use Rattle.vx_model.specs.Step.{IsTake}
 use Rattle.vx_model.proofs.ShownRows.{length-present_bits, shown_rows-all}
 use Rattle.vx_model.proofs.StoredRows.{is_step-stored}
@@ -65,7 +65,7 @@ module _ {X : Type 0} (f : X → RowValue) (missing : X) (items : List X) (v w :
   take-stored left =
       let bits = present_bits v (length items) in
       let long : length (map f (at missing items picks)) ≡ length (at false bits picks) =
-          length-map (at missing items picks) f ∙ length-at missing items picks ∙ sym (length-at false bits picks) in
+      length-map (at missing items picks) f ∙ length-at missing items picks ∙ sym (length-at false bits picks) in
       let same : length bits ≡ length (map f items) = length-present_bits v (length items) fit ∙ sym (length-map items f) in
       ap (λ m. shown_rows (present_bits w m) (map f (at missing items picks))) long
       ∙ ap₂ shown_rows left.bits (map-at f missing items picks)
@@ -97,7 +97,7 @@ module _ (w : Valid) (picks : List (Option ℕ)) (n : Nullability) where
   is_take-primitive p missing h left =
       is_step-stored layouts.Primitive (primitive_type p.ptype) p.valid w _ _ _ _ _ _ _ (take-stored bytes missing p.records p.valid w _ (is_fitting-primitive p h) picks left) left
 
-  pub is_take-decimal : (p : DecimalParts) (missing : List ℕ) → decimal_array_fault p ≡ None → IsLeft p.valid (either_nullable (nullability_by p.valid) n) (at false (present_bits p.valid (length p.records)) picks) w → IsTake (decimal_column p) picks n (decimal_column (decimal_with p (at missing p.records picks) w))
+  pub is_take-decimal : (p : DecimalParts) (missing : List ℕ) → decimals_fault p ≡ None → IsLeft p.valid (either_nullable (nullability_by p.valid) n) (at false (present_bits p.valid (length p.records)) picks) w → IsTake (decimal_column p) picks n (decimal_column (decimal_with p (at missing p.records picks) w))
   is_take-decimal p missing h left =
       is_step-stored layouts.Decimal (decimal_type p.decimal.precision p.decimal.scale p.decimal.width) p.valid w _ _ _ _ _ _ _ (take-stored bytes missing p.records p.valid w _ (is_fitting-decimal p h) picks left) left
 

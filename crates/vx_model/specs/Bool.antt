@@ -26,7 +26,8 @@ bool_column p = stored_column BoolLayout bool_type p.valid (map bit p.bits.bits)
 
 -- the same with other bits and another validity: what a step leaves
 abbrev pub bool_with : List Bool → ℕ → Valid → BoolParts
-bool_with bits offset valid = record { bits = record { bits = bits; offset = offset }; valid = valid }
+bool_with bits offset valid =
+    record { bits = record { bits = bits; offset = offset }; valid = valid }
 
 -- the column of these bits, none of them null
 abbrev pub bits_column : List Bool → ℕ → Column

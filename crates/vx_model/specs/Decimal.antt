@@ -20,10 +20,10 @@ pub record DecimalParts : Type 0 where
   pub valid : Valid
 
 -- why they are no column, the first that holds
-abbrev pub decimal_array_fault : DecimalParts → Option ColumnError
-decimal_array_fault p =
+abbrev pub decimals_fault : DecimalParts → Option ColumnError
+decimals_fault p =
     if p.decimal.width == p.width then
-      (if is_fitting p.valid (length p.records) then None else Some BadValidity)
+    (if is_fitting p.valid (length p.records) then None else Some BadValidity)
     else Some WrongWidth
 
 -- a row is its record's bytes, or null where the validity says no

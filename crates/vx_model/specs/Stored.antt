@@ -9,7 +9,8 @@ use Rattle.vx_model.specs.Valid.{Valid, nullability_by, cover_by, valid_size, st
 
 -- the column of these items, null where the validity says no: of a type that is nullable where the
 -- validity is, and with these stored records
-abbrev pub stored_column : LayoutName → (Nullability → TypeTree) → Valid → List RowValue → List (List ℕ) → Column
+abbrev pub stored_column
+    : LayoutName → (Nullability → TypeTree) → Valid → List RowValue → List (List ℕ) → Column
 stored_column layout t valid items records =
     record {
       dtype = t (nullability_by valid);

@@ -103,7 +103,8 @@ abbrev pub is_flat_cover : Cover → Bool
 is_flat_cover c = is_constant_form c || is_bools c
 
 -- these bits are what a step leaves of a validity, and rows may be null where n says so
-pub record IsLeft (before : Valid) (n : Nullability) (left : List Bool) (after : Valid) : Type 0 where
+pub record IsLeft (before : Valid) (n : Nullability) (left : List Bool) (after : Valid)
+    : Type 0 where
   pub bits : present_bits after (length left) ≡ left
   pub fitting : is_fitting after (length left) ≡ true
   pub nullability : nullability_by after ≡ n

@@ -1,1 +1,1 @@
-pub mod Positions
+pub mod NumberLists

@@ -1,2 +1,3 @@
 pub mod Indices
+pub mod Stored
 pub use Rattle.vx_take.specs.Picks

@@ -14,6 +14,3 @@ pub use needs::{needed, ranks_in};
 pub use picks::Picks;
 pub use ranks::translate_ranks;
 pub use slices::{gather, gather_runs};
-
-#[cfg(test)]
-mod tests;

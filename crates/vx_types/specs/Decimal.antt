@@ -36,7 +36,7 @@ least_width precision =
 abbrev pub decimal_fault : ℕ → ℤ → ℕ → Option ColumnError
 decimal_fault precision scale width =
     if is_precision precision && is_scale scale then
-      (if is_width width && nat_le (least_width precision) width then None else Some WrongWidth)
+    (if is_width width && nat_le (least_width precision) width then None else Some WrongWidth)
     else Some WrongType
 
 -- ---- its code

@@ -22,7 +22,7 @@ boolean::filter_of-filter_bool-requires-clause-fitting t c =
     let long : length mask ≡ length p.bits.bits = c.requires ∙ length-bool p sound in
     let fit : is_fitting v (length mask) ≡ true = rw (c.validity.ensures.value, long) (is_fitting-bool p sound) in
     let kept : length (items_where_true mask (present_bits v (length mask))) ≡ true_count_of mask =
-        length-items_where_true mask _ (sym (length-present_bits v (length mask) fit)) in
+    length-items_where_true mask _ (sym (length-present_bits v (length mask) fit)) in
     rw (← kept) c.in_ok-validity.ensures.left.fitting
 
 pub boolean::filter_of-returns : goal.boolean::filter_of-returns
@@ -32,7 +32,7 @@ boolean::filter_of-returns t c =
     let after = valid_of c.in_ok-validity.validity in
     let same = c.validity.ensures.value in
     let left : IsLeft p.valid (nullability_by p.valid) (items_where_true mask (present_bits p.valid (length mask))) after =
-        rw (← same) c.in_ok-validity.ensures.left in
+    rw (← same) c.in_ok-validity.ensures.left in
     let plain : IsAsPlain p.valid after = rw (← same) c.in_ok-validity.ensures.plain in
     rw (c.into_array.ensures ∙ ap bool_column c.in_ok-filter_bool.ensures)
     (is_filter-bool p after 0 mask sound (c.requires ∙ length-bool p sound) left plain)
@@ -44,7 +44,7 @@ primitive::filter_of-filter_primitive-requires-clause-fitting t c =
     let long : length mask ≡ length p.records = c.requires ∙ length-primitive p sound in
     let fit : is_fitting v (length mask) ≡ true = rw (c.validity.ensures.value, long) (is_fitting-primitive p sound) in
     let kept : length (items_where_true mask (present_bits v (length mask))) ≡ true_count_of mask =
-        length-items_where_true mask _ (sym (length-present_bits v (length mask) fit)) in
+    length-items_where_true mask _ (sym (length-present_bits v (length mask) fit)) in
     rw (← kept) c.in_ok-validity.ensures.left.fitting
 
 pub primitive::filter_of-returns : goal.primitive::filter_of-returns
@@ -54,7 +54,7 @@ primitive::filter_of-returns t c =
     let after = valid_of c.in_ok-validity.validity in
     let same = c.validity.ensures.value in
     let left : IsLeft p.valid (nullability_by p.valid) (items_where_true mask (present_bits p.valid (length mask))) after =
-        rw (← same) c.in_ok-validity.ensures.left in
+    rw (← same) c.in_ok-validity.ensures.left in
     let plain : IsAsPlain p.valid after = rw (← same) c.in_ok-validity.ensures.plain in
     rw (c.into_array.ensures ∙ ap primitive_column c.in_ok-filter_primitive.ensures)
     (is_filter-primitive p after mask sound (c.requires ∙ length-primitive p sound) left plain)
@@ -66,7 +66,7 @@ decimal::filter_of-filter_decimal-requires-clause-fitting t c =
     let long : length mask ≡ length p.records = c.requires ∙ length-decimal p sound in
     let fit : is_fitting v (length mask) ≡ true = rw (c.validity.ensures.value, long) (is_fitting-decimal p sound) in
     let kept : length (items_where_true mask (present_bits v (length mask))) ≡ true_count_of mask =
-        length-items_where_true mask _ (sym (length-present_bits v (length mask) fit)) in
+    length-items_where_true mask _ (sym (length-present_bits v (length mask) fit)) in
     rw (← kept) c.in_ok-validity.ensures.left.fitting
 
 pub decimal::filter_of-returns : goal.decimal::filter_of-returns
@@ -76,7 +76,7 @@ decimal::filter_of-returns t c =
     let after = valid_of c.in_ok-validity.validity in
     let same = c.validity.ensures.value in
     let left : IsLeft p.valid (nullability_by p.valid) (items_where_true mask (present_bits p.valid (length mask))) after =
-        rw (← same) c.in_ok-validity.ensures.left in
+    rw (← same) c.in_ok-validity.ensures.left in
     let plain : IsAsPlain p.valid after = rw (← same) c.in_ok-validity.ensures.plain in
     rw (c.into_array.ensures ∙ ap decimal_column c.in_ok-filter_decimal.ensures)
     (is_filter-decimal p after mask sound (c.requires ∙ length-decimal p sound) left plain)

@@ -21,7 +21,7 @@ boolean::slice_of-returns-clause-cut t c =
     let same = c.validity.ensures.value in
     let count : c.len.result ≡ length p.bits.bits = c.len.ensures ∙ ap (λ (b : PlacedBits). length b.bits) c.bits-bits.ensures.bits in
     let left : IsLeft p.valid (nullability_by p.valid) (slice_range (present_bits p.valid (length p.bits.bits)) s e) after =
-        rw (← same, ← count) c.in_ok-validity.ensures.left in
+    rw (← same, ← count) c.in_ok-validity.ensures.left in
     let plain : IsAsPlain p.valid after = rw (← same) c.in_ok-validity.ensures.plain in
     let inside : e ≤ length p.bits.bits = omega (arith, length-bool p sound, c.requires.within) in
     let cut = c.slice.ensures.bits ∙ ap (λ (b : PlacedBits). slice_range b.bits s e) c.bits-bits.ensures.bits in
@@ -37,7 +37,7 @@ primitive::slice_of-returns-clause-cut t c =
     let same = c.validity.ensures.value in
     let count : c.len.result ≡ length p.records = c.len.ensures ∙ ap length c.values-values.ensures.records in
     let left : IsLeft p.valid (nullability_by p.valid) (slice_range (present_bits p.valid (length p.records)) s e) after =
-        rw (← same, ← count) c.in_ok-validity.ensures.left in
+    rw (← same, ← count) c.in_ok-validity.ensures.left in
     let plain : IsAsPlain p.valid after = rw (← same) c.in_ok-validity.ensures.plain in
     let inside : e ≤ length p.records = omega (arith, length-primitive p sound, c.requires.within) in
     let cut = c.slice.ensures.records ∙ ap (λ r. slice_range r s e) c.values-values.ensures.records in
@@ -52,7 +52,7 @@ decimal::slice_of-returns-clause-cut t c =
     let same = c.validity.ensures.value in
     let count : c.len.result ≡ length p.records = c.len.ensures ∙ ap length c.values-values.ensures.records in
     let left : IsLeft p.valid (nullability_by p.valid) (slice_range (present_bits p.valid (length p.records)) s e) after =
-        rw (← same, ← count) c.in_ok-validity.ensures.left in
+    rw (← same, ← count) c.in_ok-validity.ensures.left in
     let plain : IsAsPlain p.valid after = rw (← same) c.in_ok-validity.ensures.plain in
     let inside : e ≤ length p.records = omega (arith, length-decimal p sound, c.requires.within) in
     let cut = c.slice.ensures.records ∙ ap (λ r. slice_range r s e) c.values-values.ensures.records in

@@ -16,5 +16,5 @@ returns c =
     let same = c.validity.ensures.value in
     let bound : c.args.picks.now.bound ≡ length p.bits.bits = c.requires.bound ∙ length-bool p sound in
     let left : IsLeft p.valid (either_nullable (nullability_by p.valid) n) (at false (present_bits p.valid (length p.bits.bits)) picks) after =
-        rw (← same, ← bound) c.in_ok-validity.ensures in
+    rw (← same, ← bound) c.in_ok-validity.ensures in
     rw (c.into_array.ensures ∙ ap bool_column c.in_ok-take_bool.ensures) (is_take-bool after picks n p 0 sound left)

@@ -17,5 +17,5 @@ returns c =
     let same = c.validity.ensures.value in
     let bound : c.args.picks.now.bound ≡ length p.records = c.requires.bound ∙ length-primitive p sound in
     let left : IsLeft p.valid (either_nullable (nullability_by p.valid) n) (at false (present_bits p.valid (length p.records)) picks) after =
-        rw (← same, ← bound) c.in_ok-validity.ensures in
+    rw (← same, ← bound) c.in_ok-validity.ensures in
     rw (c.into_array.ensures ∙ ap primitive_column c.in_ok-take_primitive.ensures) (is_take-primitive after picks n p (zero_record p.width) sound left)

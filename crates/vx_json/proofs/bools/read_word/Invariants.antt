@@ -1,12 +1,13 @@
 -- What a loop over the items of a word keeps.
-use Rattle.std.proofs.Common.{◌^◌, ◌<◌}
+use Rattle.std.proofs.Common.{◌≡◌, ◌-◌, ◌^◌, ◌<◌, Some, length, drop}
+use Rattle.serde_json.specs.View.{items_view}
 use Rattle.vx_bits.specs.Words.{word_bits}
-use Rattle.vx_json.proofs.Reading.{IsReading}
+use Rattle.vx_json.specs.Items.{each}
 use Rattle.vx_json.proofs.bools.read_word.Given as goal
 
--- the items so far mean the word's bits
-abbrev pub invariant-loop-k : goal.invariant-loop-k
-invariant-loop-k g l = record {
-  reading : IsReading (g.R.ReadBit.bit l.reader) l.items l.k (word_bits l.word l.k);
-  below : l.word < 2 ^ l.k;
+-- the items that were passed mean the word's bits
+abbrev pub invariant-loop-passed : goal.invariant-loop-passed
+invariant-loop-passed g l = record {
+  reading : each (g.R.ReadBit.bit l.reader) (items_view (drop (length l.items - l.passed) l.items)) ≡ Some (word_bits l.word l.passed);
+  below : l.word < 2 ^ l.passed;
 }

@@ -1,0 +1,73 @@
+//! Bits by a mask of other bits, at two offsets.
+ghost use Rattle.std.specs.Prelude.{◌<◌};
+
+use crate::masks::{multiples, runs, text_of};
+use std::alloc::Global;
+use std::test::Fail;
+use vx_bitfilter::{filter_bitbuffer_by_mask, filter_sparse};
+use vx_bits::{BitBuffer, NoMemory};
+use vx_mask::Mask;
+
+/// Appends a row for each filter of bits.
+pub(crate) fn add_rows(alloc: Global, rows: &mut Vec<String>) -> Result<(), Fail> {
+    rows.push(without_two(alloc)?)?;
+    rows.push(without_fifths(alloc, 5_000)?)?;
+    rows.push(without_fifths(alloc, 40_000)?)?;
+    let src = BitBuffer::from_bools(alloc, &[true, false, true, true, false])?;
+    let bits = BitBuffer::from_bools(alloc, &[false, true, false, true, true])?;
+    let mask = Mask::from_buffer(bits);
+    rows.push(few(alloc, &src, &mask)?)?;
+    rows.push(few(alloc, &src, &mask.with_indices(alloc)?)?)?;
+    Ok(())
+}
+
+/// The bits that the mask selects, or else all.
+fn filtered(alloc: Global, src: &BitBuffer, mask: &BitBuffer) -> Result<BitBuffer, NoMemory> {
+    if src.len() != mask.len() {
+        return Ok(src.share());
+    }
+    filter_bitbuffer_by_mask(alloc, src, mask, mask.true_count())
+}
+
+/// The bits from `start` up to `end`, or all.
+fn part(bits: &BitBuffer, start: usize, end: usize) -> BitBuffer {
+    if start <= end && end <= bits.len() {
+        bits.slice(start, end)
+    } else {
+        bits.share()
+    }
+}
+
+// 130 bits at offset 3, each third of them set, by all but bits 63 and 64, at offset 5.
+fn without_two(alloc: Global) -> Result<String, Fail> {
+    let src = multiples(alloc, 3, 130, 3, true)?;
+    let mask = runs(alloc, 5, &[(true, 68), (false, 2), (true, 65)])?;
+    let kept = filtered(alloc, &src, &mask)?;
+    let count = kept.true_count();
+    let seam = text_of(alloc, &part(&kept, 62, 65))?;
+    let len = kept.len();
+    Ok(format!(in alloc; "130 thirds without 63 and 64: {len} bits, {count} set, from 62 {seam}")?)
+}
+
+// So many bits at offset 3, each third of them set, by all but each fifth, at offset 6.
+fn without_fifths(alloc: Global, count: usize) -> Result<String, Fail> {
+    let src = multiples(alloc, 3, count, 3, true)?;
+    let mask = multiples(alloc, 6, count, 5, false)?;
+    let kept = filtered(alloc, &src, &mask)?;
+    let set = kept.true_count();
+    let front = text_of(alloc, &part(&kept, 0, 12))?;
+    let len = kept.len();
+    Ok(format!(in alloc; "{count} thirds without each fifth: {len} bits, {set} set, {front}")?)
+}
+
+// Bits by a mask with few set bits.
+fn few(alloc: Global, src: &BitBuffer, mask: &Mask) -> Result<String, Fail> {
+    let mask = mask.values().ok_or("all rows or none")?;
+    if src.len() != mask.len() {
+        return Err("another length".into());
+    }
+    let kept = filter_sparse(alloc, src, mask)?;
+    let text = text_of(alloc, &kept)?;
+    let list = mask.cached_indices();
+    Ok(format!(in alloc; "10110 by 01011, indices {list:?}: {text}")?)
+}

@@ -1,0 +1,80 @@
+//! Five items by 10110, by each filter.
+ghost use Rattle.std.specs.Prelude.{◌≡◌, length};
+
+use std::alloc::Global;
+use std::test::Fail;
+use vx_bits::BitBuffer;
+use vx_filter::{
+    byte_compress, filter_law, filter_slice, filter_slice_by_bitmap, filter_slice_by_indices,
+    filter_slice_by_slices, filter_slice_in_place, filter_vec,
+};
+use vx_mask::{Mask, MaskValues, Policy};
+
+/// Appends a row for each filter.
+pub(crate) fn add_rows(alloc: Global, rows: &mut Vec<String>) -> Result<(), Fail> {
+    filter_law::<u8>();
+    let bits = BitBuffer::from_bools(alloc, &[true, false, true, true, false])?;
+    let mask = Mask::from_buffer(bits);
+    let mask = mask.values().ok_or("all rows or none")?;
+    if mask.len() != 5 {
+        return Err("not five rows".into());
+    }
+    rows.push(chosen(alloc, mask)?)?;
+    rows.push(by_bitmap(alloc, mask)?)?;
+    rows.push(by_bytes(alloc, mask)?)?;
+    rows.push(by_indices(alloc)?)?;
+    rows.push(by_slices(alloc)?)?;
+    rows.push(of_vec(alloc, mask)?)?;
+    rows.push(in_place(alloc, mask)?)?;
+    Ok(())
+}
+
+const FIVE: [u8; 5] = [10, 20, 30, 40, 50];
+
+fn chosen(alloc: Global, mask: &MaskValues) -> Result<String, Fail>
+    requires { length mask.now.bits.bits ≡ 5 }
+{
+    let kept = filter_slice(alloc, &FIVE, mask, &Policy::vortex())?;
+    Ok(format!(in alloc; "10 20 30 40 50 by 10110: {:?}", kept.as_slice())?)
+}
+
+fn by_bitmap(alloc: Global, mask: &MaskValues) -> Result<String, Fail>
+    requires { length mask.now.bits.bits ≡ 5 }
+{
+    let kept = filter_slice_by_bitmap(alloc, &FIVE, mask)?;
+    Ok(format!(in alloc; "the same by words: {:?}", kept.as_slice())?)
+}
+
+fn by_bytes(alloc: Global, mask: &MaskValues) -> Result<String, Fail>
+    requires { length mask.now.bits.bits ≡ 5 }
+{
+    let kept = byte_compress(alloc, &FIVE, mask)?;
+    Ok(format!(in alloc; "by bytes: {:?}", kept.as_slice())?)
+}
+
+fn by_indices(alloc: Global) -> Result<String, Fail> {
+    let kept = filter_slice_by_indices(alloc, &FIVE, &[0, 2, 3])?;
+    Ok(format!(in alloc; "by indices 0 2 3: {:?}", kept.as_slice())?)
+}
+
+fn by_slices(alloc: Global) -> Result<String, Fail> {
+    let kept = filter_slice_by_slices(alloc, &FIVE, &[(0, 1), (2, 4)])?;
+    Ok(format!(in alloc; "by runs (0,1) (2,4): {:?}", kept.as_slice())?)
+}
+
+fn of_vec(alloc: Global, mask: &MaskValues) -> Result<String, Fail>
+    requires { length mask.now.bits.bits ≡ 5 }
+{
+    let items = Vec::from_slice(alloc, &FIVE)?;
+    let kept = filter_vec(alloc, items, mask, &Policy::vortex())?;
+    Ok(format!(in alloc; "of an owned list: {:?}", kept.as_slice())?)
+}
+
+fn in_place(alloc: Global, mask: &MaskValues) -> Result<String, Fail>
+    requires { length mask.now.bits.bits ≡ 5 }
+{
+    let mut items = FIVE;
+    let count = filter_slice_in_place(&mut items, mask, &Policy::vortex());
+    let front = items[..3].to_vec(alloc)?;
+    Ok(format!(in alloc; "in place: {count}, front {:?}", front.as_slice())?)
+}

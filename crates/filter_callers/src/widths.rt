@@ -1,0 +1,95 @@
+//! 200 records of every width, of which each seventh is left out: by every list that a mask keeps,
+//! and by three policies.
+
+use crate::masks::multiples;
+use std::alloc::Global;
+use std::test::Fail;
+use vx_bits::NoMemory;
+use vx_filter::{filter_slice, filter_vec};
+use vx_mask::{Mask, MaskValues, Policy, Ratio};
+
+/// Appends three rows for each of two offsets and three policies.
+pub(crate) fn add_rows(alloc: Global, rows: &mut Vec<String>) -> Result<(), Fail> {
+    for offset in [0, 3] {
+        let mask = Mask::from_buffer(multiples(alloc, offset, 200, 7, false)?);
+        for ratio in [None, Some(0), Some(2)] {
+            let policy = policy_of(ratio).ok_or("a fault")?;
+            rows.push(row(alloc, "no list", &mask, &policy)?)?;
+            rows.push(row(alloc, "indices", &mask.with_indices(alloc)?, &policy)?)?;
+            rows.push(row(alloc, "slices", &mask.with_slices(alloc)?, &policy)?)?;
+        }
+    }
+    Ok(())
+}
+
+/// The crate's own policy, or that whose ratios are all this one.
+fn policy_of(ratio: Option<u64>) -> Option<Policy> {
+    let Some(num) = ratio else {
+        return Some(Policy::vortex());
+    };
+    let mut fields = *Policy::vortex().fields();
+    let ratio = Ratio { num, den: 1 };
+    fields.dense_w1 = ratio;
+    fields.dense_w2 = ratio;
+    fields.dense_w4 = ratio;
+    fields.dense_w8 = ratio;
+    fields.dense_other = ratio;
+    fields.cached_indices_max = ratio;
+    fields.in_place_min = ratio;
+    Policy::try_new(fields).ok()
+}
+
+fn row(alloc: Global, name: &str, mask: &Mask, policy: &Policy) -> Result<String, Fail> {
+    let mask = mask.values().ok_or("all rows or none")?;
+    let ends = ends(alloc, mask, policy)?;
+    let counts = counts(alloc, mask, policy)?;
+    Ok(format!(in alloc;
+        "200 by all but each seventh, {name}: {ends:?}, {:?}",
+        counts.as_slice()
+    )?)
+}
+
+/// How many of 200 records of 1, 2, 4, 8, 16 and 32 bytes are kept, out of place and in a list.
+fn counts(
+    alloc: Global,
+    mask: &MaskValues,
+    policy: &Policy,
+) -> Result<Vec<(usize, usize)>, NoMemory> {
+    let mut counts = Vec::new(alloc);
+    counts.push(count(alloc, [0u8; 1], mask, policy)?)?;
+    counts.push(count(alloc, [0u8; 2], mask, policy)?)?;
+    counts.push(count(alloc, [0u8; 4], mask, policy)?)?;
+    counts.push(count(alloc, [0u8; 8], mask, policy)?)?;
+    counts.push(count(alloc, [0u8; 16], mask, policy)?)?;
+    counts.push(count(alloc, [0u8; 32], mask, policy)?)?;
+    Ok(counts)
+}
+
+/// How many of 200 such items are kept, out of place and in a list.
+fn count<T: Copy>(
+    alloc: Global,
+    item: T,
+    mask: &MaskValues,
+    policy: &Policy,
+) -> Result<(usize, usize), NoMemory> {
+    let items = vec![in alloc; item; 200]?;
+    if items.len() != mask.len() {
+        return Ok((0, 0));
+    }
+    let kept = filter_slice(alloc, items.as_slice(), mask, policy)?.len();
+    Ok((kept, filter_vec(alloc, items, mask, policy)?.len()))
+}
+
+/// The first and the last of the numbers below 200 that are kept.
+fn ends(alloc: Global, mask: &MaskValues, policy: &Policy) -> Result<Option<(u8, u8)>, NoMemory> {
+    let mut items = Vec::new(alloc);
+    for i in 0..200u8 {
+        items.push(i)?;
+    }
+    if items.len() != mask.len() {
+        return Ok(None);
+    }
+    let kept = filter_vec(alloc, items, mask, policy)?;
+    let first = kept.first().copied();
+    Ok(first.zip(kept.last().copied()))
+}

@@ -1,0 +1,218 @@
+//! The numbers of a column, by its records where it stores some, else from row to row.
+ghost use Rattle.std.specs.Prelude.{◌≡◌, None, Some, length, true, IfOk};
+ghost use Rattle.vx_bits.specs.Records.{records_of, width_of};
+ghost use Rattle.vx_types.specs.PType.{is_int, width};
+ghost use Rattle.vx_types.specs.TypeTree.{int_type_of, type_nullability};
+ghost use Rattle.vx_types.specs.declared.nullability.Nullability.TheVariants.{NonNullable};
+ghost use Rattle.vx_model.specs.Numbers.{numbers_of};
+ghost use Rattle.vx_pieces.specs.Indices.{AllThere, first_bad, positions_of};
+ghost use Rattle.vx_pieces.specs.Stored.{present_numbers, shown_numbers};
+
+use crate::numbers::{Present, Rows, Shown};
+use crate::positions::{first_bad, picks_of};
+use std::alloc::Global;
+use vx_bits::{BitBuffer, NoMemory, Records};
+use vx_column::{Array, PType};
+use vx_take::Picks;
+
+// `$with(ptype, records, args)`, with the integer type and the width of the records known. Each arm
+// is a loop of its own.
+macro_rules! by_type {
+    ($ptype:expr, $values:expr, $with:ident $(, $arg:expr)*) => {
+        match $ptype {
+            PType::U8 => by_width!(PType::U8, Records::W1, $values, $with $(, $arg)*),
+            PType::U16 => by_width!(PType::U16, Records::W2, $values, $with $(, $arg)*),
+            PType::U32 => by_width!(PType::U32, Records::W4, $values, $with $(, $arg)*),
+            PType::U64 => by_width!(PType::U64, Records::W8, $values, $with $(, $arg)*),
+            PType::I8 => by_width!(PType::I8, Records::W1, $values, $with $(, $arg)*),
+            PType::I16 => by_width!(PType::I16, Records::W2, $values, $with $(, $arg)*),
+            PType::I32 => by_width!(PType::I32, Records::W4, $values, $with $(, $arg)*),
+            PType::I64 => by_width!(PType::I64, Records::W8, $values, $with $(, $arg)*),
+            PType::F16 | PType::F32 | PType::F64 => unreachable!(),
+        }
+    };
+}
+
+macro_rules! by_width {
+    ($ptype:path, $width:path, $values:expr, $with:ident $(, $arg:expr)*) => {
+        match $values {
+            $width(records) => $with($ptype, records.as_slice() $(, $arg)*),
+            _ => unreachable!(),
+        }
+    };
+}
+
+#[inline(always)]
+fn first_bad_there<const W: usize>(ptype: PType, records: &[[u8; W]], len: usize) -> Option<i128>
+    requires int { is_int ptype ≡ true }
+    requires width { W ≡ width ptype }
+    ensures { result ≡ first_bad len (present_numbers ptype records.now) }
+{
+    first_bad(&Present::<W> { ptype, records }, len)
+}
+
+#[inline(always)]
+fn first_bad_shown<const W: usize>(
+    ptype: PType,
+    records: &[[u8; W]],
+    bits: &BitBuffer,
+    len: usize,
+) -> Option<i128>
+    requires int { is_int ptype ≡ true }
+    requires width { W ≡ width ptype }
+    requires long { length bits.now.bits ≡ length records.now }
+    ensures { result ≡ first_bad len (shown_numbers ptype bits.now.bits records.now) }
+{
+    first_bad(
+        &Shown::<W> {
+            ptype,
+            records,
+            bits,
+        },
+        len,
+    )
+}
+
+// The first number that is none of `len` positions, of records that are all there.
+fn first_bad_present(ptype: PType, values: &Records, len: usize) -> Option<i128>
+    requires int { is_int ptype ≡ true }
+    requires width { width_of values.now ≡ width ptype }
+    ensures { result ≡ first_bad len (present_numbers ptype (records_of values.now)) }
+{
+    by_type!(ptype, values, first_bad_there, len)
+}
+
+// The same of records that are there where a bit is set.
+fn first_bad_by_bits(ptype: PType, values: &Records, bits: &BitBuffer, len: usize) -> Option<i128>
+    requires int { is_int ptype ≡ true }
+    requires width { width_of values.now ≡ width ptype }
+    requires long { length bits.now.bits ≡ length (records_of values.now) }
+    ensures { result ≡ first_bad len
+        (shown_numbers ptype bits.now.bits (records_of values.now)) }
+{
+    by_type!(ptype, values, first_bad_shown, bits, len)
+}
+
+/// The first number of a column that is none of `len` positions. It takes no memory.
+#[tactic(auto, using(crate::proofs::NumberLists::stored))]
+pub(crate) fn first_bad_of(array: &Array, ptype: PType, len: usize) -> Option<i128>
+    requires { int_type_of array.now.dtype ≡ Some ptype }
+    ensures { result ≡ first_bad len (numbers_of array.now) }
+{
+    if let Some(values) = array.present_records() {
+        return first_bad_present(ptype, values, len);
+    }
+    match array.shown_records() {
+        Some((values, bits)) => first_bad_by_bits(ptype, values, bits, len),
+        None => first_bad(&Rows { array }, len),
+    }
+}
+
+#[inline(always)]
+fn picks_there<const W: usize>(
+    ptype: PType,
+    records: &[[u8; W]],
+    alloc: Global,
+    len: usize,
+) -> Result<Picks, NoMemory>
+    requires int { is_int ptype ≡ true }
+    requires width { W ≡ width ptype }
+    requires sound { first_bad len (present_numbers ptype records.now) ≡ None }
+    ensures picks { IfOk result (λ p. p
+        ≡ record { picks = positions_of (present_numbers ptype records.now); bound = len }) }
+    ensures there { IfOk result (λ p. AllThere p.picks) }
+{
+    picks_of(alloc, &Present::<W> { ptype, records }, len)
+}
+
+#[inline(always)]
+fn picks_shown<const W: usize>(
+    ptype: PType,
+    records: &[[u8; W]],
+    alloc: Global,
+    bits: &BitBuffer,
+    len: usize,
+) -> Result<Picks, NoMemory>
+    requires int { is_int ptype ≡ true }
+    requires width { W ≡ width ptype }
+    requires long { length bits.now.bits ≡ length records.now }
+    requires sound { first_bad len (shown_numbers ptype bits.now.bits records.now) ≡ None }
+    ensures { IfOk result (λ p. p ≡ record {
+      picks = positions_of (shown_numbers ptype bits.now.bits records.now);
+      bound = len;
+    }) }
+{
+    picks_of(
+        alloc,
+        &Shown::<W> {
+            ptype,
+            records,
+            bits,
+        },
+        len,
+    )
+}
+
+// The positions that the numbers name, of records that are all there.
+fn picks_present(
+    alloc: Global,
+    ptype: PType,
+    values: &Records,
+    len: usize,
+) -> Result<Picks, NoMemory>
+    requires int { is_int ptype ≡ true }
+    requires width { width_of values.now ≡ width ptype }
+    requires sound { first_bad len (present_numbers ptype (records_of values.now)) ≡ None }
+    ensures picks { IfOk result (λ p. p ≡ record {
+      picks = positions_of (present_numbers ptype (records_of values.now));
+      bound = len;
+    }) }
+    ensures there { IfOk result (λ p. AllThere p.picks) }
+{
+    by_type!(ptype, values, picks_there, alloc, len)
+}
+
+// The same of records that are there where a bit is set.
+fn picks_by_bits(
+    alloc: Global,
+    ptype: PType,
+    values: &Records,
+    bits: &BitBuffer,
+    len: usize,
+) -> Result<Picks, NoMemory>
+    requires int { is_int ptype ≡ true }
+    requires width { width_of values.now ≡ width ptype }
+    requires long { length bits.now.bits ≡ length (records_of values.now) }
+    requires sound { first_bad len
+        (shown_numbers ptype bits.now.bits (records_of values.now)) ≡ None }
+    ensures { IfOk result (λ p. p ≡ record {
+      picks = positions_of (shown_numbers ptype bits.now.bits (records_of values.now));
+      bound = len;
+    }) }
+{
+    by_type!(ptype, values, picks_shown, alloc, bits, len)
+}
+
+/// The positions that the numbers of a column name. `NoMemory` alone.
+#[tactic(auto, using(crate::proofs::NumberLists::stored))]
+pub(crate) fn picks_of_column(
+    alloc: Global,
+    array: &Array,
+    ptype: PType,
+    len: usize,
+) -> Result<Picks, NoMemory>
+    requires int { int_type_of array.now.dtype ≡ Some ptype }
+    requires sound { first_bad len (numbers_of array.now) ≡ None }
+    ensures picks { IfOk result
+        (λ p. p ≡ record { picks = positions_of (numbers_of array.now); bound = len }) }
+    ensures there { IfOk result
+        (λ p. type_nullability array.now.dtype ≡ NonNullable → AllThere p.picks) }
+{
+    if let Some(values) = array.present_records() {
+        return picks_present(alloc, ptype, values, len);
+    }
+    match array.shown_records() {
+        Some((values, bits)) => picks_by_bits(alloc, ptype, values, bits, len),
+        None => picks_of(alloc, &Rows { array }, len),
+    }
+}
