@@ -1,8 +1,8 @@
 -- How wide records are.
-use Rattle.std.proofs.Common.{◌≡◌, ℕ, ◌≤◌, ℤ, Bool, true, false, ◌&&◌, Option, Some, None, cond, refl, lit≤, arith}
+use Rattle.std.proofs.Common.{◌≡◌, ℕ, ◌≤◌, ℤ, Bool, true, false, ◌&&◌, Some, None, cond, refl, lit≤, arith}
 use Rattle.std.proofs.lemmas.Bool.{and_parts}
 use Rattle.std.proofs.lemmas.Bool.Decides.{nat_tests}
-use Rattle.vx_types.specs.Decimal.{decimal_fault, is_precision, is_scale, is_width, least_width}
+use Rattle.vx_types.specs.Decimal.{decimal_fault, is_precision, is_scale, is_width}
 use Rattle.vx_types.specs.PType.{width}
 use Rattle.vx_types.specs.declared.ptype.PType.{PType}
 use Rattle.vx_types.specs.declared.ptype.PType.TheVariants.{U8, U16, U32, U64, I8, I16, I32, I64, F16, F32, F64}
