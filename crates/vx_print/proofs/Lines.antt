@@ -1,21 +1,45 @@
 -- Rows that are stored as records.
-use Rattle.std.proofs.Common.{◌≡◌, ℕ, ◌<◌, Bool, false, List, map, length, get_or, Option, Some, None, sym, ap, ◌∙◌, arith}
-use Rattle.std.specs.Prelude.{if◌then◌else◌}
-use Rattle.std.proofs.lemmas.List.{length-map, get_or-map}
+use Rattle.std.proofs.Common.{◌≡◌, ℕ, ◌+◌, ◌-◌, ◌*◌, ◌^◌, ◌<◌, ◌≤◌, Bool, true, false, List, map, length, take, drop, get_or, min, Option, Some, None, sym, ap, ap₂, ◌∙◌, length-drop, arith}
+use Rattle.std.specs.Prelude.{if◌then◌else◌, replicate}
+use Rattle.std.proofs.lemmas.List.{length-map, get_or-map, length-take-le, take-map, drop-map, take-take, take_all}
+use Rattle.vx_bits.specs.Words.{word_at, word_bits}
+use Rattle.vx_bits.proofs.WordBits.{ones-word_bits}
+use Rattle.vx_bits.proofs.WordLists.{length-bits_in, word_bits_in}
 use Rattle.vx_types.specs.RowValue.{RowValue, null, bytes}
-use Rattle.vx_model.proofs.ShownRows.{length-shown_rows, get_or-shown_rows}
-use Rattle.vx_print.specs.Records.{record_rows, is_there, IsLong}
+use Rattle.vx_model.specs.Valid.{shown_rows}
+use Rattle.vx_model.proofs.ShownRows.{length-shown_rows, get_or-shown_rows, take-shown_rows, drop-shown_rows, shown_rows-all}
+use Rattle.vx_print.specs.Records.{record_rows, block_word, IsLong}
 
 -- there are as many rows as records
 pub length-record_rows : (bits : Option (List Bool)) (rs : List (List ℕ)) → IsLong bits (length rs) → length (record_rows bits rs) ≡ length rs
 length-record_rows None rs h = length-map rs bytes
 length-record_rows (Some bits) rs h = length-shown_rows bits (map bytes rs) (h ∙ sym (length-map rs bytes)) ∙ length-map rs bytes
 
--- row i
-pub get_or-record_rows : (bits : Option (List Bool)) (rs : List (List ℕ)) (i : ℕ) (r : List ℕ) → IsLong bits (length rs) → i < length rs → r ≡ get_or rs i r → (if is_there bits i then bytes r else null) ≡ get_or (record_rows bits rs) i null
-get_or-record_rows None rs i r h l is = ap bytes is ∙ sym (get_or-map bytes rs i r null l)
-get_or-record_rows (Some bits) rs i r h l is =
+-- row i, of which the bit says whether it is there
+pub get_or-record_rows : (bits : List Bool) (rs : List (List ℕ)) (i : ℕ) (r : List ℕ) → length bits ≡ length rs → i < length rs → r ≡ get_or rs i r → (if get_or bits i false then bytes r else null) ≡ get_or (record_rows (Some bits) rs) i null
+get_or-record_rows bits rs i r h l is =
     let long = length-map rs bytes in
     ap (λ (x : List ℕ). if get_or bits i false then bytes x else null) is
     ∙ ap (λ (x : RowValue). if get_or bits i false then x else null) (sym (get_or-map bytes rs i r null l))
     ∙ sym (get_or-shown_rows bits (map bytes rs) i (h ∙ sym long) (omega (arith, long)))
+
+part-map : (rs : List (List ℕ)) (m n : ℕ) → take n (drop m (map bytes rs)) ≡ map bytes (take n (drop m rs))
+part-map rs m n = ap (take n) (drop-map bytes m rs) ∙ take-map bytes n (drop m rs)
+
+-- the rows of a block are those of its records by its word
+pub block_rows : (bits : Option (List Bool)) (rs : List (List ℕ)) (k n : ℕ) → IsLong bits (length rs) → n ≡ min (length rs - 64 * k) 64 → record_rows (Some (word_bits (block_word bits k) n)) (take n (drop (64 * k) rs)) ≡ take n (drop (64 * k) (record_rows bits rs))
+block_rows None rs k n h e =
+    let part = take n (drop (64 * k) rs) in
+    let long : length part ≡ n = length-take-le n (drop (64 * k) rs) (omega (arith, length-drop (64 * k) rs)) in
+    let all : word_bits (2 ^ 64 - 1) n ≡ replicate n true = ones-word_bits n 64 (omega arith) in
+    ap (λ b. shown_rows b (map bytes part)) all
+    ∙ shown_rows-all n (map bytes part) (length-map part bytes ∙ long)
+    ∙ sym (part-map rs (64 * k) n)
+block_rows (Some bits) rs k n h e =
+    let cut = take 64 (drop (64 * k) bits) in
+    let long : n ≡ length cut = omega (arith, length-bits_in bits k, h) in
+    let same : word_bits (word_at bits k) n ≡ take n (drop (64 * k) bits) =
+    word_bits_in bits k n long ∙ sym (take_all n cut (omega arith)) ∙ take-take n 64 (drop (64 * k) bits) (omega arith) in
+    ap₂ shown_rows same (sym (part-map rs (64 * k) n))
+    ∙ sym (take-shown_rows n (drop (64 * k) bits) (drop (64 * k) (map bytes rs)))
+    ∙ sym (ap (take n) (drop-shown_rows (64 * k) bits (map bytes rs)))

@@ -1,8 +1,9 @@
 -- Rows that are stored as records, and the text of a record.
-use Rattle.std.specs.Prelude.{◌≡◌, ◌≤◌, ℕ, List, Bool, true, false, length, map, Option, Some, None, option_map, slice_index_or}
+use Rattle.std.specs.Prelude.{◌≡◌, ◌≤◌, ℕ, ◌-◌, ◌^◌, List, Bool, true, length, map, Option, Some, None, option_map}
 use Rattle.std.specs.Borrow.{Bor}
 use Rattle.std.specs.Fmt.{signed_decimal}
 use Rattle.vx_bits.specs.BitBuffer.{PlacedBits}
+use Rattle.vx_bits.specs.Words.{word_at}
 use Rattle.vx_types.specs.PType.{width, is_int, number}
 use Rattle.vx_types.specs.RowValue.{RowValue, bytes}
 use Rattle.vx_model.specs.Valid.{shown_rows}
@@ -29,10 +30,10 @@ abbrev pub record_rows : Option (List Bool) → List (List ℕ) → List RowValu
 record_rows None records = map bytes records
 record_rows (Some bits) records = shown_rows bits (map bytes records)
 
--- whether row i is there
-abbrev pub is_there : Option (List Bool) → ℕ → Bool
-is_there None i = true
-is_there (Some bits) i = slice_index_or bits i false
+-- the word of the rows of block k that are there, each one where there are no bits
+abbrev pub block_word : Option (List Bool) → ℕ → ℕ
+block_word None k = 2 ^ 64 - 1
+block_word (Some bits) k = word_at bits k
 
 -- there are as many bits as records
 abbrev pub IsLong : Option (List Bool) → ℕ → Type 0

@@ -1,10 +1,11 @@
 //! Lines of records, written by blocks: each block from its last row back to its first.
-ghost use Rattle.std.specs.Prelude.{◌≡◌, ◌+◌, ◌<◌, ◌≤◌, ◌++◌, length, drop, IsOk, IfSome, slice_range, if◌then◌else◌};
+ghost use Rattle.std.specs.Prelude.{◌≡◌, ◌+◌, ◌/◌, ◌<◌, ◌≤◌, ◌++◌, false, length, drop, IsOk, IfSome, Some, slice_index_or, if◌then◌else◌};
+ghost use Rattle.vx_bits.specs.Words.{word_bits};
 ghost use Rattle.vx_bits.specs.Records.{records_of, width_of};
 ghost use Rattle.vx_types.specs.PType.{width};
 ghost use Rattle.vx_types.specs.RowValue.{null, bytes};
 ghost use Rattle.vx_print.specs.Text.{lines, hex_text, primitive_text, row_text_by};
-ghost use Rattle.vx_print.specs.Records.{record_text, record_rows, is_there, bits_in, IsWide, IsLong};
+ghost use Rattle.vx_print.specs.Records.{record_text, record_rows, block_word, bits_in, IsWide, IsLong};
 
 use crate::row::{BLOCK, ROOM, ROW, put_hex, put_number, put_word};
 use vx_bits::{BitBuffer, NoMemory, Records, match_each_record_width};
@@ -53,44 +54,48 @@ fn put_row(form: Form, value: &[u8], is_there: bool, dst: &mut [u8; ROOM], end: 
     }
 }
 
-// Whether row `i` is there: its bit, or yes where there are no bits.
+// Whether row `k` of a block is there: bit k of the block's word.
 #[inline(always)]
-fn is_there(bits: Option<&BitBuffer>, i: usize) -> bool
-    requires { IfSome bits (λ b. i < length b.now.bits) }
-    ensures { result ≡ is_there (bits_in bits.entry) i }
+fn is_there(word: u64, k: usize) -> bool
+    requires { k < BLOCK }
+    ensures { result ≡ slice_index_or (word_bits word BLOCK) k false }
+{
+    (word >> k) & 1 == 1
+}
+
+// The word of the rows of block `k` that are there: each one where there are no bits.
+#[inline(always)]
+fn block_word(bits: Option<&BitBuffer>, k: usize) -> u64
+    requires { IfSome bits (λ b. k ≤ length b.now.bits / BLOCK) }
+    ensures { result ≡ block_word (bits_in bits.entry) k }
 {
     match bits {
-        None => true,
-        Some(bits) => bits.value(i),
+        None => u64::MAX,
+        Some(bits) => bits.word(k),
     }
 }
 
-// Writes the lines of the rows from `start` up to `end` so that they end where `dst` does, and
-// answers where they begin.
+// Writes the lines of a block, of which a row is null where its bit of the word is clear, so that
+// they end where `dst` does, and answers where they begin.
 #[inline(always)]
 fn put_block<const W: usize>(
     form: Form,
     records: &[[u8; W]],
-    bits: Option<&BitBuffer>,
-    start: usize,
-    end: usize,
+    word: u64,
     dst: &mut [u8; ROOM],
 ) -> usize
     requires width { IsWide form W }
-    requires long { IsLong (bits_in bits) (length records.now) }
-    requires ordered { start ≤ end }
-    requires block { end ≤ start + BLOCK }
-    requires within { end ≤ length records.now }
+    requires block { length records.now ≤ BLOCK }
     ensures within { result ≤ ROOM }
-    ensures put { drop result dst.new ≡ lines (row_text_by (record_text form)) (slice_range
-        (record_rows (bits_in bits.entry) records.now) start end) }
+    ensures put { drop result dst.new ≡ lines (row_text_by (record_text form))
+        (record_rows (Some (word_bits word (length records.now))) records.now) }
 {
     let mut at = ROOM;
-    for k in 0..end - start {
-        let i = end - 1 - k;
+    for k in 0..records.len() {
+        let i = records.len() - 1 - k;
         at -= 1;
         dst[at] = b'\n';
-        at = put_row(form, &records[i], is_there(bits, i), dst, at);
+        at = put_row(form, &records[i], is_there(word, i), dst, at);
     }
     at
 }
@@ -112,7 +117,7 @@ fn push_blocks<const W: usize>(
     for k in 0..records.len().div_ceil(BLOCK) {
         let start = BLOCK * k;
         let end = start + (records.len() - start).min(BLOCK);
-        let at = put_block(form, records, bits, start, end, &mut dst);
+        let at = put_block(form, &records[start..end], block_word(bits, k), &mut dst);
         text.extend_from_slice(&dst[at..])?;
     }
     Ok(())

@@ -1,6 +1,7 @@
-use Rattle.std.proofs.Common.{◌≡◌, ◌+◌, ◌*◌, ◌-◌, ◌≤◌, take, drop}
+use Rattle.std.proofs.Common.{◌≡◌, ◌+◌, ◌*◌, ◌-◌, ◌≤◌, Some, length, take, drop}
+use Rattle.vx_bits.specs.Words.{word_bits}
 use Rattle.vx_print.specs.Text.{lines, row_text_by}
-use Rattle.vx_print.specs.Records.{record_text, record_rows, bits_in}
+use Rattle.vx_print.specs.Records.{record_text, record_rows}
 use Rattle.vx_print.proofs.records.put_block.Given as goal
 
 -- the lines of the last k rows are written
@@ -8,5 +9,5 @@ abbrev pub invariant-loop-k : goal.invariant-loop-k
 invariant-loop-k g l = record {
   room : 4288 ≤ l.at + 67 * l.k;
   within : l.at ≤ 4288;
-  put : drop l.at l.dst ≡ lines (row_text_by (record_text l.form)) (drop (l.end - l.k) (take l.end (record_rows (bits_in l.bits) l.records)));
+  put : drop l.at l.dst ≡ lines (row_text_by (record_text l.form)) (drop (length l.records - l.k) (take (length l.records) (record_rows (Some (word_bits l.word (length l.records))) l.records)));
 }
