@@ -1,5 +1,5 @@
-//! Calls sources, sinks, and what reads or delivers over them, and prints a line for each case: what
-//! was called, and what it gave.
+//! Calls sources, sinks, and what reads or delivers over them, and prints a line for each case:
+//! what was called, and what it gave.
 #![tactic(auto)]
 
 mod flaky;

@@ -65,8 +65,8 @@ pub fn read_all<S: Source>(alloc: Global, source: &mut S) -> Result<Vec<u8>, Sto
     Err(Stop::TooLong)
 }
 
-/// Makes room for at least one byte behind those that are filled. The room grows by a quarter, up to
-/// one byte past the bound: a list of many bytes grows in its place, so small steps cost little.
+/// Makes room for at least one byte behind those that are filled. The room grows by a quarter, up
+/// to one byte past the bound: a list of many bytes grows in its place, so small steps cost little.
 fn make_room(buffer: &mut Vec<u8>, filled: usize) -> Result<(), AllocError>
     requires within { filled ≤ vec_len buffer.old }
     requires below { filled ≤ MAX_BYTES }

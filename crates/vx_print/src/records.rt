@@ -110,7 +110,8 @@ fn push_blocks<const W: usize>(
 ) -> Result<(), NoMemory>
     requires width { IsWide form W }
     requires long { IsLong (bits_in bits) (length records.now) }
-    ensures { IsOk result → text.new.items ≡ text.old.items ++ lines (row_text_by (record_text form))
+    ensures { IsOk result → text.new.items ≡ text.old.items
+        ++ lines (row_text_by (record_text form))
         (record_rows (bits_in bits.entry) records.now) }
 {
     let mut dst = [0; ROOM];
