@@ -5,3 +5,4 @@ pub mod PickedOnce
 pub mod Marks
 pub mod Spans
 pub mod ValuesAt
+pub mod WordPlaces

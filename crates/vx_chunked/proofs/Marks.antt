@@ -9,7 +9,7 @@ use Rattle.vx_bits.proofs.WordLists.{take_words}
 use Rattle.vx_mask.specs.Positions.{positions, set_of}
 use Rattle.vx_mask.proofs.PositionLists.{positions-append, length-positions}
 use Rattle.vx_mask.proofs.WordPositions.{positions_in}
-use Rattle.vx_filter.proofs.Bytes.{positions-shift}
+use Rattle.vx_chunked.proofs.WordPlaces.{positions-shift}
 use Rattle.vx_chunked.specs.Positions.{AscendFrom, positions_from}
 use Rattle.vx_chunked.specs.SelectedPlaces.{Fits, count_of, selected}
 use Rattle.vx_chunked.specs.declared.selection.Selection.{Selection}

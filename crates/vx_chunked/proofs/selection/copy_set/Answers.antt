@@ -3,7 +3,7 @@ use Rattle.std.specs.List.{slice_get}
 use Rattle.vx_bits.specs.BitBuffer.{true_count_of}
 use Rattle.vx_mask.specs.Positions.{set_of}
 use Rattle.vx_mask.proofs.WordCounts.{count_of_word, counts_rise}
-use Rattle.vx_filter.proofs.Bytes.{places_in, places_pushed}
+use Rattle.vx_chunked.proofs.WordPlaces.{places_in, places_pushed}
 use Rattle.vx_chunked.proofs.selection.copy_set.Goals as goal
 
 pub copy_picked-kept-requires-clause-within : goal.copy_picked-kept-requires-clause-within
