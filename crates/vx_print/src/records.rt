@@ -125,11 +125,16 @@ fn push_blocks<const W: usize>(
 }
 
 // Appends a line for each row, a record of integer type `$ptype`, of which each is of width
-// `$width`.
+// `$width`. Where there are no bits, the loop tests none.
 macro_rules! push_by {
     ($text:expr, $ptype:path, $width:path, $values:expr, $bits:expr) => {
-        match $values {
-            $width(records) => push_blocks($text, Form::Number($ptype), records.as_slice(), $bits),
+        match ($values, $bits) {
+            ($width(records), None) => {
+                push_blocks($text, Form::Number($ptype), records.as_slice(), None)
+            }
+            ($width(records), bits) => {
+                push_blocks($text, Form::Number($ptype), records.as_slice(), bits)
+            }
             _ => unreachable!(),
         }
     };
