@@ -7,15 +7,23 @@ use vx_bits::{BitBuffer, BitError, Buffer};
 
 /// Appends a row for each refusal, for bits at an offset and for bits from bools.
 pub(crate) fn add_rows(alloc: Global, rows: &mut Vec<String>) -> Result<(), Fail> {
-    for (count, offset, len) in [(1, 8, 0), (1, 3, 6), (10, 3, 78)] {
-        rows.push(refusal(alloc, count, offset, len)?)?;
+    for n in 0..8 {
+        rows.push(row(alloc, n)?)?;
     }
-    rows.push(at_offset(alloc)?)?;
-    rows.push(words(alloc)?)?;
-    rows.push(three(alloc)?)?;
-    rows.push(part(alloc)?)?;
-    rows.push(thirds(alloc)?)?;
     Ok(())
+}
+
+fn row(alloc: Global, n: usize) -> Result<String, Fail> {
+    match n {
+        0 => refusal(alloc, 1, 8, 0),
+        1 => refusal(alloc, 1, 3, 6),
+        2 => refusal(alloc, 10, 3, 78),
+        3 => at_offset(alloc),
+        4 => words(alloc),
+        5 => three(alloc),
+        6 => part(alloc),
+        _ => thirds(alloc),
+    }
 }
 
 /// So many of ten bytes, from bit `offset` on.

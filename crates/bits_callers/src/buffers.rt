@@ -6,10 +6,18 @@ use vx_bits::{Buffer, Record, Records};
 
 /// Appends a row for a list, for a record and for a list of records.
 pub(crate) fn add_rows(alloc: Global, rows: &mut Vec<String>) -> Result<(), Fail> {
-    rows.push(list(alloc)?)?;
-    rows.push(zero::<[u8; 2]>(alloc)?)?;
-    rows.push(records(alloc)?)?;
+    for n in 0..3 {
+        rows.push(row(alloc, n)?)?;
+    }
     Ok(())
+}
+
+fn row(alloc: Global, n: usize) -> Result<String, Fail> {
+    match n {
+        0 => list(alloc),
+        1 => zero::<[u8; 2]>(alloc),
+        _ => records(alloc),
+    }
 }
 
 fn list(alloc: Global) -> Result<String, Fail> {

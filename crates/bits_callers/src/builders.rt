@@ -7,10 +7,18 @@ use vx_bits::{BitBuffer, BitBuilder, CountedWords, NoMemory, PlainWords, WordRea
 
 /// Appends a row for what a builder makes, and for each reader of its words.
 pub(crate) fn add_rows(alloc: Global, rows: &mut Vec<String>) -> Result<(), Fail> {
-    rows.push(plain(alloc)?)?;
-    rows.push(counted(alloc)?)?;
-    rows.push(two_set(alloc)?)?;
+    for n in 0..3 {
+        rows.push(row(alloc, n)?)?;
+    }
     Ok(())
+}
+
+fn row(alloc: Global, n: usize) -> Result<String, Fail> {
+    match n {
+        0 => plain(alloc),
+        1 => counted(alloc),
+        _ => two_set(alloc),
+    }
 }
 
 /// 72 bits, of which all but the last are set.

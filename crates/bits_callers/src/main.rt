@@ -10,17 +10,26 @@ mod policies;
 mod ranks;
 mod text;
 
+use std::alloc::Global;
 use std::test::Fail;
+
+fn add_rows(alloc: Global, family: usize, rows: &mut Vec<String>) -> Result<(), Fail> {
+    match family {
+        0 => buffers::add_rows(alloc, rows),
+        1 => bits::add_rows(alloc, rows),
+        2 => builders::add_rows(alloc, rows),
+        3 => masks::add_rows(alloc, rows),
+        4 => parts::add_rows(alloc, rows),
+        5 => ranks::add_rows(alloc, rows),
+        _ => policies::add_rows(alloc, rows),
+    }
+}
 
 fn main(rt: HostRuntime) -> Result<(), Fail> {
     let mut rows = Vec::new(rt.alloc());
-    buffers::add_rows(rt.alloc(), &mut rows)?;
-    bits::add_rows(rt.alloc(), &mut rows)?;
-    builders::add_rows(rt.alloc(), &mut rows)?;
-    masks::add_rows(rt.alloc(), &mut rows)?;
-    parts::add_rows(rt.alloc(), &mut rows)?;
-    ranks::add_rows(rt.alloc(), &mut rows)?;
-    policies::add_rows(rt.alloc(), &mut rows)?;
+    for family in 0..7 {
+        add_rows(rt.alloc(), family, &mut rows)?;
+    }
     for row in rows {
         println!(rt; "{row}")?;
     }

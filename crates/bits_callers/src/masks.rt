@@ -10,18 +10,26 @@ use vx_mask::{Mask, MaskError, indices_law, slices_law};
 pub(crate) fn add_rows(alloc: Global, rows: &mut Vec<String>) -> Result<(), Fail> {
     indices_law();
     slices_law();
-    rows.push(by_positions(alloc)?)?;
-    rows.push(by_runs(alloc, &[(1, 2), (3, 5)])?)?;
-    rows.push(by_runs(alloc, &[(1, 2), (3, 4), (4, 5)])?)?;
-    for indices in [[3, 3], [4, 3], [4, 5]] {
-        rows.push(wrong_positions(alloc, &indices)?)?;
+    for n in 0..11 {
+        rows.push(row(alloc, n)?)?;
     }
-    for slices in [[(0, 1), (1, 1)], [(0, 2), (1, 3)], [(0, 1), (4, 6)]] {
-        rows.push(wrong_runs(alloc, &slices)?)?;
-    }
-    rows.push(with_all(alloc)?)?;
-    rows.push(intersected(alloc)?)?;
     Ok(())
+}
+
+fn row(alloc: Global, n: usize) -> Result<String, Fail> {
+    match n {
+        0 => by_positions(alloc),
+        1 => by_runs(alloc, &[(1, 2), (3, 5)]),
+        2 => by_runs(alloc, &[(1, 2), (3, 4), (4, 5)]),
+        3 => wrong_positions(alloc, &[3, 3]),
+        4 => wrong_positions(alloc, &[4, 3]),
+        5 => wrong_positions(alloc, &[4, 5]),
+        6 => wrong_runs(alloc, &[(0, 1), (1, 1)]),
+        7 => wrong_runs(alloc, &[(0, 2), (1, 3)]),
+        8 => wrong_runs(alloc, &[(0, 1), (4, 6)]),
+        9 => with_all(alloc),
+        _ => intersected(alloc),
+    }
 }
 
 /// The mask of rows at these positions.

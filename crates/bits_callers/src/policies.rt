@@ -9,13 +9,20 @@ use vx_mask::{Mask, Policy, PolicyError, PolicyFields, filters_law, prepare_mask
 /// Appends a row for the limits, for each refusal, and for masks for consumers and of one run.
 pub(crate) fn add_rows(alloc: Global, rows: &mut Vec<String>) -> Result<(), Fail> {
     filters_law::<u8>();
-    rows.push(limits(alloc)?)?;
-    rows.push(refusals(alloc)?)?;
-    for consumers in [1, 2] {
-        rows.push(prepared(alloc, consumers)?)?;
+    for n in 0..5 {
+        rows.push(row(alloc, n)?)?;
     }
-    rows.push(one_run(alloc)?)?;
     Ok(())
+}
+
+fn row(alloc: Global, n: usize) -> Result<String, Fail> {
+    match n {
+        0 => limits(alloc),
+        1 => refusals(alloc),
+        2 => prepared(alloc, 1),
+        3 => prepared(alloc, 2),
+        _ => one_run(alloc),
+    }
 }
 
 fn limits(alloc: Global) -> Result<String, Fail> {

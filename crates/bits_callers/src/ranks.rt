@@ -10,12 +10,20 @@ pub(crate) fn add_rows(alloc: Global, rows: &mut Vec<String>) -> Result<(), Fail
     rank_law();
     rows.push(counts(alloc)?)?;
     for (k, p) in [(600, 1537), (512, 1536)] {
-        rows.push(of_mask(alloc, &plain(alloc)?, k, p)?)?;
-        rows.push(of_mask(alloc, &with_blocks(alloc)?, k, p)?)?;
-        rows.push(rank(alloc, &with_blocks(alloc)?, k)?)?;
-        rows.push(before(alloc, &with_blocks(alloc)?, p)?)?;
+        for n in 0..4 {
+            rows.push(row(alloc, n, k, p)?)?;
+        }
     }
     Ok(())
+}
+
+fn row(alloc: Global, n: usize, k: usize, p: usize) -> Result<String, Fail> {
+    match n {
+        0 => of_mask(alloc, &plain(alloc)?, k, p),
+        1 => of_mask(alloc, &with_blocks(alloc)?, k, p),
+        2 => rank(alloc, &with_blocks(alloc)?, k),
+        _ => before(alloc, &with_blocks(alloc)?, p),
+    }
 }
 
 /// The mask of 2,000 rows of which each third is selected.

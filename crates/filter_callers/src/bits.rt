@@ -10,15 +10,26 @@ use vx_mask::Mask;
 
 /// Appends a row for each filter of bits.
 pub(crate) fn add_rows(alloc: Global, rows: &mut Vec<String>) -> Result<(), Fail> {
-    rows.push(without_two(alloc)?)?;
-    rows.push(without_fifths(alloc, 5_000)?)?;
-    rows.push(without_fifths(alloc, 40_000)?)?;
-    let src = BitBuffer::from_bools(alloc, &[true, false, true, true, false])?;
-    let bits = BitBuffer::from_bools(alloc, &[false, true, false, true, true])?;
-    let mask = Mask::from_buffer(bits);
-    rows.push(few(alloc, &src, &mask)?)?;
-    rows.push(few(alloc, &src, &mask.with_indices(alloc)?)?)?;
+    for n in 0..5 {
+        rows.push(row(alloc, n)?)?;
+    }
     Ok(())
+}
+
+fn row(alloc: Global, n: usize) -> Result<String, Fail> {
+    match n {
+        0 => without_two(alloc),
+        1 => without_fifths(alloc, 5_000),
+        2 => without_fifths(alloc, 40_000),
+        3 => few(alloc, &five(alloc)?),
+        _ => few(alloc, &five(alloc)?.with_indices(alloc)?),
+    }
+}
+
+// The bits 01011 as a mask.
+fn five(alloc: Global) -> Result<Mask, NoMemory> {
+    let bits = BitBuffer::from_bools(alloc, &[false, true, false, true, true])?;
+    Ok(Mask::from_buffer(bits))
 }
 
 /// The bits that the mask selects, or else all.
@@ -61,12 +72,13 @@ fn without_fifths(alloc: Global, count: usize) -> Result<String, Fail> {
 }
 
 // Bits by a mask with few set bits.
-fn few(alloc: Global, src: &BitBuffer, mask: &Mask) -> Result<String, Fail> {
+fn few(alloc: Global, mask: &Mask) -> Result<String, Fail> {
+    let src = BitBuffer::from_bools(alloc, &[true, false, true, true, false])?;
     let mask = mask.values().ok_or("all rows or none")?;
     if src.len() != mask.len() {
         return Err("another length".into());
     }
-    let kept = filter_sparse(alloc, src, mask)?;
+    let kept = filter_sparse(alloc, &src, mask)?;
     let text = text_of(alloc, &kept)?;
     let list = mask.cached_indices();
     Ok(format!(in alloc; "10110 by 01011, indices {list:?}: {text}")?)

@@ -6,11 +6,19 @@ use vx_filter::{compact_runs, compact_words};
 
 /// Appends two rows for a word of single bits, and two for one with a run up to its last bit.
 pub(crate) fn add_rows(alloc: Global, rows: &mut Vec<String>) -> Result<(), Fail> {
-    rows.push(by_words(alloc)?)?;
-    rows.push(by_runs(alloc)?)?;
-    rows.push(long_run(alloc)?)?;
-    rows.push(full_word(alloc)?)?;
+    for n in 0..4 {
+        rows.push(row(alloc, n)?)?;
+    }
     Ok(())
+}
+
+fn row(alloc: Global, n: usize) -> Result<String, Fail> {
+    match n {
+        0 => by_words(alloc),
+        1 => by_runs(alloc),
+        2 => long_run(alloc),
+        _ => full_word(alloc),
+    }
 }
 
 const FIVE: [u16; 5] = [10, 20, 30, 40, 50];

@@ -19,14 +19,24 @@ pub(crate) fn add_rows(alloc: Global, rows: &mut Vec<String>) -> Result<(), Fail
     if mask.len() != 5 {
         return Err("not five rows".into());
     }
-    rows.push(chosen(alloc, mask)?)?;
-    rows.push(by_bitmap(alloc, mask)?)?;
-    rows.push(by_bytes(alloc, mask)?)?;
-    rows.push(by_indices(alloc)?)?;
-    rows.push(by_slices(alloc)?)?;
-    rows.push(of_vec(alloc, mask)?)?;
-    rows.push(in_place(alloc, mask)?)?;
+    for n in 0..7 {
+        rows.push(row(alloc, n, mask)?)?;
+    }
     Ok(())
+}
+
+fn row(alloc: Global, n: usize, mask: &MaskValues) -> Result<String, Fail>
+    requires { length mask.now.bits.bits ≡ 5 }
+{
+    match n {
+        0 => chosen(alloc, mask),
+        1 => by_bitmap(alloc, mask),
+        2 => by_bytes(alloc, mask),
+        3 => by_indices(alloc),
+        4 => by_slices(alloc),
+        5 => of_vec(alloc, mask),
+        _ => in_place(alloc, mask),
+    }
 }
 
 const FIVE: [u8; 5] = [10, 20, 30, 40, 50];

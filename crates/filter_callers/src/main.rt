@@ -10,17 +10,26 @@ mod packed;
 mod readers;
 mod widths;
 
+use std::alloc::Global;
 use std::test::Fail;
+
+fn add_rows(alloc: Global, family: usize, rows: &mut Vec<String>) -> Result<(), Fail> {
+    match family {
+        0 => filters::add_rows(alloc, rows),
+        1 => compact::add_rows(alloc, rows),
+        2 => widths::add_rows(alloc, rows),
+        3 => bytes::add_rows(alloc, rows),
+        4 => packed::add_rows(alloc, rows),
+        5 => bits::add_rows(alloc, rows),
+        _ => readers::add_rows(alloc, rows),
+    }
+}
 
 fn main(rt: HostRuntime) -> Result<(), Fail> {
     let mut rows = Vec::new(rt.alloc());
-    filters::add_rows(rt.alloc(), &mut rows)?;
-    compact::add_rows(rt.alloc(), &mut rows)?;
-    widths::add_rows(rt.alloc(), &mut rows)?;
-    bytes::add_rows(rt.alloc(), &mut rows)?;
-    packed::add_rows(rt.alloc(), &mut rows)?;
-    bits::add_rows(rt.alloc(), &mut rows)?;
-    readers::add_rows(rt.alloc(), &mut rows)?;
+    for family in 0..7 {
+        add_rows(rt.alloc(), family, &mut rows)?;
+    }
     for row in rows {
         println!(rt; "{row}")?;
     }

@@ -11,15 +11,24 @@ use vx_mask::{Mask, MaskValues, Policy, Ratio};
 /// Appends three rows for each of two offsets and three policies.
 pub(crate) fn add_rows(alloc: Global, rows: &mut Vec<String>) -> Result<(), Fail> {
     for offset in [0, 3] {
-        let mask = Mask::from_buffer(multiples(alloc, offset, 200, 7, false)?);
         for ratio in [None, Some(0), Some(2)] {
-            let policy = policy_of(ratio).ok_or("a fault")?;
-            rows.push(row(alloc, "no list", &mask, &policy)?)?;
-            rows.push(row(alloc, "indices", &mask.with_indices(alloc)?, &policy)?)?;
-            rows.push(row(alloc, "slices", &mask.with_slices(alloc)?, &policy)?)?;
+            for list in ["no list", "indices", "slices"] {
+                rows.push(listed(alloc, offset, ratio, list)?)?;
+            }
         }
     }
     Ok(())
+}
+
+/// A row for the mask with that list, and the policy with that ratio.
+fn listed(alloc: Global, offset: usize, ratio: Option<u64>, list: &str) -> Result<String, Fail> {
+    let policy = policy_of(ratio).ok_or("a fault")?;
+    let mask = Mask::from_buffer(multiples(alloc, offset, 200, 7, false)?);
+    match list {
+        "indices" => row(alloc, list, &mask.with_indices(alloc)?, &policy),
+        "slices" => row(alloc, list, &mask.with_slices(alloc)?, &policy),
+        _ => row(alloc, list, &mask, &policy),
+    }
 }
 
 /// The crate's own policy, or that whose ratios are all this one.
@@ -56,13 +65,27 @@ fn counts(
     policy: &Policy,
 ) -> Result<Vec<(usize, usize)>, NoMemory> {
     let mut counts = Vec::new(alloc);
-    counts.push(count(alloc, [0u8; 1], mask, policy)?)?;
-    counts.push(count(alloc, [0u8; 2], mask, policy)?)?;
-    counts.push(count(alloc, [0u8; 4], mask, policy)?)?;
-    counts.push(count(alloc, [0u8; 8], mask, policy)?)?;
-    counts.push(count(alloc, [0u8; 16], mask, policy)?)?;
-    counts.push(count(alloc, [0u8; 32], mask, policy)?)?;
+    for width in [1, 2, 4, 8, 16, 32] {
+        counts.push(count_of(alloc, width, mask, policy)?)?;
+    }
     Ok(counts)
+}
+
+/// The same of records of one width.
+fn count_of(
+    alloc: Global,
+    width: usize,
+    mask: &MaskValues,
+    policy: &Policy,
+) -> Result<(usize, usize), NoMemory> {
+    match width {
+        1 => count(alloc, [0u8; 1], mask, policy),
+        2 => count(alloc, [0u8; 2], mask, policy),
+        4 => count(alloc, [0u8; 4], mask, policy),
+        8 => count(alloc, [0u8; 8], mask, policy),
+        16 => count(alloc, [0u8; 16], mask, policy),
+        _ => count(alloc, [0u8; 32], mask, policy),
+    }
 }
 
 /// How many of 200 such items are kept, out of place and in a list.
