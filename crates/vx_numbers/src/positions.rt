@@ -1,7 +1,7 @@
 //! Which positions numbers name, and the first number that names none.
 ghost use Rattle.std.specs.Prelude.{◌≡◌, ◌<◌, None, true, false, IfOk, IfSome};
 ghost use Rattle.std.specs.Option.{option_map};
-ghost use Rattle.vx_pieces.specs.Indices.{AllThere, bad_number, first_bad, is_position, position_of, positions_of};
+ghost use Rattle.vx_numbers.specs.Positions.{AllThere, bad_number, first_bad, is_position, position_of, positions_of};
 
 use crate::numbers::Numbers;
 use std::alloc::Global;
@@ -26,7 +26,7 @@ fn bad_number(number: Option<i128>, len: usize) -> Option<i128>
 
 /// The first number that is none of `len` positions.
 #[inline(always)]
-pub(crate) fn first_bad<N: Numbers>(numbers: &N, len: usize) -> Option<i128>
+pub fn first_bad<N: Numbers>(numbers: &N, len: usize) -> Option<i128>
     ensures { result ≡ first_bad len (N.numbers numbers.now) }
 {
     for i in 0..numbers.len() {
@@ -53,7 +53,7 @@ fn position_of(number: Option<i128>, len: usize) -> Option<usize>
 
 /// The positions that the numbers name. `NoMemory` alone.
 #[inline(always)]
-pub(crate) fn picks_of<N: Numbers>(
+pub fn picks_of<N: Numbers>(
     alloc: Global,
     numbers: &N,
     len: usize,
