@@ -1,7 +1,9 @@
 pub mod Items
 pub mod Layouts
+pub mod LazyRows
 pub mod ShownRows
 pub mod Steps
 pub mod Takes
+pub mod Scalars
 pub mod StoredRows
 pub mod Validities
