@@ -73,19 +73,12 @@ sound-dict p h =
 pub int-dict : (p : DictParts) → dict_fault p ≡ None → is_int_type p.codes.dtype ≡ true
 int-dict p h = grind arith
 
-below_all : (n : ℕ) (z : ℤ) → is_position n z ≡ true → position_of z < n
-below_all n (pos i) h = grind (arith, nat_tests)
-below_all n (negsuc i) h = cc
-
 pub code_names : (p : DictParts) (i : ℕ) (z : ℤ) → dict_fault p ≡ None → i < length p.codes.rows → number_in p.codes.dtype (get_or p.codes.rows i null) ≡ Some z → is_position (length p.values.rows) z ≡ true
 code_names p i z h l is =
     let xs = numbers_of p.codes in
     let each : IfSome (get_or xs i None) (λ y. is_position (length p.values.rows) y ≡ true) =
     each_is_position (length p.values.rows) xs i (sound-dict p h) (omega (arith, length-map p.codes.rows (number_in p.codes.dtype))) in
     rw (number_at p i l ∙ is) at each
-
-pub code_below : (p : DictParts) (i : ℕ) (z : ℤ) → dict_fault p ≡ None → i < length p.codes.rows → number_in p.codes.dtype (get_or p.codes.rows i null) ≡ Some z → position_of z < length p.values.rows
-code_below p i z h l is = below_all (length p.values.rows) z (code_names p i z h l is)
 
 pub row-filter : (p : FilterParts) (i : ℕ) → filter_fault p ≡ None → i < true_count_of p.mask → get_or (filter_column p).rows i null ≡ get_or p.child.rows (rank_of p.mask i) null
 row-filter p i h l =
@@ -142,4 +135,4 @@ pub carried-also : (t : TypeTree) (n : Nullability) → is_carried t ≡ true �
 carried-also t n h = carried_with t (either_nullable (type_nullability t) n) (carried_either t (type_nullability t) n h)
 
 -- what a proof about the length or about one row needs
-pub ruleset lazy_rows = (length-constant, length-dict, length-filter, long-filter, row-constant, row-dict, row-filter, rank-filter, int-dict, sound-dict, code_below, carried-also)
+pub ruleset lazy_rows = (length-constant, length-dict, length-filter, long-filter, row-constant, row-dict, row-filter, rank-filter, int-dict, sound-dict, code_names, carried-also)

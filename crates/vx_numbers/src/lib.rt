@@ -7,5 +7,5 @@ mod positions;
 mod stored;
 
 pub use numbers::Numbers;
-pub use positions::{first_bad, picks_of};
+pub use positions::{first_bad, picks_of, position};
 pub use stored::{first_bad_by_bits, first_bad_present, picks_by_bits, picks_present};

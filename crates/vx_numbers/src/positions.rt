@@ -38,6 +38,17 @@ pub fn first_bad<N: Numbers>(numbers: &N, len: usize) -> Option<i128>
     None
 }
 
+/// The position that a number names.
+#[inline(always)]
+pub fn position(number: i128, len: usize) -> usize
+    requires { is_position len number ≡ true }
+    ensures value { result ≡ position_of number }
+    ensures below { result < len }
+{
+    let _ = len;
+    number as usize
+}
+
 // The position that a number names, none where it is missing.
 #[inline(always)]
 fn position_of(number: Option<i128>, len: usize) -> Option<usize>
@@ -46,7 +57,7 @@ fn position_of(number: Option<i128>, len: usize) -> Option<usize>
     ensures below { IfSome result (λ p. p < len) }
 {
     match number {
-        Some(number) => Some(number as usize),
+        Some(number) => Some(position(number, len)),
         None => None,
     }
 }
