@@ -1,3 +1,2 @@
 pub mod Indices
-pub mod Stored
 pub use Rattle.vx_take.specs.Picks

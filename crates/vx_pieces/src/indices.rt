@@ -2,10 +2,10 @@
 ghost use Rattle.std.specs.Prelude.{◌≡◌, None, length, IfOk};
 ghost use Rattle.std.specs.Option.{option_map};
 ghost use Rattle.vx_types.specs.declared.nullability.Nullability.TheVariants.{NonNullable};
-ghost use Rattle.vx_pieces.specs.Indices.{AllThere, by_column, column_fault, index_fault, index_nullability, index_picks, index_value};
+ghost use Rattle.vx_numbers.specs.Positions.{AllThere};
+ghost use Rattle.vx_pieces.specs.Indices.{by_column, column_fault, index_fault, index_nullability, index_picks, index_value};
 
 use crate::fault::IndexFault;
-use crate::reading::{first_bad_of, picks_of_column};
 use std::alloc::Global;
 use vx_bits::NoMemory;
 use vx_column::{Array, FlatRef, Nullability};
@@ -69,7 +69,7 @@ impl Indices {
     {
         let array = self.column();
         match array.dtype().int_type() {
-            Some(ptype) => picks_of_column(alloc, array, ptype, len),
+            Some(ptype) => array.positions(alloc, ptype, len),
             None => unreachable!(),
         }
     }
@@ -80,7 +80,7 @@ fn column_fault(array: &Array, len: usize) -> Option<IndexFault>
     ensures { result ≡ column_fault array.now len }
 {
     match array.dtype().int_type() {
-        Some(ptype) => out_of_bounds(first_bad_of(array, ptype, len)),
+        Some(ptype) => out_of_bounds(array.first_bad(ptype, len)),
         None => Some(IndexFault::InvalidIndices),
     }
 }

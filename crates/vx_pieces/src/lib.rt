@@ -3,9 +3,6 @@
 
 mod fault;
 mod indices;
-mod numbers;
-mod positions;
-mod reading;
 
 pub use fault::IndexFault;
 pub use indices::Indices;
