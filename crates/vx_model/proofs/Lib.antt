@@ -1,6 +1,7 @@
 pub mod Items
 pub mod Layouts
 pub mod LazyRows
+pub mod LazySteps
 pub mod ShownRows
 pub mod Steps
 pub mod Takes
