@@ -1,60 +1,26 @@
 -- What a step leaves of a constant, of a dictionary and of a lazy filter.
-use Rattle.std.proofs.Common.{◌≡◌, ℕ, zero, suc, ◌+◌, ◌-◌, ◌≤◌, ◌<◌, Bool, true, false, List, [], ◌∷◌, map, length, Option, None, Some, refl, sym, ap, ap₂, ◌∙◌, arith}
-use Rattle.std.specs.Prelude.{is_some, replicate, slice_range}
-use Rattle.std.specs.List.{items_where_true, list_all}
+use Rattle.std.proofs.Common.{◌≡◌, ℕ, zero, suc, ◌-◌, ◌≤◌, Bool, true, List, [], ◌∷◌, length, slice_range, Option, None, Some, refl, sym, ap, ap₂, ◌∙◌, arith}
+use Rattle.std.specs.Prelude.{replicate}
+use Rattle.std.specs.List.{items_where_true}
+use Rattle.std.specs.Option.{option_map}
 use Rattle.std.proofs.Math.ListN.{get_or-replicate}
 use Rattle.vx_bits.specs.BitBuffer.{true_count_of}
-use Rattle.vx_types.specs.Nullability.{either_nullable}
-use Rattle.vx_types.specs.TypeTree as types
-use Rattle.vx_types.specs.TypeTree.{TypeTree, also_nullable, type_nullability, with_nullability}
+use Rattle.vx_types.specs.TypeTree.{also_nullable, is_int_type, type_nullability}
 use Rattle.vx_types.specs.RowValue.{null}
 use Rattle.vx_types.specs.declared.nullability.Nullability.{Nullability}
-use Rattle.vx_types.specs.declared.nullability.Nullability.TheVariants.{NonNullable, Nullable}
-use Rattle.vx_take.specs.Picks.{AreBelow, at}
-use Rattle.vx_numbers.specs.Positions.{AllThere}
+use Rattle.vx_types.specs.declared.nullability.Nullability.TheVariants.{NonNullable}
+use Rattle.vx_take.specs.Picks.{AreBelow, at, item_at}
+use Rattle.vx_take.proofs.TakenLists.{takes_join}
+use Rattle.vx_numbers.specs.Positions.{AllThere, first_bad, position_of, positions_of}
+use Rattle.vx_model.specs.Column.{Column}
 use Rattle.vx_model.specs.Constant.{ConstantParts, constant_column, constant_with}
+use Rattle.vx_model.specs.Dict.{DictParts, dict_fault, dict_column, dict_with}
+use Rattle.vx_model.specs.Numbers.{numbers_of}
 use Rattle.vx_model.specs.Step.{IsCut, IsSlice, IsTake}
-use Rattle.vx_model.proofs.Items.{items_where_true-replicate, slice_range-replicate}
-
--- ---- the outer nullability of a type
-
--- the other parts stay
-pub with_nullability-twice : (t : TypeTree) (m n : Nullability) → with_nullability (with_nullability t m) n ≡ with_nullability t n
-with_nullability-twice types.null_type m n = refl
-with_nullability-twice (types.bool_type k) m n = refl
-with_nullability-twice (types.primitive_type p k) m n = refl
-with_nullability-twice (types.decimal_type p s w k) m n = refl
-with_nullability-twice (types.utf8_type k) m n = refl
-with_nullability-twice (types.binary_type k) m n = refl
-with_nullability-twice (types.list_type t k) m n = refl
-with_nullability-twice (types.fixed_type t l k) m n = refl
-with_nullability-twice (types.map_type ns ts k) m n = refl
-with_nullability-twice (types.struct_type ns ts k) m n = refl
-with_nullability-twice (types.union_type is ns ts k) m n = refl
-with_nullability-twice (types.extension_type s t k) m n = refl
-
--- the type's own
-pub with_nullability-own : (t : TypeTree) → with_nullability t (type_nullability t) ≡ t
-with_nullability-own types.null_type = refl
-with_nullability-own (types.bool_type k) = refl
-with_nullability-own (types.primitive_type p k) = refl
-with_nullability-own (types.decimal_type p s w k) = refl
-with_nullability-own (types.utf8_type k) = refl
-with_nullability-own (types.binary_type k) = refl
-with_nullability-own (types.list_type t k) = refl
-with_nullability-own (types.fixed_type t l k) = refl
-with_nullability-own (types.map_type ns ts k) = refl
-with_nullability-own (types.struct_type ns ts k) = refl
-with_nullability-own (types.union_type is ns ts k) = refl
-with_nullability-own (types.extension_type s t k) = refl
-
-either_nullable-none : (m : Nullability) → either_nullable m NonNullable ≡ m
-either_nullable-none NonNullable = refl
-either_nullable-none Nullable = refl
-
--- a type that need not be nullable stays
-pub also_nullable-none : (t : TypeTree) → also_nullable t NonNullable ≡ t
-also_nullable-none t = ap (with_nullability t) (either_nullable-none (type_nullability t)) ∙ with_nullability-own t
+use Rattle.vx_model.proofs.Items.{items_where_true-replicate, slice_range-replicate, map-items_where_true, map-slice_range}
+use Rattle.vx_model.proofs.Takes.{map-at}
+use Rattle.vx_model.proofs.Nullabilities.{also_nullable-none, also_nullable-codes}
+use Rattle.vx_model.proofs.CodeNumbers.{is_int_type-also, numbers_of-slice, numbers_of-filter, numbers_of-take, first_bad-slice, first_bad-filter, first_bad-picks}
 
 -- ---- constants
 
@@ -86,6 +52,77 @@ is_take-constant p picks there below =
     record {
       rows = sym (at-replicate null p.scalar.row p.len picks there below);
       dtype = sym (also_nullable-none p.scalar.dtype);
+      layout = λ _. refl;
+      unwrapped = λ h. h;
+    }
+
+-- ---- dictionaries
+
+-- what it is that a dictionary has no fault
+pub int_codes : (p : DictParts) → dict_fault p ≡ None → is_int_type p.codes.dtype ≡ true
+int_codes p h = grind arith
+
+pub good_codes : (p : DictParts) → dict_fault p ≡ None → first_bad (length p.values.rows) (numbers_of p.codes) ≡ None
+good_codes p h = grind arith
+
+faultless : (p : DictParts) → is_int_type p.codes.dtype ≡ true → first_bad (length p.values.rows) (numbers_of p.codes) ≡ None → dict_fault p ≡ None
+faultless p h k = rw (h, k) refl
+
+pub dict_fault-slice : (p : DictParts) (codes : Column) (s e : ℕ) → dict_fault p ≡ None → IsSlice p.codes s e codes → dict_fault (dict_with p codes) ≡ None
+dict_fault-slice p codes s e h cut =
+    faultless (dict_with p codes) (ap is_int_type cut.step.dtype ∙ int_codes p h)
+    (ap (first_bad (length p.values.rows)) (numbers_of-slice p.codes s e codes cut) ∙ first_bad-slice (length p.values.rows) (numbers_of p.codes) s e (good_codes p h))
+
+pub dict_fault-filter : (p : DictParts) (codes : Column) (mask : List Bool) → dict_fault p ≡ None → IsCut p.codes (items_where_true mask p.codes.rows) codes → dict_fault (dict_with p codes) ≡ None
+dict_fault-filter p codes mask h cut =
+    faultless (dict_with p codes) (ap is_int_type cut.step.dtype ∙ int_codes p h)
+    (ap (first_bad (length p.values.rows)) (numbers_of-filter p.codes mask codes cut) ∙ first_bad-filter (length p.values.rows) mask (numbers_of p.codes) (good_codes p h))
+
+pub dict_fault-take : (p : DictParts) (codes : Column) (picks : List (Option ℕ)) (n : Nullability) → dict_fault p ≡ None → IsTake p.codes picks n codes → dict_fault (dict_with p codes) ≡ None
+dict_fault-take p codes picks n h step =
+    faultless (dict_with p codes) (ap is_int_type step.dtype ∙ is_int_type-also p.codes.dtype n ∙ int_codes p h)
+    (ap (first_bad (length p.values.rows)) (numbers_of-take p.codes picks n codes step) ∙ first_bad-picks (length p.values.rows) (numbers_of p.codes) picks (good_codes p h))
+
+pub is_slice-dict : (p : DictParts) (codes : Column) (s e : ℕ) → dict_fault p ≡ None → IsSlice p.codes s e codes → IsSlice (dict_column p) s e (dict_column (dict_with p codes))
+is_slice-dict p codes s e h cut =
+    let positions = positions_of (numbers_of p.codes) in
+    let left : positions_of (numbers_of codes) ≡ slice_range positions s e =
+    ap positions_of (numbers_of-slice p.codes s e codes cut) ∙ map-slice_range (option_map position_of) (numbers_of p.codes) s e in
+    record {
+      step = record {
+        rows = ap (at null p.values.rows) left ∙ map-slice_range (item_at null p.values.rows) positions s e;
+        dtype = ap (λ t. also_nullable p.values.dtype (type_nullability t)) cut.step.dtype;
+        layout = λ _. refl;
+        unwrapped = λ h. h;
+      };
+      plain = λ h. h;
+      depth = omega (arith, cut.depth);
+    }
+
+pub is_filter-dict : (p : DictParts) (codes : Column) (mask : List Bool) → dict_fault p ≡ None → IsCut p.codes (items_where_true mask p.codes.rows) codes → IsCut (dict_column p) (items_where_true mask (dict_column p).rows) (dict_column (dict_with p codes))
+is_filter-dict p codes mask h cut =
+    let positions = positions_of (numbers_of p.codes) in
+    let left : positions_of (numbers_of codes) ≡ items_where_true mask positions =
+    ap positions_of (numbers_of-filter p.codes mask codes cut) ∙ map-items_where_true (option_map position_of) mask (numbers_of p.codes) in
+    record {
+      step = record {
+        rows = ap (at null p.values.rows) left ∙ map-items_where_true (item_at null p.values.rows) mask positions;
+        dtype = ap (λ t. also_nullable p.values.dtype (type_nullability t)) cut.step.dtype;
+        layout = λ _. refl;
+        unwrapped = λ h. h;
+      };
+      plain = λ h. h;
+      depth = omega (arith, cut.depth);
+    }
+
+pub is_take-dict : (p : DictParts) (codes : Column) (picks : List (Option ℕ)) (n : Nullability) → dict_fault p ≡ None → IsTake p.codes picks n codes → IsTake (dict_column p) picks n (dict_column (dict_with p codes))
+is_take-dict p codes picks n h step =
+    let positions = positions_of (numbers_of p.codes) in
+    let left : positions_of (numbers_of codes) ≡ at None positions picks =
+    ap positions_of (numbers_of-take p.codes picks n codes step) ∙ map-at (option_map position_of) None (numbers_of p.codes) picks in
+    record {
+      rows = ap (at null p.values.rows) left ∙ sym (takes_join null p.values.rows positions picks);
+      dtype = ap (λ t. also_nullable p.values.dtype (type_nullability t)) step.dtype ∙ also_nullable-codes p.values.dtype p.codes.dtype n;
       layout = λ _. refl;
       unwrapped = λ h. h;
     }

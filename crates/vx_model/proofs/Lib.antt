@@ -1,7 +1,9 @@
 pub mod Items
+pub mod CodeNumbers
 pub mod Layouts
 pub mod LazyRows
 pub mod LazySteps
+pub mod Nullabilities
 pub mod ShownRows
 pub mod Steps
 pub mod Takes
