@@ -1,25 +1,30 @@
 -- What a step leaves of a constant, of a dictionary and of a lazy filter.
-use Rattle.std.proofs.Common.{◌≡◌, ℕ, zero, suc, ◌-◌, ◌≤◌, Bool, true, List, [], ◌∷◌, length, slice_range, Option, None, Some, refl, sym, ap, ap₂, ◌∙◌, arith}
+use Rattle.std.proofs.Common.{◌≡◌, ℕ, zero, suc, ◌-◌, ◌≤◌, Bool, true, List, [], ◌∷◌, false, map, length, take, slice_range, Option, None, Some, refl, sym, ap, ap₂, ◌∙◌, arith}
 use Rattle.std.specs.Prelude.{replicate}
 use Rattle.std.specs.List.{items_where_true}
 use Rattle.std.specs.Option.{option_map}
 use Rattle.std.proofs.Math.ListN.{get_or-replicate}
+use Rattle.std.proofs.lemmas.Bool.Decides.{nat_tests}
 use Rattle.vx_bits.specs.BitBuffer.{true_count_of}
-use Rattle.vx_types.specs.TypeTree.{also_nullable, is_int_type, type_nullability}
-use Rattle.vx_types.specs.RowValue.{null}
+use Rattle.vx_types.specs.TypeTree.{TypeTree, also_nullable, is_int_type, type_nullability}
+use Rattle.vx_types.specs.RowValue.{RowValue, null}
 use Rattle.vx_types.specs.declared.nullability.Nullability.{Nullability}
 use Rattle.vx_types.specs.declared.nullability.Nullability.TheVariants.{NonNullable}
+use Rattle.vx_mask.specs.Positions.{rank_of, set_of}
+use Rattle.vx_take.specs.Ranks.{translated}
 use Rattle.vx_take.specs.Picks.{AreBelow, at, item_at}
-use Rattle.vx_take.proofs.TakenLists.{takes_join}
+use Rattle.vx_take.proofs.TakenLists.{take_of_filter, takes_join}
 use Rattle.vx_numbers.specs.Positions.{AllThere, first_bad, position_of, positions_of}
 use Rattle.vx_model.specs.Column.{Column}
 use Rattle.vx_model.specs.Constant.{ConstantParts, constant_column, constant_with}
 use Rattle.vx_model.specs.Dict.{DictParts, dict_fault, dict_column, dict_with}
+use Rattle.vx_model.specs.Filter.{FilterParts, filter_fault, filter_column}
 use Rattle.vx_model.specs.Numbers.{numbers_of}
-use Rattle.vx_model.specs.Step.{IsCut, IsSlice, IsTake}
-use Rattle.vx_model.proofs.Items.{items_where_true-replicate, slice_range-replicate, map-items_where_true, map-slice_range}
+use Rattle.vx_model.specs.Step.{IsStep, IsCut, IsSlice, IsTake}
+use Rattle.vx_model.proofs.Items.{length-slice_range, items_where_true-replicate, slice_range-replicate, map-items_where_true, map-slice_range}
 use Rattle.vx_model.proofs.Takes.{map-at}
 use Rattle.vx_model.proofs.Nullabilities.{also_nullable-none, also_nullable-codes}
+use Rattle.vx_model.proofs.KeptItems.{slice-items, kept-by-both}
 use Rattle.vx_model.proofs.CodeNumbers.{is_int_type-also, numbers_of-slice, numbers_of-filter, numbers_of-take, first_bad-slice, first_bad-filter, first_bad-picks}
 
 -- ---- constants
@@ -126,3 +131,58 @@ is_take-dict p codes picks n h step =
       layout = λ _. refl;
       unwrapped = λ h. h;
     }
+
+-- ---- lazy filters
+
+-- what it is that a filter has no fault
+pub as_long-filter : (p : FilterParts) → filter_fault p ≡ None → length p.mask ≡ length p.child.rows
+as_long-filter p h = grind (arith, nat_tests)
+
+faultless_filter : (p : FilterParts) → length p.mask ≡ length p.child.rows → filter_fault p ≡ None
+faultless_filter p h = grind (arith, nat_tests)
+
+pub filter_fault-slice : (p : FilterParts) (child : Column) (lo hi : ℕ) → filter_fault p ≡ None → lo ≤ hi → hi ≤ length p.mask → IsSlice p.child lo hi child → filter_fault (record { child = child; mask = slice_range p.mask lo hi }) ≡ None
+filter_fault-slice p child lo hi f h l cut =
+    let long = as_long-filter p f in
+    faultless_filter (record { child = child; mask = slice_range p.mask lo hi })
+    (length-slice_range p.mask lo hi h l
+    ∙ sym (length-slice_range p.child.rows lo hi h (omega (arith, long)))
+    ∙ ap length (sym cut.step.rows))
+
+-- from a place with so many kept rows before it up to such a place
+pub is_slice-filter : (p : FilterParts) (child : Column) (s e lo hi : ℕ) → filter_fault p ≡ None → lo ≤ hi → hi ≤ length p.mask → true_count_of (take lo p.mask) ≡ s → true_count_of (take hi p.mask) ≡ e → IsSlice p.child lo hi child → IsSlice (filter_column p) s e (filter_column (record { child = child; mask = slice_range p.mask lo hi }))
+is_slice-filter p child s e lo hi f h l at_lo at_hi cut =
+    record {
+      step = record {
+        rows = ap (items_where_true (slice_range p.mask lo hi)) cut.step.rows ∙ sym (slice-items p.mask p.child.rows s e lo hi (as_long-filter p f) h l at_lo at_hi);
+        dtype = cut.step.dtype;
+        layout = λ _. refl;
+        unwrapped = λ h. h;
+      };
+      plain = λ h. h;
+      depth = omega (arith, cut.depth);
+    }
+
+-- a filter is no layout that stores its rows
+pub is_step-filter : (p : FilterParts) (left : List RowValue) (t : TypeTree) (a : Column) → a.rows ≡ left → a.dtype ≡ t → IsStep (filter_column p) left t a
+is_step-filter p left t a rows dtype =
+    record {
+      rows = rows;
+      dtype = dtype;
+      layout = λ h. let no : false ≡ true = h in cc;
+      unwrapped = λ h. let no : false ≡ true = h in cc;
+    }
+
+-- the child's rows that both masks keep: the set positions whose ranks the other one selects
+pub is_filter-filter : (p : FilterParts) (other both : List Bool) (a : Column) → filter_fault p ≡ None → length other ≡ true_count_of p.mask → set_of both ≡ map (rank_of p.mask) (set_of other) → length both ≡ length p.mask → IsCut p.child (items_where_true both p.child.rows) a → IsCut (filter_column p) (items_where_true other (filter_column p).rows) a
+is_filter-filter p other both a f few set long cut =
+    record {
+      step = is_step-filter p _ _ a (cut.step.rows ∙ kept-by-both p.mask other both p.child.rows (as_long-filter p f) few set long) cut.step.dtype;
+      plain = λ h. let no : false ≡ true = h in cc;
+      depth = omega (arith, cut.depth);
+    }
+
+-- the child's rows at the set positions that the ranks name
+pub is_take-filter : (p : FilterParts) (picks : List (Option ℕ)) (n : Nullability) (a : Column) → filter_fault p ≡ None → AreBelow picks (true_count_of p.mask) → IsTake p.child (translated p.mask picks) n a → IsTake (filter_column p) picks n a
+is_take-filter p picks n a f below step =
+    is_step-filter p _ _ a (step.rows ∙ sym (take_of_filter null p.mask p.child.rows picks (as_long-filter p f) below)) step.dtype

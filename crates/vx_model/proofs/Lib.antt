@@ -1,5 +1,6 @@
 pub mod Items
 pub mod CodeNumbers
+pub mod KeptItems
 pub mod Layouts
 pub mod LazyRows
 pub mod LazySteps
