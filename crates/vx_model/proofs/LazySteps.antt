@@ -23,6 +23,7 @@ use Rattle.vx_model.specs.Numbers.{numbers_of}
 use Rattle.vx_model.specs.Step.{IsStep, IsCut, IsSlice, IsTake}
 use Rattle.vx_model.proofs.Items.{length-slice_range, items_where_true-replicate, slice_range-replicate, map-items_where_true, map-slice_range}
 use Rattle.vx_model.proofs.Takes.{map-at}
+use Rattle.vx_model.proofs.LazyRows.{int-dict, sound-dict, long-filter}
 use Rattle.vx_model.proofs.Nullabilities.{also_nullable-none, also_nullable-codes}
 use Rattle.vx_model.proofs.KeptItems.{slice-items, kept-by-both}
 use Rattle.vx_model.proofs.CodeNumbers.{is_int_type-also, numbers_of-slice, numbers_of-filter, numbers_of-take, first_bad-slice, first_bad-filter, first_bad-picks}
@@ -63,30 +64,23 @@ is_take-constant p picks there below =
 
 -- ---- dictionaries
 
--- what it is that a dictionary has no fault
-pub int_codes : (p : DictParts) → dict_fault p ≡ None → is_int_type p.codes.dtype ≡ true
-int_codes p h = grind arith
-
-pub good_codes : (p : DictParts) → dict_fault p ≡ None → first_bad (length p.values.rows) (numbers_of p.codes) ≡ None
-good_codes p h = grind arith
-
 faultless : (p : DictParts) → is_int_type p.codes.dtype ≡ true → first_bad (length p.values.rows) (numbers_of p.codes) ≡ None → dict_fault p ≡ None
 faultless p h k = rw (h, k) refl
 
 pub dict_fault-slice : (p : DictParts) (codes : Column) (s e : ℕ) → dict_fault p ≡ None → IsSlice p.codes s e codes → dict_fault (dict_with p codes) ≡ None
 dict_fault-slice p codes s e h cut =
-    faultless (dict_with p codes) (ap is_int_type cut.step.dtype ∙ int_codes p h)
-    (ap (first_bad (length p.values.rows)) (numbers_of-slice p.codes s e codes cut) ∙ first_bad-slice (length p.values.rows) (numbers_of p.codes) s e (good_codes p h))
+    faultless (dict_with p codes) (ap is_int_type cut.step.dtype ∙ int-dict p h)
+    (ap (first_bad (length p.values.rows)) (numbers_of-slice p.codes s e codes cut) ∙ first_bad-slice (length p.values.rows) (numbers_of p.codes) s e (sound-dict p h))
 
 pub dict_fault-filter : (p : DictParts) (codes : Column) (mask : List Bool) → dict_fault p ≡ None → IsCut p.codes (items_where_true mask p.codes.rows) codes → dict_fault (dict_with p codes) ≡ None
 dict_fault-filter p codes mask h cut =
-    faultless (dict_with p codes) (ap is_int_type cut.step.dtype ∙ int_codes p h)
-    (ap (first_bad (length p.values.rows)) (numbers_of-filter p.codes mask codes cut) ∙ first_bad-filter (length p.values.rows) mask (numbers_of p.codes) (good_codes p h))
+    faultless (dict_with p codes) (ap is_int_type cut.step.dtype ∙ int-dict p h)
+    (ap (first_bad (length p.values.rows)) (numbers_of-filter p.codes mask codes cut) ∙ first_bad-filter (length p.values.rows) mask (numbers_of p.codes) (sound-dict p h))
 
 pub dict_fault-take : (p : DictParts) (codes : Column) (picks : List (Option ℕ)) (n : Nullability) → dict_fault p ≡ None → IsTake p.codes picks n codes → dict_fault (dict_with p codes) ≡ None
 dict_fault-take p codes picks n h step =
-    faultless (dict_with p codes) (ap is_int_type step.dtype ∙ is_int_type-also p.codes.dtype n ∙ int_codes p h)
-    (ap (first_bad (length p.values.rows)) (numbers_of-take p.codes picks n codes step) ∙ first_bad-picks (length p.values.rows) (numbers_of p.codes) picks (good_codes p h))
+    faultless (dict_with p codes) (ap is_int_type step.dtype ∙ is_int_type-also p.codes.dtype n ∙ int-dict p h)
+    (ap (first_bad (length p.values.rows)) (numbers_of-take p.codes picks n codes step) ∙ first_bad-picks (length p.values.rows) (numbers_of p.codes) picks (sound-dict p h))
 
 pub is_slice-dict : (p : DictParts) (codes : Column) (s e : ℕ) → dict_fault p ≡ None → IsSlice p.codes s e codes → IsSlice (dict_column p) s e (dict_column (dict_with p codes))
 is_slice-dict p codes s e h cut =
@@ -134,16 +128,12 @@ is_take-dict p codes picks n h step =
 
 -- ---- lazy filters
 
--- what it is that a filter has no fault
-pub as_long-filter : (p : FilterParts) → filter_fault p ≡ None → length p.mask ≡ length p.child.rows
-as_long-filter p h = grind (arith, nat_tests)
-
 faultless_filter : (p : FilterParts) → length p.mask ≡ length p.child.rows → filter_fault p ≡ None
 faultless_filter p h = grind (arith, nat_tests)
 
 pub filter_fault-slice : (p : FilterParts) (child : Column) (lo hi : ℕ) → filter_fault p ≡ None → lo ≤ hi → hi ≤ length p.mask → IsSlice p.child lo hi child → filter_fault (record { child = child; mask = slice_range p.mask lo hi }) ≡ None
 filter_fault-slice p child lo hi f h l cut =
-    let long = as_long-filter p f in
+    let long = long-filter p f in
     faultless_filter (record { child = child; mask = slice_range p.mask lo hi })
     (length-slice_range p.mask lo hi h l
     ∙ sym (length-slice_range p.child.rows lo hi h (omega (arith, long)))
@@ -154,7 +144,7 @@ pub is_slice-filter : (p : FilterParts) (child : Column) (s e lo hi : ℕ) → f
 is_slice-filter p child s e lo hi f h l at_lo at_hi cut =
     record {
       step = record {
-        rows = ap (items_where_true (slice_range p.mask lo hi)) cut.step.rows ∙ sym (slice-items p.mask p.child.rows s e lo hi (as_long-filter p f) h l at_lo at_hi);
+        rows = ap (items_where_true (slice_range p.mask lo hi)) cut.step.rows ∙ sym (slice-items p.mask p.child.rows s e lo hi (long-filter p f) h l at_lo at_hi);
         dtype = cut.step.dtype;
         layout = λ _. refl;
         unwrapped = λ h. h;
@@ -177,7 +167,7 @@ is_step-filter p left t a rows dtype =
 pub is_filter-filter : (p : FilterParts) (other both : List Bool) (a : Column) → filter_fault p ≡ None → length other ≡ true_count_of p.mask → set_of both ≡ map (rank_of p.mask) (set_of other) → length both ≡ length p.mask → IsCut p.child (items_where_true both p.child.rows) a → IsCut (filter_column p) (items_where_true other (filter_column p).rows) a
 is_filter-filter p other both a f few set long cut =
     record {
-      step = is_step-filter p _ _ a (cut.step.rows ∙ kept-by-both p.mask other both p.child.rows (as_long-filter p f) few set long) cut.step.dtype;
+      step = is_step-filter p _ _ a (cut.step.rows ∙ kept-by-both p.mask other both p.child.rows (long-filter p f) few set long) cut.step.dtype;
       plain = λ h. let no : false ≡ true = h in cc;
       depth = omega (arith, cut.depth);
     }
@@ -185,4 +175,4 @@ is_filter-filter p other both a f few set long cut =
 -- the child's rows at the set positions that the ranks name
 pub is_take-filter : (p : FilterParts) (picks : List (Option ℕ)) (n : Nullability) (a : Column) → filter_fault p ≡ None → AreBelow picks (true_count_of p.mask) → IsTake p.child (translated p.mask picks) n a → IsTake (filter_column p) picks n a
 is_take-filter p picks n a f below step =
-    is_step-filter p _ _ a (step.rows ∙ sym (take_of_filter null p.mask p.child.rows picks (as_long-filter p f) below)) step.dtype
+    is_step-filter p _ _ a (step.rows ∙ sym (take_of_filter null p.mask p.child.rows picks (long-filter p f) below)) step.dtype

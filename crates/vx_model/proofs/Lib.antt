@@ -10,4 +10,5 @@ pub mod Steps
 pub mod Takes
 pub mod Scalars
 pub mod StoredRows
+pub mod UnwrappedForms
 pub mod Validities
