@@ -6,7 +6,7 @@ ghost use Rattle.vx_model.specs.Plain.{is_null_layout, is_plain};
 ghost use Rattle.vx_model.specs.Step.{IsCut};
 
 use crate::slicing::slice;
-use crate::{boolean, decimal, null, primitive};
+use crate::{boolean, constant, decimal, dict, filter_layout, null, primitive};
 use std::alloc::Global;
 use vx_bits::NoMemory;
 use vx_column::{Array, Layout};
@@ -30,11 +30,15 @@ pub(crate) fn filter_values(
         Layout::Bool(a) => boolean::filter_of(alloc, a, mask, policy),
         Layout::Primitive(a) => primitive::filter_of(alloc, a, mask, policy),
         Layout::Decimal(a) => decimal::filter_of(alloc, a, mask, policy),
+        Layout::Constant(a) => Ok(constant::filter_of(a, mask)),
+        Layout::Dict(a) => dict::filter_of(alloc, a, mask, policy),
+        Layout::Filter(a) => filter_layout::filter_of(alloc, a, mask, policy),
     }
 }
 
 /// The rows at the set positions of a mask that is as long. `NoMemory` alone, and never where the
 /// mask keeps all rows, nor where it keeps none of a plain column, nor over layout `Null`.
+#[cycle(filter)]
 pub fn filter(alloc: Global, array: &Array, mask: &Mask, policy: &Policy) -> Result<Array, NoMemory>
     requires { length (mask_bits mask.now) ≡ length array.now.rows }
     ensures cut { IfOk result

@@ -2,11 +2,15 @@
 #![tactic(auto)]
 
 mod boolean;
+mod constant;
 mod decimal;
+mod dict;
 mod executing;
+mod filter_layout;
 mod filtering;
 mod null;
 mod primitive;
+mod ranges;
 mod slicing;
 mod taking;
 mod validity;
@@ -15,3 +19,4 @@ pub use executing::execute;
 pub use filtering::filter;
 pub use slicing::slice;
 pub use taking::take;
+pub use validity::take_validity;

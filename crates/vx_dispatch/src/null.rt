@@ -5,9 +5,10 @@ ghost use Rattle.vx_model.specs.Null.{null_column};
 ghost use Rattle.vx_model.specs.Step.{IsSlice, IsCut, IsTake};
 ghost use Rattle.vx_pieces.specs.Indices.{index_nullability, index_picks, index_value};
 
-use vx_column::{Array, NullArray};
+use vx_column::{Array, NullArray, Nullability};
 use vx_mask::MaskValues;
 use vx_pieces::Indices;
+use vx_take::Picks;
 
 #[tactic(auto, using(vx_model::proofs::Layouts::layout_rows))]
 pub(crate) fn slice_of(array: &NullArray, start: usize, end: usize) -> Array
@@ -28,7 +29,16 @@ pub(crate) fn filter_of(array: &NullArray, mask: &MaskValues) -> Array
     NullArray::new(mask.true_count()).into_array()
 }
 
-pub(crate) fn take_of(array: &NullArray, indices: &Indices) -> Array
+pub(crate) fn take_of(array: &NullArray, picks: &Picks, nullability: Nullability) -> Array
+    ensures { IsTake (null_column array.now) picks.now.picks nullability result }
+{
+    let _ = array;
+    let _ = nullability;
+    NullArray::new(picks.len()).into_array()
+}
+
+// A null for each of the indices, whatever they name.
+pub(crate) fn nulls_for(array: &NullArray, indices: &Indices) -> Array
     ensures { IsTake (null_column array.now) (index_picks (index_value indices.now))
         (index_nullability (index_value indices.now)) result }
 {

@@ -3,7 +3,7 @@ ghost use Rattle.std.specs.Prelude.{◌≡◌, ◌≤◌, length, true, IfOk, Is
 ghost use Rattle.vx_model.specs.Plain.{is_plain};
 ghost use Rattle.vx_model.specs.Step.{IsSlice};
 
-use crate::{boolean, decimal, null, primitive};
+use crate::{boolean, constant, decimal, dict, filter_layout, null, primitive};
 use std::alloc::Global;
 use vx_bits::NoMemory;
 use vx_column::{Array, Layout};
@@ -21,5 +21,8 @@ pub fn slice(alloc: Global, array: &Array, start: usize, end: usize) -> Result<A
         Layout::Bool(a) => boolean::slice_of(alloc, a, start, end),
         Layout::Primitive(a) => primitive::slice_of(alloc, a, start, end),
         Layout::Decimal(a) => decimal::slice_of(alloc, a, start, end),
+        Layout::Constant(a) => Ok(constant::slice_of(a, start, end)),
+        Layout::Dict(a) => dict::slice_of(alloc, a, start, end),
+        Layout::Filter(a) => filter_layout::slice_of(alloc, a, start, end),
     }
 }

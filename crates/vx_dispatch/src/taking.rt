@@ -1,36 +1,62 @@
 //! The rows at picks, over every layout.
 ghost use Rattle.std.specs.Prelude.{◌≡◌, length, None, true, IfOk, IsOk};
+ghost use Rattle.vx_numbers.specs.Positions.{AllThere};
+ghost use Rattle.vx_types.specs.declared.nullability.Nullability.TheVariants.{NonNullable};
 ghost use Rattle.vx_pieces.specs.Indices.{index_fault, index_nullability, index_picks, index_value};
 ghost use Rattle.vx_model.specs.Plain.{is_null_layout};
 ghost use Rattle.vx_model.specs.Step.{IsTake};
 
-use crate::{boolean, decimal, null, primitive};
+use crate::{boolean, constant, decimal, dict, filter_layout, null, primitive};
 use std::alloc::Global;
 use vx_bits::NoMemory;
-use vx_column::{Array, Layout};
+use vx_column::{Array, Layout, Nullability};
+use vx_mask::Policy;
 use vx_pieces::Indices;
+use vx_take::Picks;
+
+// The rows at the picks, in order, and a null at each null. The type is nullable also where
+// `nullability` is, and no pick is a null where it isn't.
+#[cycle(take)]
+pub(crate) fn take_picks(
+    alloc: Global,
+    array: &Array,
+    picks: &Picks,
+    nullability: Nullability,
+    policy: &Policy,
+) -> Result<Array, NoMemory>
+    requires bound { picks.now.bound ≡ length array.now.rows }
+    requires there { nullability ≡ NonNullable → AllThere picks.now.picks }
+    ensures { IfOk result (IsTake array.now picks.now.picks nullability) }
+{
+    match array.layout() {
+        Layout::Null(a) => Ok(null::take_of(a, picks, nullability)),
+        Layout::Bool(a) => boolean::take_of(alloc, a, picks, nullability, policy),
+        Layout::Primitive(a) => primitive::take_of(alloc, a, picks, nullability, policy),
+        Layout::Decimal(a) => decimal::take_of(alloc, a, picks, nullability, policy),
+        Layout::Constant(a) => constant::take_of(alloc, a, picks, nullability),
+        Layout::Dict(a) => dict::take_of(alloc, a, picks, nullability, policy),
+        Layout::Filter(a) => filter_layout::take_of(alloc, a, picks, nullability, policy),
+    }
+}
 
 /// The rows that indices name, in order, and a null for each null. `NoMemory` alone, and never
 /// over layout `Null`. The type is nullable also where the indices' type is.
-pub fn take(alloc: Global, array: &Array, indices: &Indices) -> Result<Array, NoMemory>
+pub fn take(
+    alloc: Global,
+    array: &Array,
+    indices: &Indices,
+    policy: &Policy,
+) -> Result<Array, NoMemory>
     requires { index_fault (index_value indices.now) (length array.now.rows) ≡ None }
     ensures taken { IfOk result (IsTake array.now (index_picks (index_value indices.now))
         (index_nullability (index_value indices.now))) }
     ensures null { is_null_layout array.now.layout ≡ true → IsOk result }
 {
     match array.layout() {
-        Layout::Null(a) => Ok(null::take_of(a, indices)),
-        Layout::Bool(a) => {
+        Layout::Null(a) => Ok(null::nulls_for(a, indices)),
+        _ => {
             let picks = indices.picks(alloc, array.len())?;
-            Ok(boolean::take_of(alloc, a, &picks, indices.nullability())?)
-        }
-        Layout::Primitive(a) => {
-            let picks = indices.picks(alloc, array.len())?;
-            Ok(primitive::take_of(alloc, a, &picks, indices.nullability())?)
-        }
-        Layout::Decimal(a) => {
-            let picks = indices.picks(alloc, array.len())?;
-            Ok(decimal::take_of(alloc, a, &picks, indices.nullability())?)
+            Ok(take_picks(alloc, array, &picks, indices.nullability(), policy)?)
         }
     }
 }

@@ -6,11 +6,13 @@ ghost use Rattle.vx_types.specs.declared.nullability.Nullability.TheVariants.{No
 ghost use Rattle.vx_take.specs.Picks.{at};
 ghost use Rattle.vx_numbers.specs.Positions.{AllThere};
 ghost use Rattle.vx_model.specs.Bool.{bits_column};
-ghost use Rattle.vx_model.specs.Valid.{by_column, is_yes, is_non_null_bool, is_fitting, is_constant_form, cover_by, nullability_by, present_bits, IsLeft, IsAsPlain};
+ghost use Rattle.vx_model.specs.Valid.{by_column, is_yes, is_non_null_bool, is_fitting, is_constant_form, is_flat_cover, cover_by, nullability_by, present_bits, IsLeft, IsAsPlain};
 ghost use Rattle.vx_column.specs.Validity.{valid_of};
 
+use crate::executing::execute;
 use crate::filtering::filter_values;
 use crate::slicing::slice;
+use crate::{constant, dict, filter_layout};
 use std::alloc::Global;
 use vx_bits::{BitBuffer, NoMemory};
 use vx_column::{Array, BoolArray, Layout, Nullability, Validity};
@@ -74,8 +76,14 @@ pub(crate) fn filter_validity(
 }
 
 // The bits of a non-nullable column of bools at the picks, and false at a null.
+#[cycle(take)]
 #[tactic(auto, using(vx_model::proofs::Takes::bool_bits))]
-fn taken_bits(alloc: Global, array: &Array, picks: &Picks) -> Result<BitBuffer, NoMemory>
+pub(crate) fn taken_bits(
+    alloc: Global,
+    array: &Array,
+    picks: &Picks,
+    policy: &Policy,
+) -> Result<BitBuffer, NoMemory>
     requires bools { is_non_null_bool array.now.dtype ≡ true }
     requires bound { picks.now.bound ≡ length array.now.rows }
     ensures { IfOk result
@@ -83,6 +91,9 @@ fn taken_bits(alloc: Global, array: &Array, picks: &Picks) -> Result<BitBuffer, 
 {
     match array.layout() {
         Layout::Bool(a) => Ok(gather_bits(alloc, a.bits(), picks, false)?),
+        Layout::Constant(a) => Ok(constant::bits_of(alloc, a, picks)?),
+        Layout::Dict(a) => dict::bits_of(alloc, a, picks, policy),
+        Layout::Filter(a) => filter_layout::bits_of(alloc, a, picks, policy),
         Layout::Null(_) | Layout::Primitive(_) | Layout::Decimal(_) => unreachable!(),
     }
 }
@@ -96,36 +107,66 @@ fn by_bits(alloc: Global, bits: BitBuffer) -> Result<Validity, NoMemory>
 }
 
 // The validity that says which picks are there.
-fn by_picks(alloc: Global, picks: &Picks) -> Result<Validity, NoMemory>
+pub(crate) fn by_picks(alloc: Global, picks: &Picks) -> Result<Validity, NoMemory>
     ensures { IfOk result
         (λ v. valid_of v ≡ by_column (bits_column (map is_some picks.now.picks) 0)) }
 {
     by_bits(alloc, valid_bits(alloc, picks)?)
 }
 
-// The validity of the rows at the picks, where a null pick leaves a null. `nullability` says
-// whether there may be one.
-pub(crate) fn take_validity(
+/// The validity of the rows at the picks, where a null pick leaves a null. `nullability` says
+/// whether there may be one. It is unwrapped.
+#[cycle(take)]
+pub fn take_validity(
     alloc: Global,
     validity: &Validity,
     picks: &Picks,
     nullability: Nullability,
+    policy: &Policy,
 ) -> Result<Validity, NoMemory>
     requires fitting { is_fitting (valid_of validity.now) picks.now.bound ≡ true }
     requires there { nullability ≡ NonNullable → AllThere picks.now.picks }
-    ensures { IfOk result (λ v. IsLeft (valid_of validity.now)
+    ensures left { IfOk result (λ v. IsLeft (valid_of validity.now)
         (either_nullable (nullability_by (valid_of validity.now)) nullability)
         (at false (present_bits (valid_of validity.now) picks.now.bound) picks.now.picks)
         (valid_of v)) }
+    ensures flat { IfOk result (λ v. is_flat_cover (cover_by (valid_of v)) ≡ true) }
 {
     // each pick is below the bound
     let _ = picks.bound();
     match (validity, nullability) {
         (Validity::AllInvalid, _) => Ok(Validity::AllInvalid),
-        (Validity::Array(array), _) => Ok(by_bits(alloc, taken_bits(alloc, array, picks)?)?),
+        (Validity::Array(array), _) => Ok(by_bits(alloc, taken_bits(alloc, array, picks, policy)?)?),
         (Validity::NonNullable, Nullability::NonNullable) => Ok(Validity::NonNullable),
         (Validity::AllValid, Nullability::NonNullable) => Ok(Validity::AllValid),
         (Validity::NonNullable, Nullability::Nullable) => Ok(by_picks(alloc, picks)?),
         (Validity::AllValid, Nullability::Nullable) => Ok(by_picks(alloc, picks)?),
+    }
+}
+
+/// The same validity, unwrapped: a constant form or an array of layout `Bool`.
+#[cycle(execute)]
+pub(crate) fn execute_validity(
+    alloc: Global,
+    validity: &Validity,
+    len: usize,
+    policy: &Policy,
+) -> Result<Validity, NoMemory>
+    requires fitting { is_fitting (valid_of validity.now) len ≡ true }
+    ensures left { IfOk result (λ v. IsLeft (valid_of validity.now)
+        (nullability_by (valid_of validity.now)) (present_bits (valid_of validity.now) len)
+        (valid_of v)) }
+    ensures flat { IfOk result (λ v. is_flat_cover (cover_by (valid_of v)) ≡ true) }
+    ensures kept { is_flat_cover (cover_by (valid_of validity.now)) ≡ true → IsOk result }
+{
+    match validity {
+        Validity::Array(array) => match array.layout() {
+            Layout::Bool(_) => Ok(Validity::Array(array.share())),
+            _ => {
+                let bools = execute(alloc, array, policy)?;
+                Ok(Validity::Array(bools.into_ref(alloc)?))
+            }
+        },
+        constant => Ok(constant.share()),
     }
 }

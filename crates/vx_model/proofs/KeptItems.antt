@@ -1,5 +1,5 @@
 -- The items that a mask keeps: their slices, their ranks, and what a mask of them keeps.
-use Rattle.std.proofs.Common.{◌≡◌, ℕ, zero, suc, ◌+◌, ◌-◌, ◌≤◌, ◌<◌, Bool, true, false, cond, List, [], ◌∷◌, map, length, get_or, take, drop, slice_range, Some, inl, inr, refl, sym, ap, ap₂, ◌∙◌, arith}
+use Rattle.std.proofs.Common.{◌≡◌, ℕ, zero, suc, ◌+◌, ◌-◌, ◌≤◌, ◌<◌, Bool, true, false, cond, List, [], ◌∷◌, map, length, get_or, take, drop, slice_range, Some, inl, inr, refl, sym, ap, ap₂, ◌∙◌, arith, take_all}
 use Rattle.std.specs.List.{items_where_true, slice_get}
 use Rattle.std.proofs.Math.Seq.{take-nil, drop-nil}
 use Rattle.std.proofs.lemmas.Bool.{cases_lt}
@@ -7,7 +7,7 @@ use Rattle.std.proofs.lemmas.List.Sums.{sum_by_more}
 use Rattle.std.proofs.lemmas.Simd.{map-map}
 use Rattle.vx_bits.specs.BitBuffer.{true_count_of}
 use Rattle.vx_mask.specs.Positions.{rank_of, set_of}
-use Rattle.vx_mask.proofs.PositionLists.{place_of, position_at, ranks_ascend, true_count_before_set, true_count_between, true_count_of-cons}
+use Rattle.vx_mask.proofs.PositionLists.{place_of, position_at, ranks_ascend, true_count_before_set, true_count_between, true_count_of-cons, true_count_between}
 use Rattle.vx_mask.proofs.RankedItems.{filters_join, items_at_the_set}
 
 -- ---- slices
@@ -106,3 +106,15 @@ kept-by-both mask other both items h few set long =
     ∙ ap (map (slice_get items)) set
     ∙ map-map (slice_get items) (rank_of mask) (set_of other)
     ∙ sym (filters_join mask other items h few))
+
+-- ---- boundaries of ranges of set positions
+
+pub count_take-all : (mask : List Bool) → true_count_of (take (length mask) mask) ≡ true_count_of mask
+count_take-all mask = ap true_count_of (take_all (length mask) mask (omega arith))
+
+-- no more are set below the lower of two positions
+pub count_take-ordered : (mask : List Bool) (low high : ℕ) → low ≤ high → true_count_of (take low mask) ≤ true_count_of (take high mask)
+count_take-ordered mask low high h = omega (arith, true_count_between mask low high h)
+
+-- what a proof about a range of set positions needs
+pub ruleset counts = (count-at-rank, count_take-all)

@@ -1,3 +1,4 @@
+pub mod ConstantRows
 pub mod Items
 pub mod CodeNumbers
 pub mod KeptItems

@@ -145,7 +145,7 @@ all_there m (None ∷ picks) h = ap (λ l. false ∷ l) (all_there m picks (λ k
 all_there m (Some p ∷ picks) h =
     ap₂ ◌∷◌ (sym (get_or-replicate m p true false (h zero None (omega arith)))) (all_there m picks (λ k d l. h (suc k) d (omega arith)))
 
-none_there : (m : ℕ) (picks : List (Option ℕ)) → at false (replicate m false) picks ≡ replicate (length picks) false
+pub none_there : (m : ℕ) (picks : List (Option ℕ)) → at false (replicate m false) picks ≡ replicate (length picks) false
 none_there m [] = refl
 none_there m (None ∷ picks) = ap (λ l. false ∷ l) (none_there m picks)
 none_there m (Some p ∷ picks) = ap₂ ◌∷◌ (no_bit m p) (none_there m picks)

@@ -11,6 +11,12 @@ use Rattle.vx_model.proofs.ShownRows.{is_left-slice}
 use Rattle.vx_model.proofs.Steps.{is_slice-bool, is_slice-primitive, is_slice-decimal}
 use Rattle.vx_model.proofs.Validities.{is_left-slice-by_column}
 use Rattle.vx_column.specs.Validity.{valid_of}
+use Rattle.std.proofs.Common.{take, Bool}
+use Rattle.vx_bits.specs.BitBuffer.{true_count_of}
+use Rattle.vx_model.specs.Column.{Column}
+use Rattle.vx_model.specs.Dict.{dict_column, dict_with}
+use Rattle.vx_model.specs.Filter.{FilterParts, filter_column}
+use Rattle.vx_model.proofs.LazySteps.{dict_fault-slice, is_slice-dict, is_slice-filter}
 use Rattle.vx_dispatch.proofs.+slice.Goals as goal
 
 pub boolean::slice_of-returns-clause-cut : goal.boolean::slice_of-returns-clause-cut
@@ -77,3 +83,28 @@ validity::slice_validity-returns-in_ok-into_ref-in-Array-clause-left t c =
     let fit : is_fitting (by_column a) c.args.len ≡ true = rw c.in-Array.is at c.requires.fitting in
     let cut : IsSlice a s e c.in_ok-part-in-Array.part = rw c.deref.ensures at c.in_ok-part-in-Array.ensures.cut in
     rw (c.in-Array.is, c.in_ok-into_ref-in-Array.ensures) (is_left-slice-by_column a c.in_ok-part-in-Array.part c.args.len s e fit c.requires.ordered c.requires.within cut)
+
+pub dict::slice_of-with_codes-requires : goal.dict::slice_of-with_codes-requires
+dict::slice_of-with_codes-requires t c =
+    let p = c.args.array.now in let codes = c.in_ok-codes.codes in
+    let cut : IsSlice p.codes c.args.start c.args.end codes = rw (c.deref.ensures ∙ c.codes.ensures.value) at c.in_ok-codes.ensures.cut in
+    rw c.in_ok-into_ref.ensures (dict_fault-slice p codes c.args.start c.args.end c.codes.ensures.valid cut)
+
+pub dict::slice_of-returns : goal.dict::slice_of-returns
+dict::slice_of-returns t c =
+    let p = c.args.array.now in let codes = c.in_ok-codes.codes in
+    let cut : IsSlice p.codes c.args.start c.args.end codes = rw (c.deref.ensures ∙ c.codes.ensures.value) at c.in_ok-codes.ensures.cut in
+    rw (c.into_array.ensures ∙ ap dict_column (c.with_codes.ensures ∙ ap (dict_with p) c.in_ok-into_ref.ensures))
+    (is_slice-dict p codes c.args.start c.args.end c.codes.ensures.valid cut)
+
+pub filter_layout::slice_of-returns : goal.filter_layout::slice_of-returns
+filter_layout::slice_of-returns t c =
+    let p = c.args.array.now in let child = c.in_ok-part.part in let range = c.mask_range-low in
+    let low = range.result.0 in let high = range.result.1 in
+    let same = c.mask-mask.ensures.value in
+    let cut : IsSlice p.child low high child = rw (c.deref.ensures ∙ c.child-child.ensures.value) at c.in_ok-part.ensures.cut in
+    let start : true_count_of (take low p.mask) ≡ c.args.start = rw same at range.ensures.start in
+    let end : true_count_of (take high p.mask) ≡ c.args.end = rw same at range.ensures.end in
+    let within : high ≤ length p.mask = rw same at range.ensures.within in
+    rw (c.into_array.ensures ∙ ap filter_column (c.of.ensures ∙ ap₂ (λ (x : Column) (m : List Bool). record { child = x; mask = m }) c.in_ok-into_ref.ensures (c.slice_mask.ensures ∙ ap (λ (m : List Bool). slice_range m low high) same)))
+    (is_slice-filter p child c.args.start c.args.end low high c.mask-mask.ensures.valid range.ensures.ordered within start end cut)

@@ -1,11 +1,9 @@
 -- So many nulls are the rows at any picks.
 use Rattle.std.proofs.Common.{◌∙◌, ap}
-use Rattle.vx_pieces.specs.Indices.{index_nullability, index_picks, index_value}
 use Rattle.vx_model.specs.Null.{null_column}
 use Rattle.vx_model.proofs.Takes.{is_take-null}
 use Rattle.vx_dispatch.proofs.null.take_of.Goals as goal
 
 pub returns : goal.returns
 returns c =
-    let i = index_value c.args.indices.now in
-    rw (c.into_array.ensures ∙ ap null_column (c.new.ensures ∙ c.len.ensures)) (is_take-null c.args.array.now (index_picks i) (index_nullability i))
+    rw (c.into_array.ensures ∙ ap null_column (c.new.ensures ∙ c.len.ensures)) (is_take-null c.args.array.now c.args.picks.now.picks c.args.nullability)

@@ -1,0 +1,96 @@
+-- A take of a layout's parts, with that of its validity, is the take of its column.
+use Rattle.std.proofs.Common.{◌≡◌, length, false, ap, ◌∙◌, refl, sym, subst, map, true}
+use Rattle.vx_types.specs.Nullability.{either_nullable}
+use Rattle.vx_take.specs.Picks.{at, AreBelow}
+use Rattle.vx_model.specs.Valid.{nullability_by, present_bits, IsLeft, Valid, non_nullable, all_valid, by_column, is_yes, is_non_null_bool}
+use Rattle.vx_model.specs.Bool.{bool_column}
+use Rattle.vx_model.proofs.Layouts.{length-bool, length-primitive, length-decimal}
+use Rattle.vx_model.proofs.Takes.{is_take-bool, is_take-primitive, is_take-decimal, is_left-take-none, left_by_bits, left_the_same, all_there, yes-bool}
+use Rattle.vx_column.specs.Validity.{valid_of}
+use Rattle.vx_flat.specs.Records.{zero_record}
+use Rattle.vx_model.specs.Primitive.{primitive_column}
+use Rattle.vx_model.specs.Decimal.{decimal_column}
+use Rattle.std.specs.Prelude.{is_some, replicate}
+use Rattle.vx_types.specs.declared.nullability.Nullability.TheVariants.{Nullable}
+use Rattle.vx_column.specs.Layout.{column_of}
+use Rattle.vx_dispatch.proofs.+take.Goals as goal
+
+pub boolean::take_of-returns : goal.boolean::take_of-returns
+boolean::take_of-returns t c =
+    let p = c.args.array.now in let picks = c.args.picks.now.picks in let n = c.args.nullability in
+    let sound = c.validity.ensures.valid in let after = valid_of c.in_ok-validity.validity in
+    let same = c.validity.ensures.value in
+    let bound : c.args.picks.now.bound ≡ length p.bits.bits = c.requires.bound ∙ length-bool p sound in
+    let left : IsLeft p.valid (either_nullable (nullability_by p.valid) n) (at false (present_bits p.valid (length p.bits.bits)) picks) after =
+    rw (← same, ← bound) c.in_ok-validity.ensures in
+    rw (c.into_array.ensures ∙ ap bool_column c.in_ok-take_bool.ensures) (is_take-bool after picks n p 0 sound left)
+
+pub primitive::take_of-returns : goal.primitive::take_of-returns
+primitive::take_of-returns t c =
+    let p = c.args.array.now in let picks = c.args.picks.now.picks in let n = c.args.nullability in
+    let sound = c.validity.ensures.valid in let after = valid_of c.in_ok-validity.validity in
+    let same = c.validity.ensures.value in
+    let bound : c.args.picks.now.bound ≡ length p.records = c.requires.bound ∙ length-primitive p sound in
+    let left : IsLeft p.valid (either_nullable (nullability_by p.valid) n) (at false (present_bits p.valid (length p.records)) picks) after =
+    rw (← same, ← bound) c.in_ok-validity.ensures in
+    rw (c.into_array.ensures ∙ ap primitive_column c.in_ok-take_primitive.ensures) (is_take-primitive after picks n p (zero_record p.width) sound left)
+
+pub decimal::take_of-returns : goal.decimal::take_of-returns
+decimal::take_of-returns t c =
+    let p = c.args.array.now in let picks = c.args.picks.now.picks in let n = c.args.nullability in
+    let sound = c.validity.ensures.valid in let after = valid_of c.in_ok-validity.validity in
+    let same = c.validity.ensures.value in
+    let bound : c.args.picks.now.bound ≡ length p.records = c.requires.bound ∙ length-decimal p sound in
+    let left : IsLeft p.valid (either_nullable (nullability_by p.valid) n) (at false (present_bits p.valid (length p.records)) picks) after =
+    rw (← same, ← bound) c.in_ok-validity.ensures in
+    rw (c.into_array.ensures ∙ ap decimal_column c.in_ok-take_decimal.ensures) (is_take-decimal after picks n p (zero_record p.width) sound left)
+
+pub validity::take_validity-returns-in-AllInvalid-default : goal.validity::take_validity-returns-in-AllInvalid-default
+validity::take_validity-returns-in-AllInvalid-default t c =
+    rw c.in-AllInvalid-default.is-0 (is_left-take-none c.args.nullability c.args.picks.now.bound c.args.picks.now.picks)
+
+pub validity::take_validity-returns-in_ok-by_bits-in-Array-default : goal.validity::take_validity-returns-in_ok-by_bits-in-Array-default
+validity::take_validity-returns-in_ok-by_bits-in-Array-default t c =
+    let a = c.in-Array-default in let p = c.args.picks.now in let n = c.args.nullability in
+    let is : valid_of c.args.validity.now ≡ by_column a.array = ap valid_of a.is-0 in
+    let bits = c.in_ok-taken_bits-in-Array-default.field-0 in
+    left_by_bits (valid_of c.args.validity.now) _ n p.bound p.picks bits.bits bits.offset
+    (ap (λ (v : Valid). either_nullable (nullability_by v) n) is)
+    (c.in_ok-taken_bits-in-Array-default.ensures ∙ ap (λ x. at false (map is_yes x.rows) p.picks) c.deref.ensures ∙ ap (λ (v : Valid). at false (present_bits v p.bound) p.picks) (sym is))
+    c.in_ok-by_bits-in-Array-default.ensures
+
+pub validity::take_validity-returns-in-NonNullable-NonNullable : goal.validity::take_validity-returns-in-NonNullable-NonNullable
+validity::take_validity-returns-in-NonNullable-NonNullable t c =
+    let a = c.in-NonNullable-NonNullable in let p = c.args.picks.now in let n = c.args.nullability in
+    let is : valid_of c.args.validity.now ≡ non_nullable = ap valid_of a.is-0 in
+    let below : AreBelow p.picks p.bound = subst (AreBelow p.picks) c.bound.ensures.value c.bound.ensures.below in
+    rw is (left_the_same non_nullable non_nullable n p.bound p.picks refl (λ k. refl) (λ k. refl) (ap (either_nullable (nullability_by non_nullable)) a.is-1) below (c.requires.there a.is-1) refl)
+
+pub validity::take_validity-returns-in-AllValid-NonNullable : goal.validity::take_validity-returns-in-AllValid-NonNullable
+validity::take_validity-returns-in-AllValid-NonNullable t c =
+    let a = c.in-AllValid-NonNullable in let p = c.args.picks.now in let n = c.args.nullability in
+    let is : valid_of c.args.validity.now ≡ all_valid = ap valid_of a.is-0 in
+    let below : AreBelow p.picks p.bound = subst (AreBelow p.picks) c.bound.ensures.value c.bound.ensures.below in
+    rw is (left_the_same all_valid all_valid n p.bound p.picks refl (λ k. refl) (λ k. refl) refl below (c.requires.there a.is-1) refl)
+
+pub validity::take_validity-returns-in_ok-by_picks-in-NonNullable-Nullable : goal.validity::take_validity-returns-in_ok-by_picks-in-NonNullable-Nullable
+validity::take_validity-returns-in_ok-by_picks-in-NonNullable-Nullable t c =
+    let a = c.in-NonNullable-Nullable in let p = c.args.picks.now in let n = c.args.nullability in
+    let is : valid_of c.args.validity.now ≡ non_nullable = ap valid_of a.is-0 in
+    let below : AreBelow p.picks p.bound = subst (AreBelow p.picks) c.bound.ensures.value c.bound.ensures.below in
+    rw is (left_by_bits non_nullable _ n p.bound p.picks (map is_some p.picks) 0 (ap (either_nullable (nullability_by non_nullable)) a.is-1) (all_there p.bound p.picks below) c.in_ok-by_picks-in-NonNullable-Nullable.ensures)
+
+pub validity::take_validity-returns-in_ok-by_picks-in-AllValid-Nullable : goal.validity::take_validity-returns-in_ok-by_picks-in-AllValid-Nullable
+validity::take_validity-returns-in_ok-by_picks-in-AllValid-Nullable t c =
+    let a = c.in-AllValid-Nullable in let p = c.args.picks.now in let n = c.args.nullability in
+    let is : valid_of c.args.validity.now ≡ all_valid = ap valid_of a.is-0 in
+    let below : AreBelow p.picks p.bound = subst (AreBelow p.picks) c.bound.ensures.value c.bound.ensures.below in
+    rw is (left_by_bits all_valid _ n p.bound p.picks (map is_some p.picks) 0 refl (all_there p.bound p.picks below) c.in_ok-by_picks-in-AllValid-Nullable.ensures)
+
+pub validity::taken_bits-returns : goal.validity::taken_bits-returns
+validity::taken_bits-returns t c =
+    let p = c.in-Bool.a in let picks = c.args.picks.now.picks in
+    let same : bool_column p ≡ c.args.array.now = ap column_of (sym c.in-Bool.is) ∙ c.layout.ensures in
+    let bools : is_non_null_bool (bool_column p).dtype ≡ true = ap (λ x. is_non_null_bool x.dtype) same ∙ c.requires.bools in
+    ap (λ b. b.bits) c.in_ok-gather_bits-in-Bool.ensures
+    ∙ ap (λ b. at false b picks) (ap (λ x. x.bits) c.bits.ensures.bits ∙ sym (yes-bool p bools) ∙ ap (λ x. map is_yes x.rows) same)

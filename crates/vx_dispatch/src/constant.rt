@@ -1,0 +1,125 @@
+//! Layout `Constant`.
+ghost use Rattle.std.specs.Prelude.{◌≡◌, ◌≤◌, length, map, replicate, true, false, IfOk};
+ghost use Rattle.std.specs.List.{items_where_true};
+ghost use Rattle.vx_numbers.specs.Positions.{AllThere};
+ghost use Rattle.vx_types.specs.declared.nullability.Nullability.TheVariants.{NonNullable};
+ghost use Rattle.vx_model.specs.Constant.{constant_column};
+ghost use Rattle.vx_take.specs.Picks.{at};
+ghost use Rattle.vx_model.specs.Plain.{is_unwrapped};
+ghost use Rattle.vx_model.specs.Valid.{is_yes, all_invalid, is_fitting, present_bits, shown_rows, nullability_by, cover_by, is_flat_cover};
+ghost use Rattle.vx_types.specs.RowValue.{null};
+ghost use Rattle.vx_types.specs.TypeTree.{with_nullability};
+ghost use Rattle.vx_column.specs.Validity.{valid_of};
+ghost use Rattle.vx_model.specs.Step.{IsSlice, IsCut, IsStep, IsTake};
+
+use crate::validity::by_picks;
+use std::alloc::Global;
+use vx_bits::{BitBuffer, BitBuilder, NoMemory};
+use vx_column::{Array, ConstantArray, Nullability, Scalar, ScalarValue, Validity};
+use vx_mask::MaskValues;
+use vx_take::{Picks, valid_bits};
+
+#[tactic(auto, using(vx_model::proofs::LazyRows::lazy_rows))]
+pub(crate) fn slice_of(array: &ConstantArray, start: usize, end: usize) -> Array
+    requires ordered { start ≤ end }
+    requires within { end ≤ length (constant_column array.now).rows }
+    ensures { IsSlice (constant_column array.now) start end result }
+{
+    ConstantArray::new(array.scalar().share(), end - start).into_array()
+}
+
+#[tactic(auto, using(vx_model::proofs::LazyRows::lazy_rows))]
+pub(crate) fn filter_of(array: &ConstantArray, mask: &MaskValues) -> Array
+    requires { length mask.now.bits.bits ≡ length (constant_column array.now).rows }
+    ensures { IsCut (constant_column array.now)
+        (items_where_true mask.now.bits.bits (constant_column array.now).rows) result }
+{
+    ConstantArray::new(array.scalar().share(), mask.true_count()).into_array()
+}
+
+// A null stays null at any picks, and a value stays itself where all picks are there; else the
+// value is stored for each pick, beside which of them are there.
+#[tactic(auto, using(vx_model::proofs::LazyRows::lazy_rows))]
+pub(crate) fn take_of(
+    alloc: Global,
+    array: &ConstantArray,
+    picks: &Picks,
+    nullability: Nullability,
+) -> Result<Array, NoMemory>
+    requires bound { picks.now.bound ≡ length (constant_column array.now).rows }
+    requires there { nullability ≡ NonNullable → AllThere picks.now.picks }
+    ensures { IfOk result (IsTake (constant_column array.now) picks.now.picks nullability) }
+{
+    // each pick is below the bound
+    let _ = picks.bound();
+    let scalar = array.scalar();
+    match (scalar.value(), nullability) {
+        (ScalarValue::Null, _) | (_, Nullability::NonNullable) => {
+            Ok(ConstantArray::new(scalar.share(), picks.len()).into_array())
+        }
+        (_, Nullability::Nullable) => {
+            store_scalar(alloc, scalar, picks.len(), by_picks(alloc, picks)?)
+        }
+    }
+}
+
+// Whether the value is a bool that is set.
+fn is_set(scalar: &Scalar) -> bool
+    ensures { result ≡ is_yes scalar.now.row }
+{
+    match scalar.value() {
+        ScalarValue::Bit(bit) => *bit,
+        ScalarValue::Null | ScalarValue::Bytes(_) => false,
+    }
+}
+
+// The bits of the rows at the picks, of one bool: where picks are there, or none.
+#[tactic(auto, using(vx_model::proofs::LazyRows::lazy_rows))]
+pub(crate) fn bits_of(
+    alloc: Global,
+    array: &ConstantArray,
+    picks: &Picks,
+) -> Result<BitBuffer, NoMemory>
+    requires { picks.now.bound ≡ length (constant_column array.now).rows }
+    ensures { IfOk result
+        (λ b. b.bits ≡ at false (map is_yes (constant_column array.now).rows) picks.now.picks) }
+{
+    // each pick is below the bound
+    let _ = picks.bound();
+    if is_set(array.scalar()) {
+        let bits = valid_bits(alloc, picks)?;
+        return Ok(bits);
+    }
+    let mut clear = BitBuilder::new(alloc);
+    clear.append_n(false, picks.len())?;
+    let bits = clear.finish()?;
+    Ok(bits)
+}
+
+/// The same rows, stored one after another.
+#[tactic(auto, using(vx_model::proofs::LazyRows::lazy_rows))]
+pub(crate) fn execute_of(alloc: Global, array: &ConstantArray) -> Result<Array, NoMemory>
+    ensures same { IfOk result (IsStep (constant_column array.now) (constant_column array.now).rows
+        (constant_column array.now).dtype) }
+    ensures unwrapped { IfOk result (λ a. is_unwrapped a ≡ true) }
+{
+    let scalar = array.scalar();
+    let validity = match (scalar.value(), scalar.dtype().nullability()) {
+        (ScalarValue::Null, _) => Validity::AllInvalid,
+        (_, Nullability::NonNullable) => Validity::NonNullable,
+        (_, Nullability::Nullable) => Validity::AllValid,
+    };
+    store_scalar(alloc, scalar, array.len(), validity)
+}
+
+// STUB
+fn store_scalar(alloc: Global, scalar: &Scalar, len: usize, validity: Validity) -> Result<Array, NoMemory>
+    requires fitting { is_fitting (valid_of validity) len ≡ true }
+    requires null { scalar.now.row ≡ null → valid_of validity ≡ all_invalid }
+    ensures rows { IfOk result (λ a. a.rows ≡ shown_rows (present_bits (valid_of validity) len) (replicate len scalar.now.row)) }
+    ensures dtype { IfOk result (λ a. a.dtype ≡ with_nullability scalar.now.dtype (nullability_by (valid_of validity))) }
+    ensures unwrapped { is_flat_cover (cover_by (valid_of validity)) ≡ true → IfOk result (λ a. is_unwrapped a ≡ true) }
+{
+    let _ = (alloc, scalar, len, &validity);
+    Err(NoMemory)
+}
