@@ -110,11 +110,11 @@ unwrapped-decimal p h = h
 
 -- ---- constants
 
-map-replicate : {X Y : Type 0} (f : X → Y) (n : ℕ) (x : X) → map f (replicate n x) ≡ replicate n (f x)
+pub map-replicate : {X Y : Type 0} (f : X → Y) (n : ℕ) (x : X) → map f (replicate n x) ≡ replicate n (f x)
 map-replicate f zero x = refl
 map-replicate f (suc n) x = ap (λ l. f x ∷ l) (map-replicate f n x)
 
-none_shown : (n : ℕ) (rows : List RowValue) → length rows ≡ n → shown_rows (replicate n false) rows ≡ replicate n null
+pub none_shown : (n : ℕ) (rows : List RowValue) → length rows ≡ n → shown_rows (replicate n false) rows ≡ replicate n null
 none_shown zero [] h = refl
 none_shown zero (x ∷ rows) h = absurd (omega arith)
 none_shown (suc n) [] h = absurd (omega arith)
