@@ -1,8 +1,8 @@
 -- A value that is stored row by row gives a row of it in each place, and null where none is there.
-use Rattle.std.proofs.Common.{◌≡◌, ℕ, Bool, false, List, map, length, None, refl, sym, ap, ◌∙◌}
+use Rattle.std.proofs.Common.{◌≡◌, ℕ, false, map, None, refl, sym, ap, ◌∙◌}
 use Rattle.std.specs.Prelude.{replicate}
-use Rattle.std.proofs.lemmas.List.{length-map, length-replicate}
-use Rattle.vx_types.specs.TypeTree.{TypeTree, null_type, bool_type, primitive_type, decimal_type}
+use Rattle.std.proofs.lemmas.List.{length-replicate}
+use Rattle.vx_types.specs.TypeTree.{null_type, bool_type, primitive_type, decimal_type}
 use Rattle.vx_types.specs.RowValue.{RowValue, null, bit, bytes, list, fields, tagged}
 use Rattle.vx_types.specs.Scalar.{TypedRow, scalar_fault}
 use Rattle.vx_types.specs.Decimal.{DecimalValue}

@@ -1,18 +1,17 @@
 -- The copies that are stored show the rows of the value.
-use Rattle.std.proofs.Common.{◌≡◌, ℕ, List, map, Option, None, Some, Ok, Err, sym, ap, ◌∙◌}
+use Rattle.std.proofs.Common.{◌≡◌, map, Option, None, Some, Ok, sym, ap, ◌∙◌}
 use Rattle.std.specs.Prelude.{replicate}
 use Rattle.vx_bits.specs.BitBuffer.{PlacedBits}
-use Rattle.vx_bits.specs.Records.{records_of}
 use Rattle.vx_bits.specs.Results.{ok_unless}
 use Rattle.vx_types.specs.DType.{type_of}
-use Rattle.vx_types.specs.RowValue.{RowValue, bit, bytes}
+use Rattle.vx_types.specs.RowValue.{bit, bytes}
 use Rattle.vx_types.specs.TypeTree.{null_type, bool_type, primitive_type, decimal_type}
 use Rattle.vx_model.specs.Column.{Column}
 use Rattle.vx_model.specs.Valid.{stored_rows}
 use Rattle.vx_model.specs.Null.{null_column}
-use Rattle.vx_model.specs.Bool.{BoolParts, bool_column}
-use Rattle.vx_model.specs.Primitive.{PrimitiveParts, primitive_column}
-use Rattle.vx_model.specs.Decimal.{DecimalParts, decimal_column}
+use Rattle.vx_model.specs.Bool.{bool_column}
+use Rattle.vx_model.specs.Primitive.{primitive_column}
+use Rattle.vx_model.specs.Decimal.{decimal_column}
 use Rattle.vx_column.specs.Validity.{valid_of}
 use Rattle.vx_flat.specs.Scalars.{bit_or_false, bytes_or_zeros}
 use Rattle.vx_flat.proofs.StoredScalars.{stored-null, stored-bools, stored-primitives, stored-decimals}
