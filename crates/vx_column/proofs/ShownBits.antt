@@ -1,39 +1,46 @@
 -- Rows of which some are null, by stored bits.
-use Rattle.std.proofs.Common.{◌≡◌, ℕ, Bool, true, false, List, [], ◌∷◌, map, length, None, refl, sym, ap, ◌∙◌, arith}
+use Rattle.std.specs.Prelude.{◌&&◌}
+use Rattle.std.proofs.Common.{◌≡◌, ℕ, Bool, true, false, List, map, length, None, refl, sym, ap, ◌∙◌}
 use Rattle.std.proofs.lemmas.List.{length-map}
-use Rattle.vx_types.specs.RowValue.{RowValue, bit, bytes}
-use Rattle.vx_model.specs.Column.{Column}
-use Rattle.vx_model.specs.Valid.{Valid, non_nullable, by_column, is_yes, is_fitting, present_bits, shown_rows, stored_rows}
+use Rattle.vx_types.specs.RowValue.{bytes}
+use Rattle.vx_model.specs.Valid.{Valid, by_column, is_fitting, is_non_null_bool, present_bits, shown_rows}
 use Rattle.vx_model.specs.Bool.{BoolParts, bool_column}
 use Rattle.vx_model.specs.Primitive.{PrimitiveParts, primitive_fault, primitive_column}
 use Rattle.vx_model.specs.Decimal.{DecimalParts, decimals_fault, decimal_column}
-use Rattle.vx_model.proofs.ShownRows.{shown_rows-all, length-present_bits}
+use Rattle.vx_model.proofs.ShownRows.{length-present_bits}
+use Rattle.vx_model.proofs.Takes.{yes-bool}
 use Rattle.vx_model.proofs.Layouts.{is_fitting-primitive, is_fitting-decimal, width-primitive, width-decimal}
 
--- where no row is null, the rows are the bits
-pub rows-bool : (p : BoolParts) → p.valid ≡ non_nullable → (bool_column p).rows ≡ map bit p.bits.bits
-rows-bool p h = ap (λ v. stored_rows v (map bit p.bits.bits)) h ∙ shown_rows-all _ (map bit p.bits.bits) refl
-
-yes_bits : (bits : List Bool) → map is_yes (map bit bits) ≡ bits
-yes_bits [] = refl
-yes_bits (b ∷ bits) = ap (λ l. b ∷ l) (yes_bits bits)
-
--- a validity by bits shows them
-pub present-bools : (v : Valid) (c : Column) (bits : List Bool) (n : ℕ) → v ≡ by_column c → c.rows ≡ map bit bits → present_bits v n ≡ bits
-present-bools v c bits n e h = ap (λ w. present_bits w n) e ∙ ap (map is_yes) h ∙ yes_bits bits
+-- a validity by a column of layout `Bool` that fits shows its bits
+pub present-bools : (v : Valid) (p : BoolParts) (n : ℕ) → v ≡ by_column (bool_column p) → is_fitting v n ≡ true → present_bits v n ≡ p.bits.bits
+present-bools v p n e h =
+    let typed : is_non_null_bool (bool_column p).dtype ≡ true = first _ _ (ap (λ w. is_fitting w n) (sym e) ∙ h) in
+    ap (λ w. present_bits w n) e ∙ yes-bool p typed
+  where
+    first : (a b : Bool) → (a && b) ≡ true → a ≡ true
+    first true b h = refl
+    first false b h = cc
 
 -- the rows by those bits
-pub rows-primitive-shown : (p : PrimitiveParts) (bits : List Bool) → ((n : ℕ) → present_bits p.valid n ≡ bits) → (primitive_column p).rows ≡ shown_rows bits (map bytes p.records)
-rows-primitive-shown p bits h = ap (λ b. shown_rows b (map bytes p.records)) (h _)
+pub rows-primitive-shown : (p : PrimitiveParts) (bits : List Bool) → primitive_fault p ≡ None → ((n : ℕ) → is_fitting p.valid n ≡ true → present_bits p.valid n ≡ bits) → (primitive_column p).rows ≡ shown_rows bits (map bytes p.records)
+rows-primitive-shown p bits f h =
+    let long : length (map bytes p.records) ≡ length p.records = length-map p.records bytes in
+    ap (λ b. shown_rows b (map bytes p.records)) (h _ (ap (is_fitting p.valid) long ∙ is_fitting-primitive p f))
 
-pub rows-decimal-shown : (p : DecimalParts) (bits : List Bool) → ((n : ℕ) → present_bits p.valid n ≡ bits) → (decimal_column p).rows ≡ shown_rows bits (map bytes p.records)
-rows-decimal-shown p bits h = ap (λ b. shown_rows b (map bytes p.records)) (h _)
+pub rows-decimal-shown : (p : DecimalParts) (bits : List Bool) → decimals_fault p ≡ None → ((n : ℕ) → is_fitting p.valid n ≡ true → present_bits p.valid n ≡ bits) → (decimal_column p).rows ≡ shown_rows bits (map bytes p.records)
+rows-decimal-shown p bits f h =
+    let long : length (map bytes p.records) ≡ length p.records = length-map p.records bytes in
+    ap (λ b. shown_rows b (map bytes p.records)) (h _ (ap (is_fitting p.valid) long ∙ is_fitting-decimal p f))
 
 -- there are as many of them as records
-pub length-primitive-shown : (p : PrimitiveParts) (bits : List Bool) → primitive_fault p ≡ None → ((n : ℕ) → present_bits p.valid n ≡ bits) → length bits ≡ length p.records
-length-primitive-shown p bits f h = ap length (sym (h (length p.records))) ∙ length-present_bits p.valid (length p.records) (is_fitting-primitive p f)
+pub length-primitive-shown : (p : PrimitiveParts) (bits : List Bool) → primitive_fault p ≡ None → ((n : ℕ) → is_fitting p.valid n ≡ true → present_bits p.valid n ≡ bits) → length bits ≡ length p.records
+length-primitive-shown p bits f h =
+    let fit = is_fitting-primitive p f in
+    ap length (sym (h (length p.records) fit)) ∙ length-present_bits p.valid (length p.records) fit
 
-pub length-decimal-shown : (p : DecimalParts) (bits : List Bool) → decimals_fault p ≡ None → ((n : ℕ) → present_bits p.valid n ≡ bits) → length bits ≡ length p.records
-length-decimal-shown p bits f h = ap length (sym (h (length p.records))) ∙ length-present_bits p.valid (length p.records) (is_fitting-decimal p f)
+pub length-decimal-shown : (p : DecimalParts) (bits : List Bool) → decimals_fault p ≡ None → ((n : ℕ) → is_fitting p.valid n ≡ true → present_bits p.valid n ≡ bits) → length bits ≡ length p.records
+length-decimal-shown p bits f h =
+    let fit = is_fitting-decimal p f in
+    ap length (sym (h (length p.records) fit)) ∙ length-present_bits p.valid (length p.records) fit
 
-pub ruleset shown = (rows-bool, present-bools, rows-primitive-shown, rows-decimal-shown, length-primitive-shown, length-decimal-shown, width-primitive, width-decimal)
+pub ruleset shown = (present-bools, rows-primitive-shown, rows-decimal-shown, length-primitive-shown, length-decimal-shown, width-primitive, width-decimal)

@@ -1,14 +1,14 @@
 //! Layout `Primitive`.
-ghost use Rattle.std.specs.Prelude.{◌≡◌, ◌≤◌, length, true, IfOk};
-ghost use Rattle.std.specs.List.{items_where_true};
+ghost use Rattle.std.specs.Prelude.{◌≡◌, ◌+◌, ◌≤◌, length, true, IfOk};
+ghost use Rattle.std.specs.List.{All, items_where_true};
 ghost use Rattle.vx_bits.specs.BitBuffer.{true_count_of};
 ghost use Rattle.vx_model.specs.Valid.{is_fitting};
 ghost use Rattle.vx_model.specs.Primitive.{primitive_with};
 ghost use Rattle.vx_column.specs.Validity.{valid_of};
-ghost use Rattle.vx_take.specs.Picks.{at};
+ghost use Rattle.vx_take.specs.Picks.{at, in_runs};
 ghost use Rattle.vx_flat.specs.Records.{zero_record};
 
-use crate::records::{filter_records, take_records};
+use crate::records::{filter_records, take_records, take_runs};
 use std::alloc::Global;
 use vx_bits::NoMemory;
 use vx_column::{PrimitiveArray, Validity};
@@ -47,5 +47,23 @@ pub fn take_primitive(
         (at (zero_record array.now.width) array.now.records picks.now.picks) (valid_of validity)) }
 {
     let values = take_records(alloc, array.values(), picks)?;
+    Ok(array.with_rows(values, validity))
+}
+
+/// The records in the runs, each its start and its length, one run after another, with this
+/// validity. `NoMemory` alone.
+pub fn take_primitive_runs(
+    alloc: Global,
+    array: &PrimitiveArray,
+    runs: &[(usize, usize)],
+    validity: Validity,
+) -> Result<PrimitiveArray, NoMemory>
+    requires within { All (λ run. run.0 + run.1 ≤ length array.now.records) runs.now }
+    requires fitting { is_fitting (valid_of validity)
+        (length (in_runs array.now.records runs.now)) ≡ true }
+    ensures { IfOk result (λ a. a ≡ primitive_with array.now
+        (in_runs array.now.records runs.now) (valid_of validity)) }
+{
+    let values = take_runs(alloc, array.values(), runs)?;
     Ok(array.with_rows(values, validity))
 }

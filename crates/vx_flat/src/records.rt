@@ -1,15 +1,15 @@
 //! Lists of records of any of the six widths, filtered and taken.
-ghost use Rattle.std.specs.Prelude.{◌≡◌, ◌≤◌, length, replicate, IfOk};
-ghost use Rattle.std.specs.List.{items_where_true};
+ghost use Rattle.std.specs.Prelude.{◌≡◌, ◌+◌, ◌≤◌, length, replicate, IfOk};
+ghost use Rattle.std.specs.List.{All, items_where_true};
 ghost use Rattle.vx_bits.specs.Records.{records_of, width_of};
-ghost use Rattle.vx_take.specs.Picks.{at};
+ghost use Rattle.vx_take.specs.Picks.{at, in_runs};
 ghost use Rattle.vx_flat.specs.Records.{zero_record};
 
 use std::alloc::Global;
 use vx_bits::{Buffer, NoMemory, Records, map_each_record_width};
 use vx_filter::filter_slice;
 use vx_mask::{MaskValues, Policy};
-use vx_take::{Picks, gather};
+use vx_take::{Picks, gather, gather_runs};
 
 fn filter_buffer<T: Copy>(
     alloc: Global,
@@ -57,4 +57,29 @@ pub fn take_records(alloc: Global, records: &Records, picks: &Picks) -> Result<R
     ensures width { IfOk result (λ r. width_of r ≡ width_of records.now) }
 {
     Ok(map_each_record_width!(records, buffer => take_buffer(alloc, buffer, picks)?))
+}
+
+fn take_buffer_runs<const W: usize>(
+    alloc: Global,
+    buffer: &Buffer<[u8; W]>,
+    runs: &[(usize, usize)],
+) -> Result<Buffer<[u8; W]>, NoMemory>
+    requires { All (λ run. run.0 + run.1 ≤ length buffer.now) runs.now }
+    ensures { IfOk result (λ b. b ≡ in_runs buffer.now runs.now) }
+{
+    Buffer::from_vec(alloc, gather_runs(alloc, buffer.as_slice(), runs)?)
+}
+
+/// The records in the runs, each its start and its length, one run after another. `NoMemory`
+/// alone.
+pub fn take_runs(
+    alloc: Global,
+    records: &Records,
+    runs: &[(usize, usize)],
+) -> Result<Records, NoMemory>
+    requires { All (λ run. run.0 + run.1 ≤ length (records_of records.now)) runs.now }
+    ensures records { IfOk result (λ r. records_of r ≡ in_runs (records_of records.now) runs.now) }
+    ensures width { IfOk result (λ r. width_of r ≡ width_of records.now) }
+{
+    Ok(map_each_record_width!(records, buffer => take_buffer_runs(alloc, buffer, runs)?))
 }

@@ -1,0 +1,121 @@
+//! One value for every row, stored row by row.
+ghost use Rattle.std.specs.Prelude.{◌≡◌, length, replicate, true, IfOk};
+ghost use Rattle.vx_bits.specs.Records.{records_of, width_of};
+ghost use Rattle.vx_types.specs.Decimal.{is_width};
+ghost use Rattle.vx_types.specs.RowValue.{null};
+ghost use Rattle.vx_types.specs.Scalar.{scalar_row};
+ghost use Rattle.vx_types.specs.TypeTree.{with_nullability};
+ghost use Rattle.vx_model.specs.Valid.{all_invalid, cover_by, is_fitting, is_flat_cover, nullability_by, present_bits, shown_rows};
+ghost use Rattle.vx_model.specs.Plain.{is_unwrapped};
+ghost use Rattle.vx_column.specs.Validity.{valid_of};
+ghost use Rattle.vx_flat.specs.Scalars.{bit_or_false, bytes_or_zeros};
+
+use std::alloc::Global;
+use vx_bits::{BitBuffer, BitBuilder, Buffer, NoMemory, Records};
+use vx_column::{
+    Array, BoolArray, DType, DecimalArray, NullArray, PrimitiveArray, Scalar, ScalarValue, Validity,
+};
+
+// So many bits, each the value's; false for a null.
+fn bits_alike(alloc: Global, value: &ScalarValue, len: usize) -> Result<BitBuffer, NoMemory>
+    ensures { IfOk result (λ b. b
+        ≡ record { bits = replicate len (bit_or_false (scalar_row value.now)); offset = 0 }) }
+{
+    let bit = match value {
+        ScalarValue::Bit(bit) => *bit,
+        _ => false,
+    };
+    let mut bits = BitBuilder::new(alloc);
+    bits.append_n(bit, len)?;
+    bits.finish()
+}
+
+// So many copies of these bytes, of which there are just W.
+fn copies<const W: usize>(
+    alloc: Global,
+    bytes: &[u8],
+    len: usize,
+) -> Result<Buffer<[u8; W]>, NoMemory>
+    requires { length bytes.now ≡ W }
+    ensures { IfOk result (λ b. b ≡ replicate len bytes.now) }
+{
+    let mut record = [0; W];
+    record.copy_from_slice(bytes);
+    Buffer::from_vec(alloc, vec![in alloc; record; len]?)
+}
+
+// So many records of these bytes.
+fn records_alike(alloc: Global, bytes: &[u8], len: usize) -> Result<Records, NoMemory>
+    requires { is_width (length bytes.now) ≡ true }
+    ensures records { IfOk result (λ r. records_of r ≡ replicate len bytes.now) }
+    ensures width { IfOk result (λ r. width_of r ≡ length bytes.now) }
+{
+    Ok(match bytes.len() {
+        1 => Records::W1(copies(alloc, bytes, len)?),
+        2 => Records::W2(copies(alloc, bytes, len)?),
+        4 => Records::W4(copies(alloc, bytes, len)?),
+        8 => Records::W8(copies(alloc, bytes, len)?),
+        16 => Records::W16(copies(alloc, bytes, len)?),
+        32 => Records::W32(copies(alloc, bytes, len)?),
+        _ => unreachable!(),
+    })
+}
+
+// So many records of the value's bytes; of as many zeros for a null.
+fn value_records(
+    alloc: Global,
+    value: &ScalarValue,
+    width: usize,
+    len: usize,
+) -> Result<Records, NoMemory>
+    requires known { is_width width ≡ true }
+    requires wide { length (bytes_or_zeros width (scalar_row value.now)) ≡ width }
+    ensures records { IfOk result (λ r.
+        records_of r ≡ replicate len (bytes_or_zeros width (scalar_row value.now))) }
+    ensures width { IfOk result (λ r. width_of r ≡ width) }
+{
+    match value {
+        ScalarValue::Bytes(bytes) => records_alike(alloc, bytes.as_slice(), len),
+        _ => records_alike(alloc, &[0; 32][..width], len),
+    }
+}
+
+/// `len` rows of one value, null where the validity says no, stored row by row. `NoMemory` alone.
+pub fn store_scalar(
+    alloc: Global,
+    scalar: &Scalar,
+    len: usize,
+    validity: Validity,
+) -> Result<Array, NoMemory>
+    requires fitting { is_fitting (valid_of validity) len ≡ true }
+    requires null { scalar.now.row ≡ null → valid_of validity ≡ all_invalid }
+    ensures rows { IfOk result (λ a. a.rows
+        ≡ shown_rows (present_bits (valid_of validity) len) (replicate len scalar.now.row)) }
+    ensures dtype { IfOk result (λ a.
+        a.dtype ≡ with_nullability scalar.now.dtype (nullability_by (valid_of validity))) }
+    ensures unwrapped { is_flat_cover (cover_by (valid_of validity)) ≡ true
+        → IfOk result (λ a. is_unwrapped a ≡ true) }
+{
+    let value = scalar.value();
+    match scalar.dtype() {
+        DType::Null => Ok(NullArray::new(len).into_array()),
+        DType::Bool(_) => {
+            let bits = bits_alike(alloc, value, len)?;
+            Ok(BoolArray::of(bits, validity).into_array())
+        }
+        DType::Primitive(ptype, _) => {
+            let values = value_records(alloc, value, ptype.width(), len)?;
+            match PrimitiveArray::try_new(*ptype, values, validity) {
+                Ok(array) => Ok(array.into_array()),
+                Err(_) => unreachable!(),
+            }
+        }
+        DType::Decimal(decimal, _) => {
+            let values = value_records(alloc, value, decimal.width() as usize, len)?;
+            match DecimalArray::try_new(*decimal, values, validity) {
+                Ok(array) => Ok(array.into_array()),
+                Err(_) => unreachable!(),
+            }
+        }
+    }
+}
