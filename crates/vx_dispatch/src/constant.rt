@@ -1,14 +1,15 @@
 //! Layout `Constant`.
-ghost use Rattle.std.specs.Prelude.{◌≡◌, ◌≤◌, length, map, replicate, true, false, IfOk};
+ghost use Rattle.std.specs.Prelude.{◌≡◌, ◌≤◌, ℕ, length, map, replicate, true, false, IfOk};
 ghost use Rattle.std.specs.List.{items_where_true};
 ghost use Rattle.vx_numbers.specs.Positions.{AllThere};
 ghost use Rattle.vx_types.specs.declared.nullability.Nullability.TheVariants.{NonNullable};
 ghost use Rattle.vx_model.specs.Constant.{constant_column};
 ghost use Rattle.vx_take.specs.Picks.{at};
 ghost use Rattle.vx_model.specs.Plain.{is_unwrapped};
-ghost use Rattle.vx_model.specs.Valid.{is_yes, all_invalid, is_fitting, present_bits, shown_rows, nullability_by, cover_by, is_flat_cover};
-ghost use Rattle.vx_types.specs.RowValue.{null};
-ghost use Rattle.vx_types.specs.TypeTree.{with_nullability};
+ghost use Rattle.vx_model.specs.Valid.{is_yes, all_invalid, cover_by, is_fitting, is_flat_cover, nullability_by, present_bits, shown_rows};
+ghost use Rattle.vx_types.specs.RowValue.{null, is_null};
+ghost use Rattle.vx_types.specs.Nullability.{is_nullable};
+ghost use Rattle.vx_types.specs.TypeTree.{type_nullability, with_nullability};
 ghost use Rattle.vx_column.specs.Validity.{valid_of};
 ghost use Rattle.vx_model.specs.Step.{IsSlice, IsCut, IsStep, IsTake};
 
@@ -16,6 +17,7 @@ use crate::validity::by_picks;
 use std::alloc::Global;
 use vx_bits::{BitBuffer, BitBuilder, NoMemory};
 use vx_column::{Array, ConstantArray, Nullability, Scalar, ScalarValue, Validity};
+use vx_flat::store_scalar;
 use vx_mask::MaskValues;
 use vx_take::{Picks, valid_bits};
 
@@ -37,6 +39,18 @@ pub(crate) fn filter_of(array: &ConstantArray, mask: &MaskValues) -> Array
     ConstantArray::new(array.scalar().share(), mask.true_count()).into_array()
 }
 
+// Whether the value is a null, which is one of a nullable type.
+#[tactic(auto, using(vx_model::proofs::ConstantRows::nulls))]
+fn is_null(scalar: &Scalar) -> bool
+    ensures value { result ≡ is_null scalar.now.row }
+    ensures nullable { result ≡ true → is_nullable (type_nullability scalar.now.dtype) ≡ true }
+{
+    match scalar.value() {
+        ScalarValue::Null => true,
+        ScalarValue::Bit(_) | ScalarValue::Bytes(_) => false,
+    }
+}
+
 // A null stays null at any picks, and a value stays itself where all picks are there; else the
 // value is stored for each pick, beside which of them are there.
 #[tactic(auto, using(vx_model::proofs::LazyRows::lazy_rows))]
@@ -53,12 +67,16 @@ pub(crate) fn take_of(
     // each pick is below the bound
     let _ = picks.bound();
     let scalar = array.scalar();
-    match (scalar.value(), nullability) {
-        (ScalarValue::Null, _) | (_, Nullability::NonNullable) => {
-            Ok(ConstantArray::new(scalar.share(), picks.len()).into_array())
-        }
-        (_, Nullability::Nullable) => {
-            store_scalar(alloc, scalar, picks.len(), by_picks(alloc, picks)?)
+    let len = picks.len();
+    if is_null(scalar) {
+        return Ok(ConstantArray::new(scalar.share(), len).into_array());
+    }
+    match nullability {
+        Nullability::NonNullable => Ok(ConstantArray::new(scalar.share(), len).into_array()),
+        Nullability::Nullable => {
+            let validity = by_picks(alloc, picks)?;
+            let stored = store_scalar(alloc, scalar, len, validity)?;
+            Ok(stored)
         }
     }
 }
@@ -96,6 +114,26 @@ pub(crate) fn bits_of(
     Ok(bits)
 }
 
+// The validity of a column that stores the value for every row.
+#[tactic(auto, using(vx_model::proofs::ConstantRows::nulls))]
+fn validity_for(scalar: &Scalar) -> Validity
+    ensures fitting { (n : ℕ) → is_fitting (valid_of result) n ≡ true }
+    ensures null { scalar.now.row ≡ null → valid_of result ≡ all_invalid }
+    ensures shown { (n : ℕ) → shown_rows (present_bits (valid_of result) n)
+        (replicate n scalar.now.row) ≡ replicate n scalar.now.row }
+    ensures nullability { with_nullability scalar.now.dtype (nullability_by (valid_of result))
+        ≡ scalar.now.dtype }
+    ensures flat { is_flat_cover (cover_by (valid_of result)) ≡ true }
+{
+    if is_null(scalar) {
+        return Validity::AllInvalid;
+    }
+    match scalar.dtype().nullability() {
+        Nullability::NonNullable => Validity::NonNullable,
+        Nullability::Nullable => Validity::AllValid,
+    }
+}
+
 /// The same rows, stored one after another.
 #[tactic(auto, using(vx_model::proofs::LazyRows::lazy_rows))]
 pub(crate) fn execute_of(alloc: Global, array: &ConstantArray) -> Result<Array, NoMemory>
@@ -104,22 +142,6 @@ pub(crate) fn execute_of(alloc: Global, array: &ConstantArray) -> Result<Array, 
     ensures unwrapped { IfOk result (λ a. is_unwrapped a ≡ true) }
 {
     let scalar = array.scalar();
-    let validity = match (scalar.value(), scalar.dtype().nullability()) {
-        (ScalarValue::Null, _) => Validity::AllInvalid,
-        (_, Nullability::NonNullable) => Validity::NonNullable,
-        (_, Nullability::Nullable) => Validity::AllValid,
-    };
-    store_scalar(alloc, scalar, array.len(), validity)
-}
-
-// STUB
-fn store_scalar(alloc: Global, scalar: &Scalar, len: usize, validity: Validity) -> Result<Array, NoMemory>
-    requires fitting { is_fitting (valid_of validity) len ≡ true }
-    requires null { scalar.now.row ≡ null → valid_of validity ≡ all_invalid }
-    ensures rows { IfOk result (λ a. a.rows ≡ shown_rows (present_bits (valid_of validity) len) (replicate len scalar.now.row)) }
-    ensures dtype { IfOk result (λ a. a.dtype ≡ with_nullability scalar.now.dtype (nullability_by (valid_of validity))) }
-    ensures unwrapped { is_flat_cover (cover_by (valid_of validity)) ≡ true → IfOk result (λ a. is_unwrapped a ≡ true) }
-{
-    let _ = (alloc, scalar, len, &validity);
-    Err(NoMemory)
+    let stored = store_scalar(alloc, scalar, array.len(), validity_for(scalar))?;
+    Ok(stored)
 }

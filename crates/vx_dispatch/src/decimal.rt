@@ -84,5 +84,9 @@ pub(crate) fn execute_of(
     ensures kept { is_unwrapped (decimal_column array.now) ≡ true → IsOk result }
 {
     let validity = execute_validity(alloc, array.validity(), array.values().len(), policy)?;
-    Ok(array.with_rows(array.values().share(), validity).into_array())
+    Ok(
+        array
+            .with_rows(array.values().share(), validity)
+            .into_array(),
+    )
 }

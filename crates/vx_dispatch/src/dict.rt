@@ -89,7 +89,8 @@ pub(crate) fn bits_of(
     match codes.dtype().int_type() {
         Some(ptype) => {
             let named = codes.positions(alloc, ptype, values.len())?;
-            taken_bits(alloc, values, &named, policy)
+            let bits = taken_bits(alloc, values, &named, policy)?;
+            Ok(bits)
         }
         None => unreachable!(),
     }
@@ -114,7 +115,8 @@ pub(crate) fn execute_of(
     match codes.dtype().int_type() {
         Some(ptype) => {
             let picks = codes.positions(alloc, ptype, values.len())?;
-            Ok(take_picks(alloc, &values, &picks, nullability, policy)?)
+            let taken = take_picks(alloc, &values, &picks, nullability, policy)?;
+            Ok(taken)
         }
         None => unreachable!(),
     }

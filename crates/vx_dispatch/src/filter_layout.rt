@@ -4,7 +4,8 @@ ghost use Rattle.std.specs.List.{items_where_true};
 ghost use Rattle.vx_bits.specs.BitBuffer.{true_count_of};
 ghost use Rattle.vx_mask.specs.Mask.{mask_bits};
 ghost use Rattle.vx_mask.specs.Positions.{rank_of, set_of};
-ghost use Rattle.vx_take.specs.Picks.{at};
+ghost use Rattle.vx_take.specs.Picks.{AreBelow, at};
+ghost use Rattle.vx_take.specs.Ranks.{translated};
 ghost use Rattle.vx_numbers.specs.Positions.{AllThere};
 ghost use Rattle.vx_types.specs.TypeTree.{is_flat};
 ghost use Rattle.vx_types.specs.declared.nullability.Nullability.TheVariants.{NonNullable};
@@ -76,6 +77,26 @@ pub(crate) fn filter_of(
     Ok(kept)
 }
 
+// The positions in the child that the picks are ranks of.
+#[tactic(auto, using(vx_model::proofs::LazyRows::lazy_rows))]
+fn child_picks(
+    alloc: Global,
+    array: &FilterArray,
+    picks: &Picks,
+    policy: &Policy,
+) -> Result<Picks, NoMemory>
+    requires { picks.now.bound ≡ length (filter_column array.now).rows }
+    ensures picks { IfOk result (λ p. p.picks ≡ translated array.now.mask picks.now.picks) }
+    ensures bound { IfOk result (λ p. p.bound ≡ length array.now.child.rows) }
+    ensures there { AllThere picks.now.picks → IfOk result (λ p. AllThere p.picks) }
+    ensures below { AreBelow picks.now.picks (true_count_of array.now.mask) }
+{
+    // each pick is below the bound
+    let _ = picks.bound();
+    let positions = translate_ranks(alloc, array.mask(), picks, policy)?;
+    Ok(positions)
+}
+
 // The child's rows at the set positions that the picks are ranks of.
 #[cycle(take)]
 #[tactic(auto, using(vx_model::proofs::LazyRows::lazy_rows))]
@@ -91,10 +112,9 @@ pub(crate) fn take_of(
     ensures { IfOk result (IsTake (filter_column array.now) picks.now.picks nullability) }
 {
     let child = array.child();
-    // each pick is below the bound
-    let _ = picks.bound();
-    let positions = translate_ranks(alloc, array.mask(), picks, policy)?;
-    take_picks(alloc, child, &positions, nullability, policy)
+    let positions = child_picks(alloc, array, picks, policy)?;
+    let taken = take_picks(alloc, child, &positions, nullability, policy)?;
+    Ok(taken)
 }
 
 // The bits of the rows at the picks, of a filter of bools that aren't null.
@@ -112,10 +132,9 @@ pub(crate) fn bits_of(
         (λ b. b.bits ≡ at false (map is_yes (filter_column array.now).rows) picks.now.picks) }
 {
     let child = array.child();
-    // each pick is below the bound
-    let _ = picks.bound();
-    let positions = translate_ranks(alloc, array.mask(), picks, policy)?;
-    taken_bits(alloc, child, &positions, policy)
+    let positions = child_picks(alloc, array, picks, policy)?;
+    let bits = taken_bits(alloc, child, &positions, policy)?;
+    Ok(bits)
 }
 
 /// The same rows, which the mask keeps of the child's unwrapped form.
@@ -132,5 +151,6 @@ pub(crate) fn execute_of(
         → IfOk result (λ a. is_unwrapped a ≡ true) }
 {
     let child = execute(alloc, array.child(), policy)?;
-    Ok(filter(alloc, &child, array.mask(), policy)?)
+    let kept = filter(alloc, &child, array.mask(), policy)?;
+    Ok(kept)
 }

@@ -6,7 +6,8 @@ ghost use Rattle.vx_types.specs.declared.nullability.Nullability.TheVariants.{No
 ghost use Rattle.vx_take.specs.Picks.{at};
 ghost use Rattle.vx_numbers.specs.Positions.{AllThere};
 ghost use Rattle.vx_model.specs.Bool.{bits_column};
-ghost use Rattle.vx_model.specs.Valid.{by_column, is_yes, is_non_null_bool, is_fitting, is_constant_form, is_flat_cover, cover_by, nullability_by, present_bits, IsLeft, IsAsPlain};
+ghost use Rattle.vx_model.specs.Valid.{by_column, is_yes, is_non_null_bool, is_fitting, is_constant_form, is_flat_cover, is_bool_layout, cover_by, nullability_by, present_bits, IsLeft, IsAsPlain};
+ghost use Rattle.vx_model.specs.Plain.{is_unwrapped};
 ghost use Rattle.vx_column.specs.Validity.{valid_of};
 
 use crate::executing::execute;
@@ -136,7 +137,10 @@ pub fn take_validity(
     let _ = picks.bound();
     match (validity, nullability) {
         (Validity::AllInvalid, _) => Ok(Validity::AllInvalid),
-        (Validity::Array(array), _) => Ok(by_bits(alloc, taken_bits(alloc, array, picks, policy)?)?),
+        (Validity::Array(array), _) => Ok(by_bits(
+            alloc,
+            taken_bits(alloc, array, picks, policy)?,
+        )?),
         (Validity::NonNullable, Nullability::NonNullable) => Ok(Validity::NonNullable),
         (Validity::AllValid, Nullability::NonNullable) => Ok(Validity::AllValid),
         (Validity::NonNullable, Nullability::Nullable) => Ok(by_picks(alloc, picks)?),
@@ -144,8 +148,21 @@ pub fn take_validity(
     }
 }
 
+// An unwrapped column of bools is one of layout `Bool`.
+fn see_bools(array: &Array)
+    requires bools { is_non_null_bool array.now.dtype ≡ true }
+    requires unwrapped { is_unwrapped array.now ≡ true }
+    ensures { is_bool_layout array.now.layout ≡ true }
+{
+    match array.layout() {
+        Layout::Bool(_) => {}
+        _ => unreachable!(),
+    }
+}
+
 /// The same validity, unwrapped: a constant form or an array of layout `Bool`.
 #[cycle(execute)]
+#[tactic(auto, using(vx_model::proofs::LazyBits::executed))]
 pub(crate) fn execute_validity(
     alloc: Global,
     validity: &Validity,
@@ -164,6 +181,7 @@ pub(crate) fn execute_validity(
             Layout::Bool(_) => Ok(Validity::Array(array.share())),
             _ => {
                 let bools = execute(alloc, array, policy)?;
+                see_bools(&bools);
                 Ok(Validity::Array(bools.into_ref(alloc)?))
             }
         },

@@ -3,6 +3,7 @@ pub mod Items
 pub mod CodeNumbers
 pub mod KeptItems
 pub mod Layouts
+pub mod LazyBits
 pub mod LazyRows
 pub mod LazySteps
 pub mod Nullabilities

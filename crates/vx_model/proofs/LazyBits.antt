@@ -1,0 +1,145 @@
+-- The bits of bools that stand for other bools, and validities that are such columns.
+use Rattle.std.proofs.Common.{◌≡◌, ℕ, Bool, true, false, List, [], ◌∷◌, map, length, Option, None, Some, refl, sym, ap, ap₂, ◌∙◌, arith}
+use Rattle.std.specs.Prelude.{◌&&◌, ◌==◌, is_some, if◌then◌else◌}
+use Rattle.std.specs.List.{items_where_true, list_all}
+use Rattle.std.specs.Option.{option_map}
+use Rattle.std.proofs.lemmas.List.{length-map}
+use Rattle.std.proofs.lemmas.Bool.Decides.{nat_tests}
+use Rattle.vx_bits.specs.BitBuffer.{true_count_of}
+use Rattle.vx_types.specs.PType.{is_int}
+use Rattle.vx_types.specs.Nullability.{either_nullable}
+use Rattle.vx_types.specs.RowValue.{null}
+use Rattle.vx_types.specs.TypeTree as types
+use Rattle.vx_types.specs.TypeTree.{TypeTree, also_nullable, int_type_of, is_int_type, type_nullability}
+use Rattle.vx_types.specs.declared.ptype.PType.{PType}
+use Rattle.vx_types.specs.declared.nullability.Nullability.{Nullability}
+use Rattle.vx_types.specs.declared.nullability.Nullability.TheVariants.{NonNullable, Nullable}
+use Rattle.vx_mask.specs.Positions.{rank_of}
+use Rattle.vx_take.specs.Picks.{AreBelow, at}
+use Rattle.vx_take.specs.Ranks.{translated}
+use Rattle.vx_take.proofs.TakenLists.{takes_join, take_of_filter}
+use Rattle.vx_numbers.specs.Positions.{AllThere, position_of, positions_of, first_bad}
+use Rattle.vx_model.specs.Column.{Column}
+use Rattle.vx_model.specs.Numbers.{numbers_of}
+use Rattle.vx_model.specs.Valid.{Valid, by_column, cover_by, is_bool_layout, is_fitting, is_flat_cover, is_non_null_bool, is_yes, nullability_by, present_bits, IsLeft}
+use Rattle.vx_model.specs.Dict.{DictParts, dict_fault, dict_column}
+use Rattle.vx_model.specs.Filter.{FilterParts, filter_fault, filter_column}
+use Rattle.vx_model.specs.Step.{IsStep, IsTake}
+use Rattle.vx_model.proofs.Items.{map-items_where_true}
+use Rattle.vx_model.proofs.Takes.{map-at}
+use Rattle.vx_model.proofs.LazyRows.{long-filter, sound-dict}
+use Rattle.vx_model.proofs.CodeNumbers.{first_bad-picks, numbers_of-take}
+use Rattle.vx_model.proofs.ShownRows.{length-present_bits}
+use Rattle.vx_model.proofs.Validities.{is_fitting-step}
+
+-- ---- integer types
+
+some_type : (p : PType) (b : Bool) → b ≡ true → (if b then Some p else None) ≡ None → ⊥
+some_type p true h e = cc
+some_type p false h e = cc
+
+-- a type of whole numbers has a primitive type
+pub has_int_type : (t : TypeTree) → is_int_type t ≡ true → int_type_of t ≡ None → ⊥
+has_int_type (types.primitive_type p n) h e = some_type p (is_int p) h e
+has_int_type types.null_type h e = cc
+has_int_type (types.bool_type n) h e = cc
+has_int_type (types.decimal_type p s w n) h e = cc
+has_int_type (types.utf8_type n) h e = cc
+has_int_type (types.binary_type n) h e = cc
+has_int_type (types.list_type t n) h e = cc
+has_int_type (types.fixed_type t k n) h e = cc
+has_int_type (types.map_type ns ts n) h e = cc
+has_int_type (types.struct_type ns ts n) h e = cc
+has_int_type (types.union_type is ns ts n) h e = cc
+has_int_type (types.extension_type s t n) h e = cc
+
+-- ---- picks
+
+pub there-translated : (bits : List Bool) (ranks : List (Option ℕ)) → AllThere ranks → AllThere (translated bits ranks)
+there-translated bits [] h = refl
+there-translated bits (None ∷ ranks) h = cc
+there-translated bits (Some k ∷ ranks) h = there-translated bits ranks h
+
+-- ---- dictionaries
+
+pub non_null_values : (t : TypeTree) (n : Nullability) → is_non_null_bool (also_nullable t n) ≡ true → is_non_null_bool t ≡ true
+non_null_values (types.bool_type NonNullable) n h = refl
+non_null_values (types.bool_type Nullable) n h = cc
+non_null_values types.null_type n h = cc
+non_null_values (types.primitive_type p k) n h = cc
+non_null_values (types.decimal_type p s w k) n h = cc
+non_null_values (types.utf8_type k) n h = cc
+non_null_values (types.binary_type k) n h = cc
+non_null_values (types.list_type t k) n h = cc
+non_null_values (types.fixed_type t l k) n h = cc
+non_null_values (types.map_type ns ts k) n h = cc
+non_null_values (types.struct_type ns ts k) n h = cc
+non_null_values (types.union_type is ns ts k) n h = cc
+non_null_values (types.extension_type s t k) n h = cc
+
+-- codes at picks name values too
+pub sound-taken : (p : DictParts) (codes : Column) (picks : List (Option ℕ)) (n : Nullability) → dict_fault p ≡ None → IsTake p.codes picks n codes → first_bad (length p.values.rows) (numbers_of codes) ≡ None
+sound-taken p codes picks n h step =
+    ap (first_bad (length p.values.rows)) (numbers_of-take p.codes picks n codes step)
+    ∙ first_bad-picks (length p.values.rows) (numbers_of p.codes) picks (sound-dict p h)
+
+-- the bits of the values that codes at picks name
+pub bits-dict : (p : DictParts) (codes : Column) (picks : List (Option ℕ)) (n : Nullability) → IsTake p.codes picks n codes → at false (map is_yes p.values.rows) (positions_of (numbers_of codes)) ≡ at false (map is_yes (dict_column p).rows) picks
+bits-dict p codes picks n step =
+    let values = map is_yes p.values.rows in let numbers = numbers_of p.codes in
+    ap (λ xs. at false values (positions_of xs)) (numbers_of-take p.codes picks n codes step)
+    ∙ ap (at false values) (map-at (option_map position_of) None numbers picks)
+    ∙ sym (takes_join false values (positions_of numbers) picks)
+    ∙ ap (λ bits. at false bits picks) (sym (map-at is_yes null p.values.rows (positions_of numbers)))
+
+-- ---- lazy filters
+
+pub bits-filter : (p : FilterParts) (picks : List (Option ℕ)) → filter_fault p ≡ None → AreBelow picks (true_count_of p.mask) → at false (map is_yes p.child.rows) (translated p.mask picks) ≡ at false (map is_yes (filter_column p).rows) picks
+bits-filter p picks h below =
+    sym (take_of_filter false p.mask (map is_yes p.child.rows) picks (long-filter p h ∙ sym (length-map p.child.rows is_yes)) below)
+    ∙ ap (λ bits. at false bits picks) (sym (map-items_where_true is_yes p.mask p.child.rows))
+
+-- ---- validities
+
+-- a validity as it is
+pub is_left-same : (v : Valid) (n : ℕ) → is_fitting v n ≡ true → IsLeft v (nullability_by v) (present_bits v n) v
+is_left-same v n f =
+    let long = length-present_bits v n f in
+    record {
+      bits = ap (present_bits v) long;
+      fitting = ap (is_fitting v) long ∙ f;
+      nullability = refl;
+      flat = λ h. h;
+    }
+
+flat_bool : (c : Column) → is_bool_layout c.layout ≡ true → is_flat_cover (cover_by (by_column c)) ≡ true
+flat_bool c h = rw h refl
+
+pub flat-bools : (c : Column) → is_bool_layout c.layout ≡ true → is_flat_cover (cover_by (by_column c)) ≡ true
+flat-bools c h = flat_bool c h
+
+kind_of : (c : Column) (n : ℕ) → is_fitting (by_column c) n ≡ true → is_non_null_bool c.dtype ≡ true
+kind_of c n h = first (is_non_null_bool c.dtype) (length c.rows == n) h
+  where
+    first : (a b : Bool) → (a && b) ≡ true → a ≡ true
+    first true b h = refl
+    first false b h = cc
+
+-- a validity array is one of bools
+pub bools-fitting : (c : Column) (n : ℕ) → is_fitting (by_column c) n ≡ true → is_non_null_bool c.dtype ≡ true
+bools-fitting c n h = kind_of c n h
+
+-- a column of the same rows and type in its place
+pub is_left-execute : (c d : Column) (n : ℕ) → is_fitting (by_column c) n ≡ true → IsStep c c.rows c.dtype d → is_bool_layout d.layout ≡ true → IsLeft (by_column c) (nullability_by (by_column c)) (present_bits (by_column c) n) (by_column d)
+is_left-execute c d n f step bools =
+    let long = length-present_bits (by_column c) n f in
+    let count : length c.rows ≡ n = sym (length-map c.rows is_yes) ∙ long in
+    record {
+      bits = ap (map is_yes) step.rows;
+      fitting = is_fitting-step c d c.rows n _ step f (count ∙ sym long);
+      nullability = refl;
+      flat = λ _. flat_bool d bools;
+    }
+
+-- what a proof about an unwrapped validity needs
+pub ruleset executed = (is_left-same, is_left-execute, flat-bools, bools-fitting)
