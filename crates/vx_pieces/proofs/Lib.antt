@@ -1,1 +1,3 @@
+pub mod Naturals
+pub mod PieceNumbers
 pub mod NumberLists

@@ -1,11 +1,21 @@
 //! Lists of indices: which rows a take picks, and why it can't.
 #![tactic(auto)]
 
+mod error;
 mod fault;
 mod indices;
+mod natural;
 mod numbers;
+mod piece;
 mod positions;
 mod reading;
+mod sequence;
+mod slots;
 
+pub use error::{BadPieces, PiecesError};
 pub use fault::IndexFault;
 pub use indices::Indices;
+pub use sequence::{PiecewiseSequence, PiecewiseSequenceArray};
+pub use slots::{
+    PiecewiseSequenceArrayExt, PiecewiseSequenceArraySlotsExt, PiecewiseSequenceSlots,
+};
