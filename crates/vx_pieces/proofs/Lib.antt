@@ -1,3 +1,5 @@
+pub mod IndexLists
 pub mod Naturals
-pub mod PieceNumbers
 pub mod NumberLists
+pub mod PieceLists
+pub mod PieceNumbers

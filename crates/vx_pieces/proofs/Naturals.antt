@@ -1,15 +1,13 @@
 -- The numbers of columns of whole numbers from 0 on, and the pieces that they make.
-use Rattle.std.proofs.Common.{◌≡◌, ℕ, zero, suc, ◌+◌, ◌<◌, ◌^◌, Bool, true, false, List, [], ◌∷◌, map, length, get_or, Option, None, Some, refl, sym, ap, ◌∙◌, arith}
-use Rattle.std.specs.Prelude.{ℤ, pos, ◌&&◌, ◌==◌, not, if◌then◌else◌}
+use Rattle.std.proofs.Common.{◌≡◌, ℕ, zero, suc, ◌<◌, ◌^◌, Bool, true, false, List, [], ◌∷◌, length, get_or, None, Some, refl, sym, ap, ◌∙◌, arith}
+use Rattle.std.specs.Prelude.{pos, ◌&&◌, ◌==◌, if◌then◌else◌}
 use Rattle.std.specs.Int.{from_le_bytes, sum_through, byte_worth, w8, w16, w32, w64}
 use Rattle.std.proofs.lemmas.List.{length-map, get_or-map}
-use Rattle.std.proofs.lemmas.Bool.Decides.{nat_tests, Decides-eqb}
-use Rattle.vx_types.specs.PType.{width, number}
-use Rattle.vx_types.specs.RowValue.{RowValue, null, bytes}
-use Rattle.vx_types.specs.TypeTree.{TypeTree, primitive_type}
+use Rattle.std.proofs.lemmas.Bool.Decides.{Decides-eqb}
+use Rattle.vx_types.specs.PType.{number}
+use Rattle.vx_types.specs.RowValue.{null}
 use Rattle.vx_types.specs.declared.ptype.PType.{PType}
 use Rattle.vx_types.specs.declared.ptype.PType.TheVariants.{U8, U16, U32, U64, I8, I16, I32, I64, F16, F32, F64}
-use Rattle.vx_types.specs.declared.error.ColumnError.{ColumnError}
 use Rattle.vx_types.specs.declared.error.ColumnError.TheVariants.{WrongType, WrongLength}
 use Rattle.vx_model.specs.Column.{Column}
 use Rattle.vx_model.specs.Numbers.{numbers_of, number_in}
@@ -67,7 +65,7 @@ types_by true true h = (refl, refl)
 types_by true false h = cc
 types_by false b h = cc
 
-both : (a b : Bool) → (a && b) ≡ true → (a ≡ true) × (b ≡ true)
+pub both : (a b : Bool) → (a && b) ≡ true → (a ≡ true) × (b ≡ true)
 both true true h = (refl, refl)
 both true false h = cc
 both false b h = cc
@@ -104,4 +102,5 @@ module _ (p : PiecesParts) (sound : pieces_fault p ≡ None) where
       (omega (arith, length-naturals_of p.starts))
 
 pub ruleset naturals = (length-naturals_of, natural_of_row, length-pieces_of)
+
 pub ruleset spelled = (number_fits)

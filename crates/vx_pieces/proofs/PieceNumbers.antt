@@ -1,10 +1,13 @@
 -- The numbers of one piece.
-use Rattle.std.proofs.Common.{◌≡◌, ℕ, zero, suc, ◌+◌, ◌-◌, ◌*◌, ◌/◌, ◌<◌, ◌≤◌, Bool, true, false, cond, map, Option, None, Some, refl, sym, ap, ◌∙◌, subst, arith}
-use Rattle.std.specs.Prelude.{nat_le}
+use Rattle.std.proofs.Common.{◌≡◌, ℕ, zero, suc, ◌+◌, ◌-◌, ◌*◌, ◌/◌, ◌<◌, ◌≤◌, Bool, true, false, cond, List, [], ◌∷◌, ◌++◌, map, length, length-append, Option, None, Some, refl, sym, ap, ◌∙◌, subst, arith}
+use Rattle.std.specs.Prelude.{nat_le, slice_get}
 use Rattle.std.specs.List.{range_with_len}
 use Rattle.std.proofs.lemmas.Bool.Decides.{nat_tests}
-use Rattle.std.proofs.Math.Nat.{add-zero, mul-le-mul_right, div-mul-le_self, lt-div-mul-add}
-use Rattle.vx_pieces.specs.Pieces.{first_from, piece_numbers}
+use Rattle.std.proofs.Math.Nat.{add-zero, sub-zero, mul-le-mul_right, div-mul-le_self, lt-div-mul-add}
+use Rattle.std.proofs.lemmas.List.{map_push, get_or_append_left}
+use Rattle.std.proofs.lemmas.Option.{slice_get-get_or}
+use Rattle.std.proofs.lemmas.List.FromFn.{map-range_with_len_more, length-map-range_with_len, get_or-map-range_with_len}
+use Rattle.vx_pieces.specs.Pieces.{first_from, piece_number, piece_numbers}
 use Rattle.vx_pieces.specs.declared.piece.Piece.{Piece}
 
 pub le_passes : (a b : ℕ) → a ≤ b → nat_le a b ≡ true
@@ -63,3 +66,52 @@ module _ (p : Piece) (n : ℕ) (before : p.start < n) where
     first_beyond h =
         let f : ℕ → ℕ = λ j. p.start + j * p.multiplier in
         first_none n f 0 p.length (λ j l. let e : j ≡ 0 + j = omega arith in subst (λ i. f i < n) e (below_reach j (omega arith)))
+
+-- one number more of a piece
+pub front_number : {X : Type 0} (f : ℕ → X) (p : Piece) (j : ℕ) → map f (map (piece_number p) (range_with_len 0 (j + 1))) ≡ map f (map (piece_number p) (range_with_len 0 j)) ++ f (piece_number p j) ∷ []
+front_number f p j =
+    let at : 0 + j ≡ j = omega arith in
+    ap (map f) (map-range_with_len_more (piece_number p) 0 j j at) ∙ map_push f (map (piece_number p) (range_with_len 0 j)) (piece_number p j)
+
+-- where no number is at least n, each is below it
+pub number_below : (n : ℕ) (p : Piece) (j : ℕ) → first_from n (piece_numbers p) ≡ None → j < p.length → piece_number p j < n
+number_below n p j none h =
+    let at : 0 + j ≡ j = omega arith in
+    subst (λ i. piece_number p i < n) at (below n (piece_number p) 0 p.length j none h)
+  where
+    test : (n x : ℕ) (rest : Option ℕ) → cond (nat_le n x) (Some x) rest ≡ None → (x < n) × (rest ≡ None)
+    test n x rest e = by (nat_le n x) refl e
+      where
+        by : (b : Bool) → nat_le n x ≡ b → cond b (Some x) rest ≡ None → (x < n) × (rest ≡ None)
+        by true t e = cc
+        by false t e = (grind (arith, nat_tests), e)
+
+    below : (n : ℕ) (f : ℕ → ℕ) (a len j : ℕ) → first_from n (map f (range_with_len a len)) ≡ None → j < len → f (a + j) < n
+    below n f a zero j e h = absurd (omega arith)
+    below n f a (suc len) zero e h = subst (λ i. f i < n) (sym (add-zero a)) (test n (f a) _ e).0
+    below n f a (suc len) (suc j) e h =
+        let same : a + 1 + j ≡ a + suc j = omega arith in
+        subst (λ i. f i < n) same (below n f (a + 1) len j (test n (f a) _ e).1 (omega arith))
+
+pub length-piece_numbers : (p : Piece) → length (piece_numbers p) ≡ p.length
+length-piece_numbers p = length-map-range_with_len (piece_number p) 0 p.length
+
+-- number j of a piece
+pub number_at : (p : Piece) (j : ℕ) (rest : List ℕ) → j < p.length → slice_get (piece_numbers p ++ rest) j ≡ Some (piece_number p j)
+number_at p j rest h =
+    let within : j < length (piece_numbers p) = omega (arith, length-piece_numbers p) in
+    let whole : j < length (piece_numbers p ++ rest) = omega (arith, length-append (piece_numbers p) rest) in
+    let at : 0 + j ≡ j = omega arith in
+    slice_get-get_or (piece_numbers p ++ rest) j 0 whole ∙ ap (λ x. Some x) (get_or_append_left (piece_numbers p) rest 0 j within ∙ get_or-map-range_with_len (piece_number p) 0 p.length j j 0 h at)
+
+-- a number behind those of a piece
+pub number_behind : (p : Piece) (j : ℕ) (rest : List ℕ) → p.length ≤ j → slice_get (piece_numbers p ++ rest) j ≡ slice_get rest (j - p.length)
+number_behind p j rest h =
+    behind (piece_numbers p) rest j (omega (arith, length-piece_numbers p)) ∙ ap (λ n. slice_get rest (j - n)) (length-piece_numbers p)
+  where
+    behind : (xs ys : List ℕ) (j : ℕ) → length xs ≤ j → slice_get (xs ++ ys) j ≡ slice_get ys (j - length xs)
+    behind [] ys j h = ap (slice_get ys) (sym (sub-zero j))
+    behind (x ∷ xs) ys zero h = absurd (omega arith)
+    behind (x ∷ xs) ys (suc j) h =
+        let same : j - length xs ≡ suc j - suc (length xs) = omega arith in
+        behind xs ys j (omega arith) ∙ ap (slice_get ys) same

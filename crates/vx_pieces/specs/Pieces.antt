@@ -1,5 +1,5 @@
 -- Piecewise sequences: pieces of whole numbers, the numbers of a piece a fixed distance apart.
-use Rattle.std.specs.Prelude.{ℕ, ◌+◌, ◌-◌, ◌*◌, ◌^◌, ◌==◌, ◌&&◌, ◌||◌, nat_le, ℤ, unsigned_abs, length, List, [], ◌∷◌, map, find, sum_by, Bool, true, false, not, Option, Some, None, Result, Ok, Err, if◌then◌else◌, refl}
+use Rattle.std.specs.Prelude.{ℕ, ◌+◌, ◌-◌, ◌*◌, ◌^◌, ◌==◌, ◌&&◌, ◌||◌, nat_le, ℤ, unsigned_abs, length, List, [], ◌∷◌, map, find, sum_by, Bool, false, not, Option, Some, None, Result, Ok, Err, if◌then◌else◌, refl}
 use Rattle.std.specs.List.{flat_map, list_all, range_with_len}
 use Rattle.std.specs.Int.{w64, to_le_bytes}
 use Rattle.std.specs.Coded.{Coded, code_by, coded×, coded_ℕ}

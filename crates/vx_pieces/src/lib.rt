@@ -2,6 +2,7 @@
 #![tactic(auto)]
 
 mod error;
+mod expanding;
 mod fault;
 mod indices;
 mod natural;
@@ -11,6 +12,7 @@ mod positions;
 mod reading;
 mod sequence;
 mod slots;
+mod walks;
 
 pub use error::{BadPieces, PiecesError};
 pub use fault::IndexFault;

@@ -1,5 +1,5 @@
 //! One piece of a piecewise sequence.
-ghost use Rattle.std.specs.Prelude.{◌≡◌, true};
+ghost use Rattle.std.specs.Prelude.{◌≡◌, ◌<◌, true};
 ghost use Rattle.vx_pieces.specs.Pieces.{first_from, is_sound_piece, piece_number, piece_numbers};
 
 /// The numbers `start + j * multiplier` for each `j` below `length`.
@@ -23,6 +23,16 @@ impl Piece {
         ensures { result ≡ is_sound_piece self }
     {
         self.length == 0 || self.number(self.length - 1) <= usize::MAX as u128
+    }
+
+    /// Number `j`, where the last number is at most `usize::MAX`.
+    #[inline(always)]
+    pub(crate) fn index(self, j: usize) -> usize
+        requires sound { is_sound_piece self ≡ true }
+        requires within { j < self.length }
+        ensures { result ≡ piece_number self j }
+    {
+        self.start + j * self.multiplier
     }
 
     /// The first of its numbers that is at least `n`.

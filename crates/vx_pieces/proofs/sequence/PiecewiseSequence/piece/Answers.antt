@@ -1,5 +1,5 @@
 -- Piece i has row i of each of the three columns.
-use Rattle.std.proofs.Common.{◌≡◌, ◌<◌, length, true, get_or, sym, ap, ◌∙◌, subst, arith}
+use Rattle.std.proofs.Common.{length, get_or, sym, ap, ◌∙◌, arith}
 use Rattle.vx_model.specs.Column.{Column}
 use Rattle.vx_pieces.specs.Pieces.{PiecesParts, pieces_fault, is_unsigned_type, naturals_of}
 use Rattle.vx_pieces.proofs.Naturals.{length-pieces_of, get_or-pieces_of, aligned}
