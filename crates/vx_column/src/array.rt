@@ -5,7 +5,10 @@ ghost use Rattle.vx_types.specs.TypeTree.{is_carried, is_flat};
 ghost use Rattle.vx_column.specs.Layout.{column_of};
 
 use crate::boolean::BoolArray;
+use crate::constant::ConstantArray;
 use crate::decimal::DecimalArray;
+use crate::dict::DictArray;
+use crate::filter::FilterArray;
 use crate::null::NullArray;
 use crate::primitive::PrimitiveArray;
 use std::alloc::Global;
@@ -37,6 +40,12 @@ pub enum Layout {
     Primitive(PrimitiveArray),
     /// A record of a decimal number a row.
     Decimal(DecimalArray),
+    /// One value for every row.
+    Constant(ConstantArray),
+    /// For each row a code that names one of the values.
+    Dict(DictArray),
+    /// The rows of a child at the set positions of a mask.
+    Filter(FilterArray),
 }
 
 impl Model for Array {
@@ -83,6 +92,9 @@ impl Layout {
             Layout::Bool(a) => Layout::Bool(a.share()),
             Layout::Primitive(a) => Layout::Primitive(a.share()),
             Layout::Decimal(a) => Layout::Decimal(a.share()),
+            Layout::Constant(a) => Layout::Constant(a.share()),
+            Layout::Dict(a) => Layout::Dict(a.share()),
+            Layout::Filter(a) => Layout::Filter(a.share()),
         }
     }
 }

@@ -7,11 +7,15 @@
 mod array;
 mod boolean;
 mod cell;
+mod constant;
 mod decimal;
+mod dict;
+mod filter;
 mod flat;
 mod null;
 mod numbers;
 mod plain;
+mod positions;
 mod primitive;
 mod rows;
 mod shown;
@@ -20,12 +24,15 @@ mod validity;
 pub use array::{Array, ArrayRef, Layout};
 pub use boolean::BoolArray;
 pub use cell::Cell;
+pub use constant::ConstantArray;
 pub use decimal::DecimalArray;
+pub use dict::DictArray;
+pub use filter::FilterArray;
 pub use flat::FlatRef;
 pub use null::NullArray;
 pub use primitive::PrimitiveArray;
 pub use validity::Validity;
 pub use vx_types::{
-    ByteList, ColumnError, DType, DecimalDType, LayoutName, Nullability, PType, Row, Runs,
+    ByteList, ColumnError, DType, DecimalDType, LayoutName, Nullability, PType, Row, Runs, Scalar,
     ScalarValue, match_each_integer_ptype, record_of,
 };

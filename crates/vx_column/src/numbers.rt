@@ -8,7 +8,6 @@ ghost use Rattle.vx_model.specs.Plain.{stores_records};
 
 use crate::array::{Array, Layout};
 use crate::cell::Cell;
-use vx_types::DType;
 
 impl Array {
     /// Whether row `i` isn't null.
@@ -30,9 +29,9 @@ impl Array {
         ensures { result.now ≡ slice_index_or self.now.stored i [] }
     {
         match self.layout() {
-            Layout::Null(_) | Layout::Bool(_) => unreachable!(),
             Layout::Primitive(a) => a.values().record_bytes(i),
             Layout::Decimal(a) => a.values().record_bytes(i),
+            _ => unreachable!(),
         }
     }
 
@@ -45,13 +44,6 @@ impl Array {
         ensures null { (result ≡ None) ↔ (slice_index_or self.now.rows i null ≡ null) }
         ensures nullable { result ≡ None → is_nullable (type_nullability self.now.dtype) ≡ true }
     {
-        match self.cell_at(i) {
-            Cell::Null => None,
-            Cell::Bit(_) => unreachable!(),
-            Cell::Bytes(bytes) => match self.dtype() {
-                DType::Primitive(ptype, _) => Some(ptype.number(bytes)),
-                _ => unreachable!(),
-            },
-        }
+        self.cell_at(i).number(self.dtype())
     }
 }

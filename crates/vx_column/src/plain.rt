@@ -100,9 +100,9 @@ impl Array {
         ensures { HasRecords self.now (option_map (λ r. r.now) result) }
     {
         match self.layout() {
-            Layout::Null(_) | Layout::Bool(_) => None,
             Layout::Primitive(a) => a.present_records(),
             Layout::Decimal(a) => a.present_records(),
+            _ => None,
         }
     }
 
@@ -119,6 +119,7 @@ impl Array {
             Layout::Bool(a) => a.slice_plain(start, end),
             Layout::Primitive(a) => a.slice_plain(start, end),
             Layout::Decimal(a) => a.slice_plain(start, end),
+            Layout::Constant(_) | Layout::Dict(_) | Layout::Filter(_) => None,
         }
     }
 }

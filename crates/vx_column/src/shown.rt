@@ -76,9 +76,9 @@ impl Array {
         ensures { IfSome result (λ p. AreShownRowsOf self.now p.0.now p.1.now) }
     {
         match self.layout() {
-            Layout::Null(_) | Layout::Bool(_) => None,
             Layout::Primitive(a) => a.shown_records(),
             Layout::Decimal(a) => a.shown_records(),
+            _ => None,
         }
     }
 }

@@ -4,7 +4,7 @@ ghost use Rattle.std.specs.List.{items_where_true};
 ghost use Rattle.vx_model.specs.Bool.{bool_column};
 ghost use Rattle.vx_model.specs.Plain.{is_plain};
 ghost use Rattle.vx_model.specs.Step.{IsSlice, IsCut, IsTake};
-ghost use Rattle.vx_pieces.specs.Indices.{AllThere};
+ghost use Rattle.vx_numbers.specs.Positions.{AllThere};
 ghost use Rattle.vx_types.specs.declared.nullability.Nullability.TheVariants.{NonNullable};
 
 use crate::validity::{filter_validity, slice_validity, take_validity};

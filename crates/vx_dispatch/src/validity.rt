@@ -4,7 +4,7 @@ ghost use Rattle.std.specs.List.{items_where_true};
 ghost use Rattle.vx_types.specs.Nullability.{either_nullable};
 ghost use Rattle.vx_types.specs.declared.nullability.Nullability.TheVariants.{NonNullable};
 ghost use Rattle.vx_take.specs.Picks.{at};
-ghost use Rattle.vx_pieces.specs.Indices.{AllThere};
+ghost use Rattle.vx_numbers.specs.Positions.{AllThere};
 ghost use Rattle.vx_model.specs.Bool.{bits_column};
 ghost use Rattle.vx_model.specs.Valid.{by_column, is_yes, is_non_null_bool, is_fitting, is_constant_form, cover_by, nullability_by, present_bits, IsLeft, IsAsPlain};
 ghost use Rattle.vx_column.specs.Validity.{valid_of};

@@ -1,7 +1,14 @@
 pub mod Items
+pub mod CodeNumbers
+pub mod KeptItems
 pub mod Layouts
+pub mod LazyRows
+pub mod LazySteps
+pub mod Nullabilities
 pub mod ShownRows
 pub mod Steps
 pub mod Takes
+pub mod Scalars
 pub mod StoredRows
+pub mod UnwrappedForms
 pub mod Validities

@@ -1,6 +1,9 @@
 pub mod Bool
 pub mod Column
+pub mod Constant
 pub mod Decimal
+pub mod Dict
+pub mod Filter
 pub mod Null
 pub mod Numbers
 pub mod Plain

@@ -1,5 +1,4 @@
 pub mod IndexLists
 pub mod Naturals
-pub mod NumberLists
 pub mod PieceLists
 pub mod PieceNumbers

@@ -13,7 +13,7 @@ use Rattle.vx_model.specs.Column.{Column}
 use Rattle.vx_model.specs.Numbers.{numbers_of, number_in}
 use Rattle.vx_pieces.specs.Pieces.{is_unsigned, is_unsigned_type, natural_of, naturals_of, pieces_by, pieces_of, PiecesParts, pieces_fault, are_unsigned, are_as_long}
 use Rattle.vx_pieces.specs.declared.piece.Piece.{Piece}
-use Rattle.vx_pieces.proofs.NumberLists.{number_of_row, length-numbers_of}
+use Rattle.vx_column.proofs.NumberLists.{number_of_row, length-numbers_of}
 
 -- what bytes spell
 pub spelled_8 : (b : ℕ → ℕ) → ((k : ℕ) → b k < 256) → sum_through (λ i. byte_worth i (b i)) 7 < 2 ^ 64

@@ -1,10 +1,10 @@
 -- Lists of indices: what a take by them picks, and why it can't.
-use Rattle.std.specs.Prelude.{◌≡◌, ℕ, ℤ, pos, negsuc, nat_lt, length, List, [], ◌∷◌, map, Bool, true, false, Option, Some, None, is_some, if◌then◌else◌}
-use Rattle.std.specs.List.{list_all}
-use Rattle.std.specs.Option.{option_map, option_or}
+use Rattle.std.specs.Prelude.{ℕ, pos, length, List, map, Option, Some, None, if◌then◌else◌}
+use Rattle.std.specs.Option.{option_map}
 use Rattle.vx_types.specs.TypeTree.{is_int_type, type_nullability}
 use Rattle.vx_types.specs.declared.nullability.Nullability.{Nullability}
 use Rattle.vx_types.specs.declared.nullability.Nullability.TheVariants.{NonNullable}
+use Rattle.vx_numbers.specs.Positions.{first_bad, positions_of}
 use Rattle.vx_model.specs.Column.{Column}
 use Rattle.vx_model.specs.Numbers.{numbers_of}
 use Rattle.vx_pieces.specs.Pieces.{PiecesParts, is_sound, expand, first_from}
@@ -24,21 +24,6 @@ abbrev pub index_value : Indices → IndexValue
 index_value (Array c) = by_column c
 index_value (Pieces p) = by_pieces p
 
--- a number is one of n positions
-abbrev pub is_position : ℕ → ℤ → Bool
-is_position n (pos i) = nat_lt i n
-is_position n (negsuc i) = false
-
--- a number that is none of n positions; a null is no number
-abbrev pub bad_number : ℕ → Option ℤ → Option ℤ
-bad_number n None = None
-bad_number n (Some z) = if is_position n z then None else Some z
-
--- the first such number
-abbrev pub first_bad : ℕ → List (Option ℤ) → Option ℤ
-first_bad n [] = None
-first_bad n (x ∷ numbers) = option_or (bad_number n x) (first_bad n numbers)
-
 -- why a take by the numbers of a column from n rows isn't one, the first that holds
 abbrev pub column_fault : Column → ℕ → Option IndexFault
 column_fault c n =
@@ -55,14 +40,6 @@ abbrev pub index_fault : IndexValue → ℕ → Option IndexFault
 index_fault (by_column c) n = column_fault c n
 index_fault (by_pieces p) n = sequence_fault p n
 
--- the position that a number names
-abbrev pub position_of : ℤ → ℕ
-position_of (pos i) = i
-position_of (negsuc i) = 0
-
-abbrev pub positions_of : List (Option ℤ) → List (Option ℕ)
-positions_of numbers = map (option_map position_of) numbers
-
 -- the positions that they name, none at a null
 abbrev pub index_picks : IndexValue → List (Option ℕ)
 index_picks (by_column c) = positions_of (numbers_of c)
@@ -77,7 +54,3 @@ index_len (by_pieces p) = p.len
 abbrev pub index_nullability : IndexValue → Nullability
 index_nullability (by_column c) = type_nullability c.dtype
 index_nullability (by_pieces p) = NonNullable
-
--- none of them is a null
-abbrev pub AllThere : List (Option ℕ) → Type 0
-AllThere picks = list_all is_some picks ≡ true

@@ -1,4 +1,3 @@
 pub mod Indices
 pub mod Pieces
-pub mod Stored
 pub use Rattle.vx_take.specs.Picks

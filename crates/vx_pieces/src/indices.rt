@@ -3,11 +3,11 @@ ghost use Rattle.std.specs.Prelude.{◌≡◌, ℕ, None, length, IfOk};
 ghost use Rattle.std.specs.Option.{option_map};
 ghost use Rattle.vx_types.specs.declared.nullability.Nullability.TheVariants.{NonNullable};
 ghost use Rattle.vx_types.specs.TypeTree.{type_nullability};
+ghost use Rattle.vx_numbers.specs.Positions.{AllThere, positions_of};
 ghost use Rattle.vx_model.specs.Numbers.{numbers_of};
-ghost use Rattle.vx_pieces.specs.Indices.{AllThere, column_fault, index_fault, index_len, index_nullability, index_picks, index_value, positions_of, sequence_fault};
+ghost use Rattle.vx_pieces.specs.Indices.{column_fault, index_fault, index_len, index_nullability, index_picks, index_value, sequence_fault};
 
 use crate::fault::IndexFault;
-use crate::reading::{first_bad_of, picks_of_column};
 use crate::sequence::PiecewiseSequence;
 use std::alloc::Global;
 use vx_bits::NoMemory;
@@ -93,7 +93,7 @@ fn column_picks(alloc: Global, array: &Array, len: usize) -> Result<Picks, NoMem
         (λ p. type_nullability array.now.dtype ≡ NonNullable → AllThere p.picks) }
 {
     match array.dtype().int_type() {
-        Some(ptype) => picks_of_column(alloc, array, ptype, len),
+        Some(ptype) => array.positions(alloc, ptype, len),
         None => unreachable!(),
     }
 }
@@ -103,7 +103,7 @@ fn column_fault(array: &Array, len: usize) -> Option<IndexFault>
     ensures { result ≡ column_fault array.now len }
 {
     match array.dtype().int_type() {
-        Some(ptype) => out_of_bounds(first_bad_of(array, ptype, len)),
+        Some(ptype) => out_of_bounds(array.first_bad(ptype, len)),
         None => Some(IndexFault::InvalidIndices),
     }
 }

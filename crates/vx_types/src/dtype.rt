@@ -1,5 +1,5 @@
 //! The types of columns.
-ghost use Rattle.std.specs.Prelude.{◌≡◌, None, Some};
+ghost use Rattle.std.specs.Prelude.{◌≡◌, None, Some, true};
 ghost use Rattle.vx_types.specs.DType.{type_of};
 ghost use Rattle.vx_types.specs.TypeTree.{type_nullability, with_nullability, is_flat, int_type_of, type_width};
 ghost use Rattle.vx_types.specs.Nullability.{is_nullable};
@@ -67,7 +67,8 @@ impl DType {
 
     /// Whether a row is null, a bit, or bytes of one width.
     pub fn is_flat(&self) -> bool
-        ensures { result ≡ is_flat (type_of self.now) }
+        ensures value { result ≡ is_flat (type_of self.now) }
+        ensures each { result ≡ true }
     {
         match self {
             DType::Null | DType::Bool(_) | DType::Primitive(..) | DType::Decimal(..) => true,

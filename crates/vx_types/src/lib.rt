@@ -22,4 +22,4 @@ pub use nullability::Nullability;
 pub use ptype::{PType, record_of};
 pub use row::{ByteList, Row};
 pub use runs::Runs;
-pub use scalar::ScalarValue;
+pub use scalar::{Scalar, ScalarValue};

@@ -1,7 +1,7 @@
 -- The picks of the numbers before the one at hand.
 use Rattle.std.proofs.Common.{◌≡◌, take, false}
-use Rattle.vx_pieces.specs.Indices.{AllThere, positions_of}
-use Rattle.vx_pieces.proofs.positions.picks_of.Given as goal
+use Rattle.vx_numbers.specs.Positions.{AllThere, positions_of}
+use Rattle.vx_numbers.proofs.positions.picks_of.Given as goal
 
 abbrev pub invariant-loop-i : goal.invariant-loop-i
 invariant-loop-i g l = record {

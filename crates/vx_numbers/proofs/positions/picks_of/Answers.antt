@@ -2,9 +2,9 @@
 use Rattle.std.proofs.Common.{rules, ◌≡◌, ◌++◌, [], ◌∷◌, take, true, sym, ap, ◌∙◌, subst}
 use Rattle.std.specs.Prelude.{IfSome}
 use Rattle.std.specs.Option.{option_map}
-use Rattle.vx_pieces.specs.Indices.{is_position, position_of, positions_of}
-use Rattle.vx_pieces.proofs.NumberLists.{each_is_position, positions_of-more, all_there-more, there_by}
-use Rattle.vx_pieces.proofs.positions.picks_of.Goals as goal
+use Rattle.vx_numbers.specs.Positions.{is_position, position_of, positions_of}
+use Rattle.vx_numbers.proofs.NumberLists.{each_is_position, positions_of-more, all_there-more, there_by}
+use Rattle.vx_numbers.proofs.positions.picks_of.Goals as goal
 
 pub position_of-requires : goal.position_of-requires
 position_of-requires g c =

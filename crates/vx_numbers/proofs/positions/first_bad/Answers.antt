@@ -1,8 +1,8 @@
 -- The number at hand is the first bad one, or one behind it is.
 use Rattle.std.proofs.Common.{rules, ◌≡◌, sym, ◌∙◌, true, false}
 use Rattle.std.specs.Prelude.{is_some}
-use Rattle.vx_pieces.proofs.NumberLists.{first_bad-read, stops, goes_on}
-use Rattle.vx_pieces.proofs.positions.first_bad.Goals as goal
+use Rattle.vx_numbers.proofs.NumberLists.{first_bad-read, stops, goes_on}
+use Rattle.vx_numbers.proofs.positions.first_bad.Goals as goal
 
 pub returns-then-is_some : goal.returns-then-is_some
 returns-then-is_some g c =

@@ -1,7 +1,7 @@
 //! Which positions numbers name, and the first number that names none.
 ghost use Rattle.std.specs.Prelude.{◌≡◌, ◌<◌, None, true, false, IfOk, IfSome};
 ghost use Rattle.std.specs.Option.{option_map};
-ghost use Rattle.vx_pieces.specs.Indices.{AllThere, bad_number, first_bad, is_position, position_of, positions_of};
+ghost use Rattle.vx_numbers.specs.Positions.{AllThere, bad_number, first_bad, is_position, position_of, positions_of};
 
 use crate::numbers::Numbers;
 use std::alloc::Global;
@@ -26,7 +26,7 @@ fn bad_number(number: Option<i128>, len: usize) -> Option<i128>
 
 /// The first number that is none of `len` positions.
 #[inline(always)]
-pub(crate) fn first_bad<N: Numbers>(numbers: &N, len: usize) -> Option<i128>
+pub fn first_bad<N: Numbers>(numbers: &N, len: usize) -> Option<i128>
     ensures { result ≡ first_bad len (N.numbers numbers.now) }
 {
     for i in 0..numbers.len() {
@@ -38,6 +38,17 @@ pub(crate) fn first_bad<N: Numbers>(numbers: &N, len: usize) -> Option<i128>
     None
 }
 
+/// The position that a number names.
+#[inline(always)]
+pub fn position(number: i128, len: usize) -> usize
+    requires { is_position len number ≡ true }
+    ensures value { result ≡ position_of number }
+    ensures below { result < len }
+{
+    let _ = len;
+    number as usize
+}
+
 // The position that a number names, none where it is missing.
 #[inline(always)]
 fn position_of(number: Option<i128>, len: usize) -> Option<usize>
@@ -46,14 +57,14 @@ fn position_of(number: Option<i128>, len: usize) -> Option<usize>
     ensures below { IfSome result (λ p. p < len) }
 {
     match number {
-        Some(number) => Some(number as usize),
+        Some(number) => Some(position(number, len)),
         None => None,
     }
 }
 
 /// The positions that the numbers name. `NoMemory` alone.
 #[inline(always)]
-pub(crate) fn picks_of<N: Numbers>(
+pub fn picks_of<N: Numbers>(
     alloc: Global,
     numbers: &N,
     len: usize,

@@ -1,19 +1,16 @@
-//! The numbers of a column, by its records where it stores some, else from row to row.
-ghost use Rattle.std.specs.Prelude.{◌≡◌, None, Some, length, true, IfOk};
+//! The numbers that stored records spell.
+ghost use Rattle.std.specs.Prelude.{◌≡◌, None, length, true, IfOk};
 ghost use Rattle.vx_bits.specs.Records.{records_of, width_of};
 ghost use Rattle.vx_types.specs.PType.{is_int, width};
-ghost use Rattle.vx_types.specs.TypeTree.{int_type_of, type_nullability};
-ghost use Rattle.vx_types.specs.declared.nullability.Nullability.TheVariants.{NonNullable};
-ghost use Rattle.vx_model.specs.Numbers.{numbers_of};
-ghost use Rattle.vx_pieces.specs.Indices.{AllThere, first_bad, positions_of};
-ghost use Rattle.vx_pieces.specs.Stored.{present_numbers, shown_numbers};
+ghost use Rattle.vx_numbers.specs.Positions.{AllThere, first_bad, positions_of};
+ghost use Rattle.vx_numbers.specs.Stored.{present_numbers, shown_numbers};
 
-use crate::numbers::{Present, Rows, Shown};
+use crate::numbers::{Present, Shown};
 use crate::positions::{first_bad, picks_of};
 use std::alloc::Global;
 use vx_bits::{BitBuffer, NoMemory, Records};
-use vx_column::{Array, PType};
 use vx_take::Picks;
+use vx_types::PType;
 
 // `$with(ptype, records, args)`, with the integer type and the width of the records known. Each arm
 // is a loop of its own.
@@ -73,8 +70,8 @@ fn first_bad_shown<const W: usize>(
     )
 }
 
-// The first number that is none of `len` positions, of records that are all there.
-fn first_bad_present(ptype: PType, values: &Records, len: usize) -> Option<i128>
+/// The first number that is none of `len` positions, of records that are all there.
+pub fn first_bad_present(ptype: PType, values: &Records, len: usize) -> Option<i128>
     requires int { is_int ptype ≡ true }
     requires width { width_of values.now ≡ width ptype }
     ensures { result ≡ first_bad len (present_numbers ptype (records_of values.now)) }
@@ -82,8 +79,8 @@ fn first_bad_present(ptype: PType, values: &Records, len: usize) -> Option<i128>
     by_type!(ptype, values, first_bad_there, len)
 }
 
-// The same of records that are there where a bit is set.
-fn first_bad_by_bits(ptype: PType, values: &Records, bits: &BitBuffer, len: usize) -> Option<i128>
+/// The same of records that are there where a bit is set.
+pub fn first_bad_by_bits(ptype: PType, values: &Records, bits: &BitBuffer, len: usize) -> Option<i128>
     requires int { is_int ptype ≡ true }
     requires width { width_of values.now ≡ width ptype }
     requires long { length bits.now.bits ≡ length (records_of values.now) }
@@ -91,21 +88,6 @@ fn first_bad_by_bits(ptype: PType, values: &Records, bits: &BitBuffer, len: usiz
         (shown_numbers ptype bits.now.bits (records_of values.now)) }
 {
     by_type!(ptype, values, first_bad_shown, bits, len)
-}
-
-/// The first number of a column that is none of `len` positions. It takes no memory.
-#[tactic(auto, using(crate::proofs::NumberLists::stored))]
-pub(crate) fn first_bad_of(array: &Array, ptype: PType, len: usize) -> Option<i128>
-    requires { int_type_of array.now.dtype ≡ Some ptype }
-    ensures { result ≡ first_bad len (numbers_of array.now) }
-{
-    if let Some(values) = array.present_records() {
-        return first_bad_present(ptype, values, len);
-    }
-    match array.shown_records() {
-        Some((values, bits)) => first_bad_by_bits(ptype, values, bits, len),
-        None => first_bad(&Rows { array }, len),
-    }
 }
 
 #[inline(always)]
@@ -153,8 +135,8 @@ fn picks_shown<const W: usize>(
     )
 }
 
-// The positions that the numbers name, of records that are all there.
-fn picks_present(
+/// The positions that the numbers name, of records that are all there. `NoMemory` alone.
+pub fn picks_present(
     alloc: Global,
     ptype: PType,
     values: &Records,
@@ -172,8 +154,8 @@ fn picks_present(
     by_type!(ptype, values, picks_there, alloc, len)
 }
 
-// The same of records that are there where a bit is set.
-fn picks_by_bits(
+/// The same of records that are there where a bit is set. `NoMemory` alone.
+pub fn picks_by_bits(
     alloc: Global,
     ptype: PType,
     values: &Records,
@@ -191,28 +173,4 @@ fn picks_by_bits(
     }) }
 {
     by_type!(ptype, values, picks_shown, alloc, bits, len)
-}
-
-/// The positions that the numbers of a column name. `NoMemory` alone.
-#[tactic(auto, using(crate::proofs::NumberLists::stored))]
-pub(crate) fn picks_of_column(
-    alloc: Global,
-    array: &Array,
-    ptype: PType,
-    len: usize,
-) -> Result<Picks, NoMemory>
-    requires int { int_type_of array.now.dtype ≡ Some ptype }
-    requires sound { first_bad len (numbers_of array.now) ≡ None }
-    ensures picks { IfOk result
-        (λ p. p ≡ record { picks = positions_of (numbers_of array.now); bound = len }) }
-    ensures there { IfOk result
-        (λ p. type_nullability array.now.dtype ≡ NonNullable → AllThere p.picks) }
-{
-    if let Some(values) = array.present_records() {
-        return picks_present(alloc, ptype, values, len);
-    }
-    match array.shown_records() {
-        Some((values, bits)) => picks_by_bits(alloc, ptype, values, bits, len),
-        None => picks_of(alloc, &Rows { array }, len),
-    }
 }

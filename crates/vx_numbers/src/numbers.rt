@@ -1,13 +1,12 @@
 //! Lists of numbers, of which some may be missing.
 ghost use Rattle.std.specs.Prelude.{◌≡◌, ◌<◌, None, length, true, slice_index_or};
 ghost use Rattle.vx_types.specs.PType.{is_int, width};
-ghost use Rattle.vx_types.specs.TypeTree.{is_int_type};
 
 use vx_bits::BitBuffer;
-use vx_column::{Array, PType};
+use vx_types::PType;
 
 /// A list of numbers, of which some may be missing.
-pub(crate) trait Numbers {
+pub trait Numbers {
     ghost use Rattle.std.specs.Prelude.{List, Option, ℤ, Bool};
 
     ghost numbers: { Self → List (Option ℤ) };
@@ -26,33 +25,6 @@ pub(crate) trait Numbers {
         ensures missing { result ≡ None → nullable self.now ≡ true };
 }
 
-/// The rows of a column of integer type, of any layout.
-#[derive(Clone, Copy)]
-pub(crate) struct Rows<'a> {
-    pub(crate) array: &'a Array,
-    ghost int: { is_int_type array.now.dtype ≡ true },
-}
-
-impl Numbers for Rows<'_> {
-    ghost use Rattle.vx_types.specs.Nullability.{is_nullable};
-    ghost use Rattle.vx_types.specs.TypeTree.{type_nullability};
-    ghost use Rattle.vx_model.specs.Numbers.{numbers_of};
-
-    ghost numbers = { λ r. numbers_of r.array.now };
-
-    ghost nullable = { λ r. is_nullable (type_nullability r.array.now.dtype) };
-
-    #[tactic(auto, using(crate::proofs::NumberLists::numbers))]
-    fn len(&self) -> usize {
-        self.array.len()
-    }
-
-    #[tactic(auto, using(crate::proofs::NumberLists::numbers))]
-    fn number(&self, i: usize) -> Option<i128> {
-        self.array.number_at(i)
-    }
-}
-
 /// Records of an integer type, none of them missing.
 #[derive(Clone, Copy)]
 pub(crate) struct Present<'a, const W: usize> {
@@ -64,7 +36,7 @@ pub(crate) struct Present<'a, const W: usize> {
 
 impl<const W: usize> Numbers for Present<'_, W> {
     ghost use Rattle.std.specs.Prelude.{false};
-    ghost use Rattle.vx_pieces.specs.Stored.{present_numbers};
+    ghost use Rattle.vx_numbers.specs.Stored.{present_numbers};
 
     ghost numbers = { λ s. present_numbers s.ptype s.records.now };
 
@@ -95,7 +67,7 @@ pub(crate) struct Shown<'a, const W: usize> {
 }
 
 impl<const W: usize> Numbers for Shown<'_, W> {
-    ghost use Rattle.vx_pieces.specs.Stored.{shown_numbers};
+    ghost use Rattle.vx_numbers.specs.Stored.{shown_numbers};
 
     ghost numbers = { λ s. shown_numbers s.ptype s.bits.now.bits s.records.now };
 

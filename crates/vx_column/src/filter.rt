@@ -1,0 +1,102 @@
+//! Layout `Filter`: the rows of a child at the set positions of a mask.
+ghost use Rattle.std.specs.Prelude.{◌≡◌, None};
+ghost use Rattle.vx_bits.specs.Results.{ok_unless};
+ghost use Rattle.vx_mask.specs.Mask.{mask_bits};
+ghost use Rattle.vx_model.specs.Filter.{filter_fault, filter_column};
+
+use crate::array::{Array, ArrayRef, Layout};
+use std::marker::Model;
+use vx_mask::Mask;
+use vx_types::ColumnError;
+
+/// A column of the rows that a mask keeps of a child: Vortex's `FilterArray`.
+#[cycle(array)]
+#[derive(Drop)]
+pub struct FilterArray {
+    child: ArrayRef,
+    mask: Mask,
+}
+
+impl Model for FilterArray {
+    ghost use Rattle.vx_model.specs.Filter.{FilterParts, coded_filter};
+
+    ghost Value = { FilterParts };
+
+    ghost coded = { coded_filter };
+
+    ghost use Rattle.std.specs.Prelude.{◌≡◌, None};
+    ghost use Rattle.std.proofs.Common.{arith};
+    ghost use Rattle.vx_mask.specs.Mask.{mask_bits};
+    ghost use Rattle.vx_model.specs.Filter.{filter_fault, filter_size};
+
+    ghost view = { λ a. record { child = a.child; mask = mask_bits a.mask } };
+
+    ghost invariant = { λ a.
+        filter_fault (record { child = a.child; mask = mask_bits a.mask }) ≡ None };
+
+    ghost size = { λ p. filter_size p };
+
+    ghost size_decreases = { λ a h. Prim.grind arith };
+}
+
+impl FilterArray {
+    /// A column with one row a set position of the mask: the child's row there. It takes no
+    /// memory.
+    ///
+    /// `WrongLength` exactly where the mask isn't as long as the child. A row is found by
+    /// `Mask::rank`, which is fast where the mask keeps its indices or its block counts.
+    pub fn try_new(child: ArrayRef, mask: Mask) -> Result<FilterArray, ColumnError>
+        ensures { result
+            ≡ ok_unless (filter_fault (record { child = child; mask = mask_bits mask }))
+            (record { child = child; mask = mask_bits mask }) }
+    {
+        if mask.len() != child.len() {
+            return Err(ColumnError::WrongLength);
+        }
+        Ok(FilterArray { child, mask })
+    }
+
+    /// The column whose rows are kept.
+    pub fn child(&self) -> &ArrayRef
+        ensures value { result.now ≡ self.now.child }
+        ensures valid { filter_fault self.now ≡ None }
+    {
+        &self.child
+    }
+
+    /// Which of them.
+    pub fn mask(&self) -> &Mask
+        ensures value { mask_bits result.now ≡ self.now.mask }
+        ensures valid { filter_fault self.now ≡ None }
+    {
+        &self.mask
+    }
+
+    /// The column of these parts, which fit: what a step leaves. It takes no memory.
+    pub fn of(child: ArrayRef, mask: Mask) -> FilterArray
+        requires { filter_fault (record { child = child; mask = mask_bits mask }) ≡ None }
+        ensures { result ≡ record { child = child; mask = mask_bits mask } }
+    {
+        FilterArray { child, mask }
+    }
+
+    /// The same column once more. It takes no memory.
+    pub fn share(&self) -> FilterArray
+        ensures { result ≡ self.now }
+    {
+        FilterArray {
+            child: self.child.share(),
+            mask: self.mask.share(),
+        }
+    }
+
+    /// The column of this layout. It takes no memory.
+    #[tactic(auto, using(vx_model::proofs::LazyRows::lazy_rows))]
+    pub fn into_array(self) -> Array
+        ensures { result ≡ filter_column self }
+    {
+        let dtype = self.child.dtype().share();
+        let len = self.mask.true_count();
+        Array::new(dtype, len, Layout::Filter(self))
+    }
+}

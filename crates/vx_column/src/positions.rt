@@ -1,0 +1,81 @@
+//! The numbers of a column as positions, read by its records where it stores some, else from row to
+//! row.
+ghost use Rattle.std.specs.Prelude.{◌≡◌, None, Some, true, IfOk};
+ghost use Rattle.vx_types.specs.TypeTree.{int_type_of, is_int_type, type_nullability};
+ghost use Rattle.vx_types.specs.declared.nullability.Nullability.TheVariants.{NonNullable};
+ghost use Rattle.vx_numbers.specs.Positions.{AllThere, first_bad, positions_of};
+ghost use Rattle.vx_model.specs.Numbers.{numbers_of};
+
+use crate::array::Array;
+use std::alloc::Global;
+use vx_bits::NoMemory;
+use vx_numbers::{
+    Numbers, first_bad, first_bad_by_bits, first_bad_present, picks_by_bits, picks_of, picks_present,
+};
+use vx_take::Picks;
+use vx_types::PType;
+
+// The rows of a column of integer type, of any layout.
+#[derive(Clone, Copy)]
+struct Rows<'a> {
+    array: &'a Array,
+    ghost int: { is_int_type array.now.dtype ≡ true },
+}
+
+impl Numbers for Rows<'_> {
+    ghost use Rattle.vx_types.specs.Nullability.{is_nullable};
+    ghost use Rattle.vx_types.specs.TypeTree.{type_nullability};
+    ghost use Rattle.vx_model.specs.Numbers.{numbers_of};
+
+    ghost numbers = { λ r. numbers_of r.array.now };
+
+    ghost nullable = { λ r. is_nullable (type_nullability r.array.now.dtype) };
+
+    #[tactic(auto, using(crate::proofs::NumberLists::numbers))]
+    fn len(&self) -> usize {
+        self.array.len()
+    }
+
+    #[tactic(auto, using(crate::proofs::NumberLists::numbers))]
+    fn number(&self, i: usize) -> Option<i128> {
+        self.array.number_at(i)
+    }
+}
+
+impl Array {
+    /// The first number, of those that aren't null, that is none of `len` positions. `ptype` is the
+    /// type's. It takes no memory.
+    #[tactic(auto, using(crate::proofs::NumberLists::stored))]
+    pub fn first_bad(&self, ptype: PType, len: usize) -> Option<i128>
+        requires { int_type_of self.now.dtype ≡ Some ptype }
+        ensures { result ≡ first_bad len (numbers_of self.now) }
+    {
+        if let Some(values) = self.present_records() {
+            return first_bad_present(ptype, values, len);
+        }
+        match self.shown_records() {
+            Some((values, bits)) => first_bad_by_bits(ptype, values, bits, len),
+            None => first_bad(&Rows { array: self }, len),
+        }
+    }
+
+    /// The positions that its numbers name, of which there are `len`; none at a null. `ptype` is
+    /// the type's. `NoMemory` alone.
+    #[tactic(auto, using(crate::proofs::NumberLists::stored))]
+    pub fn positions(&self, alloc: Global, ptype: PType, len: usize) -> Result<Picks, NoMemory>
+        requires int { int_type_of self.now.dtype ≡ Some ptype }
+        requires sound { first_bad len (numbers_of self.now) ≡ None }
+        ensures picks { IfOk result
+            (λ p. p ≡ record { picks = positions_of (numbers_of self.now); bound = len }) }
+        ensures there { IfOk result
+            (λ p. type_nullability self.now.dtype ≡ NonNullable → AllThere p.picks) }
+    {
+        if let Some(values) = self.present_records() {
+            return picks_present(alloc, ptype, values, len);
+        }
+        match self.shown_records() {
+            Some((values, bits)) => picks_by_bits(alloc, ptype, values, bits, len),
+            None => picks_of(alloc, &Rows { array: self }, len),
+        }
+    }
+}

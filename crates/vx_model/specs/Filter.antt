@@ -1,0 +1,38 @@
+-- Layout `Filter`: the rows of a child at the set positions of a mask.
+use Rattle.std.specs.Prelude.{ℕ, ◌+◌, ◌==◌, [], List, Bool, length, Option, Some, None, if◌then◌else◌, refl}
+use Rattle.std.specs.List.{items_where_true}
+use Rattle.std.specs.Coded.{Coded, code_by, coded×, coded_list, coded_bool}
+use Rattle.vx_types.specs.declared.layout_name.LayoutName.TheVariants.{Filter}
+use Rattle.vx_types.specs.declared.error.ColumnError.{ColumnError}
+use Rattle.vx_types.specs.declared.error.ColumnError.TheVariants.{WrongLength}
+use Rattle.vx_model.specs.Column.{Column, coded_column, no_validity}
+
+-- what a contract sees of a `FilterArray`
+pub record FilterParts : Type 0 where
+  pub child : Column
+  pub mask : List Bool
+
+-- why they are no column
+abbrev pub filter_fault : FilterParts → Option ColumnError
+filter_fault p = if length p.mask == length p.child.rows then None else Some WrongLength
+
+-- nested in the child
+abbrev pub filter_size : FilterParts → ℕ
+filter_size p = p.child.depth + 1
+
+abbrev pub filter_column : FilterParts → Column
+filter_column p =
+    record {
+      dtype = p.child.dtype;
+      rows = items_where_true p.mask p.child.rows;
+      layout = Filter;
+      cover = no_validity;
+      stored = [];
+      constant = None;
+      depth = filter_size p + 1;
+    }
+
+abbrev pub coded_filter : Coded FilterParts
+coded_filter =
+    code_by (Column × List Bool) (coded× coded_column (coded_list coded_bool))
+    (λ p. (p.child, p.mask)) (λ f. record { child = f.0; mask = f.1 }) (λ _. refl)

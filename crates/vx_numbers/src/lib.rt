@@ -1,0 +1,11 @@
+//! Lists of numbers, of which some may be missing, as positions: the first that is none, and the
+//! picks that they name.
+#![tactic(auto)]
+
+mod numbers;
+mod positions;
+mod stored;
+
+pub use numbers::Numbers;
+pub use positions::{first_bad, picks_of, position};
+pub use stored::{first_bad_by_bits, first_bad_present, picks_by_bits, picks_present};
