@@ -2,3 +2,4 @@ pub mod IndexLists
 pub mod Naturals
 pub mod PieceLists
 pub mod PieceNumbers
+pub mod RunLists

@@ -10,6 +10,11 @@ use Rattle.vx_numbers.specs.Positions.{AllThere}
 use Rattle.vx_pieces.specs.Pieces.{first_from, is_sound_piece, piece_numbers}
 use Rattle.vx_pieces.specs.declared.piece.Piece.{Piece}
 
+-- where the first of two has none, neither has one
+pub none_of_two : (a b : Option ℕ) → option_or a b ≡ None → (a ≡ None) × (b ≡ None)
+none_of_two None b e = (refl, e)
+none_of_two (Some x) b e = cc
+
 module _ (ps : List Piece) (i : ℕ) (q : Piece) (h : i < length ps) (is : q ≡ get_or ps i q) where
   pub rest_cut : drop i ps ≡ q ∷ drop (i + 1) ps
   rest_cut = drop_more ps i q h ∙ ap (λ r. r ∷ drop (i + 1) ps) (sym is)
@@ -40,16 +45,9 @@ module _ (ps : List Piece) (i : ℕ) (q : Piece) (h : i < length ps) (is : q ≡
     pub none_here : first_from n (flat_map piece_numbers ps) ≡ None → first_from n (piece_numbers q) ≡ None
     none_here none =
         let parts : flat_map piece_numbers ps ≡ flat_map piece_numbers (take i ps) ++ flat_map piece_numbers (drop i ps) = ap (flat_map piece_numbers) (sym (take-append-drop i ps)) ∙ flat_map-append piece_numbers (take i ps) (drop i ps) in
-        let behind = second (first_from n (flat_map piece_numbers (take i ps))) (first_from n (flat_map piece_numbers (drop i ps))) (sym (ap (first_from n) parts ∙ find-append _ (flat_map piece_numbers (take i ps)) (flat_map piece_numbers (drop i ps))) ∙ none) in
-        first (first_from n (piece_numbers q)) (first_from n (flat_map piece_numbers (drop (i + 1) ps))) (sym first_rest ∙ behind)
-      where
-        second : (a b : Option ℕ) → option_or a b ≡ None → b ≡ None
-        second None b e = e
-        second (Some x) b e = cc
-
-        first : (a b : Option ℕ) → option_or a b ≡ None → a ≡ None
-        first None b e = refl
-        first (Some x) b e = cc
+        let behind = none_of_two (first_from n (flat_map piece_numbers (take i ps))) (first_from n (flat_map piece_numbers (drop i ps)))
+            (sym (ap (first_from n) parts ∙ find-append _ (flat_map piece_numbers (take i ps)) (flat_map piece_numbers (drop i ps))) ∙ none) in
+        (none_of_two (first_from n (piece_numbers q)) (first_from n (flat_map piece_numbers (drop (i + 1) ps))) (sym first_rest ∙ behind.1)).0
 
 pub found_here : (found rest : Option ℕ) → is_some found ≡ true → found ≡ option_or found rest
 found_here None rest h = cc

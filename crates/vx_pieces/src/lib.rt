@@ -7,6 +7,7 @@ mod fault;
 mod indices;
 mod natural;
 mod piece;
+mod runs;
 mod sequence;
 mod slots;
 mod walks;

@@ -30,7 +30,7 @@ fn is_unsigned(ptype: PType) -> bool
 
 // The number that a record of such a type spells.
 #[tactic(auto, using(crate::proofs::Naturals::spelled))]
-fn natural(ptype: PType, bytes: &[u8]) -> usize
+pub(crate) fn natural(ptype: PType, bytes: &[u8]) -> usize
     requires unsigned { is_unsigned ptype ≡ true }
     requires width { length bytes.now ≡ width ptype }
     ensures { number ptype bytes.now ≡ pos result }
