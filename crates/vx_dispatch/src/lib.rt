@@ -15,3 +15,4 @@ pub use executing::execute;
 pub use filtering::filter;
 pub use slicing::slice;
 pub use taking::take;
+pub use validity::take_validity;

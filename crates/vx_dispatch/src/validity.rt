@@ -103,9 +103,9 @@ fn by_picks(alloc: Global, picks: &Picks) -> Result<Validity, NoMemory>
     by_bits(alloc, valid_bits(alloc, picks)?)
 }
 
-// The validity of the rows at the picks, where a null pick leaves a null. `nullability` says
-// whether there may be one.
-pub(crate) fn take_validity(
+/// The validity of the rows at the picks, where a null pick leaves a null. `nullability` says
+/// whether there may be one. `NoMemory` alone.
+pub fn take_validity(
     alloc: Global,
     validity: &Validity,
     picks: &Picks,
