@@ -12,12 +12,14 @@ use Rattle.vx_select.specs.Shape.{ShapeValue}
 abbrev pub chunk_rows : ShapeValue → List (List ℕ) → List RowValue
 chunk_rows s values = stored_rows s.valid (map bytes (take s.len (drop s.offset values)))
 
--- the calls that the composed picks ask for, also where the validity hides the row; none where a
--- step is broken
+-- the calls that picks ask for, also where the validity hides the row
+abbrev pub asked_for : ShapeValue → ℕ → List (Option ℕ) → List Call
+asked_for s limit picks = asked_by_picks s.offset picks limit (touched s.offset s.len)
+
+-- the calls that the composed picks ask for, and none where a step is broken
 abbrev pub asked_by_walk : ShapeValue → ℕ → Walk → List Call
 asked_by_walk s limit (walk_fault k cause) = []
-asked_by_walk s limit (walk_picks picks) =
-    asked_by_picks s.offset picks limit (touched s.offset s.len)
+asked_by_walk s limit (walk_picks picks) = asked_for s limit picks
 
 -- there was no call, or just these
 abbrev pub AreNoneOrAll : Option (List Call) → Option (List Call) → List Call → Type 0

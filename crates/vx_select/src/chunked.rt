@@ -1,29 +1,31 @@
 //! The answer to a list of steps over values behind a decoder.
-ghost use Rattle.std.specs.Prelude.{◌≡◌, ◌+◌, ◌<◌, ◌≤◌, IfErr, IfOk, IfSome, OnOk, Some, length, map, replicate, true};
+ghost use Rattle.std.specs.Prelude.{◌≡◌, ◌+◌, ◌<◌, ◌≤◌, IfErr, IfOk, IfSome, OnErr, OnOk, Some, length, map, replicate, true};
 ghost use Rattle.vx_bits.specs.Records.{records_of, width_of};
 ghost use Rattle.vx_bits.specs.WordReader.{then_told};
 ghost use Rattle.vx_types.specs.Decimal.{is_width};
 ghost use Rattle.vx_types.specs.DType.{type_of};
-ghost use Rattle.vx_types.specs.RowValue.{bytes};
-ghost use Rattle.vx_types.specs.TypeTree.{is_flat, type_width, with_nullability};
+ghost use Rattle.vx_types.specs.RowValue.{bytes, null};
+ghost use Rattle.vx_types.specs.TypeTree.{also_nullable, is_flat, type_width, with_nullability};
 ghost use Rattle.vx_mask.specs.Policy.{sparse_limit_of};
 ghost use Rattle.vx_model.specs.Plain.{is_unwrapped};
 ghost use Rattle.vx_model.specs.Valid.{is_fitting, nullability_by, stored_rows};
 ghost use Rattle.vx_column.specs.Validity.{valid_of};
 ghost use Rattle.vx_take.specs.Picks.{at, item_at};
+ghost use Rattle.vx_types.specs.declared.nullability.Nullability.TheVariants.{NonNullable};
+ghost use Rattle.vx_pieces.specs.Indices.{AllThere};
 ghost use Rattle.vx_chunked.specs.Asked.{touched};
 ghost use Rattle.vx_steps.specs.Step.{step_value};
 ghost use Rattle.vx_steps.specs.Walk.{walk};
 ghost use Rattle.vx_steps.specs.Answer.{answer_of};
 ghost use Rattle.vx_steps.specs.Cause.{MatchError};
 ghost use Rattle.vx_select.specs.Select.{IsAnswer};
-ghost use Rattle.vx_select.specs.Chunks.{AreNoneOrAll, asked_by_walk, chunk_rows};
+ghost use Rattle.vx_select.specs.Chunks.{AreNoneOrAll, asked_by_walk, asked_for, chunk_rows};
 
 use crate::chunk_shape::ChunkShape;
 use std::alloc::Global;
 use vx_bits::{Buffer, NoMemory, Records};
 use vx_chunked::{ChunkDecoder, filter_chunked_mask};
-use vx_column::{Array, DType, DecimalArray, PrimitiveArray, Validity};
+use vx_column::{Array, DType, DecimalArray, Nullability, PrimitiveArray, Validity};
 use vx_dispatch::{execute, take_validity};
 use vx_mask::Policy;
 use vx_steps::{SelectError, Step, compose, takes_nullability};
@@ -106,6 +108,43 @@ fn column_of(dtype: &DType, values: Records, validity: Validity) -> Array
     }
 }
 
+// The rows at the picks of the column of this shape, null at a null, which there is only where
+// `nullability` says so.
+fn take_chunked<const W: usize, D: ChunkDecoder<[u8; W]>>(
+    alloc: Global,
+    decoder: &mut D,
+    shape: &ChunkShape,
+    picks: &Picks,
+    nullability: Nullability,
+    policy: &Policy,
+) -> Result<Array, NoMemory>
+    requires width { type_width shape.now.dtype ≡ Some W }
+    requires values { shape.now.offset + shape.now.len ≤ length (D.values decoder.old) }
+    requires spare { touched shape.now.offset shape.now.len ≤ D.spare decoder.old }
+    requires bound { picks.now.bound ≡ shape.now.len }
+    requires there { nullability ≡ NonNullable → AllThere picks.now.picks }
+    ensures rows { IfOk result (λ a. a.rows
+        ≡ at null (chunk_rows shape.now (D.values decoder.old)) picks.now.picks) }
+    ensures dtype { IfOk result (λ a. a.dtype ≡ also_nullable shape.now.dtype nullability) }
+    ensures unwrapped { IfOk result (λ a. is_unwrapped a ≡ true) }
+    ensures told { OnOk result (D.calls decoder.new ≡ then_told (D.calls decoder.old)
+        (asked_for shape.now (sparse_limit_of policy.now W) picks.now.picks)) }
+    ensures untold { OnErr result (AreNoneOrAll (D.calls decoder.old) (D.calls decoder.new)
+        (asked_for shape.now (sparse_limit_of policy.now W) picks.now.picks)) }
+    ensures same { D.values decoder.new ≡ D.values decoder.old }
+    ensures cost { D.spare decoder.old
+        ≤ D.spare decoder.new + touched shape.now.offset shape.now.len }
+{
+    let validity = take_validity(alloc, shape.validity(), picks, nullability)?;
+    let mask = needed(alloc, picks)?;
+    let ranks = ranks_in(alloc, picks, &mask)?;
+    // records are of the type's width
+    let _ = shape.width();
+    let kept = filter_chunked_mask(alloc, decoder, shape.offset(), &mask, policy)?;
+    let values = taken_records(alloc, kept.as_slice(), &ranks)?;
+    Ok(execute(&column_of(shape.dtype(), values, validity)))
+}
+
 /// The rows that the steps pick of the column of this shape, whose values the decoder has: in
 /// order, as a column of the shape's type, nullable also where a take's indices are, and
 /// unwrapped.
@@ -142,12 +181,6 @@ pub fn select_chunked<const W: usize, D: ChunkDecoder<[u8; W]>>(
         ≤ D.spare decoder.new + touched shape.now.offset shape.now.len }
 {
     let picks = compose(alloc, shape.len(), steps)?;
-    let validity = take_validity(alloc, shape.validity(), &picks, takes_nullability(steps))?;
-    let mask = needed(alloc, &picks)?;
-    let ranks = ranks_in(alloc, &picks, &mask)?;
-    // records are of the type's width
-    let _ = shape.width();
-    let kept = filter_chunked_mask(alloc, decoder, shape.offset(), &mask, policy)?;
-    let values = taken_records(alloc, kept.as_slice(), &ranks)?;
-    Ok(execute(&column_of(shape.dtype(), values, validity)))
+    let nullability = takes_nullability(steps);
+    Ok(take_chunked(alloc, decoder, shape, &picks, nullability, policy)?)
 }
