@@ -1,6 +1,6 @@
 -- The rows at picks of a column behind a decoder.
 use Rattle.std.proofs.Common.{◌≡◌, ℕ, zero, suc, ◌+◌, ◌<◌, ◌≤◌, Bool, true, false, List, [], ◌∷◌, length, get_or, map, take, drop, Option, None, Some, refl, sym, ap, ap₂, ◌∙◌, subst, arith}
-use Rattle.std.specs.Prelude.{slice_get, OnErr, Result, Ok, Err}
+use Rattle.std.specs.Prelude.{slice_get, IsErrAnd, OnErr, Result, Ok, Err}
 use Rattle.std.proofs.lemmas.Bool.Decides.{nat_tests}
 use Rattle.vx_types.specs.Decimal.{is_width}
 use Rattle.std.specs.List.{All, items_where_true}
@@ -17,6 +17,7 @@ use Rattle.vx_mask.proofs.RankedItems.{items_at_the_set}
 use Rattle.vx_take.specs.Picks.{at}
 use Rattle.vx_take.specs.Ranks.{AreSet, ranked}
 use Rattle.vx_take.proofs.TakenLists.{looked_up}
+use Rattle.vx_model.specs.Column.{Column}
 use Rattle.vx_model.specs.Valid.{Valid, is_fitting, present_bits, stored_rows, IsLeft}
 use Rattle.vx_model.proofs.StoredRows.{length-stored_rows}
 use Rattle.vx_model.proofs.Takes.{take-stored}
@@ -27,10 +28,10 @@ use Rattle.vx_steps.specs.Walk.{Walk, walk_fault, walk_picks, walk}
 use Rattle.vx_steps.specs.Cause.{MatchError}
 use Rattle.vx_steps.specs.declared.cause.SelectError.{SelectError}
 use Rattle.vx_steps.specs.declared.cause.SelectError.TheVariants.{Broken, NoMemory}
-use Rattle.vx_steps.specs.Answer.{type_after, answer_fault, answer_rows, answer_of, answer_of_walk}
+use Rattle.vx_steps.specs.Answer.{Answer, type_after, answer_fault, answer_rows, answer_of, answer_of_walk}
 use Rattle.vx_steps.specs.Compose.{IsFaultOf, IsUnbroken, takes_nullability}
 use Rattle.vx_steps.proofs.ComposedPicks.{either-either, either-none}
-use Rattle.vx_select.specs.Select.{IsRows}
+use Rattle.vx_select.specs.Select.{IsAnswer, IsRows}
 use Rattle.vx_select.specs.Shape.{ShapeValue}
 use Rattle.vx_select.specs.Chunks.{chunk_rows}
 
@@ -169,3 +170,14 @@ module _ (t : TypeTree) (rows : List RowValue) (steps : List StepValue) (n : ℕ
   pub answered_fault : (e : SelectError) → IsFaultOf (walk n steps) e → MatchError e (λ k cause. answer_of t rows steps ≡ answer_fault k cause) (IsRows (answer_of t rows steps))
   answered_fault (Broken k cause) h = ap (answer_of_walk (type_after t steps) rows) (ap (λ m. walk m steps) long ∙ h)
   answered_fault NoMemory h = answered_unbroken h
+
+-- where there are picks no step is broken
+pub unbroken_picks : (w : Walk) (picks : List (Option ℕ)) → w ≡ walk_picks picks → IsUnbroken w
+unbroken_picks w picks e = subst IsUnbroken (sym e) tt
+
+-- the answer after an error
+pub answered_err : (r : Result Column SelectError) (a : Answer) (e : SelectError) → IsErrAnd r (λ x. x ≡ e) → MatchError e (λ k cause. a ≡ answer_fault k cause) (IsRows a) → IsAnswer r a
+answered_err (Ok c) a e h m = absurd h
+answered_err (Err x) a e h m =
+    let P : SelectError → Type 0 = λ y. MatchError y (λ k cause. a ≡ answer_fault k cause) (IsRows a) in
+    subst P (sym h) m

@@ -128,6 +128,7 @@ impl ChunkShape {
     pub fn len(&self) -> usize
         ensures value { result ≡ self.now.len }
         ensures counted { self.now.offset + result < 2 ^ 64 }
+        ensures fitting { is_fitting self.now.valid result ≡ true }
     {
         self.len
     }
