@@ -1,5 +1,5 @@
 -- The rows at picks of a column behind a decoder.
-use Rattle.std.proofs.Common.{◌≡◌, ℕ, zero, suc, ◌+◌, ◌<◌, ◌≤◌, Bool, true, false, List, [], ◌∷◌, length, get_or, map, take, drop, Option, None, Some, refl, sym, ap, ap₂, ◌∙◌, subst, arith}
+use Rattle.std.proofs.Common.{◌≡◌, ℕ, ◌+◌, ◌<◌, ◌≤◌, Bool, true, false, List, [], ◌∷◌, length, map, take, drop, Option, Some, refl, sym, ap, ap₂, ◌∙◌, subst, arith}
 use Rattle.std.specs.Prelude.{slice_get, IsErrAnd, OnErr, Result, Ok, Err}
 use Rattle.std.proofs.lemmas.Bool.Decides.{nat_tests}
 use Rattle.vx_types.specs.Decimal.{is_width}
@@ -9,7 +9,7 @@ use Rattle.vx_bits.specs.BitBuffer.{true_count_of}
 use Rattle.vx_types.specs.Nullability.{either_nullable}
 use Rattle.vx_types.specs.TypeTree.{TypeTree, null_type, bool_type, primitive_type, decimal_type, utf8_type, binary_type, list_type, fixed_type, map_type, struct_type, union_type, extension_type, also_nullable}
 use Rattle.vx_types.specs.declared.nullability.Nullability.{Nullability}
-use Rattle.vx_types.specs.declared.nullability.Nullability.TheVariants.{NonNullable, Nullable}
+use Rattle.vx_types.specs.declared.nullability.Nullability.TheVariants.{NonNullable}
 use Rattle.vx_types.specs.RowValue.{RowValue, null, bytes}
 use Rattle.vx_mask.specs.Positions.{set_of}
 use Rattle.vx_mask.proofs.PositionLists.{length-positions, rank_within}

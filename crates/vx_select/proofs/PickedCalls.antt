@@ -1,12 +1,11 @@
 -- The calls that picks ask for are those of the set positions that are just the picks.
-use Rattle.std.proofs.Common.{◌≡◌, ℕ, zero, suc, ◌+◌, ◌*◌, ◌<◌, ◌≤◌, Bool, true, false, cond, ◌||◌, eqb, List, [], ◌∷◌, length, get_or, map, Option, None, Some, refl, sym, ap, ap₂, ◌∙◌, arith, eq-eqb}
+use Rattle.std.proofs.Common.{◌≡◌, ℕ, zero, suc, ◌+◌, ◌*◌, ◌<◌, Bool, true, false, cond, ◌||◌, eqb, List, [], ◌∷◌, length, get_or, map, Option, None, Some, refl, sym, ap, ap₂, ◌∙◌, arith, eq-eqb}
 use Rattle.std.specs.Prelude.{Contains}
 use Rattle.std.specs.List.{range_with_len, count_by, slice_get}
 use Rattle.std.proofs.lemmas.Bool.{eqb-true}
 use Rattle.std.proofs.lemmas.List.{get_or-map, length-map}
 use Rattle.std.proofs.lemmas.List.Sums.{sum_by-cons}
-use Rattle.vx_bits.specs.BitBuffer.{true_count_of}
-use Rattle.vx_mask.specs.Positions.{ascending, rank_of, set_of}
+use Rattle.vx_mask.specs.Positions.{rank_of, set_of}
 use Rattle.vx_mask.proofs.PositionLists.{length-positions, ranks_are_the_set}
 use Rattle.vx_take.specs.Ranks.{AreJustSet}
 use Rattle.vx_mask.proofs.MarkedBits.{ascending-positions}
@@ -75,11 +74,11 @@ picked_same : (offset : ℕ) (bits : List Bool) (picks : List (Option ℕ)) → 
 picked_same offset bits picks just n =
     picked_alike (is_picked offset (map Some (set_of bits)) n) (is_picked offset picks n)
     (λ h. let by = picked_by offset (map Some (set_of bits)) n h in
-        let has = (just by.pick).0 (set_of_contains bits by.pick by.there) in
-        is_picked_by offset picks n by.pick has.0 has.1 has.2 by.position)
+    let has = (just by.pick).0 (set_of_contains bits by.pick by.there) in
+    is_picked_by offset picks n by.pick has.0 has.1 has.2 by.position)
     (λ h. let by = picked_by offset picks n h in
-        let has = contains_set_of bits by.pick ((just by.pick).1 by.there) in
-        is_picked_by offset (map Some (set_of bits)) n by.pick has.0 has.1 has.2 by.position)
+    let has = contains_set_of bits by.pick ((just by.pick).1 by.there) in
+    is_picked_by offset (map Some (set_of bits)) n by.pick has.0 has.1 has.2 by.position)
 
 count_alike : (f g : ℕ → Bool) (xs : List ℕ) → ((n : ℕ) → f n ≡ g n) → count_by f xs ≡ count_by g xs
 count_alike f g [] same = refl

@@ -3,8 +3,7 @@ use Rattle.std.proofs.Common.{◌≡◌, ◌∙◌, ◌+◌, ◌≤◌, ℕ, Lis
 use Rattle.vx_types.specs.TypeTree.{also_nullable}
 use Rattle.vx_model.specs.Valid.{is_fitting}
 use Rattle.vx_steps.specs.Step.{step_value}
-use Rattle.vx_steps.specs.Walk.{walk, walk_picks}
-use Rattle.vx_steps.specs.Compose.{IsUnbroken}
+use Rattle.vx_steps.specs.Walk.{walk}
 use Rattle.vx_steps.specs.Answer.{answer_of}
 use Rattle.vx_steps.specs.declared.cause.SelectError.TheVariants.{NoMemory}
 use Rattle.vx_select.specs.Shape.{ShapeValue}

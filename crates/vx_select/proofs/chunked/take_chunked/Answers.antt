@@ -1,5 +1,5 @@
 -- The picked values, and the calls for them.
-use Rattle.std.proofs.Common.{◌≡◌, ◌∙◌, ℕ, ◌+◌, ◌<◌, ◌≤◌, Bool, false, List, Option, Some, length, map, sym, ap, ap₂, subst, inr, arith}
+use Rattle.std.proofs.Common.{◌≡◌, ◌∙◌, ℕ, ◌+◌, ◌<◌, Bool, false, List, Option, Some, length, map, ap, ap₂, subst, inr, arith}
 use Rattle.std.specs.Prelude.{replicate, slice_get}
 use Rattle.vx_bits.specs.Records.{records_of}
 use Rattle.vx_bits.specs.WordReader.{then_told}
