@@ -2,7 +2,9 @@
 //! called, and what it gave.
 #![tactic(auto)]
 
+mod chunked;
 mod columns;
+mod counted;
 mod selecting;
 mod steps;
 mod types;
@@ -18,5 +20,6 @@ fn main(rt: HostRuntime) -> Result<(), Fail> {
     columns::print_slice(&rt, rt.alloc())?;
     columns::print_indices(&rt, rt.alloc())?;
     steps::print_rules(&rt)?;
-    selecting::print_policies(&rt, rt.alloc())
+    selecting::print_policies(&rt, rt.alloc())?;
+    chunked::print_answers(&rt, rt.alloc())
 }
