@@ -27,8 +27,8 @@ impl Step {
     }
 }
 
-/// Whether the steps may leave nulls where there were none: by the types of the takes' indices, also
-/// where no index is null.
+/// Whether the steps may leave nulls where there were none: by the types of the takes' indices,
+/// also where no index is null.
 pub fn takes_nullability(steps: &[Step]) -> Nullability
     ensures { result ≡ takes_nullability (map step_value steps.now) }
 {
