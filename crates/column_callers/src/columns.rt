@@ -8,7 +8,7 @@ use vx_column::{
 use vx_pieces::Indices;
 
 /// The records of these numbers, 4 bytes each.
-fn u32_records(alloc: Global, numbers: &[i128]) -> Result<Records, NoMemory> {
+pub(crate) fn u32_records(alloc: Global, numbers: &[i128]) -> Result<Records, NoMemory> {
     let mut records = Vec::with_capacity(alloc, numbers.len())?;
     for number in numbers {
         records.push(record_of::<4>(*number))?;
@@ -17,12 +17,12 @@ fn u32_records(alloc: Global, numbers: &[i128]) -> Result<Records, NoMemory> {
 }
 
 /// A column of type `u32` of these records.
-fn u32_column(values: Records, validity: Validity) -> Result<Array, ColumnError> {
+pub(crate) fn u32_column(values: Records, validity: Validity) -> Result<Array, ColumnError> {
     Ok(PrimitiveArray::try_new(PType::U32, values, validity)?.into_array())
 }
 
 /// The validity that is a column of these bits.
-fn by_bits(alloc: Global, bits: &[bool]) -> Result<Validity, Fail> {
+pub(crate) fn by_bits(alloc: Global, bits: &[bool]) -> Result<Validity, Fail> {
     let bits = BitBuffer::from_bools(alloc, bits)?;
     let column = BoolArray::try_new(bits, Validity::NonNullable)?.into_array();
     Ok(Validity::Array(column.into_ref(alloc)?))

@@ -2,7 +2,9 @@
 //! called, and what it gave.
 #![tactic(auto)]
 
+mod chunked;
 mod columns;
+mod counted;
 mod pieces;
 mod selecting;
 mod steps;
@@ -22,5 +24,6 @@ fn main(rt: HostRuntime) -> Result<(), Fail> {
     pieces::print_takes(&rt, rt.alloc())?;
     pieces::print_runs(&rt, rt.alloc())?;
     steps::print_rules(&rt)?;
-    selecting::print_policies(&rt, rt.alloc())
+    selecting::print_policies(&rt, rt.alloc())?;
+    chunked::print_answers(&rt, rt.alloc())
 }

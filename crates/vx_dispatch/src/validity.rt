@@ -116,7 +116,7 @@ pub(crate) fn by_picks(alloc: Global, picks: &Picks) -> Result<Validity, NoMemor
 }
 
 /// The validity of the rows at the picks, where a null pick leaves a null. `nullability` says
-/// whether there may be one. It is unwrapped.
+/// whether there may be one. It is unwrapped. `NoMemory` alone.
 #[cycle(take)]
 pub fn take_validity(
     alloc: Global,

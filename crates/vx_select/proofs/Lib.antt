@@ -1,1 +1,3 @@
+pub mod ChunkRows
+pub mod PickedCalls
 pub mod Selecting

@@ -1,2 +1,3 @@
+pub mod ComposedPicks
 pub mod Cuts
 pub mod Walks

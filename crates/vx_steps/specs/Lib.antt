@@ -1,6 +1,7 @@
 pub mod Answer
 pub mod Cause
 pub mod Check
+pub mod Compose
 pub mod Laws
 pub mod Step
 pub mod Walk

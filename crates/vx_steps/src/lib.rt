@@ -3,10 +3,14 @@
 
 mod cause;
 mod check;
+mod composed;
+mod composing;
 mod laws;
+mod span;
 mod step;
 
 pub use cause::{Cause, SelectError};
 pub use check::check_steps;
+pub use composing::{compose, takes_nullability};
 pub use laws::slice_of_slice;
 pub use step::Step;

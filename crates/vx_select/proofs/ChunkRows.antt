@@ -1,0 +1,183 @@
+-- The rows at picks of a column behind a decoder.
+use Rattle.std.proofs.Common.{◌≡◌, ℕ, ◌+◌, ◌<◌, ◌≤◌, Bool, true, false, List, [], ◌∷◌, length, map, take, drop, Option, Some, refl, sym, ap, ap₂, ◌∙◌, subst, arith}
+use Rattle.std.specs.Prelude.{slice_get, IsErrAnd, OnErr, Result, Ok, Err}
+use Rattle.std.proofs.lemmas.Bool.Decides.{nat_tests}
+use Rattle.vx_types.specs.Decimal.{is_width}
+use Rattle.std.specs.List.{All, items_where_true}
+use Rattle.std.proofs.lemmas.List.{get_or_default, length-drop, length-map, length-take-le}
+use Rattle.vx_bits.specs.BitBuffer.{true_count_of}
+use Rattle.vx_types.specs.Nullability.{either_nullable}
+use Rattle.vx_types.specs.TypeTree.{TypeTree, null_type, bool_type, primitive_type, decimal_type, utf8_type, binary_type, list_type, fixed_type, map_type, struct_type, union_type, extension_type, also_nullable}
+use Rattle.vx_types.specs.declared.nullability.Nullability.{Nullability}
+use Rattle.vx_types.specs.declared.nullability.Nullability.TheVariants.{NonNullable}
+use Rattle.vx_types.specs.RowValue.{RowValue, null, bytes}
+use Rattle.vx_mask.specs.Positions.{set_of}
+use Rattle.vx_mask.proofs.PositionLists.{length-positions, rank_within}
+use Rattle.vx_mask.proofs.RankedItems.{items_at_the_set}
+use Rattle.vx_take.specs.Picks.{at}
+use Rattle.vx_take.specs.Ranks.{AreSet, ranked}
+use Rattle.vx_take.proofs.TakenLists.{looked_up}
+use Rattle.vx_model.specs.Column.{Column}
+use Rattle.vx_model.specs.Valid.{Valid, is_fitting, present_bits, stored_rows, IsLeft}
+use Rattle.vx_model.proofs.StoredRows.{length-stored_rows}
+use Rattle.vx_model.proofs.Takes.{take-stored}
+use Rattle.vx_chunked.proofs.ValuesAt.{part_at}
+use Rattle.vx_steps.specs.Step.{StepValue, slice_step, filter_step, take_step}
+use Rattle.vx_pieces.specs.Indices.{index_nullability}
+use Rattle.vx_steps.specs.Walk.{Walk, walk_fault, walk_picks, walk}
+use Rattle.vx_steps.specs.Cause.{MatchError}
+use Rattle.vx_steps.specs.declared.cause.SelectError.{SelectError}
+use Rattle.vx_steps.specs.declared.cause.SelectError.TheVariants.{Broken, NoMemory}
+use Rattle.vx_steps.specs.Answer.{Answer, type_after, answer_fault, answer_rows, answer_of, answer_of_walk}
+use Rattle.vx_steps.specs.Compose.{IsFaultOf, IsUnbroken, takes_nullability}
+use Rattle.vx_steps.proofs.ComposedPicks.{either-either, either-none}
+use Rattle.vx_select.specs.Select.{IsAnswer, IsRows}
+use Rattle.vx_select.specs.Shape.{ShapeValue}
+use Rattle.vx_select.specs.Chunks.{chunk_rows}
+
+-- ---- the values that are kept
+
+same_items : {X : Type 0} (xs ys : List X) → map Some xs ≡ map Some ys → xs ≡ ys
+same_items [] [] h = refl
+same_items [] (y ∷ ys) h = cc
+same_items (x ∷ xs) [] h = cc
+same_items (x ∷ xs) (y ∷ ys) h =
+    let here : x ≡ y = cc in
+    let later : map Some xs ≡ map Some ys = cc in
+    ap₂ ◌∷◌ here (same_items xs ys later)
+
+set_below : (bits : List Bool) (n : ℕ) → length bits ≡ n → All (λ p. p < n) (set_of bits)
+set_below bits n h k d l =
+    let ranked : k < true_count_of bits = omega (arith, l, length-positions 0 bits) in
+    omega (arith, h, get_or_default (set_of bits) k d 0 l, rank_within bits k ranked)
+
+-- there are as many as set positions
+pub kept_count : {X : Type 0} (kept : List X) (f : ℕ → Option X) (bits : List Bool) → map Some kept ≡ map f (set_of bits) → length kept ≡ true_count_of bits
+kept_count kept f bits h =
+    sym (length-map kept Some) ∙ ap length h ∙ length-map (set_of bits) f ∙ length-positions 0 bits
+
+module _ {X : Type 0} (values : List X) (offset len : ℕ) (inside : offset + len ≤ length values) where
+  length-part : length (take len (drop offset values)) ≡ len
+  length-part = length-take-le len (drop offset values) (omega (arith, length-drop offset values))
+
+  kept_items : (kept : List X) (bits : List Bool) → length bits ≡ len → map Some kept ≡ map (λ p. slice_get values (offset + p)) (set_of bits) → kept ≡ items_where_true bits (take len (drop offset values))
+  kept_items kept bits long h =
+      let part = take len (drop offset values) in
+      same_items kept (items_where_true bits part)
+      (h ∙ sym (part_at values offset len (set_of bits) (set_below bits len long)) ∙ sym (items_at_the_set bits part (long ∙ sym length-part)))
+
+-- ---- widths and results
+
+-- a width of records is small
+pub width_small : (w : ℕ) → is_width w ≡ true → w < 64
+width_small w h = grind (arith, nat_tests)
+
+some_same : (a b : ℕ) → Some a ≡ Some b → a ≡ b
+some_same a b h = cc
+
+-- the type's width is one of records
+pub is_width-by : (o : Option ℕ) (a w : ℕ) → o ≡ Some w → o ≡ Some a → is_width a ≡ true → is_width w ≡ true
+is_width-by o a w h k is = let P : ℕ → Type 0 = λ n. is_width n ≡ true in subst P (some_same a w (sym k ∙ h)) is
+
+-- what holds at any rate holds after an error
+pub on_err : {T E : Type 0} {P : Type 0} (r : Result T E) → P → OnErr r P
+on_err (Ok x) p = tt
+on_err (Err e) p = p
+
+-- ---- the rows
+
+module _ (s : ShapeValue) (values : List (List ℕ)) (inside : s.offset + s.len ≤ length values) (fit : is_fitting s.valid s.len ≡ true) where
+  -- as many as the shape says
+  pub length-chunk_rows : length (chunk_rows s values) ≡ s.len
+  length-chunk_rows =
+      let items = map bytes (take s.len (drop s.offset values)) in
+      let long : length items ≡ s.len = length-map (take s.len (drop s.offset values)) bytes ∙ length-part values s.offset s.len inside in
+      let P : ℕ → Type 0 = λ n. is_fitting s.valid n ≡ true in
+      length-stored_rows s.valid items (subst P (sym long) fit) ∙ long
+
+  module _ (w : Valid) (n : Nullability) (picks : List (Option ℕ)) (bound : ℕ) (bits : List Bool) (whole : bound ≡ s.len) (long : length bits ≡ bound) (set : AreSet bits picks) where
+    -- the kept records at the ranks, with what is left of the validity
+    pub taken_rows : (kept records : List (List ℕ)) (missing : List ℕ) → IsLeft s.valid n (at false (present_bits s.valid bound) picks) w → map Some kept ≡ map (λ p. slice_get values (s.offset + p)) (set_of bits) → records ≡ at missing kept (ranked bits picks) → stored_rows w (map bytes records) ≡ at null (chunk_rows s values) picks
+    taken_rows kept records missing left h is =
+        let part = take s.len (drop s.offset values) in
+        let count = length-part values s.offset s.len inside in
+        let same : records ≡ at missing part picks =
+        is ∙ ap (λ l. at missing l (ranked bits picks)) (kept_items values s.offset s.len inside kept bits (long ∙ whole) h)
+        ∙ sym (looked_up missing bits part picks (long ∙ whole ∙ sym count) set) in
+        let P : ℕ → Type 0 = λ m. is_fitting s.valid m ≡ true in
+        let Q : ℕ → Type 0 = λ m. IsLeft s.valid n (at false (present_bits s.valid m) picks) w in
+        ap (λ l. stored_rows w (map bytes l)) same
+        ∙ take-stored bytes missing part s.valid w n (subst P (sym count) fit) picks (subst Q (whole ∙ sym count) left)
+
+-- ---- the type
+
+also_none : (t : TypeTree) → t ≡ also_nullable t NonNullable
+also_none null_type = refl
+also_none (bool_type m) = ap bool_type (sym (either-none m))
+also_none (primitive_type p m) = ap (primitive_type p) (sym (either-none m))
+also_none (decimal_type p s w m) = ap (decimal_type p s w) (sym (either-none m))
+also_none (utf8_type m) = ap utf8_type (sym (either-none m))
+also_none (binary_type m) = ap binary_type (sym (either-none m))
+also_none (list_type t m) = ap (list_type t) (sym (either-none m))
+also_none (fixed_type t k m) = ap (fixed_type t k) (sym (either-none m))
+also_none (map_type ns ts m) = ap (map_type ns ts) (sym (either-none m))
+also_none (struct_type ns ts m) = ap (struct_type ns ts) (sym (either-none m))
+also_none (union_type is ns ts m) = ap (union_type is ns ts) (sym (either-none m))
+also_none (extension_type s t m) = ap (extension_type s t) (sym (either-none m))
+
+also_twice : (t : TypeTree) (a b : Nullability) → also_nullable (also_nullable t a) b ≡ also_nullable t (either_nullable a b)
+also_twice null_type a b = refl
+also_twice (bool_type m) a b = ap bool_type (either-either m a b)
+also_twice (primitive_type p m) a b = ap (primitive_type p) (either-either m a b)
+also_twice (decimal_type p s w m) a b = ap (decimal_type p s w) (either-either m a b)
+also_twice (utf8_type m) a b = ap utf8_type (either-either m a b)
+also_twice (binary_type m) a b = ap binary_type (either-either m a b)
+also_twice (list_type t m) a b = ap (list_type t) (either-either m a b)
+also_twice (fixed_type t k m) a b = ap (fixed_type t k) (either-either m a b)
+also_twice (map_type ns ts m) a b = ap (map_type ns ts) (either-either m a b)
+also_twice (struct_type ns ts m) a b = ap (struct_type ns ts) (either-either m a b)
+also_twice (union_type is ns ts m) a b = ap (union_type is ns ts) (either-either m a b)
+also_twice (extension_type s t m) a b = ap (extension_type s t) (either-either m a b)
+
+-- the steps leave the type, nullable also where some take's indices are
+pub type_after-takes : (t : TypeTree) (steps : List StepValue) → type_after t steps ≡ also_nullable t (takes_nullability steps)
+type_after-takes t [] = also_none t
+type_after-takes t (slice_step start end ∷ steps) = type_after-takes t steps
+type_after-takes t (filter_step bits ∷ steps) = type_after-takes t steps
+type_after-takes t (take_step indices ∷ steps) =
+    type_after-takes (also_nullable t (index_nullability indices)) steps ∙ also_twice t (index_nullability indices) (takes_nullability steps)
+
+-- ---- the answer
+
+module _ (t : TypeTree) (rows : List RowValue) (steps : List StepValue) (n : ℕ) (long : length rows ≡ n) where
+  -- that of these picks
+  pub answered_rows : (picks : List (Option ℕ)) (u : TypeTree) (left : List RowValue) → walk n steps ≡ walk_picks picks → u ≡ also_nullable t (takes_nullability steps) → left ≡ at null rows picks → answer_of t rows steps ≡ answer_rows u left
+  answered_rows picks u left w d r =
+      ap (answer_of_walk (type_after t steps) rows) (ap (λ m. walk m steps) long ∙ w)
+      ∙ ap₂ answer_rows (type_after-takes t steps ∙ sym d) (sym r)
+
+  rows_by_walk : (w : Walk) → IsUnbroken w → IsRows (answer_of_walk (type_after t steps) rows w)
+  rows_by_walk (walk_fault k cause) h = absurd h
+  rows_by_walk (walk_picks picks) h = tt
+
+  -- want of memory comes only where no step is broken
+  pub answered_unbroken : IsUnbroken (walk n steps) → IsRows (answer_of t rows steps)
+  answered_unbroken h =
+      let P : ℕ → Type 0 = λ m. IsUnbroken (walk m steps) in
+      rows_by_walk (walk (length rows) steps) (subst P (sym long) h)
+
+  -- and else the error is the fault
+  pub answered_fault : (e : SelectError) → IsFaultOf (walk n steps) e → MatchError e (λ k cause. answer_of t rows steps ≡ answer_fault k cause) (IsRows (answer_of t rows steps))
+  answered_fault (Broken k cause) h = ap (answer_of_walk (type_after t steps) rows) (ap (λ m. walk m steps) long ∙ h)
+  answered_fault NoMemory h = answered_unbroken h
+
+-- where there are picks no step is broken
+pub unbroken_picks : (w : Walk) (picks : List (Option ℕ)) → w ≡ walk_picks picks → IsUnbroken w
+unbroken_picks w picks e = subst IsUnbroken (sym e) tt
+
+-- the answer after an error
+pub answered_err : (r : Result Column SelectError) (a : Answer) (e : SelectError) → IsErrAnd r (λ x. x ≡ e) → MatchError e (λ k cause. a ≡ answer_fault k cause) (IsRows a) → IsAnswer r a
+answered_err (Ok c) a e h m = absurd h
+answered_err (Err x) a e h m =
+    let P : SelectError → Type 0 = λ y. MatchError y (λ k cause. a ≡ answer_fault k cause) (IsRows a) in
+    subst P (sym h) m

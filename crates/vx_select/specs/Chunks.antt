@@ -1,0 +1,26 @@
+-- Rows behind a decoder, and the calls that lists of steps ask for.
+use Rattle.std.specs.Prelude.{◌≡◌, ◌⊎◌, ℕ, List, [], map, take, drop, Option}
+use Rattle.vx_bits.specs.WordReader.{then_told}
+use Rattle.vx_types.specs.RowValue.{RowValue, bytes}
+use Rattle.vx_model.specs.Valid.{stored_rows}
+use Rattle.vx_chunked.specs.Asked.{asked_by_picks, touched}
+use Rattle.vx_chunked.specs.declared.call.Call.{Call}
+use Rattle.vx_steps.specs.Walk.{Walk, walk_fault, walk_picks}
+use Rattle.vx_select.specs.Shape.{ShapeValue}
+
+-- row i is value offset + i, or null where the validity says no
+abbrev pub chunk_rows : ShapeValue → List (List ℕ) → List RowValue
+chunk_rows s values = stored_rows s.valid (map bytes (take s.len (drop s.offset values)))
+
+-- the calls that picks ask for, also where the validity hides the row
+abbrev pub asked_for : ShapeValue → ℕ → List (Option ℕ) → List Call
+asked_for s limit picks = asked_by_picks s.offset picks limit (touched s.offset s.len)
+
+-- the calls that the composed picks ask for, and none where a step is broken
+abbrev pub asked_by_walk : ShapeValue → ℕ → Walk → List Call
+asked_by_walk s limit (walk_fault k cause) = []
+asked_by_walk s limit (walk_picks picks) = asked_for s limit picks
+
+-- there was no call, or just these
+abbrev pub AreNoneOrAll : Option (List Call) → Option (List Call) → List Call → Type 0
+AreNoneOrAll old new calls = (new ≡ old) ⊎ (new ≡ then_told old calls)
