@@ -3,6 +3,9 @@ pub mod Null
 pub mod Boolean
 pub mod Primitive
 pub mod Decimal
+pub mod Constant
+pub mod Dict
+pub mod Filter
 pub mod Columns
 pub mod Indices
 pub mod Steps

@@ -2,44 +2,25 @@
 ghost use Rattle.std.specs.Prelude.{◌≡◌};
 ghost use Rattle.serde_json.specs.View.{view, items_view, members_view};
 ghost use Rattle.vx_json.specs.Members.{is_among};
-ghost use Rattle.vx_document.specs.Later.{lazy_words, chunk_words, text_words, list_words, record_words, is_later_word, is_later_text, holds_later, items_hold_later, members_hold_later};
+ghost use Rattle.vx_document.specs.Later.{piece_words, chunk_words, text_words, list_words, record_words, is_later_word, is_later_text, holds_later, items_hold_later, members_hold_later};
 
 use serde_json::{Map, Value};
 use vx_json::is_among;
 
-/// Index lists by pieces, and columns over other columns.
-#[tactic(auto, unfolding(crate::specs::Later::lazy_words))]
-fn is_lazy_word(word: &str) -> bool
-    ensures { result ≡ is_among lazy_words word.now }
+/// Index lists by pieces.
+#[tactic(auto, unfolding(crate::specs::Later::piece_words))]
+fn is_piece_word(word: &str) -> bool
+    ensures { result ≡ is_among piece_words word.now }
 {
-    is_among(
-        &[
-            "pieces",
-            "starts",
-            "lengths",
-            "multipliers",
-            "Constant",
-            "Dict",
-            "Filter",
-            "null",
-            "bool",
-            "decimal",
-            "nullable",
-            "value",
-            "codes",
-            "child",
-            "mask",
-        ],
-        word,
-    )
+    is_among(&["pieces", "starts", "lengths", "multipliers"], word)
 }
 
-/// Bits at an offset, and chunks.
+/// Columns in chunks.
 #[tactic(auto, unfolding(crate::specs::Later::chunk_words))]
 fn is_chunk_word(word: &str) -> bool
     ensures { result ≡ is_among chunk_words word.now }
 {
-    is_among(&["offset", "chunks"], word)
+    is_among(&["chunks"], word)
 }
 
 /// Text and other bytes.
@@ -114,7 +95,7 @@ fn is_record_word(word: &str) -> bool
 fn is_later_word(word: &str) -> bool
     ensures { result ≡ is_later_word word.now }
 {
-    is_lazy_word(word)
+    is_piece_word(word)
         || is_chunk_word(word)
         || is_text_word(word)
         || is_list_word(word)

@@ -3,8 +3,11 @@
 
 mod boolean;
 mod columns;
+mod constant;
 mod decimal;
+mod dict;
 mod documents;
+mod filter;
 mod indices;
 mod later;
 mod null;
