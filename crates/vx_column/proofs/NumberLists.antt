@@ -1,7 +1,6 @@
 -- The numbers of a column, by its rows and by its records.
 use Rattle.std.proofs.Common.{◌≡◌, ℕ, zero, suc, ◌+◌, ◌<◌, ◌≤◌, Bool, true, false, List, [], ◌∷◌, ◌++◌, map, length, get_or, take, drop, Option, None, Some, refl, sym, ap, ◌∙◌, arith, add-one, drop-cons}
 use Rattle.std.specs.Prelude.{ℤ, IfSome, is_some, if◌then◌else◌, ◌&&◌}
-use Rattle.std.specs.List.{list_all}
 use Rattle.std.specs.Option.{option_map, option_or}
 use Rattle.std.proofs.lemmas.List.{length-map, get_or-map, drop_all, map_more}
 use Rattle.std.proofs.lemmas.List.Folds.{list_all-append}

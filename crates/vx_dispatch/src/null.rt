@@ -1,9 +1,9 @@
 //! Layout `Null`.
-ghost use Rattle.std.specs.Prelude.{◌≡◌, ◌≤◌, length};
+ghost use Rattle.std.specs.Prelude.{◌≡◌, ◌≤◌, None, length};
 ghost use Rattle.std.specs.List.{items_where_true};
 ghost use Rattle.vx_model.specs.Null.{null_column};
 ghost use Rattle.vx_model.specs.Step.{IsSlice, IsCut, IsTake};
-ghost use Rattle.vx_pieces.specs.Indices.{index_nullability, index_picks, index_value};
+ghost use Rattle.vx_pieces.specs.Indices.{index_fault, index_nullability, index_picks, index_value};
 
 use vx_column::{Array, NullArray};
 use vx_mask::MaskValues;
@@ -29,6 +29,7 @@ pub(crate) fn filter_of(array: &NullArray, mask: &MaskValues) -> Array
 }
 
 pub(crate) fn take_of(array: &NullArray, indices: &Indices) -> Array
+    requires { index_fault (index_value indices.now) (length (null_column array.now).rows) ≡ None }
     ensures { IsTake (null_column array.now) (index_picks (index_value indices.now))
         (index_nullability (index_value indices.now)) result }
 {

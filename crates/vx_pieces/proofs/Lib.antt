@@ -1,0 +1,5 @@
+pub mod IndexLists
+pub mod Naturals
+pub mod PieceLists
+pub mod PieceNumbers
+pub mod RunLists

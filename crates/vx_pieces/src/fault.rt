@@ -5,6 +5,8 @@
 pub enum IndexFault {
     /// A column that isn't of integer type, also where it has no rows.
     InvalidIndices,
+    /// A piecewise sequence that isn't sound.
+    BadPieces,
     /// The first index, of those that aren't null, that is no position.
     OutOfBounds {
         /// The index.

@@ -1,11 +1,14 @@
 //! Lists of indices.
-ghost use Rattle.std.specs.Prelude.{◌≡◌, None, length, IfOk};
+ghost use Rattle.std.specs.Prelude.{◌≡◌, ℕ, None, length, IfOk};
 ghost use Rattle.std.specs.Option.{option_map};
 ghost use Rattle.vx_types.specs.declared.nullability.Nullability.TheVariants.{NonNullable};
-ghost use Rattle.vx_numbers.specs.Positions.{AllThere};
-ghost use Rattle.vx_pieces.specs.Indices.{by_column, column_fault, index_fault, index_nullability, index_picks, index_value};
+ghost use Rattle.vx_types.specs.TypeTree.{type_nullability};
+ghost use Rattle.vx_numbers.specs.Positions.{AllThere, positions_of};
+ghost use Rattle.vx_model.specs.Numbers.{numbers_of};
+ghost use Rattle.vx_pieces.specs.Indices.{column_fault, index_fault, index_len, index_nullability, index_picks, index_value, sequence_fault};
 
 use crate::fault::IndexFault;
+use crate::sequence::PiecewiseSequence;
 use std::alloc::Global;
 use vx_bits::NoMemory;
 use vx_column::{Array, FlatRef, Nullability};
@@ -16,23 +19,23 @@ use vx_take::Picks;
 pub enum Indices {
     /// The numbers of a column, null where it is null.
     Array(FlatRef),
+    /// The numbers of a piecewise sequence, none of them null.
+    Pieces(PiecewiseSequence),
 }
 
 impl Indices {
-    // The column of the indices.
-    fn column(&self) -> &Array
-        ensures { index_value self.now ≡ by_column result.now }
+    /// How many indices there are, nulls too: of a sequence its declared length. Where there is no
+    /// fault that is how many picks there are.
+    #[tactic(auto, using(crate::proofs::IndexLists::counts))]
+    pub fn len(&self) -> usize
+        ensures value { result ≡ index_len (index_value self.now) }
+        ensures picks { (n : ℕ) → index_fault (index_value self.now) n ≡ None
+            → length (index_picks (index_value self.now)) ≡ result }
     {
         match self {
-            Indices::Array(flat) => flat.array(),
+            Indices::Array(flat) => flat.array().len(),
+            Indices::Pieces(pieces) => pieces.len(),
         }
-    }
-
-    /// How many indices there are, nulls too.
-    pub fn len(&self) -> usize
-        ensures { result ≡ length (index_picks (index_value self.now)) }
-    {
-        self.column().len()
     }
 
     /// The same indices once more. It takes no memory.
@@ -41,6 +44,7 @@ impl Indices {
     {
         match self {
             Indices::Array(flat) => Indices::Array(flat.share()),
+            Indices::Pieces(pieces) => Indices::Pieces(pieces.share()),
         }
     }
 
@@ -48,15 +52,21 @@ impl Indices {
     pub fn nullability(&self) -> Nullability
         ensures { result ≡ index_nullability (index_value self.now) }
     {
-        self.column().dtype().nullability()
+        match self {
+            Indices::Array(flat) => flat.array().dtype().nullability(),
+            Indices::Pieces(_) => Nullability::NonNullable,
+        }
     }
 
     /// Why a take by them from `len` rows isn't one; none where it is. It takes no memory, and
-    /// looks at no null's payload.
+    /// looks at no null's payload. A piece of many numbers costs what a piece of one costs.
     pub fn fault(&self, len: usize) -> Option<IndexFault>
         ensures { result ≡ index_fault (index_value self.now) len }
     {
-        column_fault(self.column(), len)
+        match self {
+            Indices::Array(flat) => column_fault(flat.array(), len),
+            Indices::Pieces(pieces) => sequence_fault(pieces, len),
+        }
     }
 
     /// The positions that they name among `len` rows. `NoMemory` alone.
@@ -67,11 +77,24 @@ impl Indices {
         ensures there { IfOk result
             (λ p. index_nullability (index_value self.now) ≡ NonNullable → AllThere p.picks) }
     {
-        let array = self.column();
-        match array.dtype().int_type() {
-            Some(ptype) => array.positions(alloc, ptype, len),
-            None => unreachable!(),
+        match self {
+            Indices::Array(flat) => column_picks(alloc, flat.array(), len),
+            Indices::Pieces(pieces) => pieces.picks(alloc, len),
         }
+    }
+}
+
+// The positions that the numbers of a column name. `NoMemory` alone.
+fn column_picks(alloc: Global, array: &Array, len: usize) -> Result<Picks, NoMemory>
+    requires { column_fault array.now len ≡ None }
+    ensures picks { IfOk result
+        (λ p. p ≡ record { picks = positions_of (numbers_of array.now); bound = len }) }
+    ensures there { IfOk result
+        (λ p. type_nullability array.now.dtype ≡ NonNullable → AllThere p.picks) }
+{
+    match array.dtype().int_type() {
+        Some(ptype) => array.positions(alloc, ptype, len),
+        None => unreachable!(),
     }
 }
 
@@ -82,6 +105,21 @@ fn column_fault(array: &Array, len: usize) -> Option<IndexFault>
     match array.dtype().int_type() {
         Some(ptype) => out_of_bounds(array.first_bad(ptype, len)),
         None => Some(IndexFault::InvalidIndices),
+    }
+}
+
+// Why a take by the numbers of a sequence isn't one.
+fn sequence_fault(pieces: &PiecewiseSequence, len: usize) -> Option<IndexFault>
+    ensures { result ≡ sequence_fault pieces.now len }
+{
+    if pieces.check().is_err() {
+        return Some(IndexFault::BadPieces);
+    }
+    match pieces.first_at_least(len) {
+        Some(index) => Some(IndexFault::OutOfBounds {
+            index: index as i128,
+        }),
+        None => None,
     }
 }
 

@@ -1,8 +1,21 @@
 //! Lists of indices: which rows a take picks, and why it can't.
 #![tactic(auto)]
 
+mod error;
+mod expanding;
 mod fault;
 mod indices;
+mod natural;
+mod piece;
+mod runs;
+mod sequence;
+mod slots;
+mod walks;
 
+pub use error::{BadPieces, PiecesError};
 pub use fault::IndexFault;
 pub use indices::Indices;
+pub use sequence::{PiecewiseSequence, PiecewiseSequenceArray};
+pub use slots::{
+    PiecewiseSequenceArrayExt, PiecewiseSequenceArraySlotsExt, PiecewiseSequenceSlots,
+};

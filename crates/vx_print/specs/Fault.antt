@@ -2,7 +2,7 @@
 use Rattle.std.specs.Prelude.{ℕ, List, ◌++◌, codes, decimal}
 use Rattle.std.specs.Fmt.{signed_decimal}
 use Rattle.vx_steps.specs.declared.cause.Cause.{Cause}
-use Rattle.vx_steps.specs.declared.cause.Cause.TheVariants.{BadRange, BadMask, InvalidIndices, OutOfBounds}
+use Rattle.vx_steps.specs.declared.cause.Cause.TheVariants.{BadRange, BadMask, InvalidIndices, BadPieces, OutOfBounds}
 
 abbrev pub cause_text : Cause → List ℕ
 cause_text (BadRange start end len) =
@@ -10,6 +10,7 @@ cause_text (BadRange start end len) =
 cause_text (BadMask mask_len len) =
     codes "BadMask " ++ decimal mask_len ++ codes " of " ++ decimal len
 cause_text InvalidIndices = codes "InvalidIndices"
+cause_text BadPieces = codes "BadPieces"
 cause_text (OutOfBounds index len) =
     codes "OutOfBounds " ++ signed_decimal index ++ codes " of " ++ decimal len
 

@@ -62,6 +62,7 @@ fn put_cause(dst: &mut [u8; FAULT_ROOM], at: usize, cause: &Cause) -> usize
             put_number(dst, at, *len)
         }
         Cause::InvalidIndices => put(dst, at, "InvalidIndices"),
+        Cause::BadPieces => put(dst, at, "BadPieces"),
         Cause::OutOfBounds { index, len } => {
             let at = put(dst, at, "OutOfBounds ");
             let at = put_index(dst, at, index);

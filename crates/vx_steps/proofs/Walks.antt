@@ -3,10 +3,13 @@ use Rattle.std.proofs.Common.{◌≡◌, ℕ, ◌+◌, ◌<◌, ◌≤◌, List,
 use Rattle.std.proofs.lemmas.List.{length-map, get_or-map, drop_all}
 use Rattle.std.proofs.lemmas.List.FromFn.{length-map-range_with_len}
 use Rattle.std.proofs.lemmas.Bool.Decides.{nat_tests}
-use Rattle.vx_pieces.specs.Indices.{index_picks}
+use Rattle.std.specs.Option.{option_map}
+use Rattle.vx_pieces.specs.Indices.{index_fault, index_picks}
+use Rattle.vx_pieces.specs.declared.fault.IndexFault.{IndexFault}
+use Rattle.vx_pieces.proofs.IndexLists.{length-index_picks}
 use Rattle.vx_steps.specs.Step.{StepValue, slice_step, filter_step, take_step, step_value}
 use Rattle.vx_steps.specs.declared.step.Step.{Step}
-use Rattle.vx_steps.specs.Walk.{broken, apply, rows_left, Walk, walk_fault, walk_picks, unless_broken, walk_from, all_positions, walk}
+use Rattle.vx_steps.specs.Walk.{broken, cause_of, apply, rows_left, Walk, walk_fault, walk_picks, unless_broken, walk_from, all_positions, walk}
 use Rattle.vx_steps.specs.Check.{HasCount}
 use Rattle.vx_steps.specs.declared.cause.Cause.{Cause}
 use Rattle.vx_model.proofs.Takes.{length-at, map-at}
@@ -53,7 +56,12 @@ length-apply missing (slice_step start end) items n count sound =
 length-apply missing (filter_step bits) items n count sound =
     let same : length bits ≡ n = grind (arith, nat_tests) in
     length-items_where_true bits items (same ∙ sym count)
-length-apply missing (take_step indices) items n count sound = length-at missing items (index_picks indices)
+length-apply missing (take_step indices) items n count sound =
+    length-at missing items (index_picks indices) ∙ length-index_picks indices n (no_cause (cause_of n) (index_fault indices n) sound)
+  where
+    no_cause : (f : IndexFault → Cause) (fault : Option IndexFault) → option_map f fault ≡ None → fault ≡ None
+    no_cause f None h = refl
+    no_cause f (Some x) h = cc
 
 -- what a step does to a list of things that are made of others, it does to the others
 pub map-apply : {X Y : Type 0} (f : X → Y) (missing : X) (s : StepValue) (items : List X) → map f (apply missing s items) ≡ apply (f missing) s (map f items)

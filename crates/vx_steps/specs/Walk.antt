@@ -4,16 +4,17 @@ use Rattle.std.specs.List.{range_with_len, items_where_true}
 use Rattle.std.specs.Option.{option_map}
 use Rattle.vx_bits.specs.BitBuffer.{true_count_of}
 use Rattle.vx_take.specs.Picks.{at}
-use Rattle.vx_pieces.specs.Indices.{index_fault, index_picks}
+use Rattle.vx_pieces.specs.Indices.{index_fault, index_len, index_picks}
 use Rattle.vx_pieces.specs.declared.fault.IndexFault.{IndexFault}
 use Rattle.vx_pieces.specs.declared.fault.IndexFault.TheVariants as faults
 use Rattle.vx_steps.specs.Step.{StepValue, slice_step, filter_step, take_step}
 use Rattle.vx_steps.specs.declared.cause.Cause.{Cause}
-use Rattle.vx_steps.specs.declared.cause.Cause.TheVariants.{BadRange, BadMask, InvalidIndices, OutOfBounds}
+use Rattle.vx_steps.specs.declared.cause.Cause.TheVariants.{BadRange, BadMask, InvalidIndices, BadPieces, OutOfBounds}
 
 -- the rule that a take from n rows breaks, by the fault of its indices
 abbrev pub cause_of : ℕ → IndexFault → Cause
 cause_of n faults.InvalidIndices = InvalidIndices
+cause_of n faults.BadPieces = BadPieces
 cause_of n (faults.OutOfBounds index) = OutOfBounds index n
 
 -- the rule that a step breaks over n rows, the first that holds
@@ -33,7 +34,7 @@ apply missing (take_step indices) items = at missing items (index_picks indices)
 abbrev pub rows_left : StepValue → ℕ
 rows_left (slice_step start end) = end - start
 rows_left (filter_step bits) = true_count_of bits
-rows_left (take_step indices) = length (index_picks indices)
+rows_left (take_step indices) = index_len indices
 
 pub data Walk : Type 0 where
   -- the first broken step, and its cause

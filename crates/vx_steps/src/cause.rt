@@ -24,6 +24,8 @@ pub enum Cause {
     },
     /// Indices that are no integers.
     InvalidIndices,
+    /// Indices that are a piecewise sequence that isn't sound.
+    BadPieces,
     /// An index that is negative, or not below the rows.
     OutOfBounds {
         /// The first such index.

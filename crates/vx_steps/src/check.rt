@@ -37,7 +37,7 @@ impl Step {
         }
     }
 
-    // How many rows the step leaves, where it breaks no rule.
+    // How many rows the step leaves, where it breaks no rule: of a take as many as it has indices.
     pub(crate) fn rows_left(&self) -> usize
         ensures { result ≡ rows_left (step_value self.now) }
     {
@@ -56,6 +56,7 @@ fn cause_of(fault: Option<IndexFault>, len: usize) -> Option<Cause>
     match fault {
         None => None,
         Some(IndexFault::InvalidIndices) => Some(Cause::InvalidIndices),
+        Some(IndexFault::BadPieces) => Some(Cause::BadPieces),
         Some(IndexFault::OutOfBounds { index }) => Some(Cause::OutOfBounds { index, len }),
     }
 }

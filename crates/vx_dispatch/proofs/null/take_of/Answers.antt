@@ -1,5 +1,5 @@
 -- So many nulls are the rows at any picks.
-use Rattle.std.proofs.Common.{◌∙◌, ap}
+use Rattle.std.proofs.Common.{◌∙◌, ap, sym, length}
 use Rattle.vx_pieces.specs.Indices.{index_nullability, index_picks, index_value}
 use Rattle.vx_model.specs.Null.{null_column}
 use Rattle.vx_model.proofs.Takes.{is_take-null}
@@ -8,4 +8,5 @@ use Rattle.vx_dispatch.proofs.null.take_of.Goals as goal
 pub returns : goal.returns
 returns c =
     let i = index_value c.args.indices.now in
-    rw (c.into_array.ensures ∙ ap null_column (c.new.ensures ∙ c.len.ensures)) (is_take-null c.args.array.now (index_picks i) (index_nullability i))
+    let count = c.len.ensures.picks (length (null_column c.args.array.now).rows) c.requires in
+    rw (c.into_array.ensures ∙ ap null_column (c.new.ensures ∙ sym count)) (is_take-null c.args.array.now (index_picks i) (index_nullability i))

@@ -1,6 +1,6 @@
 -- Each number is a position, and one pick more is put out.
-use Rattle.std.proofs.Common.{rules, ◌≡◌, ◌<◌, ◌++◌, [], ◌∷◌, length, take, get_or, None, true, sym, ap, ◌∙◌, subst, arith}
-use Rattle.std.specs.Prelude.{IfSome, is_some}
+use Rattle.std.proofs.Common.{rules, ◌≡◌, ◌++◌, [], ◌∷◌, take, true, sym, ap, ◌∙◌, subst}
+use Rattle.std.specs.Prelude.{IfSome}
 use Rattle.std.specs.Option.{option_map}
 use Rattle.vx_numbers.specs.Positions.{is_position, position_of, positions_of}
 use Rattle.vx_numbers.proofs.NumberLists.{each_is_position, positions_of-more, all_there-more, there_by}

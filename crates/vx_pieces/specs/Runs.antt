@@ -1,0 +1,44 @@
+-- Piecewise sequences whose numbers follow each other without a gap in each piece.
+use Rattle.std.specs.Prelude.{ℕ, ◌==◌, ◌&&◌, List, flat_map, filter_map, Bool, true, false, Option, Some, None, if◌then◌else◌}
+use Rattle.std.specs.List.{range_with_len}
+use Rattle.vx_types.specs.RowValue.{RowValue}
+use Rattle.vx_types.specs.TypeTree.{TypeTree}
+use Rattle.vx_types.specs.declared.layout_name.LayoutName.{LayoutName}
+use Rattle.vx_types.specs.declared.layout_name.LayoutName.TheVariants.{Constant}
+use Rattle.vx_model.specs.Numbers.{number_in}
+use Rattle.vx_pieces.specs.Pieces.{PiecesParts, natural_of, pieces_of, sound_fault}
+use Rattle.vx_pieces.specs.declared.piece.Piece.{Piece}
+use Rattle.vx_pieces.specs.declared.error.PiecesError.{PiecesError}
+
+abbrev pub is_constant_layout : LayoutName → Bool
+is_constant_layout Constant = true
+is_constant_layout layout = false
+
+-- there is a value, and it is the number 1
+abbrev pub is_one : TypeTree → Option RowValue → Bool
+is_one t None = false
+is_one t (Some x) = natural_of (number_in t x) == 1
+
+-- the multipliers are a column of layout `Constant`, of value 1
+abbrev pub is_constant_one : PiecesParts → Bool
+is_constant_one p =
+    is_constant_layout p.multipliers.layout && is_one p.multipliers.dtype p.multipliers.constant
+
+-- a piece that has numbers: where it starts, and how many they are
+abbrev pub run_of : Piece → Option (ℕ × ℕ)
+run_of p = if p.length == 0 then None else Some (p.start, p.length)
+
+abbrev pub runs_of : List Piece → List (ℕ × ℕ)
+runs_of pieces = filter_map run_of pieces
+
+-- the runs of the pieces, where each piece is one
+abbrev pub contiguous_runs : PiecesParts → Option (List (ℕ × ℕ))
+contiguous_runs p = if is_constant_one p then Some (runs_of (pieces_of p)) else None
+
+-- the one fault of runs
+abbrev pub runs_fault : PiecesParts → Option PiecesError
+runs_fault p = if is_constant_one p then sound_fault p else None
+
+-- the numbers in runs, one run after another
+abbrev pub run_numbers : List (ℕ × ℕ) → List ℕ
+run_numbers runs = flat_map (λ run. range_with_len run.0 run.1) runs
