@@ -7,6 +7,8 @@ pub mod Constant
 pub mod Dict
 pub mod Filter
 pub mod Columns
+pub mod Numbers
+pub mod Pieces
 pub mod Indices
 pub mod Steps
 pub mod Documents

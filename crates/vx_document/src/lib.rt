@@ -11,6 +11,8 @@ mod filter;
 mod indices;
 mod later;
 mod null;
+mod numbers;
+mod pieces;
 mod primitive;
 mod reading;
 mod steps;
