@@ -3,6 +3,7 @@
 #![tactic(auto)]
 
 mod columns;
+mod pieces;
 mod selecting;
 mod steps;
 mod types;
@@ -17,6 +18,9 @@ fn main(rt: HostRuntime) -> Result<(), Fail> {
     columns::print_refusals(&rt, rt.alloc())?;
     columns::print_slice(&rt, rt.alloc())?;
     columns::print_indices(&rt, rt.alloc())?;
+    pieces::print_sequences(&rt, rt.alloc())?;
+    pieces::print_takes(&rt, rt.alloc())?;
+    pieces::print_runs(&rt, rt.alloc())?;
     steps::print_rules(&rt)?;
     selecting::print_policies(&rt, rt.alloc())
 }

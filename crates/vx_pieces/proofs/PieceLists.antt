@@ -46,7 +46,7 @@ module _ (ps : List Piece) (i : ℕ) (q : Piece) (h : i < length ps) (is : q ≡
     none_here none =
         let parts : flat_map piece_numbers ps ≡ flat_map piece_numbers (take i ps) ++ flat_map piece_numbers (drop i ps) = ap (flat_map piece_numbers) (sym (take-append-drop i ps)) ∙ flat_map-append piece_numbers (take i ps) (drop i ps) in
         let behind = none_of_two (first_from n (flat_map piece_numbers (take i ps))) (first_from n (flat_map piece_numbers (drop i ps)))
-            (sym (ap (first_from n) parts ∙ find-append _ (flat_map piece_numbers (take i ps)) (flat_map piece_numbers (drop i ps))) ∙ none) in
+        (sym (ap (first_from n) parts ∙ find-append _ (flat_map piece_numbers (take i ps)) (flat_map piece_numbers (drop i ps))) ∙ none) in
         (none_of_two (first_from n (piece_numbers q)) (first_from n (flat_map piece_numbers (drop (i + 1) ps))) (sym first_rest ∙ behind.1)).0
 
 pub found_here : (found rest : Option ℕ) → is_some found ≡ true → found ≡ option_or found rest

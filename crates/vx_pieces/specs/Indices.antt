@@ -1,5 +1,5 @@
 -- Lists of indices: what a take by them picks, and why it can't.
-use Rattle.std.specs.Prelude.{ℕ, pos, length, List, map, Option, Some, None, if◌then◌else◌}
+use Rattle.std.specs.Prelude.{ℕ, pos, length, List, map, Option, Some, if◌then◌else◌}
 use Rattle.std.specs.Option.{option_map}
 use Rattle.vx_types.specs.TypeTree.{is_int_type, type_nullability}
 use Rattle.vx_types.specs.declared.nullability.Nullability.{Nullability}

@@ -130,7 +130,12 @@ first_from n numbers = find (nat_le n) numbers
 abbrev pub numbers_column : List ℕ → Column
 numbers_column numbers =
     primitive_column
-    (record { ptype = U64; width = 8; records = map (to_le_bytes w64) numbers; valid = non_nullable })
+    (record {
+      ptype = U64;
+      width = 8;
+      records = map (to_le_bytes w64) numbers;
+      valid = non_nullable;
+    })
 
 -- ---- their code
 abbrev pub coded_pieces : Coded PiecesParts

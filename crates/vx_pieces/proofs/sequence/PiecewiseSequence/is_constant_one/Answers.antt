@@ -1,8 +1,7 @@
 -- The multipliers are the constant's column.
-use Rattle.std.proofs.Common.{◌≡◌, Some, sym, ap, ◌∙◌, true}
+use Rattle.std.proofs.Common.{Some, sym, ap, ◌∙◌}
 use Rattle.vx_column.specs.Layout.{column_of}
 use Rattle.vx_model.specs.Column.{Column}
-use Rattle.vx_model.specs.Constant.{ConstantParts, constant_column}
 use Rattle.vx_types.specs.Scalar.{TypedRow}
 use Rattle.vx_pieces.specs.Pieces.{PiecesParts, pieces_fault, is_unsigned_type}
 use Rattle.vx_pieces.specs.Runs.{is_one}
