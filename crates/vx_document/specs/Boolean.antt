@@ -5,9 +5,10 @@ use Rattle.serde_json.specs.Find.{get, as_str, as_array}
 use Rattle.vx_model.specs.Column.{Column}
 use Rattle.vx_model.specs.Valid.{Valid}
 use Rattle.vx_model.specs.Bool.{bool_with, bool_fault, bool_column}
-use Rattle.vx_json.specs.Meaning.{◌>>=◌, unless_fault}
+use Rattle.vx_json.specs.Meaning.{◌>>=◌, found_or, unless_fault}
 use Rattle.vx_json.specs.Members.{is_closed}
 use Rattle.vx_json.specs.Items.{each}
+use Rattle.vx_json.specs.Wholes.{at_most}
 use Rattle.vx_json.specs.BitText.{bits_in}
 use Rattle.vx_json.specs.Bools.{bool_or_clear}
 use Rattle.vx_document.specs.Validity.{validity_alone, validity_beside}
@@ -34,13 +35,18 @@ abbrev pub bool_by_kind : Option Valid → Option (List ℕ) → Option Items �
 bool_by_kind stated (Some s) items = bool_by_text stated s
 bool_by_kind stated None items = items >>= bool_by_items stated
 
+-- at which bit of a byte the first bit is stored, which no row shows
+unfoldable pub offset_of : Data → Option ℕ
+offset_of d = found_or 0 (at_most 7) (get (codes "offset") d)
+
 unfoldable pub bool_by_values : Option Valid → Data → Option Column
 bool_by_values stated d = do
+  offset ← offset_of d
   values ← get (codes "values") d
   bool_by_kind stated (as_str values) (as_array values)
 
 unfoldable pub bool_by : Data → Option Valid → Option Column
 bool_by d stated =
-    if is_closed (codes "layout" ∷ codes "values" ∷ codes "validity" ∷ []) d
+    if is_closed (codes "layout" ∷ codes "values" ∷ codes "validity" ∷ codes "offset" ∷ []) d
     then bool_by_values stated d
     else None

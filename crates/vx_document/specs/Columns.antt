@@ -11,10 +11,22 @@ use Rattle.vx_document.specs.Null.{null_by}
 use Rattle.vx_document.specs.Boolean.{bool_by}
 use Rattle.vx_document.specs.Primitive.{primitive_by}
 use Rattle.vx_document.specs.Decimal.{decimal_by}
+use Rattle.vx_document.specs.Constant.{constant_by}
+use Rattle.vx_document.specs.Dict.{dict_by}
+use Rattle.vx_document.specs.Filter.{filter_by}
 
 -- the column that each member of an object means, by the member's name
 abbrev pub Inner : Type 0
 Inner = List ℕ → Option Column
+
+unfoldable pub dict_in : Data → Inner → Option Column
+dict_in d inner = do
+  values ← inner (codes "values")
+  named ← inner (codes "codes")
+  dict_by d named values
+
+unfoldable pub filter_in : Data → Inner → Option Column
+filter_in d inner = inner (codes "child") >>= filter_by d
 
 -- by the name of a layout
 abbrev pub by_layout : Data → Inner → List ℕ → Option Column
@@ -23,6 +35,9 @@ by_layout d inner layout =
     else if bytes_eq layout (codes "Bool") then validity_stated d inner >>= bool_by d
     else if bytes_eq layout (codes "Primitive") then validity_stated d inner >>= primitive_by d
     else if bytes_eq layout (codes "Decimal") then validity_stated d inner >>= decimal_by d
+    else if bytes_eq layout (codes "Constant") then constant_by d
+    else if bytes_eq layout (codes "Dict") then dict_in d inner
+    else if bytes_eq layout (codes "Filter") then filter_in d inner
     else None
 
 -- by what the members mean

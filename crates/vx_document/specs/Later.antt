@@ -3,17 +3,9 @@ use Rattle.std.specs.Prelude.{ℕ, ◌&&◌, ◌||◌, List, [], ◌∷◌, Bool
 use Rattle.serde_json.specs.Data.{Data, null, boolean, number, string, array, object, Items, no_items, item, Members, no_members, member}
 use Rattle.vx_json.specs.Members.{is_among}
 
--- index lists by pieces, and columns over other columns
-unfoldable pub lazy_words : List (List ℕ)
-lazy_words =
-    codes "pieces" ∷ codes "starts" ∷ codes "lengths" ∷ codes "multipliers"
-    ∷ codes "Constant" ∷ codes "Dict" ∷ codes "Filter"
-    ∷ codes "null" ∷ codes "bool" ∷ codes "decimal" ∷ codes "nullable"
-    ∷ codes "value" ∷ codes "codes" ∷ codes "child" ∷ codes "mask" ∷ []
-
--- bits at an offset, and chunks
+-- columns in chunks
 unfoldable pub chunk_words : List (List ℕ)
-chunk_words = codes "offset" ∷ codes "chunks" ∷ []
+chunk_words = codes "chunks" ∷ []
 
 -- text and other bytes
 unfoldable pub text_words : List (List ℕ)
@@ -38,8 +30,8 @@ record_words =
 -- names of members, layouts and types alike
 abbrev pub is_later_word : List ℕ → Bool
 is_later_word w =
-    is_among lazy_words w || is_among chunk_words w || is_among text_words w
-    || is_among list_words w || is_among record_words w
+    is_among chunk_words w || is_among text_words w || is_among list_words w
+    || is_among record_words w
 
 -- the text of a `layout` or a `type` is a later word
 abbrev pub is_later_text : List ℕ → Data → Bool

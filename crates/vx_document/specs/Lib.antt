@@ -3,7 +3,12 @@ pub mod Null
 pub mod Boolean
 pub mod Primitive
 pub mod Decimal
+pub mod Constant
+pub mod Dict
+pub mod Filter
 pub mod Columns
+pub mod Numbers
+pub mod Pieces
 pub mod Indices
 pub mod Steps
 pub mod Documents

@@ -1,16 +1,17 @@
 //! Columns of layout `Bool`.
+ghost use Rattle.std.specs.Prelude.{◌≤◌, IfOk};
 ghost use Rattle.std.specs.Option.{option_map};
 ghost use Rattle.serde_json.specs.View.{view, items_view};
 ghost use Rattle.vx_column.specs.Validity.{valid_of};
 ghost use Rattle.vx_json.specs.Meaning.{Gives};
-ghost use Rattle.vx_document.specs.Boolean.{bool_made, bool_by_items, bool_by_text, bool_by_values, bool_by};
+ghost use Rattle.vx_document.specs.Boolean.{bool_made, offset_of, bool_by_items, bool_by_text, bool_by_values, bool_by};
 
 use crate::validity::{validity_alone, validity_beside};
 use serde_json::Value;
 use std::alloc::Global;
 use vx_bits::BitBuffer;
 use vx_column::{Array, BoolArray, Validity};
-use vx_json::{DocError, bits_in, bools_or_nulls_of, is_closed, items_in, member};
+use vx_json::{DocError, at_most, bits_in, bools_or_nulls_of, is_closed, items_in, member};
 
 /// The column of these bits. `Malformed` where the validity can't be theirs.
 fn bool_made(bits: BitBuffer, validity: Validity) -> Result<Array, DocError>
@@ -27,21 +28,41 @@ fn bool_by_items(
     alloc: Global,
     stated: Option<Validity>,
     items: &Vec<Value>,
+    offset: usize,
 ) -> Result<Array, DocError>
+    requires { offset ≤ 7 }
     ensures { Gives (λ c. c) result
         (bool_by_items (option_map valid_of stated) (items_view items.now.items)) }
 {
     let validity = validity_beside(alloc, stated, items)?;
-    let bits = bools_or_nulls_of(alloc, items)?;
+    let bits = bools_or_nulls_of(alloc, items, offset)?;
     bool_made(bits, validity)
 }
 
 #[tactic(auto, unfolding(crate::specs::Boolean::bool_by_text))]
-fn bool_by_text(alloc: Global, stated: Option<Validity>, text: &str) -> Result<Array, DocError>
+fn bool_by_text(
+    alloc: Global,
+    stated: Option<Validity>,
+    text: &str,
+    offset: usize,
+) -> Result<Array, DocError>
+    requires { offset ≤ 7 }
     ensures { Gives (λ c. c) result (bool_by_text (option_map valid_of stated) text.now) }
 {
-    let bits = bits_in(alloc, text.as_bytes(), 0)?;
+    let bits = bits_in(alloc, text.as_bytes(), offset)?;
     bool_made(bits, validity_alone(stated))
+}
+
+/// At which bit of a byte the first bit is to be stored.
+#[tactic(auto, unfolding(crate::specs::Boolean::offset_of))]
+fn offset_of(value: &Value) -> Result<usize, DocError>
+    ensures value { Gives (λ n. n) result (offset_of (view value.now)) }
+    ensures bound { IfOk result (λ n. n ≤ 7) }
+{
+    match value.get("offset") {
+        Some(offset) => at_most(7, offset),
+        None => Ok(0),
+    }
 }
 
 #[tactic(auto, unfolding(crate::specs::Boolean::bool_by_values))]
@@ -49,10 +70,11 @@ fn bool_by_values(alloc: Global, stated: Option<Validity>, value: &Value) -> Res
     ensures { Gives (λ c. c) result
         (bool_by_values (option_map valid_of stated) (view value.now)) }
 {
+    let offset = offset_of(value)?;
     let values = member(value, "values")?;
     match values.as_str() {
-        Some(text) => bool_by_text(alloc, stated, text),
-        None => bool_by_items(alloc, stated, items_in(values)?),
+        Some(text) => bool_by_text(alloc, stated, text, offset),
+        None => bool_by_items(alloc, stated, items_in(values)?, offset),
     }
 }
 
@@ -65,7 +87,7 @@ pub(crate) fn bool_by(
 ) -> Result<Array, DocError>
     ensures { Gives (λ c. c) result (bool_by (view value.now) (option_map valid_of stated)) }
 {
-    if is_closed(value, &["layout", "values", "validity"]) {
+    if is_closed(value, &["layout", "values", "validity", "offset"]) {
         bool_by_values(alloc, stated, value)
     } else {
         Err(DocError::Malformed)

@@ -4,10 +4,13 @@ ghost use Rattle.serde_json.specs.View.{view};
 ghost use Rattle.vx_column.specs.Validity.{valid_of};
 ghost use Rattle.vx_json.specs.Meaning.{Gives};
 ghost use Rattle.vx_document.specs.Validity.{validity_from, validity_stated};
-ghost use Rattle.vx_document.specs.Columns.{column_of, inner_of};
+ghost use Rattle.vx_document.specs.Columns.{column_of, inner_of, dict_in, filter_in};
 
 use crate::boolean::bool_by;
+use crate::constant::constant_by;
 use crate::decimal::decimal_by;
+use crate::dict::dict_by;
+use crate::filter::filter_by;
 use crate::null::null_by;
 use crate::primitive::primitive_by;
 use crate::validity::{validity_listed, validity_named};
@@ -27,8 +30,32 @@ pub(crate) fn column_of(alloc: Global, value: &Value) -> Result<Array, DocError>
         "Bool" => bool_by(alloc, value, validity_stated(alloc, value)?),
         "Primitive" => primitive_by(alloc, value, validity_stated(alloc, value)?),
         "Decimal" => decimal_by(alloc, value, validity_stated(alloc, value)?),
+        "Constant" => constant_by(alloc, value),
+        "Dict" => dict_in(alloc, value),
+        "Filter" => filter_in(alloc, value),
         _ => Err(DocError::Malformed),
     }
+}
+
+/// The column of layout `Dict` that the value means.
+#[cycle(columns)]
+#[tactic(auto, unfolding(crate::specs::Columns::dict_in))]
+fn dict_in(alloc: Global, value: &Value) -> Result<Array, DocError>
+    ensures { Gives (λ c. c) result (dict_in (view value.now) (inner_of (view value.now))) }
+{
+    let values = column_of(alloc, member(value, "values")?)?;
+    let codes = column_of(alloc, member(value, "codes")?)?;
+    dict_by(alloc, value, codes, values)
+}
+
+/// The column of layout `Filter` that the value means.
+#[cycle(columns)]
+#[tactic(auto, unfolding(crate::specs::Columns::filter_in))]
+fn filter_in(alloc: Global, value: &Value) -> Result<Array, DocError>
+    ensures { Gives (λ c. c) result (filter_in (view value.now) (inner_of (view value.now))) }
+{
+    let child = column_of(alloc, member(value, "child")?)?;
+    filter_by(alloc, value, child)
 }
 
 /// The validity that the value states, if it states one.

@@ -3,11 +3,16 @@
 
 mod boolean;
 mod columns;
+mod constant;
 mod decimal;
+mod dict;
 mod documents;
+mod filter;
 mod indices;
 mod later;
 mod null;
+mod numbers;
+mod pieces;
 mod primitive;
 mod reading;
 mod steps;

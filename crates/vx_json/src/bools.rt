@@ -1,5 +1,5 @@
 //! Lists of bits, an item a bit, and which items of a list are there.
-ghost use Rattle.std.specs.Prelude.{◌≡◌, ◌≤◌, Some, length, option_map};
+ghost use Rattle.std.specs.Prelude.{◌≡◌, ◌≤◌, IfOk, Some, length, option_map};
 ghost use Rattle.serde_json.specs.Find.{as_bool};
 ghost use Rattle.serde_json.specs.View.{view, items_view};
 ghost use Rattle.vx_bits.specs.Words.{word_bits};
@@ -41,18 +41,28 @@ fn read_word<R: ReadBit>(reader: &R, items: &[Value]) -> Result<u64, DocError>
     Ok(word)
 }
 
-/// The bits that the items mean, 64 at a time. `Malformed` where one means none.
+/// The bits that the items mean, 64 at a time, the first one at that offset in its byte.
+/// `Malformed` where one means none.
 #[inline(always)]
-fn read_bits<R: ReadBit>(alloc: Global, reader: &R, items: &[Value]) -> Result<BitBuffer, DocError>
-    ensures { Gives (λ b. b.bits) result (each (R.bit reader.now) (items_view items.now)) }
+fn read_bits<R: ReadBit>(
+    alloc: Global,
+    reader: &R,
+    items: &[Value],
+    offset: usize,
+) -> Result<BitBuffer, DocError>
+    requires { offset ≤ 7 }
+    ensures bits { Gives (λ b. b.bits) result (each (R.bit reader.now) (items_view items.now)) }
+    ensures offset { IfOk result (λ b. b.offset ≡ offset) }
 {
-    let mut bits = BitBuilder::with_capacity(alloc, items.len())?;
+    let mut bits = BitBuilder::with_capacity(alloc, offset + items.len())?;
+    bits.append_n(false, offset)?;
     for i in 0..items.len() / 64 {
         bits.append_word(read_word(reader, &items[64 * i..64 * i + 64])?, 64)?;
     }
     let rest = &items[items.len() - items.len() % 64..];
     bits.append_word(read_word(reader, rest)?, rest.len())?;
-    Ok(bits.finish()?)
+    let all = bits.finish()?;
+    Ok(all.slice(offset, all.len()))
 }
 
 #[derive(Clone, Copy)]
@@ -107,14 +117,20 @@ impl ReadBit for Presence {
 pub fn bools_of(alloc: Global, items: &Vec<Value>) -> Result<BitBuffer, DocError>
     ensures { Gives (λ b. b.bits) result (each as_bool (items_view items.now.items)) }
 {
-    read_bits(alloc, &Bools, items)
+    read_bits(alloc, &Bools, items, 0)
 }
 
-/// The same of bools and nulls, each null a clear bit.
-pub fn bools_or_nulls_of(alloc: Global, items: &Vec<Value>) -> Result<BitBuffer, DocError>
-    ensures { Gives (λ b. b.bits) result (each bool_or_clear (items_view items.now.items)) }
+/// The same of bools and nulls, each null a clear bit, the first one at that offset in its byte.
+pub fn bools_or_nulls_of(
+    alloc: Global,
+    items: &Vec<Value>,
+    offset: usize,
+) -> Result<BitBuffer, DocError>
+    requires { offset ≤ 7 }
+    ensures bits { Gives (λ b. b.bits) result (each bool_or_clear (items_view items.now.items)) }
+    ensures offset { IfOk result (λ b. b.offset ≡ offset) }
 {
-    read_bits(alloc, &BoolsOrNulls, items)
+    read_bits(alloc, &BoolsOrNulls, items, offset)
 }
 
 /// Whether an item is null.
@@ -138,5 +154,5 @@ pub fn presence_of(alloc: Global, items: &Vec<Value>) -> Result<Option<BitBuffer
     if !has_null(items) {
         return Ok(None);
     }
-    Ok(Some(read_bits(alloc, &Presence, items)?))
+    Ok(Some(read_bits(alloc, &Presence, items, 0)?))
 }

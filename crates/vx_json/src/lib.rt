@@ -23,5 +23,5 @@ pub use letting_go::let_go;
 pub use masks::mask_of;
 pub use members::{bool_in, is_among, is_closed, items_in, member, text_in};
 pub use policies::policy_found;
-pub use values::{hex_values_of, ptype_named, ramp_of, values_of};
+pub use values::{hex_value_of, hex_values_of, ptype_named, ramp_of, value_of, values_of};
 pub use wholes::{GREATEST_LEN, at_most, pair_of, pairs_in, whole_of, wholes_in};

@@ -183,6 +183,64 @@ pub fn hex_values_of(alloc: Global, width: usize, items: &Vec<Value>) -> Result<
     }
 }
 
+// The bytes of a record, as a list of their own.
+fn bytes_of(alloc: Global, bytes: &[u8]) -> Result<Buffer<u8>, NoMemory>
+    ensures { IfOk result (λ b. b ≡ bytes.now) }
+{
+    Buffer::from_vec(alloc, Vec::from_slice(alloc, bytes)?)
+}
+
+fn whole_value<const W: usize>(
+    alloc: Global,
+    ptype: PType,
+    value: &Value,
+) -> Result<Buffer<u8>, DocError>
+    requires { W ≡ width ptype }
+    ensures { Gives (λ b. b) result (or_zero W (whole_record W ptype) (view value.now)) }
+{
+    let bytes = WholeItem::<W> { ptype }.read(alloc, value)?;
+    Ok(bytes_of(alloc, &bytes)?)
+}
+
+fn hex_value<const W: usize>(alloc: Global, value: &Value) -> Result<Buffer<u8>, DocError>
+    requires { W ≤ 32 }
+    ensures { Gives (λ b. b) result (hex_or_zero W (view value.now)) }
+{
+    let bytes = HexItem::<W>.read(alloc, value)?;
+    Ok(bytes_of(alloc, &bytes)?)
+}
+
+/// The record of one value of the type, read as an item of `values_of` is.
+pub fn value_of(alloc: Global, ptype: PType, value: &Value) -> Result<Buffer<u8>, DocError>
+    ensures { Gives (λ b. b) result (value_or_zero (width ptype) ptype (view value.now)) }
+{
+    match ptype {
+        PType::U8 | PType::I8 => whole_value::<1>(alloc, ptype, value),
+        PType::U16 | PType::I16 => whole_value::<2>(alloc, ptype, value),
+        PType::U32 | PType::I32 => whole_value::<4>(alloc, ptype, value),
+        PType::U64 | PType::I64 => whole_value::<8>(alloc, ptype, value),
+        PType::F16 => hex_value::<2>(alloc, value),
+        PType::F32 => hex_value::<4>(alloc, value),
+        PType::F64 => hex_value::<8>(alloc, value),
+    }
+}
+
+/// The record, of that many bytes, of one value, read as an item of `hex_values_of` is.
+pub fn hex_value_of(alloc: Global, width: usize, value: &Value) -> Result<Buffer<u8>, DocError>
+    requires { is_width width ≡ true }
+    ensures { Gives (λ b. b) result (hex_or_zero width (view value.now)) }
+{
+    match width {
+        1 => hex_value::<1>(alloc, value),
+        2 => hex_value::<2>(alloc, value),
+        4 => hex_value::<4>(alloc, value),
+        8 => hex_value::<8>(alloc, value),
+        16 => hex_value::<16>(alloc, value),
+        32 => hex_value::<32>(alloc, value),
+        _ => unreachable!(),
+    }
+}
+
 fn ramp_records<const W: usize>(
     alloc: Global,
     ptype: PType,

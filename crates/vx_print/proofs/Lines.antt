@@ -1,5 +1,5 @@
 -- Rows that are stored as records.
-use Rattle.std.proofs.Common.{◌≡◌, ℕ, ◌+◌, ◌-◌, ◌*◌, ◌^◌, ◌<◌, ◌≤◌, Bool, true, false, List, map, length, take, drop, get_or, min, Option, Some, None, sym, ap, ap₂, ◌∙◌, length-drop, arith}
+use Rattle.std.proofs.Common.{◌≡◌, ℕ, ◌-◌, ◌*◌, ◌^◌, ◌<◌, Bool, true, false, List, map, length, take, drop, get_or, min, Option, Some, None, sym, ap, ap₂, ◌∙◌, length-drop, arith}
 use Rattle.std.specs.Prelude.{if◌then◌else◌, replicate}
 use Rattle.std.proofs.lemmas.List.{length-map, get_or-map, length-take-le, take-map, drop-map, take-take, take_all}
 use Rattle.vx_bits.specs.Words.{word_at, word_bits}

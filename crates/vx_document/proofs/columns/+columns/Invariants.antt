@@ -7,6 +7,12 @@ use Rattle.vx_document.proofs.columns.+columns.Given as goal
 abbrev pub decreases-column_of : goal.decreases-column_of
 decreases-column_of l = 3 * depth (view l.value.now) + 1
 
+abbrev pub decreases-dict_in : goal.decreases-dict_in
+decreases-dict_in l = 3 * depth (view l.value.now)
+
+abbrev pub decreases-filter_in : goal.decreases-filter_in
+decreases-filter_in l = 3 * depth (view l.value.now)
+
 abbrev pub decreases-validity_stated : goal.decreases-validity_stated
 decreases-validity_stated l = 3 * depth (view l.value.now)
 

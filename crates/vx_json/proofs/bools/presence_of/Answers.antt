@@ -11,11 +11,11 @@ returns c =
     let ds = items_view c.args.items.now.items in
     let found : has_null ds ≡ true = cc in
     let read : Some c.in_ok-read_bits.field-0.bits ≡ Some (presence ds) =
-    sym c.in_ok-read_bits.ensures ∙ rw c.deref.ensures.value (each-presence ds) in
+    sym c.in_ok-read_bits.ensures.bits ∙ rw c.deref.ensures.value (each-presence ds) in
     rw found (ap Some (sym read))
 
 pub returns-in_err-read_bits : goal.returns-in_err-read_bits
 returns-in_err-read_bits c =
     let r = c.from_residual in
     let p = err_from_is_err_and r.result r.ensures.1 in
-    rw (p.1, p.2) (each-presence_fails (items_view c.deref.result.now) c.in_err-read_bits.field-0.0 (presence_of (items_view c.args.items.now.items)) c.in_err-read_bits.ensures)
+    rw (p.1, p.2) (each-presence_fails (items_view c.deref.result.now) c.in_err-read_bits.field-0.0 (presence_of (items_view c.args.items.now.items)) c.in_err-read_bits.ensures.bits)
