@@ -3,6 +3,7 @@
 
 mod chunk_shape;
 mod chunked;
+mod part;
 mod selection;
 
 pub use chunk_shape::ChunkShape;
