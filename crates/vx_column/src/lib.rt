@@ -35,6 +35,7 @@ pub use null::NullArray;
 pub use primitive::PrimitiveArray;
 pub use validity::Validity;
 pub use view::ArrayView;
+pub use vtables::VTable;
 pub use vx_types::{
     ByteList, ColumnError, DType, DecimalDType, LayoutName, Nullability, PType, Row, Runs, Scalar,
     ScalarValue, match_each_integer_ptype, record_of,

@@ -7,17 +7,16 @@ use std::alloc::AllocError;
 use std::marker::PhantomData;
 use vx_types::LayoutName;
 
-/// A borrowed column of the layout `V`: Vortex's `ArrayView`.
+/// A borrowed column of the layout `V`: Vortex's `ArrayView`. [`Array::as_opt`] alone makes one.
 #[derive(Drop)]
-pub struct ArrayView<'a, V: VTable> {
+pub struct ArrayView<'a, V> {
     array: &'a Array,
     vtable: PhantomData<V>,
-    pub ghost layout: { array.now.layout ≡ V.NAME },
 }
 
-impl<'a, V: VTable> Copy for ArrayView<'a, V> {}
+impl<'a, V> Copy for ArrayView<'a, V> {}
 
-impl<'a, V: VTable> Clone for ArrayView<'a, V> {
+impl<'a, V> Clone for ArrayView<'a, V> {
     ghost is_clone = { λ s copy. copy ≡ s };
 
     ghost is_infallible = { λ _. ⊤ };
@@ -27,11 +26,10 @@ impl<'a, V: VTable> Clone for ArrayView<'a, V> {
     }
 }
 
-impl<'a, V: VTable> ArrayView<'a, V> {
+impl<'a, V> ArrayView<'a, V> {
     /// The column.
     pub fn array(&self) -> &'a Array
-        ensures value { result ≡ self.now.array }
-        ensures layout { result.now.layout ≡ V.NAME }
+        ensures { result ≡ self.now.array }
     {
         self.array
     }
