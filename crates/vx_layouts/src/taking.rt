@@ -65,7 +65,10 @@ pub fn take(
     policy: &Policy,
 ) -> Result<Array, TakeError>
     ensures taken { IfOk result (IsTakeBy (index_value indices.now) array.now) }
-    ensures fault { FailsBy result (take_fault array.now (index_value indices.now)) TakeError.NoMemory }
+    ensures fault { FailsBy result
+        (take_fault array.now (index_value indices.now)) TakeError.NoMemory }
+    ensures null { is_null_layout array.now.layout ≡ true
+        → take_fault array.now (index_value indices.now) ≡ None → IsOk result }
 {
     if let Some(error) = take_fault(array, indices) {
         return Err(error);
