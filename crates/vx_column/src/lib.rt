@@ -20,6 +20,8 @@ mod primitive;
 mod rows;
 mod shown;
 mod validity;
+mod view;
+pub mod vtables;
 
 pub use array::{Array, ArrayRef, Layout};
 pub use boolean::BoolArray;
@@ -32,6 +34,8 @@ pub use flat::FlatRef;
 pub use null::NullArray;
 pub use primitive::PrimitiveArray;
 pub use validity::Validity;
+pub use view::ArrayView;
+pub use vtables::VTable;
 pub use vx_types::{
     ByteList, ColumnError, DType, DecimalDType, LayoutName, Nullability, PType, Row, Runs, Scalar,
     ScalarValue, match_each_integer_ptype, record_of,

@@ -10,7 +10,8 @@ use crate::array::Array;
 use std::alloc::Global;
 use vx_bits::NoMemory;
 use vx_numbers::{
-    Numbers, first_bad, first_bad_by_bits, first_bad_present, picks_by_bits, picks_of, picks_present,
+    Numbers, first_bad, first_bad_by_bits, first_bad_present, picks_by_bits, picks_of,
+    picks_present,
 };
 use vx_take::Picks;
 use vx_types::PType;

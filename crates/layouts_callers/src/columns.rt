@@ -1,0 +1,75 @@
+//! Small columns, masks and indices.
+use std::alloc::Global;
+use std::test::Fail;
+use vx_bits::{BitBuffer, Buffer, NoMemory, Records};
+use vx_column::{
+    Array, ArrayRef, BoolArray, ConstantArray, DType, DecimalArray, DecimalDType, DictArray,
+    FilterArray, FlatRef, Nullability, PType, PrimitiveArray, Scalar, ScalarValue, Validity,
+    record_of,
+};
+use vx_mask::Mask;
+use vx_pieces::{Indices, PiecewiseSequence};
+
+pub(crate) fn mask(alloc: Global, bits: &[bool]) -> Result<Mask, NoMemory> {
+    Ok(Mask::from_buffer(BitBuffer::from_bools(alloc, bits)?))
+}
+
+pub(crate) fn bools(alloc: Global, bits: &[bool]) -> Result<Array, Fail> {
+    let bits = BitBuffer::from_bools(alloc, bits)?;
+    Ok(BoolArray::try_new(bits, Validity::NonNullable)?.into_array())
+}
+
+fn byte_records(alloc: Global, values: &[[u8; 1]]) -> Result<Records, NoMemory> {
+    Ok(Records::W1(Buffer::from_vec(alloc, Vec::from_slice(alloc, values)?)?))
+}
+
+pub(crate) fn bytes(alloc: Global, values: &[[u8; 1]]) -> Result<Array, Fail> {
+    let values = byte_records(alloc, values)?;
+    Ok(PrimitiveArray::try_new(PType::U8, values, Validity::NonNullable)?.into_array())
+}
+
+/// Decimal numbers of two digits, stored in a byte.
+pub(crate) fn decimals(alloc: Global, values: &[[u8; 1]]) -> Result<Array, Fail> {
+    let dtype = DecimalDType::try_new(2, 0, 1)?;
+    let values = byte_records(alloc, values)?;
+    Ok(DecimalArray::try_new(dtype, values, Validity::NonNullable)?.into_array())
+}
+
+pub(crate) fn filtered(alloc: Global, child: Array, bits: &[bool]) -> Result<Array, Fail> {
+    let child = child.into_ref(alloc)?;
+    Ok(FilterArray::try_new(child, mask(alloc, bits)?)?.into_array())
+}
+
+pub(crate) fn dict(alloc: Global, codes: Array, values: Array) -> Result<Array, Fail> {
+    let codes = codes.into_ref(alloc)?;
+    Ok(DictArray::try_new(codes, values.into_ref(alloc)?)?.into_array())
+}
+
+/// These indices.
+pub(crate) fn indices(alloc: Global, values: &[[u8; 1]]) -> Result<Indices, Fail> {
+    let column = bytes(alloc, values)?.into_ref(alloc)?;
+    Ok(Indices::Array(FlatRef::try_new(column)?))
+}
+
+/// So many rows of type `u64`, each this number.
+fn constant(alloc: Global, number: i128, len: usize) -> Result<ArrayRef, Fail> {
+    let dtype = DType::Primitive(PType::U64, Nullability::NonNullable);
+    let bytes = Vec::from_slice(alloc, &record_of::<8>(number))?;
+    let value = ScalarValue::Bytes(Buffer::from_vec(alloc, bytes)?);
+    let column = ConstantArray::new(Scalar::try_new(dtype, value)?, len).into_array();
+    Ok(column.into_ref(alloc)?)
+}
+
+/// A filter that keeps all of so many rows, each the number 7.
+pub(crate) fn filtered_sevens(alloc: Global, len: usize) -> Result<Array, Fail> {
+    let child = constant(alloc, 7, len)?;
+    Ok(FilterArray::try_new(child, Mask::AllTrue(len))?.into_array())
+}
+
+/// Index 0, so many times: one piece.
+pub(crate) fn zeros(alloc: Global, len: usize) -> Result<Indices, Fail> {
+    let start = constant(alloc, 0, 1)?;
+    let length = constant(alloc, len as i128, 1)?;
+    let pieces = PiecewiseSequence::try_new(start.share(), length, start, len)?;
+    Ok(Indices::Pieces(pieces))
+}

@@ -1,0 +1,17 @@
+//! Calls the steps of layouts through their traits, and prints what each gives.
+#![tactic(auto)]
+
+mod columns;
+mod print;
+mod steps;
+
+use std::test::Fail;
+
+fn main(rt: HostRuntime) -> Result<(), Fail> {
+    steps::print_views(&rt, rt.alloc())?;
+    steps::print_bools(&rt, rt.alloc())?;
+    steps::print_dict(&rt, rt.alloc())?;
+    steps::print_takes(&rt, rt.alloc())?;
+    steps::print_lazy_takes(&rt, rt.alloc())?;
+    steps::print_long_takes(&rt, rt.alloc())
+}

@@ -1,0 +1,31 @@
+//! The rows of a step's answer, in a line.
+use std::alloc::Global;
+use std::test::Fail;
+use vx_column::{Array, Row};
+
+fn print_row(rt: &impl Print, row: &Row) -> Result<(), Fail> {
+    match row {
+        Row::Null => print!(rt; " null")?,
+        Row::Bit(bit) => print!(rt; " {bit}")?,
+        Row::Bytes(bytes) => print!(rt; " {:?}", bytes.as_slice())?,
+    }
+    Ok(())
+}
+
+/// The rows, or that there are none since the step is left to the caller.
+pub(crate) fn print_answer(
+    rt: &impl Print,
+    alloc: Global,
+    answer: &Option<Array>,
+) -> Result<(), Fail> {
+    match answer {
+        Some(array) => {
+            for i in 0..array.len() {
+                print_row(rt, &array.row_at(alloc, i)?)?;
+            }
+            println!(rt; "")?;
+        }
+        None => println!(rt; " None")?,
+    }
+    Ok(())
+}

@@ -1,0 +1,83 @@
+//! The layouts as types.
+ghost use Rattle.vx_types.specs.declared.layout_name.LayoutName.{LayoutName};
+ghost use Rattle.vx_types.specs.declared.layout_name.LayoutName.TheVariants.{Null as NullName, Bool as BoolName, Primitive as PrimitiveName, Decimal as DecimalName, Constant as ConstantName, Dict as DictName, Filter as FilterName};
+
+use vx_types::LayoutName;
+
+/// A layout as a type, which generic code is written over: Vortex's `VTable`.
+pub trait VTable {
+    /// The layout's name.
+    const NAME: LayoutName;
+
+    ghost NAME: { LayoutName };
+}
+
+/// Layout `Null`.
+#[derive(Debug, Clone, Copy, Default)]
+pub struct Null;
+
+impl VTable for Null {
+    const NAME: LayoutName = LayoutName::Null;
+
+    ghost NAME = { NullName };
+}
+
+/// Layout `Bool`.
+#[derive(Debug, Clone, Copy, Default)]
+pub struct Bool;
+
+impl VTable for Bool {
+    const NAME: LayoutName = LayoutName::Bool;
+
+    ghost NAME = { BoolName };
+}
+
+/// Layout `Primitive`.
+#[derive(Debug, Clone, Copy, Default)]
+pub struct Primitive;
+
+impl VTable for Primitive {
+    const NAME: LayoutName = LayoutName::Primitive;
+
+    ghost NAME = { PrimitiveName };
+}
+
+/// Layout `Decimal`.
+#[derive(Debug, Clone, Copy, Default)]
+pub struct Decimal;
+
+impl VTable for Decimal {
+    const NAME: LayoutName = LayoutName::Decimal;
+
+    ghost NAME = { DecimalName };
+}
+
+/// Layout `Constant`.
+#[derive(Debug, Clone, Copy, Default)]
+pub struct Constant;
+
+impl VTable for Constant {
+    const NAME: LayoutName = LayoutName::Constant;
+
+    ghost NAME = { ConstantName };
+}
+
+/// Layout `Dict`.
+#[derive(Debug, Clone, Copy, Default)]
+pub struct Dict;
+
+impl VTable for Dict {
+    const NAME: LayoutName = LayoutName::Dict;
+
+    ghost NAME = { DictName };
+}
+
+/// Layout `Filter`.
+#[derive(Debug, Clone, Copy, Default)]
+pub struct Filter;
+
+impl VTable for Filter {
+    const NAME: LayoutName = LayoutName::Filter;
+
+    ghost NAME = { FilterName };
+}

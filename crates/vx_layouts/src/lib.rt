@@ -1,0 +1,19 @@
+//! Steps over a column whose layout is known: one trait for each step and each time of it.
+//!
+//! A layout that has the trait of a step answers that step itself, or leaves it to its caller by
+//! `None`, who then unwraps the column first. `slice`, `filter`, `take` and `execute` go over every
+//! layout.
+#![tactic(auto)]
+
+mod boolean;
+mod decimal;
+mod dict;
+mod filter_layout;
+mod null;
+mod primitive;
+mod taking;
+mod traits;
+
+pub use taking::{TakeError, take};
+pub use traits::{FilterKernel, FilterReduce, SliceKernel, SliceReduce, TakeExecute, TakeReduce};
+pub use vx_dispatch::{execute, filter, slice};
