@@ -1,18 +1,22 @@
 //! Layout `Decimal`.
-ghost use Rattle.std.specs.Prelude.{◌≡◌, ◌≤◌, length, true, IfOk, IsOk};
+ghost use Rattle.std.specs.Prelude.{◌≡◌, ◌≤◌, length, None, true, IfOk, IfSome, IsOk};
 ghost use Rattle.std.specs.List.{items_where_true};
 ghost use Rattle.vx_model.specs.Decimal.{decimal_column};
 ghost use Rattle.vx_model.specs.Plain.{is_plain, is_unwrapped};
 ghost use Rattle.vx_model.specs.Step.{IsSlice, IsCut, IsStep, IsTake};
+ghost use Rattle.vx_pieces.specs.Indices.{by_pieces, index_picks};
+ghost use Rattle.vx_pieces.specs.Pieces.{expand, first_from, is_sound};
 ghost use Rattle.vx_numbers.specs.Positions.{AllThere};
 ghost use Rattle.vx_types.specs.declared.nullability.Nullability.TheVariants.{NonNullable};
 
+use crate::runs::runs_of;
 use crate::validity::{execute_validity, filter_validity, slice_validity, take_validity};
 use std::alloc::Global;
 use vx_bits::NoMemory;
 use vx_column::{Array, DecimalArray, Nullability};
-use vx_flat::{filter_decimal, take_decimal};
+use vx_flat::{filter_decimal, take_decimal, take_decimal_runs};
 use vx_mask::{MaskValues, Policy};
+use vx_pieces::PiecewiseSequence;
 use vx_take::Picks;
 
 #[cycle(slice)]
@@ -68,6 +72,31 @@ pub(crate) fn take_of(
 {
     let validity = take_validity(alloc, array.validity(), picks, nullability, policy)?;
     Ok(take_decimal(alloc, array, picks, validity)?.into_array())
+}
+
+// The rows at the numbers of a sequence whose pieces are runs. None where they aren't, and where
+// the validity isn't a constant form.
+pub(crate) fn take_runs_of(
+    alloc: Global,
+    array: &DecimalArray,
+    pieces: &PiecewiseSequence,
+) -> Result<Option<Array>, NoMemory>
+    requires sound { is_sound pieces.now ≡ true }
+    requires within { first_from (length (decimal_column array.now).rows) (expand pieces.now) ≡ None }
+    ensures { IfOk result (λ taken. IfSome taken (IsTake (decimal_column array.now)
+        (index_picks (by_pieces pieces.now)) NonNullable)) }
+{
+    let validity = array.validity();
+    if !validity.is_constant_form() {
+        return Ok(None);
+    }
+    match runs_of(alloc, pieces)? {
+        Some(runs) => {
+            let taken = take_decimal_runs(alloc, array, runs.as_slice(), validity.share())?;
+            Ok(Some(taken.into_array()))
+        }
+        None => Ok(None),
+    }
 }
 
 /// The same rows, with the validity unwrapped.

@@ -11,6 +11,7 @@ mod filtering;
 mod null;
 mod primitive;
 mod ranges;
+mod runs;
 mod slicing;
 mod taking;
 mod validity;

@@ -6,6 +6,7 @@ ghost use Rattle.vx_pieces.specs.Indices.{index_fault, index_nullability, index_
 ghost use Rattle.vx_model.specs.Plain.{is_null_layout};
 ghost use Rattle.vx_model.specs.Step.{IsTake};
 
+use crate::runs::take_by_runs;
 use crate::{boolean, constant, decimal, dict, filter_layout, null, primitive};
 use std::alloc::Global;
 use vx_bits::NoMemory;
@@ -54,9 +55,24 @@ pub fn take(
 {
     match array.layout() {
         Layout::Null(a) => Ok(null::nulls_for(a, indices)),
-        _ => {
-            let picks = indices.picks(alloc, array.len())?;
-            Ok(take_picks(alloc, array, &picks, indices.nullability(), policy)?)
-        }
+        _ => match take_by_runs(alloc, array, indices)? {
+            Some(taken) => Ok(taken),
+            None => take_by_picks(alloc, array, indices, policy),
+        },
     }
+}
+
+// The same from one index to the next, over every layout.
+fn take_by_picks(
+    alloc: Global,
+    array: &Array,
+    indices: &Indices,
+    policy: &Policy,
+) -> Result<Array, NoMemory>
+    requires { index_fault (index_value indices.now) (length array.now.rows) ≡ None }
+    ensures { IfOk result (IsTake array.now (index_picks (index_value indices.now))
+        (index_nullability (index_value indices.now))) }
+{
+    let picks = indices.picks(alloc, array.len())?;
+    Ok(take_picks(alloc, array, &picks, indices.nullability(), policy)?)
 }
