@@ -1,3 +1,4 @@
 pub mod ChunkRows
+pub mod Parts
 pub mod PickedCalls
 pub mod Selecting

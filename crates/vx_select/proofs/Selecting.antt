@@ -9,7 +9,8 @@ use Rattle.vx_types.specs.declared.nullability.Nullability.{Nullability}
 use Rattle.vx_types.specs.RowValue.{RowValue, null}
 use Rattle.vx_model.specs.Column.{Column}
 use Rattle.vx_types.specs.declared.layout_name.LayoutName.{LayoutName}
-use Rattle.vx_model.specs.Plain.{is_null_layout, is_in_place, is_plain}
+use Rattle.vx_model.specs.Valid.{is_constant_form, is_bools}
+use Rattle.vx_model.specs.Plain.{is_row_layout, is_unwrapped, is_null_layout, is_in_place, is_plain}
 use Rattle.vx_take.specs.Picks.{at, item_at}
 use Rattle.vx_pieces.specs.Indices.{index_nullability}
 use Rattle.vx_model.specs.Step.{IsStep}
@@ -108,3 +109,19 @@ pub free_step : (c now : Column) (steps : List StepValue) (k : ℕ) (s : StepVal
 free_step c now steps k s a left h is =
     elim (free_of (is_null_layout c.layout) (is_plain c) (list_all is_slice steps) a)
     [ inl none ↦ inl (left.null none) | inr (plain, slices) ↦ inr (slice_among steps k s slices h is, left.plain slices plain) ]
+
+-- where no step wants memory, what they left is plain
+pub left_plain : (c now : Column) (steps : List StepValue) (k : ℕ) → needs_no_memory c steps ≡ true → IsLeftOf c steps k now → is_plain now ≡ true
+left_plain c now steps k a left =
+    elim (free_of (is_null_layout c.layout) (is_plain c) (list_all is_slice steps) a)
+    [ inl none ↦ ap (λ b. b || (is_row_layout now.layout && is_constant_form now.cover)) (left.null none) | inr (plain, slices) ↦ left.plain slices plain ]
+
+unwrapped_by : (none rows constant bools : Bool) → (none || (rows && constant)) ≡ true → (none || (rows && (constant || bools))) ≡ true
+unwrapped_by true rows constant bools h = refl
+unwrapped_by false true true bools h = refl
+unwrapped_by false true false bools h = cc
+unwrapped_by false false constant bools h = cc
+
+-- and so unwrapped
+pub plain_unwrapped : (c : Column) → is_plain c ≡ true → is_unwrapped c ≡ true
+plain_unwrapped c h = unwrapped_by (is_null_layout c.layout) (is_row_layout c.layout) (is_constant_form c.cover) (is_bools c.cover) h

@@ -8,11 +8,11 @@ ghost use Rattle.vx_types.specs.RowValue.{bytes, null};
 ghost use Rattle.vx_types.specs.TypeTree.{also_nullable, is_flat, type_width, with_nullability};
 ghost use Rattle.vx_mask.specs.Policy.{sparse_limit_of};
 ghost use Rattle.vx_model.specs.Plain.{is_unwrapped};
-ghost use Rattle.vx_model.specs.Valid.{is_fitting, nullability_by, stored_rows};
+ghost use Rattle.vx_model.specs.Valid.{cover_by, is_fitting, is_flat_cover, nullability_by, stored_rows};
 ghost use Rattle.vx_column.specs.Validity.{valid_of};
 ghost use Rattle.vx_take.specs.Picks.{at, item_at};
 ghost use Rattle.vx_types.specs.declared.nullability.Nullability.TheVariants.{NonNullable};
-ghost use Rattle.vx_pieces.specs.Indices.{AllThere};
+ghost use Rattle.vx_numbers.specs.Positions.{AllThere};
 ghost use Rattle.vx_chunked.specs.Asked.{touched};
 ghost use Rattle.vx_steps.specs.Step.{step_value};
 ghost use Rattle.vx_steps.specs.Walk.{walk};
@@ -25,7 +25,7 @@ use std::alloc::Global;
 use vx_bits::{Buffer, NoMemory, Records};
 use vx_chunked::{ChunkDecoder, filter_chunked_mask};
 use vx_column::{Array, DType, DecimalArray, Nullability, PrimitiveArray, Validity};
-use vx_dispatch::{execute, take_validity};
+use vx_dispatch::take_validity;
 use vx_mask::Policy;
 use vx_steps::{ChunkShape, SelectError, Step, compose, takes_nullability};
 use vx_take::{Picks, needed, ranks_in};
@@ -85,14 +85,16 @@ fn taken_records<const W: usize>(
     }
 }
 
-// The column of these records, of this type and as nullable as the validity. It takes no memory.
+// The column of these records, of this type and as nullable as the validity, which is unwrapped.
+// It takes no memory.
 fn column_of(dtype: &DType, values: Records, validity: Validity) -> Array
     requires width { type_width (type_of dtype.now) ≡ Some (width_of values) }
     requires fitting { is_fitting (valid_of validity) (length (records_of values)) ≡ true }
+    requires flat { is_flat_cover (cover_by (valid_of validity)) ≡ true }
     ensures rows { result.rows ≡ stored_rows (valid_of validity) (map bytes (records_of values)) }
     ensures dtype { result.dtype
         ≡ with_nullability (type_of dtype.now) (nullability_by (valid_of validity)) }
-    ensures flat { is_flat result.dtype ≡ true }
+    ensures unwrapped { is_unwrapped result ≡ true }
 {
     match dtype {
         DType::Primitive(ptype, _) => match PrimitiveArray::try_new(*ptype, values, validity) {
@@ -134,14 +136,14 @@ fn take_chunked<const W: usize, D: ChunkDecoder<[u8; W]>>(
     ensures cost { D.spare decoder.old
         ≤ D.spare decoder.new + touched shape.now.offset shape.now.len }
 {
-    let validity = take_validity(alloc, shape.validity(), picks, nullability)?;
+    let validity = take_validity(alloc, shape.validity(), picks, nullability, policy)?;
     let mask = needed(alloc, picks)?;
     let ranks = ranks_in(alloc, picks, &mask)?;
     // records are of the type's width
     let _ = shape.width();
     let kept = filter_chunked_mask(alloc, decoder, shape.offset(), &mask, policy)?;
     let values = taken_records(alloc, kept.as_slice(), &ranks)?;
-    Ok(execute(&column_of(shape.dtype(), values, validity)))
+    Ok(column_of(shape.dtype(), values, validity))
 }
 
 /// The rows that the steps pick of the column of this shape, whose values the decoder has: in

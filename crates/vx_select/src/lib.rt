@@ -2,6 +2,7 @@
 #![tactic(auto)]
 
 mod chunked;
+mod part;
 mod selection;
 
 pub use chunked::select_chunked;

@@ -1,5 +1,7 @@
 //! The answer to a list of steps over a column in memory.
 ghost use Rattle.std.specs.Prelude.{◌≡◌, ◌≢◌, None, length, map, true, IfOk, IsOk, IsOkAnd, Err};
+ghost use Rattle.std.specs.List.{items_where_true};
+ghost use Rattle.vx_mask.specs.Mask.{mask_bits};
 ghost use Rattle.vx_types.specs.RowValue.{null};
 ghost use Rattle.vx_types.specs.TypeTree.{is_flat};
 ghost use Rattle.vx_model.specs.Plain.{is_null_layout, is_plain, is_unwrapped};
@@ -9,26 +11,46 @@ ghost use Rattle.vx_steps.specs.Walk.{apply, broken};
 ghost use Rattle.vx_steps.specs.Answer.{answer, type_after_step};
 ghost use Rattle.vx_select.specs.Select.{IsAnswer, needs_no_memory};
 
+use crate::part::Part;
 use std::alloc::Global;
 use vx_bits::NoMemory;
 use vx_column::Array;
-use vx_dispatch::{execute, filter, slice, take};
-use vx_mask::Policy;
+use vx_dispatch::{execute, filter, take};
+use vx_mask::{Mask, Policy};
 use vx_steps::{SelectError, Step, check_steps};
 
-// What one step that breaks no rule leaves.
-fn apply(alloc: Global, column: &Array, step: &Step, policy: &Policy) -> Result<Array, NoMemory>
-    requires { broken (step_value step.now) (length column.now.rows) ≡ None }
-    ensures step { IfOk result (IsStep column.now (apply null (step_value step.now) column.now.rows)
-        (type_after_step column.now.dtype (step_value step.now))) }
-    ensures plain { is_slice (step_value step.now) ≡ true → is_plain column.now ≡ true
+// The rows at the set positions of a mask that is as long: the part itself where these are all.
+fn kept(alloc: Global, part: Part, mask: &Mask, policy: &Policy) -> Result<Part, NoMemory>
+    requires { length (mask_bits mask.now) ≡ length part.rows }
+    ensures step { IfOk result
+        (IsStep part (items_where_true (mask_bits mask.now) part.rows) part.dtype) }
+    ensures null { is_null_layout part.layout ≡ true → IsOk result }
+{
+    if let Mask::AllTrue(_) = mask {
+        return Ok(part);
+    }
+    let column = part.cut(alloc)?;
+    let rows = filter(alloc, &column, mask, policy)?;
+    Ok(Part::whole(rows))
+}
+
+// What one step that breaks no rule leaves. A slice, and a filter that keeps all, take no memory.
+fn apply(alloc: Global, part: Part, step: &Step, policy: &Policy) -> Result<Part, NoMemory>
+    requires { broken (step_value step.now) (length part.rows) ≡ None }
+    ensures step { IfOk result (IsStep part (apply null (step_value step.now) part.rows)
+        (type_after_step part.dtype (step_value step.now))) }
+    ensures plain { is_slice (step_value step.now) ≡ true → is_plain part ≡ true
         → IsOkAnd result (λ a. is_plain a ≡ true) }
-    ensures null { is_null_layout column.now.layout ≡ true → IsOk result }
+    ensures null { is_null_layout part.layout ≡ true → IsOk result }
 {
     match step {
-        Step::Slice { start, end } => slice(alloc, column, *start, *end),
-        Step::Filter(mask) => filter(alloc, column, mask, policy),
-        Step::Take(indices) => take(alloc, column, indices),
+        Step::Slice { start, end } => Ok(part.narrowed(*start, *end)),
+        Step::Filter(mask) => kept(alloc, part, mask, policy),
+        Step::Take(indices) => {
+            let column = part.cut(alloc)?;
+            let taken = take(alloc, &column, indices, policy)?;
+            Ok(Part::whole(taken))
+        }
     }
 }
 
@@ -50,9 +72,11 @@ pub fn select(
         → result ≢ Err SelectError.NoMemory }
 {
     check_steps(column.len(), steps)?;
-    let mut current = column.share();
+    let mut current = Part::whole(column.share());
     for step in steps {
-        current = apply(alloc, &current, step, policy)?;
+        current = apply(alloc, current, step, policy)?;
     }
-    Ok(execute(&current))
+    let rows = current.cut(alloc)?;
+    let answer = execute(alloc, &rows, policy)?;
+    Ok(answer)
 }

@@ -43,12 +43,12 @@ returns-clause-rows g c =
     let s = c.args.shape.now in let p = c.args.picks.now in let bits = mask_bits c.in_ok-mask.mask in
     let values = g.D.ChunkDecoder.values c.args.decoder.now in let w = valid_of c.in_ok-validity.validity in
     let missing = replicate g.row.W 0 in
-    let left = subst (λ (v : Valid). IsLeft v (either_nullable (nullability_by v) c.args.nullability) (at false (present_bits v p.bound) p.picks) w) c.validity.ensures.value c.in_ok-validity.ensures in
+    let left = subst (λ (v : Valid). IsLeft v (either_nullable (nullability_by v) c.args.nullability) (at false (present_bits v p.bound) p.picks) w) c.validity.ensures.value c.in_ok-validity.ensures.left in
     let read : map Some c.in_ok-kept.kept.items ≡ map (λ i. slice_get values (s.offset + i)) (set_of bits) =
     c.in_ok-kept.ensures.value ∙ ap (λ o. map (λ i. slice_get values (o + i)) (set_of bits)) c.offset.ensures.value in
     let records : records_of c.in_ok-values.values ≡ at missing c.in_ok-kept.kept.items (ranked bits p.picks) =
     c.in_ok-values.ensures.records ∙ ap₂ (at missing) c.as_slice.ensures.value c.in_ok-ranks.ensures.ranks in
-    c.execute.ensures.same.rows ∙ c.column_of.ensures.rows
+    c.column_of.ensures.rows
     ∙ taken_rows s values c.requires.values c.validity.ensures.fitting w (either_nullable (nullability_by s.valid) c.args.nullability) p.picks p.bound bits c.requires.bound
     c.in_ok-mask.ensures.len c.in_ok-mask.ensures.each c.in_ok-kept.kept.items (records_of c.in_ok-values.values) missing left read records
 

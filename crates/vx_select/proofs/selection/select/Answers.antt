@@ -8,15 +8,15 @@ use Rattle.vx_steps.specs.Walk.{broken, walk}
 use Rattle.vx_steps.specs.Check.{HasCount}
 use Rattle.vx_steps.specs.Answer.{type_after}
 use Rattle.vx_steps.proofs.Walks.{reached_start, reached_next, reached_sound, reached_end, step_at, step_within, steps_end}
-use Rattle.vx_select.proofs.Selecting.{at-all_positions, at-apply, length-now, answered, free_step, left_at_start, left_by_step, left_at_end}
+use Rattle.vx_select.proofs.Selecting.{at-all_positions, at-apply, length-now, answered, free_step, left_at_start, left_by_step, left_at_end, left_plain, plain_unwrapped}
 use Rattle.vx_select.proofs.selection.select.Goals as goal
 
 pub loop-step-init : goal.loop-step-init
 loop-step-init c =
     let rows = c.args.column.now.rows in
     record {
-      reached = reached_start (length rows) (map step_value c.args.steps.now) (λ picks. at null rows picks ≡ c.share-current.result.rows) (at-all_positions rows ∙ rw c.share-current.ensures refl);
-      left = rw c.share-current.ensures (left_at_start c.args.column.now (map step_value c.args.steps.now));
+      reached = reached_start (length rows) (map step_value c.args.steps.now) (λ picks. at null rows picks ≡ c.whole-current.result.rows) (at-all_positions rows ∙ rw (c.whole-current.ensures ∙ c.share.ensures) refl);
+      left = rw (c.whole-current.ensures ∙ c.share.ensures) (left_at_start c.args.column.now (map step_value c.args.steps.now));
     }
 
 pub apply-requires : goal.apply-requires
@@ -53,10 +53,20 @@ loop-step-preserved c =
 pub returns-clause-answer : goal.returns-clause-answer
 returns-clause-answer c =
     let rows = c.args.column.now.rows in let steps = c.args.steps.now in let v = c.loop-step.invariant in
-    let whole = c.execute.ensures.same in
-    answered c.args.column.now (map step_value steps) v.reached.picks c.execute.result.dtype c.execute.result.rows
+    let whole = c.in_ok-answer.ensures.same in let cut = c.in_ok-rows.ensures.step in
+    answered c.args.column.now (map step_value steps) v.reached.picks c.in_ok-answer.answer.dtype c.in_ok-answer.answer.rows
     (reached_end (length rows) (map step_value steps) c.loop-step.step-index (λ picks. at null rows picks ≡ c.loop-step.current.rows) v.reached (steps_end steps c.loop-step.step-index c.loop-step-test.false))
-    (sym v.left.dtype ∙ left_at_end c.loop-step.current.dtype (map step_value steps) c.loop-step.step-index (steps_end steps c.loop-step.step-index c.loop-step-test.false) ∙ sym whole.dtype) (v.reached.so ∙ sym whole.rows)
+    (sym v.left.dtype ∙ left_at_end c.loop-step.current.dtype (map step_value steps) c.loop-step.step-index (steps_end steps c.loop-step.step-index c.loop-step-test.false) ∙ sym (whole.dtype ∙ cut.dtype)) (v.reached.so ∙ sym (whole.rows ∙ cut.rows))
 
 pub returns-clause-unwrapped : goal.returns-clause-unwrapped
-returns-clause-unwrapped c = λ flat. c.execute.ensures.unwrapped (c.loop-step.invariant.left.flat ∙ flat)
+returns-clause-unwrapped c = λ flat. c.in_ok-answer.ensures.unwrapped (ap is_flat c.in_ok-rows.ensures.step.dtype ∙ c.loop-step.invariant.left.flat ∙ flat)
+
+-- what no step took memory for is plain, so neither the cut nor its unwrapped form takes any
+pub returns-in_err-rows-clause-no_memory_wanted : goal.returns-in_err-rows-clause-no_memory_wanted
+returns-in_err-rows-clause-no_memory_wanted c = λ free e.
+    let no : false ≡ true = c.in_err-rows.ensures.free (left_plain c.args.column.now c.loop-step.current (map step_value c.args.steps.now) c.loop-step.step-index free c.loop-step.invariant.left) in cc
+
+pub returns-in_err-answer-clause-no_memory_wanted : goal.returns-in_err-answer-clause-no_memory_wanted
+returns-in_err-answer-clause-no_memory_wanted c = λ free e.
+    let plain = left_plain c.args.column.now c.loop-step.current (map step_value c.args.steps.now) c.loop-step.step-index free c.loop-step.invariant.left in
+    let no : false ≡ true = c.in_err-answer.ensures.kept (plain_unwrapped c.in_ok-rows.rows (c.in_ok-rows.ensures.plain plain)) in cc

@@ -1,0 +1,74 @@
+//! A part of a column that is cut out once it is needed.
+ghost use Rattle.std.specs.Prelude.{◌≡◌, ◌≤◌, IfOk, IsOk, length, slice_range, true};
+ghost use Rattle.vx_model.specs.Plain.{is_plain};
+ghost use Rattle.vx_model.specs.Step.{IsStep};
+
+use std::alloc::Global;
+use std::marker::Model;
+use vx_bits::NoMemory;
+use vx_column::Array;
+use vx_dispatch::slice;
+
+/// The rows of a column from `start` up to `end`. A contract sees it as the column with these rows
+/// alone, so slices that follow each other cost one cut.
+#[derive(Drop)]
+pub(crate) struct Part {
+    column: Array,
+    start: usize,
+    end: usize,
+}
+
+impl Model for Part {
+    ghost use Rattle.std.specs.Prelude.{◌≤◌, length, slice_range};
+    ghost use Rattle.vx_model.specs.Column.{Column, coded_column};
+
+    ghost Value = { Column };
+
+    ghost coded = { coded_column };
+
+    ghost view = { λ p. record p.column { rows = slice_range p.column.rows p.start p.end } };
+
+    ghost invariant = { λ p. (p.start ≤ p.end) × (p.end ≤ length p.column.rows) };
+}
+
+impl Part {
+    /// All rows of a column.
+    pub(crate) fn whole(column: Array) -> Part
+        ensures { result ≡ column }
+    {
+        let end = column.len();
+        Part {
+            column,
+            start: 0,
+            end,
+        }
+    }
+
+    /// Its rows from `start` up to `end`. It takes no memory.
+    pub(crate) fn narrowed(self, start: usize, end: usize) -> Part
+        requires ordered { start ≤ end }
+        requires within { end ≤ length self.rows }
+        ensures { result ≡ record self { rows = slice_range self.rows start end } }
+    {
+        // its number of rows fits
+        let _ = self.column.len();
+        Part {
+            column: self.column,
+            start: self.start + start,
+            end: self.start + end,
+        }
+    }
+
+    /// The column of its rows. `NoMemory` alone, and never of a plain column.
+    pub(crate) fn cut(&self, alloc: Global) -> Result<Array, NoMemory>
+        ensures step { IfOk result (IsStep self.now self.now.rows self.now.dtype) }
+        ensures plain { is_plain self.now ≡ true → IfOk result (λ a. is_plain a ≡ true) }
+        ensures free { is_plain self.now ≡ true → IsOk result }
+    {
+        if self.start == 0 && self.end == self.column.len() {
+            return Ok(self.column.share());
+        }
+        let rows = slice(alloc, &self.column, self.start, self.end)?;
+        Ok(rows)
+    }
+}
