@@ -3,10 +3,6 @@ use Rattle.std.specs.Prelude.{ℕ, ◌&&◌, ◌||◌, List, [], ◌∷◌, Bool
 use Rattle.serde_json.specs.Data.{Data, null, boolean, number, string, array, object, Items, no_items, item, Members, no_members, member}
 use Rattle.vx_json.specs.Members.{is_among}
 
--- columns in chunks
-unfoldable pub chunk_words : List (List ℕ)
-chunk_words = codes "chunks" ∷ []
-
 -- text and other bytes
 unfoldable pub text_words : List (List ℕ)
 text_words =
@@ -29,9 +25,7 @@ record_words =
 
 -- names of members, layouts and types alike
 abbrev pub is_later_word : List ℕ → Bool
-is_later_word w =
-    is_among chunk_words w || is_among text_words w || is_among list_words w
-    || is_among record_words w
+is_later_word w = is_among text_words w || is_among list_words w || is_among record_words w
 
 -- the text of a `layout` or a `type` is a later word
 abbrev pub is_later_text : List ℕ → Data → Bool

@@ -12,5 +12,6 @@ pub mod Pieces
 pub mod Indices
 pub mod Steps
 pub mod Documents
+pub mod Chunks
 pub mod Reading
 pub mod Later

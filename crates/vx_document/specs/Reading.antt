@@ -7,19 +7,23 @@ use Rattle.vx_json.specs.Meaning.{◌>>=◌, found_or}
 use Rattle.vx_json.specs.Members.{is_closed}
 use Rattle.vx_json.specs.Policies.{policy_of}
 use Rattle.vx_document.specs.Columns.{column_of}
+use Rattle.vx_document.specs.Chunks.{chunks_of}
 use Rattle.vx_document.specs.Steps.{steps_of}
-use Rattle.vx_document.specs.Documents.{DocumentValue, column_source}
+use Rattle.vx_document.specs.Documents.{DocumentValue, SourceValue, column_source}
 
-unfoldable pub members_of : Data → Option DocumentValue
-members_of d = do
-  column ← get (codes "column") d >>= column_of
+-- a column, or else chunks
+unfoldable pub source_of : Data → Option SourceValue
+source_of d =
+    if is_closed (codes "column" ∷ codes "steps" ∷ codes "policy" ∷ []) d
+    then (get (codes "column") d >>= column_of >>= λ c. Some (column_source c))
+    else if is_closed (codes "chunks" ∷ codes "steps" ∷ codes "policy" ∷ []) d
+    then get (codes "chunks") d >>= chunks_of
+    else None
+
+-- an object of a column or chunks and steps, and perhaps a policy
+unfoldable pub document_of : Data → Option DocumentValue
+document_of d = do
+  source ← source_of d
   steps ← get (codes "steps") d >>= steps_of
   policy ← found_or vortex_fields policy_of (get (codes "policy") d)
-  Some (record { source = column_source column; steps = steps; policy = policy })
-
--- an object of a column and steps, and perhaps a policy
-unfoldable pub document_of : Data → Option DocumentValue
-document_of d =
-    if is_closed (codes "column" ∷ codes "steps" ∷ codes "policy" ∷ []) d
-    then members_of d
-    else None
+  Some (record { source = source; steps = steps; policy = policy })

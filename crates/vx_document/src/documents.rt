@@ -2,15 +2,19 @@
 ghost use Rattle.std.specs.Prelude.{◌≡◌};
 
 use std::marker::Model;
+use vx_bits::Records;
 use vx_column::Array;
 use vx_mask::Policy;
-use vx_steps::Step;
+use vx_steps::{ChunkShape, Step};
 
 /// Where the rows of a document are.
 #[derive(Drop)]
 pub enum DocumentSource {
     /// In a column.
     Column(Array),
+    /// Behind a decoder: which of its values they are, and these values. They are whole chunks of
+    /// records of the type's width, and at least as many as the shape has.
+    Chunks(ChunkShape, Records),
 }
 
 /// A list of steps. Clauses see it as the list.

@@ -2,18 +2,10 @@
 ghost use Rattle.std.specs.Prelude.{◌≡◌};
 ghost use Rattle.serde_json.specs.View.{view, items_view, members_view};
 ghost use Rattle.vx_json.specs.Members.{is_among};
-ghost use Rattle.vx_document.specs.Later.{chunk_words, text_words, list_words, record_words, is_later_word, is_later_text, holds_later, items_hold_later, members_hold_later};
+ghost use Rattle.vx_document.specs.Later.{text_words, list_words, record_words, is_later_word, is_later_text, holds_later, items_hold_later, members_hold_later};
 
 use serde_json::{Map, Value};
 use vx_json::is_among;
-
-/// Columns in chunks.
-#[tactic(auto, unfolding(crate::specs::Later::chunk_words))]
-fn is_chunk_word(word: &str) -> bool
-    ensures { result ≡ is_among chunk_words word.now }
-{
-    is_among(&["chunks"], word)
-}
 
 /// Text and other bytes.
 #[tactic(auto, unfolding(crate::specs::Later::text_words))]
@@ -87,7 +79,7 @@ fn is_record_word(word: &str) -> bool
 fn is_later_word(word: &str) -> bool
     ensures { result ≡ is_later_word word.now }
 {
-    is_chunk_word(word) || is_text_word(word) || is_list_word(word) || is_record_word(word)
+    is_text_word(word) || is_list_word(word) || is_record_word(word)
 }
 
 /// Whether a member of this name is a `layout` or a `type` with a later word for its text.

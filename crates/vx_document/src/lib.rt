@@ -2,6 +2,7 @@
 #![tactic(auto)]
 
 mod boolean;
+mod chunks;
 mod columns;
 mod constant;
 mod decimal;

@@ -1,3 +1,4 @@
 pub mod Text
 pub mod Records
 pub mod Fault
+pub mod Calls

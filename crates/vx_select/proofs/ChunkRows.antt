@@ -32,7 +32,7 @@ use Rattle.vx_steps.specs.Answer.{Answer, type_after, answer_fault, answer_rows,
 use Rattle.vx_steps.specs.Compose.{IsFaultOf, IsUnbroken, takes_nullability}
 use Rattle.vx_steps.proofs.ComposedPicks.{either-either, either-none}
 use Rattle.vx_select.specs.Select.{IsAnswer, IsRows}
-use Rattle.vx_select.specs.Shape.{ShapeValue}
+use Rattle.vx_steps.specs.Shape.{ShapeValue}
 use Rattle.vx_select.specs.Chunks.{chunk_rows}
 
 -- ---- the values that are kept

@@ -6,7 +6,7 @@ use Rattle.vx_model.specs.Valid.{stored_rows}
 use Rattle.vx_chunked.specs.Asked.{asked_by_picks, touched}
 use Rattle.vx_chunked.specs.declared.call.Call.{Call}
 use Rattle.vx_steps.specs.Walk.{Walk, walk_fault, walk_picks}
-use Rattle.vx_select.specs.Shape.{ShapeValue}
+use Rattle.vx_steps.specs.Shape.{ShapeValue}
 
 -- row i is value offset + i, or null where the validity says no
 abbrev pub chunk_rows : ShapeValue → List (List ℕ) → List RowValue

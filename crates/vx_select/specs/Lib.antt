@@ -1,3 +1,3 @@
 pub mod Chunks
 pub mod Select
-pub mod Shape
+pub use Rattle.vx_steps.specs.Shape

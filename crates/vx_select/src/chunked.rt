@@ -21,14 +21,13 @@ ghost use Rattle.vx_steps.specs.Cause.{MatchError};
 ghost use Rattle.vx_select.specs.Select.{IsAnswer};
 ghost use Rattle.vx_select.specs.Chunks.{AreNoneOrAll, asked_by_walk, asked_for, chunk_rows};
 
-use crate::chunk_shape::ChunkShape;
 use std::alloc::Global;
 use vx_bits::{Buffer, NoMemory, Records};
 use vx_chunked::{ChunkDecoder, filter_chunked_mask};
 use vx_column::{Array, DType, DecimalArray, Nullability, PrimitiveArray, Validity};
 use vx_dispatch::take_validity;
 use vx_mask::Policy;
-use vx_steps::{SelectError, Step, compose, takes_nullability};
+use vx_steps::{ChunkShape, SelectError, Step, compose, takes_nullability};
 use vx_take::{Picks, needed, ranks_in};
 
 // The record at a rank, and zeros at a null. It is a copy of a number of bytes that is known where

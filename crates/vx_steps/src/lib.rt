@@ -3,6 +3,7 @@
 
 mod cause;
 mod check;
+mod chunk_shape;
 mod composed;
 mod composing;
 mod laws;
@@ -11,6 +12,7 @@ mod step;
 
 pub use cause::{Cause, SelectError};
 pub use check::check_steps;
+pub use chunk_shape::ChunkShape;
 pub use composing::{compose, takes_nullability};
 pub use laws::slice_of_slice;
 pub use step::Step;

@@ -6,7 +6,7 @@ use Rattle.vx_steps.specs.Step.{step_value}
 use Rattle.vx_steps.specs.Walk.{walk}
 use Rattle.vx_steps.specs.Answer.{answer_of}
 use Rattle.vx_steps.specs.declared.cause.SelectError.TheVariants.{NoMemory}
-use Rattle.vx_select.specs.Shape.{ShapeValue}
+use Rattle.vx_steps.specs.Shape.{ShapeValue}
 use Rattle.vx_select.specs.Chunks.{chunk_rows}
 use Rattle.vx_select.proofs.ChunkRows.{answered_err, answered_fault, answered_rows, answered_unbroken, length-chunk_rows, unbroken_picks}
 use Rattle.vx_select.proofs.chunked.select_chunked.Goals as goal

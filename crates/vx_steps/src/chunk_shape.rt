@@ -6,7 +6,7 @@ ghost use Rattle.vx_types.specs.DType.{type_of};
 ghost use Rattle.vx_types.specs.TypeTree.{type_nullability, type_width};
 ghost use Rattle.vx_model.specs.Valid.{is_fitting, nullability_by};
 ghost use Rattle.vx_column.specs.Validity.{valid_of};
-ghost use Rattle.vx_select.specs.Shape.{is_counted, is_stored_as, same_nullability, shape_fault, shape_of};
+ghost use Rattle.vx_steps.specs.Shape.{is_counted, is_stored_as, same_nullability, shape_fault, shape_of};
 
 use std::marker::Model;
 use vx_chunked::FILTER_CHUNK_LEN;
@@ -26,7 +26,7 @@ pub struct ChunkShape {
 
 impl Model for ChunkShape {
     ghost use Rattle.std.specs.Prelude.{◌≡◌, None};
-    ghost use Rattle.vx_select.specs.Shape.{ShapeValue, coded_shape, shape_fault, shape_of};
+    ghost use Rattle.vx_steps.specs.Shape.{ShapeValue, coded_shape, shape_fault, shape_of};
 
     ghost Value = { ShapeValue };
 

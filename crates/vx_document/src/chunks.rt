@@ -1,0 +1,257 @@
+//! Columns behind a decoder.
+ghost use Rattle.std.specs.Prelude.{◌≡◌, IfOk, Some, true};
+ghost use Rattle.serde_json.specs.View.{view};
+ghost use Rattle.vx_bits.specs.Records.{records_of, width_of};
+ghost use Rattle.vx_types.specs.DType.{type_of};
+ghost use Rattle.vx_types.specs.PType.{width};
+ghost use Rattle.vx_types.specs.TypeTree.{type_width};
+ghost use Rattle.vx_types.specs.Decimal.{is_width};
+ghost use Rattle.vx_column.specs.Validity.{valid_of};
+ghost use Rattle.vx_json.specs.Meaning.{Gives};
+ghost use Rattle.vx_document.specs.Documents.{IsWhole, source_value};
+ghost use Rattle.vx_document.specs.Chunks.{values_listed, ramp_listed, values_by, decimals_listed, decimals_by, filled, missing, shape_made, shape_by, chunks_made, primitive_chunks, decimal_chunks, chunks_named, chunks_of};
+
+use crate::columns::validity_stated;
+use crate::documents::DocumentSource;
+use crate::validity::validity_alone;
+use serde_json::Value;
+use std::alloc::Global;
+use vx_bits::{Buffer, NoMemory, Records, map_each_record_width};
+use vx_column::{DType, DecimalDType, PType, Validity};
+use vx_json::{
+    DocError, GREATEST_LEN, at_most, decimal_of, has_null, hex_values_of, is_closed, items_in,
+    member, ptype_named, ramp_of, text_in, values_of,
+};
+use vx_steps::ChunkShape;
+
+/// How many values a chunk has.
+const CHUNK_LEN: usize = 1024;
+
+/// The records of the values that the object lists. `Malformed` where one is null or none of the
+/// type.
+#[tactic(auto, unfolding(crate::specs::Chunks::values_listed))]
+fn values_listed(alloc: Global, ptype: PType, value: &Value) -> Result<Records, DocError>
+    ensures value { Gives records_of result (values_listed ptype (view value.now)) }
+    ensures width { IfOk result (λ r. width_of r ≡ width ptype) }
+{
+    let items = items_in(member(value, "values")?)?;
+    if has_null(items) {
+        return Err(DocError::Malformed);
+    }
+    values_of(alloc, ptype, items)
+}
+
+/// The records of the numbers from 0 on. `Malformed` where the type isn't an integer's.
+#[tactic(auto, unfolding(crate::specs::Chunks::ramp_listed))]
+fn ramp_listed(alloc: Global, ptype: PType, value: &Value) -> Result<Records, DocError>
+    ensures value { Gives records_of result (ramp_listed ptype (view value.now)) }
+    ensures width { IfOk result (λ r. width_of r ≡ width ptype) }
+{
+    let len = at_most(GREATEST_LEN, member(value, "ramp")?)?;
+    if ptype.is_int() {
+        Ok(ramp_of(alloc, ptype, len)?)
+    } else {
+        Err(DocError::Malformed)
+    }
+}
+
+#[tactic(auto, unfolding(crate::specs::Chunks::values_by))]
+fn values_by(alloc: Global, ptype: PType, value: &Value) -> Result<Records, DocError>
+    ensures value { Gives records_of result (values_by ptype (view value.now)) }
+    ensures width { IfOk result (λ r. width_of r ≡ width ptype) }
+{
+    if is_closed(value, &["type", "offset", "len", "values", "validity"]) {
+        values_listed(alloc, ptype, value)
+    } else if is_closed(value, &["type", "offset", "len", "ramp", "validity"]) {
+        ramp_listed(alloc, ptype, value)
+    } else {
+        Err(DocError::Malformed)
+    }
+}
+
+/// The records, of that many bytes each, that the object lists. `Malformed` where one is null or
+/// no such record.
+#[tactic(auto, unfolding(crate::specs::Chunks::decimals_listed))]
+fn decimals_listed(alloc: Global, width: usize, value: &Value) -> Result<Records, DocError>
+    requires { is_width width ≡ true }
+    ensures value { Gives records_of result (decimals_listed width (view value.now)) }
+    ensures width { IfOk result (λ r. width_of r ≡ width) }
+{
+    let items = items_in(member(value, "values")?)?;
+    if has_null(items) {
+        return Err(DocError::Malformed);
+    }
+    hex_values_of(alloc, width, items)
+}
+
+#[tactic(auto, unfolding(crate::specs::Chunks::decimals_by))]
+fn decimals_by(alloc: Global, width: usize, value: &Value) -> Result<Records, DocError>
+    requires { is_width width ≡ true }
+    ensures value { Gives records_of result (decimals_by width (view value.now)) }
+    ensures width { IfOk result (λ r. width_of r ≡ width) }
+{
+    if is_closed(
+        value,
+        &[
+            "type",
+            "precision",
+            "scale",
+            "width",
+            "offset",
+            "len",
+            "values",
+            "validity",
+        ],
+    ) {
+        decimals_listed(alloc, width, value)
+    } else {
+        Err(DocError::Malformed)
+    }
+}
+
+/// How many values the last of the chunks of `len` values lacks.
+fn missing(len: usize) -> usize
+    ensures { result ≡ missing len }
+{
+    (CHUNK_LEN - len % CHUNK_LEN) % CHUNK_LEN
+}
+
+/// The records, and zeros behind them up to whole chunks.
+fn filled<const W: usize>(
+    alloc: Global,
+    records: &Buffer<[u8; W]>,
+) -> Result<Buffer<[u8; W]>, NoMemory>
+    ensures { IfOk result (λ b. b ≡ filled W records.now) }
+{
+    let missing = missing(records.len());
+    if missing == 0 {
+        return Ok(records.share());
+    }
+    // no memory holds more records than are counted
+    let Some(len) = records.len().checked_add(missing) else {
+        return Err(NoMemory);
+    };
+    let mut all = Vec::with_capacity(alloc, len)?;
+    all.extend_from_slice(records.as_slice())?;
+    all.resize(len, [0; W])?;
+    Buffer::from_vec(alloc, all)
+}
+
+fn filled_records(alloc: Global, records: &Records) -> Result<Records, NoMemory>
+    ensures records { IfOk result
+        (λ r. records_of r ≡ filled (width_of records.now) (records_of records.now)) }
+    ensures width { IfOk result (λ r. width_of r ≡ width_of records.now) }
+{
+    Ok(map_each_record_width!(records, buffer => filled(alloc, buffer)?))
+}
+
+/// The shape of these parts. `Malformed` where they can make none.
+fn shape_made(
+    dtype: DType,
+    offset: usize,
+    len: usize,
+    validity: Validity,
+) -> Result<ChunkShape, DocError>
+    ensures shape { Gives (λ s. s) result
+        (shape_made (type_of dtype) offset len (valid_of validity)) }
+    ensures dtype { IfOk result (λ s. s.dtype ≡ type_of dtype) }
+{
+    match ChunkShape::try_new(dtype, offset, len, validity) {
+        Ok(shape) => Ok(shape),
+        Err(_) => Err(DocError::Malformed),
+    }
+}
+
+#[tactic(auto, unfolding(crate::specs::Chunks::shape_by))]
+fn shape_by(dtype: DType, validity: Validity, value: &Value) -> Result<ChunkShape, DocError>
+    ensures shape { Gives (λ s. s) result
+        (shape_by (type_of dtype) (valid_of validity) (view value.now)) }
+    ensures dtype { IfOk result (λ s. s.dtype ≡ type_of dtype) }
+{
+    let offset = at_most(1023, member(value, "offset")?)?;
+    let len = at_most(GREATEST_LEN, member(value, "len")?)?;
+    shape_made(dtype, offset, len, validity)
+}
+
+/// The shape over whole chunks of these records. `Malformed` where it has more values than they
+/// are.
+#[tactic(auto, unfolding(crate::specs::Chunks::chunks_made))]
+fn chunks_made(
+    alloc: Global,
+    shape: ChunkShape,
+    records: Records,
+) -> Result<DocumentSource, DocError>
+    requires { type_width shape.dtype ≡ Some (width_of records) }
+    ensures source { Gives source_value result
+        (chunks_made shape (width_of records) (records_of records)) }
+    ensures whole { IfOk result IsWhole }
+{
+    if shape.offset() + shape.len() > records.len() {
+        return Err(DocError::Malformed);
+    }
+    let records = filled_records(alloc, &records)?;
+    Ok(DocumentSource::Chunks(shape, records))
+}
+
+#[tactic(auto, unfolding(crate::specs::Chunks::primitive_chunks))]
+fn primitive_chunks(
+    alloc: Global,
+    ptype: PType,
+    validity: Validity,
+    value: &Value,
+) -> Result<DocumentSource, DocError>
+    ensures source { Gives source_value result
+        (primitive_chunks ptype (valid_of validity) (view value.now)) }
+    ensures whole { IfOk result IsWhole }
+{
+    let dtype = DType::Primitive(ptype, validity.nullability());
+    let shape = shape_by(dtype, validity, value)?;
+    let records = values_by(alloc, ptype, value)?;
+    chunks_made(alloc, shape, records)
+}
+
+#[tactic(auto, unfolding(crate::specs::Chunks::decimal_chunks))]
+fn decimal_chunks(
+    alloc: Global,
+    decimal: DecimalDType,
+    validity: Validity,
+    value: &Value,
+) -> Result<DocumentSource, DocError>
+    ensures source { Gives source_value result
+        (decimal_chunks decimal (valid_of validity) (view value.now)) }
+    ensures whole { IfOk result IsWhole }
+{
+    let dtype = DType::Decimal(decimal, validity.nullability());
+    let shape = shape_by(dtype, validity, value)?;
+    let records = decimals_by(alloc, decimal.width() as usize, value)?;
+    chunks_made(alloc, shape, records)
+}
+
+/// By the name of the type. `Malformed` where there is none, or the members beside it say none.
+#[tactic(auto, unfolding(crate::specs::Chunks::chunks_named))]
+fn chunks_named(
+    alloc: Global,
+    validity: Validity,
+    value: &Value,
+    name: &str,
+) -> Result<DocumentSource, DocError>
+    ensures source { Gives source_value result
+        (chunks_named (valid_of validity) (view value.now) name.now) }
+    ensures whole { IfOk result IsWhole }
+{
+    match name {
+        "decimal" => decimal_chunks(alloc, decimal_of(value)?, validity, value),
+        _ => primitive_chunks(alloc, ptype_named(name)?, validity, value),
+    }
+}
+
+/// The column behind a decoder that the value means.
+#[tactic(auto, unfolding(crate::specs::Chunks::chunks_of))]
+pub(crate) fn chunks_of(alloc: Global, value: &Value) -> Result<DocumentSource, DocError>
+    ensures source { Gives source_value result (chunks_of (view value.now)) }
+    ensures whole { IfOk result IsWhole }
+{
+    let stated = validity_stated(alloc, value)?;
+    let name = text_in(member(value, "type")?)?;
+    chunks_named(alloc, validity_alone(stated), value, name)
+}
