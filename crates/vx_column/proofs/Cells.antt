@@ -1,5 +1,5 @@
 -- A value's cell is one of a dictionary's type.
-use Rattle.std.proofs.Common.{◌≡◌, ℕ, true, Option, Some, refl, sym, ap, ◌∙◌}
+use Rattle.std.proofs.Common.{◌≡◌, true, refl, sym, ◌∙◌}
 use Rattle.vx_types.specs.Nullability.{is_nullable, either_nullable}
 use Rattle.vx_types.specs.TypeTree.{TypeTree, null_type, bool_type, primitive_type, decimal_type, utf8_type, binary_type, list_type, fixed_type, map_type, struct_type, union_type, extension_type, also_nullable, with_nullability, type_nullability, type_width}
 use Rattle.vx_types.specs.declared.nullability.Nullability.{Nullability}

@@ -1,19 +1,16 @@
 -- The numbers of a column, by its rows and by its records.
-use Rattle.std.proofs.Common.{◌≡◌, ℕ, zero, suc, ◌+◌, ◌<◌, ◌≤◌, Bool, true, false, List, [], ◌∷◌, ◌++◌, map, length, get_or, take, drop, Option, None, Some, refl, sym, ap, ◌∙◌, arith, add-one, drop-cons}
-use Rattle.std.specs.Prelude.{ℤ, IfSome, is_some, if◌then◌else◌, ◌&&◌}
-use Rattle.std.specs.Option.{option_map, option_or}
-use Rattle.std.proofs.lemmas.List.{length-map, get_or-map, drop_all, map_more}
-use Rattle.std.proofs.lemmas.List.Folds.{list_all-append}
+use Rattle.std.proofs.Common.{◌≡◌, ℕ, ◌<◌, Bool, true, false, List, [], ◌∷◌, map, length, get_or, None, Some, refl, sym, ap, ◌∙◌}
+use Rattle.std.specs.Prelude.{if◌then◌else◌}
+use Rattle.std.proofs.lemmas.List.{length-map, get_or-map}
 use Rattle.vx_model.specs.Column.{Column}
 use Rattle.vx_model.specs.Numbers.{numbers_of, number_in}
-use Rattle.vx_types.specs.PType.{is_int, number, width}
+use Rattle.vx_types.specs.PType.{is_int, width}
 use Rattle.vx_types.specs.RowValue.{null, bytes}
 use Rattle.vx_types.specs.TypeTree.{TypeTree, null_type, bool_type, primitive_type, decimal_type, utf8_type, binary_type, list_type, fixed_type, map_type, struct_type, union_type, extension_type, int_type_of, is_int_type, type_nullability, type_width}
 use Rattle.vx_types.specs.declared.nullability.Nullability.{Nullability}
 use Rattle.vx_types.specs.declared.ptype.PType.{PType}
 use Rattle.vx_model.specs.Valid.{shown_rows}
 use Rattle.vx_numbers.specs.Stored.{number_of, present_numbers, shown_numbers}
-use Rattle.vx_numbers.specs.Positions.{AllThere, bad_number, first_bad, is_position, position_of, positions_of}
 
 -- the number in row i of a column
 pub number_of_row : (c : Column) (i : ℕ) → i < length c.rows → get_or (numbers_of c) i None ≡ number_in c.dtype (get_or c.rows i null)

@@ -1,5 +1,5 @@
 -- Columns whose rows are stored as records, and none of them null.
-use Rattle.std.specs.Prelude.{◌≡◌, true, false, map, Option, Some, MatchOption}
+use Rattle.std.specs.Prelude.{◌≡◌, true, map, Option, Some, MatchOption}
 use Rattle.vx_bits.specs.Records.{records_of, width_of}
 use Rattle.vx_bits.specs.declared.records.Records.{Records}
 use Rattle.vx_types.specs.RowValue.{bytes}

@@ -1,6 +1,6 @@
 -- One value at picks.
-use Rattle.std.proofs.Common.{◌≡◌, ℕ, zero, suc, Bool, true, false, List, [], ◌∷◌, map, length, get_or, Option, None, Some, refl, sym, ap, ap₂, ◌∙◌, arith}
-use Rattle.std.specs.Prelude.{is_some, replicate, if◌then◌else◌}
+use Rattle.std.proofs.Common.{◌≡◌, ℕ, zero, suc, true, false, List, [], ◌∷◌, map, length, get_or, Option, None, Some, refl, sym, ap, ap₂, ◌∙◌, arith}
+use Rattle.std.specs.Prelude.{is_some, replicate}
 use Rattle.std.proofs.lemmas.List.{get_or-replicate, length-replicate}
 use Rattle.vx_types.specs.RowValue.{RowValue, null, bit, bytes, list, fields, tagged, is_null}
 use Rattle.vx_types.specs.Scalar.{scalar_fault}
@@ -8,7 +8,7 @@ use Rattle.vx_types.specs.TypeTree.{TypeTree, also_nullable, type_nullability, w
 use Rattle.vx_types.specs.Nullability.{is_nullable, either_nullable}
 use Rattle.vx_types.specs.declared.nullability.Nullability.{Nullability}
 use Rattle.vx_types.specs.declared.nullability.Nullability.TheVariants.{NonNullable, Nullable}
-use Rattle.vx_take.specs.Picks.{AreBelow, at, item_at}
+use Rattle.vx_take.specs.Picks.{AreBelow, at}
 use Rattle.vx_model.specs.Column.{Column}
 use Rattle.vx_model.specs.Valid.{is_yes, shown_rows}
 use Rattle.vx_model.specs.Constant.{ConstantParts, constant_column, constant_with}

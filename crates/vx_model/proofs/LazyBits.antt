@@ -1,20 +1,16 @@
 -- The bits of bools that stand for other bools, and validities that are such columns.
-use Rattle.std.proofs.Common.{◌≡◌, ℕ, Bool, true, false, List, [], ◌∷◌, map, length, Option, None, Some, refl, sym, ap, ap₂, ◌∙◌, arith}
-use Rattle.std.specs.Prelude.{◌&&◌, ◌==◌, is_some, if◌then◌else◌}
-use Rattle.std.specs.List.{items_where_true, list_all}
+use Rattle.std.proofs.Common.{◌≡◌, ℕ, Bool, true, false, List, [], ◌∷◌, map, length, Option, None, Some, refl, sym, ap, ◌∙◌}
+use Rattle.std.specs.Prelude.{◌&&◌, ◌==◌, if◌then◌else◌}
 use Rattle.std.specs.Option.{option_map}
 use Rattle.std.proofs.lemmas.List.{length-map}
-use Rattle.std.proofs.lemmas.Bool.Decides.{nat_tests}
 use Rattle.vx_bits.specs.BitBuffer.{true_count_of}
 use Rattle.vx_types.specs.PType.{is_int}
-use Rattle.vx_types.specs.Nullability.{either_nullable}
 use Rattle.vx_types.specs.RowValue.{null}
 use Rattle.vx_types.specs.TypeTree as types
 use Rattle.vx_types.specs.TypeTree.{TypeTree, also_nullable, int_type_of, is_int_type, type_nullability}
 use Rattle.vx_types.specs.declared.ptype.PType.{PType}
 use Rattle.vx_types.specs.declared.nullability.Nullability.{Nullability}
 use Rattle.vx_types.specs.declared.nullability.Nullability.TheVariants.{NonNullable, Nullable}
-use Rattle.vx_mask.specs.Positions.{rank_of}
 use Rattle.vx_take.specs.Picks.{AreBelow, at}
 use Rattle.vx_take.specs.Ranks.{translated}
 use Rattle.vx_take.proofs.TakenLists.{takes_join, take_of_filter}

@@ -1,26 +1,24 @@
 -- The rows of the layouts that stand for rows of other columns, or for one value.
-use Rattle.std.proofs.Common.{◌≡◌, ℕ, zero, suc, ◌<◌, ◌≤◌, Bool, true, false, List, [], ◌∷◌, map, length, get_or, Option, None, Some, refl, sym, ap, ◌∙◌, arith}
-use Rattle.std.specs.Prelude.{ℤ, pos, negsuc, nat_lt, is_some, if◌then◌else◌, replicate, ◌||◌, ◌&&◌, not, IfSome}
-use Rattle.std.specs.List.{items_where_true}
-use Rattle.std.specs.Option.{option_map, option_or}
+use Rattle.std.proofs.Common.{◌≡◌, ℕ, ◌<◌, Bool, true, false, map, length, get_or, Option, None, Some, refl, sym, ap, ◌∙◌, arith}
+use Rattle.std.specs.Prelude.{ℤ, is_some, ◌||◌, ◌&&◌, not, IfSome}
+use Rattle.std.specs.Option.{option_map}
 use Rattle.std.proofs.lemmas.List.{length-map, get_or-map, length-replicate, get_or-replicate}
 use Rattle.std.proofs.lemmas.Bool.Decides.{nat_tests}
 use Rattle.vx_bits.specs.BitBuffer.{true_count_of}
 use Rattle.vx_mask.specs.Positions.{rank_of, set_of}
 use Rattle.vx_mask.proofs.PositionLists.{rank_within, length-positions}
 use Rattle.vx_types.specs.Nullability.{is_nullable, either_nullable}
-use Rattle.vx_types.specs.RowValue.{RowValue, null}
+use Rattle.vx_types.specs.RowValue.{null}
 use Rattle.vx_types.specs.TypeTree.{TypeTree, null_type, bool_type, primitive_type, decimal_type, utf8_type, binary_type, list_type, fixed_type, map_type, struct_type, union_type, extension_type, is_carried_as, is_carried, is_int_type, is_null_type, also_nullable, with_nullability, type_nullability}
 use Rattle.vx_types.specs.declared.nullability.Nullability.{Nullability}
 use Rattle.vx_types.specs.declared.nullability.Nullability.TheVariants.{NonNullable, Nullable}
-use Rattle.vx_take.specs.Picks.{at, item_at}
+use Rattle.vx_take.specs.Picks.{item_at}
 use Rattle.vx_take.proofs.TakenLists.{take_at_the_set}
-use Rattle.vx_numbers.specs.Positions.{bad_number, first_bad, is_position, position_of, positions_of}
+use Rattle.vx_numbers.specs.Positions.{first_bad, is_position, position_of, positions_of}
 use Rattle.vx_numbers.proofs.NumberLists.{each_is_position}
-use Rattle.vx_model.specs.Column.{Column}
 use Rattle.vx_model.specs.Numbers.{number_in, numbers_of}
 use Rattle.vx_model.specs.Constant.{ConstantParts, constant_column}
-use Rattle.vx_model.specs.Dict.{DictParts, dict_fault, dict_column, dict_rows}
+use Rattle.vx_model.specs.Dict.{DictParts, dict_fault, dict_column}
 use Rattle.vx_model.specs.Filter.{FilterParts, filter_fault, filter_column}
 use Rattle.vx_model.proofs.Items.{length-items_where_true}
 use Rattle.vx_model.proofs.Takes.{length-at}

@@ -1,12 +1,11 @@
 -- What a scalar's type says of its value.
-use Rattle.std.proofs.Common.{◌≡◌, ℕ, Bool, true, false, List, length, Option, None, Some, refl, sym, ap, ◌∙◌, arith}
-use Rattle.std.specs.Prelude.{◌&&◌, ◌==◌, if◌then◌else◌}
+use Rattle.std.proofs.Common.{◌≡◌, ℕ, Bool, true, false, List, length, None, Some, refl, ap, arith}
+use Rattle.std.specs.Prelude.{◌&&◌, if◌then◌else◌}
 use Rattle.std.proofs.lemmas.Bool.Decides.{nat_tests}
 use Rattle.vx_types.specs.Nullability.{is_nullable}
-use Rattle.vx_types.specs.RowValue.{RowValue, null, bit, bytes, list, fields, tagged}
+use Rattle.vx_types.specs.RowValue.{null, bit, bytes}
 use Rattle.vx_types.specs.Scalar.{has_scalars, is_of_kind, is_of_bits, is_of_bytes, is_as_wide, is_width_of, scalar_fault}
 use Rattle.vx_types.specs.TypeTree.{TypeTree, null_type, bool_type, primitive_type, decimal_type, utf8_type, binary_type, list_type, fixed_type, map_type, struct_type, union_type, extension_type, is_carried, is_flat, type_nullability, type_width}
-use Rattle.vx_types.specs.declared.error.ColumnError.{ColumnError}
 use Rattle.vx_types.specs.declared.error.ColumnError.TheVariants.{WrongType, WrongWidth}
 
 kind_of : (a b : Bool) → (if a then (if b then None else Some WrongWidth) else Some WrongType) ≡ None → a ≡ true

@@ -1,5 +1,5 @@
 -- What a step leaves of a layout's parts makes what it leaves of the column.
-use Rattle.std.proofs.Common.{◌≡◌, ℕ, ◌+◌, ◌-◌, ◌≤◌, ◌%◌, Bool, true, List, [], map, length, slice_range, None, refl, sym, ap, ◌∙◌, subst, arith}
+use Rattle.std.proofs.Common.{◌≡◌, ℕ, ◌-◌, ◌≤◌, Bool, true, List, map, length, slice_range, None, refl, sym, ap, ◌∙◌, subst, arith}
 use Rattle.std.specs.Prelude.{replicate}
 use Rattle.std.specs.List.{items_where_true}
 use Rattle.std.proofs.lemmas.List.{length-map}

@@ -1,5 +1,5 @@
 -- Rows that are stored in their places, over any of the layouts that do so.
-use Rattle.std.proofs.Common.{◌≡◌, ℕ, ◌-◌, ◌≤◌, ◌<◌, Bool, true, false, ◌&&◌, ◌||◌, List, length, get_or, slice_range, refl, sym, ap, ◌∙◌, arith}
+use Rattle.std.proofs.Common.{◌≡◌, ℕ, ◌≤◌, ◌<◌, Bool, true, false, ◌&&◌, ◌||◌, List, length, get_or, slice_range, refl, sym, ap, ◌∙◌, arith}
 use Rattle.std.specs.Prelude.{if◌then◌else◌}
 use Rattle.std.specs.List.{items_where_true}
 use Rattle.vx_types.specs.TypeTree.{TypeTree}
@@ -9,7 +9,7 @@ use Rattle.vx_types.specs.declared.nullability.Nullability.{Nullability}
 use Rattle.vx_model.specs.Valid.{Valid, is_fitting, is_present, is_constant_form, is_flat_cover, cover_by, nullability_by, present_bits, shown_rows, stored_rows, IsLeft, IsAsPlain}
 use Rattle.vx_model.specs.Plain.{is_null_layout, is_row_layout}
 use Rattle.vx_model.specs.Stored.{stored_column}
-use Rattle.vx_model.specs.Step.{IsStep, IsCut, IsSlice}
+use Rattle.vx_model.specs.Step.{IsStep, IsCut}
 use Rattle.vx_model.proofs.Items.{length-items_where_true, length-slice_range}
 use Rattle.vx_model.proofs.ShownRows.{length-shown_rows, slice_range-shown_rows, items_where_true-shown_rows, get_or-shown_rows, get_or-present_bits, length-present_bits}
 

@@ -1,17 +1,16 @@
 -- What a step leaves of a validity that is a column.
-use Rattle.std.proofs.Common.{◌≡◌, ℕ, ◌-◌, ◌≤◌, Bool, true, false, ◌&&◌, List, map, length, slice_range, refl, sym, ap, ◌∙◌, subst, arith}
-use Rattle.std.specs.Prelude.{◌==◌, ◌||◌, if◌then◌else◌}
+use Rattle.std.proofs.Common.{◌≡◌, ℕ, ◌-◌, ◌≤◌, Bool, true, false, ◌&&◌, List, map, length, slice_range, refl, sym, ap, ◌∙◌, arith}
+use Rattle.std.specs.Prelude.{◌==◌, if◌then◌else◌}
 use Rattle.std.specs.List.{items_where_true}
 use Rattle.std.proofs.lemmas.List.{length-map}
 use Rattle.std.proofs.lemmas.Bool.Decides.{nat_tests}
-use Rattle.vx_bits.specs.BitBuffer.{true_count_of}
 use Rattle.vx_types.specs.RowValue.{RowValue}
 use Rattle.vx_types.specs.TypeTree.{TypeTree}
 use Rattle.vx_types.specs.declared.layout_name.LayoutName.{LayoutName}
 use Rattle.vx_types.specs.declared.layout_name.LayoutName.TheVariants as layouts
-use Rattle.vx_model.specs.Column.{Column, Cover, by_bools, by_other}
+use Rattle.vx_model.specs.Column.{Column, by_bools, by_other}
 use Rattle.vx_model.specs.Plain.{is_in_place}
-use Rattle.vx_model.specs.Valid.{Valid, by_column, is_yes, is_fitting, is_non_null_bool, is_constant_form, is_flat_cover, is_bool_layout, cover_by, nullability_by, present_bits, IsLeft, IsAsPlain}
+use Rattle.vx_model.specs.Valid.{by_column, is_yes, is_fitting, is_non_null_bool, is_constant_form, is_flat_cover, is_bool_layout, cover_by, nullability_by, present_bits, IsLeft, IsAsPlain}
 use Rattle.vx_model.specs.Step.{IsStep, IsCut, IsSlice}
 use Rattle.vx_model.proofs.Items.{map-items_where_true, map-slice_range, length-items_where_true, length-slice_range}
 

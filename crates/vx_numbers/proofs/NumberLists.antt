@@ -1,11 +1,10 @@
 -- How far a list of numbers names positions.
-use Rattle.std.proofs.Common.{◌≡◌, ℕ, zero, suc, ◌+◌, ◌<◌, ◌≤◌, Bool, true, false, List, [], ◌∷◌, ◌++◌, map, length, get_or, take, drop, Option, None, Some, refl, sym, ap, ◌∙◌, arith, add-one, drop-cons}
+use Rattle.std.proofs.Common.{◌≡◌, ℕ, zero, suc, ◌+◌, ◌<◌, ◌≤◌, Bool, true, false, List, [], ◌∷◌, ◌++◌, length, get_or, take, drop, Option, None, Some, refl, sym, ap, ◌∙◌, arith, add-one, drop-cons}
 use Rattle.std.specs.Prelude.{ℤ, IfSome, is_some, if◌then◌else◌, ◌&&◌}
-use Rattle.std.specs.List.{list_all}
 use Rattle.std.specs.Option.{option_map, option_or}
 use Rattle.std.proofs.lemmas.List.{length-map, get_or-map, drop_all, map_more}
 use Rattle.std.proofs.lemmas.List.Folds.{list_all-append}
-use Rattle.vx_types.specs.PType.{is_int, number, width}
+use Rattle.vx_types.specs.PType.{number}
 use Rattle.vx_types.specs.declared.ptype.PType.{PType}
 use Rattle.vx_numbers.specs.Stored.{number_of, present_numbers, shown_numbers}
 use Rattle.vx_numbers.specs.Positions.{AllThere, bad_number, first_bad, is_position, position_of, positions_of}

@@ -64,11 +64,7 @@ fn position_of(number: Option<i128>, len: usize) -> Option<usize>
 
 /// The positions that the numbers name. `NoMemory` alone.
 #[inline(always)]
-pub fn picks_of<N: Numbers>(
-    alloc: Global,
-    numbers: &N,
-    len: usize,
-) -> Result<Picks, NoMemory>
+pub fn picks_of<N: Numbers>(alloc: Global, numbers: &N, len: usize) -> Result<Picks, NoMemory>
     requires { first_bad len (N.numbers numbers.now) ≡ None }
     ensures picks { IfOk result
         (λ p. p ≡ record { picks = positions_of (N.numbers numbers.now); bound = len }) }

@@ -80,7 +80,12 @@ pub fn first_bad_present(ptype: PType, values: &Records, len: usize) -> Option<i
 }
 
 /// The same of records that are there where a bit is set.
-pub fn first_bad_by_bits(ptype: PType, values: &Records, bits: &BitBuffer, len: usize) -> Option<i128>
+pub fn first_bad_by_bits(
+    ptype: PType,
+    values: &Records,
+    bits: &BitBuffer,
+    len: usize,
+) -> Option<i128>
     requires int { is_int ptype ≡ true }
     requires width { width_of values.now ≡ width ptype }
     requires long { length bits.now.bits ≡ length (records_of values.now) }

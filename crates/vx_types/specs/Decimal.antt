@@ -1,5 +1,5 @@
 -- Decimal types: how many digits, how many of them behind the point, and the stored bytes.
-use Rattle.std.specs.Prelude.{ℕ, ℤ, pos, neg_ℤ, int_le, nat_le, Bool, true, false, ◌&&◌, ◌==◌, List, [], ◌∷◌, Option, Some, None, if◌then◌else◌, refl}
+use Rattle.std.specs.Prelude.{ℕ, ℤ, pos, neg_ℤ, int_le, nat_le, Bool, ◌&&◌, ◌==◌, [], ◌∷◌, Option, Some, None, if◌then◌else◌, refl}
 use Rattle.std.specs.Coded.{Coded, code_by, coded×, coded_ℕ, coded_ℤ}
 use Rattle.std.specs.List.{list_any}
 use Rattle.vx_types.specs.declared.error.ColumnError.{ColumnError}
