@@ -1,8 +1,8 @@
 -- A step of a layout's parts, with that of its validity, is the step of its column: filters.
-use Rattle.std.proofs.Common.{◌≡◌, ◌≤◌, List, length, true, refl, sym, ap, ◌∙◌, arith}
+use Rattle.std.proofs.Common.{◌≡◌, length, true, refl, sym, ap, ◌∙◌, arith}
 use Rattle.std.specs.List.{items_where_true}
 use Rattle.vx_bits.specs.BitBuffer.{true_count_of}
-use Rattle.vx_model.specs.Valid.{Valid, non_nullable, all_valid, all_invalid, by_column, is_fitting, nullability_by, present_bits, IsLeft, IsAsPlain}
+use Rattle.vx_model.specs.Valid.{non_nullable, all_valid, all_invalid, by_column, is_fitting, nullability_by, present_bits, IsLeft, IsAsPlain}
 use Rattle.vx_model.specs.Bool.{bool_column}
 use Rattle.vx_model.specs.Primitive.{primitive_column}
 use Rattle.vx_model.specs.Decimal.{decimal_column}
@@ -18,7 +18,6 @@ use Rattle.std.proofs.Common.{map}
 use Rattle.vx_mask.specs.Mask.{mask_bits}
 use Rattle.vx_mask.specs.Positions.{rank_of, set_of}
 use Rattle.vx_model.specs.Dict.{dict_column, dict_with}
-use Rattle.vx_model.specs.Filter.{filter_column}
 use Rattle.vx_model.proofs.Items.{items_where_true-all, items_where_true-none}
 use Rattle.vx_model.proofs.LazyRows.{length-filter}
 use Rattle.vx_model.proofs.LazySteps.{dict_fault-filter, is_filter-dict, is_filter-filter}

@@ -1,5 +1,5 @@
 -- `filter` calls `filter_values` on the same column, and the other calls go to a part.
-use Rattle.std.proofs.Common.{ℕ, ◌+◌, ◌*◌}
+use Rattle.std.proofs.Common.{◌+◌, ◌*◌}
 use Rattle.vx_dispatch.proofs.+filter.Given as goal
 
 abbrev pub decreases-boolean::filter_of : goal.decreases-boolean::filter_of

@@ -1,7 +1,7 @@
 -- A step of a layout's parts, with that of its validity, is the step of its column: slices.
-use Rattle.std.proofs.Common.{◌≡◌, ◌≤◌, ◌+◌, ◌%◌, ℕ, List, length, refl, sym, ap, ap₂, ◌∙◌, slice_range, true, arith}
+use Rattle.std.proofs.Common.{◌≡◌, ◌≤◌, List, length, refl, ap, ap₂, ◌∙◌, slice_range, true, arith}
 use Rattle.vx_bits.specs.BitBuffer.{PlacedBits}
-use Rattle.vx_model.specs.Valid.{Valid, non_nullable, all_valid, all_invalid, by_column, is_fitting, nullability_by, present_bits, IsLeft, IsAsPlain}
+use Rattle.vx_model.specs.Valid.{non_nullable, all_valid, all_invalid, by_column, is_fitting, nullability_by, present_bits, IsLeft, IsAsPlain}
 use Rattle.vx_model.specs.Bool.{bool_column, bool_with}
 use Rattle.vx_model.specs.Primitive.{primitive_column, primitive_with}
 use Rattle.vx_model.specs.Decimal.{decimal_column, decimal_with}
@@ -15,7 +15,7 @@ use Rattle.std.proofs.Common.{take, Bool}
 use Rattle.vx_bits.specs.BitBuffer.{true_count_of}
 use Rattle.vx_model.specs.Column.{Column}
 use Rattle.vx_model.specs.Dict.{dict_column, dict_with}
-use Rattle.vx_model.specs.Filter.{FilterParts, filter_column}
+use Rattle.vx_model.specs.Filter.{filter_column}
 use Rattle.vx_model.proofs.LazySteps.{dict_fault-slice, is_slice-dict, is_slice-filter}
 use Rattle.vx_dispatch.proofs.+slice.Goals as goal
 

@@ -10,7 +10,7 @@ use Rattle.vx_column.specs.Validity.{valid_of}
 use Rattle.vx_flat.specs.Records.{zero_record}
 use Rattle.vx_model.specs.Primitive.{primitive_column}
 use Rattle.vx_model.specs.Decimal.{decimal_column}
-use Rattle.std.specs.Prelude.{is_some, replicate}
+use Rattle.std.specs.Prelude.{is_some}
 use Rattle.vx_types.specs.declared.nullability.Nullability.TheVariants.{Nullable}
 use Rattle.vx_column.specs.Layout.{column_of}
 use Rattle.std.proofs.Common.{ap₂}

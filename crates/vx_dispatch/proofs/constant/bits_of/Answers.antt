@@ -1,7 +1,7 @@
 -- The bits of one bool at the picks.
-use Rattle.std.proofs.Common.{rules, ◌≡◌, true, false, map, length, sym, ap, ◌∙◌, subst}
-use Rattle.std.specs.Prelude.{replicate, is_some}
-use Rattle.vx_take.specs.Picks.{AreBelow, at}
+use Rattle.std.proofs.Common.{rules, ◌≡◌, true, false, length, sym, ap, ◌∙◌, subst}
+use Rattle.std.specs.Prelude.{replicate}
+use Rattle.vx_take.specs.Picks.{AreBelow}
 use Rattle.vx_model.specs.Valid.{is_yes}
 use Rattle.vx_model.proofs.LazyRows.{length-constant}
 use Rattle.vx_model.proofs.ConstantRows.{set_at-picks, clear_at-picks}

@@ -1,6 +1,6 @@
 -- Fewer rows of one value are what a filter keeps of them.
-use Rattle.std.proofs.Common.{◌≡◌, ℕ, ap, ap₂, ◌∙◌}
-use Rattle.vx_model.specs.Constant.{ConstantParts, constant_column}
+use Rattle.std.proofs.Common.{ℕ, ap, ap₂, ◌∙◌}
+use Rattle.vx_model.specs.Constant.{constant_column}
 use Rattle.vx_model.proofs.LazyRows.{length-constant}
 use Rattle.vx_model.proofs.LazySteps.{is_filter-constant}
 use Rattle.vx_types.specs.Scalar.{TypedRow}

@@ -1,5 +1,5 @@
 -- One value at picks: a null, a value where all picks are there, and a value beside nulls.
-use Rattle.std.proofs.Common.{◌≡◌, ℕ, true, map, length, refl, sym, ap, ap₂, ◌∙◌, subst}
+use Rattle.std.proofs.Common.{◌≡◌, ℕ, true, map, refl, sym, ap, ap₂, ◌∙◌, subst}
 use Rattle.std.specs.Prelude.{is_some, replicate}
 use Rattle.std.proofs.lemmas.List.{length-map}
 use Rattle.vx_types.specs.Nullability.{is_nullable}
@@ -8,14 +8,12 @@ use Rattle.vx_types.specs.Scalar.{TypedRow}
 use Rattle.vx_types.specs.TypeTree.{also_nullable, type_nullability, with_nullability}
 use Rattle.vx_types.specs.declared.nullability.Nullability.TheVariants.{Nullable}
 use Rattle.vx_take.specs.Picks.{AreBelow}
-use Rattle.vx_model.specs.Constant.{ConstantParts, constant_column}
-use Rattle.vx_model.specs.Bool.{bits_column}
-use Rattle.vx_model.specs.Valid.{non_nullable, by_column, nullability_by, present_bits, shown_rows, IsLeft}
+use Rattle.vx_model.specs.Constant.{constant_column}
+use Rattle.vx_model.specs.Valid.{non_nullable, nullability_by, present_bits, shown_rows}
 use Rattle.vx_model.proofs.LazyRows.{length-constant}
 use Rattle.vx_model.proofs.LazySteps.{is_take-constant}
 use Rattle.vx_model.proofs.Takes.{is_left-bits_column}
 use Rattle.vx_model.proofs.ConstantRows.{null_is, also_nullable-null, also_nullable-nullable, is_take-null_constant, is_take-stored_constant}
-use Rattle.vx_column.specs.Validity.{valid_of}
 use Rattle.vx_dispatch.proofs.constant.take_of.Goals as goal
 
 pub returns-then-is_null : goal.returns-then-is_null

@@ -1,5 +1,5 @@
 -- Fewer nulls are a slice of them.
-use Rattle.std.proofs.Common.{◌≡◌, ◌≤◌, ap, ◌∙◌, arith}
+use Rattle.std.proofs.Common.{◌≤◌, ap, ◌∙◌, arith}
 use Rattle.vx_model.specs.Null.{null_column}
 use Rattle.vx_model.proofs.Layouts.{length-null}
 use Rattle.vx_model.proofs.Steps.{is_slice-null}

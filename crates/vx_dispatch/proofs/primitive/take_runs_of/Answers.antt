@@ -1,6 +1,6 @@
 -- The records in the runs are those at the picks, and the validity stays what it is.
-use Rattle.std.proofs.Common.{◌≡◌, ◌+◌, ◌≤◌, length, None, Some, false, true, map, refl, sym, ap, ap₂, ◌∙◌, rules}
-use Rattle.std.specs.Prelude.{All, IfSome}
+use Rattle.std.proofs.Common.{◌≡◌, ◌+◌, ◌≤◌, length, None, false, true, ap, ap₂, ◌∙◌, rules}
+use Rattle.std.specs.Prelude.{All}
 use Rattle.vx_types.specs.Nullability.{either_nullable}
 use Rattle.vx_types.specs.declared.nullability.Nullability.TheVariants.{NonNullable}
 use Rattle.vx_take.specs.Picks.{at, in_runs}

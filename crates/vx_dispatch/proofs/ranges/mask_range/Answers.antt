@@ -1,7 +1,6 @@
 -- Of two positions the lower one has no more set positions below it.
-use Rattle.std.proofs.Common.{◌≡◌, ◌<◌, ◌≤◌, take, arith}
+use Rattle.std.proofs.Common.{◌≤◌, arith}
 use Rattle.std.proofs.Common.{rules}
-use Rattle.vx_bits.specs.BitBuffer.{true_count_of}
 use Rattle.vx_mask.specs.Mask.{mask_bits}
 use Rattle.vx_model.proofs.KeptItems.{count_take-ordered}
 use Rattle.vx_dispatch.proofs.ranges.mask_range.Goals as goal
