@@ -82,7 +82,8 @@ pub(crate) fn take_runs_of(
     pieces: &PiecewiseSequence,
 ) -> Result<Option<Array>, NoMemory>
     requires sound { is_sound pieces.now ≡ true }
-    requires within { first_from (length (decimal_column array.now).rows) (expand pieces.now) ≡ None }
+    requires within { first_from (length (decimal_column array.now).rows)
+        (expand pieces.now) ≡ None }
     ensures { IfOk result (λ taken. IfSome taken (IsTake (decimal_column array.now)
         (index_picks (by_pieces pieces.now)) NonNullable)) }
 {
