@@ -4,7 +4,7 @@
 
 use std::env;
 use std::process::ExitCode;
-use vx_rows::{StdSink, StdSource, run};
+use vx_rows::{StdSink, StdSource, Trace, run};
 
 /// The status where the words can't be had.
 const NO_WORDS: u8 = 9;
@@ -19,5 +19,12 @@ fn main(rt: HostRuntime) -> ExitCode {
     };
     let mut source = StdSource::new(rt.stdin());
     let mut sink = StdSink::new(rt.stdout());
-    ExitCode::from(run(alloc, &words, &mut source, &mut sink))
+    let mut trace = Trace::new();
+    ExitCode::from(run(
+        alloc,
+        &words,
+        &mut source,
+        &mut sink,
+        &mut trace,
+    ))
 }

@@ -1,3 +1,4 @@
+pub mod Checked
 pub mod Delivered
 pub mod JsonValues
 pub mod Told

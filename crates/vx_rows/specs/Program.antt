@@ -1,23 +1,27 @@
 -- What the program makes of the bytes that it reads.
-use Rattle.std.specs.Prelude.{◌≡◌, ℕ, List, [], length, nat_lt, if◌then◌else◌, Option, Some, None, option_map, IfSome}
+use Rattle.std.specs.Prelude.{◌≡◌, ℕ, List, [], ◌++◌, length, unwrap_or, nat_lt, if◌then◌else◌, Option, Some, None, option_map, IfSome}
 use Rattle.std.specs.Str.{is_utf8}
 use Rattle.serde_json.specs.Data.{Data}
 use Rattle.serde_json.specs.Read.{read}
-use Rattle.vx_steps.specs.Answer.{Answer, answer_fault, answer_rows, answer}
+use Rattle.vx_types.specs.RowValue.{RowValue}
+use Rattle.vx_types.specs.TypeTree.{TypeTree, type_width}
+use Rattle.vx_mask.specs.Policy.{sparse_limit_of}
+use Rattle.vx_chunked.specs.declared.call.Call.{Call}
+use Rattle.vx_steps.specs.Shape.{ShapeValue}
+use Rattle.vx_steps.specs.Walk.{walk}
+use Rattle.vx_steps.specs.Answer.{Answer, answer_fault, answer_rows, answer, answer_of}
+use Rattle.vx_select.specs.Chunks.{asked_by_walk, chunk_rows}
 use Rattle.vx_rows.specs.Commands.{command_of, IfCommand}
-use Rattle.vx_document.specs.Documents.{DocumentValue, SourceValue, column_source}
+use Rattle.vx_document.specs.Documents.{DocumentValue, SourceValue, column_source, chunks_source}
 use Rattle.vx_document.specs.Later.{holds_later}
 use Rattle.vx_document.specs.Reading.{document_of}
 use Rattle.vx_outside.specs.declared.transfer.TheConstants.{MAX_BYTES}
+use Rattle.vx_print.specs.Calls.{calls_text}
 use Rattle.vx_print.specs.Fault.{fault_text}
 use Rattle.vx_print.specs.Text.{text}
 use Rattle.vx_rows.specs.declared.command.Command.{Command}
 use Rattle.vx_rows.specs.declared.command.Command.TheVariants.{Rows}
-
--- a call of a chunk decoder: for a whole chunk, or for so many of its values
-pub data CallValue : Type 0 where
-  whole : ℕ → CallValue
-  only : ℕ → ℕ → CallValue
+use Rattle.vx_rows.specs.declared.trace.Trace.{Trace}
 
 pub data Outcome : Type 0 where
   TooLong : Outcome
@@ -25,23 +29,39 @@ pub data Outcome : Type 0 where
   NotBuilt : Outcome
   -- a step is broken: the fault's line
   Broken : List ℕ → Outcome
-  -- the text, and the calls of a decoder where the source is chunks
-  Done : List ℕ → Option (List CallValue) → Outcome
+  -- the text, and the calls of a decoder where the rows are behind one
+  Done : List ℕ → Option (List Call) → Outcome
 
 -- the value that the bytes spell
 unfoldable pub value_of : List ℕ → Option Data
 value_of bytes = if is_utf8 bytes then read bytes else None
 
-abbrev pub of_answer : Answer → Outcome
-of_answer (answer_fault step cause) = Broken (fault_text step cause)
-of_answer (answer_rows t rows) = Done (text t rows) None
+-- the text of the rows, and behind it the line of the calls, where there is a decoder
+abbrev pub text_with : TypeTree → List RowValue → Option (List Call) → List ℕ
+text_with t rows None = text t rows
+text_with t rows (Some calls) = text t rows ++ calls_text calls
+
+abbrev pub of_answer : Answer → Option (List Call) → Outcome
+of_answer (answer_fault step cause) calls = Broken (fault_text step cause)
+of_answer (answer_rows t rows) calls = Done (text_with t rows calls) calls
 
 abbrev pub answer_to : SourceValue → DocumentValue → Answer
 answer_to (column_source c) d = answer c d.steps
+answer_to (chunks_source s values) d = answer_of s.dtype (chunk_rows s values) d.steps
+
+-- the policy's sparse limit for values of the shape's type
+abbrev pub limit_for : ShapeValue → DocumentValue → ℕ
+limit_for s d = sparse_limit_of d.policy (unwrap_or (type_width s.dtype) 0)
+
+-- the calls that a decoder is asked, where the rows are behind one
+abbrev pub calls_to : SourceValue → DocumentValue → Option (List Call)
+calls_to (column_source c) d = None
+calls_to (chunks_source s values) d =
+    Some (asked_by_walk s (limit_for s d) (walk s.len d.steps))
 
 abbrev pub of_document : Option DocumentValue → Outcome
 of_document None = Malformed
-of_document (Some d) = of_answer (answer_to d.source d)
+of_document (Some d) = of_answer (answer_to d.source d) (calls_to d.source d)
 
 abbrev pub of_value : Option Data → Outcome
 of_value None = Malformed
@@ -75,6 +95,16 @@ abbrev pub IsPrinted : Outcome → (List ℕ → Type 0) → Type 0
 IsPrinted (Broken line) P = P line
 IsPrinted (Done text calls) P = P text
 IsPrinted o P = ⊥
+
+-- a trace with these calls in place of its own, where there are some
+abbrev pub kept : Option (List Call) → Trace → Trace
+kept None t = t
+kept (Some calls) t = record t { calls = calls }
+
+-- the trace that a run leaves that found this one
+abbrev pub traced_by : Outcome → Trace → Trace
+traced_by (Done text calls) t = kept calls t
+traced_by o t = t
 
 -- the program's status
 abbrev pub status_of : Outcome → ℕ

@@ -2,13 +2,14 @@
 use Rattle.std.specs.Prelude.{◌≡◌, ℕ, List, Option, None, Some}
 use Rattle.vx_steps.specs.Answer.{Answer, answer_fault}
 use Rattle.vx_print.specs.Fault.{fault_text}
-use Rattle.vx_rows.specs.Program.{Outcome, Malformed, NotBuilt, Broken, Done}
+use Rattle.vx_rows.specs.Program.{Outcome, Malformed, NotBuilt, Broken, Done, kept}
 use Rattle.vx_rows.specs.declared.reply.Reply.{Reply}
 use Rattle.vx_rows.specs.declared.reply.Reply.TheVariants as replies
+use Rattle.vx_rows.specs.declared.trace.Trace.{Trace}
 
 -- a reply is the outcome; memory may be wanting instead
 abbrev pub Replies : Reply → Outcome → Type 0
-Replies (replies.Done text) o = o ≡ Done text.items None
+Replies (replies.Done text calls) o = o ≡ Done text.items calls
 Replies (replies.Broken step cause) o = o ≡ Broken (fault_text step cause)
 Replies replies.Malformed o = o ≡ Malformed
 Replies replies.NotBuilt o = o ≡ NotBuilt
@@ -21,13 +22,18 @@ IsHonest r a = Unit {0}
 
 -- what is written
 abbrev pub text_of_reply : Reply → Option (List ℕ)
-text_of_reply (replies.Done text) = Some text.items
+text_of_reply (replies.Done text calls) = Some text.items
 text_of_reply (replies.Broken step cause) = Some (fault_text step cause)
 text_of_reply r = None
 
+-- the trace that is left where this one was found
+abbrev pub traced_by_reply : Reply → Trace → Trace
+traced_by_reply (replies.Done text calls) t = kept calls t
+traced_by_reply r t = t
+
 -- the program's status, where no sink fails
 abbrev pub status_of_reply : Reply → ℕ
-status_of_reply (replies.Done text) = 0
+status_of_reply (replies.Done text calls) = 0
 status_of_reply (replies.Broken step cause) = 1
 status_of_reply replies.Malformed = 2
 status_of_reply replies.NotBuilt = 8

@@ -1,39 +1,44 @@
 //! Delivering a reply to a sink.
 ghost use Rattle.std.specs.Prelude.{◌≡◌, ◌≢◌, ◌≤◌, ℕ, take, None, IfSome, IsSomeAnd};
 ghost use Rattle.vx_outside.specs.Bytes.{Rose, with_back};
-ghost use Rattle.vx_rows.specs.Reply.{text_of_reply, status_of_reply};
+ghost use Rattle.vx_rows.specs.Reply.{text_of_reply, status_of_reply, traced_by_reply};
 
 use crate::reply::Reply;
+use crate::trace::Trace;
 use vx_outside::{Sink, deliver};
 use vx_print::{FAULT_ROOM, fault_line};
 
 /// The status where the sink fails.
 const SINK_FAULT: u8 = 5;
 
-// Writes what a reply prints, if it prints anything, and answers the status. A reply that prints
-// nothing leaves the sink as it was.
-pub(crate) fn deliver_reply<K: Sink>(sink: &mut K, reply: &Reply) -> u8
-    ensures status { result ≢ 5 → result ≡ status_of_reply reply.now }
-    ensures written { result ≢ 5 → IfSome (text_of_reply reply.now)
+// Writes what a reply prints, if it prints anything, and answers the status. The calls that it has
+// are kept before the first write. A reply that prints nothing leaves the sink as it was.
+pub(crate) fn deliver_reply<K: Sink>(sink: &mut K, trace: &mut Trace, reply: Reply) -> u8
+    ensures status { result ≢ 5 → result ≡ status_of_reply reply }
+    ensures traced { trace.new ≡ traced_by_reply reply trace.old }
+    ensures written { result ≢ 5 → IfSome (text_of_reply reply)
         (λ text. K.held sink.new ≡ with_back (K.held sink.old) text) }
-    ensures finished { result ≢ 5 → IfSome (text_of_reply reply.now)
+    ensures finished { result ≢ 5 → IfSome (text_of_reply reply)
         (λ _. IfSome (K.held sink.old) (λ _. K.pending sink.new ≡ 0)) }
     ensures no_fault { result ≢ 5 → K.faults sink.new ≡ K.faults sink.old }
-    ensures quiet { text_of_reply reply.now ≡ None → sink.new ≡ sink.old }
+    ensures quiet { text_of_reply reply ≡ None → sink.new ≡ sink.old }
 
     ensures fault { result ≡ 5 → Rose (K.faults sink.old) (K.faults sink.new) }
-    ensures part { result ≡ 5 → IsSomeAnd (text_of_reply reply.now)
+    ensures part { result ≡ 5 → IsSomeAnd (text_of_reply reply)
         (λ text. (n : ℕ) × (K.held sink.new ≡ with_back (K.held sink.old) (take n text))) }
     ensures never_falls { K.faults sink.old ≤ K.faults sink.new }
 {
     match reply {
-        Reply::Done(text) => match deliver(sink, text) {
-            Ok(()) => 0,
-            Err(_) => SINK_FAULT,
-        },
+        Reply::Done { text, calls } => {
+            trace.keep(calls);
+            match deliver(sink, &text) {
+                Ok(()) => 0,
+                Err(_) => SINK_FAULT,
+            }
+        }
         Reply::Broken { step, cause } => {
             let mut line = [0; FAULT_ROOM];
-            let len = fault_line(*step, cause, &mut line);
+            let len = fault_line(step, &cause, &mut line);
             match deliver(sink, &line[..len]) {
                 Ok(()) => 1,
                 Err(_) => SINK_FAULT,

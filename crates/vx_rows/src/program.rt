@@ -1,17 +1,23 @@
 //! All that the program does, over any source and sink.
 ghost use Rattle.std.specs.Prelude.{◌≡◌, ◌≢◌, ◌↔◌, ◌⊎◌, ◌≤◌, ◌+◌, ℕ, [], take, map, string_bytes, IfSome, None};
 ghost use Rattle.vx_outside.specs.Bytes.{Rose, Loses, with_back};
-ghost use Rattle.vx_rows.specs.Program.{TooLong, Malformed, NotBuilt, program, IsDone, IsBroken, IsPrinted, status_of, IfTold, HasRead};
+ghost use Rattle.vx_rows.specs.Program.{TooLong, Malformed, NotBuilt, program, IsDone, IsBroken, IsPrinted, status_of, IfTold, HasRead, traced_by};
 ghost use Rattle.vx_rows.specs.Commands.{command_of, IfCommand};
 
 use crate::command::{Command, command_of};
 use crate::delivery::deliver_reply;
 use crate::reply::reply_to;
+use crate::trace::Trace;
 use std::alloc::Global;
 use vx_outside::{MAX_BYTES, Sink, Source, Stop, read_all};
 
 // Reads a document, and prints its rows or its fault.
-fn run_rows<S: Source, K: Sink>(alloc: Global, source: &mut S, sink: &mut K) -> u8
+fn run_rows<S: Source, K: Sink>(
+    alloc: Global,
+    source: &mut S,
+    sink: &mut K,
+    trace: &mut Trace,
+) -> u8
     ensures known { result ≤ 8 }
     ensures other_words { result ≢ 3 }
 
@@ -35,6 +41,9 @@ fn run_rows<S: Source, K: Sink>(alloc: Global, source: &mut S, sink: &mut K) -> 
     ensures sink_fault_told { result ≢ 5 → K.faults sink.new ≡ K.faults sink.old }
 
     ensures quiet { result ≢ 0 → result ≢ 1 → result ≢ 5 → sink.new ≡ sink.old }
+    ensures traced { (result ≡ 0) ⊎ (result ≡ 5) → IfSome (S.rest source.old)
+        (λ b. trace.new ≡ traced_by (program b) trace.old) }
+    ensures untraced { result ≢ 0 → result ≢ 5 → trace.new ≡ trace.old }
     ensures complete { ¬ Rose (S.faults source.old) (S.faults source.new)
         → ¬ Rose (K.faults sink.old) (K.faults sink.new)
         → (result ≡ 6) ⊎ IfSome (S.rest source.old) (λ b. result ≡ status_of (program b)) }
@@ -45,7 +54,7 @@ fn run_rows<S: Source, K: Sink>(alloc: Global, source: &mut S, sink: &mut K) -> 
         Err(Stop::TooLong) => return 7,
         Err(Stop::NoMemory) => return 6,
     };
-    deliver_reply(sink, &reply_to(alloc, bytes))
+    deliver_reply(sink, trace, reply_to(alloc, bytes))
 }
 
 /// Does what the words ask, and answers the program's status. The words leave out the program's
@@ -63,8 +72,16 @@ fn run_rows<S: Source, K: Sink>(alloc: Global, source: &mut S, sink: &mut K) -> 
 /// | 7 | 16,777,217 bytes were taken; nothing was written |
 /// | 8 | the document has a word that isn't read yet; nothing was written |
 ///
-/// The whole text is made before the first write.
-pub fn run<S: Source, K: Sink>(alloc: Global, words: &[String], source: &mut S, sink: &mut K) -> u8
+/// The whole text is made before the first write. Where the rows are behind a decoder, its calls
+/// are the text's last line, and are left in `trace`, also where the sink fails; at every other
+/// status but 0, and for every other document, `trace` is as it was.
+pub fn run<S: Source, K: Sink>(
+    alloc: Global,
+    words: &[String],
+    source: &mut S,
+    sink: &mut K,
+    trace: &mut Trace,
+) -> u8
     ensures known { result ≤ 8 }
     ensures words { (result ≡ 3) ↔ (command_of (map string_bytes words.now) ≡ None) }
     ensures untouched { result ≡ 3 → source.new ≡ source.old }
@@ -96,6 +113,11 @@ pub fn run<S: Source, K: Sink>(alloc: Global, words: &[String], source: &mut S, 
 
     // Nothing is written at any other status.
     ensures quiet { result ≢ 0 → result ≢ 1 → result ≢ 5 → sink.new ≡ sink.old }
+    // The trace has the calls of a decoder where the rows are behind one; else it is as it was.
+    ensures traced { (result ≡ 0) ⊎ (result ≡ 5) →
+        IfTold (map string_bytes words.now) (S.rest source.old)
+        (λ o. trace.new ≡ traced_by o trace.old) }
+    ensures untraced { result ≢ 0 → result ≢ 5 → trace.new ≡ trace.old }
     // Where neither count of faults rose, the status is that of the bytes, or memory is wanting.
     ensures complete { ¬ Rose (S.faults source.old) (S.faults source.new)
         → ¬ Rose (K.faults sink.old) (K.faults sink.new)
@@ -104,6 +126,6 @@ pub fn run<S: Source, K: Sink>(alloc: Global, words: &[String], source: &mut S, 
 {
     match command_of(words) {
         None => 3,
-        Some(Command::Rows) => run_rows(alloc, source, sink),
+        Some(Command::Rows) => run_rows(alloc, source, sink, trace),
     }
 }

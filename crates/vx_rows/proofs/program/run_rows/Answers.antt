@@ -2,8 +2,9 @@
 use Rattle.std.proofs.Common.{◌≡◌, ℕ, List, Err, take, ap, refl, sym, ◌∙◌, inl, inr, arith}
 use Rattle.std.specs.Prelude.{◌≢◌}
 use Rattle.vx_outside.specs.Bytes.{with_back}
-use Rattle.vx_rows.specs.Program.{TooLong, Malformed, NotBuilt, IsBroken, IsDone, IsPrinted, status_of}
-use Rattle.vx_rows.proofs.Delivered.{is_done, is_broken, is_printed, is_malformed, is_not_built, status_or_memory}
+use Rattle.vx_rows.specs.Program.{TooLong, Malformed, NotBuilt, IsBroken, IsDone, IsPrinted, status_of, traced_by}
+use Rattle.vx_rows.proofs.Delivered.{is_done, is_broken, is_printed, is_malformed, is_not_built, status_or_memory, traced_alike, written_status}
+use Rattle.vx_rows.specs.Reply.{status_of_reply}
 use Rattle.vx_rows.proofs.Told.{told, told_long}
 use Rattle.vx_rows.proofs.program.run_rows.Goals as goal
 
@@ -61,3 +62,16 @@ returns-clause-complete g c = λ _ sound.
       | inl six ↦ inl (is ∙ six)
       | inr same ↦ inr (told (λ o. c.deliver_reply.result ≡ status_of o) _ _ _ _ e.taken e.end e.short refl _ refl (is ∙ same))
     ]
+
+pub returns-clause-traced : goal.returns-clause-traced
+returns-clause-traced g c = λ printed.
+    let e = c.in-Ok.ensures in let d = c.deliver_reply.ensures in let held = g.K.Sink.held in
+    let r = c.reply_to.result in let t = c.args.trace.now in
+    let Q = λ (text : List ℕ). (n : ℕ) × (held c.deliver_reply.new.sink ≡ with_back (held c.args.sink.now) (take n text)) in
+    let there : status_of_reply r ≢ 6 = elim printed [
+      | inl zero ↦ (let other : c.deliver_reply.result ≢ 5 = λ five. absurd (omega arith) in
+          let is : c.deliver_reply.result ≡ status_of_reply r = d.status other in omega arith)
+      | inr five ↦ written_status r Q (d.part five)
+    ] in
+    told (λ o. c.deliver_reply.new.trace ≡ traced_by o t) _ _ _ _ e.taken e.end e.short refl _ refl
+    (d.traced ∙ traced_alike r _ t c.reply_to.ensures there)
