@@ -4,7 +4,7 @@ use std::alloc::Global;
 use std::test::Fail;
 use vx_bits::Buffer;
 use vx_print::{FAULT_ROOM, fault_line};
-use vx_rows::{CountingSink, MemorySink, SteadySource, run};
+use vx_rows::{CountingSink, MemorySink, SteadySource, Trace, run};
 use vx_steps::Cause;
 
 /// A document of two rows and no steps.
@@ -26,7 +26,14 @@ fn print_count(rt: &impl Print, alloc: Global, document: &str, len: usize) -> Re
     bytes.resize(len, b' ')?;
     let mut source = SteadySource::new(Buffer::from_vec(alloc, bytes)?, 1_000_000);
     let mut sink = CountingSink::new();
-    let status = run(alloc, rows_word(alloc)?.as_slice(), &mut source, &mut sink);
+    let mut trace = Trace::new();
+    let status = run(
+        alloc,
+        rows_word(alloc)?.as_slice(),
+        &mut source,
+        &mut sink,
+        &mut trace,
+    );
     println!(rt; "{len} bytes: {status}, {} written", sink.taken())?;
     Ok(())
 }
@@ -44,7 +51,14 @@ fn print_answer(rt: &impl Print, alloc: Global, bytes: &[u8]) -> Result<(), Fail
     let none = Buffer::from_vec(alloc, Vec::new(alloc))?;
     let mut source = SteadySource::new(Buffer::from_vec(alloc, bytes.to_vec(alloc)?)?, 16);
     let mut sink = MemorySink::new(alloc, 16, none, 4096)?;
-    let status = run(alloc, rows_word(alloc)?.as_slice(), &mut source, &mut sink);
+    let mut trace = Trace::new();
+    let status = run(
+        alloc,
+        rows_word(alloc)?.as_slice(),
+        &mut source,
+        &mut sink,
+        &mut trace,
+    );
     println!(rt; "{status}")?;
     print!(rt; "{}", String::from_utf8(sink.bytes().to_vec(alloc)?)?)?;
     Ok(())
