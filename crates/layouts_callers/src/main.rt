@@ -12,6 +12,7 @@ fn main(rt: HostRuntime) -> Result<(), Fail> {
     steps::print_bools(&rt, rt.alloc())?;
     steps::print_dict(&rt, rt.alloc())?;
     steps::print_takes(&rt, rt.alloc())?;
+    steps::print_any_take(&rt, rt.alloc())?;
     steps::print_lazy_takes(&rt, rt.alloc())?;
     steps::print_long_takes(&rt, rt.alloc())
 }

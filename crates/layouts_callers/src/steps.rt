@@ -9,7 +9,6 @@ use vx_column::vtables::{Bool, Decimal, Dict, Filter, Null, Primitive};
 use vx_column::{Array, NullArray, VTable};
 use vx_layouts::{FilterReduce, SliceReduce, TakeExecute, take};
 use vx_mask::{Mask, Policy};
-use vx_pieces::Indices;
 
 /// Whether a column is of the layout, and of which it is.
 fn print_view<V: VTable>(rt: &impl Print, array: &Array) -> Result<(), Fail> {
@@ -23,11 +22,11 @@ fn print_take<V: TakeExecute>(
     rt: &impl Print,
     alloc: Global,
     array: &Array,
-    indices: &Indices,
+    picks: &[[u8; 1]],
 ) -> Result<(), Fail> {
     if let Some(view) = array.as_opt::<V>() {
         print!(rt; "take of {:?}:", V::NAME)?;
-        match V::take(alloc, view, indices) {
+        match V::take(alloc, view, &indices(alloc, picks)?) {
             Ok(answer) => print_answer(rt, alloc, &answer)?,
             Err(error) => println!(rt; " {error:?}")?,
         }
@@ -89,31 +88,36 @@ pub(crate) fn print_dict(rt: &impl Print, alloc: Global) -> Result<(), Fail> {
     print_slice::<Dict>(rt, alloc, &column, 1, 3)
 }
 
-/// A take of each flat layout, and by no layout.
+/// A take of each flat layout.
 pub(crate) fn print_takes(rt: &impl Print, alloc: Global) -> Result<(), Fail> {
-    let two = indices(alloc, &[[1], [0]])?;
-    print_take::<Null>(rt, alloc, &NullArray::new(2).into_array(), &two)?;
-    print_take::<Bool>(rt, alloc, &bools(alloc, &[true, false])?, &two)?;
-    print_take::<Primitive>(rt, alloc, &bytes(alloc, &[[10], [20]])?, &two)?;
-    print_take::<Decimal>(rt, alloc, &decimals(alloc, &[[10], [20]])?, &two)?;
-    print_take::<Primitive>(rt, alloc, &bytes(alloc, &[[10]])?, &two)?;
-    print!(rt; "take:")?;
+    print_take::<Null>(rt, alloc, &NullArray::new(2).into_array(), &[[1], [0]])?;
+    print_take::<Bool>(rt, alloc, &bools(alloc, &[true, false])?, &[[1], [0]])?;
+    print_take::<Primitive>(rt, alloc, &bytes(alloc, &[[10], [20]])?, &[[1], [0]])?;
+    print_take::<Decimal>(rt, alloc, &decimals(alloc, &[[10], [20]])?, &[[1], [0]])
+}
+
+/// A take of any layout, and bad indices.
+pub(crate) fn print_any_take(rt: &impl Print, alloc: Global) -> Result<(), Fail> {
     let column = bytes(alloc, &[[10], [20]])?;
-    print_answer(
-        rt,
+    print_take::<Primitive>(rt, alloc, &column, &[[0], [2]])?;
+    let rows = take(
         alloc,
-        &Some(take(alloc, &column, &two, &Policy::vortex())?),
-    )
+        &column,
+        &indices(alloc, &[[1], [0]])?,
+        &Policy::vortex(),
+    )?;
+    print!(rt; "take:")?;
+    print_answer(rt, alloc, &Some(rows))
 }
 
 /// Takes of filtered columns: bools are left to the caller, where the indices are right.
 pub(crate) fn print_lazy_takes(rt: &impl Print, alloc: Global) -> Result<(), Fail> {
     let column = filtered(alloc, bools(alloc, &[true, false])?, &[true, true])?;
-    print_take::<Filter>(rt, alloc, &column, &indices(alloc, &[[1]])?)?;
-    print_take::<Filter>(rt, alloc, &column, &indices(alloc, &[[2]])?)?;
+    print_take::<Filter>(rt, alloc, &column, &[[1]])?;
+    print_take::<Filter>(rt, alloc, &column, &[[2]])?;
     let child = bytes(alloc, &[[10], [20], [30]])?;
     let column = filtered(alloc, child, &[true, false, true])?;
-    print_take::<Filter>(rt, alloc, &column, &indices(alloc, &[[1]])?)
+    print_take::<Filter>(rt, alloc, &column, &[[1]])
 }
 
 /// Whether long takes of filtered columns are left to the caller.
