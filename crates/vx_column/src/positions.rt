@@ -4,9 +4,13 @@ ghost use Rattle.std.specs.Prelude.{◌≡◌, None, Some, true, IfOk};
 ghost use Rattle.vx_types.specs.TypeTree.{int_type_of, is_int_type, type_nullability};
 ghost use Rattle.vx_types.specs.declared.nullability.Nullability.TheVariants.{NonNullable};
 ghost use Rattle.vx_numbers.specs.Positions.{AllThere, first_bad, positions_of};
+ghost use Rattle.vx_model.specs.Dict.{dict_column};
+ghost use Rattle.vx_model.specs.Filter.{filter_column};
 ghost use Rattle.vx_model.specs.Numbers.{numbers_of};
 
-use crate::array::Array;
+use crate::array::{Array, Layout};
+use crate::dict::DictArray;
+use crate::filter::FilterArray;
 use std::alloc::Global;
 use vx_bits::NoMemory;
 use vx_numbers::{
@@ -43,7 +47,53 @@ impl Numbers for Rows<'_> {
     }
 }
 
+impl DictArray {
+    // Whether each of the values is one of `len` positions, as far as that is told at once.
+    #[cycle(told)]
+    #[tactic(auto, using(vx_model::proofs::LazyNumbers::lazy_numbers))]
+    fn tells_positions(&self, ptype: PType, len: usize) -> bool
+        requires { int_type_of (dict_column self.now).dtype ≡ Some ptype }
+        ensures { result ≡ true → first_bad len (numbers_of (dict_column self.now)) ≡ None }
+    {
+        self.values().tells_positions(ptype, len)
+    }
+}
+
+impl FilterArray {
+    // Whether each of the child's numbers is one of `len` positions, as far as that is told at once.
+    #[cycle(told)]
+    #[tactic(auto, using(vx_model::proofs::LazyNumbers::lazy_numbers))]
+    fn tells_positions(&self, ptype: PType, len: usize) -> bool
+        requires { int_type_of (filter_column self.now).dtype ≡ Some ptype }
+        ensures { result ≡ true → first_bad len (numbers_of (filter_column self.now)) ≡ None }
+    {
+        self.child().tells_positions(ptype, len)
+    }
+}
+
 impl Array {
+    // Whether each number is one of `len` positions, as far as stored records tell it: those of the
+    // column, or those that its rows are of. So no row of a lazy column is looked up by its rank
+    // where all rows that it is made of are positions.
+    #[cycle(told)]
+    #[tactic(auto, using(crate::proofs::NumberLists::stored))]
+    fn tells_positions(&self, ptype: PType, len: usize) -> bool
+        requires { int_type_of self.now.dtype ≡ Some ptype }
+        ensures { result ≡ true → first_bad len (numbers_of self.now) ≡ None }
+    {
+        if let Some(values) = self.present_records() {
+            return first_bad_present(ptype, values, len).is_none();
+        }
+        if let Some((values, bits)) = self.shown_records() {
+            return first_bad_by_bits(ptype, values, bits, len).is_none();
+        }
+        match self.layout() {
+            Layout::Dict(a) => a.tells_positions(ptype, len),
+            Layout::Filter(a) => a.tells_positions(ptype, len),
+            _ => false,
+        }
+    }
+
     /// The first number, of those that aren't null, that is none of `len` positions. `ptype` is the
     /// type's. It takes no memory.
     #[tactic(auto, using(crate::proofs::NumberLists::stored))]
@@ -54,10 +104,13 @@ impl Array {
         if let Some(values) = self.present_records() {
             return first_bad_present(ptype, values, len);
         }
-        match self.shown_records() {
-            Some((values, bits)) => first_bad_by_bits(ptype, values, bits, len),
-            None => first_bad(&Rows { array: self }, len),
+        if let Some((values, bits)) = self.shown_records() {
+            return first_bad_by_bits(ptype, values, bits, len);
         }
+        if self.tells_positions(ptype, len) {
+            return None;
+        }
+        first_bad(&Rows { array: self }, len)
     }
 
     /// The positions that its numbers name, of which there are `len`; none at a null. `ptype` is

@@ -6,13 +6,14 @@ ghost use Rattle.vx_pieces.specs.Indices.{index_fault, index_nullability, index_
 ghost use Rattle.vx_model.specs.Plain.{is_null_layout};
 ghost use Rattle.vx_model.specs.Step.{IsTake};
 
+use crate::executing::execute;
 use crate::runs::take_by_runs;
 use crate::{boolean, constant, decimal, dict, filter_layout, null, primitive};
 use std::alloc::Global;
 use vx_bits::NoMemory;
 use vx_column::{Array, Layout, Nullability};
 use vx_mask::Policy;
-use vx_pieces::Indices;
+use vx_pieces::{Indices, column_picks};
 use vx_take::Picks;
 
 // The rows at the picks, in order, and a null at each null. The type is nullable also where
@@ -62,6 +63,30 @@ pub fn take(
     }
 }
 
+// The positions that the indices name. A column of them is unwrapped first, so that no row of a lazy
+// one is looked up by its rank.
+fn picks_for(
+    alloc: Global,
+    indices: &Indices,
+    len: usize,
+    policy: &Policy,
+) -> Result<Picks, NoMemory>
+    requires { index_fault (index_value indices.now) len ≡ None }
+    ensures picks { IfOk result
+        (λ p. p ≡ record { picks = index_picks (index_value indices.now); bound = len }) }
+    ensures there { IfOk result
+        (λ p. index_nullability (index_value indices.now) ≡ NonNullable → AllThere p.picks) }
+{
+    match indices {
+        Indices::Array(flat) => {
+            let column = execute(alloc, flat.array(), policy)?;
+            let picks = column_picks(alloc, &column, len)?;
+            Ok(picks)
+        }
+        Indices::Pieces(_) => Ok(indices.picks(alloc, len)?),
+    }
+}
+
 // The same from one index to the next, over every layout.
 fn take_by_picks(
     alloc: Global,
@@ -73,6 +98,6 @@ fn take_by_picks(
     ensures { IfOk result (IsTake array.now (index_picks (index_value indices.now))
         (index_nullability (index_value indices.now))) }
 {
-    let picks = indices.picks(alloc, array.len())?;
+    let picks = picks_for(alloc, indices, array.len(), policy)?;
     Ok(take_picks(alloc, array, &picks, indices.nullability(), policy)?)
 }

@@ -57,7 +57,7 @@ number_in-also t n (list xs) = refl
 number_in-also t n (fields xs) = refl
 number_in-also t n (tagged k x) = refl
 
-map-alike : {X Y : Type 0} (f g : X → Y) → ((x : X) → f x ≡ g x) → (xs : List X) → map f xs ≡ map g xs
+pub map-alike : {X Y : Type 0} (f g : X → Y) → ((x : X) → f x ≡ g x) → (xs : List X) → map f xs ≡ map g xs
 map-alike f g same [] = refl
 map-alike f g same (x ∷ xs) = ap₂ ◌∷◌ (same x) (map-alike f g same xs)
 

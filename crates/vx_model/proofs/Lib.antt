@@ -4,6 +4,7 @@ pub mod CodeNumbers
 pub mod KeptItems
 pub mod Layouts
 pub mod LazyBits
+pub mod LazyNumbers
 pub mod LazyRows
 pub mod LazySteps
 pub mod Nullabilities

@@ -35,7 +35,7 @@ use Rattle.vx_model.proofs.LazySteps.{is_step-filter}
 -- ---- dictionaries
 
 -- the same codes name the same values
-numbers_of-execute : (c codes : Column) → IsStep c c.rows c.dtype codes → numbers_of codes ≡ numbers_of c
+pub numbers_of-execute : (c codes : Column) → IsStep c c.rows c.dtype codes → numbers_of codes ≡ numbers_of c
 numbers_of-execute c codes step = ap₂ (λ t rows. map (number_in t) rows) step.dtype step.rows
 
 -- of codes of the same type, and of values as many, none is bad
