@@ -20,11 +20,5 @@ fn main(rt: HostRuntime) -> ExitCode {
     let mut source = StdSource::new(rt.stdin());
     let mut sink = StdSink::new(rt.stdout());
     let mut trace = Trace::new();
-    ExitCode::from(run(
-        alloc,
-        &words,
-        &mut source,
-        &mut sink,
-        &mut trace,
-    ))
+    ExitCode::from(run(alloc, &words, &mut source, &mut sink, &mut trace))
 }

@@ -61,10 +61,7 @@ fn filter_in(alloc: Global, value: &Value) -> Result<Array, DocError>
 /// The validity that the value states, if it states one.
 #[cycle(columns)]
 #[tactic(auto, unfolding(crate::specs::Validity::validity_stated))]
-pub(crate) fn validity_stated(
-    alloc: Global,
-    value: &Value,
-) -> Result<Option<Validity>, DocError>
+pub(crate) fn validity_stated(alloc: Global, value: &Value) -> Result<Option<Validity>, DocError>
     ensures { Gives (λ v. option_map valid_of v) result
         (validity_stated (view value.now) (inner_of (view value.now))) }
 {

@@ -32,7 +32,11 @@ fn ptype_text(ptype: PType) -> &'static str
 }
 
 // Appends a word and a number behind it.
-pub(crate) fn push_number<I: Integer>(text: &mut Vec<u8>, word: &[u8], number: I) -> Result<(), NoMemory>
+pub(crate) fn push_number<I: Integer>(
+    text: &mut Vec<u8>,
+    word: &[u8],
+    number: I,
+) -> Result<(), NoMemory>
     ensures { IsOk result → text.new.items ≡ text.old.items ++ word.now ++ I.text number }
 {
     text.extend_from_slice(word)?;
