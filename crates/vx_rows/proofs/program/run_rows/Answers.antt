@@ -4,7 +4,7 @@ use Rattle.std.specs.Prelude.{◌≢◌}
 use Rattle.vx_outside.specs.Bytes.{with_back}
 use Rattle.vx_rows.specs.Program.{TooLong, Malformed, NotBuilt, IsBroken, IsDone, IsPrinted, status_of, traced_by}
 use Rattle.vx_rows.proofs.Delivered.{is_done, is_broken, is_printed, is_malformed, is_not_built, status_or_memory, traced_alike, written_status}
-use Rattle.vx_rows.specs.Reply.{status_of_reply}
+use Rattle.vx_rows.specs.Reply.{status_of_reply, traced_by_reply}
 use Rattle.vx_rows.proofs.Told.{told, told_long}
 use Rattle.vx_rows.proofs.program.run_rows.Goals as goal
 
@@ -74,4 +74,4 @@ returns-clause-traced g c = λ printed.
       | inr five ↦ written_status r Q (d.part five)
     ] in
     told (λ o. c.deliver_reply.new.trace ≡ traced_by o t) _ _ _ _ e.taken e.end e.short refl _ refl
-    (d.traced ∙ traced_alike r _ t c.reply_to.ensures there)
+    (◌∙◌ {b = traced_by_reply r t} d.traced (traced_alike r _ t c.reply_to.ensures there))
