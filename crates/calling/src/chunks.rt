@@ -1,0 +1,110 @@
+//! Rows of values behind a decoder, and what it is asked for them.
+ghost use Rattle.std.specs.Prelude.{◌≡◌, ◌+◌, ◌*◌, ◌≤◌, IfOk, Some, map};
+ghost use Rattle.vx_types.specs.TypeTree.{type_width};
+ghost use Rattle.vx_mask.specs.Policy.{sparse_limit_of};
+ghost use Rattle.vx_chunked.specs.Asked.{touched};
+ghost use Rattle.vx_steps.specs.Step.{step_value};
+ghost use Rattle.vx_steps.specs.Walk.{walk};
+ghost use Rattle.vx_select.specs.Chunks.{asked_by_walk};
+
+use crate::policies::with_sparse_limit;
+use crate::printing::{print_calls, print_fault, print_numbers};
+use crate::squares::Squares;
+use crate::steps::{slice, take};
+use std::alloc::Global;
+use std::test::Fail;
+use vx_chunked::{CallLog, Logged};
+use vx_column::{Array, ColumnError, DType, Nullability, PType, Validity};
+use vx_mask::Policy;
+use vx_select::{ChunkShape, SelectError, Step, select_chunked};
+
+/// The squares at the picks, out of three chunks, and the calls that they asked for: `told` says
+/// which these are.
+#[tactic(auto, using(crate::proofs::SquareLists::squares))]
+pub(crate) fn squares_and_calls(
+    alloc: Global,
+    shape: &ChunkShape,
+    steps: &[Step],
+    policy: &Policy,
+) -> Result<(Array, CallLog), SelectError>
+    requires width { type_width shape.now.dtype ≡ Some 8 }
+    requires within { shape.now.offset + shape.now.len ≤ 3072 }
+    ensures { IfOk result (λ given. given.1 ≡ asked_by_walk shape.now
+        (sparse_limit_of policy.now 8) (walk shape.now.len (map step_value steps.now))) }
+{
+    let mut decoder = Logged::new(alloc, Squares::new(3), 3)?;
+    let answer = select_chunked(alloc, &mut decoder, shape, steps, policy)?;
+    Ok((answer, decoder.into_log()))
+}
+
+/// The squares at the picks. The decoder is asked at most once for each chunk that the shape
+/// touches, by `cost`.
+#[tactic(auto, using(crate::proofs::SquareLists::squares))]
+pub(crate) fn squares_at(
+    alloc: Global,
+    decoder: &mut Squares,
+    shape: &ChunkShape,
+    steps: &[Step],
+    policy: &Policy,
+) -> Result<Array, SelectError>
+    requires width { type_width shape.now.dtype ≡ Some 8 }
+    requires within { shape.now.offset + shape.now.len ≤ 1024 * decoder.old.chunks }
+    requires new { decoder.old.asked ≡ 0 }
+    ensures { decoder.new.asked ≤ touched shape.now.offset shape.now.len }
+{
+    select_chunked(alloc, decoder, shape, steps, policy)
+}
+
+/// The squares of the numbers from 24 up to 3024.
+fn shape() -> Result<ChunkShape, ColumnError>
+    ensures width { IfOk result (λ s. type_width s.dtype ≡ Some 8) }
+    ensures offset { IfOk result (λ s. s.offset ≡ 24) }
+    ensures len { IfOk result (λ s. s.len ≡ 3000) }
+{
+    let dtype = DType::Primitive(PType::U64, Nullability::NonNullable);
+    ChunkShape::try_new(dtype, 24, 3000, Validity::NonNullable)
+}
+
+/// The squares and the calls, or the rule that a step breaks.
+fn print_squares_at(
+    rt: &impl Print,
+    alloc: Global,
+    steps: &[Step],
+    policy: &Policy,
+) -> Result<(), Fail> {
+    match squares_and_calls(alloc, &shape()?, steps, policy) {
+        Ok((answer, log)) => {
+            print_numbers(rt, &answer)?;
+            print!(rt; "  asked:")?;
+            print_calls(rt, log.calls())
+        }
+        Err(SelectError::Broken { step, cause }) => {
+            print!(rt; " ")?;
+            print_fault(rt, step, cause)
+        }
+        Err(SelectError::NoMemory) => Err(Fail::from(SelectError::NoMemory)),
+    }
+}
+
+/// Squares by several lists of steps.
+pub(crate) fn print_squares(rt: &impl Print, alloc: Global) -> Result<(), Fail> {
+    let vortex = Policy::vortex();
+    print!(rt; "1000..1003:")?;
+    print_squares_at(rt, alloc, &[slice(1000, 1003)], &vortex)?;
+    print!(rt; "the same, never sparse:")?;
+    print_squares_at(rt, alloc, &[slice(1000, 1003)], &with_sparse_limit(0)?)?;
+    print!(rt; "take 2999 null 0:")?;
+    let steps = [take(alloc, &[Some(2999), None, Some(0)])?];
+    print_squares_at(rt, alloc, &steps, &vortex)?;
+    print!(rt; "0..3001:")?;
+    print_squares_at(rt, alloc, &[slice(0, 3001)], &vortex)?;
+    let mut squares = Squares::new(3);
+    let steps = [slice(1000, 2500)];
+    let answer = squares_at(alloc, &mut squares, &shape()?, &steps, &vortex)?;
+    println!(rt;
+        "1000..2500: {} rows, asked {} times",
+        answer.len(),
+        squares.asked()
+    )?;
+    Ok(())
+}

@@ -1,0 +1,25 @@
+//! Why a column or a step isn't built.
+
+use vx_bits::NoMemory;
+use vx_column::ColumnError;
+
+/// Why a column or a step isn't built.
+#[derive(Debug, Clone, Copy, PartialEq, Eq)]
+pub(crate) enum BuildError {
+    /// A constructor refuses its parts.
+    Refused(ColumnError),
+    /// Want of memory.
+    NoMemory,
+}
+
+impl From<ColumnError> for BuildError {
+    fn from(error: ColumnError) -> BuildError {
+        BuildError::Refused(error)
+    }
+}
+
+impl From<NoMemory> for BuildError {
+    fn from(_: NoMemory) -> BuildError {
+        BuildError::NoMemory
+    }
+}

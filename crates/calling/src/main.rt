@@ -1,0 +1,23 @@
+//! Calls the library as its users do: builds columns, steps and policies, selects rows of a column
+//! in memory and of values behind a decoder of its own, and prints what it is given.
+#![tactic(auto)]
+
+mod chunks;
+mod columns;
+mod error;
+mod policies;
+mod printing;
+mod reading;
+mod selecting;
+mod squares;
+mod steps;
+
+use std::test::Fail;
+
+fn main(rt: HostRuntime) -> Result<(), Fail> {
+    selecting::print_refusals(&rt, rt.alloc())?;
+    selecting::print_answers(&rt, rt.alloc())?;
+    selecting::print_faults(&rt, rt.alloc())?;
+    selecting::print_rows(&rt, rt.alloc())?;
+    chunks::print_squares(&rt, rt.alloc())
+}
