@@ -132,6 +132,7 @@ impl PType {
 
     /// The number that a record's bytes spell: little-endian, in two's complement where the type
     /// is signed.
+    #[inline(always)]
     pub fn number(self, bytes: &[u8]) -> i128
         requires int { is_int self ≡ true }
         requires width { length bytes.now ≡ width self }
