@@ -21,7 +21,6 @@ pub enum BitError {
 ///
 /// Clauses see the bits, and the offset of the first one in its byte. In each byte the least
 /// significant bit comes first.
-#[derive(Drop)]
 pub struct BitBuffer {
     bytes: Buffer<u8>,
     offset: usize,
@@ -37,6 +36,17 @@ impl Model for BitBuffer {
     ghost view = { λ b. record { bits = bits_of b.bytes b.offset b.len; offset = b.offset } };
 
     ghost invariant = { λ b. bit_fault (length b.bytes) b.offset b.len ≡ None };
+}
+
+impl Drop for BitBuffer {
+    fn drop(self) {
+        let BitBuffer {
+            bytes,
+            offset: _,
+            len: _,
+        } = self;
+        drop(bytes)
+    }
 }
 
 impl BitBuffer {

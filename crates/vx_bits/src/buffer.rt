@@ -9,7 +9,6 @@ use vx_shared::Shared;
 /// A list of values that is shared, not copied: Vortex's `Buffer`.
 ///
 /// Clauses see the list. A slice of a buffer keeps the whole list alive.
-#[derive(Drop)]
 pub struct Buffer<T: Copy> {
     list: Shared<Vec<T>>,
     start: usize,
@@ -24,6 +23,17 @@ impl<T: Copy> Model for Buffer<T> {
     ghost view = { λ b. take b.len (drop b.start b.list.items) };
 
     ghost invariant = { λ b. b.start + b.len ≤ length b.list.items };
+}
+
+impl<T: Copy> Drop for Buffer<T> {
+    fn drop(self) {
+        let Buffer {
+            list,
+            start: _,
+            len: _,
+        } = self;
+        drop(list)
+    }
 }
 
 impl<T: Copy> Buffer<T> {

@@ -1,11 +1,14 @@
 -- The calls that ascending positions ask for, chunk by chunk.
-use Rattle.std.proofs.Common.{◌≡◌, refl, ℕ, zero, suc, ◌+◌, ◌*◌, ◌/◌, ◌<◌, ◌≤◌, cond, eqb, List, [], ◌∷◌, ◌++◌, length, map, Option, None, Some, sym, ap, ap₂, ◌∙◌, arith, eq-eqb, ne_eqb}
+use Rattle.std.proofs.Common.{◌≡◌, refl, ℕ, zero, suc, ◌+◌, ◌*◌, ◌/◌, ◌<◌, ◌≤◌, false, cond, eqb, leb, List, [], ◌∷◌, ◌++◌, length, map, Option, None, Some, sym, ap, ap₂, ◌∙◌, arith, eq-eqb, ne_eqb}
 use Rattle.vx_bits.specs.WordReader.{then_told}
+use Rattle.std.proofs.lemmas.Bool.{le-leb}
+use Rattle.std.proofs.lemmas.Bool.Decides.{nat_tests}
 use Rattle.std.specs.List.{All, range_with_len, flat_map}
 use Rattle.std.proofs.lemmas.List.{append_assoc, append-nil}
 use Rattle.std.proofs.lemmas.List.Elements.{All-head, All-tail}
 use Rattle.std.proofs.lemmas.List.Sums.{sum_by-cons, sum_by-append}
 use Rattle.vx_chunked.specs.declared.call.Call.{Call}
+use Rattle.vx_chunked.specs.declared.call.Call.TheVariants.{Whole, Only}
 use Rattle.vx_chunked.specs.Asked.{call_for, count_in, calls_from}
 
 pub told_more : {X : Type 0} (r : Option (List X)) (xs ys : List X) → then_told (then_told r xs) ys ≡ then_told r (xs ++ ys)
@@ -84,3 +87,21 @@ told_of_none calls limit values n e = told_none calls ∙ ap (then_told calls) (
 pub read_of_none : {X : Type 0} (f : ℕ → X) (values : List ℕ) → length values ≡ 0 → [] ≡ map f values
 read_of_none f [] e = refl
 read_of_none f (v ∷ values) e = absurd (omega arith)
+
+not_le : (limit count : ℕ) → limit < count → leb count limit ≡ false
+not_le limit count h = grind (arith, nat_tests)
+
+-- the call for a chunk of which so many values are selected
+pub call_none : (limit chunk count : ℕ) → count ≡ 0 → [] ≡ call_for limit chunk count
+call_none limit chunk count e = sym (ap (λ b. cond b [] (cond (leb count limit) (Only chunk count ∷ []) (Whole chunk ∷ []))) (eq-eqb count 0 e))
+
+pub call_only : (limit chunk count n : ℕ) → n ≡ count → (count ≡ 0 → ⊥) → count ≤ limit → Only chunk n ∷ [] ≡ call_for limit chunk count
+call_only limit chunk count n e some few =
+    ap (λ k. Only chunk k ∷ []) e
+    ∙ sym (ap (λ b. cond b [] (cond (leb count limit) (Only chunk count ∷ []) (Whole chunk ∷ []))) (ne_eqb count 0 some)
+    ∙ ap (λ b. cond b (Only chunk count ∷ []) (Whole chunk ∷ [])) (le-leb count limit few))
+
+pub call_whole : (limit chunk count : ℕ) → (count ≡ 0 → ⊥) → limit < count → Whole chunk ∷ [] ≡ call_for limit chunk count
+call_whole limit chunk count some many =
+    sym (ap (λ b. cond b [] (cond (leb count limit) (Only chunk count ∷ []) (Whole chunk ∷ []))) (ne_eqb count 0 some)
+    ∙ ap (λ b. cond b (Only chunk count ∷ []) (Whole chunk ∷ [])) (not_le limit count many))

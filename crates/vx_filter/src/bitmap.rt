@@ -1,7 +1,8 @@
 //! Filtering by the words of a mask.
-ghost use Rattle.std.specs.Prelude.{◌≡◌, ◌+◌, ◌^◌, ◌<◌, ◌≤◌, ◌++◌, IfOk, OnOk, length, vec_len, vec_capacity};
+ghost use Rattle.std.specs.Prelude.{◌≡◌, ◌+◌, ◌^◌, ◌<◌, ◌≤◌, ◌++◌, [], IfOk, OnOk, length, vec_len, vec_capacity};
 ghost use Rattle.std.specs.List.{items_where_true};
 ghost use Rattle.std.specs.Int.RustNames.{count_ones};
+ghost use Rattle.vx_bits.specs.BitBuffer.{true_count_of};
 ghost use Rattle.vx_bits.specs.Words.{word_bits};
 
 use std::alloc::Global;
@@ -20,12 +21,24 @@ pub fn filter_slice_by_bitmap<T: Copy>(
     requires { length mask.now.bits.bits ≡ length src.now }
     ensures { IfOk result (λ kept. kept.items ≡ items_where_true mask.now.bits.bits src.now) }
 {
-    let words = mask.bits().words();
     let mut kept = Vec::with_capacity(alloc, mask.true_count())?;
-    for w in 0..mask.len().div_ceil(64) {
-        push_picked(&mut kept, &src[64 * w..], words.word(w))?;
-    }
+    push_words(&mut kept, src, mask)?;
     Ok(kept)
+}
+
+// Appends the items at the set positions to an empty list, which has room for them.
+#[inline(always)]
+fn push_words<T: Copy>(kept: &mut Vec<T>, src: &[T], mask: &MaskValues) -> Result<(), NoMemory>
+    requires all_there { length mask.now.bits.bits ≡ length src.now }
+    requires empty { kept.old.items ≡ [] }
+    requires room { true_count_of mask.now.bits.bits ≤ vec_capacity kept.old }
+    ensures { OnOk result (kept.new.items ≡ items_where_true mask.now.bits.bits src.now) }
+{
+    let words = mask.bits().words();
+    for w in 0..mask.len().div_ceil(64) {
+        push_picked(kept, &src[64 * w..], words.word(w))?;
+    }
+    Ok(())
 }
 
 // Appends the items that a word picks. There is room for them, and no bit is set past the items.

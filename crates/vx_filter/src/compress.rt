@@ -1,7 +1,8 @@
 //! Filtering by the bytes of a mask, whose set positions a table has.
-ghost use Rattle.std.specs.Prelude.{◌≡◌, ◌+◌, ◌^◌, ◌<◌, ◌≤◌, ◌++◌, IfOk, IsTrue, Some, length, take, map, slice_get, vec_len, vec_capacity};
+ghost use Rattle.std.specs.Prelude.{◌≡◌, ◌+◌, ◌^◌, ◌<◌, ◌≤◌, ◌++◌, [], IfOk, IsTrue, OnOk, Some, length, take, map, slice_get, vec_len, vec_capacity};
 ghost use Rattle.std.specs.List.{All, items_where_true};
 ghost use Rattle.std.specs.Int.RustNames.{count_ones};
+ghost use Rattle.vx_bits.specs.BitBuffer.{true_count_of};
 ghost use Rattle.vx_bits.specs.Words.{word_bits};
 ghost use Rattle.vx_filter.specs.Compress.{IsPlacesRow, IsTable, places_of};
 
@@ -84,19 +85,49 @@ pub fn byte_compress<T: Copy>(
         return filter_slice_by_bitmap(alloc, src, mask);
     }
     let table = CompressTable::new(alloc)?;
+    compress_by(alloc, src, mask, &table)
+}
+
+// The same, by the table.
+fn compress_by<T: Copy>(
+    alloc: Global,
+    src: &[T],
+    mask: &MaskValues,
+    table: &CompressTable,
+) -> Result<Vec<T>, NoMemory>
+    requires { length mask.now.bits.bits ≡ length src.now }
+    ensures { IfOk result (λ kept. kept.items ≡ items_where_true mask.now.bits.bits src.now) }
+{
     let room = mask.true_count().checked_add(8).ok_or(NoMemory)?;
     let mut kept = Vec::with_capacity(alloc, room)?;
+    push_words(&mut kept, src, mask, table)?;
+    Ok(kept)
+}
+
+// Appends the items at the set positions to an empty list, which has room for them and eight more.
+#[inline(always)]
+fn push_words<T: Copy>(
+    kept: &mut Vec<T>,
+    src: &[T],
+    mask: &MaskValues,
+    table: &CompressTable,
+) -> Result<(), NoMemory>
+    requires all_there { length mask.now.bits.bits ≡ length src.now }
+    requires empty { kept.old.items ≡ [] }
+    requires room { true_count_of mask.now.bits.bits + 8 ≤ vec_capacity kept.old }
+    ensures { OnOk result (kept.new.items ≡ items_where_true mask.now.bits.bits src.now) }
+{
     let words = mask.bits().words();
     for w in 0..mask.len().div_ceil(64) {
         let word = words.word(w);
         let items = &src[64 * w..];
         if pays_by_bytes(items.len(), word) {
-            push_bytes(&mut kept, &items[..64], word, &table);
+            push_bytes(kept, &items[..64], word, table);
         } else {
-            push_picked(&mut kept, items, word)?;
+            push_picked(kept, items, word)?;
         }
     }
-    Ok(kept)
+    Ok(())
 }
 
 // Whether a mask of so many set bits is worth the table.

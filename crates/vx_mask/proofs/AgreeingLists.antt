@@ -1,5 +1,5 @@
 -- Whether lists beside bits agree with them.
-use Rattle.std.proofs.Common.{◌≡◌, ℕ, zero, suc, ◌+◌, ◌-◌, ◌<◌, ◌≤◌, Bool, true, false, ◌&&◌, List, [], ◌∷◌, ◌++◌, Option, None, Some, IfSome, length, get_or, take, drop, replicate, refl, sym, ap, ap₂, ◌∙◌, subst, inl, inr, arith, eqb, ltb}
+use Rattle.std.proofs.Common.{◌≡◌, ℕ, zero, suc, ◌+◌, ◌-◌, ◌<◌, ◌≤◌, Bool, true, false, ◌&&◌, ◌||◌, not, cond, List, [], ◌∷◌, ◌++◌, Option, None, Some, IfSome, length, get_or, take, drop, replicate, refl, sym, ap, ap₂, ◌∙◌, subst, inl, inr, arith, eqb, ltb}
 use Rattle.std.specs.List.{range_with_len, list_all, slice_range}
 use Rattle.std.proofs.lemmas.List.{append_cancel_left, drop_more, take-append-drop, take_more, take_all, length-take-le, length-drop, length-append, length-replicate, get_or-take, get_or-drop, get_or-replicate, get_or_append_left, get_or-append_right}
 use Rattle.std.proofs.lemmas.List.Folds.{list_all_at, list_all_more}
@@ -10,7 +10,9 @@ use Rattle.std.proofs.lemmas.List.FromFn.{length-range_with_len}
 use Rattle.std.proofs.lemmas.List.Concat.{flat_map-append}
 use Rattle.std.proofs.lemmas.List.Sums.{count_by-le-length}
 use Rattle.vx_bits.specs.BitBuffer.{PlacedBits, true_count_of}
-use Rattle.vx_mask.specs.MaskValues.{PartialMask, IsPartial, AreSlicesOf, are_set_positions, are_set_runs, passes}
+use Rattle.vx_mask.specs.declared.error.MaskError.{MaskError}
+use Rattle.vx_mask.specs.declared.error.MaskError.TheVariants.{Count, NotSelective, Indices, Slices}
+use Rattle.vx_mask.specs.MaskValues.{PartialMask, IsPartial, AreSlicesOf, are_set_positions, are_set_runs, parts_fault, passes}
 use Rattle.vx_mask.specs.Positions.{AllBits, BeginsWithRun, positions, set_of, run_positions, same_numbers}
 use Rattle.vx_mask.proofs.PositionLists.{positions-append, length-positions, position_at, true_count_before_set, all_are_set, set_of_set}
 use Rattle.vx_mask.proofs.AscendingLists.{covered_more}
@@ -270,7 +272,7 @@ slices_part : (bits : PlacedBits) (slices : Option (List (ℕ × ℕ))) → 0 < 
 slices_part bits None some e mask same = tt
 slices_part bits (Some slices) some e mask same = runs_agree bits slices some (sym e) mask same
 
-pub parts_agree : (bits : PlacedBits) (count : ℕ) (indices : Option (List ℕ)) (slices : Option (List (ℕ × ℕ))) → count ≡ true_count_of bits.bits → (count ≡ 0 → ⊥) → (count ≡ length bits.bits → ⊥) → true ≡ passes (are_set_positions bits.bits) indices → true ≡ passes (are_set_runs bits.bits) slices → IsPartial (record { bits = bits; indices = indices; slices = slices; blocks = None }) count
+parts_agree : (bits : PlacedBits) (count : ℕ) (indices : Option (List ℕ)) (slices : Option (List (ℕ × ℕ))) → count ≡ true_count_of bits.bits → (count ≡ 0 → ⊥) → (count ≡ length bits.bits → ⊥) → true ≡ passes (are_set_positions bits.bits) indices → true ≡ passes (are_set_runs bits.bits) slices → IsPartial (record { bits = bits; indices = indices; slices = slices; blocks = None }) count
 parts_agree bits count indices slices e some not_all i s =
     let fits = count_by-le-length (λ b. b) bits.bits in
     let more : 0 < count = elim (cases_lt 0 count) [ inl more ↦ more | inr none ↦ absurd (some (omega arith)) ] in
@@ -282,3 +284,31 @@ parts_agree bits count indices slices e some not_all i s =
       slices_agree = slices_part bits slices (omega arith) s _ refl;
       blocks_agree = tt;
     }
+
+no_fault : (b : Bool) (fault : MaskError) (rest : Option MaskError) → None ≡ cond b (Some fault) rest → (b ≡ false) × (None ≡ rest)
+no_fault true fault rest e = cc
+no_fault false fault rest e = (refl, e)
+
+not_false : (b : Bool) → not b ≡ false → true ≡ b
+not_false true e = refl
+not_false false e = cc
+
+apart : (a b : ℕ) → eqb a b ≡ false → a ≡ b → ⊥
+apart a b e same = false_true (eqb a b) (eq-eqb a b same) e
+
+or_parts : (a b : Bool) → (a || b) ≡ false → (a ≡ false) × (b ≡ false)
+or_parts true b h = cc
+or_parts false b h = (refl, h)
+
+same_counts : (a b : ℕ) → true ≡ eqb a b → a ≡ b
+same_counts a b e = grind (arith, nat_tests)
+
+pub faultless_parts : (bits : PlacedBits) (count : ℕ) (indices : Option (List ℕ)) (slices : Option (List (ℕ × ℕ))) → None ≡ parts_fault bits.bits count indices slices → IsPartial (record { bits = bits; indices = indices; slices = slices; blocks = None }) count
+faultless_parts bits count indices slices e =
+    let counted = no_fault (not (eqb count (true_count_of bits.bits))) Count _ e in
+    let selective = no_fault (eqb count 0 || eqb count (length bits.bits)) NotSelective _ counted.1 in
+    let indexed = no_fault (not (passes (are_set_positions bits.bits) indices)) Indices _ selective.1 in
+    let sliced = no_fault (not (passes (are_set_runs bits.bits) slices)) Slices _ indexed.1 in
+    let edges = or_parts (eqb count 0) (eqb count (length bits.bits)) selective.0 in
+    parts_agree bits count indices slices (same_counts count (true_count_of bits.bits) (not_false _ counted.0)) (apart count 0 edges.0) (apart count (length bits.bits) edges.1)
+    (not_false _ indexed.0) (not_false _ sliced.0)

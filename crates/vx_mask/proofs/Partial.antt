@@ -1,10 +1,12 @@
 -- Masks that select some rows and not all, and what they keep.
 use Rattle.std.proofs.Common.{◌≡◌, ℕ, ◌<◌, Bool, true, false, ◌&&◌, cond, ltb, List, Option, None, Some, IfSome, length, replicate, unwrap_or, refl, sym, ap, ◌∙◌, subst, inl, inr, arith}
-use Rattle.std.proofs.lemmas.Bool.{cases_lt}
+use Rattle.std.proofs.lemmas.Bool.{cases_lt, lt-ltb}
 use Rattle.std.proofs.lemmas.List.Sums.{count_by-le-length}
 use Rattle.std.proofs.lemmas.Bool.Decides.{nat_tests}
 use Rattle.vx_bits.specs.BitBuffer.{PlacedBits, true_count_of}
-use Rattle.vx_mask.specs.Mask.{if_partial, at_front, mask_by_indices, mask_by_slices}
+use Rattle.vx_mask.specs.declared.mask.Mask.{Mask}
+use Rattle.vx_mask.specs.declared.mask.Mask.TheVariants.{AllTrue, AllFalse, Values}
+use Rattle.vx_mask.specs.Mask.{if_partial, at_front, mask_bits, mask_by_indices, mask_by_slices, partial_of}
 use Rattle.vx_mask.specs.MaskValues.{PartialMask, IsPartial, AreSlicesOf, bits_alone, block_counts, keep_slices}
 use Rattle.vx_mask.specs.Positions.{AreMaximalRuns, set_of, run_positions, bits_with, ascending, runs_ascend, maximal_runs}
 use Rattle.vx_mask.proofs.PositionLists.{none_are_set, all_are_set}
@@ -103,28 +105,66 @@ new_slices mask none =
     let bits = mask.bits.bits in
     subst (λ (slices : Option (List (ℕ × ℕ))). AreMaximalRuns bits (unwrap_or slices (maximal_runs bits))) (sym none) (are_maximal_runs bits)
 
+-- the parts of a mask that keeps the indices that it is made from
+pub partial_with_indices : (len count : ℕ) (bits : PlacedBits) (indices kept : List ℕ) → ascending 0 len indices ≡ true → count ≡ length indices → 0 < length indices → length indices < len → bits ≡ at_front (bits_with len indices) → kept ≡ indices → IsPartial (record { bits = bits; indices = Some kept; slices = None; blocks = None }) count
+partial_with_indices len count bits indices kept h e some not_all f g =
+    let is = partial_by_indices len indices h some not_all in
+    let P : PlacedBits → List ℕ → ℕ → Type 0 = λ b l n. IsPartial (record { bits = b; indices = Some l; slices = None; blocks = None }) n in
+    subst (λ n. P bits kept n) (sym e) (subst (λ l. P bits l (length indices)) (sym g) (subst (λ b. P b indices (length indices)) (sym f) is))
+
+pub partial_with_slices : (len count : ℕ) (bits : PlacedBits) (slices kept : List (ℕ × ℕ)) → runs_ascend 0 len slices ≡ true → count ≡ length (run_positions slices) → 0 < count → count < len → bits ≡ at_front (bits_with len (run_positions slices)) → kept ≡ slices → IsPartial (record { bits = bits; indices = None; slices = Some kept; blocks = None }) count
+partial_with_slices len count bits slices kept h e some not_all f g =
+    let is = partial_by_slices len slices h (omega arith) (omega arith) in
+    let P : PlacedBits → List (ℕ × ℕ) → ℕ → Type 0 = λ b l n. IsPartial (record { bits = b; indices = None; slices = Some l; blocks = None }) n in
+    subst (λ n. P bits kept n) (sym e) (subst (λ l. P bits l (length (run_positions slices))) (sym g) (subst (λ b. P b slices (length (run_positions slices))) (sym f) is))
+
 -- fewer set bits than rows, where they are not as many
-fewer : (len : ℕ) (set : List ℕ) → ascending 0 len set ≡ true → (length set ≡ len → ⊥) → length set < len
-fewer len set h apart =
+pub fewer : (len count : ℕ) (set : List ℕ) → ascending 0 len set ≡ true → count ≡ length set → (count ≡ len → ⊥) → count < len
+fewer len count set h e apart =
     let made = bits_with-made len set h in
     let fits = count_by-le-length (λ b. b) (bits_with len set) in
-    elim (cases_lt (length set) len) [
+    elim (cases_lt count len) [
       | inl below ↦ below
       | inr above ↦ absurd (apart (omega (arith, made.count, made.long, fits)))
     ]
 
--- the parts of a mask that keeps the indices that it is made from
-pub partial_with_indices : (len count : ℕ) (bits : PlacedBits) (indices kept : List ℕ) → ascending 0 len indices ≡ true → count ≡ length indices → 0 < count → (count ≡ len → ⊥) → bits ≡ at_front (bits_with len indices) → kept ≡ indices → IsPartial (record { bits = bits; indices = Some kept; slices = None; blocks = None }) count
-partial_with_indices len count bits indices kept h e some apart f g =
-    let is = partial_by_indices len indices h (omega arith) (fewer len indices h (λ same. apart (e ∙ same))) in
-    let P : PlacedBits → List ℕ → ℕ → Type 0 = λ b l n. IsPartial (record { bits = b; indices = Some l; slices = None; blocks = None }) n in
-    subst (λ n. P bits kept n) (sym e) (subst (λ l. P bits l (length indices)) (sym g) (subst (λ b. P b indices (length indices)) (sym f) is))
+-- ---- what is said of a mask that is made from positions
 
-pub partial_with_slices : (len count : ℕ) (bits : PlacedBits) (slices kept : List (ℕ × ℕ)) → runs_ascend 0 len slices ≡ true → count ≡ length (run_positions slices) → 0 < count → (count ≡ len → ⊥) → bits ≡ at_front (bits_with len (run_positions slices)) → kept ≡ slices → IsPartial (record { bits = bits; indices = None; slices = Some kept; blocks = None }) count
-partial_with_slices len count bits slices kept h e some apart f g =
-    let is = partial_by_slices len slices h (omega arith) (fewer len (run_positions slices) (ascending-run_positions 0 len slices h) (λ same. apart (e ∙ same))) in
-    let P : PlacedBits → List (ℕ × ℕ) → ℕ → Type 0 = λ b l n. IsPartial (record { bits = b; indices = None; slices = Some l; blocks = None }) n in
-    subst (λ n. P bits kept n) (sym e) (subst (λ l. P bits l (length (run_positions slices))) (sym g) (subst (λ b. P b slices (length (run_positions slices))) (sym f) is))
+pub record IsMadeFrom (m : Mask) (rows : ℕ) (places : List ℕ) (mask : PartialMask) : Type 0 where
+  pub set : set_of (mask_bits m) ≡ places
+  pub bits : mask_bits m ≡ bits_with rows places
+  pub len : length (mask_bits m) ≡ rows
+  pub kept : partial_of m ≡ if_partial mask
+
+made_from : (m : Mask) (len : ℕ) (set : List ℕ) (mask : PartialMask) → ascending 0 len set ≡ true → mask_bits m ≡ bits_with len set → partial_of m ≡ if_partial mask → IsMadeFrom m len set mask
+made_from m len set mask h bits kept =
+    let made = bits_with-made len set h in
+    record { set = ap set_of bits ∙ made.positions; bits = bits; len = ap length bits ∙ made.long; kept = kept }
+
+-- of no positions
+pub made_from_none : (len count : ℕ) (set : List ℕ) (mask : PartialMask) → ascending 0 len set ≡ true → mask.bits ≡ at_front (bits_with len set) → count ≡ length set → count ≡ 0 → IsMadeFrom (AllFalse len) len set mask
+made_from_none len count set mask h e counted none =
+    let made = bits_with-made len set h in
+    made_from (AllFalse len) len set mask h (none_with len set h (omega arith)) (none_partial mask (ap (λ (p : PlacedBits). true_count_of p.bits) e ∙ made.count ∙ omega arith))
+
+-- of all
+pub made_from_all : (len count : ℕ) (set : List ℕ) (mask : PartialMask) → ascending 0 len set ≡ true → mask.bits ≡ at_front (bits_with len set) → count ≡ length set → count ≡ len → IsMadeFrom (AllTrue len) len set mask
+made_from_all len count set mask h e counted all =
+    let made = bits_with-made len set h in
+    made_from (AllTrue len) len set mask h (all_with len set h (omega arith)) (all_partial mask (ap (λ (p : PlacedBits). true_count_of p.bits) e ∙ made.count ∙ sym counted ∙ all ∙ sym (ap (λ (p : PlacedBits). length p.bits) e ∙ made.long)))
+
+some_partial : (mask : PartialMask) → 0 < true_count_of mask.bits.bits → true_count_of mask.bits.bits < length mask.bits.bits → Some mask ≡ if_partial mask
+some_partial mask some not_all =
+    let n = true_count_of mask.bits.bits in
+    sym (ap (λ b. cond (b && ltb n (length mask.bits.bits)) (Some mask) None) (lt-ltb 0 n some) ∙ ap (λ b. cond b (Some mask) None) (lt-ltb n (length mask.bits.bits) not_all))
+
+-- of some
+pub made_from_some : (m mask : PartialMask) (len count : ℕ) (set : List ℕ) → ascending 0 len set ≡ true → mask.bits ≡ at_front (bits_with len set) → count ≡ length set → 0 < count → count < len → m ≡ mask → IsMadeFrom (Values m) len set mask
+made_from_some m mask len count set h e counted some not_all is =
+    let made = bits_with-made len set h in
+    let ones = ap (λ (p : PlacedBits). true_count_of p.bits) e ∙ made.count in
+    let long = ap (λ (p : PlacedBits). length p.bits) e ∙ made.long in
+    made_from (Values m) len set mask h (ap (λ (m : PartialMask). m.bits.bits) is ∙ ap (λ (p : PlacedBits). p.bits) e) (ap Some is ∙ some_partial mask (omega (arith, ones)) (omega (arith, ones, long)))
 
 -- what the walk over runs told
 pub record IsTotal (len count : ℕ) (slices : List (ℕ × ℕ)) : Type 0 where

@@ -11,10 +11,10 @@ ghost use Rattle.vx_mask.specs.MaskValues.{bits_alone, keep_indices, keep_slices
 use crate::error::MaskError;
 use crate::intersect::bits_by_rank;
 use crate::mask_values::MaskValues;
-use crate::positions::{ascend, bits_at, bits_of_runs, run_total};
+use crate::positions::{ascend, run_total};
 use crate::reuse::product;
 use std::alloc::Global;
-use vx_bits::{BitBuffer, Buffer, NoMemory};
+use vx_bits::{BitBuffer, NoMemory};
 
 /// Which rows are selected: Vortex's `Mask`.
 #[derive(Drop)]
@@ -30,7 +30,6 @@ pub enum Mask {
 impl Mask {
     /// The rows whose bit is set: `AllFalse` where no bit is, also of no bits, `AllTrue` where all
     /// are, else `Values` of these bits.
-    #[tactic(auto, using(crate::proofs::PositionLists::none_are_set, crate::proofs::PositionLists::all_are_set))]
     pub fn from_buffer(bits: BitBuffer) -> Mask
         ensures bits { mask_bits result ≡ bits.bits }
         ensures all_false { true_count_of bits.bits ≡ 0
@@ -73,9 +72,7 @@ impl Mask {
         if count == len {
             return Ok(Mask::AllTrue(len));
         }
-        let bits = bits_at(alloc, len, indices.as_slice())?;
-        let indices = Buffer::from_vec(alloc, indices)?;
-        Ok(Mask::Values(MaskValues::with_lists(bits, count, Some(indices), None)))
+        Ok(Mask::Values(MaskValues::by_indices(alloc, len, indices)?))
     }
 
     /// The rows of the runs `slices`, each from its start up to its end, of `len` rows.
@@ -104,9 +101,7 @@ impl Mask {
         if count == len {
             return Ok(Mask::AllTrue(len));
         }
-        let bits = bits_of_runs(alloc, len, slices.as_slice())?;
-        let slices = Buffer::from_vec(alloc, slices)?;
-        Ok(Mask::Values(MaskValues::with_lists(bits, count, None, Some(slices))))
+        Ok(Mask::Values(MaskValues::by_slices(alloc, len, count, slices)?))
     }
 
     /// The number of rows that the mask is for.

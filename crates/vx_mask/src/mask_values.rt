@@ -1,14 +1,16 @@
 //! Masks that select some rows and not all.
-ghost use Rattle.std.specs.Prelude.{◌≡◌, ◌<◌, ◌≤◌, None, IfOk, IfSome, length, slice_index_or, take, false};
+ghost use Rattle.std.specs.Prelude.{◌≡◌, ◌<◌, ◌≤◌, None, IfOk, IfSome, length, slice_index_or, take, false, true};
 ghost use Rattle.std.specs.Option.{option_copied};
 ghost use Rattle.vx_bits.specs.BitBuffer.{true_count_of};
 ghost use Rattle.vx_bits.specs.Results.{ok_unless};
+ghost use Rattle.vx_mask.specs.Mask.{mask_by_indices, mask_by_slices};
 ghost use Rattle.vx_mask.specs.MaskValues.{AreSlicesOf, IsPartial, bits_alone, block_counts, keep_blocks, keep_indices, keep_slices, parts_fault};
-ghost use Rattle.vx_mask.specs.Positions.{rank_of, set_of, span_of};
+ghost use Rattle.vx_mask.specs.Positions.{ascending, rank_of, run_positions, runs_ascend, set_of, span_of};
 
 use crate::agreement::{indices_agree, slices_agree};
 use crate::blocks::counts_of;
 use crate::error::MaskError;
+use crate::positions::{bits_at, bits_of_runs};
 use crate::ranks::{rank_from, rank_words, words_before};
 use crate::runs::{next_with, positions_of, runs_of};
 use std::alloc::Global;
@@ -19,7 +21,6 @@ use vx_bits::{BitBuffer, Buffer, NoMemory, PlainWords};
 ///
 /// Clauses see the bits, and the indices, slices and block counts that the mask keeps beside
 /// them, where it keeps any.
-#[derive(Drop)]
 pub struct MaskValues {
     bits: BitBuffer,
     true_count: usize,
@@ -48,6 +49,22 @@ impl Model for MaskValues {
     }) m.true_count };
 }
 
+impl Drop for MaskValues {
+    fn drop(self) {
+        let MaskValues {
+            bits,
+            true_count: _,
+            indices,
+            slices,
+            blocks,
+        } = self;
+        drop(bits);
+        drop(indices);
+        drop(slices);
+        drop(blocks)
+    }
+}
+
 impl MaskValues {
     /// The mask of these bits, with the set positions and the runs of them that are handed in. It
     /// takes no memory.
@@ -66,19 +83,34 @@ impl MaskValues {
         ensures { result ≡ ok_unless (parts_fault bits.bits true_count indices slices)
             (record { bits = bits; indices = indices; slices = slices; blocks = None }) }
     {
-        if true_count != bits.true_count() {
-            return Err(MaskError::Count);
-        }
-        if true_count == 0 || true_count == bits.len() {
-            return Err(MaskError::NotSelective);
-        }
-        if !indices_agree(&bits, &indices) {
-            return Err(MaskError::Indices);
-        }
-        if !slices_agree(&bits, &slices) {
-            return Err(MaskError::Slices);
+        if let Some(fault) = MaskValues::fault_of(&bits, true_count, &indices, &slices) {
+            return Err(fault);
         }
         Ok(MaskValues::with_lists(bits, true_count, indices, slices))
+    }
+
+    // Why the parts are no mask that selects some rows and not all, if they are none.
+    fn fault_of(
+        bits: &BitBuffer,
+        true_count: usize,
+        indices: &Option<Buffer<usize>>,
+        slices: &Option<Buffer<(usize, usize)>>,
+    ) -> Option<MaskError>
+        ensures { result ≡ parts_fault bits.now.bits true_count indices.now slices.now }
+    {
+        if true_count != bits.true_count() {
+            return Some(MaskError::Count);
+        }
+        if true_count == 0 || true_count == bits.len() {
+            return Some(MaskError::NotSelective);
+        }
+        if !indices_agree(bits, indices) {
+            return Some(MaskError::Indices);
+        }
+        if !slices_agree(bits, slices) {
+            return Some(MaskError::Slices);
+        }
+        None
     }
 
     // The mask of bits of which some are set and not all, with their count.
@@ -120,6 +152,41 @@ impl MaskValues {
             slices,
             blocks: None,
         }
+    }
+
+    // The mask of the rows at these indices, which are some rows and not all. It keeps them.
+    pub(crate) fn by_indices(
+        alloc: Global,
+        len: usize,
+        indices: Vec<usize>,
+    ) -> Result<MaskValues, NoMemory>
+        requires ascend { ascending 0 len indices.items ≡ true }
+        requires some { 0 < length indices.items }
+        requires not_all { length indices.items < len }
+        ensures { IfOk result (λ m. m ≡ mask_by_indices len indices.items) }
+    {
+        let count = indices.len();
+        let bits = bits_at(alloc, len, indices.as_slice())?;
+        let indices = Buffer::from_vec(alloc, indices)?;
+        Ok(MaskValues::with_lists(bits, count, Some(indices), None))
+    }
+
+    // The mask of the rows of these runs, which are some rows and not all. It keeps them.
+    pub(crate) fn by_slices(
+        alloc: Global,
+        len: usize,
+        true_count: usize,
+        slices: Vec<(usize, usize)>,
+    ) -> Result<MaskValues, NoMemory>
+        requires ascend { runs_ascend 0 len slices.items ≡ true }
+        requires counted { true_count ≡ length (run_positions slices.items) }
+        requires some { 0 < true_count }
+        requires not_all { true_count < len }
+        ensures { IfOk result (λ m. m ≡ mask_by_slices len slices.items) }
+    {
+        let bits = bits_of_runs(alloc, len, slices.as_slice())?;
+        let slices = Buffer::from_vec(alloc, slices)?;
+        Ok(MaskValues::with_lists(bits, true_count, None, Some(slices)))
     }
 
     /// The number of rows that the mask is for.

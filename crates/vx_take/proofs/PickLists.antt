@@ -1,9 +1,9 @@
 -- Lemmas on picks, and on the places that stand for them.
-use Rattle.std.proofs.Common.{◌≡◌, ℕ, ◌+◌, ◌<◌, Bool, true, false, cond, List, [], ◌∷◌, ◌++◌, length, get_or, take, None, Some, refl, sym, ap, subst, ◌∙◌, arith}
+use Rattle.std.proofs.Common.{◌≡◌, ℕ, ◌+◌, ◌<◌, ◌≤◌, Bool, true, false, cond, List, [], ◌∷◌, ◌++◌, length, get_or, map, take, None, Some, refl, sym, ap, ap₂, subst, ◌∙◌, arith}
 use Rattle.std.specs.Prelude.{IfSome, Option, ◌==◌}
 use Rattle.std.proofs.lemmas.Bool.{eqb-false}
-use Rattle.std.proofs.lemmas.List.{get_or-map, length-map, map_more, map-append}
-use Rattle.vx_take.specs.Picks.{ArePlaces, AreBelow, IsPlace, item_at, at, null_place, pick_of, picks_of}
+use Rattle.std.proofs.lemmas.List.{get_or-map, length-append, length-map, map_more, map-append, take_all}
+use Rattle.vx_take.specs.Picks.{ArePlaces, AreBelow, IsPlace, null_place, pick_of, picks_of}
 
 place_tested : (place bound : ℕ) (null : Bool) → (place == null_place) ≡ null → IsPlace place bound → IfSome (cond null None (Some place)) (λ p. p < bound)
 place_tested place bound true e h = tt
@@ -20,8 +20,16 @@ places_below places bound are k d h =
     let P : Option ℕ → Type 0 = λ o. IfSome o (λ p. p < bound) in
     subst P (sym (get_or-map pick_of places k 0 d within)) (place_below (get_or places k 0) bound (are.each k within))
 
--- the items at one place more
-pub at_more : {X : Type 0} (missing : X) (items : List X) (places : List ℕ) (k : ℕ) → k < length places → at missing items (picks_of (take (k + 1) places)) ≡ at missing items (picks_of (take k places)) ++ item_at missing items (pick_of (get_or places k 0)) ∷ []
-at_more missing items places k h =
-    ap (at missing items) (map_more pick_of places k 0 h)
-    ∙ map-append (item_at missing items) (picks_of (take k places)) (pick_of (get_or places k 0) ∷ [])
+-- ---- a list of what each place gives, one more at a time
+
+module _ {X : Type 0} (f : Option ℕ → X) (places : List ℕ) (k : ℕ) where
+  pub item_more : (old new : List X) (item : X) → k < length places → old ≡ map f (picks_of (take k places)) → new ≡ old ++ item ∷ [] → item ≡ f (pick_of (get_or places k 0)) → new ≡ map f (picks_of (take (k + 1) places))
+  item_more old new item h is more one =
+      more ∙ ap₂ (λ l x. l ++ x ∷ []) is one
+      ∙ sym (ap (map f) (map_more pick_of places k 0 h) ∙ map-append f (picks_of (take k places)) (pick_of (get_or places k 0) ∷ []))
+
+  pub all_items : (picks : List (Option ℕ)) (all : List X) → length places ≤ k → picks_of places ≡ picks → all ≡ map f (picks_of (take k places)) → all ≡ map f picks
+  all_items picks all h is e = e ∙ ap (λ l. map f (picks_of l)) (take_all k places h) ∙ ap (map f) is
+
+pub item_count : {X : Type 0} (old new : List X) (item : X) (k : ℕ) → new ≡ old ++ item ∷ [] → length old ≡ k → length new ≡ k + 1
+item_count old new item k more n = ap length more ∙ length-append old (item ∷ []) ∙ omega (arith, n)

@@ -12,7 +12,6 @@ pub(crate) const NULL_PLACE: usize = usize::MAX;
 /// A list of optional positions with a bound that each position is below.
 ///
 /// Clauses see the picks, `None` where there is a null, and the bound. A pick takes 8 bytes.
-#[derive(Drop)]
 pub struct Picks {
     places: Vec<usize>,
     bound: usize,
@@ -26,6 +25,13 @@ impl Model for Picks {
     ghost view = { λ p. record { picks = picks_of p.places.items; bound = p.bound } };
 
     ghost invariant = { λ p. ArePlaces p.places.items p.bound };
+}
+
+impl Drop for Picks {
+    fn drop(self) {
+        let Picks { places, bound: _ } = self;
+        drop(places)
+    }
 }
 
 impl Picks {

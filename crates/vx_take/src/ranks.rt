@@ -101,8 +101,18 @@ fn one_by_one(alloc: Global, filter: &Mask, ranks: &Picks) -> Result<Vec<usize>,
         ≡ at null_place (set_of (mask_bits filter.now)) ranks.now.picks) }
 {
     if filter.cached_indices().is_some() {
-        return by_rank(alloc, filter, ranks);
+        by_rank(alloc, filter, ranks)
+    } else {
+        by_blocks(alloc, filter, ranks)
     }
+}
+
+// The places of ranks by block counts.
+fn by_blocks(alloc: Global, filter: &Mask, ranks: &Picks) -> Result<Vec<usize>, NoMemory>
+    requires { ranks.now.bound ≤ true_count_of (mask_bits filter.now) }
+    ensures { IfOk result (λ places. places.items
+        ≡ at null_place (set_of (mask_bits filter.now)) ranks.now.picks) }
+{
     let counted = filter.with_blocks(alloc)?;
     by_rank(alloc, &counted, ranks)
 }
@@ -133,16 +143,25 @@ fn looked_up(filter: &Mask, rank: usize) -> usize
     }
 }
 
-// The places of ranks by the list of all set positions. A mask that keeps none after this selects
-// all rows, which are one run, or none.
+// The places of ranks by the list of all set positions.
 fn by_list(alloc: Global, filter: &Mask, ranks: &Picks) -> Result<Vec<usize>, NoMemory>
     requires { ranks.now.bound ≤ true_count_of (mask_bits filter.now) }
     ensures { IfOk result (λ places. places.items
         ≡ at null_place (set_of (mask_bits filter.now)) ranks.now.picks) }
 {
     let listed = filter.with_indices(alloc)?;
+    by_listed(alloc, &listed, ranks)
+}
+
+// The same by the list that a mask keeps. One that keeps none selects all rows, which are one run,
+// or none.
+fn by_listed(alloc: Global, listed: &Mask, ranks: &Picks) -> Result<Vec<usize>, NoMemory>
+    requires { ranks.now.bound ≤ true_count_of (mask_bits listed.now) }
+    ensures { IfOk result (λ places. places.items
+        ≡ at null_place (set_of (mask_bits listed.now)) ranks.now.picks) }
+{
     match listed.cached_indices() {
         Some(indices) => gather(alloc, indices, ranks, NULL_PLACE),
-        None => by_rank(alloc, filter, ranks),
+        None => by_rank(alloc, listed, ranks),
     }
 }

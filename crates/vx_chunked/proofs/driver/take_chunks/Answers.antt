@@ -1,7 +1,7 @@
-use Rattle.std.proofs.Common.{rules, ◌≡◌, ◌≤◌, ◌+◌, ◌*◌, ◌-◌, ◌^◌, ◌++◌, ℕ, List, Some, length, map, take, ap, subst, sym, ◌∙◌, arith}
+use Rattle.std.proofs.Common.{rules, ◌≡◌, ◌≤◌, ◌+◌, ◌*◌, ◌-◌, ◌^◌, ◌++◌, ℕ, List, Some, length, map, take, drop, ap, refl, subst, sym, ◌∙◌, arith}
 use Rattle.std.specs.Prelude.{slice_get}
 use Rattle.std.proofs.lemmas.Slice.{take-put_mid}
-use Rattle.std.proofs.lemmas.List.{length-append, length-map}
+use Rattle.std.proofs.lemmas.List.{length-append, length-drop, length-map, length-take-le}
 use Rattle.std.proofs.lemmas.Grind.{common_steps}
 use Rattle.vx_chunked.specs.Positions.{AscendFrom}
 use Rattle.vx_bits.specs.WordReader.{then_told}
@@ -85,3 +85,44 @@ returns-clause-told g c =
     let all = g.C.Cursor.rest c.args.cursor.now in
     let n : chunks - c.loop-chunk.chunk ≡ 0 = omega arith in
     told_end (g.D.ChunkDecoder.calls c.loop-chunk.decoder) _ c.args.limit (g.C.Cursor.rest c.loop-chunk.cursor) c.loop-chunk.chunk _ n c.loop-chunk.invariant.told ∙ ap (λ k. then_told old (calls_from c.args.limit all 0 k)) c.div_ceil-chunks.ensures
+
+pub take_chunk-requires-clause-places : goal.take_chunk-requires-clause-places
+take_chunk-requires-clause-places g c = omega (arith, c.next_places-selection.auto.places, c.loop-chunk.auto.places, c.requires.places)
+
+pub take_chunk-requires-clause-fits : goal.take_chunk-requires-clause-fits
+take_chunk-requires-clause-fits g c = c.next_places-selection.ensures.fits
+
+pub take_chunk-requires-clause-scratch : goal.take_chunk-requires-clause-scratch
+take_chunk-requires-clause-scratch g c = omega (arith, c.loop-chunk.auto.scratch, c.requires.scratch)
+
+pub take_chunk-requires-clause-room : goal.take_chunk-requires-clause-room
+take_chunk-requires-clause-room g c =
+    let listed = c.next_places-selection.new.places in
+    let places = selected listed c.next_places-selection.result in
+    let filled = c.loop-chunk.filled in
+    let count = c.count-count.result in
+    let long : length places ≡ count = selected_long listed c.next_places-selection.result c.next_places-selection.ensures.fits ∙ sym c.count-count.ensures in
+    let fits = room (g.C.Cursor.rest c.loop-chunk.cursor) (g.C.Cursor.rest c.next_places-selection.new.self) places filled count (length c.loop-chunk.out) (1024 * c.loop-chunk.chunk) c.loop-chunk.invariant.room c.next_places-selection.ensures.taken long in
+    omega (arith, fits, length-take-le (filled + count - filled) (drop filled c.loop-chunk.out) (omega (arith, fits, length-drop filled c.loop-chunk.out)), c.count-count.ensures)
+
+pub take_chunk-requires-clause-left : goal.take_chunk-requires-clause-left
+take_chunk-requires-clause-left g c = omega (arith, c.loop-chunk.invariant.cost, c.requires.left, c.loop-chunk-test.true, c.div_ceil-chunks.ensures)
+
+pub returns-clause-same : goal.returns-clause-same
+returns-clause-same g c = c.loop-chunk.invariant.same
+
+pub returns-clause-cost : goal.returns-clause-cost
+returns-clause-cost g c = omega (arith, c.loop-chunk.invariant.cost, c.loop-chunk.auto, c.div_ceil-chunks.ensures)
+
+pub loop-chunk-init : goal.loop-chunk-init
+loop-chunk-init g c =
+    let chunks = c.div_ceil-chunks.result in
+    let all : chunks - 0 ≡ chunks = omega arith in
+    record {
+      room = omega (arith, c.requires.room);
+      value = refl;
+      told = ap (λ n. then_told (g.D.ChunkDecoder.calls c.args.decoder.now) (calls_from c.args.limit (g.C.Cursor.rest c.args.cursor.now) 0 n)) all;
+      ahead = c.requires.ascend;
+      same = refl;
+      cost = omega arith;
+    }

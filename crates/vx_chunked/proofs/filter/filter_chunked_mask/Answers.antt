@@ -1,4 +1,4 @@
-use Rattle.std.proofs.Common.{◌≡◌, ◌+◌, true, ℕ, List, Some, IfOk, length, map, subst, sym, ap, ap₂, ◌∙◌}
+use Rattle.std.proofs.Common.{◌≡◌, ◌+◌, ◌≤◌, true, ℕ, List, Some, IfOk, length, map, subst, sym, ap, ap₂, ◌∙◌}
 use Rattle.std.specs.Prelude.{slice_get, false}
 use Rattle.std.specs.List.{range_with_len}
 use Rattle.std.proofs.lemmas.List.{length-replicate}
@@ -51,3 +51,35 @@ returns-in-AllTrue-clause-told g c =
     let limit = sparse_limit_of c.args.policy.now g.T.Record.WIDTH in
     on_ok_same c.filter_front-in-AllTrue.result _ _ _ c.filter_front-in-AllTrue.ensures.told
     (ap₂ (λ set n. then_told old (asked c.args.offset set limit (touched c.args.offset n))) (all c.args.mask.now _ c.in-AllTrue.is) (all_len c.args.mask.now _ c.in-AllTrue.is))
+
+pub filter_chunked-requires-clause-within : goal.filter_chunked-requires-clause-within
+filter_chunked-requires-clause-within g c =
+    subst (λ (m : Mask). c.args.offset + length (mask_bits m) ≤ length (g.D.ChunkDecoder.values c.args.decoder.now)) c.in-Values.is c.requires.within
+
+pub filter_chunked-requires-clause-spare : goal.filter_chunked-requires-clause-spare
+filter_chunked-requires-clause-spare g c =
+    subst (λ (m : Mask). touched c.args.offset (length (mask_bits m)) ≤ g.D.ChunkDecoder.spare c.args.decoder.now) c.in-Values.is c.requires.spare
+
+pub filter_front-requires-clause-within : goal.filter_front-requires-clause-within
+filter_front-requires-clause-within g c =
+    subst (λ (n : ℕ). c.args.offset + n ≤ length (g.D.ChunkDecoder.values c.args.decoder.now)) (sym (none_len c.args.mask.now _ c.in-AllFalse.is)) c.requires.within
+
+pub filter_front-requires-clause-spare : goal.filter_front-requires-clause-spare
+filter_front-requires-clause-spare g c =
+    subst (λ (n : ℕ). touched c.args.offset n ≤ g.D.ChunkDecoder.spare c.args.decoder.now) (sym (none_len c.args.mask.now _ c.in-AllFalse.is)) c.requires.spare
+
+pub returns-in-AllFalse-clause-cost : goal.returns-in-AllFalse-clause-cost
+returns-in-AllFalse-clause-cost g c =
+    subst (λ (n : ℕ). g.D.ChunkDecoder.spare c.args.decoder.now ≤ g.D.ChunkDecoder.spare c.filter_front.new.decoder + touched c.args.offset n) (none_len c.args.mask.now _ c.in-AllFalse.is) c.filter_front.ensures.cost
+
+pub filter_front-requires-in-AllTrue-clause-within : goal.filter_front-requires-in-AllTrue-clause-within
+filter_front-requires-in-AllTrue-clause-within g c =
+    subst (λ (n : ℕ). c.args.offset + n ≤ length (g.D.ChunkDecoder.values c.args.decoder.now)) (sym (all_len c.args.mask.now _ c.in-AllTrue.is)) c.requires.within
+
+pub filter_front-requires-in-AllTrue-clause-spare : goal.filter_front-requires-in-AllTrue-clause-spare
+filter_front-requires-in-AllTrue-clause-spare g c =
+    subst (λ (n : ℕ). touched c.args.offset n ≤ g.D.ChunkDecoder.spare c.args.decoder.now) (sym (all_len c.args.mask.now _ c.in-AllTrue.is)) c.requires.spare
+
+pub returns-in-AllTrue-clause-cost : goal.returns-in-AllTrue-clause-cost
+returns-in-AllTrue-clause-cost g c =
+    subst (λ (n : ℕ). g.D.ChunkDecoder.spare c.args.decoder.now ≤ g.D.ChunkDecoder.spare c.filter_front-in-AllTrue.new.decoder + touched c.args.offset n) (all_len c.args.mask.now _ c.in-AllTrue.is) c.filter_front-in-AllTrue.ensures.cost

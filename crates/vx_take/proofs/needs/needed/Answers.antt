@@ -1,7 +1,7 @@
-use Rattle.std.proofs.Common.{◌≡◌, ◌≤◌, ℕ, Bool, List, ap, sym, subst, ◌∙◌, arith}
+use Rattle.std.proofs.Common.{◌≡◌, ◌≤◌, ℕ, Bool, List, get_or, length, ap, sym, subst, ◌∙◌, arith}
 use Rattle.vx_bits.specs.BitBuffer.{PlacedBits}
 use Rattle.vx_mask.specs.Mask.{mask_bits}
-use Rattle.vx_take.specs.Picks.{ArePlaces, null_place}
+use Rattle.vx_take.specs.Picks.{ArePlaces, IsPlace, null_place}
 use Rattle.vx_take.specs.Ranks.{AreJustSet}
 use Rattle.vx_take.proofs.NeededBits.{each_set, just_set}
 use Rattle.vx_take.proofs.needs.needed.Goals as goal
@@ -19,3 +19,13 @@ returns-clause-set c =
 
 pub returns-clause-each : goal.returns-clause-each
 returns-clause-each c = each_set (mask_bits c.from_buffer.result) c.args.picks.now.picks (returns-clause-set c)
+
+pub set_there-requires : goal.set_there-requires
+set_there-requires c =
+    let places = c.places-place-items.result.now in
+    let k = c.loop-place.place-index in
+    subst (IsPlace (get_or places k 0)) (sym (c.loop-place.invariant.long ∙ c.bound-len.ensures.value)) (c.places-place-items.ensures.below.each k c.loop-place-test.true)
+
+pub returns-clause-len : goal.returns-clause-len
+returns-clause-len c =
+    ap length (c.from_buffer.ensures.bits ∙ ap (λ (b : PlacedBits). b.bits) c.in_ok-finish.ensures) ∙ c.loop-place.invariant.long ∙ c.bound-len.ensures.value
