@@ -3,7 +3,7 @@ use Rattle.std.specs.Prelude.{ℕ, ◌+◌, ◌-◌, ◌%◌, List, [], ◌∷�
 use Rattle.serde_json.specs.Data.{Data, Items}
 use Rattle.serde_json.specs.Find.{get, as_str, as_array}
 use Rattle.vx_types.specs.Decimal.{DecimalValue}
-use Rattle.vx_types.specs.PType.{width, is_int}
+use Rattle.vx_types.specs.PType.{width}
 use Rattle.vx_types.specs.TypeTree.{TypeTree, primitive_type, decimal_type}
 use Rattle.vx_types.specs.declared.ptype.PType.{PType}
 use Rattle.vx_model.specs.Valid.{Valid, nullability_by}
@@ -14,10 +14,11 @@ use Rattle.vx_json.specs.Items.{each}
 use Rattle.vx_json.specs.Bools.{has_null}
 use Rattle.vx_json.specs.Decimals.{decimal_of}
 use Rattle.vx_json.specs.Wholes.{at_most}
-use Rattle.vx_json.specs.Values.{ptype_named, value_or_zero, hex_or_zero, ramp_records}
+use Rattle.vx_json.specs.Values.{ptype_named, value_or_zero, hex_or_zero}
 use Rattle.vx_json.specs.declared.wholes.TheConstants.{GREATEST_LEN}
 use Rattle.vx_document.specs.Validity.{validity_alone, validity_stated}
 use Rattle.vx_document.specs.Columns.{inner_of}
+use Rattle.vx_document.specs.Primitive.{ramp_listed}
 use Rattle.vx_document.specs.Documents.{SourceValue, chunks_source}
 
 -- ---- its records
@@ -28,12 +29,6 @@ values_there p items = if has_null items then None else each (value_or_zero (wid
 
 unfoldable pub values_listed : PType → Data → Option (List (List ℕ))
 values_listed p d = get (codes "values") d >>= as_array >>= values_there p
-
--- the numbers from 0 on, of an integer type
-unfoldable pub ramp_listed : PType → Data → Option (List (List ℕ))
-ramp_listed p d = do
-  len ← get (codes "ramp") d >>= at_most GREATEST_LEN
-  if is_int p then Some (ramp_records p len) else None
 
 unfoldable pub values_by : PType → Data → Option (List (List ℕ))
 values_by p d =
@@ -82,6 +77,11 @@ shape_by t valid d = do
   offset ← get (codes "offset") d >>= at_most 1023
   len ← get (codes "len") d >>= at_most GREATEST_LEN
   shape_made t offset len valid
+
+-- the same, where there are at least so many
+abbrev pub filled_from : ℕ → ℕ → List (List ℕ) → Option (List (List ℕ))
+filled_from least w records =
+    if nat_le least (length records) then Some (filled w records) else None
 
 -- a shape over at least as many records of w bytes as it has
 unfoldable pub chunks_made : ShapeValue → ℕ → List (List ℕ) → Option SourceValue

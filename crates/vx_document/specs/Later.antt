@@ -32,6 +32,10 @@ abbrev pub is_later_text : List ℕ → Data → Bool
 is_later_text k (string s) = is_among (codes "layout" ∷ codes "type" ∷ []) k && is_later_word s
 is_later_text k d = false
 
+-- the name of a member, or its text, is a later word
+abbrev pub is_later_member : List ℕ → Data → Bool
+is_later_member k d = is_later_word k || is_later_text k d
+
 -- some object, at any depth, holds a later word: as the name of a member, or as the text of its
 -- `layout` or `type`
 abbrev mutual
@@ -50,4 +54,4 @@ abbrev mutual
   pub members_hold_later : Members → Bool
   members_hold_later no_members = false
   members_hold_later (member k d ms) =
-      (is_later_word k || is_later_text k d) || holds_later d || members_hold_later ms
+      is_later_member k d || holds_later d || members_hold_later ms

@@ -1,5 +1,5 @@
 -- What a JSON value means as a column of layout `Primitive`.
-use Rattle.std.specs.Prelude.{ℕ, List, [], ◌∷◌, if◌then◌else◌, Option, None, codes}
+use Rattle.std.specs.Prelude.{ℕ, List, [], ◌∷◌, if◌then◌else◌, Option, Some, None, codes}
 use Rattle.serde_json.specs.Data.{Data, Items}
 use Rattle.serde_json.specs.Find.{get, as_str, as_array}
 use Rattle.vx_types.specs.PType.{width, is_int}
@@ -33,6 +33,12 @@ primitive_by_items p stated items = do
   primitive_made p records valid
 
 -- the numbers from 0 on, of an integer type
+unfoldable pub ramp_listed : PType → Data → Option (List (List ℕ))
+ramp_listed p d = do
+  len ← get (codes "ramp") d >>= at_most GREATEST_LEN
+  if is_int p then Some (ramp_records p len) else None
+
+-- a column of these
 unfoldable pub primitive_by_ramp : PType → Option Valid → Data → Option Column
 primitive_by_ramp p stated d = do
   len ← get (codes "ramp") d >>= at_most GREATEST_LEN

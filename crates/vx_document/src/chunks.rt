@@ -9,18 +9,19 @@ ghost use Rattle.vx_types.specs.Decimal.{is_width};
 ghost use Rattle.vx_column.specs.Validity.{valid_of};
 ghost use Rattle.vx_json.specs.Meaning.{Gives};
 ghost use Rattle.vx_document.specs.Documents.{IsWhole, source_value};
-ghost use Rattle.vx_document.specs.Chunks.{values_listed, ramp_listed, values_by, decimals_listed, decimals_by, filled, missing, shape_made, shape_by, chunks_made, primitive_chunks, decimal_chunks, chunks_named, chunks_of};
+ghost use Rattle.vx_document.specs.Chunks.{values_listed, values_by, decimals_listed, decimals_by, filled, filled_from, missing, shape_made, shape_by, chunks_made, primitive_chunks, decimal_chunks, chunks_named, chunks_of};
 
 use crate::columns::validity_stated;
 use crate::documents::DocumentSource;
+use crate::primitive::ramp_listed;
 use crate::validity::validity_alone;
 use serde_json::Value;
 use std::alloc::Global;
 use vx_bits::{Buffer, NoMemory, Records, map_each_record_width};
 use vx_column::{DType, DecimalDType, PType, Validity};
 use vx_json::{
-    DocError, GREATEST_LEN, at_most, decimal_of, has_null, hex_values_of, is_closed, items_in,
-    member, ptype_named, ramp_of, text_in, values_of,
+    DocError, GREATEST_LEN, decimal_of, has_null, hex_values_of, is_closed, list_member,
+    number_member, ptype_named, text_member, values_of,
 };
 use vx_steps::ChunkShape;
 
@@ -34,25 +35,11 @@ fn values_listed(alloc: Global, ptype: PType, value: &Value) -> Result<Records, 
     ensures value { Gives records_of result (values_listed ptype (view value.now)) }
     ensures width { IfOk result (λ r. width_of r ≡ width ptype) }
 {
-    let items = items_in(member(value, "values")?)?;
+    let items = list_member(value, "values")?;
     if has_null(items) {
         return Err(DocError::Malformed);
     }
     values_of(alloc, ptype, items)
-}
-
-/// The records of the numbers from 0 on. `Malformed` where the type isn't an integer's.
-#[tactic(auto, unfolding(crate::specs::Chunks::ramp_listed))]
-fn ramp_listed(alloc: Global, ptype: PType, value: &Value) -> Result<Records, DocError>
-    ensures value { Gives records_of result (ramp_listed ptype (view value.now)) }
-    ensures width { IfOk result (λ r. width_of r ≡ width ptype) }
-{
-    let len = at_most(GREATEST_LEN, member(value, "ramp")?)?;
-    if ptype.is_int() {
-        Ok(ramp_of(alloc, ptype, len)?)
-    } else {
-        Err(DocError::Malformed)
-    }
 }
 
 #[tactic(auto, unfolding(crate::specs::Chunks::values_by))]
@@ -77,7 +64,7 @@ fn decimals_listed(alloc: Global, width: usize, value: &Value) -> Result<Records
     ensures value { Gives records_of result (decimals_listed width (view value.now)) }
     ensures width { IfOk result (λ r. width_of r ≡ width) }
 {
-    let items = items_in(member(value, "values")?)?;
+    let items = list_member(value, "values")?;
     if has_null(items) {
         return Err(DocError::Malformed);
     }
@@ -168,9 +155,32 @@ fn shape_by(dtype: DType, validity: Validity, value: &Value) -> Result<ChunkShap
         (shape_by (type_of dtype) (valid_of validity) (view value.now)) }
     ensures dtype { IfOk result (λ s. s.dtype ≡ type_of dtype) }
 {
-    let offset = at_most(1023, member(value, "offset")?)?;
-    let len = at_most(GREATEST_LEN, member(value, "len")?)?;
+    let offset = number_member(1023, value, "offset")?;
+    let len = number_member(GREATEST_LEN, value, "len")?;
     shape_made(dtype, offset, len, validity)
+}
+
+/// These records, and zeros behind them up to whole chunks. `Malformed` where they are fewer than
+/// `least`.
+fn filled_from(alloc: Global, least: usize, records: &Records) -> Result<Records, DocError>
+    ensures records { Gives records_of result
+        (filled_from least (width_of records.now) (records_of records.now)) }
+    ensures width { IfOk result (λ r. width_of r ≡ width_of records.now) }
+{
+    if least <= records.len() {
+        Ok(filled_records(alloc, records)?)
+    } else {
+        Err(DocError::Malformed)
+    }
+}
+
+/// The same, and the records that were given are let go.
+fn filled_up(alloc: Global, least: usize, records: Records) -> Result<Records, DocError>
+    ensures records { Gives records_of result
+        (filled_from least (width_of records) (records_of records)) }
+    ensures width { IfOk result (λ r. width_of r ≡ width_of records) }
+{
+    filled_from(alloc, least, &records)
 }
 
 /// The shape over whole chunks of these records. `Malformed` where it has more values than they
@@ -186,11 +196,8 @@ fn chunks_made(
         (chunks_made shape (width_of records) (records_of records)) }
     ensures whole { IfOk result IsWhole }
 {
-    if shape.offset() + shape.len() > records.len() {
-        return Err(DocError::Malformed);
-    }
-    let records = filled_records(alloc, &records)?;
-    Ok(DocumentSource::Chunks(shape, records))
+    let whole = filled_up(alloc, shape.offset() + shape.len(), records)?;
+    Ok(DocumentSource::Chunks(shape, whole))
 }
 
 #[tactic(auto, unfolding(crate::specs::Chunks::primitive_chunks))]
@@ -252,6 +259,6 @@ pub(crate) fn chunks_of(alloc: Global, value: &Value) -> Result<DocumentSource, 
     ensures whole { IfOk result IsWhole }
 {
     let stated = validity_stated(alloc, value)?;
-    let name = text_in(member(value, "type")?)?;
+    let name = text_member(value, "type")?;
     chunks_named(alloc, validity_alone(stated), value, name)
 }

@@ -4,7 +4,7 @@ ghost use Rattle.serde_json.specs.View.{view};
 ghost use Rattle.vx_column.specs.Validity.{valid_of};
 ghost use Rattle.vx_json.specs.Meaning.{Gives};
 ghost use Rattle.vx_document.specs.Validity.{validity_from, validity_stated};
-ghost use Rattle.vx_document.specs.Columns.{column_of, inner_of, dict_in, filter_in};
+ghost use Rattle.vx_document.specs.Columns.{by_layout, column_of, inner_of, dict_in, filter_in};
 
 use crate::boolean::bool_by;
 use crate::constant::constant_by;
@@ -17,7 +17,7 @@ use crate::validity::{validity_listed, validity_named};
 use serde_json::Value;
 use std::alloc::Global;
 use vx_column::{Array, Validity};
-use vx_json::{DocError, member, text_in};
+use vx_json::{DocError, member, text_member};
 
 /// The column that the value means, by its layout.
 #[cycle(columns)]
@@ -25,7 +25,16 @@ use vx_json::{DocError, member, text_in};
 pub(crate) fn column_of(alloc: Global, value: &Value) -> Result<Array, DocError>
     ensures { Gives (λ c. c) result (column_of (view value.now)) }
 {
-    match text_in(member(value, "layout")?)? {
+    by_layout(alloc, value, text_member(value, "layout")?)
+}
+
+/// The column of the layout of this name that the value means.
+#[cycle(columns)]
+fn by_layout(alloc: Global, value: &Value, layout: &str) -> Result<Array, DocError>
+    ensures { Gives (λ c. c) result
+        (by_layout (view value.now) (inner_of (view value.now)) layout.now) }
+{
+    match layout {
         "Null" => null_by(value),
         "Bool" => bool_by(alloc, value, validity_stated(alloc, value)?),
         "Primitive" => primitive_by(alloc, value, validity_stated(alloc, value)?),
@@ -37,14 +46,22 @@ pub(crate) fn column_of(alloc: Global, value: &Value) -> Result<Array, DocError>
     }
 }
 
+/// The column that the member of this name means.
+#[cycle(columns)]
+pub(crate) fn column_member(alloc: Global, value: &Value, name: &str) -> Result<Array, DocError>
+    ensures { Gives (λ c. c) result (inner_of (view value.now) name.now) }
+{
+    column_of(alloc, member(value, name)?)
+}
+
 /// The column of layout `Dict` that the value means.
 #[cycle(columns)]
 #[tactic(auto, unfolding(crate::specs::Columns::dict_in))]
 fn dict_in(alloc: Global, value: &Value) -> Result<Array, DocError>
     ensures { Gives (λ c. c) result (dict_in (view value.now) (inner_of (view value.now))) }
 {
-    let values = column_of(alloc, member(value, "values")?)?;
-    let codes = column_of(alloc, member(value, "codes")?)?;
+    let values = column_member(alloc, value, "values")?;
+    let codes = column_member(alloc, value, "codes")?;
     dict_by(alloc, value, codes, values)
 }
 
@@ -54,7 +71,7 @@ fn dict_in(alloc: Global, value: &Value) -> Result<Array, DocError>
 fn filter_in(alloc: Global, value: &Value) -> Result<Array, DocError>
     ensures { Gives (λ c. c) result (filter_in (view value.now) (inner_of (view value.now))) }
 {
-    let child = column_of(alloc, member(value, "child")?)?;
+    let child = column_member(alloc, value, "child")?;
     filter_by(alloc, value, child)
 }
 

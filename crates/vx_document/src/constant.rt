@@ -10,8 +10,8 @@ use serde_json::Value;
 use std::alloc::Global;
 use vx_column::{Array, ConstantArray, DType, Nullability, Scalar, ScalarValue};
 use vx_json::{
-    DocError, GREATEST_LEN, at_most, bool_in, decimal_of, hex_value_of, is_closed, member,
-    ptype_named, text_in, value_of,
+    DocError, GREATEST_LEN, bool_in, decimal_of, hex_value_of, is_closed, member, number_member,
+    ptype_named, text_member, value_of,
 };
 
 /// Whether null rows are allowed: as the object says, or else as is usual.
@@ -125,8 +125,8 @@ fn constant_made(dtype: DType, value: ScalarValue, len: usize) -> Result<Array, 
 fn constant_by_type(alloc: Global, dtype: DType, value: &Value) -> Result<Array, DocError>
     ensures { Gives (λ c. c) result (constant_by_type (type_of dtype) (view value.now)) }
 {
+    let len = number_member(GREATEST_LEN, value, "len")?;
     let row = row_in(alloc, &dtype, member(value, "value")?)?;
-    let len = at_most(GREATEST_LEN, member(value, "len")?)?;
     constant_made(dtype, row, len)
 }
 
@@ -169,5 +169,5 @@ fn constant_named(alloc: Global, value: &Value, name: &str) -> Result<Array, Doc
 pub(crate) fn constant_by(alloc: Global, value: &Value) -> Result<Array, DocError>
     ensures { Gives (λ c. c) result (constant_by (view value.now)) }
 {
-    constant_named(alloc, value, text_in(member(value, "type")?)?)
+    constant_named(alloc, value, text_member(value, "type")?)
 }

@@ -12,7 +12,7 @@ use serde_json::Value;
 use std::alloc::Global;
 use vx_bits::Records;
 use vx_column::{Array, DecimalArray, DecimalDType, Validity};
-use vx_json::{DocError, decimal_of, hex_values_of, is_closed, items_in, member};
+use vx_json::{DocError, decimal_of, hex_values_of, is_closed, list_member};
 
 /// The column of these records. `Malformed` where the validity can't be theirs.
 fn decimal_made(
@@ -55,7 +55,7 @@ fn decimal_by_values(
         (decimal_by_values (option_map valid_of stated) (view value.now)) }
 {
     let decimal = decimal_of(value)?;
-    let items = items_in(member(value, "values")?)?;
+    let items = list_member(value, "values")?;
     decimal_by_items(alloc, decimal, stated, items)
 }
 

@@ -2,7 +2,7 @@
 ghost use Rattle.std.specs.Prelude.{◌≡◌};
 ghost use Rattle.serde_json.specs.View.{view, items_view, members_view};
 ghost use Rattle.vx_json.specs.Members.{is_among};
-ghost use Rattle.vx_document.specs.Later.{text_words, list_words, record_words, is_later_word, is_later_text, holds_later, items_hold_later, members_hold_later};
+ghost use Rattle.vx_document.specs.Later.{text_words, list_words, record_words, is_later_word, is_later_text, is_later_member, holds_later, items_hold_later, members_hold_later};
 
 use serde_json::{Map, Value};
 use vx_json::is_among;
@@ -92,6 +92,13 @@ fn is_later_text(name: &str, value: &Value) -> bool
     }
 }
 
+/// Whether a member has a later word for its name, or is such a `layout` or `type`.
+fn is_later_member(name: &str, value: &Value) -> bool
+    ensures { result ≡ is_later_member name.now (view value.now) }
+{
+    is_later_word(name) || is_later_text(name, value)
+}
+
 /// Whether some object in it, at any depth, has a word that isn't read yet: as the name of a
 /// member, or as the text of its `layout` or `type`.
 #[cycle(later)]
@@ -126,10 +133,7 @@ fn members_hold_later(members: &Map<String, Value>) -> bool
     ensures { result ≡ members_hold_later (members_view members.now.entries) }
 {
     for (name, member) in members {
-        if is_later_word(name.as_str())
-            || is_later_text(name.as_str(), member)
-            || holds_later(member)
-        {
+        if is_later_member(name.as_str(), member) || holds_later(member) {
             return true;
         }
     }

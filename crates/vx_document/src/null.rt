@@ -5,13 +5,13 @@ ghost use Rattle.vx_document.specs.Null.{null_by_len, null_by};
 
 use serde_json::Value;
 use vx_column::{Array, NullArray};
-use vx_json::{DocError, GREATEST_LEN, at_most, is_closed, member};
+use vx_json::{DocError, GREATEST_LEN, is_closed, number_member};
 
 #[tactic(auto, unfolding(crate::specs::Null::null_by_len))]
 fn null_by_len(value: &Value) -> Result<Array, DocError>
     ensures { Gives (λ c. c) result (null_by_len (view value.now)) }
 {
-    let len = at_most(GREATEST_LEN, member(value, "len")?)?;
+    let len = number_member(GREATEST_LEN, value, "len")?;
     Ok(NullArray::new(len).into_array())
 }
 

@@ -1,12 +1,12 @@
 //! Columns of layout `Primitive`.
-ghost use Rattle.std.specs.Prelude.{◌≡◌};
+ghost use Rattle.std.specs.Prelude.{◌≡◌, IfOk};
 ghost use Rattle.std.specs.Option.{option_map};
 ghost use Rattle.serde_json.specs.View.{view, items_view};
 ghost use Rattle.vx_bits.specs.Records.{records_of, width_of};
 ghost use Rattle.vx_types.specs.PType.{width};
 ghost use Rattle.vx_column.specs.Validity.{valid_of};
 ghost use Rattle.vx_json.specs.Meaning.{Gives};
-ghost use Rattle.vx_document.specs.Primitive.{primitive_made, primitive_by_items, primitive_by_ramp, primitive_by_values, primitive_by_type, primitive_by};
+ghost use Rattle.vx_document.specs.Primitive.{primitive_made, primitive_by_items, ramp_listed, primitive_by_ramp, primitive_by_values, primitive_by_type, primitive_by};
 
 use crate::validity::{validity_alone, validity_beside};
 use serde_json::Value;
@@ -14,8 +14,8 @@ use std::alloc::Global;
 use vx_bits::Records;
 use vx_column::{Array, PType, PrimitiveArray, Validity};
 use vx_json::{
-    DocError, GREATEST_LEN, at_most, is_closed, items_in, member, ptype_named, ramp_of, text_in,
-    values_of,
+    DocError, GREATEST_LEN, is_closed, list_member, number_member, ptype_named, ramp_of,
+    text_member, values_of,
 };
 
 /// The column of these records. `Malformed` where the validity can't be theirs.
@@ -47,7 +47,21 @@ pub(crate) fn primitive_by_items(
     primitive_made(ptype, values, validity)
 }
 
-#[tactic(auto, unfolding(crate::specs::Primitive::primitive_by_ramp))]
+/// The records of the numbers from 0 on. `Malformed` where the type isn't an integer's.
+#[tactic(auto, unfolding(crate::specs::Primitive::ramp_listed))]
+pub(crate) fn ramp_listed(alloc: Global, ptype: PType, value: &Value) -> Result<Records, DocError>
+    ensures value { Gives records_of result (ramp_listed ptype (view value.now)) }
+    ensures width { IfOk result (λ r. width_of r ≡ width ptype) }
+{
+    let len = number_member(GREATEST_LEN, value, "ramp")?;
+    if ptype.is_int() {
+        Ok(ramp_of(alloc, ptype, len)?)
+    } else {
+        Err(DocError::Malformed)
+    }
+}
+
+#[tactic(auto, unfolding(crate::specs::Primitive::primitive_by_ramp, crate::specs::Primitive::ramp_listed))]
 fn primitive_by_ramp(
     alloc: Global,
     ptype: PType,
@@ -57,12 +71,11 @@ fn primitive_by_ramp(
     ensures { Gives (λ c. c) result
         (primitive_by_ramp ptype (option_map valid_of stated) (view value.now)) }
 {
-    let len = at_most(GREATEST_LEN, member(value, "ramp")?)?;
-    if ptype.is_int() {
-        primitive_made(ptype, ramp_of(alloc, ptype, len)?, validity_alone(stated))
-    } else {
-        Err(DocError::Malformed)
-    }
+    primitive_made(
+        ptype,
+        ramp_listed(alloc, ptype, value)?,
+        validity_alone(stated),
+    )
 }
 
 #[tactic(auto, unfolding(crate::specs::Primitive::primitive_by_values))]
@@ -75,7 +88,7 @@ fn primitive_by_values(
     ensures { Gives (λ c. c) result
         (primitive_by_values ptype (option_map valid_of stated) (view value.now)) }
 {
-    primitive_by_items(alloc, ptype, stated, items_in(member(value, "values")?)?)
+    primitive_by_items(alloc, ptype, stated, list_member(value, "values")?)
 }
 
 #[tactic(auto, unfolding(crate::specs::Primitive::primitive_by_type))]
@@ -106,6 +119,6 @@ pub(crate) fn primitive_by(
 ) -> Result<Array, DocError>
     ensures { Gives (λ c. c) result (primitive_by (view value.now) (option_map valid_of stated)) }
 {
-    let ptype = ptype_named(text_in(member(value, "type")?)?)?;
+    let ptype = ptype_named(text_member(value, "type")?)?;
     primitive_by_type(alloc, ptype, stated, value)
 }

@@ -6,7 +6,7 @@ ghost use Rattle.vx_document.specs.Documents.{IsWhole, document_value, source_va
 ghost use Rattle.vx_document.specs.Reading.{document_of, source_of};
 
 use crate::chunks::chunks_of;
-use crate::columns::column_of;
+use crate::columns::column_member;
 use crate::documents::{Document, DocumentSource};
 use crate::steps::steps_of;
 use serde_json::Value;
@@ -21,7 +21,7 @@ fn source_of(alloc: Global, value: &Value) -> Result<DocumentSource, DocError>
     ensures whole { IfOk result IsWhole }
 {
     if is_closed(value, &["column", "steps", "policy"]) {
-        let column = column_of(alloc, member(value, "column")?)?;
+        let column = column_member(alloc, value, "column")?;
         Ok(DocumentSource::Column(column))
     } else if is_closed(value, &["chunks", "steps", "policy"]) {
         chunks_of(alloc, member(value, "chunks")?)
@@ -38,9 +38,9 @@ pub fn document(alloc: Global, value: &Value) -> Result<Document, DocError>
     ensures document { Gives document_value result (document_of (view value.now)) }
     ensures whole { IfOk result (λ d. IsWhole d.source) }
 {
-    let source = source_of(alloc, value)?;
-    let steps = steps_of(alloc, member(value, "steps")?)?;
     let policy = policy_found(value.get("policy"))?;
+    let steps = steps_of(alloc, member(value, "steps")?)?;
+    let source = source_of(alloc, value)?;
     Ok(Document {
         source,
         steps,

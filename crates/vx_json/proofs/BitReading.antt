@@ -1,10 +1,9 @@
 -- A text of digits, read part by part.
-use Rattle.std.proofs.Common.{◌≡◌, ℕ, suc, ◌+◌, ◌-◌, ◌*◌, ◌%◌, ◌^◌, ◌<◌, ◌≤◌, Bool, List, [], ◌∷◌, ◌++◌, length, get_or, take, drop, Option, Some, None, refl, sym, ap, ap₂, subst, ◌∙◌, append_assoc, take-append-drop, add-one, drop-cons, arith}
-use Rattle.std.proofs.lemmas.List.{append-nil, drop_all, drop-drop, take_rest}
+use Rattle.std.proofs.Common.{◌≡◌, ℕ, suc, ◌+◌, ◌*◌, ◌%◌, ◌^◌, ◌<◌, ◌≤◌, Bool, List, [], ◌∷◌, ◌++◌, length, get_or, take, drop, Option, Some, None, refl, sym, ap, ap₂, subst, ◌∙◌, append_assoc, take-append-drop, add-one, drop-cons, arith}
+use Rattle.std.proofs.lemmas.List.{append-nil, drop_all, drop-drop}
 use Rattle.std.proofs.lemmas.Nat.{pow-add}
 use Rattle.std.proofs.Math.Nat.{mul-le-mul_right}
 use Rattle.std.proofs.Math.Pow.{pow_mono}
-use Rattle.std.proofs.Math.Seq.{drop-append_seam}
 use Rattle.vx_bits.specs.Words.{word_bits}
 use Rattle.vx_bits.proofs.WordBits.{word_bits-append}
 use Rattle.vx_json.specs.Meaning.{◌>>=◌, Fails, with_read}
@@ -91,16 +90,6 @@ module _ (text : List ℕ) (k : ℕ) (old : List Bool) (whole : Option (List Boo
       let fails = part_fails old (take n (drop k text)) (drop (k + n) text) Malformed (ap (with_read old) is) in
       sym so_far ∙ ap (λ l. with_read old (bits_in l)) (cut_at text k n) ∙ fails
   no_next_part n NoMemory is = tt
-
--- what stands behind the first bits is what the digits mean
-pub read_behind : (old : List Bool) (text : List ℕ) (all rest : List Bool) → with_read old (bits_in text) ≡ Some all → rest ≡ take (length all - length old) (drop (length old) all) → bits_in text ≡ Some rest
-read_behind old text all rest is cut = by (bits_in text) is
-  where
-    by : (p : Option (List Bool)) → with_read old p ≡ Some all → p ≡ Some rest
-    by None e = cc
-    by (Some bits) e =
-        let same : all ≡ old ++ bits = cc in
-        ap Some (sym (cut ∙ take_rest all (length old) ∙ ap (drop (length old)) same ∙ drop-append_seam old bits))
 
 -- a word of k bytes with one byte more
 pub record IsMore (word byte k more : ℕ) : Type 0 where

@@ -1,7 +1,6 @@
 -- Bits that items mean, packed into words.
-use Rattle.std.proofs.Common.{◌≡◌, ℕ, ◌+◌, ◌*◌, ◌^◌, ◌<◌, ◌≤◌, ◌==◌, Bool, true, false, List, [], ◌∷◌, ◌++◌, length, drop, replicate, Some, refl, ap, ap₂, ◌∙◌, arith, add-one}
+use Rattle.std.proofs.Common.{◌≡◌, ℕ, ◌+◌, ◌*◌, ◌^◌, ◌<◌, ◌==◌, Bool, true, false, ◌∷◌, Some, refl, ap, ap₂, ◌∙◌, arith, add-one}
 use mir.Val.{bool_byte}
-use Rattle.std.proofs.lemmas.List.{drop_all, length-replicate}
 use Rattle.std.proofs.lemmas.Nat.{pow-add}
 use Rattle.serde_json.specs.Data.{Items, no_items, item}
 use Rattle.vx_bits.specs.Words.{word_bits}
@@ -33,19 +32,6 @@ bit_more word bit k below = record {
     is_set : (bit : Bool) → (bool_byte bit == 1) ≡ bit
     is_set true = refl
     is_set false = refl
-
--- before the first item, behind the bits of an offset
-pub record IsNothingBehind (offset : ℕ) (bits : List Bool) : Type 0 where
-  pub within : offset ≤ length bits
-  pub nothing : drop offset bits ≡ []
-
-pub none_behind : (offset : ℕ) (old new : List Bool) → old ≡ [] → new ≡ old ++ replicate offset false → IsNothingBehind offset new
-none_behind offset old new empty is =
-    let long : length new ≡ offset = ap length (is ∙ ap (λ l. l ++ replicate offset false) empty) ∙ length-replicate offset false in
-    record {
-      within = omega arith;
-      nothing = drop_all offset new (omega arith);
-    }
 
 -- which items are there, read one by one
 pub each-presence : (ds : Items) → each (λ d. Some (is_there d)) ds ≡ Some (presence ds)

@@ -31,23 +31,23 @@ cut_at vs k n = sym (take-append-drop n (drop k vs)) ∙ ap (λ l. take n (drop 
 pub part_long : (vs : List Value) (k n : ℕ) → k + n ≤ length vs → length (take n (drop k vs)) ≡ n
 part_long vs k n h = simp (length-take, length-drop) (omega arith)
 
-module _ {A : Type 0} (f : Data → Option A) (vs : List Value) (k : ℕ) (read : List A) (r : IsReading f vs k read) (n : ℕ) where
-  parts : with_read read (each f (items_view (take n (drop k vs))) >>= λ xs. with_read xs (each f (items_view (drop (k + n) vs)))) ≡ each f (items_view vs)
+module _ {A : Type 0} (f : Data → Option A) (vs : List Value) (k : ℕ) (read : List A) {whole : Option (List A)} (r : IsReading f vs k read whole) (n : ℕ) where
+  parts : with_read read (each f (items_view (take n (drop k vs))) >>= λ xs. with_read xs (each f (items_view (drop (k + n) vs)))) ≡ whole
   parts = sym (ap (λ l. with_read read (each f (items_view l))) (cut_at vs k n) ∙ ap (with_read read) (each-append f (take n (drop k vs)) (drop (k + n) vs))) ∙ r.so_far
 
   -- a part more
-  pub part_goes_on : (more : List A) → each f (items_view (take n (drop k vs))) ≡ Some more → IsReading f vs (k + n) (read ++ more)
+  pub part_goes_on : (more : List A) → each f (items_view (take n (drop k vs))) ≡ Some more → IsReading f vs (k + n) (read ++ more) whole
   part_goes_on more is =
-      let whole : with_read read (with_read more (each f (items_view (drop (k + n) vs)))) ≡ each f (items_view vs) = rw is at parts in
-      record { so_far = join (each f (items_view (drop (k + n) vs))) ∙ whole }
+      let all : with_read read (with_read more (each f (items_view (drop (k + n) vs)))) ≡ whole = rw is at parts in
+      record { so_far = join (each f (items_view (drop (k + n) vs))) ∙ all }
     where
       join : (o : Option (List A)) → with_read (read ++ more) o ≡ with_read read (with_read more o)
       join None = refl
       join (Some xs) = ap Some (append_assoc read more xs)
 
   -- a part that gives nothing
-  pub part_fails : (e : DocError) → Fails e (each f (items_view (take n (drop k vs)))) → Fails e (each f (items_view vs))
-  part_fails Malformed none = let whole : with_read read (None >>= λ xs. with_read xs (each f (items_view (drop (k + n) vs)))) ≡ each f (items_view vs) = rw none at parts in sym whole
+  pub part_fails : (e : DocError) → Fails e (each f (items_view (take n (drop k vs)))) → Fails e whole
+  part_fails Malformed none = let all : with_read read (None >>= λ xs. with_read xs (each f (items_view (drop (k + n) vs)))) ≡ whole = rw none at parts in sym all
   part_fails NoMemory none = tt
 
 -- ---- from the last item back

@@ -5,6 +5,7 @@ ghost use Rattle.vx_json.specs.Meaning.{Gives, Leaves, with_read};
 ghost use Rattle.vx_json.specs.BitText.{bit_named, bits_in};
 
 use crate::error::DocError;
+use crate::offsets::{builder_at, finished_at};
 use std::alloc::Global;
 use vx_bits::{BitBuffer, BitBuilder};
 
@@ -106,9 +107,7 @@ pub fn bits_in(alloc: Global, text: &[u8], offset: usize) -> Result<BitBuffer, D
     ensures bits { Gives (λ b. b.bits) result (bits_in text.now) }
     ensures offset { IfOk result (λ b. b.offset ≡ offset) }
 {
-    let mut bits = BitBuilder::with_capacity(alloc, offset + text.len())?;
-    bits.append_n(false, offset)?;
+    let mut bits = builder_at(alloc, offset, offset + text.len())?;
     append_text(&mut bits, text)?;
-    let all = bits.finish()?;
-    Ok(all.slice(offset, all.len()))
+    Ok(finished_at(bits, offset)?)
 }

@@ -3,12 +3,13 @@ ghost use Rattle.std.specs.Prelude.{◌≡◌, ◌≤◌, IfOk, Some, length, op
 ghost use Rattle.serde_json.specs.Find.{as_bool};
 ghost use Rattle.serde_json.specs.View.{view, items_view};
 ghost use Rattle.vx_bits.specs.Words.{word_bits};
-ghost use Rattle.vx_json.specs.Meaning.{Gives};
+ghost use Rattle.vx_json.specs.Meaning.{Gives, Leaves, with_read};
 ghost use Rattle.vx_json.specs.Items.{each};
 ghost use Rattle.vx_json.specs.Bools.{bool_or_clear, has_null, presence_of};
 
 use crate::error::DocError;
 use crate::members::bool_in;
+use crate::offsets::{builder_at, finished_at};
 use serde_json::Value;
 use std::alloc::Global;
 use vx_bits::{BitBuffer, BitBuilder};
@@ -41,8 +42,26 @@ fn read_word<R: ReadBit>(reader: &R, items: &[Value]) -> Result<u64, DocError>
     Ok(word)
 }
 
-/// The bits that the items mean, 64 at a time, the first one at that offset in its byte.
-/// `Malformed` where one means none.
+/// Appends the bits that the items mean, 64 at a time. `Malformed` where one means none.
+#[inline(always)]
+fn append_items<R: ReadBit>(
+    reader: &R,
+    bits: &mut BitBuilder,
+    items: &[Value],
+) -> Result<(), DocError>
+    ensures { Leaves result bits.new
+        (with_read bits.old (each (R.bit reader.now) (items_view items.now))) }
+{
+    for i in 0..items.len() / 64 {
+        bits.append_word(read_word(reader, &items[64 * i..64 * i + 64])?, 64)?;
+    }
+    let rest = &items[items.len() - items.len() % 64..];
+    bits.append_word(read_word(reader, rest)?, rest.len())?;
+    Ok(())
+}
+
+/// The bits that the items mean, the first one at that offset in its byte. `Malformed` where one
+/// means none.
 #[inline(always)]
 fn read_bits<R: ReadBit>(
     alloc: Global,
@@ -54,15 +73,9 @@ fn read_bits<R: ReadBit>(
     ensures bits { Gives (λ b. b.bits) result (each (R.bit reader.now) (items_view items.now)) }
     ensures offset { IfOk result (λ b. b.offset ≡ offset) }
 {
-    let mut bits = BitBuilder::with_capacity(alloc, offset + items.len())?;
-    bits.append_n(false, offset)?;
-    for i in 0..items.len() / 64 {
-        bits.append_word(read_word(reader, &items[64 * i..64 * i + 64])?, 64)?;
-    }
-    let rest = &items[items.len() - items.len() % 64..];
-    bits.append_word(read_word(reader, rest)?, rest.len())?;
-    let all = bits.finish()?;
-    Ok(all.slice(offset, all.len()))
+    let mut bits = builder_at(alloc, offset, offset + items.len())?;
+    append_items(reader, &mut bits, items)?;
+    Ok(finished_at(bits, offset)?)
 }
 
 #[derive(Clone, Copy)]

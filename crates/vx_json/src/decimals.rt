@@ -6,7 +6,7 @@ ghost use Rattle.vx_json.specs.Decimals.{signed_byte, decimal_with, decimal_of};
 
 use crate::error::DocError;
 use crate::members::member;
-use crate::wholes::at_most;
+use crate::wholes::number_member;
 use serde_json::Value;
 use vx_types::{DecimalDType, PType};
 
@@ -42,8 +42,8 @@ fn decimal_with(precision: u8, scale: i8, width: u8) -> Result<DecimalDType, Doc
 pub fn decimal_of(value: &Value) -> Result<DecimalDType, DocError>
     ensures { Gives (λ d. d) result (decimal_of (view value.now)) }
 {
-    let precision = at_most(255, member(value, "precision")?)?;
+    let precision = number_member(255, value, "precision")?;
     let scale = signed_byte(member(value, "scale")?)?;
-    let width = at_most(255, member(value, "width")?)?;
+    let width = number_member(255, value, "width")?;
     decimal_with(precision as u8, scale, width as u8)
 }

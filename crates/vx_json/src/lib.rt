@@ -10,6 +10,7 @@ mod items;
 mod letting_go;
 mod masks;
 mod members;
+mod offsets;
 mod policies;
 mod values;
 mod wholes;
@@ -21,7 +22,9 @@ pub use error::DocError;
 pub use items::{ReadItem, read_each};
 pub use letting_go::let_go;
 pub use masks::mask_of;
-pub use members::{bool_in, is_among, is_closed, items_in, member, text_in};
+pub use members::{
+    bool_in, is_among, is_closed, items_in, list_member, member, text_in, text_member,
+};
 pub use policies::policy_found;
 pub use values::{hex_value_of, hex_values_of, ptype_named, ramp_of, value_of, values_of};
-pub use wholes::{GREATEST_LEN, at_most, pair_of, pairs_in, whole_of, wholes_in};
+pub use wholes::{GREATEST_LEN, at_most, number_member, pair_of, pairs_in, whole_of, wholes_in};

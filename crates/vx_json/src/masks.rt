@@ -6,8 +6,8 @@ ghost use Rattle.vx_json.specs.Masks.{placed_bits, bits_by_set, bits_by_runs, bi
 
 use crate::bit_text::bits_in;
 use crate::error::DocError;
-use crate::members::{bool_in, is_closed, items_in, member, text_in};
-use crate::wholes::{GREATEST_LEN, at_most, pairs_in, wholes_in};
+use crate::members::{bool_in, is_closed, list_member, member, text_member};
+use crate::wholes::{GREATEST_LEN, number_member, pairs_in, wholes_in};
 use serde_json::Value;
 use std::alloc::Global;
 use vx_mask::{Mask, MaskError};
@@ -16,8 +16,8 @@ use vx_mask::{Mask, MaskError};
 fn placed_mask(alloc: Global, value: &Value) -> Result<Mask, DocError>
     ensures { Gives mask_bits result (placed_bits (view value.now)) }
 {
-    let text = text_in(member(value, "bits")?)?;
-    let offset = at_most(7, member(value, "offset")?)?;
+    let text = text_member(value, "bits")?;
+    let offset = number_member(7, value, "offset")?;
     Ok(Mask::from_buffer(bits_in(alloc, text.as_bytes(), offset)?))
 }
 
@@ -25,8 +25,8 @@ fn placed_mask(alloc: Global, value: &Value) -> Result<Mask, DocError>
 fn mask_by_set(alloc: Global, value: &Value) -> Result<Mask, DocError>
     ensures { Gives mask_bits result (bits_by_set (view value.now)) }
 {
-    let len = at_most(GREATEST_LEN, member(value, "len")?)?;
-    let indices = wholes_in(alloc, items_in(member(value, "set")?)?)?;
+    let len = number_member(GREATEST_LEN, value, "len")?;
+    let indices = wholes_in(alloc, list_member(value, "set")?)?;
     match Mask::from_indices(alloc, len, indices) {
         Ok(mask) => Ok(mask),
         Err(MaskError::NoMemory) => Err(DocError::NoMemory),
@@ -38,8 +38,8 @@ fn mask_by_set(alloc: Global, value: &Value) -> Result<Mask, DocError>
 fn mask_by_runs(alloc: Global, value: &Value) -> Result<Mask, DocError>
     ensures { Gives mask_bits result (bits_by_runs (view value.now)) }
 {
-    let len = at_most(GREATEST_LEN, member(value, "len")?)?;
-    let runs = pairs_in(alloc, items_in(member(value, "runs")?)?)?;
+    let len = number_member(GREATEST_LEN, value, "len")?;
+    let runs = pairs_in(alloc, list_member(value, "runs")?)?;
     match Mask::from_slices(alloc, len, runs) {
         Ok(mask) => Ok(mask),
         Err(MaskError::NoMemory) => Err(DocError::NoMemory),
@@ -51,7 +51,7 @@ fn mask_by_runs(alloc: Global, value: &Value) -> Result<Mask, DocError>
 fn mask_by_every(value: &Value) -> Result<Mask, DocError>
     ensures { Gives mask_bits result (bits_by_every (view value.now)) }
 {
-    let len = at_most(GREATEST_LEN, member(value, "len")?)?;
+    let len = number_member(GREATEST_LEN, value, "len")?;
     if bool_in(member(value, "every")?)? {
         Ok(Mask::AllTrue(len))
     } else {

@@ -1,5 +1,5 @@
 //! The members of an object, and what kind of value a member is.
-ghost use Rattle.std.specs.Prelude.{◌≡◌, map};
+ghost use Rattle.std.specs.Prelude.{◌≡◌, map, option_and_then};
 ghost use Rattle.serde_json.specs.Find.{as_array, as_str, as_bool, get};
 ghost use Rattle.serde_json.specs.View.{view, items_view, members_view};
 ghost use Rattle.vx_json.specs.Meaning.{Gives};
@@ -36,6 +36,21 @@ pub fn text_in(value: &Value) -> Result<&str, DocError>
         Some(text) => Ok(text),
         None => Err(DocError::Malformed),
     }
+}
+
+/// The items of the member of this name. `Malformed` where there is none, or it is no list.
+pub fn list_member<'v>(value: &'v Value, name: &str) -> Result<&'v Vec<Value>, DocError>
+    ensures { Gives (λ v. items_view v.now.items) result
+        (option_and_then as_array (get name.now (view value.now))) }
+{
+    items_in(member(value, name)?)
+}
+
+/// The text of the member of this name. `Malformed` where there is none, or it is no text.
+pub fn text_member<'v>(value: &'v Value, name: &str) -> Result<&'v str, DocError>
+    ensures { Gives (λ s. s.now) result (option_and_then as_str (get name.now (view value.now))) }
+{
+    text_in(member(value, name)?)
 }
 
 /// `true` or `false`. `Malformed` where the value is neither.

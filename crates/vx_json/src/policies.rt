@@ -1,8 +1,9 @@
 //! Policies.
-ghost use Rattle.std.specs.Prelude.{◌≡◌, option_map, Some};
+ghost use Rattle.std.specs.Prelude.{◌≡◌, option_and_then, option_map, Some};
+ghost use Rattle.serde_json.specs.Find.{as_object};
 ghost use Rattle.serde_json.specs.View.{view, members_view};
-ghost use Rattle.vx_mask.specs.Policy.{vortex_fields};
-ghost use Rattle.vx_json.specs.Meaning.{Gives, found_or};
+ghost use Rattle.vx_mask.specs.Policy.{policy_fault, vortex_fields};
+ghost use Rattle.vx_json.specs.Meaning.{Gives, found_or, unless_fault};
 ghost use Rattle.vx_json.specs.Policies.{ratio_of, with_ratio, with_size, with_number, with_member, with_members, policy_by_members, policy_of};
 
 use crate::error::DocError;
@@ -108,19 +109,32 @@ fn with_members(f: PolicyFields, members: &Map<String, Value>) -> Result<PolicyF
     Ok(fields)
 }
 
-#[tactic(auto, unfolding(crate::specs::Policies::policy_by_members))]
-fn policy_by_members(value: &Value) -> Result<Policy, DocError>
-    ensures { Gives (λ p. p) result (policy_by_members (view value.now)) }
+/// The usual fields with what each member says.
+fn fields_by_members(value: &Value) -> Result<PolicyFields, DocError>
+    ensures { Gives (λ f. f) result
+        (option_and_then (with_members vortex_fields) (as_object (view value.now))) }
 {
-    let members = match value.as_object() {
-        Some(members) => members,
-        None => return Err(DocError::Malformed),
-    };
-    let fields = with_members(*Policy::vortex().fields(), members)?;
+    match value.as_object() {
+        Some(members) => with_members(*Policy::vortex().fields(), members),
+        None => Err(DocError::Malformed),
+    }
+}
+
+/// The policy of these fields. `Malformed` where they make none.
+fn policy_with(fields: PolicyFields) -> Result<Policy, DocError>
+    ensures { Gives (λ p. p) result (unless_fault (policy_fault fields) fields) }
+{
     match Policy::try_new(fields) {
         Ok(policy) => Ok(policy),
         Err(_) => Err(DocError::Malformed),
     }
+}
+
+#[tactic(auto, unfolding(crate::specs::Policies::policy_by_members))]
+fn policy_by_members(value: &Value) -> Result<Policy, DocError>
+    ensures { Gives (λ p. p) result (policy_by_members (view value.now)) }
+{
+    policy_with(fields_by_members(value)?)
 }
 
 #[tactic(auto, unfolding(crate::specs::Policies::policy_of))]

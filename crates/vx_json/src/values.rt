@@ -158,9 +158,9 @@ pub fn values_of(alloc: Global, ptype: PType, items: &Vec<Value>) -> Result<Reco
         PType::I16 => Ok(Records::W2(whole_records(alloc, PType::I16, items)?)),
         PType::I32 => Ok(Records::W4(whole_records(alloc, PType::I32, items)?)),
         PType::I64 => Ok(Records::W8(whole_records(alloc, PType::I64, items)?)),
-        PType::F16 => Ok(Records::W2(hex_records(alloc, items)?)),
-        PType::F32 => Ok(Records::W4(hex_records(alloc, items)?)),
-        PType::F64 => Ok(Records::W8(hex_records(alloc, items)?)),
+        PType::F16 => hex_values_of(alloc, 2, items),
+        PType::F32 => hex_values_of(alloc, 4, items),
+        PType::F64 => hex_values_of(alloc, 8, items),
     }
 }
 

@@ -1,5 +1,6 @@
 //! Whole numbers, pairs of them, and lists of both.
-ghost use Rattle.std.specs.Prelude.{◌≡◌, ◌≤◌, IfOk};
+ghost use Rattle.std.specs.Prelude.{◌≡◌, ◌≤◌, IfOk, option_and_then};
+ghost use Rattle.serde_json.specs.Find.{get};
 ghost use Rattle.serde_json.specs.View.{view, items_view};
 ghost use Rattle.vx_json.specs.Meaning.{Gives};
 ghost use Rattle.vx_json.specs.Items.{each};
@@ -7,7 +8,7 @@ ghost use Rattle.vx_json.specs.Wholes.{whole_of, at_most, pair_in, pair_of};
 
 use crate::error::DocError;
 use crate::items::{ReadItem, read_each};
-use crate::members::items_in;
+use crate::members::{items_in, member};
 use serde_json::Value;
 use std::alloc::Global;
 
@@ -38,6 +39,16 @@ pub fn at_most(bound: usize, value: &Value) -> Result<usize, DocError>
     } else {
         Err(DocError::Malformed)
     }
+}
+
+/// The whole number up to `bound` that the member of this name is. `Malformed` where there is no
+/// member, or it is none.
+pub fn number_member(bound: usize, value: &Value, name: &str) -> Result<usize, DocError>
+    ensures value { Gives (λ n. n) result
+        (option_and_then (at_most bound) (get name.now (view value.now))) }
+    ensures bound { IfOk result (λ n. n ≤ bound) }
+{
+    at_most(bound, member(value, name)?)
 }
 
 #[inline(always)]

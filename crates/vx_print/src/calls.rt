@@ -22,16 +22,24 @@ fn push_call(text: &mut Vec<u8>, call: Call) -> Result<(), NoMemory>
     Ok(())
 }
 
+// Appends the line of these calls.
+fn push_calls(text: &mut Vec<u8>, calls: &[Call]) -> Result<(), NoMemory>
+    ensures { IsOk result → text.new.items ≡ text.old.items ++ calls_text calls.now }
+{
+    text.extend_from_slice(b"calls:")?;
+    for call in calls {
+        push_call(text, *call)?;
+    }
+    text.push(b'\n')?;
+    Ok(())
+}
+
 /// The line of a decoder's calls, in order: for each a blank, and its chunk and, where it asked for
 /// some values alone, how many.
 pub fn calls_line(alloc: Global, calls: &[Call]) -> Result<Vec<u8>, NoMemory>
     ensures { IfOk result (λ line. line.items ≡ calls_text calls.now) }
 {
     let mut line = Vec::new(alloc);
-    line.extend_from_slice(b"calls:")?;
-    for call in calls {
-        push_call(&mut line, *call)?;
-    }
-    line.push(b'\n')?;
+    push_calls(&mut line, calls)?;
     Ok(line)
 }

@@ -30,6 +30,16 @@ fn put_number(dst: &mut [u8; FAULT_ROOM], at: usize, number: usize) -> usize
     put(dst, at, buffer.format(number))
 }
 
+// The same of a part and a number behind it.
+fn put_counted(dst: &mut [u8; FAULT_ROOM], at: usize, part: &str, number: usize) -> usize
+    requires { at + length part.now + 20 ≤ FAULT_ROOM }
+    ensures len { result ≤ at + length part.now + 20 }
+    ensures put { take result dst.new ≡ take at dst.old ++ part.now ++ decimal number }
+{
+    let at = put(dst, at, part);
+    put_number(dst, at, number)
+}
+
 // The same of an index, which may be negative.
 fn put_index(dst: &mut [u8; FAULT_ROOM], at: usize, index: &i128) -> usize
     requires { at + 40 ≤ FAULT_ROOM }
@@ -48,26 +58,20 @@ fn put_cause(dst: &mut [u8; FAULT_ROOM], at: usize, cause: &Cause) -> usize
 {
     match cause {
         Cause::BadRange { start, end, len } => {
-            let at = put(dst, at, "BadRange ");
-            let at = put_number(dst, at, *start);
-            let at = put(dst, at, "..");
-            let at = put_number(dst, at, *end);
-            let at = put(dst, at, " of ");
-            put_number(dst, at, *len)
+            let at = put_counted(dst, at, "BadRange ", *start);
+            let at = put_counted(dst, at, "..", *end);
+            put_counted(dst, at, " of ", *len)
         }
         Cause::BadMask { mask_len, len } => {
-            let at = put(dst, at, "BadMask ");
-            let at = put_number(dst, at, *mask_len);
-            let at = put(dst, at, " of ");
-            put_number(dst, at, *len)
+            let at = put_counted(dst, at, "BadMask ", *mask_len);
+            put_counted(dst, at, " of ", *len)
         }
         Cause::InvalidIndices => put(dst, at, "InvalidIndices"),
         Cause::BadPieces => put(dst, at, "BadPieces"),
         Cause::OutOfBounds { index, len } => {
             let at = put(dst, at, "OutOfBounds ");
             let at = put_index(dst, at, index);
-            let at = put(dst, at, " of ");
-            put_number(dst, at, *len)
+            put_counted(dst, at, " of ", *len)
         }
     }
 }
@@ -78,8 +82,7 @@ pub fn fault_line(step: usize, cause: &Cause, dst: &mut [u8; FAULT_ROOM]) -> usi
     ensures len { result ≤ FAULT_ROOM }
     ensures text { take result dst.new ≡ fault_text step cause.now }
 {
-    let at = put(dst, 0, "step ");
-    let at = put_number(dst, at, step);
+    let at = put_counted(dst, 0, "step ", step);
     let at = put(dst, at, ": ");
     let at = put_cause(dst, at, cause);
     put(dst, at, "\n")

@@ -5,10 +5,10 @@ ghost use Rattle.vx_bits.specs.Records.{records_of, width_of};
 ghost use Rattle.vx_types.specs.PType.{width};
 ghost use Rattle.vx_types.specs.RowValue.{null, bytes};
 ghost use Rattle.vx_print.specs.Text.{lines, hex_text, primitive_text, row_text_by};
-ghost use Rattle.vx_print.specs.Records.{record_text, record_rows, block_word, bits_in, IsWide, IsLong};
+ghost use Rattle.vx_print.specs.Records.{record_text, record_rows, block_word, bits_in, signed_of, unsigned_of, IsWide, IsLong};
 
 use crate::row::{BLOCK, ROOM, ROW, put_hex, put_number, put_word};
-use vx_bits::{BitBuffer, NoMemory, Records, match_each_record_width};
+use vx_bits::{BitBuffer, Buffer, NoMemory, Records, match_each_record_width};
 use vx_column::PType;
 
 /// How a record is printed.
@@ -124,20 +124,25 @@ fn push_blocks<const W: usize>(
     Ok(())
 }
 
-// Appends a line for each row, a record of integer type `$ptype`, of which each is of width
-// `$width`. Where there are no bits, the loop tests none.
-macro_rules! push_by {
-    ($text:expr, $ptype:path, $width:path, $values:expr, $bits:expr) => {
-        match ($values, $bits) {
-            ($width(records), None) => {
-                push_blocks($text, Form::Number($ptype), records.as_slice(), None)
-            }
-            ($width(records), bits) => {
-                push_blocks($text, Form::Number($ptype), records.as_slice(), bits)
-            }
-            _ => unreachable!(),
-        }
-    };
+// The same of the records of a buffer. Where there are no bits, the loop tests none.
+#[inline(always)]
+fn push_buffer<const W: usize>(
+    text: &mut Vec<u8>,
+    form: Form,
+    buffer: &Buffer<[u8; W]>,
+    bits: Option<&BitBuffer>,
+) -> Result<(), NoMemory>
+    requires width { IsWide form W }
+    requires long { IsLong (bits_in bits) (length buffer.now) }
+    ensures { IsOk result → text.new.items ≡ text.old.items
+        ++ lines (row_text_by (record_text form))
+        (record_rows (bits_in bits.entry) buffer.now) }
+{
+    let records = buffer.as_slice();
+    match bits {
+        None => push_blocks(text, form, records, None),
+        Some(_) => push_blocks(text, form, records, bits),
+    }
 }
 
 /// Appends a line for each row: the record's bytes, or null where there are bits and the row's bit
@@ -151,9 +156,49 @@ pub(crate) fn push_hex(
     ensures { IsOk result → text.new.items ≡ text.old.items ++ lines (row_text_by hex_text)
         (record_rows (bits_in bits.entry) (records_of values.now)) }
 {
-    match_each_record_width!(values, records => {
-        push_blocks(text, Form::Hex, records.as_slice(), bits)
-    })
+    match_each_record_width!(values, buffer => push_buffer(text, Form::Hex, buffer, bits))
+}
+
+// Appends a line for each row, a number from 0 on.
+fn push_unsigned(
+    text: &mut Vec<u8>,
+    values: &Records,
+    bits: Option<&BitBuffer>,
+) -> Result<(), NoMemory>
+    requires width { width_of values.now ≤ 8 }
+    requires long { IsLong (bits_in bits) (length (records_of values.now)) }
+    ensures { IsOk result → text.new.items ≡ text.old.items
+        ++ lines (row_text_by (primitive_text (unsigned_of (width_of values.now))))
+        (record_rows (bits_in bits.entry) (records_of values.now)) }
+{
+    match values {
+        Records::W1(buffer) => push_buffer(text, Form::Number(PType::U8), buffer, bits),
+        Records::W2(buffer) => push_buffer(text, Form::Number(PType::U16), buffer, bits),
+        Records::W4(buffer) => push_buffer(text, Form::Number(PType::U32), buffer, bits),
+        Records::W8(buffer) => push_buffer(text, Form::Number(PType::U64), buffer, bits),
+        Records::W16(_) | Records::W32(_) => unreachable!(),
+    }
+}
+
+// The same of numbers with a sign.
+fn push_signed(
+    text: &mut Vec<u8>,
+    values: &Records,
+    bits: Option<&BitBuffer>,
+) -> Result<(), NoMemory>
+    requires width { width_of values.now ≤ 8 }
+    requires long { IsLong (bits_in bits) (length (records_of values.now)) }
+    ensures { IsOk result → text.new.items ≡ text.old.items
+        ++ lines (row_text_by (primitive_text (signed_of (width_of values.now))))
+        (record_rows (bits_in bits.entry) (records_of values.now)) }
+{
+    match values {
+        Records::W1(buffer) => push_buffer(text, Form::Number(PType::I8), buffer, bits),
+        Records::W2(buffer) => push_buffer(text, Form::Number(PType::I16), buffer, bits),
+        Records::W4(buffer) => push_buffer(text, Form::Number(PType::I32), buffer, bits),
+        Records::W8(buffer) => push_buffer(text, Form::Number(PType::I64), buffer, bits),
+        Records::W16(_) | Records::W32(_) => unreachable!(),
+    }
 }
 
 /// The same of records of a primitive type.
@@ -170,14 +215,8 @@ pub(crate) fn push_primitive(
         (record_rows (bits_in bits.entry) (records_of values.now)) }
 {
     match ptype {
-        PType::U8 => push_by!(text, PType::U8, Records::W1, values, bits),
-        PType::U16 => push_by!(text, PType::U16, Records::W2, values, bits),
-        PType::U32 => push_by!(text, PType::U32, Records::W4, values, bits),
-        PType::U64 => push_by!(text, PType::U64, Records::W8, values, bits),
-        PType::I8 => push_by!(text, PType::I8, Records::W1, values, bits),
-        PType::I16 => push_by!(text, PType::I16, Records::W2, values, bits),
-        PType::I32 => push_by!(text, PType::I32, Records::W4, values, bits),
-        PType::I64 => push_by!(text, PType::I64, Records::W8, values, bits),
+        PType::U8 | PType::U16 | PType::U32 | PType::U64 => push_unsigned(text, values, bits),
+        PType::I8 | PType::I16 | PType::I32 | PType::I64 => push_signed(text, values, bits),
         PType::F16 | PType::F32 | PType::F64 => push_hex(text, values, bits),
     }
 }

@@ -125,13 +125,21 @@ fn push_lines(text: &mut Vec<u8>, column: &Array) -> Result<(), NoMemory>
     }
 }
 
+// Appends the line of a column's type, and a line for each row.
+fn push_text(all: &mut Vec<u8>, column: &Array) -> Result<(), NoMemory>
+    ensures { IsOk result → all.new.items
+        ≡ all.old.items ++ text column.now.dtype column.now.rows }
+{
+    push_type(all, column.dtype())?;
+    all.push(b'\n')?;
+    push_lines(all, column)
+}
+
 /// The text of a column: the line of its type, and a line for each row. `NoMemory` alone.
 pub fn text_of(alloc: Global, column: &Array) -> Result<Vec<u8>, NoMemory>
     ensures { IfOk result (λ v. v.items ≡ text column.now.dtype column.now.rows) }
 {
     let mut text = Vec::new(alloc);
-    push_type(&mut text, column.dtype())?;
-    text.push(b'\n')?;
-    push_lines(&mut text, column)?;
+    push_text(&mut text, column)?;
     Ok(text)
 }

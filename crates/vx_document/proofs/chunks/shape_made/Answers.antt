@@ -1,5 +1,5 @@
 -- The constructor's answer.
-use Rattle.std.proofs.Common.{◌≡◌, Option, Some, None, Ok, Err, sym, ap, ◌∙◌}
+use Rattle.std.proofs.Common.{◌≡◌, Option, Some, None, Ok, sym, ap, ◌∙◌}
 use Rattle.vx_bits.specs.Results.{ok_unless}
 use Rattle.vx_json.proofs.Made.{made, refused}
 use Rattle.vx_document.specs.Chunks.{shape_made}

@@ -8,11 +8,9 @@ use Rattle.vx_document.proofs.pieces.pieces_made.Goals as goal
 pub returns-in-Ok : goal.returns-in-Ok
 unfolding pieces_made
 returns-in-Ok c =
-    let is = rw (c.in_ok-starts.ensures, c.in_ok-lengths.ensures, c.in_ok-multipliers.ensures) at c.try_new.ensures in
-    made by_pieces _ _ _ (sym is ∙ c.in-Ok.is)
+    made by_pieces _ _ _ (sym c.try_new.ensures ∙ c.in-Ok.is)
 
 pub returns-in-Err : goal.returns-in-Err
 unfolding pieces_made
 returns-in-Err c =
-    let is = rw (c.in_ok-starts.ensures, c.in_ok-lengths.ensures, c.in_ok-multipliers.ensures) at c.try_new.ensures in
-    refused by_pieces _ _ _ (sym is ∙ c.in-Err.is)
+    refused by_pieces _ _ _ (sym c.try_new.ensures ∙ c.in-Err.is)

@@ -11,7 +11,7 @@ pub returns-in-OutOfBounds-clause-put : goal.returns-in-OutOfBounds-clause-put
 returns-in-OutOfBounds-clause-put c =
     let arm = c.in-OutOfBounds in
     let before = take c.args.at c.args.dst.now in
-    c.put_number-in-OutOfBounds.ensures.put
-    ∙ ap (λ l. l ++ decimal arm.len) (c.put-at-in-OutOfBounds-2.ensures.put ∙ ap (λ l. l ++ codes " of ") (c.put_index-at.ensures.put ∙ ap (λ l. l ++ signed_decimal arm.index) c.put-at-in-OutOfBounds.ensures.put))
+    c.put_counted-in-OutOfBounds.ensures.put
+    ∙ ap (λ l. (l ++ codes " of ") ++ decimal arm.len) (c.put_index-at.ensures.put ∙ ap (λ l. l ++ signed_decimal arm.index) c.put-at.ensures.put)
     ∙ joined before (codes "OutOfBounds ") (signed_decimal arm.index) (codes " of ") (decimal arm.len)
     ∙ ap (λ l. before ++ l) (sym (ap cause_text arm.is))
