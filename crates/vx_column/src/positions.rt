@@ -1,6 +1,6 @@
 //! The numbers of a column as positions, read by its records where it stores some, else from row to
 //! row.
-ghost use Rattle.std.specs.Prelude.{◌≡◌, None, Some, true, IfOk};
+ghost use Rattle.std.specs.Prelude.{◌≡◌, None, Some, true, IfOk, IfSome};
 ghost use Rattle.vx_types.specs.TypeTree.{int_type_of, is_int_type, type_nullability};
 ghost use Rattle.vx_types.specs.declared.nullability.Nullability.TheVariants.{NonNullable};
 ghost use Rattle.vx_numbers.specs.Positions.{AllThere, first_bad, positions_of};
@@ -60,7 +60,8 @@ impl DictArray {
 }
 
 impl FilterArray {
-    // Whether each of the child's numbers is one of `len` positions, as far as that is told at once.
+    // Whether each of the child's numbers is one of `len` positions, as far as that is told at
+    // once.
     #[cycle(told)]
     #[tactic(auto, using(vx_model::proofs::LazyNumbers::lazy_numbers))]
     fn tells_positions(&self, ptype: PType, len: usize) -> bool
@@ -72,40 +73,47 @@ impl FilterArray {
 }
 
 impl Array {
+    // The first number that is none of `len` positions, by the records that it stores; none where
+    // it stores none.
+    fn bad_record(&self, ptype: PType, len: usize) -> Option<Option<i128>>
+        requires { int_type_of self.now.dtype ≡ Some ptype }
+        ensures { IfSome result (λ bad. bad ≡ first_bad len (numbers_of self.now)) }
+    {
+        if let Some(values) = self.present_records() {
+            return Some(first_bad_present(ptype, values, len));
+        }
+        match self.shown_records() {
+            Some((values, bits)) => Some(first_bad_by_bits(ptype, values, bits, len)),
+            None => None,
+        }
+    }
+
     // Whether each number is one of `len` positions, as far as stored records tell it: those of the
     // column, or those that its rows are of. So no row of a lazy column is looked up by its rank
     // where all rows that it is made of are positions.
     #[cycle(told)]
-    #[tactic(auto, using(crate::proofs::NumberLists::stored))]
     fn tells_positions(&self, ptype: PType, len: usize) -> bool
         requires { int_type_of self.now.dtype ≡ Some ptype }
         ensures { result ≡ true → first_bad len (numbers_of self.now) ≡ None }
     {
-        if let Some(values) = self.present_records() {
-            return first_bad_present(ptype, values, len).is_none();
-        }
-        if let Some((values, bits)) = self.shown_records() {
-            return first_bad_by_bits(ptype, values, bits, len).is_none();
-        }
         match self.layout() {
             Layout::Dict(a) => a.tells_positions(ptype, len),
             Layout::Filter(a) => a.tells_positions(ptype, len),
-            _ => false,
+            _ => match self.bad_record(ptype, len) {
+                Some(bad) => bad.is_none(),
+                None => false,
+            },
         }
     }
 
     /// The first number, of those that aren't null, that is none of `len` positions. `ptype` is the
     /// type's. It takes no memory.
-    #[tactic(auto, using(crate::proofs::NumberLists::stored))]
     pub fn first_bad(&self, ptype: PType, len: usize) -> Option<i128>
         requires { int_type_of self.now.dtype ≡ Some ptype }
         ensures { result ≡ first_bad len (numbers_of self.now) }
     {
-        if let Some(values) = self.present_records() {
-            return first_bad_present(ptype, values, len);
-        }
-        if let Some((values, bits)) = self.shown_records() {
-            return first_bad_by_bits(ptype, values, bits, len);
+        if let Some(bad) = self.bad_record(ptype, len) {
+            return bad;
         }
         if self.tells_positions(ptype, len) {
             return None;

@@ -79,6 +79,7 @@ pub(crate) fn execute_of(
     ensures unwrapped { IfOk result (λ a. is_unwrapped a ≡ true) }
     ensures kept { is_unwrapped (bool_column array.now) ≡ true → IsOk result }
 {
-    let validity = execute_validity(alloc, array.validity(), array.bits().len(), policy)?;
-    Ok(BoolArray::of(array.bits().share(), validity).into_array())
+    let bits = array.bits();
+    let validity = execute_validity(alloc, array.validity(), bits.len(), policy)?;
+    Ok(BoolArray::of(bits.share(), validity).into_array())
 }

@@ -75,8 +75,7 @@ pub(crate) fn take_of(
         Nullability::NonNullable => Ok(ConstantArray::new(scalar.share(), len).into_array()),
         Nullability::Nullable => {
             let validity = by_picks(alloc, picks)?;
-            let stored = store_scalar(alloc, scalar, len, validity)?;
-            Ok(stored)
+            store_scalar(alloc, scalar, len, validity)
         }
     }
 }
@@ -105,13 +104,11 @@ pub(crate) fn bits_of(
     // each pick is below the bound
     let _ = picks.bound();
     if is_set(array.scalar()) {
-        let bits = valid_bits(alloc, picks)?;
-        return Ok(bits);
+        return valid_bits(alloc, picks);
     }
     let mut clear = BitBuilder::new(alloc);
     clear.append_n(false, picks.len())?;
-    let bits = clear.finish()?;
-    Ok(bits)
+    clear.finish()
 }
 
 // The validity of a column that stores the value for every row.
@@ -142,6 +139,5 @@ pub(crate) fn execute_of(alloc: Global, array: &ConstantArray) -> Result<Array, 
     ensures unwrapped { IfOk result (λ a. is_unwrapped a ≡ true) }
 {
     let scalar = array.scalar();
-    let stored = store_scalar(alloc, scalar, array.len(), validity_for(scalar))?;
-    Ok(stored)
+    store_scalar(alloc, scalar, array.len(), validity_for(scalar))
 }

@@ -113,10 +113,7 @@ pub(crate) fn execute_of(
     ensures unwrapped { IfOk result (λ a. is_unwrapped a ≡ true) }
     ensures kept { is_unwrapped (decimal_column array.now) ≡ true → IsOk result }
 {
-    let validity = execute_validity(alloc, array.validity(), array.values().len(), policy)?;
-    Ok(
-        array
-            .with_rows(array.values().share(), validity)
-            .into_array(),
-    )
+    let values = array.values();
+    let validity = execute_validity(alloc, array.validity(), values.len(), policy)?;
+    Ok(array.with_rows(values.share(), validity).into_array())
 }

@@ -1,11 +1,11 @@
 //! Layout `Dict`: a step over the rows is that step over the codes.
-ghost use Rattle.std.specs.Prelude.{◌≡◌, ◌≤◌, length, map, true, false, IfOk};
+ghost use Rattle.std.specs.Prelude.{◌≡◌, ◌≤◌, length, map, None, true, false, IfOk};
 ghost use Rattle.std.specs.List.{items_where_true};
 ghost use Rattle.vx_take.specs.Picks.{at};
 ghost use Rattle.vx_numbers.specs.Positions.{AllThere};
 ghost use Rattle.vx_types.specs.TypeTree.{is_flat};
 ghost use Rattle.vx_types.specs.declared.nullability.Nullability.TheVariants.{NonNullable};
-ghost use Rattle.vx_model.specs.Dict.{dict_column};
+ghost use Rattle.vx_model.specs.Dict.{dict_column, dict_fault, dict_with};
 ghost use Rattle.vx_model.specs.Plain.{is_unwrapped};
 ghost use Rattle.vx_model.specs.Valid.{is_yes, is_non_null_bool};
 ghost use Rattle.vx_model.specs.Step.{IsSlice, IsCut, IsStep, IsTake};
@@ -19,7 +19,16 @@ use std::alloc::Global;
 use vx_bits::{BitBuffer, NoMemory};
 use vx_column::{Array, DictArray, Nullability};
 use vx_mask::{MaskValues, Policy};
+use vx_pieces::column_picks;
 use vx_take::Picks;
+
+// The column with other codes for its rows.
+fn recoded(alloc: Global, array: &DictArray, codes: Array) -> Result<Array, NoMemory>
+    requires { dict_fault (dict_with array.now codes) ≡ None }
+    ensures { IfOk result (λ a. a ≡ dict_column (dict_with array.now codes)) }
+{
+    Ok(array.with_codes(codes.into_ref(alloc)?).into_array())
+}
 
 #[cycle(slice)]
 #[tactic(auto, using(vx_model::proofs::LazyRows::lazy_rows))]
@@ -34,7 +43,7 @@ pub(crate) fn slice_of(
     ensures { IfOk result (IsSlice (dict_column array.now) start end) }
 {
     let codes = slice(alloc, array.codes(), start, end)?;
-    Ok(array.with_codes(codes.into_ref(alloc)?).into_array())
+    recoded(alloc, array, codes)
 }
 
 #[cycle(filter)]
@@ -50,7 +59,7 @@ pub(crate) fn filter_of(
         (items_where_true mask.now.bits.bits (dict_column array.now).rows)) }
 {
     let codes = filter_values(alloc, array.codes(), mask, policy)?;
-    Ok(array.with_codes(codes.into_ref(alloc)?).into_array())
+    recoded(alloc, array, codes)
 }
 
 #[cycle(take)]
@@ -67,7 +76,7 @@ pub(crate) fn take_of(
     ensures { IfOk result (IsTake (dict_column array.now) picks.now.picks nullability) }
 {
     let codes = take_picks(alloc, array.codes(), picks, nullability, policy)?;
-    Ok(array.with_codes(codes.into_ref(alloc)?).into_array())
+    recoded(alloc, array, codes)
 }
 
 // The bits of the rows at the picks, of a dictionary of bools that aren't null.
@@ -86,14 +95,8 @@ pub(crate) fn bits_of(
 {
     let values = array.values();
     let codes = take_picks(alloc, array.codes(), picks, Nullability::Nullable, policy)?;
-    match codes.dtype().int_type() {
-        Some(ptype) => {
-            let named = codes.positions(alloc, ptype, values.len())?;
-            let bits = taken_bits(alloc, values, &named, policy)?;
-            Ok(bits)
-        }
-        None => unreachable!(),
-    }
+    let named = column_picks(alloc, &codes, values.len())?;
+    taken_bits(alloc, values, &named, policy)
 }
 
 /// The same rows, each the value that its code names.
@@ -111,13 +114,6 @@ pub(crate) fn execute_of(
 {
     let codes = execute(alloc, array.codes(), policy)?;
     let values = execute(alloc, array.values(), policy)?;
-    let nullability = codes.dtype().nullability();
-    match codes.dtype().int_type() {
-        Some(ptype) => {
-            let picks = codes.positions(alloc, ptype, values.len())?;
-            let taken = take_picks(alloc, &values, &picks, nullability, policy)?;
-            Ok(taken)
-        }
-        None => unreachable!(),
-    }
+    let named = column_picks(alloc, &codes, values.len())?;
+    take_picks(alloc, &values, &named, codes.dtype().nullability(), policy)
 }

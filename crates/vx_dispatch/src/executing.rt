@@ -24,7 +24,7 @@ pub fn execute(alloc: Global, array: &Array, policy: &Policy) -> Result<Array, N
         Layout::Bool(a) => boolean::execute_of(alloc, a, policy),
         Layout::Primitive(a) => primitive::execute_of(alloc, a, policy),
         Layout::Decimal(a) => decimal::execute_of(alloc, a, policy),
-        Layout::Constant(a) => Ok(constant::execute_of(alloc, a)?),
+        Layout::Constant(a) => constant::execute_of(alloc, a),
         Layout::Dict(a) => dict::execute_of(alloc, a, policy),
         Layout::Filter(a) => filter_layout::execute_of(alloc, a, policy),
     }

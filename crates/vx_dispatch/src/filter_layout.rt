@@ -54,8 +54,7 @@ fn kept_by_both(alloc: Global, first: &Mask, then: &MaskValues) -> Result<Mask, 
     ensures len { IfOk result (λ m. length (mask_bits m) ≡ length (mask_bits first.now)) }
 {
     let then = Mask::Values(then.share());
-    let both = first.intersect_by_rank(alloc, &then)?;
-    Ok(both)
+    first.intersect_by_rank(alloc, &then)
 }
 
 // The child's rows that both masks keep.
@@ -73,8 +72,7 @@ pub(crate) fn filter_of(
 {
     let child = array.child();
     let both = kept_by_both(alloc, array.mask(), mask)?;
-    let kept = filter(alloc, child, &both, policy)?;
-    Ok(kept)
+    filter(alloc, child, &both, policy)
 }
 
 // The positions in the child that the picks are ranks of.
@@ -93,8 +91,7 @@ fn child_picks(
 {
     // each pick is below the bound
     let _ = picks.bound();
-    let positions = translate_ranks(alloc, array.mask(), picks, policy)?;
-    Ok(positions)
+    translate_ranks(alloc, array.mask(), picks, policy)
 }
 
 // The child's rows at the set positions that the picks are ranks of.
@@ -113,8 +110,7 @@ pub(crate) fn take_of(
 {
     let child = array.child();
     let positions = child_picks(alloc, array, picks, policy)?;
-    let taken = take_picks(alloc, child, &positions, nullability, policy)?;
-    Ok(taken)
+    take_picks(alloc, child, &positions, nullability, policy)
 }
 
 // The bits of the rows at the picks, of a filter of bools that aren't null.
@@ -133,8 +129,7 @@ pub(crate) fn bits_of(
 {
     let child = array.child();
     let positions = child_picks(alloc, array, picks, policy)?;
-    let bits = taken_bits(alloc, child, &positions, policy)?;
-    Ok(bits)
+    taken_bits(alloc, child, &positions, policy)
 }
 
 /// The same rows, which the mask keeps of the child's unwrapped form.
@@ -151,6 +146,5 @@ pub(crate) fn execute_of(
         → IfOk result (λ a. is_unwrapped a ≡ true) }
 {
     let child = execute(alloc, array.child(), policy)?;
-    let kept = filter(alloc, &child, array.mask(), policy)?;
-    Ok(kept)
+    filter(alloc, &child, array.mask(), policy)
 }

@@ -48,10 +48,7 @@ pub fn filter(alloc: Global, array: &Array, mask: &Mask, policy: &Policy) -> Res
 {
     match mask {
         Mask::AllTrue(_) => Ok(array.share()),
-        Mask::AllFalse(_) => {
-            let none = slice(alloc, array, 0, 0)?;
-            Ok(none)
-        }
+        Mask::AllFalse(_) => slice(alloc, array, 0, 0),
         Mask::Values(values) => filter_values(alloc, array, values, policy),
     }
 }

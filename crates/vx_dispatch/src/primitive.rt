@@ -108,15 +108,12 @@ pub(crate) fn execute_of(
     array: &PrimitiveArray,
     policy: &Policy,
 ) -> Result<Array, NoMemory>
-    ensures same { IfOk result (IsStep (primitive_column array.now) (primitive_column array.now).rows
-        (primitive_column array.now).dtype) }
+    ensures same { IfOk result (IsStep (primitive_column array.now)
+        (primitive_column array.now).rows (primitive_column array.now).dtype) }
     ensures unwrapped { IfOk result (λ a. is_unwrapped a ≡ true) }
     ensures kept { is_unwrapped (primitive_column array.now) ≡ true → IsOk result }
 {
-    let validity = execute_validity(alloc, array.validity(), array.values().len(), policy)?;
-    Ok(
-        array
-            .with_rows(array.values().share(), validity)
-            .into_array(),
-    )
+    let values = array.values();
+    let validity = execute_validity(alloc, array.validity(), values.len(), policy)?;
+    Ok(array.with_rows(values.share(), validity).into_array())
 }

@@ -63,8 +63,8 @@ pub fn take(
     }
 }
 
-// The positions that the indices name. A column of them is unwrapped first, so that no row of a lazy
-// one is looked up by its rank.
+// The positions that the indices name. A column of them is unwrapped first, so that no row of a
+// lazy one is looked up by its rank.
 fn picks_for(
     alloc: Global,
     indices: &Indices,
@@ -80,10 +80,9 @@ fn picks_for(
     match indices {
         Indices::Array(flat) => {
             let column = execute(alloc, flat.array(), policy)?;
-            let picks = column_picks(alloc, &column, len)?;
-            Ok(picks)
+            column_picks(alloc, &column, len)
         }
-        Indices::Pieces(_) => Ok(indices.picks(alloc, len)?),
+        Indices::Pieces(_) => indices.picks(alloc, len),
     }
 }
 
@@ -99,5 +98,5 @@ fn take_by_picks(
         (index_nullability (index_value indices.now))) }
 {
     let picks = picks_for(alloc, indices, array.len(), policy)?;
-    Ok(take_picks(alloc, array, &picks, indices.nullability(), policy)?)
+    take_picks(alloc, array, &picks, indices.nullability(), policy)
 }

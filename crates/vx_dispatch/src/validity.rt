@@ -20,6 +20,13 @@ use vx_column::{Array, BoolArray, Layout, Nullability, Validity};
 use vx_mask::{MaskValues, Policy};
 use vx_take::{Picks, gather_bits, valid_bits};
 
+// The validity that is a column.
+fn of_column(alloc: Global, column: Array) -> Result<Validity, NoMemory>
+    ensures { IfOk result (λ v. valid_of v ≡ by_column column) }
+{
+    Ok(Validity::Array(column.into_ref(alloc)?))
+}
+
 // The validity of the rows from `start` up to `end`, of so many rows.
 #[cycle(slice)]
 pub(crate) fn slice_validity(
@@ -42,10 +49,7 @@ pub(crate) fn slice_validity(
         Validity::NonNullable => Ok(Validity::NonNullable),
         Validity::AllValid => Ok(Validity::AllValid),
         Validity::AllInvalid => Ok(Validity::AllInvalid),
-        Validity::Array(array) => {
-            let part = slice(alloc, array, start, end)?;
-            Ok(Validity::Array(part.into_ref(alloc)?))
-        }
+        Validity::Array(array) => of_column(alloc, slice(alloc, array, start, end)?),
     }
 }
 
@@ -69,10 +73,7 @@ pub(crate) fn filter_validity(
         Validity::NonNullable => Ok(Validity::NonNullable),
         Validity::AllValid => Ok(Validity::AllValid),
         Validity::AllInvalid => Ok(Validity::AllInvalid),
-        Validity::Array(array) => {
-            let kept = filter_values(alloc, array, mask, policy)?;
-            Ok(Validity::Array(kept.into_ref(alloc)?))
-        }
+        Validity::Array(array) => of_column(alloc, filter_values(alloc, array, mask, policy)?),
     }
 }
 
@@ -91,8 +92,8 @@ pub(crate) fn taken_bits(
         (λ b. b.bits ≡ at false (map is_yes array.now.rows) picks.now.picks) }
 {
     match array.layout() {
-        Layout::Bool(a) => Ok(gather_bits(alloc, a.bits(), picks, false)?),
-        Layout::Constant(a) => Ok(constant::bits_of(alloc, a, picks)?),
+        Layout::Bool(a) => gather_bits(alloc, a.bits(), picks, false),
+        Layout::Constant(a) => constant::bits_of(alloc, a, picks),
         Layout::Dict(a) => dict::bits_of(alloc, a, picks, policy),
         Layout::Filter(a) => filter_layout::bits_of(alloc, a, picks, policy),
         Layout::Null(_) | Layout::Primitive(_) | Layout::Decimal(_) => unreachable!(),
@@ -103,8 +104,10 @@ pub(crate) fn taken_bits(
 fn by_bits(alloc: Global, bits: BitBuffer) -> Result<Validity, NoMemory>
     ensures { IfOk result (λ v. valid_of v ≡ by_column (bits_column bits.bits bits.offset)) }
 {
-    let array = BoolArray::of(bits, Validity::NonNullable).into_array();
-    Ok(Validity::Array(array.into_ref(alloc)?))
+    of_column(
+        alloc,
+        BoolArray::of(bits, Validity::NonNullable).into_array(),
+    )
 }
 
 // The validity that says which picks are there.
@@ -137,14 +140,11 @@ pub fn take_validity(
     let _ = picks.bound();
     match (validity, nullability) {
         (Validity::AllInvalid, _) => Ok(Validity::AllInvalid),
-        (Validity::Array(array), _) => Ok(by_bits(
-            alloc,
-            taken_bits(alloc, array, picks, policy)?,
-        )?),
+        (Validity::Array(array), _) => by_bits(alloc, taken_bits(alloc, array, picks, policy)?),
         (Validity::NonNullable, Nullability::NonNullable) => Ok(Validity::NonNullable),
         (Validity::AllValid, Nullability::NonNullable) => Ok(Validity::AllValid),
-        (Validity::NonNullable, Nullability::Nullable) => Ok(by_picks(alloc, picks)?),
-        (Validity::AllValid, Nullability::Nullable) => Ok(by_picks(alloc, picks)?),
+        (Validity::NonNullable, Nullability::Nullable) => by_picks(alloc, picks),
+        (Validity::AllValid, Nullability::Nullable) => by_picks(alloc, picks),
     }
 }
 
@@ -182,7 +182,7 @@ pub(crate) fn execute_validity(
             _ => {
                 let bools = execute(alloc, array, policy)?;
                 see_bools(&bools);
-                Ok(Validity::Array(bools.into_ref(alloc)?))
+                of_column(alloc, bools)
             }
         },
         constant => Ok(constant.share()),

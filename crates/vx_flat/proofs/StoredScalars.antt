@@ -1,6 +1,9 @@
 -- A value that is stored row by row gives a row of it in each place, and null where none is there.
-use Rattle.std.proofs.Common.{◌≡◌, ℕ, false, map, None, refl, sym, ap, ◌∙◌}
-use Rattle.std.specs.Prelude.{replicate}
+use Rattle.std.proofs.Common.{◌≡◌, ℕ, Bool, true, false, cond, List, length, map, Option, None, Some, refl, sym, ap, ◌∙◌, subst, eq-eqb}
+use Rattle.std.specs.Prelude.{replicate, Result, Ok, Err, IfOk}
+use Rattle.std.proofs.lemmas.Bool.{eqb-true}
+use Rattle.vx_types.specs.PType.{width}
+use Rattle.vx_model.specs.Column.{Column}
 use Rattle.std.proofs.lemmas.List.{length-replicate}
 use Rattle.vx_types.specs.TypeTree.{null_type, bool_type, primitive_type, decimal_type}
 use Rattle.vx_types.specs.RowValue.{RowValue, null, bit, bytes, list, fields, tagged}
@@ -8,7 +11,10 @@ use Rattle.vx_types.specs.Scalar.{TypedRow, scalar_fault}
 use Rattle.vx_types.specs.Decimal.{DecimalValue}
 use Rattle.vx_types.specs.declared.nullability.Nullability.{Nullability}
 use Rattle.vx_types.specs.declared.ptype.PType.{PType}
-use Rattle.vx_model.specs.Valid.{Valid, all_invalid, present_bits, shown_rows, stored_rows}
+use Rattle.vx_bits.specs.Results.{ok_unless}
+use Rattle.vx_model.specs.Primitive.{PrimitiveParts, primitive_fault}
+use Rattle.vx_model.specs.Decimal.{DecimalParts, decimals_fault}
+use Rattle.vx_model.specs.Valid.{Valid, all_invalid, is_fitting, present_bits, shown_rows, stored_rows}
 use Rattle.vx_model.specs.Null.{null_column}
 use Rattle.vx_model.proofs.UnwrappedForms.{map-replicate, none_shown}
 use Rattle.vx_flat.specs.Scalars.{bit_or_false, bytes_or_zeros}
@@ -21,6 +27,52 @@ null_alone (bytes b) h = cc
 null_alone (list xs) h = cc
 null_alone (fields xs) h = cc
 null_alone (tagged n x) h = cc
+
+-- none of one fault
+no_fault : {E : Type 0} (b : Bool) (e : E) → cond b None (Some e) ≡ None → b ≡ true
+no_fault true e h = refl
+no_fault false e h = cc
+
+-- what is stored is as long as the type says
+pub long-primitive : (p : PType) (m : Nullability) (x : RowValue) → scalar_fault (primitive_type p m) x ≡ None → length (bytes_or_zeros (width p) x) ≡ width p
+long-primitive p m null h = length-replicate (width p) 0
+long-primitive p m (bytes b) h = eqb-true (length b) (width p) (no_fault _ _ h)
+long-primitive p m (bit b) h = cc
+long-primitive p m (list xs) h = cc
+long-primitive p m (fields xs) h = cc
+long-primitive p m (tagged k x) h = cc
+
+pub long-decimal : (d : DecimalValue) (m : Nullability) (x : RowValue) → scalar_fault (decimal_type d.precision d.scale d.width m) x ≡ None → length (bytes_or_zeros d.width x) ≡ d.width
+long-decimal d m null h = length-replicate d.width 0
+long-decimal d m (bytes b) h = eqb-true (length b) d.width (no_fault _ _ h)
+long-decimal d m (bit b) h = cc
+long-decimal d m (list xs) h = cc
+long-decimal d m (fields xs) h = cc
+long-decimal d m (tagged k x) h = cc
+
+-- what holds of a column holds of a result that is it
+pub of_column : {E : Type 0} (P : Column → Type 0) (r : Result Column E) (k : Column) → IfOk r (λ a. a ≡ k) → P k → IfOk r P
+of_column P (Ok a) k h p = subst P (sym h) p
+of_column P (Err e) k h p = h
+
+-- what a constructor makes, and that it makes something where there is no fault
+pub made : {T E : Type 0} (fault : Option E) (value a : T) → ok_unless fault value ≡ Ok a → a ≡ value
+made None value a h = cc
+made (Some e) value a h = cc
+
+pub not_refused : {T E : Type 0} (fault : Option E) (value : T) (e : E) → fault ≡ None → ok_unless fault value ≡ Err e → ⊥
+not_refused None value e n h = cc
+not_refused (Some f) value e n h = cc
+
+pub primitive_sound : (p : PrimitiveParts) (n : ℕ) (x : List ℕ) → p.width ≡ width p.ptype → p.records ≡ replicate n x → is_fitting p.valid n ≡ true → primitive_fault p ≡ None
+primitive_sound p n x w r f =
+    let long : length p.records ≡ n = ap length r ∙ length-replicate n x in
+    rw (eq-eqb (width p.ptype) p.width (sym w), long, f) refl
+
+pub decimal_sound : (p : DecimalParts) (n : ℕ) (x : List ℕ) → p.width ≡ p.decimal.width → p.records ≡ replicate n x → is_fitting p.valid n ≡ true → decimals_fault p ≡ None
+decimal_sound p n x w r f =
+    let long : length p.records ≡ n = ap length r ∙ length-replicate n x in
+    rw (eq-eqb p.decimal.width p.width (sym w), long, f) refl
 
 -- where no row is there, the stored ones don't show
 hidden : (n : ℕ) (x y : RowValue) → shown_rows (replicate n false) (replicate n x) ≡ shown_rows (replicate n false) (replicate n y)

@@ -2,18 +2,20 @@
 ghost use Rattle.std.specs.Prelude.{◌≡◌, length, replicate, true, IfOk};
 ghost use Rattle.vx_bits.specs.Records.{records_of, width_of};
 ghost use Rattle.vx_types.specs.Decimal.{is_width};
+ghost use Rattle.vx_types.specs.PType.{width};
 ghost use Rattle.vx_types.specs.RowValue.{null};
 ghost use Rattle.vx_types.specs.Scalar.{scalar_row};
 ghost use Rattle.vx_types.specs.TypeTree.{with_nullability};
 ghost use Rattle.vx_model.specs.Valid.{all_invalid, cover_by, is_fitting, is_flat_cover, nullability_by, present_bits, shown_rows};
 ghost use Rattle.vx_model.specs.Plain.{is_unwrapped};
 ghost use Rattle.vx_column.specs.Validity.{valid_of};
-ghost use Rattle.vx_flat.specs.Scalars.{bit_or_false, bytes_or_zeros};
+ghost use Rattle.vx_flat.specs.Scalars.{bit_or_false, bytes_or_zeros, copied_bits, copied_decimal, copied_primitive};
 
 use std::alloc::Global;
 use vx_bits::{BitBuffer, BitBuilder, Buffer, NoMemory, Records};
 use vx_column::{
-    Array, BoolArray, DType, DecimalArray, NullArray, PrimitiveArray, Scalar, ScalarValue, Validity,
+    Array, BoolArray, DType, DecimalArray, DecimalDType, NullArray, PType, PrimitiveArray, Scalar,
+    ScalarValue, Validity,
 };
 
 // So many bits, each the value's; false for a null.
@@ -80,6 +82,61 @@ fn value_records(
     }
 }
 
+// `len` copies of the value's bit, as a column with this validity.
+fn store_bits(
+    alloc: Global,
+    value: &ScalarValue,
+    len: usize,
+    validity: Validity,
+) -> Result<Array, NoMemory>
+    requires { is_fitting (valid_of validity) len ≡ true }
+    ensures { IfOk result
+        (λ a. a ≡ copied_bits (scalar_row value.now) len (valid_of validity)) }
+{
+    let bits = bits_alike(alloc, value, len)?;
+    Ok(BoolArray::of(bits, validity).into_array())
+}
+
+// `len` copies of the value's bytes, as a column of this primitive type with this validity.
+fn store_primitive(
+    alloc: Global,
+    ptype: PType,
+    value: &ScalarValue,
+    len: usize,
+    validity: Validity,
+) -> Result<Array, NoMemory>
+    requires fitting { is_fitting (valid_of validity) len ≡ true }
+    requires wide { length (bytes_or_zeros (width ptype) (scalar_row value.now)) ≡ width ptype }
+    ensures { IfOk result
+        (λ a. a ≡ copied_primitive ptype (scalar_row value.now) len (valid_of validity)) }
+{
+    let values = value_records(alloc, value, ptype.width(), len)?;
+    match PrimitiveArray::try_new(ptype, values, validity) {
+        Ok(array) => Ok(array.into_array()),
+        Err(_) => unreachable!(),
+    }
+}
+
+// The same of a decimal type.
+fn store_decimal(
+    alloc: Global,
+    decimal: DecimalDType,
+    value: &ScalarValue,
+    len: usize,
+    validity: Validity,
+) -> Result<Array, NoMemory>
+    requires fitting { is_fitting (valid_of validity) len ≡ true }
+    requires wide { length (bytes_or_zeros decimal.width (scalar_row value.now)) ≡ decimal.width }
+    ensures { IfOk result
+        (λ a. a ≡ copied_decimal decimal (scalar_row value.now) len (valid_of validity)) }
+{
+    let values = value_records(alloc, value, decimal.width() as usize, len)?;
+    match DecimalArray::try_new(decimal, values, validity) {
+        Ok(array) => Ok(array.into_array()),
+        Err(_) => unreachable!(),
+    }
+}
+
 /// `len` rows of one value, null where the validity says no, stored row by row. `NoMemory` alone.
 pub fn store_scalar(
     alloc: Global,
@@ -99,23 +156,8 @@ pub fn store_scalar(
     let value = scalar.value();
     match scalar.dtype() {
         DType::Null => Ok(NullArray::new(len).into_array()),
-        DType::Bool(_) => {
-            let bits = bits_alike(alloc, value, len)?;
-            Ok(BoolArray::of(bits, validity).into_array())
-        }
-        DType::Primitive(ptype, _) => {
-            let values = value_records(alloc, value, ptype.width(), len)?;
-            match PrimitiveArray::try_new(*ptype, values, validity) {
-                Ok(array) => Ok(array.into_array()),
-                Err(_) => unreachable!(),
-            }
-        }
-        DType::Decimal(decimal, _) => {
-            let values = value_records(alloc, value, decimal.width() as usize, len)?;
-            match DecimalArray::try_new(*decimal, values, validity) {
-                Ok(array) => Ok(array.into_array()),
-                Err(_) => unreachable!(),
-            }
-        }
+        DType::Bool(_) => store_bits(alloc, value, len, validity),
+        DType::Primitive(ptype, _) => store_primitive(alloc, *ptype, value, len, validity),
+        DType::Decimal(decimal, _) => store_decimal(alloc, *decimal, value, len, validity),
     }
 }

@@ -5,7 +5,7 @@ ghost use Rattle.vx_model.specs.Valid.{non_nullable};
 ghost use Rattle.vx_column.specs.Validity.{valid_of};
 ghost use Rattle.vx_pieces.specs.Pieces.{pieces_fault, pieces_of, pieces_parts};
 
-use crate::natural::{is_unsigned_column, natural_at};
+use crate::natural::natural_at;
 use crate::piece::Piece;
 use crate::slots::PiecewiseSequenceSlots;
 use std::marker::Model;
@@ -56,23 +56,15 @@ impl PiecewiseSequence {
         ensures { let parts = pieces_parts starts lengths multipliers len in
             result ≡ ok_unless (pieces_fault parts) parts }
     {
-        if !is_unsigned_column(&starts)
-            || !is_unsigned_column(&lengths)
-            || !is_unsigned_column(&multipliers)
-        {
-            return Err(ColumnError::WrongType);
+        let slots = PiecewiseSequenceSlots {
+            starts,
+            lengths,
+            multipliers,
+        };
+        match slots.fault() {
+            Some(fault) => Err(fault),
+            None => Ok(PiecewiseSequence { slots, len }),
         }
-        if lengths.len() != starts.len() || multipliers.len() != starts.len() {
-            return Err(ColumnError::WrongLength);
-        }
-        Ok(PiecewiseSequence {
-            slots: PiecewiseSequenceSlots {
-                starts,
-                lengths,
-                multipliers,
-            },
-            len,
-        })
     }
 
     /// The same of columns that are known to make a sequence.

@@ -1,8 +1,10 @@
 //! The columns of a piecewise sequence.
 ghost use Rattle.std.specs.Prelude.{◌≡◌};
+ghost use Rattle.vx_pieces.specs.Pieces.{pieces_fault, pieces_parts};
 
+use crate::natural::is_unsigned_column;
 use crate::sequence::PiecewiseSequence;
-use vx_column::ArrayRef;
+use vx_column::{ArrayRef, ColumnError};
 
 /// The columns of a piecewise sequence, each with a row a piece.
 #[derive(Drop)]
@@ -13,6 +15,26 @@ pub struct PiecewiseSequenceSlots {
     pub lengths: ArrayRef,
     /// How far apart the numbers of each piece are.
     pub multipliers: ArrayRef,
+}
+
+impl PiecewiseSequenceSlots {
+    // Why the columns make no sequence, of whichever declared length; none where they make one.
+    pub(crate) fn fault(&self) -> Option<ColumnError>
+        ensures { result ≡ pieces_fault
+            (pieces_parts self.now.starts self.now.lengths self.now.multipliers 0) }
+    {
+        let is_unsigned = is_unsigned_column(&self.starts)
+            && is_unsigned_column(&self.lengths)
+            && is_unsigned_column(&self.multipliers);
+        if !is_unsigned {
+            return Some(ColumnError::WrongType);
+        }
+        let len = self.starts.len();
+        if self.lengths.len() != len || self.multipliers.len() != len {
+            return Some(ColumnError::WrongLength);
+        }
+        None
+    }
 }
 
 /// Reads the columns of a piecewise sequence.

@@ -1,6 +1,6 @@
 -- The rows at picks of a column behind a decoder.
 use Rattle.std.proofs.Common.{◌≡◌, ℕ, ◌+◌, ◌<◌, ◌≤◌, Bool, true, false, List, [], ◌∷◌, length, map, take, drop, Option, Some, refl, sym, ap, ap₂, ◌∙◌, subst, arith}
-use Rattle.std.specs.Prelude.{slice_get, IsErrAnd, OnErr, Result, Ok, Err}
+use Rattle.std.specs.Prelude.{slice_get, IsErrAnd, OnErr, OnOk, Result, Ok, Err}
 use Rattle.std.proofs.lemmas.Bool.Decides.{nat_tests}
 use Rattle.vx_types.specs.Decimal.{is_width}
 use Rattle.std.specs.List.{All, items_where_true}
@@ -15,8 +15,6 @@ use Rattle.vx_mask.specs.Positions.{set_of}
 use Rattle.vx_mask.proofs.PositionLists.{length-positions, rank_within}
 use Rattle.vx_mask.proofs.RankedItems.{items_at_the_set}
 use Rattle.vx_take.specs.Picks.{at}
-use Rattle.vx_take.specs.Ranks.{AreSet, ranked}
-use Rattle.vx_take.proofs.TakenLists.{looked_up}
 use Rattle.vx_model.specs.Column.{Column}
 use Rattle.vx_model.specs.Valid.{Valid, is_fitting, present_bits, stored_rows, IsLeft}
 use Rattle.vx_model.proofs.StoredRows.{length-stored_rows}
@@ -33,7 +31,7 @@ use Rattle.vx_steps.specs.Compose.{IsFaultOf, IsUnbroken, takes_nullability}
 use Rattle.vx_steps.proofs.ComposedPicks.{either-either, either-none}
 use Rattle.vx_select.specs.Select.{IsAnswer, IsRows}
 use Rattle.vx_steps.specs.Shape.{ShapeValue}
-use Rattle.vx_select.specs.Chunks.{chunk_rows}
+use Rattle.vx_select.specs.Chunks.{chunk_rows, chunk_values}
 
 -- ---- the values that are kept
 
@@ -57,10 +55,10 @@ kept_count kept f bits h =
     sym (length-map kept Some) ∙ ap length h ∙ length-map (set_of bits) f ∙ length-positions 0 bits
 
 module _ {X : Type 0} (values : List X) (offset len : ℕ) (inside : offset + len ≤ length values) where
-  length-part : length (take len (drop offset values)) ≡ len
+  pub length-part : length (take len (drop offset values)) ≡ len
   length-part = length-take-le len (drop offset values) (omega (arith, length-drop offset values))
 
-  kept_items : (kept : List X) (bits : List Bool) → length bits ≡ len → map Some kept ≡ map (λ p. slice_get values (offset + p)) (set_of bits) → kept ≡ items_where_true bits (take len (drop offset values))
+  pub kept_items : (kept : List X) (bits : List Bool) → length bits ≡ len → map Some kept ≡ map (λ p. slice_get values (offset + p)) (set_of bits) → kept ≡ items_where_true bits (take len (drop offset values))
   kept_items kept bits long h =
       let part = take len (drop offset values) in
       same_items kept (items_where_true bits part)
@@ -79,7 +77,11 @@ some_same a b h = cc
 pub is_width-by : (o : Option ℕ) (a w : ℕ) → o ≡ Some w → o ≡ Some a → is_width a ≡ true → is_width w ≡ true
 is_width-by o a w h k is = let P : ℕ → Type 0 = λ n. is_width n ≡ true in subst P (some_same a w (sym k ∙ h)) is
 
--- what holds at any rate holds after an error
+-- what holds at any rate holds after a value, and after an error
+pub on_ok : {T E : Type 0} {P : Type 0} (r : Result T E) → P → OnOk r P
+on_ok (Ok x) p = p
+on_ok (Err e) p = tt
+
 pub on_err : {T E : Type 0} {P : Type 0} (r : Result T E) → P → OnErr r P
 on_err (Ok x) p = tt
 on_err (Err e) p = p
@@ -95,19 +97,15 @@ module _ (s : ShapeValue) (values : List (List ℕ)) (inside : s.offset + s.len 
       let P : ℕ → Type 0 = λ n. is_fitting s.valid n ≡ true in
       length-stored_rows s.valid items (subst P (sym long) fit) ∙ long
 
-  module _ (w : Valid) (n : Nullability) (picks : List (Option ℕ)) (bound : ℕ) (bits : List Bool) (whole : bound ≡ s.len) (long : length bits ≡ bound) (set : AreSet bits picks) where
-    -- the kept records at the ranks, with what is left of the validity
-    pub taken_rows : (kept records : List (List ℕ)) (missing : List ℕ) → IsLeft s.valid n (at false (present_bits s.valid bound) picks) w → map Some kept ≡ map (λ p. slice_get values (s.offset + p)) (set_of bits) → records ≡ at missing kept (ranked bits picks) → stored_rows w (map bytes records) ≡ at null (chunk_rows s values) picks
-    taken_rows kept records missing left h is =
-        let part = take s.len (drop s.offset values) in
-        let count = length-part values s.offset s.len inside in
-        let same : records ≡ at missing part picks =
-        is ∙ ap (λ l. at missing l (ranked bits picks)) (kept_items values s.offset s.len inside kept bits (long ∙ whole) h)
-        ∙ sym (looked_up missing bits part picks (long ∙ whole ∙ sym count) set) in
-        let P : ℕ → Type 0 = λ m. is_fitting s.valid m ≡ true in
-        let Q : ℕ → Type 0 = λ m. IsLeft s.valid n (at false (present_bits s.valid m) picks) w in
-        ap (λ l. stored_rows w (map bytes l)) same
-        ∙ take-stored bytes missing part s.valid w n (subst P (sym count) fit) picks (subst Q (whole ∙ sym count) left)
+  -- the records at the picks, with what is left of the validity
+  pub taken_rows : (w : Valid) (n : Nullability) (picks : List (Option ℕ)) (bound : ℕ) → bound ≡ s.len → (records : List (List ℕ)) (missing : List ℕ) → IsLeft s.valid n (at false (present_bits s.valid bound) picks) w → records ≡ at missing (chunk_values s values) picks → stored_rows w (map bytes records) ≡ at null (chunk_rows s values) picks
+  taken_rows w n picks bound whole records missing left same =
+      let part = chunk_values s values in
+      let count = length-part values s.offset s.len inside in
+      let P : ℕ → Type 0 = λ m. is_fitting s.valid m ≡ true in
+      let Q : ℕ → Type 0 = λ m. IsLeft s.valid n (at false (present_bits s.valid m) picks) w in
+      ap (λ l. stored_rows w (map bytes l)) same
+      ∙ take-stored bytes missing part s.valid w n (subst P (sym count) fit) picks (subst Q (whole ∙ sym count) left)
 
 -- ---- the type
 

@@ -1,11 +1,14 @@
 //! The answer to a list of steps over values behind a decoder.
 ghost use Rattle.std.specs.Prelude.{◌≡◌, ◌+◌, ◌<◌, ◌≤◌, IfErr, IfOk, IfSome, OnErr, OnOk, Some, length, map, replicate, true};
+ghost use Rattle.std.specs.List.{items_where_true};
+ghost use Rattle.vx_bits.specs.BitBuffer.{true_count_of};
 ghost use Rattle.vx_bits.specs.Records.{records_of, width_of};
 ghost use Rattle.vx_bits.specs.WordReader.{then_told};
 ghost use Rattle.vx_types.specs.Decimal.{is_width};
 ghost use Rattle.vx_types.specs.DType.{type_of};
 ghost use Rattle.vx_types.specs.RowValue.{bytes, null};
 ghost use Rattle.vx_types.specs.TypeTree.{also_nullable, is_flat, type_width, with_nullability};
+ghost use Rattle.vx_mask.specs.Mask.{mask_bits};
 ghost use Rattle.vx_mask.specs.Policy.{sparse_limit_of};
 ghost use Rattle.vx_model.specs.Plain.{is_unwrapped};
 ghost use Rattle.vx_model.specs.Valid.{cover_by, is_fitting, is_flat_cover, nullability_by, stored_rows};
@@ -19,14 +22,14 @@ ghost use Rattle.vx_steps.specs.Walk.{walk};
 ghost use Rattle.vx_steps.specs.Answer.{answer_of};
 ghost use Rattle.vx_steps.specs.Cause.{MatchError};
 ghost use Rattle.vx_select.specs.Select.{IsAnswer};
-ghost use Rattle.vx_select.specs.Chunks.{AreNoneOrAll, asked_by_walk, asked_for, chunk_rows};
+ghost use Rattle.vx_select.specs.Chunks.{AreNoneOrAll, asked_at, asked_by_walk, asked_for, chunk_rows, chunk_values};
 
 use std::alloc::Global;
 use vx_bits::{Buffer, NoMemory, Records};
 use vx_chunked::{ChunkDecoder, filter_chunked_mask};
 use vx_column::{Array, DType, DecimalArray, Nullability, PrimitiveArray, Validity};
 use vx_dispatch::take_validity;
-use vx_mask::Policy;
+use vx_mask::{Mask, Policy};
 use vx_steps::{ChunkShape, SelectError, Step, compose, takes_nullability};
 use vx_take::{Picks, needed, ranks_in};
 
@@ -109,6 +112,63 @@ fn column_of(dtype: &DType, values: Records, validity: Validity) -> Array
     }
 }
 
+// The records at the ranks among the values at the set positions of `mask`, and zeros at a null.
+fn ranked_records<const W: usize, D: ChunkDecoder<[u8; W]>>(
+    alloc: Global,
+    decoder: &mut D,
+    shape: &ChunkShape,
+    mask: &Mask,
+    ranks: &Picks,
+    policy: &Policy,
+) -> Result<Records, NoMemory>
+    requires width { is_width W ≡ true }
+    requires values { shape.now.offset + shape.now.len ≤ length (D.values decoder.old) }
+    requires spare { touched shape.now.offset shape.now.len ≤ D.spare decoder.old }
+    requires long { length (mask_bits mask.now) ≡ shape.now.len }
+    requires ranks { ranks.now.bound ≡ true_count_of (mask_bits mask.now) }
+    ensures records { IfOk result (λ r. records_of r ≡ at (replicate W 0) (items_where_true
+        (mask_bits mask.now) (chunk_values shape.now (D.values decoder.old))) ranks.now.picks) }
+    ensures width { IfOk result (λ r. width_of r ≡ W) }
+    ensures told { OnOk result (D.calls decoder.new ≡ then_told (D.calls decoder.old)
+        (asked_at shape.now (sparse_limit_of policy.now W) (mask_bits mask.now))) }
+    ensures untold { OnErr result (AreNoneOrAll (D.calls decoder.old) (D.calls decoder.new)
+        (asked_at shape.now (sparse_limit_of policy.now W) (mask_bits mask.now))) }
+    ensures same { D.values decoder.new ≡ D.values decoder.old }
+    ensures cost { D.spare decoder.old
+        ≤ D.spare decoder.new + touched shape.now.offset shape.now.len }
+{
+    let kept = filter_chunked_mask(alloc, decoder, shape.offset(), mask, policy)?;
+    taken_records(alloc, kept.as_slice(), ranks)
+}
+
+// The records at the picks of the column of this shape, and zeros at a null.
+fn picked_records<const W: usize, D: ChunkDecoder<[u8; W]>>(
+    alloc: Global,
+    decoder: &mut D,
+    shape: &ChunkShape,
+    picks: &Picks,
+    policy: &Policy,
+) -> Result<Records, NoMemory>
+    requires width { is_width W ≡ true }
+    requires values { shape.now.offset + shape.now.len ≤ length (D.values decoder.old) }
+    requires spare { touched shape.now.offset shape.now.len ≤ D.spare decoder.old }
+    requires bound { picks.now.bound ≡ shape.now.len }
+    ensures records { IfOk result (λ r. records_of r
+        ≡ at (replicate W 0) (chunk_values shape.now (D.values decoder.old)) picks.now.picks) }
+    ensures width { IfOk result (λ r. width_of r ≡ W) }
+    ensures told { OnOk result (D.calls decoder.new ≡ then_told (D.calls decoder.old)
+        (asked_for shape.now (sparse_limit_of policy.now W) picks.now.picks)) }
+    ensures untold { OnErr result (AreNoneOrAll (D.calls decoder.old) (D.calls decoder.new)
+        (asked_for shape.now (sparse_limit_of policy.now W) picks.now.picks)) }
+    ensures same { D.values decoder.new ≡ D.values decoder.old }
+    ensures cost { D.spare decoder.old
+        ≤ D.spare decoder.new + touched shape.now.offset shape.now.len }
+{
+    let mask = needed(alloc, picks)?;
+    let ranks = ranks_in(alloc, picks, &mask)?;
+    ranked_records(alloc, decoder, shape, &mask, &ranks, policy)
+}
+
 // The rows at the picks of the column of this shape, null at a null, which there is only where
 // `nullability` says so.
 fn take_chunked<const W: usize, D: ChunkDecoder<[u8; W]>>(
@@ -137,12 +197,9 @@ fn take_chunked<const W: usize, D: ChunkDecoder<[u8; W]>>(
         ≤ D.spare decoder.new + touched shape.now.offset shape.now.len }
 {
     let validity = take_validity(alloc, shape.validity(), picks, nullability, policy)?;
-    let mask = needed(alloc, picks)?;
-    let ranks = ranks_in(alloc, picks, &mask)?;
     // records are of the type's width
     let _ = shape.width();
-    let kept = filter_chunked_mask(alloc, decoder, shape.offset(), &mask, policy)?;
-    let values = taken_records(alloc, kept.as_slice(), &ranks)?;
+    let values = picked_records(alloc, decoder, shape, picks, policy)?;
     Ok(column_of(shape.dtype(), values, validity))
 }
 

@@ -17,10 +17,10 @@ use Rattle.std.proofs.lemmas.List.{length-replicate}
 use Rattle.std.proofs.Common.{map}
 use Rattle.vx_mask.specs.Mask.{mask_bits}
 use Rattle.vx_mask.specs.Positions.{rank_of, set_of}
-use Rattle.vx_model.specs.Dict.{dict_column, dict_with}
 use Rattle.vx_model.proofs.Items.{items_where_true-all, items_where_true-none}
 use Rattle.vx_model.proofs.LazyRows.{length-filter}
 use Rattle.vx_model.proofs.LazySteps.{dict_fault-filter, is_filter-dict, is_filter-filter}
+use Rattle.vx_dispatch.proofs.Results.{weaker}
 use Rattle.vx_dispatch.proofs.+filter.Goals as goal
 
 pub boolean::filter_of-filter_bool-requires-clause-fitting : goal.boolean::filter_of-filter_bool-requires-clause-fitting
@@ -101,34 +101,35 @@ pub validity::filter_validity-returns-in-AllInvalid-clause-left : goal.validity:
 validity::filter_validity-returns-in-AllInvalid-clause-left t c =
     rw c.in-AllInvalid.is (is_left-filter all_invalid c.args.mask.now.bits.bits refl refl)
 
-pub validity::filter_validity-returns-in_ok-into_ref-in-Array-clause-left : goal.validity::filter_validity-returns-in_ok-into_ref-in-Array-clause-left
-validity::filter_validity-returns-in_ok-into_ref-in-Array-clause-left t c =
+pub validity::filter_validity-returns-in_ok-filter_values-in-Array-clause-left : goal.validity::filter_validity-returns-in_ok-filter_values-in-Array-clause-left
+validity::filter_validity-returns-in_ok-filter_values-in-Array-clause-left t c =
     let a = c.in-Array.array in let mask = c.args.mask.now.bits.bits in
     let fit : is_fitting (by_column a) (length mask) ≡ true = rw c.in-Array.is at c.requires in
-    let cut : IsCut a (items_where_true mask a.rows) c.in_ok-kept-in-Array.kept = rw c.deref.ensures at c.in_ok-kept-in-Array.ensures.cut in
-    rw (c.in-Array.is, c.in_ok-into_ref-in-Array.ensures) (is_left-filter-by_column a c.in_ok-kept-in-Array.kept mask fit cut)
+    let kept = c.in_ok-filter_values-in-Array.field-0 in
+    let cut : IsCut a (items_where_true mask a.rows) kept = rw c.deref.ensures at c.in_ok-filter_values-in-Array.ensures.cut in
+    let left = is_left-filter-by_column a kept mask fit cut in
+    rw c.in-Array.is (weaker c.of_column.result c.of_column.ensures (λ v is. rw is left))
 
-pub dict::filter_of-with_codes-requires : goal.dict::filter_of-with_codes-requires
-dict::filter_of-with_codes-requires t c =
+pub dict::filter_of-recoded-requires : goal.dict::filter_of-recoded-requires
+dict::filter_of-recoded-requires t c =
     let p = c.args.array.now in let codes = c.in_ok-codes.codes in let mask = c.args.mask.now.bits.bits in
     let cut : IsCut p.codes (items_where_true mask p.codes.rows) codes = rw (c.deref.ensures ∙ c.codes.ensures.value) at c.in_ok-codes.ensures.cut in
-    rw c.in_ok-into_ref.ensures (dict_fault-filter p codes mask c.codes.ensures.valid cut)
+    dict_fault-filter p codes mask c.codes.ensures.valid cut
 
 pub dict::filter_of-returns : goal.dict::filter_of-returns
 dict::filter_of-returns t c =
     let p = c.args.array.now in let codes = c.in_ok-codes.codes in let mask = c.args.mask.now.bits.bits in
     let cut : IsCut p.codes (items_where_true mask p.codes.rows) codes = rw (c.deref.ensures ∙ c.codes.ensures.value) at c.in_ok-codes.ensures.cut in
-    rw (c.into_array.ensures ∙ ap dict_column (c.with_codes.ensures ∙ ap (dict_with p) c.in_ok-into_ref.ensures))
-    (is_filter-dict p codes mask c.codes.ensures.valid cut)
+    weaker c.recoded.result c.recoded.ensures (λ a is. rw is (is_filter-dict p codes mask c.codes.ensures.valid cut))
 
 pub filter_layout::filter_of-returns : goal.filter_layout::filter_of-returns
 filter_layout::filter_of-returns t c =
     let p = c.args.array.now in let other = c.args.mask.now.bits.bits in let both = mask_bits c.in_ok-both.both in
     let sound = c.child-child.ensures.valid in let same = c.mask.ensures.value in
-    let cut : IsCut p.child (items_where_true both p.child.rows) c.in_ok-kept.kept = rw (c.deref.ensures ∙ c.child-child.ensures.value) at c.in_ok-kept.ensures.cut in
     let set : set_of both ≡ map (rank_of p.mask) (set_of other) = rw same at c.in_ok-both.ensures.set in
     let long : length both ≡ length p.mask = rw same at c.in_ok-both.ensures.len in
-    is_filter-filter p other both c.in_ok-kept.kept sound (c.requires ∙ length-filter p sound) set long cut
+    let child = c.deref.ensures ∙ c.child-child.ensures.value in
+    weaker c.filter.result c.filter.ensures.cut (λ kept cut. is_filter-filter p other both kept sound (c.requires ∙ length-filter p sound) set long (rw child at cut))
 
 pub filtering::filter-returns-in-AllTrue-clause-cut : goal.filtering::filter-returns-in-AllTrue-clause-cut
 filtering::filter-returns-in-AllTrue-clause-cut t c =
@@ -145,16 +146,7 @@ filtering::filter-returns-in-AllTrue-clause-cut t c =
       depth = rw c.share.ensures (omega arith);
     }
 
-pub filtering::filter-returns-in_ok-none-in-AllFalse-clause-cut : goal.filtering::filter-returns-in_ok-none-in-AllFalse-clause-cut
-filtering::filter-returns-in_ok-none-in-AllFalse-clause-cut t c =
-    let cut = c.in_ok-none-in-AllFalse.ensures.cut in
-    record {
-      step = record {
-        rows = cut.step.rows ∙ rw c.in-AllFalse.is (items_where_true-none c.in-AllFalse.field-0 c.args.array.now.rows);
-        dtype = cut.step.dtype;
-        layout = cut.step.layout;
-        unwrapped = cut.step.unwrapped;
-      };
-      plain = cut.plain;
-      depth = cut.depth;
-    }
+pub filtering::filter-returns-in-AllFalse-clause-cut : goal.filtering::filter-returns-in-AllFalse-clause-cut
+filtering::filter-returns-in-AllFalse-clause-cut t c =
+    let none = items_where_true-none c.in-AllFalse.field-0 c.args.array.now.rows in
+    rw c.in-AllFalse.is (rw (← none) c.slice.ensures.cut)

@@ -14,9 +14,9 @@ use Rattle.vx_column.specs.Validity.{valid_of}
 use Rattle.std.proofs.Common.{take, Bool}
 use Rattle.vx_bits.specs.BitBuffer.{true_count_of}
 use Rattle.vx_model.specs.Column.{Column}
-use Rattle.vx_model.specs.Dict.{dict_column, dict_with}
 use Rattle.vx_model.specs.Filter.{filter_column}
 use Rattle.vx_model.proofs.LazySteps.{dict_fault-slice, is_slice-dict, is_slice-filter}
+use Rattle.vx_dispatch.proofs.Results.{weaker}
 use Rattle.vx_dispatch.proofs.+slice.Goals as goal
 
 pub boolean::slice_of-returns-clause-cut : goal.boolean::slice_of-returns-clause-cut
@@ -77,25 +77,26 @@ pub validity::slice_validity-returns-in-AllInvalid-clause-left : goal.validity::
 validity::slice_validity-returns-in-AllInvalid-clause-left t c =
     rw c.in-AllInvalid.is (is_left-slice all_invalid c.args.len c.args.start c.args.end refl c.requires.ordered c.requires.within refl)
 
-pub validity::slice_validity-returns-in_ok-into_ref-in-Array-clause-left : goal.validity::slice_validity-returns-in_ok-into_ref-in-Array-clause-left
-validity::slice_validity-returns-in_ok-into_ref-in-Array-clause-left t c =
+pub validity::slice_validity-returns-in_ok-slice-in-Array-clause-left : goal.validity::slice_validity-returns-in_ok-slice-in-Array-clause-left
+validity::slice_validity-returns-in_ok-slice-in-Array-clause-left t c =
     let a = c.in-Array.array in let s = c.args.start in let e = c.args.end in
     let fit : is_fitting (by_column a) c.args.len ≡ true = rw c.in-Array.is at c.requires.fitting in
-    let cut : IsSlice a s e c.in_ok-part-in-Array.part = rw c.deref.ensures at c.in_ok-part-in-Array.ensures.cut in
-    rw (c.in-Array.is, c.in_ok-into_ref-in-Array.ensures) (is_left-slice-by_column a c.in_ok-part-in-Array.part c.args.len s e fit c.requires.ordered c.requires.within cut)
+    let part = c.in_ok-slice-in-Array.field-0 in
+    let cut : IsSlice a s e part = rw c.deref.ensures at c.in_ok-slice-in-Array.ensures.cut in
+    let left = is_left-slice-by_column a part c.args.len s e fit c.requires.ordered c.requires.within cut in
+    rw c.in-Array.is (weaker c.of_column.result c.of_column.ensures (λ v is. rw is left))
 
-pub dict::slice_of-with_codes-requires : goal.dict::slice_of-with_codes-requires
-dict::slice_of-with_codes-requires t c =
+pub dict::slice_of-recoded-requires : goal.dict::slice_of-recoded-requires
+dict::slice_of-recoded-requires t c =
     let p = c.args.array.now in let codes = c.in_ok-codes.codes in
     let cut : IsSlice p.codes c.args.start c.args.end codes = rw (c.deref.ensures ∙ c.codes.ensures.value) at c.in_ok-codes.ensures.cut in
-    rw c.in_ok-into_ref.ensures (dict_fault-slice p codes c.args.start c.args.end c.codes.ensures.valid cut)
+    dict_fault-slice p codes c.args.start c.args.end c.codes.ensures.valid cut
 
 pub dict::slice_of-returns : goal.dict::slice_of-returns
 dict::slice_of-returns t c =
     let p = c.args.array.now in let codes = c.in_ok-codes.codes in
     let cut : IsSlice p.codes c.args.start c.args.end codes = rw (c.deref.ensures ∙ c.codes.ensures.value) at c.in_ok-codes.ensures.cut in
-    rw (c.into_array.ensures ∙ ap dict_column (c.with_codes.ensures ∙ ap (dict_with p) c.in_ok-into_ref.ensures))
-    (is_slice-dict p codes c.args.start c.args.end c.codes.ensures.valid cut)
+    weaker c.recoded.result c.recoded.ensures (λ a is. rw is (is_slice-dict p codes c.args.start c.args.end c.codes.ensures.valid cut))
 
 pub filter_layout::slice_of-returns : goal.filter_layout::slice_of-returns
 filter_layout::slice_of-returns t c =

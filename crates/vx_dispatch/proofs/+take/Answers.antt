@@ -14,14 +14,15 @@ use Rattle.std.specs.Prelude.{is_some}
 use Rattle.vx_types.specs.declared.nullability.Nullability.TheVariants.{Nullable}
 use Rattle.vx_column.specs.Layout.{column_of}
 use Rattle.std.proofs.Common.{ap₂}
-use Rattle.vx_take.specs.Ranks.{translated}
-use Rattle.vx_model.specs.Dict.{dict_column, dict_with}
+use Rattle.vx_model.specs.Dict.{dict_with}
 use Rattle.vx_model.specs.Step.{IsTake}
 use Rattle.vx_model.specs.Column.{Column}
 use Rattle.vx_model.specs.Numbers.{numbers_of}
 use Rattle.vx_numbers.specs.Positions.{positions_of}
-use Rattle.vx_model.proofs.LazyBits.{sound-taken, bits-dict, bits-filter}
+use Rattle.vx_model.proofs.LazyBits.{bits-dict, bits-filter}
 use Rattle.vx_model.proofs.LazySteps.{dict_fault-take, is_take-dict, is_take-filter}
+use Rattle.vx_dispatch.proofs.Codes.{codes-no_fault}
+use Rattle.vx_dispatch.proofs.Results.{weaker}
 use Rattle.vx_dispatch.proofs.+take.Goals as goal
 
 pub boolean::take_of-returns : goal.boolean::take_of-returns
@@ -58,15 +59,15 @@ pub validity::take_validity-returns-in-AllInvalid-default-clause-left : goal.val
 validity::take_validity-returns-in-AllInvalid-default-clause-left t c =
     rw c.in-AllInvalid-default.is-0 (is_left-take-none c.args.nullability c.args.picks.now.bound c.args.picks.now.picks)
 
-pub validity::take_validity-returns-in_ok-by_bits-in-Array-default-clause-left : goal.validity::take_validity-returns-in_ok-by_bits-in-Array-default-clause-left
-validity::take_validity-returns-in_ok-by_bits-in-Array-default-clause-left t c =
+pub validity::take_validity-returns-in_ok-taken_bits-in-Array-default-clause-left : goal.validity::take_validity-returns-in_ok-taken_bits-in-Array-default-clause-left
+validity::take_validity-returns-in_ok-taken_bits-in-Array-default-clause-left t c =
     let a = c.in-Array-default in let p = c.args.picks.now in let n = c.args.nullability in
     let is : valid_of c.args.validity.now ≡ by_column a.array = ap valid_of a.is-0 in
     let bits = c.in_ok-taken_bits-in-Array-default.field-0 in
-    left_by_bits (valid_of c.args.validity.now) _ n p.bound p.picks bits.bits bits.offset
+    weaker c.by_bits.result c.by_bits.ensures (λ v h. left_by_bits (valid_of c.args.validity.now) (valid_of v) n p.bound p.picks bits.bits bits.offset
     (ap (λ (v : Valid). either_nullable (nullability_by v) n) is)
     (c.in_ok-taken_bits-in-Array-default.ensures ∙ ap (λ x. at false (map is_yes x.rows) p.picks) c.deref.ensures ∙ ap (λ (v : Valid). at false (present_bits v p.bound) p.picks) (sym is))
-    c.in_ok-by_bits-in-Array-default.ensures
+    h)
 
 pub validity::take_validity-returns-in-NonNullable-NonNullable-clause-left : goal.validity::take_validity-returns-in-NonNullable-NonNullable-clause-left
 validity::take_validity-returns-in-NonNullable-NonNullable-clause-left t c =
@@ -82,68 +83,63 @@ validity::take_validity-returns-in-AllValid-NonNullable-clause-left t c =
     let below : AreBelow p.picks p.bound = subst (AreBelow p.picks) c.bound.ensures.value c.bound.ensures.below in
     rw is (left_the_same all_valid all_valid n p.bound p.picks refl (λ k. refl) (λ k. refl) refl below (c.requires.there a.is-1) refl)
 
-pub validity::take_validity-returns-in_ok-by_picks-in-NonNullable-Nullable-clause-left : goal.validity::take_validity-returns-in_ok-by_picks-in-NonNullable-Nullable-clause-left
-validity::take_validity-returns-in_ok-by_picks-in-NonNullable-Nullable-clause-left t c =
+pub validity::take_validity-returns-in-NonNullable-Nullable-clause-left : goal.validity::take_validity-returns-in-NonNullable-Nullable-clause-left
+validity::take_validity-returns-in-NonNullable-Nullable-clause-left t c =
     let a = c.in-NonNullable-Nullable in let p = c.args.picks.now in let n = c.args.nullability in
     let is : valid_of c.args.validity.now ≡ non_nullable = ap valid_of a.is-0 in
     let below : AreBelow p.picks p.bound = subst (AreBelow p.picks) c.bound.ensures.value c.bound.ensures.below in
-    rw is (left_by_bits non_nullable _ n p.bound p.picks (map is_some p.picks) 0 (ap (either_nullable (nullability_by non_nullable)) a.is-1) (all_there p.bound p.picks below) c.in_ok-by_picks-in-NonNullable-Nullable.ensures)
+    rw is (weaker c.by_picks.result c.by_picks.ensures (λ v. left_by_bits non_nullable (valid_of v) n p.bound p.picks (map is_some p.picks) 0 (ap (either_nullable (nullability_by non_nullable)) a.is-1) (all_there p.bound p.picks below)))
 
-pub validity::take_validity-returns-in_ok-by_picks-in-AllValid-Nullable-clause-left : goal.validity::take_validity-returns-in_ok-by_picks-in-AllValid-Nullable-clause-left
-validity::take_validity-returns-in_ok-by_picks-in-AllValid-Nullable-clause-left t c =
+pub validity::take_validity-returns-in-AllValid-Nullable-clause-left : goal.validity::take_validity-returns-in-AllValid-Nullable-clause-left
+validity::take_validity-returns-in-AllValid-Nullable-clause-left t c =
     let a = c.in-AllValid-Nullable in let p = c.args.picks.now in let n = c.args.nullability in
     let is : valid_of c.args.validity.now ≡ all_valid = ap valid_of a.is-0 in
     let below : AreBelow p.picks p.bound = subst (AreBelow p.picks) c.bound.ensures.value c.bound.ensures.below in
-    rw is (left_by_bits all_valid _ n p.bound p.picks (map is_some p.picks) 0 refl (all_there p.bound p.picks below) c.in_ok-by_picks-in-AllValid-Nullable.ensures)
+    rw is (weaker c.by_picks-in-AllValid-Nullable.result c.by_picks-in-AllValid-Nullable.ensures (λ v. left_by_bits all_valid (valid_of v) n p.bound p.picks (map is_some p.picks) 0 refl (all_there p.bound p.picks below)))
 
-pub validity::taken_bits-returns-in_ok-gather_bits-in-Bool : goal.validity::taken_bits-returns-in_ok-gather_bits-in-Bool
-validity::taken_bits-returns-in_ok-gather_bits-in-Bool t c =
+pub validity::taken_bits-returns-in-Bool : goal.validity::taken_bits-returns-in-Bool
+validity::taken_bits-returns-in-Bool t c =
     let p = c.in-Bool.a in let picks = c.args.picks.now.picks in
     let same : bool_column p ≡ c.args.array.now = ap column_of (sym c.in-Bool.is) ∙ c.layout.ensures in
     let bools : is_non_null_bool (bool_column p).dtype ≡ true = ap (λ x. is_non_null_bool x.dtype) same ∙ c.requires.bools in
-    ap (λ b. b.bits) c.in_ok-gather_bits-in-Bool.ensures
-    ∙ ap (λ b. at false b picks) (ap (λ x. x.bits) c.bits.ensures.bits ∙ sym (yes-bool p bools) ∙ ap (λ x. map is_yes x.rows) same)
+    let rows = ap (λ b. at false b picks) (ap (λ x. x.bits) c.bits.ensures.bits ∙ sym (yes-bool p bools) ∙ ap (λ x. map is_yes x.rows) same) in
+    weaker c.gather_bits.result c.gather_bits.ensures (λ b h. ap (λ b. b.bits) h ∙ rows)
 
-pub dict::take_of-with_codes-requires : goal.dict::take_of-with_codes-requires
-dict::take_of-with_codes-requires t c =
+pub dict::take_of-recoded-requires : goal.dict::take_of-recoded-requires
+dict::take_of-recoded-requires t c =
     let p = c.args.array.now in let codes = c.in_ok-codes.codes in let picks = c.args.picks.now.picks in let n = c.args.nullability in
     let taken : IsTake p.codes picks n codes = rw (c.deref.ensures ∙ c.codes.ensures.value) at c.in_ok-codes.ensures in
-    rw c.in_ok-into_ref.ensures (dict_fault-take p codes picks n c.codes.ensures.valid taken)
+    dict_fault-take p codes picks n c.codes.ensures.valid taken
 
 pub dict::take_of-returns : goal.dict::take_of-returns
 dict::take_of-returns t c =
     let p = c.args.array.now in let codes = c.in_ok-codes.codes in let picks = c.args.picks.now.picks in let n = c.args.nullability in
     let taken : IsTake p.codes picks n codes = rw (c.deref.ensures ∙ c.codes.ensures.value) at c.in_ok-codes.ensures in
-    rw (c.into_array.ensures ∙ ap dict_column (c.with_codes.ensures ∙ ap (dict_with p) c.in_ok-into_ref.ensures))
-    (is_take-dict p codes picks n c.codes.ensures.valid taken)
+    weaker c.recoded.result c.recoded.ensures (λ a is. rw is (is_take-dict p codes picks n c.codes.ensures.valid taken))
 
 pub filter_layout::take_of-returns : goal.filter_layout::take_of-returns
 filter_layout::take_of-returns t c =
     let p = c.args.array.now in let picks = c.args.picks.now.picks in let n = c.args.nullability in
-    let a = c.in_ok-taken.taken in
-    let at_child : IsTake p.child c.in_ok-positions.positions.picks n a = rw (c.deref.ensures ∙ c.child-child.ensures.value) at c.in_ok-taken.ensures in
-    let taken : IsTake p.child (translated p.mask picks) n a = rw c.in_ok-positions.ensures.picks at at_child in
-    is_take-filter p picks n a c.child-child.ensures.valid c.child_picks.ensures.below taken
+    let child = c.deref.ensures ∙ c.child-child.ensures.value in
+    weaker c.take_picks.result c.take_picks.ensures (λ a taken. is_take-filter p picks n a c.child-child.ensures.valid c.child_picks.ensures.below (rw (child, c.in_ok-positions.ensures.picks) at taken))
 
-pub dict::bits_of-positions-requires-clause-sound : goal.dict::bits_of-positions-requires-clause-sound
-dict::bits_of-positions-requires-clause-sound t c =
+pub dict::bits_of-column_picks-requires : goal.dict::bits_of-column_picks-requires
+dict::bits_of-column_picks-requires t c =
     let p = c.args.array.now in let codes = c.in_ok-codes.codes in let picks = c.args.picks.now.picks in
     let taken : IsTake p.codes picks Nullable codes = rw (c.deref.ensures ∙ c.codes.ensures.value) at c.in_ok-codes.ensures in
-    rw (c.len.ensures ∙ ap (λ (x : Column). length x.rows) (c.deref-in-Some.ensures ∙ c.values-values.ensures.value))
-    (sound-taken p codes picks Nullable c.codes.ensures.valid taken)
+    rw (c.len.ensures ∙ ap (λ (x : Column). length x.rows) (c.deref-2.ensures ∙ c.values-values.ensures.value))
+    (codes-no_fault (dict_with p codes) (dict_fault-take p codes picks Nullable c.codes.ensures.valid taken))
 
 pub dict::bits_of-returns : goal.dict::bits_of-returns
 dict::bits_of-returns t c =
     let p = c.args.array.now in let codes = c.in_ok-codes.codes in let picks = c.args.picks.now.picks in
     let taken : IsTake p.codes picks Nullable codes = rw (c.deref.ensures ∙ c.codes.ensures.value) at c.in_ok-codes.ensures in
-    let named : c.in_ok-named-in-Some.named.picks ≡ positions_of (numbers_of codes) = ap (λ x. x.picks) c.in_ok-named-in-Some.ensures.picks in
-    c.in_ok-bits-in-Some.ensures
-    ∙ ap₂ (λ (x : Column) l. at false (map is_yes x.rows) l) (c.deref-in-Some-2.ensures ∙ c.values-values.ensures.value) named
-    ∙ bits-dict p codes picks Nullable taken
+    let named : c.in_ok-named.named.picks ≡ positions_of (numbers_of codes) = ap (λ x. x.picks) c.in_ok-named.ensures.picks in
+    let rows = ap₂ (λ (x : Column) l. at false (map is_yes x.rows) l) (c.deref-3.ensures ∙ c.values-values.ensures.value) named in
+    weaker c.taken_bits.result c.taken_bits.ensures (λ b h. h ∙ rows ∙ bits-dict p codes picks Nullable taken)
 
 pub filter_layout::bits_of-returns : goal.filter_layout::bits_of-returns
 filter_layout::bits_of-returns t c =
     let p = c.args.array.now in let picks = c.args.picks.now.picks in
-    c.in_ok-bits.ensures
-    ∙ ap₂ (λ (x : Column) l. at false (map is_yes x.rows) l) (c.deref.ensures ∙ c.child-child.ensures.value) c.in_ok-positions.ensures.picks
-    ∙ bits-filter p picks c.child-child.ensures.valid c.child_picks.ensures.below
+    let rows = ap₂ (λ (x : Column) l. at false (map is_yes x.rows) l) (c.deref.ensures ∙ c.child-child.ensures.value) c.in_ok-positions.ensures.picks in
+    weaker c.taken_bits.result c.taken_bits.ensures (λ b h. h ∙ rows ∙ bits-filter p picks c.child-child.ensures.valid c.child_picks.ensures.below)

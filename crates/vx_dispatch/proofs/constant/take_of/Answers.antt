@@ -14,6 +14,8 @@ use Rattle.vx_model.proofs.LazyRows.{length-constant}
 use Rattle.vx_model.proofs.LazySteps.{is_take-constant}
 use Rattle.vx_model.proofs.Takes.{is_left-bits_column}
 use Rattle.vx_model.proofs.ConstantRows.{null_is, also_nullable-null, also_nullable-nullable, is_take-null_constant, is_take-stored_constant}
+use Rattle.std.proofs.lemmas.Result.{IfOk-at_ok}
+use Rattle.vx_dispatch.proofs.Results.{if_ok}
 use Rattle.vx_dispatch.proofs.constant.take_of.Goals as goal
 
 pub returns-then-is_null : goal.returns-then-is_null
@@ -37,15 +39,16 @@ returns-in-NonNullable c =
     rw (c.into_array-in-NonNullable.ensures ∙ ap constant_column (c.new-in-NonNullable.ensures ∙ ap₂ (λ (x : TypedRow) (n : ℕ). record { scalar = x; len = n }) (c.share-in-NonNullable.ensures ∙ c.scalar-scalar.ensures) c.len-len.ensures), is)
     (is_take-constant p picks (c.requires.there is) below)
 
-pub returns-in_ok-stored-in-Nullable : goal.returns-in_ok-stored-in-Nullable
-returns-in_ok-stored-in-Nullable c =
+pub returns-in_ok-validity-in-Nullable : goal.returns-in_ok-validity-in-Nullable
+returns-in_ok-validity-in-Nullable c =
     let p = c.args.array.now in let picks = c.args.picks.now.picks in let same = c.scalar-scalar.ensures in
-    let stored = c.in_ok-stored-in-Nullable in let validity = c.in_ok-validity-in-Nullable.ensures in
+    let validity = c.in_ok-validity-in-Nullable.ensures in
     let below : AreBelow picks p.len = rw (← length-constant p, ← c.requires.bound) (subst (AreBelow picks) c.bound.ensures.value c.bound.ensures.below) in
     let left = is_left-bits_column non_nullable (map is_some picks) 0 Nullable refl in
     let present = ap₂ present_bits validity (c.len-len.ensures ∙ sym (length-map picks is_some)) ∙ left.bits in
     let values = ap₂ (λ (n : ℕ) (x : RowValue). replicate n x) c.len-len.ensures (ap (λ (s : TypedRow). s.row) same) in
-    is_take-stored_constant p picks c.args.nullability stored.stored below
-    (stored.ensures.rows ∙ ap₂ shown_rows present values)
-    (stored.ensures.dtype ∙ ap₂ with_nullability (ap (λ (s : TypedRow). s.dtype) same) (ap nullability_by validity)
-    ∙ sym (also_nullable-nullable p.scalar.dtype) ∙ ap (also_nullable p.scalar.dtype) (sym c.in-Nullable.is))
+    let stored = c.store_scalar.ensures in
+    if_ok _ _ (λ a e. is_take-stored_constant p picks c.args.nullability a below
+    (IfOk-at_ok _ e stored.rows ∙ ap₂ shown_rows present values)
+    (IfOk-at_ok _ e stored.dtype ∙ ap₂ with_nullability (ap (λ (s : TypedRow). s.dtype) same) (ap nullability_by validity)
+    ∙ sym (also_nullable-nullable p.scalar.dtype) ∙ ap (also_nullable p.scalar.dtype) (sym c.in-Nullable.is)))

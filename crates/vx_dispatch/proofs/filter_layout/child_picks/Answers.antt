@@ -1,8 +1,9 @@
 -- A rank that is there names a position.
 use Rattle.vx_mask.specs.Mask.{mask_bits}
 use Rattle.vx_model.proofs.LazyBits.{there-translated}
+use Rattle.vx_dispatch.proofs.Results.{weaker}
 use Rattle.vx_dispatch.proofs.filter_layout.child_picks.Goals as goal
 
 pub returns-clause-there : goal.returns-clause-there
 returns-clause-there c = λ h.
-    rw c.in_ok-positions.ensures.picks (there-translated (mask_bits c.mask.result.now) c.args.picks.now.picks h)
+    weaker c.translate_ranks.result c.translate_ranks.ensures.picks (λ p e. rw e (there-translated (mask_bits c.mask.result.now) c.args.picks.now.picks h))

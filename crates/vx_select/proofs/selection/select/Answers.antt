@@ -1,12 +1,11 @@
 -- Each step in turn over the rows that the ones before left.
-use Rattle.std.proofs.Common.{◌≡◌, map, length, sym, ap, ◌∙◌, None, true, false, refl, arith, ◌⊎◌, inl, inr}
+use Rattle.std.proofs.Common.{◌≡◌, map, length, sym, ap, ◌∙◌, None, true, false, refl, inl, inr}
 use Rattle.vx_types.specs.RowValue.{null}
 use Rattle.vx_types.specs.TypeTree.{is_flat}
 use Rattle.vx_take.specs.Picks.{at}
 use Rattle.vx_steps.specs.Step.{step_value}
 use Rattle.vx_steps.specs.Walk.{broken, walk}
 use Rattle.vx_steps.specs.Check.{HasCount}
-use Rattle.vx_steps.specs.Answer.{type_after}
 use Rattle.vx_steps.proofs.Walks.{reached_start, reached_next, reached_sound, reached_end, step_at, step_within, steps_end}
 use Rattle.vx_select.proofs.Selecting.{at-all_positions, at-apply, length-now, answered, free_step, left_at_start, left_by_step, left_at_end, left_plain, plain_unwrapped}
 use Rattle.vx_select.proofs.selection.select.Goals as goal

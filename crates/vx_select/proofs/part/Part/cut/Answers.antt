@@ -1,6 +1,5 @@
 -- Where the part is the whole column, that is it.
-use Rattle.std.proofs.Common.{rules, ◌≡◌, length, sym, ap, ◌∙◌, arith}
-use Rattle.vx_model.specs.Column.{Column}
+use Rattle.std.proofs.Common.{rules, ◌≡◌, length, sym, ◌∙◌}
 use Rattle.vx_select.proofs.Parts.{whole_part, same_step}
 use Rattle.vx_select.proofs.part.Part.cut.Goals as goal
 

@@ -1,5 +1,5 @@
 -- A part of a part lies in the column.
-use Rattle.std.proofs.Common.{◌≡◌, ◌+◌, ◌-◌, ◌≤◌, length, slice_range, sym, ap, ◌∙◌, arith}
+use Rattle.std.proofs.Common.{◌≤◌, length, slice_range, sym, ap, ◌∙◌, arith}
 use Rattle.vx_model.specs.Column.{Column}
 use Rattle.vx_model.proofs.Items.{length-slice_range}
 use Rattle.vx_select.proofs.Parts.{part_of_part}
