@@ -1,18 +1,12 @@
 //! Lists of values and of records.
 
+use crate::text::shown;
 use std::alloc::Global;
 use std::test::Fail;
-use vx_bits::{Buffer, Record, Records};
+use vx_bits::{Buffer, NoMemory, Record, Records};
 
-/// Appends a row for a list, for a record and for a list of records.
-pub(crate) fn add_rows(alloc: Global, rows: &mut Vec<String>) -> Result<(), Fail> {
-    for n in 0..3 {
-        rows.push(row(alloc, n)?)?;
-    }
-    Ok(())
-}
-
-fn row(alloc: Global, n: usize) -> Result<String, Fail> {
+/// A row for a list, for a record or for a list of records.
+pub(crate) fn row(alloc: Global, n: usize) -> Result<String, Fail> {
     match n {
         0 => list(alloc),
         1 => zero::<[u8; 2]>(alloc),
@@ -20,25 +14,43 @@ fn row(alloc: Global, n: usize) -> Result<String, Fail> {
     }
 }
 
+/// These values as a list that is shared.
+pub(crate) fn shared<T: Copy>(alloc: Global, values: &[T]) -> Result<Buffer<T>, NoMemory> {
+    Buffer::from_vec(alloc, Vec::from_slice(alloc, values)?)
+}
+
 fn list(alloc: Global) -> Result<String, Fail> {
-    let buffer = Buffer::from_vec(alloc, [1, 2, 3].to_vec(alloc)?)?;
-    let part = buffer.slice(1, buffer.len()).share();
-    let all = buffer.as_slice();
-    let cut = part.as_slice();
+    let buffer = shared(alloc, &[1, 2, 3])?;
+    if buffer.is_empty() {
+        return Err("no value".into());
+    }
+    let part = buffer.slice(1, buffer.len());
+    list_row(alloc, buffer.as_slice(), part.share().as_slice())
+}
+
+fn list_row(alloc: Global, all: &[i32], cut: &[i32]) -> Result<String, Fail> {
     Ok(format!(in alloc; "1 2 3: {all:?}; from 1 up to 3: {cut:?}")?)
 }
 
 fn zero<R: Record>(alloc: Global) -> Result<String, Fail> {
     let zero = R::zero();
-    let bytes = zero.bytes();
-    Ok(format!(in alloc; "a record of zeros: {bytes:?}")?)
+    shown(alloc, "a record of zeros", &zero.bytes())
 }
 
 fn records(alloc: Global) -> Result<String, Fail> {
-    let values = [[1u8, 2], [3, 4], [5, 6]].to_vec(alloc)?;
-    let records = Records::W2(Buffer::from_vec(alloc, values)?);
-    let part = records.slice(1, records.len()).share();
+    let records = Records::W2(shared(alloc, &[[1, 2], [3, 4], [5, 6]])?);
+    let len = records.len();
+    if len == 0 {
+        return Err("no record".into());
+    }
+    records_row(alloc, &records.slice(1, len).share())
+}
+
+fn records_row(alloc: Global, part: &Records) -> Result<String, Fail> {
     let len = part.len();
+    if len == 0 {
+        return Err("no second record".into());
+    }
     let width = part.width();
     let first = part.record_bytes(0);
     Ok(format!(in alloc; "three records without the first: {len} of {width} bytes, {first:?}")?)

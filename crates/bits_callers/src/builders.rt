@@ -1,19 +1,13 @@
 //! Bits that grow, and readers of their words.
 ghost use Rattle.std.specs.Prelude.{◌≡◌, ◌≤◌, IfOk, length};
 
+use crate::text::{by_words, ends_of};
 use std::alloc::Global;
 use std::test::Fail;
 use vx_bits::{BitBuffer, BitBuilder, CountedWords, NoMemory, PlainWords, WordReader};
 
-/// Appends a row for what a builder makes, and for each reader of its words.
-pub(crate) fn add_rows(alloc: Global, rows: &mut Vec<String>) -> Result<(), Fail> {
-    for n in 0..3 {
-        rows.push(row(alloc, n)?)?;
-    }
-    Ok(())
-}
-
-fn row(alloc: Global, n: usize) -> Result<String, Fail> {
+/// A row for what a builder makes, or for a reader of its words.
+pub(crate) fn row(alloc: Global, n: usize) -> Result<String, Fail> {
     match n {
         0 => plain(alloc),
         1 => counted(alloc),
@@ -48,8 +42,7 @@ fn plain(alloc: Global) -> Result<String, Fail> {
 fn counted(alloc: Global) -> Result<String, Fail> {
     let mut words = CountedWords::new(alloc, built(alloc)?, 2)?;
     let word = last_word(&mut words);
-    let reads = words.reads();
-    Ok(format!(in alloc; "read by a counter: last word {word}, reads {reads:?}")?)
+    by_words(alloc, "read by a counter: last word", word, words.reads())
 }
 
 /// So many clear bits.
@@ -65,8 +58,5 @@ fn two_set(alloc: Global) -> Result<String, Fail> {
     let mut builder = clear(alloc, 130)?;
     builder.set(3);
     builder.set(129);
-    let bits = builder.finish()?;
-    let first = bits.first_set();
-    let last = bits.last_set();
-    Ok(format!(in alloc; "130 bits, 3 and 129 set: first set {first:?}, last set {last:?}")?)
+    ends_of(alloc, "130 bits, 3 and 129 set", &builder.finish()?)
 }

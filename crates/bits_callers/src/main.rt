@@ -1,37 +1,44 @@
-//! Calls bits and masks as their users do, and prints what each gives.
+//! Calls shared values, bits and masks as their users do, and prints what each gives.
 #![tactic(auto)]
 
 mod bits;
 mod buffers;
 mod builders;
 mod masks;
+mod owners;
 mod parts;
 mod policies;
 mod ranks;
+mod recursion;
 mod text;
 
 use std::alloc::Global;
 use std::test::Fail;
 
-fn add_rows(alloc: Global, family: usize, rows: &mut Vec<String>) -> Result<(), Fail> {
+/// How many rows each family has.
+const ROWS: [usize; 9] = [3, 8, 3, 11, 5, 9, 5, 2, 3];
+
+/// Row `n` of a family.
+fn row(alloc: Global, family: usize, n: usize) -> Result<String, Fail> {
     match family {
-        0 => buffers::add_rows(alloc, rows),
-        1 => bits::add_rows(alloc, rows),
-        2 => builders::add_rows(alloc, rows),
-        3 => masks::add_rows(alloc, rows),
-        4 => parts::add_rows(alloc, rows),
-        5 => ranks::add_rows(alloc, rows),
-        _ => policies::add_rows(alloc, rows),
+        0 => buffers::row(alloc, n),
+        1 => bits::row(alloc, n),
+        2 => builders::row(alloc, n),
+        3 => masks::row(alloc, n),
+        4 => parts::row(alloc, n),
+        5 => ranks::row(alloc, n),
+        6 => policies::row(alloc, n),
+        7 => owners::row(alloc, n),
+        _ => recursion::row(alloc, n),
     }
 }
 
 fn main(rt: HostRuntime) -> Result<(), Fail> {
-    let mut rows = Vec::new(rt.alloc());
-    for family in 0..7 {
-        add_rows(rt.alloc(), family, &mut rows)?;
-    }
-    for row in rows {
-        println!(rt; "{row}")?;
+    for family in 0..9 {
+        for n in 0..ROWS[family] {
+            let row = row(rt.alloc(), family, n)?;
+            println!(rt; "{row}")?;
+        }
     }
     Ok(())
 }

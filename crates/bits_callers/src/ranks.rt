@@ -1,48 +1,38 @@
 //! Ranks, with block counts and without.
 
+use crate::bits::thirds;
+use crate::text::{by_words, shown};
 use std::alloc::Global;
 use std::test::Fail;
-use vx_bits::{BitBuffer, CountedWords, NoMemory};
+use vx_bits::CountedWords;
 use vx_mask::{Mask, rank_law, rank_words, words_before};
 
-/// Appends a row for the block counts, for each rank and for each count.
-pub(crate) fn add_rows(alloc: Global, rows: &mut Vec<String>) -> Result<(), Fail> {
-    rank_law();
-    rows.push(counts(alloc)?)?;
-    for (k, p) in [(600, 1537), (512, 1536)] {
-        for n in 0..4 {
-            rows.push(row(alloc, n, k, p)?)?;
-        }
-    }
-    Ok(())
-}
-
-fn row(alloc: Global, n: usize, k: usize, p: usize) -> Result<String, Fail> {
+/// A row for 2,000 rows of which each third is selected: for the block counts, for a rank or for a
+/// count.
+pub(crate) fn row(alloc: Global, n: usize) -> Result<String, Fail> {
+    let plain = Mask::from_buffer(thirds(alloc, 2000)?);
     match n {
-        0 => of_mask(alloc, &plain(alloc)?, k, p),
-        1 => of_mask(alloc, &with_blocks(alloc)?, k, p),
-        2 => rank(alloc, &with_blocks(alloc)?, k),
-        _ => before(alloc, &with_blocks(alloc)?, p),
+        1 => of_mask(alloc, &plain, 600, 1537),
+        5 => of_mask(alloc, &plain, 512, 1536),
+        _ => of_counted(alloc, &plain.with_blocks(alloc)?, n),
     }
 }
 
-/// The mask of 2,000 rows of which each third is selected.
-fn plain(alloc: Global) -> Result<Mask, NoMemory> {
-    let mut bools = Vec::new(alloc);
-    for i in 0..2000 {
-        bools.push(i % 3 == 0)?;
+fn of_counted(alloc: Global, counted: &Mask, n: usize) -> Result<String, Fail> {
+    match n {
+        0 => counts(alloc, counted),
+        2 => of_mask(alloc, counted, 600, 1537),
+        3 => rank(alloc, "rank 600 by words:", counted, 600),
+        4 => before(alloc, "before 1537 by words:", counted, 1537),
+        6 => of_mask(alloc, counted, 512, 1536),
+        7 => rank(alloc, "rank 512 by words:", counted, 512),
+        _ => before(alloc, "before 1536 by words:", counted, 1536),
     }
-    Ok(Mask::from_buffer(BitBuffer::from_bools(alloc, bools.as_slice())?))
 }
 
-fn with_blocks(alloc: Global) -> Result<Mask, NoMemory> {
-    plain(alloc)?.with_blocks(alloc)
-}
-
-fn counts(alloc: Global) -> Result<String, Fail> {
-    let mask = with_blocks(alloc)?;
-    let counts = mask.cached_blocks();
-    Ok(format!(in alloc; "2000 bits, each third set: {counts:?}")?)
+fn counts(alloc: Global, mask: &Mask) -> Result<String, Fail> {
+    rank_law();
+    shown(alloc, "2000 bits, each third set", &mask.cached_blocks())
 }
 
 fn of_mask(alloc: Global, mask: &Mask, k: usize, p: usize) -> Result<String, Fail> {
@@ -54,26 +44,32 @@ fn of_mask(alloc: Global, mask: &Mask, k: usize, p: usize) -> Result<String, Fai
     Ok(format!(in alloc; "rank {k}: {position}; before {p}: {count}")?)
 }
 
-fn rank(alloc: Global, mask: &Mask, k: usize) -> Result<String, Fail> {
-    let mask = mask.values().ok_or("no partial mask")?;
-    let blocks = mask.cached_blocks().ok_or("no block counts")?;
-    let mut words = CountedWords::new(alloc, mask.bits().share(), 8)?;
+fn rank(alloc: Global, name: &str, mask: &Mask, k: usize) -> Result<String, Fail> {
+    let Some(mask) = mask.values() else {
+        return Err("no partial mask".into());
+    };
+    let Some(blocks) = mask.cached_blocks() else {
+        return Err("no block counts".into());
+    };
     if k >= mask.true_count() {
         return Err("too few set bits".into());
     }
+    let mut words = CountedWords::new(alloc, mask.bits().share(), 8)?;
     let position = rank_words(&mut words, blocks, k);
-    let reads = words.reads();
-    Ok(format!(in alloc; "rank {k} by words: {position}, reads {reads:?}")?)
+    by_words(alloc, name, position as u64, words.reads())
 }
 
-fn before(alloc: Global, mask: &Mask, p: usize) -> Result<String, Fail> {
-    let mask = mask.values().ok_or("no partial mask")?;
-    let blocks = mask.cached_blocks().ok_or("no block counts")?;
-    let mut words = CountedWords::new(alloc, mask.bits().share(), 8)?;
+fn before(alloc: Global, name: &str, mask: &Mask, p: usize) -> Result<String, Fail> {
+    let Some(mask) = mask.values() else {
+        return Err("no partial mask".into());
+    };
+    let Some(blocks) = mask.cached_blocks() else {
+        return Err("no block counts".into());
+    };
     if p > mask.len() {
         return Err("too few bits".into());
     }
+    let mut words = CountedWords::new(alloc, mask.bits().share(), 8)?;
     let count = words_before(&mut words, blocks, p);
-    let reads = words.reads();
-    Ok(format!(in alloc; "before {p} by words: {count}, reads {reads:?}")?)
+    by_words(alloc, name, count as u64, words.reads())
 }

@@ -27,9 +27,9 @@ pub read_u64 : (n : ℕ) → n < 2 ^ 64 → number U64 (to_le_bytes w64 n) ≡ p
 read_u64 n h = ap pos (from_le_bytes-to_le_bytes_8 n h)
 
 -- one more item is read
-pub push_read : {X Y Z : Type 0} (f : X → Z) (g : Y → Z) (items : List X) (item : X) (xs : List Y) (i : ℕ) (x : Y) → map f items ≡ map g (take i xs) → i < length xs → x ≡ get_or xs i x → f item ≡ g x → map f (items ++ item ∷ []) ≡ map g (take (i + 1) xs)
-push_read f g items item xs i x h l is e =
-    map_push f items item ∙ ap₂ (λ ys y. ys ++ y ∷ []) h (e ∙ ap g is) ∙ sym (map_more g xs i x l)
+pub push_read : {X Y Z : Type 0} (f : X → Z) (g : Y → Z) (items : List X) (item : X) (xs : List Y) (i : ℕ) (d : Y) → map f items ≡ map g (take i xs) → i < length xs → f item ≡ g (get_or xs i d) → map f (items ++ item ∷ []) ≡ map g (take (i + 1) xs)
+push_read f g items item xs i d h l e =
+    map_push f items item ∙ ap₂ (λ ys y. ys ++ y ∷ []) h e ∙ sym (map_more g xs i d l)
 
 -- bits that are stored as a column without nulls
 pub stored_bits : (bits : List Bool) (n : ℕ) → length bits ≡ n → map is_yes (shown_rows (replicate n true) (map bit bits)) ≡ bits

@@ -13,7 +13,7 @@ use crate::squares::Squares;
 use crate::steps::{slice, take};
 use std::alloc::Global;
 use std::test::Fail;
-use vx_chunked::{CallLog, Logged};
+use vx_chunked::{Call, CallLog, Logged};
 use vx_column::{Array, ColumnError, DType, Nullability, PType, Validity};
 use vx_mask::Policy;
 use vx_select::{ChunkShape, SelectError, Step, select_chunked};
@@ -72,39 +72,69 @@ fn print_squares_at(
     steps: &[Step],
     policy: &Policy,
 ) -> Result<(), Fail> {
-    match squares_and_calls(alloc, &shape()?, steps, policy) {
-        Ok((answer, log)) => {
-            print_numbers(rt, &answer)?;
-            print!(rt; "  asked:")?;
-            print_calls(rt, log.calls())
-        }
-        Err(SelectError::Broken { step, cause }) => {
-            print!(rt; " ")?;
-            print_fault(rt, step, cause)
-        }
+    let shape = shape()?;
+    match squares_and_calls(alloc, &shape, steps, policy) {
+        Ok((answer, log)) => print_given(rt, &answer, log.calls()),
+        Err(SelectError::Broken { step, cause }) => print_fault(rt, step, cause),
         Err(SelectError::NoMemory) => Err(Fail::from(SelectError::NoMemory)),
     }
 }
 
-/// Squares by several lists of steps.
-pub(crate) fn print_squares(rt: &impl Print, alloc: Global) -> Result<(), Fail> {
+fn print_given(rt: &impl Print, answer: &Array, calls: &[Call]) -> Result<(), Fail> {
+    print_numbers(rt, answer)?;
+    print!(rt; "  asked:")?;
+    print_calls(rt, calls)
+}
+
+/// Squares by one step, behind its name.
+fn print_by(
+    rt: &impl Print,
+    alloc: Global,
+    name: &str,
+    step: Step,
+    policy: &Policy,
+) -> Result<(), Fail> {
+    print!(rt; "{name}")?;
+    print_squares_at(rt, alloc, &[step], policy)
+}
+
+/// Squares by a slice, under two policies, by a take, and by a slice that ends past the rows.
+fn print_by_step(rt: &impl Print, alloc: Global, n: usize) -> Result<(), Fail> {
     let vortex = Policy::vortex();
-    print!(rt; "1000..1003:")?;
-    print_squares_at(rt, alloc, &[slice(1000, 1003)], &vortex)?;
-    print!(rt; "the same, never sparse:")?;
-    print_squares_at(rt, alloc, &[slice(1000, 1003)], &with_sparse_limit(0)?)?;
-    print!(rt; "take 2999 null 0:")?;
-    let steps = [take(alloc, &[Some(2999), None, Some(0)])?];
-    print_squares_at(rt, alloc, &steps, &vortex)?;
-    print!(rt; "0..3001:")?;
-    print_squares_at(rt, alloc, &[slice(0, 3001)], &vortex)?;
+    match n {
+        0 => print_by(rt, alloc, "1000..1003:", slice(1000, 1003), &vortex),
+        1 => {
+            let policy = with_sparse_limit(0)?;
+            print_by(
+                rt,
+                alloc,
+                "the same, never sparse:",
+                slice(1000, 1003),
+                &policy,
+            )
+        }
+        2 => {
+            let taken = take(alloc, &[Some(2999), None, Some(0)])?;
+            print_by(rt, alloc, "take 2999 null 0:", taken, &vortex)
+        }
+        _ => print_by(rt, alloc, "0..3001: ", slice(0, 3001), &vortex),
+    }
+}
+
+/// Squares by several steps.
+pub(crate) fn print_squares(rt: &impl Print, alloc: Global) -> Result<(), Fail> {
+    for n in 0..4 {
+        print_by_step(rt, alloc, n)?;
+    }
+    let [len, asked] = counted(alloc)?;
+    println!(rt; "1000..2500: {len} rows, asked {asked} times")?;
+    Ok(())
+}
+
+/// How many squares a slice leaves, and how often the decoder was asked for them.
+fn counted(alloc: Global) -> Result<[usize; 2], Fail> {
     let mut squares = Squares::new(3);
     let steps = [slice(1000, 2500)];
-    let answer = squares_at(alloc, &mut squares, &shape()?, &steps, &vortex)?;
-    println!(rt;
-        "1000..2500: {} rows, asked {} times",
-        answer.len(),
-        squares.asked()
-    )?;
-    Ok(())
+    let answer = squares_at(alloc, &mut squares, &shape()?, &steps, &Policy::vortex())?;
+    Ok([answer.len(), squares.asked()])
 }

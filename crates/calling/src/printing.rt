@@ -1,4 +1,5 @@
 //! Columns, rows and faults as lines of text.
+use std::io;
 use std::test::Fail;
 use vx_chunked::Call;
 use vx_column::{Array, Row};
@@ -11,46 +12,56 @@ pub(crate) fn print_numbers(rt: &impl Print, column: &Array) -> Result<(), Fail>
         return Ok(());
     }
     for i in 0..column.len() {
-        match column.number_at(i) {
-            Some(number) => print!(rt; " {number}")?,
-            None => print!(rt; " null")?,
-        }
+        print_number(rt, column.number_at(i))?;
     }
     println!(rt; "")?;
     Ok(())
 }
 
-/// A row as it is stored.
-pub(crate) fn print_row(rt: &impl Print, row: &Row) -> Result<(), Fail> {
-    match row {
-        Row::Null => println!(rt; "null")?,
-        Row::Bit(bit) => println!(rt; "{bit}")?,
-        Row::Bytes(bytes) => println!(rt; "{:?}", bytes.as_slice())?,
+fn print_number(rt: &impl Print, number: Option<i128>) -> io::Result<()> {
+    match number {
+        Some(number) => print!(rt; " {number}"),
+        None => print!(rt; " null"),
     }
-    Ok(())
+}
+
+/// A row as it is stored.
+pub(crate) fn print_row(rt: &impl Print, row: &Row) -> io::Result<()> {
+    match row {
+        Row::Null => println!(rt; "null"),
+        Row::Bit(bit) => println!(rt; "{bit}"),
+        Row::Bytes(bytes) => println!(rt; "{:?}", bytes.as_slice()),
+    }
 }
 
 /// The rule that a step breaks.
 pub(crate) fn print_fault(rt: &impl Print, step: usize, cause: Cause) -> Result<(), Fail> {
     print!(rt; "step {step}: ")?;
+    Ok(print_cause(rt, cause)?)
+}
+
+fn print_cause(rt: &impl Print, cause: Cause) -> io::Result<()> {
     match cause {
-        Cause::BadRange { start, end, len } => println!(rt; "{start}..{end} of {len} rows")?,
-        Cause::BadMask { mask_len, len } => println!(rt; "{mask_len} bits for {len} rows")?,
-        Cause::InvalidIndices => println!(rt; "indices that are no numbers")?,
-        Cause::BadPieces => println!(rt; "pieces that aren't sound")?,
-        Cause::OutOfBounds { index, len } => println!(rt; "index {index} of {len} rows")?,
+        Cause::BadRange { start, end, len } => println!(rt; "{start}..{end} of {len} rows"),
+        Cause::BadMask { mask_len, len } => println!(rt; "{mask_len} bits for {len} rows"),
+        Cause::InvalidIndices => println!(rt; "indices that are no numbers"),
+        Cause::BadPieces => println!(rt; "pieces that aren't sound"),
+        Cause::OutOfBounds { index, len } => println!(rt; "index {index} of {len} rows"),
     }
-    Ok(())
 }
 
 /// What a decoder was asked.
 pub(crate) fn print_calls(rt: &impl Print, calls: &[Call]) -> Result<(), Fail> {
     for call in calls {
-        match call {
-            Call::Whole { chunk } => print!(rt; " all of chunk {chunk}")?,
-            Call::Only { chunk, count } => print!(rt; " {count} of chunk {chunk}")?,
-        }
+        print_call(rt, call)?;
     }
     println!(rt; "")?;
     Ok(())
+}
+
+fn print_call(rt: &impl Print, call: &Call) -> io::Result<()> {
+    match call {
+        Call::Whole { chunk } => print!(rt; " all of chunk {chunk}"),
+        Call::Only { chunk, count } => print!(rt; " {count} of chunk {chunk}"),
+    }
 }

@@ -11,31 +11,49 @@ use vx_column::Array;
 use vx_mask::Policy;
 use vx_select::{SelectError, Step, select};
 
+/// The values that the codes name.
+fn by_codes(
+    alloc: Global,
+    codes: &[Option<u32>],
+    values: &[Option<u32>],
+) -> Result<Array, BuildError> {
+    dictionary(alloc, u32_column(alloc, codes)?, u32_column(alloc, values)?)
+}
+
 /// The rows 10, 40, null, 20, 40, 10, by codes.
 fn source(alloc: Global) -> Result<Array, BuildError> {
-    let values = u32_column(alloc, &[Some(10), Some(20), None, Some(40)])?;
     let codes = [Some(0), Some(3), None, Some(1), Some(3), Some(0)];
-    dictionary(alloc, u32_column(alloc, &codes)?, values)
+    by_codes(alloc, &codes, &[Some(10), Some(20), None, Some(40)])
 }
 
 /// A slice, a filter, a take by a column with a null, and a take by pieces.
-fn steps_of(alloc: Global) -> Result<Vec<Step>, Fail> {
-    Ok(vec![in alloc;
-        slice(1, 6),
-        filter(alloc, &[true, true, true, false, true])?,
-        take(alloc, &[Some(3), None, Some(0), Some(1)])?,
-        take_pieces(alloc, &[0, 3], &[2, 2], &[2, 0], 4)?,
-    ]?)
+fn step_of(alloc: Global, n: usize) -> Result<Step, BuildError> {
+    match n {
+        0 => Ok(slice(1, 6)),
+        1 => filter(alloc, &[true, true, true, false, true]),
+        2 => take(alloc, &[Some(3), None, Some(0), Some(1)]),
+        _ => take_pieces(alloc, &[0, 3], &[2, 2], &[2, 0], 4),
+    }
 }
 
-/// The answer's rows, or the rule that a step breaks. Want of memory is handed on.
+fn steps_of(alloc: Global) -> Result<Vec<Step>, Fail> {
+    let mut steps = Vec::new(alloc);
+    for n in 0..4 {
+        steps.push(step_of(alloc, n)?)?;
+    }
+    Ok(steps)
+}
+
+/// The answer's rows behind a name, or the rule that a step breaks. Want of memory is handed on.
 fn print_answer(
     rt: &impl Print,
     alloc: Global,
+    name: &str,
     column: &Array,
     steps: &[Step],
     policy: &Policy,
 ) -> Result<(), Fail> {
+    print!(rt; "{name}")?;
     match select(alloc, column, steps, policy) {
         Ok(answer) => print_numbers(rt, &answer),
         Err(SelectError::Broken { step, cause }) => print_fault(rt, step, cause),
@@ -45,64 +63,123 @@ fn print_answer(
 
 /// What constructors refuse.
 pub(crate) fn print_refusals(rt: &impl Print, alloc: Global) -> Result<(), Fail> {
-    let values = u32_column(alloc, &[Some(10), Some(20)])?;
-    let codes = u32_column(alloc, &[Some(1), Some(2)])?;
-    let refused = dictionary(alloc, codes, values).err();
-    println!(rt; "code 2 of 2 values: {refused:?}")?;
-    let child = u32_column(alloc, &[Some(10), Some(20)])?;
-    let refused = filtered(alloc, child, mask_of(alloc, &[true])?).err();
-    println!(rt; "a bit for 2 rows: {refused:?}")?;
+    println!(rt; "code 2 of 2 values: {:?}", refused_codes(alloc))?;
+    println!(rt; "a bit for 2 rows: {:?}", refused_mask(alloc)?)?;
     println!(rt; "a sparse limit of 161: {:?}", with_sparse_limit(161).err())?;
     Ok(())
+}
+
+fn refused_codes(alloc: Global) -> Option<BuildError> {
+    by_codes(alloc, &[Some(1), Some(2)], &[Some(10), Some(20)]).err()
+}
+
+fn refused_mask(alloc: Global) -> Result<Option<BuildError>, BuildError> {
+    let child = u32_column(alloc, &[Some(10), Some(20)])?;
+    Ok(filtered(alloc, child, mask_of(alloc, &[true])?).err())
 }
 
 /// Answers under two policies, of a dictionary and of a lazy filter of it.
 pub(crate) fn print_answers(rt: &impl Print, alloc: Global) -> Result<(), Fail> {
     let column = source(alloc)?;
+    let [present, len] = [present_rows(&column), column.len()];
+    println!(rt; "{present} of {len} rows are there")?;
+    print_by_policies(rt, alloc, &column)?;
+    print_lazy(rt, alloc, &lazy(alloc, column)?)
+}
+
+fn print_by_policies(rt: &impl Print, alloc: Global, column: &Array) -> Result<(), Fail> {
     let steps = steps_of(alloc)?;
-    println!(rt;
-        "{} of {} rows are there",
-        present_rows(&column),
-        column.len()
-    )?;
     for policy in &[Policy::vortex(), with_sparse_limit(0)?] {
-        print!(rt; "steps:")?;
-        print_answer(rt, alloc, &column, &steps, policy)?;
+        print_answer(rt, alloc, "steps:", column, &steps, policy)?;
     }
+    Ok(())
+}
+
+/// The column without its third row.
+fn lazy(alloc: Global, column: Array) -> Result<Array, BuildError> {
     let mask = mask_of(alloc, &[true, true, false, true, true, true])?;
-    let lazy = filtered(alloc, column, mask)?;
-    print!(rt; "1..4 of a lazy filter:")?;
-    print_answer(rt, alloc, &lazy, &[slice(1, 4)], &Policy::vortex())
+    filtered(alloc, column, mask)
+}
+
+fn print_lazy(rt: &impl Print, alloc: Global, lazy: &Array) -> Result<(), Fail> {
+    let steps = [slice(1, 4)];
+    print_answer(
+        rt,
+        alloc,
+        "1..4 of a lazy filter:",
+        lazy,
+        &steps,
+        &Policy::vortex(),
+    )
 }
 
 /// The first rule that steps break.
 pub(crate) fn print_faults(rt: &impl Print, alloc: Global) -> Result<(), Fail> {
     let column = source(alloc)?;
-    let policy = Policy::vortex();
-    print_answer(rt, alloc, &column, &[slice(0, 4), slice(1, 9)], &policy)?;
-    let steps = [slice(0, 5), filter(alloc, &[true; 6])?];
-    print_answer(rt, alloc, &column, &steps, &policy)?;
-    let steps = [take(alloc, &[Some(5), None, Some(6)])?, slice(9, 1)];
-    print_answer(rt, alloc, &column, &steps, &policy)?;
-    let steps = [take_pieces(alloc, &[0, 3], &[2, 2], &[2, 0], 5)?];
-    print_answer(rt, alloc, &column, &steps, &policy)
+    for n in 0..4 {
+        let steps = broken_steps(alloc, n)?;
+        print_answer(rt, alloc, "", &column, &steps, &Policy::vortex())?;
+    }
+    Ok(())
+}
+
+/// A step that breaks a rule: of four rows, of five, and twice of six.
+fn broken_step(alloc: Global, n: usize) -> Result<Step, BuildError> {
+    match n {
+        0 => Ok(slice(1, 9)),
+        1 => filter(alloc, &[true; 6]),
+        2 => take(alloc, &[Some(5), None, Some(6)]),
+        _ => take_pieces(alloc, &[0, 3], &[2, 2], &[2, 0], 5),
+    }
+}
+
+/// A step that breaks a rule, one before it that leaves four rows or five, and behind it one that
+/// isn't looked at any more.
+fn broken_steps(alloc: Global, n: usize) -> Result<Vec<Step>, Fail> {
+    let mut steps = Vec::new(alloc);
+    if n < 2 {
+        steps.push(slice(0, 4 + n))?;
+    }
+    steps.push(broken_step(alloc, n)?)?;
+    steps.push(slice(9, 1))?;
+    Ok(steps)
 }
 
 /// Single rows of the answer, and the first rows of a plain column.
 pub(crate) fn print_rows(rt: &impl Print, alloc: Global) -> Result<(), Fail> {
+    print_first_two(rt, alloc)?;
+    print_rows_at(rt, alloc, &source(alloc)?, &steps_of(alloc)?)
+}
+
+fn print_rows_at(
+    rt: &impl Print,
+    alloc: Global,
+    column: &Array,
+    steps: &[Step],
+) -> Result<(), Fail> {
+    for i in [1, 2, 9] {
+        print_row_at(rt, alloc, column, steps, i)?;
+    }
+    Ok(())
+}
+
+fn print_row_at(
+    rt: &impl Print,
+    alloc: Global,
+    column: &Array,
+    steps: &[Step],
+    i: usize,
+) -> Result<(), Fail> {
+    let row = row_or_null(alloc, column, steps, &Policy::vortex(), i)?;
+    print!(rt; "row {i}: ")?;
+    Ok(print_row(rt, &row)?)
+}
+
+fn print_first_two(rt: &impl Print, alloc: Global) -> Result<(), Fail> {
     let plain = u64_column(alloc, &[7, 8, 9])?;
     if plain.len() >= 2 {
         print!(rt; "first 2 of 7 8 9:")?;
         print_numbers(rt, &first_rows(alloc, &plain, 2))?;
-    }
-    let column = source(alloc)?;
-    let steps = steps_of(alloc)?;
-    for i in [1, 2, 9] {
-        print!(rt; "row {i}: ")?;
-        print_row(
-            rt,
-            &row_or_null(alloc, &column, &steps, &Policy::vortex(), i)?,
-        )?;
     }
     Ok(())
 }

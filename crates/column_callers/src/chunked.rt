@@ -1,176 +1,145 @@
 //! Answers over values behind a decoder, and the calls that they ask for.
-ghost use Rattle.std.specs.Prelude.{◌≡◌, ◌+◌, ◌≤◌, IfOk, Some, length};
-ghost use Rattle.vx_types.specs.TypeTree.{type_width};
-ghost use Rattle.vx_chunked.specs.Asked.{touched};
-ghost use Rattle.vx_chunked.specs.Told.{whole_chunks};
+ghost use Rattle.std.specs.Prelude.{◌≤◌, length};
 
-use crate::columns::{by_bits, u32_column, u32_records};
 use crate::counted::Counted;
+use crate::rows::{print_calls, print_numbers};
+use crate::selecting::mask_of;
+use crate::steps::{slice, take};
+use crate::values::{numbers, sevens};
 use std::alloc::Global;
 use std::test::Fail;
-use vx_bits::{BitBuilder, Buffer, NoMemory};
-use vx_chunked::{Call, ChunkDecoder, Logged, StoredChunks};
-use vx_column::{Array, DType, FlatRef, Nullability, PType, Validity};
+use vx_bits::NoMemory;
+use vx_chunked::{CallLog, ChunkDecoder, Logged};
+use vx_column::{Array, ColumnError, DType, Nullability, PType, Validity};
 use vx_mask::{Mask, Policy};
-use vx_pieces::Indices;
-use vx_select::{ChunkShape, Step, compose, select_chunked};
+use vx_select::{ChunkShape, Step, select_chunked};
 
-const U32: DType = DType::Primitive(PType::U32, Nullability::NonNullable);
-
-/// A row for each list of steps, and for each refusal of a shape.
+/// A row for each list of steps.
 pub(crate) fn print_answers(rt: &impl Print, alloc: Global) -> Result<(), Fail> {
-    let one = bits_of(alloc, 3000, 1500, 1501)?;
-    let steps = [slice(0, 3000), Step::Filter(one)];
-    print_numbers(rt, alloc, "0..3000, bit 1500", &steps)?;
-    print_counted(rt, alloc, "the same by another decoder", &steps)?;
-    let steps = [take(
+    print_bit(rt, alloc)?;
+    print_taken(rt, alloc)?;
+    let all = Step::Filter(Mask::AllTrue(3072));
+    print_steps(
+        rt,
         alloc,
-        &[2047, 0, 9, 2047, 1024],
-        &[true, true, false, true, true],
-    )?];
-    print_numbers(rt, alloc, "take", &steps)?;
-    let steps = [Step::Filter(Mask::AllTrue(3072)), slice(0, 1)];
-    print_numbers(rt, alloc, "a filter that keeps all, 0..1", &steps)?;
+        "a filter that keeps all, 0..1",
+        &[all, slice(0, 1)],
+    )?;
     print_many(rt, alloc, 1088)?;
     print_many(rt, alloc, 1089)?;
-    print_hidden(rt, alloc)?;
-    print_shapes(rt)?;
-    print_composed(rt, alloc)
+    print_hidden(rt, alloc)
 }
 
-fn slice(start: usize, end: usize) -> Step {
-    Step::Slice { start, end }
+/// The same steps by two decoders, of which one isn't the library's.
+fn print_bit(rt: &impl Print, alloc: Global) -> Result<(), Fail> {
+    let bit = bit_1500(alloc)?;
+    let steps = [slice(0, 3000), Step::Filter(bit)];
+    print_steps(rt, alloc, "0..3000, bit 1500", &steps)?;
+    print_answer(
+        rt,
+        "the same by another decoder",
+        &of_counted(alloc, &steps)?,
+    )
 }
 
-/// A take of the indices that are there.
-fn take(alloc: Global, indices: &[i128], there: &[bool]) -> Result<Step, Fail> {
-    let column = u32_column(u32_records(alloc, indices)?, by_bits(alloc, there)?)?;
-    Ok(Step::Take(Indices::Array(FlatRef::try_new(column.into_ref(alloc)?)?)))
+fn print_taken(rt: &impl Print, alloc: Global) -> Result<(), Fail> {
+    let there = [true, true, false, true, true];
+    let step = take(alloc, &[2047, 0, 9, 2047, 1024], &there)?;
+    print_steps(rt, alloc, "take", &[step])
 }
 
-/// Bits of which those from `start` up to `end` are set.
-fn bits_of(alloc: Global, len: usize, start: usize, end: usize) -> Result<Mask, NoMemory>
-    requires ordered { start ≤ end }
-    requires within { end ≤ len }
-{
-    let mut bits = BitBuilder::with_capacity(alloc, len)?;
-    bits.append_n(false, start)?;
-    bits.append_n(true, end - start)?;
-    bits.append_n(false, len - end)?;
-    Ok(Mask::from_buffer(bits.finish()?))
-}
-
-/// The numbers below 3072, as values that need no decoding.
-fn numbers(alloc: Global) -> Result<StoredChunks<[u8; 4]>, NoMemory>
-    ensures { IfOk result (λ s. length (whole_chunks s) ≡ 3072) }
-{
-    let mut values = vec![in alloc; [0; 4]; 3072]?;
-    for n in 0..3072 {
-        values[n] = (n as u32).to_le_bytes();
+/// 3000 rows, of which row 1500 is set.
+fn bit_1500(alloc: Global) -> Result<Mask, NoMemory> {
+    let mut bits = Vec::with_capacity(alloc, 3000)?;
+    for n in 0..3000 {
+        bits.push(n == 1500)?;
     }
-    Ok(StoredChunks::new(Buffer::from_vec(alloc, values)?))
+    mask_of(alloc, &bits)
 }
 
-/// The answer over the numbers below 3072.
-fn print_numbers(rt: &impl Print, alloc: Global, name: &str, steps: &[Step]) -> Result<(), Fail> {
-    let mut decoder = Logged::new(alloc, numbers(alloc)?, 3)?;
-    let shape = ChunkShape::try_new(U32, 0, 3072, Validity::NonNullable)?;
-    let answer = select_chunked(alloc, &mut decoder, &shape, steps, &Policy::vortex())?;
-    print_answer(rt, name, &answer, decoder.calls())
+/// An answer, and the calls that were made for it.
+#[derive(Drop)]
+struct Answer {
+    column: Array,
+    log: CallLog,
+}
+
+/// The answer over a decoder of three chunks.
+fn answer_by<const W: usize, D: ChunkDecoder<[u8; W]> + Drop>(
+    alloc: Global,
+    decoder: D,
+    shape: &ChunkShape,
+    steps: &[Step],
+) -> Result<Answer, Fail>
+    requires values { 3072 ≤ length (D.values decoder) }
+    requires spare { 3 ≤ D.spare decoder }
+{
+    if shape.width() != W || shape.len() > 3072 - shape.offset() {
+        return Err("a shape of other values".into());
+    }
+    let mut decoder = Logged::new(alloc, decoder, 3)?;
+    let column = select_chunked(alloc, &mut decoder, shape, steps, &Policy::vortex())?;
+    Ok(Answer {
+        column,
+        log: decoder.into_log(),
+    })
+}
+
+fn numbers_shape() -> Result<ChunkShape, ColumnError> {
+    let dtype = DType::Primitive(PType::U32, Nullability::NonNullable);
+    ChunkShape::try_new(dtype, 0, 3072, Validity::NonNullable)
+}
+
+/// The answer over the numbers.
+fn of_numbers(alloc: Global, steps: &[Step]) -> Result<Answer, Fail> {
+    let shape = numbers_shape()?;
+    answer_by(alloc, numbers(alloc)?, &shape, steps)
 }
 
 /// The same by a decoder that isn't the library's.
-fn print_counted(rt: &impl Print, alloc: Global, name: &str, steps: &[Step]) -> Result<(), Fail> {
-    let counted = Counted {
-        inner: numbers(alloc)?,
-        spare: 3,
-    };
-    let mut decoder = Logged::new(alloc, counted, 3)?;
-    let shape = ChunkShape::try_new(U32, 0, 3072, Validity::NonNullable)?;
-    let answer = select_chunked(alloc, &mut decoder, &shape, steps, &Policy::vortex())?;
-    print_answer(rt, name, &answer, decoder.calls())
+fn of_counted(alloc: Global, steps: &[Step]) -> Result<Answer, Fail> {
+    let shape = numbers_shape()?;
+    let inner = numbers(alloc)?;
+    answer_by(alloc, Counted { inner, spare: 3 }, &shape, steps)
+}
+
+fn print_steps(rt: &impl Print, alloc: Global, name: &str, steps: &[Step]) -> Result<(), Fail> {
+    print_answer(rt, name, &of_numbers(alloc, steps)?)
 }
 
 /// A slice from the first row on, by its number of rows.
 fn print_many(rt: &impl Print, alloc: Global, end: usize) -> Result<(), Fail> {
-    let mut decoder = Logged::new(alloc, numbers(alloc)?, 3)?;
-    let shape = ChunkShape::try_new(U32, 0, 3072, Validity::NonNullable)?;
-    let steps = [slice(0, end)];
-    let answer = select_chunked(alloc, &mut decoder, &shape, &steps, &Policy::vortex())?;
-    print!(rt; "0..{end}: {} rows, calls:", answer.len())?;
-    print_calls(rt, decoder.calls())
+    print_count(rt, end, &of_numbers(alloc, &[slice(0, end)])?)
+}
+
+/// How many rows the slice up to `end` has, and the calls.
+fn print_count(rt: &impl Print, end: usize, answer: &Answer) -> Result<(), Fail> {
+    print!(rt; "0..{end}: {} rows", answer.column.len())?;
+    print_calls(rt, answer.log.calls())
+}
+
+fn hidden_shape() -> Result<ChunkShape, ColumnError> {
+    let dtype = DType::Primitive(PType::U8, Nullability::Nullable);
+    ChunkShape::try_new(dtype, 1000, 30, Validity::AllInvalid)
+}
+
+/// The answer over rows that are all null.
+fn of_hidden(alloc: Global, steps: &[Step]) -> Result<Answer, Fail> {
+    let shape = hidden_shape()?;
+    answer_by(alloc, sevens(alloc)?, &shape, steps)
 }
 
 /// Rows that are all null, of which two are picked.
 fn print_hidden(rt: &impl Print, alloc: Global) -> Result<(), Fail> {
-    let values = vec![in alloc; [7u8]; 2048]?;
-    let stored = StoredChunks::new(Buffer::from_vec(alloc, values)?);
-    let mut decoder = Logged::new(alloc, stored, 2)?;
-    let dtype = DType::Primitive(PType::U8, Nullability::Nullable);
-    let shape = ChunkShape::try_new(dtype, 1000, 30, Validity::AllInvalid)?;
-    let steps = [take(alloc, &[23, 24], &[true, true])?];
-    let answer = select_chunked(alloc, &mut decoder, &shape, &steps, &Policy::vortex())?;
-    print_answer(rt, "rows that are all null", &answer, decoder.calls())
+    let step = take(alloc, &[23, 24], &[true, true])?;
+    print_answer(rt, "rows that are all null", &of_hidden(alloc, &[step])?)
 }
 
 /// The type, the rows and the calls.
-fn print_answer(rt: &impl Print, name: &str, answer: &Array, calls: &[Call]) -> Result<(), Fail> {
-    let mark = if answer.dtype().is_nullable() {
-        "?"
-    } else {
-        ""
-    };
-    print!(rt; "{name}: {:?}{mark}", answer.dtype().int_type())?;
-    for i in 0..answer.len() {
-        if answer.dtype().int_type().is_some() {
-            print!(rt; " {:?}", answer.number_at(i))?;
-        }
-    }
-    print!(rt; ", calls:")?;
-    print_calls(rt, calls)
-}
-
-fn print_calls(rt: &impl Print, calls: &[Call]) -> Result<(), Fail> {
-    for call in calls {
-        match call {
-            Call::Whole { chunk } => print!(rt; " Whole({chunk})")?,
-            Call::Only { chunk, count } => print!(rt; " Only({chunk},{count})")?,
-        }
-    }
-    println!(rt; "")?;
-    Ok(())
-}
-
-/// What a shape refuses, and what it shows.
-fn print_shapes(rt: &impl Print) -> Result<(), Fail> {
-    let bools = DType::Bool(Nullability::NonNullable);
-    let refused = ChunkShape::try_new(bools, 0, 10, Validity::NonNullable).err();
-    println!(rt; "a shape of bools: {refused:?}")?;
-    let refused = ChunkShape::try_new(U32, 0, 10, Validity::AllValid).err();
-    println!(rt; "a shape of u32 with nulls: {refused:?}")?;
-    let refused = ChunkShape::try_new(U32, 1024, 10, Validity::NonNullable).err();
-    println!(rt; "a shape from 1024 on: {refused:?}")?;
-    let refused = ChunkShape::try_new(U32, 1, usize::MAX, Validity::NonNullable).err();
-    println!(rt; "a shape of MAX from 1 on: {refused:?}")?;
-    let shape = ChunkShape::try_new(U32, 3, 10, Validity::NonNullable)?;
-    let (offset, len, width) = (shape.offset(), shape.len(), shape.width());
-    println!(rt; "a shape: {len} values of {width} bytes from {offset} on")?;
-    Ok(())
-}
-
-/// The picks of steps over six rows.
-fn print_composed(rt: &impl Print, alloc: Global) -> Result<(), Fail> {
-    let mut bits = BitBuilder::with_capacity(alloc, 5)?;
-    for bit in [true, false, true, true, false] {
-        bits.append_n(bit, 1)?;
-    }
-    let mask = Mask::from_buffer(bits.finish()?);
-    let take = take(alloc, &[2, 0, 9], &[true, true, false])?;
-    let picks = compose(alloc, 6, &[slice(1, 6), Step::Filter(mask), take])?;
-    print!(rt; "1..6, 10110, take 2 0 null of 6:")?;
-    for i in 0..picks.len() {
-        print!(rt; " {:?}", picks.get(i))?;
-    }
-    println!(rt; "")?;
-    Ok(())
+fn print_answer(rt: &impl Print, name: &str, answer: &Answer) -> Result<(), Fail> {
+    let dtype = answer.column.dtype();
+    let mark = if dtype.is_nullable() { "?" } else { "" };
+    print!(rt; "{name}: {:?}{mark}", dtype.int_type())?;
+    print_numbers(rt, &answer.column)?;
+    print_calls(rt, answer.log.calls())
 }

@@ -6,24 +6,33 @@ mod chunked;
 mod columns;
 mod counted;
 mod pieces;
+mod rows;
 mod selecting;
+mod shapes;
 mod steps;
 mod types;
+mod values;
 
 use std::test::Fail;
 
 fn main(rt: HostRuntime) -> Result<(), Fail> {
     types::print_records(&rt)?;
     types::print_numbers(&rt)?;
+    types::print_ranges(&rt)?;
+    types::print_decimals(&rt)?;
     types::print_types(&rt)?;
     columns::print_readers(&rt, rt.alloc())?;
     columns::print_refusals(&rt, rt.alloc())?;
     columns::print_slice(&rt, rt.alloc())?;
     columns::print_indices(&rt, rt.alloc())?;
-    pieces::print_sequences(&rt, rt.alloc())?;
+    pieces::print_sound(&rt, rt.alloc())?;
+    pieces::print_unsound(&rt, rt.alloc())?;
     pieces::print_takes(&rt, rt.alloc())?;
     pieces::print_runs(&rt, rt.alloc())?;
     steps::print_rules(&rt)?;
     selecting::print_policies(&rt, rt.alloc())?;
-    chunked::print_answers(&rt, rt.alloc())
+    chunked::print_answers(&rt, rt.alloc())?;
+    shapes::print_refusals(&rt)?;
+    shapes::print_shape(&rt)?;
+    shapes::print_composed(&rt, rt.alloc())
 }

@@ -9,13 +9,24 @@ use vx_mask::{Mask, MaskValues, Policy};
 /// Appends a row for the table, and one for each filter that goes by bytes.
 pub(crate) fn add_rows(alloc: Global, rows: &mut Vec<String>) -> Result<(), Fail> {
     rows.push(places(alloc)?)?;
-    for offset in [0, 5] {
-        let mask = Mask::from_buffer(multiples(alloc, offset, 20_000, 7, false)?);
-        let mask = mask.values().ok_or("all rows or none")?;
-        rows.push(chosen(alloc, mask)?)?;
-        rows.push(by_bytes(alloc, mask)?)?;
+    for (offset, all_bytes) in [(0, false), (0, true), (5, false), (5, true)] {
+        rows.push(row(alloc, offset, all_bytes)?)?;
     }
     Ok(())
+}
+
+fn row(alloc: Global, offset: usize, all_bytes: bool) -> Result<String, Fail> {
+    let mask = Mask::from_buffer(multiples(alloc, offset, 20_000, 7, false)?);
+    by_mask(alloc, &mask, all_bytes)
+}
+
+fn by_mask(alloc: Global, mask: &Mask, all_bytes: bool) -> Result<String, Fail> {
+    let mask = mask.values().ok_or("all rows or none")?;
+    if all_bytes {
+        by_bytes(alloc, mask)
+    } else {
+        chosen(alloc, mask)
+    }
 }
 
 fn places(alloc: Global) -> Result<String, Fail> {
@@ -52,11 +63,7 @@ fn chosen(alloc: Global, mask: &MaskValues) -> Result<String, Fail> {
         return Err("another length".into());
     }
     let kept = filter_slice(alloc, items.as_slice(), mask, &Policy::vortex())?;
-    let right = in_their_places(kept.as_slice());
-    Ok(format!(in alloc;
-        "20000 by all but each seventh: {} kept, {right} right",
-        kept.len()
-    )?)
+    kept_row(alloc, "20000 by all but each seventh", kept.as_slice())
 }
 
 fn by_bytes(alloc: Global, mask: &MaskValues) -> Result<String, Fail> {
@@ -65,6 +72,10 @@ fn by_bytes(alloc: Global, mask: &MaskValues) -> Result<String, Fail> {
         return Err("another length".into());
     }
     let kept = byte_compress(alloc, items.as_slice(), mask)?;
-    let right = in_their_places(kept.as_slice());
-    Ok(format!(in alloc; "the same by bytes: {} kept, {right} right", kept.len())?)
+    kept_row(alloc, "the same by bytes", kept.as_slice())
+}
+
+fn kept_row(alloc: Global, name: &str, kept: &[u8]) -> Result<String, Fail> {
+    let right = in_their_places(kept);
+    Ok(format!(in alloc; "{name}: {} kept, {right} right", kept.len())?)
 }

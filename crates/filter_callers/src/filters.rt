@@ -14,7 +14,10 @@ use vx_mask::{Mask, MaskValues, Policy};
 pub(crate) fn add_rows(alloc: Global, rows: &mut Vec<String>) -> Result<(), Fail> {
     filter_law::<u8>();
     let bits = BitBuffer::from_bools(alloc, &[true, false, true, true, false])?;
-    let mask = Mask::from_buffer(bits);
+    add_rows_by(alloc, &Mask::from_buffer(bits), rows)
+}
+
+fn add_rows_by(alloc: Global, mask: &Mask, rows: &mut Vec<String>) -> Result<(), Fail> {
     let mask = mask.values().ok_or("all rows or none")?;
     if mask.len() != 5 {
         return Err("not five rows".into());

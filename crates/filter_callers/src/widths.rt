@@ -22,13 +22,25 @@ pub(crate) fn add_rows(alloc: Global, rows: &mut Vec<String>) -> Result<(), Fail
 
 /// A row for the mask with that list, and the policy with that ratio.
 fn listed(alloc: Global, offset: usize, ratio: Option<u64>, list: &str) -> Result<String, Fail> {
-    let policy = policy_of(ratio).ok_or("a fault")?;
     let mask = Mask::from_buffer(multiples(alloc, offset, 200, 7, false)?);
+    by_ratio(alloc, &mask, ratio, list)
+}
+
+fn by_ratio(alloc: Global, mask: &Mask, ratio: Option<u64>, list: &str) -> Result<String, Fail> {
+    let policy = policy_of(ratio).ok_or("a fault")?;
     match list {
-        "indices" => row(alloc, list, &mask.with_indices(alloc)?, &policy),
-        "slices" => row(alloc, list, &mask.with_slices(alloc)?, &policy),
-        _ => row(alloc, list, &mask, &policy),
+        "indices" => by_indices(alloc, mask, &policy),
+        "slices" => by_slices(alloc, mask, &policy),
+        _ => row(alloc, list, mask, &policy),
     }
+}
+
+fn by_indices(alloc: Global, mask: &Mask, policy: &Policy) -> Result<String, Fail> {
+    row(alloc, "indices", &mask.with_indices(alloc)?, policy)
+}
+
+fn by_slices(alloc: Global, mask: &Mask, policy: &Policy) -> Result<String, Fail> {
+    row(alloc, "slices", &mask.with_slices(alloc)?, policy)
 }
 
 /// The crate's own policy, or that whose ratios are all this one.

@@ -51,12 +51,15 @@ pub(crate) fn indices(alloc: Global, values: &[[u8; 1]]) -> Result<Indices, Fail
     Ok(Indices::Array(FlatRef::try_new(column)?))
 }
 
+fn scalar(alloc: Global, number: i128) -> Result<Scalar, Fail> {
+    let bytes = Buffer::from_vec(alloc, record_of::<8>(number).to_vec(alloc)?)?;
+    let dtype = DType::Primitive(PType::U64, Nullability::NonNullable);
+    Ok(Scalar::try_new(dtype, ScalarValue::Bytes(bytes))?)
+}
+
 /// So many rows of type `u64`, each this number.
 fn constant(alloc: Global, number: i128, len: usize) -> Result<ArrayRef, Fail> {
-    let dtype = DType::Primitive(PType::U64, Nullability::NonNullable);
-    let bytes = Vec::from_slice(alloc, &record_of::<8>(number))?;
-    let value = ScalarValue::Bytes(Buffer::from_vec(alloc, bytes)?);
-    let column = ConstantArray::new(Scalar::try_new(dtype, value)?, len).into_array();
+    let column = ConstantArray::new(scalar(alloc, number)?, len).into_array();
     Ok(column.into_ref(alloc)?)
 }
 
@@ -68,8 +71,7 @@ pub(crate) fn filtered_sevens(alloc: Global, len: usize) -> Result<Array, Fail> 
 
 /// Index 0, so many times: one piece.
 pub(crate) fn zeros(alloc: Global, len: usize) -> Result<Indices, Fail> {
-    let start = constant(alloc, 0, 1)?;
-    let length = constant(alloc, len as i128, 1)?;
+    let (start, length) = (constant(alloc, 0, 1)?, constant(alloc, len as i128, 1)?);
     let pieces = PiecewiseSequence::try_new(start.share(), length, start, len)?;
     Ok(Indices::Pieces(pieces))
 }

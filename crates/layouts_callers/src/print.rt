@@ -1,15 +1,22 @@
 //! The rows of a step's answer, in a line.
 use std::alloc::Global;
+use std::io;
 use std::test::Fail;
 use vx_column::{Array, Row};
 
-fn print_row(rt: &impl Print, row: &Row) -> Result<(), Fail> {
+fn print_row(rt: &impl Print, row: &Row) -> io::Result<()> {
     match row {
-        Row::Null => print!(rt; " null")?,
-        Row::Bit(bit) => print!(rt; " {bit}")?,
-        Row::Bytes(bytes) => print!(rt; " {:?}", bytes.as_slice())?,
+        Row::Null => print!(rt; " null"),
+        Row::Bit(bit) => print!(rt; " {bit}"),
+        Row::Bytes(bytes) => print!(rt; " {:?}", bytes.as_slice()),
     }
-    Ok(())
+}
+
+fn row_at(alloc: Global, array: &Array, i: usize) -> Result<Row, Fail> {
+    if i >= array.len() {
+        return Err("past the last row".into());
+    }
+    Ok(array.row_at(alloc, i)?)
 }
 
 /// The rows, or that there are none since the step is left to the caller.
@@ -21,7 +28,7 @@ pub(crate) fn print_answer(
     match answer {
         Some(array) => {
             for i in 0..array.len() {
-                print_row(rt, &array.row_at(alloc, i)?)?;
+                print_row(rt, &row_at(alloc, array, i)?)?;
             }
             println!(rt; "")?;
         }

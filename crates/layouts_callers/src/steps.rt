@@ -6,14 +6,71 @@ use crate::print::print_answer;
 use std::alloc::Global;
 use std::test::Fail;
 use vx_column::vtables::{Bool, Decimal, Dict, Filter, Null, Primitive};
-use vx_column::{Array, NullArray, VTable};
-use vx_layouts::{FilterReduce, SliceReduce, TakeExecute, take};
+use vx_column::{Array, ArrayView, NullArray, VTable};
+use vx_layouts::{FilterReduce, SliceReduce, TakeError, TakeExecute, take};
 use vx_mask::{Mask, Policy};
+use vx_pieces::Indices;
+
+// Each call stands in a function that says nothing of it, so that few facts pile up.
+
+fn view_of<V: VTable>(array: &Array) -> Result<ArrayView<'_, V>, Fail> {
+    let Some(view) = array.as_opt::<V>() else {
+        return Err("a column of another layout".into());
+    };
+    Ok(view)
+}
+
+fn rows_as<V: VTable>(array: &Array) -> Option<usize> {
+    let Some(view) = array.as_opt::<V>() else {
+        return None;
+    };
+    Some(view.array().len())
+}
+
+fn taken<V: TakeExecute>(
+    alloc: Global,
+    view: ArrayView<'_, V>,
+    indices: &Indices,
+) -> Result<Option<Array>, TakeError> {
+    V::take(alloc, view, indices)
+}
+
+fn taken_by_any(alloc: Global, array: &Array, indices: &Indices) -> Result<Array, TakeError> {
+    take(alloc, array, indices, &Policy::vortex())
+}
+
+fn filtered_by<V: FilterReduce>(
+    alloc: Global,
+    view: ArrayView<'_, V>,
+    mask: &Mask,
+) -> Result<Option<Array>, Fail> {
+    if mask.len() != view.array().len() {
+        return Err("not a bit for each row".into());
+    }
+    Ok(V::filter(alloc, view, mask)?)
+}
+
+fn sliced<V: SliceReduce>(
+    alloc: Global,
+    view: ArrayView<'_, V>,
+    start: usize,
+    end: usize,
+) -> Result<Option<Array>, Fail> {
+    if start > end || end > view.array().len() {
+        return Err("a slice past the rows".into());
+    }
+    Ok(V::slice(alloc, view, start, end)?)
+}
 
 /// Whether a column is of the layout, and of which it is.
 fn print_view<V: VTable>(rt: &impl Print, array: &Array) -> Result<(), Fail> {
-    let rows = array.as_opt::<V>().map(|view| view.array().len());
+    let rows = rows_as::<V>(array);
     println!(rt; "{:?} as {:?}: {rows:?} rows", array.layout_name(), V::NAME)?;
+    Ok(())
+}
+
+fn print_error(rt: &impl Print, error: TakeError) -> Result<(), Fail> {
+    println!(rt; " {error:?}")?;
     Ok(())
 }
 
@@ -24,14 +81,13 @@ fn print_take<V: TakeExecute>(
     array: &Array,
     picks: &[[u8; 1]],
 ) -> Result<(), Fail> {
-    if let Some(view) = array.as_opt::<V>() {
-        print!(rt; "take of {:?}:", V::NAME)?;
-        match V::take(alloc, view, &indices(alloc, picks)?) {
-            Ok(answer) => print_answer(rt, alloc, &answer)?,
-            Err(error) => println!(rt; " {error:?}")?,
-        }
+    print!(rt; "take of {:?}:", V::NAME)?;
+    let view = view_of::<V>(array)?;
+    let indices = indices(alloc, picks)?;
+    match taken(alloc, view, &indices) {
+        Ok(answer) => print_answer(rt, alloc, &answer),
+        Err(error) => print_error(rt, error),
     }
-    Ok(())
 }
 
 /// A filter by the layout.
@@ -41,13 +97,9 @@ fn print_filter<V: FilterReduce>(
     array: &Array,
     mask: &Mask,
 ) -> Result<(), Fail> {
-    if let Some(view) = array.as_opt::<V>() {
-        if mask.len() == array.len() {
-            print!(rt; "filter of {:?}:", V::NAME)?;
-            print_answer(rt, alloc, &V::filter(alloc, view, mask)?)?;
-        }
-    }
-    Ok(())
+    print!(rt; "filter of {:?}:", V::NAME)?;
+    let answer = filtered_by(alloc, view_of::<V>(array)?, mask)?;
+    print_answer(rt, alloc, &answer)
 }
 
 /// A slice by the layout.
@@ -58,13 +110,9 @@ fn print_slice<V: SliceReduce>(
     start: usize,
     end: usize,
 ) -> Result<(), Fail> {
-    if let Some(view) = array.as_opt::<V>() {
-        if start <= end && end <= array.len() {
-            print!(rt; "slice {start}..{end} of {:?}:", V::NAME)?;
-            print_answer(rt, alloc, &V::slice(alloc, view, start, end)?)?;
-        }
-    }
-    Ok(())
+    print!(rt; "slice {start}..{end} of {:?}:", V::NAME)?;
+    let answer = sliced(alloc, view_of::<V>(array)?, start, end)?;
+    print_answer(rt, alloc, &answer)
 }
 
 /// A column is one of its own layout, and of no other.
@@ -100,12 +148,7 @@ pub(crate) fn print_takes(rt: &impl Print, alloc: Global) -> Result<(), Fail> {
 pub(crate) fn print_any_take(rt: &impl Print, alloc: Global) -> Result<(), Fail> {
     let column = bytes(alloc, &[[10], [20]])?;
     print_take::<Primitive>(rt, alloc, &column, &[[0], [2]])?;
-    let rows = take(
-        alloc,
-        &column,
-        &indices(alloc, &[[1], [0]])?,
-        &Policy::vortex(),
-    )?;
+    let rows = taken_by_any(alloc, &column, &indices(alloc, &[[1], [0]])?)?;
     print!(rt; "take:")?;
     print_answer(rt, alloc, &Some(rows))
 }
@@ -115,31 +158,42 @@ pub(crate) fn print_lazy_takes(rt: &impl Print, alloc: Global) -> Result<(), Fai
     let column = filtered(alloc, bools(alloc, &[true, false])?, &[true, true])?;
     print_take::<Filter>(rt, alloc, &column, &[[1]])?;
     print_take::<Filter>(rt, alloc, &column, &[[2]])?;
+    print_lazy_bytes(rt, alloc)
+}
+
+fn print_lazy_bytes(rt: &impl Print, alloc: Global) -> Result<(), Fail> {
     let child = bytes(alloc, &[[10], [20], [30]])?;
     let column = filtered(alloc, child, &[true, false, true])?;
     print_take::<Filter>(rt, alloc, &column, &[[1]])
 }
 
-/// Whether long takes of filtered columns are left to the caller.
-fn print_long_take(rt: &impl Print, alloc: Global, rows: usize, len: usize) -> Result<(), Fail> {
+/// How many rows a long take of a filtered column gives, if it isn't left to the caller.
+fn long_take(alloc: Global, rows: usize, len: usize) -> Result<Option<usize>, Fail> {
     let column = filtered_sevens(alloc, rows)?;
-    let indices = zeros(alloc, len)?;
-    if let Some(view) = column.as_opt::<Filter>() {
-        let answer = Filter::take(alloc, view, &indices)?;
-        println!(rt;
-            "{len} of {rows} rows: {:?}",
-            answer.map(|array| array.len())
-        )?;
+    let view = view_of::<Filter>(&column)?;
+    Ok(rows_of(&taken(alloc, view, &zeros(alloc, len)?)?))
+}
+
+fn rows_of(answer: &Option<Array>) -> Option<usize> {
+    match answer {
+        Some(array) => Some(array.len()),
+        None => None,
     }
-    Ok(())
 }
 
 /// Takes at both sides of each limit.
 pub(crate) fn print_long_takes(rt: &impl Print, alloc: Global) -> Result<(), Fail> {
-    print_long_take(rt, alloc, 4096, 4096)?;
-    print_long_take(rt, alloc, 4096, 4095)?;
-    print_long_take(rt, alloc, 4095, 4096)?;
-    print_long_take(rt, alloc, 2500, 25_000)?;
-    print_long_take(rt, alloc, 2501, 25_000)?;
-    print_long_take(rt, alloc, 2499, 24_999)
+    let limits = [
+        (4096, 4096),
+        (4096, 4095),
+        (4095, 4096),
+        (2500, 25_000),
+        (2501, 25_000),
+        (2499, 24_999),
+    ];
+    for (rows, len) in limits {
+        let taken = long_take(alloc, rows, len)?;
+        println!(rt; "{len} of {rows} rows: {taken:?}")?;
+    }
+    Ok(())
 }

@@ -3,6 +3,7 @@ ghost use Rattle.std.specs.Prelude.{◌≤◌, IfOk};
 
 use std::io::{self, ErrorKind, Read, Write};
 use std::test::Fail;
+use vx_bits::Failed;
 use vx_outside::{Sink, Source, StdSink, StdSource};
 
 /// Some calls are interrupted, then some fail otherwise, then some give and take nothing, and from
@@ -51,7 +52,36 @@ impl Write for Flaky {
     }
 }
 
-/// One call of each kind, over calls that are interrupted, fail, or give and take nothing.
+fn read_of(flaky: Flaky) -> Result<usize, Failed> {
+    StdSource::new(flaky).read(&mut [0; 4])
+}
+
+fn write_of(flaky: Flaky, bytes: &[u8]) -> Result<usize, Failed> {
+    StdSink::new(flaky).write(bytes)
+}
+
+fn finish_of(flaky: Flaky) -> Result<(), Failed> {
+    StdSink::new(flaky).finish()
+}
+
+/// One call of each kind.
+fn print_calls(rt: &impl Print, flaky: Flaky) -> Result<(), Fail> {
+    let read = read_of(flaky);
+    let written = write_of(flaky, b"abcde");
+    let finished = finish_of(flaky);
+    let Flaky {
+        interrupted,
+        broken,
+        idle,
+    } = flaky;
+    println!(rt;
+        "interrupted {interrupted}, broken {broken}, idle {idle}: \
+         read {read:?}, write {written:?}, finish {finished:?}"
+    )?;
+    Ok(())
+}
+
+/// Calls that are interrupted, fail, or give and take nothing.
 pub(crate) fn print_retries(rt: &impl Print) -> Result<(), Fail> {
     for (interrupted, broken, idle) in [
         (0, 0, 0),
@@ -61,17 +91,13 @@ pub(crate) fn print_retries(rt: &impl Print) -> Result<(), Fail> {
         (1, 1, 0),
         (0, 0, 1),
     ] {
-        let flaky = Flaky {
-            interrupted,
-            broken,
-            idle,
-        };
-        let read = StdSource::new(flaky).read(&mut [0; 4]);
-        let written = StdSink::new(flaky).write(b"abcde");
-        let finished = StdSink::new(flaky).finish();
-        println!(rt;
-            "interrupted {interrupted}, broken {broken}, idle {idle}: \
-             read {read:?}, write {written:?}, finish {finished:?}"
+        print_calls(
+            rt,
+            Flaky {
+                interrupted,
+                broken,
+                idle,
+            },
         )?;
     }
     let idle = Flaky {
@@ -79,6 +105,6 @@ pub(crate) fn print_retries(rt: &impl Print) -> Result<(), Fail> {
         broken: 0,
         idle: 1,
     };
-    println!(rt; "nothing: write {:?}", StdSink::new(idle).write(b""))?;
+    println!(rt; "nothing: write {:?}", write_of(idle, b""))?;
     Ok(())
 }

@@ -10,7 +10,8 @@ use std::test::Fail;
 
 fn main(rt: HostRuntime) -> Result<(), Fail> {
     memory::print_sources(&rt, rt.alloc())?;
-    memory::print_sinks(&rt, rt.alloc())?;
+    memory::print_sink(&rt, rt.alloc())?;
+    memory::print_counting_sink(&rt)?;
     flaky::print_retries(&rt)?;
     transfers::print_readings(&rt, rt.alloc())?;
     transfers::print_bounds(&rt, rt.alloc())?;

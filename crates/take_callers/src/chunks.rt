@@ -1,70 +1,103 @@
-//! Filters of values that are decoded by chunks, and the calls that they make.
-ghost use Rattle.std.specs.Prelude.{◌≡◌, ◌+◌, ◌<◌, ◌≤◌, IfOk, length, true};
-ghost use Rattle.vx_mask.specs.Mask.{mask_bits};
-ghost use Rattle.vx_mask.specs.Positions.{ascending};
-ghost use Rattle.vx_chunked.specs.Told.{whole_chunks};
-
-use crate::counted::Counted;
-use crate::picks::picks_of;
+//! Filters of numbers that are decoded by chunks, and the calls that they make.
+use crate::needs::needs_of;
+use crate::values::numbers;
 use std::alloc::Global;
 use std::test::Fail;
-use vx_bits::{BitBuilder, Buffer, NoMemory};
-use vx_chunked::{
-    Call, CallLog, Logged, StoredChunks, asked_law, filter_chunked, filter_chunked_by_indices,
-    filter_chunked_by_slices, filter_chunked_mask,
-};
+use vx_bits::{BitBuffer, NoMemory};
+use vx_chunked::{Call, CallLog, Logged, asked_law, filter_chunked_mask};
 use vx_mask::{Mask, Policy};
-use vx_take::{gather, needed, ranks_in};
+use vx_take::{Picks, gather};
 
 /// A row for each filter.
 pub(crate) fn print_rows(rt: &impl Print, alloc: Global) -> Result<(), Fail> {
-    asked_law();
+    print_new_log(rt)?;
+    print_bit(rt, alloc, "bit 1500 of 3000", 3000, 1500)?;
+    print_bit(rt, alloc, "the first of 3072", 3072, 0)?;
+    print_masked(rt, alloc, "all of 1088", &Mask::AllTrue(1088))?;
+    print_masked(rt, alloc, "all of 1089", &Mask::AllTrue(1089))?;
+    let list = [Some(2047), Some(0), None, Some(2047), Some(1024)];
+    print_picked(rt, alloc, 0, 3000, &list)?;
+    print_picked(rt, alloc, 1000, 30, &[Some(23), Some(24)])
+}
+
+fn print_new_log(rt: &impl Print) -> Result<(), Fail> {
     println!(rt;
         "a log from the start: {} calls",
         CallLog::new().calls().len()
     )?;
-    print_numbers(
-        rt,
-        alloc,
-        "bit 1500 of 3000",
-        &mask_of(alloc, 3000, 1500, 1501)?,
-    )?;
-    print_numbers(rt, alloc, "the first of 3072", &mask_of(alloc, 3072, 0, 1)?)?;
-    print_numbers(rt, alloc, "all of 1088", &Mask::AllTrue(1088))?;
-    print_numbers(rt, alloc, "all of 1089", &Mask::AllTrue(1089))?;
-    let list = [Some(2047), Some(0), None, Some(2047), Some(1024)];
-    print_picked(rt, alloc, 0, 3000, &list)?;
-    print_picked(rt, alloc, 1000, 30, &[Some(23), Some(24)])?;
-    print_hundreds::<1>(rt, alloc)?;
-    print_hundreds::<8>(rt, alloc)?;
-    print_counted_places(rt, alloc)?;
-    print_counted_bits(rt, alloc)
+    asked_law();
+    Ok(())
 }
 
-/// The calls, each behind a blank.
-fn text_of(alloc: Global, calls: &[Call]) -> Result<String, Fail> {
-    let mut text = String::new(alloc);
+/// The calls, and the end of the line.
+pub(crate) fn print_calls(rt: &impl Print, calls: &[Call]) -> Result<(), Fail> {
+    rt.print(", calls:")?;
     for call in calls {
-        let call = match call {
-            Call::Whole { chunk } => format!(in alloc; " Whole({chunk})")?,
-            Call::Only { chunk, count } => format!(in alloc; " Only({chunk},{count})")?,
-        };
-        text.push_str(call.as_str())?;
+        match call {
+            Call::Whole { chunk } => print!(rt; " Whole({chunk})")?,
+            Call::Only { chunk, count } => print!(rt; " Only({chunk},{count})")?,
+        }
     }
-    Ok(text)
+    rt.println("")?;
+    Ok(())
 }
 
-/// A decoder of the numbers below 3072, which may be asked three times.
-fn numbers(alloc: Global) -> Result<Logged<[u8; 4], StoredChunks<[u8; 4]>>, NoMemory>
-    ensures values { IfOk result (λ s. length (whole_chunks s.0) ≡ 3072) }
-    ensures room { IfOk result (λ s. s.2 ≡ 3) }
-{
-    let mut values = vec![in alloc; [0; 4]; 3072]?;
-    for n in 0..3072 {
-        values[n] = (n as u32).to_le_bytes();
+/// Rows of which `count` are set, from `start` on.
+pub(crate) fn mask_of(
+    alloc: Global,
+    len: usize,
+    start: usize,
+    count: usize,
+) -> Result<Mask, NoMemory> {
+    let mut bits = Vec::with_capacity(alloc, len)?;
+    for n in 0..len {
+        bits.push(start <= n && n - start < count)?;
     }
-    let values = StoredChunks::new(Buffer::from_vec(alloc, values)?);
-    Logged::new(alloc, values, 3)
+    Ok(Mask::from_buffer(BitBuffer::from_bools(alloc, &bits)?))
+}
+
+/// Numbers that are kept, and the calls that were made for them.
+#[derive(Drop)]
+struct Kept {
+    numbers: Vec<[u8; 4]>,
+    log: CallLog,
+}
+
+/// What a filter of the numbers from `offset` on keeps.
+fn kept_numbers(alloc: Global, offset: usize, mask: &Mask) -> Result<Kept, Fail> {
+    if offset >= 1024 || mask.len() > 3072 - offset {
+        return Err("rows past the numbers".into());
+    }
+    let mut decoder = Logged::new(alloc, numbers(alloc)?, 3)?;
+    let numbers = filter_chunked_mask(alloc, &mut decoder, offset, mask, &Policy::vortex())?;
+    Ok(Kept {
+        numbers,
+        log: decoder.into_log(),
+    })
+}
+
+/// What a filter of the numbers keeps.
+fn print_masked(rt: &impl Print, alloc: Global, name: &str, mask: &Mask) -> Result<(), Fail> {
+    let kept = kept_numbers(alloc, 0, mask)?;
+    let numbers = numbers_in(alloc, kept.numbers.as_slice())?;
+    print_kept(rt, name, numbers.as_slice(), kept.log.calls())
+}
+
+fn print_kept(rt: &impl Print, name: &str, kept: &[u32], calls: &[Call]) -> Result<(), Fail> {
+    let (rows, first) = (kept.len(), kept.first());
+    print!(rt; "{name}: {rows} rows, {first:?} first")?;
+    print_calls(rt, calls)
+}
+
+/// What a filter of the numbers keeps by a single bit.
+fn print_bit(
+    rt: &impl Print,
+    alloc: Global,
+    name: &str,
+    len: usize,
+    bit: usize,
+) -> Result<(), Fail> {
+    print_masked(rt, alloc, name, &mask_of(alloc, len, bit, 1)?)
 }
 
 /// The numbers that records are.
@@ -76,19 +109,6 @@ fn numbers_in(alloc: Global, records: &[[u8; 4]]) -> Result<Vec<u32>, NoMemory> 
     Ok(numbers)
 }
 
-/// Bits of which those from `start` up to `end` are set.
-fn mask_of(alloc: Global, len: usize, start: usize, end: usize) -> Result<Mask, NoMemory>
-    requires ordered { start ≤ end }
-    requires within { end ≤ len }
-    ensures { IfOk result (λ m. length (mask_bits m) ≡ len) }
-{
-    let mut bits = BitBuilder::with_capacity(alloc, len)?;
-    bits.append_n(false, start)?;
-    bits.append_n(true, end - start)?;
-    bits.append_n(false, len - end)?;
-    Ok(Mask::from_buffer(bits.finish()?))
-}
-
 /// The numbers at picks, by a filter of those that are needed, with 9 at a null.
 fn print_picked(
     rt: &impl Print,
@@ -96,138 +116,28 @@ fn print_picked(
     offset: usize,
     len: usize,
     list: &[Option<usize>],
-) -> Result<(), Fail>
-    requires offset { offset < 1024 }
-    requires within { offset + len ≤ 3072 }
-{
-    let mut decoder = numbers(alloc)?;
-    let picks = picks_of(alloc, len, list)?;
-    let mask = needed(alloc, &picks)?;
-    let kept = filter_chunked_mask(alloc, &mut decoder, offset, &mask, &Policy::vortex())?;
-    let ranks = ranks_in(alloc, &picks, &mask)?;
-    let items = gather(alloc, kept.as_slice(), &ranks, 9u32.to_le_bytes())?;
-    let items = numbers_in(alloc, items.as_slice())?;
-    let calls = text_of(alloc, decoder.calls())?;
-    println!(rt; "{list:?} from {offset} on: {items:?}, calls:{calls}")?;
-    Ok(())
+) -> Result<(), Fail> {
+    let needs = needs_of(alloc, len, list)?;
+    let kept = kept_numbers(alloc, offset, &needs.mask)?;
+    let items = at_ranks(alloc, kept.numbers.as_slice(), &needs.ranks)?;
+    print_ranked(rt, list, offset, items.as_slice(), kept.log.calls())
 }
 
-/// What a filter of the numbers keeps.
-fn print_numbers(rt: &impl Print, alloc: Global, name: &str, mask: &Mask) -> Result<(), Fail>
-    requires { length (mask_bits mask.now) ≤ 3072 }
-{
-    let mut decoder = numbers(alloc)?;
-    let kept = filter_chunked_mask(alloc, &mut decoder, 0, mask, &Policy::vortex())?;
-    let numbers = numbers_in(alloc, kept.as_slice())?;
-    let (rows, first) = (numbers.len(), numbers.first());
-    let calls = text_of(alloc, decoder.into_log().calls())?;
-    println!(rt; "{name}: {rows} rows, {first:?} first, calls:{calls}")?;
-    Ok(())
-}
-
-/// Records of W bytes, each of which is the place's remainder by 251, in two chunks.
-fn remainders<const W: usize>(alloc: Global) -> Result<StoredChunks<[u8; W]>, NoMemory>
-    requires { W ≤ 8 }
-    ensures { IfOk result (λ s. length (whole_chunks s) ≡ 2048) }
-{
-    let mut values = vec![in alloc; [0; W]; 2048]?;
-    for n in 0..2048 {
-        values[n] = [(n % 251) as u8; W];
-    }
-    Ok(StoredChunks::new(Buffer::from_vec(alloc, values)?))
-}
-
-/// What was kept, and by which calls.
-fn print_kept<const W: usize>(
+fn print_ranked(
     rt: &impl Print,
-    alloc: Global,
-    name: &str,
-    kept: &[[u8; W]],
+    list: &[Option<usize>],
+    offset: usize,
+    items: &[u32],
     calls: &[Call],
-) -> Result<(), Fail>
-    requires { W ≤ 8 }
-{
-    let (rows, first, last) = (kept.len(), kept.first(), kept.last());
-    let calls = text_of(alloc, calls)?;
-    println!(rt; "{name}: {rows} rows, {first:?} to {last:?}, calls:{calls}")?;
-    Ok(())
+) -> Result<(), Fail> {
+    print!(rt; "{list:?} from {offset} on: {items:?}")?;
+    print_calls(rt, calls)
 }
 
-fn print_by_mask<const W: usize>(
-    rt: &impl Print,
-    alloc: Global,
-    name: &str,
-    mask: &Mask,
-) -> Result<(), Fail>
-    requires width { W ≤ 8 }
-    requires len { length (mask_bits mask.now) ≡ 2048 }
-{
-    let mut decoder = Logged::new(alloc, remainders::<W>(alloc)?, 2)?;
-    let kept = filter_chunked_mask(alloc, &mut decoder, 0, mask, &Policy::vortex())?;
-    print_kept(rt, alloc, name, kept.as_slice(), decoder.calls())
-}
-
-fn print_by_indices<const W: usize>(
-    rt: &impl Print,
-    alloc: Global,
-    indices: &[usize],
-) -> Result<(), Fail>
-    requires width { W ≤ 8 }
-    requires ascend { ascending 0 2048 indices.now ≡ true }
-{
-    let mut decoder = Logged::new(alloc, remainders::<W>(alloc)?, 2)?;
-    let policy = Policy::vortex();
-    let kept = filter_chunked_by_indices(alloc, &mut decoder, 0, 2048, indices, &policy)?;
-    print_kept(rt, alloc, "by indices", kept.as_slice(), decoder.calls())
-}
-
-fn print_by_slices<const W: usize>(rt: &impl Print, alloc: Global) -> Result<(), Fail>
-    requires { W ≤ 8 }
-{
-    let mut decoder = Logged::new(alloc, remainders::<W>(alloc)?, 2)?;
-    let (policy, runs) = (Policy::vortex(), [(1000, 1024), (1024, 1100)]);
-    let kept = filter_chunked_by_slices(alloc, &mut decoder, 0, 2048, &runs, &policy)?;
-    print_kept(rt, alloc, "by runs", kept.as_slice(), decoder.calls())
-}
-
-/// Rows for the positions 1000 to 1099, of records of W bytes.
-fn print_hundreds<const W: usize>(rt: &impl Print, alloc: Global) -> Result<(), Fail>
-    requires { W ≤ 8 }
-{
-    let mask = mask_of(alloc, 2048, 1000, 1100)?;
-    print_by_mask::<W>(rt, alloc, "bits", &mask)?;
-    print_by_mask::<W>(rt, alloc, "kept runs", &mask.with_slices(alloc)?)?;
-    let mask = mask.with_indices(alloc)?;
-    print_by_mask::<W>(rt, alloc, "kept indices", &mask)?;
-    if let Some(indices) = mask.cached_indices() {
-        print_by_indices::<W>(rt, alloc, indices)?;
+fn at_ranks(alloc: Global, kept: &[[u8; 4]], ranks: &Picks) -> Result<Vec<u32>, Fail> {
+    if ranks.bound() > kept.len() {
+        return Err("a rank past what was kept".into());
     }
-    print_by_slices::<W>(rt, alloc)
-}
-
-fn print_counted_places(rt: &impl Print, alloc: Global) -> Result<(), Fail> {
-    let inner = remainders::<2>(alloc)?;
-    let mut decoder = Counted { inner, spare: 9 };
-    let policy = Policy::vortex();
-    let places = [7, 8, 1100];
-    let kept = filter_chunked_by_indices(alloc, &mut decoder, 10, 1900, &places, &policy)?;
-    println!(rt;
-        "places {places:?} from 10 on: {kept:?}, {} spare",
-        decoder.spare
-    )?;
-    Ok(())
-}
-
-fn print_counted_bits(rt: &impl Print, alloc: Global) -> Result<(), Fail> {
-    let inner = remainders::<2>(alloc)?;
-    let mut decoder = Counted { inner, spare: 9 };
-    let mask = mask_of(alloc, 1900, 990, 1900)?;
-    let mask = mask.values().ok_or("all rows or none")?;
-    let kept = filter_chunked(alloc, &mut decoder, 10, mask, &Policy::vortex())?;
-    let (rows, first) = (kept.len(), kept.first());
-    println!(rt;
-        "bits from 990 up to 1900: {rows} rows, {first:?}, {} spare",
-        decoder.spare
-    )?;
-    Ok(())
+    let records = gather(alloc, kept, ranks, 9u32.to_le_bytes())?;
+    Ok(numbers_in(alloc, records.as_slice())?)
 }

@@ -6,6 +6,8 @@ mod counted;
 mod needs;
 mod picks;
 mod ranks;
+mod values;
+mod widths;
 
 use std::test::Fail;
 
@@ -13,5 +15,6 @@ fn main(rt: HostRuntime) -> Result<(), Fail> {
     picks::print_rows(&rt, rt.alloc())?;
     ranks::print_rows(&rt, rt.alloc())?;
     needs::print_rows(&rt, rt.alloc())?;
-    chunks::print_rows(&rt, rt.alloc())
+    chunks::print_rows(&rt, rt.alloc())?;
+    widths::print_rows(&rt, rt.alloc())
 }

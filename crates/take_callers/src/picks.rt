@@ -1,6 +1,4 @@
 //! Takes at picks and in runs.
-ghost use Rattle.std.specs.Prelude.{◌≡◌, IfOk};
-
 use std::alloc::Global;
 use std::test::Fail;
 use vx_bits::{BitBuffer, NoMemory};
@@ -8,38 +6,46 @@ use vx_take::{Picks, filter_take_law, gather, gather_bits, gather_runs, takes_la
 
 /// A row for each take.
 pub(crate) fn print_rows(rt: &impl Print, alloc: Global) -> Result<(), Fail> {
-    let picks = Picks::new(alloc, 3);
-    println!(rt;
-        "no pick yet: empty {}, bound {}",
-        picks.is_empty(),
-        picks.bound()
-    )?;
+    print_bound(rt, &Picks::new(alloc, 3))?;
     print_items(rt, alloc)?;
-    for list in [[Some(1), Some(2)], [Some(1), None]] {
-        print_bits(rt, alloc, &list)?;
-    }
+    print_bits(rt, alloc, &[Some(1), Some(2)])?;
+    print_bits(rt, alloc, &[Some(1), None])?;
+    print_runs(rt, alloc)?;
+    takes_law::<u8>();
+    filter_take_law::<u8>();
+    Ok(())
+}
+
+fn print_bound(rt: &impl Print, picks: &Picks) -> Result<(), Fail> {
+    let (empty, bound) = (picks.is_empty(), picks.bound());
+    println!(rt; "no pick yet: empty {empty}, bound {bound}")?;
+    Ok(())
+}
+
+fn print_runs(rt: &impl Print, alloc: Global) -> Result<(), Fail> {
     let items = gather_runs(alloc, &[7u8, 8, 9], &[(1, 2), (0, 1)])?;
     println!(rt; "7 8 9, two from 1 on and one from 0 on: {items:?}")?;
     Ok(())
 }
 
 /// The picks of a list, each of which is below the bound.
-pub(crate) fn picks_of(alloc: Global, bound: usize, list: &[Option<usize>]) -> Result<Picks, Fail>
-    ensures { IfOk result (λ picks. picks.bound ≡ bound) }
-{
+pub(crate) fn picks_of(alloc: Global, bound: usize, list: &[Option<usize>]) -> Result<Picks, Fail> {
     let mut picks = Picks::with_capacity(alloc, bound, list.len())?;
     for pick in list {
         match pick {
             None => picks.push(None)?,
-            Some(place) => {
-                if *place >= bound {
-                    return Err("a pick past the bound".into());
-                }
-                picks.push(Some(*place))?;
-            }
+            Some(place) => push_place(&mut picks, *place)?,
         }
     }
     Ok(picks)
+}
+
+fn push_place(picks: &mut Picks, place: usize) -> Result<(), Fail> {
+    if place >= picks.bound() {
+        return Err("a pick past the bound".into());
+    }
+    picks.push(Some(place))?;
+    Ok(())
 }
 
 /// The picks, as a list.
@@ -61,19 +67,45 @@ fn text_of(alloc: Global, bits: &BitBuffer) -> Result<String, NoMemory> {
 }
 
 fn print_items(rt: &impl Print, alloc: Global) -> Result<(), Fail> {
-    takes_law::<u8>();
-    filter_take_law::<u8>();
-    let picks = picks_of(alloc, 3, &[Some(2), None])?;
-    let items = gather(alloc, &[7u8, 8, 9], &picks, 0)?;
+    let items = items_at(alloc, &picks_of(alloc, 3, &[Some(2), None])?)?;
     println!(rt; "7 8 9 at 2 and null, 0 at a null: {items:?}")?;
     Ok(())
 }
 
+fn items_at(alloc: Global, picks: &Picks) -> Result<Vec<u8>, Fail> {
+    if picks.bound() > 3 {
+        return Err("picks past the items".into());
+    }
+    Ok(gather(alloc, &[7u8, 8, 9], picks, 0)?)
+}
+
+fn bits_at(alloc: Global, src: &BitBuffer, picks: &Picks) -> Result<BitBuffer, Fail> {
+    if picks.bound() > src.len() {
+        return Err("picks past the bits".into());
+    }
+    Ok(gather_bits(alloc, src, picks, true)?)
+}
+
 fn print_bits(rt: &impl Print, alloc: Global, list: &[Option<usize>]) -> Result<(), Fail> {
-    let src = BitBuffer::from_bools(alloc, &[true, false, true])?;
     let picks = picks_of(alloc, 3, list)?;
-    let bits = text_of(alloc, &gather_bits(alloc, &src, &picks, true)?)?;
-    let valid = text_of(alloc, &valid_bits(alloc, &picks)?)?;
+    print_texts(rt, alloc, list, &picks)
+}
+
+fn print_texts(
+    rt: &impl Print,
+    alloc: Global,
+    list: &[Option<usize>],
+    picks: &Picks,
+) -> Result<(), Fail> {
+    let bits = text_at(alloc, picks)?;
+    let valid = text_of(alloc, &valid_bits(alloc, picks)?)?;
     println!(rt; "101 at {list:?}, 1 at a null: {bits}, there {valid}")?;
     Ok(())
+}
+
+/// The text of the bits 101 at picks.
+fn text_at(alloc: Global, picks: &Picks) -> Result<String, Fail> {
+    let src = BitBuffer::from_bools(alloc, &[true, false, true])?;
+    let bits = bits_at(alloc, &src, picks)?;
+    Ok(text_of(alloc, &bits)?)
 }

@@ -13,8 +13,6 @@ use std::marker::Model;
 use std::ops::Deref;
 
 mod counted;
-#[cfg(test)]
-mod tests;
 mod unboxed;
 
 use counted::{Block, Counted};

@@ -3,9 +3,9 @@
 //! A row of the input has five fields between `|`: the program's words, how many bytes a read or a
 //! write takes at most, the numbers of the reads that fail, the numbers of the writes and finishes
 //! that fail, and the document, which may hold a `|` itself. A row that begins with `#` is a
-//! heading, and is printed as it stands. For each other row the status is printed, what was written,
-//! with a `\` behind it where no line end is its last byte, and the calls that the run left in its
-//! trace, where there are any. Behind the rows stands what none of them can say.
+//! heading, and is printed as it stands. For each other row the status is printed, what was
+//! written, with a `\` behind it where no line end is its last byte, and the calls that the run
+//! left in its trace, where there are any. Behind the rows stands what none of them can say.
 #![tactic(auto)]
 
 use row::{Row, row_of};
@@ -24,26 +24,24 @@ const ROOM: usize = 65_536;
 #[derive(Drop)]
 struct Given {
     status: u8,
-    text: String,
+    sink: MemorySink,
     trace: Trace,
 }
 
-fn answer_of(alloc: Global, row: &Row) -> Result<Given, Fail> {
+fn source_of(alloc: Global, row: &Row) -> Result<MemorySource, Fail> {
     let bytes = Buffer::from_vec(alloc, row.document.as_bytes().to_vec(alloc)?)?;
-    let mut source = MemorySource::new(bytes, row.piece, row.failing_reads.share());
-    let mut sink = MemorySink::new(alloc, row.piece, row.failing_writes.share(), ROOM)?;
+    Ok(MemorySource::new(bytes, row.piece, row.failing.reads.share()))
+}
+
+fn answer_of(alloc: Global, row: &Row) -> Result<Given, Fail> {
+    let mut source = source_of(alloc, row)?;
+    let mut sink = MemorySink::new(alloc, row.piece, row.failing.writes.share(), ROOM)?;
     let mut trace = Trace::new();
-    let status = run(
-        alloc,
-        row.words.as_slice(),
-        &mut source,
-        &mut sink,
-        &mut trace,
-    );
-    let text = String::from_utf8(sink.bytes().to_vec(alloc)?)?;
+    let words = row.words.as_slice();
+    let status = run(alloc, words, &mut source, &mut sink, &mut trace);
     Ok(Given {
         status,
-        text,
+        sink,
         trace,
     })
 }
@@ -65,23 +63,34 @@ fn print_calls(rt: &impl Print, calls: &[Call]) -> Result<(), Fail> {
     Ok(())
 }
 
+/// A text that was written, and a `\` behind it where no line end is its last byte.
+fn print_text(rt: &impl Print, text: &str) -> Result<(), Fail> {
+    print!(rt; "{text}")?;
+    if !text.is_empty() && !text.ends_with('\n') {
+        println!(rt; "\\")?;
+    }
+    Ok(())
+}
+
+fn print_given(rt: &impl Print, given: &Given) -> Result<(), Fail> {
+    println!(rt; "{}", given.status)?;
+    print_text(rt, std::str::from_utf8(given.sink.bytes())?)?;
+    print_calls(rt, given.trace.calls.calls())
+}
+
+fn print_row(rt: &impl Print, alloc: Global, line: &str) -> Result<(), Fail> {
+    let row = row_of(alloc, line)?;
+    print_given(rt, &answer_of(alloc, &row)?)
+}
+
 fn main(rt: HostRuntime) -> Result<(), Fail> {
     for line in rt.lines(rt.alloc()) {
         let line = line?;
         if line.as_str().starts_with('#') {
             println!(rt; "{line}")?;
-            continue;
+        } else {
+            print_row(&rt, rt.alloc(), line.as_str())?;
         }
-        let row = row_of(rt.alloc(), line.as_str())?;
-        let given = answer_of(rt.alloc(), &row)?;
-        println!(rt; "{}", given.status)?;
-        print!(rt; "{}", given.text)?;
-        if !given.text.is_empty() && !given.text.as_str().ends_with('\n') {
-            println!(rt; "\\")?;
-        }
-        print_calls(&rt, given.trace.calls.calls())?;
     }
-    unsaid::print_bounds(&rt, rt.alloc())?;
-    unsaid::print_bytes(&rt, rt.alloc())?;
-    unsaid::print_longest_line(&rt)
+    unsaid::print_rows(&rt, rt.alloc())
 }

@@ -5,6 +5,15 @@ use std::alloc::Global;
 use std::test::Fail;
 use vx_bits::Buffer;
 
+/// The calls that fail, by their numbers from 0.
+#[derive(Drop)]
+pub struct Failing {
+    /// The reads.
+    pub reads: Buffer<usize>,
+    /// The writes and finishes.
+    pub writes: Buffer<usize>,
+}
+
 /// A run of the program: what it is given, and what of it fails.
 #[derive(Drop)]
 pub struct Row {
@@ -12,10 +21,8 @@ pub struct Row {
     pub words: Vec<String>,
     /// How many bytes a read or a write takes at most, one at least.
     pub piece: usize,
-    /// The numbers of the reads that fail, from 0.
-    pub failing_reads: Buffer<usize>,
-    /// The numbers of the writes and finishes that fail, from 0.
-    pub failing_writes: Buffer<usize>,
+    /// The calls that fail.
+    pub failing: Failing,
     /// The document.
     pub document: String,
     ghost some: { 0 < piece },
@@ -55,17 +62,24 @@ fn field_of(line: &str) -> Result<(&str, &str), Fail> {
     Ok(line.split_once('|').ok_or("a row has five fields")?)
 }
 
+/// The calls that two fields name.
+fn failing_of(alloc: Global, reads: &str, writes: &str) -> Result<Failing, Fail> {
+    let reads = numbers_of(alloc, reads)?;
+    let writes = numbers_of(alloc, writes)?;
+    Ok(Failing { reads, writes })
+}
+
 /// The row that a line spells.
 pub fn row_of(alloc: Global, line: &str) -> Result<Row, Fail> {
     let (words, line) = field_of(line)?;
     let (piece, line) = field_of(line)?;
-    let (failing_reads, line) = field_of(line)?;
-    let (failing_writes, document) = field_of(line)?;
+    let (reads, line) = field_of(line)?;
+    let (writes, document) = field_of(line)?;
+    let piece = piece_of(piece)?;
     Ok(Row {
+        piece,
         words: words_of(alloc, words)?,
-        piece: piece_of(piece)?,
-        failing_reads: numbers_of(alloc, failing_reads)?,
-        failing_writes: numbers_of(alloc, failing_writes)?,
+        failing: failing_of(alloc, reads, writes)?,
         document: String::from_str(alloc, document)?,
     })
 }
