@@ -1,4 +1,4 @@
-//! Calls the crates of types, columns, indices and steps, and prints a line for each row: what was
+//! Calls the crates of columns, indices and steps, and prints a line for each row: what was
 //! called, and what it gave.
 #![tactic(auto)]
 
@@ -10,17 +10,11 @@ mod rows;
 mod selecting;
 mod shapes;
 mod steps;
-mod types;
 mod values;
 
 use std::test::Fail;
 
 fn main(rt: HostRuntime) -> Result<(), Fail> {
-    types::print_records(&rt)?;
-    types::print_numbers(&rt)?;
-    types::print_ranges(&rt)?;
-    types::print_decimals(&rt)?;
-    types::print_types(&rt)?;
     columns::print_readers(&rt, rt.alloc())?;
     columns::print_refusals(&rt, rt.alloc())?;
     columns::print_slice(&rt, rt.alloc())?;
