@@ -1,0 +1,51 @@
+//! What a run gives, as the lines that tell it.
+//!
+//! Each line begins with `=`. Behind `= ` stands a line that was written, or first of all the
+//! status; `=` alone is an empty line; behind `=\ ` stands what was written last with no line end,
+//! and behind `=? ` a call that the run left in its trace.
+
+use std::alloc::Global;
+use std::test::Fail;
+use vx_rows::Call;
+
+/// Appends a line that was written.
+fn push_line(lines: &mut String, line: &str) -> Result<(), Fail> {
+    match line.strip_suffix('\n') {
+        Some("") => writeln!(lines, "=")?,
+        Some(line) => writeln!(lines, "= {line}")?,
+        None => writeln!(lines, "=\\ {line}")?,
+    }
+    Ok(())
+}
+
+/// Appends the lines of a text that was written.
+pub(crate) fn push_text(lines: &mut String, text: &str) -> Result<(), Fail> {
+    for line in text.split_inclusive('\n') {
+        push_line(lines, line)?;
+    }
+    Ok(())
+}
+
+/// Appends a call of a decoder: of which chunk all values were asked for, or how many.
+fn push_call(lines: &mut String, call: Call) -> Result<(), Fail> {
+    match call {
+        Call::Whole { chunk } => writeln!(lines, "=? all of {chunk}")?,
+        Call::Only { chunk, count } => writeln!(lines, "=? {count} of {chunk}")?,
+    }
+    Ok(())
+}
+
+/// Appends the calls of a decoder, a line each.
+pub(crate) fn push_calls(lines: &mut String, calls: &[Call]) -> Result<(), Fail> {
+    for call in calls {
+        push_call(lines, *call)?;
+    }
+    Ok(())
+}
+
+/// The lines of a status and of what was written.
+pub(crate) fn answer_of(alloc: Global, status: u8, written: &[u8]) -> Result<String, Fail> {
+    let mut lines = format!(in alloc; "= {status}\n")?;
+    push_text(&mut lines, std::str::from_utf8(written)?)?;
+    Ok(lines)
+}
