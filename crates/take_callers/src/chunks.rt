@@ -1,9 +1,9 @@
 //! Filters of numbers that are decoded by chunks, and the calls that they make.
 use crate::needs::needs_of;
-use crate::values::numbers;
+use callers::{mask_of_run, numbers, print_calls};
 use std::alloc::Global;
 use std::test::Fail;
-use vx_bits::{BitBuffer, NoMemory};
+use vx_bits::NoMemory;
 use vx_chunked::{Call, CallLog, Logged, asked_law, filter_chunked_mask};
 use vx_mask::{Mask, Policy};
 use vx_take::{Picks, gather};
@@ -27,33 +27,6 @@ fn print_new_log(rt: &impl Print) -> Result<(), Fail> {
     )?;
     asked_law();
     Ok(())
-}
-
-/// The calls, and the end of the line.
-pub(crate) fn print_calls(rt: &impl Print, calls: &[Call]) -> Result<(), Fail> {
-    rt.print(", calls:")?;
-    for call in calls {
-        match call {
-            Call::Whole { chunk } => print!(rt; " Whole({chunk})")?,
-            Call::Only { chunk, count } => print!(rt; " Only({chunk},{count})")?,
-        }
-    }
-    rt.println("")?;
-    Ok(())
-}
-
-/// Rows of which `count` are set, from `start` on.
-pub(crate) fn mask_of(
-    alloc: Global,
-    len: usize,
-    start: usize,
-    count: usize,
-) -> Result<Mask, NoMemory> {
-    let mut bits = Vec::with_capacity(alloc, len)?;
-    for n in 0..len {
-        bits.push(start <= n && n - start < count)?;
-    }
-    Ok(Mask::from_buffer(BitBuffer::from_bools(alloc, &bits)?))
 }
 
 /// Numbers that are kept, and the calls that were made for them.
@@ -97,7 +70,7 @@ fn print_bit(
     len: usize,
     bit: usize,
 ) -> Result<(), Fail> {
-    print_masked(rt, alloc, name, &mask_of(alloc, len, bit, 1)?)
+    print_masked(rt, alloc, name, &mask_of_run(alloc, len, bit, 1)?)
 }
 
 /// The numbers that records are.

@@ -2,11 +2,9 @@
 #![tactic(auto)]
 
 mod chunks;
-mod counted;
 mod needs;
 mod picks;
 mod ranks;
-mod values;
 mod widths;
 
 use std::test::Fail;

@@ -1,4 +1,6 @@
 //! Takes at picks and in runs.
+
+use callers::text_of;
 use std::alloc::Global;
 use std::test::Fail;
 use vx_bits::{BitBuffer, NoMemory};
@@ -55,15 +57,6 @@ pub(crate) fn list_of(alloc: Global, picks: &Picks) -> Result<Vec<Option<usize>>
         list.push(picks.get(i))?;
     }
     Ok(list)
-}
-
-/// The bits, as a text of `0` and `1`.
-fn text_of(alloc: Global, bits: &BitBuffer) -> Result<String, NoMemory> {
-    let mut text = String::new(alloc);
-    for i in 0..bits.len() {
-        text.push(if bits.value(i) { '1' } else { '0' })?;
-    }
-    Ok(text)
 }
 
 fn print_items(rt: &impl Print, alloc: Global) -> Result<(), Fail> {

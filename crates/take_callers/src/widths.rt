@@ -2,9 +2,7 @@
 ghost use Rattle.std.specs.Prelude.{◌≡◌, ◌≤◌, IfOk, length};
 ghost use Rattle.vx_chunked.specs.Told.{whole_chunks};
 
-use crate::chunks::{mask_of, print_calls};
-use crate::counted::Counted;
-use crate::values::remainders;
+use callers::{Counted, mask_of_run, print_calls, remainders};
 use std::alloc::Global;
 use std::test::Fail;
 use vx_bits::NoMemory;
@@ -95,7 +93,7 @@ fn keeping_indices(alloc: Global, mask: &Mask) -> Result<Mask, NoMemory> {
 
 /// Rows for the positions 1000 to 1099, of records of two widths.
 fn print_masks(rt: &impl Print, alloc: Global) -> Result<(), Fail> {
-    let bits = mask_of(alloc, 2048, 1000, 100)?;
+    let bits = mask_of_run(alloc, 2048, 1000, 100)?;
     let runs = keeping_runs(alloc, &bits)?;
     let indices = keeping_indices(alloc, &bits)?;
     print_hundreds::<1>(rt, alloc, &bits, &runs, &indices)?;
@@ -167,7 +165,7 @@ fn print_counted_places(rt: &impl Print, alloc: Global) -> Result<(), Fail> {
 }
 
 fn print_counted_bits(rt: &impl Print, alloc: Global) -> Result<(), Fail> {
-    let mask = mask_of(alloc, 1900, 990, 910)?;
+    let mask = mask_of_run(alloc, 1900, 990, 910)?;
     let Some(rows) = mask.values() else {
         return Err("all rows or none".into());
     };

@@ -30,10 +30,17 @@ fn number_list(alloc: Global) -> Result<Vec<[u8; 4]>, NoMemory> {
 }
 
 /// The numbers below 3072, in three chunks.
-pub(crate) fn numbers(alloc: Global) -> Result<StoredChunks<[u8; 4]>, Fail>
+pub fn numbers(alloc: Global) -> Result<StoredChunks<[u8; 4]>, Fail>
     ensures { IfOk result (λ s. length (whole_chunks s) ≡ 3072) }
 {
     stored(alloc, number_list(alloc)?, 3072)
+}
+
+/// Bytes that are all 7, in three chunks.
+pub fn sevens(alloc: Global) -> Result<StoredChunks<[u8; 1]>, Fail>
+    ensures { IfOk result (λ s. length (whole_chunks s) ≡ 3072) }
+{
+    stored(alloc, vec![in alloc; [7]; 3072]?, 3072)
 }
 
 fn remainder_list<const W: usize>(alloc: Global) -> Result<Vec<[u8; W]>, NoMemory> {
@@ -45,7 +52,7 @@ fn remainder_list<const W: usize>(alloc: Global) -> Result<Vec<[u8; W]>, NoMemor
 }
 
 /// Records of W bytes, each of which is the place's remainder by 251, in two chunks.
-pub(crate) fn remainders<const W: usize>(alloc: Global) -> Result<StoredChunks<[u8; W]>, Fail>
+pub fn remainders<const W: usize>(alloc: Global) -> Result<StoredChunks<[u8; W]>, Fail>
     ensures { IfOk result (λ s. length (whole_chunks s) ≡ 2048) }
 {
     stored(alloc, remainder_list::<W>(alloc)?, 2048)

@@ -3,9 +3,11 @@ use vx_chunked::ChunkDecoder;
 
 /// A decoder that hands its calls on, and counts those that are left.
 #[derive(Drop)]
-pub(crate) struct Counted<D> {
-    pub(crate) inner: D,
-    pub(crate) spare: usize,
+pub struct Counted<D> {
+    /// The decoder that the calls are handed on to.
+    pub inner: D,
+    /// How many calls are left.
+    pub spare: usize,
 }
 
 impl<T: Copy, D: ChunkDecoder<T>> ChunkDecoder<T> for Counted<D> {

@@ -1,0 +1,28 @@
+//! Calls of a decoder and bits, in the rest of a line.
+
+use std::alloc::Global;
+use std::test::Fail;
+use vx_bits::{BitBuffer, NoMemory};
+use vx_chunked::Call;
+
+/// Prints the calls, and the end of the line.
+pub fn print_calls(rt: &impl Print, calls: &[Call]) -> Result<(), Fail> {
+    rt.print(", calls:")?;
+    for call in calls {
+        match call {
+            Call::Whole { chunk } => print!(rt; " Whole({chunk})")?,
+            Call::Only { chunk, count } => print!(rt; " Only({chunk},{count})")?,
+        }
+    }
+    rt.println("")?;
+    Ok(())
+}
+
+/// The bits, as a text of `0` and `1`.
+pub fn text_of(alloc: Global, bits: &BitBuffer) -> Result<String, NoMemory> {
+    let mut text = String::new(alloc);
+    for i in 0..bits.len() {
+        text.push(if bits.value(i) { '1' } else { '0' })?;
+    }
+    Ok(text)
+}
