@@ -10,7 +10,7 @@ use std::alloc::Global;
 use vx_bits::NoMemory;
 use vx_mask::{MaskValues, Policy};
 
-/// The items of `src` at the set positions of `mask`, in order: Vortex's `filter_slice_by_mask`.
+/// The items of `src` at the set positions of `mask`, in order: Vortex's `filter_slice`.
 /// `NoMemory` alone.
 ///
 /// By runs that the mask keeps where they are one or long enough, else by indices that it keeps
