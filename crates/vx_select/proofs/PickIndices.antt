@@ -1,6 +1,6 @@
 -- The numbers of a column of indices name the picks that it was made of.
-use Rattle.std.proofs.Common.{◌≡◌, ℕ, zero, suc, ◌<◌, ◌^◌, Bool, true, false, List, [], ◌∷◌, length, map, Option, Some, None, refl, sym, ap, ap₂, ◌∙◌, subst, arith}
-use Rattle.std.specs.Prelude.{ℤ, is_some, pos, replicate, if◌then◌else◌, ◌&&◌, ◌==◌}
+use Rattle.std.proofs.Common.{◌≡◌, ℕ, zero, suc, ◌<◌, ◌^◌, Bool, true, false, List, [], ◌∷◌, length, map, Option, Some, None, refl, ap, ap₂, ◌∙◌, arith}
+use Rattle.std.specs.Prelude.{ℤ, is_some, pos, replicate, ◌&&◌, ◌==◌}
 use Rattle.std.specs.Int.{w64, from_le_bytes, to_le_bytes}
 use Rattle.std.proofs.lemmas.Bool.Decides.{nat_tests}
 use Rattle.std.proofs.lemmas.List.{length-map}
@@ -8,7 +8,7 @@ use Rattle.std.proofs.lemmas.Nat.{from_le_bytes-to_le_bytes_8}
 use Rattle.vx_types.specs.declared.nullability.Nullability.{Nullability}
 use Rattle.vx_types.specs.declared.ptype.PType.TheVariants.{U64}
 use Rattle.vx_types.specs.RowValue.{RowValue, bytes}
-use Rattle.vx_types.specs.TypeTree.{TypeTree, primitive_type, is_int_type}
+use Rattle.vx_types.specs.TypeTree.{primitive_type, is_int_type}
 use Rattle.vx_take.specs.Picks.{AreBelow}
 use Rattle.vx_numbers.specs.Positions.{AllThere, first_bad, is_position, positions_of}
 use Rattle.vx_model.specs.Bool.{BoolParts, bool_column}

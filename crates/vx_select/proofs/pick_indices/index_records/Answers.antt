@@ -1,5 +1,5 @@
 -- One record more.
-use Rattle.std.proofs.Common.{◌≡◌, ◌∙◌, ◌++◌, ◌∷◌, [], None, ap, sym, map, take, arith}
+use Rattle.std.proofs.Common.{◌∙◌, ◌++◌, ◌∷◌, [], None, ap, sym, map, take, arith}
 use Rattle.std.proofs.lemmas.List.{map_more}
 use Rattle.vx_select.specs.IndexRecords.{index_record}
 use Rattle.vx_select.proofs.pick_indices.index_records.Goals as goal

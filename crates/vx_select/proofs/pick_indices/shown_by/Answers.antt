@@ -1,8 +1,8 @@
 -- Bits that are all set, and a column of them.
-use Rattle.std.proofs.Common.{◌≡◌, ◌∙◌, sym, ap, map, length, refl, None, arith}
+use Rattle.std.proofs.Common.{◌≡◌, ◌∙◌, sym, ap, map, length, refl, arith}
 use Rattle.vx_bits.specs.BitBuffer.{true_count_of}
 use Rattle.vx_mask.proofs.PositionLists.{all_are_set}
-use Rattle.vx_model.specs.Bool.{BoolParts, bool_column, bool_with}
+use Rattle.vx_model.specs.Bool.{bool_column, bool_with}
 use Rattle.vx_model.specs.Valid.{is_yes, non_nullable}
 use Rattle.vx_model.proofs.Takes.{yes-bool}
 use Rattle.std.proofs.lemmas.List.{length-map}
