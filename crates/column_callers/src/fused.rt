@@ -62,7 +62,13 @@ fn print_three(rt: &impl Print, alloc: Global) -> Result<(), Fail> {
     let mask = mask_of(alloc, &[true, false, true, true, false])?;
     let last = take(alloc, &[2, 0, 9], &[true, true, false])?;
     let steps = [slice(1, 6), Step::Filter(mask), last];
-    print_fused(rt, alloc, "1..6, 10110, take 2 0 null of 10 to 60", &column, &steps)
+    print_fused(
+        rt,
+        alloc,
+        "1..6, 10110, take 2 0 null of 10 to 60",
+        &column,
+        &steps,
+    )
 }
 
 fn print_by(
@@ -113,7 +119,13 @@ fn print_slices(rt: &impl Print, alloc: Global) -> Result<(), Fail> {
     let five = byte_ramp(alloc, 5)?;
     print_fused(rt, alloc, "2..7 of 5", &five, &[slice(2, 7)])?;
     print_fused(rt, alloc, "5..5 of 5", &five, &[slice(5, 5)])?;
-    print_fused(rt, alloc, "1..5, 1..3 of 5", &five, &[slice(1, 5), slice(1, 3)])?;
+    print_fused(
+        rt,
+        alloc,
+        "1..5, 1..3 of 5",
+        &five,
+        &[slice(1, 5), slice(1, 3)],
+    )?;
     print_fused(rt, alloc, "no steps of 5", &five, &[])?;
     let mask = mask_of(alloc, &[true; 5])?;
     let steps = [slice(0, 4), Step::Filter(mask), slice(9, 1)];

@@ -23,7 +23,11 @@ fn constant(
     let bytes = Buffer::from_vec(alloc, bytes.to_vec(alloc)?)?;
     let dtype = DType::Primitive(ptype, nullability);
     let scalar = Scalar::try_new(dtype, ScalarValue::Bytes(bytes))?;
-    Ok(ConstantArray::new(scalar, len).into_array().into_ref(alloc)?)
+    Ok(
+        ConstantArray::new(scalar, len)
+            .into_array()
+            .into_ref(alloc)?,
+    )
 }
 
 /// Nullable codes that have no null.
@@ -37,7 +41,11 @@ fn print_codes(rt: &impl Print, alloc: Global) -> Result<(), Fail> {
 fn sevens(alloc: Global) -> Result<ArrayRef, Fail> {
     let codes = byte_column(alloc, PType::U8, &[[0], [0], [0]])?.into_ref(alloc)?;
     let values = constant(alloc, PType::U16, Nullability::NonNullable, &[7, 0], 1)?;
-    Ok(DictArray::try_new(codes, values)?.into_array().into_ref(alloc)?)
+    Ok(
+        DictArray::try_new(codes, values)?
+            .into_array()
+            .into_ref(alloc)?,
+    )
 }
 
 /// A lazy filter of a dictionary.

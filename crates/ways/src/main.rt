@@ -11,7 +11,7 @@ use vx_print::text_of;
 use vx_select::{SelectError, select, select_fused};
 
 /// What two ways to the same rows gave.
-#[derive(Debug, Clone, Copy, PartialEq, Eq)]
+#[derive(Clone, Copy)]
 enum Compared {
     /// The same type and rows.
     SameRows,
@@ -44,22 +44,34 @@ fn document_in(alloc: Global, line: &str) -> Result<Document, Fail> {
     Ok(document(alloc, &value).map_err(|_| "a line is no document")?)
 }
 
-/// Whether the texts of two columns are the same, that is their types and rows.
-fn same_text(alloc: Global, one: &Array, other: &Array) -> Result<bool, Fail> {
-    let text = text_of(alloc, one)?;
-    Ok(text.as_slice() == text_of(alloc, other)?.as_slice())
+/// How two columns compare: by their texts, which say their types and rows.
+fn rows_compared(alloc: Global, one: &Array, other: &Array) -> Result<Compared, Fail> {
+    let (one, other) = (text_of(alloc, one)?, text_of(alloc, other)?);
+    if one.as_slice() == other.as_slice() {
+        Ok(Compared::SameRows)
+    } else {
+        Ok(Compared::Different)
+    }
 }
 
-/// How two answers compare. Want of memory is like nothing.
+/// How two refusals compare. Want of memory is like nothing.
+fn faults_compared(one: SelectError, other: SelectError) -> Compared {
+    if one != SelectError::NoMemory && one == other {
+        Compared::SameFault
+    } else {
+        Compared::Different
+    }
+}
+
+/// How two answers compare.
 fn compared(
     alloc: Global,
     one: &Result<Array, SelectError>,
     other: &Result<Array, SelectError>,
 ) -> Result<Compared, Fail> {
     match (one, other) {
-        (Ok(a), Ok(b)) if same_text(alloc, a, b)? => Ok(Compared::SameRows),
-        (Err(SelectError::NoMemory), _) => Ok(Compared::Different),
-        (Err(a), Err(b)) if a == b => Ok(Compared::SameFault),
+        (Ok(one), Ok(other)) => rows_compared(alloc, one, other),
+        (Err(one), Err(other)) => Ok(faults_compared(*one, *other)),
         _ => Ok(Compared::Different),
     }
 }
@@ -94,6 +106,8 @@ fn main(rt: HostRuntime) -> Result<(), Fail> {
         faults,
         differing,
     } = counts;
-    println!(rt; "{documents} documents: {rows} answers alike, {faults} faults alike, {differing} differing")?;
+    println!(rt;
+        "{documents} documents: {rows} answers alike, {faults} faults alike, {differing} differing"
+    )?;
     Ok(())
 }
