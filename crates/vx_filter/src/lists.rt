@@ -1,5 +1,5 @@
 //! Filtering by set positions, and by runs of them.
-ghost use Rattle.std.specs.Prelude.{◌≡◌, ◌<◌, ◌≤◌, IfOk, Some, length, map, slice_get, slice_range};
+ghost use Rattle.std.specs.Prelude.{◌≡◌, ◌<◌, ◌≤◌, ◌++◌, IfOk, OnOk, Some, length, map, slice_get, slice_range};
 ghost use Rattle.std.specs.List.{All, flat_map};
 
 use std::alloc::Global;
@@ -36,9 +36,32 @@ pub fn filter_slice_by_slices<T: Copy>(
 {
     let mut kept = Vec::with_capacity(alloc, joined_length(slices))?;
     for run in slices {
-        kept.extend_from_slice(&src[run.0..run.1])?;
+        push_run(&mut kept, src, run.0, run.1)?;
     }
     Ok(kept)
+}
+
+// Appends the items from `start` up to `end`. Up to sixteen are copied as a block of sixteen, where
+// there is one and room for it, and the block is cut off behind them: that is less than a call.
+#[inline(always)]
+fn push_run<T: Copy>(
+    kept: &mut Vec<T>,
+    src: &[T],
+    start: usize,
+    end: usize,
+) -> Result<(), NoMemory>
+    requires ordered { start ≤ end }
+    requires within { end ≤ length src.now }
+    ensures { OnOk result (kept.new.items ≡ kept.old.items ++ slice_range src.now start end) }
+{
+    let count = end - start;
+    if count <= 16 && src.len() - start >= 16 && kept.capacity() - kept.len() >= 16 {
+        kept.extend_from_slice(&src[start..start + 16])?;
+        kept.truncate(kept.len() - (16 - count));
+        return Ok(());
+    }
+    kept.extend_from_slice(&src[start..end])?;
+    Ok(())
 }
 
 // The number of items in the runs, or the greatest number where they are more.
