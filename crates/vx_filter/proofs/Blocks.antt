@@ -5,10 +5,10 @@ use Rattle.std.proofs.Math.Seq.{drop-append_seam, take-append-add}
 
 module _ {X : Type 0} where
   -- a block was put behind a list, and cut off behind its first items
-  pub block_cut : (kept all new xs : List X) (at count : ℕ) → count ≤ 16 → all ≡ kept ++ take 16 xs → new ≡ take at all → at ≡ length kept + count → new ≡ kept ++ take count xs
-  block_cut kept all new xs at count h whole cut e =
-      cut ∙ ap (take at) whole ∙ ap (λ k. take k (kept ++ take 16 xs)) e
-      ∙ take-append-add kept (take 16 xs) count ∙ ap (λ l. kept ++ l) (take-take count 16 xs h)
+  pub block_cut : (kept all new xs : List X) (at count block : ℕ) → count ≤ block → all ≡ kept ++ take block xs → new ≡ take at all → at ≡ length kept + count → new ≡ kept ++ take count xs
+  block_cut kept all new xs at count block h whole cut e =
+      cut ∙ ap (take at) whole ∙ ap (λ k. take k (kept ++ take block xs)) e
+      ∙ take-append-add kept (take block xs) count ∙ ap (λ l. kept ++ l) (take-take count block xs h)
 
   -- a block was written over a list, of which the first items are wanted
   pub block_front : (old new xs : List X) (to count : ℕ) → count ≤ 16 → to ≤ length old → take (to + 16) new ≡ take to old ++ take 16 xs → take (to + count) new ≡ take to old ++ take count xs
