@@ -2,6 +2,7 @@
 #![tactic(auto)]
 
 mod laws;
+mod nibbles;
 mod pext;
 mod sparse;
 mod table;
