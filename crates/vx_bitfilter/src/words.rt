@@ -15,6 +15,12 @@ use std::alloc::Global;
 use std::marker::Model;
 use vx_bits::{BitBuffer, BitBuilder, NoMemory, WordReader, Words};
 
+// From so many set bits on a table of nibbles is worth making, and from so many set bits and so
+// many clear ones on a table of bytes.
+const NIBBLES_PAY_FROM_SET: usize = 1 << 11;
+
+const BYTES_PAY_FROM_SET_AND_CLEAR: usize = 45_000;
+
 /// The source's bits at the mask's set positions, from offset 0 on, wherever the bits of each lie
 /// in their bytes: Vortex's `filter_bitbuffer_by_mask`. `NoMemory` alone.
 ///
@@ -115,7 +121,7 @@ pub fn filter_words<S: WordReader, M: WordReader>(
     ensures mask_cost { M.spare mask.old
         ≤ M.spare mask.new + word_count (length (M.bits mask.old)) }
 {
-    let packing = packing_for(alloc, true_count)?;
+    let packing = packing_for(alloc, true_count, mask.len())?;
     let mut kept = BitBuilder::with_capacity(alloc, true_count)?;
     for i in 0..mask.len().div_ceil(64) {
         let picks = mask.word(i);
@@ -128,7 +134,8 @@ pub fn filter_words<S: WordReader, M: WordReader>(
     kept.finish()
 }
 
-// What packs the bits of a word: the more bits there are, the greater a table pays.
+// What packs the bits of a word: the more words are neither empty nor full, the greater a table
+// pays.
 #[derive(Drop)]
 enum Packing {
     ByBits,
@@ -136,11 +143,11 @@ enum Packing {
     ByBytes(PextTable),
 }
 
-fn packing_for(alloc: Global, true_count: usize) -> Result<Packing, NoMemory> {
-    if true_count < 2_048 {
+fn packing_for(alloc: Global, true_count: usize, len: usize) -> Result<Packing, NoMemory> {
+    if true_count < NIBBLES_PAY_FROM_SET {
         return Ok(Packing::ByBits);
     }
-    if true_count < 65_536 {
+    if true_count.min(len.saturating_sub(true_count)) < BYTES_PAY_FROM_SET_AND_CLEAR {
         return Ok(Packing::ByNibbles(NibbleTable::new()));
     }
     Ok(Packing::ByBytes(PextTable::new(alloc)?))
