@@ -24,7 +24,7 @@ use Rattle.vx_bitfilter.proofs.PackedLaws.{count_picked, pext-word_bits}
 -- ---- the lowest bits
 
 module _ {X : Type 0} where
-  picked_both : (front back : List Bool) (xs ys : List X) → length front ≡ length xs → items_where_true (front ++ back) (xs ++ ys) ≡ items_where_true front xs ++ items_where_true back ys
+  pub picked_both : (front back : List Bool) (xs ys : List X) → length front ≡ length xs → items_where_true (front ++ back) (xs ++ ys) ≡ items_where_true front xs ++ items_where_true back ys
   picked_both [] back [] ys h = refl
   picked_both [] back (x ∷ xs) ys h = absurd (omega arith)
   picked_both (b ∷ front) back [] ys h = absurd (omega arith)
@@ -32,7 +32,7 @@ module _ {X : Type 0} where
   picked_both (false ∷ front) back (x ∷ xs) ys h = picked_both front back xs ys (omega arith)
 
 -- the lowest bits, and those above them
-bits_cut : (w a b : ℕ) → word_bits w (a + b) ≡ word_bits w a ++ word_bits (w / 2 ^ a) b
+pub bits_cut : (w a b : ℕ) → word_bits w (a + b) ≡ word_bits w a ++ word_bits (w / 2 ^ a) b
 bits_cut w a b =
     sym (ap (λ x. word_bits x (a + b)) (div-add-mod' w (2 ^ a)))
     ∙ word_bits-append (w % 2 ^ a) a (w / 2 ^ a) b (mod_below w (2 ^ a) (pow_pos a))

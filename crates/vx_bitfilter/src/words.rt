@@ -8,6 +8,7 @@ ghost use Rattle.vx_bits.specs.Words.{word_bits, word_count};
 ghost use Rattle.vx_bitfilter.specs.Words.{busy_words, first_words};
 ghost use Rattle.vx_mask.specs.Mask.{at_front};
 
+use crate::closing::closed_up;
 use crate::nibbles::NibbleTable;
 use crate::pext::pext_fallback;
 use crate::table::PextTable;
@@ -154,7 +155,8 @@ fn packing_for(alloc: Global, true_count: usize, len: usize) -> Result<Packing, 
 }
 
 // The bits that a mask's word picks, packed from bit 0: by a table where there is one, and the
-// bits are not so few that a turn for each is less work. A full mask takes the word whole.
+// set bits, or the clear ones, are not so few that a turn for each is less work. A full mask takes
+// the word whole.
 #[inline(always)]
 fn packed(packing: &Packing, word: u64, picks: u64) -> u64
     ensures { word_bits result (count_ones picks)
@@ -165,6 +167,9 @@ fn packed(packing: &Packing, word: u64, picks: u64) -> u64
     }
     if picks.count_ones() <= 10 {
         return pext_fallback(word, picks);
+    }
+    if picks.count_ones() >= 56 {
+        return closed_up(word, picks);
     }
     match packing {
         Packing::ByBits => pext_fallback(word, picks),
