@@ -168,7 +168,7 @@ fn packed(packing: &Packing, word: u64, picks: u64) -> u64
     if picks.count_ones() <= 10 {
         return pext_fallback(word, picks);
     }
-    if picks.count_ones() >= 56 {
+    if picks.count_ones() >= 53 {
         return closed_up(word, picks);
     }
     match packing {
