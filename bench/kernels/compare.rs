@@ -1,112 +1,86 @@
-//! Compares each kernel's answers and time with those of a loop in plain Rust, on random input.
-use std::alloc::{Layout, alloc, dealloc, realloc};
-use std::fmt::Debug;
+//! Compares each kernel's answers, instructions and time with those of plain Rust, on random input.
+//!
+//! usage: compare count [WORD]        (under callgrind) calls `measured` four times for each row
+//!        compare table COUNTS [WORD] compares the answers, takes the times, and prints the tables;
+//!                                    COUNTS has the instructions of each call of `measured`
+mod memory;
+mod plain;
+
+use plain::{Chunks, Mask, NULL};
+use std::collections::BTreeMap;
 use std::hint::black_box;
+use std::mem::MaybeUninit;
+use std::rc::Rc;
 use std::time::Instant;
 
-/// A block of memory, or none.
-#[repr(C)]
-pub struct Block {
-    is_there: usize,
-    place: *mut u8,
-}
-
-// The library says a block's size when it grows, and not when it is let go: the bytes before
-// each block hold it.
-const HEAD: usize = 16;
-
-unsafe fn block_of(whole: *mut u8, size: usize) -> Block {
-    if whole.is_null() {
-        return Block { is_there: 0, place: whole };
-    }
-    unsafe {
-        *(whole as *mut usize) = size;
-        Block { is_there: 1, place: whole.add(HEAD) }
-    }
-}
-
-fn layout(size: usize) -> Layout {
-    Layout::from_size_align(size + HEAD, HEAD).expect("a size that can be had")
-}
-
-#[unsafe(no_mangle)]
-pub unsafe extern "C" fn rattle_alloc(size: usize, _align: usize) -> Block {
-    unsafe { block_of(alloc(layout(size)), size) }
-}
-
-#[unsafe(no_mangle)]
-pub unsafe extern "C" fn rattle_dealloc(place: *mut u8) {
-    unsafe {
-        let whole = place.sub(HEAD);
-        dealloc(whole, layout(*(whole as *mut usize)));
-    }
-}
-
-#[unsafe(no_mangle)]
-pub unsafe extern "C" fn rattle_realloc(
-    place: *mut u8,
-    _old: usize,
-    size: usize,
-    _align: usize,
-) -> Block {
-    unsafe {
-        let whole = place.sub(HEAD);
-        block_of(realloc(whole, layout(*(whole as *mut usize)), size + HEAD), size)
-    }
-}
-
-type Filter<T> =
-    unsafe extern "C" fn(*const T, usize, *const u8, usize, *mut T, usize, usize, usize) -> usize;
-type InPlace<T> =
-    unsafe extern "C" fn(*const T, usize, *const u8, usize, *mut T, usize, usize) -> usize;
-type Compact<T> =
-    unsafe extern "C" fn(*const T, usize, *const u64, usize, *mut T, usize, usize, usize) -> usize;
+type Filter<T> = unsafe extern "C" fn(
+    *const T, usize, *const u8, usize, *mut T, usize, usize, usize,
+) -> usize;
+type InPlace<T> = unsafe extern "C" fn(
+    *const T, usize, *const u8, usize, *mut T, usize, usize, usize, usize,
+) -> usize;
+type Compact<T> = unsafe extern "C" fn(
+    *const T, usize, *const u64, usize, *mut T, usize, usize, usize,
+) -> usize;
 type Gather<T> =
     unsafe extern "C" fn(*const T, usize, *const usize, usize, *mut T, usize, usize) -> usize;
 
+macro_rules! of_width {
+    ($item:ty, $name:literal, $filter:ident, $in_place:ident, $compact:ident, $gather:ident) => {
+        unsafe extern "C" {
+            fn $filter(
+                s: *const $item, n: usize, b: *const u8, m: usize, o: *mut $item, k: usize,
+                which: usize, times: usize,
+            ) -> usize;
+            fn $in_place(
+                s: *const $item, n: usize, b: *const u8, m: usize, o: *mut $item, k: usize,
+                which: usize, times: usize, of: usize,
+            ) -> usize;
+            fn $compact(
+                s: *const $item, n: usize, w: *const u64, m: usize, o: *mut $item, k: usize,
+                which: usize, times: usize,
+            ) -> usize;
+            fn $gather(
+                s: *const $item, n: usize, l: *const usize, m: usize, o: *mut $item, k: usize,
+                times: usize,
+            ) -> usize;
+        }
+
+        impl Item for $item {
+            const NAME: &str = $name;
+            const FILTER: Filter<$item> = $filter;
+            const IN_PLACE: InPlace<$item> = $in_place;
+            const COMPACT: Compact<$item> = $compact;
+            const GATHER: Gather<$item> = $gather;
+
+            fn of(i: usize) -> $item {
+                (i * 7 / 3) as $item
+            }
+        }
+    };
+}
+
+/// What answers are lists of.
+trait Value: Copy + Default + PartialEq + 'static {}
+
+impl<T: Copy + Default + PartialEq + 'static> Value for T {}
+
+/// Items of one width, and the library's calls for them.
+trait Item: Value {
+    const NAME: &str;
+    const FILTER: Filter<Self>;
+    const IN_PLACE: InPlace<Self>;
+    const COMPACT: Compact<Self>;
+    const GATHER: Gather<Self>;
+
+    fn of(i: usize) -> Self;
+}
+
+of_width!(u8, "u8", filter_u8, in_place_u8, compact_u8, gather_u8);
+of_width!(u32, "u32", filter_u32, in_place_u32, compact_u32, gather_u32);
+of_width!(u64, "u64", filter_u64, in_place_u64, compact_u64, gather_u64);
+
 unsafe extern "C" {
-    fn filter_u8(
-        s: *const u8, n: usize, b: *const u8, m: usize, o: *mut u8, k: usize, which: usize,
-        times: usize,
-    ) -> usize;
-    fn filter_u32(
-        s: *const u32, n: usize, b: *const u8, m: usize, o: *mut u32, k: usize, which: usize,
-        times: usize,
-    ) -> usize;
-    fn filter_u64(
-        s: *const u64, n: usize, b: *const u8, m: usize, o: *mut u64, k: usize, which: usize,
-        times: usize,
-    ) -> usize;
-    fn in_place_u8(
-        s: *const u8, n: usize, b: *const u8, m: usize, o: *mut u8, k: usize, times: usize,
-    ) -> usize;
-    fn in_place_u32(
-        s: *const u32, n: usize, b: *const u8, m: usize, o: *mut u32, k: usize, times: usize,
-    ) -> usize;
-    fn in_place_u64(
-        s: *const u64, n: usize, b: *const u8, m: usize, o: *mut u64, k: usize, times: usize,
-    ) -> usize;
-    fn compact_u8(
-        s: *const u8, n: usize, w: *const u64, m: usize, o: *mut u8, k: usize, which: usize,
-        times: usize,
-    ) -> usize;
-    fn compact_u32(
-        s: *const u32, n: usize, w: *const u64, m: usize, o: *mut u32, k: usize, which: usize,
-        times: usize,
-    ) -> usize;
-    fn compact_u64(
-        s: *const u64, n: usize, w: *const u64, m: usize, o: *mut u64, k: usize, which: usize,
-        times: usize,
-    ) -> usize;
-    fn gather_u8(
-        s: *const u8, n: usize, l: *const usize, m: usize, o: *mut u8, k: usize, times: usize,
-    ) -> usize;
-    fn gather_u32(
-        s: *const u32, n: usize, l: *const usize, m: usize, o: *mut u32, k: usize, times: usize,
-    ) -> usize;
-    fn gather_u64(
-        s: *const u64, n: usize, l: *const usize, m: usize, o: *mut u64, k: usize, times: usize,
-    ) -> usize;
     fn bits_at_picks(
         b: *const u8, m: usize, bound: usize, l: *const usize, n: usize, o: *mut u64, k: usize,
         which: usize, times: usize,
@@ -128,10 +102,12 @@ unsafe extern "C" {
     ) -> usize;
 }
 
-const NULL: usize = usize::MAX;
 const ROWS: usize = 65_536 + 37;
-const ROUNDS: usize = 5;
-const TIMES: usize = 40;
+const ROUNDS: usize = 7;
+const TIMES: usize = 20;
+
+/// What the columns of the table stand for.
+const COLUMNS: [&str; 6] = ["0.01", "0.1", "0.5", "0.9", "1", "one run"];
 
 /// Random numbers by xorshift.
 struct Dice(u64);
@@ -155,428 +131,378 @@ impl Dice {
         bytes[78] |= 1;
         bytes
     }
-}
 
-fn words(bytes: &[u8]) -> Vec<u64> {
-    let of = |chunk: &[u8]| chunk.iter().rev().fold(0, |word, b| word << 8 | u64::from(*b));
-    bytes.chunks(8).map(of).collect()
-}
-
-fn bit(bytes: &[u8], i: usize) -> bool {
-    bytes[i / 8] >> (i % 8) & 1 == 1
-}
-
-fn set_of(mask: &[u64]) -> Vec<usize> {
-    let mut set = Vec::new();
-    for (i, mut word) in mask.iter().copied().enumerate() {
-        while word != 0 {
-            set.push(64 * i + word.trailing_zeros() as usize);
-            word &= word - 1;
-        }
+    fn picks(&mut self, bound: usize) -> Vec<usize> {
+        let pick = |roll: u64| if roll % 8 == 0 { NULL } else { roll as usize % bound };
+        (0..ROWS).map(|_| pick(self.roll())).collect()
     }
-    set
 }
 
-#[inline(never)]
-fn plain_filter<T: Copy>(src: &[T], mask: &[u64], count: usize) -> Vec<T> {
-    let mut kept = Vec::with_capacity(count);
-    for (chunk, word) in src.chunks(64).zip(mask) {
-        let mut word = *word;
-        if word == u64::MAX {
-            kept.extend_from_slice(chunk);
-            continue;
-        }
-        while word != 0 {
-            kept.push(chunk[word.trailing_zeros() as usize]);
-            word &= word - 1;
-        }
+/// The mask of one run of five eighths of the rows.
+fn one_run() -> Vec<u8> {
+    let mut bytes = vec![0; ROWS.div_ceil(8)];
+    (10_001..51_000).for_each(|i| bytes[i / 8] |= 1 << (i % 8));
+    bytes
+}
+
+/// The input of all kernels.
+struct Input {
+    masks: Vec<Mask>,
+    bits: Vec<u8>,
+    picks: Vec<usize>,
+    ranks: Vec<usize>,
+}
+
+impl Input {
+    fn new() -> Input {
+        let mut dice = Dice(88_172_645_463_325_252);
+        let densities = [0.01, 0.1, 0.5, 0.9, 1.0];
+        let mut masks: Vec<Mask> =
+            densities.iter().map(|d| Mask::new(ROWS, dice.bytes(*d))).collect();
+        masks.push(Mask::new(ROWS, one_run()));
+        let bits = dice.bytes(0.5).into_iter().chain([0]).collect();
+        let ranks = dice.picks(masks[2].count);
+        Input { masks, bits, picks: dice.picks(ROWS), ranks }
     }
-    kept
 }
 
-#[inline(never)]
-fn plain_in_place<T: Copy>(items: &mut [T], mask: &[u64]) -> usize {
-    let mut len = 0;
-    for (i, word) in mask.iter().enumerate() {
-        let mut word = *word;
-        if word == u64::MAX {
-            items.copy_within(64 * i..64 * i + 64, len);
-            len += 64;
-            continue;
-        }
-        while word != 0 {
-            items[len] = items[64 * i + word.trailing_zeros() as usize];
-            len += 1;
-            word &= word - 1;
-        }
+/// One kernel on one mask: does its work `times` times over. Where it works in place, `of` copies
+/// of the input are made, and as many of them as `times` says are filtered.
+struct Row<'a> {
+    kernel: String,
+    column: Option<usize>,
+    is_equal: Box<dyn FnMut() -> bool + 'a>,
+    ours: Box<dyn FnMut(usize, usize) + 'a>,
+    plain: Box<dyn FnMut(usize, usize) + 'a>,
+}
+
+type Ours<'a, T> = Box<dyn Fn(&mut [T], usize, usize) -> usize + 'a>;
+
+fn row<'a, T: Value>(
+    kernel: String,
+    column: Option<usize>,
+    ours: Ours<'a, T>,
+    plain: impl Fn() -> Vec<T> + Clone + 'a,
+) -> Row<'a> {
+    let again = plain.clone();
+    let many = move |times, _| (0..times).for_each(|_| drop(black_box(plain())));
+    row_by(kernel, column, ours, again, many)
+}
+
+fn row_by<'a, T: Value>(
+    kernel: String,
+    column: Option<usize>,
+    ours: Ours<'a, T>,
+    plain: impl Fn() -> Vec<T> + 'a,
+    many: impl FnMut(usize, usize) + 'a,
+) -> Row<'a> {
+    let ours = Rc::new(ours);
+    let again = ours.clone();
+    let is_equal = move || {
+        let mut out = vec![T::default(); ROWS];
+        again(&mut out, 1, 1);
+        let answer = plain();
+        out[..answer.len()] == answer[..]
+    };
+    let mut out = vec![T::default(); ROWS];
+    let ours = move |times, of| {
+        black_box(ours(black_box(&mut out), times, of));
+    };
+    Row {
+        kernel,
+        column,
+        is_equal: Box::new(is_equal),
+        ours: Box::new(ours),
+        plain: Box::new(many),
     }
-    len
 }
 
-#[inline(never)]
-fn plain_gather<T: Copy>(src: &[T], picks: &[usize], fill: T) -> Vec<T> {
-    picks.iter().map(|p| if *p == NULL { fill } else { src[*p] }).collect()
-}
-
-fn packed(bits: impl Iterator<Item = bool>) -> Vec<u64> {
-    let mut out = Vec::new();
-    let mut held = (0, 0);
-    for bit in bits {
-        held = (held.0 | u64::from(bit) << held.1, held.1 + 1);
-        if held.1 == 64 {
-            out.push(held.0);
-            held = (0, 0);
-        }
+/// The filters of items, a line for each kernel.
+fn filters<'a, T: Item>(rows: &mut Vec<Row<'a>>, column: usize, mask: &'a Mask) {
+    let src: &[T] = (0..ROWS).map(T::of).collect::<Vec<_>>().leak();
+    let at = |kernel: &str| (format!("{kernel}, {}", T::NAME), Some(column));
+    let by = |which| -> Ours<'a, T> {
+        Box::new(move |out, times, _| unsafe {
+            let (s, b, o) = (src.as_ptr(), mask.bytes.as_ptr(), out.as_mut_ptr());
+            T::FILTER(s, src.len(), b, mask.bytes.len(), o, out.len(), which, times)
+        })
+    };
+    type Plain<T> = fn(&[T], &Mask) -> Vec<T>;
+    let kernels: [(&str, usize, Plain<T>); 5] = [
+        ("`filter_slice`", 0, plain::by_choice),
+        ("`filter_slice_by_bitmap`", 1, plain::by_bits),
+        ("`byte_compress`", 2, plain::by_bytes),
+        ("kept indices", 3, |src, mask| plain::by_indices(src, &mask.indices)),
+        ("kept slices", 4, |src, mask| plain::by_slices(src, &mask.slices, mask.count)),
+    ];
+    for (kernel, which, plain) in kernels {
+        let (kernel, column) = at(kernel);
+        let plain = move || plain(black_box(src), black_box(mask));
+        rows.push(row(kernel, column, by(which), plain));
     }
-    if held.1 > 0 {
-        out.push(held.0);
-    }
-    out
 }
 
-#[inline(never)]
-fn plain_bit_filter(src: &[u8], offset: usize, mask: &[u64]) -> Vec<u64> {
-    let mut out = Vec::new();
-    let mut held = (0, 0);
-    for (i, word) in mask.iter().enumerate() {
-        let mut word = *word;
-        while word != 0 {
-            let place = 64 * i + word.trailing_zeros() as usize + offset;
-            held = (held.0 | u64::from(bit(src, place)) << held.1, held.1 + 1);
-            if held.1 == 64 {
-                out.push(held.0);
-                held = (0, 0);
+/// The kernels that copy to the front of a list.
+fn compacts<'a, T: Item>(rows: &mut Vec<Row<'a>>, column: usize, mask: &'a Mask) {
+    let src: &[T] = (0..ROWS).map(T::of).collect::<Vec<_>>().leak();
+    type Plain<T> = fn(&[T], &[u64], &mut [MaybeUninit<T>]) -> usize;
+    let kernels: [(&str, usize, Plain<T>); 2] = [
+        ("`compact_words`", 0, plain::compact_by_bits),
+        ("`compact_runs`", 1, plain::compact_by_runs),
+    ];
+    for (kernel, which, plain) in kernels {
+        let ours: Ours<'a, T> = Box::new(move |out, times, _| unsafe {
+            let (s, w, o) = (src.as_ptr(), mask.words.as_ptr(), out.as_mut_ptr());
+            T::COMPACT(s, src.len(), w, mask.words.len(), o, out.len(), which, times)
+        });
+        let answer = move || {
+            let mut kept = Vec::with_capacity(mask.count);
+            let len = plain(src, &mask.words, kept.spare_capacity_mut());
+            unsafe { kept.set_len(len) };
+            kept
+        };
+        let mut dst = Vec::<T>::with_capacity(ROWS);
+        let many = move |times, _| {
+            for _ in 0..times {
+                let dst = black_box(dst.spare_capacity_mut());
+                black_box(plain(black_box(src), black_box(&mask.words), dst));
             }
-            word &= word - 1;
-        }
-    }
-    if held.1 > 0 {
-        out.push(held.0);
-    }
-    out
-}
-
-#[inline(never)]
-fn plain_ranks(picks: &[usize], bound: usize) -> Vec<usize> {
-    let mut mask = vec![0u64; bound.div_ceil(64)];
-    for p in picks.iter().filter(|p| **p != NULL) {
-        mask[p / 64] |= 1 << (p % 64);
-    }
-    let mut before = Vec::with_capacity(mask.len());
-    let mut count = 0;
-    for word in &mask {
-        before.push(count);
-        count += word.count_ones() as usize;
-    }
-    let below = |p: usize| (mask[p / 64] & ((1 << (p % 64)) - 1)).count_ones() as usize;
-    let rank = |p: usize| if p == NULL { NULL } else { before[p / 64] + below(p) };
-    picks.iter().map(|p| rank(*p)).collect()
-}
-
-#[inline(never)]
-fn plain_positions(mask: &[u64], ranks: &[usize]) -> Vec<usize> {
-    let set = set_of(mask);
-    ranks.iter().map(|k| if *k == NULL { NULL } else { set[*k] }).collect()
-}
-
-/// Compares the answers, and prints the nanoseconds a row of both, in the fastest of some rounds,
-/// and their ratio.
-fn compare<T: PartialEq + Copy + Default + Debug>(
-    name: &str,
-    room: usize,
-    mut ours: impl FnMut(&mut [T], usize) -> usize,
-    mut plain: impl FnMut() -> Vec<T>,
-) -> bool {
-    let mut out = vec![T::default(); room];
-    ours(&mut out, 1);
-    let answer = plain();
-    let is_equal = out[..answer.len()] == answer[..];
-    let time = |work: &mut dyn FnMut()| {
-        let once = |work: &mut dyn FnMut()| {
-            let begin = Instant::now();
-            work();
-            begin.elapsed().as_nanos()
         };
-        let least = (0..ROUNDS).map(|_| once(work)).min().expect("a round");
-        least as f64 / (TIMES * ROWS) as f64
-    };
-    let mine = time(&mut || {
-        black_box(ours(black_box(&mut out), TIMES));
-    });
-    let mut copy = vec![T::default(); room];
-    let theirs = time(&mut || {
-        for _ in 0..TIMES {
-            let answer = black_box(plain());
-            copy[..answer.len()].copy_from_slice(&answer);
-            black_box(&mut copy);
-        }
-    });
-    let says = if is_equal { "" } else { "  DIFFERENT ANSWERS" };
-    println!("{name:34}{mine:8.2}{theirs:8.2}{:8.2}{says}", mine / theirs);
-    is_equal
+        let kernel = format!("{kernel}, {}", T::NAME);
+        rows.push(row_by(kernel, Some(column), ours, answer, many));
+    }
 }
 
-fn filters<T: PartialEq + Copy + Default + Debug>(
-    name: &str,
-    src: &[T],
-    bytes: &[u8],
-    calls: (Filter<T>, InPlace<T>, Compact<T>),
-) -> bool {
-    let mask = words(bytes);
-    let count = mask.iter().map(|w| w.count_ones() as usize).sum();
-    let mut is_equal = true;
-    let ways = ["filter_slice", "by bits", "by bytes", "kept indices", "kept slices"];
-    for (which, way) in ways.iter().enumerate() {
-        let ours = |out: &mut [T], times| unsafe {
-            let (s, b, o) = (src.as_ptr(), bytes.as_ptr(), out.as_mut_ptr());
-            calls.0(s, src.len(), b, bytes.len(), o, out.len(), which, times)
+/// The kernels that filter a list in place.
+fn in_places<'a, T: Item>(rows: &mut Vec<Row<'a>>, column: usize, mask: &'a Mask) {
+    let src: &[T] = (0..ROWS).map(T::of).collect::<Vec<_>>().leak();
+    type Plain<T> = fn(&mut [T], &Mask) -> usize;
+    let kernels: [(&str, usize, Plain<T>); 3] = [
+        ("in place", 0, plain::in_place_by_bits),
+        ("in place, kept indices", 3, |items, mask| {
+            plain::in_place_by_indices(items, &mask.indices)
+        }),
+        ("in place, kept slices", 4, |items, mask| plain::in_place_by_slices(items, &mask.slices)),
+    ];
+    for (kernel, which, plain) in kernels {
+        let ours: Ours<'a, T> = Box::new(move |out, times, of| unsafe {
+            let (s, b, o) = (src.as_ptr(), mask.bytes.as_ptr(), out.as_mut_ptr());
+            T::IN_PLACE(s, src.len(), b, mask.bytes.len(), o, out.len(), which, times, of)
+        });
+        let answer = move || {
+            let mut items = src.to_vec();
+            let len = plain(&mut items, mask);
+            items.truncate(len);
+            items
         };
-        let plain = || plain_filter(black_box(src), black_box(&mask), count);
-        is_equal &= compare(&format!("{way} {name}"), ROWS, ours, plain);
-    }
-    for (which, way) in ["to the front by words", "to the front by runs"].iter().enumerate() {
-        let ours = |out: &mut [T], times| unsafe {
-            let (s, w, o) = (src.as_ptr(), mask.as_ptr(), out.as_mut_ptr());
-            calls.2(s, src.len(), w, mask.len(), o, out.len(), which, times)
-        };
-        let plain = || plain_filter(black_box(src), black_box(&mask), count);
-        is_equal &= compare(&format!("{way} {name}"), ROWS, ours, plain);
-    }
-    let ours = |out: &mut [T], times| unsafe {
-        let (s, b, o) = (src.as_ptr(), bytes.as_ptr(), out.as_mut_ptr());
-        calls.1(s, src.len(), b, bytes.len(), o, out.len(), times)
-    };
-    let plain = || {
         let mut items = src.to_vec();
-        let len = plain_in_place(black_box(&mut items), black_box(&mask));
-        items.truncate(len);
-        items
-    };
-    is_equal & compare(&format!("in place {name}"), ROWS, ours, plain)
+        let many = move |times, of| {
+            for i in 0..of {
+                black_box(&mut items).copy_from_slice(src);
+                if i < times {
+                    black_box(plain(black_box(&mut items), black_box(mask)));
+                }
+            }
+        };
+        let kernel = format!("{kernel}, {}", T::NAME);
+        rows.push(row_by(kernel, Some(column), ours, answer, many));
+    }
 }
 
-fn bit_filters(name: &str, src: &[u8], bytes: &[u8]) -> bool {
-    let mask = words(bytes);
-    let mut is_equal = true;
-    for (which, way) in [(0, "bits by words"), (1, "few bits"), (3, "few bits, kept indices")] {
-        let ours = |out: &mut [u64], times| unsafe {
-            let (s, b, o, k) = (src.as_ptr(), bytes.as_ptr(), out.as_mut_ptr(), out.len());
-            filter_bits(s, src.len(), 3, b, bytes.len(), o, k, ROWS, which, times)
-        };
-        let plain = || plain_bit_filter(black_box(src), 3, black_box(&mask));
-        is_equal &= compare(&format!("{way} {name}"), ROWS / 64 + 1, ours, plain);
+/// The filters over values that are decoded by chunks.
+fn chunk_filters<'a, T: Item>(rows: &mut Vec<Row<'a>>, column: usize, mask: &'a Mask) {
+    let src: &[T] = (0..ROWS.next_multiple_of(1024)).map(T::of).collect::<Vec<_>>().leak();
+    let width = size_of::<T>();
+    type Plain<T> = fn(&mut Chunks<T>, &Mask) -> Vec<T>;
+    let kernels: [(&str, usize, Plain<T>); 3] = [
+        ("chunks, bits", 0, plain::chunks_by_bits),
+        ("chunks, kept indices", 3, |c, mask| plain::chunks_by_indices(c, &mask.indices)),
+        ("chunks, kept slices", 4, |c, mask| plain::chunks_by_slices(c, &mask.slices, mask.count)),
+    ];
+    for (kernel, which, plain) in kernels {
+        let ours: Ours<'a, T> = Box::new(move |out, times, _| unsafe {
+            let (s, b) = (src.as_ptr() as *const u8, mask.bytes.as_ptr());
+            let (o, k) = (out.as_mut_ptr() as *mut u8, width * out.len());
+            let n = width * src.len();
+            filter_chunks(s, n, b, mask.bytes.len(), ROWS, o, k, width, which, times)
+        });
+        let plain = move || plain(&mut Chunks::new(black_box(src)), black_box(mask));
+        rows.push(row(format!("{kernel}, {}", T::NAME), Some(column), ours, plain));
     }
+}
+
+
+/// The filters of bits.
+fn bit_filters<'a>(rows: &mut Vec<Row<'a>>, column: usize, src: &'a [u8], mask: &'a Mask) {
+    type Plain = fn(&[u8], usize, &Mask) -> Vec<u64>;
+    let kernels: [(&str, usize, Plain); 3] = [
+        ("`filter_bitbuffer_by_mask`", 0, plain::filter_bits),
+        ("`filter_sparse`", 1, plain::filter_few_bits),
+        ("`filter_sparse`, kept indices", 3, |src, offset, mask| {
+            plain::filter_listed_bits(src, offset, &mask.indices)
+        }),
+    ];
+    for (kernel, which, plain) in kernels {
+        let ours: Ours<'a, u64> = Box::new(move |out, times, _| unsafe {
+            let (s, b, o, k) = (src.as_ptr(), mask.bytes.as_ptr(), out.as_mut_ptr(), out.len());
+            filter_bits(s, src.len(), 3, b, mask.bytes.len(), o, k, ROWS, which, times)
+        });
+        let plain = move || plain(black_box(src), 3, black_box(mask));
+        rows.push(row(kernel.to_string(), Some(column), ours, plain));
+    }
+}
+
+fn gathers<'a, T: Item>(rows: &mut Vec<Row<'a>>, picks: &'a [usize]) {
+    let src: &[T] = (0..ROWS).map(T::of).collect::<Vec<_>>().leak();
+    let ours: Ours<'a, T> = Box::new(move |out, times, _| unsafe {
+        let (s, l, o) = (src.as_ptr(), picks.as_ptr(), out.as_mut_ptr());
+        T::GATHER(s, src.len(), l, picks.len(), o, out.len(), times)
+    });
+    let plain = move || plain::gather(black_box(src), black_box(picks), T::default());
+    rows.push(row(format!("`gather`, {}", T::NAME), None, ours, plain));
+}
+
+/// The kernels that go by picks.
+fn takes<'a>(rows: &mut Vec<Row<'a>>, input: &'a Input) {
+    let (mask, picks, ranks) = (&input.masks[2], &input.picks, &input.ranks);
+    gathers::<u8>(rows, picks);
+    gathers::<u32>(rows, picks);
+    gathers::<u64>(rows, picks);
+    let bits = |which| -> Ours<'a, u64> {
+        Box::new(move |out, times, _| unsafe {
+            let (b, l, o, k) = (mask.bytes.as_ptr(), picks.as_ptr(), out.as_mut_ptr(), out.len());
+            bits_at_picks(b, mask.bytes.len(), ROWS, l, picks.len(), o, k, which, times)
+        })
+    };
+    let plain = move || plain::bits_at(black_box(&mask.bytes), black_box(picks));
+    rows.push(row("`gather_bits`".to_string(), None, bits(0), plain));
+    let plain = move || plain::are_there(black_box(picks));
+    rows.push(row("`valid_bits`".to_string(), None, bits(1), plain));
+    let ours: Ours<'a, usize> = Box::new(move |out, times, _| unsafe {
+        ranks_of_picks(picks.as_ptr(), picks.len(), ROWS, out.as_mut_ptr(), out.len(), times)
+    });
+    let plain = move || plain::ranks(black_box(picks), ROWS);
+    rows.push(row("`needed`, `ranks_in`".to_string(), None, ours, plain));
+    let ours: Ours<'a, usize> = Box::new(move |out, times, _| unsafe {
+        let (b, l, o, k) = (mask.bytes.as_ptr(), ranks.as_ptr(), out.as_mut_ptr(), out.len());
+        positions_of_ranks(b, mask.bytes.len(), ROWS, l, ranks.len(), o, k, times)
+    });
+    let plain = move || plain::positions(black_box(mask), black_box(ranks));
+    rows.push(row("`translate_ranks`".to_string(), None, ours, plain));
+}
+
+fn all_of_width<'a, T: Item>(rows: &mut Vec<Row<'a>>, column: usize, mask: &'a Mask) {
+    filters::<T>(rows, column, mask);
+    compacts::<T>(rows, column, mask);
+    in_places::<T>(rows, column, mask);
+    chunk_filters::<T>(rows, column, mask);
+}
+
+/// All rows whose kernel's name has the word.
+fn all_rows<'a>(input: &'a Input, word: &str) -> Vec<Row<'a>> {
+    let mut rows = Vec::new();
+    for (column, mask) in input.masks.iter().enumerate() {
+        bit_filters(&mut rows, column, &input.bits, mask);
+        all_of_width::<u8>(&mut rows, column, mask);
+        all_of_width::<u32>(&mut rows, column, mask);
+        all_of_width::<u64>(&mut rows, column, mask);
+    }
+    takes(&mut rows, input);
+    rows.retain(|row| row.kernel.contains(word));
+    rows
+}
+
+/// What is counted: callgrind counts instructions here alone, and writes them down at each end.
+#[unsafe(no_mangle)]
+#[inline(never)]
+fn measured(work: &mut dyn FnMut(usize, usize), times: usize, of: usize) {
+    work(times, of);
+}
+
+/// The least nanoseconds of some rounds.
+fn least_time(work: &mut dyn FnMut(usize, usize), times: usize) -> f64 {
+    let once = |work: &mut dyn FnMut(usize, usize)| {
+        let begin = Instant::now();
+        work(times, TIMES + 1);
+        begin.elapsed().as_nanos()
+    };
+    (0..ROUNDS).map(|_| once(work)).min().expect("a round") as f64
+}
+
+/// The nanoseconds a row: a call does what comes before the kernel once, however often the kernel
+/// runs.
+fn time(work: &mut dyn FnMut(usize, usize)) -> f64 {
+    (least_time(work, TIMES + 1) - least_time(work, 1)) / (TIMES * ROWS) as f64
+}
+
+/// What a kernel costs on one mask, here and in plain Rust.
+#[derive(Clone, Copy)]
+struct Cost {
+    ours: f64,
+    plain: f64,
+}
+
+impl Cost {
+    fn cell(&self) -> String {
+        format!("{:.2} / {:.2} = **{:.2}**", self.ours, self.plain, self.ours / self.plain)
+    }
+}
+
+/// Prints one table: a line for each kernel, a column for each mask.
+fn print_table(title: &str, unit: &str, costs: &[(String, Option<usize>, Cost)]) {
+    let mut lines: BTreeMap<usize, (&str, Vec<String>)> = BTreeMap::new();
+    for (kernel, column, cost) in costs {
+        let place = costs.iter().position(|other| other.0 == *kernel).expect("itself");
+        let line = lines.entry(place).or_insert((kernel, vec![String::new(); COLUMNS.len()]));
+        line.1[column.unwrap_or(2)] = cost.cell();
+    }
+    println!("\n## {title}\n\n| {unit} | {} |", COLUMNS.join(" | "));
+    println!("|---|{}", "---|".repeat(COLUMNS.len()));
+    for (kernel, cells) in lines.values() {
+        println!("| {kernel} | {} |", cells.join(" | "));
+    }
+}
+
+/// What four calls of `measured` counted, as instructions a row. Between two runs and none lies
+/// the kernel alone.
+fn instructions(counts: &[f64]) -> Cost {
+    let of = |one: f64, three: f64| (three - one) / (2 * ROWS) as f64;
+    Cost { ours: of(counts[0], counts[1]), plain: of(counts[2], counts[3]) }
+}
+
+fn print_tables(rows: &mut [Row], counts: &[f64]) -> bool {
+    let (mut counted, mut timed, mut is_equal) = (Vec::new(), Vec::new(), true);
+    for (row, counts) in rows.iter_mut().zip(counts.chunks(4)) {
+        if !(row.is_equal)() {
+            println!("DIFFERENT ANSWERS: {}", row.kernel);
+            is_equal = false;
+        }
+        let cost = Cost { ours: time(&mut row.ours), plain: time(&mut row.plain) };
+        timed.push((row.kernel.clone(), row.column, cost));
+        counted.push((row.kernel.clone(), row.column, instructions(counts)));
+    }
+    print_table("Instructions", "instructions a row", &counted);
+    print_table("Times", "nanoseconds a row", &timed);
     is_equal
-}
-
-fn gathers<T: PartialEq + Copy + Default + Debug>(
-    name: &str,
-    src: &[T],
-    list: &[usize],
-    call: Gather<T>,
-) -> bool {
-    let ours = |out: &mut [T], times| unsafe {
-        let (s, l, o) = (src.as_ptr(), list.as_ptr(), out.as_mut_ptr());
-        call(s, src.len(), l, list.len(), o, out.len(), times)
-    };
-    let plain = || plain_gather(black_box(src), black_box(list), T::default());
-    compare(&format!("gather {name}"), list.len(), ours, plain)
-}
-
-fn takes(dice: &mut Dice) -> bool {
-    let bytes = dice.bytes(0.5);
-    let mask = words(&bytes);
-    let mut pick = |bound: usize| match dice.roll() {
-        roll if roll % 8 == 0 => NULL,
-        roll => roll as usize % bound,
-    };
-    let list: Vec<usize> = (0..ROWS).map(|_| pick(ROWS)).collect();
-    let ranks: Vec<usize> = (0..ROWS).map(|_| pick(set_of(&mask).len())).collect();
-    let bytes_there: Vec<u8> = (0..ROWS).map(|i| i as u8).collect();
-    let mut is_equal = gathers("u8", &bytes_there, &list, gather_u8);
-    is_equal &= gathers("u32", &(0..ROWS as u32).collect::<Vec<_>>(), &list, gather_u32);
-    is_equal &= gathers("u64", &(0..ROWS as u64).collect::<Vec<_>>(), &list, gather_u64);
-    let at = |which| {
-        let (b, l, bytes, list) = (bytes.as_ptr(), list.as_ptr(), &bytes, &list);
-        move |out: &mut [u64], times| unsafe {
-            let (o, k) = (out.as_mut_ptr(), out.len());
-            bits_at_picks(b, bytes.len(), ROWS, l, list.len(), o, k, which, times)
-        }
-    };
-    let at_picks = || packed(list.iter().map(|p| *p != NULL && bit(black_box(&bytes), *p)));
-    is_equal &= compare("bits at picks", ROWS / 64 + 1, at(0), at_picks);
-    let are_there = || packed(black_box(&list).iter().map(|p| *p != NULL));
-    is_equal &= compare("which picks are there", ROWS / 64 + 1, at(1), are_there);
-    let ours = |out: &mut [usize], times| unsafe {
-        ranks_of_picks(list.as_ptr(), list.len(), ROWS, out.as_mut_ptr(), out.len(), times)
-    };
-    is_equal &= compare("needed and ranks", ROWS, ours, || plain_ranks(black_box(&list), ROWS));
-    let ours = |out: &mut [usize], times| unsafe {
-        let (b, l, o, k) = (bytes.as_ptr(), ranks.as_ptr(), out.as_mut_ptr(), out.len());
-        positions_of_ranks(b, bytes.len(), ROWS, l, ranks.len(), o, k, times)
-    };
-    is_equal & compare("translated ranks", ROWS, ours, || plain_positions(black_box(&mask), &ranks))
-}
-
-/// The values of one chunk that are asked for, few of them by themselves and others by the chunk.
-struct PlainChunks<'a, const W: usize> {
-    values: &'a [[u8; W]],
-    scratch: Vec<[u8; W]>,
-    limit: usize,
-}
-
-impl<const W: usize> PlainChunks<'_, W> {
-    fn take(&mut self, chunk: usize, places: &[usize], kept: &mut Vec<[u8; W]>) {
-        let values = &self.values[1024 * chunk..1024 * (chunk + 1)];
-        if places.len() == 1024 {
-            kept.extend_from_slice(values);
-        } else if places.len() <= self.limit {
-            kept.extend(places.iter().map(|p| values[*p]));
-        } else {
-            self.scratch.copy_from_slice(values);
-            kept.extend(places.iter().map(|p| self.scratch[*p]));
-        }
-    }
-}
-
-#[inline(never)]
-fn plain_chunks_by_bits<const W: usize>(
-    chunks: &mut PlainChunks<W>,
-    mask: &[u64],
-    total: usize,
-) -> Vec<[u8; W]> {
-    let mut kept = Vec::with_capacity(total);
-    let mut places = Vec::with_capacity(1024);
-    for (chunk, words) in mask.chunks(16).enumerate() {
-        let count = words.iter().map(|w| w.count_ones() as usize).sum::<usize>();
-        let values = &chunks.values[1024 * chunk..1024 * (chunk + 1)];
-        if count == 1024 {
-            kept.extend_from_slice(values);
-        } else if count > chunks.limit {
-            chunks.scratch.copy_from_slice(values);
-            for (items, word) in chunks.scratch.chunks(64).zip(words) {
-                let mut word = *word;
-                if word == u64::MAX {
-                    kept.extend_from_slice(items);
-                    continue;
-                }
-                while word != 0 {
-                    kept.push(items[word.trailing_zeros() as usize]);
-                    word &= word - 1;
-                }
-            }
-        } else if count > 0 {
-            places.clear();
-            for (w, word) in words.iter().enumerate() {
-                let mut word = *word;
-                while word != 0 {
-                    places.push(64 * w + word.trailing_zeros() as usize);
-                    word &= word - 1;
-                }
-            }
-            chunks.take(chunk, &places, &mut kept);
-        }
-    }
-    kept
-}
-
-#[inline(never)]
-fn plain_chunks_by_indices<const W: usize>(
-    chunks: &mut PlainChunks<W>,
-    indices: &[usize],
-) -> Vec<[u8; W]> {
-    let mut kept = Vec::with_capacity(indices.len());
-    let mut places = Vec::with_capacity(1024);
-    for here in indices.chunk_by(|a, b| a / 1024 == b / 1024) {
-        places.clear();
-        places.extend(here.iter().map(|i| i % 1024));
-        chunks.take(here[0] / 1024, &places, &mut kept);
-    }
-    kept
-}
-
-#[inline(never)]
-fn plain_chunks_by_slices<const W: usize>(
-    chunks: &mut PlainChunks<W>,
-    slices: &[(usize, usize)],
-    total: usize,
-) -> Vec<[u8; W]> {
-    let mut kept = Vec::with_capacity(total);
-    let mut places = Vec::with_capacity(1024);
-    let mut chunk = 0;
-    for (start, end) in slices {
-        let mut at = *start;
-        while at < *end {
-            if at / 1024 != chunk {
-                chunks.take(chunk, &places, &mut kept);
-                places.clear();
-                chunk = at / 1024;
-            }
-            let part = (*end).min(1024 * (chunk + 1));
-            places.extend(at % 1024..at % 1024 + part - at);
-            at = part;
-        }
-    }
-    chunks.take(chunk, &places, &mut kept);
-    kept
-}
-
-fn slices_of(mask: &[u64]) -> Vec<(usize, usize)> {
-    let set = set_of(mask);
-    set.chunk_by(|a, b| a + 1 == *b).map(|run| (run[0], run[run.len() - 1] + 1)).collect()
-}
-
-fn chunk_filters<const W: usize>(name: &str, bytes: &[u8], limit: usize) -> bool
-where
-    [u8; W]: Default,
-{
-    let mask = words(bytes);
-    let (indices, slices) = (set_of(&mask), slices_of(&mask));
-    let src: Vec<u8> = (0..W * ROWS.next_multiple_of(1024)).map(|i| (i * 7 / 3) as u8).collect();
-    let (values, _) = src.as_chunks::<W>();
-    let mut chunks = PlainChunks { values, scratch: vec![[0; W]; 1024], limit };
-    let mut is_equal = true;
-    for (which, way) in [(0, "bits"), (3, "indices"), (4, "slices")] {
-        let ours = |out: &mut [[u8; W]], times| unsafe {
-            let (s, b, o) = (src.as_ptr(), bytes.as_ptr(), out.as_mut_ptr() as *mut u8);
-            filter_chunks(s, src.len(), b, bytes.len(), ROWS, o, W * out.len(), W, which, times)
-        };
-        let plain = || match which {
-            0 => plain_chunks_by_bits(black_box(&mut chunks), black_box(&mask), indices.len()),
-            3 => plain_chunks_by_indices(black_box(&mut chunks), black_box(&indices)),
-            _ => plain_chunks_by_slices(black_box(&mut chunks), black_box(&slices), indices.len()),
-        };
-        is_equal &= compare(&format!("chunks by {way} {name}"), ROWS, ours, plain);
-    }
-    is_equal
-}
-
-fn all_chunk_filters(density: f64, bytes: &[u8]) -> bool {
-    chunk_filters::<1>(&format!("u8 at {density}"), bytes, 16)
-        & chunk_filters::<4>(&format!("u32 at {density}"), bytes, 64)
-        & chunk_filters::<8>(&format!("u64 at {density}"), bytes, 160)
 }
 
 fn main() {
-    println!("{:34}{:>8}{:>8}{:>8}   (nanoseconds a row)", "", "ours", "plain", "ratio");
-    let mut dice = Dice(88_172_645_463_325_252);
-    let mut is_equal = takes(&mut dice);
-    for density in [0.01, 0.1, 0.5, 0.9, 1.0] {
-        let bytes = dice.bytes(density);
-        let src = dice.bytes(0.5).into_iter().chain([0]).collect::<Vec<_>>();
-        is_equal &= bit_filters(&format!("at {density}"), &src, &bytes);
-        let items: Vec<u8> = (0..ROWS).map(|i| i as u8).collect();
-        let calls: (Filter<_>, InPlace<_>, Compact<_>) = (filter_u8, in_place_u8, compact_u8);
-        is_equal &= filters(&format!("u8 at {density}"), &items, &bytes, calls);
-        let items: Vec<u32> = (0..ROWS as u32).collect();
-        let calls: (Filter<_>, InPlace<_>, Compact<_>) = (filter_u32, in_place_u32, compact_u32);
-        is_equal &= filters(&format!("u32 at {density}"), &items, &bytes, calls);
-        let items: Vec<u64> = (0..ROWS as u64).collect();
-        let calls: (Filter<_>, InPlace<_>, Compact<_>) = (filter_u64, in_place_u64, compact_u64);
-        is_equal &= filters(&format!("u64 at {density}"), &items, &bytes, calls);
-        is_equal &= all_chunk_filters(density, &bytes);
+    let words: Vec<String> = std::env::args().collect();
+    let input = Input::new();
+    if words[1] == "count" {
+        for mut row in all_rows(&input, words.get(2).map_or("", |word| word)) {
+            for work in [&mut row.ours, &mut row.plain] {
+                measured(work, 1, 3);
+                measured(work, 3, 3);
+            }
+        }
+        return;
     }
-    if !is_equal {
+    let counts = std::fs::read_to_string(&words[2]).expect("the counts");
+    let counts: Vec<f64> = counts.lines().map(|line| line.parse().expect("a count")).collect();
+    let mut rows = all_rows(&input, words.get(3).map_or("", |word| word));
+    assert_eq!(counts.len(), 4 * rows.len(), "four counts a row");
+    if !print_tables(&mut rows, &counts) {
         std::process::exit(1);
     }
 }

@@ -1,3 +1,4 @@
+pub mod ClosedBits
 pub mod PackedBits
 pub mod PackedLaws
 pub mod FilteredWords

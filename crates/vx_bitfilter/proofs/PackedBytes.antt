@@ -1,8 +1,10 @@
--- What bytes pack of bytes.
-use Rattle.std.proofs.Common.{◌≡◌, ℕ, zero, suc, ◌+◌, ◌*◌, ◌/◌, ◌%◌, ◌^◌, ◌<◌, ◌≤◌, Bool, true, false, cond, eqb, List, [], ◌∷◌, ◌++◌, length, get_or, replicate, bit_or, refl, sym, ap, ap₂, subst, ◌∙◌, arith, append-nil}
+-- What parts of a word pack of parts of another.
+use Rattle.std.proofs.Common.{◌≡◌, ℕ, zero, suc, ◌+◌, ◌-◌, ◌*◌, ◌/◌, ◌%◌, ◌^◌, ◌<◌, ◌≤◌, Bool, true, false, cond, eqb, List, [], ◌∷◌, ◌++◌, length, get_or, replicate, set, bit_or, inl, inr, refl, sym, ap, ap₂, subst, ◌∙◌, arith, append-nil}
 use Rattle.std.specs.Int.RustNames.{count_ones}
 use Rattle.std.specs.List.{items_where_true}
-use Rattle.std.proofs.lemmas.List.{replicate-append-replicate}
+use Rattle.std.proofs.lemmas.Bool.{cases_lt}
+use Rattle.std.proofs.lemmas.Grind.{get_or-set_at}
+use Rattle.std.proofs.lemmas.List.{get_or-set_other, replicate-append-replicate}
 use Rattle.std.proofs.lemmas.List.FromFn.{get_or-map-range_with_len, length-map-range_with_len, map-range_with_len_more}
 use Rattle.std.proofs.lemmas.Nat.{div-add-mod', mod_below, or_comm, or_shifted, pow_pos, shl_whole}
 use Rattle.std.proofs.Math.Nat.{mod-eq_of_lt}
@@ -15,14 +17,14 @@ use Rattle.vx_bits.proofs.BuiltLists.{joined_below}
 use Rattle.vx_bits.proofs.WordBits.{length-word_bits, number_of-word_bits, word_bits-append, word_bits-none, word_bits_low, zero-word_bits}
 use Rattle.vx_bits.proofs.WordLists.{picked_clear, picked_no_word}
 use Rattle.vx_bitfilter.specs.Pext.{pext}
-use Rattle.vx_bitfilter.specs.Table.{first_entries}
+use Rattle.vx_bitfilter.specs.Table.{IsNibbles, first_entries}
 use Rattle.vx_bitfilter.proofs.PackedBits.{picked_bits}
 use Rattle.vx_bitfilter.proofs.PackedLaws.{count_picked, pext-word_bits}
 
 -- ---- the lowest bits
 
 module _ {X : Type 0} where
-  picked_both : (front back : List Bool) (xs ys : List X) → length front ≡ length xs → items_where_true (front ++ back) (xs ++ ys) ≡ items_where_true front xs ++ items_where_true back ys
+  pub picked_both : (front back : List Bool) (xs ys : List X) → length front ≡ length xs → items_where_true (front ++ back) (xs ++ ys) ≡ items_where_true front xs ++ items_where_true back ys
   picked_both [] back [] ys h = refl
   picked_both [] back (x ∷ xs) ys h = absurd (omega arith)
   picked_both (b ∷ front) back [] ys h = absurd (omega arith)
@@ -30,7 +32,7 @@ module _ {X : Type 0} where
   picked_both (false ∷ front) back (x ∷ xs) ys h = picked_both front back xs ys (omega arith)
 
 -- the lowest bits, and those above them
-bits_cut : (w a b : ℕ) → word_bits w (a + b) ≡ word_bits w a ++ word_bits (w / 2 ^ a) b
+pub bits_cut : (w a b : ℕ) → word_bits w (a + b) ≡ word_bits w a ++ word_bits (w / 2 ^ a) b
 bits_cut w a b =
     sym (ap (λ x. word_bits x (a + b)) (div-add-mod' w (2 ^ a)))
     ∙ word_bits-append (w % 2 ^ a) a (w / 2 ^ a) b (mod_below w (2 ^ a) (pow_pos a))
@@ -143,13 +145,13 @@ entry_by_half mask upper bit packed h b e =
     digit_of (suc zero) h = refl
     digit_of (suc (suc d)) h = absurd (omega arith)
 
--- ---- a byte at a time
+-- ---- a part at a time
 
--- the lowest k bytes are packed
-pub record IsPacked (src mask packed held k : ℕ) : Type 0 where
-  pub value : word_bits packed held ≡ items_where_true (word_bits mask (8 * k)) (word_bits src (8 * k))
+-- the bits of the words below `at` are packed
+pub record IsPacked (src mask packed held at : ℕ) : Type 0 where
+  pub value : word_bits packed held ≡ items_where_true (word_bits mask at) (word_bits src at)
   pub below : packed < 2 ^ held
-  pub short : held ≤ 8 * k
+  pub short : held ≤ at
 
 pub none_packed : (src mask : ℕ) → IsPacked src mask 0 0 0
 none_packed src mask = record {
@@ -158,44 +160,76 @@ none_packed src mask = record {
   short = omega arith;
 }
 
--- byte k of a word
-abbrev pub byte : ℕ → ℕ → ℕ
-byte w k = w / 2 ^ (8 * k) % 2 ^ 8
+-- the `b` bits of a word from bit `at` on
+abbrev pub part : ℕ → ℕ → ℕ → ℕ
+part w at b = w / 2 ^ at % 2 ^ b
 
-bytes_more : (w k : ℕ) → word_bits w (8 * (k + 1)) ≡ word_bits w (8 * k) ++ word_bits (byte w k) 8
-bytes_more w k =
-    let next : 8 * (k + 1) ≡ 8 * k + 8 = omega arith in
-    ap (word_bits w) next ∙ bits_cut w (8 * k) 8 ∙ ap (λ l. word_bits w (8 * k) ++ l) (sym (word_bits_low (w / 2 ^ (8 * k)) 8))
+bits_more : (w at b : ℕ) → word_bits w (at + b) ≡ word_bits w at ++ word_bits (part w at b) b
+bits_more w at b = bits_cut w at b ∙ ap (λ l. word_bits w at ++ l) (sym (word_bits_low (w / 2 ^ at) b))
 
-pub byte_packed : (src mask packed held k x after more : ℕ) → k < 8 → x ≡ pext (byte src k) (byte mask k) → after ≡ bit_or packed (x * 2 ^ held % 2 ^ 64) → more ≡ held + count_ones (byte mask k) → IsPacked src mask packed held k → IsPacked src mask after more (k + 1)
-byte_packed src mask packed held k x after more h e f g v =
-    let s = byte src k in
-    let m = byte mask k in
+pub part_packed : (src mask packed held at b next x after more : ℕ) → at + b ≤ 64 → next ≡ at + b → x ≡ pext (part src at b) (part mask at b) → after ≡ bit_or packed (x * 2 ^ held % 2 ^ 64) → more ≡ held + count_ones (part mask at b) → IsPacked src mask packed held at → IsPacked src mask after more next
+part_packed src mask packed held at b next x after more h to e f g v =
+    let s = part src at b in
+    let m = part mask at b in
     let count = count_ones m in
-    let small : m < 2 ^ 8 = mod_below (mask / 2 ^ (8 * k)) (2 ^ 8) (omega arith) in
-    let fits : m < 2 ^ 64 = omega arith in
-    let few : count ≤ 8 = ones-le 8 m small in
+    let small : m < 2 ^ b = mod_below (mask / 2 ^ at) (2 ^ b) (pow_pos b) in
+    let narrow : b ≤ 64 = omega arith in
+    let wide : 2 ^ b ≤ 2 ^ 64 = pow_mono narrow in
+    let fits : m < 2 ^ 64 = omega (arith, small, wide) in
+    let few : count ≤ b = ones-le b m small in
     let old = v.short in
     let bound = pext_below s m fits in
-    let tight : x < 2 ^ count = omega arith in
-    let byte_wide : x < 2 ^ 8 = omega (arith, entry_small s m 8 small (omega arith)) in
-    let is : after ≡ x * 2 ^ held + packed = f ∙ ap (bit_or packed) (shl_whole x 8 held 64 byte_wide (omega arith)) ∙ or_comm packed (x * 2 ^ held) ∙ or_shifted x held packed v.below in
+    let tight : x < 2 ^ count = omega (arith, e, bound) in
+    let part_wide : x < 2 ^ b = omega (arith, e, entry_small s m b small narrow) in
+    let is : after ≡ x * 2 ^ held + packed = f ∙ ap (bit_or packed) (shl_whole x b held 64 part_wide (omega (arith, old, h))) ∙ or_comm packed (x * 2 ^ held) ∙ or_shifted x held packed v.below in
     let below : after < 2 ^ (held + count) = joined_below packed held x count after v.below tight is in
     let bits : word_bits after (held + count) ≡ word_bits packed held ++ word_bits x count = ap (λ y. word_bits y (held + count)) is ∙ word_bits-append packed held x count v.below in
-    let picked : word_bits x count ≡ items_where_true (word_bits m 8) (word_bits s 8) = pext-word_bits s m x fits e ∙ picked_low s m 8 56 small in
-    let front = items_where_true (word_bits mask (8 * k)) (word_bits src (8 * k)) in
+    let whole : b + (64 - b) ≡ 64 = omega arith in
+    let picked : word_bits x count ≡ items_where_true (word_bits m b) (word_bits s b) =
+    pext-word_bits s m x fits e ∙ ap (λ n. items_where_true (word_bits m n) (word_bits s n)) (sym whole) ∙ picked_low s m b (64 - b) small in
     record {
       value = ap (word_bits after) g ∙ bits ∙ ap₂ ◌++◌ v.value picked
-          ∙ sym (ap₂ items_where_true (bytes_more mask k) (bytes_more src k)
-          ∙ picked_both (word_bits mask (8 * k)) (word_bits m 8) (word_bits src (8 * k)) (word_bits s 8) (length-word_bits mask (8 * k) ∙ sym (length-word_bits src (8 * k))));
+          ∙ sym (ap₂ items_where_true (bits_more mask at b) (bits_more src at b)
+          ∙ picked_both (word_bits mask at) (word_bits m b) (word_bits src at) (word_bits s b) (length-word_bits mask at ∙ sym (length-word_bits src at)))
+          ∙ ap (λ n. items_where_true (word_bits mask n) (word_bits src n)) (sym to);
       below = subst (λ (n : ℕ). after < 2 ^ n) (sym g) below;
-      short = omega arith;
+      short = omega (arith, old, few, g, to);
     }
 
--- all eight bytes are the word
-pub all_bytes_packed : (src mask packed held k : ℕ) → k ≡ 8 → IsPacked src mask packed held k → packed ≡ pext src mask
+-- all parts are the word
+pub all_packed : (src mask packed held at : ℕ) → at ≡ 64 → IsPacked src mask packed held at → packed ≡ pext src mask
 unfolding pext
-all_bytes_packed src mask packed held k e v =
-    let all : 8 * k ≡ 64 = omega arith in
+all_packed src mask packed held at all v =
     sym (mod-eq_of_lt v.below) ∙ sym (number_of-word_bits packed held)
     ∙ ap number_of (v.value ∙ ap (λ n. items_where_true (word_bits mask n) (word_bits src n)) all)
+
+-- ---- the entries of nibbles
+
+-- the mask 0 packs nothing
+pub first_nibbles : (j : ℕ) → j < 16 → 0 ≡ pext (j % 16) (j / 16)
+first_nibbles j h = let none : j / 16 ≡ 0 = omega arith in sym (pext-none (j % 16) (j / 16) none)
+
+-- one more entry, by that of the upper bits
+pub nibble_more : (entries : List ℕ) (i packed x : ℕ) → length entries ≡ 256 → 16 ≤ i → i < 256 → packed ≡ get_or entries (16 * (i / 32) + i % 16 / 2) 0 → x ≡ cond (eqb (i / 16 % 2) 1) (i % 2 + 2 * packed) packed → IsNibbles i entries → IsNibbles (i + 1) (set entries i x)
+nibble_more entries i packed x long low high e f h j below =
+    elim (cases_lt j i) [
+      | inl before ↦ get_or-set_other entries i j x 0 (omega arith) ∙ h j before
+      | inr past ↦
+          let at : j ≡ i = omega arith in
+          let mask = i / 16 in
+          let upper = i % 16 / 2 in
+          let half = 16 * (i / 32) + upper in
+          let low_half : half % 16 ≡ upper = omega arith in
+          let high_half : half / 16 ≡ mask / 2 = omega arith in
+          let is : packed ≡ pext upper (mask / 2) = e ∙ h half (omega arith) ∙ ap₂ pext low_half high_half in
+          let src : 2 * upper + i % 2 ≡ i % 16 = omega arith in
+          get_or-set_at entries i j x 0 at (omega (arith, long)) ∙ f
+          ∙ entry_by_half mask upper (i % 2) packed (omega arith) (omega arith) is
+          ∙ ap (λ s. pext s mask) src ∙ ap (λ k. pext (k % 16) (k / 16)) (sym at)
+    ]
+
+pub nibble_small : (entries : List ℕ) (i : ℕ) → 16 ≤ i → i < 256 → IsNibbles i entries → get_or entries (16 * (i / 32) + i % 16 / 2) 0 < 128
+nibble_small entries i low high h =
+    let half = 16 * (i / 32) + i % 16 / 2 in
+    let short : half / 16 < 2 ^ 4 = omega arith in
+    omega (arith, h half (omega arith), entry_small (half % 16) (half / 16) 4 short (omega arith))

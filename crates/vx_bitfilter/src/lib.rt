@@ -1,7 +1,9 @@
 //! Bit filters: the bits of one list at the set positions of another.
 #![tactic(auto)]
 
+mod closing;
 mod laws;
+mod nibbles;
 mod pext;
 mod sparse;
 mod table;

@@ -88,7 +88,7 @@ fn push_row(entries: &mut Vec<u8>, mask: usize)
 
 // What is packed, with one more bit below it where that is wanted.
 #[inline(always)]
-fn below(packed: u8, wanted: bool, bit: u8) -> u8
+pub(crate) fn below(packed: u8, wanted: bool, bit: u8) -> u8
     requires small { packed < 128 }
     requires digit { bit < 2 }
     ensures { result ≡ (if wanted then bit + 2 * packed else packed) }

@@ -1,18 +1,26 @@
 //! The bit filter over words.
-ghost use Rattle.std.specs.Prelude.{◌≡◌, ℕ, ◌+◌, ◌≤◌, if◌then◌else◌, IfOk, OnOk, OnErr, None, Some, length, nat_lt};
+ghost use Rattle.std.specs.Prelude.{◌≡◌, ℕ, ◌+◌, ◌≤◌, IfOk, OnOk, OnErr, length};
 ghost use Rattle.std.specs.Int.RustNames.{count_ones};
 ghost use Rattle.std.specs.List.{items_where_true};
 ghost use Rattle.vx_bits.specs.BitBuffer.{true_count_of};
 ghost use Rattle.vx_bits.specs.WordReader.{then_told};
 ghost use Rattle.vx_bits.specs.Words.{word_bits, word_count};
-ghost use Rattle.vx_bitfilter.specs.Table.{pext_entries};
 ghost use Rattle.vx_bitfilter.specs.Words.{busy_words, first_words};
 ghost use Rattle.vx_mask.specs.Mask.{at_front};
 
+use crate::closing::closed_up;
+use crate::nibbles::NibbleTable;
 use crate::pext::pext_fallback;
 use crate::table::PextTable;
 use std::alloc::Global;
-use vx_bits::{BitBuffer, BitBuilder, NoMemory, PlainWords, WordReader};
+use std::marker::Model;
+use vx_bits::{BitBuffer, BitBuilder, NoMemory, WordReader, Words};
+
+// From so many set bits on a table of nibbles is worth making, and from so many set bits and so
+// many clear ones on a table of bytes.
+const NIBBLES_PAY_FROM_SET: usize = 1 << 11;
+
+const BYTES_PAY_FROM_SET_AND_CLEAR: usize = 45_000;
 
 /// The source's bits at the mask's set positions, from offset 0 on, wherever the bits of each lie
 /// in their bytes: Vortex's `filter_bitbuffer_by_mask`. `NoMemory` alone.
@@ -29,11 +37,57 @@ pub fn filter_bitbuffer_by_mask(
     ensures { IfOk result (λ b. b
         ≡ at_front (items_where_true mask_buf.now.bits src.now.bits)) }
 {
-    // The number of words is bounded by that of bits.
-    let _ = mask_buf.len();
-    let mut src = PlainWords::new(src.share());
-    let mut mask = PlainWords::new(mask_buf.share());
+    let mut src = ViewedWords::new(src);
+    let mut mask = ViewedWords::new(mask_buf);
     filter_words(alloc, &mut src, &mut mask, true_count)
+}
+
+// Reads the words of bits by a view of their bytes, and tells no reads.
+#[derive(Drop)]
+struct ViewedWords<'a> {
+    words: Words<'a>,
+    len: usize,
+}
+
+impl<'a> Model for ViewedWords<'a> {
+    ghost use Rattle.std.specs.Prelude.{◌≡◌, Bool, List, length};
+
+    ghost Value = { List Bool };
+
+    ghost view = { λ w. w.words };
+
+    ghost invariant = { λ w. length w.words ≡ w.len };
+}
+
+impl<'a> ViewedWords<'a> {
+    fn new(bits: &'a BitBuffer) -> ViewedWords<'a>
+        ensures { result ≡ bits.now.bits }
+    {
+        ViewedWords {
+            words: bits.words(),
+            len: bits.len(),
+        }
+    }
+}
+
+impl<'a> WordReader for ViewedWords<'a> {
+    ghost use Rattle.std.specs.Prelude.{◌-◌, ◌^◌, None};
+
+    ghost bits = { λ w. w };
+
+    ghost reads = { λ _. None };
+
+    ghost spare = { λ _. 2 ^ 64 - 1 };
+
+    #[inline(always)]
+    fn len(&self) -> usize {
+        self.len
+    }
+
+    #[inline(always)]
+    fn word(&mut self, i: usize) -> u64 {
+        self.words.word(i)
+    }
 }
 
 /// The source's bits at the mask's set positions, from offset 0 on. `NoMemory` alone.
@@ -68,34 +122,43 @@ pub fn filter_words<S: WordReader, M: WordReader>(
     ensures mask_cost { M.spare mask.old
         ≤ M.spare mask.new + word_count (length (M.bits mask.old)) }
 {
-    let table = table_for(alloc, true_count)?;
+    let packing = packing_for(alloc, true_count, mask.len())?;
     let mut kept = BitBuilder::with_capacity(alloc, true_count)?;
     for i in 0..mask.len().div_ceil(64) {
         let picks = mask.word(i);
         if picks != 0 {
             let word = src.word(i);
-            let bits = packed(&table, word, picks);
+            let bits = packed(&packing, word, picks);
             kept.append_word(bits, picks.count_ones() as usize)?;
         }
     }
     kept.finish()
 }
 
-// A table where so many bits are packed that it pays.
-fn table_for(alloc: Global, true_count: usize) -> Result<Option<PextTable>, NoMemory>
-    ensures { IfOk result (λ table. table
-        ≡ (if nat_lt true_count 24576 then None else Some pext_entries)) }
-{
-    if true_count < 24_576 {
-        return Ok(None);
-    }
-    Ok(Some(PextTable::new(alloc)?))
+// What packs the bits of a word: the more words are neither empty nor full, the greater a table
+// pays.
+#[derive(Drop)]
+enum Packing {
+    ByBits,
+    ByNibbles(NibbleTable),
+    ByBytes(PextTable),
 }
 
-// The bits that a mask's word picks, packed from bit 0: by the table where there is one, and the
-// bits are not so few that a turn for each is less work. A full mask takes the word whole.
-#[inline]
-fn packed(table: &Option<PextTable>, word: u64, picks: u64) -> u64
+fn packing_for(alloc: Global, true_count: usize, len: usize) -> Result<Packing, NoMemory> {
+    if true_count < NIBBLES_PAY_FROM_SET {
+        return Ok(Packing::ByBits);
+    }
+    if true_count.min(len.saturating_sub(true_count)) < BYTES_PAY_FROM_SET_AND_CLEAR {
+        return Ok(Packing::ByNibbles(NibbleTable::new()));
+    }
+    Ok(Packing::ByBytes(PextTable::new(alloc)?))
+}
+
+// The bits that a mask's word picks, packed from bit 0: by a table where there is one, and the
+// set bits, or the clear ones, are not so few that a turn for each is less work. A full mask takes
+// the word whole.
+#[inline(always)]
+fn packed(packing: &Packing, word: u64, picks: u64) -> u64
     ensures { word_bits result (count_ones picks)
         ≡ items_where_true (word_bits picks 64) (word_bits word 64) }
 {
@@ -105,8 +168,12 @@ fn packed(table: &Option<PextTable>, word: u64, picks: u64) -> u64
     if picks.count_ones() <= 10 {
         return pext_fallback(word, picks);
     }
-    match table {
-        Some(table) => table.pext(word, picks),
-        None => pext_fallback(word, picks),
+    if picks.count_ones() >= 53 {
+        return closed_up(word, picks);
+    }
+    match packing {
+        Packing::ByBits => pext_fallback(word, picks),
+        Packing::ByNibbles(table) => table.pext(word, picks),
+        Packing::ByBytes(table) => table.pext(word, picks),
     }
 }

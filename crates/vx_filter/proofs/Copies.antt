@@ -119,10 +119,10 @@ module _ {X : Type 0} where
   next_within all src old dst kept base left some fits h =
       (copying_as all src old dst kept _ _ (lowest_position base left some fits) h).within 0 0 (omega arith)
 
-  pub word_all_copied : (all : List (Option X)) (src old dst : List X) (kept base left : ℕ) → count_ones left ≡ 0 → IsCopying all src old dst kept (positions base (word_bits left 64)) → map Some (take kept dst) ≡ all
-  word_all_copied all src old dst kept base left none h =
+  pub word_all_copied : (all : List (Option X)) (src dst : List X) (kept base left : ℕ) → count_ones left ≡ 0 → map Some (take kept dst) ++ map (slice_get src) (positions base (word_bits left 64)) ≡ all → map Some (take kept dst) ≡ all
+  word_all_copied all src dst kept base left none h =
       let no : positions base (word_bits left 64) ≡ [] = ap (λ n. positions base (word_bits n 64)) (zero_from_ones left none) ∙ no_positions base in
-      sym (append-nil (map Some (take kept dst))) ∙ sym (ap (λ l. map Some (take kept dst) ++ map (slice_get src) l) no) ∙ h.whole
+      sym (append-nil (map Some (take kept dst))) ∙ sym (ap (λ l. map Some (take kept dst) ++ map (slice_get src) l) no) ∙ h
 
   -- ---- whole words
 
@@ -207,9 +207,15 @@ module _ {X : Type 0} where
 module _ {X : Type 0} where
   -- ---- runs
 
+  -- some runs were copied, others are left, and dst is as it was behind all of them
+  pub record IsCopyingRuns (all : List (Option X)) (src old dst : List X) (kept end : ℕ) (left : List ℕ) : Type 0 where
+    pub whole : map Some (take kept dst) ++ map (slice_get src) left ≡ all
+    pub within : All (λ p. p < length src) left
+    pub after : drop end dst ≡ drop end old
+
   -- the lowest run of a word lies within the items
-  pub run_within : (all : List (Option X)) (src old dst : List X) (kept base left low count rest : ℕ) → IsLowestRun left low count rest → IsCopying all src old dst kept (positions base (word_bits left 64)) → base + low + count ≤ length src
-  run_within all src old dst kept base left low count rest run h =
+  pub run_within : (all : List (Option X)) (src old dst : List X) (kept end base left low count rest : ℕ) → IsLowestRun left low count rest → IsCopyingRuns all src old dst kept end (positions base (word_bits left 64)) → base + low + count ≤ length src
+  run_within all src old dst kept end base left low count rest run h =
       let places = run.places base in
       let range = range_with_len (base + low) count in
       let long = length-range_with_len (base + low) count in
@@ -220,12 +226,12 @@ module _ {X : Type 0} where
       omega (arith, last, is, some)
 
   -- the lowest run of a word was copied
-  pub run_copied : (all : List (Option X)) (src old dst new : List X) (kept base left low count rest : ℕ) → IsLowestRun left low count rest → take (kept + count) new ≡ take kept dst ++ take count (drop (base + low) src) → drop (kept + count) new ≡ drop (kept + count) dst → IsCopying all src old dst kept (positions base (word_bits left 64)) → IsCopying all src old new (kept + count) (positions base (word_bits rest 64))
-  run_copied all src old dst new kept base left low count rest run front after h =
-      let within = run_within all src old dst kept base left low count rest run h in
+  pub run_copied : (all : List (Option X)) (src old dst new : List X) (kept end base left low count rest : ℕ) → IsLowestRun left low count rest → take (kept + count) new ≡ take kept dst ++ take count (drop (base + low) src) → drop end new ≡ drop end dst → IsCopyingRuns all src old dst kept end (positions base (word_bits left 64)) → IsCopyingRuns all src old new (kept + count) end (positions base (word_bits rest 64))
+  run_copied all src old dst new kept end base left low count rest run front after h =
+      let within = run_within all src old dst kept end base left low count rest run h in
       let range = range_with_len (base + low) count in
       let places = positions base (word_bits rest 64) in
-      let m = copying_as all src old dst kept _ (range ++ places) (run.places base) h in
+      let m = subst (λ (l : List ℕ). IsCopyingRuns all src old dst kept end l) (run.places base) h in
       record {
         whole =
             ap (λ l. map Some l ++ map (slice_get src) places) front
@@ -234,5 +240,5 @@ module _ {X : Type 0} where
             ∙ ap (λ l. map Some (take kept dst) ++ l) (sym (map-append (slice_get src) range places))
             ∙ m.whole;
         within = All-right (λ p. p < length src) range places m.within;
-        after = after ∙ same_further old dst kept (kept + count) (omega arith) h.after;
+        after = after ∙ h.after;
       }

@@ -103,10 +103,10 @@ module _ {X : Type 0} where
     pub behind : kept ≤ low
     pub ahead : ascending low (length now) left ≡ true
 
-  pub moved : (all : List (Option X)) (now new xs : List X) (kept low n next : ℕ) (first rest : List ℕ) → IsMoving all now kept low (first ++ rest) → length new ≡ length now → take (kept + n) new ≡ take kept now ++ xs → map Some xs ≡ map (slice_get now) first → drop (kept + n) new ≡ drop (kept + n) now → kept + n ≤ next → ascending next (length now) rest ≡ true → IsMoving all new (kept + n) next rest
+  pub moved : (all : List (Option X)) (now new xs : List X) (kept low n next : ℕ) (first rest : List ℕ) → IsMoving all now kept low (first ++ rest) → length new ≡ length now → take (kept + n) new ≡ take kept now ++ xs → map Some xs ≡ map (slice_get now) first → drop next new ≡ drop next now → kept + n ≤ next → ascending next (length now) rest ≡ true → IsMoving all new (kept + n) next rest
   moved all now new xs kept low n next first rest h long front is after below ahead = record {
     whole =
-        ap₂ ◌++◌ (ap (map Some) front ∙ map-append Some (take kept now) xs ∙ ap (λ l. map Some (take kept now) ++ l) is) (same_picks now new (kept + n) next (length now) rest after below ahead)
+        ap₂ ◌++◌ (ap (map Some) front ∙ map-append Some (take kept now) xs ∙ ap (λ l. map Some (take kept now) ++ l) is) (same_picks now new next next (length now) rest after (omega arith) ahead)
         ∙ append_assoc (map Some (take kept now)) (map (slice_get now) first) (map (slice_get now) rest)
         ∙ ap (λ l. map Some (take kept now) ++ l) (sym (map-append (slice_get now) first rest))
         ∙ h.whole;
@@ -121,7 +121,7 @@ module _ {X : Type 0} where
       moved all now (set now kept x) (x ∷ []) kept low 1 (p + 1) (p ∷ []) rest h (length-set now kept x)
       (take_more_set now kept x (omega (arith, h.behind, parts.from, parts.within)))
       (ap (λ y. y ∷ []) here)
-      (drop-set-lt (kept + 1) now kept x (omega arith))
+      (drop-set-lt (p + 1) now kept x (omega (arith, h.behind, parts.from)))
       (omega (arith, h.behind, parts.from)) parts.then
 
   -- the item at the first place was moved
@@ -210,7 +210,7 @@ module _ {X : Type 0} where
       ∙ ap₂ ◌∷◌ (sym (slice_get-get_or xs a y (omega arith))) (cut_picked xs (a + 1) n (omega arith))
 
   -- a run of places was moved
-  pub run_moved : (all : List (Option X)) (now new : List X) (kept low start n : ℕ) (rest : List ℕ) → 0 < n → length new ≡ length now → take (kept + n) new ≡ take kept now ++ take n (drop start now) → drop (kept + n) new ≡ drop (kept + n) now → IsMoving all now kept low (range_with_len start n ++ rest) → IsMoving all new (kept + n) (start + n) rest
+  pub run_moved : (all : List (Option X)) (now new : List X) (kept low start n : ℕ) (rest : List ℕ) → 0 < n → length new ≡ length now → take (kept + n) new ≡ take kept now ++ take n (drop start now) → drop (start + n) new ≡ drop (start + n) now → IsMoving all now kept low (range_with_len start n ++ rest) → IsMoving all new (kept + n) (start + n) rest
   run_moved all now new kept low start n rest some long front after h =
       let first = run_first_of low (length now) start n rest some h.ahead in
       moved all now new (take n (drop start now)) kept low n (start + n) (range_with_len start n) rest h long front (cut_picked now start n first.within) after (omega (arith, h.behind, first.from)) first.then
@@ -228,7 +228,7 @@ module _ {X : Type 0} where
       let first = run_first_of m.low (length now) run.0 (run.1 - run.0) (run_positions (drop (k + 1) runs)) (omega arith) (ap (ascending m.low (length now)) (sym (covered_first runs k d h)) ∙ m.moving.ahead) in
       record { some = some; within = omega (arith, first.within); behind = omega (arith, m.moving.behind, first.from) }
 
-  pub next_run_moved : (all : List (Option X)) (now new : List X) (kept n k : ℕ) (runs : List (ℕ × ℕ)) (d : ℕ × ℕ) → k < length runs → All (λ run. run.0 < run.1) runs → n ≡ (get_or runs k d).1 - (get_or runs k d).0 → length new ≡ length now → take (kept + n) new ≡ take kept now ++ take n (drop (get_or runs k d).0 now) → drop (kept + n) new ≡ drop (kept + n) now → IsMovingOn all now kept (run_positions (drop k runs)) → IsMovingOn all new (kept + n) (run_positions (drop (k + 1) runs))
+  pub next_run_moved : (all : List (Option X)) (now new : List X) (kept n k : ℕ) (runs : List (ℕ × ℕ)) (d : ℕ × ℕ) → k < length runs → All (λ run. run.0 < run.1) runs → n ≡ (get_or runs k d).1 - (get_or runs k d).0 → length new ≡ length now → take (kept + n) new ≡ take kept now ++ take n (drop (get_or runs k d).0 now) → drop ((get_or runs k d).0 + n) new ≡ drop ((get_or runs k d).0 + n) now → IsMovingOn all now kept (run_positions (drop k runs)) → IsMovingOn all new (kept + n) (run_positions (drop (k + 1) runs))
   next_run_moved all now new kept n k runs d h p is long front after m =
       let run = get_or runs k d in
       let some : run.0 < run.1 = p k d h in

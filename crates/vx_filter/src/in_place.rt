@@ -172,13 +172,22 @@ fn move_64<T: Copy>(values: &mut [T], from: usize, to: usize)
     }
 }
 
-// Moves `count` values from `from` on to `to` on, where they came from below.
+// Moves `count` values from `from` on to `to` on, where they came from below. What stands between
+// is free, so up to sixteen are moved as a block of sixteen where it ends there.
+#[inline(always)]
 fn move_down<T: Copy>(values: &mut [T], from: usize, to: usize, count: usize)
     requires down { to ≤ from }
     requires within { from + count ≤ length values.old }
     ensures front { take (to + count) values.new
         ≡ take to values.old ++ take count (drop from values.old) }
-    ensures after { drop (to + count) values.new ≡ drop (to + count) values.old }
+    ensures after { drop (from + count) values.new ≡ drop (from + count) values.old }
 {
+    if count <= 16 && from + count - to >= 16 {
+        if let Some(block) = values[from..].first_chunk::<16>() {
+            let block = *block;
+            values[to..to + 16].copy_from_slice(&block);
+            return;
+        }
+    }
     values.copy_within(from..from + count, to);
 }

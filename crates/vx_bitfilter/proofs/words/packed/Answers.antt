@@ -17,8 +17,11 @@ returns-then-picks-eq18446744073709551615 c =
 pub returns-then-picks-le10 : goal.returns-then-picks-le10
 returns-then-picks-le10 c = pext-word_bits c.args.word c.args.picks _ c.ranges.picks.fits c.pext_fallback.ensures
 
-pub returns-in-Some : goal.returns-in-Some
-returns-in-Some c = pext-word_bits c.args.word c.args.picks _ c.ranges.picks.fits c.pext.ensures
+pub returns-in-ByBits : goal.returns-in-ByBits
+returns-in-ByBits c = pext-word_bits c.args.word c.args.picks _ c.ranges.picks.fits c.pext_fallback-in-ByBits.ensures
 
-pub returns-in-None : goal.returns-in-None
-returns-in-None c = pext-word_bits c.args.word c.args.picks _ c.ranges.picks.fits c.pext_fallback-in-None.ensures
+pub returns-in-ByNibbles : goal.returns-in-ByNibbles
+returns-in-ByNibbles c = pext-word_bits c.args.word c.args.picks _ c.ranges.picks.fits c.pext.ensures
+
+pub returns-in-ByBytes : goal.returns-in-ByBytes
+returns-in-ByBytes c = pext-word_bits c.args.word c.args.picks _ c.ranges.picks.fits c.pext-in-ByBytes.ensures

@@ -5,17 +5,17 @@ use Rattle.vx_filter.proofs.compact.copy_runs.Goals as goal
 
 pub overflow_add-base : goal.overflow_add-base
 overflow_add-base g c =
-    omega (arith, run_within _ _ _ _ _ c.args.base c.run.left _ _ _ c.lowest_run-run.ensures c.run.invariant.copying)
+    omega (arith, run_within _ _ _ _ _ _ c.args.base c.run.left _ _ _ c.lowest_run-run.ensures c.run.invariant.copying)
 
 pub copy_run-requires-clause-from : goal.copy_run-requires-clause-from
 copy_run-requires-clause-from g c =
-    run_within _ _ _ _ _ c.args.base c.run.left _ _ _ c.lowest_run-run.ensures c.run.invariant.copying
+    run_within _ _ _ _ _ _ c.args.base c.run.left _ _ _ c.lowest_run-run.ensures c.run.invariant.copying
 
 pub run-preserved : goal.run-preserved
 run-preserved g c = record {
-  copying = run_copied _ _ _ _ _ _ c.args.base c.run.left _ _ _ c.lowest_run-run.ensures c.copy_run.ensures.front c.copy_run.ensures.rest c.run.invariant.copying;
+  copying = run_copied _ _ _ _ _ _ _ c.args.base c.run.left _ _ _ c.lowest_run-run.ensures c.copy_run.ensures.front c.copy_run.ensures.rest c.run.invariant.copying;
   ones = omega (arith, c.run.invariant.ones, c.lowest_run-run.ensures.ones);
 }
 
 pub returns-clause-front : goal.returns-clause-front
-returns-clause-front g c = word_all_copied _ _ _ _ _ c.args.base c.run.left (omega (arith, ones_le_self c.run.left)) c.run.invariant.copying
+returns-clause-front g c = word_all_copied _ _ _ _ c.args.base c.run.left (omega (arith, ones_le_self c.run.left)) c.run.invariant.copying.whole

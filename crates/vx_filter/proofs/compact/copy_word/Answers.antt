@@ -33,4 +33,4 @@ loop-k-preserved g c =
 pub returns-clause-front : goal.returns-clause-front
 returns-clause-front g c =
     let v = c.loop-k.invariant in
-    word_all_copied _ _ _ _ _ _ c.loop-k.left (omega (arith, v.ones)) v.copying
+    word_all_copied _ _ _ _ _ c.loop-k.left (omega (arith, v.ones)) v.copying.whole

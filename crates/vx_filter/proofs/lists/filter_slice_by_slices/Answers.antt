@@ -8,8 +8,8 @@ use Rattle.vx_filter.proofs.lists.filter_slice_by_slices.Goals as goal
 pub loop-run-init : goal.loop-run-init
 loop-run-init g c = c.in_ok-kept.ensures.items
 
-pub slice_bounds-extend_from_slice-count : goal.slice_bounds-extend_from_slice-count
-slice_bounds-extend_from_slice-count g c =
+pub push_run-requires-clause-ordered : goal.push_run-requires-clause-ordered
+push_run-requires-clause-ordered g c =
     All-get_or (λ run. run.0 ≤ run.1) c.args.slices.now c.loop-run.run-index (0, 0) c.loop-run-test.true c.requires.ordered
 
 pub returns : goal.returns
