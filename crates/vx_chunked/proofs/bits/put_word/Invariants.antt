@@ -2,7 +2,7 @@ use Rattle.std.proofs.Common.{◌≡◌, ◌+◌, ◌++◌, take}
 use Rattle.std.specs.Int.RustNames.{count_ones}
 use Rattle.vx_bits.specs.Words.{word_bits}
 use Rattle.vx_mask.specs.Positions.{positions}
-use Rattle.vx_chunked.proofs.selection.put_word.Given as goal
+use Rattle.vx_chunked.proofs.bits.put_word.Given as goal
 
 abbrev pub invariant-loop-k : goal.invariant-loop-k
 invariant-loop-k l = record {

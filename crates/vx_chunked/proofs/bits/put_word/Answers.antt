@@ -4,7 +4,7 @@ use Rattle.std.proofs.lemmas.List.{take_more_set}
 use Rattle.std.proofs.lemmas.Nat.Bits.{bit_at-trailing_zeros}
 use Rattle.vx_bits.proofs.WordLists.{one_less}
 use Rattle.vx_mask.proofs.LowestBit.{position_pushed, positions_done, some_left}
-use Rattle.vx_chunked.proofs.selection.put_word.Goals as goal
+use Rattle.vx_chunked.proofs.bits.put_word.Goals as goal
 
 pub overflow_add-places : goal.overflow_add-places
 overflow_add-places c =
