@@ -155,8 +155,7 @@ fn put_word(places: &mut [usize], at: usize, base: usize, word: u64) -> usize
 {
     let mut next = at;
     let mut left = word;
-    for k in 0..word.count_ones() {
-        let _ = k;
+    'bit: while left != 0 {
         places[next] = base + left.trailing_zeros() as usize;
         next += 1;
         left &= left - 1;
