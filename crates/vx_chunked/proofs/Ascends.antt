@@ -1,11 +1,11 @@
 -- Positions that ascend.
-use Rattle.std.proofs.Common.{◌≡◌, refl, true, ℕ, zero, suc, ◌+◌, ◌<◌, ◌≤◌, List, [], ◌∷◌, ◌++◌, length, get_or, take, drop, map, set, sym, ap, ap₂, subst, ◌∙◌, arith}
-use Rattle.std.proofs.lemmas.List.{drop_more, drop_all, append_assoc, map_push, take_more_set}
+use Rattle.std.proofs.Common.{◌≡◌, refl, true, ℕ, zero, suc, ◌+◌, ◌-◌, ◌<◌, ◌≤◌, List, [], ◌∷◌, ◌++◌, length, get_or, take, drop, map, set, sym, ap, ap₂, subst, ◌∙◌, arith}
+use Rattle.std.proofs.lemmas.List.{drop_more, drop_all, append_assoc, map_push, map-append, take_more_set, take-append-drop, length-take-le, get_or-take, get_or_default}
 use Rattle.std.specs.List.{All, range_with_len}
 use Rattle.std.proofs.lemmas.List.Elements.{All-head, All-tail}
 use Rattle.vx_mask.specs.Positions.{ascending}
 use Rattle.vx_mask.proofs.AscendingLists.{ascending_first, index_parts}
-use Rattle.vx_chunked.specs.Positions.{AscendFrom}
+use Rattle.vx_chunked.specs.Positions.{AscendFrom, IsInChunk, places_of}
 
 -- what a test of indices says
 pub ascend_of : (low high : ℕ) (xs : List ℕ) → ascending low high xs ≡ true → AscendFrom low high xs
@@ -88,3 +88,50 @@ take_place f base all places xs k p h a b e =
 pub ascend_none : (low high : ℕ) (xs : List ℕ) → AscendFrom low high xs → high ≤ low → xs ≡ []
 ascend_none low high [] h le = refl
 ascend_none low high (x ∷ xs) h le = absurd (omega (arith, h.0, h.1))
+
+-- each is as far on as its rank at least
+pub ascend_gap : (f : ℕ → ℕ) (low high : ℕ) (xs : List ℕ) (k : ℕ) → AscendFrom low high (map f xs) → k < length xs → low + k ≤ f (get_or xs k 0)
+ascend_gap f low high [] k h p = absurd (omega arith)
+ascend_gap f low high (x ∷ xs) zero h p = omega (arith, h.0)
+ascend_gap f low high (x ∷ xs) (suc k) h p = omega (arith, h.0, ascend_gap f (f x + 1) high xs k h.2 (omega arith))
+
+-- none is above a later one
+pub ascend_upto : (f : ℕ → ℕ) (low high : ℕ) (xs : List ℕ) (j k : ℕ) → AscendFrom low high (map f xs) → j ≤ k → k < length xs → f (get_or xs j 0) ≤ f (get_or xs k 0)
+ascend_upto f low high [] j k h p q = absurd (omega arith)
+ascend_upto f low high (x ∷ xs) zero zero h p q = omega arith
+ascend_upto f low high (x ∷ xs) zero (suc k) h p q = omega (arith, ascend_gap f (f x + 1) high xs k h.2 (omega arith))
+ascend_upto f low high (x ∷ xs) (suc j) zero h p q = absurd (omega arith)
+ascend_upto f low high (x ∷ xs) (suc j) (suc k) h p q = ascend_upto f (f x + 1) high xs j k h.2 (omega arith) (omega arith)
+
+-- those after the first k are further on than those
+pub ascend_drop : (f : ℕ → ℕ) (low high : ℕ) (xs : List ℕ) (k : ℕ) → AscendFrom low high (map f xs) → AscendFrom (low + k) high (map f (drop k xs))
+ascend_drop f low high xs zero h = ascend_lower low (low + 0) high (map f xs) h (omega arith)
+ascend_drop f low high [] (suc k) h = tt
+ascend_drop f low high (x ∷ xs) (suc k) h = ascend_lower (f x + 1 + k) (low + suc k) high (map f (drop k xs)) (ascend_drop f (f x + 1) high xs k h.2) (omega (arith, h.0))
+
+-- where the last of the first n lies in a chunk, all of these do
+pub all_in_chunk : (f : ℕ → ℕ) (base high : ℕ) (xs : List ℕ) (n : ℕ) → AscendFrom base high (map f xs) → 0 < n → n ≤ length xs → f (get_or xs (n - 1) 0) < base + 1024 → All (λ i. IsInChunk base (f i)) (take n xs)
+all_in_chunk f base high xs n h some fits last k d p =
+    let within : k < n = omega (arith, length-take-le n xs fits) in
+    let here : get_or (take n xs) k d ≡ get_or xs k 0 = get_or-take n xs k d within ∙ get_or_default xs k d 0 (omega arith) in
+    let low = ascend_gap f base high xs k h (omega arith) in
+    let upto = ascend_upto f base high xs k (n - 1) h (omega arith) (omega arith) in
+    subst (λ i. IsInChunk base (f i)) (sym here) (omega arith, omega arith)
+
+-- as places, what lies in a chunk is where it was
+pub places_back : (offset base : ℕ) (xs : List ℕ) → All (λ i. IsInChunk base (offset + i)) xs → map (λ i. offset + i) xs ≡ map (λ p. base + p) (places_of offset base xs)
+places_back offset base [] h = refl
+places_back offset base (x ∷ xs) h =
+    let here = h 0 0 (omega arith) in
+    ap₂ ◌∷◌ (omega (arith, here.0)) (places_back offset base xs (All-tail (λ i. IsInChunk base (offset + i)) x xs h))
+
+pub places_inside : (offset base : ℕ) (xs : List ℕ) → All (λ i. IsInChunk base (offset + i)) xs → All (λ p. p < 1024) (places_of offset base xs)
+places_inside offset base [] h k d p = absurd (omega arith)
+places_inside offset base (x ∷ xs) h zero d p = let here = h 0 0 (omega arith) in omega (arith, here.0, here.1)
+places_inside offset base (x ∷ xs) h (suc k) d p = places_inside offset base xs (All-tail (λ i. IsInChunk base (offset + i)) x xs h) k d (omega arith)
+
+-- what was taken of positions, as places, and what is left
+pub places_taken : (offset base n : ℕ) (all left : List ℕ) → All (λ i. IsInChunk base (offset + i)) (take n all) → drop n all ≡ left → map (λ i. offset + i) all ≡ map (λ p. base + p) (places_of offset base (take n all)) ++ map (λ i. offset + i) left
+places_taken offset base n all left h e =
+    ap (map (λ i. offset + i)) (sym (take-append-drop n all)) ∙ map-append (λ i. offset + i) (take n all) (drop n all)
+    ∙ ap₂ (λ l m. l ++ map (λ i. offset + i) m) (places_back offset base (take n all) h) e

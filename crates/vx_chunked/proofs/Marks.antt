@@ -1,19 +1,26 @@
 -- The set bits of a list of bits that lie in a chunk, as places.
-use Rattle.std.proofs.Common.{◌≡◌, refl, ℕ, zero, suc, ◌+◌, ◌*◌, ◌<◌, ◌≤◌, Bool, true, false, cond, List, [], ◌∷◌, ◌++◌, length, get_or, take, drop, map, Option, Some, sym, ap, ap₂, subst, ◌∙◌, arith}
+use Rattle.std.proofs.Common.{◌≡◌, refl, ℕ, zero, suc, ◌+◌, ◌*◌, ◌^◌, ◌<◌, ◌≤◌, Bool, true, false, cond, List, [], ◌∷◌, ◌++◌, length, get_or, take, drop, replicate, map, ◌-◌, Option, Some, sym, ap, ap₂, subst, ◌∙◌, arith}
 use Rattle.std.specs.Prelude.{slice_get}
-use Rattle.std.specs.List.{All}
+use Rattle.std.specs.List.{All, items_where_true, range_with_len}
+use Rattle.std.specs.Int.RustNames.{count_ones}
+use Rattle.vx_bits.specs.Words.{word_count}
+use Rattle.vx_bits.proofs.WordBits.{length-word_bits, true_count_of-word_bits}
+use Rattle.vx_bits.proofs.WordsJoined.{all_words_joined, bits_of_words_more}
+use Rattle.vx_filter.specs.Compact.{bits_of_words}
+use Rattle.vx_mask.specs.Positions.{AllBits}
+use Rattle.vx_mask.proofs.PositionLists.{positions_false}
+use Rattle.vx_mask.proofs.RankedItems.{items_at_the_set}
+use Rattle.vx_mask.proofs.RunLists.{set_of_passed}
+use Rattle.std.proofs.lemmas.List.{append-nil, get_or-append-add, get_or-replicate, length-append, length-map, take_all, take_more}
+use Rattle.std.proofs.lemmas.List.FromFn.{length-range_with_len}
+use Rattle.std.proofs.Math.Seq.{take-append_seam}
 use Rattle.std.proofs.lemmas.List.{drop_more, drop-drop, take-append-drop, length-take-le, length-drop}
 use Rattle.std.proofs.lemmas.Simd.{map-map}
 use Rattle.vx_bits.specs.Words.{word_at, word_bits}
-use Rattle.vx_bits.proofs.WordLists.{take_words}
 use Rattle.vx_mask.specs.Positions.{positions, set_of}
 use Rattle.vx_mask.proofs.PositionLists.{positions-append, length-positions}
-use Rattle.vx_mask.proofs.WordPositions.{positions_in}
 use Rattle.vx_chunked.proofs.WordPlaces.{positions-shift}
-use Rattle.vx_chunked.specs.Positions.{AscendFrom, positions_from}
-use Rattle.vx_chunked.specs.SelectedPlaces.{Fits, count_of, selected}
-use Rattle.vx_chunked.specs.declared.selection.Selection.{Selection}
-use Rattle.vx_chunked.specs.declared.selection.Selection.TheVariants.{Listed, Marked}
+use Rattle.vx_chunked.specs.Positions.{AscendFrom, marked, positions_from}
 use Rattle.vx_chunked.proofs.Ascends.{ascend_below}
 use Rattle.vx_chunked.proofs.Handed.{positions_ascend}
 use Rattle.vx_chunked.proofs.ValuesAt.{part_at}
@@ -64,40 +71,97 @@ pub beyond_from : (offset mid at : ℕ) (bits : List Bool) → (at < length bits
 unfolding positions_from
 beyond_from offset mid at bits h = positions_beyond offset mid at (drop at bits) (λ q. h (omega (arith, length-drop at bits)))
 
--- what fits is as long as it says, and within the chunk where nothing is listed
-pub selected_long : (listed : List ℕ) (s : Selection) → Fits listed s → length (selected listed s) ≡ count_of s
-selected_long listed (Listed count) h = length-take-le count listed h
-selected_long listed (Marked bits from count) h = length-positions from bits.bits ∙ sym h.0
+pub length-bits : (words : List ℕ) → length (bits_of_words words) ≡ 64 * length words
+length-bits [] = refl
+length-bits (w ∷ words) = omega (arith, length-append (word_bits w 64) (bits_of_words words), length-word_bits w 64, length-bits words)
 
-pub marked_inside : (s : Selection) → Fits [] s → All (λ p. p < 1024) (selected [] s)
-marked_inside (Listed zero) h = λ k d p. absurd (omega arith)
-marked_inside (Listed (suc count)) h = absurd (omega (arith, h))
-marked_inside (Marked bits from count) h = ascend_below from 1024 1024 (positions from bits.bits) (positions_ascend from 1024 from bits.bits (omega arith) (omega (arith, h.1))) (omega arith)
+-- a word has as many positions as set bits
+pub ones_of_word : (at word : ℕ) → word < 2 ^ 64 → length (positions at (word_bits word 64)) ≡ count_ones word
+ones_of_word at word h = length-positions at (word_bits word 64) ∙ true_count_of-word_bits word 64 h
 
--- nothing is listed, so the list beside it is of no matter
-pub selected_alone : (listed : List ℕ) (s : Selection) → Fits [] s → selected [] s ≡ selected listed s
-selected_alone listed (Listed zero) h = refl
-selected_alone listed (Listed (suc count)) h = absurd (omega (arith, h))
-selected_alone listed (Marked bits from count) h = refl
+-- the positions of words, one word more
+pub words_more : (words : List ℕ) (w from : ℕ) → w < length words → positions from (bits_of_words (take (w + 1) words)) ≡ positions from (bits_of_words (take w words)) ++ positions (from + 64 * w) (word_bits (get_or words w 0) 64)
+words_more words w from h =
+    let long : from + length (bits_of_words (take w words)) ≡ from + 64 * w = omega (arith, length-bits (take w words), length-take-le w words (omega arith)) in
+    ap (λ l. positions from (bits_of_words l)) (take_more words w 0 h) ∙ ap (positions from) (bits_of_words_more (take w words) (get_or words w 0))
+    ∙ positions-append from (bits_of_words (take w words)) (word_bits (get_or words w 0) 64)
+    ∙ ap (λ n. positions from (bits_of_words (take w words)) ++ positions n (word_bits (get_or words w 0) 64)) long
 
-pub fits_alone : (listed : List ℕ) (s : Selection) → Fits [] s → Fits listed s
-fits_alone listed (Listed count) h = omega (arith, h)
-fits_alone listed (Marked bits from count) h = h
+-- no more are in the first words than in all
+pub words_part : (words : List ℕ) (w from : ℕ) → length (positions from (bits_of_words (take w words))) ≤ length (positions from (bits_of_words words))
+words_part words zero from = omega arith
+words_part [] (suc w) from = omega arith
+words_part (x ∷ words) (suc w) from =
+    let next = from + length (word_bits x 64) in
+    omega (
+      arith,
+      words_part words w next,
+      ap length (positions-append from (word_bits x 64) (bits_of_words (take w words))),
+      ap length (positions-append from (word_bits x 64) (bits_of_words words)),
+      length-append (positions from (word_bits x 64)) (positions next (bits_of_words (take w words))),
+      length-append (positions from (word_bits x 64)) (positions next (bits_of_words words)),
+    )
 
--- one more word's places were put out
-pub word_listed : (bits : List Bool) (from : ℕ) (before new : List ℕ) (w word : ℕ) → 64 * w ≤ length bits → word ≡ word_at bits w → before ≡ positions from (take (64 * w) bits) → new ≡ before ++ positions (from + 64 * w) (word_bits word 64) → new ≡ positions from (take (64 * (w + 1)) bits)
-word_listed bits from before new w word h e f g =
-    let front = take (64 * w) bits in
-    let long : from + length front ≡ from + 64 * w = omega (arith, length-take-le (64 * w) bits h) in
-    g ∙ ap₂ ◌++◌ f (positions_in bits w word (from + 64 * w) e ∙ ap (λ n. positions n (take 64 (drop (64 * w) bits))) (sym long))
-    ∙ sym (positions-append from front (take 64 (drop (64 * w) bits))) ∙ ap (positions from) (sym (take_words bits w))
+-- the words of bits have their positions, and zeros past them
+module _ (bits : List Bool) (words : List ℕ) (same : words ≡ map (word_at bits) (range_with_len 0 (word_count (length bits)))) where
+  abbrev pub padding : ℕ
+  padding = 64 * word_count (length bits) - length bits
 
--- the values of a part at set bits
-pub part_marked : {X : Type 0} (values : List X) (from n : ℕ) (bits : List Bool) → n ≡ length bits → map (slice_get (take n (drop from values))) (set_of bits) ≡ map (slice_get values) (positions from bits)
-part_marked values from n bits e =
-    let below = ascend_below 0 n n (set_of bits) (positions_ascend 0 n 0 bits (omega arith) (omega arith)) (omega arith) in
+  pub words_marked : (from : ℕ) → positions from (bits_of_words words) ≡ positions from bits
+  words_marked from =
+      ap (λ l. positions from (bits_of_words l)) same ∙ ap (positions from) (all_words_joined bits) ∙ positions-append from bits (replicate padding false)
+      ∙ ap (λ l. positions from bits ++ l) (positions_false (from + length bits) padding) ∙ append-nil (positions from bits)
+
+  pub words_clear : AllBits (bits_of_words words) (length bits) (64 * word_count (length bits)) false
+  words_clear k from to =
+      let at : k ≡ length bits + (k - length bits) = omega (arith, from) in
+      ap (λ l. get_or (bits_of_words l) k false) same ∙ ap (λ l. get_or l k false) (all_words_joined bits) ∙ ap (λ n. get_or (bits ++ replicate padding false) n false) at
+      ∙ get_or-append-add bits (replicate padding false) (k - length bits) false ∙ get_or-replicate padding (k - length bits) false false (omega (arith, from, to))
+
+-- the same, of words that others stand behind
+module _ (bits : List Bool) (words tail : List ℕ) (len : ℕ) (same : words ≡ map (word_at bits) (range_with_len 0 (word_count (length bits)))) (long : len ≡ length bits) where
+  pub front_is : take (word_count len) (words ++ tail) ≡ words
+  front_is =
+      let wide : length words ≡ word_count (length bits) = ap length same ∙ simp (length-map, length-range_with_len) in
+      ap (λ n. take n (words ++ tail)) (ap word_count long ∙ sym wide) ∙ take-append_seam words tail
+
+  pub front_marked : (from : ℕ) → marked from len (words ++ tail) ≡ positions from bits
+  front_marked from = ap (λ l. positions from (bits_of_words l)) front_is ∙ words_marked bits words same from
+
+  pub front_clear : AllBits (bits_of_words (take (word_count len) (words ++ tail))) len (64 * word_count len) false
+  front_clear k from to =
+      ap (λ l. get_or (bits_of_words l) k false) front_is ∙ words_clear bits words same k (omega (arith, long, from)) (subst (λ (n : ℕ). k < 64 * word_count n) long to)
+
+-- bits past the items pick nothing
+picked_front : {X : Type 0} (n : ℕ) (bits : List Bool) (xs : List X) → length xs ≤ n → items_where_true bits xs ≡ items_where_true (take n bits) xs
+picked_front zero [] xs h = refl
+picked_front zero (b ∷ bits) [] h = refl
+picked_front zero (b ∷ bits) (x ∷ xs) h = absurd (omega arith)
+picked_front (suc n) [] xs h = refl
+picked_front (suc n) (b ∷ bits) [] h = refl
+picked_front (suc n) (true ∷ bits) (x ∷ xs) h = ap (λ l. x ∷ l) (picked_front n bits xs (omega arith))
+picked_front (suc n) (false ∷ bits) (x ∷ xs) h = picked_front n bits xs (omega arith)
+
+-- what bits pick of items is what stands at their set positions, where those past the items are clear
+pub picked_places : {X : Type 0} (bits : List Bool) (src : List X) → length src ≤ length bits → AllBits bits (length src) (length bits) false → map Some (items_where_true bits src) ≡ map (slice_get src) (set_of bits)
+picked_places bits src h clear =
+    let n = length src in
+    let same : set_of (take n bits) ≡ set_of bits = sym (set_of_passed bits n (length bits) h (omega arith) clear) ∙ ap set_of (take_all (length bits) bits (omega arith)) in
+    ap (map Some) (picked_front n bits src (omega arith)) ∙ items_at_the_set (take n bits) src (length-take-le n bits h) ∙ ap (map (slice_get src)) same
+
+-- the same within a chunk's values, where the first bit has place `from`
+pub marked_read : {X : Type 0} (values dst : List X) (words : List ℕ) (from len : ℕ) → from + len ≤ length values → len ≤ 64 * length words → AllBits (bits_of_words words) len (64 * length words) false → dst ≡ items_where_true (bits_of_words words) (take len (drop from values)) → map Some dst ≡ map (slice_get values) (positions from (bits_of_words words))
+marked_read values dst words from len fits enough clear e =
+    let bits = bits_of_words words in
+    let src = take len (drop from values) in
+    let long : length src ≡ len = length-take-le len (drop from values) (omega (arith, length-drop from values)) in
+    let wide = length-bits words in
+    let clear_here = subst (λ (n : ℕ). AllBits bits n (length bits) false) (sym long) (subst (λ (n : ℕ). AllBits bits len n false) (sym wide) clear) in
+    let same : set_of (take len bits) ≡ set_of bits = sym (set_of_passed bits len (length bits) (omega (arith, wide)) (omega arith) (subst (λ (n : ℕ). AllBits bits len n false) (sym wide) clear)) ∙ ap set_of (take_all (length bits) bits (omega arith)) in
+    let below = ascend_below 0 len len (set_of (take len bits)) (positions_ascend 0 len 0 (take len bits) (omega arith) (omega (arith, length-take-le len bits (omega (arith, wide))))) (omega arith) in
     let at : from + 0 ≡ from = omega arith in
-    part_at values from n (set_of bits) below ∙ sym (map-map (slice_get values) (λ p. from + p) (set_of bits))
+    ap (map Some) e ∙ picked_places bits src (omega (arith, long, wide)) clear_here ∙ ap (map (slice_get src)) (sym same)
+    ∙ part_at values from len (set_of (take len bits)) below ∙ ap (map (λ p. slice_get values (from + p))) same ∙ sym (map-map (slice_get values) (λ p. from + p) (set_of bits))
     ∙ ap (map (slice_get values)) (sym (positions-shift from 0 bits) ∙ ap (λ k. positions k bits) at)
 
 pub none_read : {X : Type 0} (f : ℕ → Option X) (dst : List X) (places : List ℕ) → length dst ≡ 0 → length places ≡ 0 → map Some dst ≡ map f places

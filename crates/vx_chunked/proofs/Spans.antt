@@ -1,15 +1,18 @@
 -- Runs of positions.
-use Rattle.std.proofs.Common.{◌≡◌, refl, ℕ, zero, suc, ◌+◌, ◌-◌, ◌<◌, ◌≤◌, List, [], ◌∷◌, ◌++◌, length, get_or, take, drop, map, set, sym, ap, ap₂, subst, ◌∙◌, true, arith}
+use Rattle.std.proofs.Common.{◌≡◌, refl, ℕ, zero, suc, ◌+◌, ◌-◌, ◌<◌, ◌≤◌, List, [], ◌∷◌, ◌++◌, length, get_or, take, drop, map, set, sym, ap, ap₂, subst, ◌∙◌, true, inl, inr, arith}
 use Rattle.std.specs.List.{All, range_with_len}
-use Rattle.std.proofs.lemmas.List.{drop_more, drop_all, append_assoc, map-append, take_more, take_more_set, append-nil, length-append, length-map}
+use Rattle.std.proofs.Math.Seq.{drop-append_seam, take-append_seam}
+use Rattle.std.proofs.lemmas.Bool.{cases_lt}
+use Rattle.vx_bits.proofs.WordLists.{take_both}
+use Rattle.vx_mask.proofs.PositionLists.{get_or-range}
+use Rattle.std.proofs.lemmas.List.{drop-drop, length-drop, length-take-le, get_or-drop, get_or-take, get_or_append_left, get_or_default, drop_more, drop_all, append_assoc, map-append, take_more, take_more_set, append-nil, length-append, length-map}
 use Rattle.std.proofs.lemmas.List.Concat.{flat_map-append}
 use Rattle.std.proofs.lemmas.List.FromFn.{length-range_with_len}
 use Rattle.std.proofs.lemmas.List.Elements.{All-same}
 use Rattle.vx_mask.specs.Positions.{run_positions, runs_ascend}
 use Rattle.vx_mask.proofs.AscendingLists.{run_parts}
-use Rattle.vx_chunked.specs.Positions.{AscendFrom, with_runs}
+use Rattle.vx_chunked.specs.Positions.{AscendFrom, IsInChunk, places_of, with_runs}
 use Rattle.vx_chunked.proofs.Ascends.{ascend_lower, ascend_all}
-use Rattle.vx_chunked.proofs.ValuesAt.{map_range}
 
 pub range_split : (a m k : ℕ) → range_with_len a (m + k) ≡ range_with_len a m ++ range_with_len (a + m) k
 range_split a zero k = ap₂ range_with_len (omega arith) (omega arith)
@@ -68,15 +71,6 @@ module _ (base offset chunk start end more : ℕ) (runs : List (ℕ × ℕ)) (wi
   pub run_cut : map (λ i. offset + i) (with_runs start end runs) ≡ map (λ i. offset + i) (range_with_len start more) ++ map (λ i. offset + i) (with_runs (start + more) end runs)
   run_cut = ap (map (λ i. offset + i)) (runs_split start end more runs within) ∙ map-append (λ i. offset + i) (range_with_len start more) (with_runs (start + more) end runs)
 
-  pub take_run : (all old now : List ℕ) (k place : ℕ) → all ≡ map (λ p. base + p) (take k old) ++ map (λ i. offset + i) (with_runs start end runs) → take (k + more) now ≡ take k old ++ range_with_len place more → base + place ≡ offset + start → all ≡ map (λ p. base + p) (take (k + more) now) ++ map (λ i. offset + i) (with_runs (start + more) end runs)
-  take_run all old now k place h put e =
-      let same : (j : ℕ) → j < more → offset + (start + j) ≡ base + (place + j) = λ j p. omega arith in
-      h ∙ ap (λ l. map (λ p. base + p) (take k old) ++ l) run_cut
-      ∙ sym (append_assoc (map (λ p. base + p) (take k old)) (map (λ i. offset + i) (range_with_len start more)) (map (λ i. offset + i) (with_runs (start + more) end runs)))
-      ∙ ap (λ l. l ++ map (λ i. offset + i) (with_runs (start + more) end runs))
-      (ap (λ l. map (λ p. base + p) (take k old) ++ l) (map_range (λ i. offset + i) (λ p. base + p) start place more same)
-      ∙ sym (map-append (λ p. base + p) (take k old) (range_with_len place more)) ∙ ap (map (λ p. base + p)) (sym put))
-
   pub ahead_run : (low high : ℕ) → AscendFrom low high (map (λ i. offset + i) (with_runs start end runs)) → AscendFrom (low + more) high (map (λ i. offset + i) (with_runs (start + more) end runs))
   ahead_run low high h =
       let long : length (map (λ i. offset + i) (range_with_len start more)) ≡ more = simp (length-map, length-range_with_len) in
@@ -131,3 +125,63 @@ runs_front count =
 pub ascend_front_range : (a n high : ℕ) → a + n ≤ high → AscendFrom a high (range_with_len a n)
 ascend_front_range a zero high h = tt
 ascend_front_range a (suc n) high h = (omega arith, omega arith, ascend_front_range (a + 1) n high (omega arith))
+
+-- a part of a run, behind the positions that were taken
+module _ (all : List ℕ) (count start end more : ℕ) (runs : List (ℕ × ℕ)) (left : drop count all ≡ with_runs start end runs) (fits : more ≤ end - start) where
+  parts : drop count all ≡ range_with_len start more ++ with_runs (start + more) end runs
+  parts = left ∙ runs_split start end more runs fits
+
+  pub part_enough : count + more ≤ length all + (count - length all)
+  part_enough = omega (arith, ap length left, length-drop count all, length_runs_split start end more runs fits)
+
+  pub part_left : drop (count + more) all ≡ with_runs (start + more) end runs
+  part_left =
+      let n : more ≡ length (range_with_len start more) = sym (length-range_with_len start more) in
+      sym (drop-drop more count all) ∙ ap (drop more) parts ∙ ap (λ k. drop k (range_with_len start more ++ with_runs (start + more) end runs)) n
+      ∙ drop-append_seam (range_with_len start more) (with_runs (start + more) end runs)
+
+  pub part_taken : take (count + more) all ≡ take count all ++ range_with_len start more
+  part_taken =
+      let n : more ≡ length (range_with_len start more) = sym (length-range_with_len start more) in
+      take_both count more all ∙ ap (λ l. take count all ++ take more l) parts
+      ∙ ap (λ k. take count all ++ take k (range_with_len start more ++ with_runs (start + more) end runs)) n
+      ∙ ap (λ l. take count all ++ l) (take-append_seam (range_with_len start more) (with_runs (start + more) end runs))
+
+  -- its positions
+  pub part_at : (j : ℕ) → j < more → get_or all (count + j) 0 ≡ start + j
+  part_at j h =
+      sym (get_or-drop count all j 0) ∙ ap (λ l. get_or l j 0) parts
+      ∙ get_or_append_left (range_with_len start more) (with_runs (start + more) end runs) 0 j (omega (arith, h, length-range_with_len start more)) ∙ get_or-range start more j h
+
+  -- where the first n of all lie in a chunk, a part of these does
+  pub part_inside : (offset base n : ℕ) → All (λ i. IsInChunk base (offset + i)) (take n all) → 0 < more → count + more ≤ n → n ≤ length all → (base ≤ offset + start) × (offset + start + more ≤ base + 1024)
+  part_inside offset base n h some within enough =
+      let long = length-take-le n all enough in
+      let low = h count 0 (omega (arith, long, some, within)) in
+      let high = h (count + (more - 1)) 0 (omega (arith, long, some, within)) in
+      let first = get_or-take n all count 0 (omega (arith, some, within)) ∙ ap (λ k. get_or all k 0) (omega arith) ∙ part_at 0 some in
+      let last = get_or-take n all (count + (more - 1)) 0 (omega (arith, some, within)) ∙ part_at (more - 1) (omega (arith, some)) in
+      (omega (arith, first, low.0), omega (arith, last, high.1, some))
+
+-- a range as places
+pub range_placed : (offset base start more : ℕ) → base ≤ offset + start → places_of offset base (range_with_len start more) ≡ range_with_len (offset + start - base) more
+range_placed offset base start zero h = refl
+range_placed offset base start (suc more) h =
+    let next : offset + (start + 1) - base ≡ offset + start - base + 1 = omega arith in
+    ap (λ l. (offset + start - base) ∷ l) (range_placed offset base (start + 1) more (omega arith) ∙ ap (λ n. range_with_len n more) next)
+
+pub range_in_chunk : (offset base start more : ℕ) → base ≤ offset + start → offset + start + more ≤ base + 1024 → All (λ i. IsInChunk base (offset + i)) (range_with_len start more)
+range_in_chunk offset base start zero h p k d q = absurd (omega arith)
+range_in_chunk offset base start (suc more) h p zero d q = (omega arith, omega arith)
+range_in_chunk offset base start (suc more) h p (suc k) d q = range_in_chunk offset base (start + 1) more (omega arith) (omega arith) k d (omega arith)
+
+-- there is a run behind those that are done with, where positions are left
+pub more_runs : (all : List ℕ) (count start end used : ℕ) (later : List (ℕ × ℕ)) → count < length all → drop count all ≡ with_runs start end (drop used later) → end ≤ start → used < length later
+more_runs all count start end used later h left done = elim (cases_lt used (length later)) [
+  | inl here ↦ here
+  | inr none ↦ absurd (omega (arith, h, ap length left, length-drop count all, ap length (runs_done start end later used done none)))
+]
+
+-- the next run
+pub next_left : (all : List ℕ) (count start end used : ℕ) (later : List (ℕ × ℕ)) → end ≤ start → used < length later → drop count all ≡ with_runs start end (drop used later) → drop count all ≡ with_runs (get_or later used (0, 0)).0 (get_or later used (0, 0)).1 (drop (used + 1) later)
+next_left all count start end used later done here left = left ∙ runs_next start end later used (get_or later used (0, 0)) done here (get_or_default later used (0, 0) (get_or later used (0, 0)) here)

@@ -1,5 +1,4 @@
 pub mod Asked
 pub mod Laws
 pub mod Positions
-pub mod SelectedPlaces
 pub mod Told

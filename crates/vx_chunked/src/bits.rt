@@ -1,29 +1,46 @@
 //! A cursor over the bits of a mask.
-ghost use Rattle.std.specs.Prelude.{◌≡◌, ℕ, ◌+◌, ◌*◌, ◌^◌, ◌<◌, ◌≤◌, ◌++◌, [], length, map};
-ghost use Rattle.std.specs.List.{All};
-ghost use Rattle.vx_mask.specs.Positions.{set_of};
-ghost use Rattle.vx_chunked.specs.Positions.{AscendFrom, positions_from};
-ghost use Rattle.vx_chunked.specs.SelectedPlaces.{Fits, selected};
+ghost use Rattle.std.specs.Prelude.{◌≡◌, ◌+◌, ◌*◌, ◌^◌, ◌<◌, ◌≤◌, ◌++◌, Some, false, length, map, take, slice_get};
+ghost use Rattle.std.specs.Int.RustNames.{count_ones};
+ghost use Rattle.std.specs.List.{All, range_with_len};
+ghost use Rattle.vx_bits.specs.Words.{word_at, word_bits, word_count};
+ghost use Rattle.vx_filter.specs.Compact.{bits_of_words};
+ghost use Rattle.vx_mask.specs.Positions.{AllBits, positions, set_of};
+ghost use Rattle.vx_chunked.specs.Positions.{AscendFrom, marked, positions_from};
 
 use crate::cursor::Cursor;
 use crate::decoder::FILTER_CHUNK_LEN;
-use crate::selection::Selection;
 use vx_bits::BitBuffer;
+use vx_filter::{compact_runs, compact_words};
 use vx_mask::MaskValues;
 
-// Bits from `at` on, each a position that counts from value `offset` on.
+// The words of `len` bits that lie in one chunk, of which the first has place `from`, and zeros.
+#[derive(Clone, Copy)]
+struct BitFront {
+    words: [u64; 16],
+    from: usize,
+    len: usize,
+    ghost fits: { from + len ≤ 1024 },
+    ghost clear: { AllBits (bits_of_words (take (word_count len) words)) len (64 * word_count len)
+        false },
+}
+
+// Bits from `at` on, each a position that counts from value `offset` on, and those that were taken
+// last. A chunk's values are copied run after run where its runs have `long` bits on average.
 #[derive(Drop)]
 pub(crate) struct BitCursor<'a> {
     bits: &'a BitBuffer,
     at: usize,
     offset: usize,
+    long: usize,
+    front: BitFront,
     ghost counted: { offset + length bits.now.bits < 2 ^ 64 },
     ghost within: { at ≤ length bits.now.bits },
 }
 
 impl BitCursor<'_> {
-    // A cursor over the bits of a mask.
-    pub(crate) fn new<'a>(mask: &'a MaskValues, offset: usize) -> BitCursor<'a>
+    // A cursor over the bits of a mask. A chunk's values are copied run after run where its runs
+    // have `long` bits on average.
+    pub(crate) fn new<'a>(mask: &'a MaskValues, offset: usize, long: usize) -> BitCursor<'a>
         requires { offset + length mask.now.bits.bits < 2 ^ 64 }
         ensures { map (λ i. result.offset + i) (positions_from result.at result.bits.now.bits)
             ≡ map (λ i. offset + i) (set_of mask.now.bits.bits) }
@@ -32,13 +49,19 @@ impl BitCursor<'_> {
             bits: mask.bits(),
             at: 0,
             offset,
+            long,
+            front: BitFront {
+                words: [0; 16],
+                from: 0,
+                len: 0,
+            },
         }
     }
 }
 
-// What was taken of the bits: the places of a chunk, and the bits before `at`.
+// What was taken of the bits: those of a chunk, and all before `at`.
 struct Passed {
-    front: Selection,
+    front: BitFront,
     at: usize,
 }
 
@@ -50,10 +73,12 @@ fn front_of_bits(bits: &BitBuffer, first: usize, offset: usize, chunk: usize) ->
     requires ahead { AscendFrom (1024 * chunk) (2 ^ 64)
         (map (λ i. offset + i) (positions_from first bits.now.bits)) }
     ensures within { result.at ≤ length bits.now.bits }
-    ensures fits { Fits [] result.front }
     ensures taken { map (λ i. offset + i) (positions_from first bits.now.bits)
-        ≡ map (λ p. 1024 * chunk + p) (selected [] result.front)
+        ≡ map (λ p. 1024 * chunk + p)
+        (marked result.front.from result.front.len result.front.words)
         ++ map (λ i. offset + i) (positions_from result.at bits.now.bits) }
+    ensures inside { All (λ p. p < 1024)
+        (marked result.front.from result.front.len result.front.words) }
     ensures beyond { All (λ p. 1024 * (chunk + 1) ≤ p)
         (map (λ i. offset + i) (positions_from result.at bits.now.bits)) }
 {
@@ -62,20 +87,131 @@ fn front_of_bits(bits: &BitBuffer, first: usize, offset: usize, chunk: usize) ->
     let start = first.max(base.saturating_sub(offset)).min(len);
     let from = (offset + start).saturating_sub(base).min(FILTER_CHUNK_LEN);
     let end = start + (FILTER_CHUNK_LEN - from).min(len - start);
-    let bits = bits.slice(start, end);
-    let count = bits.true_count();
     Passed {
-        front: Selection::Marked { bits, from, count },
+        front: front_of(&bits.slice(start, end), from),
         at: end,
     }
 }
 
-impl Cursor for BitCursor<'_> {
+// The words of bits that lie in one chunk, of which the first has place `from`.
+fn front_of(bits: &BitBuffer, from: usize) -> BitFront
+    requires { from + length bits.now.bits ≤ 1024 }
+    ensures places { marked result.from result.len result.words ≡ positions from bits.now.bits }
+    ensures inside { All (λ p. p < 1024) (marked result.from result.len result.words) }
+{
+    let len = bits.len();
+    let mut words = [0; 16];
+    load(bits, &mut words[..len.div_ceil(64)]);
+    BitFront { words, from, len }
+}
+
+// Reads the words of bits.
+#[inline(always)]
+fn load(bits: &BitBuffer, words: &mut [u64])
+    requires { length words.old ≡ word_count (length bits.now.bits) }
+    ensures { words.new
+        ≡ map (word_at bits.now.bits) (range_with_len 0 (word_count (length bits.now.bits))) }
+{
+    let view = bits.words();
+    for w in 0..words.len() {
+        words[w] = view.word(w);
+    }
+}
+
+// The number of set bits.
+#[inline(always)]
+fn count_of(words: &[u64]) -> usize
+    requires { length words.now ≤ 16 }
+    ensures { result ≡ length (positions 0 (bits_of_words words.now)) }
+{
+    let mut count = 0;
+    for word in words {
+        count += word.count_ones() as usize;
+    }
+    count
+}
+
+// Writes the places of the set bits of the words, of which the first has place `from`.
+fn put_words(words: &[u64], from: usize, places: &mut [usize])
+    requires counted { from + 64 * length words.now ≤ 2 ^ 63 }
+    requires room { length places.old ≡ length (positions from (bits_of_words words.now)) }
+    ensures { places.new ≡ positions from (bits_of_words words.now) }
+{
+    let mut count = 0;
+    for w in 0..words.len() {
+        count = put_word(places, count, from + 64 * w, words[w]);
+    }
+}
+
+// Writes the places of a word's set bits at `at`, the lowest first, and answers where they end. The
+// word's first bit has place `base`.
+#[inline(always)]
+fn put_word(places: &mut [usize], at: usize, base: usize, word: u64) -> usize
+    requires counted { base + 64 ≤ 2 ^ 64 }
+    requires room { at + count_ones word ≤ length places.old }
+    ensures count { result ≡ at + count_ones word }
+    ensures places { take result places.new
+        ≡ take at places.old ++ positions base (word_bits word 64) }
+{
+    let mut next = at;
+    let mut left = word;
+    'bit: while left != 0 {
+        places[next] = base + left.trailing_zeros() as usize;
+        next += 1;
+        left &= left - 1;
+    }
+    next
+}
+
+// Whether the runs of set bits have at least `long` bits on average, `long` not 0. A run that
+// crosses words counts in each.
+#[inline(always)]
+fn has_long_runs(words: &[u64], long: usize) -> bool {
+    let (mut runs, mut ones) = (0u64, 0u64);
+    for word in words {
+        runs = runs.saturating_add(u64::from((word & !(word << 1)).count_ones()));
+        ones = ones.saturating_add(u64::from(word.count_ones()));
+    }
+    long > 0 && runs <= ones / (long as u64)
+}
+
+// Copies the values of a chunk where bits are set.
+fn copy_bits<T: Copy>(front: &BitFront, long: usize, values: &[T], dst: &mut [T])
+    requires chunk { length values.now ≡ 1024 }
+    requires room { length dst.old
+        ≡ length (marked front.now.from front.now.len front.now.words) }
+    ensures { map Some dst.new ≡ map (slice_get values.now)
+        (marked front.now.from front.now.len front.now.words) }
+{
+    let words = &front.words[..front.len.div_ceil(64)];
+    let values = &values[front.from..front.from + front.len];
+    if has_long_runs(words, long) {
+        compact_runs(values, words, dst);
+    } else {
+        compact_words(values, words, dst);
+    }
+}
+
+impl<T: Copy> Cursor<T> for BitCursor<'_> {
+    ghost use Rattle.vx_chunked.specs.Positions.{marked, positions_from};
+
     ghost rest = { λ s. map (λ i. s.offset + i) (positions_from s.at s.bits.now.bits) };
 
-    fn next_places(&mut self, chunk: usize, places: &mut [usize]) -> Selection {
+    ghost taken = { λ s. marked s.front.from s.front.len s.front.words };
+
+    fn take_places(&mut self, chunk: usize) -> usize {
         let Passed { front, at } = front_of_bits(self.bits, self.at, self.offset, chunk);
         self.at = at;
-        front
+        self.front = front;
+        count_of(&front.words[..front.len.div_ceil(64)])
+    }
+
+    fn list_places(&self, places: &mut [usize]) {
+        let front = &self.front;
+        put_words(&front.words[..front.len.div_ceil(64)], front.from, places)
+    }
+
+    fn copy_values(&self, values: &[T], dst: &mut [T]) {
+        copy_bits(&self.front, self.long, values, dst)
     }
 }

@@ -1,32 +1,34 @@
 //! The walk over the chunks.
-ghost use Rattle.std.specs.Prelude.{◌≡◌, ◌+◌, ◌*◌, ◌^◌, ◌<◌, ◌≤◌, IfOk, OnOk, OnErr, Some, length, map, slice_get};
+ghost use Rattle.std.specs.Prelude.{◌≡◌, ◌+◌, ◌*◌, ◌^◌, ◌<◌, ◌≤◌, IfOk, OnOk, OnErr, Some, [], length, map, min, slice_get, vec_capacity};
 ghost use Rattle.vx_bits.specs.WordReader.{then_told};
 ghost use Rattle.vx_chunked.specs.Asked.{calls_from, chunks_for};
 ghost use Rattle.vx_chunked.specs.Positions.{AscendFrom};
 
 use crate::cursor::Cursor;
 use crate::decoder::{ChunkDecoder, FILTER_CHUNK_LEN};
-use crate::step::take_chunk;
+use crate::step::put_chunk;
 use std::alloc::Global;
 use vx_bits::{NoMemory, Record};
 
-// Fills the output with the values at the cursor's positions, all of which lie before `end`.
-fn take_chunks<T: Record, D: ChunkDecoder<T>, C: Cursor>(
+// Appends the values at the cursor's positions, all of which lie before `end`. There is room for
+// them.
+fn take_chunks<T: Record, D: ChunkDecoder<T>, C: Cursor<T>>(
     decoder: &mut D,
     cursor: &mut C,
     end: usize,
     limit: usize,
     places: &mut [usize],
     scratch: &mut [T],
-    out: &mut [T],
+    out: &mut Vec<T>,
 )
     requires ascend { AscendFrom 0 end (C.rest cursor.old) }
-    requires places { length places.old ≡ 1024 }
+    requires places { length places.old ≡ min limit 1024 }
     requires scratch { length scratch.old ≡ 1024 }
-    requires room { length out.old ≡ length (C.rest cursor.old) }
+    requires empty { out.old.items ≡ [] }
+    requires room { length (C.rest cursor.old) ≤ vec_capacity out.old }
     requires within { end ≤ length (D.values decoder.old) }
     requires left { chunks_for end ≤ D.spare decoder.old }
-    ensures value { map Some out.new
+    ensures value { map Some out.new.items
         ≡ map (slice_get (D.values decoder.old)) (C.rest cursor.old) }
     ensures told { D.calls decoder.new
         ≡ then_told (D.calls decoder.old)
@@ -34,27 +36,27 @@ fn take_chunks<T: Record, D: ChunkDecoder<T>, C: Cursor>(
     ensures same { D.values decoder.new ≡ D.values decoder.old }
     ensures cost { D.spare decoder.old ≤ D.spare decoder.new + chunks_for end }
 {
-    let mut filled = 0;
-    let chunks = end.div_ceil(FILTER_CHUNK_LEN);
-    for chunk in 0..chunks {
-        let selection = cursor.next_places(chunk, places);
-        let count = selection.count();
-        take_chunk(
-            decoder,
-            chunk,
-            &selection,
-            places,
-            limit,
-            scratch,
-            &mut out[filled..filled + count],
-        );
-        filled += count;
+    for chunk in 0..end.div_ceil(FILTER_CHUNK_LEN) {
+        let count = cursor.take_places(chunk);
+        put_chunk(decoder, chunk, cursor, count, limit, places, scratch, out);
     }
+}
+
+// A chunk's length of values, to be written over.
+fn scratch_of<T: Record>(alloc: Global) -> Result<Vec<T>, NoMemory>
+    ensures { IfOk result (λ scratch. length scratch.items ≡ 1024) }
+{
+    let mut scratch = Vec::with_capacity(alloc, FILTER_CHUNK_LEN)?;
+    for k in 0..FILTER_CHUNK_LEN {
+        let _ = k;
+        scratch.push_reserved(T::zero());
+    }
+    Ok(scratch)
 }
 
 // Reserves all that is needed, and only then asks for the chunks of the cursor's positions, which
 // number `total` and lie before `end`.
-pub(crate) fn filter_at<T: Record, D: ChunkDecoder<T>, C: Cursor>(
+pub(crate) fn filter_at<T: Record, D: ChunkDecoder<T>, C: Cursor<T>>(
     alloc: Global,
     decoder: &mut D,
     cursor: &mut C,
@@ -78,9 +80,9 @@ pub(crate) fn filter_at<T: Record, D: ChunkDecoder<T>, C: Cursor>(
     if total == 0 {
         return Ok(Vec::new(alloc));
     }
-    let mut places = vec![in alloc; 0; FILTER_CHUNK_LEN]?;
-    let mut scratch = vec![in alloc; T::zero(); FILTER_CHUNK_LEN]?;
-    let mut out = vec![in alloc; T::zero(); total]?;
+    let mut places = vec![in alloc; 0; limit.min(FILTER_CHUNK_LEN)]?;
+    let mut scratch = scratch_of(alloc)?;
+    let mut out = Vec::with_capacity(alloc, total)?;
     take_chunks(
         decoder,
         cursor,
@@ -88,7 +90,7 @@ pub(crate) fn filter_at<T: Record, D: ChunkDecoder<T>, C: Cursor>(
         limit,
         places.as_mut_slice(),
         scratch.as_mut_slice(),
-        out.as_mut_slice(),
+        &mut out,
     );
     Ok(out)
 }

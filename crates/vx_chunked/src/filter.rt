@@ -26,6 +26,17 @@ fn range_end(offset: usize, len: usize) -> usize
     if len == 0 { 0 } else { offset + len }
 }
 
+// From how many values on a run is copied whole: from `min_run_bytes` bytes on.
+fn run_len(policy: &Policy, width: usize) -> usize {
+    policy.fields().min_run_bytes.div_ceil(width.max(1))
+}
+
+// The same within a word: 0, so that none is, where a word's values are too few.
+fn long_in_words(policy: &Policy, width: usize) -> usize {
+    let long = run_len(policy, width);
+    if long <= 64 { long } else { 0 }
+}
+
 /// The values at the indices, which count from value `offset` on: those of `filter_chunked` for
 /// the mask of `len` rows with these set positions. `NoMemory` alone.
 pub fn filter_chunked_by_indices<T: Record, D: ChunkDecoder<T>>(
@@ -51,7 +62,7 @@ pub fn filter_chunked_by_indices<T: Record, D: ChunkDecoder<T>>(
 {
     let end = range_end(offset, len);
     let limit = policy.sparse_limit(T::WIDTH);
-    let mut cursor = IndexCursor { indices, offset };
+    let mut cursor = IndexCursor::new(indices, offset);
     filter_at(alloc, decoder, &mut cursor, end, indices.len(), limit)
 }
 
@@ -94,17 +105,12 @@ pub fn filter_chunked_by_slices<T: Record, D: ChunkDecoder<T>>(
     let end = range_end(offset, len);
     let limit = policy.sparse_limit(T::WIDTH);
     let total = total_of(len, slices);
-    let mut cursor = RunCursor {
-        start: 0,
-        end: 0,
-        later: slices,
-        offset,
-    };
+    let mut cursor = RunCursor::new(0, 0, slices, offset, run_len(policy, T::WIDTH));
     filter_at(alloc, decoder, &mut cursor, end, total, limit)
 }
 
 // The values at the set positions of a mask, by a cursor over them.
-fn filter_by<T: Record, D: ChunkDecoder<T>, C: Cursor>(
+fn filter_by<T: Record, D: ChunkDecoder<T>, C: Cursor<T>>(
     alloc: Global,
     decoder: &mut D,
     cursor: &mut C,
@@ -160,19 +166,14 @@ pub fn filter_chunked<T: Record, D: ChunkDecoder<T>>(
 {
     let fields = policy.fields();
     if let Some(slices) = useful_slices(mask, fields) {
-        let mut cursor = RunCursor {
-            start: 0,
-            end: 0,
-            later: slices,
-            offset,
-        };
+        let mut cursor = RunCursor::new(0, 0, slices, offset, run_len(policy, T::WIDTH));
         return filter_by(alloc, decoder, &mut cursor, offset, mask, policy);
     }
     if let Some(indices) = useful_indices(mask, fields) {
-        let mut cursor = IndexCursor { indices, offset };
+        let mut cursor = IndexCursor::new(indices, offset);
         return filter_by(alloc, decoder, &mut cursor, offset, mask, policy);
     }
-    let mut cursor = BitCursor::new(mask, offset);
+    let mut cursor = BitCursor::new(mask, offset, long_in_words(policy, T::WIDTH));
     filter_by(alloc, decoder, &mut cursor, offset, mask, policy)
 }
 
@@ -201,12 +202,7 @@ fn filter_front<T: Record, D: ChunkDecoder<T>>(
 {
     let end = range_end(offset, len);
     let limit = policy.sparse_limit(T::WIDTH);
-    let mut cursor = RunCursor {
-        start: 0,
-        end: count,
-        later: &[],
-        offset,
-    };
+    let mut cursor = RunCursor::new(0, count, &[], offset, run_len(policy, T::WIDTH));
     filter_at(alloc, decoder, &mut cursor, end, count, limit)
 }
 

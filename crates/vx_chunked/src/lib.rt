@@ -12,7 +12,6 @@ mod laws;
 mod logged;
 mod places;
 mod runs;
-mod selection;
 mod step;
 mod stored;
 

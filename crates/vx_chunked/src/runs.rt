@@ -1,23 +1,192 @@
 //! A cursor over runs. A run may cross chunks.
-ghost use Rattle.std.specs.Prelude.{◌≡◌, ℕ, ◌+◌, ◌*◌, ◌-◌, ◌^◌, ◌<◌, ◌≤◌, ◌++◌, length, map, take, drop};
+ghost use Rattle.std.specs.Prelude.{◌≡◌, ◌+◌, ◌*◌, ◌-◌, ◌^◌, ◌<◌, ◌≤◌, ◌++◌, Some, length, map, take, drop, slice_get};
 ghost use Rattle.std.specs.List.{All, range_with_len};
-ghost use Rattle.vx_chunked.specs.Positions.{AscendFrom, with_runs};
+ghost use Rattle.vx_chunked.specs.Positions.{AscendFrom, IsInChunk, places_of, with_runs};
 
 use crate::cursor::Cursor;
 use crate::decoder::FILTER_CHUNK_LEN;
-use crate::selection::Selection;
 
-// What is left of a run, and the runs after it, each a range of positions that count from value
-// `offset` on.
+// What is left of a run, and the runs after it, each a range of positions.
+#[derive(Clone, Copy)]
+struct Runs<'a> {
+    start: usize,
+    end: usize,
+    later: &'a [(usize, usize)],
+}
+
+// The first `count` positions of runs, each counted from value `offset` on, in the chunk whose
+// first value is value `base`. A part of at least `long` values is copied whole.
+#[derive(Clone, Copy)]
+struct RunFront<'a> {
+    runs: Runs<'a>,
+    count: usize,
+    offset: usize,
+    base: usize,
+    long: usize,
+    ghost counted: { base + 1024 ≤ 2 ^ 64 },
+    ghost enough: { count ≤ length (with_runs runs.start runs.end runs.later.now) },
+    ghost inside: { All (λ i. IsInChunk base (offset + i))
+        (take count (with_runs runs.start runs.end runs.later.now)) },
+}
+
+// Runs whose positions count from value `offset` on, and those positions that were taken last.
 #[derive(Drop)]
 pub(crate) struct RunCursor<'a> {
-    pub(crate) start: usize,
-    pub(crate) end: usize,
-    pub(crate) later: &'a [(usize, usize)],
-    pub(crate) offset: usize,
+    runs: Runs<'a>,
+    offset: usize,
+    long: usize,
+    front: RunFront<'a>,
+}
+
+impl RunCursor<'_> {
+    // A cursor over the positions from `start` up to `end`, and those of the runs. A part of at
+    // least `long` values is copied whole.
+    pub(crate) fn new<'a>(
+        start: usize,
+        end: usize,
+        later: &'a [(usize, usize)],
+        offset: usize,
+        long: usize,
+    ) -> RunCursor<'a>
+        ensures { map (λ i. result.offset + i)
+            (with_runs result.runs.start result.runs.end result.runs.later.now)
+            ≡ map (λ i. offset + i) (with_runs start end later.now) }
+    {
+        let runs = Runs { start, end, later };
+        RunCursor {
+            runs,
+            offset,
+            long,
+            front: RunFront {
+                runs,
+                count: 0,
+                offset,
+                base: 0,
+                long,
+            },
+        }
+    }
+}
+
+// How many of the positions from `start` up to `end` lie in the chunk: none where the first lies
+// beyond.
+#[inline(always)]
+fn part_in(start: usize, end: usize, offset: usize, chunk: usize) -> usize
+    requires some { start < end }
+    requires fits { offset + start < 2 ^ 64 }
+    requires ahead { 1024 * chunk ≤ offset + start }
+    ensures few { result ≤ end - start }
+    ensures counted { start + result < 2 ^ 64 }
+    ensures none { result ≡ 0 → 1024 * (chunk + 1) ≤ offset + start }
+    ensures inside { 0 < result → offset + start + result ≤ 1024 * (chunk + 1) }
+{
+    let position = offset + start;
+    if position / FILTER_CHUNK_LEN != chunk {
+        return 0;
+    }
+    (end - start).min(FILTER_CHUNK_LEN - position % FILTER_CHUNK_LEN)
+}
+
+// What is left of runs behind so many positions.
+struct Walked<'a> {
+    count: usize,
+    left: Runs<'a>,
+}
+
+// Goes over the positions that lie in the chunk, of what is left of a run, and of the runs after
+// it.
+fn walk<'a>(
+    first: usize,
+    last: usize,
+    later: &'a [(usize, usize)],
+    offset: usize,
+    chunk: usize,
+) -> Walked<'a>
+    requires fits { 1024 * chunk < 2 ^ 64 }
+    requires ahead { AscendFrom (1024 * chunk) (2 ^ 64)
+        (map (λ i. offset + i) (with_runs first last later.now)) }
+    ensures enough { result.count ≤ length (with_runs first last later.now) }
+    ensures taken { drop result.count (with_runs first last later.now)
+        ≡ with_runs result.left.start result.left.end result.left.later.now }
+    ensures inside { All (λ i. IsInChunk (1024 * chunk) (offset + i))
+        (take result.count (with_runs first last later.now)) }
+    ensures beyond { All (λ p. 1024 * (chunk + 1) ≤ p) (map (λ i. offset + i)
+        (with_runs result.left.start result.left.end result.left.later.now)) }
+{
+    let mut start = first;
+    let mut end = last;
+    let mut used = 0;
+    let mut count = 0;
+    loop {
+        if start < end {
+            let more = part_in(start, end, offset, chunk);
+            if more == 0 {
+                break;
+            }
+            count += more;
+            start += more;
+        } else {
+            if used == later.len() {
+                break;
+            }
+            (start, end) = later[used];
+            used += 1;
+        }
+    }
+    let left = Runs {
+        start,
+        end,
+        later: &later[used..],
+    };
+    Walked { count, left }
+}
+
+// What was taken of runs, and those that are left.
+struct Passed<'a> {
+    front: RunFront<'a>,
+    left: Runs<'a>,
+}
+
+// The positions of the runs that lie in the chunk.
+fn front_of_runs<'a>(
+    start: usize,
+    end: usize,
+    later: &'a [(usize, usize)],
+    offset: usize,
+    chunk: usize,
+    long: usize,
+) -> Passed<'a>
+    requires fits { 1024 * chunk < 2 ^ 64 }
+    requires ahead { AscendFrom (1024 * chunk) (2 ^ 64)
+        (map (λ i. offset + i) (with_runs start end later.now)) }
+    ensures taken { map (λ i. offset + i) (with_runs start end later.now)
+        ≡ map (λ p. 1024 * chunk + p) (places_of result.front.offset result.front.base
+        (take result.front.count (with_runs result.front.runs.start result.front.runs.end
+        result.front.runs.later.now)))
+        ++ map (λ i. offset + i)
+        (with_runs result.left.start result.left.end result.left.later.now) }
+    ensures count { result.front.count ≡ length (places_of result.front.offset result.front.base
+        (take result.front.count (with_runs result.front.runs.start result.front.runs.end
+        result.front.runs.later.now))) }
+    ensures inside { All (λ p. p < 1024) (places_of result.front.offset result.front.base
+        (take result.front.count (with_runs result.front.runs.start result.front.runs.end
+        result.front.runs.later.now))) }
+    ensures beyond { All (λ p. 1024 * (chunk + 1) ≤ p) (map (λ i. offset + i)
+        (with_runs result.left.start result.left.end result.left.later.now)) }
+{
+    let Walked { count, left } = walk(start, end, later, offset, chunk);
+    let front = RunFront {
+        runs: Runs { start, end, later },
+        count,
+        offset,
+        base: FILTER_CHUNK_LEN * chunk,
+        long,
+    };
+    Passed { front, left }
 }
 
 // Writes `count` numbers from `first` on, at `at`.
+#[inline(always)]
 fn put_range(places: &mut [usize], at: usize, first: usize, count: usize)
     requires room { at + count ≤ length places.old }
     requires fits { first + count < 2 ^ 64 }
@@ -28,111 +197,131 @@ fn put_range(places: &mut [usize], at: usize, first: usize, count: usize)
     }
 }
 
-// Writes the positions from `start` up to `end` that lie in the chunk, as places from `at` on, and
-// says how many they are: none where the first lies beyond.
-fn put_part(
-    places: &mut [usize],
-    at: usize,
-    start: usize,
-    end: usize,
-    offset: usize,
-    chunk: usize,
-) -> usize
-    requires room { length places.old ≡ 1024 }
-    requires some { start < end }
-    requires fits { offset + start < 2 ^ 64 }
-    requires ahead { 1024 * chunk + at ≤ offset + start }
-    ensures few { result ≤ end - start }
-    ensures counted { start + result < 2 ^ 64 }
-    ensures none { result ≡ 0 → 1024 * (chunk + 1) ≤ offset + start }
-    ensures inside { 0 < result → offset + start + result ≤ 1024 * (chunk + 1) }
-    ensures places { take (at + result) places.new
-        ≡ take at places.old ++ range_with_len (offset + start - 1024 * chunk) result }
+// Writes the places of the positions.
+fn put_runs(front: &RunFront, places: &mut [usize])
+    requires { length places.old ≡ front.now.count }
+    ensures { places.new ≡ places_of front.now.offset front.now.base
+        (take front.now.count
+        (with_runs front.now.runs.start front.now.runs.end front.now.runs.later.now)) }
 {
-    let position = offset + start;
-    if position / FILTER_CHUNK_LEN != chunk {
-        return 0;
-    }
-    let place = position - FILTER_CHUNK_LEN * chunk;
-    let count = (end - start).min(FILTER_CHUNK_LEN - place);
-    put_range(places, at, place, count);
-    count
-}
-
-// What was taken of the runs: so many places, and so many of the later runs; the rest of a run.
-struct Taken {
-    count: usize,
-    used: usize,
-    start: usize,
-    end: usize,
-}
-
-// Writes the positions of the runs that lie in the chunk, as places.
-fn front_of_runs(
-    first: usize,
-    last: usize,
-    later: &[(usize, usize)],
-    offset: usize,
-    chunk: usize,
-    places: &mut [usize],
-) -> Taken
-    requires room { length places.old ≡ 1024 }
-    requires fits { 1024 * chunk < 2 ^ 64 }
-    requires ahead { AscendFrom (1024 * chunk) (2 ^ 64)
-        (map (λ i. offset + i) (with_runs first last later.now)) }
-    ensures within { result.used ≤ length later.now }
-    ensures few { result.count ≤ 1024 }
-    ensures taken { map (λ i. offset + i) (with_runs first last later.now)
-        ≡ map (λ p. 1024 * chunk + p) (take result.count places.new)
-        ++ map (λ i. offset + i)
-        (with_runs result.start result.end (drop result.used later.now)) }
-    ensures inside { All (λ p. p < 1024) (take result.count places.new) }
-    ensures beyond { All (λ p. 1024 * (chunk + 1) ≤ p)
-        (map (λ i. offset + i) (with_runs result.start result.end (drop result.used later.now))) }
-{
-    let mut start = first;
-    let mut end = last;
+    let RunFront {
+        runs,
+        count,
+        offset,
+        base,
+        ..
+    } = *front;
+    let later = runs.later;
+    let (mut start, mut end) = (runs.start, runs.end);
     let mut used = 0;
-    let mut count = 0;
-    loop {
+    let mut filled = 0;
+    'part: while filled < count {
         if start < end {
-            let more = put_part(places, count, start, end, offset, chunk);
-            if more == 0 {
-                break;
-            }
-            count += more;
+            let more = (end - start).min(count - filled);
+            put_range(places, filled, offset + start - base, more);
+            filled += more;
             start += more;
         } else {
-            if used == later.len() {
-                break;
-            }
-            let (next_start, next_end) = later[used];
-            start = next_start;
-            end = next_end;
+            (start, end) = later[used];
             used += 1;
         }
     }
-    Taken {
-        count,
-        used,
-        start,
-        end,
+}
+
+// Copies the values from `from` on, `count` of them, to `at`: one that is long whole.
+#[inline(always)]
+fn copy_part<T: Copy>(
+    dst: &mut [T],
+    at: usize,
+    values: &[T],
+    from: usize,
+    count: usize,
+    long: usize,
+)
+    requires room { at + count ≤ length dst.old }
+    requires within { from + count ≤ length values.now }
+    ensures { take (at + count) dst.new ≡ take at dst.old ++ take count (drop from values.now) }
+{
+    if count >= long {
+        dst[at..at + count].copy_from_slice(&values[from..from + count]);
+    } else {
+        copy_each(dst, at, values, from, count);
     }
 }
 
-impl Cursor for RunCursor<'_> {
-    ghost rest = { λ s. map (λ i. s.offset + i) (with_runs s.start s.end s.later.now) };
+// The same, one by one.
+#[inline(always)]
+fn copy_each<T: Copy>(dst: &mut [T], at: usize, values: &[T], from: usize, count: usize)
+    requires room { at + count ≤ length dst.old }
+    requires within { from + count ≤ length values.now }
+    ensures { take (at + count) dst.new ≡ take at dst.old ++ take count (drop from values.now) }
+{
+    for k in 0..count {
+        dst[at + k] = values[from + k];
+    }
+}
 
-    fn next_places(&mut self, chunk: usize, places: &mut [usize]) -> Selection {
-        let Taken {
-            count,
-            used,
+// Copies the values of a chunk at the places of the positions.
+fn copy_runs<T: Copy>(front: &RunFront, values: &[T], dst: &mut [T])
+    requires chunk { length values.now ≡ 1024 }
+    requires room { length dst.old ≡ front.now.count }
+    ensures { map Some dst.new ≡ map (slice_get values.now)
+        (places_of front.now.offset front.now.base (take front.now.count
+        (with_runs front.now.runs.start front.now.runs.end front.now.runs.later.now))) }
+{
+    let RunFront {
+        runs,
+        count,
+        offset,
+        base,
+        long,
+    } = *front;
+    let later = runs.later;
+    let (mut start, mut end) = (runs.start, runs.end);
+    let mut used = 0;
+    let mut filled = 0;
+    'part: while filled < count {
+        if start < end {
+            let more = (end - start).min(count - filled);
+            copy_part(dst, filled, values, offset + start - base, more, long);
+            filled += more;
+            start += more;
+        } else {
+            (start, end) = later[used];
+            used += 1;
+        }
+    }
+}
+
+impl<T: Copy> Cursor<T> for RunCursor<'_> {
+    ghost use Rattle.vx_chunked.specs.Positions.{places_of, with_runs};
+
+    ghost rest = { λ s. map (λ i. s.offset + i)
+        (with_runs s.runs.start s.runs.end s.runs.later.now) };
+
+    ghost taken = { λ s. places_of s.front.offset s.front.base (take s.front.count
+        (with_runs s.front.runs.start s.front.runs.end s.front.runs.later.now)) };
+
+    fn take_places(&mut self, chunk: usize) -> usize {
+        let Runs { start, end, later } = self.runs;
+        let Passed { front, left } = front_of_runs(
             start,
             end,
-        } = front_of_runs(self.start, self.end, self.later, self.offset, chunk, places);
-        self.start = start;
-        self.end = end;
-        self.later = &self.later[used..];
-        Selection::Listed { count }
+            later,
+            self.offset,
+            chunk,
+            self.long,
+        );
+        self.runs = left;
+        self.front = front;
+        front.count
+    }
+
+    fn list_places(&self, places: &mut [usize]) {
+        put_runs(&self.front, places)
+    }
+
+    fn copy_values(&self, values: &[T], dst: &mut [T]) {
+        copy_runs(&self.front, values, dst)
     }
 }

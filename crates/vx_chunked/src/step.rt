@@ -1,46 +1,90 @@
 //! What is done for one chunk.
-ghost use Rattle.std.specs.Prelude.{◌≡◌, ◌+◌, ◌*◌, ◌≤◌, Some, length, map, slice_get};
+ghost use Rattle.std.specs.Prelude.{◌≡◌, ◌+◌, ◌*◌, ◌<◌, ◌≤◌, ◌++◌, Some, length, map, min, slice_get, vec_capacity, vec_len};
 ghost use Rattle.vx_bits.specs.WordReader.{then_told};
 ghost use Rattle.vx_chunked.specs.Asked.{call_for};
 ghost use Rattle.vx_chunked.specs.Positions.{AscendFrom};
-ghost use Rattle.vx_chunked.specs.SelectedPlaces.{Fits, count_of, selected};
 
+use crate::cursor::Cursor;
 use crate::decoder::{ChunkDecoder, FILTER_CHUNK_LEN};
-use crate::selection::{Selection, copy_selected, list_places};
 
-// Asks for one chunk, once and only where some of its values are selected, and writes these, at the
-// places within the chunk, to where the output has them.
-pub(crate) fn take_chunk<T: Copy, D: ChunkDecoder<T>>(
+// Asks for one chunk, once and only where some of its values were taken, and appends these. There
+// is room for them.
+pub(crate) fn put_chunk<T: Copy, D: ChunkDecoder<T>, C: Cursor<T>>(
     decoder: &mut D,
     chunk: usize,
-    selection: &Selection,
-    places: &mut [usize],
+    cursor: &C,
+    count: usize,
     limit: usize,
+    places: &mut [usize],
     scratch: &mut [T],
-    dst: &mut [T],
+    out: &mut Vec<T>,
 )
-    requires places { length places.old ≡ 1024 }
-    requires fits { Fits places.old selection.now }
-    requires ascend { AscendFrom 0 1024 (selected places.old selection.now) }
+    requires count { count ≡ length (C.taken cursor.now) }
+    requires ascend { AscendFrom 0 1024 (C.taken cursor.now) }
+    requires places { length places.old ≡ min limit 1024 }
     requires scratch { length scratch.old ≡ 1024 }
-    requires room { length dst.old ≡ count_of selection.now }
+    requires room { vec_len out.old + count ≤ vec_capacity out.old }
     requires within { 1024 * (chunk + 1) ≤ length (D.values decoder.old) }
     requires left { 1 ≤ D.spare decoder.old }
-    ensures value { map Some dst.new
-        ≡ map (λ p. slice_get (D.values decoder.old) (1024 * chunk + p))
-        (selected places.old selection.now) }
+    ensures value { map Some out.new.items ≡ map Some out.old.items
+        ++ map (λ p. slice_get (D.values decoder.old) (1024 * chunk + p)) (C.taken cursor.now) }
+    ensures capacity { vec_capacity out.old ≤ vec_capacity out.new }
     ensures told { D.calls decoder.new
-        ≡ then_told (D.calls decoder.old) (call_for limit chunk (count_of selection.now)) }
+        ≡ then_told (D.calls decoder.old) (call_for limit chunk count) }
     ensures same { D.values decoder.new ≡ D.values decoder.old }
     ensures cost { D.spare decoder.old ≤ D.spare decoder.new + 1 }
 {
-    let count = selection.count();
     if count == 0 {
         return;
     }
+    let filled = out.len();
+    grow(out, &scratch[..count]);
+    let dst = &mut out.as_mut_slice()[filled..];
+    take_chunk(decoder, chunk, cursor, limit, places, scratch, dst);
+}
+
+// Appends items that there is room for.
+#[inline(always)]
+fn grow<T: Copy>(out: &mut Vec<T>, items: &[T])
+    requires { vec_len out.old + length items.now ≤ vec_capacity out.old }
+    ensures items { out.new.items ≡ out.old.items ++ items.now }
+    ensures capacity { vec_capacity out.old ≤ vec_capacity out.new }
+{
+    if out.extend_from_slice(items).is_err() {
+        unreachable!()
+    }
+}
+
+// Asks for one chunk, of which some values were taken, and writes these to where the output has
+// them.
+fn take_chunk<T: Copy, D: ChunkDecoder<T>, C: Cursor<T>>(
+    decoder: &mut D,
+    chunk: usize,
+    cursor: &C,
+    limit: usize,
+    places: &mut [usize],
+    scratch: &mut [T],
+    dst: &mut [T],
+)
+    requires some { 0 < length (C.taken cursor.now) }
+    requires ascend { AscendFrom 0 1024 (C.taken cursor.now) }
+    requires places { length places.old ≡ min limit 1024 }
+    requires scratch { length scratch.old ≡ 1024 }
+    requires room { length dst.old ≡ length (C.taken cursor.now) }
+    requires within { 1024 * (chunk + 1) ≤ length (D.values decoder.old) }
+    requires left { 1 ≤ D.spare decoder.old }
+    ensures value { map Some dst.new
+        ≡ map (λ p. slice_get (D.values decoder.old) (1024 * chunk + p)) (C.taken cursor.now) }
+    ensures told { D.calls decoder.new
+        ≡ then_told (D.calls decoder.old) (call_for limit chunk (length (C.taken cursor.now))) }
+    ensures same { D.values decoder.new ≡ D.values decoder.old }
+    ensures cost { D.spare decoder.old ≤ D.spare decoder.new + 1 }
+{
+    let count = dst.len();
     if count <= limit {
-        list_places(selection, places);
-        decoder.decode_indices(chunk, &places[..count], dst);
+        let places = &mut places[..count];
+        cursor.list_places(places);
+        decoder.decode_indices(chunk, places, dst);
         return;
     }
     if count == FILTER_CHUNK_LEN {
@@ -48,5 +92,5 @@ pub(crate) fn take_chunk<T: Copy, D: ChunkDecoder<T>>(
         return;
     }
     decoder.decode_chunk(chunk, scratch);
-    copy_selected(selection, places, scratch, dst);
+    cursor.copy_values(scratch, dst);
 }

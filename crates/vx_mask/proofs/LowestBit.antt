@@ -1,18 +1,22 @@
 -- The lowest set bit of a word, and the word without it.
-use Rattle.std.proofs.Common.{◌≡◌, ℕ, ◌+◌, ◌-◌, ◌^◌, ◌<◌, Bool, true, false, List, [], ◌∷◌, ◌++◌, length, refl, sym, ap, ap₂, ◌∙◌, arith, append-nil, append_assoc}
+use Rattle.std.proofs.Common.{◌≡◌, ℕ, ◌+◌, ◌-◌, ◌%◌, ◌^◌, ◌<◌, ◌≤◌, Bool, true, false, List, [], ◌∷◌, ◌++◌, length, get_or, take, drop, refl, sym, subst, ap, ap₂, ◌∙◌, arith, append-nil, append_assoc}
 use Rattle.std.specs.Int.RustNames.{count_ones}
-use Rattle.std.specs.Int.{w64}
+use Rattle.std.specs.Int.{w64, bit_at}
+use Rattle.std.proofs.lemmas.Bool.{eqb-true}
+use Rattle.std.proofs.lemmas.List.{drop_more}
+use Rattle.vx_bits.specs.BitBuffer.{true_count_of}
 use Rattle.std.specs.List.{items_where_true, range_with_len}
 use Rattle.std.proofs.lemmas.List.FromFn.{length-range_with_len}
-use Rattle.std.proofs.lemmas.Nat.{ones_le_self, zero_from_ones}
+use Rattle.std.proofs.lemmas.Nat.{ones_le_self, zero_from_ones, mod_below, pow_pos}
 use Rattle.std.proofs.lemmas.Nat.Bits.{bit_at-trailing_zeros}
 use lib.Bits.{bit_and}
 use lib.Count.{count_trailing_zeros}
 use Rattle.vx_bits.specs.Words.{word_bits}
-use Rattle.vx_bits.proofs.WordBits.{length-word_bits, zero-word_bits}
+use Rattle.vx_bits.proofs.WordBits.{length-word_bits, zero-word_bits, get_or-word_bits, take-word_bits, true_count_of-word_bits, word_bits_low}
 use Rattle.vx_bits.proofs.WordLists.{picked_lowest}
 use Rattle.vx_mask.specs.Positions.{positions}
-use Rattle.vx_mask.proofs.PositionLists.{positions_false, get_or-range}
+use Rattle.vx_mask.proofs.PositionLists.{length-positions, place_of, positions_false, get_or-range}
+use Rattle.vx_mask.proofs.WordCounts.{ones_more}
 
 -- the set positions are the places that the bits pick
 positions_picked : (at : ℕ) (bits : List Bool) → positions at bits ≡ items_where_true bits (range_with_len at (length bits))
@@ -51,3 +55,46 @@ positions_done base indices all left none e =
 
 pub some_left : (left k all : ℕ) → count_ones left + k ≡ all → k < all → 0 < left
 some_left left k all e h = omega (arith, ones_le_self left)
+
+-- a place of a word before which at most k bits are set, and up to which more are
+pub record IsKth (word k place : ℕ) : Type 0 where
+  pub within : place < 64
+  pub before : count_ones (word % 2 ^ place) ≤ k
+  pub next : k < count_ones (word % 2 ^ (place + 1))
+
+-- up to place n as many bits of a word are set as its part below has
+ones_before : (word n : ℕ) → n ≤ 64 → true_count_of (take n (word_bits word 64)) ≡ count_ones (word % 2 ^ n)
+ones_before word n h =
+    ap true_count_of (take-word_bits word n 64 h ∙ sym (word_bits_low word n))
+    ∙ true_count_of-word_bits (word % 2 ^ n) n (mod_below word (2 ^ n) (pow_pos n))
+
+module _ (word left k : ℕ) (fits : word < 2 ^ 64) (small : left < 2 ^ 64) (h : k < count_ones word) (counted : count_ones left + k ≡ count_ones word) (e : positions 0 (word_bits left 64) ≡ drop k (positions 0 (word_bits word 64))) where
+  abbrev pub bits : List Bool
+  bits = word_bits word 64
+
+  all : true_count_of bits ≡ count_ones word
+  all = true_count_of-word_bits word 64 fits
+
+  parts : (0 + count_trailing_zeros 64 left) ∷ positions 0 (word_bits (bit_and left (left - 1)) 64) ≡ get_or (positions 0 bits) k 0 ∷ drop (k + 1) (positions 0 bits)
+  parts =
+      sym (lowest_position 0 left (some_left left k (count_ones word) counted h) small) ∙ e
+      ∙ drop_more (positions 0 bits) k 0 (omega (arith, h, all, length-positions 0 bits))
+
+  -- one more set bit is cleared
+  pub one_cleared : positions 0 (word_bits (bit_and left (left - 1)) 64) ≡ drop (k + 1) (positions 0 bits)
+  one_cleared = ap (drop 1) parts
+
+  -- once k are cleared, the lowest is the k-th
+  pub kth_place : IsKth word k (count_trailing_zeros 64 left)
+  kth_place =
+      let found = place_of 0 bits k 0 (omega (arith, all, h)) in
+      let i = found.0 in
+      let same : i ≡ count_trailing_zeros 64 left = omega (arith, ap (λ l. get_or l 0 0) parts, found.1.position) in
+      let within : i < 64 = omega (arith, found.1.within, length-word_bits word 64) in
+      let low = ones_before word i (omega (arith, within)) in
+      let bit : bit_at word i ≡ 1 = eqb-true (bit_at word i) 1 (sym (get_or-word_bits word 64 i false within) ∙ found.1.set) in
+      subst (IsKth word k) same (record {
+        within = within;
+        before = omega (arith, low, found.1.passed);
+        next = omega (arith, low, found.1.passed, ones_more word i, bit);
+      })

@@ -6,7 +6,7 @@ use Rattle.std.proofs.lemmas.Bool.Decides.{nat_tests}
 use Rattle.vx_bits.specs.BitBuffer.{PlacedBits, true_count_of}
 use Rattle.vx_mask.specs.declared.mask.Mask.{Mask}
 use Rattle.vx_mask.specs.declared.mask.Mask.TheVariants.{AllTrue, AllFalse, Values}
-use Rattle.vx_mask.specs.Mask.{if_partial, at_front, mask_bits, mask_by_indices, mask_by_slices, partial_of}
+use Rattle.vx_mask.specs.Mask.{IsMadeFrom, if_partial, at_front, mask_bits, mask_by_indices, mask_by_slices, partial_of}
 use Rattle.vx_mask.specs.MaskValues.{PartialMask, IsPartial, AreSlicesOf, bits_alone, block_counts, keep_slices}
 use Rattle.vx_mask.specs.Positions.{AreMaximalRuns, set_of, run_positions, bits_with, ascending, runs_ascend, maximal_runs}
 use Rattle.vx_mask.proofs.PositionLists.{none_are_set, all_are_set}
@@ -130,12 +130,6 @@ fewer len count set h e apart =
 
 -- ---- what is said of a mask that is made from positions
 
-pub record IsMadeFrom (m : Mask) (rows : ℕ) (places : List ℕ) (mask : PartialMask) : Type 0 where
-  pub set : set_of (mask_bits m) ≡ places
-  pub bits : mask_bits m ≡ bits_with rows places
-  pub len : length (mask_bits m) ≡ rows
-  pub kept : partial_of m ≡ if_partial mask
-
 made_from : (m : Mask) (len : ℕ) (set : List ℕ) (mask : PartialMask) → ascending 0 len set ≡ true → mask_bits m ≡ bits_with len set → partial_of m ≡ if_partial mask → IsMadeFrom m len set mask
 made_from m len set mask h bits kept =
     let made = bits_with-made len set h in
@@ -165,20 +159,6 @@ made_from_some m mask len count set h e counted some not_all is =
     let ones = ap (λ (p : PlacedBits). true_count_of p.bits) e ∙ made.count in
     let long = ap (λ (p : PlacedBits). length p.bits) e ∙ made.long in
     made_from (Values m) len set mask h (ap (λ (m : PartialMask). m.bits.bits) is ∙ ap (λ (p : PlacedBits). p.bits) e) (ap Some is ∙ some_partial mask (omega (arith, ones)) (omega (arith, ones, long)))
-
--- what the walk over runs told
-pub record IsTotal (len count : ℕ) (slices : List (ℕ × ℕ)) : Type 0 where
-  pub ascend : runs_ascend 0 len slices ≡ true
-  pub counted : count ≡ length (run_positions slices)
-
-total_told : (b : Bool) (n count : ℕ) → Some count ≡ cond b (Some n) None → (b ≡ true) × (count ≡ n)
-total_told true n count e = (refl, cc)
-total_told false n count e = cc
-
-pub total_is : (len count : ℕ) (slices seen : List (ℕ × ℕ)) → Some count ≡ cond (runs_ascend 0 len seen) (Some (length (run_positions seen))) None → seen ≡ slices → IsTotal len count slices
-total_is len count slices seen e f =
-    let told = total_told (runs_ascend 0 len seen) (length (run_positions seen)) count e in
-    record { ascend = sym (ap (runs_ascend 0 len) f) ∙ told.0; counted = told.1 ∙ ap (λ l. length (run_positions l)) f }
 
 -- the indices that a mask keeps
 pub kept_set : (mask seen : PartialMask) (count : ℕ) (indices : List ℕ) → IsPartial mask count → mask.indices ≡ Some indices → mask ≡ seen → indices ≡ set_of seen.bits.bits

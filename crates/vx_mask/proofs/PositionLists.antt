@@ -69,16 +69,17 @@ pub record IsPlace (at : ℕ) (bits : List Bool) (k d i : ℕ) : Type 0 where
   pub position : get_or (positions at bits) k d ≡ at + i
   pub within : i < length bits
   pub set : get_or bits i false ≡ true
+  pub passed : true_count_of (take i bits) ≡ k
 
 pub place_of : (at : ℕ) (bits : List Bool) (k d : ℕ) → k < true_count_of bits → (i : ℕ) × IsPlace at bits k d i
 place_of at [] k d h = absurd (omega arith)
-place_of at (true ∷ bits) zero d h = (0, record { position = omega arith; within = omega arith; set = refl })
+place_of at (true ∷ bits) zero d h = (0, record { position = omega arith; within = omega arith; set = refl; passed = refl })
 place_of at (true ∷ bits) (suc k) d h =
     let r = place_of (at + 1) bits k d (omega (arith, true_count_of-cons true bits)) in
-    (suc r.0, record { position = r.1.position ∙ omega arith; within = omega (arith, r.1.within); set = r.1.set })
+    (suc r.0, record { position = r.1.position ∙ omega arith; within = omega (arith, r.1.within); set = r.1.set; passed = omega (arith, r.1.passed, true_count_of-cons true (take r.0 bits)) })
 place_of at (false ∷ bits) k d h =
     let r = place_of (at + 1) bits k d (omega (arith, true_count_of-cons false bits)) in
-    (suc r.0, record { position = r.1.position ∙ omega arith; within = omega (arith, r.1.within); set = r.1.set })
+    (suc r.0, record { position = r.1.position ∙ omega arith; within = omega (arith, r.1.within); set = r.1.set; passed = omega (arith, r.1.passed, true_count_of-cons false (take r.0 bits)) })
 
 positions_from : (at : ℕ) (bits : List Bool) (k d : ℕ) → k < true_count_of bits → at ≤ get_or (positions at bits) k d
 positions_from at bits k d h = let r = place_of at bits k d h in omega (arith, r.1.position)

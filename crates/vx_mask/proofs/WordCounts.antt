@@ -1,6 +1,7 @@
 -- The set bits of words, and the words that are read.
 use Rattle.std.proofs.Common.{◌≡◌, ℕ, zero, suc, ◌+◌, ◌*◌, ◌-◌, ◌/◌, ◌%◌, ◌^◌, ◌<◌, ◌≤◌, Bool, true, false, cond, ◌&&◌, leb, ltb, None, Some, Option, List, [], ◌∷◌, ◌++◌, length, get_or, take, bit_and, refl, sym, ap, ap₂, ◌∙◌, inl, inr, arith, zero-add}
 use Rattle.std.specs.List.{range_with_len, filter}
+use Rattle.std.proofs.lemmas.List.FromFn.{length-range_with_len}
 use Rattle.std.specs.Int.{bit_at}
 use Rattle.std.specs.Int.RustNames.{count_ones}
 use Rattle.std.proofs.lemmas.List.{append_assoc, append-nil}
@@ -142,6 +143,10 @@ words_are b high n p q =
           ∙ ap₂ ◌++◌ (kept_all test (0 + 8 * b) n (λ i u v. grind (arith, nat_tests))) (kept_none test (0 + 8 * b + n) (high - (8 * b + n)) (λ i u v. grind (arith, nat_tests))))
           ∙ append-nil (range_with_len (0 + 8 * b) n) ∙ ap (λ a. range_with_len a n) (zero-add (8 * b))
     ]
+
+-- how many they are
+pub words_number : (b high n : ℕ) → (64 * (8 * b + n) < high + 64) → high ≤ 64 * (8 * b + n) → length (words_between (512 * b) high) ≡ n
+words_number b high n p q = ap length (words_are b high n p q) ∙ length-range_with_len (8 * b) n
 
 range_more : (a n : ℕ) → range_with_len a (n + 1) ≡ range_with_len a n ++ (a + n) ∷ []
 range_more a n = range_split a n 1

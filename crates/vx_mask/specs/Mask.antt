@@ -7,7 +7,7 @@ use Rattle.vx_mask.specs.declared.error.MaskError.TheVariants.{Indices, Slices}
 use Rattle.vx_mask.specs.declared.mask.Mask.{Mask}
 use Rattle.vx_mask.specs.declared.mask.Mask.TheVariants.{AllTrue, AllFalse, Values}
 use Rattle.vx_mask.specs.MaskValues.{PartialMask, bits_alone}
-use Rattle.vx_mask.specs.Positions.{ascending, bits_with, run_positions, runs_ascend}
+use Rattle.vx_mask.specs.Positions.{ascending, bits_with, run_positions, runs_ascend, set_of}
 
 -- a bit for each row, set where the row is selected
 abbrev pub mask_bits : Mask → List Bool
@@ -89,3 +89,11 @@ FaultlessSlices len slices =
     ↔ (All (λ run. run.0 < run.1) slices
     × All (λ run. run.1 ≤ len) slices
     × AllAdjacentBelow (λ run next. run.1 ≤ next.0) slices (length slices))
+
+-- the mask selects just these of so many rows, and is the partial one where they are some and not
+-- all
+pub record IsMadeFrom (m : Mask) (rows : ℕ) (places : List ℕ) (mask : PartialMask) : Type 0 where
+  pub set : set_of (mask_bits m) ≡ places
+  pub bits : mask_bits m ≡ bits_with rows places
+  pub len : length (mask_bits m) ≡ rows
+  pub kept : partial_of m ≡ if_partial mask

@@ -3,8 +3,8 @@ ghost use Rattle.std.specs.Prelude.{◌≡◌, ◌*◌, ◌<◌, ◌≤◌, ◌�
 ghost use Rattle.std.specs.Option.{option_copied};
 ghost use Rattle.vx_bits.specs.BitBuffer.{true_count_of};
 ghost use Rattle.vx_bits.specs.Results.{FailsBy};
-ghost use Rattle.vx_mask.specs.Positions.{AreMaximalRuns, IsSpan, set_of, rank_of, run_positions, bits_with, span_of};
-ghost use Rattle.vx_mask.specs.Mask.{mask_bits, partial_of, indices_fault, slices_fault, if_partial, mask_by_indices, mask_by_slices, indices_in, slices_in, blocks_in, keeping};
+ghost use Rattle.vx_mask.specs.Positions.{AreMaximalRuns, IsSpan, ascending, set_of, rank_of, run_positions, runs_ascend, bits_with, span_of};
+ghost use Rattle.vx_mask.specs.Mask.{IsMadeFrom, mask_bits, partial_of, indices_fault, slices_fault, if_partial, mask_by_indices, mask_by_slices, indices_in, slices_in, blocks_in, keeping};
 ghost use Rattle.vx_mask.specs.Ranks.{blocks_of};
 ghost use Rattle.vx_mask.specs.MaskValues.{bits_alone, keep_indices, keep_slices, keep_blocks};
 
@@ -65,6 +65,15 @@ impl Mask {
         if !ascend(indices.as_slice(), len) {
             return Err(MaskError::Indices);
         }
+        Ok(Mask::at_indices(alloc, len, indices)?)
+    }
+
+    // The mask of the rows at indices that ascend.
+    fn at_indices(alloc: Global, len: usize, indices: Vec<usize>) -> Result<Mask, NoMemory>
+        requires { ascending 0 len indices.items ≡ true }
+        ensures { IfOk result
+            (λ m. IsMadeFrom m len indices.items (mask_by_indices len indices.items)) }
+    {
         let count = indices.len();
         if count == 0 {
             return Ok(Mask::AllFalse(len));
@@ -95,6 +104,21 @@ impl Mask {
         let Some(count) = run_total(slices.as_slice(), len) else {
             return Err(MaskError::Slices);
         };
+        Ok(Mask::of_runs(alloc, len, count, slices)?)
+    }
+
+    // The mask of the rows of runs that ascend, so many.
+    fn of_runs(
+        alloc: Global,
+        len: usize,
+        count: usize,
+        slices: Vec<(usize, usize)>,
+    ) -> Result<Mask, NoMemory>
+        requires ascend { runs_ascend 0 len slices.items ≡ true }
+        requires counted { count ≡ length (run_positions slices.items) }
+        ensures { IfOk result (λ m. IsMadeFrom m len (run_positions slices.items)
+            (mask_by_slices len slices.items)) }
+    {
         if count == 0 {
             return Ok(Mask::AllFalse(len));
         }

@@ -23,7 +23,9 @@ pub fn rank_words<R: WordReader>(bits: &mut R, blocks: &[usize], k: usize) -> us
     ensures reads { R.reads bits.new
         ≡ then_told (R.reads bits.old) (words_between (512 * (result / 512)) (result + 1)) }
     ensures same { R.bits bits.new ≡ R.bits bits.old }
-    ensures cost { R.spare bits.old ≤ R.spare bits.new + 8 }
+    ensures cost { R.spare bits.old
+        ≤ R.spare bits.new + length (words_between (512 * (result / 512)) (result + 1)) }
+    ensures few { length (words_between (512 * (result / 512)) (result + 1)) ≤ 8 }
 {
     let block = block_with(blocks, k);
     rank_from(bits, 8 * block, blocks[block], k)
@@ -42,7 +44,9 @@ pub fn words_before<R: WordReader>(bits: &mut R, blocks: &[usize], p: usize) -> 
     ensures reads { R.reads bits.new
         ≡ then_told (R.reads bits.old) (words_between (512 * (p / 512)) p) }
     ensures same { R.bits bits.new ≡ R.bits bits.old }
-    ensures cost { R.spare bits.old ≤ R.spare bits.new + 8 }
+    ensures cost { R.spare bits.old
+        ≤ R.spare bits.new + length (words_between (512 * (p / 512)) p) }
+    ensures few { length (words_between (512 * (p / 512)) p) ≤ 8 }
 {
     let block = p / 512;
     let mut count = blocks[block];
@@ -105,20 +109,17 @@ fn block_with(blocks: &[usize], k: usize) -> usize
     low
 }
 
-// The place of the `k`-th set bit of the word, from 0.
+// The place of the `k`-th set bit of the word, from 0: the lowest, once k lower ones are cleared.
 fn place_with(word: u64, k: usize) -> usize
     requires { k < count_ones word }
     ensures within { result < 64 }
     ensures before { count_ones (word % 2 ^ result) ≤ k }
     ensures next { k < count_ones (word % 2 ^ (result + 1)) }
 {
-    let mut left = k;
-    for place in 0..64 {
-        let bit = ((word >> place) & 1) as usize;
-        if left < bit {
-            return place;
-        }
-        left -= bit;
+    let mut left = word;
+    for i in 0..k {
+        let _ = i;
+        left &= left - 1;
     }
-    unreachable!()
+    left.trailing_zeros() as usize
 }

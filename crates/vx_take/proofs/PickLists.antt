@@ -1,7 +1,9 @@
 -- Lemmas on picks, and on the places that stand for them.
-use Rattle.std.proofs.Common.{◌≡◌, ℕ, ◌+◌, ◌<◌, ◌≤◌, Bool, true, false, cond, List, [], ◌∷◌, ◌++◌, length, get_or, map, take, None, Some, refl, sym, ap, ap₂, subst, ◌∙◌, arith}
+use Rattle.std.proofs.Common.{◌≡◌, ℕ, ◌+◌, ◌-◌, ◌^◌, ◌<◌, ◌≤◌, Bool, true, false, cond, List, [], ◌∷◌, ◌++◌, length, get_or, map, take, None, Some, refl, sym, ap, ap₂, subst, ◌∙◌, arith}
 use Rattle.std.specs.Prelude.{IfSome, Option, ◌==◌}
-use Rattle.std.proofs.lemmas.Bool.{eqb-false}
+use Rattle.std.proofs.lemmas.Bool.{eqb-false, ne_eqb}
+use Rattle.std.specs.List.{All}
+use Rattle.std.proofs.lemmas.List.Elements.{All-tail}
 use Rattle.std.proofs.lemmas.List.{get_or-map, length-append, length-map, map_more, map-append, take_all}
 use Rattle.vx_take.specs.Picks.{ArePlaces, AreBelow, IsPlace, null_place, pick_of, picks_of}
 
@@ -33,3 +35,10 @@ module _ {X : Type 0} (f : Option ℕ → X) (places : List ℕ) (k : ℕ) where
 
 pub item_count : {X : Type 0} (old new : List X) (item : X) (k : ℕ) → new ≡ old ++ item ∷ [] → length old ≡ k → length new ≡ k + 1
 item_count old new item k more n = ap length more ∙ length-append old (item ∷ []) ∙ omega (arith, n)
+
+-- positions below a bound are picks, and none of them a null
+pub picks_below : (bound : ℕ) (positions : List ℕ) → bound < 2 ^ 64 → All (λ p. p < bound) positions → picks_of positions ≡ map Some positions
+picks_below bound [] h below = refl
+picks_below bound (p ∷ positions) h below =
+    let here = below 0 0 (omega arith) in
+    ap₂ ◌∷◌ (ap (λ b. cond b None (Some p)) (ne_eqb p (2 ^ 64 - 1) (λ e. omega (arith, here, e)))) (picks_below bound positions h (All-tail (λ q. q < bound) p positions below))

@@ -7,7 +7,7 @@ ghost use Rattle.vx_take.specs.Ranks.{AreJustSet, AreSet, place_before, ranked, 
 
 use crate::picks::{NULL_PLACE, Picks};
 use std::alloc::Global;
-use vx_bits::{BitBuffer, BitBuilder, NoMemory};
+use vx_bits::{BitBuffer, BitBuilder, NoMemory, Words};
 use vx_mask::Mask;
 
 /// The mask of the bound's length whose set positions are just the non-null picks. `NoMemory`
@@ -99,10 +99,11 @@ fn by_counts(alloc: Global, picks: &Picks, bits: &BitBuffer) -> Result<Vec<usize
         ≡ map (place_before bits.now.bits) picks.now.picks) }
 {
     let counts = counts_before(alloc, bits)?;
+    let words = bits.words();
     let from = picks.places();
     let mut places = Vec::with_capacity(alloc, from.len())?;
     for place in from {
-        places.push_reserved(rank_by_counts(bits, counts.as_slice(), *place));
+        places.push_reserved(rank_by_counts(&words, counts.as_slice(), *place));
     }
     Ok(places)
 }
@@ -112,26 +113,27 @@ fn counts_before(alloc: Global, bits: &BitBuffer) -> Result<Vec<usize>, NoMemory
     ensures { IfOk result (λ counts. counts.items ≡ word_counts bits.now.bits) }
 {
     let words = bits.len() / 64 + 1;
+    let view = bits.words();
     let mut counts = Vec::with_capacity(alloc, words)?;
     let mut count = 0;
     for w in 0..words {
         counts.push_reserved(count);
-        count += bits.word(w).count_ones() as usize;
+        count += view.word(w).count_ones() as usize;
     }
     Ok(counts)
 }
 
 // The rank of a place: the set bits before its word, and those of its word before it.
 #[inline(always)]
-fn rank_by_counts(bits: &BitBuffer, counts: &[usize], place: usize) -> usize
-    requires within { IfSome (pick_of place) (λ p. p < length bits.now.bits) }
-    requires counted { counts.now ≡ word_counts bits.now.bits }
-    ensures { result ≡ place_before bits.now.bits (pick_of place) }
+fn rank_by_counts(words: &Words, counts: &[usize], place: usize) -> usize
+    requires within { IfSome (pick_of place) (λ p. p < length words.now) }
+    requires counted { counts.now ≡ word_counts words.now }
+    ensures { result ≡ place_before words.now (pick_of place) }
 {
     if place == NULL_PLACE {
         NULL_PLACE
     } else {
-        let before = bits.word(place / 64) & ((1 << (place % 64)) - 1);
+        let before = words.word(place / 64) & ((1 << (place % 64)) - 1);
         counts[place / 64] + before.count_ones() as usize
     }
 }

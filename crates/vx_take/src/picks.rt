@@ -1,5 +1,6 @@
 //! Lists of optional positions.
-ghost use Rattle.std.specs.Prelude.{◌≡◌, ◌++◌, ◌-◌, ◌<◌, ◌^◌, ◌↔◌, [], ◌∷◌, IfOk, IfSome, IsTrue, None, OnErr, OnOk, length, slice_index_or};
+ghost use Rattle.std.specs.Prelude.{◌≡◌, ◌++◌, ◌-◌, ◌<◌, ◌^◌, ◌↔◌, [], ◌∷◌, IfOk, IfSome, IsTrue, None, Some, OnErr, OnOk, length, map, slice_index_or};
+ghost use Rattle.std.specs.List.{All};
 ghost use Rattle.vx_take.specs.Picks.{ArePlaces, AreBelow, pick_of, picks_of};
 
 use std::alloc::Global;
@@ -53,6 +54,15 @@ impl Picks {
             places: Vec::with_capacity(alloc, len)?,
             bound,
         })
+    }
+
+    /// The picks of a list of positions, none of them a null: a whole list is handed over as it
+    /// stands. It takes no memory.
+    pub fn from_vec(positions: Vec<usize>, bound: usize) -> Picks
+        requires { All (λ p. p < bound) positions.items }
+        ensures { result ≡ record { picks = map Some positions.items; bound = bound } }
+    {
+        Picks::from_places(positions, bound)
     }
 
     // The picks that these places stand for.

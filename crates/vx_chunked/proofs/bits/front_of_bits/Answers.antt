@@ -20,12 +20,12 @@ returns-clause-taken c =
     let at : first + (start - first) ≡ start = omega (arith, c.min-start.ensures, c.max.ensures, c.requires.within) in
     let passed = passed_before offset base (2 ^ 64) first (start - first) bits (omega (arith, fits)) (λ some. omega (arith, c.min-start.ensures, c.max.ensures)) c.requires.ahead in
     let width : n ≡ start + n - start = omega arith in
-    let sliced = ap (λ m. take m (drop start bits)) width ∙ sym c.slice-bits.ensures.bits in
+    let sliced = ap (λ m. take m (drop start bits)) width ∙ sym c.slice.ensures.bits in
     ap (map (λ i. offset + i)) (passed ∙ ap (λ k. positions_from k bits) at ∙ positions_cut start n bits fits)
     ∙ map-append (λ i. offset + i) (positions start part) (positions_from (start + n) bits)
     ∙ ap (λ l. l ++ map (λ i. offset + i) (positions_from (start + n) bits))
     (same_places offset start base from part (λ some. omega (arith, long, c.min.ensures, c.min-from.ensures, c.min-start.ensures, c.max.ensures))
-    ∙ ap (λ l. map (λ p. base + p) (positions from l)) sliced)
+    ∙ ap (λ l. map (λ p. base + p) (positions from l)) sliced ∙ ap (map (λ p. base + p)) (sym c.front_of.ensures.places))
 
 pub returns-clause-beyond : goal.returns-clause-beyond
 returns-clause-beyond c =

@@ -1,6 +1,5 @@
-use Rattle.std.proofs.Common.{◌≡◌, ◌++◌, Some, ap, map, length, take, drop, ◌∙◌, arith}
+use Rattle.std.proofs.Common.{Some, ap, map, ◌∙◌, arith}
 use Rattle.std.specs.Prelude.{slice_get}
-use Rattle.std.proofs.Math.Seq.{take-append_seam}
 use Rattle.vx_chunked.specs.Asked.{chunks_for}
 use Rattle.vx_chunked.proofs.Counts.{read_of_none, told_of_none}
 use Rattle.vx_chunked.proofs.driver.filter_at.Goals as goal
@@ -15,19 +14,6 @@ returns-then-total-eq0-clause-told g c =
 
 pub take_chunks-requires-clause-places : goal.take_chunks-requires-clause-places
 take_chunks-requires-clause-places g c = omega (arith, c.as_mut_slice.ensures.len, c.in_ok-places.ensures.len)
-
-pub take_chunks-requires-clause-scratch : goal.take_chunks-requires-clause-scratch
-take_chunks-requires-clause-scratch g c = omega (arith, c.as_mut_slice-2.ensures.len, c.in_ok-scratch.ensures.len)
-
-pub take_chunks-requires-clause-room : goal.take_chunks-requires-clause-room
-take_chunks-requires-clause-room g c = omega (arith, c.as_mut_slice-3.ensures.len, c.in_ok-out.ensures.len, c.requires.total)
-
-pub returns-clause-value : goal.returns-clause-value
-returns-clause-value g c =
-    let new = c.take_chunks.new.out in
-    let old = c.in_ok-out.out in
-    let long : old.len ≡ length new = omega (arith, c.take_chunks.auto.out, c.as_mut_slice-3.ensures.len) in
-    ap (λ n. map Some (take n (new ++ drop (length new) old.items))) long ∙ ap (map Some) (take-append_seam new (drop (length new) old.items)) ∙ c.take_chunks.ensures.value
 
 pub returns-clause-told : goal.returns-clause-told
 returns-clause-told g c = c.take_chunks.ensures.told

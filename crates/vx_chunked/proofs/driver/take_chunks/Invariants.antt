@@ -1,5 +1,6 @@
-use Rattle.std.proofs.Common.{◌≡◌, ◌+◌, ◌*◌, ◌-◌, ◌≤◌, ◌++◌, length, map, take, Some}
+use Rattle.std.proofs.Common.{◌≡◌, ◌+◌, ◌*◌, ◌-◌, ◌≤◌, ◌++◌, length, map, Some}
 use Rattle.std.specs.Prelude.{slice_get}
+use Rattle.std.specs.Vec.{vec_capacity}
 use Rattle.vx_chunked.specs.Positions.{AscendFrom}
 use Rattle.vx_bits.specs.WordReader.{then_told}
 use Rattle.vx_chunked.specs.Asked.{calls_from}
@@ -11,9 +12,9 @@ invariant-loop-chunk g l =
     let all = g.C.Cursor.rest l.fn.cursor in
     let rest = g.C.Cursor.rest l.cursor in
     record {
-      room : l.filled + length rest ≡ length l.out;
-      value : map Some (take l.filled l.out) ++ map (slice_get values) rest ≡ map (slice_get values) all;
-      told : then_told (g.D.ChunkDecoder.calls l.decoder) (calls_from l.limit rest l.chunk (l.chunks - l.chunk)) ≡ then_told (g.D.ChunkDecoder.calls l.fn.decoder) (calls_from l.limit all 0 l.chunks);
+      room : length l.out.items + length rest ≤ vec_capacity l.out;
+      value : map Some l.out.items ++ map (slice_get values) rest ≡ map (slice_get values) all;
+      told : then_told (g.D.ChunkDecoder.calls l.decoder) (calls_from l.limit rest l.chunk (l.chunk-end - l.chunk)) ≡ then_told (g.D.ChunkDecoder.calls l.fn.decoder) (calls_from l.limit all 0 l.chunk-end);
       ahead : AscendFrom (1024 * l.chunk) l.end rest;
       same : g.D.ChunkDecoder.values l.decoder ≡ values;
       cost : g.D.ChunkDecoder.spare l.fn.decoder ≤ g.D.ChunkDecoder.spare l.decoder + l.chunk;

@@ -4,7 +4,7 @@ use Rattle.vx_bits.specs.BitBuffer.{true_count_of}
 use Rattle.vx_bits.specs.WordReader.{then_told}
 use Rattle.vx_bits.specs.Words.{word_at}
 use Rattle.vx_mask.proofs.BlockCounts.{length_blocks, block_start, count_fits}
-use Rattle.vx_mask.proofs.WordCounts.{count_of_word, count_before, words_are, told_start, told_next}
+use Rattle.vx_mask.proofs.WordCounts.{count_of_word, count_before, words_are, words_number, told_start, told_next}
 use Rattle.vx_mask.proofs.ranks.words_before.Goals as goal
 
 pub bounds-blocks-block : goal.bounds-blocks-block
@@ -74,3 +74,24 @@ returns-else-rest-gt0-clause-reads g c =
     let at : c.loop-w.w ≡ w = omega arith in
     c.loop-w.invariant.reads ∙ ap (λ n. then_told start (range_with_len (8 * b) (n - 8 * b))) at
     ∙ ap (then_told start) (sym (words_are b c.args.p (w - 8 * b) (omega (arith, c.if-rest-gt0.false)) (omega (arith, c.if-rest-gt0.false))))
+
+pub returns-then-rest-gt0-clause-cost : goal.returns-then-rest-gt0-clause-cost
+returns-then-rest-gt0-clause-cost g c =
+    let b = c.args.p / 512 in
+    let w = c.args.p / 64 in
+    omega (arith, c.loop-w.invariant.cost, c.word-then-rest-gt0.ensures.cost, words_number b c.args.p (w + 1 - 8 * b) (omega (arith, c.if-rest-gt0.true)) (omega arith))
+
+pub returns-then-rest-gt0-clause-few : goal.returns-then-rest-gt0-clause-few
+returns-then-rest-gt0-clause-few g c =
+    let b = c.args.p / 512 in
+    omega (arith, words_number b c.args.p (c.args.p / 64 + 1 - 8 * b) (omega (arith, c.if-rest-gt0.true)) (omega arith))
+
+pub returns-else-rest-gt0-clause-cost : goal.returns-else-rest-gt0-clause-cost
+returns-else-rest-gt0-clause-cost g c =
+    let b = c.args.p / 512 in
+    omega (arith, c.loop-w.invariant.cost, words_number b c.args.p (c.args.p / 64 - 8 * b) (omega (arith, c.if-rest-gt0.false)) (omega (arith, c.if-rest-gt0.false)))
+
+pub returns-else-rest-gt0-clause-few : goal.returns-else-rest-gt0-clause-few
+returns-else-rest-gt0-clause-few g c =
+    let b = c.args.p / 512 in
+    omega (arith, words_number b c.args.p (c.args.p / 64 - 8 * b) (omega (arith, c.if-rest-gt0.false)) (omega (arith, c.if-rest-gt0.false)))

@@ -1,0 +1,7 @@
+use Rattle.std.proofs.Common.{◌≡◌, map, take}
+use Rattle.std.specs.List.{range_with_len}
+use Rattle.vx_bits.specs.Words.{word_at}
+use Rattle.vx_chunked.proofs.bits.load.Given as goal
+
+abbrev pub invariant-loop-w : goal.invariant-loop-w
+invariant-loop-w l = take l.w l.words ≡ map (word_at l.bits.bits) (range_with_len 0 l.w)
