@@ -1,0 +1,17 @@
+//! Chunks of 1024 numbers, packed to the bits that they need.
+#![tactic(auto)]
+
+mod chunks;
+mod extremes;
+mod fault;
+mod laws;
+mod packing;
+mod parts;
+mod reading;
+mod words;
+
+pub use chunks::PackedChunks;
+pub use fault::{PackedError, PackedFault};
+pub use laws::spelling_law;
+pub use packing::pack;
+pub use reading::read_chunk;
