@@ -1,5 +1,5 @@
 -- Chunks that follow each other.
-use Rattle.std.proofs.Common.{◌≡◌, ℕ, zero, suc, ◌+◌, ◌-◌, ◌*◌, ◌/◌, ◌^◌, ◌<◌, ◌≤◌, List, [], ◌∷◌, ◌++◌, Option, None, Some, min, length, get_or, take, drop, inl, inr, refl, sym, ap, ap₂, subst, ◌∙◌, add-zero, arith}
+use Rattle.std.proofs.Common.{◌≡◌, ℕ, zero, suc, ◌+◌, ◌-◌, ◌*◌, ◌/◌, ◌%◌, ◌^◌, ◌<◌, ◌≤◌, List, [], ◌∷◌, ◌++◌, Option, None, Some, min, length, get_or, take, drop, inl, inr, refl, sym, ap, ap₂, subst, ◌∙◌, add-zero, arith}
 use Rattle.std.specs.List.{All, flat_map, range_with_len}
 use Rattle.std.proofs.lemmas.Bool.{cases_lt}
 use Rattle.std.proofs.lemmas.List.{drop-drop, drop_all, drop_at, get_or-append_right, get_or-drop, get_or-take, get_or_append_left, get_or_past, get_or_push, length-append, length-drop, length-take, length-take-le, nil_from_length, take_at, take-append-drop}
@@ -10,7 +10,7 @@ use Rattle.vx_packed.specs.Parts.{AreChunks, IsIndexed, all_numbers, bad_or, cut
 use Rattle.vx_packed.specs.declared.fault.PackedFault.{PackedFault}
 use Rattle.vx_packed.specs.declared.fault.PackedError.TheVariants.{Bad}
 use Rattle.vx_packed.proofs.OneSpelling.{chunk_is}
-use Rattle.vx_packed.proofs.Spellings.{bytes_spelled, length-numbers_in, numbers_back, numbers_chunk, spell_states, spelled_no_fault}
+use Rattle.vx_packed.proofs.Spellings.{bytes_spelled, length-numbers_in, numbers_back, numbers_chunk, same_parts, spell_injective, spell_states, spelled_no_fault}
 
 -- ---- the parts
 
@@ -207,6 +207,52 @@ packed_good width bytes narrow packed =
 pub good_packed : (width : ℕ) (bytes : List ℕ) → width ≤ 8 → ((i : ℕ) → get_or bytes i 0 < 256) → first_bad width 0 (parts_of bytes) ≡ None → ArePacked width (all_numbers (parts_of bytes)) bytes
 good_packed width bytes narrow fits good = parts_spelled (length bytes) width 0 bytes (omega arith) narrow fits good
 
+-- ---- one spelling a list
+
+spelled_some : (c more : List ℕ) → IsChunk 8 c → 0 < length (spell c ++ more)
+spelled_some c more chunk =
+    let s = spell_states 8 c (omega arith) chunk in
+    omega (arith, s.count, length-append (spell c) more)
+
+rest_below : (xs : List ℕ) → All (λ x. x < 2 ^ 64) xs → All (λ x. x < 2 ^ 64) (drop 1024 xs)
+rest_below xs below i d h = subst (λ (m : ℕ). m < 2 ^ 64) (sym (get_or-drop 1024 xs i d)) (below (1024 + i) d (omega (arith, length-drop 1024 xs)))
+
+-- the first chunk of a list, and its spelling
+record FirstChunk (xs : List ℕ) : Type 0 where
+  chunk : IsChunk 8 (take 1024 xs)
+  spelled : spell_list xs ≡ spell (take 1024 xs) ++ spell_list (drop 1024 xs)
+  some : 0 < length (spell_list xs)
+
+first_chunk : (n : ℕ) (xs : List ℕ) → length xs ≡ suc n * 1024 → All (λ x. x < 2 ^ 64) xs → FirstChunk xs
+first_chunk n xs long below =
+    let c = take 1024 xs in
+    let more = drop 1024 xs in
+    let none : 1024 * 0 ≡ 0 = omega arith in
+    let chunk = subst (λ (j : ℕ). IsChunk 8 (take 1024 (drop j xs))) none (chunk_is 8 xs 0 (omega arith) below) in
+    let whole : spell_list xs ≡ spell c ++ spell_list more = ap spell_list (sym (take-append-drop 1024 xs)) ∙ spell_list_cons c more chunk.count in
+    record { chunk = chunk; spelled = whole; some = subst (λ (l : List ℕ). 0 < length l) (sym whole) (spelled_some c (spell_list more) chunk) }
+
+same_spelled : (n m : ℕ) (xs ys : List ℕ) → length xs ≡ n * 1024 → length ys ≡ m * 1024 → All (λ x. x < 2 ^ 64) xs → All (λ x. x < 2 ^ 64) ys → spell_list xs ≡ spell_list ys → xs ≡ ys
+same_spelled zero zero xs ys p q a b e = nil_from_length xs (omega arith) ∙ sym (nil_from_length ys (omega arith))
+same_spelled zero (suc m) xs ys p q a b e =
+    let there = (first_chunk m ys q b).some in
+    absurd (omega (arith, there, ap length e, ap length (spell_list_none xs (omega arith))))
+same_spelled (suc n) zero xs ys p q a b e =
+    let here = (first_chunk n xs p a).some in
+    absurd (omega (arith, here, ap length e, ap length (spell_list_none ys (omega arith))))
+same_spelled (suc n) (suc m) xs ys p q a b e =
+    let f = first_chunk n xs p a in
+    let g = first_chunk m ys q b in
+    let parts = same_parts 8 (take 1024 xs) (take 1024 ys) _ _ (omega arith) f.chunk g.chunk (sym f.spelled ∙ e ∙ g.spelled) in
+    let rest = same_spelled n m (drop 1024 xs) (drop 1024 ys) (omega (arith, length-drop 1024 xs)) (omega (arith, length-drop 1024 ys)) (rest_below xs a) (rest_below ys b) parts.rest in
+    sym (take-append-drop 1024 xs)
+    ∙ ap₂ ◌++◌ (spell_injective 8 (take 1024 xs) (take 1024 ys) (omega arith) f.chunk g.chunk parts.front) rest
+    ∙ take-append-drop 1024 ys
+
+-- two lists of whole chunks with equal spellings are equal
+pub spell_list_injective : (xs ys : List ℕ) → length xs % 1024 ≡ 0 → length ys % 1024 ≡ 0 → All (λ x. x < 2 ^ 64) xs → All (λ x. x < 2 ^ 64) ys → spell_list xs ≡ spell_list ys → xs ≡ ys
+spell_list_injective xs ys p q a b e = same_spelled (length xs / 1024) (length ys / 1024) xs ys (omega arith) (omega arith) a b e
+
 -- ---- where the parts begin
 
 -- the numbers of part k among all
@@ -238,12 +284,13 @@ part_spelled width k (part ∷ parts) (suc j) narrow fits good h = part_spelled 
 -- the places so far, and what is left
 pub record Placed (bytes : List ℕ) (starts : List ℕ) (start : ℕ) : Type 0 where
   pub within : start ≤ length bytes
+  pub few : length starts ≤ length (parts_of bytes)
   pub inside : (k : ℕ) → k < length starts → get_or starts k 0 < length bytes
   pub places : (k : ℕ) → k < length starts → take (front_len (drop (get_or starts k 0) bytes)) (drop (get_or starts k 0) bytes) ≡ get_or (parts_of bytes) k []
   pub left : drop (length starts) (parts_of bytes) ≡ parts_of (drop start bytes)
 
 pub placed_none : (bytes : List ℕ) → Placed bytes [] 0
-placed_none bytes = record { within = omega arith; inside = λ k h. absurd (omega arith); places = λ k h. absurd (omega arith); left = refl }
+placed_none bytes = record { within = omega arith; few = omega arith; inside = λ k h. absurd (omega arith); places = λ k h. absurd (omega arith); left = refl }
 
 pub placed_more : (bytes starts : List ℕ) (start n : ℕ) → start < length bytes → n ≡ length (take (front_len (drop start bytes)) (drop start bytes)) → Placed bytes starts start → Placed bytes (starts ++ start ∷ []) (start + n)
 placed_more bytes starts start n h e p =
@@ -259,6 +306,7 @@ placed_more bytes starts start n h e p =
     let last : get_or (starts ++ start ∷ []) count 0 ≡ start = get_or_push starts start 0 count refl in
     record {
       within = omega (arith, e, length-take (front_len rest) rest, length-drop start bytes);
+      few = omega (arith, more, ap length next, length-drop count (parts_of bytes));
       inside = λ k q. elim (cases_lt k count) [
         | inl l ↦ omega (arith, get_or_append_left starts (start ∷ []) 0 k l, p.inside k l)
         | inr l ↦
@@ -280,7 +328,7 @@ placed_all bytes starts start h p =
     let none = parts_none (drop start bytes) (omega (arith, length-drop start bytes)) in
     let count = ap length (p.left ∙ none) in
     record {
-      counted = omega (arith, count, length-drop (length starts) (parts_of bytes));
+      counted = omega (arith, count, p.few, length-drop (length starts) (parts_of bytes));
       inside = p.inside;
       places = p.places;
     }

@@ -25,38 +25,6 @@ chunk_is width xs k h below =
           subst (λ (n : ℕ). n < 2 ^ (8 * width)) (sym (get_or-take 1024 (drop (1024 * k) xs) i d small ∙ get_or-drop (1024 * k) xs i d)) (below (1024 * k + i) d (omega arith));
     }
 
--- lists whose spellings from chunk a on are equal have equal chunks
-same_chunks : (xs ys : List ℕ) (n a : ℕ) → ((k : ℕ) → a ≤ k → k < a + n → IsChunk 8 (chunk_at xs k)) → ((k : ℕ) → a ≤ k → k < a + n → IsChunk 8 (chunk_at ys k))
-    → flat_map (λ k. spell (chunk_at xs k)) (range_with_len a n) ≡ flat_map (λ k. spell (chunk_at ys k)) (range_with_len a n)
-    → (k : ℕ) → a ≤ k → k < a + n → chunk_at xs k ≡ chunk_at ys k
-same_chunks xs ys zero a p q e k g h = absurd (omega arith)
-same_chunks xs ys (suc n) a p q e k g h =
-    let here = p a (omega arith) (omega arith) in
-    let there = q a (omega arith) (omega arith) in
-    let parts = same_parts 8 (chunk_at xs a) (chunk_at ys a) _ _ (omega arith) here there e in
-    let rest = same_chunks xs ys n (a + 1) (λ j u v. p j (omega arith) (omega arith)) (λ j u v. q j (omega arith) (omega arith)) parts.rest k in
-    elim (cases_eq k a) [
-      | inl same ↦ subst (λ (j : ℕ). chunk_at xs j ≡ chunk_at ys j) (sym same) (spell_injective 8 (chunk_at xs a) (chunk_at ys a) (omega arith) here there parts.front)
-      | inr other ↦ rest (omega arith) (omega arith)
-    ]
-
--- two lists of so many chunks with equal spellings are equal
-pub spell_list_injective : (xs ys : List ℕ) → length xs % 1024 ≡ 0 → length ys ≡ length xs → All (λ x. x < 2 ^ 64) xs → All (λ x. x < 2 ^ 64) ys → spell_list xs ≡ spell_list ys → xs ≡ ys
-unfolding spell_list
-spell_list_injective xs ys whole long p q e =
-    let n = length xs / 1024 in
-    let count : length ys / 1024 ≡ n = ap (λ m. m / 1024) long in
-    let chunks = same_chunks xs ys n 0
-    (λ k u v. chunk_is 8 xs k (omega arith) p) (λ k u v. chunk_is 8 ys k (omega arith) q)
-    (e ∙ ap (λ m. flat_map (λ k. spell (chunk_at ys k)) (range_with_len 0 m)) count) in
-    same_lists xs ys (sym long) (λ i d h.
-    let k = i / 1024 in
-    let r = i % 1024 in
-    let there : 1024 * k + r ≡ i = omega arith in
-    let small : r < 1024 = omega arith in
-    let at = λ (zs : List ℕ). sym (get_or-take 1024 (drop (1024 * k) zs) r d small ∙ get_or-drop (1024 * k) zs r d ∙ ap (λ j. get_or zs j d) there) in
-    at xs ∙ ap (λ l. get_or l r d) (chunks k (omega arith) (omega arith)) ∙ sym (at ys))
-
 -- bit k of number j less the least stands at `j * w + k` of the bytes behind the first nine
 pub spell_bit : (width : ℕ) (xs : List ℕ) (j k : ℕ) → width ≤ 8 → IsChunk width xs → j < 1024 → k < digits (greatest xs - least xs) → bit_of (drop 9 (spell xs)) (j * digits (greatest xs - least xs) + k) ≡ eqb (bit_at (get_or xs j 0 - least xs) k) 1
 spell_bit width xs j k narrow chunk h p =

@@ -41,3 +41,8 @@ chunk_records width bytes part numbers k bounded h e =
     ∙ sym (take-map (record_of width) 1024 (drop (1024 * k) (all_numbers (parts_of bytes))))
     ∙ ap (take 1024) (sym (drop-map (record_of width) (1024 * k) (all_numbers (parts_of bytes))))
     ∙ ap (λ l. take 1024 (drop (1024 * k) l)) (sym (all_records width bytes bounded) ∙ ap (λ l. whole_chunks (records_of width l)) e)
+
+pub length-all_records : (width : ℕ) (bytes numbers : List ℕ) → 1024 * length (parts_of bytes) < 2 ^ 64 → all_numbers (parts_of bytes) ≡ numbers → length (whole_chunks (records_of width numbers)) ≡ length numbers
+length-all_records width bytes numbers bounded e =
+    sym (ap (λ l. length (whole_chunks (records_of width l))) e) ∙ ap length (all_records width bytes bounded)
+    ∙ length-map (all_numbers (parts_of bytes)) (record_of width) ∙ ap length e

@@ -46,7 +46,7 @@ records_of width numbers = map (record_of width) numbers
 
 -- the places where the parts begin
 pub record IsIndexed (bytes starts : List ℕ) : Type 0 where
-  pub counted : length (parts_of bytes) ≤ length starts
+  pub counted : length starts ≡ length (parts_of bytes)
   pub inside : (k : ℕ) → k < length starts → slice_index starts k < length bytes
   pub places : (k : ℕ) → k < length starts
       → take (front_len (drop (slice_index starts k) bytes)) (drop (slice_index starts k) bytes)

@@ -1,5 +1,5 @@
 //! Packed numbers as values behind a chunk decoder.
-ghost use Rattle.std.specs.Prelude.{◌≡◌, ℕ, ◌+◌, ◌*◌, ◌^◌, ◌<◌, ◌≤◌, None, true, length, map, take, drop, slice_index, slice_get, unwrap_or, Some, IfErr, IfOk, IsOkUnless};
+ghost use Rattle.std.specs.Prelude.{◌≡◌, ◌↔◌, ℕ, ◌+◌, ◌*◌, ◌%◌, ◌^◌, ◌<◌, ◌≤◌, None, true, length, map, take, drop, slice_index, slice_get, unwrap_or, Some, IfErr, IfOk, IsOkUnless, IsTrue};
 ghost use Rattle.std.specs.Int.{to_le_bytes, w64};
 ghost use Rattle.vx_mask.specs.Positions.{ascending};
 ghost use Rattle.vx_chunked.specs.Told.{whole_chunks};
@@ -60,6 +60,22 @@ impl<const W: usize> PackedChunks<W> {
             return Err(PackedError::NoMemory);
         };
         Ok(PackedChunks { bytes, starts })
+    }
+
+    /// How many numbers there are, a multiple of 1024.
+    pub fn len(&self) -> usize
+        ensures value { result ≡ length self.now }
+        ensures decoded { length (whole_chunks (records_of W self.now)) ≡ result }
+        ensures whole { result % 1024 ≡ 0 }
+    {
+        1024 * self.starts.len()
+    }
+
+    /// Whether there is no number.
+    pub fn is_empty(&self) -> bool
+        ensures { IsTrue result ↔ (length self.now ≡ 0) }
+    {
+        self.len() == 0
     }
 }
 

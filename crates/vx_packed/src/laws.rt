@@ -7,12 +7,12 @@ ghost use Rattle.vx_packed.specs.Parts.{first_bad, parts_of};
 
 /// Numbers have one spelling, no spelling of a chunk is the front of another's, and spellings
 /// break no rule.
-#[tactic(auto, using(crate::proofs::OneSpelling::one_spelling, crate::proofs::OneSpelling::no_prefix, crate::proofs::OneSpelling::spell_list_injective, crate::proofs::CutParts::packed_good, crate::proofs::OneSpelling::spelling_good))]
+#[tactic(auto, using(crate::proofs::OneSpelling::one_spelling, crate::proofs::OneSpelling::no_prefix, crate::proofs::CutParts::spell_list_injective, crate::proofs::CutParts::packed_good, crate::proofs::OneSpelling::spelling_good))]
 pub fn spelling_law()
     ensures one { (xs ys : List ℕ) → IsChunk 8 xs → IsChunk 8 ys → spell xs ≡ spell ys → xs ≡ ys }
     ensures no_prefix { (xs ys more : List ℕ) → IsChunk 8 xs → IsChunk 8 ys
         → spell xs ++ more ≡ spell ys → more ≡ [] }
-    ensures lists { (xs ys : List ℕ) → length xs % 1024 ≡ 0 → length ys ≡ length xs
+    ensures lists { (xs ys : List ℕ) → length xs % 1024 ≡ 0 → length ys % 1024 ≡ 0
         → All (λ x. x < 2 ^ 64) xs → All (λ x. x < 2 ^ 64) ys
         → spell_list xs ≡ spell_list ys → xs ≡ ys }
     ensures chunk { (width : ℕ) (bytes : List ℕ) → width ≤ 8 → IsSpelling width bytes
