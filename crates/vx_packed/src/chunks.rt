@@ -11,6 +11,7 @@ ghost use Rattle.vx_packed.specs.declared.fault.PackedError.TheVariants.{NoMemor
 use crate::fault::PackedError;
 use crate::parts::{count_chunks, front_of};
 use crate::reading::read_one;
+use crate::record::record_from;
 use std::alloc::Global;
 use std::marker::Model;
 use vx_bits::{Buffer, NoMemory};
@@ -170,15 +171,4 @@ fn put_records_at<const W: usize>(bytes: &[u8], indices: &[usize], dst: &mut [[u
     for k in 0..indices.len() {
         dst[k] = record_from::<W>(read_one(bytes, indices[k]));
     }
-}
-
-// A number as a record.
-#[inline(always)]
-fn record_from<const W: usize>(n: u64) -> [u8; W]
-    requires { W ≤ 8 }
-    ensures { result ≡ record_of W n }
-{
-    let mut record = [0; W];
-    record.copy_from_slice(&n.to_le_bytes()[..W]);
-    record
 }

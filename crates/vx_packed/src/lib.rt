@@ -8,6 +8,7 @@ mod laws;
 mod packing;
 mod parts;
 mod reading;
+mod record;
 mod words;
 
 pub use chunks::PackedChunks;
@@ -15,3 +16,4 @@ pub use fault::{PackedError, PackedFault};
 pub use laws::spelling_law;
 pub use packing::pack;
 pub use reading::read_chunk;
+pub use record::record_from;
