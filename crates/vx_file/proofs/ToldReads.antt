@@ -1,0 +1,53 @@
+-- The reads that are told, and what comes of an error.
+use Rattle.std.proofs.Common.{◌≡◌, ℕ, ◌+◌, ◌-◌, ◌^◌, ◌<◌, ◌≤◌, Bool, true, List, [], ◌∷◌, ◌++◌, Option, length, refl, sym, ap, subst, ◌∙◌, arith}
+use Rattle.std.specs.Prelude.{IfSome}
+use Rattle.std.specs.List.{list_any}
+use Rattle.std.proofs.lemmas.List.{length-append}
+use Rattle.vx_bits.specs.WordReader.{then_told}
+use Rattle.vx_chunked.proofs.Counts.{told_more, told_none}
+use Rattle.vx_outside.specs.Bytes.{Rose}
+use Rattle.vx_take.specs.Picks.{BoundedPicks}
+use Rattle.vx_file.specs.Blocks.{block_at}
+use Rattle.vx_file.specs.Errors.{MatchReading}
+use Rattle.vx_file.specs.Reading.{AreTold, IsNoSpelling, ReadLast, ReadUpTo}
+use Rattle.vx_file.specs.Touched.{block_of_rows, blocks_for, lies_in, touched}
+use Rattle.vx_file.specs.declared.error.FileError.{FileError}
+use Rattle.vx_file.specs.declared.error.FileError.TheVariants.{ReadFault, BadHeader, Damaged, Broken, NoMemory}
+use Rattle.vx_file.proofs.TouchedLists.{touched_longer, touched_more, touched_none}
+
+pub told_nothing : (picks : List (Option ℕ)) (r : Option (List ℕ)) → r ≡ then_told r (touched picks 0)
+told_nothing picks r = told_none r ∙ ap (then_told r) (sym (touched_none picks))
+
+pub read_nothing : (picks : List (Option ℕ)) (r : Option (List ℕ)) (n : ℕ) → ReadUpTo picks r r n
+read_nothing picks r n = record { count = 0; within = omega arith; told = told_nothing picks r }
+
+pub told_step : (picks : List (Option ℕ)) (k : ℕ) (picked : Bool) (before now after : Option (List ℕ)) → picked ≡ list_any (lies_in k) picks → now ≡ then_told before (touched picks k) → after ≡ then_told now (block_of_rows picked k) → after ≡ then_told before (touched picks (k + 1))
+told_step picks k picked before now after here e f =
+    f ∙ ap (λ r. then_told r (block_of_rows picked k)) e ∙ told_more before (touched picks k) (block_of_rows picked k)
+    ∙ ap (then_told before) (ap (λ b. touched picks k ++ block_of_rows b k) here ∙ sym (touched_more picks k))
+
+-- how many blocks are touched with one more
+pub count_step : (picks : List (Option ℕ)) (k : ℕ) (picked : Bool) → picked ≡ list_any (lies_in k) picks → length (touched picks (k + 1)) ≡ length (touched picks k) + length (block_of_rows picked k)
+count_step picks k picked here =
+    ap length (touched_more picks k ∙ ap (λ b. touched picks k ++ block_of_rows b k) (sym here)) ∙ length-append (touched picks k) (block_of_rows picked k)
+
+module _ (width k : ℕ) (picks : BoundedPicks) (spare f0 f1 f2 : ℕ) (before after : Option (List ℕ)) (blocks now : Option (List (List ℕ))) where
+  -- what an error at block k + 1 says
+  pub raised : (e : FileError) → f0 ≤ f1 → k < blocks_for picks.bound → list_any (lies_in k) picks.picks ≡ true → now ≡ blocks
+      → AreTold spare picks (after ≡ then_told before (touched picks.picks (k + 1)))
+      → MatchReading e (Rose f1 f2) (λ block. (block ≡ k + 1) × IfSome now (λ all. IsNoSpelling width (block_at all block))) (λ _ _. ⊥) (Unit {0})
+      → MatchReading e (Rose f0 f2 × AreTold spare picks (ReadUpTo picks.picks before after (blocks_for picks.bound)))
+      (λ block. IfSome blocks (λ all. IsNoSpelling width (block_at all block)) × AreTold spare picks (ReadLast picks.picks before after block))
+      (λ _ _. ⊥) (AreTold spare picks (ReadUpTo picks.picks before after (blocks_for picks.bound)))
+  raised ReadFault a h any same told m = (λ below. omega (arith, m below, a), λ t. record { count = k + 1; within = omega (arith, h); told = told t })
+  raised BadHeader a h any same told m = m
+  raised (Damaged block) a h any same told m = (
+    subst (λ (o : Option (List (List ℕ))). IfSome o (λ all. IsNoSpelling width (block_at all block))) same m.1,
+    λ t. record {
+      front = touched picks.picks k;
+      last = ap (touched picks.picks) m.0 ∙ touched_more picks.picks k ∙ ap (λ b. touched picks.picks k ++ block_of_rows b k) any ∙ ap (λ n. touched picks.picks k ++ n ∷ []) (sym m.0);
+      told = told t ∙ ap (λ n. then_told before (touched picks.picks n)) (sym m.0);
+    }
+  )
+  raised (Broken step cause) a h any same told m = m
+  raised NoMemory a h any same told m = λ t. record { count = k + 1; within = omega (arith, h); told = told t }

@@ -1,0 +1,6 @@
+pub mod Blocks
+pub mod Errors
+pub mod Shape
+pub mod Touched
+pub mod File
+pub mod Reading

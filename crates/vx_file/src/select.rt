@@ -1,0 +1,62 @@
+//! The answer to a list of steps over a file.
+ghost use Rattle.std.specs.Prelude.{◌≡◌, ◌+◌, ◌≤◌, IfErr, IfOk, IfSome, MatchResult, OnOk, length, map, true};
+ghost use Rattle.vx_outside.specs.Bytes.{Rose};
+ghost use Rattle.vx_types.specs.PType.{width};
+ghost use Rattle.vx_types.specs.RowValue.{null};
+ghost use Rattle.vx_types.specs.TypeTree.{also_nullable};
+ghost use Rattle.vx_types.specs.declared.nullability.Nullability.TheVariants.{NonNullable};
+ghost use Rattle.vx_take.specs.Picks.{at};
+ghost use Rattle.vx_numbers.specs.Positions.{AllThere};
+ghost use Rattle.vx_model.specs.Plain.{is_unwrapped};
+ghost use Rattle.vx_file.specs.File.{file_rows};
+ghost use Rattle.vx_file.specs.Reading.{AllRead, AreSpellings, AreTold, IsReadError};
+ghost use Rattle.vx_file.specs.Shape.{row_type};
+ghost use Rattle.vx_file.specs.Touched.{blocks_for, touched};
+
+use crate::block_reader::BlockReader;
+use crate::columns::{column_of, taken_records};
+use crate::error::FileError;
+use crate::reading::read_touched;
+use crate::shape::FileShape;
+use std::alloc::Global;
+use vx_column::{Array, Nullability, Validity};
+use vx_dispatch::take_validity;
+use vx_mask::Policy;
+use vx_take::Picks;
+
+// The rows at the picks, null at a null, which there is only where `nullability` says so.
+fn take_file<R: BlockReader>(
+    alloc: Global,
+    reader: &mut R,
+    shape: &FileShape,
+    picks: &Picks,
+    nullability: Nullability,
+    policy: &Policy,
+) -> Result<Array, FileError>
+    requires bound { picks.now.bound ≡ shape.now.len }
+    requires there { nullability ≡ NonNullable → AllThere picks.now.picks }
+    ensures rows { IfOk result (λ a. IfSome (R.blocks reader.old) (λ all.
+        a.rows ≡ at null (file_rows all shape.now) picks.now.picks)) }
+    ensures dtype { IfOk result (λ a. a.dtype ≡ also_nullable (row_type shape.now) nullability) }
+    ensures unwrapped { IfOk result (λ a. is_unwrapped a ≡ true) }
+    ensures spelled { OnOk result (IfSome (R.blocks reader.old)
+        (AreSpellings (width shape.now.ptype) picks.now)) }
+    ensures told { OnOk result (AreTold (R.spare reader.old) picks.now
+        (AllRead picks.now (R.reads reader.old) (R.reads reader.new))) }
+    ensures error { IfErr result (IsReadError (width shape.now.ptype) picks.now
+        (R.spare reader.old) (Rose (R.faults reader.old) (R.faults reader.new))
+        (R.reads reader.old) (R.reads reader.new) (R.blocks reader.old)) }
+    ensures same { R.blocks reader.new ≡ R.blocks reader.old }
+    ensures cost { R.spare reader.old ≤ R.spare reader.new
+        + length (touched picks.now.picks (blocks_for picks.now.bound)) }
+    ensures never_falls { R.faults reader.old ≤ R.faults reader.new }
+{
+    let ptype = shape.ptype();
+    let validity = take_validity(alloc, &Validity::NonNullable, picks, nullability, policy)?;
+    let held = match read_touched(alloc, reader, ptype.width(), picks) {
+        Ok(held) => held,
+        Err(error) => return Err(error),
+    };
+    let values = taken_records(alloc, &held, picks, ptype.width())?;
+    Ok(column_of(ptype, values, validity))
+}

@@ -1,0 +1,9 @@
+pub mod Numbers
+pub mod Bytes
+pub mod Fields
+pub mod Rules
+pub mod Spellings
+pub mod OneSpelling
+pub mod PackedWords
+pub mod CutParts
+pub mod RecordLists
