@@ -4,18 +4,17 @@ use Rattle.std.specs.Prelude.{replicate}
 use Rattle.std.specs.List.{items_where_true}
 use Rattle.std.proofs.lemmas.List.{length-map}
 use Rattle.vx_bits.specs.BitBuffer.{true_count_of}
-use Rattle.vx_types.specs.TypeTree.{bool_type, primitive_type, decimal_type}
+use Rattle.vx_types.specs.TypeTree.{bool_kind}
 use Rattle.vx_types.specs.RowValue.{RowValue, null, bit, bytes}
 use Rattle.vx_types.specs.declared.layout_name.LayoutName.TheVariants as layouts
 use Rattle.vx_model.specs.Valid.{Valid, is_fitting, nullability_by, present_bits, stored_rows, IsLeft, IsAsPlain}
 use Rattle.vx_model.specs.Null.{null_column}
 use Rattle.vx_model.specs.Bool.{BoolParts, bool_fault, bool_column, bool_with}
-use Rattle.vx_model.specs.Primitive.{PrimitiveParts, primitive_fault, primitive_column, primitive_with}
-use Rattle.vx_model.specs.Decimal.{DecimalParts, decimals_fault, decimal_column, decimal_with}
+use Rattle.vx_model.specs.Records.{RecordParts, record_layout, records_fault, records_column, records_with}
 use Rattle.vx_model.specs.Step.{IsCut, IsSlice}
 use Rattle.vx_model.proofs.Items.{map-items_where_true, map-slice_range, items_where_true-replicate, slice_range-replicate}
 use Rattle.vx_model.proofs.StoredRows.{slice_range-stored_rows, items_where_true-stored_rows, is_cut-stored}
-use Rattle.vx_model.proofs.Layouts.{is_fitting-bool, is_fitting-primitive, is_fitting-decimal}
+use Rattle.vx_model.proofs.Layouts.{is_fitting-bool, is_fitting-records}
 
 -- ---- layout `Null`
 
@@ -61,25 +60,17 @@ module _ {X : Type 0} (f : X → RowValue) (items : List X) (v w : Valid) (fit :
 -- the slice of the parts, with the slice of the validity
 pub is_slice-bool : (p : BoolParts) (w : Valid) (offset s e : ℕ) → bool_fault p ≡ None → s ≤ e → e ≤ length p.bits.bits → IsLeft p.valid (nullability_by p.valid) (slice_range (present_bits p.valid (length p.bits.bits)) s e) w → IsAsPlain p.valid w → IsSlice (bool_column p) s e (bool_column (bool_with (slice_range p.bits.bits s e) offset w))
 is_slice-bool p w offset s e f h l left plain =
-    is_cut-stored layouts.Bool bool_type p.valid w _ _ _ _ _ _ (slice-stored bit p.bits.bits p.valid w (is_fitting-bool p f) s e h l left) left plain
+    is_cut-stored layouts.Bool bool_kind p.valid w _ _ _ _ _ _ (slice-stored bit p.bits.bits p.valid w (is_fitting-bool p f) s e h l left) left plain
 
-pub is_slice-primitive : (p : PrimitiveParts) (w : Valid) (s e : ℕ) → primitive_fault p ≡ None → s ≤ e → e ≤ length p.records → IsLeft p.valid (nullability_by p.valid) (slice_range (present_bits p.valid (length p.records)) s e) w → IsAsPlain p.valid w → IsSlice (primitive_column p) s e (primitive_column (primitive_with p (slice_range p.records s e) w))
-is_slice-primitive p w s e f h l left plain =
-    is_cut-stored layouts.Primitive (primitive_type p.ptype) p.valid w _ _ _ _ _ _ (slice-stored bytes p.records p.valid w (is_fitting-primitive p f) s e h l left) left plain
-
-pub is_slice-decimal : (p : DecimalParts) (w : Valid) (s e : ℕ) → decimals_fault p ≡ None → s ≤ e → e ≤ length p.records → IsLeft p.valid (nullability_by p.valid) (slice_range (present_bits p.valid (length p.records)) s e) w → IsAsPlain p.valid w → IsSlice (decimal_column p) s e (decimal_column (decimal_with p (slice_range p.records s e) w))
-is_slice-decimal p w s e f h l left plain =
-    is_cut-stored layouts.Decimal (decimal_type p.decimal.precision p.decimal.scale p.decimal.width) p.valid w _ _ _ _ _ _ (slice-stored bytes p.records p.valid w (is_fitting-decimal p f) s e h l left) left plain
+pub is_slice-records : (p : RecordParts) (w : Valid) (s e : ℕ) → records_fault p ≡ None → s ≤ e → e ≤ length p.records → IsLeft p.valid (nullability_by p.valid) (slice_range (present_bits p.valid (length p.records)) s e) w → IsAsPlain p.valid w → IsSlice (records_column p) s e (records_column (records_with p (slice_range p.records s e) w))
+is_slice-records p w s e f h l left plain =
+    is_cut-stored (record_layout p.kind) p.kind p.valid w _ _ _ _ _ _ (slice-stored bytes p.records p.valid w (is_fitting-records p f) s e h l left) left plain
 
 -- what is kept of the parts, with what is kept of the validity
 pub is_filter-bool : (p : BoolParts) (w : Valid) (offset : ℕ) (mask : List Bool) → bool_fault p ≡ None → length mask ≡ length p.bits.bits → IsLeft p.valid (nullability_by p.valid) (items_where_true mask (present_bits p.valid (length mask))) w → IsAsPlain p.valid w → IsCut (bool_column p) (items_where_true mask (bool_column p).rows) (bool_column (bool_with (items_where_true mask p.bits.bits) offset w))
 is_filter-bool p w offset mask f h left plain =
-    is_cut-stored layouts.Bool bool_type p.valid w _ _ _ _ _ _ (filter-stored bit p.bits.bits p.valid w (is_fitting-bool p f) mask h left) left plain
+    is_cut-stored layouts.Bool bool_kind p.valid w _ _ _ _ _ _ (filter-stored bit p.bits.bits p.valid w (is_fitting-bool p f) mask h left) left plain
 
-pub is_filter-primitive : (p : PrimitiveParts) (w : Valid) (mask : List Bool) → primitive_fault p ≡ None → length mask ≡ length p.records → IsLeft p.valid (nullability_by p.valid) (items_where_true mask (present_bits p.valid (length mask))) w → IsAsPlain p.valid w → IsCut (primitive_column p) (items_where_true mask (primitive_column p).rows) (primitive_column (primitive_with p (items_where_true mask p.records) w))
-is_filter-primitive p w mask f h left plain =
-    is_cut-stored layouts.Primitive (primitive_type p.ptype) p.valid w _ _ _ _ _ _ (filter-stored bytes p.records p.valid w (is_fitting-primitive p f) mask h left) left plain
-
-pub is_filter-decimal : (p : DecimalParts) (w : Valid) (mask : List Bool) → decimals_fault p ≡ None → length mask ≡ length p.records → IsLeft p.valid (nullability_by p.valid) (items_where_true mask (present_bits p.valid (length mask))) w → IsAsPlain p.valid w → IsCut (decimal_column p) (items_where_true mask (decimal_column p).rows) (decimal_column (decimal_with p (items_where_true mask p.records) w))
-is_filter-decimal p w mask f h left plain =
-    is_cut-stored layouts.Decimal (decimal_type p.decimal.precision p.decimal.scale p.decimal.width) p.valid w _ _ _ _ _ _ (filter-stored bytes p.records p.valid w (is_fitting-decimal p f) mask h left) left plain
+pub is_filter-records : (p : RecordParts) (w : Valid) (mask : List Bool) → records_fault p ≡ None → length mask ≡ length p.records → IsLeft p.valid (nullability_by p.valid) (items_where_true mask (present_bits p.valid (length mask))) w → IsAsPlain p.valid w → IsCut (records_column p) (items_where_true mask (records_column p).rows) (records_column (records_with p (items_where_true mask p.records) w))
+is_filter-records p w mask f h left plain =
+    is_cut-stored (record_layout p.kind) p.kind p.valid w _ _ _ _ _ _ (filter-stored bytes p.records p.valid w (is_fitting-records p f) mask h left) left plain

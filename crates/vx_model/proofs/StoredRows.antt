@@ -2,7 +2,7 @@
 use Rattle.std.proofs.Common.{◌≡◌, ℕ, ◌≤◌, ◌<◌, Bool, true, false, ◌&&◌, ◌||◌, List, length, get_or, slice_range, refl, sym, ap, ◌∙◌, arith}
 use Rattle.std.specs.Prelude.{if◌then◌else◌}
 use Rattle.std.specs.List.{items_where_true}
-use Rattle.vx_types.specs.TypeTree.{TypeTree}
+use Rattle.vx_types.specs.TypeTree.{TypeKind, TypeTree}
 use Rattle.vx_types.specs.RowValue.{RowValue, null}
 use Rattle.vx_types.specs.declared.layout_name.LayoutName.{LayoutName}
 use Rattle.vx_types.specs.declared.nullability.Nullability.{Nullability}
@@ -46,23 +46,23 @@ stays true rows before after h e = refl
 stays false true before after h e = h e
 stays false false before after h e = e
 
-module _ (layout : LayoutName) (t : Nullability → TypeTree) (v w : Valid) (n : Nullability) (items after : List RowValue) (records others : List (List ℕ)) (left : List RowValue) (bits : List Bool) where
+module _ (layout : LayoutName) (k : TypeKind) (v w : Valid) (n : Nullability) (items after : List RowValue) (records others : List (List ℕ)) (left : List RowValue) (bits : List Bool) where
   -- a step whose rows and validity are these
-  pub is_step-stored : stored_rows w after ≡ left → IsLeft v n bits w → IsStep (stored_column layout t v items records) left (t n) (stored_column layout t w after others)
+  pub is_step-stored : stored_rows w after ≡ left → IsLeft v n bits w → IsStep (stored_column layout k v items records) left (record { kind = k; nullability = n }) (stored_column layout k w after others)
   is_step-stored same now =
       record {
         rows = same;
-        dtype = ap t now.nullability;
+        dtype = ap (λ (m : Nullability). let t : TypeTree = record { kind = k; nullability = m } in t) now.nullability;
         layout = λ _. refl;
         unwrapped = stays (is_null_layout layout) (is_row_layout layout) (is_flat_cover (cover_by v)) (is_flat_cover (cover_by w)) now.flat;
       }
 
-module _ (layout : LayoutName) (t : Nullability → TypeTree) (v w : Valid) (items after : List RowValue) (records others : List (List ℕ)) (left : List RowValue) (bits : List Bool) where
+module _ (layout : LayoutName) (k : TypeKind) (v w : Valid) (items after : List RowValue) (records others : List (List ℕ)) (left : List RowValue) (bits : List Bool) where
   -- the same of a step that keeps the type
-  pub is_cut-stored : stored_rows w after ≡ left → IsLeft v (nullability_by v) bits w → IsAsPlain v w → IsCut (stored_column layout t v items records) left (stored_column layout t w after others)
+  pub is_cut-stored : stored_rows w after ≡ left → IsLeft v (nullability_by v) bits w → IsAsPlain v w → IsCut (stored_column layout k v items records) left (stored_column layout k w after others)
   is_cut-stored same now plain =
       record {
-        step = is_step-stored layout t v w (nullability_by v) items after records others left bits same now;
+        step = is_step-stored layout k v w (nullability_by v) items after records others left bits same now;
         plain = stays (is_null_layout layout) (is_row_layout layout) (is_constant_form (cover_by v)) (is_constant_form (cover_by w)) plain.constant;
         depth = omega (arith, plain.depth);
       }

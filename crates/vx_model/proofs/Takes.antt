@@ -6,7 +6,7 @@ use Rattle.std.proofs.lemmas.List.{length-map, get_or-replicate}
 use Rattle.std.proofs.lemmas.Bool.Decides.{nat_tests}
 use Rattle.std.proofs.Math.ListN.{get_or-map}
 use Rattle.vx_types.specs.Nullability.{either_nullable}
-use Rattle.vx_types.specs.TypeTree.{bool_type, primitive_type, decimal_type}
+use Rattle.vx_types.specs.TypeTree.{bool_type, bool_kind}
 use Rattle.vx_types.specs.RowValue.{RowValue, null, bit, bytes}
 use Rattle.vx_types.specs.declared.nullability.Nullability.{Nullability}
 use Rattle.vx_types.specs.declared.nullability.Nullability.TheVariants.{Nullable}
@@ -15,12 +15,11 @@ use Rattle.vx_take.specs.Picks.{AreBelow, at, item_at}
 use Rattle.vx_model.specs.Valid.{Valid, non_nullable, all_valid, all_invalid, by_column, is_yes, is_fitting, is_non_null_bool, nullability_by, present_bits, shown_rows, stored_rows, IsLeft}
 use Rattle.vx_model.specs.Null.{null_column}
 use Rattle.vx_model.specs.Bool.{BoolParts, bool_fault, bool_column, bool_with, bits_column}
-use Rattle.vx_model.specs.Primitive.{PrimitiveParts, primitive_fault, primitive_column, primitive_with}
-use Rattle.vx_model.specs.Decimal.{DecimalParts, decimals_fault, decimal_column, decimal_with}
+use Rattle.vx_model.specs.Records.{RecordParts, record_layout, records_fault, records_column, records_with}
 use Rattle.vx_model.specs.Step.{IsTake}
 use Rattle.vx_model.proofs.ShownRows.{length-present_bits, shown_rows-all}
 use Rattle.vx_model.proofs.StoredRows.{is_step-stored}
-use Rattle.vx_model.proofs.Layouts.{length-bool, is_fitting-bool, is_fitting-primitive, is_fitting-decimal}
+use Rattle.vx_model.proofs.Layouts.{length-bool, is_fitting-bool, is_fitting-records}
 
 -- ---- lists at picks
 
@@ -89,15 +88,11 @@ is_take-null m picks n =
 module _ (w : Valid) (picks : List (Option ℕ)) (n : Nullability) where
   pub is_take-bool : (p : BoolParts) (offset : ℕ) → bool_fault p ≡ None → IsLeft p.valid (either_nullable (nullability_by p.valid) n) (at false (present_bits p.valid (length p.bits.bits)) picks) w → IsTake (bool_column p) picks n (bool_column (bool_with (at false p.bits.bits picks) offset w))
   is_take-bool p offset h left =
-      is_step-stored layouts.Bool bool_type p.valid w _ _ _ _ _ _ _ (take-stored bit false p.bits.bits p.valid w _ (is_fitting-bool p h) picks left) left
+      is_step-stored layouts.Bool bool_kind p.valid w _ _ _ _ _ _ _ (take-stored bit false p.bits.bits p.valid w _ (is_fitting-bool p h) picks left) left
 
-  pub is_take-primitive : (p : PrimitiveParts) (missing : List ℕ) → primitive_fault p ≡ None → IsLeft p.valid (either_nullable (nullability_by p.valid) n) (at false (present_bits p.valid (length p.records)) picks) w → IsTake (primitive_column p) picks n (primitive_column (primitive_with p (at missing p.records picks) w))
-  is_take-primitive p missing h left =
-      is_step-stored layouts.Primitive (primitive_type p.ptype) p.valid w _ _ _ _ _ _ _ (take-stored bytes missing p.records p.valid w _ (is_fitting-primitive p h) picks left) left
-
-  pub is_take-decimal : (p : DecimalParts) (missing : List ℕ) → decimals_fault p ≡ None → IsLeft p.valid (either_nullable (nullability_by p.valid) n) (at false (present_bits p.valid (length p.records)) picks) w → IsTake (decimal_column p) picks n (decimal_column (decimal_with p (at missing p.records picks) w))
-  is_take-decimal p missing h left =
-      is_step-stored layouts.Decimal (decimal_type p.decimal.precision p.decimal.scale p.decimal.width) p.valid w _ _ _ _ _ _ _ (take-stored bytes missing p.records p.valid w _ (is_fitting-decimal p h) picks left) left
+  pub is_take-records : (p : RecordParts) (missing : List ℕ) → records_fault p ≡ None → IsLeft p.valid (either_nullable (nullability_by p.valid) n) (at false (present_bits p.valid (length p.records)) picks) w → IsTake (records_column p) picks n (records_column (records_with p (at missing p.records picks) w))
+  is_take-records p missing h left =
+      is_step-stored (record_layout p.kind) p.kind p.valid w _ _ _ _ _ _ _ (take-stored bytes missing p.records p.valid w _ (is_fitting-records p h) picks left) left
 
 -- ---- the validity
 

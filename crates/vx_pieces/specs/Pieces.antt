@@ -10,7 +10,8 @@ use Rattle.vx_types.specs.declared.ptype.PType.{PType}
 use Rattle.vx_types.specs.declared.ptype.PType.TheVariants.{U64}
 use Rattle.vx_types.specs.declared.error.ColumnError.{ColumnError}
 use Rattle.vx_types.specs.declared.error.ColumnError.TheVariants.{WrongType, WrongLength}
-use Rattle.vx_model.specs.Column.{Column, coded_column}
+use Rattle.vx_model.specs.Column.{Column}
+use Rattle.vx_model.specs.ColumnCode.{coded_column}
 use Rattle.vx_model.specs.Numbers.{numbers_of}
 use Rattle.vx_model.specs.Primitive.{primitive_column}
 use Rattle.vx_model.specs.Valid.{non_nullable}

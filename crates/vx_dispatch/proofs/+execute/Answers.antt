@@ -1,7 +1,7 @@
 -- The unwrapped form of a column, from those of its parts.
 use Rattle.std.proofs.Common.{◌≡◌, length, true, refl, sym, ap, ◌∙◌}
 use Rattle.vx_types.specs.TypeTree as types
-use Rattle.vx_types.specs.TypeTree.{TypeTree, is_flat, is_int_type, type_nullability, with_nullability}
+use Rattle.vx_types.specs.TypeTree.{TypeTree, is_flat, is_int_type, with_nullability}
 use Rattle.vx_types.specs.declared.nullability.Nullability.{Nullability}
 use Rattle.vx_take.specs.Picks.{BoundedPicks}
 use Rattle.vx_numbers.specs.Positions.{positions_of}
@@ -110,8 +110,8 @@ dict::execute_of-returns-clause-same t c =
     let coded : IsStep p.codes p.codes.rows p.codes.dtype codes = rw (c.deref.ensures ∙ c.codes.ensures.value) at c.in_ok-codes.ensures.same in
     let valued : IsStep p.values p.values.rows p.values.dtype values = rw (c.deref-2.ensures ∙ c.values.ensures.value) at c.in_ok-values.ensures.same in
     let named : c.in_ok-named.named.picks ≡ positions_of (numbers_of codes) = ap (λ (x : BoundedPicks). x.picks) c.in_ok-named.ensures.picks in
-    let nullability : c.nullability.result ≡ type_nullability codes.dtype = c.nullability.ensures ∙ ap type_nullability c.dtype.ensures.value in
-    let taken : IfOk c.take_picks.result (IsTake values (positions_of (numbers_of codes)) (type_nullability codes.dtype)) = rw (← named, ← nullability) c.take_picks.ensures in
+    let nullability : c.nullability.result ≡ codes.dtype.nullability = c.nullability.ensures ∙ ap c.dtype.ensures.value.nullability in
+    let taken : IfOk c.take_picks.result (IsTake values (positions_of (numbers_of codes)) codes.dtype.nullability) = rw (← named, ← nullability) c.take_picks.ensures in
     weaker c.take_picks.result taken (λ a. execute-dict p codes values a coded valued)
 
 pub dict::execute_of-returns-clause-unwrapped : goal.dict::execute_of-returns-clause-unwrapped

@@ -5,7 +5,7 @@ use Rattle.std.proofs.lemmas.List.{length-map}
 use Rattle.vx_types.specs.Nullability.{is_nullable}
 use Rattle.vx_types.specs.RowValue.{RowValue, null, is_null}
 use Rattle.vx_types.specs.Scalar.{TypedRow}
-use Rattle.vx_types.specs.TypeTree.{also_nullable, type_nullability, with_nullability}
+use Rattle.vx_types.specs.TypeTree.{also_nullable, with_nullability}
 use Rattle.vx_types.specs.declared.nullability.Nullability.TheVariants.{Nullable}
 use Rattle.vx_take.specs.Picks.{AreBelow}
 use Rattle.vx_model.specs.Constant.{constant_column}
@@ -22,7 +22,7 @@ pub returns-then-is_null : goal.returns-then-is_null
 returns-then-is_null c =
     let p = c.args.array.now in let picks = c.args.picks.now.picks in let same = c.scalar-scalar.ensures in
     let is : p.scalar.row ≡ null = null_is p.scalar.row (ap (λ (s : TypedRow). is_null s.row) (sym same) ∙ sym c.is_null.ensures.value ∙ c.if-is_null.true) in
-    let nullable : is_nullable (type_nullability p.scalar.dtype) ≡ true = rw same at (c.is_null.ensures.nullable c.if-is_null.true) in
+    let nullable : is_nullable p.scalar.dtype.nullability ≡ true = rw same at (c.is_null.ensures.nullable c.if-is_null.true) in
     rw (c.into_array.ensures ∙ ap constant_column (c.new.ensures ∙ ap₂ (λ (x : TypedRow) (n : ℕ). record { scalar = x; len = n }) (c.share.ensures ∙ same) c.len-len.ensures))
     (is_take-null_constant p picks c.args.nullability is (also_nullable-null p.scalar.dtype c.args.nullability nullable))
 
