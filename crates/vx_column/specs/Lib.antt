@@ -5,5 +5,6 @@ pub mod Layout
 pub mod Plain
 pub mod Records
 pub mod Shown
+pub mod Stored
 pub mod Typed
 pub mod Validity

@@ -3,6 +3,7 @@ ghost use Rattle.std.specs.Prelude.{◌≡◌, ◌≤◌, ◌<◌, length, true,
 ghost use Rattle.vx_bits.specs.Results.{ok_unless};
 ghost use Rattle.vx_bits.specs.Records.{records_of, width_of};
 ghost use Rattle.vx_types.specs.DType.{type_of};
+ghost use Rattle.vx_types.specs.Decimal.{is_width};
 ghost use Rattle.vx_types.specs.RowValue.{null};
 ghost use Rattle.vx_types.specs.TypeTree.{kind_width};
 ghost use Rattle.vx_model.specs.Valid.{is_bools, is_fitting};
@@ -35,7 +36,8 @@ pub enum RecordType {
 impl RecordType {
     /// How many bytes a record has.
     pub fn width(&self) -> usize
-        ensures { kind_width (kind_of self.now) ≡ Some result }
+        ensures value { kind_width (kind_of self.now) ≡ Some result }
+        ensures known { is_width result ≡ true }
     {
         match self {
             RecordType::Primitive(ptype) => ptype.width(),

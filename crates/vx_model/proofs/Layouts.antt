@@ -11,8 +11,8 @@ use Rattle.vx_types.specs.declared.layout_name.LayoutName.TheVariants as layouts
 use Rattle.vx_model.specs.Valid.{Valid, non_nullable, all_valid, all_invalid, by_column, is_fitting, is_present, nullability_by, stored_rows}
 use Rattle.vx_model.specs.Plain.{is_null_layout, is_row_layout, stores_records}
 use Rattle.vx_model.specs.Null.{null_column}
-use Rattle.vx_model.specs.Bool.{BoolParts, bool_fault, bool_column}
-use Rattle.vx_model.specs.Records.{RecordParts, is_width_of_kind, record_layout, records_fault, records_column}
+use Rattle.vx_model.specs.Bool.{BoolParts, stored_bits, bool_fault, bool_column}
+use Rattle.vx_model.specs.Records.{RecordParts, stored_records, is_width_of_kind, record_layout, records_fault, records_column}
 use Rattle.vx_model.proofs.ShownRows.{shown_rows-all}
 use Rattle.vx_model.proofs.StoredRows.{length-stored_rows, get_or-stored_rows}
 
@@ -114,6 +114,21 @@ rows-records-all_valid p h = ap (λ v. stored_rows v (map bytes p.records)) h �
 
 -- what a proof about the records of columns with no null needs
 pub ruleset present_rows = (rows-records-non_nullable, rows-records-all_valid, width-records)
+
+-- there is an item for each bit or record, and the validity fits them
+pub items-bits : (p : BoolParts) → length (stored_bits p).items ≡ length p.bits.bits
+items-bits p = length-map p.bits.bits bit
+
+pub items-records : (p : RecordParts) → length (stored_records p).items ≡ length p.records
+items-records p = length-map p.records bytes
+
+pub fits-bits : (p : BoolParts) → bool_fault p ≡ None → is_fitting p.valid (length (stored_bits p).items) ≡ true
+fits-bits p h = fits p.valid _ _ (items-bits p) (is_fitting-bool p h)
+
+pub fits-records : (p : RecordParts) → records_fault p ≡ None → is_fitting p.valid (length (stored_records p).items) ≡ true
+fits-records p h = fits p.valid _ _ (items-records p) (is_fitting-records p h)
+
+pub ruleset stored_items = (items-bits, items-records, fits-bits, fits-records)
 
 -- what a proof about the validity needs
 pub ruleset layout_fits = (is_fitting-bool, is_fitting-records)

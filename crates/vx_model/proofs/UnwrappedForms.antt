@@ -6,7 +6,6 @@ use Rattle.std.proofs.lemmas.Bool.Decides.{nat_tests}
 use Rattle.std.proofs.lemmas.List.{length-map, length-replicate}
 use Rattle.vx_types.specs.TypeTree.{TypeTree, bool_kind, kind_width, also_nullable}
 use Rattle.vx_types.specs.RowValue.{RowValue, null, bit, bytes}
-use Rattle.vx_types.specs.declared.layout_name.LayoutName.TheVariants as layouts
 use Rattle.vx_types.specs.declared.nullability.Nullability.{Nullability}
 use Rattle.vx_take.specs.Picks.{at}
 use Rattle.vx_numbers.specs.Positions.{first_bad, positions_of}
@@ -14,15 +13,15 @@ use Rattle.vx_model.specs.Column.{Column}
 use Rattle.vx_model.specs.Numbers.{number_in, numbers_of}
 use Rattle.vx_model.specs.Valid.{Valid, all_invalid, cover_by, is_fitting, is_flat_cover, nullability_by, present_bits, shown_rows, stored_rows, IsLeft}
 use Rattle.vx_model.specs.Plain.{is_unwrapped}
-use Rattle.vx_model.specs.Bool.{BoolParts, bool_fault, bool_column, bool_with}
-use Rattle.vx_model.specs.Records.{RecordParts, record_layout, records_fault, records_column, records_with}
+use Rattle.vx_model.specs.Bool.{BoolParts, stored_bits, bool_fault, bool_column, bool_with}
+use Rattle.vx_model.specs.Records.{RecordParts, stored_records, records_fault, records_column, records_with}
 use Rattle.vx_model.specs.Dict.{DictParts, dict_fault, dict_column}
 use Rattle.vx_model.specs.Filter.{FilterParts, filter_column}
 use Rattle.vx_model.specs.Step.{IsStep, IsCut, IsTake}
 use Rattle.vx_model.proofs.ShownRows.{length-present_bits, shown_rows-all}
 use Rattle.vx_model.proofs.StoredRows.{is_step-stored}
-use Rattle.vx_types.specs.declared.error.ColumnError.TheVariants.{WrongWidth, BadValidity}
-use Rattle.vx_model.proofs.Layouts.{is_fitting-bool, is_fitting-records, fault_width, null_layout-records, row_layout-records}
+use Rattle.vx_model.proofs.Layouts.{null_layout-records, row_layout-records}
+use Rattle.vx_model.specs.Stored.{StoredParts, stored_column}
 use Rattle.vx_model.proofs.LazyRows.{sound-dict}
 use Rattle.vx_model.proofs.LazySteps.{is_step-filter}
 
@@ -55,31 +54,13 @@ execute-filter p child a same cut =
 -- ---- the layouts that store each row in its place, under a validity with the same bits
 
 -- items that are made of others, and a validity that fits these
-module _ {X : Type 0} (f : X → RowValue) (items : List X) (v w : Valid) (fit : is_fitting v (length items) ≡ true) (left : IsLeft v (nullability_by v) (present_bits v (length items)) w) where
-  same-stored : stored_rows w (map f items) ≡ stored_rows v (map f items)
+module _ (p : StoredParts) (w : Valid) (fit : is_fitting p.valid (length p.items) ≡ true) (left : IsLeft p.valid (nullability_by p.valid) (present_bits p.valid (length p.items)) w) where
+  same-stored : stored_rows w p.items ≡ stored_rows p.valid p.items
   same-stored =
-      let long : length (map f items) ≡ length (present_bits v (length items)) = length-map items f ∙ sym (length-present_bits v (length items) fit) in
-      ap (λ b. shown_rows b (map f items)) (ap (present_bits w) long ∙ left.bits ∙ ap (present_bits v) (sym (length-map items f)))
+      ap (λ b. shown_rows b p.items) (ap (present_bits w) (sym (length-present_bits p.valid (length p.items) fit)) ∙ left.bits)
 
-  same-fitting : is_fitting w (length items) ≡ true
-  same-fitting = ap (is_fitting w) (sym (length-present_bits v (length items) fit)) ∙ left.fitting
-
-module _ (w : Valid) where
-  pub execute-bool : (p : BoolParts) → bool_fault p ≡ None → IsLeft p.valid (nullability_by p.valid) (present_bits p.valid (length p.bits.bits)) w → is_flat_cover (cover_by w) ≡ true → IsStep (bool_column p) (bool_column p).rows (bool_column p).dtype (bool_column (bool_with p.bits.bits p.bits.offset w))
-  execute-bool p h left flat =
-      is_step-stored layouts.Bool bool_kind p.valid w _ _ _ _ _ _ _ (same-stored bit p.bits.bits p.valid w (is_fitting-bool p h) left) left
-
-  pub bool_fault-execute : (p : BoolParts) → bool_fault p ≡ None → IsLeft p.valid (nullability_by p.valid) (present_bits p.valid (length p.bits.bits)) w → bool_fault (bool_with p.bits.bits p.bits.offset w) ≡ None
-  bool_fault-execute p h left = rw (same-fitting bit p.bits.bits p.valid w (is_fitting-bool p h) left) refl
-
-  pub execute-records : (p : RecordParts) → records_fault p ≡ None → IsLeft p.valid (nullability_by p.valid) (present_bits p.valid (length p.records)) w → is_flat_cover (cover_by w) ≡ true → IsStep (records_column p) (records_column p).rows (records_column p).dtype (records_column (records_with p p.records w))
-  execute-records p h left flat =
-      is_step-stored (record_layout p.kind) p.kind p.valid w _ _ _ _ _ _ _ (same-stored bytes p.records p.valid w (is_fitting-records p h) left) left
-
-  pub records_fault-execute : (p : RecordParts) → records_fault p ≡ None → IsLeft p.valid (nullability_by p.valid) (present_bits p.valid (length p.records)) w → records_fault (records_with p p.records w) ≡ None
-  records_fault-execute p h left =
-      ap (λ (b : Bool). if b then (if is_fitting w (length p.records) then None else Some BadValidity) else Some WrongWidth) (fault_width p h)
-      ∙ ap (λ (b : Bool). if b then None else Some BadValidity) (same-fitting bytes p.records p.valid w (is_fitting-records p h) left)
+  pub execute-stored : IsStep (stored_column p) (stored_column p).rows (stored_column p).dtype (stored_column (record p { valid = w }))
+  execute-stored = is_step-stored p w _ _ _ _ _ same-stored left
 
 -- each is unwrapped where its validity is flat
 pub unwrapped-bool : (p : BoolParts) → is_flat_cover (cover_by p.valid) ≡ true → is_unwrapped (bool_column p) ≡ true

@@ -11,7 +11,7 @@ use Rattle.vx_types.specs.declared.error.ColumnError.TheVariants.{WrongWidth, Ba
 use Rattle.vx_model.specs.Column.{Column}
 use Rattle.vx_model.specs.Valid.{Valid, is_fitting}
 use Rattle.vx_model.specs.ValidCode.{coded_valid}
-use Rattle.vx_model.specs.Stored.{stored_column}
+use Rattle.vx_model.specs.Stored.{StoredParts, stored_column}
 
 -- what a contract sees of a `RecordArray`, a `PrimitiveArray` or a `DecimalArray`
 pub record RecordParts : Type 0 where
@@ -40,9 +40,18 @@ records_fault p =
     else Some WrongWidth
 
 -- a row is its record's bytes, or null where the validity says no
+abbrev pub stored_records : RecordParts → StoredParts
+stored_records p =
+    record {
+      layout = record_layout p.kind;
+      kind = p.kind;
+      items = map bytes p.records;
+      records = p.records;
+      valid = p.valid;
+    }
+
 abbrev pub records_column : RecordParts → Column
-records_column p =
-    stored_column (record_layout p.kind) p.kind p.valid (map bytes p.records) p.records
+records_column p = stored_column (stored_records p)
 
 -- the same with other records and another validity: what a step leaves
 abbrev pub records_with : RecordParts → List (List ℕ) → Valid → RecordParts

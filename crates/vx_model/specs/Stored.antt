@@ -6,13 +6,21 @@ use Rattle.vx_types.specs.declared.layout_name.LayoutName.{LayoutName}
 use Rattle.vx_model.specs.Column.{Column, bare_column}
 use Rattle.vx_model.specs.Valid.{Valid, nullability_by, cover_by, valid_size, stored_rows}
 
--- the column of these items, null where the validity says no: of this kind, nullable where the
--- validity is, and with these stored records
-abbrev pub stored_column
-    : LayoutName → TypeKind → Valid → List RowValue → List (List ℕ) → Column
-stored_column layout kind valid items records =
-    record (bare_column (record { kind = kind; nullability = nullability_by valid })
-      (stored_rows valid items) layout (valid_size valid + 2)) {
-      cover = cover_by valid;
-      stored = records;
+-- what these layouts have in common
+pub record StoredParts : Type 0 where
+  pub layout : LayoutName
+  pub kind : TypeKind
+  -- each row as if it were there
+  pub items : List RowValue
+  -- the stored bytes of each row, where a row is bytes
+  pub records : List (List ℕ)
+  pub valid : Valid
+
+-- the items, null where the validity says no; the type is nullable where the validity is
+abbrev pub stored_column : StoredParts → Column
+stored_column p =
+    record (bare_column (record { kind = p.kind; nullability = nullability_by p.valid })
+      (stored_rows p.valid p.items) p.layout (valid_size p.valid + 2)) {
+      cover = cover_by p.valid;
+      stored = p.records;
     }
