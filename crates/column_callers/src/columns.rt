@@ -68,14 +68,15 @@ pub(crate) fn indices_of(alloc: Global, column: Array) -> Result<Indices, Fail> 
 }
 
 /// The bytes of a row, where it has any.
-fn bytes_of(row: &Row) -> &[u8] {
+pub(crate) fn bytes_of(row: &Row) -> &[u8] {
     match row {
         Row::Bytes(bytes) => bytes.as_slice(),
         Row::Null | Row::Bit(_) => &[],
     }
 }
 
-fn row_at(alloc: Global, column: &Array, i: usize) -> Result<Row, Fail> {
+/// Row i, where there is one.
+pub(crate) fn row_at(alloc: Global, column: &Array, i: usize) -> Result<Row, Fail> {
     if i >= column.len() {
         return Err("past the last row".into());
     }

@@ -5,6 +5,8 @@
 mod chunked;
 mod columns;
 mod counted;
+mod fused;
+mod fused_layouts;
 mod pieces;
 mod rows;
 mod selecting;
@@ -25,6 +27,8 @@ fn main(rt: HostRuntime) -> Result<(), Fail> {
     pieces::print_runs(&rt, rt.alloc())?;
     steps::print_rules(&rt)?;
     selecting::print_policies(&rt, rt.alloc())?;
+    fused::print_each(&rt, rt.alloc())?;
+    fused_layouts::print_each(&rt, rt.alloc())?;
     chunked::print_answers(&rt, rt.alloc())?;
     shapes::print_refusals(&rt)?;
     shapes::print_shape(&rt)?;

@@ -32,6 +32,17 @@ fn pieces(
     Ok(PiecewiseSequence::try_new(starts, lengths, multipliers, len)?)
 }
 
+/// The same with multipliers that are stored.
+pub(crate) fn pieces_of(
+    alloc: Global,
+    starts: &[i128],
+    lengths: &[i128],
+    multipliers: &[i128],
+    len: usize,
+) -> Result<PiecewiseSequence, Fail> {
+    pieces(alloc, starts, lengths, u64_column(alloc, multipliers)?, len)
+}
+
 /// Two pieces, of five numbers in all.
 fn two_pieces(alloc: Global, len: usize) -> Result<PiecewiseSequence, Fail> {
     pieces(alloc, &[3, 0], &[2, 3], u64_column(alloc, &[1, 2])?, len)

@@ -15,7 +15,7 @@ pub(crate) fn mask_of(alloc: Global, bits: &[bool]) -> Result<Mask, NoMemory> {
 }
 
 /// The policy of the crate, with this in place of the ratios that a filter looks at.
-fn policy_of(ratio: Ratio) -> Result<Policy, Fail> {
+pub(crate) fn policy_of(ratio: Ratio) -> Result<Policy, Fail> {
     Ok(Policy::try_new(PolicyFields {
         dense_w1: ratio,
         cached_indices_max: ratio,

@@ -67,16 +67,27 @@ pub(crate) fn filter_of(
 pub(crate) fn take_of(
     alloc: Global,
     array: &DictArray,
-    picks: &Picks,
+    picks: Picks,
     nullability: Nullability,
     policy: &Policy,
 ) -> Result<Array, NoMemory>
-    requires bound { picks.now.bound ≡ length (dict_column array.now).rows }
-    requires there { nullability ≡ NonNullable → AllThere picks.now.picks }
-    ensures { IfOk result (IsTake (dict_column array.now) picks.now.picks nullability) }
+    requires bound { picks.bound ≡ length (dict_column array.now).rows }
+    requires there { nullability ≡ NonNullable → AllThere picks.picks }
+    ensures { IfOk result (IsTake (dict_column array.now) picks.picks nullability) }
 {
     let codes = take_picks(alloc, array.codes(), picks, nullability, policy)?;
     recoded(alloc, array, codes)
+}
+
+// The same picks once more.
+fn copied(alloc: Global, picks: &Picks) -> Result<Picks, NoMemory>
+    ensures { IfOk result (λ p. p ≡ picks.now) }
+{
+    let mut copy = Picks::with_capacity(alloc, picks.bound(), picks.len())?;
+    for i in 0..picks.len() {
+        copy.push(picks.get(i))?;
+    }
+    Ok(copy)
 }
 
 // The bits of the rows at the picks, of a dictionary of bools that aren't null.
@@ -94,7 +105,8 @@ pub(crate) fn bits_of(
         (λ b. b.bits ≡ at false (map is_yes (dict_column array.now).rows) picks.now.picks) }
 {
     let values = array.values();
-    let codes = take_picks(alloc, array.codes(), picks, Nullability::Nullable, policy)?;
+    let copy = copied(alloc, picks)?;
+    let codes = take_picks(alloc, array.codes(), copy, Nullability::Nullable, policy)?;
     let named = column_picks(alloc, &codes, values.len())?;
     taken_bits(alloc, values, &named, policy)
 }
@@ -115,5 +127,5 @@ pub(crate) fn execute_of(
     let codes = execute(alloc, array.codes(), policy)?;
     let values = execute(alloc, array.values(), policy)?;
     let named = column_picks(alloc, &codes, values.len())?;
-    take_picks(alloc, &values, &named, codes.dtype().nullability(), policy)
+    take_picks(alloc, &values, named, codes.dtype().nullability(), policy)
 }

@@ -16,6 +16,7 @@ ghost use Rattle.vx_model.specs.Step.{IsSlice, IsCut, IsStep, IsTake};
 
 use crate::executing::execute;
 use crate::filtering::filter;
+use crate::materialized::is_materialized;
 use crate::ranges::{mask_range, slice_mask};
 use crate::slicing::slice;
 use crate::taking::take_picks;
@@ -94,26 +95,39 @@ fn child_picks(
     translate_ranks(alloc, array.mask(), picks, policy)
 }
 
-// The child's rows at the set positions that the picks are ranks of.
+// The child's rows at the set positions that the picks are ranks of, or the rows at the picks of
+// those that the mask keeps, as the policy has it. Ranks are let go before the child is taken from,
+// so that nested filters hold no list of them each.
 #[cycle(take)]
 #[tactic(auto, using(vx_model::proofs::LazyRows::lazy_rows))]
 pub(crate) fn take_of(
     alloc: Global,
     array: &FilterArray,
-    picks: &Picks,
+    picks: Picks,
     nullability: Nullability,
     policy: &Policy,
 ) -> Result<Array, NoMemory>
-    requires bound { picks.now.bound ≡ length (filter_column array.now).rows }
-    requires there { nullability ≡ NonNullable → AllThere picks.now.picks }
-    ensures { IfOk result (IsTake (filter_column array.now) picks.now.picks nullability) }
+    requires bound { picks.bound ≡ length (filter_column array.now).rows }
+    requires there { nullability ≡ NonNullable → AllThere picks.picks }
+    ensures { IfOk result (IsTake (filter_column array.now) picks.picks nullability) }
 {
     let child = array.child();
-    let positions = child_picks(alloc, array, picks, policy)?;
-    take_picks(alloc, child, &positions, nullability, policy)
+    let mask = array.mask();
+    if is_materialized(
+        child.dtype(),
+        mask.true_count(),
+        picks.len(),
+        policy.fields(),
+    ) {
+        let kept = filter(alloc, child, mask, policy)?;
+        return take_picks(alloc, &kept, picks, nullability, policy);
+    }
+    let positions = child_picks(alloc, array, &picks, policy)?;
+    drop(picks);
+    take_picks(alloc, child, positions, nullability, policy)
 }
 
-// The bits of the rows at the picks, of a filter of bools that aren't null.
+// The bits of the rows at the picks, of a filter of bools that aren't null: bools are materialized.
 #[cycle(take)]
 #[tactic(auto, using(vx_model::proofs::LazyRows::lazy_rows))]
 pub(crate) fn bits_of(
@@ -127,9 +141,8 @@ pub(crate) fn bits_of(
     ensures { IfOk result
         (λ b. b.bits ≡ at false (map is_yes (filter_column array.now).rows) picks.now.picks) }
 {
-    let child = array.child();
-    let positions = child_picks(alloc, array, picks, policy)?;
-    taken_bits(alloc, child, &positions, policy)
+    let kept = filter(alloc, array.child(), array.mask(), policy)?;
+    taken_bits(alloc, &kept, picks, policy)
 }
 
 /// The same rows, which the mask keeps of the child's unwrapped form.

@@ -8,6 +8,7 @@ mod dict;
 mod executing;
 mod filter_layout;
 mod filtering;
+mod materialized;
 mod null;
 mod primitive;
 mod ranges;
@@ -18,6 +19,7 @@ mod validity;
 
 pub use executing::execute;
 pub use filtering::filter;
+pub use materialized::is_materialized;
 pub use slicing::slice;
 pub use taking::take;
 pub use validity::take_validity;

@@ -22,20 +22,20 @@ use vx_take::Picks;
 pub(crate) fn take_picks(
     alloc: Global,
     array: &Array,
-    picks: &Picks,
+    picks: Picks,
     nullability: Nullability,
     policy: &Policy,
 ) -> Result<Array, NoMemory>
-    requires bound { picks.now.bound ≡ length array.now.rows }
-    requires there { nullability ≡ NonNullable → AllThere picks.now.picks }
-    ensures { IfOk result (IsTake array.now picks.now.picks nullability) }
+    requires bound { picks.bound ≡ length array.now.rows }
+    requires there { nullability ≡ NonNullable → AllThere picks.picks }
+    ensures { IfOk result (IsTake array.now picks.picks nullability) }
 {
     match array.layout() {
-        Layout::Null(a) => Ok(null::take_of(a, picks, nullability)),
-        Layout::Bool(a) => boolean::take_of(alloc, a, picks, nullability, policy),
-        Layout::Primitive(a) => primitive::take_of(alloc, a, picks, nullability, policy),
-        Layout::Decimal(a) => decimal::take_of(alloc, a, picks, nullability, policy),
-        Layout::Constant(a) => constant::take_of(alloc, a, picks, nullability),
+        Layout::Null(a) => Ok(null::take_of(a, &picks, nullability)),
+        Layout::Bool(a) => boolean::take_of(alloc, a, &picks, nullability, policy),
+        Layout::Primitive(a) => primitive::take_of(alloc, a, &picks, nullability, policy),
+        Layout::Decimal(a) => decimal::take_of(alloc, a, &picks, nullability, policy),
+        Layout::Constant(a) => constant::take_of(alloc, a, &picks, nullability),
         Layout::Dict(a) => dict::take_of(alloc, a, picks, nullability, policy),
         Layout::Filter(a) => filter_layout::take_of(alloc, a, picks, nullability, policy),
     }
@@ -98,5 +98,5 @@ fn take_by_picks(
         (index_nullability (index_value indices.now))) }
 {
     let picks = picks_for(alloc, indices, array.len(), policy)?;
-    take_picks(alloc, array, &picks, indices.nullability(), policy)
+    take_picks(alloc, array, picks, indices.nullability(), policy)
 }

@@ -1,3 +1,3 @@
 pub mod Answers
-pub mod Materialized
+pub use Rattle.vx_dispatch.specs.Materialized
 pub mod Taking

@@ -1,4 +1,5 @@
 pub mod ChunkRows
 pub mod Parts
 pub mod PickedCalls
+pub mod PickIndices
 pub mod Selecting

@@ -125,3 +125,12 @@ unwrapped_by false false constant bools h = cc
 -- and so unwrapped
 pub plain_unwrapped : (c : Column) → is_plain c ≡ true → is_unwrapped c ≡ true
 plain_unwrapped c h = unwrapped_by (is_null_layout c.layout) (is_row_layout c.layout) (is_constant_form c.cover) (is_bools c.cover) h
+
+-- whether the steps that are left are slices
+pub slices-next : (steps : List StepValue) (k : ℕ) (s : StepValue) → k < length steps → s ≡ get_or steps k s → list_all is_slice (drop k steps) ≡ (is_slice s && list_all is_slice (drop (k + 1) steps))
+slices-next steps k s h is =
+    let cut : drop k steps ≡ s ∷ drop (k + 1) steps = drop-cons steps k s h ∙ rw (← is, add-one) refl in
+    ap (list_all is_slice) cut
+
+pub slices-end : (steps : List StepValue) (k : ℕ) → length steps ≤ k → list_all is_slice (drop k steps) ≡ true
+slices-end steps k h = ap (list_all is_slice) (drop_all k steps h)

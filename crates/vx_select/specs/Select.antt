@@ -1,12 +1,14 @@
--- What `select` answers.
-use Rattle.std.specs.Prelude.{◌≡◌, List, Bool, ◌&&◌, ◌||◌, Result, MatchResult}
+-- What `select` and `select_fused` answer.
+use Rattle.std.specs.Prelude.{◌≡◌, ◌≢◌, List, Bool, true, ◌&&◌, ◌||◌, Result, Err, MatchResult, IfOk}
 use Rattle.std.specs.List.{list_all}
+use Rattle.vx_types.specs.TypeTree.{is_flat}
 use Rattle.vx_model.specs.Column.{Column}
-use Rattle.vx_model.specs.Plain.{is_null_layout, is_plain}
+use Rattle.vx_model.specs.Plain.{is_null_layout, is_plain, is_unwrapped}
 use Rattle.vx_steps.specs.Step.{StepValue, is_slice}
 use Rattle.vx_steps.specs.Cause.{MatchError}
-use Rattle.vx_steps.specs.Answer.{Answer, answer_fault, answer_rows}
+use Rattle.vx_steps.specs.Answer.{Answer, answer, answer_fault, answer_rows}
 use Rattle.vx_steps.specs.declared.cause.SelectError.{SelectError}
+use Rattle.vx_steps.specs.declared.cause.SelectError.TheVariants.{NoMemory}
 
 -- no step is broken
 abbrev pub IsRows : Answer → Type 0
@@ -24,3 +26,10 @@ IsAnswer r a =
 -- memory
 abbrev pub needs_no_memory : Column → List StepValue → Bool
 needs_no_memory c steps = is_null_layout c.layout || (is_plain c && list_all is_slice steps)
+
+-- r is what `select` and `select_fused` promise of a column and steps
+pub record IsSelection (c : Column) (steps : List StepValue) (r : Result Column SelectError)
+    : Type 0 where
+  pub answer : IsAnswer r (answer c steps)
+  pub unwrapped : is_flat c.dtype ≡ true → IfOk r (λ a. is_unwrapped a ≡ true)
+  pub no_memory_wanted : needs_no_memory c steps ≡ true → r ≢ Err NoMemory

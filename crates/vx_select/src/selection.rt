@@ -9,7 +9,7 @@ ghost use Rattle.vx_model.specs.Step.{IsStep};
 ghost use Rattle.vx_steps.specs.Step.{step_value, is_slice};
 ghost use Rattle.vx_steps.specs.Walk.{apply, broken};
 ghost use Rattle.vx_steps.specs.Answer.{answer, type_after_step};
-ghost use Rattle.vx_select.specs.Select.{IsAnswer, needs_no_memory};
+ghost use Rattle.vx_select.specs.Select.{IsSelection};
 
 use crate::part::Part;
 use std::alloc::Global;
@@ -66,10 +66,7 @@ pub fn select(
     steps: &[Step],
     policy: &Policy,
 ) -> Result<Array, SelectError>
-    ensures answer { IsAnswer result (answer column.now (map step_value steps.now)) }
-    ensures unwrapped { is_flat column.now.dtype ≡ true → IfOk result (λ a. is_unwrapped a ≡ true) }
-    ensures no_memory_wanted { needs_no_memory column.now (map step_value steps.now) ≡ true
-        → result ≢ Err SelectError.NoMemory }
+    ensures { IsSelection column.now (map step_value steps.now) result }
 {
     check_steps(column.len(), steps)?;
     let mut current = Part::whole(column.share());

@@ -1,6 +1,9 @@
 -- A take of a layout's parts, with that of its validity, is the take of its column.
 use Rattle.std.proofs.Common.{◌≡◌, length, false, ap, ◌∙◌, refl, sym, subst, map, true}
 use Rattle.vx_types.specs.Nullability.{either_nullable}
+use Rattle.std.specs.List.{items_where_true}
+use Rattle.vx_types.specs.RowValue.{null}
+use Rattle.vx_types.specs.TypeTree.{also_nullable}
 use Rattle.vx_take.specs.Picks.{at, AreBelow}
 use Rattle.vx_model.specs.Valid.{nullability_by, present_bits, IsLeft, Valid, non_nullable, all_valid, by_column, is_yes, is_non_null_bool}
 use Rattle.vx_model.specs.Bool.{bool_column}
@@ -14,13 +17,14 @@ use Rattle.std.specs.Prelude.{is_some}
 use Rattle.vx_types.specs.declared.nullability.Nullability.TheVariants.{Nullable}
 use Rattle.vx_column.specs.Layout.{column_of}
 use Rattle.std.proofs.Common.{ap₂}
-use Rattle.vx_model.specs.Dict.{dict_with}
-use Rattle.vx_model.specs.Step.{IsTake}
+use Rattle.vx_model.specs.Dict.{dict_column, dict_with}
+use Rattle.vx_model.specs.Filter.{filter_column}
+use Rattle.vx_model.specs.Step.{IsCut, IsTake}
 use Rattle.vx_model.specs.Column.{Column}
 use Rattle.vx_model.specs.Numbers.{numbers_of}
 use Rattle.vx_numbers.specs.Positions.{positions_of}
-use Rattle.vx_model.proofs.LazyBits.{bits-dict, bits-filter}
-use Rattle.vx_model.proofs.LazySteps.{dict_fault-take, is_take-dict, is_take-filter}
+use Rattle.vx_model.proofs.LazyBits.{bits-dict}
+use Rattle.vx_model.proofs.LazySteps.{dict_fault-take, is_step-filter, is_take-dict, is_take-filter}
 use Rattle.vx_dispatch.proofs.Codes.{codes-no_fault}
 use Rattle.vx_dispatch.proofs.Results.{weaker}
 use Rattle.vx_dispatch.proofs.+take.Goals as goal
@@ -107,39 +111,52 @@ validity::taken_bits-returns-in-Bool t c =
 
 pub dict::take_of-recoded-requires : goal.dict::take_of-recoded-requires
 dict::take_of-recoded-requires t c =
-    let p = c.args.array.now in let codes = c.in_ok-codes.codes in let picks = c.args.picks.now.picks in let n = c.args.nullability in
+    let p = c.args.array.now in let codes = c.in_ok-codes.codes in let picks = c.args.picks.picks in let n = c.args.nullability in
     let taken : IsTake p.codes picks n codes = rw (c.deref.ensures ∙ c.codes.ensures.value) at c.in_ok-codes.ensures in
     dict_fault-take p codes picks n c.codes.ensures.valid taken
 
 pub dict::take_of-returns : goal.dict::take_of-returns
 dict::take_of-returns t c =
-    let p = c.args.array.now in let codes = c.in_ok-codes.codes in let picks = c.args.picks.now.picks in let n = c.args.nullability in
+    let p = c.args.array.now in let codes = c.in_ok-codes.codes in let picks = c.args.picks.picks in let n = c.args.nullability in
     let taken : IsTake p.codes picks n codes = rw (c.deref.ensures ∙ c.codes.ensures.value) at c.in_ok-codes.ensures in
     weaker c.recoded.result c.recoded.ensures (λ a is. rw is (is_take-dict p codes picks n c.codes.ensures.valid taken))
 
+-- the rows that the mask keeps are materialized
+pub filter_layout::take_of-returns-then-is_materialized : goal.filter_layout::take_of-returns-then-is_materialized
+filter_layout::take_of-returns-then-is_materialized t c =
+    let p = c.args.array.now in let picks = c.args.picks.picks in let n = c.args.nullability in
+    let child = c.deref-then-is_materialized.ensures ∙ c.child-child.ensures.value in
+    let cut : IsCut p.child (items_where_true p.mask p.child.rows) c.in_ok-kept.kept = rw (child, c.mask-mask.ensures.value) at c.in_ok-kept.ensures.cut in
+    weaker c.take_picks.result c.take_picks.ensures (λ a taken. is_step-filter p _ _ a
+    (taken.rows ∙ ap (λ r. at null r picks) cut.step.rows)
+    (taken.dtype ∙ ap (λ d. also_nullable d n) cut.step.dtype))
+
 pub filter_layout::take_of-returns : goal.filter_layout::take_of-returns
 filter_layout::take_of-returns t c =
-    let p = c.args.array.now in let picks = c.args.picks.now.picks in let n = c.args.nullability in
-    let child = c.deref.ensures ∙ c.child-child.ensures.value in
-    weaker c.take_picks.result c.take_picks.ensures (λ a taken. is_take-filter p picks n a c.child-child.ensures.valid c.child_picks.ensures.below (rw (child, c.in_ok-positions.ensures.picks) at taken))
+    let p = c.args.array.now in let picks = c.args.picks.picks in let n = c.args.nullability in
+    let child = c.deref-2.ensures ∙ c.child-child.ensures.value in
+    weaker c.take_picks-2.result c.take_picks-2.ensures (λ a taken. is_take-filter p picks n a c.child-child.ensures.valid c.child_picks.ensures.below (rw (child, c.in_ok-positions.ensures.picks) at taken))
 
 pub dict::bits_of-column_picks-requires : goal.dict::bits_of-column_picks-requires
 dict::bits_of-column_picks-requires t c =
-    let p = c.args.array.now in let codes = c.in_ok-codes.codes in let picks = c.args.picks.now.picks in
+    let p = c.args.array.now in let codes = c.in_ok-codes.codes in let picks = c.in_ok-copy.copy.picks in
     let taken : IsTake p.codes picks Nullable codes = rw (c.deref.ensures ∙ c.codes.ensures.value) at c.in_ok-codes.ensures in
     rw (c.len.ensures ∙ ap (λ (x : Column). length x.rows) (c.deref-2.ensures ∙ c.values-values.ensures.value))
     (codes-no_fault (dict_with p codes) (dict_fault-take p codes picks Nullable c.codes.ensures.valid taken))
 
 pub dict::bits_of-returns : goal.dict::bits_of-returns
 dict::bits_of-returns t c =
-    let p = c.args.array.now in let codes = c.in_ok-codes.codes in let picks = c.args.picks.now.picks in
+    let p = c.args.array.now in let codes = c.in_ok-codes.codes in let picks = c.in_ok-copy.copy.picks in
     let taken : IsTake p.codes picks Nullable codes = rw (c.deref.ensures ∙ c.codes.ensures.value) at c.in_ok-codes.ensures in
     let named : c.in_ok-named.named.picks ≡ positions_of (numbers_of codes) = ap (λ x. x.picks) c.in_ok-named.ensures.picks in
     let rows = ap₂ (λ (x : Column) l. at false (map is_yes x.rows) l) (c.deref-3.ensures ∙ c.values-values.ensures.value) named in
-    weaker c.taken_bits.result c.taken_bits.ensures (λ b h. h ∙ rows ∙ bits-dict p codes picks Nullable taken)
+    let same = ap (λ x. at false (map is_yes (dict_column p).rows) x.picks) c.in_ok-copy.ensures in
+    weaker c.taken_bits.result c.taken_bits.ensures (λ b h. h ∙ rows ∙ bits-dict p codes picks Nullable taken ∙ same)
 
+-- the rows that the mask keeps are materialized
 pub filter_layout::bits_of-returns : goal.filter_layout::bits_of-returns
 filter_layout::bits_of-returns t c =
     let p = c.args.array.now in let picks = c.args.picks.now.picks in
-    let rows = ap₂ (λ (x : Column) l. at false (map is_yes x.rows) l) (c.deref.ensures ∙ c.child-child.ensures.value) c.in_ok-positions.ensures.picks in
-    weaker c.taken_bits.result c.taken_bits.ensures (λ b h. h ∙ rows ∙ bits-filter p picks c.child-child.ensures.valid c.child_picks.ensures.below)
+    let kept : c.in_ok-kept.kept.rows ≡ (filter_column p).rows =
+    rw (c.deref.ensures ∙ c.child.ensures.value, c.mask.ensures.value) at c.in_ok-kept.ensures.cut.step.rows in
+    weaker c.taken_bits.result c.taken_bits.ensures (λ b h. h ∙ ap (λ r. at false (map is_yes r) picks) kept)
