@@ -4,13 +4,9 @@ use Rattle.std.specs.List.{items_where_true}
 use Rattle.vx_bits.specs.BitBuffer.{true_count_of}
 use Rattle.vx_model.specs.Valid.{non_nullable, all_valid, all_invalid, by_column, is_fitting, nullability_by, present_bits, IsLeft, IsAsPlain}
 use Rattle.vx_model.specs.Bool.{bool_column}
-use Rattle.vx_model.specs.Primitive.{primitive_column}
-use Rattle.vx_model.specs.Decimal.{decimal_column}
 use Rattle.vx_model.specs.Step.{IsCut}
-use Rattle.vx_model.proofs.Layouts.{length-bool, length-primitive, length-decimal, is_fitting-bool, is_fitting-primitive, is_fitting-decimal}
 use Rattle.vx_model.proofs.Items.{length-items_where_true}
 use Rattle.vx_model.proofs.ShownRows.{is_left-filter, length-present_bits}
-use Rattle.vx_model.proofs.Steps.{is_filter-bool, is_filter-primitive, is_filter-decimal}
 use Rattle.vx_model.proofs.Validities.{is_left-filter-by_column}
 use Rattle.vx_column.specs.Validity.{valid_of}
 use Rattle.std.proofs.lemmas.List.{length-replicate}
@@ -22,72 +18,6 @@ use Rattle.vx_model.proofs.LazyRows.{length-filter}
 use Rattle.vx_model.proofs.LazySteps.{dict_fault-filter, is_filter-dict, is_filter-filter}
 use Rattle.vx_dispatch.proofs.Results.{weaker}
 use Rattle.vx_dispatch.proofs.+filter.Goals as goal
-
-pub boolean::filter_of-filter_bool-requires-clause-fitting : goal.boolean::filter_of-filter_bool-requires-clause-fitting
-boolean::filter_of-filter_bool-requires-clause-fitting t c =
-    let p = c.args.array.now in let mask = c.args.mask.now.bits.bits in
-    let sound = c.validity.ensures.valid in let v = valid_of c.validity.result.now in
-    let long : length mask ≡ length p.bits.bits = c.requires ∙ length-bool p sound in
-    let fit : is_fitting v (length mask) ≡ true = rw (c.validity.ensures.value, long) (is_fitting-bool p sound) in
-    let kept : length (items_where_true mask (present_bits v (length mask))) ≡ true_count_of mask =
-    length-items_where_true mask _ (sym (length-present_bits v (length mask) fit)) in
-    rw (← kept) c.in_ok-validity.ensures.left.fitting
-
-pub boolean::filter_of-returns : goal.boolean::filter_of-returns
-boolean::filter_of-returns t c =
-    let p = c.args.array.now in let mask = c.args.mask.now.bits.bits in
-    let sound = c.validity.ensures.valid in
-    let after = valid_of c.in_ok-validity.validity in
-    let same = c.validity.ensures.value in
-    let left : IsLeft p.valid (nullability_by p.valid) (items_where_true mask (present_bits p.valid (length mask))) after =
-    rw (← same) c.in_ok-validity.ensures.left in
-    let plain : IsAsPlain p.valid after = rw (← same) c.in_ok-validity.ensures.plain in
-    rw (c.into_array.ensures ∙ ap bool_column c.in_ok-filter_bool.ensures)
-    (is_filter-bool p after 0 mask sound (c.requires ∙ length-bool p sound) left plain)
-
-pub primitive::filter_of-filter_primitive-requires-clause-fitting : goal.primitive::filter_of-filter_primitive-requires-clause-fitting
-primitive::filter_of-filter_primitive-requires-clause-fitting t c =
-    let p = c.args.array.now in let mask = c.args.mask.now.bits.bits in
-    let sound = c.validity.ensures.valid in let v = valid_of c.validity.result.now in
-    let long : length mask ≡ length p.records = c.requires ∙ length-primitive p sound in
-    let fit : is_fitting v (length mask) ≡ true = rw (c.validity.ensures.value, long) (is_fitting-primitive p sound) in
-    let kept : length (items_where_true mask (present_bits v (length mask))) ≡ true_count_of mask =
-    length-items_where_true mask _ (sym (length-present_bits v (length mask) fit)) in
-    rw (← kept) c.in_ok-validity.ensures.left.fitting
-
-pub primitive::filter_of-returns : goal.primitive::filter_of-returns
-primitive::filter_of-returns t c =
-    let p = c.args.array.now in let mask = c.args.mask.now.bits.bits in
-    let sound = c.validity.ensures.valid in
-    let after = valid_of c.in_ok-validity.validity in
-    let same = c.validity.ensures.value in
-    let left : IsLeft p.valid (nullability_by p.valid) (items_where_true mask (present_bits p.valid (length mask))) after =
-    rw (← same) c.in_ok-validity.ensures.left in
-    let plain : IsAsPlain p.valid after = rw (← same) c.in_ok-validity.ensures.plain in
-    rw (c.into_array.ensures ∙ ap primitive_column c.in_ok-filter_primitive.ensures)
-    (is_filter-primitive p after mask sound (c.requires ∙ length-primitive p sound) left plain)
-
-pub decimal::filter_of-filter_decimal-requires-clause-fitting : goal.decimal::filter_of-filter_decimal-requires-clause-fitting
-decimal::filter_of-filter_decimal-requires-clause-fitting t c =
-    let p = c.args.array.now in let mask = c.args.mask.now.bits.bits in
-    let sound = c.validity.ensures.valid in let v = valid_of c.validity.result.now in
-    let long : length mask ≡ length p.records = c.requires ∙ length-decimal p sound in
-    let fit : is_fitting v (length mask) ≡ true = rw (c.validity.ensures.value, long) (is_fitting-decimal p sound) in
-    let kept : length (items_where_true mask (present_bits v (length mask))) ≡ true_count_of mask =
-    length-items_where_true mask _ (sym (length-present_bits v (length mask) fit)) in
-    rw (← kept) c.in_ok-validity.ensures.left.fitting
-
-pub decimal::filter_of-returns : goal.decimal::filter_of-returns
-decimal::filter_of-returns t c =
-    let p = c.args.array.now in let mask = c.args.mask.now.bits.bits in
-    let sound = c.validity.ensures.valid in
-    let after = valid_of c.in_ok-validity.validity in
-    let same = c.validity.ensures.value in
-    let left : IsLeft p.valid (nullability_by p.valid) (items_where_true mask (present_bits p.valid (length mask))) after =
-    rw (← same) c.in_ok-validity.ensures.left in
-    let plain : IsAsPlain p.valid after = rw (← same) c.in_ok-validity.ensures.plain in
-    rw (c.into_array.ensures ∙ ap decimal_column c.in_ok-filter_decimal.ensures)
-    (is_filter-decimal p after mask sound (c.requires ∙ length-decimal p sound) left plain)
 
 pub validity::filter_validity-returns-in-NonNullable-clause-left : goal.validity::filter_validity-returns-in-NonNullable-clause-left
 validity::filter_validity-returns-in-NonNullable-clause-left t c =

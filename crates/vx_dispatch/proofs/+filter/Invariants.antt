@@ -2,12 +2,6 @@
 use Rattle.std.proofs.Common.{◌+◌, ◌*◌}
 use Rattle.vx_dispatch.proofs.+filter.Given as goal
 
-abbrev pub decreases-boolean::filter_of : goal.decreases-boolean::filter_of
-decreases-boolean::filter_of l = 2 * goal.size-boolean::filter_of l
-
-abbrev pub decreases-decimal::filter_of : goal.decreases-decimal::filter_of
-decreases-decimal::filter_of l = 2 * goal.size-decimal::filter_of l
-
 abbrev pub decreases-dict::filter_of : goal.decreases-dict::filter_of
 decreases-dict::filter_of l = 2 * goal.size-dict::filter_of l
 
@@ -20,8 +14,8 @@ decreases-filtering::filter l = 2 * goal.size-filtering::filter l + 1
 abbrev pub decreases-filtering::filter_values : goal.decreases-filtering::filter_values
 decreases-filtering::filter_values l = 2 * goal.size-filtering::filter_values l
 
-abbrev pub decreases-primitive::filter_of : goal.decreases-primitive::filter_of
-decreases-primitive::filter_of l = 2 * goal.size-primitive::filter_of l
+abbrev pub decreases-stored::filter_of : goal.decreases-stored::filter_of
+decreases-stored::filter_of l = 2 * goal.size-stored::filter_of l
 
 abbrev pub decreases-validity::filter_validity : goal.decreases-validity::filter_validity
 decreases-validity::filter_validity l = 2 * goal.size-validity::filter_validity l

@@ -7,12 +7,9 @@ use Rattle.vx_types.specs.TypeTree.{also_nullable}
 use Rattle.vx_take.specs.Picks.{at, AreBelow}
 use Rattle.vx_model.specs.Valid.{nullability_by, present_bits, IsLeft, Valid, non_nullable, all_valid, by_column, is_yes, is_non_null_bool}
 use Rattle.vx_model.specs.Bool.{bool_column}
-use Rattle.vx_model.proofs.Layouts.{length-bool, length-primitive, length-decimal}
-use Rattle.vx_model.proofs.Takes.{is_take-bool, is_take-primitive, is_take-decimal, is_left-take-none, left_by_bits, left_the_same, all_there, yes-bool}
+use Rattle.vx_model.proofs.Takes.{is_left-take-none, left_by_bits, left_the_same, all_there, yes-bool}
 use Rattle.vx_column.specs.Validity.{valid_of}
 use Rattle.vx_flat.specs.Records.{zero_record}
-use Rattle.vx_model.specs.Primitive.{primitive_column}
-use Rattle.vx_model.specs.Decimal.{decimal_column}
 use Rattle.std.specs.Prelude.{is_some}
 use Rattle.vx_types.specs.declared.nullability.Nullability.TheVariants.{Nullable}
 use Rattle.vx_column.specs.Layout.{column_of}
@@ -29,36 +26,6 @@ use Rattle.vx_dispatch.proofs.Codes.{codes-no_fault}
 use Rattle.vx_dispatch.proofs.Results.{weaker}
 use Rattle.vx_dispatch.proofs.+take.Goals as goal
 
-pub boolean::take_of-returns : goal.boolean::take_of-returns
-boolean::take_of-returns t c =
-    let p = c.args.array.now in let picks = c.args.picks.now.picks in let n = c.args.nullability in
-    let sound = c.validity.ensures.valid in let after = valid_of c.in_ok-validity.validity in
-    let same = c.validity.ensures.value in
-    let bound : c.args.picks.now.bound ≡ length p.bits.bits = c.requires.bound ∙ length-bool p sound in
-    let left : IsLeft p.valid (either_nullable (nullability_by p.valid) n) (at false (present_bits p.valid (length p.bits.bits)) picks) after =
-    rw (← same, ← bound) c.in_ok-validity.ensures.left in
-    rw (c.into_array.ensures ∙ ap bool_column c.in_ok-take_bool.ensures) (is_take-bool after picks n p 0 sound left)
-
-pub primitive::take_of-returns : goal.primitive::take_of-returns
-primitive::take_of-returns t c =
-    let p = c.args.array.now in let picks = c.args.picks.now.picks in let n = c.args.nullability in
-    let sound = c.validity.ensures.valid in let after = valid_of c.in_ok-validity.validity in
-    let same = c.validity.ensures.value in
-    let bound : c.args.picks.now.bound ≡ length p.records = c.requires.bound ∙ length-primitive p sound in
-    let left : IsLeft p.valid (either_nullable (nullability_by p.valid) n) (at false (present_bits p.valid (length p.records)) picks) after =
-    rw (← same, ← bound) c.in_ok-validity.ensures.left in
-    rw (c.into_array.ensures ∙ ap primitive_column c.in_ok-take_primitive.ensures) (is_take-primitive after picks n p (zero_record p.width) sound left)
-
-pub decimal::take_of-returns : goal.decimal::take_of-returns
-decimal::take_of-returns t c =
-    let p = c.args.array.now in let picks = c.args.picks.now.picks in let n = c.args.nullability in
-    let sound = c.validity.ensures.valid in let after = valid_of c.in_ok-validity.validity in
-    let same = c.validity.ensures.value in
-    let bound : c.args.picks.now.bound ≡ length p.records = c.requires.bound ∙ length-decimal p sound in
-    let left : IsLeft p.valid (either_nullable (nullability_by p.valid) n) (at false (present_bits p.valid (length p.records)) picks) after =
-    rw (← same, ← bound) c.in_ok-validity.ensures.left in
-    rw (c.into_array.ensures ∙ ap decimal_column c.in_ok-take_decimal.ensures) (is_take-decimal after picks n p (zero_record p.width) sound left)
-
 pub validity::take_validity-returns-in-AllInvalid-default-clause-left : goal.validity::take_validity-returns-in-AllInvalid-default-clause-left
 validity::take_validity-returns-in-AllInvalid-default-clause-left t c =
     rw c.in-AllInvalid-default.is-0 (is_left-take-none c.args.nullability c.args.picks.now.bound c.args.picks.now.picks)
@@ -68,7 +35,7 @@ validity::take_validity-returns-in_ok-taken_bits-in-Array-default-clause-left t 
     let a = c.in-Array-default in let p = c.args.picks.now in let n = c.args.nullability in
     let is : valid_of c.args.validity.now ≡ by_column a.array = ap valid_of a.is-0 in
     let bits = c.in_ok-taken_bits-in-Array-default.field-0 in
-    weaker c.by_bits.result c.by_bits.ensures (λ v h. left_by_bits (valid_of c.args.validity.now) (valid_of v) n p.bound p.picks bits.bits bits.offset
+    weaker c.from_bits.result c.from_bits.ensures (λ v h. left_by_bits (valid_of c.args.validity.now) (valid_of v) n p.bound p.picks bits.bits bits.offset
     (ap (λ (v : Valid). either_nullable (nullability_by v) n) is)
     (c.in_ok-taken_bits-in-Array-default.ensures ∙ ap (λ x. at false (map is_yes x.rows) p.picks) c.deref.ensures ∙ ap (λ (v : Valid). at false (present_bits v p.bound) p.picks) (sym is))
     h)
