@@ -1,11 +1,11 @@
 //! Layouts `Primitive` and `Decimal`, which store a record a row: Vortex's `FixedWidthArray`.
-ghost use Rattle.std.specs.Prelude.{◌≡◌, ◌≤◌, ◌<◌, length, true, None, Some, is_some, slice_index_or, option_map, IfSome};
+ghost use Rattle.std.specs.Prelude.{◌≡◌, ◌≤◌, ◌<◌, length, true, false, None, Some, is_some, slice_index_or, option_map, IfSome};
 ghost use Rattle.vx_bits.specs.Results.{ok_unless};
 ghost use Rattle.vx_bits.specs.Records.{records_of, width_of};
 ghost use Rattle.vx_types.specs.DType.{type_of};
 ghost use Rattle.vx_types.specs.Decimal.{is_width};
 ghost use Rattle.vx_types.specs.RowValue.{null};
-ghost use Rattle.vx_types.specs.TypeTree.{kind_width};
+ghost use Rattle.vx_types.specs.TypeTree.{is_bool_kind, kind_width};
 ghost use Rattle.vx_model.specs.Valid.{is_bools, is_fitting};
 ghost use Rattle.vx_model.specs.Records.{records_fault, records_column, records_with};
 ghost use Rattle.vx_model.specs.Step.{IsPlainSlice};
@@ -36,6 +36,7 @@ pub enum RecordType {
 impl RecordType {
     /// How many bytes a record has.
     pub fn width(&self) -> usize
+        ensures number { is_bool_kind (kind_of self.now) ≡ false }
         ensures value { kind_width (kind_of self.now) ≡ Some result }
         ensures known { is_width result ≡ true }
     {
@@ -116,8 +117,11 @@ impl RecordArray {
 
     /// The type of its records.
     pub fn record_type(&self) -> RecordType
-        ensures { kind_of result ≡ self.now.kind }
+        ensures kind { kind_of result ≡ self.now.kind }
+        ensures number { is_bool_kind self.now.kind ≡ false }
     {
+        // a record is of a primitive or a decimal type
+        let _ = self.record_type.width();
         self.record_type
     }
 

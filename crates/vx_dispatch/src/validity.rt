@@ -96,7 +96,17 @@ pub(crate) fn taken_bits(
         Layout::Constant(a) => constant::bits_of(alloc, a, picks),
         Layout::Dict(a) => dict::bits_of(alloc, a, picks, policy),
         Layout::Filter(a) => filter_layout::bits_of(alloc, a, picks, policy),
-        Layout::Null(_) | Layout::Primitive(_) | Layout::Decimal(_) => unreachable!(),
+        Layout::Null(_) => unreachable!(),
+        Layout::Primitive(a) => {
+            // no record is a bool
+            let _ = a.rows().record_type();
+            unreachable!()
+        }
+        Layout::Decimal(a) => {
+            // no record is a bool
+            let _ = a.rows().record_type();
+            unreachable!()
+        }
     }
 }
 
@@ -148,6 +158,16 @@ fn see_bools(array: &Array)
 {
     match array.layout() {
         Layout::Bool(_) => {}
+        Layout::Primitive(a) => {
+            // no record is a bool
+            let _ = a.rows().record_type();
+            unreachable!()
+        }
+        Layout::Decimal(a) => {
+            // no record is a bool
+            let _ = a.rows().record_type();
+            unreachable!()
+        }
         _ => unreachable!(),
     }
 }

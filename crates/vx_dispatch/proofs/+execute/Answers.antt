@@ -1,5 +1,5 @@
 -- The unwrapped form of a column, from those of its parts.
-use Rattle.std.proofs.Common.{◌≡◌, length, true, refl, sym, ap, ◌∙◌}
+use Rattle.std.proofs.Common.{◌≡◌, length, true, refl, sym, ap, ◌∙◌, arith}
 use Rattle.vx_types.specs.TypeTree.{TypeTree, is_flat, is_int_type}
 use Rattle.vx_take.specs.Picks.{BoundedPicks}
 use Rattle.vx_numbers.specs.Positions.{positions_of}
@@ -8,8 +8,11 @@ use Rattle.std.specs.Prelude.{IfOk}
 use Rattle.vx_model.specs.Step.{IsStep, IsTake}
 use Rattle.vx_model.proofs.LazyRows.{int-dict}
 use Rattle.vx_model.proofs.UnwrappedForms.{execute-dict, execute-filter, first_bad-execute}
+use Rattle.vx_column.specs.Validity.{valid_of}
+use Rattle.vx_model.specs.Valid.{is_fitting}
 use Rattle.vx_dispatch.proofs.Codes.{no_fault}
 use Rattle.vx_dispatch.proofs.Results.{weaker}
+use Rattle.vx_model.specs.Valid.{valid_size}
 use Rattle.vx_dispatch.proofs.+execute.Goals as goal
 
 pub dict::execute_of-column_picks-requires : goal.dict::execute_of-column_picks-requires
@@ -46,3 +49,9 @@ pub filter_layout::execute_of-returns-clause-unwrapped : goal.filter_layout::exe
 filter_layout::execute_of-returns-clause-unwrapped t c = λ flat.
     let child = c.in_ok-child.ensures.unwrapped (ap (λ x. is_flat x.dtype) (c.deref.ensures ∙ c.child.ensures.value) ∙ flat) in
     weaker c.filter.result c.filter.ensures.cut (λ a cut. cut.step.unwrapped child)
+
+pub stored::execute_of-execute_validity-requires : goal.stored::execute_of-execute_validity-requires
+stored::execute_of-execute_validity-requires t c =
+    let v = c.validity.ensures in
+    let fits : is_fitting (valid_of c.validity.result.now) c.len.result ≡ true = rw (v.value, c.len.ensures) v.fitting in
+    (omega (arith, ap valid_size v.value), fits)

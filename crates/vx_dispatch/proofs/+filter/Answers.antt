@@ -9,6 +9,8 @@ use Rattle.vx_model.proofs.Items.{length-items_where_true}
 use Rattle.vx_model.proofs.ShownRows.{is_left-filter, length-present_bits}
 use Rattle.vx_model.proofs.Validities.{is_left-filter-by_column}
 use Rattle.vx_column.specs.Validity.{valid_of}
+use Rattle.vx_model.proofs.StoredRows.{length-stored_rows}
+use Rattle.vx_column.specs.Stored.{parts_of}
 use Rattle.std.proofs.lemmas.List.{length-replicate}
 use Rattle.std.proofs.Common.{map}
 use Rattle.vx_mask.specs.Mask.{mask_bits}
@@ -17,6 +19,7 @@ use Rattle.vx_model.proofs.Items.{items_where_true-all, items_where_true-none}
 use Rattle.vx_model.proofs.LazyRows.{length-filter}
 use Rattle.vx_model.proofs.LazySteps.{dict_fault-filter, is_filter-dict, is_filter-filter}
 use Rattle.vx_dispatch.proofs.Results.{weaker}
+use Rattle.vx_model.specs.Valid.{valid_size}
 use Rattle.vx_dispatch.proofs.+filter.Goals as goal
 
 pub validity::filter_validity-returns-in-NonNullable-clause-left : goal.validity::filter_validity-returns-in-NonNullable-clause-left
@@ -80,3 +83,20 @@ pub filtering::filter-returns-in-AllFalse-clause-cut : goal.filtering::filter-re
 filtering::filter-returns-in-AllFalse-clause-cut t c =
     let none = items_where_true-none c.in-AllFalse.field-0 c.args.array.now.rows in
     rw c.in-AllFalse.is (rw (← none) c.slice.ensures.cut)
+
+pub stored::filter_of-filter_validity-requires : goal.stored::filter_of-filter_validity-requires
+stored::filter_of-filter_validity-requires t c =
+    let p = parts_of c.args.stored in let v = c.validity.ensures in
+    let long = c.requires ∙ length-stored_rows p.valid p.items v.fitting in
+    let fits : is_fitting (valid_of c.validity.result.now) (length c.args.mask.now.bits.bits) ≡ true = rw (v.value, long) v.fitting in
+    (omega (arith, ap valid_size v.value), fits)
+
+pub stored::filter_of-filter_stored-requires-clause-long : goal.stored::filter_of-filter_stored-requires-clause-long
+stored::filter_of-filter_stored-requires-clause-long t c =
+    let p = parts_of c.args.stored in c.requires ∙ length-stored_rows p.valid p.items c.validity.ensures.fitting
+
+pub stored::filter_of-filter_stored-requires-clause-left : goal.stored::filter_of-filter_stored-requires-clause-left
+stored::filter_of-filter_stored-requires-clause-left t c =
+    let p = parts_of c.args.stored in let v = c.validity.ensures in
+    let long = c.requires ∙ length-stored_rows p.valid p.items v.fitting in
+    rw (← long, ← v.value) c.in_ok-validity.ensures.left

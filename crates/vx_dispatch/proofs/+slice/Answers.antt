@@ -7,12 +7,15 @@ use Rattle.vx_model.specs.Step.{IsSlice}
 use Rattle.vx_model.proofs.ShownRows.{is_left-slice}
 use Rattle.vx_model.proofs.Validities.{is_left-slice-by_column}
 use Rattle.vx_column.specs.Validity.{valid_of}
+use Rattle.vx_model.proofs.StoredRows.{length-stored_rows}
+use Rattle.vx_column.specs.Stored.{parts_of}
 use Rattle.std.proofs.Common.{take, Bool}
 use Rattle.vx_bits.specs.BitBuffer.{true_count_of}
 use Rattle.vx_model.specs.Column.{Column}
 use Rattle.vx_model.specs.Filter.{filter_column}
 use Rattle.vx_model.proofs.LazySteps.{dict_fault-slice, is_slice-dict, is_slice-filter}
 use Rattle.vx_dispatch.proofs.Results.{weaker}
+use Rattle.vx_model.specs.Valid.{valid_size}
 use Rattle.vx_dispatch.proofs.+slice.Goals as goal
 
 pub validity::slice_validity-returns-in-NonNullable-clause-left : goal.validity::slice_validity-returns-in-NonNullable-clause-left
@@ -59,3 +62,15 @@ filter_layout::slice_of-returns t c =
     let within : high ≤ length p.mask = rw same at range.ensures.within in
     rw (c.into_array.ensures ∙ ap filter_column (c.of.ensures ∙ ap₂ (λ (x : Column) (m : List Bool). record { child = x; mask = m }) c.in_ok-into_ref.ensures (c.slice_mask.ensures ∙ ap (λ (m : List Bool). slice_range m low high) same)))
     (is_slice-filter p child c.args.start c.args.end low high c.mask-mask.ensures.valid range.ensures.ordered within start end cut)
+
+pub stored::slice_of-slice_validity-requires : goal.stored::slice_of-slice_validity-requires
+stored::slice_of-slice_validity-requires t c =
+    let p = parts_of c.args.stored in let v = c.validity.ensures in
+    let long = length-stored_rows p.valid p.items v.fitting in
+    let fits : is_fitting (valid_of c.validity.result.now) c.len.result ≡ true = rw (v.value, c.len.ensures) v.fitting in
+    (omega (arith, ap valid_size v.value), (fits, (c.requires.ordered, omega (arith, long, c.len.ensures, c.requires.within))))
+
+pub stored::slice_of-slice_stored-requires-clause-within : goal.stored::slice_of-slice_stored-requires-clause-within
+stored::slice_of-slice_stored-requires-clause-within t c =
+    let p = parts_of c.args.stored in
+    omega (arith, length-stored_rows p.valid p.items c.validity.ensures.fitting, c.requires.within)
