@@ -5,7 +5,7 @@ ghost use Rattle.vx_bits.specs.Records.{records_of, width_of};
 ghost use Rattle.vx_types.specs.DType.{type_of};
 ghost use Rattle.vx_types.specs.Decimal.{is_width};
 ghost use Rattle.vx_types.specs.RowValue.{null};
-ghost use Rattle.vx_types.specs.TypeTree.{is_bool_kind, kind_width};
+ghost use Rattle.vx_types.specs.TypeTree.{is_bool_kind, kind_width, type_width};
 ghost use Rattle.vx_model.specs.Valid.{is_bools, is_fitting};
 ghost use Rattle.vx_model.specs.Records.{records_fault, records_column, records_with};
 ghost use Rattle.vx_model.specs.Step.{IsPlainSlice};
@@ -34,6 +34,19 @@ pub enum RecordType {
 }
 
 impl RecordType {
+    /// The type of the records of a column of this type; some exactly where it is primitive or
+    /// decimal.
+    pub fn of(dtype: &DType) -> Option<RecordType>
+        ensures kind { IfSome result (λ t. kind_of t ≡ (type_of dtype.now).kind) }
+        ensures told { is_some result ≡ is_some (type_width (type_of dtype.now)) }
+    {
+        match dtype {
+            DType::Primitive(ptype, _) => Some(RecordType::Primitive(*ptype)),
+            DType::Decimal(decimal, _) => Some(RecordType::Decimal(*decimal)),
+            _ => None,
+        }
+    }
+
     /// How many bytes a record has.
     pub fn width(&self) -> usize
         ensures number { is_bool_kind (kind_of self.now) ≡ false }
