@@ -8,7 +8,7 @@ use Rattle.std.proofs.lemmas.Nat.{from_le_bytes-to_le_bytes_4, from_le_bytes-to_
 use Rattle.vx_bits.specs.Results.{ok_unless}
 use Rattle.vx_types.specs.PType.{number}
 use Rattle.vx_types.specs.RowValue.{bit, bytes}
-use Rattle.vx_types.specs.TypeTree.{primitive_type}
+use Rattle.vx_types.specs.TypeTree.{primitive_kind}
 use Rattle.vx_types.specs.declared.nullability.Nullability.TheVariants.{NonNullable, Nullable}
 use Rattle.vx_types.specs.declared.ptype.PType.TheVariants.{U32, U64}
 use Rattle.vx_model.specs.Valid.{is_yes, shown_rows}
@@ -39,7 +39,7 @@ stored_bits (b ∷ bits) zero h = absurd (omega arith)
 stored_bits (b ∷ bits) (suc n) h = ap (λ l. b ∷ l) (stored_bits bits n (omega arith))
 
 -- the numbers that are there, and none for each other one
-pub read_some : (numbers : List (Option ℕ)) (records : List (List ℕ)) → map (number U32) records ≡ map (λ n. pos (unwrap_or n 0)) numbers → map (number_in (primitive_type U32 Nullable)) (shown_rows (map is_some numbers) (map bytes records)) ≡ map (option_map pos) numbers
+pub read_some : (numbers : List (Option ℕ)) (records : List (List ℕ)) → map (number U32) records ≡ map (λ n. pos (unwrap_or n 0)) numbers → map (number_in (primitive_kind U32)) (shown_rows (map is_some numbers) (map bytes records)) ≡ map (option_map pos) numbers
 read_some [] records h = refl
 read_some (n ∷ numbers) [] h = absurd (omega (arith, ap length h))
 read_some (None ∷ numbers) (r ∷ records) h =
@@ -51,7 +51,7 @@ read_some (Some n ∷ numbers) (r ∷ records) h =
     ap₂ ◌∷◌ (ap (λ z. Some z) first) (read_some numbers records rest)
 
 -- all of them
-pub read_all : (numbers : List ℕ) (records : List (List ℕ)) (n : ℕ) → length (map bytes records) ≡ n → map (number U64) records ≡ map pos numbers → map (number_in (primitive_type U64 NonNullable)) (shown_rows (replicate n true) (map bytes records)) ≡ map (λ x. Some (pos x)) numbers
+pub read_all : (numbers : List ℕ) (records : List (List ℕ)) (n : ℕ) → length (map bytes records) ≡ n → map (number U64) records ≡ map pos numbers → map (number_in (primitive_kind U64)) (shown_rows (replicate n true) (map bytes records)) ≡ map (λ x. Some (pos x)) numbers
 read_all [] [] n l h = cc
 read_all [] (r ∷ records) n l h = cc
 read_all (x ∷ numbers) [] n l h = cc

@@ -5,11 +5,10 @@ use Rattle.std.proofs.lemmas.List.{length-map}
 use Rattle.vx_types.specs.RowValue.{bytes}
 use Rattle.vx_model.specs.Valid.{Valid, by_column, is_fitting, is_non_null_bool, present_bits, shown_rows}
 use Rattle.vx_model.specs.Bool.{BoolParts, bool_column}
-use Rattle.vx_model.specs.Primitive.{PrimitiveParts, primitive_fault, primitive_column}
-use Rattle.vx_model.specs.Decimal.{DecimalParts, decimals_fault, decimal_column}
+use Rattle.vx_model.specs.Records.{RecordParts, records_fault, records_column}
 use Rattle.vx_model.proofs.ShownRows.{length-present_bits}
 use Rattle.vx_model.proofs.Takes.{yes-bool}
-use Rattle.vx_model.proofs.Layouts.{is_fitting-primitive, is_fitting-decimal, width-primitive, width-decimal}
+use Rattle.vx_model.proofs.Layouts.{is_fitting-records, width-records}
 
 -- a validity by a column of layout `Bool` that fits shows its bits
 pub present-bools : (v : Valid) (p : BoolParts) (n : ℕ) → v ≡ by_column (bool_column p) → is_fitting v n ≡ true → present_bits v n ≡ p.bits.bits
@@ -22,25 +21,15 @@ present-bools v p n e h =
     first false b h = cc
 
 -- the rows by those bits
-pub rows-primitive-shown : (p : PrimitiveParts) (bits : List Bool) → primitive_fault p ≡ None → ((n : ℕ) → is_fitting p.valid n ≡ true → present_bits p.valid n ≡ bits) → (primitive_column p).rows ≡ shown_rows bits (map bytes p.records)
-rows-primitive-shown p bits f h =
+pub rows-records-shown : (p : RecordParts) (bits : List Bool) → records_fault p ≡ None → ((n : ℕ) → is_fitting p.valid n ≡ true → present_bits p.valid n ≡ bits) → (records_column p).rows ≡ shown_rows bits (map bytes p.records)
+rows-records-shown p bits f h =
     let long : length (map bytes p.records) ≡ length p.records = length-map p.records bytes in
-    ap (λ b. shown_rows b (map bytes p.records)) (h _ (ap (is_fitting p.valid) long ∙ is_fitting-primitive p f))
-
-pub rows-decimal-shown : (p : DecimalParts) (bits : List Bool) → decimals_fault p ≡ None → ((n : ℕ) → is_fitting p.valid n ≡ true → present_bits p.valid n ≡ bits) → (decimal_column p).rows ≡ shown_rows bits (map bytes p.records)
-rows-decimal-shown p bits f h =
-    let long : length (map bytes p.records) ≡ length p.records = length-map p.records bytes in
-    ap (λ b. shown_rows b (map bytes p.records)) (h _ (ap (is_fitting p.valid) long ∙ is_fitting-decimal p f))
+    ap (λ b. shown_rows b (map bytes p.records)) (h _ (ap (is_fitting p.valid) long ∙ is_fitting-records p f))
 
 -- there are as many of them as records
-pub length-primitive-shown : (p : PrimitiveParts) (bits : List Bool) → primitive_fault p ≡ None → ((n : ℕ) → is_fitting p.valid n ≡ true → present_bits p.valid n ≡ bits) → length bits ≡ length p.records
-length-primitive-shown p bits f h =
-    let fit = is_fitting-primitive p f in
+pub length-records-shown : (p : RecordParts) (bits : List Bool) → records_fault p ≡ None → ((n : ℕ) → is_fitting p.valid n ≡ true → present_bits p.valid n ≡ bits) → length bits ≡ length p.records
+length-records-shown p bits f h =
+    let fit = is_fitting-records p f in
     ap length (sym (h (length p.records) fit)) ∙ length-present_bits p.valid (length p.records) fit
 
-pub length-decimal-shown : (p : DecimalParts) (bits : List Bool) → decimals_fault p ≡ None → ((n : ℕ) → is_fitting p.valid n ≡ true → present_bits p.valid n ≡ bits) → length bits ≡ length p.records
-length-decimal-shown p bits f h =
-    let fit = is_fitting-decimal p f in
-    ap length (sym (h (length p.records) fit)) ∙ length-present_bits p.valid (length p.records) fit
-
-pub ruleset shown = (present-bools, rows-primitive-shown, rows-decimal-shown, length-primitive-shown, length-decimal-shown, width-primitive, width-decimal)
+pub ruleset shown = (present-bools, rows-records-shown, length-records-shown, width-records)

@@ -2,8 +2,7 @@
 use Rattle.vx_model.specs.Column.{Column}
 use Rattle.vx_model.specs.Null.{null_column}
 use Rattle.vx_model.specs.Bool.{bool_column}
-use Rattle.vx_model.specs.Primitive.{primitive_column}
-use Rattle.vx_model.specs.Decimal.{decimal_column}
+use Rattle.vx_model.specs.Records.{records_column}
 use Rattle.vx_model.specs.Constant.{constant_column}
 use Rattle.vx_model.specs.Dict.{dict_column}
 use Rattle.vx_model.specs.Filter.{filter_column}
@@ -13,8 +12,8 @@ use Rattle.vx_column.specs.declared.array.Layout.TheVariants.{Null, Bool, Primit
 abbrev pub column_of : Layout → Column
 column_of (Null n) = null_column n
 column_of (Bool p) = bool_column p
-column_of (Primitive p) = primitive_column p
-column_of (Decimal p) = decimal_column p
+column_of (Primitive p) = records_column p
+column_of (Decimal p) = records_column p
 column_of (Constant p) = constant_column p
 column_of (Dict p) = dict_column p
 column_of (Filter p) = filter_column p

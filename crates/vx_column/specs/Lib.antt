@@ -1,10 +1,10 @@
 pub mod Bool
 pub mod Cell
-pub mod Decimal
 pub mod Flat
 pub mod Layout
 pub mod Plain
-pub mod Primitive
+pub mod Records
 pub mod Shown
+pub mod Stored
 pub mod Typed
 pub mod Validity

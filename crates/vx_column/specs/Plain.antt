@@ -4,7 +4,7 @@ use Rattle.vx_bits.specs.Records.{records_of, width_of}
 use Rattle.vx_bits.specs.declared.records.Records.{Records}
 use Rattle.vx_types.specs.RowValue.{bytes}
 use Rattle.vx_types.specs.Nullability.{is_nullable}
-use Rattle.vx_types.specs.TypeTree.{type_nullability, type_width}
+use Rattle.vx_types.specs.TypeTree.{type_width}
 use Rattle.vx_model.specs.Column.{Column}
 use Rattle.vx_model.specs.Plain.{stores_records}
 
@@ -18,5 +18,5 @@ pub record AreRowsOf (c : Column) (records : Records) : Type 0 where
 abbrev pub HasRecords : Column → Option Records → Type 0
 HasRecords c r =
     MatchOption r
-    (stores_records c.layout ≡ true → is_nullable (type_nullability c.dtype) ≡ true)
+    (stores_records c.layout ≡ true → is_nullable c.dtype.nullability ≡ true)
     (λ records. AreRowsOf c records)

@@ -49,7 +49,8 @@ pub enum Layout {
 }
 
 impl Model for Array {
-    ghost use Rattle.vx_model.specs.Column.{Column, coded_column};
+    ghost use Rattle.vx_model.specs.Column.{Column};
+    ghost use Rattle.vx_model.specs.ColumnCode.{coded_column};
 
     ghost Value = { Column };
 

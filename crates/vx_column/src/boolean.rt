@@ -5,8 +5,14 @@ ghost use Rattle.vx_model.specs.Valid.{is_fitting};
 ghost use Rattle.vx_model.specs.Bool.{bool_fault, bool_column, bool_with};
 ghost use Rattle.vx_column.specs.Validity.{valid_of};
 ghost use Rattle.vx_column.specs.Bool.{bool_parts};
+ghost use Rattle.std.specs.Prelude.{◌<◌, slice_index_or};
+ghost use Rattle.vx_types.specs.RowValue.{null};
+ghost use Rattle.vx_column.specs.Cell.{row_of, IsOfType};
+ghost use Rattle.std.specs.Prelude.{◌≤◌};
+ghost use Rattle.vx_model.specs.Step.{IsPlainSlice};
 
 use crate::array::{Array, Layout};
+use crate::cell::Cell;
 use crate::validity::Validity;
 use std::marker::Model;
 use vx_bits::BitBuffer;
@@ -98,5 +104,35 @@ impl BoolArray {
         let dtype = DType::Bool(self.validity.nullability());
         let len = self.bits.len();
         Array::new(dtype, len, Layout::Bool(self))
+    }
+
+    // Row `i`.
+    #[cycle(cell)]
+    #[tactic(auto, using(vx_model::proofs::Layouts::layout_rows))]
+    pub(crate) fn cell_at(&self, i: usize) -> Cell<'_>
+        requires { i < length (bool_column self.now).rows }
+        ensures row { row_of result ≡ slice_index_or (bool_column self.now).rows i null }
+        ensures of_type { IsOfType result (bool_column self.now).dtype }
+    {
+        let bits = self.bits();
+        if self.validity().is_valid_at(i) {
+            Cell::Bit(bits.value(i))
+        } else {
+            Cell::Null
+        }
+    }
+
+    // The rows from `start` up to `end`, where the validity is a constant form.
+    #[tactic(auto, using(vx_model::proofs::Layouts::layout_rows))]
+    pub(crate) fn slice_plain(&self, start: usize, end: usize) -> Option<Array>
+        requires ordered { start ≤ end }
+        requires within { end ≤ length (bool_column self.now).rows }
+        ensures { IsPlainSlice (bool_column self.now) start end result }
+    {
+        if !self.validity().is_constant_form() {
+            return None;
+        }
+        let bits = self.bits().slice(start, end);
+        Some(BoolArray::of(bits, self.validity().share()).into_array())
     }
 }

@@ -1,11 +1,14 @@
 //! Layout `Constant`: one value for every row.
-ghost use Rattle.std.specs.Prelude.{◌≡◌, true};
-ghost use Rattle.vx_types.specs.TypeTree.{is_flat};
+ghost use Rattle.std.specs.Prelude.{◌≡◌};
 ghost use Rattle.vx_model.specs.Constant.{constant_column};
+ghost use Rattle.std.specs.Prelude.{◌<◌, length, slice_index_or};
+ghost use Rattle.vx_types.specs.RowValue.{null};
+ghost use Rattle.vx_column.specs.Cell.{row_of, IsOfType};
 
 use crate::array::{Array, Layout};
+use crate::cell::Cell;
 use std::marker::Model;
-use vx_types::Scalar;
+use vx_types::{Scalar, ScalarValue};
 
 /// A column of one value for every row: Vortex's `ConstantArray`.
 #[derive(Drop)]
@@ -64,5 +67,22 @@ impl ConstantArray {
         let dtype = self.scalar.dtype().share();
         let len = self.len;
         Array::new(dtype, len, Layout::Constant(self))
+    }
+
+    // Each row.
+    #[tactic(auto, using(vx_model::proofs::LazyRows::lazy_rows, vx_model::proofs::Scalars::scalars))]
+    pub(crate) fn cell_at(&self, i: usize) -> Cell<'_>
+        requires { i < length (constant_column self.now).rows }
+        ensures row { row_of result ≡ slice_index_or (constant_column self.now).rows i null }
+        ensures of_type { IsOfType result (constant_column self.now).dtype }
+    {
+        let _ = i;
+        let scalar = self.scalar();
+        let _ = scalar.dtype();
+        match scalar.value() {
+            ScalarValue::Null => Cell::Null,
+            ScalarValue::Bit(bit) => Cell::Bit(*bit),
+            ScalarValue::Bytes(bytes) => Cell::Bytes(bytes.as_slice()),
+        }
     }
 }

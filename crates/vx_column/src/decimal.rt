@@ -1,45 +1,44 @@
 //! Layout `Decimal`: a record of a decimal number a row.
-ghost use Rattle.std.specs.Prelude.{◌≡◌, length, true, None};
+ghost use Rattle.std.specs.Prelude.{◌≡◌, true, None};
 ghost use Rattle.vx_bits.specs.Results.{ok_unless};
 ghost use Rattle.vx_bits.specs.Records.{records_of, width_of};
-ghost use Rattle.vx_model.specs.Valid.{is_fitting};
-ghost use Rattle.vx_model.specs.Decimal.{decimals_fault, decimal_column, decimal_with};
+ghost use Rattle.vx_types.specs.TypeTree.{decimal_kind, is_decimal_kind};
+ghost use Rattle.vx_model.specs.Records.{records_fault, records_column};
+ghost use Rattle.vx_column.specs.Records.{record_parts};
 ghost use Rattle.vx_column.specs.Validity.{valid_of};
-ghost use Rattle.vx_column.specs.Decimal.{decimal_parts};
+ghost use Rattle.vx_column.specs.declared.records.RecordType.TheVariants.{Decimal};
 
-use crate::array::{Array, Layout};
+use crate::array::Array;
+use crate::records::{RecordArray, RecordType};
 use crate::validity::Validity;
 use std::marker::Model;
 use vx_bits::Records;
-use vx_types::{ColumnError, DType, DecimalDType};
+use vx_types::{ColumnError, DecimalDType};
 
 /// A column of records of a decimal type: Vortex's `DecimalArray`.
 #[cycle(array)]
 #[derive(Drop)]
 pub struct DecimalArray {
-    decimal: DecimalDType,
-    values: Records,
-    validity: Validity,
+    rows: RecordArray,
 }
 
 impl Model for DecimalArray {
-    ghost use Rattle.vx_model.specs.Decimal.{DecimalParts, coded_decimals};
+    ghost use Rattle.vx_model.specs.Records.{RecordParts, coded_records};
 
-    ghost Value = { DecimalParts };
+    ghost Value = { RecordParts };
 
-    ghost coded = { coded_decimals };
+    ghost coded = { coded_records };
 
-    ghost use Rattle.std.specs.Prelude.{◌≡◌, None};
+    ghost use Rattle.std.specs.Prelude.{◌≡◌, ◌+◌, true};
     ghost use Rattle.std.proofs.Common.{arith};
+    ghost use Rattle.vx_types.specs.TypeTree.{is_decimal_kind};
     ghost use Rattle.vx_model.specs.Valid.{valid_size};
-    ghost use Rattle.vx_model.specs.Decimal.{decimals_fault};
-    ghost use Rattle.vx_column.specs.Decimal.{decimal_parts};
 
-    ghost view = { λ a. decimal_parts a.decimal a.values a.validity };
+    ghost view = { λ a. a.rows };
 
-    ghost invariant = { λ a. decimals_fault (decimal_parts a.decimal a.values a.validity) ≡ None };
+    ghost invariant = { λ a. is_decimal_kind a.rows.kind ≡ true };
 
-    ghost size = { λ p. valid_size p.valid };
+    ghost size = { λ p. valid_size p.valid + 1 };
 
     ghost size_decreases = { λ a h. Prim.grind arith };
 }
@@ -54,58 +53,55 @@ impl DecimalArray {
         values: Records,
         validity: Validity,
     ) -> Result<DecimalArray, ColumnError>
-        ensures { result ≡ ok_unless (decimals_fault (decimal_parts decimal values validity))
-            (decimal_parts decimal values validity) }
+        ensures { result
+            ≡ ok_unless (records_fault (record_parts (RecordType.Decimal decimal) values validity))
+            (record_parts (RecordType.Decimal decimal) values validity) }
     {
-        if decimal.width() as usize != values.width() {
-            return Err(ColumnError::WrongWidth);
-        }
-        if !validity.is_fitting(values.len()) {
-            return Err(ColumnError::BadValidity);
-        }
-        Ok(DecimalArray {
-            decimal,
-            values,
-            validity,
-        })
+        let rows = RecordArray::try_new(RecordType::Decimal(decimal), values, validity)?;
+        Ok(DecimalArray { rows })
+    }
+
+    // The column of these rows.
+    pub(crate) fn of(rows: RecordArray) -> DecimalArray
+        requires { is_decimal_kind rows.kind ≡ true }
+        ensures { result ≡ rows }
+    {
+        DecimalArray { rows }
     }
 
     /// The type of its records.
     pub fn decimal(&self) -> DecimalDType
-        ensures { result ≡ self.now.decimal }
+        ensures { decimal_kind result.precision result.scale result.width ≡ self.now.kind }
     {
-        self.decimal
+        match self.rows.record_type() {
+            RecordType::Decimal(decimal) => decimal,
+            RecordType::Primitive(_) => unreachable!(),
+        }
+    }
+
+    /// Its rows, as those of either layout of records.
+    pub fn rows(&self) -> &RecordArray
+        ensures value { result.now ≡ self.now }
+        ensures kind { is_decimal_kind self.now.kind ≡ true }
+    {
+        &self.rows
     }
 
     /// Its records, one a row, null rows too.
     pub fn values(&self) -> &Records
         ensures records { records_of result.now ≡ self.now.records }
         ensures width { width_of result.now ≡ self.now.width }
-        ensures valid { decimals_fault self.now ≡ None }
+        ensures valid { records_fault self.now ≡ None }
     {
-        &self.values
+        self.rows.values()
     }
 
     /// Which rows are there.
     pub fn validity(&self) -> &Validity
         ensures value { valid_of result.now ≡ self.now.valid }
-        ensures valid { decimals_fault self.now ≡ None }
+        ensures valid { records_fault self.now ≡ None }
     {
-        &self.validity
-    }
-
-    /// The same type over other records and another validity: what a step leaves. It takes no
-    /// memory.
-    pub fn with_rows(&self, values: Records, validity: Validity) -> DecimalArray
-        requires width { width_of values ≡ self.now.width }
-        requires fitting { is_fitting (valid_of validity) (length (records_of values)) ≡ true }
-        ensures { result ≡ decimal_with self.now (records_of values) (valid_of validity) }
-    {
-        DecimalArray {
-            decimal: self.decimal,
-            values,
-            validity,
-        }
+        self.rows.validity()
     }
 
     /// The same column once more. It takes no memory.
@@ -113,19 +109,15 @@ impl DecimalArray {
         ensures { result ≡ self.now }
     {
         DecimalArray {
-            decimal: self.decimal,
-            values: self.values.share(),
-            validity: self.validity.share(),
+            rows: self.rows.share(),
         }
     }
 
     /// The column of this layout. It takes no memory.
-    #[tactic(auto, using(vx_model::proofs::Layouts::layout_rows))]
     pub fn into_array(self) -> Array
-        ensures { result ≡ decimal_column self }
+        ensures { result ≡ records_column self }
     {
-        let dtype = DType::Decimal(self.decimal, self.validity.nullability());
-        let len = self.values.len();
-        Array::new(dtype, len, Layout::Decimal(self))
+        let DecimalArray { rows } = self;
+        rows.into_array()
     }
 }

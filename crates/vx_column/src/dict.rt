@@ -2,10 +2,18 @@
 ghost use Rattle.std.specs.Prelude.{◌≡◌, None};
 ghost use Rattle.vx_bits.specs.Results.{ok_unless};
 ghost use Rattle.vx_model.specs.Dict.{dict_fault, dict_column, dict_with};
+ghost use Rattle.std.specs.Prelude.{◌<◌, Some, length, slice_index_or, true};
+ghost use Rattle.vx_types.specs.TypeTree.{int_type_of};
+ghost use Rattle.vx_numbers.specs.Positions.{first_bad};
+ghost use Rattle.vx_model.specs.Numbers.{numbers_of};
+ghost use Rattle.vx_types.specs.RowValue.{null};
+ghost use Rattle.vx_column.specs.Cell.{row_of, IsOfType};
 
 use crate::array::{Array, ArrayRef, Layout};
+use crate::cell::Cell;
 use std::marker::Model;
-use vx_types::ColumnError;
+use vx_numbers::position;
+use vx_types::{ColumnError, PType};
 
 /// A column of values that codes name: Vortex's `DictArray`.
 #[cycle(array)]
@@ -97,10 +105,37 @@ impl DictArray {
     pub fn into_array(self) -> Array
         ensures { result ≡ dict_column self }
     {
-        let dtype = self.values.dtype();
-        let nullability = dtype.nullability().or(self.codes.dtype().nullability());
-        let dtype = dtype.with_nullability(nullability);
+        let dtype = self
+            .values
+            .dtype()
+            .also_nullable(self.codes.dtype().nullability());
         let len = self.codes.len();
         Array::new(dtype, len, Layout::Dict(self))
+    }
+
+    // Row `i`: the value that its code names.
+    #[cycle(cell)]
+    #[tactic(auto, using(vx_model::proofs::LazyRows::lazy_rows, crate::proofs::Cells::dict_cells))]
+    pub(crate) fn cell_at(&self, i: usize) -> Cell<'_>
+        requires { i < length (dict_column self.now).rows }
+        ensures row { row_of result ≡ slice_index_or (dict_column self.now).rows i null }
+        ensures of_type { IsOfType result (dict_column self.now).dtype }
+    {
+        let codes = self.codes();
+        let values = self.values();
+        match codes.cell_at(i).number(codes.dtype()) {
+            Some(code) => values.cell_at(position(code, values.len())),
+            None => Cell::Null,
+        }
+    }
+
+    // Whether each of the values is one of `len` positions, as far as that is told at once.
+    #[cycle(told)]
+    #[tactic(auto, using(vx_model::proofs::LazyNumbers::lazy_numbers))]
+    pub(crate) fn tells_positions(&self, ptype: PType, len: usize) -> bool
+        requires { int_type_of (dict_column self.now).dtype ≡ Some ptype }
+        ensures { result ≡ true → first_bad len (numbers_of (dict_column self.now)) ≡ None }
+    {
+        self.values().tells_positions(ptype, len)
     }
 }

@@ -3,11 +3,18 @@ ghost use Rattle.std.specs.Prelude.{◌≡◌, None};
 ghost use Rattle.vx_bits.specs.Results.{ok_unless};
 ghost use Rattle.vx_mask.specs.Mask.{mask_bits};
 ghost use Rattle.vx_model.specs.Filter.{filter_fault, filter_column};
+ghost use Rattle.std.specs.Prelude.{◌<◌, Some, length, slice_index_or, true};
+ghost use Rattle.vx_types.specs.TypeTree.{int_type_of};
+ghost use Rattle.vx_numbers.specs.Positions.{first_bad};
+ghost use Rattle.vx_model.specs.Numbers.{numbers_of};
+ghost use Rattle.vx_types.specs.RowValue.{null};
+ghost use Rattle.vx_column.specs.Cell.{row_of, IsOfType};
 
 use crate::array::{Array, ArrayRef, Layout};
+use crate::cell::Cell;
 use std::marker::Model;
 use vx_mask::Mask;
-use vx_types::ColumnError;
+use vx_types::{ColumnError, PType};
 
 /// A column of the rows that a mask keeps of a child: Vortex's `FilterArray`.
 #[cycle(array)]
@@ -98,5 +105,28 @@ impl FilterArray {
         let dtype = self.child.dtype().share();
         let len = self.mask.true_count();
         Array::new(dtype, len, Layout::Filter(self))
+    }
+
+    // Row `i`: the child's row at the mask's set position of that rank.
+    #[cycle(cell)]
+    #[tactic(auto, using(vx_model::proofs::LazyRows::lazy_rows))]
+    pub(crate) fn cell_at(&self, i: usize) -> Cell<'_>
+        requires { i < length (filter_column self.now).rows }
+        ensures row { row_of result ≡ slice_index_or (filter_column self.now).rows i null }
+        ensures of_type { IsOfType result (filter_column self.now).dtype }
+    {
+        let mask = self.mask();
+        self.child().cell_at(mask.rank(i))
+    }
+
+    // Whether each of the child's numbers is one of `len` positions, as far as that is told at
+    // once.
+    #[cycle(told)]
+    #[tactic(auto, using(vx_model::proofs::LazyNumbers::lazy_numbers))]
+    pub(crate) fn tells_positions(&self, ptype: PType, len: usize) -> bool
+        requires { int_type_of (filter_column self.now).dtype ≡ Some ptype }
+        ensures { result ≡ true → first_bad len (numbers_of (filter_column self.now)) ≡ None }
+    {
+        self.child().tells_positions(ptype, len)
     }
 }

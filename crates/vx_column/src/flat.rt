@@ -17,7 +17,8 @@ pub struct FlatRef {
 impl Model for FlatRef {
     ghost use Rattle.std.specs.Prelude.{◌≡◌, true};
     ghost use Rattle.vx_types.specs.TypeTree.{is_flat};
-    ghost use Rattle.vx_model.specs.Column.{Column, coded_column};
+    ghost use Rattle.vx_model.specs.Column.{Column};
+    ghost use Rattle.vx_model.specs.ColumnCode.{coded_column};
 
     ghost Value = { Column };
 

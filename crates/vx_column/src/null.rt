@@ -1,6 +1,8 @@
 //! Layout `Null`: rows that are all null.
 ghost use Rattle.std.specs.Prelude.{◌≡◌};
 ghost use Rattle.vx_model.specs.Null.{null_column};
+ghost use Rattle.std.specs.Prelude.{◌≤◌, length};
+ghost use Rattle.vx_model.specs.Step.{IsPlainSlice};
 
 use crate::array::{Array, Layout};
 use std::marker::Model;
@@ -47,5 +49,14 @@ impl NullArray {
         ensures { result ≡ null_column self }
     {
         Array::new(DType::Null, self.len, Layout::Null(self))
+    }
+
+    // The rows from `start` up to `end`.
+    pub(crate) fn slice_plain(&self, start: usize, end: usize) -> Option<Array>
+        requires ordered { start ≤ end }
+        requires within { end ≤ length (null_column self.now).rows }
+        ensures { IsPlainSlice (null_column self.now) start end result }
+    {
+        Some(NullArray::new(end - start).into_array())
     }
 }

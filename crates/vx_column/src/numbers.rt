@@ -2,11 +2,11 @@
 ghost use Rattle.std.specs.Prelude.{◌≡◌, ◌↔◌, ◌<◌, [], length, not, true, None, slice_index_or};
 ghost use Rattle.vx_types.specs.RowValue.{null, is_null};
 ghost use Rattle.vx_types.specs.Nullability.{is_nullable};
-ghost use Rattle.vx_types.specs.TypeTree.{is_int_type, type_nullability};
+ghost use Rattle.vx_types.specs.TypeTree.{is_int_type};
 ghost use Rattle.vx_model.specs.Numbers.{number_in};
 ghost use Rattle.vx_model.specs.Plain.{stores_records};
 
-use crate::array::{Array, Layout};
+use crate::array::Array;
 use crate::cell::Cell;
 
 impl Array {
@@ -28,10 +28,9 @@ impl Array {
         requires row { i < length self.now.rows }
         ensures { result.now ≡ slice_index_or self.now.stored i [] }
     {
-        match self.layout() {
-            Layout::Primitive(a) => a.values().record_bytes(i),
-            Layout::Decimal(a) => a.values().record_bytes(i),
-            _ => unreachable!(),
+        match self.records() {
+            Some(records) => records.values().record_bytes(i),
+            None => unreachable!(),
         }
     }
 
@@ -40,9 +39,9 @@ impl Array {
     pub fn number_at(&self, i: usize) -> Option<i128>
         requires int { is_int_type self.now.dtype ≡ true }
         requires row { i < length self.now.rows }
-        ensures value { result ≡ number_in self.now.dtype (slice_index_or self.now.rows i null) }
+        ensures value { result ≡ number_in self.now.dtype.kind (slice_index_or self.now.rows i null) }
         ensures null { (result ≡ None) ↔ (slice_index_or self.now.rows i null ≡ null) }
-        ensures nullable { result ≡ None → is_nullable (type_nullability self.now.dtype) ≡ true }
+        ensures nullable { result ≡ None → is_nullable self.now.dtype.nullability ≡ true }
     {
         self.cell_at(i).number(self.dtype())
     }

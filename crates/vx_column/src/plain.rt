@@ -1,96 +1,17 @@
-//! What takes no memory: slices of plain columns, and the records of columns with no null.
-ghost use Rattle.std.specs.Prelude.{◌≡◌, ◌≤◌, length, option_map};
+//! What takes no memory: slices of plain columns, and the records of columns that store some.
+ghost use Rattle.std.specs.Prelude.{◌≡◌, ◌≤◌, ◌&&◌, length, option_map, is_some, IfSome};
+ghost use Rattle.vx_model.specs.Constant.{constant_column};
+ghost use Rattle.vx_model.specs.Plain.{is_constant_layout, stores_records};
+ghost use Rattle.vx_model.specs.Records.{records_column};
 ghost use Rattle.vx_model.specs.Step.{IsPlainSlice};
-ghost use Rattle.vx_model.specs.Null.{null_column};
-ghost use Rattle.vx_model.specs.Bool.{bool_column};
-ghost use Rattle.vx_model.specs.Primitive.{primitive_column};
-ghost use Rattle.vx_model.specs.Decimal.{decimal_column};
+ghost use Rattle.vx_model.specs.Valid.{is_bools};
 ghost use Rattle.vx_column.specs.Plain.{HasRecords};
+ghost use Rattle.vx_column.specs.Shown.{AreShownRowsOf};
 
 use crate::array::{Array, Layout};
-use crate::boolean::BoolArray;
-use crate::decimal::DecimalArray;
-use crate::null::NullArray;
-use crate::primitive::PrimitiveArray;
-use crate::validity::Validity;
-use vx_bits::Records;
-
-impl NullArray {
-    fn slice_plain(&self, start: usize, end: usize) -> Option<Array>
-        requires ordered { start ≤ end }
-        requires within { end ≤ length (null_column self.now).rows }
-        ensures { IsPlainSlice (null_column self.now) start end result }
-    {
-        Some(NullArray::new(end - start).into_array())
-    }
-}
-
-impl BoolArray {
-    #[tactic(auto, using(vx_model::proofs::Layouts::layout_rows))]
-    fn slice_plain(&self, start: usize, end: usize) -> Option<Array>
-        requires ordered { start ≤ end }
-        requires within { end ≤ length (bool_column self.now).rows }
-        ensures { IsPlainSlice (bool_column self.now) start end result }
-    {
-        if !self.validity().is_constant_form() {
-            return None;
-        }
-        let bits = self.bits().slice(start, end);
-        Some(BoolArray::of(bits, self.validity().share()).into_array())
-    }
-}
-
-impl PrimitiveArray {
-    #[tactic(auto, using(vx_model::proofs::Layouts::layout_rows))]
-    fn slice_plain(&self, start: usize, end: usize) -> Option<Array>
-        requires ordered { start ≤ end }
-        requires within { end ≤ length (primitive_column self.now).rows }
-        ensures { IsPlainSlice (primitive_column self.now) start end result }
-    {
-        if !self.validity().is_constant_form() {
-            return None;
-        }
-        let values = self.values().slice(start, end);
-        Some(self.with_rows(values, self.validity().share()).into_array())
-    }
-
-    // The records of its rows, where no row is null.
-    #[tactic(auto, using(vx_model::proofs::Layouts::present_rows))]
-    fn present_records(&self) -> Option<&Records>
-        ensures { HasRecords (primitive_column self.now) (option_map (λ r. r.now) result) }
-    {
-        match self.validity() {
-            Validity::NonNullable | Validity::AllValid => Some(self.values()),
-            Validity::AllInvalid | Validity::Array(_) => None,
-        }
-    }
-}
-
-impl DecimalArray {
-    #[tactic(auto, using(vx_model::proofs::Layouts::layout_rows))]
-    fn slice_plain(&self, start: usize, end: usize) -> Option<Array>
-        requires ordered { start ≤ end }
-        requires within { end ≤ length (decimal_column self.now).rows }
-        ensures { IsPlainSlice (decimal_column self.now) start end result }
-    {
-        if !self.validity().is_constant_form() {
-            return None;
-        }
-        let values = self.values().slice(start, end);
-        Some(self.with_rows(values, self.validity().share()).into_array())
-    }
-
-    // The records of its rows, where no row is null.
-    #[tactic(auto, using(vx_model::proofs::Layouts::present_rows))]
-    fn present_records(&self) -> Option<&Records>
-        ensures { HasRecords (decimal_column self.now) (option_map (λ r. r.now) result) }
-    {
-        match self.validity() {
-            Validity::NonNullable | Validity::AllValid => Some(self.values()),
-            Validity::AllInvalid | Validity::Array(_) => None,
-        }
-    }
-}
+use crate::records::RecordArray;
+use vx_bits::{BitBuffer, Records};
+use vx_types::Scalar;
 
 impl Array {
     /// The records of its rows, one a row, where the layout stores records and no row is null by a
@@ -99,10 +20,9 @@ impl Array {
     pub fn present_records(&self) -> Option<&Records>
         ensures { HasRecords self.now (option_map (λ r. r.now) result) }
     {
-        match self.layout() {
-            Layout::Primitive(a) => a.present_records(),
-            Layout::Decimal(a) => a.present_records(),
-            _ => None,
+        match self.records() {
+            Some(records) => records.present_records(),
+            None => None,
         }
     }
 
@@ -117,9 +37,50 @@ impl Array {
         match self.layout() {
             Layout::Null(a) => a.slice_plain(start, end),
             Layout::Bool(a) => a.slice_plain(start, end),
-            Layout::Primitive(a) => a.slice_plain(start, end),
-            Layout::Decimal(a) => a.slice_plain(start, end),
+            Layout::Primitive(a) => a.rows().slice_plain(start, end),
+            Layout::Decimal(a) => a.rows().slice_plain(start, end),
             Layout::Constant(_) | Layout::Dict(_) | Layout::Filter(_) => None,
+        }
+    }
+
+    /// The records of its rows, null rows too, and a bit a row that says whether it is there. Some
+    /// exactly where the layout stores records and its validity is a column of layout `Bool`. It
+    /// takes no memory.
+    pub fn shown_records(&self) -> Option<(&Records, &BitBuffer)>
+        ensures rows { IfSome result (λ p. AreShownRowsOf self.now p.0.now p.1.now) }
+        ensures told { is_some result
+            ≡ (stores_records self.now.layout && is_bools self.now.cover) }
+    {
+        match self.records() {
+            Some(records) => records.shown_records(),
+            None => None,
+        }
+    }
+
+    /// Its rows as those of either layout that stores records; some exactly where it is one.
+    #[tactic(auto, using(vx_model::proofs::Layouts::layout_rows))]
+    pub fn records(&self) -> Option<&RecordArray>
+        ensures same { IfSome result (λ r. records_column r.now ≡ self.now) }
+        ensures told { is_some result ≡ stores_records self.now.layout }
+    {
+        match self.layout() {
+            Layout::Primitive(a) => Some(a.rows()),
+            Layout::Decimal(a) => Some(a.rows()),
+            _ => None,
+        }
+    }
+
+    /// The value that each row is; some exactly where it is of layout `Constant`: Vortex's
+    /// `as_constant`.
+    #[tactic(auto, using(vx_model::proofs::LazyRows::lazy_rows))]
+    pub fn as_constant(&self) -> Option<&Scalar>
+        ensures value { IfSome result (λ s. constant_column
+            (record { scalar = s.now; len = length self.now.rows }) ≡ self.now) }
+        ensures told { is_some result ≡ is_constant_layout self.now.layout }
+    {
+        match self.layout() {
+            Layout::Constant(a) => Some(a.scalar()),
+            _ => None,
         }
     }
 }

@@ -1,16 +1,12 @@
 //! The numbers of a column as positions, read by its records where it stores some, else from row to
 //! row.
 ghost use Rattle.std.specs.Prelude.{◌≡◌, None, Some, true, IfOk, IfSome};
-ghost use Rattle.vx_types.specs.TypeTree.{int_type_of, is_int_type, type_nullability};
+ghost use Rattle.vx_types.specs.TypeTree.{int_type_of, is_int_type};
 ghost use Rattle.vx_types.specs.declared.nullability.Nullability.TheVariants.{NonNullable};
 ghost use Rattle.vx_numbers.specs.Positions.{AllThere, first_bad, positions_of};
-ghost use Rattle.vx_model.specs.Dict.{dict_column};
-ghost use Rattle.vx_model.specs.Filter.{filter_column};
 ghost use Rattle.vx_model.specs.Numbers.{numbers_of};
 
 use crate::array::{Array, Layout};
-use crate::dict::DictArray;
-use crate::filter::FilterArray;
 use std::alloc::Global;
 use vx_bits::NoMemory;
 use vx_numbers::{
@@ -29,12 +25,11 @@ struct Rows<'a> {
 
 impl Numbers for Rows<'_> {
     ghost use Rattle.vx_types.specs.Nullability.{is_nullable};
-    ghost use Rattle.vx_types.specs.TypeTree.{type_nullability};
     ghost use Rattle.vx_model.specs.Numbers.{numbers_of};
 
     ghost numbers = { λ r. numbers_of r.array.now };
 
-    ghost nullable = { λ r. is_nullable (type_nullability r.array.now.dtype) };
+    ghost nullable = { λ r. is_nullable r.array.now.dtype.nullability };
 
     #[tactic(auto, using(crate::proofs::NumberLists::numbers))]
     fn len(&self) -> usize {
@@ -44,31 +39,6 @@ impl Numbers for Rows<'_> {
     #[tactic(auto, using(crate::proofs::NumberLists::numbers))]
     fn number(&self, i: usize) -> Option<i128> {
         self.array.number_at(i)
-    }
-}
-
-impl DictArray {
-    // Whether each of the values is one of `len` positions, as far as that is told at once.
-    #[cycle(told)]
-    #[tactic(auto, using(vx_model::proofs::LazyNumbers::lazy_numbers))]
-    fn tells_positions(&self, ptype: PType, len: usize) -> bool
-        requires { int_type_of (dict_column self.now).dtype ≡ Some ptype }
-        ensures { result ≡ true → first_bad len (numbers_of (dict_column self.now)) ≡ None }
-    {
-        self.values().tells_positions(ptype, len)
-    }
-}
-
-impl FilterArray {
-    // Whether each of the child's numbers is one of `len` positions, as far as that is told at
-    // once.
-    #[cycle(told)]
-    #[tactic(auto, using(vx_model::proofs::LazyNumbers::lazy_numbers))]
-    fn tells_positions(&self, ptype: PType, len: usize) -> bool
-        requires { int_type_of (filter_column self.now).dtype ≡ Some ptype }
-        ensures { result ≡ true → first_bad len (numbers_of (filter_column self.now)) ≡ None }
-    {
-        self.child().tells_positions(ptype, len)
     }
 }
 
@@ -92,7 +62,7 @@ impl Array {
     // column, or those that its rows are of. So no row of a lazy column is looked up by its rank
     // where all rows that it is made of are positions.
     #[cycle(told)]
-    fn tells_positions(&self, ptype: PType, len: usize) -> bool
+    pub(crate) fn tells_positions(&self, ptype: PType, len: usize) -> bool
         requires { int_type_of self.now.dtype ≡ Some ptype }
         ensures { result ≡ true → first_bad len (numbers_of self.now) ≡ None }
     {
@@ -130,7 +100,7 @@ impl Array {
         ensures picks { IfOk result
             (λ p. p ≡ record { picks = positions_of (numbers_of self.now); bound = len }) }
         ensures there { IfOk result
-            (λ p. type_nullability self.now.dtype ≡ NonNullable → AllThere p.picks) }
+            (λ p. self.now.dtype.nullability ≡ NonNullable → AllThere p.picks) }
     {
         if let Some(values) = self.present_records() {
             return picks_present(alloc, ptype, values, len);

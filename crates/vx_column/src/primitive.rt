@@ -1,45 +1,44 @@
 //! Layout `Primitive`: a record of a primitive type a row.
-ghost use Rattle.std.specs.Prelude.{◌≡◌, length, true, None};
+ghost use Rattle.std.specs.Prelude.{◌≡◌, true, None};
 ghost use Rattle.vx_bits.specs.Results.{ok_unless};
 ghost use Rattle.vx_bits.specs.Records.{records_of, width_of};
-ghost use Rattle.vx_model.specs.Valid.{is_fitting};
-ghost use Rattle.vx_model.specs.Primitive.{primitive_fault, primitive_column, primitive_with};
+ghost use Rattle.vx_types.specs.TypeTree.{primitive_kind, is_primitive_kind};
+ghost use Rattle.vx_model.specs.Records.{records_fault, records_column};
+ghost use Rattle.vx_column.specs.Records.{record_parts};
 ghost use Rattle.vx_column.specs.Validity.{valid_of};
-ghost use Rattle.vx_column.specs.Primitive.{primitive_parts};
+ghost use Rattle.vx_column.specs.declared.records.RecordType.TheVariants.{Primitive};
 
-use crate::array::{Array, Layout};
+use crate::array::Array;
+use crate::records::{RecordArray, RecordType};
 use crate::validity::Validity;
 use std::marker::Model;
 use vx_bits::Records;
-use vx_types::{ColumnError, DType, PType};
+use vx_types::{ColumnError, PType};
 
 /// A column of records of a primitive type: Vortex's `PrimitiveArray`.
 #[cycle(array)]
 #[derive(Drop)]
 pub struct PrimitiveArray {
-    ptype: PType,
-    values: Records,
-    validity: Validity,
+    rows: RecordArray,
 }
 
 impl Model for PrimitiveArray {
-    ghost use Rattle.vx_model.specs.Primitive.{PrimitiveParts, coded_primitive};
+    ghost use Rattle.vx_model.specs.Records.{RecordParts, coded_records};
 
-    ghost Value = { PrimitiveParts };
+    ghost Value = { RecordParts };
 
-    ghost coded = { coded_primitive };
+    ghost coded = { coded_records };
 
-    ghost use Rattle.std.specs.Prelude.{◌≡◌, None};
+    ghost use Rattle.std.specs.Prelude.{◌≡◌, ◌+◌, true};
     ghost use Rattle.std.proofs.Common.{arith};
+    ghost use Rattle.vx_types.specs.TypeTree.{is_primitive_kind};
     ghost use Rattle.vx_model.specs.Valid.{valid_size};
-    ghost use Rattle.vx_model.specs.Primitive.{primitive_fault};
-    ghost use Rattle.vx_column.specs.Primitive.{primitive_parts};
 
-    ghost view = { λ a. primitive_parts a.ptype a.values a.validity };
+    ghost view = { λ a. a.rows };
 
-    ghost invariant = { λ a. primitive_fault (primitive_parts a.ptype a.values a.validity) ≡ None };
+    ghost invariant = { λ a. is_primitive_kind a.rows.kind ≡ true };
 
-    ghost size = { λ p. valid_size p.valid };
+    ghost size = { λ p. valid_size p.valid + 1 };
 
     ghost size_decreases = { λ a h. Prim.grind arith };
 }
@@ -54,58 +53,55 @@ impl PrimitiveArray {
         values: Records,
         validity: Validity,
     ) -> Result<PrimitiveArray, ColumnError>
-        ensures { result ≡ ok_unless (primitive_fault (primitive_parts ptype values validity))
-            (primitive_parts ptype values validity) }
+        ensures { result
+            ≡ ok_unless (records_fault (record_parts (RecordType.Primitive ptype) values validity))
+            (record_parts (RecordType.Primitive ptype) values validity) }
     {
-        if ptype.width() != values.width() {
-            return Err(ColumnError::WrongWidth);
-        }
-        if !validity.is_fitting(values.len()) {
-            return Err(ColumnError::BadValidity);
-        }
-        Ok(PrimitiveArray {
-            ptype,
-            values,
-            validity,
-        })
+        let rows = RecordArray::try_new(RecordType::Primitive(ptype), values, validity)?;
+        Ok(PrimitiveArray { rows })
+    }
+
+    // The column of these rows.
+    pub(crate) fn of(rows: RecordArray) -> PrimitiveArray
+        requires { is_primitive_kind rows.kind ≡ true }
+        ensures { result ≡ rows }
+    {
+        PrimitiveArray { rows }
     }
 
     /// The type of its records.
     pub fn ptype(&self) -> PType
-        ensures { result ≡ self.now.ptype }
+        ensures { primitive_kind result ≡ self.now.kind }
     {
-        self.ptype
+        match self.rows.record_type() {
+            RecordType::Primitive(ptype) => ptype,
+            RecordType::Decimal(_) => unreachable!(),
+        }
+    }
+
+    /// Its rows, as those of either layout of records.
+    pub fn rows(&self) -> &RecordArray
+        ensures value { result.now ≡ self.now }
+        ensures kind { is_primitive_kind self.now.kind ≡ true }
+    {
+        &self.rows
     }
 
     /// Its records, one a row, null rows too.
     pub fn values(&self) -> &Records
         ensures records { records_of result.now ≡ self.now.records }
         ensures width { width_of result.now ≡ self.now.width }
-        ensures valid { primitive_fault self.now ≡ None }
+        ensures valid { records_fault self.now ≡ None }
     {
-        &self.values
+        self.rows.values()
     }
 
     /// Which rows are there.
     pub fn validity(&self) -> &Validity
         ensures value { valid_of result.now ≡ self.now.valid }
-        ensures valid { primitive_fault self.now ≡ None }
+        ensures valid { records_fault self.now ≡ None }
     {
-        &self.validity
-    }
-
-    /// The same type over other records and another validity: what a step leaves. It takes no
-    /// memory.
-    pub fn with_rows(&self, values: Records, validity: Validity) -> PrimitiveArray
-        requires width { width_of values ≡ self.now.width }
-        requires fitting { is_fitting (valid_of validity) (length (records_of values)) ≡ true }
-        ensures { result ≡ primitive_with self.now (records_of values) (valid_of validity) }
-    {
-        PrimitiveArray {
-            ptype: self.ptype,
-            values,
-            validity,
-        }
+        self.rows.validity()
     }
 
     /// The same column once more. It takes no memory.
@@ -113,19 +109,15 @@ impl PrimitiveArray {
         ensures { result ≡ self.now }
     {
         PrimitiveArray {
-            ptype: self.ptype,
-            values: self.values.share(),
-            validity: self.validity.share(),
+            rows: self.rows.share(),
         }
     }
 
     /// The column of this layout. It takes no memory.
-    #[tactic(auto, using(vx_model::proofs::Layouts::layout_rows))]
     pub fn into_array(self) -> Array
-        ensures { result ≡ primitive_column self }
+        ensures { result ≡ records_column self }
     {
-        let dtype = DType::Primitive(self.ptype, self.validity.nullability());
-        let len = self.values.len();
-        Array::new(dtype, len, Layout::Primitive(self))
+        let PrimitiveArray { rows } = self;
+        rows.into_array()
     }
 }

@@ -1,9 +1,16 @@
 //! Which rows of a column are there, and which are null.
-ghost use Rattle.std.specs.Prelude.{◌≡◌};
-ghost use Rattle.vx_model.specs.Valid.{is_fitting, nullability_by, cover_by, is_constant_form};
+ghost use Rattle.std.specs.Prelude.{◌≡◌, ℕ, true, is_some, IfOk, IfSome};
+ghost use Rattle.vx_types.specs.declared.nullability.Nullability.TheVariants.{Nullable};
+ghost use Rattle.vx_model.specs.Bool.{bits_column};
+ghost use Rattle.vx_model.specs.Valid.{by_column, is_bools, is_fitting, is_present, nullability_by, cover_by, is_constant_form, present_bits};
+ghost use Rattle.vx_column.specs.Cell.{HasRow};
 ghost use Rattle.vx_column.specs.Validity.{valid_of};
 
-use crate::array::ArrayRef;
+use crate::array::{ArrayRef, Layout};
+use crate::boolean::BoolArray;
+use crate::cell::Cell;
+use std::alloc::Global;
+use vx_bits::{BitBuffer, NoMemory};
 use vx_types::{DType, Nullability};
 
 /// Which rows of a column are there: Vortex's `Validity`. The first three are the constant forms.
@@ -65,5 +72,46 @@ impl Validity {
             Validity::NonNullable | Validity::AllValid | Validity::AllInvalid => true,
             Validity::Array(_) => false,
         }
+    }
+
+    /// Whether row `i` isn't null.
+    #[cycle(cell)]
+    pub fn is_valid_at(&self, i: usize) -> bool
+        requires { HasRow (valid_of self.now) i }
+        ensures { result ≡ is_present (valid_of self.now) i }
+    {
+        match self {
+            Validity::NonNullable | Validity::AllValid => true,
+            Validity::AllInvalid => false,
+            Validity::Array(array) => match array.cell_at(i) {
+                Cell::Bit(bit) => bit,
+                _ => false,
+            },
+        }
+    }
+
+    // The bits that say which rows are there, where it is a column of layout `Bool`.
+    #[tactic(auto, using(crate::proofs::ShownBits::shown))]
+    pub(crate) fn bits(&self) -> Option<&BitBuffer>
+        ensures bits { IfSome result (λ b. (n : ℕ) → is_fitting (valid_of self.now) n ≡ true
+            → present_bits (valid_of self.now) n ≡ b.now.bits) }
+        ensures nullable { IfSome result (λ _. nullability_by (valid_of self.now) ≡ Nullable) }
+        ensures told { is_some result ≡ is_bools (cover_by (valid_of self.now)) }
+    {
+        match self {
+            Validity::NonNullable | Validity::AllValid | Validity::AllInvalid => None,
+            Validity::Array(array) => match array.layout() {
+                Layout::Bool(a) => Some(a.bits()),
+                _ => None,
+            },
+        }
+    }
+
+    /// The validity that is a column of these bits. `NoMemory` alone.
+    pub fn from_bits(alloc: Global, bits: BitBuffer) -> Result<Validity, NoMemory>
+        ensures { IfOk result (λ v. valid_of v ≡ by_column (bits_column bits.bits bits.offset)) }
+    {
+        let column = BoolArray::of(bits, Validity::NonNullable).into_array();
+        Ok(Validity::Array(column.into_ref(alloc)?))
     }
 }

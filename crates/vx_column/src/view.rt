@@ -37,14 +37,23 @@ impl<'a, V> ArrayView<'a, V> {
 
 impl Array {
     /// The name of its layout.
+    #[tactic(auto, using(vx_model::proofs::Layouts::layout_names))]
     pub fn layout_name(&self) -> LayoutName
         ensures { result ≡ self.now.layout }
     {
         match self.layout() {
             Layout::Null(_) => LayoutName::Null,
             Layout::Bool(_) => LayoutName::Bool,
-            Layout::Primitive(_) => LayoutName::Primitive,
-            Layout::Decimal(_) => LayoutName::Decimal,
+            Layout::Primitive(a) => {
+                // its records are of a primitive type
+                let _ = a.rows();
+                LayoutName::Primitive
+            }
+            Layout::Decimal(a) => {
+                // its records are of a decimal type
+                let _ = a.rows();
+                LayoutName::Decimal
+            }
             Layout::Constant(_) => LayoutName::Constant,
             Layout::Dict(_) => LayoutName::Dict,
             Layout::Filter(_) => LayoutName::Filter,

@@ -9,7 +9,7 @@ ghost use Rattle.vx_model.specs.Plain.{is_unwrapped};
 ghost use Rattle.vx_model.specs.Valid.{is_yes, all_invalid, cover_by, is_fitting, is_flat_cover, nullability_by, present_bits, shown_rows};
 ghost use Rattle.vx_types.specs.RowValue.{null, is_null};
 ghost use Rattle.vx_types.specs.Nullability.{is_nullable};
-ghost use Rattle.vx_types.specs.TypeTree.{type_nullability, with_nullability};
+ghost use Rattle.vx_types.specs.TypeTree.{with_nullability};
 ghost use Rattle.vx_column.specs.Validity.{valid_of};
 ghost use Rattle.vx_model.specs.Step.{IsSlice, IsCut, IsStep, IsTake};
 
@@ -43,7 +43,7 @@ pub(crate) fn filter_of(array: &ConstantArray, mask: &MaskValues) -> Array
 #[tactic(auto, using(vx_model::proofs::ConstantRows::nulls))]
 fn is_null(scalar: &Scalar) -> bool
     ensures value { result ≡ is_null scalar.now.row }
-    ensures nullable { result ≡ true → is_nullable (type_nullability scalar.now.dtype) ≡ true }
+    ensures nullable { result ≡ true → is_nullable scalar.now.dtype.nullability ≡ true }
 {
     match scalar.value() {
         ScalarValue::Null => true,

@@ -4,10 +4,10 @@ ghost use Rattle.vx_types.specs.TypeTree.{is_flat};
 ghost use Rattle.vx_model.specs.Plain.{is_unwrapped};
 ghost use Rattle.vx_model.specs.Step.{IsStep};
 
-use crate::{boolean, constant, decimal, dict, filter_layout, primitive};
+use crate::{constant, dict, filter_layout, stored};
 use std::alloc::Global;
 use vx_bits::NoMemory;
-use vx_column::{Array, Layout};
+use vx_column::{Array, Layout, Stored};
 use vx_mask::Policy;
 
 /// The same rows and type, unwrapped where the type is flat. `NoMemory` alone, and never where the
@@ -21,9 +21,9 @@ pub fn execute(alloc: Global, array: &Array, policy: &Policy) -> Result<Array, N
 {
     match array.layout() {
         Layout::Null(_) => Ok(array.share()),
-        Layout::Bool(a) => boolean::execute_of(alloc, a, policy),
-        Layout::Primitive(a) => primitive::execute_of(alloc, a, policy),
-        Layout::Decimal(a) => decimal::execute_of(alloc, a, policy),
+        Layout::Bool(a) => stored::execute_of(alloc, Stored::Bits(a), policy),
+        Layout::Primitive(a) => stored::execute_of(alloc, Stored::Records(a.rows()), policy),
+        Layout::Decimal(a) => stored::execute_of(alloc, Stored::Records(a.rows()), policy),
         Layout::Constant(a) => constant::execute_of(alloc, a),
         Layout::Dict(a) => dict::execute_of(alloc, a, policy),
         Layout::Filter(a) => filter_layout::execute_of(alloc, a, policy),

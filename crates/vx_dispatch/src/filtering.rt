@@ -6,10 +6,10 @@ ghost use Rattle.vx_model.specs.Plain.{is_null_layout, is_plain};
 ghost use Rattle.vx_model.specs.Step.{IsCut};
 
 use crate::slicing::slice;
-use crate::{boolean, constant, decimal, dict, filter_layout, null, primitive};
+use crate::{constant, dict, filter_layout, null, stored};
 use std::alloc::Global;
 use vx_bits::NoMemory;
-use vx_column::{Array, Layout};
+use vx_column::{Array, Layout, Stored};
 use vx_mask::{Mask, MaskValues, Policy};
 
 // The rows at the set positions of a mask that selects some and not all.
@@ -27,9 +27,9 @@ pub(crate) fn filter_values(
 {
     match array.layout() {
         Layout::Null(a) => Ok(null::filter_of(a, mask)),
-        Layout::Bool(a) => boolean::filter_of(alloc, a, mask, policy),
-        Layout::Primitive(a) => primitive::filter_of(alloc, a, mask, policy),
-        Layout::Decimal(a) => decimal::filter_of(alloc, a, mask, policy),
+        Layout::Bool(a) => stored::filter_of(alloc, Stored::Bits(a), mask, policy),
+        Layout::Primitive(a) => stored::filter_of(alloc, Stored::Records(a.rows()), mask, policy),
+        Layout::Decimal(a) => stored::filter_of(alloc, Stored::Records(a.rows()), mask, policy),
         Layout::Constant(a) => Ok(constant::filter_of(a, mask)),
         Layout::Dict(a) => dict::filter_of(alloc, a, mask, policy),
         Layout::Filter(a) => filter_layout::filter_of(alloc, a, mask, policy),

@@ -1,19 +1,17 @@
 //! One step over a column of any layout: this crate alone goes over the layouts.
 #![tactic(auto)]
 
-mod boolean;
 mod constant;
-mod decimal;
 mod dict;
 mod executing;
 mod filter_layout;
 mod filtering;
 mod materialized;
 mod null;
-mod primitive;
 mod ranges;
 mod runs;
 mod slicing;
+mod stored;
 mod taking;
 mod validity;
 

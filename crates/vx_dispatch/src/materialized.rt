@@ -26,7 +26,7 @@ fn is_big_take(fields: &PolicyFields, rows: usize, indices: usize) -> bool
 /// least as many as the rows, and these at least `big_filtered_len`; numbers also where the indices
 /// are at least `big_take_len` and at least `big_take_ratio` times the rows.
 pub fn is_materialized(dtype: &DType, rows: usize, indices: usize, fields: &PolicyFields) -> bool
-    ensures { result ≡ is_materialized_by fields.now (type_of dtype.now) rows indices }
+    ensures { result ≡ is_materialized_by fields.now (type_of dtype.now).kind rows indices }
 {
     match dtype {
         DType::Bool(_) => true,

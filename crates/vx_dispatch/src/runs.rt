@@ -5,10 +5,10 @@ ghost use Rattle.vx_pieces.specs.Pieces.{expand, first_from, is_sound};
 ghost use Rattle.vx_pieces.specs.Runs.{run_numbers};
 ghost use Rattle.vx_model.specs.Step.{IsTake};
 
-use crate::{decimal, primitive};
+use crate::stored::take_runs_of;
 use std::alloc::Global;
 use vx_bits::NoMemory;
-use vx_column::{Array, Layout, Runs};
+use vx_column::{Array, Runs};
 use vx_pieces::{Indices, PiecesError, PiecewiseSequence};
 
 // The take by runs: of a column that stores records whose validity is a constant form, by a
@@ -24,10 +24,9 @@ pub(crate) fn take_by_runs(
 {
     match indices {
         Indices::Array(_) => Ok(None),
-        Indices::Pieces(pieces) => match array.layout() {
-            Layout::Primitive(a) => primitive::take_runs_of(alloc, a, pieces),
-            Layout::Decimal(a) => decimal::take_runs_of(alloc, a, pieces),
-            _ => Ok(None),
+        Indices::Pieces(pieces) => match array.records() {
+            Some(records) => take_runs_of(alloc, records, pieces),
+            None => Ok(None),
         },
     }
 }

@@ -3,10 +3,10 @@ ghost use Rattle.std.specs.Prelude.{◌≡◌, ◌≤◌, length, true, IfOk, Is
 ghost use Rattle.vx_model.specs.Plain.{is_plain};
 ghost use Rattle.vx_model.specs.Step.{IsSlice};
 
-use crate::{boolean, constant, decimal, dict, filter_layout, null, primitive};
+use crate::{constant, dict, filter_layout, null, stored};
 use std::alloc::Global;
 use vx_bits::NoMemory;
-use vx_column::{Array, Layout};
+use vx_column::{Array, Layout, Stored};
 
 /// The rows from `start` up to `end`. `NoMemory` alone, and never over a plain column.
 #[cycle(slice)]
@@ -18,9 +18,9 @@ pub fn slice(alloc: Global, array: &Array, start: usize, end: usize) -> Result<A
 {
     match array.layout() {
         Layout::Null(a) => Ok(null::slice_of(a, start, end)),
-        Layout::Bool(a) => boolean::slice_of(alloc, a, start, end),
-        Layout::Primitive(a) => primitive::slice_of(alloc, a, start, end),
-        Layout::Decimal(a) => decimal::slice_of(alloc, a, start, end),
+        Layout::Bool(a) => stored::slice_of(alloc, Stored::Bits(a), start, end),
+        Layout::Primitive(a) => stored::slice_of(alloc, Stored::Records(a.rows()), start, end),
+        Layout::Decimal(a) => stored::slice_of(alloc, Stored::Records(a.rows()), start, end),
         Layout::Constant(a) => Ok(constant::slice_of(a, start, end)),
         Layout::Dict(a) => dict::slice_of(alloc, a, start, end),
         Layout::Filter(a) => filter_layout::slice_of(alloc, a, start, end),

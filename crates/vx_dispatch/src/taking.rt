@@ -8,10 +8,10 @@ ghost use Rattle.vx_model.specs.Step.{IsTake};
 
 use crate::executing::execute;
 use crate::runs::take_by_runs;
-use crate::{boolean, constant, decimal, dict, filter_layout, null, primitive};
+use crate::{constant, dict, filter_layout, null, stored};
 use std::alloc::Global;
 use vx_bits::NoMemory;
-use vx_column::{Array, Layout, Nullability};
+use vx_column::{Array, Layout, Nullability, Stored};
 use vx_mask::Policy;
 use vx_pieces::{Indices, column_picks};
 use vx_take::Picks;
@@ -32,9 +32,21 @@ pub(crate) fn take_picks(
 {
     match array.layout() {
         Layout::Null(a) => Ok(null::take_of(a, &picks, nullability)),
-        Layout::Bool(a) => boolean::take_of(alloc, a, &picks, nullability, policy),
-        Layout::Primitive(a) => primitive::take_of(alloc, a, &picks, nullability, policy),
-        Layout::Decimal(a) => decimal::take_of(alloc, a, &picks, nullability, policy),
+        Layout::Bool(a) => stored::take_of(alloc, Stored::Bits(a), &picks, nullability, policy),
+        Layout::Primitive(a) => stored::take_of(
+            alloc,
+            Stored::Records(a.rows()),
+            &picks,
+            nullability,
+            policy,
+        ),
+        Layout::Decimal(a) => stored::take_of(
+            alloc,
+            Stored::Records(a.rows()),
+            &picks,
+            nullability,
+            policy,
+        ),
         Layout::Constant(a) => constant::take_of(alloc, a, &picks, nullability),
         Layout::Dict(a) => dict::take_of(alloc, a, picks, nullability, policy),
         Layout::Filter(a) => filter_layout::take_of(alloc, a, picks, nullability, policy),

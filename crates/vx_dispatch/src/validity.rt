@@ -16,7 +16,7 @@ use crate::slicing::slice;
 use crate::{constant, dict, filter_layout};
 use std::alloc::Global;
 use vx_bits::{BitBuffer, NoMemory};
-use vx_column::{Array, BoolArray, Layout, Nullability, Validity};
+use vx_column::{Array, Layout, Nullability, Validity};
 use vx_mask::{MaskValues, Policy};
 use vx_take::{Picks, gather_bits, valid_bits};
 
@@ -96,18 +96,18 @@ pub(crate) fn taken_bits(
         Layout::Constant(a) => constant::bits_of(alloc, a, picks),
         Layout::Dict(a) => dict::bits_of(alloc, a, picks, policy),
         Layout::Filter(a) => filter_layout::bits_of(alloc, a, picks, policy),
-        Layout::Null(_) | Layout::Primitive(_) | Layout::Decimal(_) => unreachable!(),
+        Layout::Null(_) => unreachable!(),
+        Layout::Primitive(a) => {
+            // no record is a bool
+            let _ = a.rows().record_type();
+            unreachable!()
+        }
+        Layout::Decimal(a) => {
+            // no record is a bool
+            let _ = a.rows().record_type();
+            unreachable!()
+        }
     }
-}
-
-// The validity that is a column of these bits.
-fn by_bits(alloc: Global, bits: BitBuffer) -> Result<Validity, NoMemory>
-    ensures { IfOk result (λ v. valid_of v ≡ by_column (bits_column bits.bits bits.offset)) }
-{
-    of_column(
-        alloc,
-        BoolArray::of(bits, Validity::NonNullable).into_array(),
-    )
 }
 
 // The validity that says which picks are there.
@@ -115,7 +115,7 @@ pub(crate) fn by_picks(alloc: Global, picks: &Picks) -> Result<Validity, NoMemor
     ensures { IfOk result
         (λ v. valid_of v ≡ by_column (bits_column (map is_some picks.now.picks) 0)) }
 {
-    by_bits(alloc, valid_bits(alloc, picks)?)
+    Validity::from_bits(alloc, valid_bits(alloc, picks)?)
 }
 
 /// The validity of the rows at the picks, where a null pick leaves a null. `nullability` says
@@ -140,7 +140,9 @@ pub fn take_validity(
     let _ = picks.bound();
     match (validity, nullability) {
         (Validity::AllInvalid, _) => Ok(Validity::AllInvalid),
-        (Validity::Array(array), _) => by_bits(alloc, taken_bits(alloc, array, picks, policy)?),
+        (Validity::Array(array), _) => {
+            Validity::from_bits(alloc, taken_bits(alloc, array, picks, policy)?)
+        }
         (Validity::NonNullable, Nullability::NonNullable) => Ok(Validity::NonNullable),
         (Validity::AllValid, Nullability::NonNullable) => Ok(Validity::AllValid),
         (Validity::NonNullable, Nullability::Nullable) => by_picks(alloc, picks),
@@ -156,6 +158,16 @@ fn see_bools(array: &Array)
 {
     match array.layout() {
         Layout::Bool(_) => {}
+        Layout::Primitive(a) => {
+            // no record is a bool
+            let _ = a.rows().record_type();
+            unreachable!()
+        }
+        Layout::Decimal(a) => {
+            // no record is a bool
+            let _ = a.rows().record_type();
+            unreachable!()
+        }
         _ => unreachable!(),
     }
 }

@@ -5,7 +5,7 @@ use Rattle.serde_json.specs.Find.{get, as_str, as_bool}
 use Rattle.vx_types.specs.declared.nullability.Nullability.{Nullability}
 use Rattle.vx_types.specs.declared.nullability.Nullability.TheVariants.{NonNullable, Nullable}
 use Rattle.vx_types.specs.PType.{width}
-use Rattle.vx_types.specs.TypeTree.{TypeTree, null_type, bool_type, primitive_type, decimal_type}
+use Rattle.vx_types.specs.TypeTree.{TypeKind, TypeTree, bool_kind, primitive_kind, decimal_kind, null_type, bool_type, primitive_type, decimal_type}
 use Rattle.vx_types.specs.RowValue.{RowValue, null, bit, bytes}
 use Rattle.vx_types.specs.Scalar.{scalar_fault}
 use Rattle.vx_model.specs.Column.{Column}
@@ -63,15 +63,15 @@ constant_type name d =
 -- ---- its value
 
 -- a value that isn't null
-abbrev pub value_in : TypeTree → Data → Option RowValue
-value_in (bool_type n) d = as_bool d >>= λ b. Some (bit b)
-value_in (primitive_type p n) d = value_or_zero (width p) p d >>= λ b. Some (bytes b)
-value_in (decimal_type p s w n) d = hex_or_zero w d >>= λ b. Some (bytes b)
-value_in t d = None
+abbrev pub value_in : TypeKind → Data → Option RowValue
+value_in bool_kind d = as_bool d >>= λ b. Some (bit b)
+value_in (primitive_kind p) d = value_or_zero (width p) p d >>= λ b. Some (bytes b)
+value_in (decimal_kind p s w) d = hex_or_zero w d >>= λ b. Some (bytes b)
+value_in k d = None
 
 -- a value of the type, or `null`
 unfoldable pub row_in : TypeTree → Data → Option RowValue
-row_in t d = if is_there d then value_in t d else Some null
+row_in t d = if is_there d then value_in t.kind d else Some null
 
 -- ---- the column
 

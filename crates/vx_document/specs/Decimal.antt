@@ -3,9 +3,10 @@ use Rattle.std.specs.Prelude.{ℕ, List, [], ◌∷◌, if◌then◌else◌, Opt
 use Rattle.serde_json.specs.Data.{Data, Items}
 use Rattle.serde_json.specs.Find.{get, as_array}
 use Rattle.vx_types.specs.Decimal.{DecimalValue}
+use Rattle.vx_types.specs.TypeTree.{decimal_kind}
 use Rattle.vx_model.specs.Column.{Column}
 use Rattle.vx_model.specs.Valid.{Valid}
-use Rattle.vx_model.specs.Decimal.{DecimalParts, decimals_fault, decimal_column}
+use Rattle.vx_model.specs.Records.{RecordParts, records_fault, records_column}
 use Rattle.vx_json.specs.Meaning.{◌>>=◌, unless_fault}
 use Rattle.vx_json.specs.Members.{is_closed}
 use Rattle.vx_json.specs.Items.{each}
@@ -13,15 +14,20 @@ use Rattle.vx_json.specs.Decimals.{decimal_of}
 use Rattle.vx_json.specs.Values.{hex_or_zero}
 use Rattle.vx_document.specs.Validity.{validity_beside}
 
-abbrev pub decimal_parts : DecimalValue → List (List ℕ) → Valid → DecimalParts
+abbrev pub decimal_parts : DecimalValue → List (List ℕ) → Valid → RecordParts
 decimal_parts t records valid =
-    record { decimal = t; width = t.width; records = records; valid = valid }
+    record {
+      kind = decimal_kind t.precision t.scale t.width;
+      width = t.width;
+      records = records;
+      valid = valid;
+    }
 
 -- the column of these records, where the validity can be theirs
 unfoldable pub decimal_made : DecimalValue → List (List ℕ) → Valid → Option Column
 decimal_made t records valid =
-    unless_fault (decimals_fault (decimal_parts t records valid))
-    (decimal_column (decimal_parts t records valid))
+    unless_fault (records_fault (decimal_parts t records valid))
+    (records_column (decimal_parts t records valid))
 
 -- a list of records and nulls
 unfoldable pub decimal_by_items : DecimalValue → Option Valid → Items → Option Column

@@ -3,10 +3,11 @@ use Rattle.std.specs.Prelude.{ℕ, List, [], ◌∷◌, if◌then◌else◌, Opt
 use Rattle.serde_json.specs.Data.{Data, Items}
 use Rattle.serde_json.specs.Find.{get, as_str, as_array}
 use Rattle.vx_types.specs.PType.{width, is_int}
+use Rattle.vx_types.specs.TypeTree.{primitive_kind}
 use Rattle.vx_types.specs.declared.ptype.PType.{PType}
 use Rattle.vx_model.specs.Column.{Column}
 use Rattle.vx_model.specs.Valid.{Valid}
-use Rattle.vx_model.specs.Primitive.{PrimitiveParts, primitive_fault, primitive_column}
+use Rattle.vx_model.specs.Records.{RecordParts, records_fault, records_column}
 use Rattle.vx_json.specs.Meaning.{◌>>=◌, unless_fault}
 use Rattle.vx_json.specs.Members.{is_closed}
 use Rattle.vx_json.specs.Items.{each}
@@ -15,15 +16,15 @@ use Rattle.vx_json.specs.Values.{ptype_named, value_or_zero, ramp_records}
 use Rattle.vx_json.specs.declared.wholes.TheConstants.{GREATEST_LEN}
 use Rattle.vx_document.specs.Validity.{validity_alone, validity_beside}
 
-abbrev pub primitive_parts : PType → List (List ℕ) → Valid → PrimitiveParts
+abbrev pub primitive_parts : PType → List (List ℕ) → Valid → RecordParts
 primitive_parts p records valid =
-    record { ptype = p; width = width p; records = records; valid = valid }
+    record { kind = primitive_kind p; width = width p; records = records; valid = valid }
 
 -- the column of these records, where the validity can be theirs
 unfoldable pub primitive_made : PType → List (List ℕ) → Valid → Option Column
 primitive_made p records valid =
-    unless_fault (primitive_fault (primitive_parts p records valid))
-    (primitive_column (primitive_parts p records valid))
+    unless_fault (records_fault (primitive_parts p records valid))
+    (records_column (primitive_parts p records valid))
 
 -- a list of values and nulls
 unfoldable pub primitive_by_items : PType → Option Valid → Items → Option Column

@@ -86,7 +86,7 @@ fn constant_type(name: &str, value: &Value) -> Result<DType, DocError>
 
 /// The value of the type that isn't null. `Malformed` where there is none.
 fn value_in(alloc: Global, dtype: &DType, value: &Value) -> Result<ScalarValue, DocError>
-    ensures { Gives scalar_row result (value_in (type_of dtype.now) (view value.now)) }
+    ensures { Gives scalar_row result (value_in (type_of dtype.now).kind (view value.now)) }
 {
     match dtype {
         DType::Null => Err(DocError::Malformed),

@@ -1,78 +1,37 @@
 -- A value that is stored row by row gives a row of it in each place, and null where none is there.
-use Rattle.std.proofs.Common.{◌≡◌, ℕ, Bool, true, false, cond, List, length, map, Option, None, Some, refl, sym, ap, ◌∙◌, subst, eq-eqb}
+use Rattle.std.proofs.Common.{◌≡◌, ℕ, Bool, true, false, cond, List, length, map, None, Some, refl, sym, ap, ◌∙◌, subst}
 use Rattle.std.specs.Prelude.{replicate, Result, Ok, Err, IfOk}
-use Rattle.std.proofs.lemmas.Bool.{eqb-true}
-use Rattle.vx_types.specs.PType.{width}
-use Rattle.vx_model.specs.Column.{Column}
 use Rattle.std.proofs.lemmas.List.{length-replicate}
-use Rattle.vx_types.specs.TypeTree.{null_type, bool_type, primitive_type, decimal_type}
+use Rattle.vx_types.specs.TypeTree.{TypeKind, TypeTree, bool_kind, is_bool_kind, null_type}
 use Rattle.vx_types.specs.RowValue.{RowValue, null, bit, bytes, list, fields, tagged}
-use Rattle.vx_types.specs.Scalar.{TypedRow, scalar_fault}
-use Rattle.vx_types.specs.Decimal.{DecimalValue}
-use Rattle.vx_types.specs.declared.nullability.Nullability.{Nullability}
-use Rattle.vx_types.specs.declared.ptype.PType.{PType}
-use Rattle.vx_bits.specs.Results.{ok_unless}
-use Rattle.vx_model.specs.Primitive.{PrimitiveParts, primitive_fault}
-use Rattle.vx_model.specs.Decimal.{DecimalParts, decimals_fault}
-use Rattle.vx_model.specs.Valid.{Valid, all_invalid, is_fitting, present_bits, shown_rows, stored_rows}
+use Rattle.vx_types.specs.Scalar.{TypedRow, is_of_bytes, is_of_kind, is_as_wide, scalar_fault}
+use Rattle.vx_types.specs.declared.error.ColumnError.TheVariants.{WrongType, WrongWidth}
+use Rattle.vx_model.specs.Column.{Column}
+use Rattle.vx_model.specs.Valid.{Valid, all_invalid, present_bits, shown_rows, stored_rows}
 use Rattle.vx_model.specs.Null.{null_column}
 use Rattle.vx_model.proofs.UnwrappedForms.{map-replicate, none_shown}
 use Rattle.vx_flat.specs.Scalars.{bit_or_false, bytes_or_zeros}
-
--- a null type has nulls alone
-null_alone : (x : RowValue) → scalar_fault null_type x ≡ None → x ≡ null
-null_alone null h = refl
-null_alone (bit b) h = cc
-null_alone (bytes b) h = cc
-null_alone (list xs) h = cc
-null_alone (fields xs) h = cc
-null_alone (tagged n x) h = cc
-
--- none of one fault
-no_fault : {E : Type 0} (b : Bool) (e : E) → cond b None (Some e) ≡ None → b ≡ true
-no_fault true e h = refl
-no_fault false e h = cc
-
--- what is stored is as long as the type says
-pub long-primitive : (p : PType) (m : Nullability) (x : RowValue) → scalar_fault (primitive_type p m) x ≡ None → length (bytes_or_zeros (width p) x) ≡ width p
-long-primitive p m null h = length-replicate (width p) 0
-long-primitive p m (bytes b) h = eqb-true (length b) (width p) (no_fault _ _ h)
-long-primitive p m (bit b) h = cc
-long-primitive p m (list xs) h = cc
-long-primitive p m (fields xs) h = cc
-long-primitive p m (tagged k x) h = cc
-
-pub long-decimal : (d : DecimalValue) (m : Nullability) (x : RowValue) → scalar_fault (decimal_type d.precision d.scale d.width m) x ≡ None → length (bytes_or_zeros d.width x) ≡ d.width
-long-decimal d m null h = length-replicate d.width 0
-long-decimal d m (bytes b) h = eqb-true (length b) d.width (no_fault _ _ h)
-long-decimal d m (bit b) h = cc
-long-decimal d m (list xs) h = cc
-long-decimal d m (fields xs) h = cc
-long-decimal d m (tagged k x) h = cc
 
 -- what holds of a column holds of a result that is it
 pub of_column : {E : Type 0} (P : Column → Type 0) (r : Result Column E) (k : Column) → IfOk r (λ a. a ≡ k) → P k → IfOk r P
 of_column P (Ok a) k h p = subst P (sym h) p
 of_column P (Err e) k h p = h
 
--- what a constructor makes, and that it makes something where there is no fault
-pub made : {T E : Type 0} (fault : Option E) (value a : T) → ok_unless fault value ≡ Ok a → a ≡ value
-made None value a h = cc
-made (Some e) value a h = cc
+-- a value is of its type's kind
+of_kind : (t : TypeTree) (x : RowValue) → scalar_fault t x ≡ None → is_of_kind t x ≡ true
+of_kind t x h = first (is_of_kind t x) (is_as_wide t x) h
+  where
+    first : (a b : Bool) → cond a (cond b None (Some WrongWidth)) (Some WrongType) ≡ None → a ≡ true
+    first true b h = refl
+    first false b h = cc
 
-pub not_refused : {T E : Type 0} (fault : Option E) (value : T) (e : E) → fault ≡ None → ok_unless fault value ≡ Err e → ⊥
-not_refused None value e n h = cc
-not_refused (Some f) value e n h = cc
-
-pub primitive_sound : (p : PrimitiveParts) (n : ℕ) (x : List ℕ) → p.width ≡ width p.ptype → p.records ≡ replicate n x → is_fitting p.valid n ≡ true → primitive_fault p ≡ None
-primitive_sound p n x w r f =
-    let long : length p.records ≡ n = ap length r ∙ length-replicate n x in
-    rw (eq-eqb (width p.ptype) p.width (sym w), long, f) refl
-
-pub decimal_sound : (p : DecimalParts) (n : ℕ) (x : List ℕ) → p.width ≡ p.decimal.width → p.records ≡ replicate n x → is_fitting p.valid n ≡ true → decimals_fault p ≡ None
-decimal_sound p n x w r f =
-    let long : length p.records ≡ n = ap length r ∙ length-replicate n x in
-    rw (eq-eqb p.decimal.width p.width (sym w), long, f) refl
+null_alone : (x : RowValue) → is_of_kind null_type x ≡ true → x ≡ null
+null_alone null h = refl
+null_alone (bit b) h = cc
+null_alone (bytes b) h = cc
+null_alone (list xs) h = cc
+null_alone (fields xs) h = cc
+null_alone (tagged n x) h = cc
 
 -- where no row is there, the stored ones don't show
 hidden : (n : ℕ) (x y : RowValue) → shown_rows (replicate n false) (replicate n x) ≡ shown_rows (replicate n false) (replicate n y)
@@ -89,43 +48,36 @@ module _ {X : Type 0} (f : X → RowValue) (v : Valid) (n : ℕ) (x : X) where
   stored-nulls : v ≡ all_invalid → stored_rows v (map f (replicate n x)) ≡ shown_rows (present_bits v n) (replicate n null)
   stored-nulls e = stored-copies ∙ rw e (hidden n (f x) null)
 
-module _ (v : Valid) (n : ℕ) where
-  bools : (m : Nullability) (x : RowValue) → scalar_fault (bool_type m) x ≡ None → (x ≡ null → v ≡ all_invalid) → stored_rows v (map bit (replicate n (bit_or_false x))) ≡ shown_rows (present_bits v n) (replicate n x)
-  bools m null h none = stored-nulls bit v n false (none refl)
-  bools m (bit b) h none = stored-copies bit v n b
-  bools m (bytes b) h none = cc
-  bools m (list xs) h none = cc
-  bools m (fields xs) h none = cc
-  bools m (tagged k x) h none = cc
+module _ (t : TypeTree) (v : Valid) (n : ℕ) where
+  bits_of : (x : RowValue) → is_bool_kind t.kind ≡ true → is_of_kind t x ≡ true → (x ≡ null → v ≡ all_invalid) → stored_rows v (map bit (replicate n (bit_or_false x))) ≡ shown_rows (present_bits v n) (replicate n x)
+  bits_of null k h none = stored-nulls bit v n false (none refl)
+  bits_of (bit b) k h none = stored-copies bit v n b
+  bits_of (bytes b) k h none = no_bytes t.kind k h
+    where
+      no_bytes : {Y : Type 0} (k : TypeKind) → is_bool_kind k ≡ true → is_of_bytes k ≡ true → Y
+      no_bytes bool_kind k h = cc
+      no_bytes k e h = cc
+  bits_of (list xs) k h none = cc
+  bits_of (fields xs) k h none = cc
+  bits_of (tagged i x) k h none = cc
 
-  primitives : (p : PType) (m : Nullability) (w : ℕ) (x : RowValue) → scalar_fault (primitive_type p m) x ≡ None → (x ≡ null → v ≡ all_invalid) → stored_rows v (map bytes (replicate n (bytes_or_zeros w x))) ≡ shown_rows (present_bits v n) (replicate n x)
-  primitives p m w null h none = stored-nulls bytes v n _ (none refl)
-  primitives p m w (bytes b) h none = stored-copies bytes v n b
-  primitives p m w (bit b) h none = cc
-  primitives p m w (list xs) h none = cc
-  primitives p m w (fields xs) h none = cc
-  primitives p m w (tagged k x) h none = cc
+  bytes_of : (w : ℕ) (x : RowValue) → is_bool_kind t.kind ≡ false → is_of_kind t x ≡ true → (x ≡ null → v ≡ all_invalid) → stored_rows v (map bytes (replicate n (bytes_or_zeros w x))) ≡ shown_rows (present_bits v n) (replicate n x)
+  bytes_of w null k h none = stored-nulls bytes v n _ (none refl)
+  bytes_of w (bytes b) k h none = stored-copies bytes v n b
+  bytes_of w (bit b) k h none = let no : false ≡ true = sym k ∙ h in cc
+  bytes_of w (list xs) k h none = cc
+  bytes_of w (fields xs) k h none = cc
+  bytes_of w (tagged i x) k h none = cc
 
-  decimals : (d : DecimalValue) (m : Nullability) (w : ℕ) (x : RowValue) → scalar_fault (decimal_type d.precision d.scale d.width m) x ≡ None → (x ≡ null → v ≡ all_invalid) → stored_rows v (map bytes (replicate n (bytes_or_zeros w x))) ≡ shown_rows (present_bits v n) (replicate n x)
-  decimals d m w null h none = stored-nulls bytes v n _ (none refl)
-  decimals d m w (bytes b) h none = stored-copies bytes v n b
-  decimals d m w (bit b) h none = cc
-  decimals d m w (list xs) h none = cc
-  decimals d m w (fields xs) h none = cc
-  decimals d m w (tagged k x) h none = cc
-
--- the rows that are stored for a value of each type
+-- the rows that are stored for a value
 module _ (s : TypedRow) (sound : scalar_fault s.dtype s.row ≡ None) (v : Valid) (n : ℕ) (none : s.row ≡ null → v ≡ all_invalid) where
-  pub stored-null : s.dtype ≡ null_type → (null_column n).rows ≡ shown_rows (present_bits v n) (replicate n s.row)
-  stored-null t =
-      let x : s.row ≡ null = null_alone s.row (ap (λ t. scalar_fault t s.row) (sym t) ∙ sound) in
+  pub rows-null : s.dtype ≡ null_type → (null_column n).rows ≡ shown_rows (present_bits v n) (replicate n s.row)
+  rows-null t =
+      let x : s.row ≡ null = null_alone s.row (ap (λ t. is_of_kind t s.row) (sym t) ∙ of_kind s.dtype s.row sound) in
       rw (x, none x) (sym (none_shown n (replicate n null) (length-replicate n null)))
 
-  pub stored-bools : (m : Nullability) → s.dtype ≡ bool_type m → stored_rows v (map bit (replicate n (bit_or_false s.row))) ≡ shown_rows (present_bits v n) (replicate n s.row)
-  stored-bools m t = bools v n m s.row (ap (λ t. scalar_fault t s.row) (sym t) ∙ sound) none
+  pub rows-bits : is_bool_kind s.dtype.kind ≡ true → stored_rows v (map bit (replicate n (bit_or_false s.row))) ≡ shown_rows (present_bits v n) (replicate n s.row)
+  rows-bits k = bits_of s.dtype v n s.row k (of_kind s.dtype s.row sound) none
 
-  pub stored-primitives : (p : PType) (m : Nullability) (w : ℕ) → s.dtype ≡ primitive_type p m → stored_rows v (map bytes (replicate n (bytes_or_zeros w s.row))) ≡ shown_rows (present_bits v n) (replicate n s.row)
-  stored-primitives p m w t = primitives v n p m w s.row (ap (λ t. scalar_fault t s.row) (sym t) ∙ sound) none
-
-  pub stored-decimals : (d : DecimalValue) (m : Nullability) (w : ℕ) → s.dtype ≡ decimal_type d.precision d.scale d.width m → stored_rows v (map bytes (replicate n (bytes_or_zeros w s.row))) ≡ shown_rows (present_bits v n) (replicate n s.row)
-  stored-decimals d m w t = decimals v n d m w s.row (ap (λ t. scalar_fault t s.row) (sym t) ∙ sound) none
+  pub rows-bytes : (w : ℕ) → is_bool_kind s.dtype.kind ≡ false → stored_rows v (map bytes (replicate n (bytes_or_zeros w s.row))) ≡ shown_rows (present_bits v n) (replicate n s.row)
+  rows-bytes w k = bytes_of s.dtype v n w s.row k (of_kind s.dtype s.row sound) none

@@ -1,14 +1,11 @@
 -- The bit or the bytes that are stored for a value.
-use Rattle.std.specs.Prelude.{ℕ, Bool, false, List, replicate}
+use Rattle.std.specs.Prelude.{ℕ, Bool, false, List, Option, Some, None, replicate}
 use Rattle.vx_types.specs.RowValue.{RowValue, bit, bytes}
-use Rattle.vx_types.specs.PType.{width}
-use Rattle.vx_types.specs.Decimal.{DecimalValue}
-use Rattle.vx_types.specs.declared.ptype.PType.{PType}
+use Rattle.vx_types.specs.TypeTree.{TypeKind, kind_width}
 use Rattle.vx_model.specs.Column.{Column}
 use Rattle.vx_model.specs.Valid.{Valid}
 use Rattle.vx_model.specs.Bool.{bool_column, bool_with}
-use Rattle.vx_model.specs.Primitive.{primitive_column}
-use Rattle.vx_model.specs.Decimal.{decimal_column}
+use Rattle.vx_model.specs.Records.{records_column}
 use Rattle.vx_flat.specs.Records.{zero_record}
 
 -- the bit of a value; false for a null
@@ -25,20 +22,17 @@ bytes_or_zeros w x = zero_record w
 abbrev pub copied_bits : RowValue → ℕ → Valid → Column
 copied_bits x n v = bool_column (bool_with (replicate n (bit_or_false x)) 0 v)
 
-abbrev pub copied_primitive : PType → RowValue → ℕ → Valid → Column
-copied_primitive p x n v =
-    primitive_column (record {
-      ptype = p;
-      width = width p;
-      records = replicate n (bytes_or_zeros (width p) x);
-      valid = v;
-    })
+-- as many bytes as the kind says
+abbrev pub width_or_none : Option ℕ → ℕ
+width_or_none None = 0
+width_or_none (Some w) = w
 
-abbrev pub copied_decimal : DecimalValue → RowValue → ℕ → Valid → Column
-copied_decimal d x n v =
-    decimal_column (record {
-      decimal = d;
-      width = d.width;
-      records = replicate n (bytes_or_zeros d.width x);
+abbrev pub copied_records : TypeKind → RowValue → ℕ → Valid → Column
+copied_records k x n v =
+    let w = width_or_none (kind_width k) in
+    records_column (record {
+      kind = k;
+      width = w;
+      records = replicate n (bytes_or_zeros w x);
       valid = v;
     })

@@ -1,18 +1,33 @@
-//! Layout `Bool`.
-ghost use Rattle.std.specs.Prelude.{◌≡◌, ◌≤◌, length, true, false, IfOk};
+//! Layout `Bool`: the bits, with the new validity handed in.
+ghost use Rattle.std.specs.Prelude.{◌≡◌, ◌≤◌, length, false, slice_range, IfOk};
 ghost use Rattle.std.specs.List.{items_where_true};
-ghost use Rattle.vx_bits.specs.BitBuffer.{true_count_of};
-ghost use Rattle.vx_model.specs.Valid.{is_fitting};
-ghost use Rattle.vx_model.specs.Bool.{bool_with};
-ghost use Rattle.vx_column.specs.Validity.{valid_of};
+ghost use Rattle.vx_types.specs.RowValue.{null};
 ghost use Rattle.vx_take.specs.Picks.{at};
+ghost use Rattle.vx_model.specs.Valid.{nullability_by, present_bits, IsAsPlain, IsLeft};
+ghost use Rattle.vx_model.specs.Bool.{bool_column, stored_bits};
+ghost use Rattle.vx_model.specs.Step.{IsCut, IsSlice, IsStep};
+ghost use Rattle.vx_column.specs.Validity.{valid_of};
+ghost use Rattle.vx_flat.specs.Left.{left_type};
 
 use std::alloc::Global;
 use vx_bitfilter::{filter_bitbuffer_by_mask, filter_sparse};
 use vx_bits::{BitBuffer, NoMemory};
-use vx_column::{BoolArray, Validity};
+use vx_column::{Array, BoolArray, Validity};
 use vx_mask::{MaskValues, Policy, Ratio};
 use vx_take::{Picks, gather_bits};
+
+// The rows from `start` up to `end`.
+pub(crate) fn slice_bool(array: &BoolArray, start: usize, end: usize, validity: Validity) -> Array
+    requires ordered { start ≤ end }
+    requires within { end ≤ length (stored_bits array.now).items }
+    requires left { IsLeft array.now.valid (nullability_by array.now.valid)
+        (slice_range (present_bits array.now.valid (length (stored_bits array.now).items)) start end)
+        (valid_of validity) }
+    requires plain { IsAsPlain array.now.valid (valid_of validity) }
+    ensures { IsSlice (bool_column array.now) start end result }
+{
+    BoolArray::of(array.bits().slice(start, end), validity).into_array()
+}
 
 // The bits at the set positions of `mask`: position by position where these are few.
 fn filter_bits(
@@ -38,37 +53,41 @@ fn is_sparse(mask: &MaskValues, below: Ratio) -> bool {
     set < u128::from(below.num) * mask.len() as u128
 }
 
-/// The bits at the set positions of `mask`, in order, with this validity. `NoMemory` alone.
-#[tactic(auto, using(vx_model::proofs::Items::kept_items))]
-pub fn filter_bool(
+// The rows at the set positions of `mask`.
+pub(crate) fn filter_bool(
     alloc: Global,
     array: &BoolArray,
     mask: &MaskValues,
     policy: &Policy,
     validity: Validity,
-) -> Result<BoolArray, NoMemory>
-    requires long { length mask.now.bits.bits ≡ length array.now.bits.bits }
-    requires fitting { is_fitting (valid_of validity) (true_count_of mask.now.bits.bits) ≡ true }
-    ensures { IfOk result (λ a. a ≡ bool_with
-        (items_where_true mask.now.bits.bits array.now.bits.bits) 0 (valid_of validity)) }
+) -> Result<Array, NoMemory>
+    requires long { length mask.now.bits.bits ≡ length (stored_bits array.now).items }
+    requires left { IsLeft array.now.valid (nullability_by array.now.valid)
+        (items_where_true mask.now.bits.bits
+        (present_bits array.now.valid (length (stored_bits array.now).items))) (valid_of validity) }
+    requires plain { IsAsPlain array.now.valid (valid_of validity) }
+    ensures { IfOk result (IsCut (bool_column array.now)
+        (items_where_true mask.now.bits.bits (bool_column array.now).rows)) }
 {
     let bits = filter_bits(alloc, array.bits(), mask, policy)?;
-    Ok(BoolArray::of(bits, validity))
+    Ok(BoolArray::of(bits, validity).into_array())
 }
 
-/// The bits at the picks, in order, with this validity. `NoMemory` alone.
-#[tactic(auto, using(vx_model::proofs::Takes::taken_items))]
-pub fn take_bool(
+// The rows at the picks.
+pub(crate) fn take_bool(
     alloc: Global,
     array: &BoolArray,
     picks: &Picks,
     validity: Validity,
-) -> Result<BoolArray, NoMemory>
-    requires within { picks.now.bound ≤ length array.now.bits.bits }
-    requires fitting { is_fitting (valid_of validity) (length picks.now.picks) ≡ true }
-    ensures { IfOk result (λ a. a
-        ≡ bool_with (at false array.now.bits.bits picks.now.picks) 0 (valid_of validity)) }
+) -> Result<Array, NoMemory>
+    requires bound { picks.now.bound ≡ length (stored_bits array.now).items }
+    requires left { IsLeft array.now.valid (nullability_by (valid_of validity))
+        (at false (present_bits array.now.valid (length (stored_bits array.now).items)) picks.now.picks)
+        (valid_of validity) }
+    ensures { IfOk result (IsStep (bool_column array.now)
+        (at null (bool_column array.now).rows picks.now.picks)
+        (left_type (bool_column array.now).dtype (valid_of validity))) }
 {
     let bits = gather_bits(alloc, array.bits(), picks, false)?;
-    Ok(BoolArray::of(bits, validity))
+    Ok(BoolArray::of(bits, validity).into_array())
 }

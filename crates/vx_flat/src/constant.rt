@@ -1,21 +1,20 @@
 //! One value for every row, stored row by row.
-ghost use Rattle.std.specs.Prelude.{◌≡◌, length, replicate, true, IfOk};
+ghost use Rattle.std.specs.Prelude.{◌≡◌, length, replicate, true, IfOk, IfSome};
 ghost use Rattle.vx_bits.specs.Records.{records_of, width_of};
 ghost use Rattle.vx_types.specs.Decimal.{is_width};
-ghost use Rattle.vx_types.specs.PType.{width};
 ghost use Rattle.vx_types.specs.RowValue.{null};
 ghost use Rattle.vx_types.specs.Scalar.{scalar_row};
-ghost use Rattle.vx_types.specs.TypeTree.{with_nullability};
+ghost use Rattle.vx_types.specs.TypeTree.{kind_width, with_nullability};
 ghost use Rattle.vx_model.specs.Valid.{all_invalid, cover_by, is_fitting, is_flat_cover, nullability_by, present_bits, shown_rows};
 ghost use Rattle.vx_model.specs.Plain.{is_unwrapped};
+ghost use Rattle.vx_column.specs.Records.{kind_of};
 ghost use Rattle.vx_column.specs.Validity.{valid_of};
-ghost use Rattle.vx_flat.specs.Scalars.{bit_or_false, bytes_or_zeros, copied_bits, copied_decimal, copied_primitive};
+ghost use Rattle.vx_flat.specs.Scalars.{bit_or_false, bytes_or_zeros, copied_bits, copied_records};
 
 use std::alloc::Global;
 use vx_bits::{BitBuffer, BitBuilder, Buffer, NoMemory, Records};
 use vx_column::{
-    Array, BoolArray, DType, DecimalArray, DecimalDType, NullArray, PType, PrimitiveArray, Scalar,
-    ScalarValue, Validity,
+    Array, BoolArray, DType, NullArray, RecordArray, RecordType, Scalar, ScalarValue, Validity,
 };
 
 // So many bits, each the value's; false for a null.
@@ -97,41 +96,23 @@ fn store_bits(
     Ok(BoolArray::of(bits, validity).into_array())
 }
 
-// `len` copies of the value's bytes, as a column of this primitive type with this validity.
-fn store_primitive(
+// `len` copies of the value's bytes, as a column of records of this type with this validity.
+#[tactic(auto, using(vx_model::proofs::Layouts::layout_rows))]
+fn store_records(
     alloc: Global,
-    ptype: PType,
+    record_type: RecordType,
     value: &ScalarValue,
     len: usize,
     validity: Validity,
 ) -> Result<Array, NoMemory>
     requires fitting { is_fitting (valid_of validity) len ≡ true }
-    requires wide { length (bytes_or_zeros (width ptype) (scalar_row value.now)) ≡ width ptype }
-    ensures { IfOk result
-        (λ a. a ≡ copied_primitive ptype (scalar_row value.now) len (valid_of validity)) }
+    requires wide { IfSome (kind_width (kind_of record_type))
+        (λ w. length (bytes_or_zeros w (scalar_row value.now)) ≡ w) }
+    ensures { IfOk result (λ a. a
+        ≡ copied_records (kind_of record_type) (scalar_row value.now) len (valid_of validity)) }
 {
-    let values = value_records(alloc, value, ptype.width(), len)?;
-    match PrimitiveArray::try_new(ptype, values, validity) {
-        Ok(array) => Ok(array.into_array()),
-        Err(_) => unreachable!(),
-    }
-}
-
-// The same of a decimal type.
-fn store_decimal(
-    alloc: Global,
-    decimal: DecimalDType,
-    value: &ScalarValue,
-    len: usize,
-    validity: Validity,
-) -> Result<Array, NoMemory>
-    requires fitting { is_fitting (valid_of validity) len ≡ true }
-    requires wide { length (bytes_or_zeros decimal.width (scalar_row value.now)) ≡ decimal.width }
-    ensures { IfOk result
-        (λ a. a ≡ copied_decimal decimal (scalar_row value.now) len (valid_of validity)) }
-{
-    let values = value_records(alloc, value, decimal.width() as usize, len)?;
-    match DecimalArray::try_new(decimal, values, validity) {
+    let values = value_records(alloc, value, record_type.width(), len)?;
+    match RecordArray::try_new(record_type, values, validity) {
         Ok(array) => Ok(array.into_array()),
         Err(_) => unreachable!(),
     }
@@ -157,7 +138,11 @@ pub fn store_scalar(
     match scalar.dtype() {
         DType::Null => Ok(NullArray::new(len).into_array()),
         DType::Bool(_) => store_bits(alloc, value, len, validity),
-        DType::Primitive(ptype, _) => store_primitive(alloc, *ptype, value, len, validity),
-        DType::Decimal(decimal, _) => store_decimal(alloc, *decimal, value, len, validity),
+        DType::Primitive(ptype, _) => {
+            store_records(alloc, RecordType::Primitive(*ptype), value, len, validity)
+        }
+        DType::Decimal(decimal, _) => {
+            store_records(alloc, RecordType::Decimal(*decimal), value, len, validity)
+        }
     }
 }

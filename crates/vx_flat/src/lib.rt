@@ -4,12 +4,11 @@
 
 mod boolean;
 mod constant;
-mod decimal;
-mod primitive;
+mod record_array;
 mod records;
+mod stored;
 
-pub use boolean::{filter_bool, take_bool};
 pub use constant::store_scalar;
-pub use decimal::{filter_decimal, take_decimal, take_decimal_runs};
-pub use primitive::{filter_primitive, take_primitive, take_primitive_runs};
+pub use record_array::take_array_runs;
 pub use records::{filter_records, take_records, take_runs};
+pub use stored::{filter_stored, slice_stored, take_stored, with_validity};

@@ -3,79 +3,31 @@ use Rattle.std.proofs.Common.{◌≡◌, ℕ, zero, suc, ◌-◌, Bool, true, fa
 use Rattle.std.specs.Prelude.{ℤ}
 use Rattle.std.specs.List.{items_where_true}
 use Rattle.std.specs.Option.{option_or}
-use Rattle.vx_types.specs.Nullability.{either_nullable}
-use Rattle.vx_types.specs.TypeTree as types
-use Rattle.vx_types.specs.TypeTree.{TypeTree, also_nullable, is_int_type, type_nullability, with_nullability}
-use Rattle.vx_types.specs.RowValue.{RowValue, null, bit, bytes, list, fields, tagged}
+use Rattle.vx_types.specs.TypeTree.{TypeTree}
+use Rattle.vx_types.specs.RowValue.{RowValue, null}
 use Rattle.vx_types.specs.declared.nullability.Nullability.{Nullability}
 use Rattle.vx_take.specs.Picks.{at, item_at}
 use Rattle.vx_numbers.specs.Positions.{bad_number, first_bad}
 use Rattle.vx_model.specs.Column.{Column}
-use Rattle.vx_model.specs.Numbers.{number_by, number_in, numbers_of}
+use Rattle.vx_model.specs.Numbers.{number_in, numbers_of}
 use Rattle.vx_model.specs.Step.{IsStep, IsCut, IsSlice, IsTake}
 use Rattle.vx_model.proofs.Items.{map-items_where_true, map-slice_range}
 use Rattle.vx_model.proofs.Takes.{map-at}
 
-is_int_type-with : (t : TypeTree) (m : Nullability) → is_int_type (with_nullability t m) ≡ is_int_type t
-is_int_type-with types.null_type m = refl
-is_int_type-with (types.bool_type k) m = refl
-is_int_type-with (types.primitive_type p k) m = refl
-is_int_type-with (types.decimal_type p s w k) m = refl
-is_int_type-with (types.utf8_type k) m = refl
-is_int_type-with (types.binary_type k) m = refl
-is_int_type-with (types.list_type t k) m = refl
-is_int_type-with (types.fixed_type t l k) m = refl
-is_int_type-with (types.map_type ns ts k) m = refl
-is_int_type-with (types.struct_type ns ts k) m = refl
-is_int_type-with (types.union_type is ns ts k) m = refl
-is_int_type-with (types.extension_type s t k) m = refl
-
--- a type of whole numbers is one too with this nullability
-pub is_int_type-also : (t : TypeTree) (n : Nullability) → is_int_type (also_nullable t n) ≡ is_int_type t
-is_int_type-also t n = is_int_type-with t (either_nullable (type_nullability t) n)
-
-number_by-with : (t : TypeTree) (m : Nullability) (b : List ℕ) → number_by (with_nullability t m) b ≡ number_by t b
-number_by-with types.null_type m b = refl
-number_by-with (types.bool_type k) m b = refl
-number_by-with (types.primitive_type p k) m b = refl
-number_by-with (types.decimal_type p s w k) m b = refl
-number_by-with (types.utf8_type k) m b = refl
-number_by-with (types.binary_type k) m b = refl
-number_by-with (types.list_type t k) m b = refl
-number_by-with (types.fixed_type t l k) m b = refl
-number_by-with (types.map_type ns ts k) m b = refl
-number_by-with (types.struct_type ns ts k) m b = refl
-number_by-with (types.union_type is ns ts k) m b = refl
-number_by-with (types.extension_type s t k) m b = refl
-
--- and spells the same numbers
-pub number_in-also : (t : TypeTree) (n : Nullability) (x : RowValue) → number_in (also_nullable t n) x ≡ number_in t x
-number_in-also t n null = refl
-number_in-also t n (bit b) = refl
-number_in-also t n (bytes b) = number_by-with t (either_nullable (type_nullability t) n) b
-number_in-also t n (list xs) = refl
-number_in-also t n (fields xs) = refl
-number_in-also t n (tagged k x) = refl
-
-pub map-alike : {X Y : Type 0} (f g : X → Y) → ((x : X) → f x ≡ g x) → (xs : List X) → map f xs ≡ map g xs
-map-alike f g same [] = refl
-map-alike f g same (x ∷ xs) = ap₂ ◌∷◌ (same x) (map-alike f g same xs)
-
 -- the numbers of what a cut leaves
-numbers_of-cut : (c : Column) (left : List RowValue) (a : Column) → IsStep c left c.dtype a → numbers_of a ≡ map (number_in c.dtype) left
-numbers_of-cut c left a step = ap₂ (λ t rows. map (number_in t) rows) step.dtype step.rows
+numbers_of-cut : (c : Column) (left : List RowValue) (a : Column) → IsStep c left c.dtype a → numbers_of a ≡ map (number_in c.dtype.kind) left
+numbers_of-cut c left a step = ap₂ (λ (t : TypeTree) rows. map (number_in t.kind) rows) step.dtype step.rows
 
 pub numbers_of-slice : (c : Column) (s e : ℕ) (a : Column) → IsSlice c s e a → numbers_of a ≡ slice_range (numbers_of c) s e
-numbers_of-slice c s e a cut = numbers_of-cut c _ a cut.step ∙ map-slice_range (number_in c.dtype) c.rows s e
+numbers_of-slice c s e a cut = numbers_of-cut c _ a cut.step ∙ map-slice_range (number_in c.dtype.kind) c.rows s e
 
 pub numbers_of-filter : (c : Column) (mask : List Bool) (a : Column) → IsCut c (items_where_true mask c.rows) a → numbers_of a ≡ items_where_true mask (numbers_of c)
-numbers_of-filter c mask a cut = numbers_of-cut c _ a cut.step ∙ map-items_where_true (number_in c.dtype) mask c.rows
+numbers_of-filter c mask a cut = numbers_of-cut c _ a cut.step ∙ map-items_where_true (number_in c.dtype.kind) mask c.rows
 
 pub numbers_of-take : (c : Column) (picks : List (Option ℕ)) (n : Nullability) (a : Column) → IsTake c picks n a → numbers_of a ≡ at None (numbers_of c) picks
 numbers_of-take c picks n a step =
-    ap₂ (λ t rows. map (number_in t) rows) step.dtype step.rows
-    ∙ map-alike (number_in (also_nullable c.dtype n)) (number_in c.dtype) (number_in-also c.dtype n) (at null c.rows picks)
-    ∙ map-at (number_in c.dtype) null c.rows picks
+    ap₂ (λ (t : TypeTree) rows. map (number_in t.kind) rows) step.dtype step.rows
+    ∙ map-at (number_in c.dtype.kind) null c.rows picks
 
 -- ---- no number is bad
 

@@ -4,8 +4,8 @@ use Rattle.std.specs.Prelude.{is_some, replicate}
 use Rattle.std.proofs.lemmas.List.{get_or-replicate, length-replicate}
 use Rattle.vx_types.specs.RowValue.{RowValue, null, bit, bytes, list, fields, tagged, is_null}
 use Rattle.vx_types.specs.Scalar.{scalar_fault}
-use Rattle.vx_types.specs.TypeTree.{TypeTree, also_nullable, type_nullability, with_nullability}
-use Rattle.vx_types.specs.Nullability.{is_nullable, either_nullable}
+use Rattle.vx_types.specs.TypeTree.{TypeKind, TypeTree, null_kind, also_nullable, is_carried_as, nullability_as, with_nullability}
+use Rattle.vx_types.specs.Nullability.{is_nullable}
 use Rattle.vx_types.specs.declared.nullability.Nullability.{Nullability}
 use Rattle.vx_types.specs.declared.nullability.Nullability.TheVariants.{NonNullable, Nullable}
 use Rattle.vx_take.specs.Picks.{AreBelow, at}
@@ -13,8 +13,8 @@ use Rattle.vx_model.specs.Column.{Column}
 use Rattle.vx_model.specs.Valid.{is_yes, shown_rows}
 use Rattle.vx_model.specs.Constant.{ConstantParts, constant_column, constant_with}
 use Rattle.vx_model.specs.Step.{IsStep, IsTake}
-use Rattle.vx_model.proofs.Nullabilities.{with_nullability-own}
-use Rattle.vx_model.proofs.Scalars.{scalar_null}
+use Rattle.vx_model.proofs.Nullabilities.{with_nullability-nullable}
+use Rattle.vx_model.proofs.Scalars.{scalar_null, scalar_carried}
 use Rattle.vx_model.proofs.ShownRows.{shown_rows-all}
 use Rattle.vx_model.proofs.Takes.{all_there, none_there}
 use Rattle.vx_model.proofs.UnwrappedForms.{map-replicate, none_shown}
@@ -49,10 +49,6 @@ shown_at-picks n row (None ∷ picks) below = ap (λ l. null ∷ l) (shown_at-pi
 shown_at-picks n row (Some p ∷ picks) below =
     ap₂ ◌∷◌ (sym (get_or-replicate n p row null (below zero None (omega arith)))) (shown_at-picks n row picks (λ k d l. below (suc k) d (omega arith)))
 
-either_of : (m n : Nullability) → is_nullable m ≡ true → either_nullable m n ≡ m
-either_of NonNullable n h = cc
-either_of Nullable n h = refl
-
 -- a take of a null value
 pub is_take-null_constant : (p : ConstantParts) (picks : List (Option ℕ)) (n : Nullability) → p.scalar.row ≡ null → also_nullable p.scalar.dtype n ≡ p.scalar.dtype → IsTake (constant_column p) picks n (constant_column (constant_with p (length picks)))
 is_take-null_constant p picks n h t =
@@ -86,26 +82,8 @@ null_is (tagged n x) h = cc
 pub null_isn't : (x : RowValue) → is_null x ≡ false → x ≡ null → ⊥
 null_isn't x h e = let no : true ≡ false = ap is_null (sym e) ∙ h in cc
 
-pub nullable_scalar : (t : TypeTree) (x : RowValue) → scalar_fault t x ≡ None → x ≡ null → is_nullable (type_nullability t) ≡ true
+pub nullable_scalar : (t : TypeTree) (x : RowValue) → scalar_fault t x ≡ None → x ≡ null → is_nullable t.nullability ≡ true
 nullable_scalar t x h e = scalar_null t (ap (scalar_fault t) (sym e) ∙ h)
-
-nullable_is : (n : Nullability) → is_nullable n ≡ true → n ≡ Nullable
-nullable_is NonNullable h = cc
-nullable_is Nullable h = refl
-
--- a nullable type with its nullability is the type
-pub with_nullable : (t : TypeTree) → is_nullable (type_nullability t) ≡ true → with_nullability t Nullable ≡ t
-with_nullable t h = ap (with_nullability t) (sym (nullable_is (type_nullability t) h)) ∙ with_nullability-own t
-
-pub also_nullable-null : (t : TypeTree) (n : Nullability) → is_nullable (type_nullability t) ≡ true → also_nullable t n ≡ t
-also_nullable-null t n h = ap (with_nullability t) (either_of (type_nullability t) n h) ∙ with_nullability-own t
-
-either_right : (m : Nullability) → either_nullable m Nullable ≡ Nullable
-either_right NonNullable = refl
-either_right Nullable = refl
-
-pub also_nullable-nullable : (t : TypeTree) → also_nullable t Nullable ≡ with_nullability t Nullable
-also_nullable-nullable t = ap (with_nullability t) (either_right (type_nullability t))
 
 -- all of them shown, or none of nulls
 pub all_shown : (n : ℕ) (row : RowValue) → shown_rows (replicate n true) (replicate n row) ≡ replicate n row
@@ -114,8 +92,22 @@ all_shown n row = shown_rows-all n (replicate n row) (length-replicate n row)
 pub nulls_shown : (n : ℕ) (row : RowValue) → row ≡ null → shown_rows (replicate n false) (replicate n row) ≡ replicate n row
 nulls_shown n row h = none_shown n (replicate n row) (length-replicate n row) ∙ ap (replicate n) (sym h)
 
+-- the type of a scalar with its own nullability is the type
+pub own_nullable : (t : TypeTree) → t.nullability ≡ Nullable → with_nullability t Nullable ≡ t
+own_nullable t h = with_nullability-nullable t (ap is_nullable h)
+
+own_kind : (k : TypeKind) → is_carried_as k NonNullable ≡ true → nullability_as k NonNullable ≡ NonNullable
+own_kind null_kind h = cc
+own_kind k h = refl
+
+pub own_non_nullable : (t : TypeTree) (x : RowValue) → scalar_fault t x ≡ None → t.nullability ≡ NonNullable → with_nullability t NonNullable ≡ t
+own_non_nullable t x f h =
+    let carried : is_carried_as t.kind NonNullable ≡ true = rw h at (scalar_carried t x f) in
+    let same : nullability_as t.kind NonNullable ≡ t.nullability = own_kind t.kind carried ∙ sym h in
+    ap (λ (n : Nullability). let u : TypeTree = record { kind = t.kind; nullability = n } in u) same
+
 -- what a proof about a null constant needs
-pub ruleset nulls = (null_is, nullable_scalar, with_nullable, with_nullability-own, all_shown, nulls_shown)
+pub ruleset nulls = (null_is, nullable_scalar, own_nullable, own_non_nullable, all_shown, nulls_shown)
 
 -- the same rows and type as a constant's
 pub is_step-stored_constant : (p : ConstantParts) (a : Column) → a.rows ≡ replicate p.len p.scalar.row → a.dtype ≡ p.scalar.dtype → IsStep (constant_column p) (constant_column p).rows (constant_column p).dtype a

@@ -1,30 +1,30 @@
 -- The bits of bools that stand for other bools, and validities that are such columns.
 use Rattle.std.proofs.Common.{◌≡◌, ℕ, Bool, true, false, List, [], ◌∷◌, map, length, Option, None, Some, refl, sym, ap, ◌∙◌}
-use Rattle.std.specs.Prelude.{◌&&◌, ◌==◌, if◌then◌else◌}
+use Rattle.std.specs.Prelude.{◌&&◌, ◌==◌, not, if◌then◌else◌}
 use Rattle.std.specs.Option.{option_map}
 use Rattle.std.proofs.lemmas.List.{length-map}
 use Rattle.vx_bits.specs.BitBuffer.{true_count_of}
 use Rattle.vx_types.specs.PType.{is_int}
 use Rattle.vx_types.specs.RowValue.{null}
-use Rattle.vx_types.specs.TypeTree as types
-use Rattle.vx_types.specs.TypeTree.{TypeTree, also_nullable, int_type_of, is_int_type, type_nullability}
+use Rattle.vx_types.specs.Nullability.{is_nullable, either_nullable}
+use Rattle.vx_types.specs.TypeTree.{TypeKind, TypeTree, primitive_kind, also_nullable, int_kind_of, is_bool_kind, is_int_kind}
 use Rattle.vx_types.specs.declared.ptype.PType.{PType}
 use Rattle.vx_types.specs.declared.nullability.Nullability.{Nullability}
 use Rattle.vx_types.specs.declared.nullability.Nullability.TheVariants.{NonNullable, Nullable}
 use Rattle.vx_take.specs.Picks.{AreBelow, at}
 use Rattle.vx_take.specs.Ranks.{translated}
 use Rattle.vx_take.proofs.TakenLists.{takes_join, take_of_filter}
-use Rattle.vx_numbers.specs.Positions.{AllThere, position_of, positions_of, first_bad}
+use Rattle.vx_numbers.specs.Positions.{AllThere, position_of, positions_of}
 use Rattle.vx_model.specs.Column.{Column}
 use Rattle.vx_model.specs.Numbers.{numbers_of}
 use Rattle.vx_model.specs.Valid.{Valid, by_column, cover_by, is_bool_layout, is_fitting, is_flat_cover, is_non_null_bool, is_yes, nullability_by, present_bits, IsLeft}
-use Rattle.vx_model.specs.Dict.{DictParts, dict_fault, dict_column}
+use Rattle.vx_model.specs.Dict.{DictParts, dict_column}
 use Rattle.vx_model.specs.Filter.{FilterParts, filter_fault, filter_column}
 use Rattle.vx_model.specs.Step.{IsStep, IsTake}
 use Rattle.vx_model.proofs.Items.{map-items_where_true}
 use Rattle.vx_model.proofs.Takes.{map-at}
-use Rattle.vx_model.proofs.LazyRows.{long-filter, sound-dict}
-use Rattle.vx_model.proofs.CodeNumbers.{first_bad-picks, numbers_of-take}
+use Rattle.vx_model.proofs.LazyRows.{long-filter}
+use Rattle.vx_model.proofs.CodeNumbers.{numbers_of-take}
 use Rattle.vx_model.proofs.ShownRows.{length-present_bits}
 use Rattle.vx_model.proofs.Validities.{is_fitting-step}
 
@@ -34,20 +34,10 @@ some_type : (p : PType) (b : Bool) → b ≡ true → (if b then Some p else Non
 some_type p true h e = cc
 some_type p false h e = cc
 
--- a type of whole numbers has a primitive type
-pub has_int_type : (t : TypeTree) → is_int_type t ≡ true → int_type_of t ≡ None → ⊥
-has_int_type (types.primitive_type p n) h e = some_type p (is_int p) h e
-has_int_type types.null_type h e = cc
-has_int_type (types.bool_type n) h e = cc
-has_int_type (types.decimal_type p s w n) h e = cc
-has_int_type (types.utf8_type n) h e = cc
-has_int_type (types.binary_type n) h e = cc
-has_int_type (types.list_type t n) h e = cc
-has_int_type (types.fixed_type t k n) h e = cc
-has_int_type (types.map_type ns ts n) h e = cc
-has_int_type (types.struct_type ns ts n) h e = cc
-has_int_type (types.union_type is ns ts n) h e = cc
-has_int_type (types.extension_type s t n) h e = cc
+-- a type of integers has a primitive type
+pub has_int_type : (k : TypeKind) → is_int_kind k ≡ true → int_kind_of k ≡ None → ⊥
+has_int_type (primitive_kind p) h e = some_type p (is_int p) h e
+has_int_type k h e = cc
 
 -- ---- picks
 
@@ -58,26 +48,13 @@ there-translated bits (Some k ∷ ranks) h = there-translated bits ranks h
 
 -- ---- dictionaries
 
-pub non_null_values : (t : TypeTree) (n : Nullability) → is_non_null_bool (also_nullable t n) ≡ true → is_non_null_bool t ≡ true
-non_null_values (types.bool_type NonNullable) n h = refl
-non_null_values (types.bool_type Nullable) n h = cc
-non_null_values types.null_type n h = cc
-non_null_values (types.primitive_type p k) n h = cc
-non_null_values (types.decimal_type p s w k) n h = cc
-non_null_values (types.utf8_type k) n h = cc
-non_null_values (types.binary_type k) n h = cc
-non_null_values (types.list_type t k) n h = cc
-non_null_values (types.fixed_type t l k) n h = cc
-non_null_values (types.map_type ns ts k) n h = cc
-non_null_values (types.struct_type ns ts k) n h = cc
-non_null_values (types.union_type is ns ts k) n h = cc
-non_null_values (types.extension_type s t k) n h = cc
+non_null_part : (b : Bool) (m n : Nullability) → (b && not (is_nullable (either_nullable m n))) ≡ true → (b && not (is_nullable m)) ≡ true
+non_null_part true NonNullable n h = refl
+non_null_part true Nullable n h = cc
+non_null_part false m n h = cc
 
--- codes at picks name values too
-pub sound-taken : (p : DictParts) (codes : Column) (picks : List (Option ℕ)) (n : Nullability) → dict_fault p ≡ None → IsTake p.codes picks n codes → first_bad (length p.values.rows) (numbers_of codes) ≡ None
-sound-taken p codes picks n h step =
-    ap (first_bad (length p.values.rows)) (numbers_of-take p.codes picks n codes step)
-    ∙ first_bad-picks (length p.values.rows) (numbers_of p.codes) picks (sound-dict p h)
+pub non_null_values : (t : TypeTree) (n : Nullability) → is_non_null_bool (also_nullable t n) ≡ true → is_non_null_bool t ≡ true
+non_null_values t n h = non_null_part (is_bool_kind t.kind) t.nullability n h
 
 -- the bits of the values that codes at picks name
 pub bits-dict : (p : DictParts) (codes : Column) (picks : List (Option ℕ)) (n : Nullability) → IsTake p.codes picks n codes → at false (map is_yes p.values.rows) (positions_of (numbers_of codes)) ≡ at false (map is_yes (dict_column p).rows) picks

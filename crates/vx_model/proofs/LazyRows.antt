@@ -7,9 +7,9 @@ use Rattle.std.proofs.lemmas.Bool.Decides.{nat_tests}
 use Rattle.vx_bits.specs.BitBuffer.{true_count_of}
 use Rattle.vx_mask.specs.Positions.{rank_of, set_of}
 use Rattle.vx_mask.proofs.PositionLists.{rank_within, length-positions}
-use Rattle.vx_types.specs.Nullability.{is_nullable, either_nullable}
+use Rattle.vx_types.specs.Nullability.{either_nullable}
 use Rattle.vx_types.specs.RowValue.{null}
-use Rattle.vx_types.specs.TypeTree.{TypeTree, null_type, bool_type, primitive_type, decimal_type, utf8_type, binary_type, list_type, fixed_type, map_type, struct_type, union_type, extension_type, is_carried_as, is_carried, is_int_type, is_null_type, also_nullable, with_nullability, type_nullability}
+use Rattle.vx_types.specs.TypeTree.{TypeKind, TypeTree, null_kind, extension_kind, is_carried_as, is_carried, is_int_type, also_nullable}
 use Rattle.vx_types.specs.declared.nullability.Nullability.{Nullability}
 use Rattle.vx_types.specs.declared.nullability.Nullability.TheVariants.{NonNullable, Nullable}
 use Rattle.vx_take.specs.Picks.{item_at}
@@ -31,7 +31,7 @@ length-constant p = length-replicate p.len p.scalar.row
 pub length-dict : (p : DictParts) → length (dict_column p).rows ≡ length p.codes.rows
 length-dict p =
     length-at null p.values.rows (positions_of (numbers_of p.codes))
-    ∙ length-map (numbers_of p.codes) (option_map position_of) ∙ length-map p.codes.rows (number_in p.codes.dtype)
+    ∙ length-map (numbers_of p.codes) (option_map position_of) ∙ length-map p.codes.rows (number_in p.codes.dtype.kind)
 
 pub long-filter : (p : FilterParts) → filter_fault p ≡ None → length p.mask ≡ length p.child.rows
 long-filter p h = grind (arith, nat_tests)
@@ -46,15 +46,15 @@ row-constant p i l = get_or-replicate p.len i p.scalar.row null l
 
 -- the number that code i is
 abbrev code_at : DictParts → ℕ → Option ℤ
-code_at p i = number_in p.codes.dtype (get_or p.codes.rows i null)
+code_at p i = number_in p.codes.dtype.kind (get_or p.codes.rows i null)
 
 number_at : (p : DictParts) (i : ℕ) → i < length p.codes.rows → get_or (numbers_of p.codes) i None ≡ code_at p i
-number_at p i l = get_or-map (number_in p.codes.dtype) p.codes.rows i null None l
+number_at p i l = get_or-map (number_in p.codes.dtype.kind) p.codes.rows i null None l
 
-pub row-dict : (p : DictParts) (i : ℕ) → i < length p.codes.rows → get_or (dict_column p).rows i null ≡ item_at null p.values.rows (option_map position_of (number_in p.codes.dtype (get_or p.codes.rows i null)))
+pub row-dict : (p : DictParts) (i : ℕ) → i < length p.codes.rows → get_or (dict_column p).rows i null ≡ item_at null p.values.rows (option_map position_of (number_in p.codes.dtype.kind (get_or p.codes.rows i null)))
 row-dict p i l =
     let numbers = numbers_of p.codes in
-    let long = length-map p.codes.rows (number_in p.codes.dtype) in
+    let long = length-map p.codes.rows (number_in p.codes.dtype.kind) in
     let longer = length-map numbers (option_map position_of) in
     get_or-map (item_at null p.values.rows) (positions_of numbers) i None null (omega (arith, long, longer))
     ∙ ap (item_at null p.values.rows) (get_or-map (option_map position_of) numbers i None None (omega (arith, long)) ∙ ap (option_map position_of) (number_at p i l))
@@ -71,11 +71,11 @@ sound-dict p h =
 pub int-dict : (p : DictParts) → dict_fault p ≡ None → is_int_type p.codes.dtype ≡ true
 int-dict p h = grind arith
 
-pub code_names : (p : DictParts) (i : ℕ) (z : ℤ) → dict_fault p ≡ None → i < length p.codes.rows → number_in p.codes.dtype (get_or p.codes.rows i null) ≡ Some z → is_position (length p.values.rows) z ≡ true
+pub code_names : (p : DictParts) (i : ℕ) (z : ℤ) → dict_fault p ≡ None → i < length p.codes.rows → number_in p.codes.dtype.kind (get_or p.codes.rows i null) ≡ Some z → is_position (length p.values.rows) z ≡ true
 code_names p i z h l is =
     let xs = numbers_of p.codes in
     let each : IfSome (get_or xs i None) (λ y. is_position (length p.values.rows) y ≡ true) =
-    each_is_position (length p.values.rows) xs i (sound-dict p h) (omega (arith, length-map p.codes.rows (number_in p.codes.dtype))) in
+    each_is_position (length p.values.rows) xs i (sound-dict p h) (omega (arith, length-map p.codes.rows (number_in p.codes.dtype.kind))) in
     rw (number_at p i l ∙ is) at each
 
 pub row-filter : (p : FilterParts) (i : ℕ) → filter_fault p ≡ None → i < true_count_of p.mask → get_or (filter_column p).rows i null ≡ get_or p.child.rows (rank_of p.mask i) null
@@ -92,45 +92,18 @@ rank-filter p i h l = omega (arith, rank_within p.mask i l, long-filter p h)
 
 -- ---- types that a column may have
 
-carried_nullable : (t : TypeTree) (m : Nullability) → is_carried_as t m ≡ true → is_carried_as t Nullable ≡ true
-carried_nullable null_type m h = h
-carried_nullable (bool_type n) m h = h
-carried_nullable (primitive_type p n) m h = h
-carried_nullable (decimal_type p s w n) m h = h
-carried_nullable (utf8_type n) m h = h
-carried_nullable (binary_type n) m h = h
-carried_nullable (list_type t n) m h = h
-carried_nullable (fixed_type t k n) m h = h
-carried_nullable (map_type ns ts n) m h = h
-carried_nullable (struct_type ns ts n) m h = h
-carried_nullable (union_type is ns ts n) m h = h
-carried_nullable (extension_type s t n) m h = carried_nullable t m (second (is_nullable m || not (is_null_type t)) (is_carried_as t m) h)
-  where
-    second : (a b : Bool) → (a && b) ≡ true → b ≡ true
-    second true b h = h
-    second false b h = cc
+carried_nullable : (k : TypeKind) (m : Nullability) → is_carried_as k m ≡ true → is_carried_as k Nullable ≡ true
+carried_nullable null_kind m h = refl
+carried_nullable (extension_kind s k) m h = carried_nullable k m h
+carried_nullable k m h = h
 
-carried_either : (t : TypeTree) (m n : Nullability) → is_carried_as t m ≡ true → is_carried_as t (either_nullable m n) ≡ true
-carried_either t NonNullable NonNullable h = h
-carried_either t NonNullable Nullable h = carried_nullable t NonNullable h
-carried_either t Nullable n h = h
-
-carried_with : (t : TypeTree) (m : Nullability) → is_carried_as t m ≡ true → is_carried (with_nullability t m) ≡ true
-carried_with null_type m h = refl
-carried_with (bool_type n) m h = h
-carried_with (primitive_type p n) m h = h
-carried_with (decimal_type p s w n) m h = h
-carried_with (utf8_type n) m h = h
-carried_with (binary_type n) m h = h
-carried_with (list_type t n) m h = h
-carried_with (fixed_type t k n) m h = h
-carried_with (map_type ns ts n) m h = h
-carried_with (struct_type ns ts n) m h = h
-carried_with (union_type is ns ts n) m h = h
-carried_with (extension_type s t n) m h = h
+carried_either : (k : TypeKind) (m n : Nullability) → is_carried_as k m ≡ true → is_carried_as k (either_nullable m n) ≡ true
+carried_either k NonNullable NonNullable h = h
+carried_either k NonNullable Nullable h = carried_nullable k NonNullable h
+carried_either k Nullable n h = h
 
 pub carried-also : (t : TypeTree) (n : Nullability) → is_carried t ≡ true → is_carried (also_nullable t n) ≡ true
-carried-also t n h = carried_with t (either_nullable (type_nullability t) n) (carried_either t (type_nullability t) n h)
+carried-also t n h = carried_either t.kind t.nullability n h
 
 -- what a proof about the length or about one row needs
 pub ruleset lazy_rows = (length-constant, length-dict, length-filter, long-filter, row-constant, row-dict, row-filter, rank-filter, int-dict, sound-dict, code_names, carried-also)

@@ -6,7 +6,7 @@ use Rattle.std.specs.Option.{option_map}
 use Rattle.std.proofs.Math.ListN.{get_or-replicate}
 use Rattle.std.proofs.lemmas.Bool.Decides.{nat_tests}
 use Rattle.vx_bits.specs.BitBuffer.{true_count_of}
-use Rattle.vx_types.specs.TypeTree.{TypeTree, also_nullable, is_int_type, type_nullability}
+use Rattle.vx_types.specs.TypeTree.{TypeTree, also_nullable, is_int_type}
 use Rattle.vx_types.specs.RowValue.{RowValue, null}
 use Rattle.vx_types.specs.declared.nullability.Nullability.{Nullability}
 use Rattle.vx_types.specs.declared.nullability.Nullability.TheVariants.{NonNullable}
@@ -26,7 +26,7 @@ use Rattle.vx_model.proofs.Takes.{map-at}
 use Rattle.vx_model.proofs.LazyRows.{int-dict, sound-dict, long-filter}
 use Rattle.vx_model.proofs.Nullabilities.{also_nullable-none, also_nullable-codes}
 use Rattle.vx_model.proofs.KeptItems.{slice-items, kept-by-both}
-use Rattle.vx_model.proofs.CodeNumbers.{is_int_type-also, numbers_of-slice, numbers_of-filter, numbers_of-take, first_bad-slice, first_bad-filter, first_bad-picks}
+use Rattle.vx_model.proofs.CodeNumbers.{numbers_of-slice, numbers_of-filter, numbers_of-take, first_bad-slice, first_bad-filter, first_bad-picks}
 
 -- ---- constants
 
@@ -79,7 +79,7 @@ dict_fault-filter p codes mask h cut =
 
 pub dict_fault-take : (p : DictParts) (codes : Column) (picks : List (Option ℕ)) (n : Nullability) → dict_fault p ≡ None → IsTake p.codes picks n codes → dict_fault (dict_with p codes) ≡ None
 dict_fault-take p codes picks n h step =
-    faultless (dict_with p codes) (ap is_int_type step.dtype ∙ is_int_type-also p.codes.dtype n ∙ int-dict p h)
+    faultless (dict_with p codes) (ap is_int_type step.dtype ∙ int-dict p h)
     (ap (first_bad (length p.values.rows)) (numbers_of-take p.codes picks n codes step) ∙ first_bad-picks (length p.values.rows) (numbers_of p.codes) picks (sound-dict p h))
 
 pub is_slice-dict : (p : DictParts) (codes : Column) (s e : ℕ) → dict_fault p ≡ None → IsSlice p.codes s e codes → IsSlice (dict_column p) s e (dict_column (dict_with p codes))
@@ -90,7 +90,7 @@ is_slice-dict p codes s e h cut =
     record {
       step = record {
         rows = ap (at null p.values.rows) left ∙ map-slice_range (item_at null p.values.rows) positions s e;
-        dtype = ap (λ t. also_nullable p.values.dtype (type_nullability t)) cut.step.dtype;
+        dtype = ap (λ (t : TypeTree). also_nullable p.values.dtype t.nullability) cut.step.dtype;
         layout = λ _. refl;
         unwrapped = λ h. h;
       };
@@ -106,7 +106,7 @@ is_filter-dict p codes mask h cut =
     record {
       step = record {
         rows = ap (at null p.values.rows) left ∙ map-items_where_true (item_at null p.values.rows) mask positions;
-        dtype = ap (λ t. also_nullable p.values.dtype (type_nullability t)) cut.step.dtype;
+        dtype = ap (λ (t : TypeTree). also_nullable p.values.dtype t.nullability) cut.step.dtype;
         layout = λ _. refl;
         unwrapped = λ h. h;
       };
@@ -121,7 +121,7 @@ is_take-dict p codes picks n h step =
     ap positions_of (numbers_of-take p.codes picks n codes step) ∙ map-at (option_map position_of) None (numbers_of p.codes) picks in
     record {
       rows = ap (at null p.values.rows) left ∙ sym (takes_join null p.values.rows positions picks);
-      dtype = ap (λ t. also_nullable p.values.dtype (type_nullability t)) step.dtype ∙ also_nullable-codes p.values.dtype p.codes.dtype n;
+      dtype = ap (λ (t : TypeTree). also_nullable p.values.dtype t.nullability) step.dtype ∙ also_nullable-codes p.values.dtype p.codes.dtype n;
       layout = λ _. refl;
       unwrapped = λ h. h;
     }

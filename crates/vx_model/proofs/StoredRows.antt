@@ -4,11 +4,10 @@ use Rattle.std.specs.Prelude.{if◌then◌else◌}
 use Rattle.std.specs.List.{items_where_true}
 use Rattle.vx_types.specs.TypeTree.{TypeTree}
 use Rattle.vx_types.specs.RowValue.{RowValue, null}
-use Rattle.vx_types.specs.declared.layout_name.LayoutName.{LayoutName}
 use Rattle.vx_types.specs.declared.nullability.Nullability.{Nullability}
 use Rattle.vx_model.specs.Valid.{Valid, is_fitting, is_present, is_constant_form, is_flat_cover, cover_by, nullability_by, present_bits, shown_rows, stored_rows, IsLeft, IsAsPlain}
 use Rattle.vx_model.specs.Plain.{is_null_layout, is_row_layout}
-use Rattle.vx_model.specs.Stored.{stored_column}
+use Rattle.vx_model.specs.Stored.{StoredParts, stored_column}
 use Rattle.vx_model.specs.Step.{IsStep, IsCut}
 use Rattle.vx_model.proofs.Items.{length-items_where_true, length-slice_range}
 use Rattle.vx_model.proofs.ShownRows.{length-shown_rows, slice_range-shown_rows, items_where_true-shown_rows, get_or-shown_rows, get_or-present_bits, length-present_bits}
@@ -46,23 +45,23 @@ stays true rows before after h e = refl
 stays false true before after h e = h e
 stays false false before after h e = e
 
-module _ (layout : LayoutName) (t : Nullability → TypeTree) (v w : Valid) (n : Nullability) (items after : List RowValue) (records others : List (List ℕ)) (left : List RowValue) (bits : List Bool) where
+module _ (p : StoredParts) (w : Valid) (n : Nullability) (items : List RowValue) (records : List (List ℕ)) (left : List RowValue) (bits : List Bool) where
   -- a step whose rows and validity are these
-  pub is_step-stored : stored_rows w after ≡ left → IsLeft v n bits w → IsStep (stored_column layout t v items records) left (t n) (stored_column layout t w after others)
+  pub is_step-stored : stored_rows w items ≡ left → IsLeft p.valid n bits w → IsStep (stored_column p) left (record { kind = p.kind; nullability = n }) (stored_column (record p { items = items; records = records; valid = w }))
   is_step-stored same now =
       record {
         rows = same;
-        dtype = ap t now.nullability;
+        dtype = ap (λ (m : Nullability). let t : TypeTree = record { kind = p.kind; nullability = m } in t) now.nullability;
         layout = λ _. refl;
-        unwrapped = stays (is_null_layout layout) (is_row_layout layout) (is_flat_cover (cover_by v)) (is_flat_cover (cover_by w)) now.flat;
+        unwrapped = stays (is_null_layout p.layout) (is_row_layout p.layout) (is_flat_cover (cover_by p.valid)) (is_flat_cover (cover_by w)) now.flat;
       }
 
-module _ (layout : LayoutName) (t : Nullability → TypeTree) (v w : Valid) (items after : List RowValue) (records others : List (List ℕ)) (left : List RowValue) (bits : List Bool) where
+module _ (p : StoredParts) (w : Valid) (items : List RowValue) (records : List (List ℕ)) (left : List RowValue) (bits : List Bool) where
   -- the same of a step that keeps the type
-  pub is_cut-stored : stored_rows w after ≡ left → IsLeft v (nullability_by v) bits w → IsAsPlain v w → IsCut (stored_column layout t v items records) left (stored_column layout t w after others)
+  pub is_cut-stored : stored_rows w items ≡ left → IsLeft p.valid (nullability_by p.valid) bits w → IsAsPlain p.valid w → IsCut (stored_column p) left (stored_column (record p { items = items; records = records; valid = w }))
   is_cut-stored same now plain =
       record {
-        step = is_step-stored layout t v w (nullability_by v) items after records others left bits same now;
-        plain = stays (is_null_layout layout) (is_row_layout layout) (is_constant_form (cover_by v)) (is_constant_form (cover_by w)) plain.constant;
+        step = is_step-stored p w (nullability_by p.valid) items records left bits same now;
+        plain = stays (is_null_layout p.layout) (is_row_layout p.layout) (is_constant_form (cover_by p.valid)) (is_constant_form (cover_by w)) plain.constant;
         depth = omega (arith, plain.depth);
       }

@@ -6,21 +6,19 @@ use Rattle.std.proofs.lemmas.List.{length-map, get_or-replicate}
 use Rattle.std.proofs.lemmas.Bool.Decides.{nat_tests}
 use Rattle.std.proofs.Math.ListN.{get_or-map}
 use Rattle.vx_types.specs.Nullability.{either_nullable}
-use Rattle.vx_types.specs.TypeTree.{bool_type, primitive_type, decimal_type}
+use Rattle.vx_types.specs.TypeTree.{bool_kind, bool_type}
 use Rattle.vx_types.specs.RowValue.{RowValue, null, bit, bytes}
 use Rattle.vx_types.specs.declared.nullability.Nullability.{Nullability}
 use Rattle.vx_types.specs.declared.nullability.Nullability.TheVariants.{Nullable}
-use Rattle.vx_types.specs.declared.layout_name.LayoutName.TheVariants as layouts
 use Rattle.vx_take.specs.Picks.{AreBelow, at, item_at}
 use Rattle.vx_model.specs.Valid.{Valid, non_nullable, all_valid, all_invalid, by_column, is_yes, is_fitting, is_non_null_bool, nullability_by, present_bits, shown_rows, stored_rows, IsLeft}
 use Rattle.vx_model.specs.Null.{null_column}
-use Rattle.vx_model.specs.Bool.{BoolParts, bool_fault, bool_column, bool_with, bits_column}
-use Rattle.vx_model.specs.Primitive.{PrimitiveParts, primitive_fault, primitive_column, primitive_with}
-use Rattle.vx_model.specs.Decimal.{DecimalParts, decimals_fault, decimal_column, decimal_with}
-use Rattle.vx_model.specs.Step.{IsTake}
+use Rattle.vx_model.specs.Bool.{BoolParts, stored_bits, bool_fault, bool_column, bool_with, bits_column}
+use Rattle.vx_model.specs.Records.{RecordParts, stored_records, records_fault, records_column, records_with}
+use Rattle.vx_model.specs.Step.{IsStep, IsTake}
 use Rattle.vx_model.proofs.ShownRows.{length-present_bits, shown_rows-all}
 use Rattle.vx_model.proofs.StoredRows.{is_step-stored}
-use Rattle.vx_model.proofs.Layouts.{length-bool, is_fitting-bool, is_fitting-primitive, is_fitting-decimal}
+use Rattle.vx_model.proofs.Layouts.{length-bool, fits-bits, fits-records}
 
 -- ---- lists at picks
 
@@ -58,17 +56,15 @@ at-shown_rows bits rows x [] h = refl
 at-shown_rows bits rows x (pick ∷ picks) h = ap₂ ◌∷◌ (shown_pick bits rows x pick h) (at-shown_rows bits rows x picks h)
 
 -- items that are made of others, and a validity that fits these
-module _ {X : Type 0} (f : X → RowValue) (missing : X) (items : List X) (v w : Valid) (n : Nullability) (fit : is_fitting v (length items) ≡ true) (picks : List (Option ℕ)) where
-  pub take-stored : IsLeft v n (at false (present_bits v (length items)) picks) w → stored_rows w (map f (at missing items picks)) ≡ at null (stored_rows v (map f items)) picks
+module _ {X : Type 0} (f : X → RowValue) (missing : X) (items : List X) (v w : Valid) (n : Nullability) (fit : is_fitting v (length (map f items)) ≡ true) (picks : List (Option ℕ)) where
+  pub take-stored : IsLeft v n (at false (present_bits v (length (map f items))) picks) w → stored_rows w (map f (at missing items picks)) ≡ at null (stored_rows v (map f items)) picks
   take-stored left =
-      let bits = present_bits v (length items) in
+      let bits = present_bits v (length (map f items)) in
       let long : length (map f (at missing items picks)) ≡ length (at false bits picks) =
       length-map (at missing items picks) f ∙ length-at missing items picks ∙ sym (length-at false bits picks) in
-      let same : length bits ≡ length (map f items) = length-present_bits v (length items) fit ∙ sym (length-map items f) in
       ap (λ m. shown_rows (present_bits w m) (map f (at missing items picks))) long
       ∙ ap₂ shown_rows left.bits (map-at f missing items picks)
-      ∙ at-shown_rows bits (map f items) (f missing) picks same
-      ∙ ap (λ m. at null (shown_rows (present_bits v m) (map f items)) picks) (sym (length-map items f))
+      ∙ at-shown_rows bits (map f items) (f missing) picks (length-present_bits v (length (map f items)) fit)
 
 -- ---- each layout
 
@@ -87,17 +83,13 @@ is_take-null m picks n =
     record { rows = sym (at-replicate m picks); dtype = refl; layout = λ _. refl; unwrapped = λ h. h }
 
 module _ (w : Valid) (picks : List (Option ℕ)) (n : Nullability) where
-  pub is_take-bool : (p : BoolParts) (offset : ℕ) → bool_fault p ≡ None → IsLeft p.valid (either_nullable (nullability_by p.valid) n) (at false (present_bits p.valid (length p.bits.bits)) picks) w → IsTake (bool_column p) picks n (bool_column (bool_with (at false p.bits.bits picks) offset w))
+  pub is_take-bool : (p : BoolParts) (offset : ℕ) → bool_fault p ≡ None → IsLeft p.valid n (at false (present_bits p.valid (length (stored_bits p).items)) picks) w → IsStep (bool_column p) (at null (bool_column p).rows picks) (record { kind = bool_kind; nullability = n }) (bool_column (bool_with (at false p.bits.bits picks) offset w))
   is_take-bool p offset h left =
-      is_step-stored layouts.Bool bool_type p.valid w _ _ _ _ _ _ _ (take-stored bit false p.bits.bits p.valid w _ (is_fitting-bool p h) picks left) left
+      is_step-stored (stored_bits p) w _ _ _ _ _ (take-stored bit false p.bits.bits p.valid w _ (fits-bits p h) picks left) left
 
-  pub is_take-primitive : (p : PrimitiveParts) (missing : List ℕ) → primitive_fault p ≡ None → IsLeft p.valid (either_nullable (nullability_by p.valid) n) (at false (present_bits p.valid (length p.records)) picks) w → IsTake (primitive_column p) picks n (primitive_column (primitive_with p (at missing p.records picks) w))
-  is_take-primitive p missing h left =
-      is_step-stored layouts.Primitive (primitive_type p.ptype) p.valid w _ _ _ _ _ _ _ (take-stored bytes missing p.records p.valid w _ (is_fitting-primitive p h) picks left) left
-
-  pub is_take-decimal : (p : DecimalParts) (missing : List ℕ) → decimals_fault p ≡ None → IsLeft p.valid (either_nullable (nullability_by p.valid) n) (at false (present_bits p.valid (length p.records)) picks) w → IsTake (decimal_column p) picks n (decimal_column (decimal_with p (at missing p.records picks) w))
-  is_take-decimal p missing h left =
-      is_step-stored layouts.Decimal (decimal_type p.decimal.precision p.decimal.scale p.decimal.width) p.valid w _ _ _ _ _ _ _ (take-stored bytes missing p.records p.valid w _ (is_fitting-decimal p h) picks left) left
+  pub is_take-records : (p : RecordParts) (missing : List ℕ) → records_fault p ≡ None → IsLeft p.valid n (at false (present_bits p.valid (length (stored_records p).items)) picks) w → IsStep (records_column p) (at null (records_column p).rows picks) (record { kind = p.kind; nullability = n }) (records_column (records_with p (at missing p.records picks) w))
+  is_take-records p missing h left =
+      is_step-stored (stored_records p) w _ _ _ _ _ (take-stored bytes missing p.records p.valid w _ (fits-records p h) picks left) left
 
 -- ---- the validity
 

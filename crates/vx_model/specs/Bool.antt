@@ -2,14 +2,15 @@
 use Rattle.std.specs.Prelude.{ℕ, length, List, [], Bool, map, Option, Some, None, if◌then◌else◌, refl}
 use Rattle.std.specs.Coded.{Coded, code_by, coded×, coded_ℕ, coded_bool, coded_list}
 use Rattle.vx_bits.specs.BitBuffer.{PlacedBits}
-use Rattle.vx_types.specs.TypeTree.{bool_type}
+use Rattle.vx_types.specs.TypeTree.{bool_kind}
 use Rattle.vx_types.specs.RowValue.{bit}
 use Rattle.vx_types.specs.declared.layout_name.LayoutName.TheVariants.{Bool as BoolLayout}
 use Rattle.vx_types.specs.declared.error.ColumnError.{ColumnError}
 use Rattle.vx_types.specs.declared.error.ColumnError.TheVariants.{BadValidity}
 use Rattle.vx_model.specs.Column.{Column}
-use Rattle.vx_model.specs.Valid.{Valid, non_nullable, coded_valid, is_fitting}
-use Rattle.vx_model.specs.Stored.{stored_column}
+use Rattle.vx_model.specs.Valid.{Valid, non_nullable, is_fitting}
+use Rattle.vx_model.specs.ValidCode.{coded_valid}
+use Rattle.vx_model.specs.Stored.{StoredParts, stored_column}
 
 -- what a contract sees of a `BoolArray`
 pub record BoolParts : Type 0 where
@@ -21,8 +22,18 @@ abbrev pub bool_fault : BoolParts → Option ColumnError
 bool_fault p = if is_fitting p.valid (length p.bits.bits) then None else Some BadValidity
 
 -- a row is its bit, or null where the validity says no
+abbrev pub stored_bits : BoolParts → StoredParts
+stored_bits p =
+    record {
+      layout = BoolLayout;
+      kind = bool_kind;
+      items = map bit p.bits.bits;
+      records = [];
+      valid = p.valid;
+    }
+
 abbrev pub bool_column : BoolParts → Column
-bool_column p = stored_column BoolLayout bool_type p.valid (map bit p.bits.bits) []
+bool_column p = stored_column (stored_bits p)
 
 -- the same with other bits and another validity: what a step leaves
 abbrev pub bool_with : List Bool → ℕ → Valid → BoolParts

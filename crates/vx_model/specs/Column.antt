@@ -1,10 +1,9 @@
 -- What contracts see of an `Array`: its type, its rows, and how it stores them.
-use Rattle.std.specs.Prelude.{◌≡◌, ℕ, zero, suc, List, Option, refl}
-use Rattle.std.specs.Coded.{Coded, code_by, coded×, coded_ℕ, coded_list, coded_option}
-use Rattle.vx_types.specs.TypeTree.{TypeTree, coded_type}
-use Rattle.vx_types.specs.RowValue.{RowValue, coded_row}
+use Rattle.std.specs.Prelude.{ℕ, ℤ, [], List, Option, None, Bool, false}
+use Rattle.vx_types.specs.TypeTree.{TypeTree}
+use Rattle.vx_types.specs.RowValue.{RowValue}
 use Rattle.vx_types.specs.declared.layout_name.LayoutName.{LayoutName}
-use Rattle.vx_types.specs.contracts.layout_name.LayoutName.{the_row}
+use Rattle.vx_types.specs.declared.nullability.Nullability.{Nullability}
 
 -- how a layout stores which rows are null: by no validity of its own, by one answer for all rows,
 -- by an array of layout `Bool`, or by any other array
@@ -13,6 +12,12 @@ pub data Cover : Type 0 where
   constant_form : Cover
   by_bools : Cover
   by_other : Cover
+
+-- the codes of a dictionary, which its rows don't tell
+pub record Codes : Type 0 where
+  -- for each row the number of a value, and none for a null
+  pub numbers : List (Option ℤ)
+  pub nullability : Nullability
 
 pub record Column : Type 0 where
   pub dtype : TypeTree
@@ -24,61 +29,24 @@ pub record Column : Type 0 where
   pub stored : List (List ℕ)
   -- the value of a `Constant`, which its rows don't show where there are none
   pub constant : Option RowValue
+  -- of a `Dict`
+  pub codes : Option Codes
+  -- a `Union` that has an offset for each row
+  pub dense : Bool
   -- how deep its layouts nest: what a recursion over them counts down
   pub depth : ℕ
 
--- ---- its code
-abbrev cover_number : Cover → ℕ
-cover_number no_validity = 0
-cover_number constant_form = 1
-cover_number by_bools = 2
-cover_number by_other = 3
-
-abbrev cover_numbered : ℕ → Cover
-cover_numbered zero = no_validity
-cover_numbered (suc zero) = constant_form
-cover_numbered (suc (suc zero)) = by_bools
-cover_numbered (suc (suc (suc n))) = by_other
-
-pub cover_numbered_number : (c : Cover) → cover_numbered (cover_number c) ≡ c
-cover_numbered_number no_validity = refl
-cover_numbered_number constant_form = refl
-cover_numbered_number by_bools = refl
-cover_numbered_number by_other = refl
-
-abbrev pub coded_cover : Coded Cover
-coded_cover = code_by ℕ coded_ℕ cover_number cover_numbered cover_numbered_number
-
-abbrev Shown : Type 0
-Shown = (TypeTree × List RowValue) × (LayoutName × Cover)
-
-abbrev Kept : Type 0
-Kept = (List (List ℕ) × Option RowValue) × ℕ
-
-abbrev coded_shown : Coded Shown
-coded_shown =
-    coded× (coded× coded_type (coded_list coded_row)) (coded× the_row.coded coded_cover)
-
-abbrev coded_kept : Coded Kept
-coded_kept =
-    coded× (coded× (coded_list (coded_list coded_ℕ)) (coded_option coded_row)) coded_ℕ
-
-abbrev column_fields : Column → Shown × Kept
-column_fields c =
-    (((c.dtype, c.rows), (c.layout, c.cover)), ((c.stored, c.constant), c.depth))
-
-abbrev column_with : Shown × Kept → Column
-column_with f =
+-- the column of these rows in a layout that has no validity of its own
+abbrev pub bare_column : TypeTree → List RowValue → LayoutName → ℕ → Column
+bare_column dtype rows layout depth =
     record {
-      dtype = f.0.0.0;
-      rows = f.0.0.1;
-      layout = f.0.1.0;
-      cover = f.0.1.1;
-      stored = f.1.0.0;
-      constant = f.1.0.1;
-      depth = f.1.1;
+      dtype = dtype;
+      rows = rows;
+      layout = layout;
+      cover = no_validity;
+      stored = [];
+      constant = None;
+      codes = None;
+      dense = false;
+      depth = depth;
     }
-
-abbrev pub coded_column : Coded Column
-coded_column =
-    code_by (Shown × Kept) (coded× coded_shown coded_kept) column_fields column_with (λ _. refl)

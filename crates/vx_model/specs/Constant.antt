@@ -1,9 +1,9 @@
 -- Layout `Constant`: one value for every row.
-use Rattle.std.specs.Prelude.{ℕ, [], replicate, Some, refl}
+use Rattle.std.specs.Prelude.{ℕ, replicate, Some, refl}
 use Rattle.std.specs.Coded.{Coded, code_by, coded×, coded_ℕ}
 use Rattle.vx_types.specs.Scalar.{TypedRow, coded_typed_row}
 use Rattle.vx_types.specs.declared.layout_name.LayoutName.TheVariants.{Constant}
-use Rattle.vx_model.specs.Column.{Column, no_validity}
+use Rattle.vx_model.specs.Column.{Column, bare_column}
 
 -- what a contract sees of a `ConstantArray`
 pub record ConstantParts : Type 0 where
@@ -13,14 +13,8 @@ pub record ConstantParts : Type 0 where
 -- the value for each row
 abbrev pub constant_column : ConstantParts → Column
 constant_column p =
-    record {
-      dtype = p.scalar.dtype;
-      rows = replicate p.len p.scalar.row;
-      layout = Constant;
-      cover = no_validity;
-      stored = [];
+    record (bare_column p.scalar.dtype (replicate p.len p.scalar.row) Constant 1) {
       constant = Some p.scalar.row;
-      depth = 1;
     }
 
 -- the same value for so many rows: what a step leaves

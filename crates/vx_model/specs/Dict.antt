@@ -1,14 +1,15 @@
 -- Layout `Dict`: for each row a code, the number of one of the values.
-use Rattle.std.specs.Prelude.{ℕ, ◌+◌, max, [], List, length, Option, Some, None, is_some, if◌then◌else◌, refl}
+use Rattle.std.specs.Prelude.{ℕ, ◌+◌, max, List, length, Option, Some, None, is_some, if◌then◌else◌, refl}
 use Rattle.std.specs.Coded.{Coded, code_by, coded×}
-use Rattle.vx_types.specs.TypeTree.{is_int_type, type_nullability, also_nullable}
+use Rattle.vx_types.specs.TypeTree.{TypeTree, is_int_type, also_nullable}
 use Rattle.vx_types.specs.RowValue.{RowValue, null}
 use Rattle.vx_types.specs.declared.layout_name.LayoutName.TheVariants.{Dict}
 use Rattle.vx_types.specs.declared.error.ColumnError.{ColumnError}
 use Rattle.vx_types.specs.declared.error.ColumnError.TheVariants.{WrongType, CodeOutOfRange}
 use Rattle.vx_take.specs.Picks.{at}
 use Rattle.vx_numbers.specs.Positions.{first_bad, positions_of}
-use Rattle.vx_model.specs.Column.{Column, coded_column, no_validity}
+use Rattle.vx_model.specs.Column.{Codes, Column, bare_column}
+use Rattle.vx_model.specs.ColumnCode.{coded_column}
 use Rattle.vx_model.specs.Numbers.{numbers_of}
 
 -- what a contract sees of a `DictArray`
@@ -33,17 +34,17 @@ dict_rows p = at null p.values.rows (positions_of (numbers_of p.codes))
 abbrev pub dict_size : DictParts → ℕ
 dict_size p = max p.codes.depth p.values.depth + 1
 
--- of the values' type, nullable also where the codes' is
+-- the values' type, nullable also where the codes' is
+abbrev pub dict_type : DictParts → TypeTree
+dict_type p = also_nullable p.values.dtype p.codes.dtype.nullability
+
+abbrev pub dict_codes : DictParts → Codes
+dict_codes p = record { numbers = numbers_of p.codes; nullability = p.codes.dtype.nullability }
+
 abbrev pub dict_column : DictParts → Column
 dict_column p =
-    record {
-      dtype = also_nullable p.values.dtype (type_nullability p.codes.dtype);
-      rows = dict_rows p;
-      layout = Dict;
-      cover = no_validity;
-      stored = [];
-      constant = None;
-      depth = dict_size p + 1;
+    record (bare_column (dict_type p) (dict_rows p) Dict (dict_size p + 1)) {
+      codes = Some (dict_codes p);
     }
 
 -- the same values under other codes: what a step leaves

@@ -1,11 +1,12 @@
 -- Layout `Filter`: the rows of a child at the set positions of a mask.
-use Rattle.std.specs.Prelude.{ℕ, ◌+◌, ◌==◌, [], List, Bool, length, Option, Some, None, if◌then◌else◌, refl}
+use Rattle.std.specs.Prelude.{ℕ, ◌+◌, ◌==◌, List, Bool, length, Option, Some, None, if◌then◌else◌, refl}
 use Rattle.std.specs.List.{items_where_true}
 use Rattle.std.specs.Coded.{Coded, code_by, coded×, coded_list, coded_bool}
 use Rattle.vx_types.specs.declared.layout_name.LayoutName.TheVariants.{Filter}
 use Rattle.vx_types.specs.declared.error.ColumnError.{ColumnError}
 use Rattle.vx_types.specs.declared.error.ColumnError.TheVariants.{WrongLength}
-use Rattle.vx_model.specs.Column.{Column, coded_column, no_validity}
+use Rattle.vx_model.specs.Column.{Column, bare_column}
+use Rattle.vx_model.specs.ColumnCode.{coded_column}
 
 -- what a contract sees of a `FilterArray`
 pub record FilterParts : Type 0 where
@@ -22,15 +23,7 @@ filter_size p = p.child.depth + 1
 
 abbrev pub filter_column : FilterParts → Column
 filter_column p =
-    record {
-      dtype = p.child.dtype;
-      rows = items_where_true p.mask p.child.rows;
-      layout = Filter;
-      cover = no_validity;
-      stored = [];
-      constant = None;
-      depth = filter_size p + 1;
-    }
+    bare_column p.child.dtype (items_where_true p.mask p.child.rows) Filter (filter_size p + 1)
 
 abbrev pub coded_filter : Coded FilterParts
 coded_filter =

@@ -1,13 +1,14 @@
 pub mod Bool
 pub mod Column
+pub mod ColumnCode
 pub mod Constant
-pub mod Decimal
 pub mod Dict
 pub mod Filter
 pub mod Null
 pub mod Numbers
 pub mod Plain
-pub mod Primitive
+pub mod Records
 pub mod Step
 pub mod Stored
 pub mod Valid
+pub mod ValidCode

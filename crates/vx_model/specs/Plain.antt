@@ -9,6 +9,10 @@ abbrev pub is_null_layout : LayoutName → Bool
 is_null_layout layouts.Null = true
 is_null_layout t = false
 
+abbrev pub is_constant_layout : LayoutName → Bool
+is_constant_layout layouts.Constant = true
+is_constant_layout t = false
+
 -- layouts that store a row as a record of bytes
 abbrev pub stores_records : LayoutName → Bool
 stores_records layouts.Primitive = true

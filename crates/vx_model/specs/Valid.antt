@@ -1,15 +1,13 @@
 -- Which rows are there, and which are null.
-use Rattle.std.specs.Prelude.{◌≡◌, ℕ, zero, suc, ◌+◌, ◌≤◌, ◌⊎◌, ◌==◌, ◌&&◌, ◌||◌, length, List, [], ◌∷◌, map, replicate, Bool, true, false, not, refl, slice_index_or, if◌then◌else◌}
-use Rattle.std.proofs.Common.{inl, inr}
-use Rattle.std.specs.Coded.{Coded, code_by, coded⊎, coded_ℕ}
+use Rattle.std.specs.Prelude.{◌≡◌, ℕ, ◌+◌, ◌≤◌, ◌==◌, ◌&&◌, ◌||◌, length, List, [], ◌∷◌, map, replicate, Bool, true, false, not, slice_index_or, if◌then◌else◌}
 use Rattle.vx_types.specs.RowValue.{RowValue, null, bit}
-use Rattle.vx_types.specs.TypeTree.{TypeTree, bool_type}
+use Rattle.vx_types.specs.TypeTree.{TypeTree, is_bool_kind}
 use Rattle.vx_types.specs.Nullability.{is_nullable}
 use Rattle.vx_types.specs.declared.layout_name.LayoutName.{LayoutName}
 use Rattle.vx_types.specs.declared.layout_name.LayoutName.TheVariants.{Bool as BoolLayout}
 use Rattle.vx_types.specs.declared.nullability.Nullability.{Nullability}
 use Rattle.vx_types.specs.declared.nullability.Nullability.TheVariants.{NonNullable, Nullable}
-use Rattle.vx_model.specs.Column.{Column, coded_column, Cover, constant_form, by_bools, by_other}
+use Rattle.vx_model.specs.Column.{Column, Cover, constant_form, by_bools, by_other}
 
 -- what a contract sees of a validity: a constant form, or a column of bits
 pub data Valid : Type 0 where
@@ -65,8 +63,7 @@ cover_by all_invalid = constant_form
 cover_by (by_column c) = if is_bool_layout c.layout then by_bools else by_other
 
 abbrev pub is_non_null_bool : TypeTree → Bool
-is_non_null_bool (bool_type n) = not (is_nullable n)
-is_non_null_bool t = false
+is_non_null_bool t = is_bool_kind t.kind && not (is_nullable t.nullability)
 
 -- a validity array is a non-nullable bool column as long as the n rows
 abbrev pub is_fitting : Valid → ℕ → Bool
@@ -109,29 +106,3 @@ pub record IsLeft (before : Valid) (n : Nullability) (left : List Bool) (after :
   pub fitting : is_fitting after (length left) ≡ true
   pub nullability : nullability_by after ≡ n
   pub flat : is_flat_cover (cover_by before) ≡ true → is_flat_cover (cover_by after) ≡ true
-
--- ---- its code
-abbrev valid_split : Valid → ℕ ⊎ Column
-valid_split non_nullable = inl 0
-valid_split all_valid = inl 1
-valid_split all_invalid = inl 2
-valid_split (by_column c) = inr c
-
-abbrev valid_numbered : ℕ → Valid
-valid_numbered zero = non_nullable
-valid_numbered (suc zero) = all_valid
-valid_numbered (suc (suc n)) = all_invalid
-
-abbrev valid_joined : ℕ ⊎ Column → Valid
-valid_joined (inl n) = valid_numbered n
-valid_joined (inr c) = by_column c
-
-pub valid_joined_split : (v : Valid) → valid_joined (valid_split v) ≡ v
-valid_joined_split non_nullable = refl
-valid_joined_split all_valid = refl
-valid_joined_split all_invalid = refl
-valid_joined_split (by_column c) = refl
-
-abbrev pub coded_valid : Coded Valid
-coded_valid =
-    code_by (ℕ ⊎ Column) (coded⊎ coded_ℕ coded_column) valid_split valid_joined valid_joined_split

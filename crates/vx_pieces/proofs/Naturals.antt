@@ -36,7 +36,7 @@ number_fits F64 bs u h = cc
 pub length-naturals_of : (c : Column) → length (naturals_of c) ≡ length c.rows
 length-naturals_of c = length-map (numbers_of c) natural_of ∙ length-numbers_of c
 
-pub natural_of_row : (c : Column) (i : ℕ) → i < length c.rows → get_or (naturals_of c) i 0 ≡ natural_of (number_in c.dtype (get_or c.rows i null))
+pub natural_of_row : (c : Column) (i : ℕ) → i < length c.rows → get_or (naturals_of c) i 0 ≡ natural_of (number_in c.dtype.kind (get_or c.rows i null))
 natural_of_row c i h = get_or-map natural_of (numbers_of c) i None 0 (omega (arith, length-numbers_of c)) ∙ ap natural_of (number_of_row c i h)
 
 length-pieces_by : (ss ls ms : List ℕ) → length ls ≡ length ss → length ms ≡ length ss → length (pieces_by ss ls ms) ≡ length ss

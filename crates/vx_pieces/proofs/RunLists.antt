@@ -105,5 +105,5 @@ constant_ones p k sound same one = λ i d h.
     ap (λ (q : Piece). q.multiplier) (get_or-pieces_of p sound i d in_starts)
     ∙ ap (λ (c : Column). get_or (naturals_of c) i 0) (sym same)
     ∙ natural_of_row (constant_column k) i in_column
-    ∙ ap (λ x. natural_of (number_in k.scalar.dtype x)) (get_or-replicate k.len i k.scalar.row null in_len)
-    ∙ (Decides-eqb (natural_of (number_in k.scalar.dtype k.scalar.row)) 1).0 one
+    ∙ ap (λ x. natural_of (number_in k.scalar.dtype.kind x)) (get_or-replicate k.len i k.scalar.row null in_len)
+    ∙ (Decides-eqb (natural_of (number_in k.scalar.dtype.kind k.scalar.row)) 1).0 one

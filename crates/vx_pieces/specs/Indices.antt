@@ -1,7 +1,7 @@
 -- Lists of indices: what a take by them picks, and why it can't.
 use Rattle.std.specs.Prelude.{ℕ, pos, length, List, map, Option, Some, if◌then◌else◌}
 use Rattle.std.specs.Option.{option_map}
-use Rattle.vx_types.specs.TypeTree.{is_int_type, type_nullability}
+use Rattle.vx_types.specs.TypeTree.{is_int_type}
 use Rattle.vx_types.specs.declared.nullability.Nullability.{Nullability}
 use Rattle.vx_types.specs.declared.nullability.Nullability.TheVariants.{NonNullable}
 use Rattle.vx_numbers.specs.Positions.{first_bad, positions_of}
@@ -52,5 +52,5 @@ index_len (by_pieces p) = p.len
 
 -- whether a take by them may leave nulls
 abbrev pub index_nullability : IndexValue → Nullability
-index_nullability (by_column c) = type_nullability c.dtype
+index_nullability (by_column c) = c.dtype.nullability
 index_nullability (by_pieces p) = NonNullable

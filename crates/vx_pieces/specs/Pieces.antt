@@ -5,14 +5,15 @@ use Rattle.std.specs.Int.{w64, to_le_bytes}
 use Rattle.std.specs.Coded.{Coded, code_by, coded×, coded_ℕ}
 use Rattle.vx_types.specs.PType.{is_int, is_signed}
 use Rattle.vx_types.specs.Nullability.{is_nullable}
-use Rattle.vx_types.specs.TypeTree.{TypeTree, primitive_type}
+use Rattle.vx_types.specs.TypeTree.{TypeKind, TypeTree, primitive_kind}
 use Rattle.vx_types.specs.declared.ptype.PType.{PType}
 use Rattle.vx_types.specs.declared.ptype.PType.TheVariants.{U64}
 use Rattle.vx_types.specs.declared.error.ColumnError.{ColumnError}
 use Rattle.vx_types.specs.declared.error.ColumnError.TheVariants.{WrongType, WrongLength}
-use Rattle.vx_model.specs.Column.{Column, coded_column}
+use Rattle.vx_model.specs.Column.{Column}
+use Rattle.vx_model.specs.ColumnCode.{coded_column}
 use Rattle.vx_model.specs.Numbers.{numbers_of}
-use Rattle.vx_model.specs.Primitive.{primitive_column}
+use Rattle.vx_model.specs.Records.{records_column}
 use Rattle.vx_model.specs.Valid.{non_nullable}
 use Rattle.vx_pieces.specs.declared.piece.Piece.{Piece}
 use Rattle.vx_pieces.specs.declared.error.PiecesError.{PiecesError}
@@ -32,14 +33,17 @@ pieces_parts starts lengths multipliers len =
 
 -- ---- why three columns are no sequence
 
--- a type of whole numbers from 0 on
+-- an unsigned type
 abbrev pub is_unsigned : PType → Bool
 is_unsigned p = is_int p && not (is_signed p)
 
+abbrev pub is_unsigned_kind : TypeKind → Bool
+is_unsigned_kind (primitive_kind p) = is_unsigned p
+is_unsigned_kind k = false
+
 -- a non-nullable one
 abbrev pub is_unsigned_type : TypeTree → Bool
-is_unsigned_type (primitive_type p n) = is_unsigned p && not (is_nullable n)
-is_unsigned_type t = false
+is_unsigned_type t = is_unsigned_kind t.kind && not (is_nullable t.nullability)
 
 abbrev pub are_unsigned : PiecesParts → Bool
 are_unsigned p =
@@ -129,9 +133,9 @@ first_from n numbers = find (nat_le n) numbers
 -- the column of type `u64` of these numbers, none of them null
 abbrev pub numbers_column : List ℕ → Column
 numbers_column numbers =
-    primitive_column
+    records_column
     (record {
-      ptype = U64;
+      kind = primitive_kind U64;
       width = 8;
       records = map (to_le_bytes w64) numbers;
       valid = non_nullable;

@@ -1,23 +1,18 @@
 -- Piecewise sequences whose numbers follow each other without a gap in each piece.
-use Rattle.std.specs.Prelude.{ℕ, ◌==◌, ◌&&◌, List, flat_map, filter_map, Bool, true, false, Option, Some, None, if◌then◌else◌}
+use Rattle.std.specs.Prelude.{ℕ, ◌==◌, ◌&&◌, List, flat_map, filter_map, Bool, false, Option, Some, None, if◌then◌else◌}
 use Rattle.std.specs.List.{range_with_len}
 use Rattle.vx_types.specs.RowValue.{RowValue}
 use Rattle.vx_types.specs.TypeTree.{TypeTree}
-use Rattle.vx_types.specs.declared.layout_name.LayoutName.{LayoutName}
-use Rattle.vx_types.specs.declared.layout_name.LayoutName.TheVariants.{Constant}
 use Rattle.vx_model.specs.Numbers.{number_in}
+use Rattle.vx_model.specs.Plain.{is_constant_layout}
 use Rattle.vx_pieces.specs.Pieces.{PiecesParts, natural_of, pieces_of, sound_fault}
 use Rattle.vx_pieces.specs.declared.piece.Piece.{Piece}
 use Rattle.vx_pieces.specs.declared.error.PiecesError.{PiecesError}
 
-abbrev pub is_constant_layout : LayoutName → Bool
-is_constant_layout Constant = true
-is_constant_layout layout = false
-
 -- there is a value, and it is the number 1
 abbrev pub is_one : TypeTree → Option RowValue → Bool
 is_one t None = false
-is_one t (Some x) = natural_of (number_in t x) == 1
+is_one t (Some x) = natural_of (number_in t.kind x) == 1
 
 -- the multipliers are a column of layout `Constant`, of value 1
 abbrev pub is_constant_one : PiecesParts → Bool

@@ -2,7 +2,6 @@
 ghost use Rattle.std.specs.Prelude.{◌≡◌, ℕ, None, length, IfOk};
 ghost use Rattle.std.specs.Option.{option_map};
 ghost use Rattle.vx_types.specs.declared.nullability.Nullability.TheVariants.{NonNullable};
-ghost use Rattle.vx_types.specs.TypeTree.{type_nullability};
 ghost use Rattle.vx_numbers.specs.Positions.{AllThere, positions_of};
 ghost use Rattle.vx_model.specs.Numbers.{numbers_of};
 ghost use Rattle.vx_pieces.specs.Indices.{column_fault, index_fault, index_len, index_nullability, index_picks, index_value, sequence_fault};
@@ -90,7 +89,7 @@ pub fn column_picks(alloc: Global, array: &Array, len: usize) -> Result<Picks, N
     ensures picks { IfOk result
         (λ p. p ≡ record { picks = positions_of (numbers_of array.now); bound = len }) }
     ensures there { IfOk result
-        (λ p. type_nullability array.now.dtype ≡ NonNullable → AllThere p.picks) }
+        (λ p. array.now.dtype.nullability ≡ NonNullable → AllThere p.picks) }
 {
     match array.dtype().int_type() {
         Some(ptype) => array.positions(alloc, ptype, len),

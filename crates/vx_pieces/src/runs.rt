@@ -10,7 +10,7 @@ use crate::piece::Piece;
 use crate::sequence::PiecewiseSequence;
 use std::alloc::Global;
 use vx_bits::NoMemory;
-use vx_column::{DType, Layout, Runs, Scalar, ScalarValue};
+use vx_column::{DType, Runs, Scalar, ScalarValue};
 
 impl PiecewiseSequence {
     /// Whether the multipliers are a column of layout `Constant`, of value 1.
@@ -18,9 +18,9 @@ impl PiecewiseSequence {
         ensures value { result ≡ is_constant_one self.now }
         ensures ones { result ≡ true → All (λ p. p.multiplier ≡ 1) (pieces_of self.now) }
     {
-        match self.slots.multipliers.layout() {
-            Layout::Constant(constant) => is_one(constant.scalar()),
-            _ => false,
+        match self.slots.multipliers.as_constant() {
+            Some(scalar) => is_one(scalar),
+            None => false,
         }
     }
 
@@ -73,7 +73,7 @@ fn push_run(runs: &mut Vec<(usize, usize)>, piece: Piece) -> Result<(), NoMemory
     Ok(())
 }
 
-// Whether a value of a type of whole numbers from 0 on is 1.
+// Whether a value of an unsigned type is 1.
 fn is_one(scalar: &Scalar) -> bool
     requires { is_unsigned_type scalar.now.dtype ≡ true }
     ensures { result ≡ is_one scalar.now.dtype (Some scalar.now.row) }

@@ -4,7 +4,7 @@ use Rattle.std.specs.Fmt.{signed_decimal}
 use Rattle.hex.specs.Hex.{encode_lower}
 use Rattle.vx_types.specs.Nullability.{is_nullable}
 use Rattle.vx_types.specs.PType.{is_int, number}
-use Rattle.vx_types.specs.TypeTree.{TypeTree, null_type, bool_type, primitive_type, decimal_type}
+use Rattle.vx_types.specs.TypeTree.{TypeKind, TypeTree, null_kind, bool_kind, primitive_kind, decimal_kind}
 use Rattle.vx_types.specs.RowValue.{RowValue, null, bit, bytes}
 use Rattle.vx_types.specs.declared.nullability.Nullability.{Nullability}
 use Rattle.vx_types.specs.declared.ptype.PType.{PType}
@@ -29,17 +29,24 @@ decimal_text precision scale width =
     codes "decimal(" ++ decimal precision ++ codes "," ++ signed_decimal scale ++ codes ","
     ++ decimal width ++ codes ")"
 
--- a nullable type other than null has a mark at its end
 abbrev pub mark : Nullability → List ℕ
 mark n = if is_nullable n then codes "?" else []
 
--- other types have no name yet, and no column has them
+-- a nullable type other than null has a mark at its end
+abbrev pub mark_of : TypeKind → Nullability → List ℕ
+mark_of null_kind n = []
+mark_of k n = mark n
+
+-- other kinds have no name yet, and no column has them
+abbrev pub kind_text : TypeKind → List ℕ
+kind_text null_kind = codes "null"
+kind_text bool_kind = codes "bool"
+kind_text (primitive_kind p) = ptype_text p
+kind_text (decimal_kind p s w) = decimal_text p s w
+kind_text k = []
+
 abbrev pub type_text : TypeTree → List ℕ
-type_text null_type = codes "null"
-type_text (bool_type n) = codes "bool" ++ mark n
-type_text (primitive_type p n) = ptype_text p ++ mark n
-type_text (decimal_type p s w n) = decimal_text p s w ++ mark n
-type_text t = []
+type_text t = kind_text t.kind ++ mark_of t.kind t.nullability
 
 abbrev pub bit_text : Bool → List ℕ
 bit_text true = codes "true"
@@ -53,10 +60,10 @@ hex_text b = codes "0x" ++ encode_lower b
 abbrev pub primitive_text : PType → List ℕ → List ℕ
 primitive_text p b = if is_int p then signed_decimal (number p b) else hex_text b
 
-abbrev pub bytes_text : TypeTree → List ℕ → List ℕ
-bytes_text (primitive_type p n) b = primitive_text p b
-bytes_text (decimal_type p s w n) b = hex_text b
-bytes_text t b = []
+abbrev pub bytes_text : TypeKind → List ℕ → List ℕ
+bytes_text (primitive_kind p) b = primitive_text p b
+bytes_text (decimal_kind p s w) b = hex_text b
+bytes_text k b = []
 
 -- a row, with the text of bytes by f
 abbrev pub row_text_by : (List ℕ → List ℕ) → RowValue → List ℕ
@@ -67,7 +74,7 @@ row_text_by f x = []
 
 -- a row of a column of this type
 abbrev pub row_text : TypeTree → RowValue → List ℕ
-row_text t x = row_text_by (bytes_text t) x
+row_text t x = row_text_by (bytes_text t.kind) x
 
 abbrev pub line : List ℕ → List ℕ
 line text = text ++ 10 ∷ []

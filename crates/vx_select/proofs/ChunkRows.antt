@@ -7,7 +7,7 @@ use Rattle.std.specs.List.{All, items_where_true}
 use Rattle.std.proofs.lemmas.List.{get_or_default, length-drop, length-map, length-take-le}
 use Rattle.vx_bits.specs.BitBuffer.{true_count_of}
 use Rattle.vx_types.specs.Nullability.{either_nullable}
-use Rattle.vx_types.specs.TypeTree.{TypeTree, null_type, bool_type, primitive_type, decimal_type, utf8_type, binary_type, list_type, fixed_type, map_type, struct_type, union_type, extension_type, also_nullable}
+use Rattle.vx_types.specs.TypeTree.{TypeTree, also_nullable}
 use Rattle.vx_types.specs.declared.nullability.Nullability.{Nullability}
 use Rattle.vx_types.specs.declared.nullability.Nullability.TheVariants.{NonNullable}
 use Rattle.vx_types.specs.RowValue.{RowValue, null, bytes}
@@ -18,6 +18,7 @@ use Rattle.vx_take.specs.Picks.{at}
 use Rattle.vx_model.specs.Column.{Column}
 use Rattle.vx_model.specs.Valid.{Valid, is_fitting, present_bits, stored_rows, IsLeft}
 use Rattle.vx_model.proofs.StoredRows.{length-stored_rows}
+use Rattle.vx_model.proofs.Nullabilities.{also_nullable-none, also_nullable-either}
 use Rattle.vx_model.proofs.Takes.{take-stored}
 use Rattle.vx_chunked.proofs.ValuesAt.{part_at}
 use Rattle.vx_steps.specs.Step.{StepValue, slice_step, filter_step, take_step}
@@ -101,7 +102,7 @@ module _ (s : ShapeValue) (values : List (List ℕ)) (inside : s.offset + s.len 
   pub taken_rows : (w : Valid) (n : Nullability) (picks : List (Option ℕ)) (bound : ℕ) → bound ≡ s.len → (records : List (List ℕ)) (missing : List ℕ) → IsLeft s.valid n (at false (present_bits s.valid bound) picks) w → records ≡ at missing (chunk_values s values) picks → stored_rows w (map bytes records) ≡ at null (chunk_rows s values) picks
   taken_rows w n picks bound whole records missing left same =
       let part = chunk_values s values in
-      let count = length-part values s.offset s.len inside in
+      let count : length (map bytes part) ≡ s.len = length-map part bytes ∙ length-part values s.offset s.len inside in
       let P : ℕ → Type 0 = λ m. is_fitting s.valid m ≡ true in
       let Q : ℕ → Type 0 = λ m. IsLeft s.valid n (at false (present_bits s.valid m) picks) w in
       ap (λ l. stored_rows w (map bytes l)) same
@@ -109,41 +110,13 @@ module _ (s : ShapeValue) (values : List (List ℕ)) (inside : s.offset + s.len 
 
 -- ---- the type
 
-also_none : (t : TypeTree) → t ≡ also_nullable t NonNullable
-also_none null_type = refl
-also_none (bool_type m) = ap bool_type (sym (either-none m))
-also_none (primitive_type p m) = ap (primitive_type p) (sym (either-none m))
-also_none (decimal_type p s w m) = ap (decimal_type p s w) (sym (either-none m))
-also_none (utf8_type m) = ap utf8_type (sym (either-none m))
-also_none (binary_type m) = ap binary_type (sym (either-none m))
-also_none (list_type t m) = ap (list_type t) (sym (either-none m))
-also_none (fixed_type t k m) = ap (fixed_type t k) (sym (either-none m))
-also_none (map_type ns ts m) = ap (map_type ns ts) (sym (either-none m))
-also_none (struct_type ns ts m) = ap (struct_type ns ts) (sym (either-none m))
-also_none (union_type is ns ts m) = ap (union_type is ns ts) (sym (either-none m))
-also_none (extension_type s t m) = ap (extension_type s t) (sym (either-none m))
-
-also_twice : (t : TypeTree) (a b : Nullability) → also_nullable (also_nullable t a) b ≡ also_nullable t (either_nullable a b)
-also_twice null_type a b = refl
-also_twice (bool_type m) a b = ap bool_type (either-either m a b)
-also_twice (primitive_type p m) a b = ap (primitive_type p) (either-either m a b)
-also_twice (decimal_type p s w m) a b = ap (decimal_type p s w) (either-either m a b)
-also_twice (utf8_type m) a b = ap utf8_type (either-either m a b)
-also_twice (binary_type m) a b = ap binary_type (either-either m a b)
-also_twice (list_type t m) a b = ap (list_type t) (either-either m a b)
-also_twice (fixed_type t k m) a b = ap (fixed_type t k) (either-either m a b)
-also_twice (map_type ns ts m) a b = ap (map_type ns ts) (either-either m a b)
-also_twice (struct_type ns ts m) a b = ap (struct_type ns ts) (either-either m a b)
-also_twice (union_type is ns ts m) a b = ap (union_type is ns ts) (either-either m a b)
-also_twice (extension_type s t m) a b = ap (extension_type s t) (either-either m a b)
-
 -- the steps leave the type, nullable also where some take's indices are
 pub type_after-takes : (t : TypeTree) (steps : List StepValue) → type_after t steps ≡ also_nullable t (takes_nullability steps)
-type_after-takes t [] = also_none t
+type_after-takes t [] = sym (also_nullable-none t)
 type_after-takes t (slice_step start end ∷ steps) = type_after-takes t steps
 type_after-takes t (filter_step bits ∷ steps) = type_after-takes t steps
 type_after-takes t (take_step indices ∷ steps) =
-    type_after-takes (also_nullable t (index_nullability indices)) steps ∙ also_twice t (index_nullability indices) (takes_nullability steps)
+    type_after-takes (also_nullable t (index_nullability indices)) steps ∙ also_nullable-either t (index_nullability indices) (takes_nullability steps)
 
 -- ---- the answer
 

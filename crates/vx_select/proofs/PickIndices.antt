@@ -8,7 +8,7 @@ use Rattle.std.proofs.lemmas.Nat.{from_le_bytes-to_le_bytes_8}
 use Rattle.vx_types.specs.declared.nullability.Nullability.{Nullability}
 use Rattle.vx_types.specs.declared.ptype.PType.TheVariants.{U64}
 use Rattle.vx_types.specs.RowValue.{RowValue, bytes}
-use Rattle.vx_types.specs.TypeTree.{primitive_type, is_int_type}
+use Rattle.vx_types.specs.TypeTree.{TypeTree, primitive_kind, primitive_type, is_int_type}
 use Rattle.vx_take.specs.Picks.{AreBelow}
 use Rattle.vx_numbers.specs.Positions.{AllThere, first_bad, is_position, positions_of}
 use Rattle.vx_model.specs.Bool.{BoolParts, bool_column}
@@ -34,7 +34,7 @@ behind x picks n h = λ k d l. h (suc k) d (omega arith)
 
 module _ (m : Nullability) (n : ℕ) (small : n < 2 ^ 64) where
   abbrev numbers : List (Option ℕ) → List (Option ℤ)
-  numbers picks = map (number_in (primitive_type U64 m)) (pick_rows picks)
+  numbers picks = map (number_in (primitive_kind U64)) (pick_rows picks)
 
   -- the number of a position below n
   spelt : (p : ℕ) → p < n → from_le_bytes w64 (to_le_bytes w64 p) ≡ p
@@ -64,7 +64,7 @@ module _ (c : Column) (v : Valid) (m : Nullability) (n : ℕ) (small : n < 2 ^ 6
       ∙ ap (λ k. shown_rows (present_bits v k) items) long ∙ ap (λ b. shown_rows b items) present
 
   numbers_are : numbers_of c ≡ numbers m n small picks
-  numbers_are = ap₂ (λ t r. map (number_in t) r) typed are
+  numbers_are = ap₂ (λ (t : TypeTree) r. map (number_in t.kind) r) typed are
 
   pub picks_named : positions_of (numbers_of c) ≡ picks
   picks_named = ap positions_of numbers_are ∙ positions m n small picks below

@@ -4,7 +4,7 @@ use Rattle.std.specs.List.{range_with_len, list_all}
 use Rattle.std.proofs.lemmas.List.{length-map, drop_all}
 use Rattle.std.proofs.lemmas.Simd.{map-map}
 use Rattle.std.proofs.lemmas.List.FromFn.{fill_by_all}
-use Rattle.vx_types.specs.TypeTree.{TypeTree, null_type, bool_type, primitive_type, decimal_type, utf8_type, binary_type, list_type, fixed_type, map_type, struct_type, union_type, extension_type, is_flat, also_nullable}
+use Rattle.vx_types.specs.TypeTree.{TypeTree, is_flat, also_nullable}
 use Rattle.vx_types.specs.declared.nullability.Nullability.{Nullability}
 use Rattle.vx_types.specs.RowValue.{RowValue, null}
 use Rattle.vx_model.specs.Column.{Column}
@@ -47,24 +47,10 @@ pub left_at_end : (t : TypeTree) (steps : List StepValue) (k : ℕ) → length s
 left_at_end t steps k h = ap (type_after t) (drop_all k steps h)
 
 -- a step leaves a flat type flat
-pub is_flat-also : (t : TypeTree) (n : Nullability) → is_flat (also_nullable t n) ≡ is_flat t
-is_flat-also null_type n = refl
-is_flat-also (bool_type m) n = refl
-is_flat-also (primitive_type p m) n = refl
-is_flat-also (decimal_type p s w m) n = refl
-is_flat-also (utf8_type m) n = refl
-is_flat-also (binary_type m) n = refl
-is_flat-also (list_type t m) n = refl
-is_flat-also (fixed_type t k m) n = refl
-is_flat-also (map_type ns ts m) n = refl
-is_flat-also (struct_type ns ts m) n = refl
-is_flat-also (union_type is ns ts m) n = refl
-is_flat-also (extension_type s t m) n = refl
-
 pub is_flat-step : (t : TypeTree) (s : StepValue) → is_flat (type_after_step t s) ≡ is_flat t
 is_flat-step t (slice_step start end) = refl
 is_flat-step t (filter_step bits) = refl
-is_flat-step t (take_step indices) = is_flat-also t (index_nullability indices)
+is_flat-step t (take_step indices) = refl
 
 slice_among : (steps : List StepValue) (k : ℕ) (s : StepValue) → list_all is_slice steps ≡ true → k < length steps → s ≡ get_or steps k s → is_slice s ≡ true
 slice_among [] k s a h is = absurd (omega arith)

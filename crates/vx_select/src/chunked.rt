@@ -7,7 +7,7 @@ ghost use Rattle.vx_bits.specs.WordReader.{then_told};
 ghost use Rattle.vx_types.specs.Decimal.{is_width};
 ghost use Rattle.vx_types.specs.DType.{type_of};
 ghost use Rattle.vx_types.specs.RowValue.{bytes, null};
-ghost use Rattle.vx_types.specs.TypeTree.{also_nullable, is_flat, type_width, with_nullability};
+ghost use Rattle.vx_types.specs.TypeTree.{also_nullable, is_flat, type_width};
 ghost use Rattle.vx_mask.specs.Mask.{mask_bits};
 ghost use Rattle.vx_mask.specs.Policy.{sparse_limit_of};
 ghost use Rattle.vx_model.specs.Plain.{is_unwrapped};
@@ -27,7 +27,7 @@ ghost use Rattle.vx_select.specs.Chunks.{AreNoneOrAll, asked_at, asked_by_walk, 
 use std::alloc::Global;
 use vx_bits::{Buffer, NoMemory, Records};
 use vx_chunked::{ChunkDecoder, filter_chunked_mask};
-use vx_column::{Array, DType, DecimalArray, Nullability, PrimitiveArray, Validity};
+use vx_column::{Array, DType, Nullability, RecordArray, RecordType, Validity};
 use vx_dispatch::take_validity;
 use vx_mask::{Mask, Policy};
 use vx_steps::{ChunkShape, SelectError, Step, compose, takes_nullability};
@@ -96,19 +96,15 @@ fn column_of(dtype: &DType, values: Records, validity: Validity) -> Array
     requires flat { is_flat_cover (cover_by (valid_of validity)) ≡ true }
     ensures rows { result.rows ≡ stored_rows (valid_of validity) (map bytes (records_of values)) }
     ensures dtype { result.dtype
-        ≡ with_nullability (type_of dtype.now) (nullability_by (valid_of validity)) }
+        ≡ record (type_of dtype.now) { nullability = nullability_by (valid_of validity) } }
     ensures unwrapped { is_unwrapped result ≡ true }
 {
-    match dtype {
-        DType::Primitive(ptype, _) => match PrimitiveArray::try_new(*ptype, values, validity) {
+    match RecordType::of(dtype) {
+        Some(record_type) => match RecordArray::try_new(record_type, values, validity) {
             Ok(array) => array.into_array(),
             Err(_) => unreachable!(),
         },
-        DType::Decimal(decimal, _) => match DecimalArray::try_new(*decimal, values, validity) {
-            Ok(array) => array.into_array(),
-            Err(_) => unreachable!(),
-        },
-        DType::Null | DType::Bool(_) => unreachable!(),
+        None => unreachable!(),
     }
 }
 

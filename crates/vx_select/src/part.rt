@@ -20,7 +20,8 @@ pub(crate) struct Part {
 
 impl Model for Part {
     ghost use Rattle.std.specs.Prelude.{◌≤◌, length, slice_range};
-    ghost use Rattle.vx_model.specs.Column.{Column, coded_column};
+    ghost use Rattle.vx_model.specs.Column.{Column};
+    ghost use Rattle.vx_model.specs.ColumnCode.{coded_column};
 
     ghost Value = { Column };
 

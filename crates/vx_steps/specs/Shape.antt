@@ -2,13 +2,15 @@
 use Rattle.std.specs.Prelude.{ℕ, ◌+◌, ◌^◌, ◌&&◌, nat_le, nat_lt, is_some, Bool, true, false, Option, Some, None, if◌then◌else◌, refl}
 use Rattle.std.specs.Coded.{Coded, code_by, coded×, coded_ℕ}
 use Rattle.vx_types.specs.DType.{type_of}
-use Rattle.vx_types.specs.TypeTree.{TypeTree, coded_type, type_nullability, type_width}
+use Rattle.vx_types.specs.TypeTree.{TypeTree, type_width}
+use Rattle.vx_types.specs.TypeTreeCode.{coded_type}
 use Rattle.vx_types.specs.declared.dtype.DType.{DType}
 use Rattle.vx_types.specs.declared.nullability.Nullability.{Nullability}
 use Rattle.vx_types.specs.declared.nullability.Nullability.TheVariants.{NonNullable, Nullable}
 use Rattle.vx_types.specs.declared.error.ColumnError.{ColumnError}
 use Rattle.vx_types.specs.declared.error.ColumnError.TheVariants.{WrongType, BadValidity, TooLong}
-use Rattle.vx_model.specs.Valid.{Valid, coded_valid, is_fitting, nullability_by}
+use Rattle.vx_model.specs.Valid.{Valid, is_fitting, nullability_by}
+use Rattle.vx_model.specs.ValidCode.{coded_valid}
 use Rattle.vx_column.specs.Validity.{valid_of}
 use Rattle.vx_column.specs.declared.validity.Validity.{Validity}
 
@@ -32,7 +34,7 @@ same_nullability Nullable Nullable = true
 -- values have a width, and there may be nulls just where the validity may have some
 abbrev pub is_stored_as : TypeTree → Valid → Bool
 is_stored_as t v =
-    is_some (type_width t) && same_nullability (type_nullability t) (nullability_by v)
+    is_some (type_width t) && same_nullability t.nullability (nullability_by v)
 
 -- the first value lies in the first chunk, and a `usize` counts the values up to the last
 abbrev pub is_counted : ℕ → ℕ → Bool

@@ -3,7 +3,7 @@ ghost use Rattle.std.specs.Prelude.{◌≡◌, ◌+◌, ◌^◌, ◌<◌, Some, 
 ghost use Rattle.vx_bits.specs.Results.{ok_unless};
 ghost use Rattle.vx_types.specs.Decimal.{is_width};
 ghost use Rattle.vx_types.specs.DType.{type_of};
-ghost use Rattle.vx_types.specs.TypeTree.{type_nullability, type_width};
+ghost use Rattle.vx_types.specs.TypeTree.{type_width};
 ghost use Rattle.vx_model.specs.Valid.{is_fitting, nullability_by};
 ghost use Rattle.vx_column.specs.Validity.{valid_of};
 ghost use Rattle.vx_steps.specs.Shape.{is_counted, is_stored_as, same_nullability, shape_fault, shape_of};
@@ -99,7 +99,7 @@ impl ChunkShape {
     pub fn dtype(&self) -> &DType
         ensures value { type_of result.now ≡ self.now.dtype }
         ensures sized { IsSome (type_width self.now.dtype) }
-        ensures nullability { type_nullability self.now.dtype ≡ nullability_by self.now.valid }
+        ensures nullability { self.now.dtype.nullability ≡ nullability_by self.now.valid }
     {
         &self.dtype
     }

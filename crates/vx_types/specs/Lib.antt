@@ -2,8 +2,12 @@ pub mod Code
 pub mod DType
 pub mod Decimal
 pub mod Nullability
+pub mod NullabilityCode
 pub mod PType
+pub mod PTypeCode
 pub mod Row
 pub mod RowValue
+pub mod RowValueCode
 pub mod Scalar
 pub mod TypeTree
+pub mod TypeTreeCode

@@ -1,7 +1,5 @@
 -- Whether null rows are allowed.
-use Rattle.std.specs.Prelude.{◌≡◌, zero, suc, refl, Bool, true, false}
-use Rattle.std.proofs.Common.{sym, ap, ◌∙◌}
-use base.Stored.{Gv, gnil, gnum, gcons, Coded}
+use Rattle.std.specs.Prelude.{Bool, true, false}
 use Rattle.vx_types.specs.declared.nullability.Nullability.{Nullability}
 use Rattle.vx_types.specs.declared.nullability.Nullability.TheVariants.{NonNullable, Nullable}
 
@@ -13,26 +11,3 @@ is_nullable Nullable = true
 abbrev pub either_nullable : Nullability → Nullability → Nullability
 either_nullable NonNullable n = n
 either_nullable Nullable n = Nullable
-
--- ---- its code
-abbrev pub nullability_code : Nullability → Gv
-nullability_code NonNullable = gnum 0
-nullability_code Nullable = gnum 1
-
-abbrev pub nullability_back : Gv → Nullability
-nullability_back gnil = NonNullable
-nullability_back (gnum zero) = NonNullable
-nullability_back (gnum (suc n)) = Nullable
-nullability_back (gcons a b) = NonNullable
-
-pub nullability_back_code : (n : Nullability) → nullability_back (nullability_code n) ≡ n
-nullability_back_code NonNullable = refl
-nullability_back_code Nullable = refl
-
-abbrev pub coded_nullability : Coded Nullability
-coded_nullability =
-    record {
-      code = nullability_code;
-      inj = λ x y p.
-          sym (nullability_back_code x) ∙ ap nullability_back p ∙ nullability_back_code y;
-    }

@@ -1,9 +1,11 @@
 -- What a `ScalarValue` and a `Scalar` stand for.
 use Rattle.std.specs.Prelude.{ℕ, ◌==◌, ◌&&◌, Bool, true, false, List, length, Option, Some, None, if◌then◌else◌, refl}
 use Rattle.std.specs.Coded.{Coded, code_by, coded×}
-use Rattle.vx_types.specs.RowValue.{RowValue, null, bit, bytes, coded_row}
+use Rattle.vx_types.specs.RowValue.{RowValue, null, bit, bytes}
+use Rattle.vx_types.specs.RowValueCode.{coded_row}
 use Rattle.vx_types.specs.Nullability.{is_nullable}
-use Rattle.vx_types.specs.TypeTree.{TypeTree, bool_type, primitive_type, decimal_type, utf8_type, binary_type, is_flat, type_nullability, type_width, coded_type}
+use Rattle.vx_types.specs.TypeTree.{TypeKind, TypeTree, primitive_kind, decimal_kind, utf8_kind, binary_kind, is_bool_kind, is_flat_kind, type_width}
+use Rattle.vx_types.specs.TypeTreeCode.{coded_type}
 use Rattle.vx_types.specs.declared.error.ColumnError.{ColumnError}
 use Rattle.vx_types.specs.declared.error.ColumnError.TheVariants.{WrongType, WrongWidth}
 use Rattle.vx_types.specs.declared.scalar.ScalarValue.{ScalarValue}
@@ -14,31 +16,27 @@ scalar_row scalars.Null = null
 scalar_row (scalars.Bit b) = bit b
 scalar_row (scalars.Bytes b) = bytes b
 
--- a type of text or of other bytes
-abbrev pub is_text : TypeTree → Bool
-is_text (utf8_type n) = true
-is_text (binary_type n) = true
-is_text t = false
+-- text or other bytes
+abbrev pub is_text_kind : TypeKind → Bool
+is_text_kind utf8_kind = true
+is_text_kind binary_kind = true
+is_text_kind k = false
 
--- a type whose rows are null, a bit or bytes
-abbrev pub has_scalars : TypeTree → Bool
-has_scalars t = if is_flat t then true else is_text t
+-- rows are null, a bit or bytes
+abbrev pub has_scalars : TypeKind → Bool
+has_scalars k = if is_flat_kind k then true else is_text_kind k
 
--- bytes are a row of this type
-abbrev pub is_of_bytes : TypeTree → Bool
-is_of_bytes (primitive_type p n) = true
-is_of_bytes (decimal_type p s w n) = true
-is_of_bytes t = is_text t
-
-abbrev pub is_of_bits : TypeTree → Bool
-is_of_bits (bool_type n) = true
-is_of_bits t = false
+-- bytes are a row of this kind
+abbrev pub is_of_bytes : TypeKind → Bool
+is_of_bytes (primitive_kind p) = true
+is_of_bytes (decimal_kind p s w) = true
+is_of_bytes k = is_text_kind k
 
 -- a row is of the type's kind, or a null of a nullable type
 abbrev pub is_of_kind : TypeTree → RowValue → Bool
-is_of_kind t null = has_scalars t && is_nullable (type_nullability t)
-is_of_kind t (bit b) = is_of_bits t
-is_of_kind t (bytes b) = is_of_bytes t
+is_of_kind t null = has_scalars t.kind && is_nullable t.nullability
+is_of_kind t (bit b) = is_bool_kind t.kind
+is_of_kind t (bytes b) = is_of_bytes t.kind
 is_of_kind t x = false
 
 -- so many bytes are as many as the type says, where it says so

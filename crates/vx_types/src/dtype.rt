@@ -1,7 +1,7 @@
 //! The types of columns.
 ghost use Rattle.std.specs.Prelude.{◌≡◌, None, Some, true};
 ghost use Rattle.vx_types.specs.DType.{type_of};
-ghost use Rattle.vx_types.specs.TypeTree.{type_nullability, with_nullability, is_flat, int_type_of, type_width};
+ghost use Rattle.vx_types.specs.TypeTree.{with_nullability, also_nullable, is_flat, int_type_of, type_width};
 ghost use Rattle.vx_types.specs.Nullability.{is_nullable};
 
 use crate::decimal::DecimalDType;
@@ -36,7 +36,7 @@ impl DType {
 
     /// The outer nullability; `Null` is always nullable.
     pub fn nullability(&self) -> Nullability
-        ensures { result ≡ type_nullability (type_of self.now) }
+        ensures { result ≡ (type_of self.now).nullability }
     {
         match self {
             DType::Null => Nullability::Nullable,
@@ -48,7 +48,7 @@ impl DType {
 
     /// Whether null rows are allowed.
     pub fn is_nullable(&self) -> bool
-        ensures { result ≡ is_nullable (type_nullability (type_of self.now)) }
+        ensures { result ≡ is_nullable (type_of self.now).nullability }
     {
         self.nullability().is_nullable()
     }
@@ -65,10 +65,16 @@ impl DType {
         }
     }
 
-    /// Whether a row is null, a bit, or bytes of one width.
+    /// The same type, nullable also where `n` is.
+    pub fn also_nullable(&self, n: Nullability) -> DType
+        ensures { type_of result ≡ also_nullable (type_of self.now) n }
+    {
+        self.with_nullability(self.nullability().or(n))
+    }
+
+    /// Whether it is null, bool, primitive or decimal.
     pub fn is_flat(&self) -> bool
-        ensures value { result ≡ is_flat (type_of self.now) }
-        ensures each { result ≡ true }
+        ensures { result ≡ is_flat (type_of self.now) }
     {
         match self {
             DType::Null | DType::Bool(_) | DType::Primitive(..) | DType::Decimal(..) => true,

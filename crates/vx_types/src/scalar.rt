@@ -2,7 +2,6 @@
 ghost use Rattle.std.specs.Prelude.{◌≡◌, None, true};
 ghost use Rattle.vx_bits.specs.Results.{ok_unless};
 ghost use Rattle.vx_types.specs.DType.{type_of};
-ghost use Rattle.vx_types.specs.TypeTree.{is_flat};
 ghost use Rattle.vx_types.specs.Scalar.{scalar_row, is_of_kind, is_as_wide, scalar_fault};
 
 use crate::dtype::DType;
@@ -99,14 +98,11 @@ impl Scalar {
         Ok(Scalar { dtype, value })
     }
 
-    /// Its type, which is a flat one.
+    /// Its type.
     pub fn dtype(&self) -> &DType
         ensures value { type_of result.now ≡ self.now.dtype }
         ensures valid { scalar_fault self.now.dtype self.now.row ≡ None }
-        ensures flat { is_flat self.now.dtype ≡ true }
     {
-        // a type that `DType` has is flat
-        let _ = self.dtype.is_flat();
         &self.dtype
     }
 

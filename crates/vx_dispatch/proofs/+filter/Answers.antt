@@ -4,15 +4,13 @@ use Rattle.std.specs.List.{items_where_true}
 use Rattle.vx_bits.specs.BitBuffer.{true_count_of}
 use Rattle.vx_model.specs.Valid.{non_nullable, all_valid, all_invalid, by_column, is_fitting, nullability_by, present_bits, IsLeft, IsAsPlain}
 use Rattle.vx_model.specs.Bool.{bool_column}
-use Rattle.vx_model.specs.Primitive.{primitive_column}
-use Rattle.vx_model.specs.Decimal.{decimal_column}
 use Rattle.vx_model.specs.Step.{IsCut}
-use Rattle.vx_model.proofs.Layouts.{length-bool, length-primitive, length-decimal, is_fitting-bool, is_fitting-primitive, is_fitting-decimal}
 use Rattle.vx_model.proofs.Items.{length-items_where_true}
 use Rattle.vx_model.proofs.ShownRows.{is_left-filter, length-present_bits}
-use Rattle.vx_model.proofs.Steps.{is_filter-bool, is_filter-primitive, is_filter-decimal}
 use Rattle.vx_model.proofs.Validities.{is_left-filter-by_column}
 use Rattle.vx_column.specs.Validity.{valid_of}
+use Rattle.vx_model.proofs.StoredRows.{length-stored_rows}
+use Rattle.vx_column.specs.Stored.{parts_of}
 use Rattle.std.proofs.lemmas.List.{length-replicate}
 use Rattle.std.proofs.Common.{map}
 use Rattle.vx_mask.specs.Mask.{mask_bits}
@@ -21,73 +19,8 @@ use Rattle.vx_model.proofs.Items.{items_where_true-all, items_where_true-none}
 use Rattle.vx_model.proofs.LazyRows.{length-filter}
 use Rattle.vx_model.proofs.LazySteps.{dict_fault-filter, is_filter-dict, is_filter-filter}
 use Rattle.vx_dispatch.proofs.Results.{weaker}
+use Rattle.vx_model.specs.Valid.{valid_size}
 use Rattle.vx_dispatch.proofs.+filter.Goals as goal
-
-pub boolean::filter_of-filter_bool-requires-clause-fitting : goal.boolean::filter_of-filter_bool-requires-clause-fitting
-boolean::filter_of-filter_bool-requires-clause-fitting t c =
-    let p = c.args.array.now in let mask = c.args.mask.now.bits.bits in
-    let sound = c.validity.ensures.valid in let v = valid_of c.validity.result.now in
-    let long : length mask ≡ length p.bits.bits = c.requires ∙ length-bool p sound in
-    let fit : is_fitting v (length mask) ≡ true = rw (c.validity.ensures.value, long) (is_fitting-bool p sound) in
-    let kept : length (items_where_true mask (present_bits v (length mask))) ≡ true_count_of mask =
-    length-items_where_true mask _ (sym (length-present_bits v (length mask) fit)) in
-    rw (← kept) c.in_ok-validity.ensures.left.fitting
-
-pub boolean::filter_of-returns : goal.boolean::filter_of-returns
-boolean::filter_of-returns t c =
-    let p = c.args.array.now in let mask = c.args.mask.now.bits.bits in
-    let sound = c.validity.ensures.valid in
-    let after = valid_of c.in_ok-validity.validity in
-    let same = c.validity.ensures.value in
-    let left : IsLeft p.valid (nullability_by p.valid) (items_where_true mask (present_bits p.valid (length mask))) after =
-    rw (← same) c.in_ok-validity.ensures.left in
-    let plain : IsAsPlain p.valid after = rw (← same) c.in_ok-validity.ensures.plain in
-    rw (c.into_array.ensures ∙ ap bool_column c.in_ok-filter_bool.ensures)
-    (is_filter-bool p after 0 mask sound (c.requires ∙ length-bool p sound) left plain)
-
-pub primitive::filter_of-filter_primitive-requires-clause-fitting : goal.primitive::filter_of-filter_primitive-requires-clause-fitting
-primitive::filter_of-filter_primitive-requires-clause-fitting t c =
-    let p = c.args.array.now in let mask = c.args.mask.now.bits.bits in
-    let sound = c.validity.ensures.valid in let v = valid_of c.validity.result.now in
-    let long : length mask ≡ length p.records = c.requires ∙ length-primitive p sound in
-    let fit : is_fitting v (length mask) ≡ true = rw (c.validity.ensures.value, long) (is_fitting-primitive p sound) in
-    let kept : length (items_where_true mask (present_bits v (length mask))) ≡ true_count_of mask =
-    length-items_where_true mask _ (sym (length-present_bits v (length mask) fit)) in
-    rw (← kept) c.in_ok-validity.ensures.left.fitting
-
-pub primitive::filter_of-returns : goal.primitive::filter_of-returns
-primitive::filter_of-returns t c =
-    let p = c.args.array.now in let mask = c.args.mask.now.bits.bits in
-    let sound = c.validity.ensures.valid in
-    let after = valid_of c.in_ok-validity.validity in
-    let same = c.validity.ensures.value in
-    let left : IsLeft p.valid (nullability_by p.valid) (items_where_true mask (present_bits p.valid (length mask))) after =
-    rw (← same) c.in_ok-validity.ensures.left in
-    let plain : IsAsPlain p.valid after = rw (← same) c.in_ok-validity.ensures.plain in
-    rw (c.into_array.ensures ∙ ap primitive_column c.in_ok-filter_primitive.ensures)
-    (is_filter-primitive p after mask sound (c.requires ∙ length-primitive p sound) left plain)
-
-pub decimal::filter_of-filter_decimal-requires-clause-fitting : goal.decimal::filter_of-filter_decimal-requires-clause-fitting
-decimal::filter_of-filter_decimal-requires-clause-fitting t c =
-    let p = c.args.array.now in let mask = c.args.mask.now.bits.bits in
-    let sound = c.validity.ensures.valid in let v = valid_of c.validity.result.now in
-    let long : length mask ≡ length p.records = c.requires ∙ length-decimal p sound in
-    let fit : is_fitting v (length mask) ≡ true = rw (c.validity.ensures.value, long) (is_fitting-decimal p sound) in
-    let kept : length (items_where_true mask (present_bits v (length mask))) ≡ true_count_of mask =
-    length-items_where_true mask _ (sym (length-present_bits v (length mask) fit)) in
-    rw (← kept) c.in_ok-validity.ensures.left.fitting
-
-pub decimal::filter_of-returns : goal.decimal::filter_of-returns
-decimal::filter_of-returns t c =
-    let p = c.args.array.now in let mask = c.args.mask.now.bits.bits in
-    let sound = c.validity.ensures.valid in
-    let after = valid_of c.in_ok-validity.validity in
-    let same = c.validity.ensures.value in
-    let left : IsLeft p.valid (nullability_by p.valid) (items_where_true mask (present_bits p.valid (length mask))) after =
-    rw (← same) c.in_ok-validity.ensures.left in
-    let plain : IsAsPlain p.valid after = rw (← same) c.in_ok-validity.ensures.plain in
-    rw (c.into_array.ensures ∙ ap decimal_column c.in_ok-filter_decimal.ensures)
-    (is_filter-decimal p after mask sound (c.requires ∙ length-decimal p sound) left plain)
 
 pub validity::filter_validity-returns-in-NonNullable-clause-left : goal.validity::filter_validity-returns-in-NonNullable-clause-left
 validity::filter_validity-returns-in-NonNullable-clause-left t c =
@@ -150,3 +83,20 @@ pub filtering::filter-returns-in-AllFalse-clause-cut : goal.filtering::filter-re
 filtering::filter-returns-in-AllFalse-clause-cut t c =
     let none = items_where_true-none c.in-AllFalse.field-0 c.args.array.now.rows in
     rw c.in-AllFalse.is (rw (← none) c.slice.ensures.cut)
+
+pub stored::filter_of-filter_validity-requires : goal.stored::filter_of-filter_validity-requires
+stored::filter_of-filter_validity-requires t c =
+    let p = parts_of c.args.stored in let v = c.validity.ensures in
+    let long = c.requires ∙ length-stored_rows p.valid p.items v.fitting in
+    let fits : is_fitting (valid_of c.validity.result.now) (length c.args.mask.now.bits.bits) ≡ true = rw (v.value, long) v.fitting in
+    (omega (arith, ap valid_size v.value), fits)
+
+pub stored::filter_of-filter_stored-requires-clause-long : goal.stored::filter_of-filter_stored-requires-clause-long
+stored::filter_of-filter_stored-requires-clause-long t c =
+    let p = parts_of c.args.stored in c.requires ∙ length-stored_rows p.valid p.items c.validity.ensures.fitting
+
+pub stored::filter_of-filter_stored-requires-clause-left : goal.stored::filter_of-filter_stored-requires-clause-left
+stored::filter_of-filter_stored-requires-clause-left t c =
+    let p = parts_of c.args.stored in let v = c.validity.ensures in
+    let long = c.requires ∙ length-stored_rows p.valid p.items v.fitting in
+    rw (← long, ← v.value) c.in_ok-validity.ensures.left

@@ -1,27 +1,26 @@
--- `filter` calls `filter_values` on the same column, and the other calls go to a part.
+-- How deep the column nests; `filter` calls `filter_values` on the same column.
 use Rattle.std.proofs.Common.{◌+◌, ◌*◌}
+use Rattle.vx_model.specs.Valid.{valid_size}
+use Rattle.vx_model.specs.Dict.{dict_size}
+use Rattle.vx_model.specs.Filter.{filter_size}
+use Rattle.vx_column.specs.Stored.{parts_of}
+use Rattle.vx_column.specs.Validity.{valid_of}
 use Rattle.vx_dispatch.proofs.+filter.Given as goal
 
-abbrev pub decreases-boolean::filter_of : goal.decreases-boolean::filter_of
-decreases-boolean::filter_of l = 2 * goal.size-boolean::filter_of l
-
-abbrev pub decreases-decimal::filter_of : goal.decreases-decimal::filter_of
-decreases-decimal::filter_of l = 2 * goal.size-decimal::filter_of l
-
 abbrev pub decreases-dict::filter_of : goal.decreases-dict::filter_of
-decreases-dict::filter_of l = 2 * goal.size-dict::filter_of l
+decreases-dict::filter_of l = 2 * dict_size l.array.now
 
 abbrev pub decreases-filter_layout::filter_of : goal.decreases-filter_layout::filter_of
-decreases-filter_layout::filter_of l = 2 * goal.size-filter_layout::filter_of l
+decreases-filter_layout::filter_of l = 2 * filter_size l.array.now
 
 abbrev pub decreases-filtering::filter : goal.decreases-filtering::filter
-decreases-filtering::filter l = 2 * goal.size-filtering::filter l + 1
+decreases-filtering::filter l = 2 * l.array.now.depth + 1
 
 abbrev pub decreases-filtering::filter_values : goal.decreases-filtering::filter_values
-decreases-filtering::filter_values l = 2 * goal.size-filtering::filter_values l
+decreases-filtering::filter_values l = 2 * l.array.now.depth
 
-abbrev pub decreases-primitive::filter_of : goal.decreases-primitive::filter_of
-decreases-primitive::filter_of l = 2 * goal.size-primitive::filter_of l
+abbrev pub decreases-stored::filter_of : goal.decreases-stored::filter_of
+decreases-stored::filter_of l = 2 * (valid_size (parts_of l.stored).valid + 1)
 
 abbrev pub decreases-validity::filter_validity : goal.decreases-validity::filter_validity
-decreases-validity::filter_validity l = 2 * goal.size-validity::filter_validity l
+decreases-validity::filter_validity l = 2 * valid_size (valid_of l.validity.now)

@@ -3,67 +3,20 @@ use Rattle.std.proofs.Common.{◌≡◌, ◌≤◌, List, length, refl, ap, ap�
 use Rattle.vx_bits.specs.BitBuffer.{PlacedBits}
 use Rattle.vx_model.specs.Valid.{non_nullable, all_valid, all_invalid, by_column, is_fitting, nullability_by, present_bits, IsLeft, IsAsPlain}
 use Rattle.vx_model.specs.Bool.{bool_column, bool_with}
-use Rattle.vx_model.specs.Primitive.{primitive_column, primitive_with}
-use Rattle.vx_model.specs.Decimal.{decimal_column, decimal_with}
 use Rattle.vx_model.specs.Step.{IsSlice}
-use Rattle.vx_model.proofs.Layouts.{length-bool, length-primitive, length-decimal}
 use Rattle.vx_model.proofs.ShownRows.{is_left-slice}
-use Rattle.vx_model.proofs.Steps.{is_slice-bool, is_slice-primitive, is_slice-decimal}
 use Rattle.vx_model.proofs.Validities.{is_left-slice-by_column}
 use Rattle.vx_column.specs.Validity.{valid_of}
+use Rattle.vx_model.proofs.StoredRows.{length-stored_rows}
+use Rattle.vx_column.specs.Stored.{parts_of}
 use Rattle.std.proofs.Common.{take, Bool}
 use Rattle.vx_bits.specs.BitBuffer.{true_count_of}
 use Rattle.vx_model.specs.Column.{Column}
 use Rattle.vx_model.specs.Filter.{filter_column}
 use Rattle.vx_model.proofs.LazySteps.{dict_fault-slice, is_slice-dict, is_slice-filter}
 use Rattle.vx_dispatch.proofs.Results.{weaker}
+use Rattle.vx_model.specs.Valid.{valid_size}
 use Rattle.vx_dispatch.proofs.+slice.Goals as goal
-
-pub boolean::slice_of-returns-clause-cut : goal.boolean::slice_of-returns-clause-cut
-boolean::slice_of-returns-clause-cut t c =
-    let p = c.args.array.now in let s = c.args.start in let e = c.args.end in
-    let sound = c.validity.ensures.valid in
-    let after = valid_of c.in_ok-validity.validity in
-    let same = c.validity.ensures.value in
-    let count : c.len.result ≡ length p.bits.bits = c.len.ensures ∙ ap (λ (b : PlacedBits). length b.bits) c.bits-bits.ensures.bits in
-    let left : IsLeft p.valid (nullability_by p.valid) (slice_range (present_bits p.valid (length p.bits.bits)) s e) after =
-    rw (← same, ← count) c.in_ok-validity.ensures.left in
-    let plain : IsAsPlain p.valid after = rw (← same) c.in_ok-validity.ensures.plain in
-    let inside : e ≤ length p.bits.bits = omega (arith, length-bool p sound, c.requires.within) in
-    let cut = c.slice.ensures.bits ∙ ap (λ (b : PlacedBits). slice_range b.bits s e) c.bits-bits.ensures.bits in
-    let offset = c.slice.result.offset in
-    rw (c.into_array.ensures ∙ ap bool_column (c.of.ensures ∙ ap (λ bits. bool_with bits offset after) cut))
-    (is_slice-bool p after offset s e sound c.requires.ordered inside left plain)
-
-pub primitive::slice_of-returns-clause-cut : goal.primitive::slice_of-returns-clause-cut
-primitive::slice_of-returns-clause-cut t c =
-    let p = c.args.array.now in let s = c.args.start in let e = c.args.end in
-    let sound = c.validity.ensures.valid in
-    let after = valid_of c.in_ok-validity.validity in
-    let same = c.validity.ensures.value in
-    let count : c.len.result ≡ length p.records = c.len.ensures ∙ ap length c.values-values.ensures.records in
-    let left : IsLeft p.valid (nullability_by p.valid) (slice_range (present_bits p.valid (length p.records)) s e) after =
-    rw (← same, ← count) c.in_ok-validity.ensures.left in
-    let plain : IsAsPlain p.valid after = rw (← same) c.in_ok-validity.ensures.plain in
-    let inside : e ≤ length p.records = omega (arith, length-primitive p sound, c.requires.within) in
-    let cut = c.slice.ensures.records ∙ ap (λ r. slice_range r s e) c.values-values.ensures.records in
-    rw (c.into_array.ensures ∙ ap primitive_column (c.with_rows.ensures ∙ ap (λ r. primitive_with p r after) cut))
-    (is_slice-primitive p after s e sound c.requires.ordered inside left plain)
-
-pub decimal::slice_of-returns-clause-cut : goal.decimal::slice_of-returns-clause-cut
-decimal::slice_of-returns-clause-cut t c =
-    let p = c.args.array.now in let s = c.args.start in let e = c.args.end in
-    let sound = c.validity.ensures.valid in
-    let after = valid_of c.in_ok-validity.validity in
-    let same = c.validity.ensures.value in
-    let count : c.len.result ≡ length p.records = c.len.ensures ∙ ap length c.values-values.ensures.records in
-    let left : IsLeft p.valid (nullability_by p.valid) (slice_range (present_bits p.valid (length p.records)) s e) after =
-    rw (← same, ← count) c.in_ok-validity.ensures.left in
-    let plain : IsAsPlain p.valid after = rw (← same) c.in_ok-validity.ensures.plain in
-    let inside : e ≤ length p.records = omega (arith, length-decimal p sound, c.requires.within) in
-    let cut = c.slice.ensures.records ∙ ap (λ r. slice_range r s e) c.values-values.ensures.records in
-    rw (c.into_array.ensures ∙ ap decimal_column (c.with_rows.ensures ∙ ap (λ r. decimal_with p r after) cut))
-    (is_slice-decimal p after s e sound c.requires.ordered inside left plain)
 
 pub validity::slice_validity-returns-in-NonNullable-clause-left : goal.validity::slice_validity-returns-in-NonNullable-clause-left
 validity::slice_validity-returns-in-NonNullable-clause-left t c =
@@ -109,3 +62,15 @@ filter_layout::slice_of-returns t c =
     let within : high ≤ length p.mask = rw same at range.ensures.within in
     rw (c.into_array.ensures ∙ ap filter_column (c.of.ensures ∙ ap₂ (λ (x : Column) (m : List Bool). record { child = x; mask = m }) c.in_ok-into_ref.ensures (c.slice_mask.ensures ∙ ap (λ (m : List Bool). slice_range m low high) same)))
     (is_slice-filter p child c.args.start c.args.end low high c.mask-mask.ensures.valid range.ensures.ordered within start end cut)
+
+pub stored::slice_of-slice_validity-requires : goal.stored::slice_of-slice_validity-requires
+stored::slice_of-slice_validity-requires t c =
+    let p = parts_of c.args.stored in let v = c.validity.ensures in
+    let long = length-stored_rows p.valid p.items v.fitting in
+    let fits : is_fitting (valid_of c.validity.result.now) c.len.result ≡ true = rw (v.value, c.len.ensures) v.fitting in
+    (omega (arith, ap valid_size v.value), (fits, (c.requires.ordered, omega (arith, long, c.len.ensures, c.requires.within))))
+
+pub stored::slice_of-slice_stored-requires-clause-within : goal.stored::slice_of-slice_stored-requires-clause-within
+stored::slice_of-slice_stored-requires-clause-within t c =
+    let p = parts_of c.args.stored in
+    omega (arith, length-stored_rows p.valid p.items c.validity.ensures.fitting, c.requires.within)

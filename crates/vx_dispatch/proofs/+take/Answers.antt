@@ -1,18 +1,18 @@
 -- A take of a layout's parts, with that of its validity, is the take of its column.
-use Rattle.std.proofs.Common.{◌≡◌, length, false, ap, ◌∙◌, refl, sym, subst, map, true}
+use Rattle.std.proofs.Common.{arith, ◌≡◌, length, false, ap, ◌∙◌, refl, sym, subst, map, true}
 use Rattle.vx_types.specs.Nullability.{either_nullable}
 use Rattle.std.specs.List.{items_where_true}
 use Rattle.vx_types.specs.RowValue.{null}
-use Rattle.vx_types.specs.TypeTree.{also_nullable}
+use Rattle.vx_types.specs.TypeTree.{TypeTree, also_nullable}
 use Rattle.vx_take.specs.Picks.{at, AreBelow}
-use Rattle.vx_model.specs.Valid.{nullability_by, present_bits, IsLeft, Valid, non_nullable, all_valid, by_column, is_yes, is_non_null_bool}
+use Rattle.vx_model.specs.Valid.{is_fitting, nullability_by, present_bits, IsLeft, Valid, non_nullable, all_valid, by_column, is_yes, is_non_null_bool}
 use Rattle.vx_model.specs.Bool.{bool_column}
-use Rattle.vx_model.proofs.Layouts.{length-bool, length-primitive, length-decimal}
-use Rattle.vx_model.proofs.Takes.{is_take-bool, is_take-primitive, is_take-decimal, is_left-take-none, left_by_bits, left_the_same, all_there, yes-bool}
+use Rattle.vx_model.proofs.Takes.{is_left-take-none, left_by_bits, left_the_same, all_there, yes-bool}
 use Rattle.vx_column.specs.Validity.{valid_of}
+use Rattle.vx_types.specs.declared.nullability.Nullability.{Nullability}
+use Rattle.vx_model.proofs.StoredRows.{length-stored_rows}
+use Rattle.vx_column.specs.Stored.{parts_of}
 use Rattle.vx_flat.specs.Records.{zero_record}
-use Rattle.vx_model.specs.Primitive.{primitive_column}
-use Rattle.vx_model.specs.Decimal.{decimal_column}
 use Rattle.std.specs.Prelude.{is_some}
 use Rattle.vx_types.specs.declared.nullability.Nullability.TheVariants.{Nullable}
 use Rattle.vx_column.specs.Layout.{column_of}
@@ -27,37 +27,8 @@ use Rattle.vx_model.proofs.LazyBits.{bits-dict}
 use Rattle.vx_model.proofs.LazySteps.{dict_fault-take, is_step-filter, is_take-dict, is_take-filter}
 use Rattle.vx_dispatch.proofs.Codes.{codes-no_fault}
 use Rattle.vx_dispatch.proofs.Results.{weaker}
+use Rattle.vx_model.specs.Valid.{valid_size}
 use Rattle.vx_dispatch.proofs.+take.Goals as goal
-
-pub boolean::take_of-returns : goal.boolean::take_of-returns
-boolean::take_of-returns t c =
-    let p = c.args.array.now in let picks = c.args.picks.now.picks in let n = c.args.nullability in
-    let sound = c.validity.ensures.valid in let after = valid_of c.in_ok-validity.validity in
-    let same = c.validity.ensures.value in
-    let bound : c.args.picks.now.bound ≡ length p.bits.bits = c.requires.bound ∙ length-bool p sound in
-    let left : IsLeft p.valid (either_nullable (nullability_by p.valid) n) (at false (present_bits p.valid (length p.bits.bits)) picks) after =
-    rw (← same, ← bound) c.in_ok-validity.ensures.left in
-    rw (c.into_array.ensures ∙ ap bool_column c.in_ok-take_bool.ensures) (is_take-bool after picks n p 0 sound left)
-
-pub primitive::take_of-returns : goal.primitive::take_of-returns
-primitive::take_of-returns t c =
-    let p = c.args.array.now in let picks = c.args.picks.now.picks in let n = c.args.nullability in
-    let sound = c.validity.ensures.valid in let after = valid_of c.in_ok-validity.validity in
-    let same = c.validity.ensures.value in
-    let bound : c.args.picks.now.bound ≡ length p.records = c.requires.bound ∙ length-primitive p sound in
-    let left : IsLeft p.valid (either_nullable (nullability_by p.valid) n) (at false (present_bits p.valid (length p.records)) picks) after =
-    rw (← same, ← bound) c.in_ok-validity.ensures.left in
-    rw (c.into_array.ensures ∙ ap primitive_column c.in_ok-take_primitive.ensures) (is_take-primitive after picks n p (zero_record p.width) sound left)
-
-pub decimal::take_of-returns : goal.decimal::take_of-returns
-decimal::take_of-returns t c =
-    let p = c.args.array.now in let picks = c.args.picks.now.picks in let n = c.args.nullability in
-    let sound = c.validity.ensures.valid in let after = valid_of c.in_ok-validity.validity in
-    let same = c.validity.ensures.value in
-    let bound : c.args.picks.now.bound ≡ length p.records = c.requires.bound ∙ length-decimal p sound in
-    let left : IsLeft p.valid (either_nullable (nullability_by p.valid) n) (at false (present_bits p.valid (length p.records)) picks) after =
-    rw (← same, ← bound) c.in_ok-validity.ensures.left in
-    rw (c.into_array.ensures ∙ ap decimal_column c.in_ok-take_decimal.ensures) (is_take-decimal after picks n p (zero_record p.width) sound left)
 
 pub validity::take_validity-returns-in-AllInvalid-default-clause-left : goal.validity::take_validity-returns-in-AllInvalid-default-clause-left
 validity::take_validity-returns-in-AllInvalid-default-clause-left t c =
@@ -68,7 +39,7 @@ validity::take_validity-returns-in_ok-taken_bits-in-Array-default-clause-left t 
     let a = c.in-Array-default in let p = c.args.picks.now in let n = c.args.nullability in
     let is : valid_of c.args.validity.now ≡ by_column a.array = ap valid_of a.is-0 in
     let bits = c.in_ok-taken_bits-in-Array-default.field-0 in
-    weaker c.by_bits.result c.by_bits.ensures (λ v h. left_by_bits (valid_of c.args.validity.now) (valid_of v) n p.bound p.picks bits.bits bits.offset
+    weaker c.from_bits.result c.from_bits.ensures (λ v h. left_by_bits (valid_of c.args.validity.now) (valid_of v) n p.bound p.picks bits.bits bits.offset
     (ap (λ (v : Valid). either_nullable (nullability_by v) n) is)
     (c.in_ok-taken_bits-in-Array-default.ensures ∙ ap (λ x. at false (map is_yes x.rows) p.picks) c.deref.ensures ∙ ap (λ (v : Valid). at false (present_bits v p.bound) p.picks) (sym is))
     h)
@@ -160,3 +131,32 @@ filter_layout::bits_of-returns t c =
     let kept : c.in_ok-kept.kept.rows ≡ (filter_column p).rows =
     rw (c.deref.ensures ∙ c.child.ensures.value, c.mask.ensures.value) at c.in_ok-kept.ensures.cut.step.rows in
     weaker c.taken_bits.result c.taken_bits.ensures (λ b h. h ∙ ap (λ r. at false (map is_yes r) picks) kept)
+
+pub stored::take_of-take_validity-requires : goal.stored::take_of-take_validity-requires
+stored::take_of-take_validity-requires t c =
+    let p = parts_of c.args.stored in let v = c.validity.ensures in
+    let long = c.requires.bound ∙ length-stored_rows p.valid p.items v.fitting in
+    let fits : is_fitting (valid_of c.validity.result.now) c.args.picks.now.bound ≡ true = rw (v.value, long) v.fitting in
+    (omega (arith, ap valid_size v.value), (fits, c.requires.there))
+
+pub stored::take_of-take_stored-requires-clause-bound : goal.stored::take_of-take_stored-requires-clause-bound
+stored::take_of-take_stored-requires-clause-bound t c =
+    let p = parts_of c.args.stored in c.requires.bound ∙ length-stored_rows p.valid p.items c.validity.ensures.fitting
+
+pub stored::take_of-take_stored-requires-clause-left : goal.stored::take_of-take_stored-requires-clause-left
+stored::take_of-take_stored-requires-clause-left t c =
+    let p = parts_of c.args.stored in let v = c.validity.ensures in
+    let long = c.requires.bound ∙ length-stored_rows p.valid p.items v.fitting in
+    let left = c.in_ok-validity.ensures.left in
+    rw (left.nullability) (rw (← long, ← v.value) left)
+
+pub stored::take_of-returns : goal.stored::take_of-returns
+stored::take_of-returns t c =
+    let p = parts_of c.args.stored in let v = c.validity.ensures in
+    let same = c.in_ok-validity.ensures.left.nullability ∙ ap (λ (x : Valid). either_nullable (nullability_by x) c.args.nullability) v.value in
+    weaker c.take_stored.result c.take_stored.ensures (λ a step. record {
+      rows = step.rows;
+      dtype = step.dtype ∙ ap (λ (n : Nullability). let u : TypeTree = record { kind = p.kind; nullability = n } in u) same;
+      layout = step.layout;
+      unwrapped = step.unwrapped;
+    })

@@ -1,12 +1,12 @@
 use Rattle.std.proofs.Common.{◌≡◌, length, map, ap, sym, ◌∙◌}
 use Rattle.std.proofs.lemmas.List.{length-map}
 use Rattle.vx_types.specs.RowValue.{bit, bytes}
-use Rattle.vx_types.specs.TypeTree.{primitive_type}
+use Rattle.vx_types.specs.TypeTree.{primitive_kind}
 use Rattle.vx_types.specs.declared.nullability.Nullability.TheVariants.{Nullable}
 use Rattle.vx_types.specs.declared.ptype.PType.TheVariants.{U32}
 use Rattle.vx_model.specs.Bool.{BoolParts, bool_column, bool_fault}
 use Rattle.vx_model.specs.Column.{Column}
-use Rattle.vx_model.specs.Primitive.{PrimitiveParts, primitive_column}
+use Rattle.vx_model.specs.Records.{RecordParts, records_column}
 use Rattle.vx_model.specs.Numbers.{number_in, numbers_of}
 use Rattle.vx_model.specs.Valid.{is_yes, non_nullable, shown_rows}
 use Rattle.vx_bits.specs.Records.{records_of}
@@ -25,6 +25,6 @@ returns c =
     ∙ ap (λ (p : BoolParts). map is_yes (bool_column p).rows) (made (bool_fault parts) parts c.in_ok-bits.bits c.in_ok-bits.ensures)
     ∙ stored_bits bits (length (map bit bits)) (sym (length-map bits bit)) in
     ap numbers_of c.into_array-2.ensures
-    ∙ ap (λ (p : PrimitiveParts). numbers_of (primitive_column p)) (made _ _ _ c.in_ok-try_new.ensures)
-    ∙ ap (λ bs. map (number_in (primitive_type U32 Nullable)) (shown_rows bs (map bytes records))) (stored ∙ c.in_ok-presence.ensures)
+    ∙ ap (λ (p : RecordParts). numbers_of (records_column p)) (made _ _ _ c.in_ok-try_new.ensures)
+    ∙ ap (λ bs. map (number_in (primitive_kind U32)) (shown_rows bs (map bytes records))) (stored ∙ c.in_ok-presence.ensures)
     ∙ read_some numbers records c.in_ok-values.ensures.numbers

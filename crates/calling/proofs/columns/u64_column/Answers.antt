@@ -1,6 +1,6 @@
 use Rattle.std.proofs.Common.{length, map, refl, ap, ◌∙◌}
 use Rattle.vx_types.specs.RowValue.{bytes}
-use Rattle.vx_model.specs.Primitive.{PrimitiveParts, primitive_column}
+use Rattle.vx_model.specs.Records.{RecordParts, records_column}
 use Rattle.vx_model.specs.Numbers.{numbers_of}
 use Rattle.vx_model.specs.Plain.{is_plain}
 use Rattle.vx_bits.specs.Records.{records_of}
@@ -11,10 +11,10 @@ pub returns-clause-numbers : goal.returns-clause-numbers
 returns-clause-numbers c =
     let records = records_of c.in_ok-values.values in
     ap numbers_of (c.in_ok-into_ref.ensures ∙ c.into_array.ensures)
-    ∙ ap (λ (p : PrimitiveParts). numbers_of (primitive_column p)) (made _ _ _ c.in_ok-column.ensures)
+    ∙ ap (λ (p : RecordParts). numbers_of (records_column p)) (made _ _ _ c.in_ok-column.ensures)
     ∙ read_all c.args.numbers.now records (length (map bytes records)) refl c.in_ok-values.ensures.numbers
 
 pub returns-clause-plain : goal.returns-clause-plain
 returns-clause-plain c =
     ap is_plain (c.in_ok-into_ref.ensures ∙ c.into_array.ensures)
-    ∙ ap (λ (p : PrimitiveParts). is_plain (primitive_column p)) (made _ _ _ c.in_ok-column.ensures)
+    ∙ ap (λ (p : RecordParts). is_plain (records_column p)) (made _ _ _ c.in_ok-column.ensures)

@@ -5,7 +5,7 @@ use Rattle.std.proofs.lemmas.List.{length-map}
 use Rattle.vx_types.specs.Nullability.{is_nullable}
 use Rattle.vx_types.specs.RowValue.{RowValue, null, is_null}
 use Rattle.vx_types.specs.Scalar.{TypedRow}
-use Rattle.vx_types.specs.TypeTree.{also_nullable, type_nullability, with_nullability}
+use Rattle.vx_types.specs.TypeTree.{also_nullable, with_nullability}
 use Rattle.vx_types.specs.declared.nullability.Nullability.TheVariants.{Nullable}
 use Rattle.vx_take.specs.Picks.{AreBelow}
 use Rattle.vx_model.specs.Constant.{constant_column}
@@ -13,7 +13,8 @@ use Rattle.vx_model.specs.Valid.{non_nullable, nullability_by, present_bits, sho
 use Rattle.vx_model.proofs.LazyRows.{length-constant}
 use Rattle.vx_model.proofs.LazySteps.{is_take-constant}
 use Rattle.vx_model.proofs.Takes.{is_left-bits_column}
-use Rattle.vx_model.proofs.ConstantRows.{null_is, also_nullable-null, also_nullable-nullable, is_take-null_constant, is_take-stored_constant}
+use Rattle.vx_model.proofs.Nullabilities.{also_nullable-own, also_nullable-nullable}
+use Rattle.vx_model.proofs.ConstantRows.{null_is, is_take-null_constant, is_take-stored_constant}
 use Rattle.std.proofs.lemmas.Result.{IfOk-at_ok}
 use Rattle.vx_dispatch.proofs.Results.{if_ok}
 use Rattle.vx_dispatch.proofs.constant.take_of.Goals as goal
@@ -22,9 +23,9 @@ pub returns-then-is_null : goal.returns-then-is_null
 returns-then-is_null c =
     let p = c.args.array.now in let picks = c.args.picks.now.picks in let same = c.scalar-scalar.ensures in
     let is : p.scalar.row ≡ null = null_is p.scalar.row (ap (λ (s : TypedRow). is_null s.row) (sym same) ∙ sym c.is_null.ensures.value ∙ c.if-is_null.true) in
-    let nullable : is_nullable (type_nullability p.scalar.dtype) ≡ true = rw same at (c.is_null.ensures.nullable c.if-is_null.true) in
+    let nullable : is_nullable p.scalar.dtype.nullability ≡ true = rw same at (c.is_null.ensures.nullable c.if-is_null.true) in
     rw (c.into_array.ensures ∙ ap constant_column (c.new.ensures ∙ ap₂ (λ (x : TypedRow) (n : ℕ). record { scalar = x; len = n }) (c.share.ensures ∙ same) c.len-len.ensures))
-    (is_take-null_constant p picks c.args.nullability is (also_nullable-null p.scalar.dtype c.args.nullability nullable))
+    (is_take-null_constant p picks c.args.nullability is (also_nullable-own p.scalar.dtype c.args.nullability nullable))
 
 pub store_scalar-requires-clause-fitting : goal.store_scalar-requires-clause-fitting
 store_scalar-requires-clause-fitting c =

@@ -2,9 +2,8 @@
 use Rattle.std.proofs.Common.{ap, ◌∙◌}
 use Rattle.vx_types.specs.TypeTree.{is_flat}
 use Rattle.vx_pieces.specs.Indices.{index_nullability, index_value}
-use Rattle.vx_select.proofs.Selecting.{is_flat-also}
 use Rattle.vx_select.proofs.fused.taken.Goals as goal
 
 pub returns-clause-unwrapped : goal.returns-clause-unwrapped
 returns-clause-unwrapped c = λ flat.
-    c.execute.ensures.unwrapped (ap is_flat c.in_ok-rows.ensures.taken.dtype ∙ is_flat-also c.args.column.now.dtype (index_nullability (index_value c.args.indices)) ∙ flat)
+    c.execute.ensures.unwrapped (ap is_flat c.in_ok-rows.ensures.taken.dtype ∙ flat)

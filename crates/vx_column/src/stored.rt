@@ -1,0 +1,44 @@
+//! The layouts that store a row's bit or bytes in its place, taken together.
+ghost use Rattle.std.specs.Prelude.{◌≡◌, length, true};
+ghost use Rattle.vx_model.specs.Valid.{is_fitting};
+ghost use Rattle.vx_column.specs.Stored.{parts_of};
+ghost use Rattle.vx_column.specs.Validity.{valid_of};
+
+use crate::boolean::BoolArray;
+use crate::records::RecordArray;
+use crate::validity::Validity;
+
+/// A borrowed column of layout `Bool`, or of one that stores records.
+#[derive(Clone, Copy)]
+pub enum Stored<'a> {
+    /// A bit a row.
+    Bits(&'a BoolArray),
+    /// A record a row.
+    Records(&'a RecordArray),
+}
+
+impl<'a> Stored<'a> {
+    /// How many rows it has.
+    #[tactic(auto, using(vx_model::proofs::Layouts::stored_items))]
+    pub fn len(self) -> usize
+        ensures { result ≡ length (parts_of self.entry).items }
+    {
+        match self {
+            Stored::Bits(array) => array.bits().len(),
+            Stored::Records(array) => array.values().len(),
+        }
+    }
+
+    /// Which rows are there.
+    #[tactic(auto, using(vx_model::proofs::Layouts::stored_items))]
+    pub fn validity(self) -> &'a Validity
+        ensures value { valid_of result.now ≡ (parts_of self.entry).valid }
+        ensures fitting { is_fitting (parts_of self.entry).valid (length (parts_of self.entry).items)
+            ≡ true }
+    {
+        match self {
+            Stored::Bits(array) => array.validity(),
+            Stored::Records(array) => array.validity(),
+        }
+    }
+}

@@ -1,0 +1,23 @@
+-- How deep the column nests.
+use Rattle.std.proofs.Common.{◌+◌}
+use Rattle.vx_model.specs.Valid.{valid_size}
+use Rattle.vx_model.specs.Dict.{dict_size}
+use Rattle.vx_model.specs.Filter.{filter_size}
+use Rattle.vx_column.specs.Stored.{parts_of}
+use Rattle.vx_column.specs.Validity.{valid_of}
+use Rattle.vx_dispatch.proofs.+slice.Given as goal
+
+abbrev pub decreases-dict::slice_of : goal.decreases-dict::slice_of
+decreases-dict::slice_of l = dict_size l.array.now
+
+abbrev pub decreases-filter_layout::slice_of : goal.decreases-filter_layout::slice_of
+decreases-filter_layout::slice_of l = filter_size l.array.now
+
+abbrev pub decreases-slicing::slice : goal.decreases-slicing::slice
+decreases-slicing::slice l = l.array.now.depth
+
+abbrev pub decreases-stored::slice_of : goal.decreases-stored::slice_of
+decreases-stored::slice_of l = valid_size (parts_of l.stored).valid + 1
+
+abbrev pub decreases-validity::slice_validity : goal.decreases-validity::slice_validity
+decreases-validity::slice_validity l = valid_size (valid_of l.validity.now)

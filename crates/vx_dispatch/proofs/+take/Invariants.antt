@@ -1,0 +1,32 @@
+-- How deep the column nests.
+use Rattle.std.proofs.Common.{◌+◌}
+use Rattle.vx_model.specs.Valid.{valid_size}
+use Rattle.vx_model.specs.Dict.{dict_size}
+use Rattle.vx_model.specs.Filter.{filter_size}
+use Rattle.vx_column.specs.Stored.{parts_of}
+use Rattle.vx_column.specs.Validity.{valid_of}
+use Rattle.vx_dispatch.proofs.+take.Given as goal
+
+abbrev pub decreases-dict::bits_of : goal.decreases-dict::bits_of
+decreases-dict::bits_of l = dict_size l.array.now
+
+abbrev pub decreases-dict::take_of : goal.decreases-dict::take_of
+decreases-dict::take_of l = dict_size l.array.now
+
+abbrev pub decreases-filter_layout::bits_of : goal.decreases-filter_layout::bits_of
+decreases-filter_layout::bits_of l = filter_size l.array.now
+
+abbrev pub decreases-filter_layout::take_of : goal.decreases-filter_layout::take_of
+decreases-filter_layout::take_of l = filter_size l.array.now
+
+abbrev pub decreases-stored::take_of : goal.decreases-stored::take_of
+decreases-stored::take_of l = valid_size (parts_of l.stored).valid + 1
+
+abbrev pub decreases-taking::take_picks : goal.decreases-taking::take_picks
+decreases-taking::take_picks l = l.array.now.depth
+
+abbrev pub decreases-validity::take_validity : goal.decreases-validity::take_validity
+decreases-validity::take_validity l = valid_size (valid_of l.validity.now)
+
+abbrev pub decreases-validity::taken_bits : goal.decreases-validity::taken_bits
+decreases-validity::taken_bits l = l.array.now.depth
