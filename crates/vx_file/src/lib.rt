@@ -23,6 +23,7 @@ pub use memory_blocks::MemoryBlocks;
 pub use open::open_file;
 pub use read_log::ReadLog;
 
+pub use select::select_file;
 pub use shape::FileShape;
 pub use steady_blocks::SteadyBlocks;
 pub use write::file_blocks;
