@@ -74,6 +74,7 @@ all_picked picks k d h = at_pick (get_or picks k d) refl
   where
     same : get_or picks k None ≡ get_or picks k d
     same = get_or_default picks k None d h
+
     at_pick : (pick : Option ℕ) → pick ≡ get_or picks k d → IfSome pick (λ p. list_any (lies_in (p / 1024)) picks ≡ true)
     at_pick None e = tt
     at_pick (Some p) e = block_picked picks k p h (same ∙ sym e)

@@ -61,12 +61,13 @@ fn take_file<R: BlockReader>(
     // each pick is below the bound
     let _ = picks.bound();
     let ptype = shape.ptype();
+    let width = ptype.width();
     let validity = take_validity(alloc, &Validity::NonNullable, picks, nullability, policy)?;
-    let held = match read_touched(alloc, reader, ptype.width(), picks) {
+    let held = match read_touched(alloc, reader, width, picks) {
         Ok(held) => held,
         Err(error) => return Err(error),
     };
-    let values = taken_records(alloc, &held, picks, ptype.width())?;
+    let values = taken_records(alloc, &held, picks, width)?;
     Ok(column_of(ptype, values, validity))
 }
 
@@ -114,7 +115,7 @@ pub fn select_file<R: BlockReader>(
 {
     let picks = match compose(alloc, shape.len(), steps) {
         Ok(picks) => picks,
-        Err(error) => return Err(error.into()),
+        Err(error) => return Err(FileError::from(error)),
     };
     let nullability = takes_nullability(steps);
     take_file(alloc, reader, shape, &picks, nullability, policy)

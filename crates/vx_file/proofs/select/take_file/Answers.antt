@@ -1,11 +1,11 @@
-use Rattle.std.proofs.Common.{◌≡◌, ◌∙◌, ap}
+use Rattle.std.proofs.Common.{◌≡◌, ◌∙◌, ℕ, ap, subst}
 use Rattle.std.specs.Prelude.{IfSome}
 use Rattle.vx_bits.specs.Records.{records_of}
 use Rattle.vx_types.specs.PType.{width}
 use Rattle.vx_types.specs.RowValue.{null}
 use Rattle.vx_types.specs.Nullability.{either_nullable}
 use Rattle.vx_types.specs.declared.nullability.Nullability.TheVariants.{NonNullable}
-use Rattle.vx_take.specs.Picks.{at}
+use Rattle.vx_take.specs.Picks.{AreBelow, at}
 use Rattle.vx_column.specs.Validity.{valid_of}
 use Rattle.vx_file.specs.File.{file_rows}
 use Rattle.vx_file.specs.Reading.{AreHeld}
@@ -27,7 +27,7 @@ returns-clause-rows g c =
     let s = c.args.shape.now in
     let numbers = c.in-Ok.held.numbers.items in
     let starts = c.in-Ok.held.starts.items in
-    if_some (g.R.BlockReader.blocks c.args.reader.now) (AreHeld c.width.result numbers starts p.picks (blocks_for p.bound)) (λ all. c.column_of.result.rows ≡ at null (file_rows all s) p.picks) c.in-Ok.ensures.held
+    if_some (g.R.BlockReader.blocks c.args.reader.now) (AreHeld c.width-width.result numbers starts p.picks (blocks_for p.bound)) (λ all. c.column_of.result.rows ≡ at null (file_rows all s) p.picks) c.in-Ok.ensures.held
     (λ all held. c.column_of.ensures.rows
-    ∙ held_rows s p numbers starts all (records_of c.in_ok-values.values) (valid_of c.in_ok-validity.validity) (either_nullable NonNullable c.args.nullability) c.width.result (c.width.ensures ∙ ap width c.ptype.ensures.value) c.requires.bound
-    ? c.in_ok-validity.ensures.left ? held)
+    ∙ held_rows s p numbers starts all (records_of c.in_ok-values.values) (valid_of c.in_ok-validity.validity) (either_nullable NonNullable c.args.nullability) c.width-width.result (c.width-width.ensures ∙ ap width c.ptype-ptype.ensures.value) c.requires.bound
+    (subst (λ (n : ℕ). AreBelow p.picks n) c.bound.ensures.value c.bound.ensures.below) c.in_ok-validity.ensures.left c.in_ok-values.ensures.records held)
