@@ -428,7 +428,13 @@ fn has_long_runs<T>(words: &[u64], count: usize) -> bool {
         })
 }
 
-fn compact<T: Copy>(src: &[T], bytes: &[u8], words: &[u64], count: usize, dst: &mut [MaybeUninit<T>]) {
+fn compact<T: Copy>(
+    src: &[T],
+    bytes: &[u8],
+    words: &[u64],
+    count: usize,
+    dst: &mut [MaybeUninit<T>],
+) {
     if has_long_runs::<T>(words, count) {
         compact_by_runs(src, words, dst);
     } else if count as f64 / src.len() as f64 >= dense_from::<T>() {
@@ -443,7 +449,8 @@ pub fn chunks_by_bits<T: Copy + Default>(chunks: &mut Chunks<T>, mask: &Mask) ->
     with_room(mask.count, |dst| {
         let mut kept = 0;
         let mut places = [0; 160];
-        for (chunk, (words, bytes)) in mask.words.chunks(16).zip(mask.bytes.chunks(128)).enumerate() {
+        let parts = mask.words.chunks(16).zip(mask.bytes.chunks(128));
+        for (chunk, (words, bytes)) in parts.enumerate() {
             let count = words.iter().map(|w| w.count_ones() as usize).sum::<usize>();
             if count == 1024 {
                 chunks.whole(chunk, &mut dst[kept..]);

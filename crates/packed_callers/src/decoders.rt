@@ -15,8 +15,20 @@ use vx_packed::{PackedChunks, PackedError};
 /// A row for each decoder and each call.
 pub(crate) fn print_rows(rt: &impl Print, alloc: Global) -> Result<(), Fail> {
     print_decoder::<1>(rt, alloc, "two chunks", two_chunks(alloc)?, 1)?;
-    print_decoder::<1>(rt, alloc, "without the last byte", cut(two_chunks(alloc)?, 1), 1)?;
-    print_decoder::<1>(rt, alloc, "without the last chunk", cut(two_chunks(alloc)?, 9), 0)?;
+    print_decoder::<1>(
+        rt,
+        alloc,
+        "without the last byte",
+        cut(two_chunks(alloc)?, 1),
+        1,
+    )?;
+    print_decoder::<1>(
+        rt,
+        alloc,
+        "without the last chunk",
+        cut(two_chunks(alloc)?, 9),
+        0,
+    )?;
     print_decoder::<1>(rt, alloc, "no bytes", Vec::new(alloc), 0)?;
     print_decoder::<1>(rt, alloc, "a byte more", and_one(two_chunks(alloc)?)?, 1)?;
     let wide = packed(alloc, &remainders(alloc, 255, 300, 2048)?, 2)?;
@@ -24,7 +36,11 @@ pub(crate) fn print_rows(rt: &impl Print, alloc: Global) -> Result<(), Fail> {
     print_decoder::<2>(rt, alloc, "two bytes", wide, 1)?;
     let four = packed(alloc, &remainders(alloc, 70000, 77, 3072)?, 4)?;
     print_decoder::<4>(rt, alloc, "four bytes", four, 2)?;
-    let eight = packed(alloc, &remainders(alloc, 0x0102_0304_0506_0708, 1000, 2048)?, 8)?;
+    let eight = packed(
+        alloc,
+        &remainders(alloc, 0x0102_0304_0506_0708, 1000, 2048)?,
+        8,
+    )?;
     print_decoder::<8>(rt, alloc, "eight bytes", eight, 1)?;
     print_filtered(rt, alloc)
 }

@@ -15,16 +15,31 @@ pub(crate) fn print_rows(rt: &impl Print, alloc: Global) -> Result<(), Fail> {
     print_made(rt, "9 digits and too long", &made(alloc, 9, 0, 0, 2000)?, 1)?;
     print_made(rt, "9 digits, two bytes", &made(alloc, 9, 0, 0, 1152)?, 2)?;
     print_made(rt, "17 digits, two bytes", &made(alloc, 17, 0, 0, 2176)?, 2)?;
-    print_made(rt, "33 digits, four bytes", &made(alloc, 33, 0, 0, 4224)?, 4)?;
+    print_made(
+        rt,
+        "33 digits, four bytes",
+        &made(alloc, 33, 0, 0, 4224)?,
+        4,
+    )?;
     print_made(rt, "ten bytes", &made(alloc, 0, 0, 0, 1)?, 1)?;
     print_made(rt, "129 bytes of ones", &made(alloc, 1, 0, 0xff, 129)?, 1)?;
     print_made(rt, "ones", &made(alloc, 1, 0, 0xff, 128)?, 1)?;
     print_made(rt, "ones of two digits", &made(alloc, 2, 0, 0x55, 256)?, 1)?;
     print_made(rt, "zeros", &made(alloc, 1, 0, 0, 128)?, 1)?;
-    print_made(rt, "a base of 255 and slack", &made(alloc, 2, 255, 0x44, 256)?, 1)?;
+    print_made(
+        rt,
+        "a base of 255 and slack",
+        &made(alloc, 2, 255, 0x44, 256)?,
+        1,
+    )?;
     print_made(rt, "a base of 255", &made(alloc, 1, 255, 0xaa, 128)?, 1)?;
     print_made(rt, "a base of 254", &made(alloc, 1, 254, 0xaa, 128)?, 1)?;
-    print_made(rt, "a base of 255, two bytes", &made(alloc, 1, 255, 0xaa, 128)?, 2)?;
+    print_made(
+        rt,
+        "a base of 255, two bytes",
+        &made(alloc, 1, 255, 0xaa, 128)?,
+        2,
+    )?;
     print_big(rt, alloc)
 }
 

@@ -10,10 +10,22 @@ use vx_packed::{read_chunk, spelling_law};
 /// A row for each list of numbers.
 pub(crate) fn print_rows(rt: &impl Print, alloc: Global) -> Result<(), Fail> {
     spelling_law();
-    print_spelling(rt, alloc, "100 and up", &remainders(alloc, 100, 4, 1024)?, 1)?;
+    print_spelling(
+        rt,
+        alloc,
+        "100 and up",
+        &remainders(alloc, 100, 4, 1024)?,
+        1,
+    )?;
     print_spelling(rt, alloc, "sevens", &remainders(alloc, 7, 1, 1024)?, 1)?;
     print_spelling(rt, alloc, "none", &remainders(alloc, 0, 1, 0)?, 8)?;
-    print_spelling(rt, alloc, "three chunks", &remainders(alloc, 40, 1500, 3072)?, 2)?;
+    print_spelling(
+        rt,
+        alloc,
+        "three chunks",
+        &remainders(alloc, 40, 1500, 3072)?,
+        2,
+    )?;
     print_digits(rt, alloc, 9, 0, 1)?;
     print_digits(rt, alloc, 254, 1, 1)?;
     print_digits(rt, alloc, 5, 7, 1)?;
@@ -65,7 +77,12 @@ pub(crate) fn print_read(rt: &impl Print, bytes: &[u8], width: usize) -> Result<
 {
     let mut numbers = [5; 1024];
     match read_chunk(bytes, width, &mut numbers) {
-        Ok(()) => print!(rt; ", numbers {} to {}, sum {}", numbers[0], numbers[1023], sum_of(&numbers))?,
+        Ok(()) => print!(rt;
+            ", numbers {} to {}, sum {}",
+            numbers[0],
+            numbers[1023],
+            sum_of(&numbers)
+        )?,
         Err(fault) => print!(rt; ", {fault:?}, sum {}", sum_of(&numbers))?,
     }
     Ok(())

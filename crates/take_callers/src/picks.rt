@@ -10,6 +10,7 @@ use vx_take::{Picks, filter_take_law, gather, gather_bits, gather_runs, takes_la
 pub(crate) fn print_rows(rt: &impl Print, alloc: Global) -> Result<(), Fail> {
     print_bound(rt, &Picks::new(alloc, 3))?;
     print_items(rt, alloc)?;
+    print_listed(rt, alloc)?;
     print_bits(rt, alloc, &[Some(1), Some(2)])?;
     print_bits(rt, alloc, &[Some(1), None])?;
     print_runs(rt, alloc)?;
@@ -21,6 +22,14 @@ pub(crate) fn print_rows(rt: &impl Print, alloc: Global) -> Result<(), Fail> {
 fn print_bound(rt: &impl Print, picks: &Picks) -> Result<(), Fail> {
     let (empty, bound) = (picks.is_empty(), picks.bound());
     println!(rt; "no pick yet: empty {empty}, bound {bound}")?;
+    Ok(())
+}
+
+fn print_listed(rt: &impl Print, alloc: Global) -> Result<(), Fail> {
+    let positions = vec![in alloc; 2, 0]?;
+    let picks = Picks::from_vec(positions, 3);
+    let items = gather(alloc, &[7u8, 8, 9], &picks, 0)?;
+    println!(rt; "7 8 9 at 2 and 0, a list that is handed over: {items:?}")?;
     Ok(())
 }
 

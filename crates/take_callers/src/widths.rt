@@ -78,7 +78,7 @@ fn print_by_slices<const W: usize>(rt: &impl Print, alloc: Global) -> Result<(),
     requires { W ≤ 8 }
 {
     let mut decoder = logged::<W>(alloc)?;
-    let (policy, runs) = (Policy::vortex(), [(1000, 1024), (1024, 1100)]);
+    let (policy, runs) = (Policy::vortex(), [(1000, 1100)]);
     let kept = filter_chunked_by_slices(alloc, &mut decoder, 0, 2048, &runs, &policy)?;
     print_kept(rt, "by runs", kept.as_slice(), decoder.calls())
 }

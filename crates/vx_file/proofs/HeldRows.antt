@@ -6,10 +6,16 @@ use Rattle.std.proofs.lemmas.List.{get_or-drop, get_or-map, get_or-take, get_or_
 use Rattle.std.proofs.lemmas.List.FromFn.{get_or-map-range_with_len, length-map-range_with_len}
 use Rattle.std.proofs.lemmas.Simd.{map-map}
 use Rattle.vx_types.specs.RowValue.{RowValue, bytes, null}
-use Rattle.vx_take.specs.Picks.{BoundedPicks, at, item_at}
+use Rattle.vx_take.specs.Picks.{AreBelow, BoundedPicks, at, item_at}
 use Rattle.vx_packed.specs.Parts.{record_of}
+use Rattle.vx_types.specs.PType.{width}
+use Rattle.vx_types.specs.declared.nullability.Nullability.{Nullability}
+use Rattle.vx_model.specs.Valid.{Valid, non_nullable, present_bits, stored_rows, IsLeft}
+use Rattle.vx_model.proofs.ShownRows.{shown_rows-all}
+use Rattle.vx_model.proofs.Takes.{take-stored}
+use Rattle.vx_file.specs.Shape.{ShapeValue}
 use Rattle.vx_file.specs.Blocks.{block_at}
-use Rattle.vx_file.specs.File.{number_at}
+use Rattle.vx_file.specs.File.{file_rows, number_at}
 use Rattle.vx_file.specs.Reading.{AreHeld, AreSpellings, HasRoom, IsHeld, IsThere, held_number, held_records}
 use Rattle.vx_file.specs.Touched.{blocks_for, lies_in}
 
@@ -68,9 +74,23 @@ all_picked picks k d h = at_pick (get_or picks k d) refl
   where
     same : get_or picks k None ≡ get_or picks k d
     same = get_or_default picks k None d h
+
     at_pick : (pick : Option ℕ) → pick ≡ get_or picks k d → IfSome pick (λ p. list_any (lies_in (p / 1024)) picks ≡ true)
     at_pick None e = tt
     at_pick (Some p) e = block_picked picks k p h (same ∙ sym e)
 
 pub are_spellings : (width : ℕ) (numbers starts : List ℕ) (picks : BoundedPicks) (blocks : List (List ℕ)) → AreHeld width numbers starts picks.picks (blocks_for picks.bound) blocks → AreSpellings width picks blocks
 are_spellings width numbers starts picks blocks held = λ k h any. (held k h any).spelled
+
+-- ---- as rows
+
+pub held_rows : (s : ShapeValue) (picks : BoundedPicks) (numbers starts : List ℕ) (blocks : List (List ℕ)) (records : List (List ℕ)) (w : Valid) (n : Nullability) (bytes_each : ℕ) → bytes_each ≡ width s.ptype → picks.bound ≡ s.len → AreBelow picks.picks picks.bound → IsLeft non_nullable n (at false (present_bits non_nullable picks.bound) picks.picks) w → records ≡ held_records bytes_each numbers starts picks.picks → AreHeld bytes_each numbers starts picks.picks (blocks_for picks.bound) blocks → stored_rows w (map bytes records) ≡ at null (file_rows blocks s) picks.picks
+held_rows s picks numbers starts blocks records w n bytes_each e whole below left same held =
+    let part = row_records bytes_each picks.bound blocks in
+    let missing = record_of bytes_each 0 in
+    let long : length part ≡ picks.bound = length-map-range_with_len (λ p. record_of bytes_each (number_at blocks p)) 0 picks.bound in
+    let Q : ℕ → Type 0 = λ m. IsLeft non_nullable n (at false (present_bits non_nullable m) picks.picks) w in
+    ap (λ l. stored_rows w (map bytes l)) (same ∙ held_are bytes_each picks.bound numbers starts picks.picks blocks picks.picks held below (all_picked picks.picks))
+    ∙ take-stored bytes missing part non_nullable w n refl picks.picks (subst Q (sym long) left)
+    ∙ ap (λ l. at null l picks.picks) (shown_rows-all (length (map bytes part)) (map bytes part) refl ∙ map-map bytes (λ p. record_of bytes_each (number_at blocks p)) (range_with_len 0 picks.bound)
+    ∙ ap₂ (λ b m. map (λ p. bytes (record_of b (number_at blocks p))) (range_with_len 0 m)) e whole)

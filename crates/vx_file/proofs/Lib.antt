@@ -5,3 +5,4 @@ pub mod Options
 pub mod TouchedLists
 pub mod ToldReads
 pub mod HeldRows
+pub mod FileAnswers

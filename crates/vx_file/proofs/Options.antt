@@ -25,3 +25,11 @@ under b (Some x) P h = h
 pub err_is : {X E : Type 0} (r : Result X E) (e : E) (P : E → Type 0) → IsErrAnd r (λ x. x ≡ e) → P e → IfErr r P
 err_is (Ok x) e P h p = absurd h
 err_is (Err x) e P h p = subst P (sym h) p
+
+pub ok_both : {X E : Type 0} (r : Result X E) (P Q R : X → Type 0) → IfOk r P → IfOk r Q → ((x : X) → P x → Q x → R x) → IfOk r R
+ok_both (Ok x) P Q R h k f = f x h k
+ok_both (Err e) P Q R h k f = tt
+
+pub if_err : {X E : Type 0} (r : Result X E) (P Q : E → Type 0) → IfErr r P → ((e : E) → P e → Q e) → IfErr r Q
+if_err (Ok x) P Q h f = tt
+if_err (Err e) P Q h f = f e h

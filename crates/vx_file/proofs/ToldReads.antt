@@ -47,7 +47,7 @@ module _ (width k : ℕ) (picks : BoundedPicks) (spare f0 f1 f2 : ℕ) (before a
       front = touched picks.picks k;
       last = ap (touched picks.picks) m.0 ∙ touched_more picks.picks k ∙ ap (λ b. touched picks.picks k ++ block_of_rows b k) any ∙ ap (λ n. touched picks.picks k ++ n ∷ []) (sym m.0);
       told = told t ∙ ap (λ n. then_told before (touched picks.picks n)) (sym m.0);
-    }
+    },
   )
   raised (Broken step cause) a h any same told m = m
   raised NoMemory a h any same told m = λ t. record { count = k + 1; within = omega (arith, h); told = told t }

@@ -30,6 +30,14 @@ IsBrokenBy w e =
     MatchReading e (IsUnbroken w) (λ _. IsUnbroken w) (λ k cause. w ≡ walk_fault k cause)
     (IsUnbroken w)
 
+-- nothing happened where a step is broken, and else this is so of the error
+abbrev pub IfUnbroken : Type 0 → (FileError → Type 0) → FileError → Type 0
+IfUnbroken P Q (Broken step cause) = P
+IfUnbroken P Q ReadFault = Q ReadFault
+IfUnbroken P Q BadHeader = Q BadHeader
+IfUnbroken P Q (Damaged block) = Q (Damaged block)
+IfUnbroken P Q NoMemory = Q NoMemory
+
 -- the error of steps, as that of a file
 abbrev pub of_select : SelectError → FileError
 of_select (select_errors.Broken step cause) = Broken step cause

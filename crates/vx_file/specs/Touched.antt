@@ -23,6 +23,10 @@ block_of_rows picked k = if picked then (k + 1) ∷ [] else []
 unfoldable pub touched : List (Option ℕ) → ℕ → List ℕ
 touched picks n = flat_map (λ k. block_of_rows (list_any (lies_in k) picks) k) (range_with_len 0 n)
 
+-- how many blocks picks touch
+abbrev pub touched_count : BoundedPicks → ℕ
+touched_count picks = length (touched picks.picks (blocks_for picks.bound))
+
 -- the composed picks; none where a step is broken
 abbrev pub picks_by : Walk → List (Option ℕ)
 picks_by (walk_fault k cause) = []

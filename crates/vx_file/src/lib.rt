@@ -8,8 +8,8 @@ mod error;
 mod held;
 mod memory_blocks;
 mod open;
-mod reading;
 mod read_log;
+mod reading;
 mod select;
 mod shape;
 mod steady_blocks;
@@ -22,7 +22,7 @@ pub use error::FileError;
 pub use memory_blocks::MemoryBlocks;
 pub use open::open_file;
 pub use read_log::ReadLog;
-
+pub use select::select_file;
 pub use shape::FileShape;
 pub use steady_blocks::SteadyBlocks;
 pub use write::file_blocks;

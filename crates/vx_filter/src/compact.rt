@@ -160,7 +160,7 @@ fn lowest_run(word: u64) -> LowestRun
 }
 
 // Copies `count` items from `from` on to `to` on. What stands behind them up to `end` is free, so
-// up to sixteen are copied as a block of sixteen where it ends there: that is less work than a call.
+// up to sixteen are copied as a block of sixteen where it ends there: that is less than a call.
 #[inline(always)]
 fn copy_run<T: Copy>(dst: &mut [T], to: usize, end: usize, src: &[T], from: usize, count: usize)
     requires from { from + count ≤ length src.now }

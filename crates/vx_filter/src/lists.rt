@@ -41,8 +41,8 @@ pub fn filter_slice_by_slices<T: Copy>(
     Ok(kept)
 }
 
-// Appends the items from `start` up to `end`: a few as a block of four or of sixteen, where there is
-// one and room for it, since that is less work than a call.
+// Appends the items from `start` up to `end`: a few as a block of four or of sixteen, where there
+// is one and room for it, since that is less work than a call.
 #[inline(always)]
 fn push_run<T: Copy>(kept: &mut Vec<T>, src: &[T], start: usize, end: usize) -> Result<(), NoMemory>
     requires ordered { start ≤ end }

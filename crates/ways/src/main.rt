@@ -12,7 +12,7 @@ use vx_select::{SelectError, select, select_fused};
 
 /// What two ways to the same rows gave.
 #[derive(Clone, Copy)]
-enum Compared {
+enum Likeness {
     /// The same type and rows.
     SameRows,
     /// The same broken step.
@@ -22,6 +22,7 @@ enum Compared {
 }
 
 /// How many documents gave what.
+#[derive(Drop)]
 struct Counts {
     rows: u64,
     faults: u64,
@@ -29,11 +30,11 @@ struct Counts {
 }
 
 impl Counts {
-    fn add(&mut self, compared: Compared) {
+    fn add(&mut self, compared: Likeness) {
         match compared {
-            Compared::SameRows => self.rows = self.rows.saturating_add(1),
-            Compared::SameFault => self.faults = self.faults.saturating_add(1),
-            Compared::Different => self.differing = self.differing.saturating_add(1),
+            Likeness::SameRows => self.rows = self.rows.saturating_add(1),
+            Likeness::SameFault => self.faults = self.faults.saturating_add(1),
+            Likeness::Different => self.differing = self.differing.saturating_add(1),
         }
     }
 }
@@ -45,21 +46,21 @@ fn document_in(alloc: Global, line: &str) -> Result<Document, Fail> {
 }
 
 /// How two columns compare: by their texts, which say their types and rows.
-fn rows_compared(alloc: Global, one: &Array, other: &Array) -> Result<Compared, Fail> {
+fn rows_compared(alloc: Global, one: &Array, other: &Array) -> Result<Likeness, Fail> {
     let (one, other) = (text_of(alloc, one)?, text_of(alloc, other)?);
     if one.as_slice() == other.as_slice() {
-        Ok(Compared::SameRows)
+        Ok(Likeness::SameRows)
     } else {
-        Ok(Compared::Different)
+        Ok(Likeness::Different)
     }
 }
 
 /// How two refusals compare. Want of memory is like nothing.
-fn faults_compared(one: SelectError, other: SelectError) -> Compared {
+fn faults_compared(one: SelectError, other: SelectError) -> Likeness {
     if one != SelectError::NoMemory && one == other {
-        Compared::SameFault
+        Likeness::SameFault
     } else {
-        Compared::Different
+        Likeness::Different
     }
 }
 
@@ -68,16 +69,16 @@ fn compared(
     alloc: Global,
     one: &Result<Array, SelectError>,
     other: &Result<Array, SelectError>,
-) -> Result<Compared, Fail> {
+) -> Result<Likeness, Fail> {
     match (one, other) {
         (Ok(one), Ok(other)) => rows_compared(alloc, one, other),
         (Err(one), Err(other)) => Ok(faults_compared(*one, *other)),
-        _ => Ok(Compared::Different),
+        _ => Ok(Likeness::Different),
     }
 }
 
 /// How the two ways through a document compare.
-fn both_ways(alloc: Global, document: &Document) -> Result<Compared, Fail> {
+fn both_ways(alloc: Global, document: &Document) -> Result<Likeness, Fail> {
     let steps = document.steps.as_slice();
     match &document.source {
         DocumentSource::Column(column) => {

@@ -59,8 +59,8 @@ loop-k-preserved g c =
       capacity = omega (arith, v.capacity, c.push_reserved.ensures.capacity);
       room = subst (λ (l : List ℕ). HasRoom new l p.picks (k + 1)) (sym starts_is) (room_more numbers new starts p.picks k picked here e.grown v.room);
       held = subst (λ (l : List ℕ). IfSome blocks (AreHeld c.args.width new l p.picks (k + 1))) (sym starts_is)
-      (if_both blocks (AreHeld c.args.width numbers starts p.picks k) (λ all. picked ≡ true → IsHeld c.args.width new (length numbers) (block_at all (k + 1))) (AreHeld c.args.width new (starts ++ length numbers ∷ []) p.picks (k + 1)) v.held known
-      (λ all held last. held_more numbers new starts p.picks k picked c.args.width all here e.front v.room held last));
+          (if_both blocks (AreHeld c.args.width numbers starts p.picks k) (λ all. picked ≡ true → IsHeld c.args.width new (length numbers) (block_at all (k + 1))) (AreHeld c.args.width new (starts ++ length numbers ∷ []) p.picks (k + 1)) v.held known
+          (λ all held last. held_more numbers new starts p.picks k picked c.args.width all here e.front v.room held last));
       told = λ t. told_step p.picks k picked (g.R.BlockReader.reads c.args.reader.now) (g.R.BlockReader.reads c.loop-k.reader) (g.R.BlockReader.reads c.keep_block.new.reader) here (v.told t) (e.told (omega (arith, t, most, count, v.cost)));
       same = e.same ∙ v.same;
       cost = omega (arith, v.cost, e.cost, count);

@@ -1,0 +1,13 @@
+//! Calls the column file as its users do, and prints what each gives.
+#![tactic(auto)]
+
+mod made;
+mod opening;
+mod selecting;
+
+use std::test::Fail;
+
+fn main(rt: HostRuntime) -> Result<(), Fail> {
+    opening::print_rows(&rt, rt.alloc())?;
+    selecting::print_rows(&rt, rt.alloc())
+}
