@@ -1,5 +1,5 @@
 //! The rows at the set positions of a mask, over every layout.
-ghost use Rattle.std.specs.Prelude.{◌≡◌, length, None, true, IfOk, IsOk};
+ghost use Rattle.std.specs.Prelude.{◌≡◌, ℕ, length, None, true, IfOk, IsOk};
 ghost use Rattle.std.specs.List.{items_where_true};
 ghost use Rattle.vx_mask.specs.Mask.{mask_bits, partial_of};
 ghost use Rattle.vx_model.specs.Plain.{is_null_layout, is_plain};
@@ -43,6 +43,7 @@ pub fn filter(alloc: Global, array: &Array, mask: &Mask, policy: &Policy) -> Res
     requires { length (mask_bits mask.now) ≡ length array.now.rows }
     ensures cut { IfOk result
         (IsCut array.now (items_where_true (mask_bits mask.now) array.now.rows)) }
+    ensures all { (n : ℕ) → mask.now ≡ Mask.AllTrue n → IsOk result }
     ensures all_or_none { partial_of mask.now ≡ None → is_plain array.now ≡ true → IsOk result }
     ensures null { is_null_layout array.now.layout ≡ true → IsOk result }
 {
