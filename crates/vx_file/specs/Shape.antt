@@ -3,7 +3,8 @@ use Rattle.std.specs.Prelude.{◌≡◌, ◌≢◌, ℕ, ◌≤◌, ◌&&◌, no
 use Rattle.std.specs.Int.{to_le_bytes, w64}
 use Rattle.std.specs.Coded.{Coded, code_by, coded×, coded_ℕ}
 use Rattle.std.proofs.Common.{refl}
-use Rattle.vx_types.specs.PType.{coded_ptype, is_int, is_signed}
+use Rattle.vx_types.specs.PType.{is_int, is_signed}
+use Rattle.vx_types.specs.PTypeCode.{coded_ptype}
 use Rattle.vx_types.specs.TypeTree.{TypeTree, primitive_type}
 use Rattle.vx_types.specs.declared.nullability.Nullability.TheVariants.{NonNullable}
 use Rattle.vx_types.specs.declared.ptype.PType.{PType}
