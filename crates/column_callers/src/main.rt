@@ -7,6 +7,7 @@ mod columns;
 mod counted;
 mod fused;
 mod fused_layouts;
+mod made;
 mod pieces;
 mod rows;
 mod selecting;
@@ -32,5 +33,6 @@ fn main(rt: HostRuntime) -> Result<(), Fail> {
     chunked::print_answers(&rt, rt.alloc())?;
     shapes::print_refusals(&rt)?;
     shapes::print_shape(&rt)?;
-    shapes::print_composed(&rt, rt.alloc())
+    shapes::print_composed(&rt, rt.alloc())?;
+    made::print_lines(&rt, rt.alloc())
 }

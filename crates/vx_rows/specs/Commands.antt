@@ -1,18 +1,44 @@
 -- What the words ask for.
-use Rattle.std.specs.Prelude.{ℕ, List, [], ◌∷◌, Option, Some, None, codes, bytes_eq, if◌then◌else◌}
+use Rattle.std.specs.Prelude.{◌≡◌, ◌≢◌, ◌≤◌, ◌⊎◌, ℕ, ◌^◌, ◌&&◌, nat_le, nat_lt, length, List, [], ◌∷◌, Option, Some, None, option_map, codes, bytes_eq, if◌then◌else◌}
+use Rattle.std.specs.Str.{all_ascii_digits}
+use Rattle.std.specs.Str.Parse.{digits_value}
 use Rattle.vx_rows.specs.declared.command.Command.{Command}
-use Rattle.vx_rows.specs.declared.command.Command.TheVariants.{Rows}
+use Rattle.vx_rows.specs.declared.command.Command.TheVariants.{Rows, Made}
+
+-- the number that one to ten digits write, where it is below 2^32
+unfoldable pub number_named : List ℕ → Option ℕ
+number_named word =
+    if all_ascii_digits word && (nat_le 1 (length word) && nat_le (length word) 10)
+    && nat_lt (digits_value 10 word) (2 ^ 32)
+    then Some (digits_value 10 word) else None
 
 abbrev pub command_named : List ℕ → Option Command
 command_named word = if bytes_eq word (codes "rows") then Some Rows else None
 
--- the command that the words name: one word alone
+abbrev pub command_with : List ℕ → List ℕ → Option Command
+command_with word number =
+    if bytes_eq word (codes "made") then option_map Made (number_named number) else None
+
+-- the command that the words name: `rows` alone, or `made` and a number
 abbrev pub command_of : List (List ℕ) → Option Command
 command_of [] = None
 command_of (w ∷ []) = command_named w
-command_of (w ∷ v ∷ ws) = None
+command_of (w ∷ v ∷ []) = command_with w v
+command_of (w ∷ v ∷ x ∷ ws) = None
 
 -- a fact of the command that the words name; no words that name none
 abbrev pub IfCommand : Option Command → (Command → Type 0) → Type 0
 IfCommand None P = ⊥
 IfCommand (Some command) P = P command
+
+-- a fact of the source where the command reads nothing: `rows` alone reads
+abbrev pub UnlessRead : Option Command → Type 0 → Type 0
+UnlessRead None P = P
+UnlessRead (Some Rows) P = Unit {0}
+UnlessRead (Some (Made seed)) P = P
+
+-- the statuses that may come of a command
+abbrev pub MayEnd : Option Command → ℕ → Type 0
+MayEnd None status = status ≡ 3
+MayEnd (Some Rows) status = (status ≤ 8) × (status ≢ 3)
+MayEnd (Some (Made seed)) status = (status ≡ 0) ⊎ (status ≡ 5) ⊎ (status ≡ 6)

@@ -12,6 +12,7 @@ use Rattle.vx_steps.specs.Walk.{walk}
 use Rattle.vx_steps.specs.Answer.{Answer, answer_fault, answer_rows, answer, answer_of}
 use Rattle.vx_select.specs.Chunks.{asked_by_walk, chunk_rows}
 use Rattle.vx_rows.specs.Commands.{command_of, IfCommand}
+use Rattle.vx_rows.specs.Made.{made_answer, made_text}
 use Rattle.vx_document.specs.Documents.{DocumentValue, SourceValue, column_source, chunks_source}
 use Rattle.vx_document.specs.Later.{holds_later}
 use Rattle.vx_document.specs.Reading.{document_of}
@@ -20,7 +21,7 @@ use Rattle.vx_print.specs.Calls.{calls_text}
 use Rattle.vx_print.specs.Fault.{fault_text}
 use Rattle.vx_print.specs.Text.{text}
 use Rattle.vx_rows.specs.declared.command.Command.{Command}
-use Rattle.vx_rows.specs.declared.command.Command.TheVariants.{Rows}
+use Rattle.vx_rows.specs.declared.command.Command.TheVariants.{Rows, Made}
 use Rattle.vx_rows.specs.declared.trace.Trace.{Trace}
 
 pub data Outcome : Type 0 where
@@ -74,9 +75,18 @@ outcome_of bytes = of_value (value_of bytes)
 unfoldable pub program : List ℕ → Outcome
 program bytes = if nat_lt MAX_BYTES (length bytes) then TooLong else outcome_of bytes
 
--- what comes of a command, where the source tells its bytes
+-- the line of the rows that a number makes
+abbrev pub of_made : ℕ → Answer → Outcome
+of_made seed (answer_fault step cause) = Broken (fault_text step cause)
+of_made seed (answer_rows t rows) = Done (made_text seed rows) None
+
+unfoldable pub made : ℕ → Outcome
+made seed = of_made seed (made_answer seed)
+
+-- what comes of a command: of `rows` where the source tells its bytes, of `made` whatever it tells
 abbrev pub outcome_told : Command → Option (List ℕ) → Option Outcome
 outcome_told Rows rest = option_map program rest
+outcome_told (Made seed) rest = Some (made seed)
 
 -- ---- facts of an outcome
 
@@ -119,6 +129,7 @@ status_of NotBuilt = 8
 abbrev pub IfTold : List (List ℕ) → Option (List ℕ) → (Outcome → Type 0) → Type 0
 IfTold words rest P = IfCommand (command_of words) (λ command. IfSome (outcome_told command rest) P)
 
--- what a command that has written its text took of the source: `rows` takes all
+-- what a command that has written its text took of the source: `rows` takes all, `made` nothing
 abbrev pub HasRead : Command → Option (List ℕ) → Option (List ℕ) → Type 0
 HasRead Rows before after = IfSome after (λ left. left ≡ [])
+HasRead (Made seed) before after = after ≡ before

@@ -1,12 +1,41 @@
 //! What the words ask for.
 ghost use Rattle.std.specs.Prelude.{◌≡◌, map, string_bytes};
-ghost use Rattle.vx_rows.specs.Commands.{command_named, command_of};
+ghost use Rattle.std.specs.Str.{all_ascii_digits};
+ghost use Rattle.vx_rows.specs.Commands.{command_named, command_of, command_with, number_named};
 
 /// A command that words may name.
 #[derive(Clone, Copy, Debug, PartialEq, Eq)]
 pub(crate) enum Command {
     /// Reads a document and prints its rows.
     Rows,
+    /// Makes rows and steps from a number, and prints a line of their answer.
+    Made(u32),
+}
+
+// Whether each byte is a digit.
+fn are_digits(word: &[u8]) -> bool
+    ensures { result ≡ all_ascii_digits word.now }
+{
+    for byte in word {
+        if !byte.is_ascii_digit() {
+            return false;
+        }
+    }
+    true
+}
+
+// The number that one to ten digits write, where it is below 2^32.
+#[tactic(auto, unfolding(crate::specs::Commands::number_named))]
+fn number_named(word: &str) -> Option<u32>
+    ensures { result ≡ number_named word.now }
+{
+    if word.len() > 10 || !are_digits(word.as_bytes()) {
+        return None;
+    }
+    match word.parse::<u32>() {
+        Ok(number) => Some(number),
+        Err(_) => None,
+    }
 }
 
 fn command_named(word: &str) -> Option<Command>
@@ -18,12 +47,25 @@ fn command_named(word: &str) -> Option<Command>
     }
 }
 
+fn command_with(word: &str, number: &str) -> Option<Command>
+    ensures { result ≡ command_with word.now number.now }
+{
+    match word {
+        "made" => match number_named(number) {
+            Some(seed) => Some(Command::Made(seed)),
+            None => None,
+        },
+        _ => None,
+    }
+}
+
 /// The command that the words name.
 pub(crate) fn command_of(words: &[String]) -> Option<Command>
     ensures { result ≡ command_of (map string_bytes words.now) }
 {
     match words {
         [word] => command_named(word.as_str()),
+        [word, number] => command_with(word.as_str(), number.as_str()),
         _ => None,
     }
 }

@@ -4,6 +4,7 @@
 mod answering;
 mod command;
 mod delivery;
+mod made;
 mod program;
 mod reply;
 mod trace;

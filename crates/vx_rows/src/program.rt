@@ -1,11 +1,12 @@
 //! All that the program does, over any source and sink.
 ghost use Rattle.std.specs.Prelude.{◌≡◌, ◌≢◌, ◌↔◌, ◌⊎◌, ◌≤◌, ◌+◌, ℕ, [], take, map, string_bytes, IfSome, None};
 ghost use Rattle.vx_outside.specs.Bytes.{Rose, Loses, with_back};
-ghost use Rattle.vx_rows.specs.Program.{TooLong, Malformed, NotBuilt, program, IsDone, IsBroken, IsPrinted, status_of, IfTold, HasRead, traced_by};
-ghost use Rattle.vx_rows.specs.Commands.{command_of, IfCommand};
+ghost use Rattle.vx_rows.specs.Program.{TooLong, Malformed, NotBuilt, made, program, IsDone, IsBroken, IsPrinted, status_of, IfTold, HasRead, traced_by};
+ghost use Rattle.vx_rows.specs.Commands.{command_of, IfCommand, MayEnd, UnlessRead};
 
 use crate::command::{Command, command_of};
 use crate::delivery::deliver_reply;
+use crate::made::reply_to_made;
 use crate::reply::reply_to;
 use crate::trace::Trace;
 use std::alloc::Global;
@@ -57,6 +58,25 @@ fn run_rows<S: Source, K: Sink>(
     deliver_reply(sink, trace, reply_to(alloc, bytes))
 }
 
+// Prints the line of the rows that a number makes.
+fn run_made<K: Sink>(alloc: Global, seed: u32, sink: &mut K, trace: &mut Trace) -> u8
+    ensures known { (result ≡ 0) ⊎ (result ≡ 5) ⊎ (result ≡ 6) }
+    ensures done { result ≡ 0 → IsDone (made seed)
+        (λ text. K.held sink.new ≡ with_back (K.held sink.old) text) }
+    ensures finished { result ≡ 0 → IfSome (K.held sink.old) (λ _. K.pending sink.new ≡ 0) }
+    ensures sink_fault { result ≡ 5 → Rose (K.faults sink.old) (K.faults sink.new) }
+    ensures part { result ≡ 5 → IsPrinted (made seed)
+        (λ text. (n : ℕ) × (K.held sink.new ≡ with_back (K.held sink.old) (take n text))) }
+    ensures sink_fault_told { result ≢ 5 → K.faults sink.new ≡ K.faults sink.old }
+    ensures quiet { result ≢ 0 → result ≢ 5 → sink.new ≡ sink.old }
+    ensures traced { (result ≡ 0) ⊎ (result ≡ 5) → trace.new ≡ traced_by (made seed) trace.old }
+    ensures untraced { result ≢ 0 → result ≢ 5 → trace.new ≡ trace.old }
+    ensures complete { ¬ Rose (K.faults sink.old) (K.faults sink.new)
+        → (result ≡ 6) ⊎ (result ≡ status_of (made seed)) }
+{
+    deliver_reply(sink, trace, reply_to_made(alloc, seed))
+}
+
 /// Does what the words ask, and answers the program's status. The words leave out the program's
 /// own name.
 ///
@@ -82,9 +102,10 @@ pub fn run<S: Source, K: Sink>(
     sink: &mut K,
     trace: &mut Trace,
 ) -> u8
-    ensures known { result ≤ 8 }
+    ensures known { MayEnd (command_of (map string_bytes words.now)) result }
     ensures words { (result ≡ 3) ↔ (command_of (map string_bytes words.now) ≡ None) }
-    ensures untouched { result ≡ 3 → source.new ≡ source.old }
+    ensures untouched { UnlessRead (command_of (map string_bytes words.now))
+        (source.new ≡ source.old) }
 
     ensures done { result ≡ 0 → IfTold (map string_bytes words.now) (S.rest source.old)
         (λ o. IsDone o (λ text. K.held sink.new ≡ with_back (K.held sink.old) text)) }
@@ -127,5 +148,6 @@ pub fn run<S: Source, K: Sink>(
     match command_of(words) {
         None => 3,
         Some(Command::Rows) => run_rows(alloc, source, sink, trace),
+        Some(Command::Made(seed)) => run_made(alloc, seed, sink, trace),
     }
 }
