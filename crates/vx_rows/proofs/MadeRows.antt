@@ -13,13 +13,13 @@ use Rattle.vx_bits.specs.BitBuffer.{true_count_of}
 use Rattle.vx_bits.specs.Results.{ok_unless}
 use Rattle.vx_types.specs.PType.{number}
 use Rattle.vx_types.specs.RowValue.{RowValue, null, bytes}
-use Rattle.vx_types.specs.TypeTree.{TypeTree, primitive_type}
+use Rattle.vx_types.specs.TypeTree.{TypeTree, primitive_kind, primitive_type}
 use Rattle.vx_types.specs.declared.nullability.Nullability.TheVariants.{NonNullable, Nullable}
 use Rattle.vx_types.specs.declared.ptype.PType.TheVariants.{U32, I64}
 use Rattle.vx_numbers.specs.Positions.{bad_number, first_bad}
 use Rattle.vx_model.specs.Valid.{non_nullable, is_yes, shown_rows}
 use Rattle.vx_model.specs.Bool.{BoolParts, bits_column, bool_column, bool_with}
-use Rattle.vx_model.specs.Primitive.{primitive_column, primitive_fault}
+use Rattle.vx_model.specs.Records.{records_column, records_fault}
 use Rattle.vx_model.specs.Numbers.{number_in}
 use Rattle.vx_model.proofs.Items.{length-slice_range}
 use Rattle.vx_model.proofs.Layouts.{length-bool}
@@ -80,7 +80,7 @@ module _ (kept : ℕ) (some : 0 < kept) (few : kept < 2 ^ 63) where
   named ds = map (λ d. to_le_bytes w64 (d / 10 % kept)) ds
 
   abbrev read : RowValue → Option ℤ
-  read x = number_in (primitive_type I64 Nullable) x
+  read x = number_in (primitive_kind I64) x
 
   index_number : (d : ℕ) → number I64 (to_le_bytes w64 (d / 10 % kept)) ≡ pos (d / 10 % kept)
   index_number d =
@@ -101,7 +101,7 @@ module _ (kept : ℕ) (some : 0 < kept) (few : kept < 2 ^ 63) where
       by false rest = rest
       by true rest = ap (λ x. option_or x (first_bad kept (map read (shown_rows (there ds) (map bytes (named ds)))))) (inside d) ∙ rest
 
-  pub no_index_fault : (ds : List ℕ) → index_fault (by_column (primitive_column (drawn_indices kept ds))) kept ≡ None
+  pub no_index_fault : (ds : List ℕ) → index_fault (by_column (records_column (drawn_indices kept ds))) kept ≡ None
   no_index_fault ds =
       let p : BoolParts = bool_with (there ds) 0 non_nullable in
       let same : map is_yes (bool_column p).rows ≡ there ds = yes-bool p refl in
@@ -109,7 +109,7 @@ module _ (kept : ℕ) (some : 0 < kept) (few : kept < 2 ^ 63) where
       ∙ ap (option_map OutOfBounds) (all_inside ds)
 
 -- they are a column
-pub no_parts_fault : (kept : ℕ) (ds : List ℕ) → primitive_fault (drawn_indices kept ds) ≡ None
+pub no_parts_fault : (kept : ℕ) (ds : List ℕ) → records_fault (drawn_indices kept ds) ≡ None
 no_parts_fault kept ds =
     let bits : List Bool = map (λ d. not (d % 10 == 0)) ds in
     let long : length (bits_column bits 0).rows ≡ length bits = length-bool (bool_with bits 0 non_nullable) refl in
@@ -137,7 +137,7 @@ module _ (n : ℕ) (bits : List Bool) (ds : List ℕ) (rows : 20 ≤ n) (long : 
   cut = slice_step 10 (n - 10)
 
   abbrev picking : StepValue
-  picking = take_step (by_column (primitive_column (drawn_indices (true_count_of bits) ds)))
+  picking = take_step (by_column (records_column (drawn_indices (true_count_of bits) ds)))
 
   cut_sound : broken cut n ≡ None
   cut_sound =

@@ -1,14 +1,14 @@
 -- The command `made`: the rows and the steps that a number makes, and the line of their answer.
 use Rattle.std.specs.Prelude.{ℕ, zero, suc, ◌+◌, ◌-◌, ◌*◌, ◌/◌, ◌%◌, ◌^◌, ◌==◌, List, [], ◌∷◌, ◌++◌, length, map, take, drop, sum, count_by, Bool, true, not, slice_range, slice_set, codes, decimal}
 use Rattle.std.specs.Int.{w32, w64, to_le_bytes, from_le_bytes}
-use Rattle.vx_types.specs.TypeTree.{primitive_type}
+use Rattle.vx_types.specs.TypeTree.{primitive_kind, primitive_type}
 use Rattle.vx_types.specs.RowValue.{RowValue, bytes, is_null}
 use Rattle.vx_types.specs.declared.nullability.Nullability.TheVariants.{NonNullable}
 use Rattle.vx_types.specs.declared.ptype.PType.TheVariants.{U32, I64}
 use Rattle.vx_bits.specs.BitBuffer.{true_count_of}
 use Rattle.vx_model.specs.Valid.{by_column}
 use Rattle.vx_model.specs.Bool.{bits_column}
-use Rattle.vx_model.specs.Primitive.{PrimitiveParts, primitive_column}
+use Rattle.vx_model.specs.Records.{RecordParts, records_column}
 use Rattle.vx_pieces.specs.Indices.{by_column as index_column}
 use Rattle.vx_steps.specs.Step.{StepValue, slice_step, filter_step, take_step}
 use Rattle.vx_steps.specs.Answer.{Answer, answer_of}
@@ -40,10 +40,10 @@ drawn_bits ds = slice_set (map (λ d. not (d % 4 == 0)) ds) 0 true
 
 -- an index is null where its draw is a multiple of 10, else the rest of the draw picks one of the
 -- rows that are kept
-abbrev pub drawn_indices : ℕ → List ℕ → PrimitiveParts
+abbrev pub drawn_indices : ℕ → List ℕ → RecordParts
 drawn_indices kept ds =
     record {
-      ptype = I64;
+      kind = primitive_kind I64;
       width = 8;
       records = map (λ d. to_le_bytes w64 (d / 10 % kept)) ds;
       valid = by_column (bits_column (map (λ d. not (d % 10 == 0)) ds) 0);
@@ -53,7 +53,7 @@ drawn_indices kept ds =
 abbrev pub drawn_steps : ℕ → List Bool → List ℕ → List StepValue
 drawn_steps n bits ds =
     slice_step 10 (n - 10) ∷ filter_step bits
-    ∷ take_step (index_column (primitive_column (drawn_indices (true_count_of bits) ds))) ∷ []
+    ∷ take_step (index_column (records_column (drawn_indices (true_count_of bits) ds))) ∷ []
 
 -- of these draws: the first n are the rows, the next n - 20 the bits, and the others the indices
 abbrev pub drawn_answer : ℕ → List ℕ → Answer

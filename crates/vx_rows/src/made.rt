@@ -6,7 +6,7 @@ ghost use Rattle.vx_types.specs.TypeTree.{primitive_type};
 ghost use Rattle.vx_types.specs.declared.nullability.Nullability.TheVariants.{NonNullable, Nullable};
 ghost use Rattle.vx_types.specs.declared.ptype.PType.TheVariants.{U32};
 ghost use Rattle.vx_model.specs.Bool.{bits_column};
-ghost use Rattle.vx_model.specs.Primitive.{primitive_column};
+ghost use Rattle.vx_model.specs.Records.{records_column};
 ghost use Rattle.vx_pieces.specs.Indices.{by_column, index_value};
 ghost use Rattle.vx_steps.specs.Step.{step_value};
 ghost use Rattle.vx_column.specs.Cell.{IsOfType, row_of};
@@ -125,7 +125,7 @@ fn presence_column(alloc: Global, draws: &[u32]) -> Result<ArrayRef, NoMemory>
 // The column of the indices.
 fn index_column(alloc: Global, kept: usize, draws: &[u32]) -> Result<ArrayRef, NoMemory>
     requires { 0 < kept }
-    ensures { IfOk result (λ c. c ≡ primitive_column (drawn_indices kept draws.now)) }
+    ensures { IfOk result (λ c. c ≡ records_column (drawn_indices kept draws.now)) }
 {
     let records = Records::W8(index_records(alloc, kept, draws)?);
     let validity = Validity::Array(presence_column(alloc, draws)?);
@@ -139,7 +139,7 @@ fn index_column(alloc: Global, kept: usize, draws: &[u32]) -> Result<ArrayRef, N
 fn drawn_indices(alloc: Global, kept: usize, draws: &[u32]) -> Result<Indices, NoMemory>
     requires { 0 < kept }
     ensures { IfOk result (λ i. index_value i
-        ≡ by_column (primitive_column (drawn_indices kept draws.now))) }
+        ≡ by_column (records_column (drawn_indices kept draws.now))) }
 {
     match FlatRef::try_new(index_column(alloc, kept, draws)?) {
         Ok(column) => Ok(Indices::Array(column)),
