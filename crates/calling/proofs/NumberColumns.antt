@@ -9,7 +9,6 @@ use Rattle.vx_bits.specs.Results.{ok_unless}
 use Rattle.vx_types.specs.PType.{number}
 use Rattle.vx_types.specs.RowValue.{bit, bytes}
 use Rattle.vx_types.specs.TypeTree.{primitive_kind}
-use Rattle.vx_types.specs.declared.nullability.Nullability.TheVariants.{NonNullable, Nullable}
 use Rattle.vx_types.specs.declared.ptype.PType.TheVariants.{U32, U64}
 use Rattle.vx_model.specs.Valid.{is_yes, shown_rows}
 use Rattle.vx_model.specs.Numbers.{number_in}

@@ -1,24 +1,21 @@
 -- The columns that a column's unwrapped form is made of have its rows and its type.
-use Rattle.std.proofs.Common.{◌≡◌, ℕ, zero, suc, Bool, true, false, List, [], ◌∷◌, map, length, None, Some, refl, sym, ap, ap₂, ◌∙◌, arith}
-use Rattle.std.specs.Prelude.{replicate, if◌then◌else◌}
+use Rattle.std.proofs.Common.{◌≡◌, ℕ, zero, suc, true, false, List, [], ◌∷◌, map, length, None, refl, sym, ap, ap₂, ◌∙◌, arith}
+use Rattle.std.specs.Prelude.{replicate}
 use Rattle.std.specs.List.{items_where_true}
-use Rattle.std.proofs.lemmas.Bool.Decides.{nat_tests}
-use Rattle.std.proofs.lemmas.List.{length-map, length-replicate}
-use Rattle.vx_types.specs.TypeTree.{TypeTree, bool_kind, kind_width, also_nullable}
-use Rattle.vx_types.specs.RowValue.{RowValue, null, bit, bytes}
-use Rattle.vx_types.specs.declared.nullability.Nullability.{Nullability}
+use Rattle.vx_types.specs.TypeTree.{TypeTree, also_nullable}
+use Rattle.vx_types.specs.RowValue.{RowValue, null}
 use Rattle.vx_take.specs.Picks.{at}
 use Rattle.vx_numbers.specs.Positions.{first_bad, positions_of}
 use Rattle.vx_model.specs.Column.{Column}
 use Rattle.vx_model.specs.Numbers.{number_in, numbers_of}
-use Rattle.vx_model.specs.Valid.{Valid, all_invalid, cover_by, is_fitting, is_flat_cover, nullability_by, present_bits, shown_rows, stored_rows, IsLeft}
+use Rattle.vx_model.specs.Valid.{Valid, cover_by, is_fitting, is_flat_cover, nullability_by, present_bits, shown_rows, stored_rows, IsLeft}
 use Rattle.vx_model.specs.Plain.{is_unwrapped}
-use Rattle.vx_model.specs.Bool.{BoolParts, stored_bits, bool_fault, bool_column, bool_with}
-use Rattle.vx_model.specs.Records.{RecordParts, stored_records, records_fault, records_column, records_with}
+use Rattle.vx_model.specs.Bool.{BoolParts, bool_column}
+use Rattle.vx_model.specs.Records.{RecordParts, records_column}
 use Rattle.vx_model.specs.Dict.{DictParts, dict_fault, dict_column}
 use Rattle.vx_model.specs.Filter.{FilterParts, filter_column}
 use Rattle.vx_model.specs.Step.{IsStep, IsCut, IsTake}
-use Rattle.vx_model.proofs.ShownRows.{length-present_bits, shown_rows-all}
+use Rattle.vx_model.proofs.ShownRows.{length-present_bits}
 use Rattle.vx_model.proofs.StoredRows.{is_step-stored}
 use Rattle.vx_model.proofs.Layouts.{null_layout-records, row_layout-records}
 use Rattle.vx_model.specs.Stored.{StoredParts, stored_column}

@@ -1,5 +1,5 @@
 -- Layouts `Primitive` and `Decimal`: a record of a number a row.
-use Rattle.std.specs.Prelude.{ℕ, ◌==◌, Bool, true, false, length, List, map, Option, Some, None, if◌then◌else◌, refl}
+use Rattle.std.specs.Prelude.{ℕ, ◌==◌, Bool, false, length, List, map, Option, Some, None, if◌then◌else◌, refl}
 use Rattle.std.specs.Coded.{Coded, code_by, coded×, coded_ℕ, coded_list}
 use Rattle.vx_types.specs.TypeTree.{TypeKind, primitive_kind, kind_width}
 use Rattle.vx_types.specs.TypeTreeCode.{coded_kind}

@@ -6,10 +6,8 @@ use Rattle.vx_types.specs.Decimal.{is_width}
 use Rattle.std.specs.List.{All, items_where_true}
 use Rattle.std.proofs.lemmas.List.{get_or_default, length-drop, length-map, length-take-le}
 use Rattle.vx_bits.specs.BitBuffer.{true_count_of}
-use Rattle.vx_types.specs.Nullability.{either_nullable}
 use Rattle.vx_types.specs.TypeTree.{TypeTree, also_nullable}
 use Rattle.vx_types.specs.declared.nullability.Nullability.{Nullability}
-use Rattle.vx_types.specs.declared.nullability.Nullability.TheVariants.{NonNullable}
 use Rattle.vx_types.specs.RowValue.{RowValue, null, bytes}
 use Rattle.vx_mask.specs.Positions.{set_of}
 use Rattle.vx_mask.proofs.PositionLists.{length-positions, rank_within}
@@ -29,7 +27,6 @@ use Rattle.vx_steps.specs.declared.cause.SelectError.{SelectError}
 use Rattle.vx_steps.specs.declared.cause.SelectError.TheVariants.{Broken, NoMemory}
 use Rattle.vx_steps.specs.Answer.{Answer, type_after, answer_fault, answer_rows, answer_of, answer_of_walk}
 use Rattle.vx_steps.specs.Compose.{IsFaultOf, IsUnbroken, takes_nullability}
-use Rattle.vx_steps.proofs.ComposedPicks.{either-either, either-none}
 use Rattle.vx_select.specs.Select.{IsAnswer, IsRows}
 use Rattle.vx_steps.specs.Shape.{ShapeValue}
 use Rattle.vx_select.specs.Chunks.{chunk_rows, chunk_values}

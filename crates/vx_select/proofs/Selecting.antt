@@ -4,15 +4,13 @@ use Rattle.std.specs.List.{range_with_len, list_all}
 use Rattle.std.proofs.lemmas.List.{length-map, drop_all}
 use Rattle.std.proofs.lemmas.Simd.{map-map}
 use Rattle.std.proofs.lemmas.List.FromFn.{fill_by_all}
-use Rattle.vx_types.specs.TypeTree.{TypeTree, is_flat, also_nullable}
-use Rattle.vx_types.specs.declared.nullability.Nullability.{Nullability}
+use Rattle.vx_types.specs.TypeTree.{TypeTree, is_flat}
 use Rattle.vx_types.specs.RowValue.{RowValue, null}
 use Rattle.vx_model.specs.Column.{Column}
 use Rattle.vx_types.specs.declared.layout_name.LayoutName.{LayoutName}
 use Rattle.vx_model.specs.Valid.{is_constant_form, is_bools}
 use Rattle.vx_model.specs.Plain.{is_row_layout, is_unwrapped, is_null_layout, is_in_place, is_plain}
 use Rattle.vx_take.specs.Picks.{at, item_at}
-use Rattle.vx_pieces.specs.Indices.{index_nullability}
 use Rattle.vx_model.specs.Step.{IsStep}
 use Rattle.vx_steps.specs.Step.{StepValue, slice_step, filter_step, take_step, is_slice}
 use Rattle.vx_steps.specs.Walk.{apply, all_positions, walk_picks, walk}

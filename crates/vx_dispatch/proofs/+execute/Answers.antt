@@ -1,5 +1,5 @@
 -- The unwrapped form of a column, from those of its parts.
-use Rattle.std.proofs.Common.{◌≡◌, length, true, refl, sym, ap, ◌∙◌, arith}
+use Rattle.std.proofs.Common.{◌≡◌, length, true, ap, ◌∙◌, arith}
 use Rattle.vx_types.specs.TypeTree.{TypeTree, is_flat, is_int_type}
 use Rattle.vx_take.specs.Picks.{BoundedPicks}
 use Rattle.vx_numbers.specs.Positions.{positions_of}

@@ -1,12 +1,9 @@
 -- A step of a layout's parts, with that of its validity, is the step of its column: filters.
 use Rattle.std.proofs.Common.{◌≡◌, length, true, refl, sym, ap, ◌∙◌, arith}
 use Rattle.std.specs.List.{items_where_true}
-use Rattle.vx_bits.specs.BitBuffer.{true_count_of}
-use Rattle.vx_model.specs.Valid.{non_nullable, all_valid, all_invalid, by_column, is_fitting, nullability_by, present_bits, IsLeft, IsAsPlain}
-use Rattle.vx_model.specs.Bool.{bool_column}
+use Rattle.vx_model.specs.Valid.{non_nullable, all_valid, all_invalid, by_column, is_fitting}
 use Rattle.vx_model.specs.Step.{IsCut}
-use Rattle.vx_model.proofs.Items.{length-items_where_true}
-use Rattle.vx_model.proofs.ShownRows.{is_left-filter, length-present_bits}
+use Rattle.vx_model.proofs.ShownRows.{is_left-filter}
 use Rattle.vx_model.proofs.Validities.{is_left-filter-by_column}
 use Rattle.vx_column.specs.Validity.{valid_of}
 use Rattle.vx_model.proofs.StoredRows.{length-stored_rows}

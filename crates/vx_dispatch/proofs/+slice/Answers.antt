@@ -1,8 +1,6 @@
 -- A step of a layout's parts, with that of its validity, is the step of its column: slices.
 use Rattle.std.proofs.Common.{◌≡◌, ◌≤◌, List, length, refl, ap, ap₂, ◌∙◌, slice_range, true, arith}
-use Rattle.vx_bits.specs.BitBuffer.{PlacedBits}
-use Rattle.vx_model.specs.Valid.{non_nullable, all_valid, all_invalid, by_column, is_fitting, nullability_by, present_bits, IsLeft, IsAsPlain}
-use Rattle.vx_model.specs.Bool.{bool_column, bool_with}
+use Rattle.vx_model.specs.Valid.{non_nullable, all_valid, all_invalid, by_column, is_fitting}
 use Rattle.vx_model.specs.Step.{IsSlice}
 use Rattle.vx_model.proofs.ShownRows.{is_left-slice}
 use Rattle.vx_model.proofs.Validities.{is_left-slice-by_column}

@@ -5,14 +5,13 @@ use Rattle.std.specs.List.{items_where_true}
 use Rattle.vx_types.specs.RowValue.{null}
 use Rattle.vx_types.specs.TypeTree.{TypeTree, also_nullable}
 use Rattle.vx_take.specs.Picks.{at, AreBelow}
-use Rattle.vx_model.specs.Valid.{is_fitting, nullability_by, present_bits, IsLeft, Valid, non_nullable, all_valid, by_column, is_yes, is_non_null_bool}
+use Rattle.vx_model.specs.Valid.{is_fitting, nullability_by, present_bits, Valid, non_nullable, all_valid, by_column, is_yes, is_non_null_bool}
 use Rattle.vx_model.specs.Bool.{bool_column}
 use Rattle.vx_model.proofs.Takes.{is_left-take-none, left_by_bits, left_the_same, all_there, yes-bool}
 use Rattle.vx_column.specs.Validity.{valid_of}
 use Rattle.vx_types.specs.declared.nullability.Nullability.{Nullability}
 use Rattle.vx_model.proofs.StoredRows.{length-stored_rows}
 use Rattle.vx_column.specs.Stored.{parts_of}
-use Rattle.vx_flat.specs.Records.{zero_record}
 use Rattle.std.specs.Prelude.{is_some}
 use Rattle.vx_types.specs.declared.nullability.Nullability.TheVariants.{Nullable}
 use Rattle.vx_column.specs.Layout.{column_of}

@@ -2,7 +2,6 @@ use Rattle.std.proofs.Common.{◌≡◌, length, map, ap, sym, ◌∙◌}
 use Rattle.std.proofs.lemmas.List.{length-map}
 use Rattle.vx_types.specs.RowValue.{bit, bytes}
 use Rattle.vx_types.specs.TypeTree.{primitive_kind}
-use Rattle.vx_types.specs.declared.nullability.Nullability.TheVariants.{Nullable}
 use Rattle.vx_types.specs.declared.ptype.PType.TheVariants.{U32}
 use Rattle.vx_model.specs.Bool.{BoolParts, bool_column, bool_fault}
 use Rattle.vx_model.specs.Column.{Column}

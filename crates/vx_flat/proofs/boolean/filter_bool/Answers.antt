@@ -1,8 +1,7 @@
 -- What is kept of the parts makes what is kept of the column.
-use Rattle.std.proofs.Common.{◌≡◌, ℕ, List, Bool, true, length, slice_range, refl, ap, ◌∙◌, sym}
+use Rattle.std.proofs.Common.{◌≡◌, length, refl, ap, ◌∙◌, sym}
 use Rattle.std.specs.List.{items_where_true}
 use Rattle.vx_bits.specs.BitBuffer.{PlacedBits}
-use Rattle.vx_take.specs.Picks.{at}
 use Rattle.vx_model.specs.Valid.{is_fitting, nullability_by}
 use Rattle.vx_model.specs.Bool.{bool_column, bool_with, stored_bits}
 use Rattle.vx_model.proofs.Items.{length-items_where_true}

@@ -1,7 +1,6 @@
 -- What is kept of the parts makes what is kept of the column.
-use Rattle.std.proofs.Common.{◌≡◌, length, refl, ap, ◌∙◌, sym}
+use Rattle.std.proofs.Common.{length, refl, ap, ◌∙◌}
 use Rattle.std.specs.List.{items_where_true}
-use Rattle.vx_bits.specs.Records.{records_of}
 use Rattle.vx_model.specs.Valid.{is_fitting, nullability_by}
 use Rattle.vx_model.specs.Records.{records_column, records_with, stored_records}
 use Rattle.vx_model.proofs.Items.{length-items_where_true}

@@ -1,8 +1,7 @@
 -- The sliced parts make the sliced column.
-use Rattle.std.proofs.Common.{◌≡◌, ◌≤◌, length, slice_range, refl, ap, ◌∙◌, sym, arith}
-use Rattle.vx_bits.specs.Records.{records_of}
+use Rattle.std.proofs.Common.{length, slice_range, ap, ◌∙◌, sym}
 use Rattle.vx_model.specs.Valid.{is_fitting, nullability_by}
-use Rattle.vx_model.specs.Records.{records_column, records_with, stored_records}
+use Rattle.vx_model.specs.Records.{records_column, records_with}
 use Rattle.vx_model.proofs.Layouts.{fits-records, items-records}
 use Rattle.vx_model.proofs.Steps.{fitting-slice, is_slice-records}
 use Rattle.vx_column.specs.Validity.{valid_of}

@@ -1,7 +1,6 @@
 -- A take leaves a flat type flat.
 use Rattle.std.proofs.Common.{ap, ◌∙◌}
 use Rattle.vx_types.specs.TypeTree.{is_flat}
-use Rattle.vx_pieces.specs.Indices.{index_nullability, index_value}
 use Rattle.vx_select.proofs.fused.taken.Goals as goal
 
 pub returns-clause-unwrapped : goal.returns-clause-unwrapped
