@@ -1,4 +1,5 @@
 //! Headers, blocks and readers.
+use crate::flaky::Flaky;
 use crate::made::{block_of, file_of, positions, reader_of};
 use std::alloc::Global;
 use std::test::Fail;
@@ -81,7 +82,11 @@ fn print_reads(rt: &impl Print, alloc: Global) -> Result<(), Fail> {
     print_shape(rt, "the next call", open_file(&mut reader))?;
     println!(rt; "reads: {:?}", reader.reads())?;
     println!(rt; "log: {:?}, new {:?}", reader.into_reads().reads(), ReadLog::new().reads())?;
-    print_push(rt, alloc)
+    print_push(rt, alloc)?;
+    let inner = SteadyBlocks::new(file_of(alloc, &positions(alloc, 9)?)?);
+    let mut flaky = Flaky { inner, faults: 0 };
+    print_shape(rt, "another reader", open_file(&mut flaky))?;
+    print_shape(rt, "its next call", open_file(&mut flaky))
 }
 
 fn print_push(rt: &impl Print, alloc: Global) -> Result<(), Fail> {
