@@ -20,7 +20,8 @@ for line in ["0, no rows: U8 0", "1: U16 258", "3, most rows: U64 16777216",
              "a row more: BadHeader", "4: BadHeader", "8 as a width: BadHeader",
              "another name: BadHeader", "a byte more: BadHeader", "a byte less: BadHeader",
              "no blocks: BadHeader", "call 0 fails: ReadFault", "the next call: U32 9",
-             "reads: [0, 0]", "log: [0, 0], new []", "pushed: true, [7, 8, 9]"]:
+             "reads: [0, 0]", "log: [0, 0], new []", "pushed: true, [7, 8, 9]", "another reader: ReadFault",
+             "its next call: U32 9"]:
     print(line)
 
 

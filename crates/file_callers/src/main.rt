@@ -1,6 +1,7 @@
 //! Calls the column file as its users do, and prints what each gives.
 #![tactic(auto)]
 
+mod flaky;
 mod made;
 mod opening;
 mod selecting;

@@ -1,4 +1,5 @@
 //! Headers, blocks and readers.
+use crate::flaky::Flaky;
 use crate::made::{block_of, file_of, positions, reader_of};
 use std::alloc::Global;
 use std::test::Fail;
@@ -64,11 +65,7 @@ fn print_shape(
 fn print_headers(rt: &impl Print, alloc: Global) -> Result<(), Fail> {
     print_opened(rt, "0, no rows", header(alloc, b"VXCOL001", 0, 0)?)?;
     print_opened(rt, "1", header(alloc, b"VXCOL001", 1, 258)?)?;
-    print_opened(
-        rt,
-        "3, most rows",
-        header(alloc, b"VXCOL001", 3, 16_777_216)?,
-    )?;
+    print_opened(rt, "3, most rows", header(alloc, b"VXCOL001", 3, 16_777_216)?)?;
     print_opened(rt, "a row more", header(alloc, b"VXCOL001", 3, 16_777_217)?)?;
     print_opened(rt, "4", header(alloc, b"VXCOL001", 4, 1)?)?;
     print_opened(rt, "8 as a width", header(alloc, b"VXCOL001", 8, 1)?)?;
@@ -84,12 +81,12 @@ fn print_reads(rt: &impl Print, alloc: Global) -> Result<(), Fail> {
     print_shape(rt, "call 0 fails", open_file(&mut reader))?;
     print_shape(rt, "the next call", open_file(&mut reader))?;
     println!(rt; "reads: {:?}", reader.reads())?;
-    println!(rt;
-        "log: {:?}, new {:?}",
-        reader.into_reads().reads(),
-        ReadLog::new().reads()
-    )?;
-    print_push(rt, alloc)
+    println!(rt; "log: {:?}, new {:?}", reader.into_reads().reads(), ReadLog::new().reads())?;
+    print_push(rt, alloc)?;
+    let inner = SteadyBlocks::new(file_of(alloc, &positions(alloc, 9)?)?);
+    let mut flaky = Flaky { inner, faults: 0 };
+    print_shape(rt, "another reader", open_file(&mut flaky))?;
+    print_shape(rt, "its next call", open_file(&mut flaky))
 }
 
 fn print_push(rt: &impl Print, alloc: Global) -> Result<(), Fail> {
