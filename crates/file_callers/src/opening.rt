@@ -65,7 +65,11 @@ fn print_shape(
 fn print_headers(rt: &impl Print, alloc: Global) -> Result<(), Fail> {
     print_opened(rt, "0, no rows", header(alloc, b"VXCOL001", 0, 0)?)?;
     print_opened(rt, "1", header(alloc, b"VXCOL001", 1, 258)?)?;
-    print_opened(rt, "3, most rows", header(alloc, b"VXCOL001", 3, 16_777_216)?)?;
+    print_opened(
+        rt,
+        "3, most rows",
+        header(alloc, b"VXCOL001", 3, 16_777_216)?,
+    )?;
     print_opened(rt, "a row more", header(alloc, b"VXCOL001", 3, 16_777_217)?)?;
     print_opened(rt, "4", header(alloc, b"VXCOL001", 4, 1)?)?;
     print_opened(rt, "8 as a width", header(alloc, b"VXCOL001", 8, 1)?)?;
@@ -81,7 +85,11 @@ fn print_reads(rt: &impl Print, alloc: Global) -> Result<(), Fail> {
     print_shape(rt, "call 0 fails", open_file(&mut reader))?;
     print_shape(rt, "the next call", open_file(&mut reader))?;
     println!(rt; "reads: {:?}", reader.reads())?;
-    println!(rt; "log: {:?}, new {:?}", reader.into_reads().reads(), ReadLog::new().reads())?;
+    println!(rt;
+        "log: {:?}, new {:?}",
+        reader.into_reads().reads(),
+        ReadLog::new().reads()
+    )?;
     print_push(rt, alloc)?;
     let inner = SteadyBlocks::new(file_of(alloc, &positions(alloc, 9)?)?);
     let mut flaky = Flaky { inner, faults: 0 };

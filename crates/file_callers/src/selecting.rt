@@ -18,7 +18,14 @@ pub(crate) fn print_rows(rt: &impl Print, alloc: Global) -> Result<(), Fail> {
     print_steps(rt, alloc, "call 3 would fail", None, &[3], &steps)?;
     print_steps(rt, alloc, "the last row", None, &[], &[slice(2999, 3000)])?;
     print_steps(rt, alloc, "no row", None, &[], &[slice(5, 5)])?;
-    print_steps(rt, alloc, "a row of the fill", None, &[], &[slice(2999, 3001)])?;
+    print_steps(
+        rt,
+        alloc,
+        "a row of the fill",
+        None,
+        &[],
+        &[slice(2999, 3001)],
+    )?;
     let later = [slice(1024, 2048), slice(3, 5), slice(0, 3)];
     print_steps(rt, alloc, "a broken step", None, &[], &later)?;
     let ends = [slice(1022, 2050), slice(1, 1027), slice(1024, 1026)];
@@ -48,11 +55,7 @@ fn blocks_without(alloc: Global, empty: Option<usize>) -> Result<Blocks, Fail> {
     Ok(blocks)
 }
 
-fn selected(
-    alloc: Global,
-    reader: &mut MemoryBlocks,
-    steps: &[Step],
-) -> Result<Array, FileError> {
+fn selected(alloc: Global, reader: &mut MemoryBlocks, steps: &[Step]) -> Result<Array, FileError> {
     let shape = match open_file(reader) {
         Ok(shape) => shape,
         Err(error) => return Err(error),
