@@ -88,7 +88,7 @@ pub held_rows : (s : ShapeValue) (picks : BoundedPicks) (numbers starts : List �
 held_rows s picks numbers starts blocks records w n bytes_each e whole below left same held =
     let part = row_records bytes_each picks.bound blocks in
     let missing = record_of bytes_each 0 in
-    let long : length part ≡ picks.bound = length-map-range_with_len (λ p. record_of bytes_each (number_at blocks p)) 0 picks.bound in
+    let long : length (map bytes part) ≡ picks.bound = length-map part bytes ∙ length-map-range_with_len (λ p. record_of bytes_each (number_at blocks p)) 0 picks.bound in
     let Q : ℕ → Type 0 = λ m. IsLeft non_nullable n (at false (present_bits non_nullable m) picks.picks) w in
     ap (λ l. stored_rows w (map bytes l)) (same ∙ held_are bytes_each picks.bound numbers starts picks.picks blocks picks.picks held below (all_picked picks.picks))
     ∙ take-stored bytes missing part non_nullable w n refl picks.picks (subst Q (sym long) left)
