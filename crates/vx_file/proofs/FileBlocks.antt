@@ -1,14 +1,14 @@
 -- The blocks of a file that is written.
-use Rattle.std.proofs.Common.{◌≡◌, ℕ, ◌+◌, ◌-◌, ◌*◌, ◌/◌, ◌^◌, ◌<◌, ◌≤◌, List, [], ◌∷◌, ◌++◌, min, length, get_or, take, drop, map, replicate, inl, inr, refl, sym, ap, ap₂, subst, ◌∙◌, arith}
+use Rattle.std.proofs.Common.{◌≡◌, ℕ, ◌+◌, ◌-◌, ◌*◌, ◌^◌, ◌<◌, ◌≤◌, List, [], ◌∷◌, ◌++◌, min, length, get_or, take, drop, map, replicate, inl, inr, refl, sym, ap, ap₂, ◌∙◌, arith}
 use Rattle.std.specs.List.{All, range_with_len}
 use Rattle.std.proofs.lemmas.Bool.{cases_lt}
 use Rattle.std.proofs.lemmas.List.{append-nil, length-append, length-drop, length-replicate, take_all}
 use Rattle.std.proofs.lemmas.List.Elements.{All-append, All-drop, All-replicate, All-take}
 use Rattle.std.proofs.lemmas.List.FromFn.{map-range_with_len_more}
-use Rattle.vx_packed.specs.Chunk.{IsChunk, chunk_at, digits, greatest, least, spell, spell_list}
+use Rattle.vx_packed.specs.Chunk.{IsChunk, chunk_at, spell, spell_list}
 use Rattle.vx_packed.proofs.CutParts.{spell_list_cons, spell_list_none}
 use Rattle.vx_packed.proofs.Spellings.{chunk_spans, spell_states}
-use Rattle.vx_file.specs.File.{file_of, filled}
+use Rattle.vx_file.specs.File.{filled}
 use Rattle.vx_file.specs.Shape.{ShapeValue, header}
 
 pub length-filled : (numbers : List ℕ) → length numbers ≤ 1024 → length (filled numbers) ≡ 1024

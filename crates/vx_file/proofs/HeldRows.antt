@@ -1,11 +1,11 @@
 -- The rows of what is held.
-use Rattle.std.proofs.Common.{◌≡◌, ℕ, zero, suc, ◌+◌, ◌*◌, ◌/◌, ◌%◌, ◌<◌, ◌≤◌, Bool, true, false, List, [], ◌∷◌, ◌++◌, Option, None, Some, length, get_or, map, take, drop, replicate, refl, sym, ap, ap₂, subst, ◌∙◌, arith, eq-eqb, ◌||◌}
+use Rattle.std.proofs.Common.{◌≡◌, ℕ, zero, suc, ◌+◌, ◌/◌, ◌%◌, ◌<◌, Bool, true, false, List, [], ◌∷◌, ◌++◌, Option, None, Some, length, get_or, map, take, drop, refl, sym, ap, ap₂, subst, ◌∙◌, arith, eq-eqb, ◌||◌}
 use Rattle.std.specs.Prelude.{IfSome}
 use Rattle.std.specs.List.{All, list_any, range_with_len}
 use Rattle.std.proofs.lemmas.List.{get_or-drop, get_or-map, get_or-take, get_or_default, length-map, map_more}
 use Rattle.std.proofs.lemmas.List.FromFn.{get_or-map-range_with_len, length-map-range_with_len}
 use Rattle.std.proofs.lemmas.Simd.{map-map}
-use Rattle.vx_types.specs.RowValue.{RowValue, bytes, null}
+use Rattle.vx_types.specs.RowValue.{bytes, null}
 use Rattle.vx_take.specs.Picks.{AreBelow, BoundedPicks, at, item_at}
 use Rattle.vx_packed.specs.Parts.{record_of}
 use Rattle.vx_types.specs.PType.{width}
@@ -14,9 +14,8 @@ use Rattle.vx_model.specs.Valid.{Valid, non_nullable, present_bits, stored_rows,
 use Rattle.vx_model.proofs.ShownRows.{shown_rows-all}
 use Rattle.vx_model.proofs.Takes.{take-stored}
 use Rattle.vx_file.specs.Shape.{ShapeValue}
-use Rattle.vx_file.specs.Blocks.{block_at}
 use Rattle.vx_file.specs.File.{file_rows, number_at}
-use Rattle.vx_file.specs.Reading.{AreHeld, AreSpellings, HasRoom, IsHeld, IsThere, held_number, held_records}
+use Rattle.vx_file.specs.Reading.{AreHeld, AreSpellings, HasRoom, IsThere, held_number, held_records}
 use Rattle.vx_file.specs.Touched.{blocks_for, lies_in}
 
 -- a pick's block holds a picked row

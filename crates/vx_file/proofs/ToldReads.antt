@@ -1,5 +1,5 @@
 -- The reads that are told, and what comes of an error.
-use Rattle.std.proofs.Common.{◌≡◌, ℕ, ◌+◌, ◌-◌, ◌^◌, ◌<◌, ◌≤◌, Bool, true, List, [], ◌∷◌, ◌++◌, Option, length, refl, sym, ap, subst, ◌∙◌, arith}
+use Rattle.std.proofs.Common.{◌≡◌, ℕ, ◌+◌, ◌-◌, ◌<◌, ◌≤◌, Bool, true, List, [], ◌∷◌, ◌++◌, Option, length, sym, ap, subst, ◌∙◌, arith}
 use Rattle.std.specs.Prelude.{IfSome}
 use Rattle.std.specs.List.{list_any}
 use Rattle.std.proofs.lemmas.List.{length-append}
@@ -13,7 +13,7 @@ use Rattle.vx_file.specs.Reading.{AreTold, IsNoSpelling, ReadLast, ReadUpTo}
 use Rattle.vx_file.specs.Touched.{block_of_rows, blocks_for, lies_in, touched}
 use Rattle.vx_file.specs.declared.error.FileError.{FileError}
 use Rattle.vx_file.specs.declared.error.FileError.TheVariants.{ReadFault, BadHeader, Damaged, Broken, NoMemory}
-use Rattle.vx_file.proofs.TouchedLists.{touched_longer, touched_more, touched_none}
+use Rattle.vx_file.proofs.TouchedLists.{touched_more, touched_none}
 
 pub told_nothing : (picks : List (Option ℕ)) (r : Option (List ℕ)) → r ≡ then_told r (touched picks 0)
 told_nothing picks r = told_none r ∙ ap (then_told r) (sym (touched_none picks))

@@ -1,5 +1,5 @@
 -- A file of a column: its blocks, and the rows in them.
-use Rattle.std.specs.Prelude.{◌≡◌, ℕ, ◌+◌, ◌-◌, ◌*◌, ◌/◌, ◌%◌, List, [], ◌∷◌, ◌++◌, length, map, replicate, slice_index}
+use Rattle.std.specs.Prelude.{ℕ, ◌+◌, ◌-◌, ◌/◌, ◌%◌, List, ◌∷◌, ◌++◌, length, map, replicate, slice_index}
 use Rattle.std.specs.List.{range_with_len}
 use Rattle.vx_types.specs.PType.{width}
 use Rattle.vx_types.specs.RowValue.{RowValue, bytes}

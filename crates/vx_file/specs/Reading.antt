@@ -1,6 +1,6 @@
 -- What was read of a file.
-use Rattle.std.specs.Prelude.{◌≡◌, ℕ, ◌+◌, ◌*◌, ◌/◌, ◌%◌, ◌<◌, ◌≤◌, Bool, true, false, List, [], ◌++◌, ◌∷◌, Option, None, Some, IfSome, length, map, take, drop, slice_index, slice_index_or, if◌then◌else◌}
-use Rattle.std.specs.List.{All, list_any}
+use Rattle.std.specs.Prelude.{◌≡◌, ℕ, ◌+◌, ◌*◌, ◌/◌, ◌%◌, ◌<◌, ◌≤◌, true, List, [], ◌++◌, ◌∷◌, Option, None, Some, IfSome, length, map, take, drop, slice_index}
+use Rattle.std.specs.List.{list_any}
 use Rattle.vx_bits.specs.WordReader.{then_told}
 use Rattle.vx_take.specs.Picks.{BoundedPicks}
 use Rattle.vx_packed.specs.Chunk.{IsSpelling}

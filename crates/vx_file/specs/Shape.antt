@@ -8,7 +8,7 @@ use Rattle.vx_types.specs.PTypeCode.{coded_ptype}
 use Rattle.vx_types.specs.TypeTree.{TypeTree, primitive_type}
 use Rattle.vx_types.specs.declared.nullability.Nullability.TheVariants.{NonNullable}
 use Rattle.vx_types.specs.declared.ptype.PType.{PType}
-use Rattle.vx_types.specs.declared.ptype.PType.TheVariants.{U8, U16, U32, U64, I8, I16, I32, I64, F16, F32, F64}
+use Rattle.vx_types.specs.declared.ptype.PType.TheVariants.{U8, U16, U32, U64}
 
 -- the type of the rows, and how many there are
 pub record ShapeValue : Type 0 where

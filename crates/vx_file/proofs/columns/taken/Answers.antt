@@ -1,5 +1,4 @@
-use Rattle.std.proofs.Common.{◌≡◌, ◌∙◌, ap, sym, arith}
-use Rattle.std.proofs.lemmas.List.{take_all}
+use Rattle.std.proofs.Common.{arith}
 use Rattle.vx_file.proofs.HeldRows.{record_pushed, there_at}
 use Rattle.vx_file.proofs.columns.taken.Goals as goal
 

@@ -1,14 +1,13 @@
-use Rattle.std.proofs.Common.{◌≡◌, ◌+◌, ◌≤◌, ◌++◌, ◌∷◌, [], true, false, ℕ, List, get_or, length, refl, sym, ap, subst, ◌∙◌, arith}
+use Rattle.std.proofs.Common.{◌≡◌, ◌+◌, ◌++◌, ◌∷◌, [], true, false, ℕ, List, get_or, length, refl, sym, ap, subst, ◌∙◌, arith}
 use Rattle.std.specs.Prelude.{IfSome}
 use Rattle.std.specs.List.{list_any}
-use Rattle.vx_bits.specs.WordReader.{then_told}
 use Rattle.vx_file.specs.Blocks.{block_at}
 use Rattle.vx_file.specs.Reading.{AreHeld, HasRoom, IsHeld}
-use Rattle.vx_file.specs.Touched.{block_of_rows, blocks_for, lies_in, touched}
+use Rattle.vx_file.specs.Touched.{blocks_for, lies_in}
 use Rattle.vx_file.specs.declared.error.FileError.TheVariants.{NoMemory}
 use Rattle.vx_file.proofs.Options.{err_is, for_all, if_both, under}
 use Rattle.vx_file.proofs.ToldReads.{count_step, raised, read_nothing, told_nothing, told_step}
-use Rattle.vx_file.proofs.TouchedLists.{held_more, room_more, touched_longer, touched_none}
+use Rattle.vx_file.proofs.TouchedLists.{held_more, room_more, touched_longer}
 use Rattle.vx_file.proofs.reading.read_touched.Goals as goal
 
 pub returns-in_err-marks-clause-error : goal.returns-in_err-marks-clause-error

@@ -1,4 +1,4 @@
-use Rattle.std.proofs.Common.{◌≡◌, ◌∙◌, List, map, refl, sym, ap, subst}
+use Rattle.std.proofs.Common.{◌≡◌, ◌∙◌, map, refl, sym, ap, subst}
 use Rattle.std.specs.Prelude.{IfSome}
 use Rattle.vx_outside.specs.Bytes.{Rose}
 use Rattle.vx_types.specs.PType.{width}
@@ -9,7 +9,6 @@ use Rattle.vx_model.specs.Column.{Column}
 use Rattle.vx_steps.specs.Answer.{answer_of, answer_rows, type_after}
 use Rattle.vx_steps.specs.Step.{step_value}
 use Rattle.vx_select.proofs.ChunkRows.{answered_rows, type_after-takes}
-use Rattle.vx_file.specs.Errors.{IfUnbroken}
 use Rattle.vx_file.specs.File.{file_rows}
 use Rattle.vx_file.specs.Reading.{IsReadError}
 use Rattle.vx_file.specs.Shape.{row_type}

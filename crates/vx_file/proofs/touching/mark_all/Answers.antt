@@ -1,4 +1,4 @@
-use Rattle.std.proofs.Common.{List, Bool, false, replicate, sym, subst, take, ap, ◌∙◌, arith}
+use Rattle.std.proofs.Common.{List, Bool, sym, subst, take, ap, ◌∙◌, arith}
 use Rattle.vx_file.specs.Touched.{AreMarked, blocks_for, marked}
 use Rattle.vx_file.proofs.Marks.{marks_all, marks_more, no_marks}
 use Rattle.vx_file.proofs.touching.mark_all.Goals as goal

@@ -1,5 +1,4 @@
-use Rattle.std.proofs.Common.{◌≡◌, ◌+◌, ◌-◌, ◌*◌, length, take, drop, sym, ap, ◌∙◌, arith}
-use Rattle.vx_file.specs.Shape.{ShapeValue}
+use Rattle.std.proofs.Common.{◌-◌, ◌*◌, length, take, drop, ◌∙◌}
 use Rattle.vx_file.proofs.FileBlocks.{block_more, rows_cut}
 use Rattle.vx_file.proofs.write.file_blocks.Goals as goal
 
