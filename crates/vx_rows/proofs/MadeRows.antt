@@ -193,11 +193,13 @@ module _ (n : ℕ) (ds : List ℕ) (rows : 20 < n) (many : length ds ≡ n + (n 
       let fault : a ≡ answer_fault k cause = subst (λ x. MatchError x (λ j y. a ≡ answer_fault j y) (IsRows a)) is h in
       subst IsRows (sym same ∙ fault) drawn_given.0
 
-pub rest_of : (m : ℕ) (ds : List ℕ) → take (length ds - m) (drop m ds) ≡ drop m ds
+rest_of : (m : ℕ) (ds : List ℕ) → take (length ds - m) (drop m ds) ≡ drop m ds
 rest_of m ds = take_all (length ds - m) (drop m ds) (omega (arith, length-drop m ds))
 
-pub same_answer : (n : ℕ) (ds : List ℕ) (t : TypeTree) (xs : List RowValue) (ss : List StepValue) → t ≡ primitive_type U32 NonNullable → xs ≡ drawn_rows (take n ds) → ss ≡ drawn_steps n (drawn_bits (slice_range ds n (n + (n - 20)))) (drop (n + (n - 20)) ds) → answer_of t xs ss ≡ drawn_answer n ds
+-- the draws behind the bits are the rest of them
+pub same_answer : (n : ℕ) (ds : List ℕ) (t : TypeTree) (xs : List RowValue) (ss : List StepValue) → t ≡ primitive_type U32 NonNullable → xs ≡ drawn_rows (take n ds) → ss ≡ drawn_steps n (drawn_bits (slice_range ds n (n + (n - 20)))) (take (length ds - (n + (n - 20))) (drop (n + (n - 20)) ds)) → answer_of t xs ss ≡ drawn_answer n ds
 same_answer n ds t xs ss e f g =
+    let bits = drawn_bits (slice_range ds n (n + (n - 20))) in
     ap (λ u. answer_of u xs ss) e
     ∙ ap (λ ys. answer_of (primitive_type U32 NonNullable) ys ss) f
-    ∙ ap (λ us. answer_of (primitive_type U32 NonNullable) (drawn_rows (take n ds)) us) g
+    ∙ ap (λ us. answer_of (primitive_type U32 NonNullable) (drawn_rows (take n ds)) us) (g ∙ ap (drawn_steps n bits) (rest_of (n + (n - 20)) ds))
