@@ -1,6 +1,6 @@
 -- Which rows of bools are true, by their words.
-use Rattle.std.proofs.Common.{◌≡◌, ℕ, zero, suc, ◌+◌, ◌*◌, ◌/◌, ◌%◌, ◌≤◌, Bool, true, false, cond, List, [], ◌∷◌, length, map, take, drop, replicate, bit_and, None, Ok, Err, Result, IfOk, refl, sym, ap, ap₂, ◌∙◌, arith}
-use Rattle.std.specs.Prelude.{◌&&◌, count_by}
+use Rattle.std.proofs.Common.{◌≡◌, ℕ, zero, suc, ◌+◌, ◌*◌, ◌/◌, ◌≤◌, Bool, true, false, cond, List, [], ◌∷◌, length, map, take, drop, replicate, bit_and, None, Ok, Err, Result, IfOk, refl, sym, ap, ap₂, ◌∙◌, arith}
+use Rattle.std.specs.Prelude.{◌&&◌}
 use Rattle.std.specs.List.{items_where_true}
 use Rattle.std.proofs.lemmas.List.{length-map, length-replicate}
 use Rattle.std.proofs.lemmas.List.Sums.{sum_by-cons}
@@ -11,7 +11,7 @@ use Rattle.vx_bits.specs.Words.{word_at}
 use Rattle.vx_bits.proofs.WordLists.{word_at-zeros}
 use Rattle.vx_types.specs.RowValue.{bit}
 use Rattle.vx_model.specs.Column.{Column}
-use Rattle.vx_model.specs.Valid.{Valid, non_nullable, all_valid, all_invalid, by_column, is_fitting, is_yes, present_bits, shown_rows}
+use Rattle.vx_model.specs.Valid.{non_nullable, all_valid, all_invalid, by_column, is_yes, present_bits, shown_rows}
 use Rattle.vx_model.specs.Bool.{BoolParts, bool_fault, bool_column}
 use Rattle.vx_model.specs.Filter.{FilterParts, filter_fault, filter_column}
 use Rattle.vx_model.proofs.Items.{items_where_true-all, items_where_true-none, map-items_where_true}

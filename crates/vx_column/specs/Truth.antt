@@ -1,13 +1,12 @@
 -- Which rows of a column of bools are true.
-use Rattle.std.specs.Prelude.{List, map, Bool, true, false, Option, Some, None}
+use Rattle.std.specs.Prelude.{List, map, Bool, Option, Some, None}
 use Rattle.vx_types.specs.RowValue.{RowValue, bit}
-use Rattle.vx_types.specs.TypeTree.{TypeTree, bool_type}
+use Rattle.vx_types.specs.TypeTree.{TypeTree, is_bool_kind}
 use Rattle.vx_model.specs.Column.{Column}
 use Rattle.vx_model.specs.Valid.{is_yes}
 
 abbrev pub is_bool_type : TypeTree → Bool
-is_bool_type (bool_type n) = true
-is_bool_type t = false
+is_bool_type t = is_bool_kind t.kind
 
 -- the bit in a row; none where the row is null
 abbrev pub bit_in : RowValue → Option Bool

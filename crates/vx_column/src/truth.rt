@@ -6,7 +6,6 @@ ghost use Rattle.vx_bits.specs.Words.{word_at};
 ghost use Rattle.vx_mask.specs.Mask.{mask_bits};
 ghost use Rattle.vx_types.specs.Nullability.{is_nullable};
 ghost use Rattle.vx_types.specs.RowValue.{null};
-ghost use Rattle.vx_types.specs.TypeTree.{type_nullability};
 ghost use Rattle.vx_model.specs.Bool.{bool_column};
 ghost use Rattle.vx_model.specs.Filter.{filter_column};
 ghost use Rattle.vx_model.specs.Valid.{is_yes};
@@ -85,7 +84,7 @@ impl Array {
         requires row { i < length self.now.rows }
         ensures value { result ≡ bit_in (slice_index_or self.now.rows i null) }
         ensures null { (result ≡ None) ↔ (slice_index_or self.now.rows i null ≡ null) }
-        ensures nullable { result ≡ None → is_nullable (type_nullability self.now.dtype) ≡ true }
+        ensures nullable { result ≡ None → is_nullable self.now.dtype.nullability ≡ true }
     {
         match self.cell_at(i) {
             Cell::Null => None,

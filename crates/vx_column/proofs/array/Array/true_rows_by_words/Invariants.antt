@@ -1,4 +1,4 @@
-use Rattle.std.proofs.Common.{◌≡◌, ◌*◌, ◌≤◌, take}
+use Rattle.std.proofs.Common.{◌≡◌, ◌*◌, take}
 use Rattle.vx_bits.specs.BitBuffer.{true_count_of}
 use Rattle.vx_column.specs.Truth.{true_bits}
 use Rattle.vx_column.proofs.array.Array.true_rows_by_words.Given as goal

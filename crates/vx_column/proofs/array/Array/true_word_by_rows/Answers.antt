@@ -1,5 +1,5 @@
 -- The next row's bit.
-use Rattle.std.proofs.Common.{◌≡◌, ℕ, ◌+◌, ◌-◌, ◌*◌, ◌^◌, ◌<◌, ◌≤◌, min, false, drop, take, get_or, length, ap, sym, subst, ◌∙◌, arith}
+use Rattle.std.proofs.Common.{◌≡◌, ℕ, ◌+◌, ◌-◌, ◌*◌, ◌^◌, ◌<◌, min, false, drop, take, get_or, length, ap, sym, subst, ◌∙◌, arith}
 use Rattle.std.proofs.lemmas.List.{get_or-drop, get_or-map, length-drop, take_min}
 use Rattle.vx_bits.specs.BitBuffer.{number_of}
 use Rattle.vx_bits.specs.Words.{word_at}
