@@ -13,6 +13,7 @@ mod rows;
 mod selecting;
 mod shapes;
 mod steps;
+mod truth;
 mod values;
 
 use std::test::Fail;
@@ -34,5 +35,6 @@ fn main(rt: HostRuntime) -> Result<(), Fail> {
     shapes::print_refusals(&rt)?;
     shapes::print_shape(&rt)?;
     shapes::print_composed(&rt, rt.alloc())?;
+    truth::print_true_rows(&rt, rt.alloc())?;
     made::print_lines(&rt, rt.alloc())
 }

@@ -1,3 +1,4 @@
 pub mod Cells
 pub mod NumberLists
 pub mod ShownBits
+pub mod TruthBits

@@ -6,5 +6,6 @@ pub mod Plain
 pub mod Records
 pub mod Shown
 pub mod Stored
+pub mod Truth
 pub mod Typed
 pub mod Validity

@@ -16,4 +16,5 @@ mod traits;
 
 pub use taking::{TakeError, take};
 pub use traits::{FilterKernel, FilterReduce, SliceKernel, SliceReduce, TakeExecute, TakeReduce};
+pub use vx_column::mask_of;
 pub use vx_dispatch::{execute, filter, slice};

@@ -2,13 +2,14 @@
 use Rattle.std.specs.Prelude.{ℕ, List, ◌++◌, codes, decimal}
 use Rattle.std.specs.Fmt.{signed_decimal}
 use Rattle.vx_steps.specs.declared.cause.Cause.{Cause}
-use Rattle.vx_steps.specs.declared.cause.Cause.TheVariants.{BadRange, BadMask, InvalidIndices, BadPieces, OutOfBounds}
+use Rattle.vx_steps.specs.declared.cause.Cause.TheVariants.{BadRange, BadMask, NotBool, InvalidIndices, BadPieces, OutOfBounds}
 
 abbrev pub cause_text : Cause → List ℕ
 cause_text (BadRange start end len) =
     codes "BadRange " ++ decimal start ++ codes ".." ++ decimal end ++ codes " of " ++ decimal len
 cause_text (BadMask mask_len len) =
     codes "BadMask " ++ decimal mask_len ++ codes " of " ++ decimal len
+cause_text NotBool = codes "NotBool"
 cause_text InvalidIndices = codes "InvalidIndices"
 cause_text BadPieces = codes "BadPieces"
 cause_text (OutOfBounds index len) =

@@ -66,6 +66,7 @@ fn put_cause(dst: &mut [u8; FAULT_ROOM], at: usize, cause: &Cause) -> usize
             let at = put_counted(dst, at, "BadMask ", *mask_len);
             put_counted(dst, at, " of ", *len)
         }
+        Cause::NotBool => put(dst, at, "NotBool"),
         Cause::InvalidIndices => put(dst, at, "InvalidIndices"),
         Cause::BadPieces => put(dst, at, "BadPieces"),
         Cause::OutOfBounds { index, len } => {

@@ -19,7 +19,7 @@ use Rattle.vx_model.proofs.StoredRows.{length-stored_rows}
 use Rattle.vx_model.proofs.Nullabilities.{also_nullable-none, also_nullable-either}
 use Rattle.vx_model.proofs.Takes.{take-stored}
 use Rattle.vx_chunked.proofs.ValuesAt.{part_at}
-use Rattle.vx_steps.specs.Step.{StepValue, slice_step, filter_step, take_step}
+use Rattle.vx_steps.specs.Step.{StepValue, slice_step, filter_step, filter_by_step, take_step}
 use Rattle.vx_pieces.specs.Indices.{index_nullability}
 use Rattle.vx_steps.specs.Walk.{Walk, walk_fault, walk_picks, walk}
 use Rattle.vx_steps.specs.Cause.{MatchError}
@@ -112,6 +112,7 @@ pub type_after-takes : (t : TypeTree) (steps : List StepValue) → type_after t 
 type_after-takes t [] = sym (also_nullable-none t)
 type_after-takes t (slice_step start end ∷ steps) = type_after-takes t steps
 type_after-takes t (filter_step bits ∷ steps) = type_after-takes t steps
+type_after-takes t (filter_by_step column ∷ steps) = type_after-takes t steps
 type_after-takes t (take_step indices ∷ steps) =
     type_after-takes (also_nullable t (index_nullability indices)) steps ∙ also_nullable-either t (index_nullability indices) (takes_nullability steps)
 

@@ -12,7 +12,7 @@ use Rattle.vx_model.specs.Valid.{is_constant_form, is_bools}
 use Rattle.vx_model.specs.Plain.{is_row_layout, is_unwrapped, is_null_layout, is_in_place, is_plain}
 use Rattle.vx_take.specs.Picks.{at, item_at}
 use Rattle.vx_model.specs.Step.{IsStep}
-use Rattle.vx_steps.specs.Step.{StepValue, slice_step, filter_step, take_step, is_slice}
+use Rattle.vx_steps.specs.Step.{StepValue, slice_step, filter_step, filter_by_step, take_step, is_slice}
 use Rattle.vx_steps.specs.Walk.{apply, all_positions, walk_picks, walk}
 use Rattle.vx_steps.specs.Answer.{type_after, type_after_step, answer_of_walk, answer_rows, answer}
 use Rattle.vx_select.specs.Select.{needs_no_memory}
@@ -48,15 +48,18 @@ left_at_end t steps k h = ap (type_after t) (drop_all k steps h)
 pub is_flat-step : (t : TypeTree) (s : StepValue) → is_flat (type_after_step t s) ≡ is_flat t
 is_flat-step t (slice_step start end) = refl
 is_flat-step t (filter_step bits) = refl
+is_flat-step t (filter_by_step column) = refl
 is_flat-step t (take_step indices) = refl
 
 slice_among : (steps : List StepValue) (k : ℕ) (s : StepValue) → list_all is_slice steps ≡ true → k < length steps → s ≡ get_or steps k s → is_slice s ≡ true
 slice_among [] k s a h is = absurd (omega arith)
 slice_among (slice_step b e ∷ steps) zero s a h is = ap is_slice is
 slice_among (filter_step bits ∷ steps) zero s a h is = cc
+slice_among (filter_by_step column ∷ steps) zero s a h is = cc
 slice_among (take_step i ∷ steps) zero s a h is = cc
 slice_among (slice_step b e ∷ steps) (suc k) s a h is = slice_among steps k s a (omega arith) is
 slice_among (filter_step bits ∷ steps) (suc k) s a h is = cc
+slice_among (filter_by_step column ∷ steps) (suc k) s a h is = cc
 slice_among (take_step i ∷ steps) (suc k) s a h is = cc
 
 free_of : (none plain slices : Bool) → (none || (plain && slices)) ≡ true → (none ≡ true) ⊎ ((plain ≡ true) × (slices ≡ true))

@@ -1,12 +1,13 @@
 //! A part of a column that is cut out once it is needed.
-ghost use Rattle.std.specs.Prelude.{◌≡◌, ◌≤◌, IfOk, IsOk, length, slice_range, true};
-ghost use Rattle.vx_model.specs.Plain.{is_plain};
+ghost use Rattle.std.specs.Prelude.{◌≡◌, ◌≤◌, IfOk, IsOk, length, replicate, slice_range, true};
+ghost use Rattle.vx_types.specs.RowValue.{null};
+ghost use Rattle.vx_model.specs.Plain.{is_null_layout, is_plain};
 ghost use Rattle.vx_model.specs.Step.{IsStep};
 
 use std::alloc::Global;
 use std::marker::Model;
 use vx_bits::NoMemory;
-use vx_column::Array;
+use vx_column::{Array, Layout};
 use vx_dispatch::slice;
 
 /// The rows of a column from `start` up to `end`. A contract sees it as the column with these rows
@@ -57,6 +58,18 @@ impl Part {
             column: self.column,
             start: self.start + start,
             end: self.start + end,
+        }
+    }
+
+    /// Whether it is of layout `Null`, whose rows are nulls alone.
+    pub(crate) fn is_null(&self) -> bool
+        ensures value { result ≡ is_null_layout self.now.layout }
+        ensures nulls { result ≡ true
+            → self.now.rows ≡ replicate (length self.now.rows) null }
+    {
+        match self.column.layout() {
+            Layout::Null(_) => true,
+            _ => false,
         }
     }
 

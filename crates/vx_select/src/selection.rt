@@ -4,6 +4,7 @@ ghost use Rattle.std.specs.List.{items_where_true};
 ghost use Rattle.vx_mask.specs.Mask.{mask_bits};
 ghost use Rattle.vx_types.specs.RowValue.{null};
 ghost use Rattle.vx_types.specs.TypeTree.{is_flat};
+ghost use Rattle.vx_column.specs.Truth.{true_bits};
 ghost use Rattle.vx_model.specs.Plain.{is_null_layout, is_plain, is_unwrapped};
 ghost use Rattle.vx_model.specs.Step.{IsStep};
 ghost use Rattle.vx_steps.specs.Step.{step_value, is_slice};
@@ -14,7 +15,7 @@ ghost use Rattle.vx_select.specs.Select.{IsSelection};
 use crate::part::Part;
 use std::alloc::Global;
 use vx_bits::NoMemory;
-use vx_column::Array;
+use vx_column::{Array, mask_of};
 use vx_dispatch::{execute, filter, take};
 use vx_mask::{Mask, Policy};
 use vx_steps::{SelectError, Step, check_steps};
@@ -34,6 +35,21 @@ fn kept(alloc: Global, part: Part, mask: &Mask, policy: &Policy) -> Result<Part,
     Ok(Part::whole(rows))
 }
 
+// The rows at which a column of bools that is as long is true. Of nulls alone they are counted.
+#[tactic(auto, using(crate::proofs::Parts::true_rows))]
+fn kept_by(alloc: Global, part: Part, column: &Array, policy: &Policy) -> Result<Part, NoMemory>
+    requires { length column.now.rows ≡ length part.rows }
+    ensures step { IfOk result
+        (IsStep part (items_where_true (true_bits column.now) part.rows) part.dtype) }
+    ensures null { is_null_layout part.layout ≡ true → IsOk result }
+{
+    if part.is_null() {
+        return Ok(part.narrowed(0, column.true_rows()));
+    }
+    let mask = mask_of(alloc, column)?;
+    kept(alloc, part, &mask, policy)
+}
+
 // What one step that breaks no rule leaves. A slice, and a filter that keeps all, take no memory.
 fn apply(alloc: Global, part: Part, step: &Step, policy: &Policy) -> Result<Part, NoMemory>
     requires { broken (step_value step.now) (length part.rows) ≡ None }
@@ -46,6 +62,7 @@ fn apply(alloc: Global, part: Part, step: &Step, policy: &Policy) -> Result<Part
     match step {
         Step::Slice { start, end } => Ok(part.narrowed(*start, *end)),
         Step::Filter(mask) => kept(alloc, part, mask, policy),
+        Step::FilterBy(column) => kept_by(alloc, part, column.array(), policy),
         Step::Take(indices) => {
             let column = part.cut(alloc)?;
             let taken = take(alloc, &column, indices, policy)?;

@@ -1,17 +1,21 @@
 -- How far a list of steps has come.
-use Rattle.std.proofs.Common.{◌≡◌, ℕ, ◌+◌, ◌<◌, ◌≤◌, List, ◌∷◌, map, length, drop, get_or, Option, Some, None, refl, sym, ap, ◌∙◌, subst, arith, add-one, drop-cons}
+use Rattle.std.proofs.Common.{◌≡◌, ℕ, ◌+◌, ◌<◌, ◌≤◌, Bool, true, false, List, ◌∷◌, map, length, drop, get_or, Option, Some, None, refl, sym, ap, ◌∙◌, subst, arith, add-one, drop-cons}
 use Rattle.std.proofs.lemmas.List.{length-map, get_or-map, drop_all}
 use Rattle.std.proofs.lemmas.List.FromFn.{length-map-range_with_len}
 use Rattle.std.proofs.lemmas.Bool.Decides.{nat_tests}
+use Rattle.std.specs.Prelude.{◌==◌, if◌then◌else◌}
 use Rattle.std.specs.Option.{option_map}
 use Rattle.vx_pieces.specs.Indices.{index_fault, index_picks}
 use Rattle.vx_pieces.specs.declared.fault.IndexFault.{IndexFault}
 use Rattle.vx_pieces.proofs.IndexLists.{length-index_picks}
-use Rattle.vx_steps.specs.Step.{StepValue, slice_step, filter_step, take_step, step_value}
+use Rattle.vx_steps.specs.Step.{StepValue, slice_step, filter_step, filter_by_step, take_step, step_value}
 use Rattle.vx_steps.specs.declared.step.Step.{Step}
 use Rattle.vx_steps.specs.Walk.{broken, cause_of, apply, rows_left, Walk, walk_fault, walk_picks, unless_broken, walk_from, all_positions, walk}
 use Rattle.vx_steps.specs.Check.{HasCount}
 use Rattle.vx_steps.specs.declared.cause.Cause.{Cause}
+use Rattle.vx_steps.specs.declared.cause.Cause.TheVariants.{BadMask, NotBool}
+use Rattle.vx_column.specs.Truth.{is_bool_type, true_bits}
+use Rattle.vx_column.proofs.TruthBits.{length-true_bits}
 use Rattle.vx_model.proofs.Takes.{length-at, map-at}
 use Rattle.vx_model.proofs.Items.{length-items_where_true, length-slice_range, map-slice_range, map-items_where_true}
 
@@ -56,6 +60,13 @@ length-apply missing (slice_step start end) items n count sound =
 length-apply missing (filter_step bits) items n count sound =
     let same : length bits ≡ n = grind (arith, nat_tests) in
     length-items_where_true bits items (same ∙ sym count)
+length-apply missing (filter_by_step column) items n count sound =
+    let same : length column.rows ≡ n = long (is_bool_type column.dtype) (length column.rows) sound in
+    length-items_where_true (true_bits column) items (length-true_bits column ∙ same ∙ sym count)
+  where
+    long : (typed : Bool) (m : ℕ) → (if typed then (if m == n then None else Some (BadMask m n)) else Some NotBool) ≡ None → m ≡ n
+    long true m h = grind (arith, nat_tests)
+    long false m h = cc
 length-apply missing (take_step indices) items n count sound =
     length-at missing items (index_picks indices) ∙ length-index_picks indices n (no_cause (cause_of n) (index_fault indices n) sound)
   where
@@ -67,6 +78,7 @@ length-apply missing (take_step indices) items n count sound =
 pub map-apply : {X Y : Type 0} (f : X → Y) (missing : X) (s : StepValue) (items : List X) → map f (apply missing s items) ≡ apply (f missing) s (map f items)
 map-apply f missing (slice_step start end) items = map-slice_range f items start end
 map-apply f missing (filter_step bits) items = map-items_where_true f bits items
+map-apply f missing (filter_by_step column) items = map-items_where_true f (true_bits column) items
 map-apply f missing (take_step indices) items = map-at f missing items (index_picks indices)
 
 pub length-all_positions : (n : ℕ) → length (all_positions n) ≡ n

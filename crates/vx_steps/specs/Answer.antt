@@ -5,7 +5,7 @@ use Rattle.vx_types.specs.RowValue.{RowValue, null}
 use Rattle.vx_model.specs.Column.{Column}
 use Rattle.vx_take.specs.Picks.{at}
 use Rattle.vx_pieces.specs.Indices.{index_nullability}
-use Rattle.vx_steps.specs.Step.{StepValue, slice_step, filter_step, take_step}
+use Rattle.vx_steps.specs.Step.{StepValue, slice_step, filter_step, filter_by_step, take_step}
 use Rattle.vx_steps.specs.Walk.{Walk, walk_fault, walk_picks, walk}
 use Rattle.vx_steps.specs.declared.cause.Cause.{Cause}
 
@@ -14,6 +14,7 @@ use Rattle.vx_steps.specs.declared.cause.Cause.{Cause}
 abbrev pub type_after_step : TypeTree → StepValue → TypeTree
 type_after_step t (slice_step start end) = t
 type_after_step t (filter_step bits) = t
+type_after_step t (filter_by_step column) = t
 type_after_step t (take_step indices) = also_nullable t (index_nullability indices)
 
 abbrev pub type_after : TypeTree → List StepValue → TypeTree

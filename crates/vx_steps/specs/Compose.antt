@@ -5,7 +5,7 @@ use Rattle.vx_types.specs.Nullability.{either_nullable}
 use Rattle.vx_types.specs.declared.nullability.Nullability.{Nullability}
 use Rattle.vx_types.specs.declared.nullability.Nullability.TheVariants.{NonNullable}
 use Rattle.vx_pieces.specs.Indices.{index_nullability}
-use Rattle.vx_steps.specs.Step.{StepValue, slice_step, filter_step, take_step}
+use Rattle.vx_steps.specs.Step.{StepValue, slice_step, filter_step, filter_by_step, take_step}
 use Rattle.vx_steps.specs.Cause.{MatchError}
 use Rattle.vx_steps.specs.Walk.{Walk, walk_fault, walk_picks}
 use Rattle.vx_steps.specs.declared.cause.SelectError.{SelectError}
@@ -34,6 +34,7 @@ numbered picks numbers = map (λ i. slice_index_or picks i None) numbers
 abbrev pub step_nullability : StepValue → Nullability
 step_nullability (slice_step start end) = NonNullable
 step_nullability (filter_step bits) = NonNullable
+step_nullability (filter_by_step column) = NonNullable
 step_nullability (take_step indices) = index_nullability indices
 
 -- whether the steps may

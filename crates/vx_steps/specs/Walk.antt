@@ -7,9 +7,10 @@ use Rattle.vx_take.specs.Picks.{at}
 use Rattle.vx_pieces.specs.Indices.{index_fault, index_len, index_picks}
 use Rattle.vx_pieces.specs.declared.fault.IndexFault.{IndexFault}
 use Rattle.vx_pieces.specs.declared.fault.IndexFault.TheVariants as faults
-use Rattle.vx_steps.specs.Step.{StepValue, slice_step, filter_step, take_step}
+use Rattle.vx_column.specs.Truth.{is_bool_type, true_bits}
+use Rattle.vx_steps.specs.Step.{StepValue, slice_step, filter_step, filter_by_step, take_step}
 use Rattle.vx_steps.specs.declared.cause.Cause.{Cause}
-use Rattle.vx_steps.specs.declared.cause.Cause.TheVariants.{BadRange, BadMask, InvalidIndices, BadPieces, OutOfBounds}
+use Rattle.vx_steps.specs.declared.cause.Cause.TheVariants.{BadRange, BadMask, NotBool, InvalidIndices, BadPieces, OutOfBounds}
 
 -- the rule that a take from n rows breaks, by the fault of its indices
 abbrev pub cause_of : ℕ → IndexFault → Cause
@@ -22,18 +23,24 @@ abbrev pub broken : StepValue → ℕ → Option Cause
 broken (slice_step start end) n =
     if nat_le start end && nat_le end n then None else Some (BadRange start end n)
 broken (filter_step bits) n = if length bits == n then None else Some (BadMask (length bits) n)
+broken (filter_by_step column) n =
+    if is_bool_type column.dtype then
+    (if length column.rows == n then None else Some (BadMask (length column.rows) n))
+    else Some NotBool
 broken (take_step indices) n = option_map (cause_of n) (index_fault indices n)
 
 -- what a step that breaks no rule leaves of a list, with `missing` where it names no item
 abbrev pub apply : {X : Type 0} → X → StepValue → List X → List X
 apply missing (slice_step start end) items = slice_range items start end
 apply missing (filter_step bits) items = items_where_true bits items
+apply missing (filter_by_step column) items = items_where_true (true_bits column) items
 apply missing (take_step indices) items = at missing items (index_picks indices)
 
 -- how many rows such a step leaves
 abbrev pub rows_left : StepValue → ℕ
 rows_left (slice_step start end) = end - start
 rows_left (filter_step bits) = true_count_of bits
+rows_left (filter_by_step column) = true_count_of (true_bits column)
 rows_left (take_step indices) = index_len indices
 
 pub data Walk : Type 0 where

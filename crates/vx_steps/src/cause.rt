@@ -15,13 +15,15 @@ pub enum Cause {
         /// How many rows there were.
         len: usize,
     },
-    /// A mask that isn't as long as the rows.
+    /// A mask, or a column of bools, that isn't as long as the rows.
     BadMask {
-        /// How long the mask is.
+        /// How long it is.
         mask_len: usize,
         /// How many rows there were.
         len: usize,
     },
+    /// A filter by a column that isn't one of bools.
+    NotBool,
     /// Indices that are no integers.
     InvalidIndices,
     /// Indices that are a piecewise sequence that isn't sound.

@@ -1,8 +1,9 @@
 //! The rule that a step breaks, and the first step of a list that breaks one.
-ghost use Rattle.std.specs.Prelude.{◌≡◌, map, length, option_map};
+ghost use Rattle.std.specs.Prelude.{◌≡◌, ◌==◌, map, length, option_map, None, Some, if◌then◌else◌};
 ghost use Rattle.vx_steps.specs.Step.{step_value};
 ghost use Rattle.vx_steps.specs.Walk.{walk, broken, cause_of, rows_left};
 ghost use Rattle.vx_steps.specs.Check.{IsChecked};
+ghost use Rattle.vx_steps.specs.declared.cause.Cause.TheVariants.{BadMask};
 
 use crate::cause::{Cause, SelectError};
 use crate::step::Step;
@@ -25,12 +26,12 @@ impl Step {
                     })
                 }
             }
-            Step::Filter(mask) => {
-                let mask_len = mask.len();
-                if mask_len == len {
-                    None
+            Step::Filter(mask) => bad_mask(mask.len(), len),
+            Step::FilterBy(column) => {
+                if column.array().is_bool() {
+                    bad_mask(column.array().len(), len)
                 } else {
-                    Some(Cause::BadMask { mask_len, len })
+                    Some(Cause::NotBool)
                 }
             }
             Step::Take(indices) => cause_of(indices.fault(len), len),
@@ -44,8 +45,20 @@ impl Step {
         match self {
             Step::Slice { start, end } => end.saturating_sub(*start),
             Step::Filter(mask) => mask.true_count(),
+            Step::FilterBy(column) => column.array().true_rows(),
             Step::Take(indices) => indices.len(),
         }
+    }
+}
+
+// The rule that a mask so long breaks over `len` rows.
+fn bad_mask(mask_len: usize, len: usize) -> Option<Cause>
+    ensures { result ≡ if mask_len == len then None else Some (BadMask mask_len len) }
+{
+    if mask_len == len {
+        None
+    } else {
+        Some(Cause::BadMask { mask_len, len })
     }
 }
 

@@ -6,6 +6,7 @@ ghost use Rattle.vx_mask.specs.Mask.{mask_bits, partial_of};
 ghost use Rattle.vx_take.specs.Picks.{at, item_at};
 ghost use Rattle.vx_numbers.specs.Positions.{AllThere};
 ghost use Rattle.vx_pieces.specs.Indices.{index_fault, index_nullability, index_picks, index_value};
+ghost use Rattle.vx_column.specs.Truth.{true_bits};
 ghost use Rattle.vx_steps.specs.Step.{step_value};
 ghost use Rattle.vx_steps.specs.Walk.{apply, broken};
 ghost use Rattle.vx_steps.specs.Compose.{bound_of, numbered, picks_in, step_nullability};
@@ -14,6 +15,7 @@ use crate::span::Span;
 use crate::step::Step;
 use std::alloc::Global;
 use vx_bits::NoMemory;
+use vx_column::{Array, mask_of};
 use vx_mask::Mask;
 use vx_pieces::Indices;
 use vx_take::Picks;
@@ -147,6 +149,17 @@ impl Composed {
         }
     }
 
+    // The picks at which a column of bools is true.
+    fn filter_by(self, alloc: Global, column: &Array) -> Result<Composed, NoMemory>
+        requires { length column.now.rows ≡ length (picks_in self) }
+        ensures picks { IfOk result
+            (λ c. picks_in c ≡ items_where_true (true_bits column.now) (picks_in self)) }
+        ensures bound { IfOk result (λ c. bound_of c ≡ bound_of self) }
+    {
+        let mask = mask_of(alloc, column)?;
+        self.filter(alloc, &mask)
+    }
+
     // The picks at the set positions of a mask that selects some and not all.
     fn at_the_set(&self, alloc: Global, mask: &Mask) -> Result<Picks, NoMemory>
         requires some { IsSome (partial_of mask.now) }
@@ -190,6 +203,7 @@ impl Composed {
         match step {
             Step::Slice { start, end } => self.slice(alloc, *start, *end),
             Step::Filter(mask) => self.filter(alloc, mask),
+            Step::FilterBy(column) => self.filter_by(alloc, column.array()),
             Step::Take(indices) => self.take(alloc, indices),
         }
     }

@@ -21,7 +21,7 @@ impl Step {
         ensures { result ≡ step_nullability (step_value self.now) }
     {
         match self {
-            Step::Slice { .. } | Step::Filter(_) => Nullability::NonNullable,
+            Step::Slice { .. } | Step::Filter(_) | Step::FilterBy(_) => Nullability::NonNullable,
             Step::Take(indices) => indices.nullability(),
         }
     }

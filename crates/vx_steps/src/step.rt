@@ -1,5 +1,6 @@
 //! One step of a list.
 
+use vx_column::FlatRef;
 use vx_mask::Mask;
 use vx_pieces::Indices;
 
@@ -15,6 +16,8 @@ pub enum Step {
     },
     /// The rows at the mask's set positions.
     Filter(Mask),
+    /// The rows at which a column of bools is true; a null isn't.
+    FilterBy(FlatRef),
     /// The rows that the indices name, and a null for each null.
     Take(Indices),
 }

@@ -11,3 +11,6 @@ returns-in-Slice-clause-there c = if_ok _ _ c.slice.result c.slice.ensures.picks
 
 pub returns-in-Filter-clause-there : goal.returns-in-Filter-clause-there
 returns-in-Filter-clause-there c = if_ok _ _ c.filter.result c.filter.ensures.picks (λ d e none there. subst AllThere (sym e) (there-filter (mask_bits c.in-Filter.mask) (picks_in c.args.self) there))
+
+pub returns-in-FilterBy-clause-there : goal.returns-in-FilterBy-clause-there
+returns-in-FilterBy-clause-there c = if_ok _ _ c.filter_by.result c.filter_by.ensures.picks (λ d e none there. subst AllThere (sym e) (there-filter _ (picks_in c.args.self) there))

@@ -1,0 +1,18 @@
+-- Which rows of a column of bools are true.
+use Rattle.std.specs.Prelude.{List, map, Bool, Option, Some, None}
+use Rattle.vx_types.specs.RowValue.{RowValue, bit}
+use Rattle.vx_types.specs.TypeTree.{TypeTree, is_bool_kind}
+use Rattle.vx_model.specs.Column.{Column}
+use Rattle.vx_model.specs.Valid.{is_yes}
+
+abbrev pub is_bool_type : TypeTree → Bool
+is_bool_type t = is_bool_kind t.kind
+
+-- the bit in a row; none where the row is null
+abbrev pub bit_in : RowValue → Option Bool
+bit_in (bit b) = Some b
+bit_in x = None
+
+-- for each row whether it is true: a null isn't
+abbrev pub true_bits : Column → List Bool
+true_bits c = map is_yes c.rows
