@@ -44,6 +44,7 @@ fn print_cause(rt: &impl Print, cause: Cause) -> io::Result<()> {
     match cause {
         Cause::BadRange { start, end, len } => println!(rt; "{start}..{end} of {len} rows"),
         Cause::BadMask { mask_len, len } => println!(rt; "{mask_len} bits for {len} rows"),
+        Cause::NotBool => println!(rt; "a filter by rows that are no bools"),
         Cause::InvalidIndices => println!(rt; "indices that are no numbers"),
         Cause::BadPieces => println!(rt; "pieces that aren't sound"),
         Cause::OutOfBounds { index, len } => println!(rt; "index {index} of {len} rows"),
