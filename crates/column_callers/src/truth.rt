@@ -31,16 +31,22 @@ fn print_bits(rt: &impl Print, column: &Array) -> Result<(), Fail> {
     Ok(())
 }
 
+/// Each set position.
+fn print_set(rt: &impl Print, mask: &Mask) -> Result<(), Fail> {
+    for i in 0..mask.len() {
+        if mask.value(i) {
+            print!(rt; " {i}")?;
+        }
+    }
+    Ok(())
+}
+
 /// The set positions of the mask of a column.
 fn print_mask(rt: &impl Print, alloc: Global, column: &Array) -> Result<(), Fail> {
     let mask = mask_of(alloc, column)?;
     let len = mask.len();
     print!(rt; "mask of {len}:")?;
-    for i in 0..len {
-        if mask.value(i) {
-            print!(rt; " {i}")?;
-        }
-    }
+    print_set(rt, &mask)?;
     println!(rt; "")?;
     Ok(())
 }
