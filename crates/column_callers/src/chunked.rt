@@ -1,14 +1,11 @@
 //! Answers over values behind a decoder, and the calls that they ask for.
 ghost use Rattle.std.specs.Prelude.{◌≤◌, length};
 
-use crate::counted::Counted;
-use crate::rows::{print_calls, print_numbers};
-use crate::selecting::mask_of;
+use crate::rows::print_numbers;
 use crate::steps::{slice, take};
-use crate::values::{numbers, sevens};
+use callers::{Counted, mask_of_run, numbers, print_calls, sevens};
 use std::alloc::Global;
 use std::test::Fail;
-use vx_bits::NoMemory;
 use vx_chunked::{CallLog, ChunkDecoder, Logged};
 use vx_column::{Array, ColumnError, DType, Nullability, PType, Validity};
 use vx_mask::{Mask, Policy};
@@ -32,7 +29,7 @@ pub(crate) fn print_answers(rt: &impl Print, alloc: Global) -> Result<(), Fail> 
 
 /// The same steps by two decoders, of which one isn't the library's.
 fn print_bit(rt: &impl Print, alloc: Global) -> Result<(), Fail> {
-    let bit = bit_1500(alloc)?;
+    let bit = mask_of_run(alloc, 3000, 1500, 1)?;
     let steps = [slice(0, 3000), Step::Filter(bit)];
     print_steps(rt, alloc, "0..3000, bit 1500", &steps)?;
     print_answer(
@@ -46,15 +43,6 @@ fn print_taken(rt: &impl Print, alloc: Global) -> Result<(), Fail> {
     let there = [true, true, false, true, true];
     let step = take(alloc, &[2047, 0, 9, 2047, 1024], &there)?;
     print_steps(rt, alloc, "take", &[step])
-}
-
-/// 3000 rows, of which row 1500 is set.
-fn bit_1500(alloc: Global) -> Result<Mask, NoMemory> {
-    let mut bits = Vec::with_capacity(alloc, 3000)?;
-    for n in 0..3000 {
-        bits.push(n == 1500)?;
-    }
-    mask_of(alloc, &bits)
 }
 
 /// An answer, and the calls that were made for it.

@@ -2,8 +2,9 @@
 use crate::columns::{byte_column, indices_of, primitive, record_list, u32_column};
 use crate::pieces::pieces_of;
 use crate::rows::print_numbers;
-use crate::selecting::{mask_of, policy_of};
+use crate::selecting::policy_of;
 use crate::steps::{slice, take};
+use callers::mask_of;
 use std::alloc::Global;
 use std::test::Fail;
 use vx_bits::{BitBuffer, Buffer, Records};

@@ -1,8 +1,8 @@
 //! The same over columns that stand for other columns' rows, and over decimals.
 use crate::columns::{byte_column, bytes_of, row_at, u32_column};
 use crate::fused::print_fused;
-use crate::selecting::mask_of;
 use crate::steps::{slice, take};
+use callers::mask_of;
 use std::alloc::Global;
 use std::test::Fail;
 use vx_bits::{Buffer, Records};

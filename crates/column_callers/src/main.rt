@@ -4,7 +4,6 @@
 
 mod chunked;
 mod columns;
-mod counted;
 mod fused;
 mod fused_layouts;
 mod made;
@@ -14,7 +13,6 @@ mod selecting;
 mod shapes;
 mod steps;
 mod truth;
-mod values;
 
 use std::test::Fail;
 

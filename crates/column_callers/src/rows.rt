@@ -1,7 +1,5 @@
-//! The numbers of a column, picks and calls, in the rest of a line, and flags and refusals, a line
-//! each.
+//! The numbers of a column and picks, in the rest of a line, and flags and refusals, a line each.
 use std::test::Fail;
-use vx_chunked::Call;
 use vx_column::{Array, ColumnError};
 use vx_take::Picks;
 
@@ -42,18 +40,5 @@ pub(crate) fn print_refusal(
     refusal: Option<ColumnError>,
 ) -> Result<(), Fail> {
     println!(rt; "{name}: {refusal:?}")?;
-    Ok(())
-}
-
-/// The calls, and the end of the line.
-pub(crate) fn print_calls(rt: &impl Print, calls: &[Call]) -> Result<(), Fail> {
-    rt.print(", calls:")?;
-    for call in calls {
-        match call {
-            Call::Whole { chunk } => print!(rt; " Whole({chunk})")?,
-            Call::Only { chunk, count } => print!(rt; " Only({chunk},{count})")?,
-        }
-    }
-    rt.println("")?;
     Ok(())
 }

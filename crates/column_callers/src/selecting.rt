@@ -2,17 +2,12 @@
 use crate::columns::byte_column;
 use crate::rows::print_numbers;
 use crate::steps::slice;
+use callers::mask_of;
 use std::alloc::Global;
 use std::test::Fail;
-use vx_bits::{BitBuffer, NoMemory};
 use vx_column::{Array, PType};
-use vx_mask::{Mask, Policy, PolicyFields, Ratio};
+use vx_mask::{Policy, PolicyFields, Ratio};
 use vx_select::{Step, select};
-
-/// The mask of these bits.
-pub(crate) fn mask_of(alloc: Global, bits: &[bool]) -> Result<Mask, NoMemory> {
-    Ok(Mask::from_buffer(BitBuffer::from_bools(alloc, bits)?))
-}
 
 /// The policy of the crate, with this in place of the ratios that a filter looks at.
 pub(crate) fn policy_of(ratio: Ratio) -> Result<Policy, Fail> {

@@ -1,7 +1,7 @@
 //! What shapes of chunks refuse and show, and the picks of steps.
 use crate::rows::{print_picks, print_refusal};
-use crate::selecting::mask_of;
 use crate::steps::{slice, take};
+use callers::mask_of;
 use std::alloc::Global;
 use std::test::Fail;
 use vx_column::{DType, Nullability, PType, Validity};

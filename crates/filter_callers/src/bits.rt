@@ -1,6 +1,7 @@
 //! Bits by a mask of other bits, at two offsets.
 
-use crate::masks::{multiples, runs, text_of};
+use crate::masks::{multiples, runs};
+use callers::text_of;
 use std::alloc::Global;
 use std::test::Fail;
 use vx_bitfilter::{filter_bitbuffer_by_mask, filter_sparse};

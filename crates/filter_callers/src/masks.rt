@@ -1,8 +1,7 @@
-//! Bits at an offset, and bits as texts.
+//! Bits at an offset.
 ghost use Rattle.std.specs.Prelude.{◌<◌};
 
 use std::alloc::Global;
-use std::test::Fail;
 use vx_bits::{BitBuffer, BitBuilder, NoMemory};
 
 /// So many bits that begin at bit `offset` of a byte, set where the position is a multiple of
@@ -41,13 +40,4 @@ pub(crate) fn runs(
 fn behind(bits: &BitBuffer, offset: usize) -> BitBuffer {
     let end = bits.len();
     bits.slice(offset.min(end), end)
-}
-
-/// The bits, as a text of `0` and `1`.
-pub(crate) fn text_of(alloc: Global, bits: &BitBuffer) -> Result<String, Fail> {
-    let mut text = String::new(alloc);
-    for i in 0..bits.len() {
-        text.push(if bits.value(i) { '1' } else { '0' })?;
-    }
-    Ok(text)
 }

@@ -1,7 +1,8 @@
 //! Which words a filter of bits reads.
 ghost use Rattle.std.specs.Prelude.{◌≤◌};
 
-use crate::masks::{multiples, runs, text_of};
+use crate::masks::{multiples, runs};
+use callers::text_of;
 use std::alloc::Global;
 use std::test::Fail;
 use vx_bitfilter::filter_words;

@@ -1,4 +1,5 @@
 //! Small columns, masks and indices.
+use callers::mask_of;
 use std::alloc::Global;
 use std::test::Fail;
 use vx_bits::{BitBuffer, Buffer, NoMemory, Records};
@@ -9,10 +10,6 @@ use vx_column::{
 };
 use vx_mask::Mask;
 use vx_pieces::{Indices, PiecewiseSequence};
-
-pub(crate) fn mask(alloc: Global, bits: &[bool]) -> Result<Mask, NoMemory> {
-    Ok(Mask::from_buffer(BitBuffer::from_bools(alloc, bits)?))
-}
 
 pub(crate) fn bools(alloc: Global, bits: &[bool]) -> Result<Array, Fail> {
     let bits = BitBuffer::from_bools(alloc, bits)?;
@@ -37,7 +34,7 @@ pub(crate) fn decimals(alloc: Global, values: &[[u8; 1]]) -> Result<Array, Fail>
 
 pub(crate) fn filtered(alloc: Global, child: Array, bits: &[bool]) -> Result<Array, Fail> {
     let child = child.into_ref(alloc)?;
-    Ok(FilterArray::try_new(child, mask(alloc, bits)?)?.into_array())
+    Ok(FilterArray::try_new(child, mask_of(alloc, bits)?)?.into_array())
 }
 
 pub(crate) fn dict(alloc: Global, codes: Array, values: Array) -> Result<Array, Fail> {

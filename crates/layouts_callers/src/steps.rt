@@ -1,8 +1,7 @@
 //! Steps through the traits of layouts.
-use crate::columns::{
-    bools, bytes, decimals, dict, filtered, filtered_sevens, indices, mask, zeros,
-};
+use crate::columns::{bools, bytes, decimals, dict, filtered, filtered_sevens, indices, zeros};
 use crate::print::print_answer;
+use callers::mask_of;
 use std::alloc::Global;
 use std::test::Fail;
 use vx_column::vtables::{Bool, Decimal, Dict, Filter, Null, Primitive};
@@ -125,7 +124,7 @@ pub(crate) fn print_views(rt: &impl Print, alloc: Global) -> Result<(), Fail> {
 /// Filter and slice of a column of bits.
 pub(crate) fn print_bools(rt: &impl Print, alloc: Global) -> Result<(), Fail> {
     let column = bools(alloc, &[true, false])?;
-    print_filter::<Bool>(rt, alloc, &column, &mask(alloc, &[false, true])?)?;
+    print_filter::<Bool>(rt, alloc, &column, &mask_of(alloc, &[false, true])?)?;
     print_slice::<Bool>(rt, alloc, &column, 1, 2)
 }
 
