@@ -1,7 +1,8 @@
 -- Positions that ascend.
-use Rattle.std.proofs.Common.{◌≡◌, refl, true, ℕ, zero, suc, ◌+◌, ◌-◌, ◌<◌, ◌≤◌, List, [], ◌∷◌, ◌++◌, length, get_or, take, drop, map, set, sym, ap, ap₂, subst, ◌∙◌, arith}
+use Rattle.std.proofs.Common.{◌≡◌, refl, true, ℕ, zero, suc, ◌+◌, ◌-◌, ◌<◌, ◌≤◌, List, [], ◌∷◌, ◌++◌, length, get_or, take, drop, map, set, sym, ap, ap₂, subst, ◌∙◌, inl, inr, Option, None, Some, slice_get, arith}
 use Rattle.std.proofs.lemmas.List.{drop_more, drop_all, append_assoc, map_push, map-append, take_more_set, take-append-drop, length-take-le, get_or-take, get_or_default}
 use Rattle.std.specs.List.{All, range_with_len}
+use Rattle.std.proofs.lemmas.Bool.{cases_lt}
 use Rattle.std.proofs.lemmas.List.Elements.{All-head, All-tail}
 use Rattle.vx_mask.specs.Positions.{ascending}
 use Rattle.vx_mask.proofs.AscendingLists.{ascending_first, index_parts}
@@ -108,6 +109,24 @@ pub ascend_drop : (f : ℕ → ℕ) (low high : ℕ) (xs : List ℕ) (k : ℕ) �
 ascend_drop f low high xs zero h = ascend_lower low (low + 0) high (map f xs) h (omega arith)
 ascend_drop f low high [] (suc k) h = tt
 ascend_drop f low high (x ∷ xs) (suc k) h = ascend_lower (f x + 1 + k) (low + suc k) high (map f (drop k xs)) (ascend_drop f (f x + 1) high xs k h.2) (omega (arith, h.0))
+
+abbrev value_of : Option ℕ → ℕ
+value_of None = 0
+value_of (Some x) = x
+
+-- none lies before the first
+pub ascend_first : (f : ℕ → ℕ) (low high mid : ℕ) (xs : List ℕ) (x : ℕ) → Some x ≡ slice_get xs 0 → AscendFrom low high (map f xs) → mid ≤ f x → All (λ p. mid ≤ p) (map f xs)
+ascend_first f low high mid [] x e h le = λ k d p. absurd (omega arith)
+ascend_first f low high mid (y ∷ xs) x e h le =
+    let same : x ≡ y = ap value_of e in
+    ascend_all mid high mid (f y ∷ map f xs) (omega (arith, le, ap f same), h.1, h.2) (omega arith)
+
+-- none lies before what so many ascending ones pass
+pub ascend_passed : (f : ℕ → ℕ) (low high mid : ℕ) (xs : List ℕ) (n : ℕ) → AscendFrom low high (map f xs) → (n < length xs → mid ≤ low + n) → All (λ p. mid ≤ p) (map f (drop n xs))
+ascend_passed f low high mid xs n h le = elim (cases_lt n (length xs)) [
+  | inl here ↦ ascend_all (low + n) high mid (map f (drop n xs)) (ascend_drop f low high xs n h) (le here)
+  | inr none ↦ ascend_done f mid xs n none
+]
 
 -- where the last of the first n lies in a chunk, all of these do
 pub all_in_chunk : (f : ℕ → ℕ) (base high : ℕ) (xs : List ℕ) (n : ℕ) → AscendFrom base high (map f xs) → 0 < n → n ≤ length xs → f (get_or xs (n - 1) 0) < base + 1024 → All (λ i. IsInChunk base (f i)) (take n xs)

@@ -1,5 +1,5 @@
 -- The calls that ascending positions ask for, chunk by chunk.
-use Rattle.std.proofs.Common.{◌≡◌, refl, ℕ, zero, suc, ◌+◌, ◌*◌, ◌/◌, ◌<◌, ◌≤◌, false, cond, eqb, leb, List, [], ◌∷◌, ◌++◌, length, map, Option, None, Some, sym, ap, ap₂, ◌∙◌, arith, eq-eqb, ne_eqb}
+use Rattle.std.proofs.Common.{◌≡◌, refl, ℕ, zero, suc, ◌+◌, ◌*◌, ◌-◌, ◌/◌, ◌<◌, ◌≤◌, false, cond, eqb, leb, List, [], ◌∷◌, ◌++◌, length, map, Option, None, Some, sym, ap, ap₂, ◌∙◌, arith, eq-eqb, ne_eqb}
 use Rattle.vx_bits.specs.WordReader.{then_told}
 use Rattle.std.proofs.lemmas.Bool.{le-leb}
 use Rattle.std.proofs.lemmas.Bool.Decides.{nat_tests}
@@ -105,3 +105,16 @@ pub call_whole : (limit chunk count : ℕ) → (count ≡ 0 → ⊥) → limit <
 call_whole limit chunk count some many =
     sym (ap (λ b. cond b [] (cond (leb count limit) (Only chunk count ∷ []) (Whole chunk ∷ []))) (ne_eqb count 0 some)
     ∙ ap (λ b. cond b (Only chunk count ∷ []) (Whole chunk ∷ [])) (not_le limit count many))
+
+-- chunks that hold none of the values ask for no call
+skip_by : (limit : ℕ) (rest : List ℕ) (chunk j n m : ℕ) → n ≡ j + m → All (λ p. 1024 * (chunk + j) ≤ p) rest → calls_from limit rest chunk n ≡ calls_from limit rest (chunk + j) m
+skip_by limit rest chunk zero n m e a = ap₂ (calls_from limit rest) (omega arith) (omega (arith, e))
+skip_by limit rest chunk (suc j) n m e a =
+    calls_next limit rest [] rest chunk n (j + m) refl (λ k d p. absurd (omega arith)) (λ k d p. omega (arith, a k d p)) (omega (arith, e))
+    ∙ ap (λ l. l ++ calls_from limit rest (chunk + 1) (j + m)) (sym (call_none limit chunk 0 refl))
+    ∙ skip_by limit rest (chunk + 1) j (j + m) m refl (λ k d p. omega (arith, a k d p)) ∙ ap (λ k. calls_from limit rest k m) (omega arith)
+
+pub calls_skip : (limit : ℕ) (rest : List ℕ) (chunk next chunks : ℕ) → chunk ≤ next → next ≤ chunks → All (λ p. 1024 * next ≤ p) rest → calls_from limit rest chunk (chunks - chunk) ≡ calls_from limit rest next (chunks - next)
+calls_skip limit rest chunk next chunks h p a =
+    let e : chunk + (next - chunk) ≡ next = omega (arith, h) in
+    skip_by limit rest chunk (next - chunk) (chunks - chunk) (chunks - next) (omega (arith, h, p)) (λ k d q. omega (arith, a k d q, h)) ∙ ap (λ k. calls_from limit rest k (chunks - next)) e

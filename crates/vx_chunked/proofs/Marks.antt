@@ -1,5 +1,5 @@
 -- The set bits of a list of bits that lie in a chunk, as places.
-use Rattle.std.proofs.Common.{◌≡◌, refl, ℕ, zero, suc, ◌+◌, ◌*◌, ◌^◌, ◌<◌, ◌≤◌, Bool, true, false, cond, List, [], ◌∷◌, ◌++◌, length, get_or, take, drop, replicate, map, ◌-◌, Option, Some, sym, ap, ap₂, subst, ◌∙◌, arith}
+use Rattle.std.proofs.Common.{◌≡◌, refl, ℕ, zero, suc, ◌+◌, ◌*◌, ◌^◌, ◌<◌, ◌≤◌, Bool, true, false, cond, List, [], ◌∷◌, ◌++◌, length, get_or, take, drop, replicate, map, ◌-◌, Option, Some, sym, ap, ap₂, subst, ◌∙◌, inl, inr, arith}
 use Rattle.std.specs.Prelude.{slice_get}
 use Rattle.std.specs.List.{All, items_where_true, range_with_len}
 use Rattle.std.specs.Int.RustNames.{count_ones}
@@ -11,7 +11,10 @@ use Rattle.vx_mask.specs.Positions.{AllBits}
 use Rattle.vx_mask.proofs.PositionLists.{positions_false}
 use Rattle.vx_mask.proofs.RankedItems.{items_at_the_set}
 use Rattle.vx_mask.proofs.RunLists.{set_of_passed}
-use Rattle.std.proofs.lemmas.List.{append-nil, get_or-append-add, get_or-replicate, length-append, length-map, take_all, take_more}
+use Rattle.std.proofs.lemmas.Bool.{cases_lt}
+use Rattle.std.proofs.lemmas.Nat.{ones_le_self}
+use Rattle.vx_mask.proofs.LowestBit.{positions_done}
+use Rattle.std.proofs.lemmas.List.{append-nil, append_assoc, drop_all, get_or-append-add, get_or-replicate, length-append, length-map, take_all, take_more}
 use Rattle.std.proofs.lemmas.List.FromFn.{length-range_with_len}
 use Rattle.std.proofs.Math.Seq.{take-append_seam}
 use Rattle.std.proofs.lemmas.List.{drop_more, drop-drop, take-append-drop, length-take-le, length-drop}
@@ -87,6 +90,14 @@ words_more words w from h =
     ∙ positions-append from (bits_of_words (take w words)) (word_bits (get_or words w 0) 64)
     ∙ ap (λ n. positions from (bits_of_words (take w words)) ++ positions n (word_bits (get_or words w 0) 64)) long
 
+-- one word more has its set bits more
+pub ones_more : (front : List ℕ) (word from : ℕ) → word < 2 ^ 64 → length (positions from (bits_of_words (front ++ word ∷ []))) ≡ length (positions from (bits_of_words front)) + count_ones word
+ones_more front word from h =
+    let next = from + length (bits_of_words front) in
+    ap length (ap (positions from) (bits_of_words_more front word) ∙ positions-append from (bits_of_words front) (word_bits word 64))
+    ∙ length-append (positions from (bits_of_words front)) (positions next (word_bits word 64))
+    ∙ ap (λ n. length (positions from (bits_of_words front)) + n) (ones_of_word next word h)
+
 -- no more are in the first words than in all
 pub words_part : (words : List ℕ) (w from : ℕ) → length (positions from (bits_of_words (take w words))) ≤ length (positions from (bits_of_words words))
 words_part words zero from = omega arith
@@ -101,6 +112,45 @@ words_part (x ∷ words) (suc w) from =
       length-append (positions from (word_bits x 64)) (positions next (bits_of_words (take w words))),
       length-append (positions from (word_bits x 64)) (positions next (bits_of_words words)),
     )
+
+-- a list that has as many items as all is all of them
+pub all_of_front : {X : Type 0} (xs ys all : List X) → xs ++ ys ≡ all → length all ≤ length xs → xs ≡ all
+all_of_front xs [] all e h = sym (append-nil xs) ∙ e
+all_of_front xs (y ∷ ys) all e h = absurd (omega (arith, h, ap length e, length-append xs (y ∷ ys)))
+
+-- before the first word
+pub no_words : (base : ℕ) (rest : List ℕ) → ([] ++ positions base (word_bits 0 64)) ++ rest ≡ rest
+no_words base rest = sym (ap (λ l. l ++ rest) (positions_done base [] ([] ++ positions base (word_bits 0 64)) 0 (omega (arith, ones_le_self 0)) refl))
+
+-- the words from one on
+pub words_cut : (words : List ℕ) (w at : ℕ) → w < length words → positions at (bits_of_words (drop w words)) ≡ positions at (word_bits (get_or words w 0) 64) ++ positions (at + 64) (bits_of_words (drop (w + 1) words))
+words_cut words w at h =
+    let x = get_or words w 0 in
+    let rest = bits_of_words (drop (w + 1) words) in
+    ap (λ l. positions at (bits_of_words l)) (drop_more words w 0 h) ∙ positions-append at (word_bits x 64) rest
+    ∙ ap (λ n. positions at (word_bits x 64) ++ positions (at + n) rest) (length-word_bits x 64)
+
+-- a word that is done with, and the words behind it
+module _ (from base left used : ℕ) (words front : List ℕ) (none : left ≡ 0) where
+  done : front ≡ front ++ positions base (word_bits left 64)
+  done = positions_done base front (front ++ positions base (word_bits left 64)) left (omega (arith, none, ones_le_self left)) refl
+
+  pub more_words : (all : List ℕ) → (front ++ positions base (word_bits left 64)) ++ positions (from + 64 * used) (bits_of_words (drop used words)) ≡ all → length front < length all → used < length words
+  more_words all e h = elim (cases_lt used (length words)) [
+    | inl here ↦ here
+    | inr past ↦ let rest = positions (from + 64 * used) (bits_of_words (drop used words)) in
+        let gone : length rest ≡ 0 = ap (λ l. length (positions (from + 64 * used) (bits_of_words l))) (drop_all used words past) in
+        absurd (omega (arith, h, ap length e, length-append (front ++ positions base (word_bits left 64)) rest, ap length done, gone))
+  ]
+
+  pub next_word : used < length words → (front ++ positions (from + 64 * used) (word_bits (get_or words used 0) 64)) ++ positions (from + 64 * (used + 1)) (bits_of_words (drop (used + 1) words)) ≡ (front ++ positions base (word_bits left 64)) ++ positions (from + 64 * used) (bits_of_words (drop used words))
+  next_word here =
+      let at = from + 64 * used in
+      let word = positions at (word_bits (get_or words used 0) 64) in
+      let next : from + 64 * (used + 1) ≡ at + 64 = omega arith in
+      ap (λ n. (front ++ word) ++ positions n (bits_of_words (drop (used + 1) words))) next
+      ∙ append_assoc front word (positions (at + 64) (bits_of_words (drop (used + 1) words))) ∙ ap (λ l. front ++ l) (sym (words_cut words used at here))
+      ∙ ap (λ l. l ++ positions at (bits_of_words (drop used words))) done
 
 -- the words of bits have their positions, and zeros past them
 module _ (bits : List Bool) (words : List ℕ) (same : words ≡ map (word_at bits) (range_with_len 0 (word_count (length bits)))) where
@@ -127,6 +177,11 @@ module _ (bits : List Bool) (words tail : List ℕ) (len : ℕ) (same : words �
 
   pub front_marked : (from : ℕ) → marked from len (words ++ tail) ≡ positions from bits
   front_marked from = ap (λ l. positions from (bits_of_words l)) front_is ∙ words_marked bits words same from
+
+  pub front_count : (from : ℕ) → length (positions 0 (bits_of_words words)) ≡ length (marked from len (words ++ tail))
+  front_count from =
+      length-positions 0 (bits_of_words words) ∙ sym (length-positions from (bits_of_words words))
+      ∙ ap (λ l. length (positions from (bits_of_words l))) (sym front_is)
 
   pub front_clear : AllBits (bits_of_words (take (word_count len) (words ++ tail))) len (64 * word_count len) false
   front_clear k from to =

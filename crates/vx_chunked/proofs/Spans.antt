@@ -1,5 +1,5 @@
 -- Runs of positions.
-use Rattle.std.proofs.Common.{◌≡◌, refl, ℕ, zero, suc, ◌+◌, ◌-◌, ◌<◌, ◌≤◌, List, [], ◌∷◌, ◌++◌, length, get_or, take, drop, map, set, sym, ap, ap₂, subst, ◌∙◌, true, inl, inr, arith}
+use Rattle.std.proofs.Common.{◌≡◌, refl, ℕ, zero, suc, ◌+◌, ◌-◌, ◌^◌, ◌<◌, min, ◌≤◌, List, [], ◌∷◌, ◌++◌, length, get_or, take, drop, map, set, sym, ap, ap₂, subst, ◌∙◌, true, inl, inr, arith}
 use Rattle.std.specs.List.{All, range_with_len}
 use Rattle.std.proofs.Math.Seq.{drop-append_seam, take-append_seam}
 use Rattle.std.proofs.lemmas.Bool.{cases_lt}
@@ -174,6 +174,21 @@ pub range_in_chunk : (offset base start more : ℕ) → base ≤ offset + start 
 range_in_chunk offset base start zero h p k d q = absurd (omega arith)
 range_in_chunk offset base start (suc more) h p zero d q = (omega arith, omega arith)
 range_in_chunk offset base start (suc more) h p (suc k) d q = range_in_chunk offset base (start + 1) more (omega arith) (omega arith) k d (omega arith)
+
+-- the same, of a part that may be empty
+pub part_here : (offset base start more : ℕ) → (0 < more → (base ≤ offset + start) × (offset + start + more ≤ base + 1024)) → All (λ i. IsInChunk base (offset + i)) (range_with_len start more)
+part_here offset base start zero h = λ k d p. absurd (omega arith)
+part_here offset base start (suc more) h = let here = h (omega arith) in range_in_chunk offset base start (suc more) here.0 here.1
+
+-- a part of a run that ends with it or with a chunk, where there is one
+pub chunk_part : (offset base count start end more beyond : ℕ) (runs : List (ℕ × ℕ)) → AscendFrom (base + count) (2 ^ 64) (map (λ i. offset + i) (with_runs start end runs)) → beyond ≡ base + 1024 - offset → more ≡ min end beyond - start → 0 < more → (base + count ≤ offset + start) × (offset + start + more ≤ base + 1024)
+chunk_part offset base count start end more beyond runs h b m some =
+    let next = first_of_run offset (base + count) (2 ^ 64) start end runs (omega (arith, m, some)) h in
+    (omega (arith, next.0), omega (arith, b, m, some))
+
+pub few_more : (count more : ℕ) → count ≤ 1024 → (0 < more → count + more ≤ 1024) → count + more ≤ 1024
+few_more count zero few h = omega arith
+few_more count (suc more) few h = h (omega arith)
 
 -- there is a run behind those that are done with, where positions are left
 pub more_runs : (all : List ℕ) (count start end used : ℕ) (later : List (ℕ × ℕ)) → count < length all → drop count all ≡ with_runs start end (drop used later) → end ≤ start → used < length later

@@ -1,5 +1,5 @@
 //! A cursor over the bits of a mask.
-ghost use Rattle.std.specs.Prelude.{◌≡◌, ◌+◌, ◌*◌, ◌^◌, ◌<◌, ◌≤◌, ◌++◌, Some, false, length, map, take, slice_get};
+ghost use Rattle.std.specs.Prelude.{◌≡◌, ◌+◌, ◌*◌, ◌^◌, ◌<◌, ◌≤◌, ◌++◌, Some, false, length, map, take, slice_get, slice_range, ◌-◌};
 ghost use Rattle.std.specs.Int.RustNames.{count_ones};
 ghost use Rattle.std.specs.List.{All, range_with_len};
 ghost use Rattle.vx_bits.specs.Words.{word_at, word_bits, word_count};
@@ -13,13 +13,16 @@ use vx_bits::BitBuffer;
 use vx_filter::{compact_runs, compact_words};
 use vx_mask::MaskValues;
 
-// The words of `len` bits that lie in one chunk, of which the first has place `from`, and zeros.
+// The words of `len` bits that lie in one chunk, of which the first has place `from` and `count`
+// are set, and zeros.
 #[derive(Clone, Copy)]
 struct BitFront {
     words: [u64; 16],
     from: usize,
     len: usize,
+    count: usize,
     ghost fits: { from + len ≤ 1024 },
+    ghost counted: { count ≡ length (marked from len words) },
     ghost clear: { AllBits (bits_of_words (take (word_count len) words)) len (64 * word_count len)
         false },
 }
@@ -54,46 +57,47 @@ impl BitCursor<'_> {
                 words: [0; 16],
                 from: 0,
                 len: 0,
+                count: 0,
             },
         }
     }
 }
 
-// What was taken of the bits: those of a chunk, and all before `at`.
-struct Passed {
-    front: BitFront,
-    at: usize,
+// The bits from `start` up to `end` that lie in a chunk, of which the first has place `from`.
+struct Part {
+    start: usize,
+    end: usize,
+    from: usize,
 }
 
 // The bits from `first` on that lie in the chunk.
-fn front_of_bits(bits: &BitBuffer, first: usize, offset: usize, chunk: usize) -> Passed
+#[inline(always)]
+fn part_in(bits: &BitBuffer, first: usize, offset: usize, chunk: usize) -> Part
     requires counted { offset + length bits.now.bits < 2 ^ 64 }
     requires within { first ≤ length bits.now.bits }
-    requires fits { 1024 * chunk < 2 ^ 64 }
+    requires fits { 1024 * (chunk + 1) < 2 ^ 64 }
     requires ahead { AscendFrom (1024 * chunk) (2 ^ 64)
         (map (λ i. offset + i) (positions_from first bits.now.bits)) }
-    ensures within { result.at ≤ length bits.now.bits }
+    ensures ordered { result.start ≤ result.end }
+    ensures within { result.end ≤ length bits.now.bits }
+    ensures fits { result.from + (result.end - result.start) ≤ 1024 }
     ensures taken { map (λ i. offset + i) (positions_from first bits.now.bits)
         ≡ map (λ p. 1024 * chunk + p)
-        (marked result.front.from result.front.len result.front.words)
-        ++ map (λ i. offset + i) (positions_from result.at bits.now.bits) }
-    ensures inside { All (λ p. p < 1024)
-        (marked result.front.from result.front.len result.front.words) }
+        (positions result.from (slice_range bits.now.bits result.start result.end))
+        ++ map (λ i. offset + i) (positions_from result.end bits.now.bits) }
     ensures beyond { All (λ p. 1024 * (chunk + 1) ≤ p)
-        (map (λ i. offset + i) (positions_from result.at bits.now.bits)) }
+        (map (λ i. offset + i) (positions_from result.end bits.now.bits)) }
 {
     let base = FILTER_CHUNK_LEN * chunk;
     let len = bits.len();
     let start = first.max(base.saturating_sub(offset)).min(len);
     let from = (offset + start).saturating_sub(base).min(FILTER_CHUNK_LEN);
     let end = start + (FILTER_CHUNK_LEN - from).min(len - start);
-    Passed {
-        front: front_of(&bits.slice(start, end), from),
-        at: end,
-    }
+    Part { start, end, from }
 }
 
 // The words of bits that lie in one chunk, of which the first has place `from`.
+#[inline(always)]
 fn front_of(bits: &BitBuffer, from: usize) -> BitFront
     requires { from + length bits.now.bits ≤ 1024 }
     ensures places { marked result.from result.len result.words ≡ positions from bits.now.bits }
@@ -101,31 +105,29 @@ fn front_of(bits: &BitBuffer, from: usize) -> BitFront
 {
     let len = bits.len();
     let mut words = [0; 16];
-    load(bits, &mut words[..len.div_ceil(64)]);
-    BitFront { words, from, len }
-}
-
-// Reads the words of bits.
-#[inline(always)]
-fn load(bits: &BitBuffer, words: &mut [u64])
-    requires { length words.old ≡ word_count (length bits.now.bits) }
-    ensures { words.new
-        ≡ map (word_at bits.now.bits) (range_with_len 0 (word_count (length bits.now.bits))) }
-{
-    let view = bits.words();
-    for w in 0..words.len() {
-        words[w] = view.word(w);
+    let count = load(bits, &mut words[..len.div_ceil(64)]);
+    BitFront {
+        words,
+        from,
+        len,
+        count,
     }
 }
 
-// The number of set bits.
+// Reads the words of bits, and answers how many bits are set.
 #[inline(always)]
-fn count_of(words: &[u64]) -> usize
-    requires { length words.now ≤ 16 }
-    ensures { result ≡ length (positions 0 (bits_of_words words.now)) }
+fn load(bits: &BitBuffer, words: &mut [u64]) -> usize
+    requires few { length bits.now.bits ≤ 1024 }
+    requires room { length words.old ≡ word_count (length bits.now.bits) }
+    ensures words { words.new
+        ≡ map (word_at bits.now.bits) (range_with_len 0 (word_count (length bits.now.bits))) }
+    ensures count { result ≡ length (positions 0 (bits_of_words words.new)) }
 {
+    let view = bits.words();
     let mut count = 0;
-    for word in words {
+    for w in 0..words.len() {
+        let word = view.word(w);
+        words[w] = word;
         count += word.count_ones() as usize;
     }
     count
@@ -137,30 +139,21 @@ fn put_words(words: &[u64], from: usize, places: &mut [usize])
     requires room { length places.old ≡ length (positions from (bits_of_words words.now)) }
     ensures { places.new ≡ positions from (bits_of_words words.now) }
 {
-    let mut count = 0;
-    for w in 0..words.len() {
-        count = put_word(places, count, from + 64 * w, words[w]);
+    let mut used = 0;
+    let mut base = from;
+    let mut left: u64 = 0;
+    let mut filled = 0;
+    'bit: while filled < places.len() {
+        if left == 0 {
+            left = words[used];
+            base = from + 64 * used;
+            used += 1;
+        } else {
+            places[filled] = base + left.trailing_zeros() as usize;
+            left &= left - 1;
+            filled += 1;
+        }
     }
-}
-
-// Writes the places of a word's set bits at `at`, the lowest first, and answers where they end. The
-// word's first bit has place `base`.
-#[inline(always)]
-fn put_word(places: &mut [usize], at: usize, base: usize, word: u64) -> usize
-    requires counted { base + 64 ≤ 2 ^ 64 }
-    requires room { at + count_ones word ≤ length places.old }
-    ensures count { result ≡ at + count_ones word }
-    ensures places { take result places.new
-        ≡ take at places.old ++ positions base (word_bits word 64) }
-{
-    let mut next = at;
-    let mut left = word;
-    'bit: while left != 0 {
-        places[next] = base + left.trailing_zeros() as usize;
-        next += 1;
-        left &= left - 1;
-    }
-    next
 }
 
 // Whether the runs of set bits have at least `long` bits on average, `long` not 0. A run that
@@ -200,10 +193,14 @@ impl<T: Copy> Cursor<T> for BitCursor<'_> {
     ghost taken = { λ s. marked s.front.from s.front.len s.front.words };
 
     fn take_places(&mut self, chunk: usize) -> usize {
-        let Passed { front, at } = front_of_bits(self.bits, self.at, self.offset, chunk);
-        self.at = at;
-        self.front = front;
-        count_of(&front.words[..front.len.div_ceil(64)])
+        let Part { start, end, from } = part_in(self.bits, self.at, self.offset, chunk);
+        self.at = end;
+        self.front = front_of(&self.bits.slice(start, end), from);
+        self.front.count
+    }
+
+    fn next_chunk(&self, chunk: usize) -> usize {
+        chunk
     }
 
     fn list_places(&self, places: &mut [usize]) {

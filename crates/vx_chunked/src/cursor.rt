@@ -14,13 +14,19 @@ pub(crate) trait Cursor<T: Copy> {
 
     // Takes the positions that lie in the chunk, and answers their number.
     fn take_places(&mut self, chunk: usize) -> usize
-        requires fits { 1024 * chunk < 2 ^ 64 }
+        requires fits { 1024 * (chunk + 1) < 2 ^ 64 }
         requires ahead { AscendFrom (1024 * chunk) (2 ^ 64) (rest self.old) }
         ensures count { result ≡ length (taken self.new) }
         ensures taken { rest self.old
             ≡ map (λ p. 1024 * chunk + p) (taken self.new) ++ rest self.new }
         ensures inside { All (λ p. p < 1024) (taken self.new) }
         ensures beyond { All (λ p. 1024 * (chunk + 1) ≤ p) (rest self.new) };
+
+    // The first chunk from this one on that may hold a position which is left, or one past all.
+    fn next_chunk(&self, chunk: usize) -> usize
+        requires ahead { AscendFrom (1024 * chunk) (2 ^ 64) (rest self.now) }
+        ensures onward { chunk ≤ result }
+        ensures passed { All (λ p. 1024 * result ≤ p) (rest self.now) };
 
     // Writes the places that were taken last.
     fn list_places(&self, places: &mut [usize])

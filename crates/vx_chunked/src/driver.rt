@@ -11,7 +11,7 @@ use std::alloc::Global;
 use vx_bits::{NoMemory, Record};
 
 // Appends the values at the cursor's positions, all of which lie before `end`. There is room for
-// them.
+// them. Chunks that hold none are passed over where the cursor knows them.
 fn take_chunks<T: Record, D: ChunkDecoder<T>, C: Cursor<T>>(
     decoder: &mut D,
     cursor: &mut C,
@@ -36,9 +36,14 @@ fn take_chunks<T: Record, D: ChunkDecoder<T>, C: Cursor<T>>(
     ensures same { D.values decoder.new ≡ D.values decoder.old }
     ensures cost { D.spare decoder.old ≤ D.spare decoder.new + chunks_for end }
 {
-    for chunk in 0..end.div_ceil(FILTER_CHUNK_LEN) {
+    let chunks = end.div_ceil(FILTER_CHUNK_LEN);
+    let first = cursor.next_chunk(0);
+    let mut chunk = first.min(chunks);
+    'walk: while chunk < chunks {
         let count = cursor.take_places(chunk);
         put_chunk(decoder, chunk, cursor, count, limit, places, scratch, out);
+        let next = cursor.next_chunk(chunk + 1);
+        chunk = next.min(chunks);
     }
 }
 
@@ -47,10 +52,7 @@ fn scratch_of<T: Record>(alloc: Global) -> Result<Vec<T>, NoMemory>
     ensures { IfOk result (λ scratch. length scratch.items ≡ 1024) }
 {
     let mut scratch = Vec::with_capacity(alloc, FILTER_CHUNK_LEN)?;
-    for k in 0..FILTER_CHUNK_LEN {
-        let _ = k;
-        scratch.push_reserved(T::zero());
-    }
+    scratch.resize(FILTER_CHUNK_LEN, T::zero())?;
     Ok(scratch)
 }
 

@@ -26,15 +26,10 @@ fn range_end(offset: usize, len: usize) -> usize
     if len == 0 { 0 } else { offset + len }
 }
 
-// From how many values on a run is copied whole: from `min_run_bytes` bytes on.
-fn run_len(policy: &Policy, width: usize) -> usize {
-    policy.fields().min_run_bytes.div_ceil(width.max(1))
-}
-
-// The same within a word: 0, so that none is, where a word's values are too few.
+// How many bits the runs of a chunk's words have on average where they are copied run after run:
+// those of `min_run_bytes` bytes, and four at most, since a run of four is less work as a block.
 fn long_in_words(policy: &Policy, width: usize) -> usize {
-    let long = run_len(policy, width);
-    if long <= 64 { long } else { 0 }
+    policy.fields().min_run_bytes.div_ceil(width.max(1)).min(4)
 }
 
 /// The values at the indices, which count from value `offset` on: those of `filter_chunked` for
@@ -105,7 +100,7 @@ pub fn filter_chunked_by_slices<T: Record, D: ChunkDecoder<T>>(
     let end = range_end(offset, len);
     let limit = policy.sparse_limit(T::WIDTH);
     let total = total_of(len, slices);
-    let mut cursor = RunCursor::new(0, 0, slices, offset, run_len(policy, T::WIDTH));
+    let mut cursor = RunCursor::new(0, 0, slices, offset);
     filter_at(alloc, decoder, &mut cursor, end, total, limit)
 }
 
@@ -166,7 +161,7 @@ pub fn filter_chunked<T: Record, D: ChunkDecoder<T>>(
 {
     let fields = policy.fields();
     if let Some(slices) = useful_slices(mask, fields) {
-        let mut cursor = RunCursor::new(0, 0, slices, offset, run_len(policy, T::WIDTH));
+        let mut cursor = RunCursor::new(0, 0, slices, offset);
         return filter_by(alloc, decoder, &mut cursor, offset, mask, policy);
     }
     if let Some(indices) = useful_indices(mask, fields) {
@@ -202,7 +197,7 @@ fn filter_front<T: Record, D: ChunkDecoder<T>>(
 {
     let end = range_end(offset, len);
     let limit = policy.sparse_limit(T::WIDTH);
-    let mut cursor = RunCursor::new(0, count, &[], offset, run_len(policy, T::WIDTH));
+    let mut cursor = RunCursor::new(0, count, &[], offset);
     filter_at(alloc, decoder, &mut cursor, end, count, limit)
 }
 

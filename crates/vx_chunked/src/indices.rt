@@ -44,24 +44,31 @@ impl IndexCursor<'_> {
     }
 }
 
-// How many of the indices lie in the chunk. One that is selected whole is seen by its last index.
+// How many of the indices lie in the chunk: a search by halves, since they ascend. A chunk that is
+// selected whole is seen by its last index.
 fn count_in(indices: &[usize], offset: usize, chunk: usize) -> usize
-    requires fits { 1024 * chunk < 2 ^ 64 }
+    requires fits { 1024 * (chunk + 1) < 2 ^ 64 }
     requires ahead { AscendFrom (1024 * chunk) (2 ^ 64) (map (λ i. offset + i) indices.now) }
     ensures within { result ≤ length indices.now }
     ensures inside { All (λ i. IsInChunk (1024 * chunk) (offset + i)) (take result indices.now) }
     ensures beyond { All (λ p. 1024 * (chunk + 1) ≤ p)
         (map (λ i. offset + i) (drop result indices.now)) }
 {
+    let beyond = (FILTER_CHUNK_LEN * (chunk + 1)).saturating_sub(offset);
     let last = FILTER_CHUNK_LEN - 1;
-    if last < indices.len() && (indices[last] + offset) / FILTER_CHUNK_LEN == chunk {
+    if last < indices.len() && indices[last] < beyond {
         return FILTER_CHUNK_LEN;
     }
-    let mut count = 0;
-    while count < indices.len() && (indices[count] + offset) / FILTER_CHUNK_LEN == chunk {
-        count += 1;
+    let (mut low, mut high) = (0, indices.len().min(FILTER_CHUNK_LEN));
+    'half: while low < high {
+        let middle = (low + high) / 2;
+        if indices[middle] < beyond {
+            low = middle + 1;
+        } else {
+            high = middle;
+        }
     }
-    count
+    low
 }
 
 // What was taken of indices, and those that are left.
@@ -72,7 +79,7 @@ struct Passed<'a> {
 
 // The indices that lie in the chunk.
 fn front_of_indices<'a>(indices: &'a [usize], offset: usize, chunk: usize) -> Passed<'a>
-    requires fits { 1024 * chunk < 2 ^ 64 }
+    requires fits { 1024 * (chunk + 1) < 2 ^ 64 }
     requires ahead { AscendFrom (1024 * chunk) (2 ^ 64) (map (λ i. offset + i) indices.now) }
     ensures taken { map (λ i. offset + i) indices.now
         ≡ map (λ p. 1024 * chunk + p)
@@ -138,6 +145,14 @@ impl<T: Copy> Cursor<T> for IndexCursor<'_> {
         self.indices = left;
         self.front = front;
         front.indices.len()
+    }
+
+    fn next_chunk(&self, chunk: usize) -> usize {
+        let _ = chunk;
+        match self.indices.first() {
+            Some(first) => (self.offset + first) / FILTER_CHUNK_LEN,
+            None => usize::MAX,
+        }
     }
 
     fn list_places(&self, places: &mut [usize]) {

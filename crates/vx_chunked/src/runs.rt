@@ -15,14 +15,13 @@ struct Runs<'a> {
 }
 
 // The first `count` positions of runs, each counted from value `offset` on, in the chunk whose
-// first value is value `base`. A part of at least `long` values is copied whole.
+// first value is value `base`.
 #[derive(Clone, Copy)]
 struct RunFront<'a> {
     runs: Runs<'a>,
     count: usize,
     offset: usize,
     base: usize,
-    long: usize,
     ghost counted: { base + 1024 ≤ 2 ^ 64 },
     ghost enough: { count ≤ length (with_runs runs.start runs.end runs.later.now) },
     ghost inside: { All (λ i. IsInChunk base (offset + i))
@@ -34,19 +33,16 @@ struct RunFront<'a> {
 pub(crate) struct RunCursor<'a> {
     runs: Runs<'a>,
     offset: usize,
-    long: usize,
     front: RunFront<'a>,
 }
 
 impl RunCursor<'_> {
-    // A cursor over the positions from `start` up to `end`, and those of the runs. A part of at
-    // least `long` values is copied whole.
+    // A cursor over the positions from `start` up to `end`, and those of the runs.
     pub(crate) fn new<'a>(
         start: usize,
         end: usize,
         later: &'a [(usize, usize)],
         offset: usize,
-        long: usize,
     ) -> RunCursor<'a>
         ensures { map (λ i. result.offset + i)
             (with_runs result.runs.start result.runs.end result.runs.later.now)
@@ -56,35 +52,14 @@ impl RunCursor<'_> {
         RunCursor {
             runs,
             offset,
-            long,
             front: RunFront {
                 runs,
                 count: 0,
                 offset,
                 base: 0,
-                long,
             },
         }
     }
-}
-
-// How many of the positions from `start` up to `end` lie in the chunk: none where the first lies
-// beyond.
-#[inline(always)]
-fn part_in(start: usize, end: usize, offset: usize, chunk: usize) -> usize
-    requires some { start < end }
-    requires fits { offset + start < 2 ^ 64 }
-    requires ahead { 1024 * chunk ≤ offset + start }
-    ensures few { result ≤ end - start }
-    ensures counted { start + result < 2 ^ 64 }
-    ensures none { result ≡ 0 → 1024 * (chunk + 1) ≤ offset + start }
-    ensures inside { 0 < result → offset + start + result ≤ 1024 * (chunk + 1) }
-{
-    let position = offset + start;
-    if position / FILTER_CHUNK_LEN != chunk {
-        return 0;
-    }
-    (end - start).min(FILTER_CHUNK_LEN - position % FILTER_CHUNK_LEN)
 }
 
 // What is left of runs behind so many positions.
@@ -102,7 +77,7 @@ fn walk<'a>(
     offset: usize,
     chunk: usize,
 ) -> Walked<'a>
-    requires fits { 1024 * chunk < 2 ^ 64 }
+    requires fits { 1024 * (chunk + 1) < 2 ^ 64 }
     requires ahead { AscendFrom (1024 * chunk) (2 ^ 64)
         (map (λ i. offset + i) (with_runs first last later.now)) }
     ensures enough { result.count ≤ length (with_runs first last later.now) }
@@ -113,25 +88,22 @@ fn walk<'a>(
     ensures beyond { All (λ p. 1024 * (chunk + 1) ≤ p) (map (λ i. offset + i)
         (with_runs result.left.start result.left.end result.left.later.now)) }
 {
-    let mut start = first;
-    let mut end = last;
+    let beyond = (FILTER_CHUNK_LEN * (chunk + 1)).saturating_sub(offset);
+    let (mut start, mut end) = (first, last);
     let mut used = 0;
     let mut count = 0;
-    loop {
+    'run: loop {
+        let more = end.min(beyond).saturating_sub(start);
+        count += more;
+        start += more;
         if start < end {
-            let more = part_in(start, end, offset, chunk);
-            if more == 0 {
-                break;
-            }
-            count += more;
-            start += more;
-        } else {
-            if used == later.len() {
-                break;
-            }
-            (start, end) = later[used];
-            used += 1;
+            break;
         }
+        if used == later.len() {
+            break;
+        }
+        (start, end) = later[used];
+        used += 1;
     }
     let left = Runs {
         start,
@@ -154,9 +126,8 @@ fn front_of_runs<'a>(
     later: &'a [(usize, usize)],
     offset: usize,
     chunk: usize,
-    long: usize,
 ) -> Passed<'a>
-    requires fits { 1024 * chunk < 2 ^ 64 }
+    requires fits { 1024 * (chunk + 1) < 2 ^ 64 }
     requires ahead { AscendFrom (1024 * chunk) (2 ^ 64)
         (map (λ i. offset + i) (with_runs start end later.now)) }
     ensures taken { map (λ i. offset + i) (with_runs start end later.now)
@@ -180,7 +151,6 @@ fn front_of_runs<'a>(
         count,
         offset,
         base: FILTER_CHUNK_LEN * chunk,
-        long,
     };
     Passed { front, left }
 }
@@ -228,37 +198,33 @@ fn put_runs(front: &RunFront, places: &mut [usize])
     }
 }
 
-// Copies the values from `from` on, `count` of them, to `at`: one that is long whole.
+// Copies the values from `from` on, `count` of them, to `at`: a few as a block of four or of
+// sixteen, where there is one and room for it, since that is less work than a call or a loop. What
+// a block has beyond them is written over by what follows.
 #[inline(always)]
-fn copy_part<T: Copy>(
-    dst: &mut [T],
-    at: usize,
-    values: &[T],
-    from: usize,
-    count: usize,
-    long: usize,
-)
+fn copy_part<T: Copy>(dst: &mut [T], at: usize, values: &[T], from: usize, count: usize)
     requires room { at + count ≤ length dst.old }
     requires within { from + count ≤ length values.now }
     ensures { take (at + count) dst.new ≡ take at dst.old ++ take count (drop from values.now) }
 {
-    if count >= long {
-        dst[at..at + count].copy_from_slice(&values[from..from + count]);
+    let room = (values.len() - from).min(dst.len() - at);
+    if count <= 4 && 4 <= room {
+        copy_block(dst, at, values, from, 4);
+    } else if count <= 16 && 16 <= room {
+        copy_block(dst, at, values, from, 16);
     } else {
-        copy_each(dst, at, values, from, count);
+        copy_block(dst, at, values, from, count);
     }
 }
 
-// The same, one by one.
+// Copies the values from `from` on, `count` of them, to `at`.
 #[inline(always)]
-fn copy_each<T: Copy>(dst: &mut [T], at: usize, values: &[T], from: usize, count: usize)
+fn copy_block<T: Copy>(dst: &mut [T], at: usize, values: &[T], from: usize, count: usize)
     requires room { at + count ≤ length dst.old }
     requires within { from + count ≤ length values.now }
     ensures { take (at + count) dst.new ≡ take at dst.old ++ take count (drop from values.now) }
 {
-    for k in 0..count {
-        dst[at + k] = values[from + k];
-    }
+    dst[at..at + count].copy_from_slice(&values[from..from + count]);
 }
 
 // Copies the values of a chunk at the places of the positions.
@@ -274,7 +240,6 @@ fn copy_runs<T: Copy>(front: &RunFront, values: &[T], dst: &mut [T])
         count,
         offset,
         base,
-        long,
     } = *front;
     let later = runs.later;
     let (mut start, mut end) = (runs.start, runs.end);
@@ -283,7 +248,7 @@ fn copy_runs<T: Copy>(front: &RunFront, values: &[T], dst: &mut [T])
     'part: while filled < count {
         if start < end {
             let more = (end - start).min(count - filled);
-            copy_part(dst, filled, values, offset + start - base, more, long);
+            copy_part(dst, filled, values, offset + start - base, more);
             filled += more;
             start += more;
         } else {
@@ -304,17 +269,18 @@ impl<T: Copy> Cursor<T> for RunCursor<'_> {
 
     fn take_places(&mut self, chunk: usize) -> usize {
         let Runs { start, end, later } = self.runs;
-        let Passed { front, left } = front_of_runs(
-            start,
-            end,
-            later,
-            self.offset,
-            chunk,
-            self.long,
-        );
+        let Passed { front, left } = front_of_runs(start, end, later, self.offset, chunk);
         self.runs = left;
         self.front = front;
         front.count
+    }
+
+    fn next_chunk(&self, chunk: usize) -> usize {
+        let Runs { start, end, later } = self.runs;
+        if start < end {
+            return (self.offset + start) / FILTER_CHUNK_LEN;
+        }
+        if later.is_empty() { usize::MAX } else { chunk }
     }
 
     fn list_places(&self, places: &mut [usize]) {

@@ -1,5 +1,5 @@
 //! What is done for one chunk.
-ghost use Rattle.std.specs.Prelude.{◌≡◌, ◌+◌, ◌*◌, ◌<◌, ◌≤◌, ◌++◌, Some, length, map, min, slice_get, vec_capacity, vec_len};
+ghost use Rattle.std.specs.Prelude.{◌≡◌, ◌+◌, ◌*◌, ◌<◌, ◌≤◌, ◌++◌, Some, length, map, min, slice_get, take, vec_capacity, vec_len};
 ghost use Rattle.vx_bits.specs.WordReader.{then_told};
 ghost use Rattle.vx_chunked.specs.Asked.{call_for};
 ghost use Rattle.vx_chunked.specs.Positions.{AscendFrom};
@@ -38,14 +38,33 @@ pub(crate) fn put_chunk<T: Copy, D: ChunkDecoder<T>, C: Cursor<T>>(
         return;
     }
     let filled = out.len();
-    grow(out, &scratch[..count]);
+    grow(out, scratch, count);
     let dst = &mut out.as_mut_slice()[filled..];
     take_chunk(decoder, chunk, cursor, limit, places, scratch, dst);
 }
 
+// Appends the first `count` items of a chunk's length, to be written over. There is room for them.
+// A few come as a block of sixteen that is cut off behind them, which is less work than a call.
+#[inline(always)]
+fn grow<T: Copy>(out: &mut Vec<T>, items: &[T], count: usize)
+    requires chunk { length items.now ≡ 1024 }
+    requires part { count ≤ 1024 }
+    requires room { vec_len out.old + count ≤ vec_capacity out.old }
+    ensures items { out.new.items ≡ out.old.items ++ take count items.now }
+    ensures capacity { vec_capacity out.old ≤ vec_capacity out.new }
+{
+    let filled = out.len();
+    if count <= 16 && 16 <= out.capacity() - filled {
+        append(out, &items[..16]);
+        out.truncate(filled + count);
+    } else {
+        append(out, &items[..count]);
+    }
+}
+
 // Appends items that there is room for.
 #[inline(always)]
-fn grow<T: Copy>(out: &mut Vec<T>, items: &[T])
+fn append<T: Copy>(out: &mut Vec<T>, items: &[T])
     requires { vec_len out.old + length items.now ≤ vec_capacity out.old }
     ensures items { out.new.items ≡ out.old.items ++ items.now }
     ensures capacity { vec_capacity out.old ≤ vec_capacity out.new }

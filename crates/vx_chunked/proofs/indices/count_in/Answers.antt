@@ -1,38 +1,49 @@
-use Rattle.std.proofs.Common.{◌+◌, ◌*◌, ◌^◌, get_or, take, arith}
-use Rattle.std.proofs.lemmas.List.{take_more}
-use Rattle.std.proofs.lemmas.List.Elements.{All-push, All-same}
-use Rattle.vx_chunked.specs.Positions.{IsInChunk}
-use Rattle.vx_chunked.proofs.Ascends.{all_in_chunk, ascend_all, ascend_drop, ascend_lower, ascend_next, ascend_past}
+use Rattle.std.proofs.Common.{◌≡◌, ℕ, ◌+◌, ◌-◌, ◌*◌, ◌/◌, ◌^◌, ◌≤◌, get_or, drop, map, ap, subst, arith}
+use Rattle.std.specs.List.{All}
+use Rattle.vx_chunked.proofs.Ascends.{all_in_chunk, ascend_all, ascend_drop, ascend_passed, ascend_past}
 use Rattle.vx_chunked.proofs.indices.count_in.Goals as goal
 
 pub returns-then-indices-last-clause-inside : goal.returns-then-indices-last-clause-inside
-returns-then-indices-last-clause-inside c = all_in_chunk (λ i. c.args.offset + i) (1024 * c.args.chunk) (2 ^ 64) c.args.indices.now 1024 c.requires.ahead (omega arith) (omega (arith, c.if-last-indices.true)) (omega (arith, c.if-indices-last.true))
+returns-then-indices-last-clause-inside c = all_in_chunk (λ i. c.args.offset + i) (1024 * c.args.chunk) (2 ^ 64) c.args.indices.now 1024 c.requires.ahead (omega arith) (omega (arith, c.if-last-indices.true)) (omega (arith, c.if-indices-last.true, c.saturating_sub-beyond.ensures))
 
 pub returns-then-indices-last-clause-beyond : goal.returns-then-indices-last-clause-beyond
 returns-then-indices-last-clause-beyond c = ascend_all (1024 * c.args.chunk + 1024) (2 ^ 64) (1024 * (c.args.chunk + 1)) _ (ascend_drop (λ i. c.args.offset + i) (1024 * c.args.chunk) (2 ^ 64) c.args.indices.now 1024 c.requires.ahead) (omega arith)
 
-pub overflow_add-indices : goal.overflow_add-indices
-overflow_add-indices c =
-    let next = ascend_next (λ i. c.args.offset + i) (1024 * c.args.chunk + 1023) (2 ^ 64) c.args.indices.now 1023 (ascend_drop (λ i. c.args.offset + i) (1024 * c.args.chunk) (2 ^ 64) c.args.indices.now 1023 c.requires.ahead) (omega (arith, c.if-last-indices.true)) in
-    omega (arith, next.1)
+pub half-init : goal.half-init
+half-init c = record {
+  ordered = omega arith;
+  within = omega (arith, c.min-high.ensures);
+  inside = λ k d p. absurd (omega arith);
+  past = ascend_passed (λ i. c.args.offset + i) (1024 * c.args.chunk) (2 ^ 64) (1024 * (c.args.chunk + 1)) c.args.indices.now _ c.requires.ahead (λ more. omega (arith, more, c.min-high.ensures));
+}
 
-pub loop-count-preserved : goal.loop-count-preserved
-loop-count-preserved c =
+pub half-preserved-then-indices-middle : goal.half-preserved-then-indices-middle
+half-preserved-then-indices-middle c =
     let indices = c.args.indices.now in
-    let offset = c.args.offset in
-    let base = 1024 * c.args.chunk in
-    let k = c.loop-count.count in
-    let here = c.loop-count-test.true in
-    let next = ascend_next (λ i. offset + i) base (2 ^ 64) indices k c.loop-count.invariant.ahead here in
-    let inside : IsInChunk base (offset + get_or indices k 0) = (omega (arith, next.0), omega (arith, c.if-indices-count.true)) in
+    let m = (c.half.low + c.half.high) / 2 in
+    let v = c.half.invariant in
+    let same : m + 1 - 1 ≡ m = omega arith in
     record {
-      within = omega arith;
-      inside = All-same (λ i. IsInChunk base (offset + i)) _ _ (take_more indices k 0 here) (All-push (λ i. IsInChunk base (offset + i)) (take k indices) (get_or indices k 0) c.loop-count.invariant.inside inside);
-      ahead = ascend_lower _ base (2 ^ 64) _ next.2 (omega (arith, next.0));
+      ordered = omega arith;
+      within = v.within;
+      inside = all_in_chunk (λ i. c.args.offset + i) (1024 * c.args.chunk) (2 ^ 64) indices (m + 1) c.requires.ahead (omega arith) (omega (arith, v.within)) (omega (arith, ap (λ k. get_or indices k 0) same, c.if-indices-middle.true, c.saturating_sub-beyond.ensures));
+      past = v.past;
     }
 
-pub returns-else-indices-count-clause-beyond : goal.returns-else-indices-count-clause-beyond
-returns-else-indices-count-clause-beyond c =
-    let k = c.loop-count.count in
-    let next = ascend_next (λ i. c.args.offset + i) (1024 * c.args.chunk) (2 ^ 64) c.args.indices.now k c.loop-count.invariant.ahead c.loop-count-test.true in
-    ascend_past (λ i. c.args.offset + i) (1024 * c.args.chunk) (2 ^ 64) (1024 * (c.args.chunk + 1)) c.args.indices.now k c.loop-count.invariant.ahead c.loop-count-test.true (omega (arith, next.0, c.if-indices-count.false))
+pub half-preserved : goal.half-preserved
+half-preserved c =
+    let indices = c.args.indices.now in
+    let m = (c.half.low + c.half.high) / 2 in
+    let f : ℕ → ℕ = λ i. c.args.offset + i in
+    let v = c.half.invariant in
+    record {
+      ordered = omega arith;
+      within = omega (arith, v.within);
+      inside = v.inside;
+      past = ascend_past f (1024 * c.args.chunk + m) (2 ^ 64) (1024 * (c.args.chunk + 1)) indices m (ascend_drop f (1024 * c.args.chunk) (2 ^ 64) indices m c.requires.ahead) (omega (arith, v.within)) (omega (arith, c.if-indices-middle.false, c.saturating_sub-beyond.ensures));
+    }
+
+pub returns-clause-beyond : goal.returns-clause-beyond
+returns-clause-beyond c =
+    let end : c.half.high ≡ c.half.low = omega (arith, c.half.invariant.ordered, c.half-test.false) in
+    subst (λ (n : ℕ). All (λ p. 1024 * (c.args.chunk + 1) ≤ p) (map (λ i. c.args.offset + i) (drop n c.args.indices.now))) end c.half.invariant.past

@@ -1,13 +1,10 @@
-use Rattle.std.proofs.Common.{◌-◌, length, take, drop, ap, sym, ◌∙◌, arith}
+use Rattle.std.proofs.Common.{◌-◌, length, take, drop, ap, ◌∙◌, arith}
 use Rattle.std.proofs.lemmas.List.{length-append, length-drop, length-take-le}
 use Rattle.vx_chunked.proofs.Ascends.{ascend_few}
 use Rattle.vx_chunked.proofs.step.put_chunk.Goals as goal
 
-pub slice_bounds-grow-end : goal.slice_bounds-grow-end
-slice_bounds-grow-end g c = omega (arith, ascend_few 0 1024 (g.C.Cursor.taken c.args.cursor.now) (omega arith) c.requires.ascend, c.requires.count, c.requires.scratch)
-
-pub slice_bounds-grow-end-2 : goal.slice_bounds-grow-end-2
-slice_bounds-grow-end-2 g c = sym (length-take-le c.args.count c.args.scratch.now (omega (arith, ascend_few 0 1024 (g.C.Cursor.taken c.args.cursor.now) (omega arith) c.requires.ascend, c.requires.count, c.requires.scratch)))
+pub grow-requires-clause-part : goal.grow-requires-clause-part
+grow-requires-clause-part g c = omega (arith, ascend_few 0 1024 (g.C.Cursor.taken c.args.cursor.now) (omega arith) c.requires.ascend, c.requires.count)
 
 pub take_chunk-requires-clause-room : goal.take_chunk-requires-clause-room
 take_chunk-requires-clause-room g c =

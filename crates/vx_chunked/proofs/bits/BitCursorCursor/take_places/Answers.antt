@@ -1,12 +1,11 @@
-use Rattle.std.proofs.Common.{length, take, ap, sym, ◌∙◌}
-use Rattle.vx_bits.specs.Words.{word_count}
-use Rattle.vx_filter.specs.Compact.{bits_of_words}
+use Rattle.std.proofs.Common.{◌+◌, ◌*◌, ◌++◌, map, sym, ap, ◌∙◌}
 use Rattle.vx_mask.specs.Positions.{positions}
-use Rattle.vx_mask.proofs.PositionLists.{length-positions}
+use Rattle.vx_chunked.specs.Positions.{positions_from}
 use Rattle.vx_chunked.proofs.bits.BitCursorCursor.take_places.Goals as goal
 
-pub returns-clause-count : goal.returns-clause-count
-returns-clause-count g c =
-    let front = c.front_of_bits-at.result.front in
-    let bits = bits_of_words (take (word_count front.len) front.words) in
-    c.count_of.ensures ∙ (ap (λ n. length (positions 0 (bits_of_words (take n front.words)))) c.div_ceil.ensures) ∙ length-positions 0 bits ∙ sym (length-positions front.from bits)
+pub returns-clause-taken : goal.returns-clause-taken
+returns-clause-taken g c =
+    let s = c.args.self.now in
+    let part = c.part_in-start.result in
+    c.part_in-start.ensures.taken ∙ ap (λ l. map (λ p. 1024 * c.args.chunk + p) l ++ map (λ i. s.offset + i) (positions_from part.end s.bits.now.bits))
+    (ap (positions part.from) (sym c.slice.ensures.bits) ∙ sym c.front_of-self.ensures.places)
