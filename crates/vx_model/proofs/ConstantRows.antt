@@ -57,6 +57,7 @@ is_take-null_constant p picks n h t =
       dtype = sym t;
       layout = λ e. let no : false ≡ true = e in cc;
       unwrapped = λ e. let no : false ≡ true = e in cc;
+      direct = λ h. let no : true ≡ false = h in cc;
     }
 
 -- a take of a value that is stored for each pick
@@ -67,6 +68,7 @@ is_take-stored_constant p picks n a below rows t =
       dtype = t;
       layout = λ e. let no : false ≡ true = e in cc;
       unwrapped = λ e. let no : false ≡ true = e in cc;
+      direct = λ h. let no : true ≡ false = h in cc;
     }
 
 -- ---- nulls
@@ -117,4 +119,5 @@ is_step-stored_constant p a rows dtype =
       dtype = dtype;
       layout = λ h. let no : false ≡ true = h in cc;
       unwrapped = λ h. let no : false ≡ true = h in cc;
+      direct = λ h. let no : true ≡ false = h in cc;
     }

@@ -40,7 +40,7 @@ at-replicate missing x m (Some p ∷ picks) there below =
 pub is_slice-constant : (p : ConstantParts) (s e : ℕ) → s ≤ e → e ≤ p.len → IsSlice (constant_column p) s e (constant_column (constant_with p (e - s)))
 is_slice-constant p s e h l =
     record {
-      step = record { rows = sym (slice_range-replicate p.len p.scalar.row s e h l); dtype = refl; layout = λ _. refl; unwrapped = λ h. h };
+      step = record { rows = sym (slice_range-replicate p.len p.scalar.row s e h l); dtype = refl; layout = λ _. refl; unwrapped = λ h. h; direct = λ h. h };
       plain = λ h. h;
       depth = omega arith;
     }
@@ -48,7 +48,7 @@ is_slice-constant p s e h l =
 pub is_filter-constant : (p : ConstantParts) (mask : List Bool) → length mask ≡ p.len → IsCut (constant_column p) (items_where_true mask (constant_column p).rows) (constant_column (constant_with p (true_count_of mask)))
 is_filter-constant p mask h =
     record {
-      step = record { rows = sym (items_where_true-replicate mask p.scalar.row) ∙ ap (λ k. items_where_true mask (replicate k p.scalar.row)) h; dtype = refl; layout = λ _. refl; unwrapped = λ h. h };
+      step = record { rows = sym (items_where_true-replicate mask p.scalar.row) ∙ ap (λ k. items_where_true mask (replicate k p.scalar.row)) h; dtype = refl; layout = λ _. refl; unwrapped = λ h. h; direct = λ h. h };
       plain = λ h. h;
       depth = omega arith;
     }
@@ -60,6 +60,7 @@ is_take-constant p picks there below =
       dtype = sym (also_nullable-none p.scalar.dtype);
       layout = λ _. refl;
       unwrapped = λ h. h;
+      direct = λ h. h;
     }
 
 -- ---- dictionaries
@@ -93,6 +94,7 @@ is_slice-dict p codes s e h cut =
         dtype = ap (λ (t : TypeTree). also_nullable p.values.dtype t.nullability) cut.step.dtype;
         layout = λ _. refl;
         unwrapped = λ h. h;
+        direct = λ h. h;
       };
       plain = λ h. h;
       depth = omega (arith, cut.depth);
@@ -109,6 +111,7 @@ is_filter-dict p codes mask h cut =
         dtype = ap (λ (t : TypeTree). also_nullable p.values.dtype t.nullability) cut.step.dtype;
         layout = λ _. refl;
         unwrapped = λ h. h;
+        direct = λ h. h;
       };
       plain = λ h. h;
       depth = omega (arith, cut.depth);
@@ -124,6 +127,7 @@ is_take-dict p codes picks n h step =
       dtype = ap (λ (t : TypeTree). also_nullable p.values.dtype t.nullability) step.dtype ∙ also_nullable-codes p.values.dtype p.codes.dtype n;
       layout = λ _. refl;
       unwrapped = λ h. h;
+      direct = λ h. h;
     }
 
 -- ---- lazy filters
@@ -148,6 +152,7 @@ is_slice-filter p child s e lo hi f h l at_lo at_hi cut =
         dtype = cut.step.dtype;
         layout = λ _. refl;
         unwrapped = λ h. h;
+        direct = λ h. h;
       };
       plain = λ h. h;
       depth = omega (arith, cut.depth);
@@ -161,6 +166,7 @@ is_step-filter p left t a rows dtype =
       dtype = dtype;
       layout = λ h. let no : false ≡ true = h in cc;
       unwrapped = λ h. let no : false ≡ true = h in cc;
+      direct = λ h. let no : true ≡ false = h in cc;
     }
 
 -- the child's rows that both masks keep: the set positions whose ranks the other one selects

@@ -15,3 +15,5 @@ pub mod Scalars
 pub mod StoredRows
 pub mod UnwrappedForms
 pub mod Validities
+pub mod Texts
+pub mod TextSteps

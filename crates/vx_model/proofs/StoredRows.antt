@@ -54,6 +54,7 @@ module _ (p : StoredParts) (w : Valid) (n : Nullability) (items : List RowValue)
         dtype = ap (λ (m : Nullability). let t : TypeTree = record { kind = p.kind; nullability = m } in t) now.nullability;
         layout = λ _. refl;
         unwrapped = stays (is_null_layout p.layout) (is_row_layout p.layout) (is_flat_cover (cover_by p.valid)) (is_flat_cover (cover_by w)) now.flat;
+        direct = λ h. h;
       }
 
 module _ (p : StoredParts) (w : Valid) (items : List RowValue) (records : List (List ℕ)) (left : List RowValue) (bits : List Bool) where

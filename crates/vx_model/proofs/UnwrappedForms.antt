@@ -40,6 +40,7 @@ execute-dict p codes values a coded valued taken =
       dtype = taken.dtype ∙ ap₂ also_nullable valued.dtype (ap (λ (t : TypeTree). t.nullability) coded.dtype);
       layout = λ h. let no : false ≡ true = h in cc;
       unwrapped = λ h. let no : false ≡ true = h in cc;
+      direct = λ h. let no : true ≡ false = h in cc;
     }
 
 -- ---- lazy filters

@@ -10,5 +10,8 @@ pub mod Plain
 pub mod Records
 pub mod Step
 pub mod Stored
+pub mod Text
 pub mod Valid
 pub mod ValidCode
+pub mod VarBin
+pub mod VarBinView

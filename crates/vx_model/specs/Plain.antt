@@ -13,6 +13,13 @@ abbrev pub is_constant_layout : LayoutName → Bool
 is_constant_layout layouts.Constant = true
 is_constant_layout t = false
 
+-- layouts whose rows are worked out when they are read
+abbrev pub is_lazy_layout : LayoutName → Bool
+is_lazy_layout layouts.Constant = true
+is_lazy_layout layouts.Dict = true
+is_lazy_layout layouts.Filter = true
+is_lazy_layout t = false
+
 -- layouts that store a row as a record of bytes
 abbrev pub stores_records : LayoutName → Bool
 stores_records layouts.Primitive = true

@@ -1,4 +1,5 @@
--- Layouts that store a row's bit or bytes in its place: `Bool`, `Primitive` and `Decimal`.
+-- Layouts that store a row's bit or bytes, null rows too: `Bool`, `Primitive`, `Decimal`, `VarBin`
+-- and `VarBinView`.
 use Rattle.std.specs.Prelude.{ℕ, ◌+◌, List}
 use Rattle.vx_types.specs.TypeTree.{TypeKind}
 use Rattle.vx_types.specs.RowValue.{RowValue}
@@ -20,7 +21,7 @@ pub record StoredParts : Type 0 where
 abbrev pub stored_column : StoredParts → Column
 stored_column p =
     record (bare_column (record { kind = p.kind; nullability = nullability_by p.valid })
-    (stored_rows p.valid p.items) p.layout (valid_size p.valid + 2)) {
+    (stored_rows p.valid p.items) p.layout (valid_size p.valid + 3)) {
       cover = cover_by p.valid;
       stored = p.records;
     }

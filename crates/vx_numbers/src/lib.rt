@@ -1,11 +1,14 @@
 //! Lists of numbers, of which some may be missing, as positions: the first that is none, and the
-//! picks that they name.
+//! picks that they name. And numbers as offsets, which cut a list into lists.
 #![tactic(auto)]
 
+mod by_type;
 mod numbers;
+mod offsets;
 mod positions;
 mod stored;
 
 pub use numbers::Numbers;
+pub use offsets::are_offsets;
 pub use positions::{first_bad, picks_of, position};
 pub use stored::{first_bad_by_bits, first_bad_present, picks_by_bits, picks_present};

@@ -5,39 +5,13 @@ ghost use Rattle.vx_types.specs.PType.{is_int, width};
 ghost use Rattle.vx_numbers.specs.Positions.{AllThere, first_bad, positions_of};
 ghost use Rattle.vx_numbers.specs.Stored.{present_numbers, shown_numbers};
 
+use crate::by_type;
 use crate::numbers::{Present, Shown};
 use crate::positions::{first_bad, picks_of};
 use std::alloc::Global;
 use vx_bits::{BitBuffer, NoMemory, Records};
 use vx_take::Picks;
 use vx_types::PType;
-
-// `$with(ptype, records, args)`, with the integer type and the width of the records known. Each arm
-// is a loop of its own.
-macro_rules! by_type {
-    ($ptype:expr, $values:expr, $with:ident $(, $arg:expr)*) => {
-        match $ptype {
-            PType::U8 => by_width!(PType::U8, Records::W1, $values, $with $(, $arg)*),
-            PType::U16 => by_width!(PType::U16, Records::W2, $values, $with $(, $arg)*),
-            PType::U32 => by_width!(PType::U32, Records::W4, $values, $with $(, $arg)*),
-            PType::U64 => by_width!(PType::U64, Records::W8, $values, $with $(, $arg)*),
-            PType::I8 => by_width!(PType::I8, Records::W1, $values, $with $(, $arg)*),
-            PType::I16 => by_width!(PType::I16, Records::W2, $values, $with $(, $arg)*),
-            PType::I32 => by_width!(PType::I32, Records::W4, $values, $with $(, $arg)*),
-            PType::I64 => by_width!(PType::I64, Records::W8, $values, $with $(, $arg)*),
-            PType::F16 | PType::F32 | PType::F64 => unreachable!(),
-        }
-    };
-}
-
-macro_rules! by_width {
-    ($ptype:path, $width:path, $values:expr, $with:ident $(, $arg:expr)*) => {
-        match $values {
-            $width(records) => $with($ptype, records.as_slice() $(, $arg)*),
-            _ => unreachable!(),
-        }
-    };
-}
 
 #[inline(always)]
 fn first_bad_there<const W: usize>(ptype: PType, records: &[[u8; W]], len: usize) -> Option<i128>

@@ -9,5 +9,6 @@ pub mod Row
 pub mod RowValue
 pub mod RowValueCode
 pub mod Scalar
+pub mod Text
 pub mod TypeTree
 pub mod TypeTreeCode

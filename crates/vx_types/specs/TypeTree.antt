@@ -56,6 +56,12 @@ primitive_type p n = record { kind = primitive_kind p; nullability = n }
 abbrev pub decimal_type : ℕ → ℤ → ℕ → Nullability → TypeTree
 decimal_type p s w n = record { kind = decimal_kind p s w; nullability = n }
 
+abbrev pub utf8_type : Nullability → TypeTree
+utf8_type n = record { kind = utf8_kind; nullability = n }
+
+abbrev pub binary_type : Nullability → TypeTree
+binary_type n = record { kind = binary_kind; nullability = n }
+
 -- ---- nullability
 
 -- the null kind is nullable, whatever is asked

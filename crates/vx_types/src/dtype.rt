@@ -19,6 +19,10 @@ pub enum DType {
     Primitive(PType, Nullability),
     /// Decimal numbers, stored as little-endian bytes.
     Decimal(DecimalDType, Nullability),
+    /// Text, which is printed in quotes.
+    Utf8(Nullability),
+    /// Bytes of any number.
+    Binary(Nullability),
 }
 
 impl DType {
@@ -31,6 +35,8 @@ impl DType {
             DType::Bool(nullability) => DType::Bool(*nullability),
             DType::Primitive(ptype, nullability) => DType::Primitive(*ptype, *nullability),
             DType::Decimal(decimal, nullability) => DType::Decimal(*decimal, *nullability),
+            DType::Utf8(nullability) => DType::Utf8(*nullability),
+            DType::Binary(nullability) => DType::Binary(*nullability),
         }
     }
 
@@ -42,7 +48,9 @@ impl DType {
             DType::Null => Nullability::Nullable,
             DType::Bool(nullability)
             | DType::Primitive(_, nullability)
-            | DType::Decimal(_, nullability) => *nullability,
+            | DType::Decimal(_, nullability)
+            | DType::Utf8(nullability)
+            | DType::Binary(nullability) => *nullability,
         }
     }
 
@@ -62,6 +70,8 @@ impl DType {
             DType::Bool(_) => DType::Bool(n),
             DType::Primitive(ptype, _) => DType::Primitive(*ptype, n),
             DType::Decimal(decimal, _) => DType::Decimal(*decimal, n),
+            DType::Utf8(_) => DType::Utf8(n),
+            DType::Binary(_) => DType::Binary(n),
         }
     }
 
@@ -78,6 +88,7 @@ impl DType {
     {
         match self {
             DType::Null | DType::Bool(_) | DType::Primitive(..) | DType::Decimal(..) => true,
+            DType::Utf8(_) | DType::Binary(_) => false,
         }
     }
 
@@ -96,7 +107,7 @@ impl DType {
         ensures { result ≡ type_width (type_of self.now) }
     {
         match self {
-            DType::Null | DType::Bool(_) => None,
+            DType::Null | DType::Bool(_) | DType::Utf8(_) | DType::Binary(_) => None,
             DType::Primitive(ptype, _) => Some(ptype.width()),
             DType::Decimal(decimal, _) => Some(decimal.width() as usize),
         }

@@ -13,6 +13,7 @@ mod ptype;
 mod row;
 mod runs;
 mod scalar;
+mod text;
 
 pub use decimal::DecimalDType;
 pub use dtype::DType;
@@ -23,3 +24,4 @@ pub use ptype::{PType, record_of};
 pub use row::{ByteList, Row};
 pub use runs::Runs;
 pub use scalar::{Scalar, ScalarValue};
+pub use text::{BinaryView, InlineBytes, TextKind};

@@ -33,13 +33,13 @@ impl ByteList {
     }
 }
 
-/// A row of a flat column.
+/// A row of a flat or a text column.
 #[derive(Drop)]
 pub enum Row {
     /// A null row.
     Null,
     /// A row of a column of bools.
     Bit(bool),
-    /// A row's record.
+    /// A row's record or text.
     Bytes(ByteList),
 }

@@ -1,4 +1,4 @@
-//! One value of a flat type, and the value with its type.
+//! One value of a flat or a text type, and the value with its type.
 ghost use Rattle.std.specs.Prelude.{◌≡◌, None, true};
 ghost use Rattle.vx_bits.specs.Results.{ok_unless};
 ghost use Rattle.vx_types.specs.DType.{type_of};
@@ -16,7 +16,7 @@ pub enum ScalarValue {
     Null,
     /// A row of a column of bools.
     Bit(bool),
-    /// A row's record.
+    /// A row's record or text.
     Bytes(Buffer<u8>),
 }
 
@@ -61,7 +61,10 @@ fn is_of_kind(dtype: &DType, value: &ScalarValue) -> bool
     match (value, dtype) {
         (ScalarValue::Null, _) => dtype.is_nullable(),
         (ScalarValue::Bit(_), DType::Bool(_)) => true,
-        (ScalarValue::Bytes(_), DType::Primitive(..) | DType::Decimal(..)) => true,
+        (
+            ScalarValue::Bytes(_),
+            DType::Primitive(..) | DType::Decimal(..) | DType::Utf8(_) | DType::Binary(_),
+        ) => true,
         _ => false,
     }
 }
