@@ -1,12 +1,14 @@
 -- A value's cell is one of a dictionary's type.
-use Rattle.std.proofs.Common.{◌≡◌, true, refl}
+use Rattle.std.proofs.Common.{◌≡◌, ℕ, ◌<◌, true, length, refl, arith}
+use Rattle.std.proofs.lemmas.Bool.Decides.{nat_tests}
+use Rattle.vx_model.specs.Valid.{Valid, non_nullable, all_valid, all_invalid, by_column, is_fitting}
 use Rattle.vx_types.specs.Nullability.{is_nullable, either_nullable}
 use Rattle.vx_types.specs.TypeTree.{TypeTree, also_nullable}
 use Rattle.vx_types.specs.declared.nullability.Nullability.{Nullability}
 use Rattle.vx_types.specs.declared.nullability.Nullability.TheVariants.{NonNullable, Nullable}
 use Rattle.vx_column.specs.declared.cell.Cell.{Cell}
 use Rattle.vx_column.specs.declared.cell.Cell.TheVariants as cells
-use Rattle.vx_column.specs.Cell.{IsOfType}
+use Rattle.vx_column.specs.Cell.{HasRow, IsOfType}
 
 either_here : (m n : Nullability) → is_nullable m ≡ true → is_nullable (either_nullable m n) ≡ true
 either_here NonNullable n h = cc
@@ -26,3 +28,14 @@ pub null_code : (t : TypeTree) (n : Nullability) → is_nullable n ≡ true → 
 null_code t n h = either_there t.nullability n h
 
 pub ruleset dict_cells = (of_type-also, null_code)
+
+-- a validity that fits has each row
+pub has_row : (v : Valid) (n i : ℕ) → is_fitting v n ≡ true → i < n → HasRow v i
+has_row non_nullable n i h l = tt
+has_row all_valid n i h l = tt
+has_row all_invalid n i h l = tt
+has_row (by_column c) n i h l =
+    let same : length c.rows ≡ n = grind (arith, nat_tests) in
+    omega (arith, l, same)
+
+pub ruleset there = (has_row)

@@ -1,4 +1,5 @@
 pub mod Cells
 pub mod NumberLists
 pub mod ShownBits
+pub mod Stretches
 pub mod TruthBits

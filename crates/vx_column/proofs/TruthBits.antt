@@ -4,14 +4,11 @@ use Rattle.std.specs.Prelude.{◌&&◌}
 use Rattle.std.specs.List.{items_where_true}
 use Rattle.std.proofs.lemmas.List.{length-map, length-replicate}
 use Rattle.std.proofs.lemmas.List.Sums.{sum_by-cons}
-use Rattle.std.proofs.lemmas.Nat.{and_comm}
 use lib.Bits.{and_step, and_zero_r}
 use Rattle.vx_bits.specs.BitBuffer.{PlacedBits, number_of, true_count_of}
-use Rattle.vx_bits.specs.Words.{word_at}
-use Rattle.vx_bits.proofs.WordLists.{word_at-zeros}
 use Rattle.vx_types.specs.RowValue.{bit}
 use Rattle.vx_model.specs.Column.{Column}
-use Rattle.vx_model.specs.Valid.{non_nullable, all_valid, all_invalid, by_column, is_yes, present_bits, shown_rows}
+use Rattle.vx_model.specs.Valid.{non_nullable, all_valid, by_column, is_yes, present_bits, shown_rows}
 use Rattle.vx_model.specs.Bool.{BoolParts, bool_fault, bool_column}
 use Rattle.vx_model.specs.Filter.{FilterParts, filter_fault, filter_column}
 use Rattle.vx_model.proofs.Items.{items_where_true-all, items_where_true-none, map-items_where_true}
@@ -30,13 +27,13 @@ both-nothing : (xs : List Bool) → both xs [] ≡ []
 both-nothing [] = refl
 both-nothing (a ∷ xs) = refl
 
-take-both : (n : ℕ) (xs ys : List Bool) → take n (both xs ys) ≡ both (take n xs) (take n ys)
+pub take-both : (n : ℕ) (xs ys : List Bool) → take n (both xs ys) ≡ both (take n xs) (take n ys)
 take-both zero xs ys = refl
 take-both (suc n) [] ys = refl
 take-both (suc n) (a ∷ xs) [] = refl
 take-both (suc n) (a ∷ xs) (b ∷ ys) = ap (λ l. (a && b) ∷ l) (take-both n xs ys)
 
-drop-both : (n : ℕ) (xs ys : List Bool) → drop n (both xs ys) ≡ both (drop n xs) (drop n ys)
+pub drop-both : (n : ℕ) (xs ys : List Bool) → drop n (both xs ys) ≡ both (drop n xs) (drop n ys)
 drop-both zero xs ys = refl
 drop-both (suc n) [] ys = refl
 drop-both (suc n) (a ∷ xs) [] = sym (both-nothing (drop n xs))
@@ -48,7 +45,7 @@ length-both [] (b ∷ ys) h = absurd (omega arith)
 length-both (a ∷ xs) [] h = absurd (omega arith)
 length-both (a ∷ xs) (b ∷ ys) h = ap suc (length-both xs ys (omega arith))
 
-number-both : (xs ys : List Bool) → number_of (both xs ys) ≡ bit_and (number_of xs) (number_of ys)
+pub number-both : (xs ys : List Bool) → number_of (both xs ys) ≡ bit_and (number_of xs) (number_of ys)
 number-both [] ys = refl
 number-both (a ∷ xs) [] = sym (and_zero_r (number_of (a ∷ xs)))
 number-both (true ∷ xs) (true ∷ ys) =
@@ -67,13 +64,6 @@ number-both (false ∷ xs) (false ∷ ys) =
     let x = number_of xs in let y = number_of ys in
     let e : bit_and ((0 + 2 * x) / 2) ((0 + 2 * y) / 2) ≡ bit_and x y = ap₂ bit_and (omega arith) (omega arith) in
     omega (arith, and_step (0 + 2 * x) (0 + 2 * y), e, number-both xs ys)
-
--- a word of them
-pub word-both : (xs ys : List Bool) (i : ℕ) → word_at (both xs ys) i ≡ bit_and (word_at xs i) (word_at ys i)
-unfolding word_at
-word-both xs ys i =
-    ap number_of (ap (take 64) (drop-both (64 * i) xs ys) ∙ take-both 64 (drop (64 * i) xs) (drop (64 * i) ys))
-    ∙ number-both (take 64 (drop (64 * i) xs)) (take 64 (drop (64 * i) ys))
 
 -- as many as there are set bits at the set positions
 pub count-both : (mask bits : List Bool) → true_count_of (items_where_true mask bits) ≡ true_count_of (both mask bits)
@@ -96,7 +86,7 @@ yes-shown (t ∷ there) [] = refl
 yes-shown (true ∷ there) (b ∷ bits) = ap (λ l. b ∷ l) (yes-shown there bits)
 yes-shown (false ∷ there) (b ∷ bits) = ap (λ l. false ∷ l) (yes-shown there bits)
 
-true-bool : (p : BoolParts) → true_bits (bool_column p) ≡ both (present_bits p.valid (length (map bit p.bits.bits))) p.bits.bits
+pub true-bool : (p : BoolParts) → true_bits (bool_column p) ≡ both (present_bits p.valid (length (map bit p.bits.bits))) p.bits.bits
 true-bool p = yes-shown (present_bits p.valid (length (map bit p.bits.bits))) p.bits.bits
 
 all-there : (bits : List Bool) → both (replicate (length (map bit bits)) true) bits ≡ bits
@@ -107,20 +97,6 @@ true-non_nullable p e = true-bool p ∙ ap (λ v. both (present_bits v (length (
 
 pub true-all_valid : (p : BoolParts) → p.valid ≡ all_valid → true_bits (bool_column p) ≡ p.bits.bits
 true-all_valid p e = true-bool p ∙ ap (λ v. both (present_bits v (length (map bit p.bits.bits))) p.bits.bits) e ∙ all-there p.bits.bits
-
-pub word-all_invalid : (p : BoolParts) (i : ℕ) → p.valid ≡ all_invalid → word_at (true_bits (bool_column p)) i ≡ 0
-word-all_invalid p i e =
-    let n = length (map bit p.bits.bits) in
-    ap (λ l. word_at l i) (true-bool p ∙ ap (λ v. both (present_bits v n) p.bits.bits) e)
-    ∙ word-both (replicate n false) p.bits.bits i
-    ∙ ap (λ w. bit_and w (word_at p.bits.bits i)) (word_at-zeros n i)
-
-pub word-by_column : (p : BoolParts) (c : Column) (i : ℕ) → p.valid ≡ by_column c → word_at (true_bits (bool_column p)) i ≡ bit_and (word_at p.bits.bits i) (word_at (true_bits c) i)
-word-by_column p c i e =
-    let n = length (map bit p.bits.bits) in
-    ap (λ l. word_at l i) (true-bool p ∙ ap (λ v. both (present_bits v n) p.bits.bits) e)
-    ∙ word-both (true_bits c) p.bits.bits i
-    ∙ and_comm (word_at (true_bits c) i) (word_at p.bits.bits i)
 
 -- a validity array is as long
 pub long-valid : (p : BoolParts) (c : Column) → bool_fault p ≡ None → p.valid ≡ by_column c → length c.rows ≡ length p.bits.bits
@@ -154,4 +130,4 @@ pub finished : {E : Type 0} (r : Result PlacedBits E) (bits all : List Bool) →
 finished (Ok b) bits all h e = ap (λ p. p.bits) h ∙ e
 finished (Err x) bits all h e = tt
 
-pub ruleset truth = (true-non_nullable, true-all_valid, word-all_invalid, word-by_column, long-valid, is_fitting-bool, length-bool, length-true_bits, true-filter)
+pub ruleset truth = (true-non_nullable, true-all_valid, long-valid, is_fitting-bool, length-bool, length-true_bits, true-filter)

@@ -6,6 +6,7 @@ pub mod Plain
 pub mod Records
 pub mod Shown
 pub mod Stored
+pub mod Text
 pub mod Truth
 pub mod Typed
 pub mod Validity

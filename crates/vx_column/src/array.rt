@@ -11,6 +11,8 @@ use crate::dict::DictArray;
 use crate::filter::FilterArray;
 use crate::null::NullArray;
 use crate::primitive::PrimitiveArray;
+use crate::varbin::VarBinArray;
+use crate::varbinview::VarBinViewArray;
 use std::alloc::Global;
 use std::marker::Model;
 use vx_bits::NoMemory;
@@ -40,6 +42,10 @@ pub enum Layout {
     Primitive(PrimitiveArray),
     /// A record of a decimal number a row.
     Decimal(DecimalArray),
+    /// Texts that stand one after another, cut by offsets.
+    VarBin(VarBinArray),
+    /// A view of its text a row.
+    VarBinView(VarBinViewArray),
     /// One value for every row.
     Constant(ConstantArray),
     /// For each row a code that names one of the values.
@@ -93,6 +99,8 @@ impl Layout {
             Layout::Bool(a) => Layout::Bool(a.share()),
             Layout::Primitive(a) => Layout::Primitive(a.share()),
             Layout::Decimal(a) => Layout::Decimal(a.share()),
+            Layout::VarBin(a) => Layout::VarBin(a.share()),
+            Layout::VarBinView(a) => Layout::VarBinView(a.share()),
             Layout::Constant(a) => Layout::Constant(a.share()),
             Layout::Dict(a) => Layout::Dict(a.share()),
             Layout::Filter(a) => Layout::Filter(a.share()),

@@ -10,14 +10,14 @@ ghost use Rattle.vx_column.specs.Cell.{row_of, IsOfType};
 use crate::array::{Array, Layout};
 use vx_types::DType;
 
-/// A row of a flat column, borrowed from where it is stored.
+/// A row of a flat or a text column, borrowed from where it is stored.
 #[derive(Clone, Copy)]
 pub enum Cell<'a> {
     /// A null row.
     Null,
     /// A row of a column of bools.
     Bit(bool),
-    /// A row's record.
+    /// A row's record or text.
     Bytes(&'a [u8]),
 }
 
@@ -43,7 +43,7 @@ impl Cell<'_> {
 }
 
 impl Array {
-    /// Row `i` of a flat column. It takes no memory.
+    /// Row `i`. It takes no memory.
     #[cycle(cell)]
     #[tactic(auto, using(vx_model::proofs::Layouts::layout_rows))]
     pub fn cell_at(&self, i: usize) -> Cell<'_>
@@ -56,6 +56,8 @@ impl Array {
             Layout::Bool(a) => a.cell_at(i),
             Layout::Primitive(a) => a.rows().cell_at(i),
             Layout::Decimal(a) => a.rows().cell_at(i),
+            Layout::VarBin(a) => a.cell_at(i),
+            Layout::VarBinView(a) => a.cell_at(i),
             Layout::Constant(a) => a.cell_at(i),
             Layout::Dict(a) => a.cell_at(i),
             Layout::Filter(a) => a.cell_at(i),

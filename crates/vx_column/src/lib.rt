@@ -22,6 +22,8 @@ mod rows;
 mod stored;
 mod truth;
 mod validity;
+mod varbin;
+mod varbinview;
 mod view;
 pub mod vtables;
 
@@ -39,9 +41,11 @@ pub use records::{RecordArray, RecordType};
 pub use stored::Stored;
 pub use truth::mask_of;
 pub use validity::Validity;
+pub use varbin::VarBinArray;
+pub use varbinview::VarBinViewArray;
 pub use view::ArrayView;
 pub use vtables::VTable;
 pub use vx_types::{
-    ByteList, ColumnError, DType, DecimalDType, LayoutName, Nullability, PType, Row, Runs, Scalar,
-    ScalarValue, match_each_integer_ptype, record_of,
+    BinaryView, ByteList, ColumnError, DType, DecimalDType, InlineBytes, LayoutName, Nullability,
+    PType, Row, Runs, Scalar, ScalarValue, TextKind, match_each_integer_ptype, record_of,
 };

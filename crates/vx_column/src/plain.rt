@@ -39,7 +39,11 @@ impl Array {
             Layout::Bool(a) => a.slice_plain(start, end),
             Layout::Primitive(a) => a.rows().slice_plain(start, end),
             Layout::Decimal(a) => a.rows().slice_plain(start, end),
-            Layout::Constant(_) | Layout::Dict(_) | Layout::Filter(_) => None,
+            Layout::VarBin(_)
+            | Layout::VarBinView(_)
+            | Layout::Constant(_)
+            | Layout::Dict(_)
+            | Layout::Filter(_) => None,
         }
     }
 

@@ -1,39 +1,129 @@
 //! Which rows of a column of bools are true.
-ghost use Rattle.std.specs.Prelude.{◌≡◌, ◌↔◌, ◌<◌, ◌≤◌, ◌-◌, ◌*◌, ◌/◌, IfOk, IfSome, None, length, slice_index_or, true};
+ghost use Rattle.std.specs.Prelude.{◌≡◌, ◌↔◌, ◌+◌, ◌^◌, ◌<◌, ◌≤◌, IfOk, IfSome, None, length, count_ones, drop, replicate, slice_index_or, take, true};
 ghost use Rattle.std.specs.List.{items_where_true};
-ghost use Rattle.vx_bits.specs.BitBuffer.{true_count_of};
-ghost use Rattle.vx_bits.specs.Words.{word_at};
+ghost use Rattle.vx_bits.specs.BitBuffer.{number_of, true_count_of};
+ghost use Rattle.vx_bitfilter.specs.Pext.{pext};
 ghost use Rattle.vx_mask.specs.Mask.{mask_bits};
 ghost use Rattle.vx_types.specs.Nullability.{is_nullable};
 ghost use Rattle.vx_types.specs.RowValue.{null};
 ghost use Rattle.vx_model.specs.Bool.{bool_column};
+ghost use Rattle.vx_model.specs.Constant.{constant_column};
 ghost use Rattle.vx_model.specs.Filter.{filter_column};
 ghost use Rattle.vx_model.specs.Valid.{is_yes};
-ghost use Rattle.vx_column.specs.Truth.{bit_in, is_bool_type, true_bits};
+ghost use Rattle.vx_column.specs.Truth.{IsStretch, bit_in, is_bool_type, true_bits};
 
 use crate::array::{Array, Layout};
 use crate::boolean::BoolArray;
 use crate::cell::Cell;
+use crate::constant::ConstantArray;
 use crate::filter::FilterArray;
 use crate::validity::Validity;
 use std::alloc::Global;
+use vx_bitfilter::pext_fallback;
 use vx_bits::{BitBuffer, BitBuilder, NoMemory};
 use vx_mask::Mask;
-use vx_types::DType;
+use vx_types::{DType, ScalarValue};
+
+// Of rows that follow one another, some and at most 64, which are true: a bit a row, the first one
+// lowest, and zeros above them.
+#[derive(Clone, Copy)]
+struct Stretch {
+    word: u64,
+    len: usize,
+}
+
+impl Stretch {
+    // The rows at the set bits.
+    #[tactic(auto, using(crate::proofs::Stretches::full_picks))]
+    fn picked(self, picks: u64) -> Stretch
+        requires few { self.len ≤ 64 }
+        requires word { self.word < 2 ^ self.len }
+        requires picks { picks < 2 ^ self.len }
+        ensures word { result.word ≡ pext self.word picks }
+        ensures len { result.len ≡ count_ones picks }
+    {
+        let len = picks.count_ones() as usize;
+        if len == self.len {
+            return self;
+        }
+        Stretch {
+            word: pext_fallback(self.word, picks),
+            len,
+        }
+    }
+}
+
+// `len` bits from bit `start` on, at most 64, the first one lowest, and zeros above them.
+#[inline(always)]
+fn word_from(bits: &BitBuffer, start: usize, len: usize) -> u64
+    requires few { len ≤ 64 }
+    requires within { start + len ≤ length bits.now.bits }
+    ensures { result ≡ number_of (take len (drop start bits.now.bits)) }
+{
+    // The places are bounded by the length.
+    let _ = bits.len();
+    bits.slice(start, start + len).word(0)
+}
+
+// So many bits that are all this one, and zeros above them.
+#[tactic(auto, using(crate::proofs::Stretches::alike_bits))]
+fn alike(bit: bool, len: usize) -> u64
+    requires { len ≤ 64 }
+    ensures { result ≡ number_of (replicate len bit) }
+{
+    if !bit {
+        return 0;
+    }
+    if len == 64 { u64::MAX } else { (1 << len) - 1 }
+}
+
+impl ConstantArray {
+    // Whether each row is true.
+    #[tactic(auto, using(vx_model::proofs::Scalars::scalars))]
+    fn is_true(&self) -> bool
+        ensures { result ≡ is_yes self.now.scalar.row }
+    {
+        match self.scalar().value() {
+            ScalarValue::Bit(bit) => *bit,
+            ScalarValue::Null | ScalarValue::Bytes(_) => false,
+        }
+    }
+
+    // The rows from `start` on.
+    #[tactic(auto, using(vx_model::proofs::LazyRows::lazy_rows))]
+    fn true_from(&self, start: usize) -> Stretch
+        requires { start < length (constant_column self.now).rows }
+        ensures { IsStretch (true_bits (constant_column self.now)) start result.word result.len }
+    {
+        let len = (self.len() - start).min(64);
+        let word = alike(self.is_true(), len);
+        Stretch { word, len }
+    }
+}
 
 impl BoolArray {
-    // Word `i` of the bits that say which rows are true.
+    // The rows from `start` on.
     #[cycle(truth)]
     #[tactic(auto, using(crate::proofs::TruthBits::truth))]
-    fn true_word(&self, i: usize) -> u64
-        requires { i ≤ length (bool_column self.now).rows / 64 }
-        ensures { result ≡ word_at (true_bits (bool_column self.now)) i }
+    fn true_from(&self, start: usize) -> Stretch
+        requires { start < length (bool_column self.now).rows }
+        ensures { IsStretch (true_bits (bool_column self.now)) start result.word result.len }
     {
         let bits = self.bits();
+        let len = (bits.len() - start).min(64);
         match self.validity() {
-            Validity::NonNullable | Validity::AllValid => bits.word(i),
-            Validity::AllInvalid => 0,
-            Validity::Array(there) => bits.word(i) & there.true_word(i),
+            Validity::NonNullable | Validity::AllValid => Stretch {
+                word: word_from(bits, start, len),
+                len,
+            },
+            Validity::AllInvalid => Stretch { word: 0, len },
+            Validity::Array(there) => {
+                let there = there.true_from(start);
+                Stretch {
+                    word: there.word & word_from(bits, start, there.len),
+                    len: there.len,
+                }
+            }
         }
     }
 
@@ -51,7 +141,25 @@ impl BoolArray {
 }
 
 impl FilterArray {
-    // How many rows are true: the child's at the set positions, word by word.
+    // The rows from `start` on: those that the mask keeps of a stretch of the child, which begins
+    // with the first of them.
+    #[cycle(truth)]
+    #[tactic(auto, using(vx_model::proofs::LazyRows::lazy_rows, crate::proofs::TruthBits::truth))]
+    fn true_from(&self, start: usize) -> Stretch
+        requires { start < length (filter_column self.now).rows }
+        ensures { IsStretch (true_bits (filter_column self.now)) start result.word result.len }
+    {
+        let mask = self.mask();
+        let at = mask.rank(start);
+        let all = self.child().true_from(at);
+        match mask {
+            Mask::AllTrue(_) => all,
+            Mask::AllFalse(_) => unreachable!(),
+            Mask::Values(values) => all.picked(word_from(values.bits(), at, all.len)),
+        }
+    }
+
+    // How many rows are true: the child's at the set positions, a stretch after another.
     #[cycle(true_rows)]
     #[tactic(auto, using(vx_model::proofs::LazyRows::lazy_rows, crate::proofs::TruthBits::truth))]
     fn true_rows(&self) -> usize
@@ -104,54 +212,62 @@ impl Array {
         }
     }
 
-    // Word `i` of the bits that say which rows are true, from row to row.
-    fn true_word_by_rows(&self, i: usize) -> u64
-        requires { i ≤ length self.now.rows / 64 }
-        ensures { result ≡ word_at (true_bits self.now) i }
+    // The rows from `start` on, from row to row.
+    fn true_from_by_rows(&self, start: usize) -> Stretch
+        requires { start < length self.now.rows }
+        ensures { IsStretch (true_bits self.now) start result.word result.len }
     {
-        let len = self.len();
-        let start = 64 * i;
+        let len = (self.len() - start).min(64);
         let mut word = 0;
-        for k in 0..(len - start).min(64) {
+        for k in 0..len {
             if self.is_true_at(start + k) {
                 word |= 1 << k;
             }
         }
-        word
+        Stretch { word, len }
     }
 
-    // Word `i` of the bits that say which rows are true.
+    // The rows from `start` on, as many as are told at once.
     #[cycle(truth)]
-    #[tactic(auto, using(vx_model::proofs::Layouts::layout_rows))]
-    fn true_word(&self, i: usize) -> u64
-        requires { i ≤ length self.now.rows / 64 }
-        ensures { result ≡ word_at (true_bits self.now) i }
+    #[tactic(auto, using(vx_model::proofs::Layouts::layout_rows, vx_model::proofs::LazyRows::lazy_rows))]
+    fn true_from(&self, start: usize) -> Stretch
+        requires { start < length self.now.rows }
+        ensures { IsStretch (true_bits self.now) start result.word result.len }
     {
         match self.layout() {
-            Layout::Bool(a) => a.true_word(i),
-            _ => self.true_word_by_rows(i),
+            Layout::Bool(a) => a.true_from(start),
+            Layout::Constant(a) => a.true_from(start),
+            Layout::Filter(a) => a.true_from(start),
+            _ => self.true_from_by_rows(start),
         }
     }
 
-    // How many rows are true, word by word.
-    fn true_rows_by_words(&self) -> usize
+    // How many rows are true, a stretch after another.
+    fn true_rows_by_stretches(&self) -> usize
         ensures { result ≡ true_count_of (true_bits self.now) }
     {
-        let mut count = 0;
-        for i in 0..self.len().div_ceil(64) {
-            count += self.true_word(i).count_ones() as usize;
+        let len = self.len();
+        let (mut count, mut at) = (0, 0);
+        'stretch: while at < len {
+            let next = self.true_from(at);
+            count += next.word.count_ones() as usize;
+            at += next.len;
         }
         count
     }
 
-    // How many of the rows at the set bits are true, word by word.
+    // How many of the rows at the set bits are true, a stretch after another.
     fn true_rows_at(&self, bits: &BitBuffer) -> usize
         requires { length bits.now.bits ≡ length self.now.rows }
         ensures { result ≡ true_count_of (items_where_true bits.now.bits (true_bits self.now)) }
     {
-        let mut count = 0;
-        for i in 0..self.len().div_ceil(64) {
-            count += (bits.word(i) & self.true_word(i)).count_ones() as usize;
+        let len = self.len();
+        let (mut count, mut at) = (0, 0);
+        'stretch: while at < len {
+            let next = self.true_from(at);
+            let kept = next.word & word_from(bits, at, next.len);
+            count += kept.count_ones() as usize;
+            at += next.len;
         }
         count
     }
@@ -164,7 +280,7 @@ impl Array {
     {
         match self.layout() {
             Layout::Filter(a) => a.true_rows(),
-            _ => self.true_rows_by_words(),
+            _ => self.true_rows_by_stretches(),
         }
     }
 
@@ -179,16 +295,18 @@ impl Array {
         }
     }
 
-    // The bits that say which rows are true, a word after another.
+    // The bits that say which rows are true, a stretch after another.
     fn true_bits(&self, alloc: Global) -> Result<BitBuffer, NoMemory>
         ensures { IfOk result (λ b. b.bits ≡ true_bits self.now) }
     {
         let len = self.len();
         let mut bits = BitBuilder::with_capacity(alloc, len)?;
-        for i in 0..len / 64 {
-            bits.append_word(self.true_word(i), 64)?;
+        let mut at = 0;
+        'stretch: while at < len {
+            let next = self.true_from(at);
+            bits.append_word(next.word, next.len)?;
+            at += next.len;
         }
-        bits.append_word(self.true_word(len / 64), len % 64)?;
         bits.finish()
     }
 }

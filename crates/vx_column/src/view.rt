@@ -54,6 +54,8 @@ impl Array {
                 let _ = a.rows();
                 LayoutName::Decimal
             }
+            Layout::VarBin(_) => LayoutName::VarBin,
+            Layout::VarBinView(_) => LayoutName::VarBinView,
             Layout::Constant(_) => LayoutName::Constant,
             Layout::Dict(_) => LayoutName::Dict,
             Layout::Filter(_) => LayoutName::Filter,

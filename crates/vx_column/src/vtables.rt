@@ -1,6 +1,6 @@
 //! The layouts as types.
 ghost use Rattle.vx_types.specs.declared.layout_name.LayoutName.{LayoutName};
-ghost use Rattle.vx_types.specs.declared.layout_name.LayoutName.TheVariants.{Null as NullName, Bool as BoolName, Primitive as PrimitiveName, Decimal as DecimalName, Constant as ConstantName, Dict as DictName, Filter as FilterName};
+ghost use Rattle.vx_types.specs.declared.layout_name.LayoutName.TheVariants.{Null as NullName, Bool as BoolName, Primitive as PrimitiveName, Decimal as DecimalName, VarBin as VarBinName, VarBinView as VarBinViewName, Constant as ConstantName, Dict as DictName, Filter as FilterName};
 
 use vx_types::LayoutName;
 
@@ -50,6 +50,26 @@ impl VTable for Decimal {
     const NAME: LayoutName = LayoutName::Decimal;
 
     ghost NAME = { DecimalName };
+}
+
+/// Layout `VarBin`.
+#[derive(Debug, Clone, Copy, Default)]
+pub struct VarBin;
+
+impl VTable for VarBin {
+    const NAME: LayoutName = LayoutName::VarBin;
+
+    ghost NAME = { VarBinName };
+}
+
+/// Layout `VarBinView`.
+#[derive(Debug, Clone, Copy, Default)]
+pub struct VarBinView;
+
+impl VTable for VarBinView {
+    const NAME: LayoutName = LayoutName::VarBinView;
+
+    ghost NAME = { VarBinViewName };
 }
 
 /// Layout `Constant`.

@@ -1,7 +1,13 @@
-use Rattle.std.proofs.Common.{◌≡◌, ◌*◌, take}
+use Rattle.std.proofs.Common.{◌≡◌, ◌-◌, ◌≤◌, take, length}
 use Rattle.vx_column.specs.Truth.{true_bits}
 use Rattle.vx_column.proofs.array.Array.true_bits.Given as goal
 
--- the bits of the words so far
-abbrev pub invariant-loop-i : goal.invariant-loop-i
-invariant-loop-i l = l.bits ≡ take (64 * l.i) (true_bits l.self)
+-- the bits so far
+abbrev pub invariant-stretch : goal.invariant-stretch
+invariant-stretch l = record {
+  within : l.at ≤ length (true_bits l.self);
+  bits : l.bits ≡ take l.at (true_bits l.self);
+}
+
+abbrev pub decreases-stretch : goal.decreases-stretch
+decreases-stretch l = length (true_bits l.self) - l.at

@@ -1,30 +1,35 @@
--- The next word's bits.
-use Rattle.std.proofs.Common.{◌+◌, ◌*◌, take, bit_and, ap, ap₂, sym, ◌∙◌, arith}
-use Rattle.std.specs.Int.RustNames.{count_ones}
-use Rattle.std.proofs.lemmas.List.{length-take}
+-- One stretch more.
+use Rattle.std.proofs.Common.{◌≡◌, ◌+◌, take, length, bit_and, ap, sym, ◌∙◌, arith}
+use Rattle.std.proofs.lemmas.List.{length-take, take_all}
 use Rattle.std.proofs.lemmas.List.Sums.{count_by-le-length}
 use Rattle.vx_bits.specs.BitBuffer.{true_count_of}
-use Rattle.vx_bits.proofs.WordLists.{count_of_word, take_all_words}
 use Rattle.vx_column.specs.Truth.{true_bits}
-use Rattle.vx_column.proofs.TruthBits.{both, count-both, length-both, length-true_bits, word-both}
+use Rattle.vx_column.proofs.Stretches.{count-swapped, more-counted, stretch-both}
+use Rattle.vx_column.proofs.TruthBits.{both, length-both, length-true_bits}
 use Rattle.vx_column.proofs.array.Array.true_rows_at.Goals as goal
 
 pub overflow_add-count : goal.overflow_add-count
 overflow_add-count c =
-    let mask = c.args.bits.now.bits in let bits = true_bits c.args.self.now in
-    let kept = both mask bits in let next = take (64 * (c.loop-i.i + 1)) kept in
-    let long = length-both mask bits (c.requires ∙ sym (length-true_bits c.args.self.now)) in
-    omega (arith, count_of_word kept c.loop-i.i, ap count_ones (ap₂ bit_and c.word.ensures c.true_word.ensures ∙ sym (word-both mask bits c.loop-i.i)), count_by-le-length (λ b. b) next, length-take (64 * (c.loop-i.i + 1)) kept, long, length-true_bits c.args.self.now)
+    let bits = true_bits c.args.self.now in let mask = c.args.bits.now.bits in let next = c.true_from-next.result in
+    let long : length bits ≡ length mask = length-true_bits c.args.self.now ∙ sym c.requires in
+    let kept = stretch-both bits mask c.stretch.at next.word c.word_from.result next.len long c.true_from-next.ensures c.word_from.ensures in
+    let more = take (c.stretch.at + next.len) (both bits mask) in
+    omega (arith, more-counted (both bits mask) c.stretch.at (bit_and next.word c.word_from.result) next.len kept, count_by-le-length (λ b. b) more, length-take (c.stretch.at + next.len) (both bits mask), length-both bits mask long, long, length-true_bits c.args.self.now)
 
-pub loop-i-preserved : goal.loop-i-preserved
-loop-i-preserved c =
-    let mask = c.args.bits.now.bits in let bits = true_bits c.args.self.now in
-    omega (arith, count_of_word (both mask bits) c.loop-i.i, ap count_ones (ap₂ bit_and c.word.ensures c.true_word.ensures ∙ sym (word-both mask bits c.loop-i.i)))
+pub stretch-preserved : goal.stretch-preserved
+stretch-preserved c =
+    let bits = true_bits c.args.self.now in let mask = c.args.bits.now.bits in let next = c.true_from-next.result in
+    let long : length bits ≡ length mask = length-true_bits c.args.self.now ∙ sym c.requires in
+    let kept = stretch-both bits mask c.stretch.at next.word c.word_from.result next.len long c.true_from-next.ensures c.word_from.ensures in
+    record {
+      within = c.true_from-next.ensures.within;
+      counted = omega (arith, more-counted (both bits mask) c.stretch.at (bit_and next.word c.word_from.result) next.len kept);
+    }
 
 pub returns : goal.returns
 returns c =
-    let mask = c.args.bits.now.bits in let bits = true_bits c.args.self.now in
-    let long = length-both mask bits (c.requires ∙ sym (length-true_bits c.args.self.now)) in
-    c.loop-i.invariant
-    ∙ ap true_count_of (take_all_words (both mask bits) c.loop-i.i (omega (arith, long, length-true_bits c.args.self.now)))
-    ∙ sym (count-both mask bits)
+    let bits = true_bits c.args.self.now in let mask = c.args.bits.now.bits in
+    let long : length bits ≡ length mask = length-true_bits c.args.self.now ∙ sym c.requires in
+    c.stretch.invariant.counted
+    ∙ ap true_count_of (take_all c.stretch.at (both bits mask) (omega (arith, length-both bits mask long, long, length-true_bits c.args.self.now)))
+    ∙ sym (count-swapped mask bits)

@@ -1,0 +1,272 @@
+//! Layout `VarBin`: texts that stand one after another, cut by offsets.
+ghost use Rattle.std.specs.Prelude.{◌≡◌, ◌<◌, None, [], length, slice_index_or, true};
+ghost use Rattle.vx_bits.specs.Results.{ok_unless};
+ghost use Rattle.vx_types.specs.RowValue.{null};
+ghost use Rattle.vx_types.specs.TypeTree.{is_int_kind};
+ghost use Rattle.vx_numbers.specs.Offsets.{are_offsets, offset_positions};
+ghost use Rattle.vx_model.specs.Numbers.{integer_by, integers_of};
+ghost use Rattle.vx_model.specs.Valid.{is_fitting};
+ghost use Rattle.vx_model.specs.VarBin.{are_integers, row_count, varbin_column, varbin_fault, varbin_texts};
+ghost use Rattle.vx_column.specs.Cell.{row_of, IsOfType};
+ghost use Rattle.vx_column.specs.Text.{varbin_parts};
+ghost use Rattle.vx_column.specs.Validity.{valid_of};
+
+use crate::array::{Array, Layout};
+use crate::cell::Cell;
+use crate::primitive::PrimitiveArray;
+use crate::validity::Validity;
+use std::marker::Model;
+use vx_bits::Buffer;
+use vx_numbers::are_offsets;
+use vx_types::{ColumnError, TextKind};
+
+/// A column of texts in one list of bytes, each from its offset up to the next: Vortex's
+/// `VarBinArray`.
+#[cycle(array)]
+#[derive(Drop)]
+pub struct VarBinArray {
+    kind: TextKind,
+    offsets: PrimitiveArray,
+    bytes: Buffer<u8>,
+    validity: Validity,
+}
+
+impl Model for VarBinArray {
+    ghost use Rattle.vx_model.specs.VarBin.{VarBinParts, coded_varbin};
+
+    ghost Value = { VarBinParts };
+
+    ghost coded = { coded_varbin };
+
+    ghost use Rattle.std.specs.Prelude.{◌≡◌, ◌+◌, None};
+    ghost use Rattle.std.proofs.Common.{arith};
+    ghost use Rattle.vx_model.specs.Valid.{valid_size};
+    ghost use Rattle.vx_model.specs.VarBin.{varbin_fault};
+    ghost use Rattle.vx_column.specs.Text.{varbin_parts};
+
+    ghost view = { λ a. varbin_parts a.kind a.offsets a.bytes a.validity };
+
+    ghost invariant = { λ a.
+        varbin_fault (varbin_parts a.kind a.offsets a.bytes a.validity) ≡ None };
+
+    ghost size = { λ p. valid_size p.valid + 2 };
+
+    ghost size_decreases = { λ a h. Prim.grind arith };
+}
+
+// Whether it is a column of integers that has no null.
+fn are_integers(offsets: &PrimitiveArray) -> bool
+    ensures { result ≡ are_integers offsets.now }
+{
+    match offsets.validity() {
+        Validity::NonNullable => offsets.ptype().is_int(),
+        _ => false,
+    }
+}
+
+// One fewer than offsets, and none where there is no offset.
+fn row_count(offsets: &PrimitiveArray) -> usize
+    ensures { result ≡ row_count offsets.now }
+{
+    offsets.values().len().saturating_sub(1)
+}
+
+// Whether the numbers cut a list of so many bytes.
+fn cut(offsets: &PrimitiveArray, len: usize) -> bool
+    requires { are_integers offsets.now ≡ true }
+    ensures { result ≡ are_offsets (integers_of offsets.now) len }
+{
+    are_offsets(offsets.ptype(), offsets.values(), len)
+}
+
+// Number `i`.
+#[tactic(auto, using(vx_model::proofs::Layouts::layout_rows))]
+fn integer_at(offsets: &PrimitiveArray, i: usize) -> i128
+    requires int { is_int_kind offsets.now.kind ≡ true }
+    requires row { i < length offsets.now.records }
+    ensures { result ≡ integer_by offsets.now.kind (slice_index_or offsets.now.records i []) }
+{
+    let values = offsets.values();
+    offsets.ptype().number(values.record_bytes(i))
+}
+
+impl VarBinArray {
+    /// A column with one row fewer than offsets: the bytes from each offset up to the next. It
+    /// takes no memory.
+    ///
+    /// `WrongType` exactly where the offsets aren't a non-nullable column of integers. Else
+    /// `BadValidity` exactly where the validity can't be that of so many rows. Else `BadOffsets`
+    /// exactly where there is no offset, or one is negative, below the one before, or past the
+    /// bytes.
+    pub fn try_new(
+        kind: TextKind,
+        offsets: PrimitiveArray,
+        bytes: Buffer<u8>,
+        validity: Validity,
+    ) -> Result<VarBinArray, ColumnError>
+        ensures { result ≡ ok_unless (varbin_fault (varbin_parts kind offsets bytes validity))
+            (varbin_parts kind offsets bytes validity) }
+    {
+        if !are_integers(&offsets) {
+            return Err(ColumnError::WrongType);
+        }
+        if !validity.is_fitting(row_count(&offsets)) {
+            return Err(ColumnError::BadValidity);
+        }
+        if !cut(&offsets, bytes.len()) {
+            return Err(ColumnError::BadOffsets);
+        }
+        Ok(VarBinArray {
+            kind,
+            offsets,
+            bytes,
+            validity,
+        })
+    }
+
+    /// A column of sound parts. It takes no memory, and tests nothing.
+    pub fn of(
+        kind: TextKind,
+        offsets: PrimitiveArray,
+        bytes: Buffer<u8>,
+        validity: Validity,
+    ) -> VarBinArray
+        requires { varbin_fault (varbin_parts kind offsets bytes validity) ≡ None }
+        ensures { result ≡ varbin_parts kind offsets bytes validity }
+    {
+        VarBinArray {
+            kind,
+            offsets,
+            bytes,
+            validity,
+        }
+    }
+
+    /// What its rows are.
+    pub fn kind(&self) -> TextKind
+        ensures { result ≡ self.now.kind }
+    {
+        self.kind
+    }
+
+    /// Where each text begins, and where the last ends.
+    pub fn offsets(&self) -> &PrimitiveArray
+        ensures value { result.now ≡ self.now.offsets }
+        ensures valid { varbin_fault self.now ≡ None }
+    {
+        &self.offsets
+    }
+
+    /// The bytes of all texts.
+    pub fn bytes(&self) -> &Buffer<u8>
+        ensures value { result.now ≡ self.now.bytes }
+        ensures valid { varbin_fault self.now ≡ None }
+    {
+        &self.bytes
+    }
+
+    /// Which rows are there.
+    pub fn validity(&self) -> &Validity
+        ensures value { valid_of result.now ≡ self.now.valid }
+        ensures valid { varbin_fault self.now ≡ None }
+    {
+        &self.validity
+    }
+
+    /// How many rows it has.
+    #[tactic(auto, using(vx_model::proofs::Texts::varbin_rows))]
+    pub(crate) fn rows(&self) -> usize
+        ensures { result ≡ length (varbin_texts self.now).texts }
+    {
+        row_count(&self.offsets)
+    }
+
+    // Where the text of row `i` begins, and the one before it ends.
+    #[tactic(auto, using(vx_model::proofs::Texts::varbin_offsets))]
+    fn offset_at(&self, i: usize) -> usize
+        requires { i < length self.now.offsets.records }
+        ensures { result ≡ slice_index_or (offset_positions (integers_of self.now.offsets)) i 0 }
+    {
+        // its offsets are integers, none of them negative or past the bytes
+        let _ = self.bytes().len();
+        integer_at(&self.offsets, i) as usize
+    }
+
+    /// Where the last text ends. It takes no memory.
+    #[tactic(auto, using(vx_model::proofs::Texts::some_offset))]
+    pub fn last_offset(&self) -> usize
+        ensures { result ≡ slice_index_or (offset_positions (integers_of self.now.offsets))
+            (row_count self.now.offsets) 0 }
+    {
+        // there is an offset
+        let _ = self.bytes();
+        self.offset_at(row_count(&self.offsets))
+    }
+
+    /// The stored bytes of row `i`, of a null row too. It takes no memory.
+    #[tactic(auto, using(vx_model::proofs::Texts::varbin_offsets))]
+    pub fn text_at(&self, i: usize) -> &[u8]
+        requires { i < length (varbin_texts self.now).texts }
+        ensures { result.now ≡ slice_index_or (varbin_texts self.now).texts i [] }
+    {
+        let bytes = self.bytes().as_slice();
+        // row `i` has an offset behind it
+        let _ = self.rows();
+        &bytes[self.offset_at(i)..self.offset_at(i + 1)]
+    }
+
+    /// The same texts with another validity: what a step leaves. It takes no memory.
+    #[tactic(auto, using(vx_model::proofs::Texts::other_valid))]
+    pub fn with_validity(&self, validity: Validity) -> VarBinArray
+        requires { is_fitting (valid_of validity) (length (varbin_texts self.now).texts) ≡ true }
+        ensures { result ≡ record self.now { valid = valid_of validity } }
+    {
+        // its offsets are sound
+        let _ = self.bytes();
+        VarBinArray {
+            kind: self.kind,
+            offsets: self.offsets.share(),
+            bytes: self.bytes.share(),
+            validity,
+        }
+    }
+
+    /// The same column once more. It takes no memory.
+    pub fn share(&self) -> VarBinArray
+        ensures { result ≡ self.now }
+    {
+        VarBinArray {
+            kind: self.kind,
+            offsets: self.offsets.share(),
+            bytes: self.bytes.share(),
+            validity: self.validity.share(),
+        }
+    }
+
+    /// The column of this layout. It takes no memory.
+    #[tactic(auto, using(vx_model::proofs::Texts::varbin_rows))]
+    pub fn into_array(self) -> Array
+        ensures { result ≡ varbin_column self }
+    {
+        let dtype = self.kind.dtype(self.validity.nullability());
+        let len = row_count(&self.offsets);
+        Array::new(dtype, len, Layout::VarBin(self))
+    }
+
+    // Row `i`.
+    #[cycle(cell)]
+    #[tactic(auto, using(vx_model::proofs::Texts::varbin_rows, vx_model::proofs::Layouts::absent_nullable, crate::proofs::Cells::there))]
+    pub(crate) fn cell_at(&self, i: usize) -> Cell<'_>
+        requires { i < length (varbin_column self.now).rows }
+        ensures row { row_of result ≡ slice_index_or (varbin_column self.now).rows i null }
+        ensures of_type { IsOfType result (varbin_column self.now).dtype }
+    {
+        // the validity fits the rows
+        let _ = self.bytes();
+        if self.validity().is_valid_at(i) {
+            Cell::Bytes(self.text_at(i))
+        } else {
+            Cell::Null
+        }
+    }
+}
