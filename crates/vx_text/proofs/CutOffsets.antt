@@ -1,0 +1,136 @@
+-- Offsets from one to another cut the lists between them.
+use Rattle.std.proofs.Common.{◌≡◌, ℕ, zero, suc, ◌+◌, ◌-◌, ◌<◌, ◌≤◌, Bool, true, false, List, [], ◌∷◌, map, length, take, drop, slice_range, None, Some, refl, sym, ap, subst, ◌∙◌, arith}
+use Rattle.std.specs.Prelude.{ℤ, pos, int_le, ◌&&◌, if◌then◌else◌}
+use Rattle.std.proofs.lemmas.List.{length-map}
+use Rattle.vx_types.specs.TypeTree.{is_int_kind}
+use Rattle.vx_types.specs.declared.error.ColumnError.TheVariants.{WrongType, BadValidity, BadOffsets}
+use Rattle.vx_types.specs.declared.text.TextKind.{TextKind}
+use Rattle.vx_numbers.specs.Positions.{position_of}
+use Rattle.vx_numbers.specs.Offsets.{ascend_within, are_offsets, offset_positions, spans, items_in, lists_at}
+use Rattle.vx_model.specs.Valid.{Valid, is_fitting, non_nullable}
+use Rattle.vx_model.specs.Numbers.{integer_by, integers_of}
+use Rattle.vx_model.specs.Records.{RecordParts, records_with}
+use Rattle.vx_model.specs.VarBin.{VarBinParts, are_integers, is_never_null, row_count, varbin_fault, varbin_texts}
+use Rattle.vx_model.proofs.Items.{map-slice_range, length-slice_range}
+use Rattle.vx_text.proofs.Both.{first, rest, join}
+use Rattle.vx_model.proofs.Texts.{integers-varbin, offsets-varbin, texts-varbin}
+
+-- ---- offsets that ascend
+
+int_le-trans : (a b c : ℤ) → int_le a b ≡ true → int_le b c ≡ true → int_le a c ≡ true
+int_le-trans a b c h k = grind arith
+
+module _ (n : ℕ) where
+  pub ascend-from : (a b : ℤ) (zs : List ℤ) → int_le a b ≡ true → ascend_within b zs n ≡ true → ascend_within a zs n ≡ true
+  ascend-from a b [] h k = refl
+  ascend-from a b (z ∷ zs) h k =
+      let both = first (int_le b z && int_le z (pos n)) (ascend_within z zs n) k in
+      join _ _ (join _ _ (int_le-trans a b z h (first (int_le b z) _ both)) (rest (int_le b z) _ both)) (rest (int_le b z && int_le z (pos n)) _ k)
+
+  pub ascend-drop : (low : ℤ) (zs : List ℤ) (k : ℕ) → ascend_within low zs n ≡ true → ascend_within low (drop k zs) n ≡ true
+  ascend-drop low zs zero h = h
+  ascend-drop low [] (suc k) h = refl
+  ascend-drop low (z ∷ zs) (suc k) h =
+      let both = first (int_le low z && int_le z (pos n)) (ascend_within z zs n) h in
+      ascend-drop low zs k (ascend-from low z zs (first (int_le low z) _ both) (rest (int_le low z && int_le z (pos n)) _ h))
+
+  pub ascend-take : (low : ℤ) (zs : List ℤ) (k : ℕ) → ascend_within low zs n ≡ true → ascend_within low (take k zs) n ≡ true
+  ascend-take low zs zero h = refl
+  ascend-take low [] (suc k) h = refl
+  ascend-take low (z ∷ zs) (suc k) h =
+      join _ _ (first (int_le low z && int_le z (pos n)) _ h) (ascend-take z zs k (rest (int_le low z && int_le z (pos n)) _ h))
+
+  are-ascending : (zs : List ℤ) → are_offsets zs n ≡ true → ascend_within (pos 0) zs n ≡ true
+  are-ascending [] h = cc
+  are-ascending (z ∷ zs) h = h
+
+  ascending-are : (zs : List ℤ) → 0 < length zs → ascend_within (pos 0) zs n ≡ true → are_offsets zs n ≡ true
+  ascending-are [] h k = absurd (omega arith)
+  ascending-are (z ∷ zs) h k = k
+
+  pub are_offsets-slice : (zs : List ℤ) (s e : ℕ) → s < e → e ≤ length zs → are_offsets zs n ≡ true → are_offsets (slice_range zs s e) n ≡ true
+  are_offsets-slice zs s e h l k =
+      ascending-are (slice_range zs s e) (omega (arith, h, l, length-slice_range zs s e (omega (arith, h)) l))
+      (ascend-take (pos 0) (drop s zs) (e - s) (ascend-drop (pos 0) zs s (are-ascending zs k)))
+
+-- ---- the spans between them
+
+drop-spans : (offsets : List ℕ) (s : ℕ) → spans (drop s offsets) ≡ drop s (spans offsets)
+drop-spans offsets zero = refl
+drop-spans [] (suc s) = refl
+drop-spans (a ∷ []) (suc s) = none s
+  where
+    none : (s : ℕ) → spans (drop s []) ≡ []
+    none zero = refl
+    none (suc s) = refl
+drop-spans (a ∷ b ∷ offsets) (suc s) = drop-spans (b ∷ offsets) s
+
+take-spans : (offsets : List ℕ) (k : ℕ) → spans (take (suc k) offsets) ≡ take k (spans offsets)
+take-spans [] zero = refl
+take-spans [] (suc k) = refl
+take-spans (a ∷ []) zero = refl
+take-spans (a ∷ []) (suc k) = refl
+take-spans (a ∷ b ∷ offsets) zero = refl
+take-spans (a ∷ b ∷ offsets) (suc k) = ap (λ l. (a, b) ∷ l) (take-spans (b ∷ offsets) k)
+
+spans-slice : (offsets : List ℕ) (s e : ℕ) → s ≤ e → spans (slice_range offsets s (e + 1)) ≡ slice_range (spans offsets) s e
+spans-slice offsets s e h =
+    let many : e + 1 - s ≡ suc (e - s) = omega (arith, h) in
+    ap (λ k. spans (take k (drop s offsets))) many
+    ∙ take-spans (drop s offsets) (e - s)
+    ∙ ap (take (e - s)) (drop-spans offsets s)
+
+pub lists_at-slice : {X : Type 0} (offsets : List ℕ) (items : List X) (s e : ℕ) → s ≤ e → lists_at (slice_range offsets s (e + 1)) items ≡ slice_range (lists_at offsets items) s e
+lists_at-slice offsets items s e h =
+    ap (map (items_in items)) (spans-slice offsets s e h) ∙ map-slice_range (items_in items) (spans offsets) s e
+
+-- ---- the column that they leave
+
+no_fault : (a b c : Bool) → a ≡ true → b ≡ true → c ≡ true → (if a then (if b then (if c then None else Some BadOffsets) else Some BadValidity) else Some WrongType) ≡ None
+no_fault true true true h k l = refl
+no_fault true true false h k l = cc
+no_fault true false c h k l = cc
+no_fault false b c h k l = cc
+
+pub sound-varbin : (p : VarBinParts) → are_integers p.offsets ≡ true → is_fitting p.valid (row_count p.offsets) ≡ true → are_offsets (integers_of p.offsets) (length p.bytes) ≡ true → varbin_fault p ≡ None
+sound-varbin p h k l = no_fault (are_integers p.offsets) (is_fitting p.valid (row_count p.offsets)) (are_offsets (integers_of p.offsets) (length p.bytes)) h k l
+
+module _ (p : VarBinParts) (s e : ℕ) where
+  abbrev pub offsets_cut : RecordParts
+  offsets_cut = records_with p.offsets (slice_range p.offsets.records s (e + 1)) non_nullable
+
+  integers-cut : integers_of offsets_cut ≡ slice_range (integers_of p.offsets) s (e + 1)
+  integers-cut = map-slice_range (integer_by p.offsets.kind) p.offsets.records s (e + 1)
+
+  pub texts-cut : s ≤ e → lists_at (offset_positions (integers_of offsets_cut)) p.bytes ≡ slice_range (varbin_texts p).texts s e
+  texts-cut h =
+      ap (λ zs. lists_at (offset_positions zs) p.bytes) integers-cut
+      ∙ ap (λ l. lists_at l p.bytes) (map-slice_range position_of (integers_of p.offsets) s (e + 1))
+      ∙ lists_at-slice (offset_positions (integers_of p.offsets)) p.bytes s e h
+
+  some_offset : varbin_fault p ≡ None → 0 < length p.offsets.records
+  some_offset h = some (integers_of p.offsets) (offsets-varbin p h) (length-map p.offsets.records (integer_by p.offsets.kind))
+    where
+      some : {m : ℕ} (zs : List ℤ) → are_offsets zs (length p.bytes) ≡ true → length zs ≡ m → 0 < m
+      some [] k l = cc
+      some (z ∷ zs) k l = omega (arith, l)
+
+  pub end-within : varbin_fault p ≡ None → e ≤ length (varbin_texts p).texts → e + 1 ≤ length p.offsets.records
+  end-within h l = omega (arith, some_offset h, texts-varbin p, l)
+
+  sound-cut : (v : Valid) → varbin_fault p ≡ None → s ≤ e → e ≤ length (varbin_texts p).texts → is_fitting v (e - s) ≡ true → varbin_fault (record p { offsets = offsets_cut; valid = v }) ≡ None
+  sound-cut v h o l f =
+      let within = end-within h l in
+      let long = length-slice_range p.offsets.records s (e + 1) (omega (arith, o)) within in
+      let rows : row_count offsets_cut ≡ e - s = omega (arith, o, long) in
+      let many : e + 1 ≤ length (integers_of p.offsets) = omega (arith, within, length-map p.offsets.records (integer_by p.offsets.kind)) in
+      sound-varbin (record p { offsets = offsets_cut; valid = v })
+      (join (is_int_kind p.offsets.kind) true (first (is_int_kind p.offsets.kind) (is_never_null p.offsets.valid) (integers-varbin p h)) refl)
+      (ap (is_fitting v) rows ∙ f)
+      (ap (λ zs. are_offsets zs (length p.bytes)) integers-cut ∙ are_offsets-slice (length p.bytes) (integers_of p.offsets) s (e + 1) (omega (arith, o)) many (offsets-varbin p h))
+
+  -- parts that are equal to these make a column too
+  pub sound-as_cut : (v : Valid) (k : TextKind) (o : RecordParts) (b : List ℕ) → o ≡ offsets_cut → b ≡ p.bytes → varbin_fault p ≡ None → s ≤ e → e ≤ length (varbin_texts p).texts → is_fitting v (e - s) ≡ true → varbin_fault (record { kind = k; offsets = o; bytes = b; valid = v }) ≡ None
+  sound-as_cut v k o b is same h q l f =
+      subst (λ (x : RecordParts). varbin_fault (record { kind = k; offsets = x; bytes = b; valid = v }) ≡ None) (sym is)
+      (subst (λ (y : List ℕ). varbin_fault (record { kind = k; offsets = offsets_cut; bytes = y; valid = v }) ≡ None) (sym same) (sound-cut v h q l f))

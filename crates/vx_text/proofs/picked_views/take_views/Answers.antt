@@ -1,0 +1,74 @@
+-- Views between the column's own offsets stand for its texts.
+use Rattle.std.proofs.Common.{ℕ, ◌<◌, [], ◌∷◌, List, length, ap, ap₂, ◌∙◌, arith}
+use Rattle.std.specs.Prelude.{map}
+use Rattle.std.proofs.lemmas.List.{length-map}
+use Rattle.vx_types.specs.Text.{view_text}
+use Rattle.vx_types.specs.declared.text.BinaryView.{BinaryView}
+use Rattle.vx_numbers.specs.Offsets.{offset_positions}
+use Rattle.vx_model.specs.Numbers.{integer_by, integers_of}
+use Rattle.vx_model.specs.Records.{RecordParts}
+use Rattle.vx_model.specs.Valid.{is_fitting}
+use Rattle.vx_model.specs.VarBinView.{ViewParts}
+use Rattle.vx_model.proofs.Texts.{integers-varbin, offsets-varbin}
+use Rattle.vx_column.specs.Validity.{valid_of}
+use Rattle.vx_text.specs.Views.{text_view}
+use Rattle.vx_text.proofs.CutOffsets.{end-within}
+use Rattle.vx_text.proofs.KeptViews.{sound-as}
+use Rattle.vx_text.proofs.PickedRows.{next_rows}
+use Rattle.vx_text.proofs.TextViews.{sound-picks, texts-picks}
+use Rattle.vx_text.proofs.picked_views.take_views.Goals as goal
+
+pub views_in-requires-clause-integers : goal.views_in-requires-clause-integers
+views_in-requires-clause-integers c =
+    rw c.offsets-offsets.ensures.value (integers-varbin c.args.array.now c.offsets-offsets.ensures.valid)
+
+pub views_in-requires-clause-offsets : goal.views_in-requires-clause-offsets
+views_in-requires-clause-offsets c =
+    rw (c.offsets-offsets.ensures.value, c.as_slice.ensures, c.bytes-bytes.ensures.value)
+    (offsets-varbin c.args.array.now c.offsets-offsets.ensures.valid)
+
+pub views_in-requires-clause-near : goal.views_in-requires-clause-near
+views_in-requires-clause-near c = rw c.offsets-offsets.ensures.value c.requires.near
+
+pub views_in-requires-clause-bound : goal.views_in-requires-clause-bound
+views_in-requires-clause-bound c =
+    let p = c.args.array.now in
+    omega (arith, end-within p 0 c.args.picks.now.bound c.offsets-offsets.ensures.valid c.requires.bound, ap (λ (q : RecordParts). length q.records) c.offsets-offsets.ensures.value)
+
+pub of-requires : goal.of-requires
+of-requires c =
+    let p = c.args.array.now in let picks = c.args.picks.now.picks in let zs = integers_of p.offsets in let b = p.bytes in
+    let sound = c.offsets-offsets.ensures.valid in
+    let more : c.bound.result < length zs =
+    omega (arith, c.bound.ensures.value, end-within p 0 c.args.picks.now.bound sound c.requires.bound, length-map p.offsets.records (integer_by p.offsets.kind)) in
+    let rows = next_rows picks c.bound.result (length zs) c.bound.ensures.below more in
+    let text = c.as_slice.ensures ∙ c.bytes-bytes.ensures.value in
+    let views = c.in_ok-views.ensures ∙ c.in_ok-taken.ensures ∙ ap₂ (λ (o : RecordParts) (t : List ℕ). map (text_view (offset_positions (integers_of o)) t) picks) c.offsets-offsets.ensures.value text in
+    let buffers = c.in_ok-buffers.ensures ∙ ap (λ t. t ∷ []) c.bytes-bytes.ensures.value in
+    sound-as c.kind.result c.in_ok-views.views (map (text_view (offset_positions zs) b) picks) c.in_ok-buffers.buffers.items (b ∷ []) (valid_of c.args.validity) views buffers
+    (ap (is_fitting (valid_of c.args.validity)) (length-map picks (text_view (offset_positions zs) b)) ∙ c.requires.fitting)
+    (sound-picks b zs (offsets-varbin p sound) picks rows)
+
+pub returns-clause-kind : goal.returns-clause-kind
+returns-clause-kind c = ap (λ (q : ViewParts). q.kind) c.of.ensures ∙ c.kind.ensures
+
+pub returns-clause-buffers : goal.returns-clause-buffers
+returns-clause-buffers c =
+    ap (λ (q : ViewParts). q.buffers) c.of.ensures ∙ c.in_ok-buffers.ensures ∙ ap (λ t. t ∷ []) c.bytes-bytes.ensures.value
+
+pub returns-clause-texts : goal.returns-clause-texts
+returns-clause-texts c =
+    let p = c.args.array.now in let picks = c.args.picks.now.picks in let zs = integers_of p.offsets in let b = p.bytes in
+    let sound = c.offsets-offsets.ensures.valid in
+    let more : c.bound.result < length zs =
+    omega (arith, c.bound.ensures.value, end-within p 0 c.args.picks.now.bound sound c.requires.bound, length-map p.offsets.records (integer_by p.offsets.kind)) in
+    let rows = next_rows picks c.bound.result (length zs) c.bound.ensures.below more in
+    let text = c.as_slice.ensures ∙ c.bytes-bytes.ensures.value in
+    let views = c.in_ok-views.ensures ∙ c.in_ok-taken.ensures ∙ ap₂ (λ (o : RecordParts) (t : List ℕ). map (text_view (offset_positions (integers_of o)) t) picks) c.offsets-offsets.ensures.value text in
+    let buffers = c.in_ok-buffers.ensures ∙ ap (λ t. t ∷ []) c.bytes-bytes.ensures.value in
+    ap (λ (q : ViewParts). map (view_text q.buffers) q.views) c.of.ensures
+    ∙ ap₂ (λ (x : List (List ℕ)) (l : List BinaryView). map (view_text x) l) buffers views
+    ∙ texts-picks b zs (offsets-varbin p sound) picks rows
+
+pub returns-clause-valid : goal.returns-clause-valid
+returns-clause-valid c = ap (λ (q : ViewParts). q.valid) c.of.ensures

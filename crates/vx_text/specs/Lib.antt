@@ -1,0 +1,4 @@
+pub mod Building
+pub mod LastOffset
+pub mod OffsetList
+pub mod Views

@@ -1,0 +1,77 @@
+//! Layout `VarBinView`: other views of the same shared buffers.
+ghost use Rattle.std.specs.Prelude.{◌≡◌, ◌-◌, ◌≤◌, [], length, true, slice_range, IfOk};
+ghost use Rattle.std.specs.List.{items_where_true};
+ghost use Rattle.vx_bits.specs.BitBuffer.{true_count_of};
+ghost use Rattle.vx_take.specs.Picks.{at};
+ghost use Rattle.vx_model.specs.Valid.{is_fitting};
+ghost use Rattle.vx_model.specs.VarBinView.{view_texts};
+ghost use Rattle.vx_column.specs.Validity.{valid_of};
+
+use std::alloc::Global;
+use vx_bits::{Buffer, NoMemory};
+use vx_column::{BinaryView, Validity, VarBinViewArray};
+use vx_filter::filter_slice;
+use vx_mask::{MaskValues, Policy};
+use vx_take::{Picks, gather};
+
+/// The rows from `start` up to `end`, with their validity. It takes no memory.
+pub fn slice_views(
+    array: &VarBinViewArray,
+    start: usize,
+    end: usize,
+    validity: Validity,
+) -> VarBinViewArray
+    requires ordered { start ≤ end }
+    requires within { end ≤ length (view_texts array.now).texts }
+    requires fitting { is_fitting (valid_of validity) (end - start) ≡ true }
+    ensures kind { result.kind ≡ array.now.kind }
+    ensures buffers { result.buffers ≡ array.now.buffers }
+    ensures texts { (view_texts result).texts
+        ≡ slice_range (view_texts array.now).texts start end }
+    ensures valid { result.valid ≡ valid_of validity }
+{
+    array.with_views(array.views().slice(start, end), validity)
+}
+
+/// The rows at the set positions of `mask`, in order, with their validity. `NoMemory` alone.
+pub fn filter_views(
+    alloc: Global,
+    array: &VarBinViewArray,
+    mask: &MaskValues,
+    policy: &Policy,
+    validity: Validity,
+) -> Result<VarBinViewArray, NoMemory>
+    requires long { length mask.now.bits.bits ≡ length (view_texts array.now).texts }
+    requires fitting { is_fitting (valid_of validity) (true_count_of mask.now.bits.bits) ≡ true }
+    ensures kind { IfOk result (λ a. a.kind ≡ array.now.kind) }
+    ensures buffers { IfOk result (λ a. a.buffers ≡ array.now.buffers) }
+    ensures texts { IfOk result (λ a. (view_texts a).texts
+        ≡ items_where_true mask.now.bits.bits (view_texts array.now).texts) }
+    ensures valid { IfOk result (λ a. a.valid ≡ valid_of validity) }
+{
+    let kept = filter_slice(alloc, array.views().as_slice(), mask, policy)?;
+    let views = Buffer::from_vec(alloc, kept)?;
+    Ok(array.with_views(views, validity))
+}
+
+/// The rows at the picks, in order, an empty text at a null pick, with their validity. `NoMemory`
+/// alone.
+pub fn gather_views(
+    alloc: Global,
+    array: &VarBinViewArray,
+    picks: &Picks,
+    validity: Validity,
+) -> Result<VarBinViewArray, NoMemory>
+    requires bound { picks.now.bound ≤ length (view_texts array.now).texts }
+    requires fitting { is_fitting (valid_of validity) (length picks.now.picks) ≡ true }
+    ensures kind { IfOk result (λ a. a.kind ≡ array.now.kind) }
+    ensures buffers { IfOk result (λ a. a.buffers ≡ array.now.buffers) }
+    ensures texts { IfOk result (λ a. (view_texts a).texts
+        ≡ at [] (view_texts array.now).texts picks.now.picks) }
+    ensures valid { IfOk result (λ a. a.valid ≡ valid_of validity) }
+{
+    let empty = BinaryView::make_view(&[], 0, 0);
+    let taken = gather(alloc, array.views().as_slice(), picks, empty)?;
+    let views = Buffer::from_vec(alloc, taken)?;
+    Ok(array.with_views(views, validity))
+}
