@@ -5,11 +5,11 @@ ghost use Rattle.vx_numbers.specs.Positions.{AllThere};
 ghost use Rattle.vx_types.specs.declared.nullability.Nullability.TheVariants.{NonNullable};
 ghost use Rattle.vx_model.specs.Constant.{constant_column};
 ghost use Rattle.vx_take.specs.Picks.{at};
-ghost use Rattle.vx_model.specs.Plain.{is_unwrapped};
+ghost use Rattle.vx_model.specs.Plain.{is_lazy_layout, is_unwrapped};
 ghost use Rattle.vx_model.specs.Valid.{is_yes, all_invalid, cover_by, is_fitting, is_flat_cover, nullability_by, present_bits, shown_rows};
 ghost use Rattle.vx_types.specs.RowValue.{null, is_null};
 ghost use Rattle.vx_types.specs.Nullability.{is_nullable};
-ghost use Rattle.vx_types.specs.TypeTree.{with_nullability};
+ghost use Rattle.vx_types.specs.TypeTree.{is_flat, with_nullability};
 ghost use Rattle.vx_column.specs.Validity.{valid_of};
 ghost use Rattle.vx_model.specs.Step.{IsSlice, IsCut, IsStep, IsTake};
 
@@ -136,7 +136,9 @@ fn validity_for(scalar: &Scalar) -> Validity
 pub(crate) fn execute_of(alloc: Global, array: &ConstantArray) -> Result<Array, NoMemory>
     ensures same { IfOk result (IsStep (constant_column array.now) (constant_column array.now).rows
         (constant_column array.now).dtype) }
-    ensures unwrapped { IfOk result (λ a. is_unwrapped a ≡ true) }
+    ensures unwrapped { is_flat (constant_column array.now).dtype ≡ true
+        → IfOk result (λ a. is_unwrapped a ≡ true) }
+    ensures direct { IfOk result (λ a. is_lazy_layout a.layout ≡ false) }
 {
     let scalar = array.scalar();
     store_scalar(alloc, scalar, array.len(), validity_for(scalar))

@@ -6,7 +6,7 @@ ghost use Rattle.vx_numbers.specs.Positions.{AllThere};
 ghost use Rattle.vx_types.specs.TypeTree.{is_flat};
 ghost use Rattle.vx_types.specs.declared.nullability.Nullability.TheVariants.{NonNullable};
 ghost use Rattle.vx_model.specs.Dict.{dict_column, dict_fault, dict_with};
-ghost use Rattle.vx_model.specs.Plain.{is_unwrapped};
+ghost use Rattle.vx_model.specs.Plain.{is_lazy_layout, is_unwrapped};
 ghost use Rattle.vx_model.specs.Valid.{is_yes, is_non_null_bool};
 ghost use Rattle.vx_model.specs.Step.{IsSlice, IsCut, IsStep, IsTake};
 
@@ -123,6 +123,7 @@ pub(crate) fn execute_of(
         (dict_column array.now).dtype) }
     ensures unwrapped { is_flat (dict_column array.now).dtype ≡ true
         → IfOk result (λ a. is_unwrapped a ≡ true) }
+    ensures direct { IfOk result (λ a. is_lazy_layout a.layout ≡ false) }
 {
     let codes = execute(alloc, array.codes(), policy)?;
     let values = execute(alloc, array.values(), policy)?;

@@ -1,7 +1,7 @@
 //! The unwrapped form of a column.
-ghost use Rattle.std.specs.Prelude.{◌≡◌, true, IfOk, IsOk};
+ghost use Rattle.std.specs.Prelude.{◌≡◌, true, false, IfOk, IsOk};
 ghost use Rattle.vx_types.specs.TypeTree.{is_flat};
-ghost use Rattle.vx_model.specs.Plain.{is_unwrapped};
+ghost use Rattle.vx_model.specs.Plain.{is_lazy_layout, is_unwrapped};
 ghost use Rattle.vx_model.specs.Step.{IsStep};
 
 use crate::{constant, dict, filter_layout, stored};
@@ -10,13 +10,14 @@ use vx_bits::NoMemory;
 use vx_column::{Array, Layout, Stored};
 use vx_mask::Policy;
 
-/// The same rows and type, unwrapped where the type is flat. `NoMemory` alone, and never where the
-/// column is unwrapped.
+/// The same rows and type, unwrapped where the type is flat, and of no lazy layout. `NoMemory`
+/// alone, and never where the column is unwrapped.
 #[cycle(execute)]
 pub fn execute(alloc: Global, array: &Array, policy: &Policy) -> Result<Array, NoMemory>
     ensures same { IfOk result (IsStep array.now array.now.rows array.now.dtype) }
     ensures unwrapped { is_flat array.now.dtype ≡ true
         → IfOk result (λ a. is_unwrapped a ≡ true) }
+    ensures direct { IfOk result (λ a. is_lazy_layout a.layout ≡ false) }
     ensures kept { is_unwrapped array.now ≡ true → IsOk result }
 {
     match array.layout() {
@@ -24,6 +25,8 @@ pub fn execute(alloc: Global, array: &Array, policy: &Policy) -> Result<Array, N
         Layout::Bool(a) => stored::execute_of(alloc, Stored::Bits(a), policy),
         Layout::Primitive(a) => stored::execute_of(alloc, Stored::Records(a.rows()), policy),
         Layout::Decimal(a) => stored::execute_of(alloc, Stored::Records(a.rows()), policy),
+        Layout::VarBin(a) => stored::execute_of(alloc, Stored::Texts(a), policy),
+        Layout::VarBinView(a) => stored::execute_of(alloc, Stored::Views(a), policy),
         Layout::Constant(a) => constant::execute_of(alloc, a),
         Layout::Dict(a) => dict::execute_of(alloc, a, policy),
         Layout::Filter(a) => filter_layout::execute_of(alloc, a, policy),

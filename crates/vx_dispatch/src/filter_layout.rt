@@ -10,7 +10,7 @@ ghost use Rattle.vx_numbers.specs.Positions.{AllThere};
 ghost use Rattle.vx_types.specs.TypeTree.{is_flat};
 ghost use Rattle.vx_types.specs.declared.nullability.Nullability.TheVariants.{NonNullable};
 ghost use Rattle.vx_model.specs.Filter.{filter_column};
-ghost use Rattle.vx_model.specs.Plain.{is_unwrapped};
+ghost use Rattle.vx_model.specs.Plain.{is_lazy_layout, is_unwrapped};
 ghost use Rattle.vx_model.specs.Valid.{is_yes, is_non_null_bool};
 ghost use Rattle.vx_model.specs.Step.{IsSlice, IsCut, IsStep, IsTake};
 
@@ -157,6 +157,7 @@ pub(crate) fn execute_of(
         (filter_column array.now).dtype) }
     ensures unwrapped { is_flat (filter_column array.now).dtype ≡ true
         → IfOk result (λ a. is_unwrapped a ≡ true) }
+    ensures direct { IfOk result (λ a. is_lazy_layout a.layout ≡ false) }
 {
     let child = execute(alloc, array.child(), policy)?;
     filter(alloc, &child, array.mask(), policy)

@@ -30,6 +30,8 @@ pub(crate) fn filter_values(
         Layout::Bool(a) => stored::filter_of(alloc, Stored::Bits(a), mask, policy),
         Layout::Primitive(a) => stored::filter_of(alloc, Stored::Records(a.rows()), mask, policy),
         Layout::Decimal(a) => stored::filter_of(alloc, Stored::Records(a.rows()), mask, policy),
+        Layout::VarBin(a) => stored::filter_of(alloc, Stored::Texts(a), mask, policy),
+        Layout::VarBinView(a) => stored::filter_of(alloc, Stored::Views(a), mask, policy),
         Layout::Constant(a) => Ok(constant::filter_of(a, mask)),
         Layout::Dict(a) => dict::filter_of(alloc, a, mask, policy),
         Layout::Filter(a) => filter_layout::filter_of(alloc, a, mask, policy),

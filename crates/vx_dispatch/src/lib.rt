@@ -20,4 +20,4 @@ pub use filtering::filter;
 pub use materialized::is_materialized;
 pub use slicing::slice;
 pub use taking::take;
-pub use validity::take_validity;
+pub use validity::{filter_validity, take_validity};

@@ -21,6 +21,8 @@ pub fn slice(alloc: Global, array: &Array, start: usize, end: usize) -> Result<A
         Layout::Bool(a) => stored::slice_of(alloc, Stored::Bits(a), start, end),
         Layout::Primitive(a) => stored::slice_of(alloc, Stored::Records(a.rows()), start, end),
         Layout::Decimal(a) => stored::slice_of(alloc, Stored::Records(a.rows()), start, end),
+        Layout::VarBin(a) => stored::slice_of(alloc, Stored::Texts(a), start, end),
+        Layout::VarBinView(a) => stored::slice_of(alloc, Stored::Views(a), start, end),
         Layout::Constant(a) => Ok(constant::slice_of(a, start, end)),
         Layout::Dict(a) => dict::slice_of(alloc, a, start, end),
         Layout::Filter(a) => filter_layout::slice_of(alloc, a, start, end),

@@ -1,10 +1,11 @@
-//! Layouts that store a row's bit or bytes in its place: the new validity is made here, and the
-//! rows by `vx_flat`.
-ghost use Rattle.std.specs.Prelude.{◌≡◌, ◌≤◌, length, None, true, IfOk, IfSome, IsOk};
+//! Layouts that store a row's bit or bytes: the new validity is made here, and the rows by
+//! `vx_flat`.
+ghost use Rattle.std.specs.Prelude.{◌≡◌, ◌≤◌, length, None, true, false, IfOk, IfSome, IsOk};
 ghost use Rattle.std.specs.List.{items_where_true};
 ghost use Rattle.vx_types.specs.declared.nullability.Nullability.TheVariants.{NonNullable};
 ghost use Rattle.vx_numbers.specs.Positions.{AllThere};
-ghost use Rattle.vx_model.specs.Plain.{is_plain, is_unwrapped};
+ghost use Rattle.vx_types.specs.TypeTree.{is_flat};
+ghost use Rattle.vx_model.specs.Plain.{is_lazy_layout, is_plain, is_unwrapped};
 ghost use Rattle.vx_model.specs.Records.{records_column};
 ghost use Rattle.vx_model.specs.Step.{IsSlice, IsCut, IsStep, IsTake};
 ghost use Rattle.vx_model.specs.Stored.{stored_column};
@@ -80,7 +81,9 @@ pub(crate) fn execute_of(
     ensures same { IfOk result (IsStep (stored_column (parts_of stored.entry))
         (stored_column (parts_of stored.entry)).rows
         (stored_column (parts_of stored.entry)).dtype) }
-    ensures unwrapped { IfOk result (λ a. is_unwrapped a ≡ true) }
+    ensures unwrapped { is_flat (stored_column (parts_of stored.entry)).dtype ≡ true
+        → IfOk result (λ a. is_unwrapped a ≡ true) }
+    ensures direct { IfOk result (λ a. is_lazy_layout a.layout ≡ false) }
     ensures kept { is_unwrapped (stored_column (parts_of stored.entry)) ≡ true → IsOk result }
 {
     let validity = execute_validity(alloc, stored.validity(), stored.len(), policy)?;

@@ -47,6 +47,10 @@ pub(crate) fn take_picks(
             nullability,
             policy,
         ),
+        Layout::VarBin(a) => stored::take_of(alloc, Stored::Texts(a), &picks, nullability, policy),
+        Layout::VarBinView(a) => {
+            stored::take_of(alloc, Stored::Views(a), &picks, nullability, policy)
+        }
         Layout::Constant(a) => constant::take_of(alloc, a, &picks, nullability),
         Layout::Dict(a) => dict::take_of(alloc, a, picks, nullability, policy),
         Layout::Filter(a) => filter_layout::take_of(alloc, a, picks, nullability, policy),

@@ -53,9 +53,9 @@ pub(crate) fn slice_validity(
     }
 }
 
-// The validity of the rows at the set positions of a mask that is as long.
+/// The validity of the rows at the set positions of a mask that is as long. `NoMemory` alone.
 #[cycle(filter)]
-pub(crate) fn filter_validity(
+pub fn filter_validity(
     alloc: Global,
     validity: &Validity,
     mask: &MaskValues,
@@ -97,6 +97,16 @@ pub(crate) fn taken_bits(
         Layout::Dict(a) => dict::bits_of(alloc, a, picks, policy),
         Layout::Filter(a) => filter_layout::bits_of(alloc, a, picks, policy),
         Layout::Null(_) => unreachable!(),
+        Layout::VarBin(a) => {
+            // no text is a bool
+            let _ = a.kind();
+            unreachable!()
+        }
+        Layout::VarBinView(a) => {
+            // no text is a bool
+            let _ = a.kind();
+            unreachable!()
+        }
         Layout::Primitive(a) => {
             // no record is a bool
             let _ = a.rows().record_type();

@@ -1,5 +1,5 @@
 -- A value that is stored row by row gives a row of it in each place, and null where none is there.
-use Rattle.std.proofs.Common.{◌≡◌, ℕ, Bool, true, false, cond, length, map, None, Some, refl, sym, ap, ◌∙◌, subst}
+use Rattle.std.proofs.Common.{◌≡◌, ℕ, Bool, true, false, List, cond, map, None, Some, refl, sym, ap, ◌∙◌, subst}
 use Rattle.std.specs.Prelude.{replicate, Result, Ok, Err, IfOk}
 use Rattle.std.proofs.lemmas.List.{length-replicate}
 use Rattle.vx_types.specs.TypeTree.{TypeKind, TypeTree, bool_kind, is_bool_kind, null_type}
@@ -16,6 +16,11 @@ use Rattle.vx_flat.specs.Scalars.{bit_or_false, bytes_or_zeros}
 pub of_column : {E : Type 0} (P : Column → Type 0) (r : Result Column E) (k : Column) → IfOk r (λ a. a ≡ k) → P k → IfOk r P
 of_column P (Ok a) k h p = subst P (sym h) p
 of_column P (Err e) k h p = h
+
+-- rows that are others are these
+pub of_rows : {E : Type 0} (r : Result Column E) (xs ys : List RowValue) → IfOk r (λ a. a.rows ≡ xs) → xs ≡ ys → IfOk r (λ a. a.rows ≡ ys)
+of_rows (Ok a) xs ys h same = h ∙ same
+of_rows (Err e) xs ys h same = h
 
 -- a value is of its type's kind
 of_kind : (t : TypeTree) (x : RowValue) → scalar_fault t x ≡ None → is_of_kind t x ≡ true

@@ -1,12 +1,13 @@
 //! One value for every row, stored row by row.
-ghost use Rattle.std.specs.Prelude.{◌≡◌, length, replicate, true, IfOk, IfSome};
+ghost use Rattle.std.specs.Prelude.{◌≡◌, length, map, replicate, true, false, IfOk, IfSome};
 ghost use Rattle.vx_bits.specs.Records.{records_of, width_of};
 ghost use Rattle.vx_types.specs.Decimal.{is_width};
-ghost use Rattle.vx_types.specs.RowValue.{null};
+ghost use Rattle.vx_types.specs.RowValue.{null, bytes};
 ghost use Rattle.vx_types.specs.Scalar.{scalar_row};
-ghost use Rattle.vx_types.specs.TypeTree.{kind_width, with_nullability};
-ghost use Rattle.vx_model.specs.Valid.{all_invalid, cover_by, is_fitting, is_flat_cover, nullability_by, present_bits, shown_rows};
-ghost use Rattle.vx_model.specs.Plain.{is_unwrapped};
+ghost use Rattle.vx_types.specs.Text.{text_kind};
+ghost use Rattle.vx_types.specs.TypeTree.{is_flat, kind_width, with_nullability};
+ghost use Rattle.vx_model.specs.Valid.{all_invalid, cover_by, is_fitting, is_flat_cover, nullability_by, present_bits, shown_rows, stored_rows};
+ghost use Rattle.vx_model.specs.Plain.{is_lazy_layout, is_unwrapped};
 ghost use Rattle.vx_column.specs.Records.{kind_of};
 ghost use Rattle.vx_column.specs.Validity.{valid_of};
 ghost use Rattle.vx_flat.specs.Scalars.{bit_or_false, bytes_or_zeros, copied_bits, copied_records};
@@ -14,8 +15,10 @@ ghost use Rattle.vx_flat.specs.Scalars.{bit_or_false, bytes_or_zeros, copied_bit
 use std::alloc::Global;
 use vx_bits::{BitBuffer, BitBuilder, Buffer, NoMemory, Records};
 use vx_column::{
-    Array, BoolArray, DType, NullArray, RecordArray, RecordType, Scalar, ScalarValue, Validity,
+    Array, BoolArray, DType, NullArray, RecordArray, RecordType, Scalar, ScalarValue, TextKind,
+    Validity,
 };
+use vx_text::{texts_alike, views_alike};
 
 // So many bits, each the value's; false for a null.
 fn bits_alike(alloc: Global, value: &ScalarValue, len: usize) -> Result<BitBuffer, NoMemory>
@@ -118,6 +121,41 @@ fn store_records(
     }
 }
 
+// The value's text; an empty one for a null.
+fn text_or_none(alloc: Global, value: &ScalarValue) -> Result<Buffer<u8>, NoMemory>
+    ensures { IfOk result (λ b. b ≡ bytes_or_zeros 0 (scalar_row value.now)) }
+{
+    match value {
+        ScalarValue::Bytes(bytes) => Ok(bytes.share()),
+        _ => Buffer::from_vec(alloc, Vec::new(alloc)),
+    }
+}
+
+// `len` copies of the value's text, as a column of this kind with this validity: views of one
+// text, where its length fits a view.
+fn store_texts(
+    alloc: Global,
+    kind: TextKind,
+    value: &ScalarValue,
+    len: usize,
+    validity: Validity,
+) -> Result<Array, NoMemory>
+    requires { is_fitting (valid_of validity) len ≡ true }
+    ensures rows { IfOk result (λ a. a.rows ≡ stored_rows (valid_of validity)
+        (map bytes (replicate len (bytes_or_zeros 0 (scalar_row value.now))))) }
+    ensures dtype { IfOk result (λ a. a.dtype
+        ≡ record { kind = text_kind kind; nullability = nullability_by (valid_of validity) }) }
+    ensures direct { IfOk result (λ a. is_lazy_layout a.layout ≡ false) }
+{
+    let text = text_or_none(alloc, value)?;
+    if text.len() <= u32::MAX as usize {
+        let views = views_alike(alloc, kind, &text, len, validity)?;
+        return Ok(views.into_array());
+    }
+    let texts = texts_alike(alloc, kind, &text, len, validity)?;
+    Ok(texts.into_array())
+}
+
 /// `len` rows of one value, null where the validity says no, stored row by row. `NoMemory` alone.
 pub fn store_scalar(
     alloc: Global,
@@ -132,7 +170,8 @@ pub fn store_scalar(
     ensures dtype { IfOk result (λ a.
         a.dtype ≡ with_nullability scalar.now.dtype (nullability_by (valid_of validity))) }
     ensures unwrapped { is_flat_cover (cover_by (valid_of validity)) ≡ true
-        → IfOk result (λ a. is_unwrapped a ≡ true) }
+        → is_flat scalar.now.dtype ≡ true → IfOk result (λ a. is_unwrapped a ≡ true) }
+    ensures direct { IfOk result (λ a. is_lazy_layout a.layout ≡ false) }
 {
     let value = scalar.value();
     match scalar.dtype() {
@@ -144,5 +183,7 @@ pub fn store_scalar(
         DType::Decimal(decimal, _) => {
             store_records(alloc, RecordType::Decimal(*decimal), value, len, validity)
         }
+        DType::Utf8(_) => store_texts(alloc, TextKind::Utf8, value, len, validity),
+        DType::Binary(_) => store_texts(alloc, TextKind::Binary, value, len, validity),
     }
 }

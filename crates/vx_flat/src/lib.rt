@@ -7,6 +7,8 @@ mod constant;
 mod record_array;
 mod records;
 mod stored;
+mod varbin;
+mod varbinview;
 
 pub use constant::store_scalar;
 pub use record_array::take_array_runs;

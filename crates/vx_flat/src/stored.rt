@@ -13,6 +13,8 @@ ghost use Rattle.vx_flat.specs.Left.{left_type};
 
 use crate::boolean::{filter_bool, slice_bool, take_bool};
 use crate::record_array::{filter_array, slice_array, take_array};
+use crate::varbin::{filter_texts, slice_texts, take_texts};
+use crate::varbinview::{filter_view_rows, slice_view_rows, take_view_rows};
 use std::alloc::Global;
 use vx_bits::NoMemory;
 use vx_column::{Array, BoolArray, Stored, Validity};
@@ -32,6 +34,8 @@ pub fn slice_stored(stored: Stored<'_>, start: usize, end: usize, validity: Vali
     match stored {
         Stored::Bits(array) => slice_bool(array, start, end, validity),
         Stored::Records(array) => slice_array(array, start, end, validity),
+        Stored::Texts(array) => slice_texts(array, start, end, validity),
+        Stored::Views(array) => slice_view_rows(array, start, end, validity),
     }
 }
 
@@ -55,6 +59,8 @@ pub fn filter_stored(
     match stored {
         Stored::Bits(array) => filter_bool(alloc, array, mask, policy, validity),
         Stored::Records(array) => filter_array(alloc, array, mask, policy, validity),
+        Stored::Texts(array) => filter_texts(alloc, array, mask, policy, validity),
+        Stored::Views(array) => filter_view_rows(alloc, array, mask, policy, validity),
     }
 }
 
@@ -77,6 +83,8 @@ pub fn take_stored(
     match stored {
         Stored::Bits(array) => take_bool(alloc, array, picks, validity),
         Stored::Records(array) => take_array(alloc, array, picks, validity),
+        Stored::Texts(array) => take_texts(alloc, array, picks, validity),
+        Stored::Views(array) => take_view_rows(alloc, array, picks, validity),
     }
 }
 
@@ -93,6 +101,16 @@ pub fn with_validity(stored: Stored<'_>, validity: Validity) -> Array
         Stored::Records(array) => {
             array
                 .with_rows(array.values().share(), validity)
+                .into_array()
+        }
+        Stored::Texts(array) => {
+            // the validity fits the rows
+            let _ = array.bytes();
+            array.with_validity(validity).into_array()
+        }
+        Stored::Views(array) => {
+            array
+                .with_views(array.views().share(), validity)
                 .into_array()
         }
     }

@@ -13,8 +13,12 @@ mod null;
 mod primitive;
 mod taking;
 mod traits;
+mod varbin;
+mod varbinview;
 
 pub use taking::{TakeError, take};
 pub use traits::{FilterKernel, FilterReduce, SliceKernel, SliceReduce, TakeExecute, TakeReduce};
+pub use varbin::{VarBinSlice, take_varbin};
+pub use varbinview::filter_varbinview;
 pub use vx_column::mask_of;
 pub use vx_dispatch::{execute, filter, slice};

@@ -11,7 +11,7 @@ use Rattle.vx_column.specs.Truth.{true_bits}
 use Rattle.vx_column.proofs.TruthBits.{length-true_bits}
 use Rattle.vx_model.specs.Column.{Column}
 use Rattle.vx_model.specs.Null.{null_column}
-use Rattle.vx_model.specs.Plain.{is_unwrapped}
+use Rattle.vx_model.specs.Plain.{is_lazy_layout, is_unwrapped}
 use Rattle.vx_model.specs.Step.{IsStep}
 use Rattle.vx_model.proofs.Items.{length-slice_range, slice_range-replicate, items_where_true-all, items_where_true-replicate}
 use Rattle.vx_steps.proofs.Cuts.{slice_range-slice_range}
@@ -38,6 +38,7 @@ same_step c a h =
       dtype = ap (λ (x : Column). x.dtype) h;
       layout = λ _. ap (λ (x : Column). x.layout) h;
       unwrapped = λ u. ap is_unwrapped h ∙ u;
+      direct = λ d. ap (λ (x : Column). is_lazy_layout x.layout) h ∙ d;
     }
 
 -- and what a mask of all rows keeps of it
@@ -49,6 +50,7 @@ kept_whole c n bits h long =
       dtype = refl;
       layout = λ _. refl;
       unwrapped = λ u. u;
+      direct = λ d. d;
     }
 
 -- of nulls alone, those at the set bits are as many from the first on
@@ -72,6 +74,7 @@ null_step c a bits count e is nulls long =
       dtype = refl;
       layout = λ _. refl;
       unwrapped = λ h. h;
+      direct = λ h. h;
     })
 
 -- a part of layout `Null` has nulls alone

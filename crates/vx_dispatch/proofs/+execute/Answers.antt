@@ -39,6 +39,10 @@ dict::execute_of-returns-clause-unwrapped t c = λ flat.
     let values = c.in_ok-values.ensures.unwrapped (ap (λ x. is_flat x.dtype) (c.deref-2.ensures ∙ c.values.ensures.value) ∙ flat) in
     weaker c.take_picks.result c.take_picks.ensures (λ a taken. taken.unwrapped values)
 
+pub dict::execute_of-returns-clause-direct : goal.dict::execute_of-returns-clause-direct
+dict::execute_of-returns-clause-direct t c =
+    weaker c.take_picks.result c.take_picks.ensures (λ a taken. taken.direct c.in_ok-values.ensures.direct)
+
 pub filter_layout::execute_of-returns-clause-same : goal.filter_layout::execute_of-returns-clause-same
 filter_layout::execute_of-returns-clause-same t c =
     let p = c.args.array.now in let child = c.in_ok-child.child in
@@ -49,6 +53,10 @@ pub filter_layout::execute_of-returns-clause-unwrapped : goal.filter_layout::exe
 filter_layout::execute_of-returns-clause-unwrapped t c = λ flat.
     let child = c.in_ok-child.ensures.unwrapped (ap (λ x. is_flat x.dtype) (c.deref.ensures ∙ c.child.ensures.value) ∙ flat) in
     weaker c.filter.result c.filter.ensures.cut (λ a cut. cut.step.unwrapped child)
+
+pub filter_layout::execute_of-returns-clause-direct : goal.filter_layout::execute_of-returns-clause-direct
+filter_layout::execute_of-returns-clause-direct t c =
+    weaker c.filter.result c.filter.ensures.cut (λ a cut. cut.step.direct c.in_ok-child.ensures.direct)
 
 pub stored::execute_of-execute_validity-requires : goal.stored::execute_of-execute_validity-requires
 stored::execute_of-execute_validity-requires t c =

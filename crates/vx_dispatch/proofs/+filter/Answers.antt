@@ -71,6 +71,7 @@ filtering::filter-returns-in-AllTrue-clause-cut t c =
         dtype = rw c.share.ensures refl;
         layout = rw c.share.ensures (λ _. refl);
         unwrapped = rw c.share.ensures (λ h. h);
+        direct = rw c.share.ensures (λ h. h);
       };
       plain = rw c.share.ensures (λ h. h);
       depth = rw c.share.ensures (omega arith);

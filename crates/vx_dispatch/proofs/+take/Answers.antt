@@ -158,4 +158,5 @@ stored::take_of-returns t c =
       dtype = step.dtype ∙ ap (λ (n : Nullability). let u : TypeTree = record { kind = p.kind; nullability = n } in u) same;
       layout = step.layout;
       unwrapped = step.unwrapped;
+      direct = step.direct;
     })

@@ -1,0 +1,37 @@
+-- The views that are kept make what is kept of the column.
+use Rattle.std.proofs.Common.{◌≡◌, length, refl, sym, ap, ap₂, ◌∙◌}
+use Rattle.vx_model.specs.Valid.{is_fitting, nullability_by}
+use Rattle.vx_model.specs.Text.{stored_texts}
+use Rattle.vx_model.specs.VarBinView.{view_texts}
+use Rattle.vx_model.proofs.Steps.{fitting-filter}
+use Rattle.vx_model.proofs.Texts.{fits-views, fitting-views, items-texts, length-views, rows-views}
+use Rattle.vx_model.proofs.TextSteps.{is_filter-texts}
+use Rattle.vx_column.specs.Validity.{valid_of}
+use Rattle.vx_layouts.proofs.Parts.{kept}
+use Rattle.vx_layouts.proofs.varbinview.filter_varbinview.Goals as goal
+
+pub filter_validity-requires : goal.filter_validity-requires
+filter_validity-requires c =
+    let p = c.args.array.now in let v = c.validity.ensures in
+    ap₂ is_fitting v.value (c.requires ∙ length-views p v.valid) ∙ fitting-views p v.valid
+
+pub filter_views-requires-clause-long : goal.filter_views-requires-clause-long
+filter_views-requires-clause-long c =
+    let p = c.args.array.now in c.requires ∙ rows-views p c.validity.ensures.valid
+
+pub filter_views-requires-clause-fitting : goal.filter_views-requires-clause-fitting
+filter_views-requires-clause-fitting c =
+    let p = c.args.array.now in let v = c.validity.ensures in let items = (stored_texts (view_texts p)).items in let mask = c.args.selection_mask.now.bits.bits in
+    let long : length mask ≡ length items = c.requires ∙ rows-views p v.valid ∙ sym (items-texts (view_texts p)) in
+    let left = rw (v.value, long) at c.in_ok-validity.ensures.left in
+    fitting-filter items p.valid (valid_of c.in_ok-validity.validity) (nullability_by p.valid) _ refl (fits-views p v.valid) mask long left
+
+pub returns : goal.returns
+returns c =
+    let p = c.args.array.now in let v = c.validity.ensures in let items = (stored_texts (view_texts p)).items in let mask = c.args.selection_mask.now.bits.bits in
+    let w = valid_of c.in_ok-validity.validity in let made = c.filter_views.ensures in
+    let long : length mask ≡ length items = c.requires ∙ rows-views p v.valid ∙ sym (items-texts (view_texts p)) in
+    let left = rw (v.value, long) at c.in_ok-validity.ensures.left in
+    let plain = rw v.value at c.in_ok-validity.ensures.plain in
+    kept c.filter_views.result made.kind made.texts made.valid
+    (λ a kind texts valid. is_filter-texts (view_texts p) (view_texts a) w refl refl kind valid (fits-views p v.valid) mask long texts left plain)

@@ -1,0 +1,121 @@
+//! Layout `VarBin`.
+ghost use Rattle.std.specs.Prelude.{◌≡◌, ◌≤◌, false, length, IfOk};
+ghost use Rattle.vx_bits.specs.Results.{FailsBy};
+ghost use Rattle.vx_mask.specs.Mask.{mask_bits};
+ghost use Rattle.vx_model.specs.Step.{IsSlice};
+ghost use Rattle.vx_model.specs.VarBin.{varbin_column};
+ghost use Rattle.vx_pieces.specs.Indices.{index_value};
+ghost use Rattle.vx_layouts.specs.Answers.{AnswersFilter, AnswersSlice, AnswersTake};
+ghost use Rattle.vx_layouts.specs.Taking.{IsTakeBy, take_fault};
+
+use crate::taking::{TakeError, take, take_fault};
+use crate::traits::{FilterKernel, SliceReduce, TakeExecute};
+use std::alloc::Global;
+use vx_bits::NoMemory;
+use vx_column::vtables::VarBin;
+use vx_column::{Array, ArrayView, VTable, VarBinArray};
+use vx_dispatch::{filter, slice, take_validity};
+use vx_mask::{Mask, Policy};
+use vx_pieces::Indices;
+use vx_text::take_varbin_picks;
+
+impl TakeExecute for VarBin {
+    ghost declines = { λ _ _. false };
+
+    fn take(
+        alloc: Global,
+        array: ArrayView<'_, VarBin>,
+        indices: &Indices,
+    ) -> Result<Option<Array>, TakeError>
+        ensures { AnswersTake array.entry.array.now (index_value indices.now) false result }
+    {
+        Ok(Some(take(alloc, array.array(), indices, &Policy::vortex())?))
+    }
+}
+
+impl FilterKernel for VarBin {
+    ghost declines = { λ _ _. false };
+
+    fn filter(
+        alloc: Global,
+        array: ArrayView<'_, VarBin>,
+        mask: &Mask,
+    ) -> Result<Option<Array>, NoMemory>
+        requires { length (mask_bits mask.now) ≡ length array.array.now.rows }
+        ensures { AnswersFilter array.entry.array.now (mask_bits mask.now) false result }
+    {
+        Ok(Some(filter(alloc, array.array(), mask, &Policy::vortex())?))
+    }
+}
+
+impl SliceReduce for VarBin {
+    ghost declines = { λ _ _ _. false };
+
+    fn slice(
+        alloc: Global,
+        array: ArrayView<'_, VarBin>,
+        start: usize,
+        end: usize,
+    ) -> Result<Option<Array>, NoMemory>
+        requires ordered { start ≤ end }
+        requires within { end ≤ length array.array.now.rows }
+        ensures { AnswersSlice array.entry.array.now start end false result }
+    {
+        Ok(Some(slice(alloc, array.array(), start, end)?))
+    }
+}
+
+/// A slice of a column of layout `VarBin`, by the name that Vortex gives it.
+pub trait VarBinSlice: VTable {
+    /// The rows from `start` up to `end`. `NoMemory` alone: Vortex's `VarBin::_slice`.
+    fn _slice(
+        alloc: Global,
+        array: ArrayView<'_, Self>,
+        start: usize,
+        end: usize,
+    ) -> Result<Array, NoMemory>
+        requires ordered { start ≤ end }
+        requires within { end ≤ length array.array.now.rows }
+        ensures { IfOk result (IsSlice array.entry.array.now start end) };
+}
+
+impl VarBinSlice for VarBin {
+    fn _slice(
+        alloc: Global,
+        array: ArrayView<'_, VarBin>,
+        start: usize,
+        end: usize,
+    ) -> Result<Array, NoMemory>
+        requires ordered { start ≤ end }
+        requires within { end ≤ length array.array.now.rows }
+        ensures { IfOk result (IsSlice array.entry.array.now start end) }
+    {
+        slice(alloc, array.array(), start, end)
+    }
+}
+
+/// The rows that indices name, as a column of the same layout, whose offsets have at least 32 bits
+/// and are signed where the source's are: Vortex's `take_varbin`.
+///
+/// `InvalidIndices`, `BadPieces` and `OutOfBounds` exactly where the indices are at fault, also
+/// where memory is wanting. Else `NoMemory` alone.
+pub fn take_varbin(
+    alloc: Global,
+    array: &VarBinArray,
+    indices: &Indices,
+) -> Result<VarBinArray, TakeError>
+    ensures taken { IfOk result (λ a. IsTakeBy (index_value indices.now)
+        (varbin_column array.now) (varbin_column a)) }
+    ensures fault { FailsBy result
+        (take_fault (varbin_column array.now) (index_value indices.now)) TakeError.NoMemory }
+{
+    let column = array.share().into_array();
+    if let Some(error) = take_fault(&column, indices) {
+        return Err(error);
+    }
+    let policy = Policy::vortex();
+    let picks = indices.picks(alloc, column.len())?;
+    let nullability = indices.nullability();
+    let validity = take_validity(alloc, array.validity(), &picks, nullability, &policy)?;
+    Ok(take_varbin_picks(alloc, array, &picks, validity)?)
+}
