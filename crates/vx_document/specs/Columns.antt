@@ -11,6 +11,8 @@ use Rattle.vx_document.specs.Null.{null_by}
 use Rattle.vx_document.specs.Boolean.{bool_by}
 use Rattle.vx_document.specs.Primitive.{primitive_by}
 use Rattle.vx_document.specs.Decimal.{decimal_by}
+use Rattle.vx_document.specs.VarBin.{varbin_by}
+use Rattle.vx_document.specs.VarBinView.{views_by}
 use Rattle.vx_document.specs.Constant.{constant_by}
 use Rattle.vx_document.specs.Dict.{dict_by}
 use Rattle.vx_document.specs.Filter.{filter_by}
@@ -35,6 +37,8 @@ by_layout d inner layout =
     else if bytes_eq layout (codes "Bool") then validity_stated d inner >>= bool_by d
     else if bytes_eq layout (codes "Primitive") then validity_stated d inner >>= primitive_by d
     else if bytes_eq layout (codes "Decimal") then validity_stated d inner >>= decimal_by d
+    else if bytes_eq layout (codes "VarBin") then validity_stated d inner >>= varbin_by d
+    else if bytes_eq layout (codes "VarBinView") then validity_stated d inner >>= views_by d
     else if bytes_eq layout (codes "Constant") then constant_by d
     else if bytes_eq layout (codes "Dict") then dict_in d inner
     else if bytes_eq layout (codes "Filter") then filter_in d inner

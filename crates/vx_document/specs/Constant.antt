@@ -5,7 +5,10 @@ use Rattle.serde_json.specs.Find.{get, as_str, as_bool}
 use Rattle.vx_types.specs.declared.nullability.Nullability.{Nullability}
 use Rattle.vx_types.specs.declared.nullability.Nullability.TheVariants.{NonNullable, Nullable}
 use Rattle.vx_types.specs.PType.{width}
-use Rattle.vx_types.specs.TypeTree.{TypeKind, TypeTree, bool_kind, primitive_kind, decimal_kind, null_type, bool_type, primitive_type, decimal_type}
+use Rattle.vx_types.specs.TypeTree.{TypeKind, TypeTree, bool_kind, primitive_kind, decimal_kind, utf8_kind, binary_kind, null_type, bool_type, primitive_type, decimal_type}
+use Rattle.vx_types.specs.Text.{text_kind}
+use Rattle.vx_types.specs.declared.text.TextKind.{TextKind}
+use Rattle.vx_types.specs.declared.text.TextKind.TheVariants.{Utf8, Binary}
 use Rattle.vx_types.specs.RowValue.{RowValue, null, bit, bytes}
 use Rattle.vx_types.specs.Scalar.{scalar_fault}
 use Rattle.vx_model.specs.Column.{Column}
@@ -15,6 +18,7 @@ use Rattle.vx_json.specs.Members.{is_closed}
 use Rattle.vx_json.specs.Bools.{is_there}
 use Rattle.vx_json.specs.Decimals.{decimal_of}
 use Rattle.vx_json.specs.Wholes.{at_most}
+use Rattle.vx_json.specs.Texts.{text_or_empty}
 use Rattle.vx_json.specs.Values.{ptype_named, value_or_zero, hex_or_zero}
 use Rattle.vx_json.specs.declared.wholes.TheConstants.{GREATEST_LEN}
 
@@ -46,6 +50,11 @@ decimal_typed d = do
   nullability ← nullability_of d
   Some (decimal_type decimal.precision decimal.scale decimal.width nullability)
 
+unfoldable pub text_typed : TextKind → Data → Option TypeTree
+text_typed kind d = do
+  nullability ← nullability_of d
+  Some (record { kind = text_kind kind; nullability = nullability })
+
 unfoldable pub primitive_typed : List ℕ → Data → Option TypeTree
 primitive_typed name d = do
   ptype ← ptype_named name
@@ -58,6 +67,8 @@ constant_type name d =
     if bytes_eq name (codes "null") then null_typed d
     else if bytes_eq name (codes "bool") then bool_typed d
     else if bytes_eq name (codes "decimal") then decimal_typed d
+    else if bytes_eq name (codes "utf8") then text_typed Utf8 d
+    else if bytes_eq name (codes "binary") then text_typed Binary d
     else primitive_typed name d
 
 -- ---- its value
@@ -67,6 +78,8 @@ abbrev pub value_in : TypeKind → Data → Option RowValue
 value_in bool_kind d = as_bool d >>= λ b. Some (bit b)
 value_in (primitive_kind p) d = value_or_zero (width p) p d >>= λ b. Some (bytes b)
 value_in (decimal_kind p s w) d = hex_or_zero w d >>= λ b. Some (bytes b)
+value_in utf8_kind d = text_or_empty Utf8 d >>= λ b. Some (bytes b)
+value_in binary_kind d = text_or_empty Binary d >>= λ b. Some (bytes b)
 value_in k d = None
 
 -- a value of the type, or `null`

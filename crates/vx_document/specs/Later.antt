@@ -3,13 +3,6 @@ use Rattle.std.specs.Prelude.{ℕ, ◌&&◌, ◌||◌, List, [], ◌∷◌, Bool
 use Rattle.serde_json.specs.Data.{Data, null, boolean, number, string, array, object, Items, no_items, item, Members, no_members, member}
 use Rattle.vx_json.specs.Members.{is_among}
 
--- text and other bytes
-unfoldable pub text_words : List (List ℕ)
-text_words =
-    codes "VarBin" ∷ codes "VarBinView" ∷ codes "utf8" ∷ codes "binary"
-    ∷ codes "offsets" ∷ codes "offset_type" ∷ codes "bytes" ∷ codes "views"
-    ∷ codes "buffers" ∷ codes "inline" ∷ codes "prefix" ∷ codes "buffer" ∷ []
-
 -- lists and maps
 unfoldable pub list_words : List (List ℕ)
 list_words =
@@ -25,7 +18,7 @@ record_words =
 
 -- names of members, layouts and types alike
 abbrev pub is_later_word : List ℕ → Bool
-is_later_word w = is_among text_words w || is_among list_words w || is_among record_words w
+is_later_word w = is_among list_words w || is_among record_words w
 
 -- the text of a `layout` or a `type` is a later word
 abbrev pub is_later_text : List ℕ → Data → Bool

@@ -3,6 +3,8 @@ pub mod Null
 pub mod Boolean
 pub mod Primitive
 pub mod Decimal
+pub mod VarBin
+pub mod VarBinView
 pub mod Constant
 pub mod Dict
 pub mod Filter

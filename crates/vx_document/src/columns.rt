@@ -14,6 +14,8 @@ use crate::filter::filter_by;
 use crate::null::null_by;
 use crate::primitive::primitive_by;
 use crate::validity::{validity_listed, validity_named};
+use crate::varbin::varbin_by;
+use crate::varbinview::views_by;
 use serde_json::Value;
 use std::alloc::Global;
 use vx_column::{Array, Validity};
@@ -39,6 +41,8 @@ fn by_layout(alloc: Global, value: &Value, layout: &str) -> Result<Array, DocErr
         "Bool" => bool_by(alloc, value, validity_stated(alloc, value)?),
         "Primitive" => primitive_by(alloc, value, validity_stated(alloc, value)?),
         "Decimal" => decimal_by(alloc, value, validity_stated(alloc, value)?),
+        "VarBin" => varbin_by(alloc, value, validity_stated(alloc, value)?),
+        "VarBinView" => views_by(alloc, value, validity_stated(alloc, value)?),
         "Constant" => constant_by(alloc, value),
         "Dict" => dict_in(alloc, value),
         "Filter" => filter_in(alloc, value),

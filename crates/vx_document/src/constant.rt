@@ -4,14 +4,14 @@ ghost use Rattle.serde_json.specs.View.{view};
 ghost use Rattle.vx_types.specs.DType.{type_of};
 ghost use Rattle.vx_types.specs.Scalar.{scalar_row};
 ghost use Rattle.vx_json.specs.Meaning.{Gives};
-ghost use Rattle.vx_document.specs.Constant.{nullable_or, nullability_of, null_typed, bool_typed, decimal_typed, primitive_typed, constant_type, value_in, row_in, constant_made, constant_by_type, is_constant_closed, constant_named, constant_by};
+ghost use Rattle.vx_document.specs.Constant.{nullable_or, nullability_of, null_typed, bool_typed, decimal_typed, text_typed, primitive_typed, constant_type, value_in, row_in, constant_made, constant_by_type, is_constant_closed, constant_named, constant_by};
 
 use serde_json::Value;
 use std::alloc::Global;
-use vx_column::{Array, ConstantArray, DType, Nullability, Scalar, ScalarValue};
+use vx_column::{Array, ConstantArray, DType, Nullability, Scalar, ScalarValue, TextKind};
 use vx_json::{
     DocError, GREATEST_LEN, bool_in, decimal_of, hex_value_of, is_closed, member, number_member,
-    ptype_named, text_member, value_of,
+    ptype_named, text_member, text_of, value_of,
 };
 
 /// Whether null rows are allowed: as the object says, or else as is usual.
@@ -63,6 +63,13 @@ fn decimal_typed(value: &Value) -> Result<DType, DocError>
     Ok(DType::Decimal(decimal, nullability_of(value)?))
 }
 
+#[tactic(auto, unfolding(crate::specs::Constant::text_typed))]
+fn text_typed(kind: TextKind, value: &Value) -> Result<DType, DocError>
+    ensures { Gives type_of result (text_typed kind (view value.now)) }
+{
+    Ok(kind.dtype(nullability_of(value)?))
+}
+
 #[tactic(auto, unfolding(crate::specs::Constant::primitive_typed))]
 fn primitive_typed(name: &str, value: &Value) -> Result<DType, DocError>
     ensures { Gives type_of result (primitive_typed name.now (view value.now)) }
@@ -80,6 +87,8 @@ fn constant_type(name: &str, value: &Value) -> Result<DType, DocError>
         "null" => null_typed(value),
         "bool" => bool_typed(value),
         "decimal" => decimal_typed(value),
+        "utf8" => text_typed(TextKind::Utf8, value),
+        "binary" => text_typed(TextKind::Binary, value),
         _ => primitive_typed(name, value),
     }
 }
@@ -96,6 +105,8 @@ fn value_in(alloc: Global, dtype: &DType, value: &Value) -> Result<ScalarValue, 
             let width = decimal.width() as usize;
             Ok(ScalarValue::Bytes(hex_value_of(alloc, width, value)?))
         }
+        DType::Utf8(_) => Ok(ScalarValue::Bytes(text_of(alloc, TextKind::Utf8, value)?)),
+        DType::Binary(_) => Ok(ScalarValue::Bytes(text_of(alloc, TextKind::Binary, value)?)),
     }
 }
 

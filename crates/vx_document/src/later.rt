@@ -2,34 +2,10 @@
 ghost use Rattle.std.specs.Prelude.{◌≡◌};
 ghost use Rattle.serde_json.specs.View.{view, items_view, members_view};
 ghost use Rattle.vx_json.specs.Members.{is_among};
-ghost use Rattle.vx_document.specs.Later.{text_words, list_words, record_words, is_later_word, is_later_text, is_later_member, holds_later, items_hold_later, members_hold_later};
+ghost use Rattle.vx_document.specs.Later.{list_words, record_words, is_later_word, is_later_text, is_later_member, holds_later, items_hold_later, members_hold_later};
 
 use serde_json::{Map, Value};
 use vx_json::is_among;
-
-/// Text and other bytes.
-#[tactic(auto, unfolding(crate::specs::Later::text_words))]
-fn is_text_word(word: &str) -> bool
-    ensures { result ≡ is_among text_words word.now }
-{
-    is_among(
-        &[
-            "VarBin",
-            "VarBinView",
-            "utf8",
-            "binary",
-            "offsets",
-            "offset_type",
-            "bytes",
-            "views",
-            "buffers",
-            "inline",
-            "prefix",
-            "buffer",
-        ],
-        word,
-    )
-}
 
 /// Lists and maps.
 #[tactic(auto, unfolding(crate::specs::Later::list_words))]
@@ -74,12 +50,12 @@ fn is_record_word(word: &str) -> bool
     )
 }
 
-/// Whether it is a word of any of these lists. They are one pool: each counts as a name and as a
+/// Whether it is a word of either of these lists. They are one pool: each counts as a name and as a
 /// text alike.
 fn is_later_word(word: &str) -> bool
     ensures { result ≡ is_later_word word.now }
 {
-    is_text_word(word) || is_list_word(word) || is_record_word(word)
+    is_list_word(word) || is_record_word(word)
 }
 
 /// Whether a member of this name is a `layout` or a `type` with a later word for its text.

@@ -18,8 +18,11 @@ mod primitive;
 mod reading;
 mod steps;
 mod validity;
+mod varbin;
+mod varbinview;
 
 pub use documents::{Document, DocumentSource, StepList};
 pub use later::holds_later;
 pub use reading::document;
+pub use steps::steps_of;
 pub use vx_json::DocError;

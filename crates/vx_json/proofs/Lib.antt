@@ -5,3 +5,5 @@ pub mod BitReading
 pub mod ItemParts
 pub mod ItemBits
 pub mod Made
+pub mod TextLists
+pub mod ViewLists

@@ -8,3 +8,5 @@ pub mod Decimals
 pub mod BitText
 pub mod Masks
 pub mod Policies
+pub mod Texts
+pub mod Views

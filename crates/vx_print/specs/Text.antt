@@ -1,10 +1,10 @@
 -- The text of a column: a line for its type, and one for each row.
-use Rattle.std.specs.Prelude.{ℕ, ℤ, Bool, true, false, List, [], ◌∷◌, ◌++◌, codes, decimal, flat_map, if◌then◌else◌}
+use Rattle.std.specs.Prelude.{ℕ, ℤ, ◌==◌, ◌&&◌, nat_le, not, Bool, true, false, List, [], ◌∷◌, ◌++◌, codes, decimal, flat_map, if◌then◌else◌}
 use Rattle.std.specs.Fmt.{signed_decimal}
 use Rattle.hex.specs.Hex.{encode_lower}
 use Rattle.vx_types.specs.Nullability.{is_nullable}
 use Rattle.vx_types.specs.PType.{is_int, number}
-use Rattle.vx_types.specs.TypeTree.{TypeKind, TypeTree, null_kind, bool_kind, primitive_kind, decimal_kind}
+use Rattle.vx_types.specs.TypeTree.{TypeKind, TypeTree, null_kind, bool_kind, primitive_kind, decimal_kind, utf8_kind, binary_kind}
 use Rattle.vx_types.specs.RowValue.{RowValue, null, bit, bytes}
 use Rattle.vx_types.specs.declared.nullability.Nullability.{Nullability}
 use Rattle.vx_types.specs.declared.ptype.PType.{PType}
@@ -43,6 +43,8 @@ kind_text null_kind = codes "null"
 kind_text bool_kind = codes "bool"
 kind_text (primitive_kind p) = ptype_text p
 kind_text (decimal_kind p s w) = decimal_text p s w
+kind_text utf8_kind = codes "utf8"
+kind_text binary_kind = codes "binary"
 kind_text k = []
 
 abbrev pub type_text : TypeTree → List ℕ
@@ -56,6 +58,18 @@ bit_text false = codes "false"
 abbrev pub hex_text : List ℕ → List ℕ
 hex_text b = codes "0x" ++ encode_lower b
 
+-- a byte that stands for itself between quotes: one of ASCII that is printed, other than `"` and `\`
+abbrev pub is_plain : ℕ → Bool
+is_plain b = nat_le 32 b && nat_le b 126 && not (b == 34) && not (b == 92)
+
+-- every other byte is `\x` and two digits
+abbrev pub quoted_byte : ℕ → List ℕ
+quoted_byte b = if is_plain b then b ∷ [] else codes "\\x" ++ encode_lower (b ∷ [])
+
+-- bytes between quotes
+abbrev pub quoted_text : List ℕ → List ℕ
+quoted_text b = codes "\"" ++ flat_map quoted_byte b ++ codes "\""
+
 -- a record of a primitive type: an integer in decimal digits, a float in hexadecimal ones
 abbrev pub primitive_text : PType → List ℕ → List ℕ
 primitive_text p b = if is_int p then signed_decimal (number p b) else hex_text b
@@ -63,6 +77,8 @@ primitive_text p b = if is_int p then signed_decimal (number p b) else hex_text 
 abbrev pub bytes_text : TypeKind → List ℕ → List ℕ
 bytes_text (primitive_kind p) b = primitive_text p b
 bytes_text (decimal_kind p s w) b = hex_text b
+bytes_text utf8_kind b = quoted_text b
+bytes_text binary_kind b = hex_text b
 bytes_text k b = []
 
 -- a row, with the text of bytes by f

@@ -1,8 +1,9 @@
-//! Lines of rows, read as cells and written by blocks: each block from its last row back to its
-//! first.
-ghost use Rattle.std.specs.Prelude.{◌≡◌, ◌+◌, ◌≤◌, ◌++◌, length, drop, IsOk, slice_range};
+//! Lines of rows of flat types, read as cells and written by blocks: each block from its last row
+//! back to its first.
+ghost use Rattle.std.specs.Prelude.{◌≡◌, ◌+◌, ◌≤◌, ◌++◌, length, drop, IsOk, slice_range, true};
 ghost use Rattle.vx_types.specs.DType.{type_of};
 ghost use Rattle.vx_types.specs.PType.{width};
+ghost use Rattle.vx_types.specs.TypeTree.{is_flat};
 ghost use Rattle.vx_column.specs.Cell.{row_of, IsOfType};
 ghost use Rattle.vx_print.specs.Text.{lines, primitive_text, row_text};
 
@@ -32,6 +33,7 @@ fn put_primitive(ptype: PType, bytes: &[u8], dst: &mut [u8; ROOM], end: usize) -
 #[inline(always)]
 #[tactic(auto, using(crate::proofs::Widths::decimal_short))]
 fn put_row(dtype: &DType, row: Cell<'_>, dst: &mut [u8; ROOM], end: usize) -> usize
+    requires flat { is_flat (type_of dtype.now) ≡ true }
     requires of_type { IsOfType row (type_of dtype.now) }
     requires room { ROW ≤ end }
     requires within { end ≤ ROOM }
@@ -50,13 +52,14 @@ fn put_row(dtype: &DType, row: Cell<'_>, dst: &mut [u8; ROOM], end: usize) -> us
             prove!(width <= 32);
             put_hex(bytes, dst, end)
         }
-        (Cell::Bytes(_), DType::Null | DType::Bool(_)) => unreachable!(),
+        (Cell::Bytes(_), _) => unreachable!(),
     }
 }
 
 // Writes the lines of the rows from `start` up to `end` so that they end where `dst` does, and
 // answers where they begin.
 fn put_rows(column: &Array, start: usize, end: usize, dst: &mut [u8; ROOM]) -> usize
+    requires flat { is_flat column.now.dtype ≡ true }
     requires ordered { start ≤ end }
     requires block { end ≤ start + BLOCK }
     requires within { end ≤ length column.now.rows }
@@ -73,8 +76,9 @@ fn put_rows(column: &Array, start: usize, end: usize, dst: &mut [u8; ROOM]) -> u
     at
 }
 
-/// Appends a line for each row. `NoMemory` alone.
+/// Appends a line for each row of a column of flat type. `NoMemory` alone.
 pub(crate) fn push_rows(text: &mut Vec<u8>, column: &Array) -> Result<(), NoMemory>
+    requires { is_flat column.now.dtype ≡ true }
     ensures { IsOk result → text.new.items
         ≡ text.old.items ++ lines (row_text column.now.dtype) column.now.rows }
 {

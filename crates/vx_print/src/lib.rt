@@ -1,14 +1,17 @@
-//! What the program prints: the text of a column, the line of a broken step, and that of the calls
-//! of a decoder.
+//! What the program prints: the text of a column, the line of a broken step, that of the calls of a
+//! decoder, and that of the blocks that were read of a file.
 #![tactic(auto)]
 
 mod calls;
 mod cells;
 mod fault;
+mod reads;
 mod records;
 mod row;
 mod text;
+mod texts;
 
 pub use calls::calls_line;
 pub use fault::{FAULT_ROOM, fault_line};
+pub use reads::reads_line;
 pub use text::text_of;

@@ -8,6 +8,7 @@ ghost use Rattle.vx_print.specs.Records.{record_rows, bits_in, IsLong};
 
 use crate::cells::push_rows;
 use crate::records::{push_hex, push_primitive};
+use crate::texts::push_texts;
 use itoa::{Buffer, Integer};
 use std::alloc::Global;
 use vx_bits::{BitBuffer, NoMemory, Records};
@@ -88,6 +89,14 @@ fn push_type(text: &mut Vec<u8>, dtype: &DType) -> Result<(), NoMemory>
             push_decimal(text, *decimal)?;
             push_mark(text, *nullability)
         }
+        DType::Utf8(nullability) => {
+            text.extend_from_slice(b"utf8")?;
+            push_mark(text, *nullability)
+        }
+        DType::Binary(nullability) => {
+            text.extend_from_slice(b"binary")?;
+            push_mark(text, *nullability)
+        }
     }
 }
 
@@ -105,7 +114,7 @@ fn push_records(
         (record_rows (bits_in bits.entry) (records_of records.now)) }
 {
     match dtype {
-        DType::Null | DType::Bool(_) => unreachable!(),
+        DType::Null | DType::Bool(_) | DType::Utf8(_) | DType::Binary(_) => unreachable!(),
         DType::Primitive(ptype, _) => push_primitive(text, *ptype, records, bits),
         DType::Decimal(..) => push_hex(text, records, bits),
     }
@@ -119,9 +128,13 @@ fn push_lines(text: &mut Vec<u8>, column: &Array) -> Result<(), NoMemory>
     if let Some(records) = column.present_records() {
         return push_records(text, column.dtype(), records, None);
     }
-    match column.shown_records() {
-        Some((records, bits)) => push_records(text, column.dtype(), records, Some(bits)),
-        None => push_rows(text, column),
+    if let Some((records, bits)) = column.shown_records() {
+        return push_records(text, column.dtype(), records, Some(bits));
+    }
+    if column.dtype().is_flat() {
+        push_rows(text, column)
+    } else {
+        push_texts(text, column)
     }
 }
 

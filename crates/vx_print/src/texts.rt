@@ -1,0 +1,159 @@
+//! Lines of rows of text, which have no bound on their length: written from the first to the last.
+ghost use Rattle.std.specs.Prelude.{◌≡◌, ◌++◌, ◌≤◌, length, flat_map, true, false, IsOk};
+ghost use Rattle.std.specs.List.{list_all};
+ghost use Rattle.vx_types.specs.DType.{type_of};
+ghost use Rattle.vx_types.specs.TypeTree.{is_flat};
+ghost use Rattle.vx_column.specs.Cell.{row_of, IsOfType};
+ghost use Rattle.vx_print.specs.Text.{bytes_text, hex_text, is_plain, lines, quoted_byte, quoted_text, row_text};
+
+use hex::encode_to_slice;
+use vx_bits::NoMemory;
+use vx_column::{Array, Cell, DType};
+
+/// A row of text is begun only where the bytes that are there and those of the row, as they are
+/// stored, are at most so many. A short document can name a text of any length: here it ends.
+pub(crate) const TEXT_BYTES: usize = 1 << 31;
+
+const DIGITS: &[u8; 16] = b"0123456789abcdef";
+
+// Whether a byte stands for itself between quotes.
+#[inline(always)]
+fn is_plain(byte: u8) -> bool
+    ensures { result ≡ is_plain byte }
+{
+    (0x20..=0x7e).contains(&byte) && byte != b'"' && byte != b'\\'
+}
+
+// Whether each byte stands for itself. It looks at all of them, so that the compiler may take many
+// at once.
+fn are_plain(bytes: &[u8]) -> bool
+    ensures { result ≡ list_all is_plain bytes.now }
+{
+    let mut plain = true;
+    for byte in bytes {
+        plain &= is_plain(*byte);
+    }
+    plain
+}
+
+// Appends `\x` and the two digits of a byte that doesn't stand for itself.
+fn push_escape(text: &mut Vec<u8>, byte: u8) -> Result<(), NoMemory>
+    requires { is_plain byte ≡ false }
+    ensures { IsOk result → text.new.items ≡ text.old.items ++ quoted_byte byte }
+{
+    let high = DIGITS[usize::from(byte / 16)];
+    let low = DIGITS[usize::from(byte % 16)];
+    text.extend_from_slice(&[b'\\', b'x', high, low])?;
+    Ok(())
+}
+
+// Appends bytes that stand for themselves. Where there are none it copies nothing: a text may have
+// hundreds of millions of such runs.
+#[inline(always)]
+fn push_run(text: &mut Vec<u8>, run: &[u8]) -> Result<(), NoMemory>
+    ensures { IsOk result → text.new.items ≡ text.old.items ++ run.now }
+{
+    if !run.is_empty() {
+        text.extend_from_slice(run)?;
+    }
+    Ok(())
+}
+
+// Appends bytes as they stand between quotes, those that stand for themselves a run at a time.
+fn push_runs(text: &mut Vec<u8>, bytes: &[u8]) -> Result<(), NoMemory>
+    ensures { IsOk result → text.new.items ≡ text.old.items ++ flat_map quoted_byte bytes.now }
+{
+    let mut start = 0;
+    for (i, byte) in bytes.iter().enumerate() {
+        if !is_plain(*byte) {
+            push_run(text, &bytes[start..i])?;
+            push_escape(text, *byte)?;
+            start = i + 1;
+        }
+    }
+    text.extend_from_slice(&bytes[start..])?;
+    Ok(())
+}
+
+// Appends bytes between quotes.
+fn push_quoted(text: &mut Vec<u8>, bytes: &[u8]) -> Result<(), NoMemory>
+    ensures { IsOk result → text.new.items ≡ text.old.items ++ quoted_text bytes.now }
+{
+    text.push(b'"')?;
+    if are_plain(bytes) {
+        text.extend_from_slice(bytes)?;
+    } else {
+        push_runs(text, bytes)?;
+    }
+    text.push(b'"')?;
+    Ok(())
+}
+
+// Appends bytes in hexadecimal digits.
+fn push_digits(text: &mut Vec<u8>, bytes: &[u8]) -> Result<(), NoMemory>
+    requires { length bytes.now ≤ TEXT_BYTES }
+    ensures { IsOk result → text.new.items ≡ text.old.items ++ hex_text bytes.now }
+{
+    text.extend_from_slice(b"0x")?;
+    let start = text.len();
+    text.resize(start + 2 * bytes.len(), 0)?;
+    let Ok(()) = encode_to_slice(bytes, &mut text[start..]) else {
+        unreachable!();
+    };
+    Ok(())
+}
+
+// Whether a row that has so many stored bytes may be begun behind a text of `len`.
+fn has_room(len: usize, more: usize) -> bool
+    ensures { result ≡ true → more ≤ TEXT_BYTES }
+{
+    len <= TEXT_BYTES && more <= TEXT_BYTES - len
+}
+
+// Appends a row's bytes, as its type says.
+fn push_bytes(text: &mut Vec<u8>, dtype: &DType, bytes: &[u8]) -> Result<(), NoMemory>
+    requires { is_flat (type_of dtype.now) ≡ false }
+    ensures { IsOk result → text.new.items
+        ≡ text.old.items ++ bytes_text (type_of dtype.now).kind bytes.now }
+{
+    if !has_room(text.len(), bytes.len()) {
+        return Err(NoMemory);
+    }
+    match dtype {
+        DType::Utf8(_) => push_quoted(text, bytes),
+        DType::Binary(_) => push_digits(text, bytes),
+        _ => unreachable!(),
+    }
+}
+
+// Appends a row of this type.
+fn push_row(text: &mut Vec<u8>, dtype: &DType, row: Cell<'_>) -> Result<(), NoMemory>
+    requires text { is_flat (type_of dtype.now) ≡ false }
+    requires of_type { IsOfType row (type_of dtype.now) }
+    ensures { IsOk result → text.new.items
+        ≡ text.old.items ++ row_text (type_of dtype.now) (row_of row.entry) }
+{
+    match row {
+        Cell::Null => {
+            text.extend_from_slice(b"null")?;
+            Ok(())
+        }
+        Cell::Bytes(bytes) => push_bytes(text, dtype, bytes),
+        Cell::Bit(_) => unreachable!(),
+    }
+}
+
+/// Appends a line for each row of a column of text. `NoMemory` alone, also where the text would
+/// grow past its bound.
+pub(crate) fn push_texts(text: &mut Vec<u8>, column: &Array) -> Result<(), NoMemory>
+    requires { is_flat column.now.dtype ≡ false }
+    ensures { IsOk result → text.new.items
+        ≡ text.old.items ++ lines (row_text column.now.dtype) column.now.rows }
+{
+    let dtype = column.dtype();
+    for i in 0..column.len() {
+        push_row(text, dtype, column.cell_at(i))?;
+        text.push(b'\n')?;
+    }
+    Ok(())
+}
