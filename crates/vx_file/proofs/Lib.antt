@@ -6,3 +6,4 @@ pub mod TouchedLists
 pub mod ToldReads
 pub mod HeldRows
 pub mod FileAnswers
+pub mod StatedParts

@@ -37,13 +37,14 @@ module _ (width k : ℕ) (picks : BoundedPicks) (spare f0 f1 f2 : ℕ) (before a
       → AreTold spare picks (after ≡ then_told before (touched picks.picks (k + 1)))
       → MatchReading e (Rose f1 f2) (λ block. (block ≡ k + 1) × IfSome now (λ all. IsNoSpelling width (block_at all block))) (λ _ _. ⊥) (Unit {0})
       → MatchReading e (Rose f0 f2 × AreTold spare picks (ReadUpTo picks.picks before after (blocks_for picks.bound)))
-      (λ block. IfSome blocks (λ all. IsNoSpelling width (block_at all block)) × AreTold spare picks (ReadLast picks.picks before after block))
+      (λ block. IfSome blocks (λ all. IsNoSpelling width (block_at all block)) × AreTold spare picks (ReadLast picks.picks before after (blocks_for picks.bound) block))
       (λ _ _. ⊥) (AreTold spare picks (ReadUpTo picks.picks before after (blocks_for picks.bound)))
   raised ReadFault a h any same told m = (λ below. omega (arith, m below, a), λ t. record { count = k + 1; within = omega (arith, h); told = told t })
   raised BadHeader a h any same told m = m
   raised (Damaged block) a h any same told m = (
     subst (λ (o : Option (List (List ℕ))). IfSome o (λ all. IsNoSpelling width (block_at all block))) same m.1,
     λ t. record {
+      within = omega (arith, h, m.0);
       front = touched picks.picks k;
       last = ap (touched picks.picks) m.0 ∙ touched_more picks.picks k ∙ ap (λ b. touched picks.picks k ++ block_of_rows b k) any ∙ ap (λ n. touched picks.picks k ++ n ∷ []) (sym m.0);
       told = told t ∙ ap (λ n. then_told before (touched picks.picks n)) (sym m.0);

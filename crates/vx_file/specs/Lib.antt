@@ -4,3 +4,4 @@ pub mod Shape
 pub mod Touched
 pub mod File
 pub mod Reading
+pub mod Stated

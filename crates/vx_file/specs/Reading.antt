@@ -12,13 +12,16 @@ use Rattle.vx_file.specs.declared.error.FileError.{FileError}
 use Rattle.vx_file.specs.Touched.{blocks_for, lies_in, touched}
 
 -- the reads grew by the touched blocks of the first `1024 * n` rows, for some n
-pub record ReadUpTo (picks : List (Option ℕ)) (before after : Option (List ℕ)) (most : ℕ) : Type 0 where
+pub record ReadUpTo (picks : List (Option ℕ)) (before after : Option (List ℕ)) (most : ℕ)
+    : Type 0 where
   pub count : ℕ
   pub within : count ≤ most
   pub told : after ≡ then_told before (touched picks count)
 
--- the reads grew by the touched blocks up to this one, which is the last of them
-pub record ReadLast (picks : List (Option ℕ)) (before after : Option (List ℕ)) (block : ℕ) : Type 0 where
+-- the reads grew by the touched blocks up to this one of them, which is no later than `most`
+pub record ReadLast (picks : List (Option ℕ)) (before after : Option (List ℕ)) (most block : ℕ)
+    : Type 0 where
+  pub within : block ≤ most
   pub front : List ℕ
   pub last : touched picks block ≡ front ++ block ∷ []
   pub told : after ≡ then_told before (touched picks block)
@@ -31,7 +34,8 @@ pub record IsHeld (width : ℕ) (numbers : List ℕ) (start : ℕ) (bytes : List
 -- for each block of rows where its numbers begin
 pub record HasRoom (numbers starts : List ℕ) (picks : List (Option ℕ)) (n : ℕ) : Type 0 where
   pub long : length starts ≡ n
-  pub inside : (k : ℕ) → k < n → list_any (lies_in k) picks ≡ true → slice_index starts k + 1024 ≤ length numbers
+  pub inside : (k : ℕ) → k < n → list_any (lies_in k) picks ≡ true
+      → slice_index starts k + 1024 ≤ length numbers
 
 -- each touched block of the first `1024 * n` rows is held
 abbrev pub AreHeld : ℕ → List ℕ → List ℕ → List (Option ℕ) → ℕ → List (List ℕ) → Type 0
@@ -55,11 +59,13 @@ AreTold spare picks P = length (touched picks.picks (blocks_for picks.bound)) �
 -- the number of a pick is held
 abbrev pub IsThere : List ℕ → List ℕ → Option ℕ → Type 0
 IsThere numbers starts pick =
-    IfSome pick (λ p. (p / 1024 < length starts) × (slice_index starts (p / 1024) + 1024 ≤ length numbers))
+    IfSome pick (λ p. (p / 1024 < length starts)
+    × (slice_index starts (p / 1024) + 1024 ≤ length numbers))
 
 -- the records of picks
 abbrev pub held_records : ℕ → List ℕ → List ℕ → List (Option ℕ) → List (List ℕ)
-held_records width numbers starts picks = map (λ pick. record_of width (held_number numbers starts pick)) picks
+held_records width numbers starts picks =
+    map (λ pick. record_of width (held_number numbers starts pick)) picks
 
 -- each touched block is a spelling
 abbrev pub AreSpellings : ℕ → BoundedPicks → List (List ℕ) → Type 0
@@ -73,11 +79,12 @@ AllRead picks before after = after ≡ then_told before (touched picks.picks (bl
 
 -- what an error of reading says, where as many reads are told as there are touched blocks: a read
 -- failed; the last block that was read is no spelling; or memory was wanting
-abbrev pub IsReadError : ℕ → BoundedPicks → ℕ → Type 0 → Option (List ℕ) → Option (List ℕ) → Option (List (List ℕ)) → FileError → Type 0
+abbrev pub IsReadError : ℕ → BoundedPicks → ℕ → Type 0 → Option (List ℕ) → Option (List ℕ)
+    → Option (List (List ℕ)) → FileError → Type 0
 IsReadError width picks spare Raised before after blocks e =
     MatchReading e
     (Raised × AreTold spare picks (ReadUpTo picks.picks before after (blocks_for picks.bound)))
     (λ block. IfSome blocks (λ all. IsNoSpelling width (block_at all block))
-    × AreTold spare picks (ReadLast picks.picks before after block))
+    × AreTold spare picks (ReadLast picks.picks before after (blocks_for picks.bound) block))
     (λ _ _. ⊥)
     (AreTold spare picks (ReadUpTo picks.picks before after (blocks_for picks.bound)))

@@ -79,12 +79,12 @@ pub(crate) fn read_touched<R: BlockReader>(
     ensures told { OnOk result (AreTold (R.spare reader.old) picks.now (R.reads reader.new
         ≡ then_told (R.reads reader.old) (touched picks.now.picks (blocks_for picks.now.bound)))) }
     ensures error { IfErr result (λ e. MatchReading e
-        ((Rose (R.faults reader.old) (R.faults reader.new)) × (AreTold (R.spare reader.old) picks.now
-        (ReadUpTo picks.now.picks (R.reads reader.old) (R.reads reader.new)
-        (blocks_for picks.now.bound))))
-        (λ block. (IfSome (R.blocks reader.old) (λ all. IsNoSpelling width (block_at all block)))
-        × (AreTold (R.spare reader.old) picks.now
-        (ReadLast picks.now.picks (R.reads reader.old) (R.reads reader.new) block)))
+        (Rose (R.faults reader.old) (R.faults reader.new)
+        × AreTold (R.spare reader.old) picks.now (ReadUpTo picks.now.picks
+        (R.reads reader.old) (R.reads reader.new) (blocks_for picks.now.bound)))
+        (λ block. IfSome (R.blocks reader.old) (λ all. IsNoSpelling width (block_at all block))
+        × AreTold (R.spare reader.old) picks.now (ReadLast picks.now.picks
+        (R.reads reader.old) (R.reads reader.new) (blocks_for picks.now.bound) block))
         (λ _ _. ⊥)
         (AreTold (R.spare reader.old) picks.now (ReadUpTo picks.now.picks (R.reads reader.old)
         (R.reads reader.new) (blocks_for picks.now.bound)))) }

@@ -2,16 +2,14 @@
 use Rattle.std.proofs.Common.{◌≡◌, ℕ, zero, suc, ◌+◌, ◌-◌, ◌*◌, ◌/◌, ◌%◌, ◌^◌, ◌<◌, ◌≤◌, Bool, false, eqb, List, [], ◌++◌, length, get_or, take, drop, inl, inr, refl, sym, ap, ap₂, ◌∙◌, arith}
 use Rattle.std.specs.Int.{bit_at, to_le_bytes, w64}
 use Rattle.std.proofs.lemmas.Bool.{cases_lt}
-use Rattle.std.proofs.lemmas.List.{append_assoc, get_or-append_right, get_or-drop, get_or-take, get_or_append_left, get_or_default, get_or_past, length-take, length-take-le, same_lists}
+use Rattle.std.proofs.lemmas.List.{get_or-append_right, get_or-drop, get_or-take, get_or_append_left, get_or_default, get_or_past, length-take, same_lists}
 use Rattle.std.proofs.lemmas.List.FromFn.{get_or-map-range_with_len, length-map-range_with_len}
 use Rattle.std.proofs.Math.Nat.{mod-eq_of_lt}
 use Rattle.std.proofs.Math.Pow.{pow_mono}
 use Rattle.vx_bits.specs.BitBuffer.{bit_of, bits_of, number_of}
-use Rattle.vx_bits.specs.Words.{word_at, word_bits}
 use Rattle.vx_bits.proofs.BitLists.{bit_in, bit_of_number, bits_cut, bits_of_byte, length_bits, number_below}
-use Rattle.vx_bits.proofs.ByteLists.{bits_joined, bits_of_word}
+use Rattle.vx_bits.proofs.ByteLists.{bits_joined}
 use Rattle.vx_bits.proofs.WordBits.{number_of-word_bits}
-use Rattle.vx_bits.proofs.WordLists.{bits_in, length-bits_in, take_words, whole_word, word_at_below}
 use Rattle.vx_packed.specs.Chunk.{bytes_of}
 
 abbrev eight_at : List Bool → ℕ → ℕ

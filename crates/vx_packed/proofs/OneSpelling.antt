@@ -1,18 +1,17 @@
 -- One spelling for each list of chunks.
-use Rattle.std.proofs.Common.{◌≡◌, ℕ, zero, suc, ◌+◌, ◌-◌, ◌*◌, ◌/◌, ◌%◌, ◌^◌, ◌<◌, ◌≤◌, List, [], ◌++◌, None, length, get_or, drop, eqb, false, inl, inr, sym, ap, subst, ◌∙◌, arith}
+use Rattle.std.proofs.Common.{◌≡◌, ℕ, ◌+◌, ◌-◌, ◌*◌, ◌^◌, ◌<◌, ◌≤◌, List, [], ◌++◌, None, length, get_or, drop, eqb, false, sym, ap, subst, ◌∙◌, arith}
 use Rattle.std.specs.Int.{bit_at}
-use Rattle.std.specs.List.{All, flat_map, range_with_len}
-use Rattle.std.proofs.lemmas.List.{get_or-drop, get_or-take, length-drop, length-take-le, same_lists}
-use Rattle.std.proofs.lemmas.Bool.{cases_eq}
+use Rattle.std.specs.List.{All}
+use Rattle.std.proofs.lemmas.List.{get_or-drop, get_or-take, length-drop, length-take-le}
 use Rattle.std.proofs.lemmas.Nat.{mul-le}
 use Rattle.vx_bits.specs.BitBuffer.{bit_of}
 use Rattle.vx_bits.proofs.BitLists.{bit_in}
 use Rattle.vx_bits.proofs.WordBits.{get_or-word_bits}
 use Rattle.vx_packed.specs.Faults.{chunk_fault}
-use Rattle.vx_packed.specs.Chunk.{IsChunk, IsSpelling, bytes_of, chunk_at, digits, field_bits, greatest, least, spell, spell_list}
+use Rattle.vx_packed.specs.Chunk.{IsChunk, IsSpelling, bytes_of, chunk_at, digits, field_bits, greatest, least, spell}
 use Rattle.vx_packed.proofs.Bytes.{bits_of-bytes_of}
 use Rattle.vx_packed.proofs.Fields.{cut_field, length-field_bits}
-use Rattle.vx_packed.proofs.Spellings.{body_of_spell, no_proper_prefix, same_parts, spell_injective, spelled_no_fault}
+use Rattle.vx_packed.proofs.Spellings.{body_of_spell, no_proper_prefix, spell_injective, spelled_no_fault}
 
 -- the chunks of a list are chunks
 pub chunk_is : (width : ℕ) (xs : List ℕ) (k : ℕ) → 1024 * k + 1024 ≤ length xs → All (λ x. x < 2 ^ (8 * width)) xs → IsChunk width (chunk_at xs k)

@@ -1,9 +1,8 @@
 -- What the check of the steps says of the answer over values behind a decoder.
-use Rattle.std.proofs.Common.{◌≡◌, ℕ, List, Option, Ok, Err, Result, length, sym, ap, ◌∙◌, subst}
+use Rattle.std.proofs.Common.{◌≡◌, ℕ, List, Ok, Err, Result, length, sym, ap, ◌∙◌, subst}
 use Rattle.std.specs.Prelude.{IsErrAnd}
 use Rattle.vx_types.specs.TypeTree.{TypeTree}
 use Rattle.vx_types.specs.RowValue.{RowValue}
-use Rattle.vx_chunked.specs.declared.call.Call.{Call}
 use Rattle.vx_steps.specs.Step.{StepValue}
 use Rattle.vx_steps.specs.Walk.{Walk, walk_fault, walk_picks, walk}
 use Rattle.vx_steps.specs.Check.{HasCount}
@@ -14,9 +13,10 @@ use Rattle.vx_steps.specs.declared.cause.SelectError.TheVariants.{Broken, NoMemo
 use Rattle.vx_select.specs.Select.{IsRows}
 use Rattle.vx_rows.specs.Answering.{Answers}
 use Rattle.vx_rows.specs.declared.answering.Answered.{Answered}
+use Rattle.vx_rows.specs.declared.asked.Asked.{Asked}
 
 -- an answer that is this error
-pub answers_err : (r : Result Answered SelectError) (a : Answer) (asked : Option (List Call)) (e : SelectError) → IsErrAnd r (λ x. x ≡ e) → MatchError e (λ k cause. a ≡ answer_fault k cause) (IsRows a) → Answers r a asked
+pub answers_err : (r : Result Answered SelectError) (a : Answer) (asked : Asked) (e : SelectError) → IsErrAnd r (λ x. x ≡ e) → MatchError e (λ k cause. a ≡ answer_fault k cause) (IsRows a) → Answers r a asked
 answers_err (Ok p) a asked e h m = absurd h
 answers_err (Err x) a asked e h m =
     let P : SelectError → Type 0 = λ y. MatchError y (λ k cause. a ≡ answer_fault k cause) (IsRows a) in

@@ -3,7 +3,9 @@ use Rattle.std.specs.Prelude.{◌≡◌, ◌≢◌, ◌≤◌, ◌⊎◌, ℕ, �
 use Rattle.std.specs.Str.{all_ascii_digits}
 use Rattle.std.specs.Str.Parse.{digits_value}
 use Rattle.vx_rows.specs.declared.command.Command.{Command}
-use Rattle.vx_rows.specs.declared.command.Command.TheVariants.{Rows, Made}
+use Rattle.vx_rows.specs.declared.command.Command.TheVariants.{Read, Made}
+use Rattle.vx_rows.specs.declared.command.Form.TheVariants as forms
+use Rattle.vx_rows.specs.declared.trace.Trace.{Trace}
 
 -- the number that one to ten digits write, where it is below 2^32
 unfoldable pub number_named : List ℕ → Option ℕ
@@ -13,13 +15,16 @@ number_named word =
     then Some (digits_value 10 word) else None
 
 abbrev pub command_named : List ℕ → Option Command
-command_named word = if bytes_eq word (codes "rows") then Some Rows else None
+command_named word =
+    if bytes_eq word (codes "rows") then Some (Read forms.Rows)
+    else if bytes_eq word (codes "file") then Some (Read forms.File)
+    else None
 
 abbrev pub command_with : List ℕ → List ℕ → Option Command
 command_with word number =
     if bytes_eq word (codes "made") then option_map Made (number_named number) else None
 
--- the command that the words name: `rows` alone, or `made` and a number
+-- the command that the words name: `rows` or `file` alone, or `made` and a number
 abbrev pub command_of : List (List ℕ) → Option Command
 command_of [] = None
 command_of (w ∷ []) = command_named w
@@ -31,14 +36,22 @@ abbrev pub IfCommand : Option Command → (Command → Type 0) → Type 0
 IfCommand None P = ⊥
 IfCommand (Some command) P = P command
 
--- a fact of the source where the command reads nothing: `rows` alone reads
+-- a fact of the source where the command reads nothing: `made` and other words read nothing
 abbrev pub UnlessRead : Option Command → Type 0 → Type 0
 UnlessRead None P = P
-UnlessRead (Some Rows) P = Unit {0}
+UnlessRead (Some (Read form)) P = Unit {0}
 UnlessRead (Some (Made seed)) P = P
 
 -- the statuses that may come of a command
 abbrev pub MayEnd : Option Command → ℕ → Type 0
 MayEnd None status = status ≡ 3
-MayEnd (Some Rows) status = (status ≤ 8) × (status ≢ 3)
+MayEnd (Some (Read form)) status = (status ≤ 8) × (status ≢ 3)
 MayEnd (Some (Made seed)) status = (status ≡ 0) ⊎ (status ≡ 5) ⊎ (status ≡ 6)
+
+-- what of a trace a command never changes: `rows` leaves the reads of a file, `file` the calls of a
+-- decoder, and the others leave all
+abbrev pub LeavesTrace : Option Command → Trace → Trace → Type 0
+LeavesTrace None before after = after ≡ before
+LeavesTrace (Some (Read forms.Rows)) before after = after.reads ≡ before.reads
+LeavesTrace (Some (Read forms.File)) before after = after.calls ≡ before.calls
+LeavesTrace (Some (Made seed)) before after = after ≡ before

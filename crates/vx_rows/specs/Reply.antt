@@ -9,7 +9,7 @@ use Rattle.vx_rows.specs.declared.trace.Trace.{Trace}
 
 -- a reply is the outcome; memory may be wanting instead
 abbrev pub Replies : Reply → Outcome → Type 0
-Replies (replies.Done text calls) o = o ≡ Done text.items calls
+Replies (replies.Done text asked) o = o ≡ Done text.items asked
 Replies (replies.Broken step cause) o = o ≡ Broken (fault_text step cause)
 Replies replies.Malformed o = o ≡ Malformed
 Replies replies.NotBuilt o = o ≡ NotBuilt
@@ -22,18 +22,18 @@ IsHonest r a = Unit {0}
 
 -- what is written
 abbrev pub text_of_reply : Reply → Option (List ℕ)
-text_of_reply (replies.Done text calls) = Some text.items
+text_of_reply (replies.Done text asked) = Some text.items
 text_of_reply (replies.Broken step cause) = Some (fault_text step cause)
 text_of_reply r = None
 
 -- the trace that is left where this one was found
 abbrev pub traced_by_reply : Reply → Trace → Trace
-traced_by_reply (replies.Done text calls) t = kept calls t
+traced_by_reply (replies.Done text asked) t = kept asked t
 traced_by_reply r t = t
 
 -- the program's status, where no sink fails
 abbrev pub status_of_reply : Reply → ℕ
-status_of_reply (replies.Done text calls) = 0
+status_of_reply (replies.Done text asked) = 0
 status_of_reply (replies.Broken step cause) = 1
 status_of_reply replies.Malformed = 2
 status_of_reply replies.NotBuilt = 8

@@ -1,5 +1,5 @@
-//! The rows that a document asks for, and the calls that a decoder is asked for them.
-ghost use Rattle.std.specs.Prelude.{◌≡◌, ◌+◌, ◌%◌, ◌≤◌, None, Some, length, map};
+//! The rows that a document asks for, and what is asked for them.
+ghost use Rattle.std.specs.Prelude.{◌≡◌, ◌+◌, ◌%◌, ◌≤◌, Some, length, map};
 ghost use Rattle.vx_bits.specs.Records.{records_of, width_of};
 ghost use Rattle.vx_types.specs.TypeTree.{type_width};
 ghost use Rattle.vx_mask.specs.Policy.{sparse_limit_of};
@@ -9,24 +9,26 @@ ghost use Rattle.vx_steps.specs.Walk.{walk};
 ghost use Rattle.vx_steps.specs.Answer.{answer, answer_of};
 ghost use Rattle.vx_select.specs.Chunks.{asked_by_walk, chunk_rows};
 ghost use Rattle.vx_document.specs.Documents.{HoldsAll, IsWhole, document_value};
-ghost use Rattle.vx_rows.specs.Program.{answer_to, calls_to};
+ghost use Rattle.vx_rows.specs.Program.{answer_to, asked_by};
 ghost use Rattle.vx_rows.specs.Answering.{Answers};
+ghost use Rattle.vx_rows.specs.declared.asked.Asked.TheVariants.{Nothing, Calls};
 
+use crate::asked::Asked;
 use std::alloc::Global;
 use vx_bits::{Buffer, Records, match_each_record_width};
-use vx_chunked::{CallLog, FILTER_CHUNK_LEN, Logged, StoredChunks};
+use vx_chunked::{FILTER_CHUNK_LEN, Logged, StoredChunks};
 use vx_column::Array;
 use vx_document::{Document, DocumentSource};
 use vx_mask::Policy;
 use vx_select::{ChunkShape, SelectError, Step, check_steps, select, select_chunked};
 
-/// The rows that the steps pick, and the calls of a decoder where they are behind one.
+/// The rows that the steps pick, and what was asked for them.
 #[derive(Drop)]
 pub(crate) struct Answered {
     /// The rows.
     pub(crate) rows: Array,
-    /// The calls.
-    pub(crate) calls: Option<CallLog>,
+    /// What was asked.
+    pub(crate) asked: Asked,
 }
 
 fn answer_by_column(
@@ -35,10 +37,13 @@ fn answer_by_column(
     steps: &[Step],
     policy: &Policy,
 ) -> Result<Answered, SelectError>
-    ensures { Answers result (answer column.now (map step_value steps.now)) None }
+    ensures { Answers result (answer column.now (map step_value steps.now)) Nothing }
 {
     let rows = select(alloc, column, steps, policy)?;
-    Ok(Answered { rows, calls: None })
+    Ok(Answered {
+        rows,
+        asked: Asked::Nothing,
+    })
 }
 
 /// How many chunks the rows of the shape lie in.
@@ -67,7 +72,7 @@ fn answer_by_calls<const W: usize>(
     requires enough { shape.now.offset + shape.now.len ≤ length values.now }
     ensures { Answers result
         (answer_of shape.now.dtype (chunk_rows shape.now values.now) (map step_value steps.now))
-        (Some (asked_by_walk shape.now (sparse_limit_of policy.now W)
+        (Calls (asked_by_walk shape.now (sparse_limit_of policy.now W)
         (walk shape.now.len (map step_value steps.now)))) }
 {
     check_steps(shape.len(), steps)?;
@@ -75,7 +80,7 @@ fn answer_by_calls<const W: usize>(
     let rows = select_chunked(alloc, &mut decoder, shape, steps, policy)?;
     Ok(Answered {
         rows,
-        calls: Some(decoder.into_log()),
+        asked: Asked::Calls(decoder.into_log()),
     })
 }
 
@@ -91,7 +96,7 @@ fn answer_by_chunks(
     ensures { Answers result
         (answer_of shape.now.dtype (chunk_rows shape.now (records_of records.now))
         (map step_value steps.now))
-        (Some (asked_by_walk shape.now (sparse_limit_of policy.now (width_of records.now))
+        (Calls (asked_by_walk shape.now (sparse_limit_of policy.now (width_of records.now))
         (walk shape.now.len (map step_value steps.now)))) }
 {
     match_each_record_width!(records, buffer => {
@@ -105,7 +110,7 @@ pub(crate) fn answer_to(alloc: Global, document: &Document) -> Result<Answered, 
     requires { IsWhole document.now.source }
     ensures { Answers result
         (answer_to (document_value document.now).source (document_value document.now))
-        (calls_to (document_value document.now).source (document_value document.now)) }
+        (asked_by (document_value document.now).source (document_value document.now)) }
 {
     let steps = document.steps.as_slice();
     match &document.source {

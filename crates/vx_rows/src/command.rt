@@ -3,11 +3,20 @@ ghost use Rattle.std.specs.Prelude.{◌≡◌, map, string_bytes};
 ghost use Rattle.std.specs.Str.{all_ascii_digits};
 ghost use Rattle.vx_rows.specs.Commands.{command_named, command_of, command_with, number_named};
 
+/// What form of document a command reads.
+#[derive(Clone, Copy, Debug, PartialEq, Eq)]
+pub(crate) enum Form {
+    /// Rows in a column or behind a decoder.
+    Rows,
+    /// A file of blocks.
+    File,
+}
+
 /// A command that words may name.
 #[derive(Clone, Copy, Debug, PartialEq, Eq)]
 pub(crate) enum Command {
-    /// Reads a document and prints its rows.
-    Rows,
+    /// Reads a document of this form, and prints the rows that its steps pick.
+    Read(Form),
     /// Makes rows and steps from a number, and prints a line of their answer.
     Made(u32),
 }
@@ -42,7 +51,8 @@ fn command_named(word: &str) -> Option<Command>
     ensures { result ≡ command_named word.now }
 {
     match word {
-        "rows" => Some(Command::Rows),
+        "rows" => Some(Command::Read(Form::Rows)),
+        "file" => Some(Command::Read(Form::File)),
         _ => None,
     }
 }

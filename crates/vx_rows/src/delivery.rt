@@ -11,8 +11,8 @@ use vx_print::{FAULT_ROOM, fault_line};
 /// The status where the sink fails.
 const SINK_FAULT: u8 = 5;
 
-// Writes what a reply prints, if it prints anything, and answers the status. The calls that it has
-// are kept before the first write. A reply that prints nothing leaves the sink as it was.
+// Writes what a reply prints, if it prints anything, and answers the status. What was asked for it
+// is kept before the first write. A reply that prints nothing leaves the sink as it was.
 pub(crate) fn deliver_reply<K: Sink>(sink: &mut K, trace: &mut Trace, reply: Reply) -> u8
     ensures status { result ≢ 5 → result ≡ status_of_reply reply }
     ensures traced { trace.new ≡ traced_by_reply reply trace.old }
@@ -29,8 +29,8 @@ pub(crate) fn deliver_reply<K: Sink>(sink: &mut K, trace: &mut Trace, reply: Rep
     ensures never_falls { K.faults sink.old ≤ K.faults sink.new }
 {
     match reply {
-        Reply::Done { text, calls } => {
-            trace.keep(calls);
+        Reply::Done { text, asked } => {
+            trace.keep(asked);
             match deliver(sink, &text) {
                 Ok(()) => 0,
                 Err(_) => SINK_FAULT,

@@ -2,8 +2,12 @@
 #![tactic(auto)]
 
 mod answering;
+mod asked;
 mod command;
 mod delivery;
+mod file_blocks;
+mod file_document;
+mod file_reply;
 mod made;
 mod program;
 mod reply;
@@ -13,7 +17,8 @@ pub use program::run;
 pub use trace::Trace;
 pub use vx_chunked::{Call, CallLog};
 pub use vx_document::{DocError, Document, DocumentSource, StepList, document};
+pub use vx_file::ReadLog;
 pub use vx_outside::{
     CountingSink, Failed, MemorySink, MemorySource, Sink, Source, StdSink, StdSource, SteadySource,
 };
-pub use vx_print::{calls_line, fault_line, text_of};
+pub use vx_print::{calls_line, fault_line, reads_line, text_of};

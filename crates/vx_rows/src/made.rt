@@ -1,5 +1,5 @@
 //! The rows and the steps that a number makes, and the line of their answer.
-ghost use Rattle.std.specs.Prelude.{◌≡◌, ◌⊎◌, ◌<◌, ◌≤◌, ◌+◌, ◌-◌, ◌/◌, ◌%◌, ◌==◌, IfOk, None, count_by, length, map, not, sum};
+ghost use Rattle.std.specs.Prelude.{◌≡◌, ◌⊎◌, ◌<◌, ◌≤◌, ◌+◌, ◌-◌, ◌/◌, ◌%◌, ◌==◌, IfOk, count_by, length, map, not, sum};
 ghost use Rattle.std.specs.Int.{to_le_bytes, w32, w64};
 ghost use Rattle.vx_types.specs.RowValue.{is_null};
 ghost use Rattle.vx_types.specs.TypeTree.{primitive_type};
@@ -13,8 +13,10 @@ ghost use Rattle.vx_column.specs.Cell.{IsOfType, row_of};
 ghost use Rattle.vx_steps.specs.Answer.{answer_rows};
 ghost use Rattle.vx_rows.specs.Made.{next_state, draws, drawn_rows, drawn_bits, drawn_indices, drawn_answer, drawn_steps, made_answer, made_text, number_or_zero};
 ghost use Rattle.vx_rows.specs.Program.{Done, made};
+ghost use Rattle.vx_rows.specs.declared.asked.Asked.TheVariants.{Nothing};
 ghost use Rattle.vx_rows.specs.Reply.{Replies, status_of_reply};
 
+use crate::asked::Asked;
 use crate::reply::Reply;
 use std::alloc::Global;
 use vx_bits::{BitBuffer, BitBuilder, Buffer, NoMemory, Records};
@@ -255,7 +257,7 @@ fn made_line(alloc: Global, seed: u32, rows: &Array) -> Result<Vec<u8>, NoMemory
 // The line of the rows that a number makes.
 #[tactic(auto, unfolding(crate::specs::Program::made))]
 fn line_of(alloc: Global, seed: u32) -> Result<Vec<u8>, NoMemory>
-    ensures { IfOk result (λ line. made seed ≡ Done line.items None) }
+    ensures { IfOk result (λ line. made seed ≡ Done line.items Nothing) }
 {
     let rows = made_rows(alloc, seed)?;
     made_line(alloc, seed, &rows)
@@ -267,7 +269,10 @@ pub(crate) fn reply_to_made(alloc: Global, seed: u32) -> Reply
     ensures unbroken { (status_of_reply result ≡ 0) ⊎ (status_of_reply result ≡ 6) }
 {
     match line_of(alloc, seed) {
-        Ok(text) => Reply::Done { text, calls: None },
+        Ok(text) => Reply::Done {
+            text,
+            asked: Asked::Nothing,
+        },
         Err(_) => Reply::NoMemory,
     }
 }

@@ -1,10 +1,11 @@
 //! All that the program does, over any source and sink.
-ghost use Rattle.std.specs.Prelude.{◌≡◌, ◌≢◌, ◌↔◌, ◌⊎◌, ◌≤◌, ◌+◌, ℕ, [], take, map, string_bytes, IfSome, None};
+ghost use Rattle.std.specs.Prelude.{◌≡◌, ◌≢◌, ◌↔◌, ◌⊎◌, ◌≤◌, ◌+◌, ℕ, [], take, map, string_bytes, IfSome, Some, None};
 ghost use Rattle.vx_outside.specs.Bytes.{Rose, Loses, with_back};
 ghost use Rattle.vx_rows.specs.Program.{TooLong, Malformed, NotBuilt, made, program, IsDone, IsBroken, IsPrinted, status_of, IfTold, HasRead, traced_by};
-ghost use Rattle.vx_rows.specs.Commands.{command_of, IfCommand, MayEnd, UnlessRead};
+ghost use Rattle.vx_rows.specs.Commands.{command_of, IfCommand, LeavesTrace, MayEnd, UnlessRead};
+ghost use Rattle.vx_rows.specs.declared.command.Command.TheVariants.{Read};
 
-use crate::command::{Command, command_of};
+use crate::command::{Command, Form, command_of};
 use crate::delivery::deliver_reply;
 use crate::made::reply_to_made;
 use crate::reply::reply_to;
@@ -12,9 +13,10 @@ use crate::trace::Trace;
 use std::alloc::Global;
 use vx_outside::{MAX_BYTES, Sink, Source, Stop, read_all};
 
-// Reads a document, and prints its rows or its fault.
-fn run_rows<S: Source, K: Sink>(
+// Reads a document of this form, and prints the rows that its steps pick, or its fault.
+fn run_document<S: Source, K: Sink>(
     alloc: Global,
+    form: Form,
     source: &mut S,
     sink: &mut K,
     trace: &mut Trace,
@@ -22,32 +24,33 @@ fn run_rows<S: Source, K: Sink>(
     ensures known { result ≤ 8 }
     ensures other_words { result ≢ 3 }
 
-    ensures done { result ≡ 0 → IfSome (S.rest source.old) (λ b. IsDone (program b)
+    ensures done { result ≡ 0 → IfSome (S.rest source.old) (λ b. IsDone (program form b)
         (λ text. K.held sink.new ≡ with_back (K.held sink.old) text)) }
-    ensures broken { result ≡ 1 → IfSome (S.rest source.old) (λ b. IsBroken (program b)
+    ensures broken { result ≡ 1 → IfSome (S.rest source.old) (λ b. IsBroken (program form b)
         (λ line. K.held sink.new ≡ with_back (K.held sink.old) line)) }
     ensures finished { result ≤ 1 → IfSome (K.held sink.old) (λ _. K.pending sink.new ≡ 0) }
     ensures read { result ≤ 1 → IfSome (S.rest source.new) (λ left. left ≡ []) }
 
-    ensures malformed { result ≡ 2 → IfSome (S.rest source.old) (λ b. program b ≡ Malformed) }
+    ensures malformed { result ≡ 2 → IfSome (S.rest source.old) (λ b. program form b ≡ Malformed) }
     ensures source_fault { result ≡ 4 → Rose (S.faults source.old) (S.faults source.new) }
     ensures sink_fault { result ≡ 5 → Rose (K.faults sink.old) (K.faults sink.new) }
-    ensures part { result ≡ 5 → IfSome (S.rest source.old) (λ b. IsPrinted (program b)
+    ensures part { result ≡ 5 → IfSome (S.rest source.old) (λ b. IsPrinted (program form b)
         (λ text. (n : ℕ) × (K.held sink.new ≡ with_back (K.held sink.old) (take n text)))) }
-    ensures too_long { result ≡ 7 → IfSome (S.rest source.old) (λ b. program b ≡ TooLong) }
+    ensures too_long { result ≡ 7 → IfSome (S.rest source.old) (λ b. program form b ≡ TooLong) }
     ensures past { result ≡ 7 → Loses (S.rest source.old) (S.rest source.new) (MAX_BYTES + 1) }
-    ensures not_built { result ≡ 8 → IfSome (S.rest source.old) (λ b. program b ≡ NotBuilt) }
+    ensures not_built { result ≡ 8 → IfSome (S.rest source.old) (λ b. program form b ≡ NotBuilt) }
 
     ensures source_fault_told { result ≢ 4 → S.faults source.new ≡ S.faults source.old }
     ensures sink_fault_told { result ≢ 5 → K.faults sink.new ≡ K.faults sink.old }
 
     ensures quiet { result ≢ 0 → result ≢ 1 → result ≢ 5 → sink.new ≡ sink.old }
     ensures traced { (result ≡ 0) ⊎ (result ≡ 5) → IfSome (S.rest source.old)
-        (λ b. trace.new ≡ traced_by (program b) trace.old) }
+        (λ b. trace.new ≡ traced_by (program form b) trace.old) }
     ensures untraced { result ≢ 0 → result ≢ 5 → trace.new ≡ trace.old }
+    ensures leaves { LeavesTrace (Some (Read form)) trace.old trace.new }
     ensures complete { ¬ Rose (S.faults source.old) (S.faults source.new)
         → ¬ Rose (K.faults sink.old) (K.faults sink.new)
-        → (result ≡ 6) ⊎ IfSome (S.rest source.old) (λ b. result ≡ status_of (program b)) }
+        → (result ≡ 6) ⊎ IfSome (S.rest source.old) (λ b. result ≡ status_of (program form b)) }
 {
     let bytes = match read_all(alloc, source) {
         Ok(bytes) => bytes,
@@ -55,7 +58,7 @@ fn run_rows<S: Source, K: Sink>(
         Err(Stop::TooLong) => return 7,
         Err(Stop::NoMemory) => return 6,
     };
-    deliver_reply(sink, trace, reply_to(alloc, bytes))
+    deliver_reply(sink, trace, reply_to(alloc, form, bytes))
 }
 
 // Prints the line of the rows that a number makes.
@@ -71,6 +74,7 @@ fn run_made<K: Sink>(alloc: Global, seed: u32, sink: &mut K, trace: &mut Trace) 
     ensures quiet { result ≢ 0 → result ≢ 5 → sink.new ≡ sink.old }
     ensures traced { (result ≡ 0) ⊎ (result ≡ 5) → trace.new ≡ traced_by (made seed) trace.old }
     ensures untraced { result ≢ 0 → result ≢ 5 → trace.new ≡ trace.old }
+    ensures leaves { trace.new ≡ trace.old }
     ensures complete { ¬ Rose (K.faults sink.old) (K.faults sink.new)
         → (result ≡ 6) ⊎ (result ≡ status_of (made seed)) }
 {
@@ -93,8 +97,9 @@ fn run_made<K: Sink>(alloc: Global, seed: u32, sink: &mut K, trace: &mut Trace) 
 /// | 8 | the document has a word that isn't read yet; nothing was written |
 ///
 /// The whole text is made before the first write. Where the rows are behind a decoder, its calls
-/// are the text's last line, and are left in `trace`, also where the sink fails; at every other
-/// status but 0, and for every other document, `trace` is as it was.
+/// are the text's last line, and are left in `trace`, also where the sink fails. So are the blocks
+/// that were read of a file; in `trace` the header's is the first. At every other status but 0, and
+/// for every other document, `trace` is as it was.
 pub fn run<S: Source, K: Sink>(
     alloc: Global,
     words: &[String],
@@ -134,11 +139,13 @@ pub fn run<S: Source, K: Sink>(
 
     // Nothing is written at any other status.
     ensures quiet { result ≢ 0 → result ≢ 1 → result ≢ 5 → sink.new ≡ sink.old }
-    // The trace has the calls of a decoder where the rows are behind one; else it is as it was.
+    // The trace has the calls of a decoder where the rows are behind one, and the reads of a file
+    // where they stand in one; else it is as it was.
     ensures traced { (result ≡ 0) ⊎ (result ≡ 5) →
         IfTold (map string_bytes words.now) (S.rest source.old)
         (λ o. trace.new ≡ traced_by o trace.old) }
     ensures untraced { result ≢ 0 → result ≢ 5 → trace.new ≡ trace.old }
+    ensures leaves { LeavesTrace (command_of (map string_bytes words.now)) trace.old trace.new }
     // Where neither count of faults rose, the status is that of the bytes, or memory is wanting.
     ensures complete { ¬ Rose (S.faults source.old) (S.faults source.new)
         → ¬ Rose (K.faults sink.old) (K.faults sink.new)
@@ -147,7 +154,7 @@ pub fn run<S: Source, K: Sink>(
 {
     match command_of(words) {
         None => 3,
-        Some(Command::Rows) => run_rows(alloc, source, sink, trace),
+        Some(Command::Read(form)) => run_document(alloc, form, source, sink, trace),
         Some(Command::Made(seed)) => run_made(alloc, seed, sink, trace),
     }
 }

@@ -1,31 +1,36 @@
 //! What is answered to the bytes of a document.
-ghost use Rattle.std.specs.Prelude.{◌≡◌, IfOk, Some};
+ghost use Rattle.std.specs.Prelude.{◌≡◌, IfOk, Some, drop};
 ghost use Rattle.serde_json.specs.View.{view};
 ghost use Rattle.vx_json.specs.Meaning.{Gives};
 ghost use Rattle.vx_document.specs.Documents.{IsWhole, document_value};
-ghost use Rattle.vx_rows.specs.Program.{value_of, outcome_of, answer_to, of_document, text_with};
+ghost use Rattle.vx_rows.specs.Program.{Done, value_of, outcome_of, answer_to, of_document, of_form, text_with};
 ghost use Rattle.vx_rows.specs.Reply.{Replies, IsHonest};
+ghost use Rattle.vx_rows.specs.declared.command.Form.TheVariants as forms;
 
 use crate::answering::{Answered, answer_to};
+use crate::asked::Asked;
+use crate::command::Form;
+use crate::file_document::file_document;
+use crate::file_reply::reply_to_file;
 use serde_json::Value;
 use std::alloc::Global;
 use vx_bits::NoMemory;
-use vx_chunked::CallLog;
 use vx_column::Array;
 use vx_document::{DocError, Document, document, holds_later};
+use vx_file::ReadLog;
 use vx_json::let_go;
-use vx_print::{calls_line, text_of};
+use vx_print::{calls_line, reads_line, text_of};
 use vx_select::{Cause, SelectError};
 
 /// What comes of bytes that aren't too many.
 #[derive(Drop)]
 pub(crate) enum Reply {
-    /// The text of the rows, and of the calls of a decoder where they are behind one.
+    /// The text of the rows, and of what was asked for them.
     Done {
         /// The text.
         text: Vec<u8>,
-        /// The calls.
-        calls: Option<CallLog>,
+        /// What was asked.
+        asked: Asked,
     },
     /// The first broken step, and its cause.
     Broken {
@@ -58,11 +63,11 @@ fn value_of(alloc: Global, bytes: &[u8]) -> Result<Value, DocError>
     }
 }
 
-/// What comes of these bytes. They are let go before the document is made, and the JSON value
-/// before the rows are.
+/// What comes of these bytes, as a document of this form. They are let go before the document is
+/// made, and the JSON value before the rows are.
 #[tactic(auto, unfolding(crate::specs::Program::outcome_of))]
-pub(crate) fn reply_to(alloc: Global, bytes: Vec<u8>) -> Reply
-    ensures { Replies result (outcome_of bytes.items) }
+pub(crate) fn reply_to(alloc: Global, form: Form, bytes: Vec<u8>) -> Reply
+    ensures { Replies result (outcome_of form bytes.items) }
 {
     let value = match value_of(alloc, &bytes) {
         Ok(value) => value,
@@ -73,6 +78,16 @@ pub(crate) fn reply_to(alloc: Global, bytes: Vec<u8>) -> Reply
     if holds_later(&value) {
         return Reply::NotBuilt;
     }
+    match form {
+        Form::Rows => reply_to_rows(alloc, value),
+        Form::File => reply_to_blocks(alloc, value),
+    }
+}
+
+// What comes of a value as a document of rows.
+fn reply_to_rows(alloc: Global, value: Value) -> Reply
+    ensures { Replies result (of_form forms.Rows (view value)) }
+{
     let document = document(alloc, &value);
     let_go(value);
     match document {
@@ -82,18 +97,57 @@ pub(crate) fn reply_to(alloc: Global, bytes: Vec<u8>) -> Reply
     }
 }
 
-/// The text of the rows, and behind it the line of the calls, where there is a decoder.
-fn text_with(alloc: Global, rows: &Array, calls: &Option<CallLog>) -> Result<Vec<u8>, NoMemory>
-    ensures { IfOk result (λ text. text.items ≡ text_with rows.now.dtype rows.now.rows calls.now) }
+// What comes of a value as a document of a file.
+fn reply_to_blocks(alloc: Global, value: Value) -> Reply
+    ensures { Replies result (of_form forms.File (view value)) }
+{
+    let document = file_document(alloc, &value);
+    let_go(value);
+    match document {
+        Ok(document) => reply_to_file(alloc, document),
+        Err(DocError::Malformed) => Reply::Malformed,
+        Err(DocError::NoMemory) => Reply::NoMemory,
+    }
+}
+
+// The blocks that were read behind the header.
+fn blocks_read(log: &ReadLog) -> &[usize]
+    ensures { result.now ≡ drop 1 log.now }
+{
+    match log.reads().split_first() {
+        Some((_header, blocks)) => blocks,
+        None => &[],
+    }
+}
+
+// The text of the rows, and behind it the line of the calls of a decoder or of the reads of a file.
+fn text_with(alloc: Global, rows: &Array, asked: &Asked) -> Result<Vec<u8>, NoMemory>
+    ensures { IfOk result (λ text. text.items ≡ text_with rows.now.dtype rows.now.rows asked.now) }
 {
     let mut text = text_of(alloc, rows)?;
-    if let Some(calls) = calls {
-        text.extend_from_slice(calls_line(alloc, calls.calls())?.as_slice())?;
+    match asked {
+        Asked::Nothing => {}
+        Asked::Calls(log) => {
+            text.extend_from_slice(calls_line(alloc, log.calls())?.as_slice())?;
+        }
+        Asked::Reads(log) => {
+            text.extend_from_slice(reads_line(alloc, blocks_read(log))?.as_slice())?;
+        }
     }
     Ok(text)
 }
 
-/// What comes of a document. Memory isn't wanting where a step is broken.
+/// The text of the rows and of what was asked for them, or want of memory.
+pub(crate) fn reply_with(alloc: Global, rows: &Array, asked: Asked) -> Reply
+    ensures { Replies result (Done (text_with rows.now.dtype rows.now.rows asked) asked) }
+{
+    match text_with(alloc, rows, &asked) {
+        Ok(text) => Reply::Done { text, asked },
+        Err(_) => Reply::NoMemory,
+    }
+}
+
+// What comes of a document. Memory isn't wanting where a step is broken.
 fn reply_of(alloc: Global, document: &Document) -> Reply
     requires { IsWhole document.now.source }
     ensures reply { Replies result (of_document (Some (document_value document.now))) }
@@ -101,10 +155,7 @@ fn reply_of(alloc: Global, document: &Document) -> Reply
         (answer_to (document_value document.now).source (document_value document.now)) }
 {
     match answer_to(alloc, document) {
-        Ok(Answered { rows, calls }) => match text_with(alloc, &rows, &calls) {
-            Ok(text) => Reply::Done { text, calls },
-            Err(_) => Reply::NoMemory,
-        },
+        Ok(Answered { rows, asked }) => reply_with(alloc, &rows, asked),
         Err(SelectError::Broken { step, cause }) => Reply::Broken { step, cause },
         Err(SelectError::NoMemory) => Reply::NoMemory,
     }

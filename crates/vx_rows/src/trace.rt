@@ -2,31 +2,39 @@
 ghost use Rattle.std.specs.Prelude.{◌≡◌, []};
 ghost use Rattle.vx_rows.specs.Program.{kept};
 
+use crate::asked::Asked;
 use vx_chunked::CallLog;
+use vx_file::ReadLog;
 
 /// What a run leaves beside its text and its status.
 #[derive(Drop)]
 pub struct Trace {
     /// The calls of the decoder that the rows were asked of, in order.
     pub calls: CallLog,
+    /// The blocks that were read of the file that the rows stand in, the header first.
+    pub reads: ReadLog,
 }
 
 impl Trace {
-    /// No calls. It takes no memory.
+    /// No calls, and no reads. It takes no memory.
     pub fn new() -> Trace
-        ensures { result.calls ≡ [] }
+        ensures calls { result.calls ≡ [] }
+        ensures reads { result.reads ≡ [] }
     {
         Trace {
             calls: CallLog::new(),
+            reads: ReadLog::new(),
         }
     }
 
-    // Keeps the calls of a decoder, where there is one, in place of those from before.
-    pub(crate) fn keep(&mut self, calls: Option<CallLog>)
-        ensures { self.new ≡ kept calls self.old }
+    // Keeps the calls of a decoder, or the reads of a file, in place of those from before.
+    pub(crate) fn keep(&mut self, asked: Asked)
+        ensures { self.new ≡ kept asked self.old }
     {
-        if let Some(calls) = calls {
-            self.calls = calls;
+        match asked {
+            Asked::Nothing => {}
+            Asked::Calls(calls) => self.calls = calls,
+            Asked::Reads(reads) => self.reads = reads,
         }
     }
 }

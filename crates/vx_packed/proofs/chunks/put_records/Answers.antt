@@ -1,4 +1,4 @@
-use Rattle.std.proofs.Common.{◌∙◌, sym, arith}
+use Rattle.std.proofs.Common.{arith}
 use Rattle.vx_packed.specs.Faults.{numbers_in}
 use Rattle.vx_packed.proofs.RecordLists.{records_written}
 use Rattle.vx_packed.proofs.Spellings.{length-numbers_in}

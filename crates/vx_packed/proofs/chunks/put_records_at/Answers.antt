@@ -1,4 +1,4 @@
-use Rattle.std.proofs.Common.{◌∙◌, ap, sym, get_or, arith}
+use Rattle.std.proofs.Common.{◌∙◌, ap, get_or, arith}
 use Rattle.vx_chunked.proofs.ValuesAt.{put_read}
 use Rattle.vx_packed.specs.Faults.{numbers_in}
 use Rattle.vx_packed.specs.Parts.{record_of, records_of}

@@ -1,6 +1,6 @@
-use Rattle.std.proofs.Common.{◌≡◌, ◌<◌, ◌^◌, ◌-◌, ◌∷◌, ◌++◌, [], ℕ, ap, ap₂, sym, subst, ◌∙◌, arith}
+use Rattle.std.proofs.Common.{◌≡◌, ◌^◌, ◌-◌, ◌∷◌, ◌++◌, [], ap, ap₂, ◌∙◌, arith}
 use Rattle.std.specs.Int.{to_le_bytes, w64}
-use Rattle.vx_packed.specs.Chunk.{bytes_of, digits, field_bits, greatest, least}
+use Rattle.vx_packed.specs.Chunk.{bytes_of, digits, field_bits, greatest}
 use Rattle.vx_packed.proofs.Spellings.{chunk_spans, spell_joined}
 use Rattle.vx_packed.proofs.packing.put_chunk.Goals as goal
 

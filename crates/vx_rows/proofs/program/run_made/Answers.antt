@@ -5,6 +5,7 @@ use Rattle.vx_outside.specs.Bytes.{with_back}
 use Rattle.vx_rows.specs.Program.{made}
 use Rattle.vx_rows.specs.Reply.{status_of_reply, traced_by_reply}
 use Rattle.vx_rows.proofs.Delivered.{is_done, is_printed, status_or_memory, traced_alike, written_status}
+use Rattle.vx_rows.proofs.TraceParts.{all_left}
 use Rattle.vx_rows.proofs.program.run_made.Goals as goal
 
 pub returns-clause-done : goal.returns-clause-done
@@ -40,3 +41,8 @@ returns-clause-traced g c = λ printed.
       | inr five ↦ written_status r Q (d.part five)
     ] in
     ◌∙◌ {b = traced_by_reply r t} d.traced (traced_alike r (made c.args.seed) t c.reply_to_made.ensures.reply there)
+
+pub returns-clause-leaves : goal.returns-clause-leaves
+returns-clause-leaves g c =
+    let r = c.reply_to_made.result in let t = c.args.trace.now in
+    ◌∙◌ {b = traced_by_reply r t} c.deliver_reply.ensures.traced (all_left t c.args.seed r c.reply_to_made.ensures.reply)
