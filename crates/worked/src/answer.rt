@@ -2,7 +2,7 @@
 //!
 //! Each line begins with `=`. Behind `= ` stands a line that was written, or first of all the
 //! status; `=` alone is an empty line; behind `=\ ` stands what was written last with no line end,
-//! and behind `=? ` a call that the run left in its trace.
+//! and behind `=? ` a call or a read that the run left in its trace.
 
 use std::alloc::Global;
 use std::test::Fail;
@@ -39,6 +39,14 @@ fn push_call(lines: &mut String, call: Call) -> Result<(), Fail> {
 pub(crate) fn push_calls(lines: &mut String, calls: &[Call]) -> Result<(), Fail> {
     for call in calls {
         push_call(lines, *call)?;
+    }
+    Ok(())
+}
+
+/// Appends the reads of a file, a line each: which block was read.
+pub(crate) fn push_reads(lines: &mut String, reads: &[usize]) -> Result<(), Fail> {
+    for block in reads {
+        writeln!(lines, "=? block {block}")?;
     }
     Ok(())
 }

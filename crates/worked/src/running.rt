@@ -1,6 +1,6 @@
 //! The run that a row asks for.
 
-use crate::answer::{answer_of, push_calls};
+use crate::answer::{answer_of, push_calls, push_reads};
 use crate::row::{Row, row_of};
 use std::alloc::Global;
 use std::test::Fail;
@@ -40,6 +40,7 @@ fn run_of(alloc: Global, row: &Row) -> Result<Given, Fail> {
 fn lines_of(alloc: Global, given: &Given) -> Result<String, Fail> {
     let mut lines = answer_of(alloc, given.status, given.sink.bytes())?;
     push_calls(&mut lines, given.trace.calls.calls())?;
+    push_reads(&mut lines, given.trace.reads.reads())?;
     Ok(lines)
 }
 
