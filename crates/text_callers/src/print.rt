@@ -1,0 +1,24 @@
+//! The rows of a column of text, in a line.
+use std::alloc::Global;
+use std::test::Fail;
+use vx_column::Array;
+use vx_print::text_of;
+
+/// Prints the type and the rows, a blank before each.
+pub(crate) fn print_rows(
+    rt: &impl Print,
+    alloc: Global,
+    name: &str,
+    column: &Array,
+) -> Result<(), Fail> {
+    print!(rt; "{name}:")?;
+    let text = text_of(alloc, column)?;
+    for line in text.as_slice().split(|byte| *byte == b'\n') {
+        match std::str::from_utf8(line) {
+            Ok(line) => print!(rt; " {line}")?,
+            Err(_) => return Err("no text".into()),
+        }
+    }
+    println!(rt; "")?;
+    Ok(())
+}
