@@ -22,3 +22,5 @@ one_longer old new item k more n = ap length more ∙ length-append old (item �
 
 pub all_of_them : {A X : Type 0} (f : A → X) (picks : List A) (i : ℕ) (all : List X) → length picks ≤ i → all ≡ map f (take i picks) → all ≡ map f picks
 all_of_them f picks i all h is = is ∙ ap (map f) (take_all i picks h)
+
+pub ruleset picked_row = (next_row)

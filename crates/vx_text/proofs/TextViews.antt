@@ -18,6 +18,7 @@ use Rattle.vx_model.proofs.Items.{length-slice_range}
 use Rattle.vx_model.proofs.Texts.{get_or-lists_at}
 use Rattle.vx_text.specs.Views.{text_view}
 use Rattle.vx_text.proofs.Both.{join}
+use Rattle.vx_text.proofs.ReadOffsets.{climb}
 
 same_bytes : (xs ys : List ℕ) → xs ≡ ys → bytes_eq xs ys ≡ true
 same_bytes xs ys h = (bytes_eq-Decides xs ys).1 h
@@ -88,17 +89,8 @@ texts-alike n bytes = map-alike (view_text (bytes ∷ [])) n (view_of bytes 0 0)
 
 module _ (bytes : List ℕ) (zs : List ℤ) (are : are_offsets zs (length bytes) ≡ true) where
   -- none is past the last
-  climb : (d i j : ℕ) → i + d ≡ j → j < length zs → get_or (offset_positions zs) i 0 ≤ get_or (offset_positions zs) j 0
-  climb zero i j h l =
-      let same : i ≡ j = omega (arith, h) in
-      subst (λ k. get_or (offset_positions zs) i 0 ≤ get_or (offset_positions zs) k 0) same (omega arith)
-  climb (suc d) i j h l =
-      let step = offset_ascends (length bytes) zs i are (omega (arith, h, l)) in
-      let more = climb d (i + 1) j (omega (arith, h)) l in
-      omega (arith, step, more)
-
   below_last : (i : ℕ) → i < length zs → get_or (offset_positions zs) i 0 ≤ get_or (offset_positions zs) (length zs - 1) 0
-  below_last i l = climb (length zs - 1 - i) i (length zs - 1) (omega (arith, l)) (omega (arith, l))
+  below_last i l = climb (length bytes) zs are (length zs - 1 - i) i (length zs - 1) (omega (arith, l)) (omega (arith, l))
 
   sound-pick : (pick : Option ℕ) → IfSome pick (λ row. row + 1 < length zs) → is_view (bytes ∷ []) (text_view (offset_positions zs) bytes pick) ≡ true
   sound-pick None h = refl

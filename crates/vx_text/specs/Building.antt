@@ -1,5 +1,5 @@
 -- Texts that are put out one after another.
-use Rattle.std.specs.Prelude.{◌≡◌, ℕ, ◌==◌, ◌&&◌, nat_le, List, [], ◌∷◌, length, Bool, true, false, if◌then◌else◌}
+use Rattle.std.specs.Prelude.{◌≡◌, ℕ, ◌==◌, ◌&&◌, nat_le, List, [], ◌∷◌, ◌++◌, length, Bool, true, false, if◌then◌else◌}
 use Rattle.vx_types.specs.TypeTree.{TypeKind, primitive_kind}
 use Rattle.vx_types.specs.declared.ptype.PType.{PType}
 use Rattle.vx_types.specs.declared.ptype.PType.TheVariants.{U64}
@@ -28,3 +28,8 @@ pub record AreTexts (p : PType) (offsets : OffsetList) (bytes : List ℕ) (left 
   pub cut : is_cut offsets.numbers (length bytes) ≡ true
   pub texts : lists_at offsets.numbers bytes ≡ left
   pub ptype : offsets.ptype ≡ type_for p (length bytes)
+
+-- whatever texts offsets cut bytes into, other offsets cut more bytes into those and some behind
+abbrev pub AddsTexts : OffsetList → List ℕ → OffsetList → List ℕ → List (List ℕ) → Type 0
+AddsTexts old bytes new more texts =
+    (p : PType) (left : List (List ℕ)) → AreTexts p old bytes left → AreTexts p new more (left ++ texts)

@@ -77,7 +77,8 @@ fn copied_texts(alloc: Global, value: &[u8], len: usize) -> Result<Texts, NoMemo
     ensures { IfOk result
         (λ t. AreTexts PType.U64 t.offsets t.bytes.items (replicate len value.now)) }
 {
-    let mut texts = Texts::new(alloc, PType::U64)?;
+    let room = value.len().saturating_mul(len);
+    let mut texts = Texts::with_room(alloc, PType::U64, len, room)?;
     for _copy in 0..len {
         texts.push(value)?;
     }

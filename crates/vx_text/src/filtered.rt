@@ -1,16 +1,19 @@
 //! Texts of a `VarBin` at the set positions of a mask.
-ghost use Rattle.std.specs.Prelude.{◌≡◌, [], length, map, true, IfOk, Some};
+ghost use Rattle.std.specs.Prelude.{◌≡◌, length, map, replicate, true, IfOk, IsTrue, Some};
 ghost use Rattle.std.specs.List.{items_where_true};
 ghost use Rattle.vx_bits.specs.BitBuffer.{true_count_of};
 ghost use Rattle.vx_types.specs.TypeTree.{primitive_kind};
+ghost use Rattle.vx_mask.specs.Mask.{mask_bits};
 ghost use Rattle.vx_mask.specs.Positions.{set_of};
 ghost use Rattle.vx_model.specs.Text.{kept_texts};
 ghost use Rattle.vx_model.specs.Valid.{is_fitting, present_bits};
 ghost use Rattle.vx_model.specs.VarBin.{varbin_texts};
 ghost use Rattle.vx_column.specs.Validity.{valid_of};
-ghost use Rattle.vx_text.specs.Building.{type_for, type_of};
+ghost use Rattle.vx_text.specs.Building.{type_for, type_of, AreTexts};
 
-use crate::picked_texts::take_varbin_picks;
+use crate::picked_texts::{present_mask, texts_in};
+use crate::run_texts::texts_in_runs;
+use crate::texts::Texts;
 use std::alloc::Global;
 use vx_bits::NoMemory;
 use vx_column::{Validity, VarBinArray};
@@ -34,9 +37,86 @@ fn set_picks(alloc: Global, mask: &MaskValues) -> Result<Picks, NoMemory>
     }
 }
 
+// Whether texts are copied run by run: no row is null, and the mask is as dense as the policy asks.
+fn goes_by_runs(mask: &MaskValues, policy: &Policy, present: &Mask) -> bool
+    ensures { IsTrue result
+        → mask_bits present.now ≡ replicate (length (mask_bits present.now)) true }
+{
+    let least = policy.fields().text_indices_below;
+    match present {
+        Mask::AllTrue(_) => Mask::Values(mask.share()).density_at_least(least.num, least.den),
+        _ => false,
+    }
+}
+
+// The texts at the set positions of a mask, by its runs. `NoMemory` alone.
+fn texts_by_mask(alloc: Global, array: &VarBinArray, mask: &MaskValues) -> Result<Texts, NoMemory>
+    requires { length mask.now.bits.bits ≡ length (varbin_texts array.now).texts }
+    ensures { IfOk result (λ t. AreTexts (type_of array.now.offsets.kind) t.offsets t.bytes.items
+        (items_where_true mask.now.bits.bits (varbin_texts array.now).texts)) }
+{
+    let sliced = Mask::Values(mask.share()).with_slices(alloc)?;
+    let offsets = array.offsets();
+    let bytes = array.bytes();
+    match &sliced {
+        Mask::Values(values) => match values.cached_slices() {
+            Some(runs) => {
+                texts_in_runs(alloc, offsets, bytes.as_slice(), runs, mask.true_count())
+            }
+            None => unreachable!(),
+        },
+        _ => unreachable!(),
+    }
+}
+
+// The texts at the set positions of a mask that are there, and an empty one in place of each
+// other, by its set positions. `NoMemory` alone.
+fn texts_by_indices(
+    alloc: Global,
+    array: &VarBinArray,
+    mask: &MaskValues,
+    present: &Mask,
+) -> Result<Texts, NoMemory>
+    requires long { length mask.now.bits.bits ≡ length (varbin_texts array.now).texts }
+    requires fitting { length (mask_bits present.now) ≡ true_count_of mask.now.bits.bits }
+    ensures { IfOk result (λ t. AreTexts (type_of array.now.offsets.kind) t.offsets t.bytes.items
+        (kept_texts (mask_bits present.now)
+        (items_where_true mask.now.bits.bits (varbin_texts array.now).texts))) }
+{
+    let picks = set_picks(alloc, mask)?;
+    let offsets = array.offsets();
+    let bytes = array.bytes();
+    texts_in(alloc, offsets, bytes.as_slice(), &picks, present)
+}
+
+// The texts at the set positions of a mask that are there, and an empty one in place of each
+// other. `NoMemory` alone.
+fn texts_kept(
+    alloc: Global,
+    array: &VarBinArray,
+    mask: &MaskValues,
+    policy: &Policy,
+    present: &Mask,
+) -> Result<Texts, NoMemory>
+    requires long { length mask.now.bits.bits ≡ length (varbin_texts array.now).texts }
+    requires fitting { length (mask_bits present.now) ≡ true_count_of mask.now.bits.bits }
+    ensures { IfOk result (λ t. AreTexts (type_of array.now.offsets.kind) t.offsets t.bytes.items
+        (kept_texts (mask_bits present.now)
+        (items_where_true mask.now.bits.bits (varbin_texts array.now).texts))) }
+{
+    if goes_by_runs(mask, policy, present) {
+        texts_by_mask(alloc, array, mask)
+    } else {
+        texts_by_indices(alloc, array, mask, present)
+    }
+}
+
 /// The rows at the set positions of `mask`, in order, with their validity; the text of a null row
 /// is empty. Their offsets have at least 32 bits, and are as signed as those of the column.
 /// `NoMemory` alone.
+///
+/// By the runs of the mask where no row is null and the mask is as dense as the policy asks, each
+/// run's bytes copied at once; else by its set positions.
 pub fn filter_varbin(
     alloc: Global,
     array: &VarBinArray,
@@ -54,7 +134,7 @@ pub fn filter_varbin(
         (items_where_true mask.now.bits.bits (varbin_texts array.now).texts)) }
     ensures valid { IfOk result (λ a. a.valid ≡ valid_of validity) }
 {
-    let _ = policy;
-    let picks = set_picks(alloc, mask)?;
-    take_varbin_picks(alloc, array, &picks, validity)
+    let present = present_mask(alloc, &validity, mask.true_count())?;
+    let texts = texts_kept(alloc, array, mask, policy, &present)?;
+    texts.finish(alloc, array.kind(), validity)
 }

@@ -7,6 +7,7 @@ mod offsets;
 mod picked_texts;
 mod picked_views;
 mod reading;
+mod run_texts;
 mod texts;
 mod varbin;
 mod views;

@@ -75,7 +75,10 @@ impl OffsetRecords {
         ensures wide { IfOk result (λ wide. is_wide wide ≡ true) }
     {
         let mut wide = match self {
-            OffsetRecords::Narrow(records) => widened(alloc, records)?,
+            OffsetRecords::Narrow(records) => {
+                let room = records.capacity().max(records.len() + 1);
+                widened(alloc, records, room)?
+            }
             OffsetRecords::Wide(_) => unreachable!(),
         };
         wide.push((offset as u64).to_le_bytes())?;
@@ -94,12 +97,13 @@ impl OffsetRecords {
     }
 }
 
-// The same records in 64 bits, and room for one more.
-fn widened(alloc: Global, records: &[[u8; 4]]) -> Result<Vec<[u8; 8]>, NoMemory>
+// The same records in 64 bits, with room for so many.
+fn widened(alloc: Global, records: &[[u8; 4]], room: usize) -> Result<Vec<[u8; 8]>, NoMemory>
+    requires { length records.now < room }
     ensures { IfOk result (λ wide. map (from_le_bytes w64) wide.items
         ≡ map (from_le_bytes w32) records.now) }
 {
-    let mut wide = Vec::with_capacity(alloc, records.len() + 1)?;
+    let mut wide = Vec::with_capacity(alloc, room)?;
     for record in records {
         let number = u32::from_le_bytes(*record);
         wide.push_reserved(u64::from(number).to_le_bytes());
@@ -162,6 +166,24 @@ impl Offsets {
             records,
             alloc,
         }
+    }
+
+    // No offset yet, with room for so many. `NoMemory` alone.
+    pub(crate) fn with_room(alloc: Global, ptype: PType, room: usize) -> Result<Offsets, NoMemory>
+        requires { is_int ptype ≡ true }
+        ensures { IfOk result
+            (λ offsets. offsets ≡ record { ptype = first_type ptype; numbers = [] }) }
+    {
+        let signed = ptype.is_signed();
+        let records = match ptype {
+            PType::U64 | PType::I64 => OffsetRecords::Wide(Vec::with_capacity(alloc, room)?),
+            _ => OffsetRecords::Narrow(Vec::with_capacity(alloc, room)?),
+        };
+        Ok(Offsets {
+            signed,
+            records,
+            alloc,
+        })
     }
 
     /// Their type.

@@ -70,6 +70,30 @@ fn shown_pick(picks: &Picks, present: &Mask, i: usize) -> Option<usize>
     if present.value(i) { picks.get(i) } else { None }
 }
 
+// How many bytes the texts at the picks have, or the greatest number where they are more.
+#[inline(always)]
+#[tactic(auto, using(crate::proofs::PickedRows::picked_row))]
+fn bytes_at<const W: usize>(
+    ptype: PType,
+    records: &[[u8; W]],
+    bytes: &[u8],
+    picks: &Picks,
+    present: &Mask,
+) -> usize
+    requires int { is_int ptype ≡ true }
+    requires width { W ≡ width ptype }
+    requires offsets { are_offsets (record_numbers ptype records.now) (length bytes.now) ≡ true }
+    requires bound { picks.now.bound < length records.now }
+    requires long { length (mask_bits present.now) ≡ length picks.now.picks }
+{
+    let mut total: usize = 0;
+    for i in 0..picks.len() {
+        let pick = shown_pick(picks, present, i);
+        total = total.saturating_add(text_at(ptype, records, bytes, pick).len());
+    }
+    total
+}
+
 #[inline(always)]
 fn texts_at<const W: usize>(
     ptype: PType,
@@ -89,7 +113,8 @@ fn texts_at<const W: usize>(
         (at [] (lists_at (offset_positions (record_numbers ptype records.now)) bytes.now)
         picks.now.picks))) }
 {
-    let mut texts = Texts::new(alloc, ptype)?;
+    let room = bytes_at(ptype, records, bytes, picks, present);
+    let mut texts = Texts::with_room(alloc, ptype, picks.len(), room)?;
     for i in 0..picks.len() {
         let pick = shown_pick(picks, present, i);
         texts.push(text_at(ptype, records, bytes, pick))?;
@@ -121,7 +146,7 @@ fn texts_of(
 }
 
 // The same by the offsets of a column.
-fn texts_in(
+pub(crate) fn texts_in(
     alloc: Global,
     offsets: &PrimitiveArray,
     bytes: &[u8],

@@ -22,17 +22,23 @@ pub(crate) struct Texts {
 }
 
 impl Texts {
-    // No text yet, with offsets of at least 32 bits that are as signed as the type.
+    // No text yet, with room for `texts` of `room` bytes together, and with offsets of at least 32
+    // bits that are as signed as the type.
     #[tactic(auto, using(crate::proofs::BuiltTexts::no_text_yet))]
-    pub(crate) fn new(alloc: Global, ptype: PType) -> Result<Texts, NoMemory>
+    pub(crate) fn with_room(
+        alloc: Global,
+        ptype: PType,
+        texts: usize,
+        room: usize,
+    ) -> Result<Texts, NoMemory>
         requires { is_int ptype ≡ true }
         ensures { IfOk result (λ t. AreTexts ptype t.offsets t.bytes.items []) }
     {
-        let mut offsets = Offsets::new(alloc, ptype);
+        let mut offsets = Offsets::with_room(alloc, ptype, texts.saturating_add(1))?;
         offsets.push(0)?;
         Ok(Texts {
             offsets,
-            bytes: Vec::new(alloc),
+            bytes: Vec::with_capacity(alloc, room)?,
         })
     }
 

@@ -6,7 +6,7 @@ use Rattle.vx_text.proofs.offsets.widened.Goals as goal
 
 pub push_reserved-requires : goal.push_reserved-requires
 push_reserved-requires c =
-    omega (arith, c.loop-record.invariant.len, c.loop-record.invariant.room, c.loop-record-test.true, c.loop-record.wide.ok.0)
+    omega (arith, c.loop-record.invariant.len, c.loop-record.invariant.room, c.loop-record-test.true, c.requires, c.loop-record.wide.ok.0)
 
 pub loop-record-preserved : goal.loop-record-preserved
 loop-record-preserved c =

@@ -1,0 +1,39 @@
+-- A filter is a take at the set positions.
+use Rattle.std.proofs.Common.{◌≡◌, [], Some, List, ℕ, Option, length, map, ap, subst, sym, ◌∙◌, arith}
+use Rattle.std.specs.Prelude.{IfOk}
+use Rattle.std.specs.List.{items_where_true}
+use Rattle.vx_mask.specs.Mask.{mask_bits}
+use Rattle.vx_mask.specs.Positions.{set_of}
+use Rattle.vx_take.specs.Picks.{at, BoundedPicks}
+use Rattle.vx_take.proofs.TakenLists.{take_at_the_set}
+use Rattle.vx_numbers.specs.Offsets.{lists_at, offset_positions}
+use Rattle.vx_model.specs.Numbers.{integers_of}
+use Rattle.vx_model.specs.Records.{RecordParts}
+use Rattle.vx_model.specs.Text.{kept_texts}
+use Rattle.vx_model.specs.VarBin.{varbin_texts}
+use Rattle.vx_text.specs.Building.{type_of, AreTexts}
+use Rattle.vx_text.proofs.CutOffsets.{end-within}
+use Rattle.vx_text.proofs.FilteredTexts.{set_count}
+use Rattle.vx_text.proofs.filtered.texts_by_indices.Goals as goal
+
+pub texts_in-requires-clause-bound : goal.texts_in-requires-clause-bound
+texts_in-requires-clause-bound c =
+    let a = c.args.array.now in
+    let bound = ap (λ (p : BoundedPicks). p.bound) c.in_ok-picks.ensures in
+    omega (arith, bound, end-within a 0 (length (varbin_texts a).texts) c.offsets-offsets.ensures.valid (omega arith), c.requires.long, ap (λ (q : RecordParts). length q.records) c.offsets-offsets.ensures.value)
+
+pub texts_in-requires-clause-long : goal.texts_in-requires-clause-long
+texts_in-requires-clause-long c =
+    c.requires.fitting
+    ∙ sym (set_count c.args.mask.now.bits.bits (varbin_texts c.args.array.now).texts c.requires.long)
+    ∙ sym (ap (λ (p : BoundedPicks). length p.picks) c.in_ok-picks.ensures)
+
+pub returns : goal.returns
+returns c =
+    let a = c.args.array.now in let bits = c.args.mask.now.bits.bits in let there = mask_bits c.args.present.now in
+    let texts = (varbin_texts a).texts in
+    let same : at [] texts c.in_ok-picks.picks.picks ≡ items_where_true bits texts =
+    ap (λ (p : BoundedPicks). at [] texts p.picks) c.in_ok-picks.ensures ∙ sym (take_at_the_set [] bits texts c.requires.long) in
+    subst (λ (l : List (List ℕ)). IfOk c.texts_in.result (λ t. AreTexts (type_of a.offsets.kind) t.offsets t.bytes.items (kept_texts there l))) same
+    (subst (λ (b : List ℕ). IfOk c.texts_in.result (λ t. AreTexts (type_of a.offsets.kind) t.offsets t.bytes.items (kept_texts there (at [] (lists_at (offset_positions (integers_of a.offsets)) b) c.in_ok-picks.picks.picks)))) (c.as_slice.ensures ∙ c.bytes-bytes.ensures.value)
+    (subst (λ (o : RecordParts). IfOk c.texts_in.result (λ t. AreTexts (type_of o.kind) t.offsets t.bytes.items (kept_texts there (at [] (lists_at (offset_positions (integers_of o)) c.as_slice.result.now) c.in_ok-picks.picks.picks)))) c.offsets-offsets.ensures.value c.texts_in.ensures))
