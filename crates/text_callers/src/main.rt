@@ -2,6 +2,7 @@
 #![tactic(auto)]
 
 mod columns;
+mod kept;
 mod offsets;
 mod print;
 mod refusals;
@@ -16,5 +17,6 @@ fn main(rt: HostRuntime) -> Result<(), Fail> {
     refusals::print_refusals(&rt, rt.alloc())?;
     steps::print_takes(&rt, rt.alloc())?;
     steps::print_filters(&rt, rt.alloc())?;
-    steps::print_slices(&rt, rt.alloc())
+    steps::print_slices(&rt, rt.alloc())?;
+    kept::print_kept(&rt, rt.alloc())
 }
