@@ -5,6 +5,7 @@
 mod chunks;
 mod columns;
 mod error;
+mod names;
 mod policies;
 mod printing;
 mod reading;
@@ -19,5 +20,6 @@ fn main(rt: HostRuntime) -> Result<(), Fail> {
     selecting::print_answers(&rt, rt.alloc())?;
     selecting::print_faults(&rt, rt.alloc())?;
     selecting::print_rows(&rt, rt.alloc())?;
+    names::print_names(&rt, rt.alloc())?;
     chunks::print_squares(&rt, rt.alloc())
 }

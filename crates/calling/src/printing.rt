@@ -1,4 +1,5 @@
 //! Columns, rows and faults as lines of text.
+use std::alloc::Global;
 use std::io;
 use std::test::Fail;
 use vx_chunked::Call;
@@ -32,6 +33,26 @@ pub(crate) fn print_row(rt: &impl Print, row: &Row) -> io::Result<()> {
         Row::Bit(bit) => println!(rt; "{bit}"),
         Row::Bytes(bytes) => println!(rt; "{:?}", bytes.as_slice()),
     }
+}
+
+/// The texts of a column, from row to row.
+pub(crate) fn print_text(rt: &impl Print, alloc: Global, column: &Array) -> Result<(), Fail> {
+    for i in 0..column.len() {
+        print_name(rt, &column.row_at(alloc, i)?)?;
+    }
+    println!(rt; "")?;
+    Ok(())
+}
+
+fn print_name(rt: &impl Print, row: &Row) -> Result<(), Fail> {
+    match row {
+        Row::Bytes(bytes) => match std::str::from_utf8(bytes.as_slice()) {
+            Ok(name) => print!(rt; " {name:?}")?,
+            Err(_) => return Err("no text".into()),
+        },
+        _ => print!(rt; " null")?,
+    }
+    Ok(())
 }
 
 /// The rule that a step breaks.

@@ -1,0 +1,15 @@
+-- A code is the position that it names.
+use Rattle.std.proofs.Common.{◌≡◌, List, ℕ, Option, ap, ap₂, subst, ◌∙◌}
+use Rattle.std.specs.Prelude.{IfOk}
+use Rattle.vx_types.specs.RowValue.{RowValue, null}
+use Rattle.vx_numbers.specs.Positions.{positions_of}
+use Rattle.vx_take.specs.Picks.{at}
+use Rattle.calling.proofs.NameTables.{codes_back}
+use Rattle.calling.proofs.names.table.Goals as goal
+
+pub returns : goal.returns
+returns c =
+    let codes = ap positions_of c.in_ok-u32_column.ensures ∙ codes_back c.args.codes.now in
+    subst (λ (rows : List RowValue). IfOk c.dictionary.result (λ k. k.rows ≡ rows))
+    (ap₂ (λ (values : List RowValue) (picks : List (Option ℕ)). at null values picks) c.in_ok-text_column.ensures codes)
+    c.dictionary.ensures
