@@ -1,11 +1,9 @@
 -- Texts at the set positions of a mask.
-use Rattle.std.proofs.Common.{◌≡◌, ℕ, zero, suc, ◌+◌, ◌<◌, ◌≤◌, Bool, true, List, [], ◌∷◌, length, map, Some, None, Option, refl, sym, ap, ap₂, ◌∙◌, arith}
+use Rattle.std.proofs.Common.{◌≡◌, ℕ, zero, suc, ◌<◌, ◌≤◌, Bool, true, List, [], ◌∷◌, length, map, Some, refl, sym, ap, ◌∙◌, arith}
 use Rattle.std.specs.Prelude.{replicate}
-use Rattle.std.specs.List.{All, flat_map, items_where_true}
-use Rattle.std.specs.Prelude.{slice_range}
+use Rattle.std.specs.List.{All}
 use Rattle.vx_bits.specs.BitBuffer.{true_count_of}
 use Rattle.vx_mask.specs.Positions.{ascending, run_positions, set_of}
-use Rattle.vx_take.specs.Picks.{at}
 use Rattle.vx_take.proofs.TakenLists.{take_at_the_set}
 use Rattle.vx_filter.proofs.Moves.{runs_within}
 use Rattle.vx_filter.proofs.Picks.{set_ascends}

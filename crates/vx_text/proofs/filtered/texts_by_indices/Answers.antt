@@ -1,9 +1,8 @@
 -- A filter is a take at the set positions.
-use Rattle.std.proofs.Common.{◌≡◌, [], Some, List, ℕ, Option, length, map, ap, subst, sym, ◌∙◌, arith}
+use Rattle.std.proofs.Common.{◌≡◌, [], List, ℕ, length, ap, subst, sym, ◌∙◌, arith}
 use Rattle.std.specs.Prelude.{IfOk}
 use Rattle.std.specs.List.{items_where_true}
 use Rattle.vx_mask.specs.Mask.{mask_bits}
-use Rattle.vx_mask.specs.Positions.{set_of}
 use Rattle.vx_take.specs.Picks.{at, BoundedPicks}
 use Rattle.vx_take.proofs.TakenLists.{take_at_the_set}
 use Rattle.vx_numbers.specs.Offsets.{lists_at, offset_positions}

@@ -1,7 +1,7 @@
 -- The runs of a mask cover just the set positions.
-use Rattle.std.proofs.Common.{rules, ◌≡◌, List, ℕ, ◌<◌, ◌≤◌, length, get_or, slice_range, ap, subst, sym, ◌∙◌, arith}
+use Rattle.std.proofs.Common.{◌≡◌, List, ℕ, ◌<◌, ◌≤◌, length, get_or, slice_range, ap, subst, sym, ◌∙◌, arith}
 use Rattle.std.specs.Prelude.{IfOk}
-use Rattle.std.specs.List.{flat_map, items_where_true}
+use Rattle.std.specs.List.{flat_map}
 use Rattle.vx_mask.specs.Mask.{mask_bits}
 use Rattle.vx_mask.specs.MaskValues.{AreSlicesOf, PartialMask}
 use Rattle.vx_mask.specs.Positions.{set_of}

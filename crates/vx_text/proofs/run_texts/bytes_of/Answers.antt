@@ -1,5 +1,5 @@
 -- So many bytes lie between the offsets.
-use Rattle.std.proofs.Common.{◌+◌, ap₂, ◌-◌, ◌∙◌}
+use Rattle.std.proofs.Common.{ap₂, ◌-◌, ◌∙◌}
 use Rattle.vx_model.proofs.Items.{length-slice_range}
 use Rattle.vx_text.proofs.run_texts.bytes_of.Goals as goal
 

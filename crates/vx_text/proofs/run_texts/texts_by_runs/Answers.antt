@@ -1,5 +1,5 @@
 -- One run more is put out.
-use Rattle.std.proofs.Common.{rules, ◌<◌, ◌≤◌, ℕ, List, length, get_or, take, slice_range, ap, subst}
+use Rattle.std.proofs.Common.{ℕ, List, take, slice_range, subst}
 use Rattle.std.specs.List.{flat_map}
 use Rattle.std.proofs.lemmas.List.{take_all}
 use Rattle.vx_numbers.specs.Offsets.{lists_at, offset_positions, record_numbers}
