@@ -1,11 +1,13 @@
 -- Bytes between quotes, a run at a time.
-use Rattle.std.proofs.Common.{◌≡◌, ℕ, ◌+◌, ◌-◌, ◌/◌, ◌%◌, ◌<◌, ◌≤◌, true, false, List, [], ◌∷◌, ◌++◌, ◌∙◌, length, take, drop, get_or, refl, sym, ap, ap₂, arith, length-drop, append_assoc, append-nil}
+use Rattle.std.proofs.Common.{◌≡◌, ℕ, ◌+◌, ◌-◌, ◌/◌, ◌%◌, ◌<◌, ◌≤◌, Bool, true, false, List, map, [], ◌∷◌, ◌++◌, ◌∙◌, length, take, drop, get_or, refl, sym, ap, ap₂, arith, length-drop, append_assoc, append-nil}
 use Rattle.std.specs.Prelude.{if◌then◌else◌, codes, flat_map}
-use Rattle.std.specs.List.{list_all}
+use Rattle.std.specs.List.{list_all, range_with_len}
 use Rattle.std.proofs.lemmas.Bool.{and_parts}
 use Rattle.std.proofs.lemmas.List.{take_more, get_or-drop, flat_map_more}
+use Rattle.std.proofs.lemmas.List.FromFn.{get_or-map-range_with_len}
 use Rattle.hex.specs.Hex.{encode_lower, encode_with, lower_digits}
 use Rattle.vx_print.specs.Text.{is_plain, quoted_byte}
+use Rattle.vx_print.specs.declared.texts.TheConstants.{PLAIN}
 
 pub plain_byte : (b : ℕ) → is_plain b ≡ true → quoted_byte b ≡ b ∷ []
 plain_byte b h = ap (λ is. if is then b ∷ [] else codes "\\x" ++ encode_lower (b ∷ [])) h
@@ -56,3 +58,12 @@ run_over text init xs start i l put =
     ap (λ (n : ℕ). all ++ take n (drop (i + 1) xs)) none
     ∙ append-nil all
     ∙ quoted_more (text ++ take (i - start) (drop start xs)) init xs i l put
+
+-- ---- the table of bytes
+
+listed : PLAIN ≡ map is_plain (range_with_len 0 256)
+listed = refl
+
+pub listed_byte : (b : ℕ) (d : Bool) → b < 256 → get_or PLAIN b d ≡ is_plain b
+listed_byte b d h =
+    ap (λ l. get_or l b d) listed ∙ get_or-map-range_with_len is_plain 0 256 b b d h (omega arith)

@@ -16,6 +16,25 @@ pub(crate) const TEXT_BYTES: usize = 1 << 31;
 
 const DIGITS: &[u8; 16] = b"0123456789abcdef";
 
+const T: bool = true;
+
+const F: bool = false;
+
+// For each byte whether it stands for itself between quotes.
+static PLAIN: [bool; 256] = [
+    F, F, F, F, F, F, F, F, F, F, F, F, F, F, F, F, F, F, F, F, F, F, F, F, F, F, F, F, F, F, F, F,
+    T, T, F, T, T, T, T, T, T, T, T, T, T, T, T, T, T, T, T, T, T, T, T, T, T, T, T, T, T, T, T, T,
+    T, T, T, T, T, T, T, T, T, T, T, T, T, T, T, T, T, T, T, T, T, T, T, T, T, T, T, T, F, T, T, T,
+    T, T, T, T, T, T, T, T, T, T, T, T, T, T, T, T, T, T, T, T, T, T, T, T, T, T, T, T, T, T, T, F,
+    F, F, F, F, F, F, F, F, F, F, F, F, F, F, F, F, F, F, F, F, F, F, F, F, F, F, F, F, F, F, F, F,
+    F, F, F, F, F, F, F, F, F, F, F, F, F, F, F, F, F, F, F, F, F, F, F, F, F, F, F, F, F, F, F, F,
+    F, F, F, F, F, F, F, F, F, F, F, F, F, F, F, F, F, F, F, F, F, F, F, F, F, F, F, F, F, F, F, F,
+    F, F, F, F, F, F, F, F, F, F, F, F, F, F, F, F, F, F, F, F, F, F, F, F, F, F, F, F, F, F, F, F,
+];
+
+// Texts of fewer bytes are tested by the table.
+const MANY: usize = 16;
+
 // Whether a byte stands for itself between quotes.
 #[inline(always)]
 fn is_plain(byte: u8) -> bool
@@ -24,11 +43,33 @@ fn is_plain(byte: u8) -> bool
     (0x20..=0x7e).contains(&byte) && byte != b'"' && byte != b'\\'
 }
 
+// The same by the table.
+#[inline(always)]
+fn is_listed(byte: u8) -> bool
+    ensures { result ≡ is_plain byte }
+{
+    PLAIN[usize::from(byte)]
+}
+
+// Whether each of a few bytes stands for itself.
+fn are_listed(bytes: &[u8]) -> bool
+    ensures { result ≡ list_all is_plain bytes.now }
+{
+    let mut plain = true;
+    for byte in bytes {
+        plain &= is_listed(*byte);
+    }
+    plain
+}
+
 // Whether each byte stands for itself. It looks at all of them, so that the compiler may take many
 // at once.
 fn are_plain(bytes: &[u8]) -> bool
     ensures { result ≡ list_all is_plain bytes.now }
 {
+    if bytes.len() < MANY {
+        return are_listed(bytes);
+    }
     let mut plain = true;
     for byte in bytes {
         plain &= is_plain(*byte);
