@@ -1,0 +1,15 @@
+//! Calls tables, pages and joins as their users do, and prints what each gives.
+#![tactic(auto)]
+
+mod made;
+mod pages;
+mod shown;
+mod tables;
+
+use std::test::Fail;
+
+fn main(rt: HostRuntime) -> Result<(), Fail> {
+    tables::print_rows(&rt, rt.alloc())?;
+    pages::print_pages(&rt, rt.alloc())?;
+    pages::print_refusals(&rt, rt.alloc())
+}

@@ -1,0 +1,4 @@
+pub mod CellRows
+pub mod Found
+pub mod KeyPrefixes
+pub mod Links
