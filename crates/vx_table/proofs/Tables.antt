@@ -201,34 +201,6 @@ taken_sound t after picks names taken n valid same h count =
 
 -- ---- the page
 
--- the part of a list between two counts is a page of it
-pub slice_range-cut : {X : Type 0} (xs : List X) (page len start end : ℕ) → length xs < 2 ^ 64 → start ≡ min (page * len) (2 ^ 64 - 1) → end ≡ min (start + len) (2 ^ 64 - 1) → slice_range xs start end ≡ cut page len xs
-slice_range-cut {X} xs page len start end few s e = by (page * len) s
-  where
-    here : (q : ℕ) → start ≡ q → slice_range xs start end ≡ take len (drop q xs)
-    here q same =
-        let rest = drop q xs in
-        let many : min (end - start) (length rest) ≡ min len (length rest) = omega (arith, same, e, few, length-drop q xs) in
-        ap (λ k. take (end - start) (drop k xs)) same
-        ∙ sym (take_min (end - start) rest) ∙ ap (λ m. take m rest) many ∙ take_min len rest
-
-    past : (q : ℕ) → start ≡ 2 ^ 64 - 1 → 2 ^ 64 ≤ q → slice_range xs start end ≡ take len (drop q xs)
-    past q same h =
-        ap (take (end - start)) (drop_all start xs (omega (arith, same, few)))
-        ∙ take_all (end - start) [] (omega arith)
-        ∙ sym (ap (take len) (drop_all q xs (omega (arith, h, few))) ∙ take_all len [] (omega arith))
-
-    by_test : (q : ℕ) (b : Bool) → nat_lt q (2 ^ 64) ≡ b → start ≡ min q (2 ^ 64 - 1) → slice_range xs start end ≡ take len (drop q xs)
-    by_test q true t same = let below : q < 2 ^ 64 = ltb-true q (2 ^ 64) t in here q (omega (arith, below, same))
-    by_test q false t same = let above : 2 ^ 64 ≤ q = grind (arith, nat_tests) in past q (omega (arith, above, same)) above
-
-    by : (q : ℕ) → start ≡ min q (2 ^ 64 - 1) → slice_range xs start end ≡ take len (drop q xs)
-    by q same = by_test q (nat_lt q (2 ^ 64)) refl same
-
-pub part_cut : (w : Walk) (page len start end : ℕ) (part : List (Option ℕ)) → IsCounted w → start ≡ min (page * len) (2 ^ 64 - 1) → end ≡ min (start + len) (2 ^ 64 - 1) → IsPartOf w start end part → IsCutOf w page len part
-part_cut (walk_fault k cause) page len start end part few s e h = absurd h
-part_cut (walk_picks picks) page len start end part few s e h = h ∙ slice_range-cut picks page len start end few s e
-
 same_types : (f g : TypeTree → TypeTree) → ((u : TypeTree) → f u ≡ g u) → (columns : List Column) → map (λ (c : Column). f c.dtype) columns ≡ map (λ (c : Column). g c.dtype) columns
 same_types f g same [] = refl
 same_types f g same (c ∷ columns) = ap₂ ◌∷◌ (same c.dtype) (same_types f g same columns)
