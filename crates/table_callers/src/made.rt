@@ -1,13 +1,12 @@
 //! Columns, tables and steps that the calls are made with.
-ghost use Rattle.std.specs.Prelude.{◌^◌, ◌<◌};
-
 use std::alloc::Global;
 use std::rc::RcStr;
 use std::test::Fail;
 use vx_bits::{BitBuffer, Buffer, NoMemory, Records};
 use vx_column::{
-    ArrayRef, BoolArray, ConstantArray, DType, DictArray, FilterArray, FlatRef, Nullability, PType,
-    PrimitiveArray, Scalar, ScalarValue, TextKind, Validity, VarBinArray,
+    ArrayRef, BoolArray, ConstantArray, DType, DecimalArray, DecimalDType, DictArray, FilterArray,
+    FlatRef, NullArray, Nullability, PType, PrimitiveArray, Scalar, ScalarValue, TextKind, Validity,
+    VarBinArray,
 };
 use vx_mask::Mask;
 use vx_pieces::Indices;
@@ -49,6 +48,34 @@ pub(crate) fn bytes(alloc: Global, rows: &[Option<u8>]) -> Result<ArrayRef, Fail
     let validity = validity_of(alloc, &there)?;
     let column = PrimitiveArray::try_new(PType::U8, values, validity)?;
     Ok(column.into_array().into_ref(alloc)?)
+}
+
+/// A column of `f32` rows, by the bits that they are stored as.
+pub(crate) fn floats(alloc: Global, rows: &[u32]) -> Result<ArrayRef, Fail> {
+    let mut records = Vec::new(alloc);
+    for row in rows {
+        records.push(row.to_le_bytes())?;
+    }
+    let values = Records::W4(Buffer::from_vec(alloc, records)?);
+    let column = PrimitiveArray::try_new(PType::F32, values, Validity::NonNullable)?;
+    Ok(column.into_array().into_ref(alloc)?)
+}
+
+/// A column of decimals of 30 digits, whose records have sixteen bytes.
+pub(crate) fn decimals(alloc: Global, rows: &[u128]) -> Result<ArrayRef, Fail> {
+    let mut records = Vec::new(alloc);
+    for row in rows {
+        records.push(row.to_le_bytes())?;
+    }
+    let values = Records::W16(Buffer::from_vec(alloc, records)?);
+    let decimal = DecimalDType::try_new(30, 2, 16)?;
+    let column = DecimalArray::try_new(decimal, values, Validity::NonNullable)?;
+    Ok(column.into_array().into_ref(alloc)?)
+}
+
+/// A column of nulls alone.
+pub(crate) fn nulls(alloc: Global, len: usize) -> Result<ArrayRef, Fail> {
+    Ok(NullArray::new(len).into_array().into_ref(alloc)?)
 }
 
 /// A column of bools.

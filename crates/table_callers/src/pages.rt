@@ -41,20 +41,22 @@ fn notes(alloc: Global) -> Result<Table, Fail> {
     let note = texts(alloc, &NOTES)?;
     let kept = bools(alloc, &KEPT)?;
     let nine = constant(alloc, 9, 12)?;
-    let codes = numbers(alloc, &[Some(1), None, Some(0)])?;
-    let codes = dictionary(alloc, id.share(), constant_codes(alloc, codes)?)?;
-    let columns = vec![in alloc; id, note, kept, nine, codes]?;
-    table(alloc, &["id", "note", "kept", "nine", "code"], columns, 12)
+    let third = thirds(alloc)?;
+    let columns = vec![in alloc; id, note, kept, nine, third]?;
+    table(alloc, &["id", "note", "kept", "nine", "third"], columns, 12)
 }
 
-// Twelve rows, the first three and then the same three again and again.
-fn constant_codes(alloc: Global, three: ArrayRef) -> Result<ArrayRef, Fail> {
-    let rows = numbers(alloc, &[
-        Some(0), Some(1), Some(2), Some(0), Some(1), Some(2), Some(0), Some(1), Some(2), Some(0),
-        Some(1), Some(2),
-    ])?;
-    let long = dictionary(alloc, rows, three)?;
-    filtered(alloc, long, &[true; 12])
+// The rows 1, null, 0 four times, of a dictionary behind a lazy filter of 13 rows.
+fn thirds(alloc: Global) -> Result<ArrayRef, Fail> {
+    let mut codes = Vec::new(alloc);
+    for n in 0..13_u32 {
+        codes.push(Some(n % 3))?;
+    }
+    let values = numbers(alloc, &[Some(1), None, Some(0)])?;
+    let rows = dictionary(alloc, numbers(alloc, &codes)?, values)?;
+    let mut bits = [true; 13];
+    bits[12] = false;
+    filtered(alloc, rows, &bits)
 }
 
 fn print_page(

@@ -45,9 +45,12 @@ fn print_number(rt: &impl Print, bytes: &[u8]) -> Result<(), Fail> {
 }
 
 fn print_column(rt: &impl Print, column: &Array) -> Result<(), Fail> {
-    let layout = column.layout_name();
     print_type(rt, column.dtype())?;
-    print!(rt; " {layout:?}:")?;
+    if column.is_flat() {
+        let layout = column.layout_name();
+        print!(rt; " as {layout:?}")?;
+    }
+    print!(rt; ":")?;
     for i in 0..column.len() {
         print_cell(rt, column.dtype(), column.cell_at(i))?;
     }

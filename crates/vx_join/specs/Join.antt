@@ -75,7 +75,7 @@ pub record IsJoin (left right : TableValue) (ps : List (ℕ × ℕ)) (t : TableV
       ≡ map (λ c. c.dtype) left.columns ++ map (λ c. c.dtype) right.columns
   pub rows : map (λ c. c.rows) t.columns
       ≡ map (λ c. at null c.rows (map Some (lefts ps))) left.columns
-        ++ map (λ c. at null c.rows (map Some (rights ps))) right.columns
+      ++ map (λ c. at null c.rows (map Some (rights ps))) right.columns
   pub unwrapped : All (λ c. is_flat c.dtype ≡ true → is_unwrapped c ≡ true) t.columns
 
 -- ---- the code of the indices

@@ -16,11 +16,7 @@ fn is_there(left: &Table, right: &Table, key: (usize, usize)) -> bool
 }
 
 // The first pair that names a column that isn't there.
-pub(crate) fn first_missing(
-    left: &Table,
-    right: &Table,
-    keys: &[(usize, usize)],
-) -> Option<usize>
+pub(crate) fn first_missing(left: &Table, right: &Table, keys: &[(usize, usize)]) -> Option<usize>
     ensures { result ≡ position_from (λ k. not (is_there left.now right.now k)) 0 keys.now }
 {
     for (pair, key) in keys.iter().enumerate() {

@@ -44,8 +44,8 @@ fn matched(
     ensures { IfOk result (λ found. found
         ≡ rows_of_pairs left.now right.now (matching_pairs left.now right.now keys.now)) }
 {
-    let left_columns = key_columns(alloc, left, &left_keys(alloc, keys)?)?;
-    let right_columns = key_columns(alloc, right, &right_keys(alloc, keys)?)?;
+    let left_columns = key_columns(alloc, left.columns(), &left_keys(alloc, keys)?)?;
+    let right_columns = key_columns(alloc, right.columns(), &right_keys(alloc, keys)?)?;
     let found = join_columns(
         alloc,
         &left_columns,
@@ -88,12 +88,7 @@ pub fn join_indices(
 }
 
 // The rows of a table at picks of which none is a null.
-fn rows_at(
-    alloc: Global,
-    table: &Table,
-    picks: &Picks,
-    policy: &Policy,
-) -> Result<Table, NoMemory>
+fn rows_at(alloc: Global, table: &Table, picks: &Picks, policy: &Policy) -> Result<Table, NoMemory>
     requires bound { picks.now.bound ≡ table.now.len }
     requires there { AllThere picks.now.picks }
     ensures { IfOk result (IsTaken table.now (λ t. t) picks.now.picks) }

@@ -1,5 +1,5 @@
 //! The key columns of a table, and the rows of theirs that match.
-ghost use Rattle.std.specs.Prelude.{◌≡◌, ◌<◌, IfOk, length, map};
+ghost use Rattle.std.specs.Prelude.{◌≡◌, ◌<◌, [], ◌∷◌, IfOk, IfSome, length};
 ghost use Rattle.std.specs.List.{All};
 ghost use Rattle.vx_table.specs.Table.{AreLong};
 ghost use Rattle.vx_table.specs.Taken.{chosen};
@@ -13,29 +13,39 @@ use crate::numbers::{join_numbers, small_width};
 use crate::prefixes::join_cells;
 use std::alloc::Global;
 use vx_bits::NoMemory;
-use vx_column::Array;
+use vx_column::{Array, Columns};
 use vx_dispatch::execute;
 use vx_mask::Policy;
-use vx_table::Table;
 
-// The key columns of these numbers, unwrapped: a row is then found at once through any layout.
+// The columns of these numbers, unwrapped: a row is then found at once through any layout.
 pub(crate) fn key_columns(
     alloc: Global,
-    table: &Table,
+    columns: &Columns,
     numbers: &[usize],
 ) -> Result<Vec<Array>, NoMemory>
-    requires { All (λ i. i < length table.now.columns) numbers.now }
+    requires { All (λ i. i < length columns.now) numbers.now }
     ensures rows { IfOk result
-        (λ columns. rows_of columns.items ≡ rows_of (chosen numbers.now table.now.columns)) }
+        (λ keys. rows_of keys.items ≡ rows_of (chosen numbers.now columns.now)) }
     ensures types { IfOk result
-        (λ columns. types_of columns.items ≡ types_of (chosen numbers.now table.now.columns)) }
+        (λ keys. types_of keys.items ≡ types_of (chosen numbers.now columns.now)) }
 {
     let policy = Policy::vortex();
-    let mut columns = Vec::with_capacity(alloc, numbers.len())?;
+    let mut keys = Vec::with_capacity(alloc, numbers.len())?;
     for i in numbers {
-        columns.push(execute(alloc, table.columns().get(*i), &policy)?)?;
+        keys.push(execute(alloc, columns.get(*i), &policy)?)?;
     }
-    Ok(columns)
+    Ok(keys)
+}
+
+// The column, where there is just one.
+fn only(columns: &[Array]) -> Option<&Array>
+    ensures { IfSome result (λ column. columns.now ≡ column.now ∷ []) }
+{
+    if columns.len() == 1 {
+        columns.first()
+    } else {
+        None
+    }
 }
 
 /// The pairs of rows that are equal in each pair of columns and not null in any, by the left and
@@ -55,9 +65,11 @@ pub(crate) fn join_columns(
     ensures right { IfOk result (λ found. found.right.items ≡ rights (pairs rows_match
         (rows_from (rows_of left.now) 0 left_len) (rows_from (rows_of right.now) 0 right_len))) }
 {
-    if let ([l], [r]) = (left, right) {
-        if let Some(width) = small_width(l) {
-            return join_numbers(alloc, l, r, width);
+    if let Some(l) = only(left) {
+        if let Some(r) = only(right) {
+            if let Some(width) = small_width(l) {
+                return join_numbers(alloc, l, r, width);
+            }
         }
     }
     join_cells(alloc, left, left_len, right, right_len)

@@ -1,5 +1,5 @@
 //! Keys of one column of small records, by the numbers that these spell.
-ghost use Rattle.std.specs.Prelude.{◌≡◌, ◌<◌, ◌≤◌, IfOk, IfSome, OnOk, length, map, slice_index, slice_index_or};
+ghost use Rattle.std.specs.Prelude.{◌≡◌, ℕ, ◌<◌, IfOk, IfSome, OnOk, length, map, slice_index, slice_index_or};
 ghost use Rattle.std.specs.Int.{from_le_bytes, w64};
 ghost use Rattle.std.specs.List.{All};
 ghost use Rattle.vx_types.specs.RowValue.{null};
@@ -33,7 +33,8 @@ fn byte_at(bytes: &[u8], i: usize) -> u8
 // The number that at most eight bytes spell, lowest byte first.
 #[inline(always)]
 fn spelt(bytes: &[u8]) -> u64
-    ensures { result ≡ from_le_bytes w64 bytes.now }
+    ensures value { result ≡ from_le_bytes w64 bytes.now }
+    ensures small { (i : ℕ) → slice_index bytes.now i < 256 }
 {
     if let Some(record) = bytes.first_chunk::<8>() {
         return u64::from_le_bytes(*record);

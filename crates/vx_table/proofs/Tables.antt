@@ -205,19 +205,24 @@ same_types : (f g : TypeTree → TypeTree) → ((u : TypeTree) → f u ≡ g u) 
 same_types f g same [] = refl
 same_types f g same (c ∷ columns) = ap₂ ◌∷◌ (same c.dtype) (same_types f g same columns)
 
+-- the same table, of types that are said otherwise
+pub retyped : (t p : TableValue) (f g : TypeTree → TypeTree) (picks qs : List (Option ℕ)) → ((u : TypeTree) → f u ≡ g u) → picks ≡ qs → IsTaken t f picks p → IsTaken t g qs p
+retyped t p f g picks qs same e h =
+    let P : List (Option ℕ) → Type 0 = λ q. IsTaken t g q p in
+    subst P e (record {
+      len = h.len;
+      names = h.names;
+      columns = record {
+        types = h.columns.types ∙ same_types f g same t.columns;
+        rows = h.columns.rows;
+        unwrapped = h.columns.unwrapped;
+      };
+    })
+
 -- the rows at the cut are the page
 pub is_page : (t p : TableValue) (projection : List ℕ) (steps : List StepValue) (page len : ℕ) (w : Walk) (n : Nullability) (part : List (Option ℕ)) → n ≡ takes_nullability steps
     → IsCutOf w page len part → IsTaken (projected t projection) (λ u. also_nullable u n) part p → IsPage t projection steps page len w p
 is_page t p projection steps page len (walk_fault k cause) n part none h taken = absurd h
 is_page t p projection steps page len (walk_picks picks) n part none h taken =
-    let P : List (Option ℕ) → Type 0 = λ q. IsTaken (projected t projection) (λ u. type_after u steps) q p in
-    let same : (u : TypeTree) → also_nullable u n ≡ type_after u steps = λ u. ap (also_nullable u) none ∙ sym (type_after-takes u steps) in
-    subst P h (record {
-      len = taken.len;
-      names = taken.names;
-      columns = record {
-        types = taken.columns.types ∙ same_types (λ u. also_nullable u n) (λ u. type_after u steps) same (projected t projection).columns;
-        rows = taken.columns.rows;
-        unwrapped = taken.columns.unwrapped;
-      };
-    })
+    retyped (projected t projection) p (λ u. also_nullable u n) (λ u. type_after u steps) part (cut page len picks)
+    (λ u. ap (also_nullable u) none ∙ sym (type_after-takes u steps)) h taken

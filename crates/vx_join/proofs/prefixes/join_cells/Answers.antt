@@ -19,7 +19,7 @@ row_keys-requires-2 c =
 
 pub returns-clause-left : goal.returns-clause-left
 returns-clause-left c =
-    subst (λ ps. IfOk c.join_indices.result (λ found. found.left.items ≡ lefts ps))
+    subst (λ ps. IfOk c.join_keys.result (λ found. found.left.items ≡ lefts ps))
     (pairs_of_prefixed (rows_of c.args.left.now) (rows_of c.args.right.now) (length c.args.left.now) (length c.args.right.now) c.args.left_len c.args.right_len
     c.deref.result.now c.deref-2.result.now c.deref-3.result.now c.deref-4.result.now
     (sym (length-map c.args.left.now _)) (sym (length-map c.args.right.now _))
@@ -27,11 +27,11 @@ returns-clause-left c =
     (ap (map value_of) c.deref-2.ensures.value ∙ c.in_ok-right_cells.ensures)
     (ap (map key_parts) c.deref-3.ensures.value ∙ c.in_ok-left_keys.ensures)
     (ap (map key_parts) c.deref-4.ensures.value ∙ c.in_ok-right_keys.ensures))
-    c.join_indices.ensures.left
+    c.join_keys.ensures.left
 
 pub returns-clause-right : goal.returns-clause-right
 returns-clause-right c =
-    subst (λ ps. IfOk c.join_indices.result (λ found. found.right.items ≡ rights ps))
+    subst (λ ps. IfOk c.join_keys.result (λ found. found.right.items ≡ rights ps))
     (pairs_of_prefixed (rows_of c.args.left.now) (rows_of c.args.right.now) (length c.args.left.now) (length c.args.right.now) c.args.left_len c.args.right_len
     c.deref.result.now c.deref-2.result.now c.deref-3.result.now c.deref-4.result.now
     (sym (length-map c.args.left.now _)) (sym (length-map c.args.right.now _))
@@ -39,4 +39,4 @@ returns-clause-right c =
     (ap (map value_of) c.deref-2.ensures.value ∙ c.in_ok-right_cells.ensures)
     (ap (map key_parts) c.deref-3.ensures.value ∙ c.in_ok-left_keys.ensures)
     (ap (map key_parts) c.deref-4.ensures.value ∙ c.in_ok-right_keys.ensures))
-    c.join_indices.ensures.right
+    c.join_keys.ensures.right
