@@ -84,7 +84,12 @@ fn left_table(alloc: Global) -> Result<Table, Fail> {
 
 fn right_table(alloc: Global) -> Result<Table, Fail> {
     let b = bools(alloc, &[true, true, false, false])?;
-    table(alloc, &["k", "b"], vec![in alloc; right_keys(alloc)?, b]?, 4)
+    table(
+        alloc,
+        &["k", "b"],
+        vec![in alloc; right_keys(alloc)?, b]?,
+        4,
+    )
 }
 
 /// Pairs by one key column and by several, and the joined tables.

@@ -5,8 +5,8 @@ use std::test::Fail;
 use vx_bits::{BitBuffer, Buffer, NoMemory, Records};
 use vx_column::{
     ArrayRef, BoolArray, ConstantArray, DType, DecimalArray, DecimalDType, DictArray, FilterArray,
-    FlatRef, NullArray, Nullability, PType, PrimitiveArray, Scalar, ScalarValue, TextKind, Validity,
-    VarBinArray,
+    FlatRef, NullArray, Nullability, PType, PrimitiveArray, Scalar, ScalarValue, TextKind,
+    Validity, VarBinArray,
 };
 use vx_mask::Mask;
 use vx_pieces::Indices;
@@ -109,7 +109,11 @@ pub(crate) fn constant(alloc: Global, number: u8, len: usize) -> Result<ArrayRef
     let bytes = Buffer::from_vec(alloc, [number].to_vec(alloc)?)?;
     let dtype = DType::Primitive(PType::U8, Nullability::NonNullable);
     let scalar = Scalar::try_new(dtype, ScalarValue::Bytes(bytes))?;
-    Ok(ConstantArray::new(scalar, len).into_array().into_ref(alloc)?)
+    Ok(
+        ConstantArray::new(scalar, len)
+            .into_array()
+            .into_ref(alloc)?,
+    )
 }
 
 /// The values that the codes name.
@@ -118,13 +122,21 @@ pub(crate) fn dictionary(
     codes: ArrayRef,
     values: ArrayRef,
 ) -> Result<ArrayRef, Fail> {
-    Ok(DictArray::try_new(codes, values)?.into_array().into_ref(alloc)?)
+    Ok(
+        DictArray::try_new(codes, values)?
+            .into_array()
+            .into_ref(alloc)?,
+    )
 }
 
 /// The rows of a column at the set bits, which are looked up when they are read.
 pub(crate) fn filtered(alloc: Global, child: ArrayRef, bits: &[bool]) -> Result<ArrayRef, Fail> {
     let mask = mask_of(alloc, bits)?;
-    Ok(FilterArray::try_new(child, mask)?.into_array().into_ref(alloc)?)
+    Ok(
+        FilterArray::try_new(child, mask)?
+            .into_array()
+            .into_ref(alloc)?,
+    )
 }
 
 fn mask_of(alloc: Global, bits: &[bool]) -> Result<Mask, NoMemory> {

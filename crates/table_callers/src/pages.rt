@@ -1,5 +1,7 @@
 //! Pages of a table.
-use crate::made::{bools, constant, dictionary, filter, filtered, numbers, slice, table, take, texts};
+use crate::made::{
+    bools, constant, dictionary, filter, filtered, numbers, slice, table, take, texts,
+};
 use crate::shown::print_table;
 use std::alloc::Global;
 use std::test::Fail;
