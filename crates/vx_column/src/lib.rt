@@ -7,6 +7,7 @@
 mod array;
 mod boolean;
 mod cell;
+mod columns;
 mod constant;
 mod decimal;
 mod dict;
@@ -30,6 +31,7 @@ pub mod vtables;
 pub use array::{Array, ArrayRef, Layout};
 pub use boolean::BoolArray;
 pub use cell::Cell;
+pub use columns::Columns;
 pub use constant::ConstantArray;
 pub use decimal::DecimalArray;
 pub use dict::DictArray;

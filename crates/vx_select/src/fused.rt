@@ -11,7 +11,7 @@ ghost use Rattle.vx_steps.specs.Walk.{walk, walk_picks};
 ghost use Rattle.vx_steps.specs.Compose.{IsFaultOf, takes_nullability};
 ghost use Rattle.vx_select.specs.Select.{IsSelection, needs_no_memory};
 
-use crate::pick_indices::pick_indices;
+use crate::picked::pick_indices;
 use crate::selection::select;
 use std::alloc::Global;
 use vx_bits::NoMemory;

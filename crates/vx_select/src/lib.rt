@@ -5,11 +5,14 @@ mod chunked;
 mod fused;
 mod laws;
 mod part;
-mod pick_indices;
+mod picked;
 mod selection;
 
 pub use chunked::select_chunked;
 pub use fused::select_fused;
 pub use laws::selections_alike;
+pub use picked::pick_indices;
 pub use selection::select;
-pub use vx_steps::{Cause, ChunkShape, SelectError, Step, check_steps, compose, slice_of_slice};
+pub use vx_steps::{
+    Cause, ChunkShape, SelectError, Step, check_steps, compose, compose_part, slice_of_slice,
+};

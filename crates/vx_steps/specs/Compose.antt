@@ -1,5 +1,5 @@
 -- The picks that the steps of a list leave.
-use Rattle.std.specs.Prelude.{◌≡◌, ℕ, ◌-◌, List, [], ◌∷◌, map, Option, Some, None, slice_index_or}
+use Rattle.std.specs.Prelude.{◌≡◌, ℕ, ◌-◌, ◌^◌, ◌<◌, length, List, [], ◌∷◌, map, Option, Some, None, slice_index_or, slice_range}
 use Rattle.std.specs.List.{range_with_len}
 use Rattle.vx_types.specs.Nullability.{either_nullable}
 use Rattle.vx_types.specs.declared.nullability.Nullability.{Nullability}
@@ -41,6 +41,16 @@ step_nullability (take_step indices) = index_nullability indices
 abbrev pub takes_nullability : List StepValue → Nullability
 takes_nullability [] = NonNullable
 takes_nullability (s ∷ ss) = either_nullable (step_nullability s) (takes_nullability ss)
+
+-- no step is broken, and these are the picks from number start up to end, as far as there are any
+abbrev pub IsPartOf : Walk → ℕ → ℕ → List (Option ℕ) → Type 0
+IsPartOf (walk_fault k cause) start end part = ⊥
+IsPartOf (walk_picks picks) start end part = part ≡ slice_range picks start end
+
+-- no step is broken, and a `usize` counts the picks
+abbrev pub IsCounted : Walk → Type 0
+IsCounted (walk_fault k cause) = ⊥
+IsCounted (walk_picks picks) = length picks < 2 ^ 64
 
 -- no step is broken
 abbrev pub IsUnbroken : Walk → Type 0

@@ -31,7 +31,7 @@ pub(crate) enum Composed {
 
 impl Composed {
     // How many picks there are.
-    fn len(&self) -> usize
+    pub(crate) fn len(&self) -> usize
         ensures { result ≡ length (picks_in self.now) }
     {
         match self {
@@ -219,5 +219,25 @@ impl Composed {
             }
             Composed::Listed(picks) => Ok(picks),
         }
+    }
+
+    // The picks from number `start` up to `end`, as far as there are any, as a list.
+    pub(crate) fn into_part(
+        self,
+        alloc: Global,
+        start: usize,
+        end: usize,
+    ) -> Result<Picks, NoMemory>
+        requires { start ≤ end }
+        ensures { IfOk result (λ p. p ≡ record {
+          picks = slice_range (picks_in self) start end;
+          bound = bound_of self;
+        }) }
+    {
+        let len = self.len();
+        if start == 0 && len <= end {
+            return self.into_picks(alloc);
+        }
+        self.part(alloc, start.min(len), end.min(len))
     }
 }

@@ -13,6 +13,6 @@ mod step;
 pub use cause::{Cause, SelectError};
 pub use check::check_steps;
 pub use chunk_shape::ChunkShape;
-pub use composing::{compose, takes_nullability};
+pub use composing::{compose, compose_part, takes_nullability};
 pub use laws::slice_of_slice;
 pub use step::Step;

@@ -1,0 +1,62 @@
+//! Shared lists of columns.
+ghost use Rattle.std.specs.Prelude.{◌≡◌, ◌<◌, IfOk, Some, length, slice_get};
+
+use crate::array::ArrayRef;
+use std::alloc::Global;
+use std::marker::Model;
+use vx_bits::NoMemory;
+use vx_shared::Shared;
+
+/// A shared list of columns of any types and lengths. A contract sees the columns, in order.
+#[derive(Drop)]
+pub struct Columns {
+    list: Shared<Vec<ArrayRef>>,
+}
+
+impl Model for Columns {
+    ghost use Rattle.std.specs.Prelude.{List};
+    ghost use Rattle.std.specs.Coded.{coded_list};
+    ghost use Rattle.vx_model.specs.Column.{Column};
+    ghost use Rattle.vx_model.specs.ColumnCode.{coded_column};
+
+    ghost Value = { List Column };
+
+    ghost coded = { coded_list coded_column };
+
+    ghost view = { λ c. c.list.items };
+}
+
+impl Columns {
+    /// The list behind a counted pointer. `NoMemory` alone.
+    pub fn new(alloc: Global, columns: Vec<ArrayRef>) -> Result<Columns, NoMemory>
+        ensures { IfOk result (λ c. c ≡ columns.items) }
+    {
+        Ok(Columns {
+            list: Shared::new(alloc, columns)?,
+        })
+    }
+
+    /// How many columns there are.
+    pub fn len(&self) -> usize
+        ensures { result ≡ length self.now }
+    {
+        self.list.as_ref().len()
+    }
+
+    /// Column `i`.
+    pub fn get(&self, i: usize) -> &ArrayRef
+        requires { i < length self.now }
+        ensures { slice_get self.now i ≡ Some result.now }
+    {
+        &self.list.as_ref()[i]
+    }
+
+    /// The same columns once more. It takes no memory.
+    pub fn share(&self) -> Columns
+        ensures { result ≡ self.now }
+    {
+        Columns {
+            list: self.list.share(),
+        }
+    }
+}

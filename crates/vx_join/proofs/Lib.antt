@@ -1,0 +1,6 @@
+pub mod CellRows
+pub mod Found
+pub mod KeyPrefixes
+pub mod Links
+pub mod SmallRecords
+pub mod Tied

@@ -1,0 +1,55 @@
+-- Cells of key columns.
+use Rattle.std.specs.Prelude.{ℕ, zero, suc, Bool, true, false, cond, List, [], ◌∷◌, map, take, drop, nat_le, length, Option, None, Some}
+use Rattle.std.specs.Int.{from_le_bytes, w64}
+use Rattle.std.specs.List.{list_any}
+use Rattle.vx_types.specs.RowValue.{RowValue, null, bit, bytes}
+use Rattle.vx_model.specs.Column.{Column}
+use Rattle.vx_join.specs.declared.cells.KeyCell.{KeyCell}
+use Rattle.vx_join.specs.declared.cells.KeyCell.TheVariants as cells
+use Rattle.vx_join.specs.declared.prefixes.RowKey.{RowKey}
+
+-- the row that it stands for
+abbrev pub value_of : KeyCell → RowValue
+value_of cells.Null = null
+value_of (cells.Bit b) = bit b
+value_of (cells.Bytes b) = bytes b.now
+
+abbrev pub is_null_cell : KeyCell → Bool
+is_null_cell cells.Null = true
+is_null_cell (cells.Bit b) = false
+is_null_cell (cells.Bytes b) = false
+
+-- the rows of each column
+abbrev pub rows_of : List Column → List (List RowValue)
+rows_of columns = map (λ (c : Column). c.rows) columns
+
+-- the key of a row's cells: none where one is null
+abbrev pub key_cells : List KeyCell → Option (List KeyCell)
+key_cells row = cond (list_any is_null_cell row) None (Some row)
+
+-- so many pieces of a list, each so long
+abbrev pub pieces : {X : Type 0} → ℕ → ℕ → List X → List (List X)
+pieces width zero xs = []
+pieces width (suc n) xs = take width xs ∷ pieces width n (drop width xs)
+
+-- ---- keys with a number in front
+
+-- a number that equal values share: the first eight bytes of a record that has so many, else 0
+abbrev pub bytes_prefix : List ℕ → ℕ
+bytes_prefix xs = cond (nat_le 8 (length xs)) (from_le_bytes w64 (take 8 xs)) 0
+
+abbrev pub value_prefix : RowValue → ℕ
+value_prefix (bytes xs) = bytes_prefix xs
+value_prefix x = 0
+
+abbrev pub row_prefix : List KeyCell → ℕ
+row_prefix [] = 0
+row_prefix (x ∷ xs) = value_prefix (value_of x)
+
+abbrev pub key_parts : Option RowKey → Option (ℕ × List KeyCell)
+key_parts None = None
+key_parts (Some k) = Some (k.prefix, k.cells.now)
+
+abbrev pub prefixed : Option (List KeyCell) → Option (ℕ × List KeyCell)
+prefixed None = None
+prefixed (Some row) = Some (row_prefix row, row)

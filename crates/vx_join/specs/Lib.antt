@@ -1,0 +1,6 @@
+pub mod Cells
+pub mod Chains
+pub mod Join
+pub mod Keys
+pub mod Numbers
+pub mod Pairs

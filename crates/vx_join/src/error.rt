@@ -1,0 +1,45 @@
+//! Why there is no join.
+
+use std::alloc::AllocError;
+use vx_bits::NoMemory;
+
+/// Why two tables can't be joined. Pairs of keys count from 0.
+#[derive(Debug, Clone, Copy, PartialEq, Eq)]
+pub enum JoinError {
+    /// There is no pair of keys.
+    NoKeys,
+    /// A pair names a column that isn't there.
+    NoKey {
+        /// The first such pair.
+        pair: usize,
+    },
+    /// The types of a pair's columns aren't flat, or differ in more than nullability.
+    KeyTypes {
+        /// The first such pair.
+        pair: usize,
+    },
+    /// Want of memory, though none of these is so.
+    NoMemory,
+}
+
+impl From<NoMemory> for JoinError {
+    ghost use Rattle.std.specs.Prelude.{◌≡◌};
+    ghost use Rattle.vx_join.specs.declared.error.JoinError.TheVariants.{NoMemory as OutOfMemory};
+
+    ghost from_gives = { λ _ e. e ≡ OutOfMemory };
+
+    fn from(_: NoMemory) -> JoinError {
+        JoinError::NoMemory
+    }
+}
+
+impl From<AllocError> for JoinError {
+    ghost use Rattle.std.specs.Prelude.{◌≡◌};
+    ghost use Rattle.vx_join.specs.declared.error.JoinError.TheVariants.{NoMemory as OutOfMemory};
+
+    ghost from_gives = { λ _ e. e ≡ OutOfMemory };
+
+    fn from(_: AllocError) -> JoinError {
+        JoinError::NoMemory
+    }
+}

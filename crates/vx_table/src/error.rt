@@ -1,0 +1,74 @@
+//! Why there is no table, and why there is no page.
+
+use std::alloc::AllocError;
+use vx_bits::NoMemory;
+use vx_select::{Cause, SelectError};
+
+/// Why names and columns are no table.
+#[derive(Debug, Clone, Copy, PartialEq, Eq)]
+pub enum TableError {
+    /// There aren't as many names as columns.
+    WrongCount,
+    /// A column hasn't as many rows as the table.
+    WrongLength {
+        /// The first such column.
+        column: usize,
+    },
+}
+
+/// Why there is no page.
+#[derive(Debug, Clone, Copy, PartialEq, Eq)]
+pub enum PageError {
+    /// The projection names a column that isn't there.
+    NoColumn {
+        /// The first such number in the projection.
+        index: usize,
+    },
+    /// A page has no rows.
+    EmptyPage,
+    /// The first step that breaks a rule, and its cause.
+    Broken {
+        /// The step's number, counted from 0.
+        step: usize,
+        /// The rule that it breaks.
+        cause: Cause,
+    },
+    /// Want of memory, though none of these is so.
+    NoMemory,
+}
+
+impl From<NoMemory> for PageError {
+    ghost use Rattle.std.specs.Prelude.{◌≡◌};
+    ghost use Rattle.vx_table.specs.declared.error.PageError.TheVariants.{NoMemory as OutOfMemory};
+
+    ghost from_gives = { λ _ e. e ≡ OutOfMemory };
+
+    fn from(_: NoMemory) -> PageError {
+        PageError::NoMemory
+    }
+}
+
+impl From<AllocError> for PageError {
+    ghost use Rattle.std.specs.Prelude.{◌≡◌};
+    ghost use Rattle.vx_table.specs.declared.error.PageError.TheVariants.{NoMemory as OutOfMemory};
+
+    ghost from_gives = { λ _ e. e ≡ OutOfMemory };
+
+    fn from(_: AllocError) -> PageError {
+        PageError::NoMemory
+    }
+}
+
+impl From<SelectError> for PageError {
+    ghost use Rattle.std.specs.Prelude.{◌≡◌};
+    ghost use Rattle.vx_table.specs.Page.{page_error};
+
+    ghost from_gives = { λ x e. e ≡ page_error x };
+
+    fn from(error: SelectError) -> PageError {
+        match error {
+            SelectError::Broken { step, cause } => PageError::Broken { step, cause },
+            SelectError::NoMemory => PageError::NoMemory,
+        }
+    }
+}
