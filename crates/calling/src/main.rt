@@ -11,6 +11,7 @@ mod reading;
 mod selecting;
 mod squares;
 mod steps;
+mod tables;
 
 use std::test::Fail;
 
@@ -19,5 +20,6 @@ fn main(rt: HostRuntime) -> Result<(), Fail> {
     selecting::print_answers(&rt, rt.alloc())?;
     selecting::print_faults(&rt, rt.alloc())?;
     selecting::print_rows(&rt, rt.alloc())?;
-    chunks::print_squares(&rt, rt.alloc())
+    chunks::print_squares(&rt, rt.alloc())?;
+    tables::print_pages(&rt, rt.alloc())
 }
