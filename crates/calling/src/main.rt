@@ -12,6 +12,7 @@ mod reading;
 mod selecting;
 mod squares;
 mod steps;
+mod tables;
 
 use std::test::Fail;
 
@@ -21,5 +22,6 @@ fn main(rt: HostRuntime) -> Result<(), Fail> {
     selecting::print_faults(&rt, rt.alloc())?;
     selecting::print_rows(&rt, rt.alloc())?;
     names::print_names(&rt, rt.alloc())?;
-    chunks::print_squares(&rt, rt.alloc())
+    chunks::print_squares(&rt, rt.alloc())?;
+    tables::print_pages(&rt, rt.alloc())
 }

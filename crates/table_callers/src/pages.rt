@@ -39,12 +39,12 @@ fn ramp(alloc: Global) -> Result<ArrayRef, Fail> {
 
 // Twelve rows of an id, a note and columns of other layouts.
 fn notes(alloc: Global) -> Result<Table, Fail> {
-    let id = ramp(alloc)?;
-    let note = texts(alloc, &NOTES)?;
-    let kept = bools(alloc, &KEPT)?;
-    let nine = constant(alloc, 9, 12)?;
-    let third = thirds(alloc)?;
-    let columns = vec![in alloc; id, note, kept, nine, third]?;
+    let mut columns = Vec::new(alloc);
+    columns.push(ramp(alloc)?)?;
+    columns.push(texts(alloc, &NOTES)?)?;
+    columns.push(bools(alloc, &KEPT)?)?;
+    columns.push(constant(alloc, 9, 12)?)?;
+    columns.push(thirds(alloc)?)?;
     table(alloc, &["id", "note", "kept", "nine", "third"], columns, 12)
 }
 
@@ -83,42 +83,70 @@ fn print_page(
 
 /// Pages of the rows that a filter keeps, and of all rows.
 pub(crate) fn print_pages(rt: &impl Print, alloc: Global) -> Result<(), Fail> {
-    let steps = [filter(alloc, &KEPT)?];
-    print_page(rt, "page 1 of 3", &[0, 1], &steps, 1, 3, alloc)?;
-    print_page(rt, "page 2 of 3", &[0, 1], &steps, 2, 3, alloc)?;
-    print_page(rt, "page 3 of 3", &[0, 1], &steps, 3, 3, alloc)?;
-    print_page(rt, "one page of all", &[1], &steps, 0, 100, alloc)?;
-    print_page(rt, "a column twice", &[4, 1, 4], &steps, 1, 2, alloc)?;
-    print_page(rt, "each layout", &[3, 4, 2], &steps, 0, 2, alloc)?;
-    print_page(rt, "no column", &[], &steps, 2, 3, alloc)?;
-    let last = usize::MAX;
-    print_page(rt, "the last page", &[0], &steps, last, last, alloc)?;
-    print_page(rt, "a page of all rows", &[0], &[], 0, last, alloc)?;
-    print_page(rt, "the page behind it", &[0], &[], 1, last, alloc)?;
-    print_page(rt, "a page far behind", &[0], &[], last, 1, alloc)?;
-    print_takes(rt, alloc)
+    print_kept(rt, alloc, &[filter(alloc, &KEPT)?])?;
+    print_columns(rt, alloc, &[filter(alloc, &KEPT)?])?;
+    print_far(rt, alloc)?;
+    print_nulls(rt, alloc, &[take(alloc, &[None, Some(1)])?])?;
+    print_takes(
+        rt,
+        alloc,
+        &[
+            slice(2, 12),
+            take(alloc, &[Some(3), Some(3), None, Some(0)])?,
+            slice(1, 4),
+        ],
+    )
 }
 
-// Takes that repeat and leave nulls.
-fn print_takes(rt: &impl Print, alloc: Global) -> Result<(), Fail> {
-    let steps = [take(alloc, &[None, Some(1)])?];
-    print_page(rt, "a null and a row", &[0, 1], &steps, 0, 2, alloc)?;
-    let steps = [
-        slice(2, 12),
-        take(alloc, &[Some(3), Some(3), None, Some(0)])?,
-        slice(1, 4),
-    ];
-    print_page(rt, "three steps", &[1, 0, 2], &steps, 0, 2, alloc)?;
-    print_page(rt, "three steps, then", &[1, 0, 2], &steps, 1, 2, alloc)
+fn print_kept(rt: &impl Print, alloc: Global, steps: &[Step]) -> Result<(), Fail> {
+    print_page(rt, "page 1 of 3", &[0, 1], steps, 1, 3, alloc)?;
+    print_page(rt, "page 2 of 3", &[0, 1], steps, 2, 3, alloc)?;
+    print_page(rt, "page 3 of 3", &[0, 1], steps, 3, 3, alloc)?;
+    print_page(rt, "one page of all", &[1], steps, 0, 100, alloc)
+}
+
+fn print_columns(rt: &impl Print, alloc: Global, steps: &[Step]) -> Result<(), Fail> {
+    print_page(rt, "a column twice", &[4, 1, 4], steps, 1, 2, alloc)?;
+    print_page(rt, "each layout", &[3, 4, 2], steps, 0, 2, alloc)?;
+    print_page(rt, "no column", &[], steps, 2, 3, alloc)?;
+    print_page(
+        rt,
+        "the last page",
+        &[0],
+        steps,
+        usize::MAX,
+        usize::MAX,
+        alloc,
+    )
+}
+
+// Pages of all rows.
+fn print_far(rt: &impl Print, alloc: Global) -> Result<(), Fail> {
+    print_page(rt, "a page of all rows", &[0], &[], 0, usize::MAX, alloc)?;
+    print_page(rt, "the page behind it", &[0], &[], 1, usize::MAX, alloc)?;
+    print_page(rt, "a page far behind", &[0], &[], usize::MAX, 1, alloc)
+}
+
+fn print_nulls(rt: &impl Print, alloc: Global, steps: &[Step]) -> Result<(), Fail> {
+    print_page(rt, "a null and a row", &[0, 1], steps, 0, 2, alloc)
+}
+
+// A slice, a take that repeats a row and leaves a null, and another slice.
+fn print_takes(rt: &impl Print, alloc: Global, steps: &[Step]) -> Result<(), Fail> {
+    print_page(rt, "three steps", &[1, 0, 2], steps, 0, 2, alloc)?;
+    print_page(rt, "three steps, then", &[1, 0, 2], steps, 1, 2, alloc)
 }
 
 /// Each refusal, in order.
 pub(crate) fn print_refusals(rt: &impl Print, alloc: Global) -> Result<(), Fail> {
-    let broken = [slice(0, 5), slice(2, 6), slice(9, 8)];
-    print_page(rt, "columns 5 and 6", &[4, 5, 6], &broken, 0, 0, alloc)?;
-    print_page(rt, "no rows a page", &[4, 0], &broken, 0, 0, alloc)?;
-    print_page(rt, "a broken step", &[4, 0], &broken, 0, 1, alloc)?;
-    print_page(rt, "a broken step, no column", &[], &broken, 9, 9, alloc)?;
+    print_order(rt, alloc, &[slice(0, 5), slice(2, 6), slice(9, 8)])?;
     let past = [take(alloc, &[Some(11), None, Some(12)])?];
     print_page(rt, "an index past the rows", &[0], &past, 5, 1, alloc)
+}
+
+fn print_order(rt: &impl Print, alloc: Global, broken: &[Step]) -> Result<(), Fail> {
+    print_page(rt, "columns 5 and 6", &[4, 5, 6], broken, 0, 0, alloc)?;
+    print_page(rt, "no rows a page", &[4, 0], broken, 0, 0, alloc)?;
+    print_page(rt, "a broken step", &[4, 0], broken, 0, 1, alloc)?;
+    print_page(rt, "a broken step, no column", &[], broken, 9, 9, alloc)
 }

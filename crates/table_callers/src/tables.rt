@@ -13,19 +13,25 @@ pub(crate) fn print_rows(rt: &impl Print, alloc: Global) -> Result<(), Fail> {
     print_made(rt, alloc, "lengths 2, 2, 3 as 2", &["a", "b", "a"], 2)?;
     print_made(rt, alloc, "lengths 2, 2, 3 as 3", &["a", "b", "a"], 3)?;
     print_made(rt, alloc, "lengths 2, 2, 3 as 0", &["a", "b", "a"], 0)?;
-    let none = table(alloc, &[], Vec::new(alloc), 4)?;
-    print_table(rt, "no columns", &none)?;
-    let quoted = vec![in alloc; texts(alloc, &[Some("x")])?, bools(alloc, &[true])?]?;
-    let quoted = table(alloc, &["a \"b\"", "a \"b\""], quoted, 1)?;
-    print_table(rt, "one name twice", &quoted)
+    print_table(rt, "no columns", &table(alloc, &[], Vec::new(alloc), 4)?)?;
+    print_table(rt, "one name twice", &quoted(alloc)?)
+}
+
+// A text and a bool under one name.
+fn quoted(alloc: Global) -> Result<Table, Fail> {
+    let mut columns = Vec::new(alloc);
+    columns.push(texts(alloc, &[Some("x")])?)?;
+    columns.push(bools(alloc, &[true])?)?;
+    table(alloc, &["a \"b\"", "a \"b\""], columns, 1)
 }
 
 // Columns of 2, 2 and 3 rows.
 fn columns(alloc: Global) -> Result<Vec<ArrayRef>, Fail> {
-    let first = numbers(alloc, &[Some(1), None])?;
-    let second = bools(alloc, &[true, false])?;
-    let third = texts(alloc, &[Some("x"), None, Some("y")])?;
-    Ok(vec![in alloc; first, second, third]?)
+    let mut columns = Vec::new(alloc);
+    columns.push(numbers(alloc, &[Some(1), None])?)?;
+    columns.push(bools(alloc, &[true, false])?)?;
+    columns.push(texts(alloc, &[Some("x"), None, Some("y")])?)?;
+    Ok(columns)
 }
 
 fn print_made(

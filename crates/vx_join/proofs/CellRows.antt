@@ -1,13 +1,11 @@
 -- Keys of cells against rows of values.
-use Rattle.std.proofs.Common.{◌≡◌, ℕ, zero, suc, ◌+◌, ◌-◌, ◌*◌, ◌<◌, ◌≤◌, Bool, true, false, cond, ◌&&◌, ◌||◌, List, [], ◌∷◌, ◌++◌, length, map, take, drop, Option, None, Some, refl, sym, ◌∙◌, ap, subst, arith, append_assoc, nat_eq, get_or}
+use Rattle.std.proofs.Common.{◌≡◌, ℕ, zero, suc, ◌+◌, ◌-◌, ◌*◌, ◌<◌, Bool, true, false, cond, ◌&&◌, ◌||◌, List, [], ◌∷◌, ◌++◌, length, map, take, drop, None, Some, refl, sym, ◌∙◌, ap, arith, append_assoc, get_or}
 use Rattle.std.specs.Prelude.{slice_index_or}
 use Rattle.std.proofs.Common.{Ordering}
 use Rattle.std.specs.Ordering.{is_eq, eq_by_cmp}
 use Rattle.std.specs.Cmp.Lexicographic.{slice_cmp, pointwise, lists_ties, texts_ties}
 use Rattle.std.specs.List.{list_any, flat_map}
-use Rattle.std.specs.Option.{option_copied}
-use Rattle.std.proofs.lemmas.List.{drop-drop, drop_more, map-append, length-append, take-append-le, drop-append-le, take_all, drop_all, length-map}
-use denote.Ref.{Bor}
+use Rattle.std.proofs.lemmas.List.{drop_more, map-append, length-append, take-append-le, drop-append-le, take_all, drop_all, length-map}
 use Rattle.vx_join.specs.declared.cells.KeyCell.{KeyCell}
 use Rattle.vx_join.specs.declared.cells.KeyCell.TheVariants as cells
 use Rattle.vx_model.specs.Column.{Column}
@@ -15,7 +13,7 @@ use Rattle.vx_join.specs.contracts.cells.KeyCellOrd.TheImpl as order
 use Rattle.vx_join.specs.Chains.{keys_match}
 use Rattle.vx_join.specs.Pairs.{positions_from, pairs_from, pairs}
 use Rattle.vx_types.specs.RowValue.{RowValue, null}
-use Rattle.vx_join.specs.Keys.{same_value, same_bit, rows_match, row_at, rows_from}
+use Rattle.vx_join.specs.Keys.{same_value, rows_match, row_at, rows_from}
 use Rattle.vx_join.specs.Cells.{rows_of, value_of, is_null_cell, key_cells, pieces}
 
 abbrev pub cell_cmp : KeyCell → KeyCell → Ordering

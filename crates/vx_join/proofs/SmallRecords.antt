@@ -1,20 +1,20 @@
 -- The numbers that small records spell are equal exactly where the records are.
-use Rattle.std.proofs.Common.{◌≡◌, ℕ, zero, suc, ◌+◌, ◌<◌, ◌≤◌, Bool, true, false, cond, ◌&&◌, List, [], ◌∷◌, ◌++◌, length, map, take, drop, get_or, Option, None, Some, refl, sym, ◌∙◌, ap, ap₂, subst, arith, nat_eq, eq-eqb, lit<}
-use Rattle.std.specs.Prelude.{slice_index, slice_index_or, ◌==◌}
+use Rattle.std.proofs.Common.{◌≡◌, ℕ, zero, suc, ◌+◌, ◌<◌, ◌≤◌, Bool, true, false, cond, ◌&&◌, List, [], ◌∷◌, ◌++◌, length, map, drop, get_or, Option, Some, refl, sym, ◌∙◌, ap, ap₂, subst, arith, nat_eq, eq-eqb, lit<}
+use Rattle.std.specs.Prelude.{slice_index, slice_index_or}
 use Rattle.std.specs.Int.{from_le_bytes, to_le_bytes, w64}
 use Rattle.std.specs.List.{All}
-use Rattle.std.specs.Ordering.{is_eq, eq_by_cmp, nat_cmp}
+use Rattle.std.specs.Ordering.{eq_by_cmp, nat_cmp}
 use Rattle.std.specs.Cmp.{unsigned_ties}
 use Rattle.std.specs.Cmp.Lexicographic.{pointwise, bytes_decides}
 use Rattle.std.proofs.lemmas.Bool.{eqb-true}
-use Rattle.std.proofs.lemmas.List.{ext_get_or, get_or_default}
+use Rattle.std.proofs.lemmas.List.{ext_get_or}
 use Rattle.std.proofs.lemmas.Nat.{le_bytes_8}
 use Rattle.vx_types.specs.RowValue.{RowValue, null, bit, bytes, list, fields, tagged}
-use Rattle.vx_types.specs.TypeTree.{TypeKind, TypeTree, is_bool_kind, kind_width, null_kind, bool_kind, primitive_kind, decimal_kind, utf8_kind, binary_kind, list_kind, fixed_kind, map_kind, struct_kind, union_kind, extension_kind}
+use Rattle.vx_types.specs.TypeTree.{TypeKind, is_bool_kind, kind_width, null_kind, bool_kind, primitive_kind, decimal_kind, utf8_kind, binary_kind, list_kind, fixed_kind, map_kind, struct_kind, union_kind, extension_kind}
 use Rattle.vx_types.specs.Scalar.{is_width_of}
 use Rattle.vx_join.specs.Chains.{keys_match}
 use Rattle.vx_join.specs.Pairs.{positions_from, pairs_from, pairs}
-use Rattle.vx_join.specs.Keys.{same_value, row_at, rows_from, rows_match}
+use Rattle.vx_join.specs.Keys.{same_value, rows_from, rows_match}
 use Rattle.vx_join.specs.Numbers.{IsRecord, number_key}
 use Rattle.vx_join.proofs.CellRows.{pairs_alike}
 

@@ -1,7 +1,7 @@
 -- Keys, the columns that they name, and what is found of them.
-use Rattle.std.proofs.Common.{◌≡◌, ℕ, zero, suc, ◌+◌, ◌<◌, ◌≤◌, Bool, true, false, cond, ◌&&◌, List, [], ◌∷◌, ◌++◌, length, map, take, get_or, Option, None, Some, refl, sym, ◌∙◌, ap, ap₂, subst, arith, rules}
+use Rattle.std.proofs.Common.{◌≡◌, ℕ, zero, suc, ◌+◌, ◌<◌, ◌≤◌, Bool, true, false, cond, ◌&&◌, List, [], ◌∷◌, ◌++◌, length, map, take, Option, None, Some, refl, sym, ◌∙◌, ap, ap₂, subst, arith, rules}
 use Rattle.std.specs.Prelude.{not, nat_lt, slice_get, slice_index, ◌==◌}
-use Rattle.std.specs.List.{All, cons_option, filter_map, position_from}
+use Rattle.std.specs.List.{All, cons_option, position_from}
 use Rattle.std.specs.Ordering.{int_eq}
 use Rattle.std.proofs.lemmas.Bool.{eqb-true, ltb-true}
 use Rattle.std.proofs.lemmas.List.{length-map, map-append, take_more}
@@ -24,7 +24,7 @@ use Rattle.vx_table.proofs.Lists.{All-chosen, All-rest, filter_map-more}
 use Rattle.vx_table.proofs.Tables.{retyped}
 use Rattle.vx_join.specs.Cells.{rows_of}
 use Rattle.vx_join.specs.Join.{IsJoin, are_key_kinds, are_key_types, has_key_types, have_key_types, is_there}
-use Rattle.vx_join.specs.Keys.{AreOfKeyTypes, AreThere, key_rows, left_keys, matching_pairs, right_keys, row_at, rows_from, rows_match}
+use Rattle.vx_join.specs.Keys.{AreOfKeyTypes, AreThere, left_keys, matching_pairs, right_keys, rows_from, rows_match}
 use Rattle.vx_join.specs.Numbers.{AreAlike, IsSmall, types_of}
 use Rattle.vx_join.specs.Pairs.{lefts, pairs, pairs_from, positions_from, rights}
 

@@ -1,5 +1,5 @@
 -- Cells of key columns.
-use Rattle.std.specs.Prelude.{ℕ, zero, suc, Bool, true, false, cond, List, [], ◌∷◌, map, take, drop, nat_le, length, Option, None, Some}
+use Rattle.std.specs.Prelude.{ℕ, zero, suc, Bool, true, false, cond, List, [], ◌∷◌, map, take, drop, Option, None, Some}
 use Rattle.std.specs.Int.{from_le_bytes, w64}
 use Rattle.std.specs.List.{list_any}
 use Rattle.vx_types.specs.RowValue.{RowValue, null, bit, bytes}
@@ -34,12 +34,9 @@ pieces width (suc n) xs = take width xs ∷ pieces width n (drop width xs)
 
 -- ---- keys with a number in front
 
--- a number that equal values share: the first eight bytes of a record that has so many, else 0
-abbrev pub bytes_prefix : List ℕ → ℕ
-bytes_prefix xs = cond (nat_le 8 (length xs)) (from_le_bytes w64 (take 8 xs)) 0
-
+-- a number that equal values share: the first eight bytes of a record, with zeros past its end
 abbrev pub value_prefix : RowValue → ℕ
-value_prefix (bytes xs) = bytes_prefix xs
+value_prefix (bytes xs) = from_le_bytes w64 xs
 value_prefix x = 0
 
 abbrev pub row_prefix : List KeyCell → ℕ

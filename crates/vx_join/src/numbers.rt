@@ -30,9 +30,9 @@ fn byte_at(bytes: &[u8], i: usize) -> u8
     bytes.get(i).copied().unwrap_or(0)
 }
 
-// The number that at most eight bytes spell, lowest byte first.
+// The number that the first eight bytes spell, lowest byte first, with zeros past the end.
 #[inline(always)]
-fn spelt(bytes: &[u8]) -> u64
+pub(crate) fn spelt(bytes: &[u8]) -> u64
     ensures value { result ≡ from_le_bytes w64 bytes.now }
     ensures small { (i : ℕ) → slice_index bytes.now i < 256 }
 {

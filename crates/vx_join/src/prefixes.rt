@@ -1,31 +1,22 @@
 //! Keys of several columns, or of wide ones, with a number in front that decides most comparisons.
 ghost use Rattle.std.specs.Prelude.{◌≡◌, ◌+◌, ◌*◌, IfOk, length, map};
 ghost use Rattle.vx_table.specs.Table.{AreLong};
-ghost use Rattle.vx_join.specs.Cells.{bytes_prefix, key_cells, key_parts, pieces, prefixed, row_prefix, rows_of};
+ghost use Rattle.vx_join.specs.Cells.{key_cells, key_parts, pieces, prefixed, row_prefix, rows_of};
 ghost use Rattle.vx_join.specs.Keys.{rows_from, rows_match};
 ghost use Rattle.vx_join.specs.Pairs.{lefts, pairs, rights};
 
 use crate::cells::{KeyCell, cells_of, has_null};
 use crate::matching::{Found, join_keys};
+use crate::numbers::spelt;
 use std::alloc::Global;
 use vx_bits::NoMemory;
 use vx_column::Array;
 
-/// The key of a row: a number that equal rows share, and the row's cells.
+/// The key of a row: a number that equal rows share, of its first cell, and the row's cells.
 #[derive(Clone, Copy, PartialEq, Eq, PartialOrd, Ord)]
 pub(crate) struct RowKey<'a, 'b> {
     pub prefix: u64,
     pub cells: &'b [KeyCell<'a>],
-}
-
-// The first eight bytes as a number, or 0.
-fn bytes_prefix(bytes: &[u8]) -> u64
-    ensures { result ≡ bytes_prefix bytes.now }
-{
-    match bytes.first_chunk::<8>() {
-        Some(chunk) => u64::from_le_bytes(*chunk),
-        None => 0,
-    }
 }
 
 // A number that equal rows share.
@@ -36,7 +27,7 @@ fn row_prefix(row: &[KeyCell]) -> u64
         return 0;
     }
     match row[0] {
-        KeyCell::Bytes(bytes) => bytes_prefix(bytes),
+        KeyCell::Bytes(bytes) => spelt(bytes),
         _ => 0,
     }
 }

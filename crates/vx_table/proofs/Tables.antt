@@ -1,17 +1,16 @@
 -- Tables: their lengths, and the rows of their columns at picks.
-use Rattle.std.proofs.Common.{◌≡◌, ℕ, zero, suc, ◌+◌, ◌*◌, ◌-◌, ◌^◌, ◌<◌, ◌≤◌, Bool, true, false, cond, eqb, List, [], ◌∷◌, ◌++◌, length, map, take, drop, get_or, Option, Some, None, refl, sym, ap, ap₂, ◌∙◌, subst, arith, eq-eqb}
-use Rattle.std.specs.Prelude.{Result, Ok, Err, min, nat_le, nat_lt, not, find, slice_range, slice_get, ◌==◌, if◌then◌else◌}
+use Rattle.std.proofs.Common.{◌≡◌, ℕ, zero, ◌+◌, ◌-◌, ◌<◌, Bool, true, false, cond, List, [], ◌∷◌, ◌++◌, length, map, take, get_or, Option, Some, None, refl, sym, ap, ap₂, ◌∙◌, subst, arith, eq-eqb}
+use Rattle.std.specs.Prelude.{Result, Ok, Err, not, slice_get, ◌==◌, if◌then◌else◌}
 use Rattle.std.specs.List.{All, position_from}
 use Rattle.std.specs.Option.{option_map}
-use Rattle.std.proofs.lemmas.Bool.{eqb-true, leb-true, ltb-true}
-use Rattle.std.proofs.lemmas.Bool.Decides.{nat_tests}
-use Rattle.std.proofs.lemmas.List.{drop_all, length-append, length-drop, length-map, map-append, take_all, take_min}
+use Rattle.std.proofs.lemmas.Bool.{eqb-true}
+use Rattle.std.proofs.lemmas.List.{length-append, length-map, map-append}
 use Rattle.std.proofs.lemmas.List.Elements.{All-append, All-cons, All-nil}
 use Rattle.std.proofs.lemmas.Option.{slice_get_read}
 use Rattle.std.specs.Rc.{rc_str_bytes}
 use Rattle.std.specs.declared.rc.RcStr.{RcStr}
 use Rattle.std.specs.declared.alloc.Global.{Global}
-use Rattle.vx_types.specs.RowValue.{RowValue, null}
+use Rattle.vx_types.specs.RowValue.{null}
 use Rattle.vx_types.specs.TypeTree.{TypeTree, also_nullable, is_flat}
 use Rattle.vx_types.specs.declared.nullability.Nullability.{Nullability}
 use Rattle.vx_take.specs.Picks.{at}
@@ -19,7 +18,6 @@ use Rattle.vx_model.specs.Column.{Column}
 use Rattle.vx_model.specs.Plain.{is_unwrapped}
 use Rattle.vx_model.proofs.Takes.{length-at}
 use Rattle.vx_pieces.specs.Indices.{IndexValue, index_fault, index_nullability, index_picks}
-use Rattle.vx_pieces.specs.declared.fault.IndexFault.{IndexFault}
 use Rattle.vx_steps.specs.Step.{StepValue, take_step}
 use Rattle.vx_steps.specs.Walk.{Walk, all_positions, apply, cause_of, unless_broken, walk, walk_fault, walk_picks}
 use Rattle.vx_steps.specs.Answer.{answer, answer_fault, answer_rows, type_after}
@@ -27,14 +25,13 @@ use Rattle.vx_steps.specs.declared.cause.Cause.{Cause}
 use Rattle.vx_steps.specs.declared.cause.SelectError.{SelectError}
 use Rattle.vx_steps.specs.declared.cause.SelectError.TheVariants.{Broken}
 use Rattle.vx_select.specs.Select.{IsSelection}
-use Rattle.vx_steps.specs.Compose.{IsCounted, IsPartOf, takes_nullability}
+use Rattle.vx_steps.specs.Compose.{takes_nullability}
 use Rattle.vx_steps.proofs.Walks.{length-all_positions}
 use Rattle.vx_select.proofs.Selecting.{answered, at-all_positions, at-apply}
 use Rattle.vx_select.proofs.ChunkRows.{type_after-takes}
 use Rattle.vx_table.specs.Table.{AreLong, TableValue, names_of, table_fault}
-use Rattle.vx_table.specs.Taken.{AreTaken, IsTaken, beside, chosen, projected}
+use Rattle.vx_table.specs.Taken.{AreTaken, IsTaken, beside, projected}
 use Rattle.vx_table.specs.Page.{IsCutOf, IsPage, cut}
-use Rattle.vx_table.specs.declared.error.TableError.{TableError}
 use Rattle.vx_table.specs.declared.error.TableError.TheVariants.{WrongCount, WrongLength}
 use Rattle.vx_table.proofs.Lists.{All-chosen, All-rest, length-chosen, slice_get-map}
 

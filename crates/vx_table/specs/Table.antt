@@ -1,5 +1,5 @@
 -- What contracts see of a `Table`, and why there is none.
-use Rattle.std.specs.Prelude.{◌≡◌, ℕ, ◌==◌, List, Vec, length, map, not, Option, None, Some, if◌then◌else◌, refl}
+use Rattle.std.specs.Prelude.{◌≡◌, ℕ, ◌==◌, List, Vec, length, map, not, Option, Some, if◌then◌else◌, refl}
 use Rattle.std.specs.Coded.{Coded, code_by, coded×, coded_ℕ, coded_list}
 use Rattle.std.specs.List.{All, position_from}
 use Rattle.std.specs.Option.{option_map}

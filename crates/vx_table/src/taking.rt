@@ -1,12 +1,11 @@
 //! The rows of a table that a list of indices names.
-ghost use Rattle.std.specs.Prelude.{◌≡◌, IfOk, None, length, map, true};
-ghost use Rattle.std.specs.List.{All};
+ghost use Rattle.std.specs.Prelude.{◌≡◌, IfOk, None, length, true};
 ghost use Rattle.vx_types.specs.RowValue.{null};
 ghost use Rattle.vx_types.specs.TypeTree.{also_nullable, is_flat};
 ghost use Rattle.vx_model.specs.Plain.{is_unwrapped};
 ghost use Rattle.vx_take.specs.Picks.{at};
 ghost use Rattle.vx_pieces.specs.Indices.{index_fault, index_nullability, index_picks, index_value};
-ghost use Rattle.vx_table.specs.Table.{AreLong, names_of};
+ghost use Rattle.vx_table.specs.Table.{AreLong};
 ghost use Rattle.vx_table.specs.Taken.{AreTaken, IsTaken};
 
 use crate::beside::append_names;

@@ -1,5 +1,5 @@
-use Rattle.std.proofs.Common.{◌≡◌, ◌∙◌, ap}
-use Rattle.vx_join.specs.Cells.{rows_of, value_of}
+use Rattle.std.proofs.Common.{◌∙◌}
+use Rattle.vx_join.specs.Cells.{rows_of}
 use Rattle.vx_join.proofs.CellRows.{row_starts, cell_more}
 use Rattle.vx_join.proofs.cells.cells_of.Goals as goal
 

@@ -1,9 +1,7 @@
-use Rattle.std.proofs.Common.{◌≡◌, length, ◌+◌, ◌-◌, ◌<◌, None, Some, ℕ, refl, sym, ap, ◌∙◌, arith}
-use Rattle.std.specs.Ordering.{eq_by_cmp}
+use Rattle.std.proofs.Common.{◌-◌, sym, ap, ◌∙◌, arith}
 use Rattle.std.specs.BTreeMap as tree
 use Rattle.std.specs.Map.{lookup}
 use Rattle.std.proofs.lemmas.Cmp.{eq_by_cmp_equiv}
-use Rattle.vx_join.specs.Chains.{AreLinked}
 use Rattle.vx_join.proofs.Links.{linked_none, linked_null, linked_last, linked_more}
 use Rattle.vx_join.proofs.chains.chains_of.Goals as goal
 

@@ -1,5 +1,5 @@
 -- The rows of the pairs, side by side.
-use Rattle.std.proofs.Common.{◌≡◌, ◌∙◌, ℕ, List, Some, map, ap, sym, subst}
+use Rattle.std.proofs.Common.{◌∙◌, ap, sym, subst}
 use Rattle.vx_numbers.specs.Positions.{AllThere}
 use Rattle.vx_take.specs.Picks.{BoundedPicks}
 use Rattle.vx_join.specs.Join.{JoinValue}

@@ -1,8 +1,7 @@
 -- The key columns are as long as their tables, and alike; what is found lies below the lengths.
-use Rattle.std.proofs.Common.{◌≡◌, ◌∙◌, ◌<◌, ℕ, List, length, map, ap, sym, subst}
+use Rattle.std.proofs.Common.{◌≡◌, ◌∙◌, ◌<◌, ℕ, List, length, ap, sym, subst}
 use Rattle.std.specs.List.{All}
 use Rattle.vx_types.specs.TypeTree.{TypeTree}
-use Rattle.vx_model.specs.Column.{Column}
 use Rattle.vx_table.specs.Table.{AreLong}
 use Rattle.vx_table.specs.Taken.{chosen}
 use Rattle.vx_join.specs.Cells.{rows_of}

@@ -1,7 +1,6 @@
 -- One column on either side.
-use Rattle.std.proofs.Common.{◌≡◌, ◌∙◌, ◌<◌, ◌∷◌, [], List, length, map, ap, sym, subst, arith}
+use Rattle.std.proofs.Common.{◌≡◌, ◌∙◌, sym, subst}
 use Rattle.std.specs.Prelude.{IfOk}
-use Rattle.vx_model.specs.Column.{Column}
 use Rattle.vx_join.specs.Cells.{rows_of}
 use Rattle.vx_join.specs.Keys.{rows_from, rows_match}
 use Rattle.vx_join.specs.Pairs.{lefts, pairs, rights}

@@ -1,9 +1,6 @@
-use Rattle.std.proofs.Common.{◌≡◌, ◌+◌, ◌<◌, ◌++◌, ℕ, true, None, Some, length, drop, map, refl, sym, ap, ◌∙◌, ◌∷◌, List, [], arith, slice_index}
-use Rattle.std.specs.Prelude.{slice_index_or}
+use Rattle.std.proofs.Common.{◌+◌, ◌++◌, ℕ, None, Some, map, sym, ap, ◌∙◌, List}
 use Rattle.std.specs.Ordering.{eq_by_cmp}
 use Rattle.std.proofs.lemmas.List.{append-nil}
-use Rattle.vx_join.specs.Chains.{first_match, keys_match}
-use Rattle.vx_join.specs.Pairs.{lefts, pairs, positions_from, rights}
 use Rattle.vx_join.proofs.Found.{none_matches, lefts_more, rights_more}
 use Rattle.vx_join.proofs.matching.join_keys.Goals as goal
 use Rattle.vx_join.proofs.matching.join_keys.Goals.{in-Some+in_ok-push_chain, in_default}

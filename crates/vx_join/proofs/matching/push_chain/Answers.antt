@@ -1,10 +1,10 @@
-use Rattle.std.proofs.Common.{◌≡◌, ◌+◌, ◌<◌, ◌++◌, ℕ, true, None, Some, length, drop, map, refl, sym, ap, ◌∙◌, ◌∷◌, List, [], arith, slice_index}
+use Rattle.std.proofs.Common.{◌+◌, ◌<◌, ◌++◌, ℕ, None, Some, drop, map, sym, ap, ◌∙◌, List, arith}
 use Rattle.std.specs.Prelude.{slice_index_or}
 use Rattle.std.specs.Ordering.{eq_by_cmp}
 use Rattle.std.proofs.lemmas.Cmp.{eq_by_cmp_equiv}
-use Rattle.vx_join.specs.Chains.{AreLinked, first_match, keys_match}
+use Rattle.vx_join.specs.Chains.{keys_match}
 use Rattle.vx_join.specs.Pairs.{positions_from}
-use Rattle.vx_join.proofs.Found.{match_skips, match_passes, link_after, link_passes, left_more, right_more, positions_end}
+use Rattle.vx_join.proofs.Found.{match_skips, match_passes, link_after, link_passes, left_more, right_more}
 use Rattle.vx_join.proofs.matching.push_chain.Goals as goal
 
 pub loop-j-init : goal.loop-j-init

@@ -1,5 +1,5 @@
 -- The pairs of the numbers are those of the rows.
-use Rattle.std.proofs.Common.{◌≡◌, ◌∙◌, List, map, subst, ℕ}
+use Rattle.std.proofs.Common.{◌≡◌, ◌∙◌, subst}
 use Rattle.std.specs.Prelude.{IfOk}
 use Rattle.std.specs.Ordering.{eq_by_cmp, nat_cmp}
 use Rattle.vx_join.specs.Chains.{keys_match}

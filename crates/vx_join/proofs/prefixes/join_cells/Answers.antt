@@ -1,7 +1,7 @@
-use Rattle.std.proofs.Common.{◌≡◌, IfOk, length, map, ℕ, List, ◌∙◌, ap, sym, subst}
+use Rattle.std.proofs.Common.{◌≡◌, IfOk, length, map, ◌∙◌, ap, sym, subst}
 use Rattle.vx_join.specs.Cells.{key_parts}
 use Rattle.std.proofs.lemmas.List.{length-map}
-use Rattle.vx_join.specs.Pairs.{lefts, rights, pairs}
+use Rattle.vx_join.specs.Pairs.{lefts, rights}
 use Rattle.vx_join.specs.Cells.{rows_of, value_of}
 use Rattle.vx_join.proofs.CellRows.{cells_len}
 use Rattle.vx_join.proofs.KeyPrefixes.{pairs_of_prefixed}

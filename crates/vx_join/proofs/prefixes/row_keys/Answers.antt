@@ -1,4 +1,4 @@
-use Rattle.std.proofs.Common.{◌≡◌, ◌+◌, ◌-◌, ℕ, suc, map, take, drop, ap, arith}
+use Rattle.std.proofs.Common.{◌≡◌, ◌+◌, ◌-◌, ℕ, suc, take, drop, ap, arith}
 use Rattle.vx_join.proofs.CellRows.{len_more}
 use Rattle.vx_join.specs.Cells.{key_cells, key_parts, prefixed}
 use Rattle.vx_join.proofs.KeyPrefixes.{parts_more}

@@ -1,6 +1,5 @@
 -- The rows at the page's cut of the composed picks.
-use Rattle.std.proofs.Common.{◌≡◌, ◌∙◌, ◌<◌, ℕ, None, Option, length, map, ap, sym, subst}
-use Rattle.std.specs.Prelude.{find, nat_le}
+use Rattle.std.proofs.Common.{◌∙◌, ◌<◌, ℕ, length, map, ap, sym, subst}
 use Rattle.std.specs.List.{All}
 use Rattle.vx_types.specs.TypeTree.{also_nullable}
 use Rattle.vx_pieces.specs.Indices.{index_nullability, index_picks, index_value}

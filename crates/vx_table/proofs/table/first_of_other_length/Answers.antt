@@ -1,5 +1,5 @@
 -- One column more.
-use Rattle.std.proofs.Common.{◌≡◌, ◌+◌, ◌∙◌, Bool, Some, cond, length, drop, ap, sym, arith}
+use Rattle.std.proofs.Common.{◌+◌, ◌∙◌, Bool, Some, cond, length, drop, ap, sym}
 use Rattle.std.specs.Prelude.{◌==◌, not}
 use Rattle.std.specs.List.{position_from}
 use Rattle.vx_model.specs.Column.{Column}

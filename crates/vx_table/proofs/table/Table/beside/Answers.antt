@@ -1,7 +1,6 @@
 -- The names and columns of both are a table.
-use Rattle.std.proofs.Common.{◌∙◌, ◌++◌, [], None, length, map, ap, ap₂, sym}
+use Rattle.std.proofs.Common.{◌∙◌, ◌++◌, ap, ap₂}
 use Rattle.vx_table.specs.Table.{names_of, table_fault, table_of}
-use Rattle.vx_table.specs.Taken.{beside}
 use Rattle.vx_table.proofs.Lists.{is_made}
 use Rattle.vx_table.proofs.Tables.{beside_sound, same_table}
 use Rattle.vx_table.proofs.table.Table.beside.Goals as goal

@@ -1,8 +1,7 @@
 -- The chosen names and columns are a table.
-use Rattle.std.proofs.Common.{◌∙◌, None, length, map, ap, sym, subst}
-use Rattle.std.specs.List.{All}
+use Rattle.std.proofs.Common.{◌∙◌, ap}
 use Rattle.vx_table.specs.Table.{names_of, table_fault, table_of}
-use Rattle.vx_table.specs.Taken.{chosen, projected}
+use Rattle.vx_table.specs.Taken.{chosen}
 use Rattle.vx_table.proofs.Lists.{is_made}
 use Rattle.vx_table.proofs.Tables.{projected_sound, same_table}
 use Rattle.vx_table.proofs.table.Table.project.Goals as goal

@@ -1,5 +1,5 @@
 -- The rows of each column at the picks are a table.
-use Rattle.std.proofs.Common.{◌≡◌, ◌∙◌, ◌++◌, [], None, List, length, map, ap, ap₂, sym, subst}
+use Rattle.std.proofs.Common.{◌∙◌, ◌++◌, List, ap₂, sym, subst}
 use Rattle.vx_types.specs.TypeTree.{TypeTree, also_nullable}
 use Rattle.vx_model.specs.Column.{Column}
 use Rattle.vx_pieces.specs.Indices.{index_nullability, index_picks, index_value}
