@@ -12,16 +12,25 @@ use vx_join::join;
 use vx_mask::Policy;
 use vx_table::{Columns, PageError, Step, Table, page};
 
-/// Of the rows that the steps leave, page `number` of four rows, of the columns 7, 2 and 0.
-fn three_columns(
+/// Of the rows that the steps leave, page `number` of four rows, of these columns.
+fn four_rows(
     alloc: Global,
     table: &Table,
+    projection: &[usize],
     steps: &[Step],
     number: usize,
 ) -> Result<Table, PageError>
-    ensures few { IfOk result (λ p. p.len ≤ 4) }
+    ensures { IfOk result (λ p. p.len ≤ 4) }
 {
-    page(alloc, table, &[7, 2, 0], steps, number, 4, &Policy::vortex())
+    page(
+        alloc,
+        table,
+        projection,
+        steps,
+        number,
+        4,
+        &Policy::vortex(),
+    )
 }
 
 // A table of these columns, under the names `c0`, `c1` and so on.
@@ -66,7 +75,7 @@ fn print_columns(rt: &impl Print, table: &Table) -> Result<(), Fail> {
 pub(crate) fn print_pages(rt: &impl Print, alloc: Global) -> Result<(), Fail> {
     let table = ten_columns(alloc)?;
     rt.println("page 1 of 1..7:")?;
-    match three_columns(alloc, &table, &[slice(1, 7)], 1) {
+    match four_rows(alloc, &table, &[7, 2, 0], &[slice(1, 7)], 1) {
         Ok(rows) => print_columns(rt, &rows)?,
         Err(error) => println!(rt; "  {error:?}")?,
     }
@@ -76,7 +85,7 @@ pub(crate) fn print_pages(rt: &impl Print, alloc: Global) -> Result<(), Fail> {
 
 // A step that is broken.
 fn print_refusal(rt: &impl Print, alloc: Global, table: &Table) -> Result<(), Fail> {
-    match three_columns(alloc, table, &[slice(1, 8)], 1) {
+    match four_rows(alloc, table, &[7, 2, 0], &[slice(1, 8)], 1) {
         Ok(rows) => print_columns(rt, &rows),
         Err(error) => {
             println!(rt; "page 1 of 1..8: {error:?}")?;

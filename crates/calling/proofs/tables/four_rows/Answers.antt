@@ -6,7 +6,7 @@ use Rattle.vx_steps.specs.Walk.{Walk, walk, walk_fault, walk_picks}
 use Rattle.vx_table.specs.Table.{TableValue}
 use Rattle.vx_table.specs.Page.{IsPage}
 use Rattle.vx_table.proofs.Lists.{weaker}
-use Rattle.calling.proofs.tables.three_columns.Goals as goal
+use Rattle.calling.proofs.tables.four_rows.Goals as goal
 
 few : (t p : TableValue) (projection : List ℕ) (steps : List StepValue) (page len : ℕ) (w : Walk) → IsPage t projection steps page len w p → p.len ≤ len
 few t p projection steps page len (walk_fault k cause) h = absurd h
@@ -15,4 +15,4 @@ few t p projection steps page len (walk_picks picks) h = omega (arith, h.len, le
 pub returns : goal.returns
 returns c =
     let t = c.args.table.now in let steps = map step_value c.args.steps.now in
-    weaker c.page.result c.page.ensures.rows (λ p h. few t p _ steps c.args.number 4 (walk t.len steps) h)
+    weaker c.page.result c.page.ensures.rows (λ p h. few t p c.args.projection.now steps c.args.number 4 (walk t.len steps) h)
