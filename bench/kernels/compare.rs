@@ -3,6 +3,7 @@
 //! usage: compare count [WORD]        (under callgrind) calls `measured` four times for each row
 //!        compare table COUNTS [WORD] compares the answers, takes the times, and prints the tables;
 //!                                    COUNTS has the instructions of each call of `measured`
+mod lists;
 mod memory;
 mod plain;
 
@@ -100,6 +101,16 @@ unsafe extern "C" {
         s: *const u8, n: usize, b: *const u8, m: usize, len: usize, o: *mut u8, k: usize,
         width: usize, which: usize, times: usize,
     ) -> usize;
+    fn list_elements(
+        f: *const u64, m: usize, b: *const u8, n: usize, o: *mut u64, k: usize, times: usize,
+    ) -> usize;
+    fn list_filter(
+        f: *const u64, m: usize, b: *const u8, n: usize, o: *mut u64, k: usize, times: usize,
+    ) -> usize;
+    fn list_take(
+        f: *const u64, m: usize, l: *const usize, n: usize, o: *mut u64, k: usize, which: usize,
+        times: usize,
+    ) -> usize;
 }
 
 const ROWS: usize = 65_536 + 37;
@@ -136,6 +147,23 @@ impl Dice {
         let pick = |roll: u64| if roll % 8 == 0 { NULL } else { roll as usize % bound };
         (0..ROWS).map(|_| pick(self.roll())).collect()
     }
+
+    fn offsets(&mut self) -> Vec<u64> {
+        let sums = (0..ROWS).scan(100, |sum, _| {
+            *sum += self.roll() % 8;
+            Some(*sum)
+        });
+        std::iter::once(100).chain(sums).collect()
+    }
+}
+
+/// Which picks are there.
+fn bits_of(picks: &[usize]) -> Vec<u8> {
+    let mut bytes = vec![0; picks.len().div_ceil(8)];
+    for (k, _) in picks.iter().enumerate().filter(|(_, pick)| **pick != NULL) {
+        bytes[k / 8] |= 1 << (k % 8);
+    }
+    bytes
 }
 
 /// The mask of one run of five eighths of the rows.
@@ -151,6 +179,13 @@ struct Input {
     bits: Vec<u8>,
     picks: Vec<usize>,
     ranks: Vec<usize>,
+    /// Where lists of up to seven elements begin and end.
+    offsets: Vec<u64>,
+    /// Picks that are all there, at random and in runs.
+    rows: Vec<usize>,
+    runs: Vec<usize>,
+    /// Which of `picks` are there.
+    valid: Vec<u8>,
 }
 
 impl Input {
@@ -162,7 +197,12 @@ impl Input {
         masks.push(Mask::new(ROWS, one_run()));
         let bits = dice.bytes(0.5).into_iter().chain([0]).collect();
         let ranks = dice.picks(masks[2].count);
-        Input { masks, bits, picks: dice.picks(ROWS), ranks }
+        let offsets = dice.offsets();
+        let picks = dice.picks(ROWS);
+        let rows: Vec<usize> = (0..ROWS).map(|_| dice.roll() as usize % ROWS).collect();
+        let runs = (0..ROWS).map(|i| (rows[i / 16] + i % 16) % ROWS).collect();
+        let valid = bits_of(&picks);
+        Input { masks, bits, picks, ranks, offsets, rows, runs, valid }
     }
 }
 
@@ -391,6 +431,78 @@ fn takes<'a>(rows: &mut Vec<Row<'a>>, input: &'a Input) {
     rows.push(row("`translate_ranks`".to_string(), None, ours, plain));
 }
 
+/// Half of an answer's room for offsets, and half for what they cut.
+fn halves(offsets: &[u64], rest: impl Iterator<Item = u64>) -> Vec<u64> {
+    let room = ROWS / 2;
+    let offsets = offsets.iter().copied().chain(std::iter::repeat(0)).take(room);
+    offsets.chain(rest.chain(std::iter::repeat(0)).take(room)).collect()
+}
+
+fn words_of(bytes: &[u8]) -> impl Iterator<Item = u64> {
+    let word = |chunk: &[u8]| chunk.iter().rev().fold(0, |word, b| word << 8 | u64::from(*b));
+    bytes.chunks(8).map(word)
+}
+
+/// The plans of a filter of lists.
+fn list_filters<'a>(rows: &mut Vec<Row<'a>>, column: usize, offsets: &'a [u64], mask: &'a Mask) {
+    type Plan = unsafe extern "C" fn(
+        *const u64, usize, *const u8, usize, *mut u64, usize, usize,
+    ) -> usize;
+    let by = |plan: Plan| -> Ours<'a, u64> {
+        Box::new(move |out, times, _| unsafe {
+            let (f, b, o) = (offsets.as_ptr(), mask.bytes.as_ptr(), out.as_mut_ptr());
+            plan(f, offsets.len(), b, mask.bytes.len(), o, out.len(), times)
+        })
+    };
+    let answer = move || words_of(&lists::element_mask(offsets, mask).bytes).collect();
+    let many = move |times, _| {
+        for _ in 0..times {
+            black_box(lists::element_mask(black_box(offsets), black_box(mask)));
+        }
+    };
+    let kernel = "`element_mask_from_offsets`".to_string();
+    rows.push(row_by(kernel, Some(column), by(list_elements), answer, many));
+    let answer = move || {
+        let filtered = lists::filter(offsets, mask);
+        let range = [filtered.range.0 as u64, filtered.range.1 as u64];
+        let rest = range.into_iter().chain(words_of(&filtered.elements.bytes));
+        halves(&filtered.offsets, rest)
+    };
+    let many = move |times, _| {
+        for _ in 0..times {
+            black_box(lists::filter(black_box(offsets), black_box(mask)));
+        }
+    };
+    rows.push(row_by("`filter_lists`".to_string(), Some(column), by(list_filter), answer, many));
+}
+
+/// The plans of a take of lists.
+fn list_takes<'a>(rows: &mut Vec<Row<'a>>, input: &'a Input) {
+    let offsets = &input.offsets;
+    let kernels: [(&str, usize, &'a [usize], Option<&'a [u8]>); 3] = [
+        ("`take_lists`, nulls", 0, &input.picks, Some(&input.valid)),
+        ("`take_lists`", 1, &input.rows, None),
+        ("`take_lists`, runs of 16", 1, &input.runs, None),
+    ];
+    for (kernel, which, picks, valid) in kernels {
+        let ours: Ours<'a, u64> = Box::new(move |out, times, _| unsafe {
+            let (f, l, o) = (offsets.as_ptr(), picks.as_ptr(), out.as_mut_ptr());
+            list_take(f, offsets.len(), l, picks.len(), o, out.len(), which, times)
+        });
+        let answer = move || {
+            let taken = lists::take(offsets, picks, valid);
+            let runs = taken.starts.iter().zip(&taken.lengths);
+            halves(&taken.offsets, runs.flat_map(|(start, length)| *start..start + length))
+        };
+        let many = move |times, _| {
+            for _ in 0..times {
+                black_box(lists::take(black_box(offsets), black_box(picks), black_box(valid)));
+            }
+        };
+        rows.push(row_by(kernel.to_string(), None, ours, answer, many));
+    }
+}
+
 fn all_of_width<'a, T: Item>(rows: &mut Vec<Row<'a>>, column: usize, mask: &'a Mask) {
     filters::<T>(rows, column, mask);
     compacts::<T>(rows, column, mask);
@@ -406,8 +518,10 @@ fn all_rows<'a>(input: &'a Input, word: &str) -> Vec<Row<'a>> {
         all_of_width::<u8>(&mut rows, column, mask);
         all_of_width::<u32>(&mut rows, column, mask);
         all_of_width::<u64>(&mut rows, column, mask);
+        list_filters(&mut rows, column, &input.offsets, mask);
     }
     takes(&mut rows, input);
+    list_takes(&mut rows, input);
     rows.retain(|row| row.kernel.contains(word));
     rows
 }

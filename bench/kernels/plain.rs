@@ -29,14 +29,14 @@ impl Mask {
 }
 
 /// The set positions of words, ascending.
-struct SetBits<'a> {
+pub struct SetBits<'a> {
     words: std::slice::Iter<'a, u64>,
     word: u64,
     base: usize,
 }
 
 impl SetBits<'_> {
-    fn new(words: &[u64]) -> SetBits<'_> {
+    pub fn new(words: &[u64]) -> SetBits<'_> {
         SetBits { words: words.iter(), word: 0, base: 0usize.wrapping_sub(64) }
     }
 }
@@ -54,6 +54,25 @@ impl Iterator for SetBits<'_> {
         self.word &= self.word - 1;
         Some(place)
     }
+}
+
+/// The maximal runs of set bits of words.
+pub fn set_runs(words: &[u64]) -> Vec<(usize, usize)> {
+    let mut runs: Vec<(usize, usize)> = Vec::new();
+    for (w, word) in words.iter().enumerate() {
+        let mut left = *word;
+        while left != 0 {
+            let low = left.trailing_zeros() as usize;
+            let count = (left >> low).trailing_ones() as usize;
+            let start = 64 * w + low;
+            match runs.last_mut() {
+                Some(last) if last.1 == start => last.1 += count,
+                _ => runs.push((start, start + count)),
+            }
+            left &= left.wrapping_add(1 << low);
+        }
+    }
+    runs
 }
 
 /// Whether each of the `len` positions of a word is set.
@@ -269,7 +288,7 @@ pub fn bit(bytes: &[u8], i: usize) -> bool {
 
 /// A bit that is known to be there.
 #[inline]
-fn bit_there(bytes: &[u8], i: usize) -> bool {
+pub fn bit_there(bytes: &[u8], i: usize) -> bool {
     // SAFETY: the caller knows that it is there.
     unsafe { *bytes.get_unchecked(i / 8) >> (i % 8) & 1 == 1 }
 }

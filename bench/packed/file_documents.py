@@ -258,8 +258,8 @@ right("u32", [7, 7, 7], [("take", [2])], three + ["00" * 8201])
 right("u32", [7, 7, 7], [("take", [2])], [three[0].upper(), three[1].upper()])
 
 family("# a word that isn't read yet comes before the meaning of a document of a file")
-row({"file": three, "steps": [{"take": {"layout": "List"}}]}, ["= 8"])
-row({"file": ["0"], "steps": [], "elements": 1}, ["= 8"])
+row({"file": three, "steps": [{"take": {"layout": "Struct"}}]}, ["= 8"])
+row({"file": ["0"], "steps": [], "fields": 1}, ["= 8"])
 
 family("# faults of a source and of a sink, at a file")
 good = document([header("u8", 5000)] + WHOLE[1:], [("take", [1024, None])])

@@ -32,6 +32,8 @@ pub(crate) fn print_row(rt: &impl Print, row: &Row) -> io::Result<()> {
         Row::Null => println!(rt; "null"),
         Row::Bit(bit) => println!(rt; "{bit}"),
         Row::Bytes(bytes) => println!(rt; "{:?}", bytes.as_slice()),
+        Row::List(rows) | Row::Fields(rows) => println!(rt; "{} rows", rows.as_slice().len()),
+        Row::Tagged(id, _) => println!(rt; "a row of variant {id}"),
     }
 }
 

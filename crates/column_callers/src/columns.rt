@@ -71,7 +71,7 @@ pub(crate) fn indices_of(alloc: Global, column: Array) -> Result<Indices, Fail> 
 pub(crate) fn bytes_of(row: &Row) -> &[u8] {
     match row {
         Row::Bytes(bytes) => bytes.as_slice(),
-        Row::Null | Row::Bit(_) => &[],
+        _ => &[],
     }
 }
 

@@ -9,6 +9,8 @@ fn print_row(rt: &impl Print, row: &Row) -> io::Result<()> {
         Row::Null => print!(rt; " null"),
         Row::Bit(bit) => print!(rt; " {bit}"),
         Row::Bytes(bytes) => print!(rt; " {:?}", bytes.as_slice()),
+        Row::List(rows) | Row::Fields(rows) => print!(rt; " {} rows", rows.as_slice().len()),
+        Row::Tagged(id, _) => print!(rt; " a row of variant {id}"),
     }
 }
 

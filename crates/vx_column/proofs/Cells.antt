@@ -22,6 +22,7 @@ pub of_type-also : (cell : Cell) (t : TypeTree) (n : Nullability) → IsOfType c
 of_type-also cells.Null t n h = either_here t.nullability n h
 of_type-also (cells.Bit b) t n h = h
 of_type-also (cells.Bytes b) t n h = record { kind = h.kind; width = h.width }
+of_type-also (cells.List l) t n h = record { kind = h.kind; ordered = h.ordered; within = h.within }
 
 -- a null code is one of a nullable type
 pub null_code : (t : TypeTree) (n : Nullability) → is_nullable n ≡ true → is_nullable (also_nullable t n).nullability ≡ true

@@ -2,6 +2,9 @@ pub mod Bool
 pub mod Cell
 pub mod Flat
 pub mod Layout
+pub mod ListParts
+pub mod Lists
+pub mod Naturals
 pub mod Plain
 pub mod Records
 pub mod Shown

@@ -9,6 +9,9 @@ use crate::constant::ConstantArray;
 use crate::decimal::DecimalArray;
 use crate::dict::DictArray;
 use crate::filter::FilterArray;
+use crate::fixed_size_list::FixedSizeListArray;
+use crate::list::ListArray;
+use crate::listview::ListViewArray;
 use crate::null::NullArray;
 use crate::primitive::PrimitiveArray;
 use crate::varbin::VarBinArray;
@@ -46,6 +49,12 @@ pub enum Layout {
     VarBin(VarBinArray),
     /// A view of its text a row.
     VarBinView(VarBinViewArray),
+    /// Lists of one column's elements, cut by offsets.
+    List(ListArray),
+    /// Lists of one column's elements, by an offset and a size a row.
+    ListView(ListViewArray),
+    /// Lists of one column's elements, of one size.
+    FixedSizeList(FixedSizeListArray),
     /// One value for every row.
     Constant(ConstantArray),
     /// For each row a code that names one of the values.
@@ -101,6 +110,9 @@ impl Layout {
             Layout::Decimal(a) => Layout::Decimal(a.share()),
             Layout::VarBin(a) => Layout::VarBin(a.share()),
             Layout::VarBinView(a) => Layout::VarBinView(a.share()),
+            Layout::List(a) => Layout::List(a.share()),
+            Layout::ListView(a) => Layout::ListView(a.share()),
+            Layout::FixedSizeList(a) => Layout::FixedSizeList(a.share()),
             Layout::Constant(a) => Layout::Constant(a.share()),
             Layout::Dict(a) => Layout::Dict(a.share()),
             Layout::Filter(a) => Layout::Filter(a.share()),

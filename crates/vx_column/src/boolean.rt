@@ -7,7 +7,7 @@ ghost use Rattle.vx_column.specs.Validity.{valid_of};
 ghost use Rattle.vx_column.specs.Bool.{bool_parts};
 ghost use Rattle.std.specs.Prelude.{◌<◌, slice_index_or};
 ghost use Rattle.vx_types.specs.RowValue.{null};
-ghost use Rattle.vx_column.specs.Cell.{row_of, IsOfType};
+ghost use Rattle.vx_column.specs.Cell.{cell_depth, row_of, IsOfType};
 ghost use Rattle.std.specs.Prelude.{◌≤◌};
 ghost use Rattle.vx_model.specs.Step.{IsPlainSlice};
 
@@ -113,6 +113,7 @@ impl BoolArray {
         requires { i < length (bool_column self.now).rows }
         ensures row { row_of result ≡ slice_index_or (bool_column self.now).rows i null }
         ensures of_type { IsOfType result (bool_column self.now).dtype }
+        ensures nested { cell_depth result < (bool_column self.now).depth }
     {
         let bits = self.bits();
         if self.validity().is_valid_at(i) {

@@ -5,12 +5,24 @@ ghost use Rattle.vx_model.specs.Numbers.{number_in};
 ghost use Rattle.vx_types.specs.DType.{type_of};
 ghost use Rattle.vx_types.specs.TypeTree.{is_int_type};
 ghost use Rattle.vx_types.specs.Nullability.{is_nullable};
-ghost use Rattle.vx_column.specs.Cell.{row_of, IsOfType};
+ghost use Rattle.vx_column.specs.Cell.{cell_depth, row_of, IsOfType};
 
 use crate::array::{Array, Layout};
+use crate::lists::Lists;
 use vx_types::DType;
 
-/// A row of a flat or a text column, borrowed from where it is stored.
+/// The rows of a column from `start` up to `end`.
+#[derive(Clone, Copy)]
+pub struct ListCell<'a> {
+    /// The column.
+    pub elements: &'a Array,
+    /// The first row.
+    pub start: usize,
+    /// One past the last row.
+    pub end: usize,
+}
+
+/// A row of a column, borrowed from where it is stored.
 #[derive(Clone, Copy)]
 pub enum Cell<'a> {
     /// A null row.
@@ -19,6 +31,8 @@ pub enum Cell<'a> {
     Bit(bool),
     /// A row's record or text.
     Bytes(&'a [u8]),
+    /// A list's elements.
+    List(ListCell<'a>),
 }
 
 impl Cell<'_> {
@@ -33,11 +47,11 @@ impl Cell<'_> {
     {
         match self {
             Cell::Null => None,
-            Cell::Bit(_) => unreachable!(),
             Cell::Bytes(bytes) => match dtype {
                 DType::Primitive(ptype, _) => Some(ptype.number(bytes)),
                 _ => unreachable!(),
             },
+            Cell::Bit(_) | Cell::List(_) => unreachable!(),
         }
     }
 }
@@ -50,6 +64,7 @@ impl Array {
         requires { i < length self.now.rows }
         ensures row { row_of result ≡ slice_index_or self.now.rows i null }
         ensures of_type { IsOfType result self.now.dtype }
+        ensures nested { cell_depth result < self.now.depth }
     {
         match self.layout() {
             Layout::Null(_) => Cell::Null,
@@ -58,6 +73,9 @@ impl Array {
             Layout::Decimal(a) => a.rows().cell_at(i),
             Layout::VarBin(a) => a.cell_at(i),
             Layout::VarBinView(a) => a.cell_at(i),
+            Layout::List(a) => Lists::List(a).cell_at(i),
+            Layout::ListView(a) => Lists::View(a).cell_at(i),
+            Layout::FixedSizeList(a) => Lists::Fixed(a).cell_at(i),
             Layout::Constant(a) => a.cell_at(i),
             Layout::Dict(a) => a.cell_at(i),
             Layout::Filter(a) => a.cell_at(i),

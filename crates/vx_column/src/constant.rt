@@ -3,7 +3,7 @@ ghost use Rattle.std.specs.Prelude.{◌≡◌};
 ghost use Rattle.vx_model.specs.Constant.{constant_column};
 ghost use Rattle.std.specs.Prelude.{◌<◌, length, slice_index_or};
 ghost use Rattle.vx_types.specs.RowValue.{null};
-ghost use Rattle.vx_column.specs.Cell.{row_of, IsOfType};
+ghost use Rattle.vx_column.specs.Cell.{cell_depth, row_of, IsOfType};
 
 use crate::array::{Array, Layout};
 use crate::cell::Cell;
@@ -75,6 +75,7 @@ impl ConstantArray {
         requires { i < length (constant_column self.now).rows }
         ensures row { row_of result ≡ slice_index_or (constant_column self.now).rows i null }
         ensures of_type { IsOfType result (constant_column self.now).dtype }
+        ensures nested { cell_depth result < (constant_column self.now).depth }
     {
         let _ = i;
         let scalar = self.scalar();

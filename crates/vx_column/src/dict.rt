@@ -7,7 +7,7 @@ ghost use Rattle.vx_types.specs.TypeTree.{int_type_of};
 ghost use Rattle.vx_numbers.specs.Positions.{first_bad};
 ghost use Rattle.vx_model.specs.Numbers.{numbers_of};
 ghost use Rattle.vx_types.specs.RowValue.{null};
-ghost use Rattle.vx_column.specs.Cell.{row_of, IsOfType};
+ghost use Rattle.vx_column.specs.Cell.{cell_depth, row_of, IsOfType};
 
 use crate::array::{Array, ArrayRef, Layout};
 use crate::cell::Cell;
@@ -120,6 +120,7 @@ impl DictArray {
         requires { i < length (dict_column self.now).rows }
         ensures row { row_of result ≡ slice_index_or (dict_column self.now).rows i null }
         ensures of_type { IsOfType result (dict_column self.now).dtype }
+        ensures nested { cell_depth result < (dict_column self.now).depth }
     {
         let codes = self.codes();
         let values = self.values();

@@ -11,10 +11,16 @@ mod columns;
 mod constant;
 mod decimal;
 mod dict;
+mod filler;
 mod filter;
+mod fixed_size_list;
 mod flat;
+mod list;
+mod lists;
+mod listview;
 mod null;
 mod numbers;
+mod offsets;
 mod plain;
 mod positions;
 mod primitive;
@@ -30,13 +36,17 @@ pub mod vtables;
 
 pub use array::{Array, ArrayRef, Layout};
 pub use boolean::BoolArray;
-pub use cell::Cell;
+pub use cell::{Cell, ListCell};
 pub use columns::Columns;
 pub use constant::ConstantArray;
 pub use decimal::DecimalArray;
 pub use dict::DictArray;
 pub use filter::FilterArray;
+pub use fixed_size_list::FixedSizeListArray;
 pub use flat::FlatRef;
+pub use list::ListArray;
+pub use lists::Lists;
+pub use listview::ListViewArray;
 pub use null::NullArray;
 pub use primitive::PrimitiveArray;
 pub use records::{RecordArray, RecordType};
@@ -48,6 +58,7 @@ pub use varbinview::VarBinViewArray;
 pub use view::ArrayView;
 pub use vtables::VTable;
 pub use vx_types::{
-    BinaryView, ByteList, ColumnError, DType, DecimalDType, InlineBytes, LayoutName, Nullability,
-    PType, Row, Runs, Scalar, ScalarValue, TextKind, match_each_integer_ptype, record_of,
+    BinaryView, ByteList, ColumnError, DType, DecimalDType, ElementType, ExtDType, InlineBytes,
+    LayoutName, Nullability, PType, Row, RowList, Runs, Scalar, ScalarValue, StructFields,
+    TextKind, UnionVariants, match_each_integer_ptype, record_of,
 };

@@ -41,6 +41,9 @@ impl Array {
             Layout::Decimal(a) => a.rows().slice_plain(start, end),
             Layout::VarBin(_)
             | Layout::VarBinView(_)
+            | Layout::List(_)
+            | Layout::ListView(_)
+            | Layout::FixedSizeList(_)
             | Layout::Constant(_)
             | Layout::Dict(_)
             | Layout::Filter(_) => None,

@@ -9,7 +9,7 @@ ghost use Rattle.vx_types.specs.TypeTree.{is_bool_kind, kind_width, type_width};
 ghost use Rattle.vx_model.specs.Valid.{is_bools, is_fitting};
 ghost use Rattle.vx_model.specs.Records.{records_fault, records_column, records_with};
 ghost use Rattle.vx_model.specs.Step.{IsPlainSlice};
-ghost use Rattle.vx_column.specs.Cell.{row_of, IsOfType};
+ghost use Rattle.vx_column.specs.Cell.{cell_depth, row_of, IsOfType};
 ghost use Rattle.vx_column.specs.Plain.{HasRecords};
 ghost use Rattle.vx_column.specs.Records.{kind_of, record_parts};
 ghost use Rattle.vx_column.specs.Shown.{AreShownRowsOf};
@@ -203,6 +203,7 @@ impl RecordArray {
         requires { i < length (records_column self.now).rows }
         ensures row { row_of result ≡ slice_index_or (records_column self.now).rows i null }
         ensures of_type { IsOfType result (records_column self.now).dtype }
+        ensures nested { cell_depth result < (records_column self.now).depth }
     {
         let values = self.values();
         if self.validity().is_valid_at(i) {

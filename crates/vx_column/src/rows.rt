@@ -1,16 +1,32 @@
 //! Reading one row whole.
-ghost use Rattle.std.specs.Prelude.{◌≡◌, ◌<◌, length, IfOk, slice_index_or};
-ghost use Rattle.vx_types.specs.Row.{row_value};
+ghost use Rattle.std.specs.Prelude.{◌≡◌, ◌<◌, ◌≤◌, length, IfOk, slice_index_or, slice_range};
+ghost use Rattle.vx_types.specs.Row.{row_value, rows_in};
 ghost use Rattle.vx_types.specs.RowValue.{null};
 
 use crate::array::Array;
 use crate::cell::Cell;
 use std::alloc::Global;
 use vx_bits::NoMemory;
-use vx_types::{ByteList, Row};
+use vx_types::{ByteList, Row, RowList};
+
+// The rows from `start` up to `end`.
+#[cycle(rows)]
+#[tactic(auto, using(crate::proofs::RowLists::more_rows))]
+fn rows_from(alloc: Global, column: &Array, start: usize, end: usize) -> Result<RowList, NoMemory>
+    requires ordered { start ≤ end }
+    requires within { end ≤ length column.now.rows }
+    ensures { IfOk result (λ r. rows_in r ≡ slice_range column.now.rows start end) }
+{
+    let mut rows = Vec::with_capacity(alloc, end - start)?;
+    for i in start..end {
+        rows.push(column.row_at(alloc, i)?)?;
+    }
+    Ok(RowList::from_vec(rows))
+}
 
 impl Array {
-    /// Row `i`. `NoMemory` alone.
+    /// Row `i`, with all that is in it. `NoMemory` alone.
+    #[cycle(rows)]
     pub fn row_at(&self, alloc: Global, i: usize) -> Result<Row, NoMemory>
         requires { i < length self.now.rows }
         ensures { IfOk result (λ r. row_value r ≡ slice_index_or self.now.rows i null) }
@@ -21,6 +37,12 @@ impl Array {
             Cell::Bytes(bytes) => Ok(Row::Bytes(ByteList::from_vec(Vec::from_slice(
                 alloc, bytes,
             )?))),
+            Cell::List(list) => Ok(Row::List(rows_from(
+                alloc,
+                list.elements,
+                list.start,
+                list.end,
+            )?)),
         }
     }
 }

@@ -2,22 +2,21 @@
 ghost use Rattle.std.specs.Prelude.{◌≡◌, ◌<◌, None, [], length, slice_index_or, true};
 ghost use Rattle.vx_bits.specs.Results.{ok_unless};
 ghost use Rattle.vx_types.specs.RowValue.{null};
-ghost use Rattle.vx_types.specs.TypeTree.{is_int_kind};
 ghost use Rattle.vx_numbers.specs.Offsets.{are_offsets, offset_positions};
 ghost use Rattle.vx_model.specs.Numbers.{integer_by, integers_of};
 ghost use Rattle.vx_model.specs.Valid.{is_fitting};
 ghost use Rattle.vx_model.specs.VarBin.{are_integers, row_count, varbin_column, varbin_fault, varbin_texts};
-ghost use Rattle.vx_column.specs.Cell.{row_of, IsOfType};
+ghost use Rattle.vx_column.specs.Cell.{cell_depth, row_of, IsOfType};
 ghost use Rattle.vx_column.specs.Text.{varbin_parts};
 ghost use Rattle.vx_column.specs.Validity.{valid_of};
 
 use crate::array::{Array, Layout};
 use crate::cell::Cell;
+use crate::offsets::{are_integers, cut, integer_at, row_count};
 use crate::primitive::PrimitiveArray;
 use crate::validity::Validity;
 use std::marker::Model;
 use vx_bits::Buffer;
-use vx_numbers::are_offsets;
 use vx_types::{ColumnError, TextKind};
 
 /// A column of texts in one list of bytes, each from its offset up to the next: Vortex's
@@ -52,42 +51,6 @@ impl Model for VarBinArray {
     ghost size = { λ p. valid_size p.valid + 2 };
 
     ghost size_decreases = { λ a h. Prim.grind arith };
-}
-
-// Whether it is a column of integers that has no null.
-fn are_integers(offsets: &PrimitiveArray) -> bool
-    ensures { result ≡ are_integers offsets.now }
-{
-    match offsets.validity() {
-        Validity::NonNullable => offsets.ptype().is_int(),
-        _ => false,
-    }
-}
-
-// One fewer than offsets, and none where there is no offset.
-fn row_count(offsets: &PrimitiveArray) -> usize
-    ensures { result ≡ row_count offsets.now }
-{
-    offsets.values().len().saturating_sub(1)
-}
-
-// Whether the numbers cut a list of so many bytes.
-fn cut(offsets: &PrimitiveArray, len: usize) -> bool
-    requires { are_integers offsets.now ≡ true }
-    ensures { result ≡ are_offsets (integers_of offsets.now) len }
-{
-    are_offsets(offsets.ptype(), offsets.values(), len)
-}
-
-// Number `i`.
-#[tactic(auto, using(vx_model::proofs::Layouts::layout_rows))]
-fn integer_at(offsets: &PrimitiveArray, i: usize) -> i128
-    requires int { is_int_kind offsets.now.kind ≡ true }
-    requires row { i < length offsets.now.records }
-    ensures { result ≡ integer_by offsets.now.kind (slice_index_or offsets.now.records i []) }
-{
-    let values = offsets.values();
-    offsets.ptype().number(values.record_bytes(i))
 }
 
 impl VarBinArray {
@@ -260,6 +223,7 @@ impl VarBinArray {
         requires { i < length (varbin_column self.now).rows }
         ensures row { row_of result ≡ slice_index_or (varbin_column self.now).rows i null }
         ensures of_type { IsOfType result (varbin_column self.now).dtype }
+        ensures nested { cell_depth result < (varbin_column self.now).depth }
     {
         // the validity fits the rows
         let _ = self.bytes();

@@ -6,7 +6,7 @@ ghost use Rattle.vx_types.specs.RowValue.{null};
 ghost use Rattle.vx_types.specs.Text.{is_view};
 ghost use Rattle.vx_model.specs.Valid.{is_fitting};
 ghost use Rattle.vx_model.specs.VarBinView.{view_texts, views_column, views_fault, views_with};
-ghost use Rattle.vx_column.specs.Cell.{row_of, IsOfType};
+ghost use Rattle.vx_column.specs.Cell.{cell_depth, row_of, IsOfType};
 ghost use Rattle.vx_column.specs.Text.{view_parts};
 ghost use Rattle.vx_column.specs.Validity.{valid_of};
 
@@ -191,6 +191,7 @@ impl VarBinViewArray {
         requires { i < length (views_column self.now).rows }
         ensures row { row_of result ≡ slice_index_or (views_column self.now).rows i null }
         ensures of_type { IsOfType result (views_column self.now).dtype }
+        ensures nested { cell_depth result < (views_column self.now).depth }
     {
         // the validity fits the rows
         let _ = self.views();

@@ -56,6 +56,9 @@ impl Array {
             }
             Layout::VarBin(_) => LayoutName::VarBin,
             Layout::VarBinView(_) => LayoutName::VarBinView,
+            Layout::List(_) => LayoutName::List,
+            Layout::ListView(_) => LayoutName::ListView,
+            Layout::FixedSizeList(_) => LayoutName::FixedSizeList,
             Layout::Constant(_) => LayoutName::Constant,
             Layout::Dict(_) => LayoutName::Dict,
             Layout::Filter(_) => LayoutName::Filter,

@@ -1,6 +1,6 @@
 //! The layouts as types.
 ghost use Rattle.vx_types.specs.declared.layout_name.LayoutName.{LayoutName};
-ghost use Rattle.vx_types.specs.declared.layout_name.LayoutName.TheVariants.{Null as NullName, Bool as BoolName, Primitive as PrimitiveName, Decimal as DecimalName, VarBin as VarBinName, VarBinView as VarBinViewName, Constant as ConstantName, Dict as DictName, Filter as FilterName};
+ghost use Rattle.vx_types.specs.declared.layout_name.LayoutName.TheVariants.{Null as NullName, Bool as BoolName, Primitive as PrimitiveName, Decimal as DecimalName, VarBin as VarBinName, VarBinView as VarBinViewName, List as ListName, ListView as ListViewName, FixedSizeList as FixedSizeListName, Constant as ConstantName, Dict as DictName, Filter as FilterName};
 
 use vx_types::LayoutName;
 
@@ -70,6 +70,36 @@ impl VTable for VarBinView {
     const NAME: LayoutName = LayoutName::VarBinView;
 
     ghost NAME = { VarBinViewName };
+}
+
+/// Layout `List`.
+#[derive(Debug, Clone, Copy, Default)]
+pub struct List;
+
+impl VTable for List {
+    const NAME: LayoutName = LayoutName::List;
+
+    ghost NAME = { ListName };
+}
+
+/// Layout `ListView`.
+#[derive(Debug, Clone, Copy, Default)]
+pub struct ListView;
+
+impl VTable for ListView {
+    const NAME: LayoutName = LayoutName::ListView;
+
+    ghost NAME = { ListViewName };
+}
+
+/// Layout `FixedSizeList`.
+#[derive(Debug, Clone, Copy, Default)]
+pub struct FixedSizeList;
+
+impl VTable for FixedSizeList {
+    const NAME: LayoutName = LayoutName::FixedSizeList;
+
+    ghost NAME = { FixedSizeListName };
 }
 
 /// Layout `Constant`.

@@ -1,3 +1,4 @@
 pub mod Codes
 pub mod Results
 pub mod RunTakes
+pub mod ListSteps

@@ -4,10 +4,10 @@ ghost use Rattle.vx_types.specs.TypeTree.{is_flat};
 ghost use Rattle.vx_model.specs.Plain.{is_lazy_layout, is_unwrapped};
 ghost use Rattle.vx_model.specs.Step.{IsStep};
 
-use crate::{constant, dict, filter_layout, stored};
+use crate::{constant, dict, filter_layout, lists, stored};
 use std::alloc::Global;
 use vx_bits::NoMemory;
-use vx_column::{Array, Layout, Stored};
+use vx_column::{Array, Layout, Lists, Stored};
 use vx_mask::Policy;
 
 /// The same rows and type, unwrapped where the type is flat, and of no lazy layout. `NoMemory`
@@ -27,6 +27,9 @@ pub fn execute(alloc: Global, array: &Array, policy: &Policy) -> Result<Array, N
         Layout::Decimal(a) => stored::execute_of(alloc, Stored::Records(a.rows()), policy),
         Layout::VarBin(a) => stored::execute_of(alloc, Stored::Texts(a), policy),
         Layout::VarBinView(a) => stored::execute_of(alloc, Stored::Views(a), policy),
+        Layout::List(a) => lists::execute_of(alloc, Lists::List(a), policy),
+        Layout::ListView(a) => lists::execute_of(alloc, Lists::View(a), policy),
+        Layout::FixedSizeList(a) => lists::execute_of(alloc, Lists::Fixed(a), policy),
         Layout::Constant(a) => constant::execute_of(alloc, a),
         Layout::Dict(a) => dict::execute_of(alloc, a, policy),
         Layout::Filter(a) => filter_layout::execute_of(alloc, a, policy),

@@ -6,7 +6,7 @@ ghost use Rattle.vx_model.specs.Plain.{is_null_layout, is_plain};
 ghost use Rattle.vx_model.specs.Step.{IsCut};
 
 use crate::slicing::slice;
-use crate::{constant, dict, filter_layout, null, stored};
+use crate::{constant, dict, filter_layout, fixed_size_list, list, listview, null, stored};
 use std::alloc::Global;
 use vx_bits::NoMemory;
 use vx_column::{Array, Layout, Stored};
@@ -32,6 +32,9 @@ pub(crate) fn filter_values(
         Layout::Decimal(a) => stored::filter_of(alloc, Stored::Records(a.rows()), mask, policy),
         Layout::VarBin(a) => stored::filter_of(alloc, Stored::Texts(a), mask, policy),
         Layout::VarBinView(a) => stored::filter_of(alloc, Stored::Views(a), mask, policy),
+        Layout::List(a) => list::filter_of(alloc, a, mask, policy),
+        Layout::ListView(a) => listview::filter_of(alloc, a, mask, policy),
+        Layout::FixedSizeList(a) => fixed_size_list::filter_of(alloc, a, mask, policy),
         Layout::Constant(a) => Ok(constant::filter_of(a, mask)),
         Layout::Dict(a) => dict::filter_of(alloc, a, mask, policy),
         Layout::Filter(a) => filter_layout::filter_of(alloc, a, mask, policy),

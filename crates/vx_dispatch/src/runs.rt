@@ -1,15 +1,21 @@
 //! The rows at the numbers of a sequence whose pieces are runs.
-ghost use Rattle.std.specs.Prelude.{◌≡◌, ◌+◌, ◌≤◌, ℕ, All, None, length, true, IfOk, IfSome};
-ghost use Rattle.vx_pieces.specs.Indices.{index_fault, index_nullability, index_picks, index_value};
+ghost use Rattle.std.specs.Prelude.{◌≡◌, ◌+◌, ◌++◌, ◌<◌, ◌≤◌, ◌^◌, ℕ, All, None, Some, length, map, true, IfOk, IfSome, IsOk};
+ghost use Rattle.std.specs.List.{range_with_len};
+ghost use Rattle.vx_types.specs.declared.nullability.Nullability.TheVariants.{NonNullable};
+ghost use Rattle.vx_take.specs.Picks.{in_runs};
+ghost use Rattle.vx_pieces.specs.Indices.{by_pieces, index_fault, index_nullability, index_picks, index_value};
 ghost use Rattle.vx_pieces.specs.Pieces.{expand, first_from, is_sound};
 ghost use Rattle.vx_pieces.specs.Runs.{run_numbers};
-ghost use Rattle.vx_model.specs.Step.{IsTake};
+ghost use Rattle.vx_model.specs.Step.{IsStep, IsTake};
 
-use crate::stored::take_runs_of;
+use crate::stored::take_record_runs;
+use crate::taking::take_picks;
 use std::alloc::Global;
 use vx_bits::NoMemory;
-use vx_column::{Array, Runs};
+use vx_column::{Array, Nullability, Runs};
+use vx_mask::Policy;
 use vx_pieces::{Indices, PiecesError, PiecewiseSequence};
+use vx_take::Picks;
 
 // The take by runs: of a column that stores records whose validity is a constant form, by a
 // sequence whose pieces are runs. None where either isn't so. `NoMemory` alone.
@@ -25,9 +31,98 @@ pub(crate) fn take_by_runs(
     match indices {
         Indices::Array(_) => Ok(None),
         Indices::Pieces(pieces) => match array.records() {
-            Some(records) => take_runs_of(alloc, records, pieces),
+            Some(_) => take_runs_of(alloc, array, pieces),
             None => Ok(None),
         },
+    }
+}
+
+// The rows at the numbers of a sequence whose pieces are runs. None where they aren't, and where
+// the column doesn't store records whose validity is a constant form.
+fn take_runs_of(
+    alloc: Global,
+    array: &Array,
+    pieces: &PiecewiseSequence,
+) -> Result<Option<Array>, NoMemory>
+    requires sound { is_sound pieces.now ≡ true }
+    requires within { first_from (length array.now.rows) (expand pieces.now) ≡ None }
+    ensures { IfOk result (λ taken. IfSome taken
+        (IsTake array.now (index_picks (by_pieces pieces.now)) NonNullable)) }
+{
+    match runs_of(alloc, pieces)? {
+        Some(runs) => take_stored_runs(alloc, array, &runs),
+        None => Ok(None),
+    }
+}
+
+// The rows in the runs of a column that stores records whose validity is a constant form; none of
+// another. `NoMemory` alone.
+fn take_stored_runs(alloc: Global, array: &Array, runs: &Runs) -> Result<Option<Array>, NoMemory>
+    requires { All (λ run. run.0 + run.1 ≤ length array.now.rows) runs.now }
+    ensures { IfOk result (λ taken. IfSome taken
+        (IsTake array.now (map Some (run_numbers runs.now)) NonNullable)) }
+{
+    match array.records() {
+        Some(records) => take_record_runs(alloc, records, runs),
+        None => Ok(None),
+    }
+}
+
+// Appends the positions in a run.
+#[tactic(auto, using(crate::proofs::RunTakes::run_places))]
+fn push_run(places: &mut Vec<usize>, start: usize, len: usize) -> Result<(), NoMemory>
+    requires { start + len < 2 ^ 64 }
+    ensures { IsOk result
+        → places.new.items ≡ places.old.items ++ range_with_len start len }
+{
+    for k in 0..len {
+        places.push(start + k)?;
+    }
+    Ok(())
+}
+
+// The positions in the runs, one run after another, of `len` rows. `NoMemory` alone.
+#[tactic(auto, using(crate::proofs::RunTakes::run_places))]
+fn places_in(alloc: Global, runs: &[(usize, usize)], len: usize) -> Result<Vec<usize>, NoMemory>
+    requires { All (λ run. run.0 + run.1 ≤ len) runs.now }
+    ensures { IfOk result (λ places. places.items ≡ run_numbers runs.now) }
+{
+    let _ = len;
+    let mut places = Vec::new(alloc);
+    for run in runs {
+        push_run(&mut places, run.0, run.1)?;
+    }
+    Ok(places)
+}
+
+// The same as picks.
+#[tactic(auto, using(crate::proofs::RunTakes::places_below))]
+fn picks_in(alloc: Global, runs: &Runs, len: usize) -> Result<Picks, NoMemory>
+    requires { All (λ run. run.0 + run.1 ≤ len) runs.now }
+    ensures { IfOk result
+        (λ p. p ≡ record { picks = map Some (run_numbers runs.now); bound = len }) }
+{
+    let places = places_in(alloc, runs.as_slice(), len)?;
+    Ok(Picks::from_vec(places, len))
+}
+
+/// The rows in the runs, each its start and its length, one run after another. `NoMemory` alone.
+#[cycle(take)]
+pub(crate) fn take_runs(
+    alloc: Global,
+    array: &Array,
+    runs: &Runs,
+    policy: &Policy,
+) -> Result<Array, NoMemory>
+    requires { All (λ run. run.0 + run.1 ≤ length array.now.rows) runs.now }
+    ensures { IfOk result (IsStep array.now (in_runs array.now.rows runs.now) array.now.dtype) }
+{
+    match take_stored_runs(alloc, array, runs)? {
+        Some(taken) => Ok(taken),
+        None => {
+            let picks = picks_in(alloc, runs, array.len())?;
+            take_picks(alloc, array, picks, Nullability::NonNullable, policy)
+        }
     }
 }
 

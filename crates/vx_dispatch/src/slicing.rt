@@ -3,7 +3,7 @@ ghost use Rattle.std.specs.Prelude.{◌≡◌, ◌≤◌, length, true, IfOk, Is
 ghost use Rattle.vx_model.specs.Plain.{is_plain};
 ghost use Rattle.vx_model.specs.Step.{IsSlice};
 
-use crate::{constant, dict, filter_layout, null, stored};
+use crate::{constant, dict, filter_layout, fixed_size_list, list, listview, null, stored};
 use std::alloc::Global;
 use vx_bits::NoMemory;
 use vx_column::{Array, Layout, Stored};
@@ -23,6 +23,9 @@ pub fn slice(alloc: Global, array: &Array, start: usize, end: usize) -> Result<A
         Layout::Decimal(a) => stored::slice_of(alloc, Stored::Records(a.rows()), start, end),
         Layout::VarBin(a) => stored::slice_of(alloc, Stored::Texts(a), start, end),
         Layout::VarBinView(a) => stored::slice_of(alloc, Stored::Views(a), start, end),
+        Layout::List(a) => list::slice_of(alloc, a, start, end),
+        Layout::ListView(a) => listview::slice_of(alloc, a, start, end),
+        Layout::FixedSizeList(a) => fixed_size_list::slice_of(alloc, a, start, end),
         Layout::Constant(a) => Ok(constant::slice_of(a, start, end)),
         Layout::Dict(a) => dict::slice_of(alloc, a, start, end),
         Layout::Filter(a) => filter_layout::slice_of(alloc, a, start, end),

@@ -1,6 +1,6 @@
 //! Layouts that store a row's bit or bytes: the new validity is made here, and the rows by
 //! `vx_flat`.
-ghost use Rattle.std.specs.Prelude.{◌≡◌, ◌≤◌, length, None, true, false, IfOk, IfSome, IsOk};
+ghost use Rattle.std.specs.Prelude.{◌≡◌, ◌+◌, ◌≤◌, All, length, map, Some, true, false, IfOk, IfSome, IsOk};
 ghost use Rattle.std.specs.List.{items_where_true};
 ghost use Rattle.vx_types.specs.declared.nullability.Nullability.TheVariants.{NonNullable};
 ghost use Rattle.vx_numbers.specs.Positions.{AllThere};
@@ -9,18 +9,15 @@ ghost use Rattle.vx_model.specs.Plain.{is_lazy_layout, is_plain, is_unwrapped};
 ghost use Rattle.vx_model.specs.Records.{records_column};
 ghost use Rattle.vx_model.specs.Step.{IsSlice, IsCut, IsStep, IsTake};
 ghost use Rattle.vx_model.specs.Stored.{stored_column};
-ghost use Rattle.vx_pieces.specs.Indices.{by_pieces, index_picks};
-ghost use Rattle.vx_pieces.specs.Pieces.{expand, first_from, is_sound};
+ghost use Rattle.vx_pieces.specs.Runs.{run_numbers};
 ghost use Rattle.vx_column.specs.Stored.{parts_of};
 
-use crate::runs::runs_of;
 use crate::validity::{execute_validity, filter_validity, slice_validity, take_validity};
 use std::alloc::Global;
 use vx_bits::NoMemory;
-use vx_column::{Array, Nullability, RecordArray, Stored};
+use vx_column::{Array, Nullability, RecordArray, Runs, Stored};
 use vx_flat::{filter_stored, slice_stored, take_array_runs, take_stored, with_validity};
 use vx_mask::{MaskValues, Policy};
-use vx_pieces::PiecewiseSequence;
 use vx_take::Picks;
 
 #[cycle(slice)]
@@ -90,29 +87,22 @@ pub(crate) fn execute_of(
     Ok(with_validity(stored, validity))
 }
 
-// The rows at the numbers of a sequence whose pieces are runs. None where they aren't, and where
-// the validity isn't a constant form.
+/// The rows in the runs, each its start and its length, one run after another; none where the
+/// validity isn't a constant form. `NoMemory` alone.
 #[tactic(auto, using(vx_model::proofs::Layouts::layout_rows))]
-pub(crate) fn take_runs_of(
+pub(crate) fn take_record_runs(
     alloc: Global,
     array: &RecordArray,
-    pieces: &PiecewiseSequence,
+    runs: &Runs,
 ) -> Result<Option<Array>, NoMemory>
-    requires sound { is_sound pieces.now ≡ true }
-    requires within { first_from (length (records_column array.now).rows)
-        (expand pieces.now) ≡ None }
+    requires { All (λ run. run.0 + run.1 ≤ length (records_column array.now).rows) runs.now }
     ensures { IfOk result (λ taken. IfSome taken (IsTake (records_column array.now)
-        (index_picks (by_pieces pieces.now)) NonNullable)) }
+        (map Some (run_numbers runs.now)) NonNullable)) }
 {
     let validity = array.validity();
     if !validity.is_constant_form() {
         return Ok(None);
     }
-    match runs_of(alloc, pieces)? {
-        Some(runs) => {
-            let taken = take_array_runs(alloc, array, runs.as_slice(), validity.share())?;
-            Ok(Some(taken.into_array()))
-        }
-        None => Ok(None),
-    }
+    let taken = take_array_runs(alloc, array, runs.as_slice(), validity.share())?;
+    Ok(Some(taken.into_array()))
 }

@@ -96,7 +96,8 @@ pub(crate) fn taken_bits(
         Layout::Constant(a) => constant::bits_of(alloc, a, picks),
         Layout::Dict(a) => dict::bits_of(alloc, a, picks, policy),
         Layout::Filter(a) => filter_layout::bits_of(alloc, a, picks, policy),
-        Layout::Null(_) => unreachable!(),
+        Layout::Null(_) | Layout::List(_) | Layout::ListView(_) | Layout::FixedSizeList(_) =>
+            unreachable!(),
         Layout::VarBin(a) => {
             // no text is a bool
             let _ = a.kind();

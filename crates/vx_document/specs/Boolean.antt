@@ -1,12 +1,12 @@
 -- What a JSON value means as a column of layout `Bool`.
-use Rattle.std.specs.Prelude.{ℕ, List, [], ◌∷◌, Bool, if◌then◌else◌, Option, Some, None, codes}
+use Rattle.std.specs.Prelude.{ℕ, List, [], ◌∷◌, Bool, Option, Some, None, codes}
 use Rattle.serde_json.specs.Data.{Data, Items}
 use Rattle.serde_json.specs.Find.{get, as_str, as_array}
 use Rattle.vx_model.specs.Column.{Column}
 use Rattle.vx_model.specs.Valid.{Valid}
 use Rattle.vx_model.specs.Bool.{bool_with, bool_fault, bool_column}
 use Rattle.vx_json.specs.Meaning.{◌>>=◌, found_or, unless_fault}
-use Rattle.vx_json.specs.Members.{is_closed}
+use Rattle.vx_json.specs.Members.{closed}
 use Rattle.vx_json.specs.Items.{each}
 use Rattle.vx_json.specs.Wholes.{at_most}
 use Rattle.vx_json.specs.BitText.{bits_in}
@@ -39,14 +39,9 @@ bool_by_kind stated None items = items >>= bool_by_items stated
 unfoldable pub offset_of : Data → Option ℕ
 offset_of d = found_or 0 (at_most 7) (get (codes "offset") d)
 
-unfoldable pub bool_by_values : Option Valid → Data → Option Column
-bool_by_values stated d = do
-  offset ← offset_of d
-  values ← get (codes "values") d
-  bool_by_kind stated (as_str values) (as_array values)
-
 unfoldable pub bool_by : Data → Option Valid → Option Column
-bool_by d stated =
-    if is_closed (codes "layout" ∷ codes "values" ∷ codes "validity" ∷ codes "offset" ∷ []) d
-    then bool_by_values stated d
-    else None
+bool_by d stated = do
+  o ← closed (codes "layout" ∷ codes "values" ∷ codes "validity" ∷ codes "offset" ∷ []) d
+  offset ← offset_of o
+  values ← get (codes "values") o
+  bool_by_kind stated (as_str values) (as_array values)

@@ -14,27 +14,20 @@ use Rattle.vx_json.specs.Items.{each}
 use Rattle.vx_json.specs.Bools.{has_null}
 use Rattle.vx_json.specs.Decimals.{decimal_of}
 use Rattle.vx_json.specs.Wholes.{at_most}
-use Rattle.vx_json.specs.Values.{ptype_named, value_or_zero, hex_or_zero}
+use Rattle.vx_json.specs.Values.{ptype_named, hex_or_zero}
 use Rattle.vx_json.specs.declared.wholes.TheConstants.{GREATEST_LEN}
 use Rattle.vx_document.specs.Validity.{validity_alone, validity_stated}
 use Rattle.vx_document.specs.Columns.{inner_of}
-use Rattle.vx_document.specs.Primitive.{ramp_listed}
+use Rattle.vx_document.specs.Primitive.{ramp_listed, values_there}
 use Rattle.vx_document.specs.Documents.{SourceValue, chunks_source}
 
 -- ---- its records
-
--- values of the type, none of them null
-abbrev pub values_there : PType → Items → Option (List (List ℕ))
-values_there p items = if has_null items then None else each (value_or_zero (width p) p) items
-
-unfoldable pub values_listed : PType → Data → Option (List (List ℕ))
-values_listed p d = get (codes "values") d >>= as_array >>= values_there p
 
 unfoldable pub values_by : PType → Data → Option (List (List ℕ))
 values_by p d =
     if is_closed (codes "type" ∷ codes "offset" ∷ codes "len" ∷ codes "values"
     ∷ codes "validity" ∷ []) d
-    then values_listed p d
+    then values_there p (codes "values") d
     else if is_closed (codes "type" ∷ codes "offset" ∷ codes "len" ∷ codes "ramp"
     ∷ codes "validity" ∷ []) d
     then ramp_listed p d

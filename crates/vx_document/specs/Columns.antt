@@ -5,8 +5,9 @@ use Rattle.std.specs.Cmp.Lexicographic.{slice_cmp}
 use Rattle.serde_json.specs.Data.{Data, null, boolean, number, string, array, object, Members, no_members, member}
 use Rattle.serde_json.specs.Find.{get, as_str}
 use Rattle.vx_model.specs.Column.{Column}
-use Rattle.vx_json.specs.Meaning.{◌>>=◌}
-use Rattle.vx_document.specs.Validity.{validity_stated}
+use Rattle.vx_column.specs.Flat.{flat_fault}
+use Rattle.vx_json.specs.Meaning.{◌>>=◌, unless_fault}
+use Rattle.vx_document.specs.Validity.{validity_alone, validity_stated}
 use Rattle.vx_document.specs.Null.{null_by}
 use Rattle.vx_document.specs.Boolean.{bool_by}
 use Rattle.vx_document.specs.Primitive.{primitive_by}
@@ -16,6 +17,7 @@ use Rattle.vx_document.specs.VarBinView.{views_by}
 use Rattle.vx_document.specs.Constant.{constant_by}
 use Rattle.vx_document.specs.Dict.{dict_by}
 use Rattle.vx_document.specs.Filter.{filter_by}
+use Rattle.vx_document.specs.Lists.{lists_by}
 
 -- the column that each member of an object means, by the member's name
 abbrev pub Inner : Type 0
@@ -30,7 +32,13 @@ dict_in d inner = do
 unfoldable pub filter_in : Data → Inner → Option Column
 filter_in d inner = inner (codes "child") >>= filter_by d
 
--- by the name of a layout
+unfoldable pub lists_in : Data → Inner → List ℕ → Option Column
+lists_in d inner layout = do
+  stated ← validity_stated d inner
+  elements ← inner (codes "elements")
+  lists_by d elements (validity_alone stated) layout
+
+-- by the name of a layout, which may be one of lists
 abbrev pub by_layout : Data → Inner → List ℕ → Option Column
 by_layout d inner layout =
     if bytes_eq layout (codes "Null") then null_by d
@@ -42,7 +50,7 @@ by_layout d inner layout =
     else if bytes_eq layout (codes "Constant") then constant_by d
     else if bytes_eq layout (codes "Dict") then dict_in d inner
     else if bytes_eq layout (codes "Filter") then filter_in d inner
-    else None
+    else lists_in d inner layout
 
 -- by what the members mean
 unfoldable pub column_by : Data → Inner → Option Column
@@ -66,3 +74,7 @@ abbrev mutual
 -- the columns that the members of a value mean
 abbrev pub inner_of : Data → Inner
 inner_of d k = get k d >>= column_of
+
+-- a column, where its type is flat
+unfoldable pub flat_of : Column → Option Column
+flat_of c = unless_fault (flat_fault c) c

@@ -39,11 +39,6 @@ null_typed d = do
   nullable ← nullable_or true d
   if nullable then Some null_type else None
 
-unfoldable pub bool_typed : Data → Option TypeTree
-bool_typed d = do
-  nullability ← nullability_of d
-  Some (bool_type nullability)
-
 unfoldable pub decimal_typed : Data → Option TypeTree
 decimal_typed d = do
   decimal ← decimal_of d
@@ -55,21 +50,15 @@ text_typed kind d = do
   nullability ← nullability_of d
   Some (record { kind = text_kind kind; nullability = nullability })
 
-unfoldable pub primitive_typed : List ℕ → Data → Option TypeTree
-primitive_typed name d = do
-  ptype ← ptype_named name
-  nullability ← nullability_of d
-  Some (primitive_type ptype nullability)
-
 -- the type of this name
 unfoldable pub constant_type : List ℕ → Data → Option TypeTree
 constant_type name d =
     if bytes_eq name (codes "null") then null_typed d
-    else if bytes_eq name (codes "bool") then bool_typed d
+    else if bytes_eq name (codes "bool") then (nullability_of d >>= λ n. Some (bool_type n))
     else if bytes_eq name (codes "decimal") then decimal_typed d
     else if bytes_eq name (codes "utf8") then text_typed Utf8 d
     else if bytes_eq name (codes "binary") then text_typed Binary d
-    else primitive_typed name d
+    else (ptype_named name >>= λ p. nullability_of d >>= λ n. Some (primitive_type p n))
 
 -- ---- its value
 

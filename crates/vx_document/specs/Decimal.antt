@@ -1,6 +1,6 @@
 -- What a JSON value means as a column of layout `Decimal`.
 use Rattle.std.specs.Prelude.{ℕ, List, [], ◌∷◌, if◌then◌else◌, Option, None, codes}
-use Rattle.serde_json.specs.Data.{Data, Items}
+use Rattle.serde_json.specs.Data.{Data}
 use Rattle.serde_json.specs.Find.{get, as_array}
 use Rattle.vx_types.specs.Decimal.{DecimalValue}
 use Rattle.vx_types.specs.TypeTree.{decimal_kind}
@@ -30,17 +30,13 @@ decimal_made t records valid =
     (records_column (decimal_parts t records valid))
 
 -- a list of records and nulls
-unfoldable pub decimal_by_items : DecimalValue → Option Valid → Items → Option Column
-decimal_by_items t stated items = do
-  valid ← validity_beside stated items
-  records ← each (hex_or_zero t.width) items
-  decimal_made t records valid
-
 unfoldable pub decimal_by_values : Option Valid → Data → Option Column
 decimal_by_values stated d = do
   decimal ← decimal_of d
   items ← get (codes "values") d >>= as_array
-  decimal_by_items decimal stated items
+  valid ← validity_beside stated items
+  records ← each (hex_or_zero decimal.width) items
+  decimal_made decimal records valid
 
 unfoldable pub decimal_by : Data → Option Valid → Option Column
 decimal_by d stated =

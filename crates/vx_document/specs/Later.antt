@@ -3,22 +3,16 @@ use Rattle.std.specs.Prelude.{ℕ, ◌&&◌, ◌||◌, List, [], ◌∷◌, Bool
 use Rattle.serde_json.specs.Data.{Data, null, boolean, number, string, array, object, Items, no_items, item, Members, no_members, member}
 use Rattle.vx_json.specs.Members.{is_among}
 
--- lists and maps
-unfoldable pub list_words : List (List ℕ)
-list_words =
-    codes "List" ∷ codes "ListView" ∷ codes "FixedSizeList" ∷ codes "Map"
-    ∷ codes "elements" ∷ codes "sizes" ∷ codes "size" ∷ codes "entries" ∷ []
-
 -- records, unions and extensions
-unfoldable pub record_words : List (List ℕ)
-record_words =
+unfoldable pub later_words : List (List ℕ)
+later_words =
     codes "Struct" ∷ codes "Union" ∷ codes "Extension" ∷ codes "names" ∷ codes "fields"
     ∷ codes "type_ids" ∷ codes "variants" ∷ codes "id" ∷ codes "name" ∷ codes "children"
     ∷ codes "storage" ∷ []
 
 -- names of members, layouts and types alike
 abbrev pub is_later_word : List ℕ → Bool
-is_later_word w = is_among list_words w || is_among record_words w
+is_later_word = is_among later_words
 
 -- the text of a `layout` or a `type` is a later word
 abbrev pub is_later_text : List ℕ → Data → Bool

@@ -3,11 +3,16 @@ pub mod Null
 pub mod Boolean
 pub mod Primitive
 pub mod Decimal
+pub mod Offsets
 pub mod VarBin
 pub mod VarBinView
 pub mod Constant
 pub mod Dict
 pub mod Filter
+pub mod List
+pub mod ListView
+pub mod FixedSizeList
+pub mod Lists
 pub mod Columns
 pub mod Numbers
 pub mod Pieces

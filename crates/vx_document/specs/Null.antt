@@ -1,18 +1,16 @@
 -- What a JSON value means as a column of layout `Null`.
-use Rattle.std.specs.Prelude.{[], ◌∷◌, if◌then◌else◌, Option, Some, None, codes}
+use Rattle.std.specs.Prelude.{[], ◌∷◌, Option, Some, codes}
 use Rattle.serde_json.specs.Data.{Data}
 use Rattle.serde_json.specs.Find.{get}
 use Rattle.vx_model.specs.Column.{Column}
 use Rattle.vx_model.specs.Null.{null_column}
 use Rattle.vx_json.specs.Meaning.{◌>>=◌}
-use Rattle.vx_json.specs.Members.{is_closed}
+use Rattle.vx_json.specs.Members.{closed}
 use Rattle.vx_json.specs.Wholes.{at_most}
 use Rattle.vx_json.specs.declared.wholes.TheConstants.{GREATEST_LEN}
 
-unfoldable pub null_by_len : Data → Option Column
-null_by_len d = do
-  len ← get (codes "len") d >>= at_most GREATEST_LEN
-  Some (null_column len)
-
 unfoldable pub null_by : Data → Option Column
-null_by d = if is_closed (codes "layout" ∷ codes "len" ∷ []) d then null_by_len d else None
+null_by d = do
+  o ← closed (codes "layout" ∷ codes "len" ∷ []) d
+  len ← get (codes "len") o >>= at_most GREATEST_LEN
+  Some (null_column len)

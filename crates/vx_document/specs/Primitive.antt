@@ -9,6 +9,7 @@ use Rattle.vx_model.specs.Column.{Column}
 use Rattle.vx_model.specs.Valid.{Valid}
 use Rattle.vx_model.specs.Records.{RecordParts, records_fault, records_column}
 use Rattle.vx_json.specs.Meaning.{◌>>=◌, unless_fault}
+use Rattle.vx_json.specs.Bools.{has_null}
 use Rattle.vx_json.specs.Members.{is_closed}
 use Rattle.vx_json.specs.Items.{each}
 use Rattle.vx_json.specs.Wholes.{at_most}
@@ -33,6 +34,14 @@ primitive_by_items p stated items = do
   records ← each (value_or_zero (width p) p) items
   primitive_made p records valid
 
+-- the records of values, none of them null
+abbrev pub records_there : PType → Items → Option (List (List ℕ))
+records_there p items = if has_null items then None else each (value_or_zero (width p) p) items
+
+-- those that the member of this name lists
+unfoldable pub values_there : PType → List ℕ → Data → Option (List (List ℕ))
+values_there p name d = get name d >>= as_array >>= records_there p
+
 -- the numbers from 0 on, of an integer type
 unfoldable pub ramp_listed : PType → Data → Option (List (List ℕ))
 ramp_listed p d = do
@@ -45,13 +54,10 @@ primitive_by_ramp p stated d = do
   len ← get (codes "ramp") d >>= at_most GREATEST_LEN
   if is_int p then primitive_made p (ramp_records p len) (validity_alone stated) else None
 
-unfoldable pub primitive_by_values : PType → Option Valid → Data → Option Column
-primitive_by_values p stated d = get (codes "values") d >>= as_array >>= primitive_by_items p stated
-
 unfoldable pub primitive_by_type : PType → Option Valid → Data → Option Column
 primitive_by_type p stated d =
     if is_closed (codes "layout" ∷ codes "type" ∷ codes "values" ∷ codes "validity" ∷ []) d
-    then primitive_by_values p stated d
+    then get (codes "values") d >>= as_array >>= primitive_by_items p stated
     else if is_closed (codes "layout" ∷ codes "type" ∷ codes "ramp" ∷ codes "validity" ∷ []) d
     then primitive_by_ramp p stated d
     else None

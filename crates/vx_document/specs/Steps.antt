@@ -3,14 +3,12 @@ use Rattle.std.specs.Prelude.{List, [], ◌∷◌, if◌then◌else◌, Option, 
 use Rattle.serde_json.specs.Data.{Data}
 use Rattle.serde_json.specs.Find.{get, as_array}
 use Rattle.vx_steps.specs.Step.{StepValue, slice_step, filter_step, filter_by_step, take_step}
-use Rattle.vx_model.specs.Column.{Column}
-use Rattle.vx_column.specs.Flat.{flat_fault}
-use Rattle.vx_json.specs.Meaning.{◌>>=◌, unless_fault}
+use Rattle.vx_json.specs.Meaning.{◌>>=◌}
 use Rattle.vx_json.specs.Members.{is_closed}
 use Rattle.vx_json.specs.Items.{each}
 use Rattle.vx_json.specs.Wholes.{pair_of}
 use Rattle.vx_json.specs.Masks.{mask_of}
-use Rattle.vx_document.specs.Columns.{column_of}
+use Rattle.vx_document.specs.Columns.{column_of, flat_of}
 use Rattle.vx_document.specs.Indices.{indices_of}
 
 unfoldable pub slice_of : Data → Option StepValue
@@ -24,11 +22,10 @@ filter_of d = do
   Some (filter_step bits)
 
 -- by a column, where its type is flat
-unfoldable pub flat_filter : Column → Option StepValue
-flat_filter c = unless_fault (flat_fault c) (filter_by_step c)
-
 unfoldable pub filter_by_of : Data → Option StepValue
-filter_by_of d = get (codes "filter_by") d >>= column_of >>= flat_filter
+filter_by_of d = do
+  column ← get (codes "filter_by") d >>= column_of >>= flat_of
+  Some (filter_by_step column)
 
 unfoldable pub take_of : Data → Option StepValue
 take_of d = do

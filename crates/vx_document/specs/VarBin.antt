@@ -1,67 +1,45 @@
 -- What a JSON value means as a column of layout `VarBin`.
 use Rattle.std.specs.Prelude.{ℕ, List, [], ◌∷◌, if◌then◌else◌, Option, None, codes}
-use Rattle.serde_json.specs.Data.{Data, Items}
+use Rattle.serde_json.specs.Data.{Data}
 use Rattle.serde_json.specs.Find.{get, as_str, as_array}
-use Rattle.vx_types.specs.PType.{width}
-use Rattle.vx_types.specs.declared.ptype.PType.{PType}
 use Rattle.vx_types.specs.declared.ptype.PType.TheVariants.{I32}
 use Rattle.vx_types.specs.declared.text.TextKind.{TextKind}
 use Rattle.vx_model.specs.Column.{Column}
-use Rattle.vx_model.specs.Valid.{Valid, non_nullable}
+use Rattle.vx_model.specs.Records.{RecordParts}
+use Rattle.vx_model.specs.Valid.{Valid}
 use Rattle.vx_model.specs.VarBin.{VarBinParts, varbin_fault, varbin_column}
-use Rattle.vx_json.specs.Meaning.{◌>>=◌, found_or, unless_fault}
+use Rattle.vx_json.specs.Meaning.{◌>>=◌, unless_fault}
 use Rattle.vx_json.specs.Members.{is_closed}
 use Rattle.vx_json.specs.Items.{each}
-use Rattle.vx_json.specs.Bools.{has_null}
 use Rattle.vx_json.specs.Texts.{text_kind_named, text_or_empty, bytes_of, strung}
-use Rattle.vx_json.specs.Values.{ptype_named, value_or_zero}
-use Rattle.vx_document.specs.Primitive.{primitive_parts}
+use Rattle.vx_document.specs.Offsets.{offsets_column, offset_type_of, offsets_in}
 use Rattle.vx_document.specs.Validity.{validity_alone, validity_beside}
 
-abbrev pub varbin_parts : TextKind → PType → List (List ℕ) → List ℕ → Valid → VarBinParts
-varbin_parts kind p offsets text valid =
-    record {
-      kind = kind;
-      offsets = primitive_parts p offsets non_nullable;
-      bytes = text;
-      valid = valid;
-    }
+abbrev pub varbin_parts : TextKind → RecordParts → List ℕ → Valid → VarBinParts
+varbin_parts kind offsets text valid =
+    record { kind = kind; offsets = offsets; bytes = text; valid = valid }
 
 -- the column that the offsets cut, where they can, and where the validity can be its
-unfoldable pub varbin_made : TextKind → PType → List (List ℕ) → List ℕ → Valid → Option Column
-varbin_made kind p offsets text valid =
-    unless_fault (varbin_fault (varbin_parts kind p offsets text valid))
-    (varbin_column (varbin_parts kind p offsets text valid))
+unfoldable pub varbin_made : TextKind → RecordParts → List ℕ → Valid → Option Column
+varbin_made kind offsets text valid =
+    unless_fault (varbin_fault (varbin_parts kind offsets text valid))
+    (varbin_column (varbin_parts kind offsets text valid))
 
 -- a list of texts and nulls
-unfoldable pub varbin_by_items : TextKind → Option Valid → Items → Option Column
-varbin_by_items kind stated items = do
+unfoldable pub varbin_by_values : TextKind → Option Valid → Data → Option Column
+varbin_by_values kind stated d = do
+  items ← get (codes "values") d >>= as_array
   valid ← validity_beside stated items
   texts ← each (text_or_empty kind) items >>= strung
-  varbin_made kind I32 texts.0 texts.1 valid
-
-unfoldable pub varbin_by_values : TextKind → Option Valid → Data → Option Column
-varbin_by_values kind stated d = get (codes "values") d >>= as_array >>= varbin_by_items kind stated
-
-abbrev pub type_named : Data → Option PType
-type_named d = as_str d >>= ptype_named
-
--- the offsets' type
-unfoldable pub offset_type_of : Data → Option PType
-offset_type_of d = found_or I32 type_named (get (codes "offset_type") d)
-
--- a list of numbers, none of them null
-unfoldable pub offsets_listed : PType → Items → Option (List (List ℕ))
-offsets_listed p items =
-    if has_null items then None else each (value_or_zero (width p) p) items
+  varbin_made kind (offsets_column I32 texts.0) texts.1 valid
 
 -- offsets, and the texts one behind another
 unfoldable pub varbin_by_offsets : TextKind → Option Valid → Data → Option Column
 varbin_by_offsets kind stated d = do
-  ptype ← offset_type_of d
-  offsets ← get (codes "offsets") d >>= as_array >>= offsets_listed ptype
+  ptype ← offset_type_of I32 d
+  offsets ← offsets_in ptype (codes "offsets") d
   text ← get (codes "bytes") d >>= bytes_of
-  varbin_made kind ptype offsets text (validity_alone stated)
+  varbin_made kind offsets text (validity_alone stated)
 
 unfoldable pub varbin_by_kind : TextKind → Option Valid → Data → Option Column
 varbin_by_kind kind stated d =

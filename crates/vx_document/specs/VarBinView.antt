@@ -1,6 +1,6 @@
 -- What a JSON value means as a column of layout `VarBinView`.
 use Rattle.std.specs.Prelude.{ℕ, List, [], ◌∷◌, if◌then◌else◌, Option, None, codes}
-use Rattle.serde_json.specs.Data.{Data, Items}
+use Rattle.serde_json.specs.Data.{Data}
 use Rattle.serde_json.specs.Find.{get, as_str, as_array}
 use Rattle.vx_types.specs.declared.text.BinaryView.{BinaryView}
 use Rattle.vx_types.specs.declared.text.TextKind.{TextKind}
@@ -25,14 +25,12 @@ views_made kind views buffers valid =
     (views_column (view_parts kind views buffers valid))
 
 -- a list of texts and nulls
-unfoldable pub views_by_items : TextKind → Option Valid → Items → Option Column
-views_by_items kind stated items = do
+unfoldable pub views_by_values : TextKind → Option Valid → Data → Option Column
+views_by_values kind stated d = do
+  items ← get (codes "values") d >>= as_array
   valid ← validity_beside stated items
   texts ← each (text_or_empty kind) items >>= placed
   views_made kind texts.0 (texts.1 ∷ []) valid
-
-unfoldable pub views_by_values : TextKind → Option Valid → Data → Option Column
-views_by_values kind stated d = get (codes "values") d >>= as_array >>= views_by_items kind stated
 
 -- views, and the buffers that they look into
 unfoldable pub views_by_buffers : TextKind → Option Valid → Data → Option Column

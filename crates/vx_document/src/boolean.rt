@@ -4,14 +4,14 @@ ghost use Rattle.std.specs.Option.{option_map};
 ghost use Rattle.serde_json.specs.View.{view, items_view};
 ghost use Rattle.vx_column.specs.Validity.{valid_of};
 ghost use Rattle.vx_json.specs.Meaning.{Gives};
-ghost use Rattle.vx_document.specs.Boolean.{bool_made, offset_of, bool_by_items, bool_by_text, bool_by_values, bool_by};
+ghost use Rattle.vx_document.specs.Boolean.{bool_made, offset_of, bool_by_items, bool_by_text, bool_by};
 
 use crate::validity::{validity_alone, validity_beside};
 use serde_json::Value;
 use std::alloc::Global;
 use vx_bits::BitBuffer;
 use vx_column::{Array, BoolArray, Validity};
-use vx_json::{DocError, at_most, bits_in, bools_or_nulls_of, is_closed, items_in, member};
+use vx_json::{DocError, at_most, bits_in, bools_or_nulls_of, closed, items_in, member};
 
 /// The column of these bits. `Malformed` where the validity can't be theirs.
 fn bool_made(bits: BitBuffer, validity: Validity) -> Result<Array, DocError>
@@ -65,19 +65,6 @@ fn offset_of(value: &Value) -> Result<usize, DocError>
     }
 }
 
-#[tactic(auto, unfolding(crate::specs::Boolean::bool_by_values))]
-fn bool_by_values(alloc: Global, stated: Option<Validity>, value: &Value) -> Result<Array, DocError>
-    ensures { Gives (λ c. c) result
-        (bool_by_values (option_map valid_of stated) (view value.now)) }
-{
-    let offset = offset_of(value)?;
-    let values = member(value, "values")?;
-    match values.as_str() {
-        Some(text) => bool_by_text(alloc, stated, text, offset),
-        None => bool_by_items(alloc, stated, items_in(values)?, offset),
-    }
-}
-
 /// The column of that layout that the value means, by the validity that it states.
 #[tactic(auto, unfolding(crate::specs::Boolean::bool_by))]
 pub(crate) fn bool_by(
@@ -87,9 +74,11 @@ pub(crate) fn bool_by(
 ) -> Result<Array, DocError>
     ensures { Gives (λ c. c) result (bool_by (view value.now) (option_map valid_of stated)) }
 {
-    if is_closed(value, &["layout", "values", "validity", "offset"]) {
-        bool_by_values(alloc, stated, value)
-    } else {
-        Err(DocError::Malformed)
+    let object = closed(value, &["layout", "values", "validity", "offset"])?;
+    let offset = offset_of(object)?;
+    let values = member(object, "values")?;
+    match values.as_str() {
+        Some(text) => bool_by_text(alloc, stated, text, offset),
+        None => bool_by_items(alloc, stated, items_in(values)?, offset),
     }
 }

@@ -9,11 +9,11 @@ ghost use Rattle.vx_types.specs.Decimal.{is_width};
 ghost use Rattle.vx_column.specs.Validity.{valid_of};
 ghost use Rattle.vx_json.specs.Meaning.{Gives};
 ghost use Rattle.vx_document.specs.Documents.{IsWhole, source_value};
-ghost use Rattle.vx_document.specs.Chunks.{values_listed, values_by, decimals_listed, decimals_by, filled, filled_from, missing, shape_made, shape_by, chunks_made, primitive_chunks, decimal_chunks, chunks_named, chunks_of};
+ghost use Rattle.vx_document.specs.Chunks.{values_by, decimals_listed, decimals_by, filled, filled_from, missing, shape_made, shape_by, chunks_made, primitive_chunks, decimal_chunks, chunks_named, chunks_of};
 
 use crate::columns::validity_stated;
 use crate::documents::DocumentSource;
-use crate::primitive::ramp_listed;
+use crate::primitive::{ramp_listed, values_there};
 use crate::validity::validity_alone;
 use serde_json::Value;
 use std::alloc::Global;
@@ -21,26 +21,12 @@ use vx_bits::{Buffer, NoMemory, Records, map_each_record_width};
 use vx_column::{DType, DecimalDType, PType, Validity};
 use vx_json::{
     DocError, GREATEST_LEN, decimal_of, has_null, hex_values_of, is_closed, list_member,
-    number_member, ptype_named, text_member, values_of,
+    number_member, ptype_named, text_member,
 };
 use vx_steps::ChunkShape;
 
 /// How many values a chunk has.
 const CHUNK_LEN: usize = 1024;
-
-/// The records of the values that the object lists. `Malformed` where one is null or none of the
-/// type.
-#[tactic(auto, unfolding(crate::specs::Chunks::values_listed))]
-fn values_listed(alloc: Global, ptype: PType, value: &Value) -> Result<Records, DocError>
-    ensures value { Gives records_of result (values_listed ptype (view value.now)) }
-    ensures width { IfOk result (λ r. width_of r ≡ width ptype) }
-{
-    let items = list_member(value, "values")?;
-    if has_null(items) {
-        return Err(DocError::Malformed);
-    }
-    values_of(alloc, ptype, items)
-}
 
 #[tactic(auto, unfolding(crate::specs::Chunks::values_by))]
 fn values_by(alloc: Global, ptype: PType, value: &Value) -> Result<Records, DocError>
@@ -48,7 +34,7 @@ fn values_by(alloc: Global, ptype: PType, value: &Value) -> Result<Records, DocE
     ensures width { IfOk result (λ r. width_of r ≡ width ptype) }
 {
     if is_closed(value, &["type", "offset", "len", "values", "validity"]) {
-        values_listed(alloc, ptype, value)
+        values_there(alloc, ptype, value, "values")
     } else if is_closed(value, &["type", "offset", "len", "ramp", "validity"]) {
         ramp_listed(alloc, ptype, value)
     } else {
@@ -174,15 +160,6 @@ fn filled_from(alloc: Global, least: usize, records: &Records) -> Result<Records
     }
 }
 
-/// The same, and the records that were given are let go.
-fn filled_up(alloc: Global, least: usize, records: Records) -> Result<Records, DocError>
-    ensures records { Gives records_of result
-        (filled_from least (width_of records) (records_of records)) }
-    ensures width { IfOk result (λ r. width_of r ≡ width_of records) }
-{
-    filled_from(alloc, least, &records)
-}
-
 /// The shape over whole chunks of these records. `Malformed` where it has more values than they
 /// are.
 #[tactic(auto, unfolding(crate::specs::Chunks::chunks_made))]
@@ -196,7 +173,7 @@ fn chunks_made(
         (chunks_made shape (width_of records) (records_of records)) }
     ensures whole { IfOk result IsWhole }
 {
-    let whole = filled_up(alloc, shape.offset() + shape.len(), records)?;
+    let whole = filled_from(alloc, shape.offset() + shape.len(), &records)?;
     Ok(DocumentSource::Chunks(shape, whole))
 }
 

@@ -4,21 +4,22 @@ ghost use Rattle.serde_json.specs.View.{view};
 ghost use Rattle.vx_column.specs.Validity.{valid_of};
 ghost use Rattle.vx_json.specs.Meaning.{Gives};
 ghost use Rattle.vx_document.specs.Validity.{validity_from, validity_stated};
-ghost use Rattle.vx_document.specs.Columns.{by_layout, column_of, inner_of, dict_in, filter_in};
+ghost use Rattle.vx_document.specs.Columns.{by_layout, column_of, inner_of, dict_in, filter_in, lists_in, flat_of};
 
 use crate::boolean::bool_by;
 use crate::constant::constant_by;
 use crate::decimal::decimal_by;
 use crate::dict::dict_by;
 use crate::filter::filter_by;
+use crate::lists::lists_by;
 use crate::null::null_by;
 use crate::primitive::primitive_by;
-use crate::validity::{validity_listed, validity_named};
+use crate::validity::{validity_alone, validity_listed, validity_named};
 use crate::varbin::varbin_by;
 use crate::varbinview::views_by;
 use serde_json::Value;
 use std::alloc::Global;
-use vx_column::{Array, Validity};
+use vx_column::{Array, FlatRef, Validity};
 use vx_json::{DocError, member, text_member};
 
 /// The column that the value means, by its layout.
@@ -46,7 +47,7 @@ fn by_layout(alloc: Global, value: &Value, layout: &str) -> Result<Array, DocErr
         "Constant" => constant_by(alloc, value),
         "Dict" => dict_in(alloc, value),
         "Filter" => filter_in(alloc, value),
-        _ => Err(DocError::Malformed),
+        _ => lists_in(alloc, value, layout),
     }
 }
 
@@ -79,6 +80,19 @@ fn filter_in(alloc: Global, value: &Value) -> Result<Array, DocError>
     filter_by(alloc, value, child)
 }
 
+/// The column of the layout of lists of this name that the value means. `Malformed` where there is
+/// no such layout.
+#[cycle(columns)]
+#[tactic(auto, unfolding(crate::specs::Columns::lists_in))]
+fn lists_in(alloc: Global, value: &Value, layout: &str) -> Result<Array, DocError>
+    ensures { Gives (λ c. c) result
+        (lists_in (view value.now) (inner_of (view value.now)) layout.now) }
+{
+    let stated = validity_stated(alloc, value)?;
+    let elements = column_member(alloc, value, "elements")?;
+    lists_by(alloc, value, elements, validity_alone(stated), layout)
+}
+
 /// The validity that the value states, if it states one.
 #[cycle(columns)]
 #[tactic(auto, unfolding(crate::specs::Validity::validity_stated))]
@@ -104,5 +118,15 @@ fn validity_from(alloc: Global, value: &Value) -> Result<Validity, DocError>
     match value.as_array() {
         Some(items) => validity_listed(alloc, items),
         None => Ok(Validity::Array(column_of(alloc, value)?.into_ref(alloc)?)),
+    }
+}
+
+/// The column, where its type is flat. `Malformed` where it isn't.
+pub(crate) fn flat_of(alloc: Global, column: Array) -> Result<FlatRef, DocError>
+    ensures { Gives (λ c. c) result (flat_of column) }
+{
+    match FlatRef::try_new(column.into_ref(alloc)?) {
+        Ok(flat) => Ok(flat),
+        Err(_) => Err(DocError::Malformed),
     }
 }

@@ -4,7 +4,7 @@ ghost use Rattle.serde_json.specs.View.{view};
 ghost use Rattle.vx_types.specs.DType.{type_of};
 ghost use Rattle.vx_types.specs.Scalar.{scalar_row};
 ghost use Rattle.vx_json.specs.Meaning.{Gives};
-ghost use Rattle.vx_document.specs.Constant.{nullable_or, nullability_of, null_typed, bool_typed, decimal_typed, text_typed, primitive_typed, constant_type, value_in, row_in, constant_made, constant_by_type, is_constant_closed, constant_named, constant_by};
+ghost use Rattle.vx_document.specs.Constant.{nullable_or, nullability_of, null_typed, decimal_typed, text_typed, constant_type, value_in, row_in, constant_made, constant_by_type, is_constant_closed, constant_named, constant_by};
 
 use serde_json::Value;
 use std::alloc::Global;
@@ -48,13 +48,6 @@ fn null_typed(value: &Value) -> Result<DType, DocError>
     }
 }
 
-#[tactic(auto, unfolding(crate::specs::Constant::bool_typed))]
-fn bool_typed(value: &Value) -> Result<DType, DocError>
-    ensures { Gives type_of result (bool_typed (view value.now)) }
-{
-    Ok(DType::Bool(nullability_of(value)?))
-}
-
 #[tactic(auto, unfolding(crate::specs::Constant::decimal_typed))]
 fn decimal_typed(value: &Value) -> Result<DType, DocError>
     ensures { Gives type_of result (decimal_typed (view value.now)) }
@@ -70,14 +63,6 @@ fn text_typed(kind: TextKind, value: &Value) -> Result<DType, DocError>
     Ok(kind.dtype(nullability_of(value)?))
 }
 
-#[tactic(auto, unfolding(crate::specs::Constant::primitive_typed))]
-fn primitive_typed(name: &str, value: &Value) -> Result<DType, DocError>
-    ensures { Gives type_of result (primitive_typed name.now (view value.now)) }
-{
-    let ptype = ptype_named(name)?;
-    Ok(DType::Primitive(ptype, nullability_of(value)?))
-}
-
 /// The type of this name. `Malformed` where there is none, or the members beside it say none.
 #[tactic(auto, unfolding(crate::specs::Constant::constant_type))]
 fn constant_type(name: &str, value: &Value) -> Result<DType, DocError>
@@ -85,11 +70,11 @@ fn constant_type(name: &str, value: &Value) -> Result<DType, DocError>
 {
     match name {
         "null" => null_typed(value),
-        "bool" => bool_typed(value),
+        "bool" => Ok(DType::Bool(nullability_of(value)?)),
         "decimal" => decimal_typed(value),
         "utf8" => text_typed(TextKind::Utf8, value),
         "binary" => text_typed(TextKind::Binary, value),
-        _ => primitive_typed(name, value),
+        _ => Ok(DType::Primitive(ptype_named(name)?, nullability_of(value)?)),
     }
 }
 
@@ -98,7 +83,6 @@ fn value_in(alloc: Global, dtype: &DType, value: &Value) -> Result<ScalarValue, 
     ensures { Gives scalar_row result (value_in (type_of dtype.now).kind (view value.now)) }
 {
     match dtype {
-        DType::Null => Err(DocError::Malformed),
         DType::Bool(_) => Ok(ScalarValue::Bit(bool_in(value)?)),
         DType::Primitive(ptype, _) => Ok(ScalarValue::Bytes(value_of(alloc, *ptype, value)?)),
         DType::Decimal(decimal, _) => {
@@ -107,6 +91,7 @@ fn value_in(alloc: Global, dtype: &DType, value: &Value) -> Result<ScalarValue, 
         }
         DType::Utf8(_) => Ok(ScalarValue::Bytes(text_of(alloc, TextKind::Utf8, value)?)),
         DType::Binary(_) => Ok(ScalarValue::Bytes(text_of(alloc, TextKind::Binary, value)?)),
+        _ => Err(DocError::Malformed),
     }
 }
 

@@ -1,11 +1,11 @@
 //! Columns of layout `Decimal`.
 ghost use Rattle.std.specs.Prelude.{◌≡◌};
 ghost use Rattle.std.specs.Option.{option_map};
-ghost use Rattle.serde_json.specs.View.{view, items_view};
+ghost use Rattle.serde_json.specs.View.{view};
 ghost use Rattle.vx_bits.specs.Records.{records_of, width_of};
 ghost use Rattle.vx_column.specs.Validity.{valid_of};
 ghost use Rattle.vx_json.specs.Meaning.{Gives};
-ghost use Rattle.vx_document.specs.Decimal.{decimal_made, decimal_by_items, decimal_by_values, decimal_by};
+ghost use Rattle.vx_document.specs.Decimal.{decimal_made, decimal_by_values, decimal_by};
 
 use crate::validity::validity_beside;
 use serde_json::Value;
@@ -30,21 +30,7 @@ fn decimal_made(
     }
 }
 
-#[tactic(auto, unfolding(crate::specs::Decimal::decimal_by_items))]
-fn decimal_by_items(
-    alloc: Global,
-    decimal: DecimalDType,
-    stated: Option<Validity>,
-    items: &Vec<Value>,
-) -> Result<Array, DocError>
-    ensures { Gives (λ c. c) result
-        (decimal_by_items decimal (option_map valid_of stated) (items_view items.now.items)) }
-{
-    let validity = validity_beside(alloc, stated, items)?;
-    let values = hex_values_of(alloc, decimal.width() as usize, items)?;
-    decimal_made(decimal, values, validity)
-}
-
+/// The column of the records and nulls that the object lists.
 #[tactic(auto, unfolding(crate::specs::Decimal::decimal_by_values))]
 fn decimal_by_values(
     alloc: Global,
@@ -56,7 +42,9 @@ fn decimal_by_values(
 {
     let decimal = decimal_of(value)?;
     let items = list_member(value, "values")?;
-    decimal_by_items(alloc, decimal, stated, items)
+    let validity = validity_beside(alloc, stated, items)?;
+    let values = hex_values_of(alloc, decimal.width() as usize, items)?;
+    decimal_made(decimal, values, validity)
 }
 
 /// The column of that layout that the value means, by the validity that it states.

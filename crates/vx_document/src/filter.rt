@@ -3,13 +3,13 @@ ghost use Rattle.std.specs.Prelude.{◌≡◌, IfOk};
 ghost use Rattle.serde_json.specs.View.{view};
 ghost use Rattle.vx_mask.specs.Mask.{mask_bits};
 ghost use Rattle.vx_json.specs.Meaning.{Gives};
-ghost use Rattle.vx_document.specs.Filter.{filter_made, filter_by_mask, filter_by};
+ghost use Rattle.vx_document.specs.Filter.{filter_made, filter_by};
 
 use serde_json::Value;
 use std::alloc::Global;
 use vx_bits::NoMemory;
 use vx_column::{Array, FilterArray};
-use vx_json::{DocError, is_closed, mask_of, member};
+use vx_json::{DocError, closed, mask_of, member};
 use vx_mask::Mask;
 
 /// The same mask, with what finds its rows fast: their positions where it keeps at most a 64th,
@@ -34,22 +34,12 @@ fn filter_made(alloc: Global, child: Array, mask: Mask) -> Result<Array, DocErro
     }
 }
 
-#[tactic(auto, unfolding(crate::specs::Filter::filter_by_mask))]
-fn filter_by_mask(alloc: Global, child: Array, value: &Value) -> Result<Array, DocError>
-    ensures { Gives (λ c. c) result (filter_by_mask child (view value.now)) }
-{
-    let mask = mask_of(alloc, member(value, "mask")?)?;
-    filter_made(alloc, child, with_ranks(alloc, mask)?)
-}
-
 /// The column of that layout that the value means, by the column that its member `child` means.
 #[tactic(auto, unfolding(crate::specs::Filter::filter_by))]
 pub(crate) fn filter_by(alloc: Global, value: &Value, child: Array) -> Result<Array, DocError>
     ensures { Gives (λ c. c) result (filter_by (view value.now) child) }
 {
-    if is_closed(value, &["layout", "child", "mask"]) {
-        filter_by_mask(alloc, child, value)
-    } else {
-        Err(DocError::Malformed)
-    }
+    let object = closed(value, &["layout", "child", "mask"])?;
+    let mask = mask_of(alloc, member(object, "mask")?)?;
+    filter_made(alloc, child, with_ranks(alloc, mask)?)
 }

@@ -2,25 +2,16 @@
 ghost use Rattle.serde_json.specs.View.{view};
 ghost use Rattle.vx_pieces.specs.Indices.{index_value};
 ghost use Rattle.vx_json.specs.Meaning.{Gives};
-ghost use Rattle.vx_document.specs.Indices.{flat_indices, indices_of};
+ghost use Rattle.vx_document.specs.Indices.{indices_of};
 
+use crate::columns::flat_of;
 use crate::numbers::numbers_in;
 use crate::pieces::pieces_by;
 use serde_json::Value;
 use std::alloc::Global;
-use vx_column::{Array, FlatRef, PType};
+use vx_column::PType;
 use vx_json::{DocError, is_closed, member};
 use vx_pieces::Indices;
-
-/// The indices of a column. `Malformed` where its type isn't flat.
-fn flat_indices(alloc: Global, column: Array) -> Result<Indices, DocError>
-    ensures { Gives index_value result (flat_indices column) }
-{
-    match FlatRef::try_new(column.into_ref(alloc)?) {
-        Ok(flat) => Ok(Indices::Array(flat)),
-        Err(_) => Err(DocError::Malformed),
-    }
-}
 
 /// The list of indices that the value means: an object of pieces, a list of numbers and nulls, or
 /// a column.
@@ -31,6 +22,7 @@ pub(crate) fn indices_of(alloc: Global, value: &Value) -> Result<Indices, DocErr
     if is_closed(value, &["pieces"]) {
         pieces_by(alloc, member(value, "pieces")?)
     } else {
-        flat_indices(alloc, numbers_in(alloc, PType::I64, value)?)
+        let numbers = numbers_in(alloc, PType::I64, value)?;
+        Ok(Indices::Array(flat_of(alloc, numbers)?))
     }
 }

@@ -2,35 +2,16 @@
 ghost use Rattle.std.specs.Prelude.{◌≡◌};
 ghost use Rattle.serde_json.specs.View.{view, items_view, members_view};
 ghost use Rattle.vx_json.specs.Members.{is_among};
-ghost use Rattle.vx_document.specs.Later.{list_words, record_words, is_later_word, is_later_text, is_later_member, holds_later, items_hold_later, members_hold_later};
+ghost use Rattle.vx_document.specs.Later.{later_words, is_later_word, is_later_text, is_later_member, holds_later, items_hold_later, members_hold_later};
 
 use serde_json::{Map, Value};
 use vx_json::is_among;
 
-/// Lists and maps.
-#[tactic(auto, unfolding(crate::specs::Later::list_words))]
-fn is_list_word(word: &str) -> bool
-    ensures { result ≡ is_among list_words word.now }
-{
-    is_among(
-        &[
-            "List",
-            "ListView",
-            "FixedSizeList",
-            "Map",
-            "elements",
-            "sizes",
-            "size",
-            "entries",
-        ],
-        word,
-    )
-}
-
-/// Records, unions and extensions.
-#[tactic(auto, unfolding(crate::specs::Later::record_words))]
-fn is_record_word(word: &str) -> bool
-    ensures { result ≡ is_among record_words word.now }
+/// Whether it is a word of records, unions or extensions. They are one pool: each counts as a name
+/// and as a text alike.
+#[tactic(auto, unfolding(crate::specs::Later::later_words))]
+fn is_later_word(word: &str) -> bool
+    ensures { result ≡ is_later_word word.now }
 {
     is_among(
         &[
@@ -48,14 +29,6 @@ fn is_record_word(word: &str) -> bool
         ],
         word,
     )
-}
-
-/// Whether it is a word of either of these lists. They are one pool: each counts as a name and as a
-/// text alike.
-fn is_later_word(word: &str) -> bool
-    ensures { result ≡ is_later_word word.now }
-{
-    is_list_word(word) || is_record_word(word)
 }
 
 /// Whether a member of this name is a `layout` or a `type` with a later word for its text.

@@ -6,7 +6,7 @@ ghost use Rattle.vx_bits.specs.Records.{records_of, width_of};
 ghost use Rattle.vx_types.specs.PType.{width};
 ghost use Rattle.vx_column.specs.Validity.{valid_of};
 ghost use Rattle.vx_json.specs.Meaning.{Gives};
-ghost use Rattle.vx_document.specs.Primitive.{primitive_made, primitive_by_items, ramp_listed, primitive_by_ramp, primitive_by_values, primitive_by_type, primitive_by};
+ghost use Rattle.vx_document.specs.Primitive.{primitive_made, values_there, primitive_by_items, ramp_listed, primitive_by_ramp, primitive_by_type, primitive_by};
 
 use crate::validity::{validity_alone, validity_beside};
 use serde_json::Value;
@@ -14,7 +14,7 @@ use std::alloc::Global;
 use vx_bits::Records;
 use vx_column::{Array, PType, PrimitiveArray, Validity};
 use vx_json::{
-    DocError, GREATEST_LEN, is_closed, list_member, number_member, ptype_named, ramp_of,
+    DocError, GREATEST_LEN, has_null, is_closed, list_member, number_member, ptype_named, ramp_of,
     text_member, values_of,
 };
 
@@ -45,6 +45,25 @@ pub(crate) fn primitive_by_items(
     let validity = validity_beside(alloc, stated, items)?;
     let values = values_of(alloc, ptype, items)?;
     primitive_made(ptype, values, validity)
+}
+
+/// The records of the values that the member of this name lists. `Malformed` where one is null or
+/// none of the type.
+#[tactic(auto, unfolding(crate::specs::Primitive::values_there))]
+pub(crate) fn values_there(
+    alloc: Global,
+    ptype: PType,
+    value: &Value,
+    name: &str,
+) -> Result<Records, DocError>
+    ensures value { Gives records_of result (values_there ptype name.now (view value.now)) }
+    ensures width { IfOk result (λ r. width_of r ≡ width ptype) }
+{
+    let items = list_member(value, name)?;
+    if has_null(items) {
+        return Err(DocError::Malformed);
+    }
+    values_of(alloc, ptype, items)
 }
 
 /// The records of the numbers from 0 on. `Malformed` where the type isn't an integer's.
@@ -78,19 +97,6 @@ fn primitive_by_ramp(
     )
 }
 
-#[tactic(auto, unfolding(crate::specs::Primitive::primitive_by_values))]
-fn primitive_by_values(
-    alloc: Global,
-    ptype: PType,
-    stated: Option<Validity>,
-    value: &Value,
-) -> Result<Array, DocError>
-    ensures { Gives (λ c. c) result
-        (primitive_by_values ptype (option_map valid_of stated) (view value.now)) }
-{
-    primitive_by_items(alloc, ptype, stated, list_member(value, "values")?)
-}
-
 #[tactic(auto, unfolding(crate::specs::Primitive::primitive_by_type))]
 fn primitive_by_type(
     alloc: Global,
@@ -102,7 +108,7 @@ fn primitive_by_type(
         (primitive_by_type ptype (option_map valid_of stated) (view value.now)) }
 {
     if is_closed(value, &["layout", "type", "values", "validity"]) {
-        primitive_by_values(alloc, ptype, stated, value)
+        primitive_by_items(alloc, ptype, stated, list_member(value, "values")?)
     } else if is_closed(value, &["layout", "type", "ramp", "validity"]) {
         primitive_by_ramp(alloc, ptype, stated, value)
     } else {

@@ -3,14 +3,13 @@ ghost use Rattle.std.specs.Prelude.{map};
 ghost use Rattle.serde_json.specs.View.{view};
 ghost use Rattle.vx_steps.specs.Step.{step_value};
 ghost use Rattle.vx_json.specs.Meaning.{Gives};
-ghost use Rattle.vx_document.specs.Steps.{slice_of, filter_of, flat_filter, filter_by_of, take_of, step_of, steps_of};
+ghost use Rattle.vx_document.specs.Steps.{slice_of, filter_of, filter_by_of, take_of, step_of, steps_of};
 
-use crate::columns::column_of;
+use crate::columns::{column_of, flat_of};
 use crate::documents::StepList;
 use crate::indices::indices_of;
 use serde_json::Value;
 use std::alloc::Global;
-use vx_column::{Array, FlatRef};
 use vx_json::{DocError, ReadItem, is_closed, items_in, mask_of, member, pair_of, read_each};
 use vx_steps::Step;
 
@@ -29,22 +28,12 @@ fn filter_of(alloc: Global, value: &Value) -> Result<Step, DocError>
     Ok(Step::Filter(mask_of(alloc, member(value, "filter")?)?))
 }
 
-// The filter by a column. `Malformed` where its type isn't flat.
-#[tactic(auto, unfolding(crate::specs::Steps::flat_filter))]
-fn flat_filter(alloc: Global, column: Array) -> Result<Step, DocError>
-    ensures { Gives step_value result (flat_filter column) }
-{
-    match FlatRef::try_new(column.into_ref(alloc)?) {
-        Ok(flat) => Ok(Step::FilterBy(flat)),
-        Err(_) => Err(DocError::Malformed),
-    }
-}
-
 #[tactic(auto, unfolding(crate::specs::Steps::filter_by_of))]
 fn filter_by_of(alloc: Global, value: &Value) -> Result<Step, DocError>
     ensures { Gives step_value result (filter_by_of (view value.now)) }
 {
-    flat_filter(alloc, column_of(alloc, member(value, "filter_by")?)?)
+    let column = column_of(alloc, member(value, "filter_by")?)?;
+    Ok(Step::FilterBy(flat_of(alloc, column)?))
 }
 
 #[tactic(auto, unfolding(crate::specs::Steps::take_of))]

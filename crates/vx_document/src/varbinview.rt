@@ -1,9 +1,9 @@
 //! Columns of layout `VarBinView`.
 ghost use Rattle.std.specs.Option.{option_map};
-ghost use Rattle.serde_json.specs.View.{view, items_view};
+ghost use Rattle.serde_json.specs.View.{view};
 ghost use Rattle.vx_column.specs.Validity.{valid_of};
 ghost use Rattle.vx_json.specs.Meaning.{Gives};
-ghost use Rattle.vx_document.specs.VarBinView.{views_made, views_by_items, views_by_values, views_by_buffers, views_by_kind, views_by};
+ghost use Rattle.vx_document.specs.VarBinView.{views_made, views_by_values, views_by_buffers, views_by_kind, views_by};
 
 use crate::validity::{validity_alone, validity_beside};
 use serde_json::Value;
@@ -35,24 +35,7 @@ fn views_made(
     }
 }
 
-/// The column of a list of texts and nulls, by the validity that is stated beside it.
-#[tactic(auto, unfolding(crate::specs::VarBinView::views_by_items))]
-fn views_by_items(
-    alloc: Global,
-    kind: TextKind,
-    stated: Option<Validity>,
-    items: &Vec<Value>,
-) -> Result<Array, DocError>
-    ensures { Gives (λ c. c) result
-        (views_by_items kind (option_map valid_of stated) (items_view items.now.items)) }
-{
-    let validity = validity_beside(alloc, stated, items)?;
-    let texts = placed_texts(alloc, kind, items)?;
-    let mut buffers = Vec::with_capacity(alloc, 1)?;
-    buffers.push_reserved(texts.bytes);
-    views_made(alloc, kind, texts.views, buffers, validity)
-}
-
+/// The column of the texts and nulls that the object lists.
 #[tactic(auto, unfolding(crate::specs::VarBinView::views_by_values))]
 fn views_by_values(
     alloc: Global,
@@ -63,7 +46,12 @@ fn views_by_values(
     ensures { Gives (λ c. c) result
         (views_by_values kind (option_map valid_of stated) (view value.now)) }
 {
-    views_by_items(alloc, kind, stated, list_member(value, "values")?)
+    let items = list_member(value, "values")?;
+    let validity = validity_beside(alloc, stated, items)?;
+    let texts = placed_texts(alloc, kind, items)?;
+    let mut buffers = Vec::with_capacity(alloc, 1)?;
+    buffers.push_reserved(texts.bytes);
+    views_made(alloc, kind, texts.views, buffers, validity)
 }
 
 #[tactic(auto, unfolding(crate::specs::VarBinView::views_by_buffers))]

@@ -157,6 +157,7 @@ fn store_texts(
 }
 
 /// `len` rows of one value, null where the validity says no, stored row by row. `NoMemory` alone.
+#[tactic(auto, using(vx_model::proofs::Scalars::scalar_kinds))]
 pub fn store_scalar(
     alloc: Global,
     scalar: &Scalar,
@@ -185,5 +186,7 @@ pub fn store_scalar(
         }
         DType::Utf8(_) => store_texts(alloc, TextKind::Utf8, value, len, validity),
         DType::Binary(_) => store_texts(alloc, TextKind::Binary, value, len, validity),
+        DType::List(..) | DType::FixedSizeList(..) | DType::Map(..) => unreachable!(),
+        DType::Struct(..) | DType::Union(..) | DType::Extension(..) => unreachable!(),
     }
 }

@@ -4,3 +4,4 @@ pub mod KeyPrefixes
 pub mod Links
 pub mod SmallRecords
 pub mod Tied
+pub mod FlatKeys

@@ -1,8 +1,9 @@
 -- Cells of key columns.
-use Rattle.std.specs.Prelude.{ℕ, zero, suc, Bool, true, false, cond, List, [], ◌∷◌, map, take, drop, Option, None, Some}
+use Rattle.std.specs.Prelude.{◌≡◌, ℕ, zero, suc, Bool, true, false, cond, List, [], ◌∷◌, map, take, drop, Option, None, Some}
 use Rattle.std.specs.Int.{from_le_bytes, w64}
-use Rattle.std.specs.List.{list_any}
+use Rattle.std.specs.List.{All, list_any}
 use Rattle.vx_types.specs.RowValue.{RowValue, null, bit, bytes}
+use Rattle.vx_types.specs.TypeTree.{is_flat}
 use Rattle.vx_model.specs.Column.{Column}
 use Rattle.vx_join.specs.declared.cells.KeyCell.{KeyCell}
 use Rattle.vx_join.specs.declared.cells.KeyCell.TheVariants as cells
@@ -18,6 +19,10 @@ abbrev pub is_null_cell : KeyCell → Bool
 is_null_cell cells.Null = true
 is_null_cell (cells.Bit b) = false
 is_null_cell (cells.Bytes b) = false
+
+-- each column is of a flat type
+abbrev pub AreFlat : List Column → Type 0
+AreFlat columns = All (λ (c : Column). is_flat c.dtype ≡ true) columns
 
 -- the rows of each column
 abbrev pub rows_of : List Column → List (List RowValue)

@@ -1,7 +1,7 @@
 //! Keys of several columns, or of wide ones, with a number in front that decides most comparisons.
 ghost use Rattle.std.specs.Prelude.{◌≡◌, ◌+◌, ◌*◌, IfOk, length, map};
 ghost use Rattle.vx_table.specs.Table.{AreLong};
-ghost use Rattle.vx_join.specs.Cells.{key_cells, key_parts, pieces, prefixed, row_prefix, rows_of};
+ghost use Rattle.vx_join.specs.Cells.{key_cells, key_parts, pieces, prefixed, row_prefix, rows_of, AreFlat};
 ghost use Rattle.vx_join.specs.Keys.{rows_from, rows_match};
 ghost use Rattle.vx_join.specs.Pairs.{lefts, pairs, rights};
 
@@ -76,6 +76,8 @@ pub(crate) fn join_cells(
 ) -> Result<Found, NoMemory>
     requires left { AreLong left_len left.now }
     requires right { AreLong right_len right.now }
+    requires flat { AreFlat left.now }
+    requires flat_right { AreFlat right.now }
     ensures left { IfOk result (λ found. found.left.items ≡ lefts (pairs rows_match
         (rows_from (rows_of left.now) 0 left_len) (rows_from (rows_of right.now) 0 right_len))) }
     ensures right { IfOk result (λ found. found.right.items ≡ rights (pairs rows_match

@@ -1,5 +1,5 @@
 -- The members that an object has.
-use Rattle.std.specs.Prelude.{ℕ, ◌&&◌, ◌||◌, List, [], ◌∷◌, Bool, true, false, Option, Some, None, bytes_eq}
+use Rattle.std.specs.Prelude.{ℕ, ◌&&◌, ◌||◌, List, [], ◌∷◌, Bool, true, false, if◌then◌else◌, Option, Some, None, bytes_eq}
 use Rattle.serde_json.specs.Data.{Data, Members, no_members, member}
 use Rattle.serde_json.specs.Find.{as_object}
 
@@ -19,3 +19,7 @@ is_object_of names (Some ms) = are_among names ms
 -- an object with no other members than these
 unfoldable pub is_closed : List (List ℕ) → Data → Bool
 is_closed names d = is_object_of names (as_object d)
+
+-- such an object itself
+unfoldable pub closed : List (List ℕ) → Data → Option Data
+closed names d = if is_closed names d then Some d else None

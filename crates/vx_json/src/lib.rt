@@ -25,7 +25,7 @@ pub use items::{ReadItem, read_each};
 pub use letting_go::let_go;
 pub use masks::mask_of;
 pub use members::{
-    bool_in, is_among, is_closed, items_in, list_member, member, text_in, text_member,
+    bool_in, closed, is_among, is_closed, items_in, list_member, member, text_in, text_member,
 };
 pub use policies::policy_found;
 pub use texts::{StrungTexts, byte_lists_in, bytes_of, strung_texts, text_kind_named, text_of};

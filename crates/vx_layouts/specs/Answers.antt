@@ -1,7 +1,8 @@
 -- What a layout answers to one step over a column of its own: the rows of the step, or none where it
 -- leaves the step to its caller.
-use Rattle.std.specs.Prelude.{◌≡◌, ℕ, Bool, List, Option, is_none, Result, IfOk, IfSome}
+use Rattle.std.specs.Prelude.{◌≡◌, ℕ, ◌==◌, ◌||◌, Bool, List, length, Option, is_none, Result, IfOk, IfSome}
 use Rattle.std.specs.List.{items_where_true}
+use Rattle.vx_bits.specs.BitBuffer.{true_count_of}
 use Rattle.vx_bits.specs.Results.{FailsBy}
 use Rattle.vx_bits.specs.declared.error.NoMemory.{NoMemory}
 use Rattle.vx_model.specs.Column.{Column}
@@ -10,6 +11,10 @@ use Rattle.vx_pieces.specs.Indices.{IndexValue}
 use Rattle.vx_layouts.specs.Taking.{IsTakeBy, take_fault}
 use Rattle.vx_layouts.specs.declared.taking.TakeError.{TakeError}
 use Rattle.vx_layouts.specs.declared.taking.TakeError.TheVariants.{NoMemory as OutOfMemory}
+
+-- no bit is set, or each is
+abbrev pub are_alike : List Bool → Bool
+are_alike bits = (true_count_of bits == 0) || (true_count_of bits == length bits)
 
 -- the answer to a take by these indices, of which a layout says whether it declines it
 pub record AnswersTake (c : Column) (indices : IndexValue) (declines : Bool) (result : Result (Option Column) TakeError) : Type 0 where

@@ -9,6 +9,9 @@ mod boolean;
 mod decimal;
 mod dict;
 mod filter_layout;
+mod fixed_size_list;
+mod list;
+mod listview;
 mod null;
 mod primitive;
 mod taking;
@@ -16,6 +19,8 @@ mod traits;
 mod varbin;
 mod varbinview;
 
+pub use fixed_size_list::filter_fixed_size_list;
+pub use listview::filter_listview;
 pub use taking::{TakeError, take};
 pub use traits::{FilterKernel, FilterReduce, SliceKernel, SliceReduce, TakeExecute, TakeReduce};
 pub use varbin::{VarBinSlice, take_varbin};

@@ -17,3 +17,7 @@ pub mod UnwrappedForms
 pub mod Validities
 pub mod Texts
 pub mod TextSteps
+pub mod Spans
+pub mod ListRows
+pub mod ListSteps
+pub mod ListForms

@@ -29,6 +29,7 @@ stored_bits p =
       kind = bool_kind;
       items = map bit p.bits.bits;
       records = [];
+      inner = 0;
       valid = p.valid;
     }
 

@@ -3,7 +3,12 @@ pub mod Column
 pub mod ColumnCode
 pub mod Constant
 pub mod Dict
+pub mod Filler
 pub mod Filter
+pub mod FixedSizeList
+pub mod List
+pub mod ListView
+pub mod Lists
 pub mod Null
 pub mod Numbers
 pub mod Plain

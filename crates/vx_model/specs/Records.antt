@@ -47,6 +47,7 @@ stored_records p =
       kind = p.kind;
       items = map bytes p.records;
       records = p.records;
+      inner = 0;
       valid = p.valid;
     }
 

@@ -24,6 +24,7 @@ stored_texts p =
       kind = text_kind p.kind;
       items = map bytes p.texts;
       records = [];
+      inner = 0;
       valid = p.valid;
     }
 

@@ -1,7 +1,7 @@
 -- Lines behind lines.
-use Rattle.std.proofs.Common.{◌≡◌, ℕ, zero, suc, ◌+◌, ◌-◌, ◌<◌, ◌≤◌, List, [], ◌∷◌, ◌++◌, length, take, drop, get_or, min, refl, sym, ap, ◌∙◌, append_assoc, drop-cons, length-drop, arith}
+use Rattle.std.proofs.Common.{◌≡◌, ℕ, zero, suc, ◌+◌, ◌-◌, ◌<◌, ◌≤◌, List, [], ◌∷◌, ◌++◌, length, take, drop, get_or, slice_range, min, refl, sym, ap, ◌∙◌, append_assoc, drop-cons, length-drop, arith}
 use Rattle.std.proofs.Math.Seq.{take-add}
-use Rattle.std.proofs.lemmas.List.{drop-take, get_or-take, get_or_default, length-take-le}
+use Rattle.std.proofs.lemmas.List.{drop-drop, drop-take, get_or-take, get_or_default, length-take-le}
 use Rattle.std.proofs.lemmas.List.Concat.{flat_map-append}
 use Rattle.vx_print.specs.Text.{line, lines}
 
@@ -25,22 +25,37 @@ block_more f bs xs start end is h =
     ∙ ap (λ l. bs ++ (lines f (take start xs) ++ lines f l)) capped
     ∙ sym (ap (λ l. bs ++ l) (ap (lines f) whole ∙ joined))
 
--- one row more, in front of the last k of those before `end`
-pub row_more : {X : Type 0} (f : X → List ℕ) (xs : List X) (end k : ℕ) (x d : X) → k < end → end ≤ length xs → x ≡ get_or xs (end - 1 - k) d → f x ++ 10 ∷ lines f (drop (end - k) (take end xs)) ≡ lines f (drop (end - (k + 1)) (take end xs))
-row_more f xs end k x d h within is =
+-- item `end - 1 - k` stands in front of the last k of those before `end`
+pub drop_before : {X : Type 0} (xs : List X) (end k : ℕ) (x d : X) → k < end → end ≤ length xs → x ≡ get_or xs (end - 1 - k) d → x ∷ drop (end - k) (take end xs) ≡ drop (end - (k + 1)) (take end xs)
+drop_before xs end k x d h within is =
     let ys = take end xs in
     let j = end - 1 - k in
     let lt : j < length ys = omega (arith, length-take-le end xs within) in
     let behind : end - k ≡ suc j = omega arith in
     let here : j ≡ end - (k + 1) = omega arith in
     let same : x ≡ get_or ys j x = is ∙ get_or_default xs j d x (omega arith) ∙ sym (get_or-take end xs j x (omega arith)) in
-    ap (λ (n : ℕ). f x ++ 10 ∷ lines f (drop n ys)) behind
-    ∙ sym (append_assoc (f x) (10 ∷ []) (lines f (drop (suc j) ys)))
-    ∙ ap (lines f) (ap (λ y. y ∷ drop (suc j) ys) same ∙ sym (drop-cons ys j x lt))
-    ∙ ap (λ (n : ℕ). lines f (drop n ys)) here
+    ap (λ (n : ℕ). x ∷ drop n ys) behind
+    ∙ ap (λ y. y ∷ drop (suc j) ys) same
+    ∙ sym (drop-cons ys j x lt)
+    ∙ ap (λ (n : ℕ). drop n ys) here
+
+-- one row more, in front of the last k of those before `end`
+pub row_more : {X : Type 0} (f : X → List ℕ) (xs : List X) (end k : ℕ) (x d : X) → k < end → end ≤ length xs → x ≡ get_or xs (end - 1 - k) d → f x ++ 10 ∷ lines f (drop (end - k) (take end xs)) ≡ lines f (drop (end - (k + 1)) (take end xs))
+row_more f xs end k x d h within is =
+    let rest = drop (end - k) (take end xs) in
+    sym (append_assoc (f x) (10 ∷ []) (lines f rest)) ∙ ap (lines f) (drop_before xs end k x d h within is)
 
 -- the rows from `start` up to `end` are those of the first `end` that are left behind `start`
 pub rows_between : {X : Type 0} (xs : List X) (start end : ℕ) → start ≤ end → drop start (take end xs) ≡ take (end - start) (drop start xs)
 rows_between xs start end h =
     let whole : end ≡ start + (end - start) = omega arith in
     ap (λ (n : ℕ). drop start (take n xs)) whole ∙ drop-take start (end - start) xs
+
+-- a slice, and the slice behind it
+pub slices_meet : {X : Type 0} (xs : List X) (s m e : ℕ) → s ≤ m → m ≤ e → slice_range xs s m ++ slice_range xs m e ≡ slice_range xs s e
+slices_meet xs s m e h k =
+    let whole : e - s ≡ (m - s) + (e - m) = omega arith in
+    let at : s + (m - s) ≡ m = omega arith in
+    sym (ap (λ (n : ℕ). take n (drop s xs)) whole
+    ∙ take-add (m - s) (e - m) (drop s xs)
+    ∙ ap (λ l. slice_range xs s m ++ take (e - m) l) (drop-drop (m - s) s xs ∙ ap (λ (n : ℕ). drop n xs) at))

@@ -1,14 +1,16 @@
 -- Rows that are stored as records.
-use Rattle.std.proofs.Common.{◌≡◌, ℕ, ◌-◌, ◌*◌, ◌^◌, ◌<◌, Bool, true, false, List, map, length, take, drop, get_or, min, Option, Some, None, sym, ap, ap₂, ◌∙◌, length-drop, arith}
-use Rattle.std.specs.Prelude.{if◌then◌else◌, replicate}
+use Rattle.std.proofs.Common.{◌≡◌, ℕ, ◌-◌, ◌*◌, ◌^◌, ◌<◌, Bool, true, false, List, [], ◌∷◌, ◌++◌, map, length, take, drop, get_or, min, Option, Some, None, refl, sym, ap, ap₂, ◌∙◌, length-drop, arith}
+use Rattle.std.specs.Prelude.{if◌then◌else◌, codes, replicate}
 use Rattle.std.proofs.lemmas.List.{length-map, get_or-map, length-take-le, take-map, drop-map, take-take, take_all}
 use Rattle.vx_bits.specs.Words.{word_at, word_bits}
 use Rattle.vx_bits.proofs.WordBits.{ones-word_bits}
 use Rattle.vx_bits.proofs.WordLists.{length-bits_in, word_bits_in}
 use Rattle.vx_types.specs.RowValue.{RowValue, null, bytes}
+use Rattle.vx_types.specs.TypeTree.{TypeKind}
 use Rattle.vx_model.specs.Valid.{shown_rows}
 use Rattle.vx_model.proofs.ShownRows.{length-shown_rows, get_or-shown_rows, take-shown_rows, drop-shown_rows, shown_rows-all}
 use Rattle.vx_print.specs.Records.{record_rows, block_word, IsLong}
+use Rattle.vx_print.specs.Text.{bytes_text, line, lines, row_text_as, row_text_by}
 
 -- there are as many rows as records
 pub length-record_rows : (bits : Option (List Bool)) (rs : List (List ℕ)) → IsLong bits (length rs) → length (record_rows bits rs) ≡ length rs
@@ -43,3 +45,18 @@ block_rows (Some bits) rs k n h e =
     ap₂ shown_rows same (sym (part-map rs (64 * k) n))
     ∙ sym (take-shown_rows n (drop (64 * k) bits) (drop (64 * k) (map bytes rs)))
     ∙ sym (ap (take n) (drop-shown_rows (64 * k) bits (map bytes rs)))
+
+-- no record holds other rows
+lines-bytes : (k : TypeKind) (rs : List (List ℕ)) → lines (row_text_by (bytes_text k)) (map bytes rs) ≡ lines (row_text_as k) (map bytes rs)
+lines-bytes k [] = refl
+lines-bytes k (r ∷ rs) = ap (λ l. line (bytes_text k r) ++ l) (lines-bytes k rs)
+
+lines-shown : (k : TypeKind) (bits : List Bool) (rs : List (List ℕ)) → lines (row_text_by (bytes_text k)) (shown_rows bits (map bytes rs)) ≡ lines (row_text_as k) (shown_rows bits (map bytes rs))
+lines-shown k [] rs = refl
+lines-shown k (b ∷ bits) [] = refl
+lines-shown k (true ∷ bits) (r ∷ rs) = ap (λ l. line (bytes_text k r) ++ l) (lines-shown k bits rs)
+lines-shown k (false ∷ bits) (r ∷ rs) = ap (λ l. line (codes "null") ++ l) (lines-shown k bits rs)
+
+pub record_lines : (k : TypeKind) (bits : Option (List Bool)) (rs : List (List ℕ)) → lines (row_text_by (bytes_text k)) (record_rows bits rs) ≡ lines (row_text_as k) (record_rows bits rs)
+record_lines k None rs = lines-bytes k rs
+record_lines k (Some bits) rs = lines-shown k bits rs

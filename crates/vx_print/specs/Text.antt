@@ -1,14 +1,58 @@
 -- The text of a column: a line for its type, and one for each row.
-use Rattle.std.specs.Prelude.{ℕ, ℤ, ◌==◌, ◌&&◌, nat_le, not, Bool, true, false, List, [], ◌∷◌, ◌++◌, codes, decimal, flat_map, if◌then◌else◌}
+use Rattle.std.specs.Prelude.{ℕ, ℤ, ◌==◌, ◌&&◌, nat_le, not, Bool, true, false, List, [], ◌∷◌, ◌++◌, codes, decimal, flat_map, map, if◌then◌else◌}
 use Rattle.std.specs.Fmt.{signed_decimal}
 use Rattle.hex.specs.Hex.{encode_lower}
 use Rattle.vx_types.specs.Nullability.{is_nullable}
 use Rattle.vx_types.specs.PType.{is_int, number}
-use Rattle.vx_types.specs.TypeTree.{TypeKind, TypeTree, null_kind, bool_kind, primitive_kind, decimal_kind, utf8_kind, binary_kind}
-use Rattle.vx_types.specs.RowValue.{RowValue, null, bit, bytes}
+use Rattle.vx_types.specs.TypeTree.{TypeKind, TypeTree, TypeTrees, null_kind, bool_kind, primitive_kind, decimal_kind, utf8_kind, binary_kind, list_kind, fixed_kind, map_kind, struct_kind, union_kind, extension_kind, no_types, more_types}
+use Rattle.vx_types.specs.RowValue.{RowValue, RowValues, null, bit, bytes, list, fields, tagged, none, more}
 use Rattle.vx_types.specs.declared.nullability.Nullability.{Nullability}
 use Rattle.vx_types.specs.declared.ptype.PType.{PType}
 use Rattle.vx_types.specs.declared.ptype.PType.TheVariants.{U8, U16, U32, U64, I8, I16, I32, I64, F16, F32, F64}
+
+-- ---- words
+
+-- bytes in stored order, each as two digits
+abbrev pub hex_text : List ℕ → List ℕ
+hex_text b = codes "0x" ++ encode_lower b
+
+-- a byte that stands for itself between quotes: a printed one of ASCII, other than `"` and `\`
+abbrev pub is_plain : ℕ → Bool
+is_plain b = nat_le 32 b && nat_le b 126 && not (b == 34) && not (b == 92)
+
+-- every other byte is `\x` and two digits
+abbrev pub quoted_byte : ℕ → List ℕ
+quoted_byte b = if is_plain b then b ∷ [] else codes "\\x" ++ encode_lower (b ∷ [])
+
+-- bytes between quotes
+abbrev pub quoted_text : List ℕ → List ℕ
+quoted_text b = codes "\"" ++ flat_map quoted_byte b ++ codes "\""
+
+-- texts with `, ` between them
+abbrev pub joined : List (List ℕ) → List ℕ
+joined [] = []
+joined (t ∷ ts) = t ++ flat_map (λ u. codes ", " ++ u) ts
+
+-- what stands in front of a text of such a list
+abbrev pub gap : Bool → List ℕ
+gap true = []
+gap false = codes ", "
+
+-- each text behind its label, where there are labels
+abbrev pub labelled : List (List ℕ) → List (List ℕ) → List (List ℕ)
+labelled [] ts = ts
+labelled (l ∷ ls) [] = []
+labelled (l ∷ ls) (t ∷ ts) = (l ++ t) ∷ labelled ls ts
+
+-- what stands in front of a field
+abbrev pub name_label : List ℕ → List ℕ
+name_label name = quoted_text name ++ codes ": "
+
+-- what stands in front of a variant's name
+abbrev pub id_label : ℕ → List ℕ
+id_label id = decimal id ++ codes " "
+
+-- ---- types
 
 abbrev pub ptype_text : PType → List ℕ
 ptype_text U8 = codes "u8"
@@ -37,60 +81,123 @@ abbrev pub mark_of : TypeKind → Nullability → List ℕ
 mark_of null_kind n = []
 mark_of k n = mark n
 
--- other kinds have no name yet, and no column has them
-abbrev pub kind_text : TypeKind → List ℕ
-kind_text null_kind = codes "null"
-kind_text bool_kind = codes "bool"
-kind_text (primitive_kind p) = ptype_text p
-kind_text (decimal_kind p s w) = decimal_text p s w
-kind_text utf8_kind = codes "utf8"
-kind_text binary_kind = codes "binary"
-kind_text k = []
+abbrev mutual
+  pub kind_text : TypeKind → List ℕ
+  kind_text null_kind = codes "null"
+  kind_text bool_kind = codes "bool"
+  kind_text (primitive_kind p) = ptype_text p
+  kind_text (decimal_kind p s w) = decimal_text p s w
+  kind_text utf8_kind = codes "utf8"
+  kind_text binary_kind = codes "binary"
+  kind_text (list_kind k n) = codes "list(" ++ (kind_text k ++ mark_of k n) ++ codes ")"
+  kind_text (fixed_kind k n size) =
+      codes "fixed(" ++ (kind_text k ++ mark_of k n) ++ (codes ", " ++ decimal size) ++ codes ")"
+  -- of a key and a value, without their names
+  kind_text (map_kind names ts) = codes "map(" ++ joined (type_texts ts) ++ codes ")"
+  kind_text (struct_kind names ts) =
+      codes "struct{" ++ joined (labelled (map name_label names) (type_texts ts)) ++ codes "}"
+  kind_text (union_kind ids names ts) =
+      codes "union{"
+      ++ joined (labelled (map id_label ids) (labelled (map name_label names) (type_texts ts)))
+      ++ codes "}"
+  -- the storage has no mark of its own
+  kind_text (extension_kind name k) =
+      codes "ext(" ++ quoted_text name ++ codes ", " ++ kind_text k ++ codes ")"
+
+  -- the text of each type
+  pub type_texts : TypeTrees → List (List ℕ)
+  type_texts no_types = []
+  type_texts (more_types k n ts) = (kind_text k ++ mark_of k n) ∷ type_texts ts
 
 abbrev pub type_text : TypeTree → List ℕ
 type_text t = kind_text t.kind ++ mark_of t.kind t.nullability
+
+-- ---- rows
 
 abbrev pub bit_text : Bool → List ℕ
 bit_text true = codes "true"
 bit_text false = codes "false"
 
--- bytes in stored order, each as two digits
-abbrev pub hex_text : List ℕ → List ℕ
-hex_text b = codes "0x" ++ encode_lower b
-
--- a byte that stands for itself between quotes: one of ASCII that is printed, other than `"` and `\`
-abbrev pub is_plain : ℕ → Bool
-is_plain b = nat_le 32 b && nat_le b 126 && not (b == 34) && not (b == 92)
-
--- every other byte is `\x` and two digits
-abbrev pub quoted_byte : ℕ → List ℕ
-quoted_byte b = if is_plain b then b ∷ [] else codes "\\x" ++ encode_lower (b ∷ [])
-
--- bytes between quotes
-abbrev pub quoted_text : List ℕ → List ℕ
-quoted_text b = codes "\"" ++ flat_map quoted_byte b ++ codes "\""
-
 -- a record of a primitive type: an integer in decimal digits, a float in hexadecimal ones
 abbrev pub primitive_text : PType → List ℕ → List ℕ
 primitive_text p b = if is_int p then signed_decimal (number p b) else hex_text b
 
+-- an extension's row is its storage's
 abbrev pub bytes_text : TypeKind → List ℕ → List ℕ
 bytes_text (primitive_kind p) b = primitive_text p b
 bytes_text (decimal_kind p s w) b = hex_text b
 bytes_text utf8_kind b = quoted_text b
 bytes_text binary_kind b = hex_text b
+bytes_text (extension_kind name k) b = bytes_text k b
 bytes_text k b = []
 
--- a row, with the text of bytes by f
+-- the kind of the rows in a list of this kind; a map's are structs
+abbrev pub item_kind : TypeKind → TypeKind
+item_kind (list_kind k n) = k
+item_kind (fixed_kind k n size) = k
+item_kind (map_kind names ts) = struct_kind names ts
+item_kind (extension_kind name k) = item_kind k
+item_kind k = null_kind
+
+-- the names and types of the fields of a row of this kind
+abbrev pub field_names : TypeKind → List (List ℕ)
+field_names (struct_kind names ts) = names
+field_names (extension_kind name k) = field_names k
+field_names k = []
+
+abbrev pub field_types : TypeKind → TypeTrees
+field_types (struct_kind names ts) = ts
+field_types (extension_kind name k) = field_types k
+field_types k = no_types
+
+-- the kind that stands where the id does
+abbrev pub kind_by_id : List ℕ → TypeTrees → ℕ → TypeKind
+kind_by_id [] ts id = null_kind
+kind_by_id (i ∷ is) no_types id = null_kind
+kind_by_id (i ∷ is) (more_types k n ts) id = if i == id then k else kind_by_id is ts id
+
+-- the kind of the variant of this id
+abbrev pub variant_kind : TypeKind → ℕ → TypeKind
+variant_kind (union_kind ids names ts) id = kind_by_id ids ts id
+variant_kind (extension_kind name k) id = variant_kind k id
+variant_kind k id = null_kind
+
+abbrev mutual
+  -- a row of a column of this kind
+  pub row_text_as : TypeKind → RowValue → List ℕ
+  row_text_as k null = codes "null"
+  row_text_as k (bit b) = bit_text b
+  row_text_as k (bytes b) = bytes_text k b
+  row_text_as k (list xs) = codes "[" ++ joined (item_texts (item_kind k) xs) ++ codes "]"
+  row_text_as k (fields xs) =
+      codes "{"
+      ++ joined (labelled (map name_label (field_names k)) (field_texts (field_types k) xs))
+      ++ codes "}"
+  row_text_as k (tagged id x) = decimal id ++ codes ":" ++ row_text_as (variant_kind k id) x
+
+  -- the rows in a list, of one kind
+  pub item_texts : TypeKind → RowValues → List (List ℕ)
+  item_texts k none = []
+  item_texts k (more x xs) = row_text_as k x ∷ item_texts k xs
+
+  -- the rows of fields, each of its own kind
+  pub field_texts : TypeTrees → RowValues → List (List ℕ)
+  field_texts ts none = []
+  field_texts no_types (more x xs) = []
+  field_texts (more_types k n ts) (more x xs) = row_text_as k x ∷ field_texts ts xs
+
+-- a row of a column of this type
+abbrev pub row_text : TypeTree → RowValue → List ℕ
+row_text t x = row_text_as t.kind x
+
+-- a row that holds no other rows, with the text of bytes by f
 abbrev pub row_text_by : (List ℕ → List ℕ) → RowValue → List ℕ
 row_text_by f null = codes "null"
 row_text_by f (bit b) = bit_text b
 row_text_by f (bytes b) = f b
 row_text_by f x = []
 
--- a row of a column of this type
-abbrev pub row_text : TypeTree → RowValue → List ℕ
-row_text t x = row_text_by (bytes_text t.kind) x
+-- ---- lines
 
 abbrev pub line : List ℕ → List ℕ
 line text = text ++ 10 ∷ []

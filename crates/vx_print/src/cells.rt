@@ -1,12 +1,13 @@
-//! Lines of rows of flat types, read as cells and written by blocks: each block from its last row
-//! back to its first.
-ghost use Rattle.std.specs.Prelude.{◌≡◌, ◌+◌, ◌≤◌, ◌++◌, length, drop, IsOk, slice_range, true};
+//! Rows of flat types, read as cells and written by blocks: each block from its last row back to
+//! its first.
+ghost use Rattle.std.specs.Prelude.{◌≡◌, ◌+◌, ◌≤◌, ◌++◌, length, drop, map, IsOk, slice_range, true};
 ghost use Rattle.vx_types.specs.DType.{type_of};
 ghost use Rattle.vx_types.specs.PType.{width};
 ghost use Rattle.vx_types.specs.TypeTree.{is_flat};
 ghost use Rattle.vx_column.specs.Cell.{row_of, IsOfType};
-ghost use Rattle.vx_print.specs.Text.{lines, primitive_text, row_text};
+ghost use Rattle.vx_print.specs.Text.{joined, lines, primitive_text, row_text};
 
+use crate::joined::{push_next, put_gap};
 use crate::row::{BLOCK, ROOM, ROW, put_hex, put_number, put_word};
 use vx_bits::NoMemory;
 use vx_column::{Array, Cell, DType, PType};
@@ -52,7 +53,7 @@ fn put_row(dtype: &DType, row: Cell<'_>, dst: &mut [u8; ROOM], end: usize) -> us
             prove!(width <= 32);
             put_hex(bytes, dst, end)
         }
-        (Cell::Bytes(_), _) => unreachable!(),
+        (Cell::Bytes(_) | Cell::List(_), _) => unreachable!(),
     }
 }
 
@@ -87,6 +88,50 @@ pub(crate) fn push_rows(text: &mut Vec<u8>, column: &Array) -> Result<(), NoMemo
         let start = BLOCK * k;
         let end = start + (column.len() - start).min(BLOCK);
         let at = put_rows(column, start, end, &mut dst);
+        text.extend_from_slice(&dst[at..])?;
+    }
+    Ok(())
+}
+
+// Writes the rows from `start` up to `end`, with `, ` between them, so that they end where `dst`
+// does, and answers where they begin.
+fn put_joined(column: &Array, start: usize, end: usize, dst: &mut [u8; ROOM]) -> usize
+    requires flat { is_flat column.now.dtype ≡ true }
+    requires ordered { start ≤ end }
+    requires block { end ≤ start + BLOCK }
+    requires within { end ≤ length column.now.rows }
+    ensures within { result ≤ ROOM }
+    ensures put { drop result dst.new
+        ≡ joined (map (row_text column.now.dtype) (slice_range column.now.rows start end)) }
+{
+    let mut at = ROOM;
+    for k in 0..end - start {
+        at = put_gap(k == 0, dst, at);
+        at = put_row(column.dtype(), column.cell_at(end - 1 - k), dst, at);
+    }
+    at
+}
+
+/// Appends the rows from `start` up to `end` of a column of flat type, with `, ` between them, by
+/// way of `dst`. `NoMemory` alone, also where the text would grow past its bound.
+pub(crate) fn push_joined(
+    text: &mut Vec<u8>,
+    dst: &mut [u8; ROOM],
+    column: &Array,
+    start: usize,
+    end: usize,
+) -> Result<(), NoMemory>
+    requires flat { is_flat column.now.dtype ≡ true }
+    requires ordered { start ≤ end }
+    requires within { end ≤ length column.now.rows }
+    ensures { IsOk result → text.new.items ≡ text.old.items
+        ++ joined (map (row_text column.now.dtype) (slice_range column.now.rows start end)) }
+{
+    for k in 0..(end - start).div_ceil(BLOCK) {
+        let from = start + BLOCK * k;
+        let to = from + (end - from).min(BLOCK);
+        push_next(text, k == 0)?;
+        let at = put_joined(column, from, to, dst);
         text.extend_from_slice(&dst[at..])?;
     }
     Ok(())

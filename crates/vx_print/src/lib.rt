@@ -5,11 +5,14 @@
 mod calls;
 mod cells;
 mod fault;
+mod joined;
+mod nested;
 mod reads;
 mod records;
 mod row;
 mod text;
 mod texts;
+mod types;
 
 pub use calls::calls_line;
 pub use fault::{FAULT_ROOM, fault_line};

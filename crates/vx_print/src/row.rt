@@ -14,8 +14,9 @@ pub(crate) const BLOCK: usize = 64;
 /// How many bytes a row takes at most: `0x`, and two digits for each of 32 bytes.
 pub(crate) const ROW: usize = 66;
 
-/// How many bytes the lines of a block take at most.
-pub(crate) const ROOM: usize = BLOCK * (ROW + 1);
+/// How many bytes the rows of a block take at most, with a line end behind each, or `, ` between
+/// two of them.
+pub(crate) const ROOM: usize = BLOCK * (ROW + 2);
 
 #[inline(always)]
 fn as_array<const W: usize>(bytes: &[u8]) -> [u8; W]

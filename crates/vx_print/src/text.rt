@@ -3,34 +3,18 @@ ghost use Rattle.std.specs.Prelude.{◌≡◌, ◌++◌, length, Some, IfOk, IsO
 ghost use Rattle.vx_bits.specs.Records.{records_of, width_of};
 ghost use Rattle.vx_types.specs.DType.{type_of};
 ghost use Rattle.vx_types.specs.TypeTree.{type_width};
-ghost use Rattle.vx_print.specs.Text.{ptype_text, decimal_text, mark, type_text, row_text, lines, text};
+ghost use Rattle.vx_print.specs.Text.{row_text, lines, text};
 ghost use Rattle.vx_print.specs.Records.{record_rows, bits_in, IsLong};
 
 use crate::cells::push_rows;
+use crate::nested::push_nested;
 use crate::records::{push_hex, push_primitive};
 use crate::texts::push_texts;
+use crate::types::push_type;
 use itoa::{Buffer, Integer};
 use std::alloc::Global;
 use vx_bits::{BitBuffer, NoMemory, Records};
-use vx_column::{Array, DType, DecimalDType, Nullability, PType};
-
-fn ptype_text(ptype: PType) -> &'static str
-    ensures { result.now ≡ ptype_text ptype }
-{
-    match ptype {
-        PType::U8 => "u8",
-        PType::U16 => "u16",
-        PType::U32 => "u32",
-        PType::U64 => "u64",
-        PType::I8 => "i8",
-        PType::I16 => "i16",
-        PType::I32 => "i32",
-        PType::I64 => "i64",
-        PType::F16 => "f16",
-        PType::F32 => "f32",
-        PType::F64 => "f64",
-    }
-}
+use vx_column::{Array, DType};
 
 // Appends a word and a number behind it.
 pub(crate) fn push_number<I: Integer>(
@@ -44,60 +28,6 @@ pub(crate) fn push_number<I: Integer>(
     let mut buffer = Buffer::new();
     text.extend_from_slice(buffer.format(number).as_bytes())?;
     Ok(())
-}
-
-// Appends precision, scale and width of a decimal type.
-fn push_decimal(text: &mut Vec<u8>, decimal: DecimalDType) -> Result<(), NoMemory>
-    ensures { IsOk result → text.new.items ≡ text.old.items
-        ++ decimal_text decimal.precision decimal.scale decimal.width }
-{
-    push_number(text, b"decimal(", decimal.precision())?;
-    push_number(text, b",", decimal.scale())?;
-    push_number(text, b",", decimal.width())?;
-    text.push(b')')?;
-    Ok(())
-}
-
-// Appends the mark of a nullable type.
-fn push_mark(text: &mut Vec<u8>, nullability: Nullability) -> Result<(), NoMemory>
-    ensures { IsOk result → text.new.items ≡ text.old.items ++ mark nullability }
-{
-    if nullability.is_nullable() {
-        text.push(b'?')?;
-    }
-    Ok(())
-}
-
-// Appends a type, marked where it is nullable.
-fn push_type(text: &mut Vec<u8>, dtype: &DType) -> Result<(), NoMemory>
-    ensures { IsOk result → text.new.items ≡ text.old.items ++ type_text (type_of dtype.now) }
-{
-    match dtype {
-        DType::Null => {
-            text.extend_from_slice(b"null")?;
-            Ok(())
-        }
-        DType::Bool(nullability) => {
-            text.extend_from_slice(b"bool")?;
-            push_mark(text, *nullability)
-        }
-        DType::Primitive(ptype, nullability) => {
-            text.extend_from_slice(ptype_text(*ptype).as_bytes())?;
-            push_mark(text, *nullability)
-        }
-        DType::Decimal(decimal, nullability) => {
-            push_decimal(text, *decimal)?;
-            push_mark(text, *nullability)
-        }
-        DType::Utf8(nullability) => {
-            text.extend_from_slice(b"utf8")?;
-            push_mark(text, *nullability)
-        }
-        DType::Binary(nullability) => {
-            text.extend_from_slice(b"binary")?;
-            push_mark(text, *nullability)
-        }
-    }
 }
 
 // Appends a line for each row of this type: a record, or null where there are bits and the row's
@@ -114,9 +44,9 @@ fn push_records(
         (record_rows (bits_in bits.entry) (records_of records.now)) }
 {
     match dtype {
-        DType::Null | DType::Bool(_) | DType::Utf8(_) | DType::Binary(_) => unreachable!(),
         DType::Primitive(ptype, _) => push_primitive(text, *ptype, records, bits),
         DType::Decimal(..) => push_hex(text, records, bits),
+        _ => unreachable!(),
     }
 }
 
@@ -132,9 +62,12 @@ fn push_lines(text: &mut Vec<u8>, column: &Array) -> Result<(), NoMemory>
         return push_records(text, column.dtype(), records, Some(bits));
     }
     if column.dtype().is_flat() {
-        push_rows(text, column)
-    } else {
+        return push_rows(text, column);
+    }
+    if column.dtype().has_scalars() {
         push_texts(text, column)
+    } else {
+        push_nested(text, column)
     }
 }
 

@@ -2,7 +2,7 @@
 ghost use Rattle.std.specs.Prelude.{◌≡◌, ◌++◌, ◌≤◌, length, flat_map, true, false, IsOk};
 ghost use Rattle.std.specs.List.{list_all};
 ghost use Rattle.vx_types.specs.DType.{type_of};
-ghost use Rattle.vx_types.specs.TypeTree.{is_flat};
+ghost use Rattle.vx_types.specs.Scalar.{is_text_kind};
 ghost use Rattle.vx_column.specs.Cell.{row_of, IsOfType};
 ghost use Rattle.vx_print.specs.Text.{bytes_text, hex_text, is_plain, lines, quoted_byte, quoted_text, row_text};
 
@@ -10,9 +10,10 @@ use hex::encode_to_slice;
 use vx_bits::NoMemory;
 use vx_column::{Array, Cell, DType};
 
-/// A row of text is begun only where the bytes that are there and those of the row, as they are
-/// stored, are at most so many. A short document can name a text of any length: here it ends.
-pub(crate) const TEXT_BYTES: usize = 1 << 31;
+// A row of text or a list is begun only where the bytes that are there and those of the text, as
+// they are stored, are at most so many. A short document can name a text or a list of any length:
+// here it ends.
+const TEXT_BYTES: usize = 1 << 31;
 
 const DIGITS: &[u8; 16] = b"0123456789abcdef";
 
@@ -116,8 +117,9 @@ fn push_runs(text: &mut Vec<u8>, bytes: &[u8]) -> Result<(), NoMemory>
     Ok(())
 }
 
-// Appends bytes between quotes.
-fn push_quoted(text: &mut Vec<u8>, bytes: &[u8]) -> Result<(), NoMemory>
+/// Appends bytes between quotes. `NoMemory` alone.
+#[inline(always)]
+pub(crate) fn push_quoted(text: &mut Vec<u8>, bytes: &[u8]) -> Result<(), NoMemory>
     ensures { IsOk result → text.new.items ≡ text.old.items ++ quoted_text bytes.now }
 {
     text.push(b'"')?;
@@ -144,16 +146,19 @@ fn push_digits(text: &mut Vec<u8>, bytes: &[u8]) -> Result<(), NoMemory>
     Ok(())
 }
 
-// Whether a row that has so many stored bytes may be begun behind a text of `len`.
-fn has_room(len: usize, more: usize) -> bool
+/// Whether a row that has so many stored bytes may be begun behind a text of `len`.
+#[inline(always)]
+pub(crate) fn has_room(len: usize, more: usize) -> bool
     ensures { result ≡ true → more ≤ TEXT_BYTES }
 {
     len <= TEXT_BYTES && more <= TEXT_BYTES - len
 }
 
-// Appends a row's bytes, as its type says.
-fn push_bytes(text: &mut Vec<u8>, dtype: &DType, bytes: &[u8]) -> Result<(), NoMemory>
-    requires { is_flat (type_of dtype.now) ≡ false }
+/// Appends the bytes of a row of text, as its type says. `NoMemory` alone, also where the text
+/// would grow past its bound.
+#[inline(always)]
+pub(crate) fn push_bytes(text: &mut Vec<u8>, dtype: &DType, bytes: &[u8]) -> Result<(), NoMemory>
+    requires { is_text_kind (type_of dtype.now).kind ≡ true }
     ensures { IsOk result → text.new.items
         ≡ text.old.items ++ bytes_text (type_of dtype.now).kind bytes.now }
 {
@@ -169,7 +174,7 @@ fn push_bytes(text: &mut Vec<u8>, dtype: &DType, bytes: &[u8]) -> Result<(), NoM
 
 // Appends a row of this type.
 fn push_row(text: &mut Vec<u8>, dtype: &DType, row: Cell<'_>) -> Result<(), NoMemory>
-    requires text { is_flat (type_of dtype.now) ≡ false }
+    requires text { is_text_kind (type_of dtype.now).kind ≡ true }
     requires of_type { IsOfType row (type_of dtype.now) }
     ensures { IsOk result → text.new.items
         ≡ text.old.items ++ row_text (type_of dtype.now) (row_of row.entry) }
@@ -180,14 +185,14 @@ fn push_row(text: &mut Vec<u8>, dtype: &DType, row: Cell<'_>) -> Result<(), NoMe
             Ok(())
         }
         Cell::Bytes(bytes) => push_bytes(text, dtype, bytes),
-        Cell::Bit(_) => unreachable!(),
+        Cell::Bit(_) | Cell::List(_) => unreachable!(),
     }
 }
 
 /// Appends a line for each row of a column of text. `NoMemory` alone, also where the text would
 /// grow past its bound.
 pub(crate) fn push_texts(text: &mut Vec<u8>, column: &Array) -> Result<(), NoMemory>
-    requires { is_flat column.now.dtype ≡ false }
+    requires { is_text_kind column.now.dtype.kind ≡ true }
     ensures { IsOk result → text.new.items
         ≡ text.old.items ++ lines (row_text column.now.dtype) column.now.rows }
 {

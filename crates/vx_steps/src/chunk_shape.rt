@@ -112,7 +112,7 @@ impl ChunkShape {
         match &self.dtype {
             DType::Primitive(ptype, _) => ptype.width(),
             DType::Decimal(decimal, _) => decimal.width() as usize,
-            DType::Null | DType::Bool(_) | DType::Utf8(_) | DType::Binary(_) => unreachable!(),
+            _ => unreachable!(),
         }
     }
 

@@ -29,7 +29,7 @@ equal a n h = grind (arith, nat_tests, h)
 at_most : (a b : ℕ) → nat_le a b ≡ true → a ≤ b
 at_most a b h = grind (arith, nat_tests, h)
 
-not_past : (a b : ℕ) → a ≤ b → nat_le a b ≡ true
+pub not_past : (a b : ℕ) → a ≤ b → nat_le a b ≡ true
 not_past a b h = grind (arith, nat_tests, h)
 
 same : (a : ℕ) → (a == a) ≡ true

@@ -6,5 +6,6 @@ pub mod KeptViews
 pub mod OffsetLists
 pub mod PickedRows
 pub mod ReadOffsets
+pub mod RunEnds
 pub mod RunTexts
 pub mod TextViews

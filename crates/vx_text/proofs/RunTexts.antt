@@ -1,18 +1,22 @@
 -- Texts of a run of rows, put out one after another.
-use Rattle.std.proofs.Common.{◌≡◌, ℕ, zero, suc, ◌+◌, ◌-◌, ◌^◌, ◌<◌, ◌≤◌, List, [], ◌∷◌, ◌++◌, length, get_or, take, drop, slice_range, refl, sym, ap, subst, ◌∙◌, arith, append_assoc}
-use Rattle.std.specs.Prelude.{Result, Ok, Err, OnOk}
+use Rattle.std.proofs.Common.{◌≡◌, ℕ, zero, suc, ◌+◌, ◌-◌, ◌^◌, ◌<◌, ◌≤◌, Bool, true, List, [], ◌∷◌, ◌++◌, length, get_or, take, drop, slice_range, refl, sym, ap, ap₂, subst, ◌∙◌, arith, append_assoc}
+use Rattle.std.specs.Prelude.{Result, Ok, Err, OnOk, nat_le, if◌then◌else◌}
 use Rattle.std.specs.List.{All, flat_map}
-use Rattle.std.proofs.lemmas.List.{append-nil, drop-drop, length-append, take_more}
+use Rattle.std.proofs.lemmas.List.{append-nil, drop-drop, length-append, length-map, take_more}
 use Rattle.std.proofs.lemmas.List.Elements.{All-get_or}
 use Rattle.std.proofs.lemmas.Grind.{flat_map-append}
 use Rattle.std.proofs.Math.Seq.{take-add}
 use Rattle.vx_types.specs.declared.ptype.PType.{PType}
-use Rattle.vx_numbers.specs.Offsets.{lists_at}
+use Rattle.vx_numbers.specs.Offsets.{are_offsets, lists_at, offset_positions, record_numbers}
+use Rattle.vx_numbers.specs.Positions.{position_of}
+use Rattle.vx_numbers.proofs.Ascending.{length-numbers}
 use Rattle.vx_model.proofs.Items.{length-slice_range}
 use Rattle.vx_model.proofs.Texts.{get_or-lists_at, length-lists_at}
 use Rattle.vx_text.specs.Building.{AddsTexts, AreTexts}
-use Rattle.vx_text.specs.OffsetList.{OffsetList, with_offset}
-use Rattle.vx_text.proofs.BuiltTexts.{one_text}
+use Rattle.vx_text.specs.OffsetList.{OffsetList, greatest_offset, run_ends, wide_type, with_offset}
+use Rattle.vx_text.proofs.BuiltTexts.{not_past, one_text}
+use Rattle.vx_text.proofs.ReadOffsets.{read_within, run_ordered}
+use Rattle.vx_text.proofs.RunEnds.{no_end, one_end}
 
 -- ---- parts of a list
 
@@ -67,6 +71,46 @@ no_row bytes os s old front p left are =
     (subst (λ (l : List (List ℕ)). AreTexts p old front l)
     (sym (append-nil left) ∙ ap (λ l. left ++ l) (sym (slice_none (lists_at os bytes) s)))
     are)
+
+module _ (bytes os : List ℕ) (climbs : (i j : ℕ) → i ≤ j → j < length os → get_or os i 0 ≤ get_or os j 0) (top : (i : ℕ) → i < length os → get_or os i 0 ≤ length bytes) (p : PType) (old : OffsetList) (front : List ℕ) (left : List (List ℕ)) (s : ℕ) where
+  -- the offsets behind those of so many rows more
+  abbrev pub behind : ℕ → OffsetList
+  behind k = record { ptype = old.ptype; numbers = old.numbers ++ run_ends os (length front) s k }
+
+  pub all_rows : (n : ℕ) → s + n < length os → length front + (get_or os (s + n) 0 - get_or os s 0) < 2 ^ 63 → length front + (get_or os (s + n) 0 - get_or os s 0) ≤ greatest_offset old.ptype → AreTexts p old front left → AreTexts p (behind (s + n)) (front ++ slice_range bytes (get_or os s 0) (get_or os (s + n) 0)) (left ++ slice_range (lists_at os bytes) s (s + n))
+  all_rows zero h short fits are =
+      let same : s ≡ s + 0 = omega arith in
+      let none : old.numbers ≡ old.numbers ++ run_ends os (length front) s s = sym (append-nil old.numbers) ∙ ap (λ l. old.numbers ++ l) (sym (no_end os (length front) s)) in
+      subst (λ (k : ℕ). AreTexts p (behind k) (front ++ slice_range bytes (get_or os s 0) (get_or os k 0)) (left ++ slice_range (lists_at os bytes) s k)) same
+      (subst (λ (ns : List ℕ). AreTexts p (record { ptype = old.ptype; numbers = ns }) (front ++ slice_range bytes (get_or os s 0) (get_or os s 0)) (left ++ slice_range (lists_at os bytes) s s)) none (no_row bytes os s old front p left are))
+  all_rows (suc n) h short fits are =
+      let i = s + n in
+      let next : s + n + 1 ≡ s + suc n = omega arith in
+      let row : s + n + 1 < length os = omega (arith, h) in
+      let last : get_or os (s + suc n) 0 ≡ get_or os (s + n + 1) 0 = ap (λ k. get_or os k 0) (sym next) in
+      let up = climbs s (s + n) (omega arith) (omega (arith, row)) in
+      let on = climbs (s + n) (s + n + 1) (omega arith) row in
+      let before = all_rows n (omega (arith, row)) (omega (arith, up, on, last, short)) (omega (arith, up, on, last, fits)) are in
+      let m = length front + (get_or os (s + n + 1) 0 - get_or os s 0) in
+      let within : nat_le m (greatest_offset old.ptype) ≡ true = not_past m (greatest_offset old.ptype) (omega (arith, last, fits)) in
+      let make : PType → List ℕ → OffsetList = λ t ns. record { ptype = t; numbers = ns } in
+      let is : behind (s + n + 1) ≡ with_offset (behind (s + n)) m =
+      ap₂ make (sym (ap (λ (b : Bool). if b then old.ptype else wide_type old.ptype) within))
+      (ap (λ l. old.numbers ++ l) (one_end os (length front) s (s + n) (omega arith)) ∙ sym (append_assoc old.numbers (run_ends os (length front) s (s + n)) (m ∷ []))) in
+      subst (λ (k : ℕ). AreTexts p (behind k) (front ++ slice_range bytes (get_or os s 0) (get_or os k 0)) (left ++ slice_range (lists_at os bytes) s k)) next
+      (one_row bytes os s (s + n) (omega arith) row p (behind (s + n)) (behind (s + n + 1)) front left up on (top (s + n + 1) row) (omega (arith, last, short)) is before)
+
+pub run_added : {T E : Type 0} (r : Result T E) (bytes : List ℕ) (t : PType) (xs : List (List ℕ)) (old new : OffsetList) (base s e : ℕ) → are_offsets (record_numbers t xs) (length bytes) ≡ true → s ≤ e → e < length xs → base + (get_or (offset_positions (record_numbers t xs)) e 0 - get_or (offset_positions (record_numbers t xs)) s 0) < 2 ^ 63 → base + (get_or (offset_positions (record_numbers t xs)) e 0 - get_or (offset_positions (record_numbers t xs)) s 0) ≤ greatest_offset old.ptype → OnOk r (new ≡ record { ptype = old.ptype; numbers = old.numbers ++ run_ends (offset_positions (record_numbers t xs)) base s e }) → OnOk r ((front : List ℕ) → length front ≡ base → AddsTexts old front new (front ++ slice_range bytes (get_or (offset_positions (record_numbers t xs)) s 0) (get_or (offset_positions (record_numbers t xs)) e 0)) (slice_range (lists_at (offset_positions (record_numbers t xs)) bytes) s e))
+run_added (Ok x) bytes t xs old new base s e are o l short fits is =
+    let os = offset_positions (record_numbers t xs) in
+    let long : length os ≡ length xs = length-map (record_numbers t xs) position_of ∙ length-numbers t xs in
+    let last : s + (e - s) ≡ e = omega (arith, o) in
+    λ front at p left texts.
+    let all = all_rows bytes os (λ i j h k. run_ordered t xs (length bytes) i j are h (omega (arith, k, long))) (λ i h. read_within t xs i (length bytes) are (omega (arith, h, long))) p old front left s (e - s) (omega (arith, last, l, long)) (subst (λ (k : ℕ). length front + (get_or os k 0 - get_or os s 0) < 2 ^ 63) (sym last) (omega (arith, at, short))) (subst (λ (k : ℕ). length front + (get_or os k 0 - get_or os s 0) ≤ greatest_offset old.ptype) (sym last) (omega (arith, at, fits))) texts in
+    let make : ℕ → OffsetList = λ b. record { ptype = old.ptype; numbers = old.numbers ++ run_ends os b s e } in
+    subst (λ (o : OffsetList). AreTexts p o (front ++ slice_range bytes (get_or os s 0) (get_or os e 0)) (left ++ slice_range (lists_at os bytes) s e)) (sym (is ∙ ap make (sym at)))
+    (subst (λ (k : ℕ). AreTexts p (record { ptype = old.ptype; numbers = old.numbers ++ run_ends os (length front) s k }) (front ++ slice_range bytes (get_or os s 0) (get_or os k 0)) (left ++ slice_range (lists_at os bytes) s k)) last all)
+run_added (Err x) bytes t xs old new base s e are o l short fits is = is
 
 pub add_run : {T E : Type 0} (r : Result T E) (old : OffsetList) (bytes : List ℕ) (base : ℕ) (new : OffsetList) (more text : List ℕ) (texts : List (List ℕ)) → length bytes ≡ base → more ≡ bytes ++ text → OnOk r ((front : List ℕ) → length front ≡ base → AddsTexts old front new (front ++ text) texts) → OnOk r (AddsTexts old bytes new more texts)
 add_run (Ok x) old bytes base new more text texts is joined h =

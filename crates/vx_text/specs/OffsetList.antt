@@ -1,5 +1,6 @@
 -- Offsets in a list that widens.
-use Rattle.std.specs.Prelude.{ℕ, ◌++◌, List, [], ◌∷◌, map, nat_le, Bool, true, false, if◌then◌else◌}
+use Rattle.std.specs.Prelude.{ℕ, ◌+◌, ◌-◌, ◌++◌, List, [], ◌∷◌, map, nat_le, Bool, true, false, slice_index, if◌then◌else◌}
+use Rattle.std.specs.List.{range_with_len}
 use Rattle.std.specs.Int.{w32, w64, from_le_bytes}
 use Rattle.vx_types.specs.PType.{is_signed}
 use Rattle.vx_types.specs.declared.ptype.PType.{PType}
@@ -62,3 +63,8 @@ stored_records (Wide records) = records.items
 abbrev pub stored_width : OffsetRecords → ℕ
 stored_width (Narrow records) = 4
 stored_width (Wide records) = 8
+
+-- where the rows of a run end, if their bytes stand behind `base` others
+abbrev pub run_ends : List ℕ → ℕ → ℕ → ℕ → List ℕ
+run_ends offsets base start end =
+    map (λ i. base + (slice_index offsets i - slice_index offsets start)) (range_with_len (start + 1) (end - start))

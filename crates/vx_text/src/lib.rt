@@ -2,6 +2,7 @@
 #![tactic(auto)]
 
 mod alike;
+mod ends;
 mod filtered;
 mod offsets;
 mod picked_texts;
@@ -15,7 +16,8 @@ mod views;
 pub use alike::{texts_alike, views_alike};
 pub use filtered::filter_varbin;
 pub use offsets::Offsets;
-pub use picked_texts::take_varbin_picks;
+pub use picked_texts::{present_mask, take_varbin_picks};
 pub use picked_views::take_views;
-pub use varbin::slice_varbin;
+pub use reading::offset_at;
+pub use varbin::{slice_offsets, slice_varbin};
 pub use views::{filter_views, gather_views, slice_views};

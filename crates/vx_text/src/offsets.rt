@@ -1,13 +1,15 @@
 //! Offsets in a list that widens.
-ghost use Rattle.std.specs.Prelude.{◌≡◌, ◌+◌, ◌++◌, ◌<◌, ◌≤◌, ◌^◌, [], ◌∷◌, false, length, map, pos, slice_index, true, IfOk, OnErr, OnOk};
+ghost use Rattle.std.specs.Prelude.{◌≡◌, ◌+◌, ◌-◌, ◌++◌, ◌<◌, ◌≤◌, ◌^◌, [], ◌∷◌, false, length, map, pos, slice_index, true, IfOk, OnErr, OnOk};
 ghost use Rattle.std.specs.Int.{w32, w64, from_le_bytes};
 ghost use Rattle.vx_bits.specs.Records.{records_of, width_of};
 ghost use Rattle.vx_types.specs.PType.{is_int, width};
 ghost use Rattle.vx_types.specs.TypeTree.{is_int_kind, primitive_kind};
+ghost use Rattle.vx_numbers.specs.Offsets.{are_offsets, offset_positions, record_numbers};
 ghost use Rattle.vx_model.specs.Numbers.{integers_of};
 ghost use Rattle.vx_model.specs.Valid.{non_nullable};
-ghost use Rattle.vx_text.specs.OffsetList.{first_type, greatest_offset, is_wide, numbers_of, stored_records, stored_width, type_by, with_offset};
+ghost use Rattle.vx_text.specs.OffsetList.{first_type, greatest_offset, is_wide, numbers_of, run_ends, stored_records, stored_width, type_by, with_offset};
 
+use crate::ends::{push_narrow, push_wide};
 use std::alloc::Global;
 use std::marker::Model;
 use vx_bits::{Buffer, NoMemory, Records};
@@ -65,6 +67,38 @@ impl OffsetRecords {
             OffsetRecords::Wide(records) => records.push((offset as u64).to_le_bytes())?,
         }
         Ok(())
+    }
+
+    // Appends where each row of a run ends, if its bytes stand behind `base` others and the last
+    // end fits. `NoMemory` alone, and then they are as before.
+    #[inline(always)]
+    fn push_run<const W: usize>(
+        &mut self,
+        signed: bool,
+        base: usize,
+        ptype: PType,
+        records: &[[u8; W]],
+        len: usize,
+        run: (usize, usize),
+    ) -> Result<(), NoMemory>
+        requires int { is_int ptype ≡ true }
+        requires width { W ≡ width ptype }
+        requires offsets { are_offsets (record_numbers ptype records.now) len ≡ true }
+        requires ordered { run.0 ≤ run.1 }
+        requires within { run.1 < length records.now }
+        requires fits { base
+            + (slice_index (offset_positions (record_numbers ptype records.now)) run.1
+            - slice_index (offset_positions (record_numbers ptype records.now)) run.0)
+            ≤ greatest_offset (type_by signed self.old) }
+        ensures numbers { OnOk result (numbers_of self.new ≡ numbers_of self.old
+            ++ run_ends (offset_positions (record_numbers ptype records.now)) base run.0 run.1) }
+        ensures err { OnErr result (numbers_of self.new ≡ numbers_of self.old) }
+        ensures kept { type_by signed self.new ≡ type_by signed self.old }
+    {
+        match self {
+            OffsetRecords::Narrow(ends) => push_narrow(ends, base, ptype, records, len, run),
+            OffsetRecords::Wide(ends) => push_wide(ends, base, ptype, records, len, run),
+        }
     }
 
     // The same offsets of 32 bits in 64, and one more. `NoMemory` alone.
@@ -209,7 +243,7 @@ impl Offsets {
     }
 
     // The greatest offset of their type.
-    fn greatest(&self) -> usize
+    pub(crate) fn greatest(&self) -> usize
         ensures { result ≡ greatest_offset self.now.ptype }
     {
         match self.ptype() {
@@ -231,6 +265,35 @@ impl Offsets {
         }
         self.records = self.records.widened_by(self.alloc, offset)?;
         Ok(())
+    }
+
+    // Appends where each row of a run ends, if its bytes stand behind `base` others and the last
+    // end fits their type. `NoMemory` alone.
+    #[inline(always)]
+    pub(crate) fn push_run<const W: usize>(
+        &mut self,
+        base: usize,
+        ptype: PType,
+        records: &[[u8; W]],
+        len: usize,
+        run: (usize, usize),
+    ) -> Result<(), NoMemory>
+        requires int { is_int ptype ≡ true }
+        requires width { W ≡ width ptype }
+        requires offsets { are_offsets (record_numbers ptype records.now) len ≡ true }
+        requires ordered { run.0 ≤ run.1 }
+        requires within { run.1 < length records.now }
+        requires fits { base
+            + (slice_index (offset_positions (record_numbers ptype records.now)) run.1
+            - slice_index (offset_positions (record_numbers ptype records.now)) run.0)
+            ≤ greatest_offset self.old.ptype }
+        ensures { OnOk result (self.new ≡ record self.old {
+          numbers = self.old.numbers
+              ++ run_ends (offset_positions (record_numbers ptype records.now)) base run.0 run.1;
+        }) }
+    {
+        self.records
+            .push_run(self.signed, base, ptype, records, len, run)
     }
 
     /// The column of these offsets. `NoMemory` alone.

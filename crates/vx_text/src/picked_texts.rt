@@ -22,8 +22,8 @@ use vx_mask::Mask;
 use vx_numbers::by_type;
 use vx_take::Picks;
 
-// Which of `len` rows are there.
-pub(crate) fn present_mask(alloc: Global, validity: &Validity, len: usize) -> Result<Mask, NoMemory>
+/// Which of `len` rows are there. `NoMemory` alone.
+pub fn present_mask(alloc: Global, validity: &Validity, len: usize) -> Result<Mask, NoMemory>
     requires { is_fitting (valid_of validity.now) len ≡ true }
     ensures { IfOk result (λ m. mask_bits m ≡ present_bits (valid_of validity.now) len) }
 {

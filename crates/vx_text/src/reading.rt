@@ -5,15 +5,10 @@ ghost use Rattle.vx_numbers.specs.Offsets.{are_offsets, offset_positions, record
 
 use vx_column::PType;
 
-// Offset `i` of those that cut a list of `len` items.
+/// Offset `i` of records of an integer type that cut a list of `len` items.
 #[inline(always)]
 #[tactic(auto, using(crate::proofs::ReadOffsets::read_offset))]
-pub(crate) fn offset_at<const W: usize>(
-    ptype: PType,
-    records: &[[u8; W]],
-    i: usize,
-    len: usize,
-) -> usize
+pub fn offset_at<const W: usize>(ptype: PType, records: &[[u8; W]], i: usize, len: usize) -> usize
     requires int { is_int ptype ≡ true }
     requires width { W ≡ width ptype }
     requires offsets { are_offsets (record_numbers ptype records.now) len ≡ true }

@@ -40,9 +40,10 @@ fn bytes_of<'a, const W: usize>(
     &bytes[start..end]
 }
 
-// Appends where each row of a run ends, if its bytes stand behind `base` others. `NoMemory` alone.
+// Appends where each row of a run ends, if its bytes stand behind `base` others, row by row.
+// `NoMemory` alone.
 #[inline(always)]
-fn push_ends<const W: usize>(
+fn push_each<const W: usize>(
     ends: &mut Offsets,
     base: usize,
     ptype: PType,
@@ -71,6 +72,39 @@ fn push_ends<const W: usize>(
         ends.push(base + (end - first))?;
     }
     Ok(())
+}
+
+// The same, all at once where the last of them fits the type.
+#[inline(always)]
+fn push_ends<const W: usize>(
+    ends: &mut Offsets,
+    base: usize,
+    ptype: PType,
+    records: &[[u8; W]],
+    bytes: &[u8],
+    run: (usize, usize),
+) -> Result<(), NoMemory>
+    requires int { is_int ptype ≡ true }
+    requires width { W ≡ width ptype }
+    requires offsets { are_offsets (record_numbers ptype records.now) (length bytes.now) ≡ true }
+    requires ordered { run.0 ≤ run.1 }
+    requires within { run.1 < length records.now }
+    requires short { base
+        + (slice_index (offset_positions (record_numbers ptype records.now)) run.1
+        - slice_index (offset_positions (record_numbers ptype records.now)) run.0) < 2 ^ 63 }
+    ensures { OnOk result ((front : List ℕ) → length front ≡ base
+        → AddsTexts ends.old front ends.new (front ++ slice_range bytes.now
+        (slice_index (offset_positions (record_numbers ptype records.now)) run.0)
+        (slice_index (offset_positions (record_numbers ptype records.now)) run.1))
+        (slice_range (lists_at (offset_positions (record_numbers ptype records.now)) bytes.now)
+        run.0 run.1)) }
+{
+    let (first, last) = run_at(ptype, records, run, bytes.len());
+    if base + (last - first) <= ends.greatest() {
+        ends.push_run(base, ptype, records, bytes.len(), run)
+    } else {
+        push_each(ends, base, ptype, records, bytes, run)
+    }
 }
 
 // Appends the texts of a run. `NoMemory` alone.

@@ -7,9 +7,9 @@ ghost use Rattle.vx_column.specs.Validity.{valid_of};
 
 use vx_column::{PrimitiveArray, Validity, VarBinArray};
 
-// The offsets from `start` up to `end`, and the one at `end`.
+/// The offsets from `start` up to `end`, and the one at `end`. It takes no memory.
 #[tactic(auto, using(vx_model::proofs::Layouts::layout_rows))]
-fn slice_offsets(offsets: &PrimitiveArray, start: usize, end: usize) -> PrimitiveArray
+pub fn slice_offsets(offsets: &PrimitiveArray, start: usize, end: usize) -> PrimitiveArray
     requires ordered { start ≤ end }
     requires within { end < length offsets.now.records }
     ensures { result ≡ records_with offsets.now

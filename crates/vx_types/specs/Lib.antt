@@ -1,6 +1,10 @@
 pub mod Code
 pub mod DType
 pub mod Decimal
+pub mod Extension
+pub mod FieldTypes
+pub mod Fields
+pub mod Nesting
 pub mod Nullability
 pub mod NullabilityCode
 pub mod PType
@@ -8,7 +12,10 @@ pub mod PTypeCode
 pub mod Row
 pub mod RowValue
 pub mod RowValueCode
+pub mod Same
+pub mod SameLaws
 pub mod Scalar
 pub mod Text
 pub mod TypeTree
 pub mod TypeTreeCode
+pub mod Variants

@@ -62,6 +62,27 @@ utf8_type n = record { kind = utf8_kind; nullability = n }
 abbrev pub binary_type : Nullability → TypeTree
 binary_type n = record { kind = binary_kind; nullability = n }
 
+-- ---- the types of nested columns
+
+abbrev pub list_type : TypeTree → Nullability → TypeTree
+list_type t n = record { kind = list_kind t.kind t.nullability; nullability = n }
+
+abbrev pub fixed_type : TypeTree → ℕ → Nullability → TypeTree
+fixed_type t size n = record { kind = fixed_kind t.kind t.nullability size; nullability = n }
+
+abbrev pub map_type : List (List ℕ) → List TypeTree → Nullability → TypeTree
+map_type names ts n = record { kind = map_kind names (types_of ts); nullability = n }
+
+abbrev pub struct_type : List (List ℕ) → List TypeTree → Nullability → TypeTree
+struct_type names ts n = record { kind = struct_kind names (types_of ts); nullability = n }
+
+abbrev pub union_type : List ℕ → List (List ℕ) → List TypeTree → Nullability → TypeTree
+union_type ids names ts n = record { kind = union_kind ids names (types_of ts); nullability = n }
+
+-- the storage's nullability is the extension's
+abbrev pub extension_type : List ℕ → TypeTree → Nullability → TypeTree
+extension_type name t n = record { kind = extension_kind name t.kind; nullability = n }
+
 -- ---- nullability
 
 -- the null kind is nullable, whatever is asked

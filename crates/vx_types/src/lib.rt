@@ -6,22 +6,31 @@
 
 mod decimal;
 mod dtype;
+mod element;
 mod error;
+mod extension;
+mod fields;
 mod layout_name;
 mod nullability;
 mod ptype;
 mod row;
 mod runs;
+mod same;
 mod scalar;
 mod text;
+mod variants;
 
 pub use decimal::DecimalDType;
 pub use dtype::DType;
+pub use element::ElementType;
 pub use error::ColumnError;
+pub use extension::ExtDType;
+pub use fields::StructFields;
 pub use layout_name::LayoutName;
 pub use nullability::Nullability;
 pub use ptype::{PType, record_of};
-pub use row::{ByteList, Row};
+pub use row::{ByteList, Row, RowList};
 pub use runs::Runs;
 pub use scalar::{Scalar, ScalarValue};
 pub use text::{BinaryView, InlineBytes, TextKind};
+pub use variants::UnionVariants;

@@ -1,5 +1,6 @@
 //! A row of a column, with all that is in it.
-ghost use Rattle.std.specs.Prelude.{◌≡◌};
+ghost use Rattle.std.specs.Prelude.{◌≡◌, map};
+ghost use Rattle.vx_types.specs.Row.{row_value, rows_in};
 
 use std::marker::Model;
 
@@ -33,7 +34,8 @@ impl ByteList {
     }
 }
 
-/// A row of a flat or a text column.
+/// A row of a column, with all that is in it.
+#[cycle(row)]
 #[derive(Drop)]
 pub enum Row {
     /// A null row.
@@ -42,4 +44,33 @@ pub enum Row {
     Bit(bool),
     /// A row's record or text.
     Bytes(ByteList),
+    /// A list's elements, in order.
+    List(RowList),
+    /// A struct's fields, in order.
+    Fields(RowList),
+    /// A union's type id, and the row of that variant.
+    Tagged(u8, Box<Row>),
+}
+
+/// A list of rows.
+#[cycle(row)]
+#[derive(Drop)]
+pub struct RowList {
+    rows: Vec<Row>,
+}
+
+impl RowList {
+    /// These rows. It takes no memory.
+    pub fn from_vec(values: Vec<Row>) -> RowList
+        ensures { rows_in result ≡ map row_value values.items }
+    {
+        RowList { rows: values }
+    }
+
+    /// The rows, in order.
+    pub fn as_slice(&self) -> &[Row]
+        ensures { map row_value result.now ≡ rows_in self.now }
+    {
+        &self.rows
+    }
 }

@@ -59,7 +59,7 @@ fn is_of_kind(dtype: &DType, value: &ScalarValue) -> bool
     ensures { result ≡ is_of_kind (type_of dtype.now) (scalar_row value.now) }
 {
     match (value, dtype) {
-        (ScalarValue::Null, _) => dtype.is_nullable(),
+        (ScalarValue::Null, _) => dtype.has_scalars() && dtype.is_nullable(),
         (ScalarValue::Bit(_), DType::Bool(_)) => true,
         (
             ScalarValue::Bytes(_),

@@ -17,6 +17,19 @@ use Rattle.vx_model.proofs.LazyRows.{length-filter}
 use Rattle.vx_model.proofs.LazySteps.{dict_fault-filter, is_filter-dict, is_filter-filter}
 use Rattle.vx_dispatch.proofs.Results.{weaker}
 use Rattle.vx_model.specs.Valid.{valid_size}
+use Rattle.std.proofs.Common.{ℕ, ◌*◌, ap₂, slice_range}
+use Rattle.vx_lists.proofs.ListsOfOneSize.{length-repeated}
+use Rattle.vx_bits.specs.BitBuffer.{true_count_of}
+use Rattle.vx_lists.specs.Plans.{lists_left, MakesFixed, MakesLists}
+use Rattle.vx_model.specs.Column.{Column}
+use Rattle.vx_model.specs.FixedSizeList.{FixedParts, fixed_column, fixed_of, fixed_spans}
+use Rattle.vx_model.specs.List.{ListParts, list_of, list_spans}
+use Rattle.vx_model.specs.ListView.{ListViewParts, listview_spans}
+use Rattle.vx_model.specs.Lists.{lists_of}
+use Rattle.vx_model.specs.Step.{IsSlice}
+use Rattle.vx_model.specs.Valid.{Valid, nullability_by, present_bits, IsAsPlain, IsLeft}
+use Rattle.vx_model.proofs.ListRows.{elements-fixed, fit-fixed, fit-list, fit-listview, rows-fixed, rows-list, rows-listview, spans-fixed}
+use Rattle.vx_dispatch.proofs.ListSteps.{filter_left_step, filter_step, fits_filter, swapped}
 use Rattle.vx_dispatch.proofs.+filter.Goals as goal
 
 pub validity::filter_validity-returns-in-NonNullable-clause-left : goal.validity::filter_validity-returns-in-NonNullable-clause-left
@@ -98,3 +111,78 @@ stored::filter_of-filter_stored-requires-clause-left t c =
     let p = parts_of c.args.stored in let v = c.validity.ensures in
     let long = c.requires ∙ length-stored_rows p.valid p.items v.fitting in
     rw (← long, ← v.value) c.in_ok-validity.ensures.left
+
+-- ---- lists
+
+pub list::filter_of-plan_list_filter-requires-clause-fitting : goal.list::filter_of-plan_list_filter-requires-clause-fitting
+list::filter_of-plan_list_filter-requires-clause-fitting t c =
+    let p = c.args.array.now in let h = c.validity.ensures.valid in let mask = c.args.mask.now.bits.bits in
+    let w = valid_of c.in_ok-validity.validity in let n = length (list_spans p).spans in let long = c.requires ∙ rows-list p h in
+    let left : IsLeft p.valid (nullability_by p.valid) (items_where_true mask (present_bits p.valid n)) w = rw (c.validity.ensures.value, long) at c.in_ok-validity.ensures.left in
+    fits_filter p.valid w (nullability_by p.valid) n (fit-list p h) mask long left
+
+pub list::filter_of-returns : goal.list::filter_of-returns
+list::filter_of-returns t c =
+    let p = c.args.array.now in let h = c.validity.ensures.valid in let mask = c.args.mask.now.bits.bits in
+    let w = valid_of c.in_ok-validity.validity in let plan = c.in_ok-offsets.field-0 in let x = c.in_ok-elements.elements in
+    let q : ListParts = record { elements = x; offsets = plan.offsets; valid = w } in
+    let left : IsLeft p.valid (nullability_by p.valid) (items_where_true mask (present_bits p.valid (length (list_spans p).spans))) w = rw (c.validity.ensures.value, c.requires ∙ rows-list p h) at c.in_ok-validity.ensures.left in
+    let plain : IsAsPlain p.valid w = rw c.validity.ensures.value at c.in_ok-validity.ensures.plain in
+    let same = c.in_ok-offsets.ensures.valid in
+    let part : IsSlice p.elements plan.range.0 plan.range.1 c.in_ok-part.part = rw (c.deref.ensures ∙ c.elements.ensures.value) at c.in_ok-part.ensures.cut in
+    let kept = c.in_ok-elements.ensures.cut in
+    let rows = kept.step.rows ∙ ap (items_where_true (mask_bits plan.mask)) part.step.rows in
+    let makes : MakesLists plan.offsets w (items_where_true (mask_bits plan.mask) (slice_range p.elements.rows plan.range.0 plan.range.1)) (lists_left w (items_where_true mask (lists_of (list_spans p)))) = c.in_ok-offsets.ensures.lists in
+    weaker c.relisted.result c.relisted.ensures (λ a is. rw (is, same)
+    (filter_left_step (list_spans p) (list_spans q) refl refl (ap list_of (kept.step.dtype ∙ part.step.dtype)) (fit-list p h) mask c.requires (makes x rows).1 left plain
+    (omega (arith, kept.depth, part.depth))))
+
+pub listview::filter_of-plan_view_filter-requires-clause-fitting : goal.listview::filter_of-plan_view_filter-requires-clause-fitting
+listview::filter_of-plan_view_filter-requires-clause-fitting t c =
+    let p = c.args.array.now in let h = c.validity.ensures.valid in let mask = c.args.mask.now.bits.bits in
+    let w = valid_of c.in_ok-validity.validity in let n = length (listview_spans p).spans in let long = c.requires ∙ rows-listview p h in
+    let left : IsLeft p.valid (nullability_by p.valid) (items_where_true mask (present_bits p.valid n)) w = rw (c.validity.ensures.value, long) at c.in_ok-validity.ensures.left in
+    fits_filter p.valid w (nullability_by p.valid) n (fit-listview p h) mask long left
+
+pub listview::filter_of-returns : goal.listview::filter_of-returns
+listview::filter_of-returns t c =
+    let p = c.args.array.now in let h = c.validity.ensures.valid in let mask = c.args.mask.now.bits.bits in
+    let w = valid_of c.in_ok-validity.validity in let plan = c.in_ok-plan.plan in
+    let q : ListViewParts = record { elements = p.elements; offsets = plan.offsets; sizes = plan.sizes; valid = w } in
+    let left : IsLeft p.valid (nullability_by p.valid) (items_where_true mask (present_bits p.valid (length (listview_spans p).spans))) w = rw (c.validity.ensures.value, c.requires ∙ rows-listview p h) at c.in_ok-validity.ensures.left in
+    let plain : IsAsPlain p.valid w = rw c.validity.ensures.value at c.in_ok-validity.ensures.plain in
+    rw (c.relisted.ensures, c.in_ok-plan.ensures.valid)
+    (filter_step (listview_spans p) (listview_spans q) refl refl refl (fit-listview p h) mask c.requires c.in_ok-plan.ensures.lists.1 left plain (omega arith))
+
+pub fixed_size_list::filter_of-plan_fixed_filter-requires-clause-fitting : goal.fixed_size_list::filter_of-plan_fixed_filter-requires-clause-fitting
+fixed_size_list::filter_of-plan_fixed_filter-requires-clause-fitting t c =
+    let p = c.args.array.now in let h = c.validity.ensures.valid in let mask = c.args.mask.now.bits.bits in
+    let w = valid_of c.in_ok-validity.validity in let n = length (fixed_spans p).spans in let long = c.requires ∙ rows-fixed p h in
+    let left : IsLeft p.valid (nullability_by p.valid) (items_where_true mask (present_bits p.valid n)) w = rw (c.validity.ensures.value, long) at c.in_ok-validity.ensures.left in
+    fits_filter p.valid w (nullability_by p.valid) n (fit-fixed p h) mask long left
+
+pub fixed_size_list::filter_of-returns : goal.fixed_size_list::filter_of-returns
+fixed_size_list::filter_of-returns t c =
+    let p = c.args.array.now in let h = c.validity.ensures.valid in let mask = c.args.mask.now.bits.bits in
+    let w = valid_of c.in_ok-validity.validity in let plan = c.in_ok-validity-2.field-0 in let x = c.in_ok-elements.elements in
+    let q : FixedParts = record { elements = x; size = p.size; len = true_count_of mask; valid = w } in
+    let left : IsLeft p.valid (nullability_by p.valid) (items_where_true mask (present_bits p.valid (length (fixed_spans p).spans))) w = rw (c.validity.ensures.value, c.requires ∙ rows-fixed p h) at c.in_ok-validity.ensures.left in
+    let plain : IsAsPlain p.valid w = rw c.validity.ensures.value at c.in_ok-validity.ensures.plain in
+    let same = c.in_ok-validity-2.ensures.valid in
+    let kept : IsCut p.elements (items_where_true (mask_bits plan.mask) p.elements.rows) x = rw (c.deref.ensures ∙ c.elements.ensures.value) at c.in_ok-elements.ensures.cut in
+    let makes : MakesFixed p.size (true_count_of mask) w (items_where_true (mask_bits plan.mask) p.elements.rows) (items_where_true mask (lists_of (fixed_spans p))) = c.in_ok-validity-2.ensures.lists in
+    let made : c.into_array.result ≡ fixed_column q = c.into_array.ensures ∙ ap fixed_column (c.with_parts.ensures ∙ ap₂ (λ (y : Column) (n : ℕ). let z : FixedParts = record { elements = y; size = p.size; len = n; valid = valid_of plan.validity } in z) c.in_ok-elements-2.ensures c.true_count.ensures.count ∙ ap (λ (v : Valid). let z : FixedParts = record { elements = x; size = p.size; len = true_count_of mask; valid = v } in z) same) in
+    rw made
+    (filter_step (fixed_spans p) (fixed_spans q) refl refl (ap (λ t. fixed_of t p.size) kept.step.dtype) (fit-fixed p h) mask c.requires (makes x kept.step.rows).1 left plain kept.depth)
+
+pub fixed_size_list::filter_of-filter-requires : goal.fixed_size_list::filter_of-filter-requires
+fixed_size_list::filter_of-filter-requires t c =
+    let p = c.args.array.now in let h = c.validity.ensures.valid in let mask = c.args.mask.now.bits.bits in
+    let same = c.deref.ensures ∙ c.elements.ensures.value in
+    let rows : length mask ≡ p.len = c.requires ∙ rows-fixed p h ∙ spans-fixed p in
+    let bits : length (mask_bits c.in_ok-validity-2.field-0.mask) ≡ length mask * p.size = ap length c.in_ok-validity-2.ensures.mask ∙ length-repeated p.size mask in
+    let long : length p.elements.rows ≡ p.size * p.len = elements-fixed p h in
+    let both : length mask * p.size ≡ p.size * p.len = ap (λ n. n * p.size) rows ∙ swapped p.len p.size in (
+      omega (arith, ap (λ (x : Column). x.depth) same),
+      bits ∙ both ∙ sym long ∙ ap (λ (x : Column). length x.rows) (sym same),
+    )

@@ -1,5 +1,6 @@
 -- How deep the column nests; `filter` calls `filter_values` on the same column.
 use Rattle.std.proofs.Common.{◌+◌, ◌*◌}
+use Rattle.std.specs.Prelude.{max}
 use Rattle.vx_model.specs.Valid.{valid_size}
 use Rattle.vx_model.specs.Dict.{dict_size}
 use Rattle.vx_model.specs.Filter.{filter_size}
@@ -24,3 +25,14 @@ decreases-stored::filter_of l = 2 * (valid_size (parts_of l.stored).valid + 1)
 
 abbrev pub decreases-validity::filter_validity : goal.decreases-validity::filter_validity
 decreases-validity::filter_validity l = 2 * valid_size (valid_of l.validity.now)
+
+abbrev pub decreases-fixed_size_list::filter_of : goal.decreases-fixed_size_list::filter_of
+decreases-fixed_size_list::filter_of l =
+    2 * (max l.array.now.elements.depth (valid_size l.array.now.valid) + 2)
+
+abbrev pub decreases-list::filter_of : goal.decreases-list::filter_of
+decreases-list::filter_of l =
+    2 * (max l.array.now.elements.depth (valid_size l.array.now.valid) + 2)
+
+abbrev pub decreases-listview::filter_of : goal.decreases-listview::filter_of
+decreases-listview::filter_of l = 2 * (valid_size l.array.now.valid + 1)

@@ -14,6 +14,15 @@ use Rattle.vx_model.specs.Filter.{filter_column}
 use Rattle.vx_model.proofs.LazySteps.{dict_fault-slice, is_slice-dict, is_slice-filter}
 use Rattle.vx_dispatch.proofs.Results.{weaker}
 use Rattle.vx_model.specs.Valid.{valid_size}
+use Rattle.std.proofs.Common.{ℕ, ◌-◌, ◌*◌}
+use Rattle.vx_types.specs.TypeTree.{TypeTree}
+use Rattle.vx_model.specs.FixedSizeList.{FixedParts, fixed_column, fixed_of, fixed_spans}
+use Rattle.vx_model.specs.List.{ListParts, list_of, list_spans}
+use Rattle.vx_model.specs.ListView.{ListViewParts, listview_spans}
+use Rattle.vx_model.specs.Valid.{nullability_by, present_bits, IsAsPlain, IsLeft}
+use Rattle.vx_model.proofs.ListForms.{fault-fixed-slice, lists-fixed-slice}
+use Rattle.vx_model.proofs.ListRows.{fit-fixed, fit-list, fit-listview, rows-fixed, rows-list, rows-listview, spans-fixed}
+use Rattle.vx_dispatch.proofs.ListSteps.{fits_slice, slice_step}
 use Rattle.vx_dispatch.proofs.+slice.Goals as goal
 
 pub validity::slice_validity-returns-in-NonNullable-clause-left : goal.validity::slice_validity-returns-in-NonNullable-clause-left
@@ -72,3 +81,63 @@ pub stored::slice_of-slice_stored-requires-clause-within : goal.stored::slice_of
 stored::slice_of-slice_stored-requires-clause-within t c =
     let p = parts_of c.args.stored in
     omega (arith, length-stored_rows p.valid p.items c.validity.ensures.fitting, c.requires.within)
+
+-- ---- lists
+
+pub list::slice_of-slice_list-requires-clause-fitting : goal.list::slice_of-slice_list-requires-clause-fitting
+list::slice_of-slice_list-requires-clause-fitting t c =
+    let p = c.args.array.now in let h = c.validity.ensures.valid in let s = c.args.start in let e = c.args.end in
+    let w = valid_of c.in_ok-validity.validity in let n = length (list_spans p).spans in
+    let left : IsLeft p.valid (nullability_by p.valid) (slice_range (present_bits p.valid n) s e) w = rw (c.validity.ensures.value, c.len.ensures) at c.in_ok-validity.ensures.left in
+    fits_slice p.valid w (nullability_by p.valid) n (fit-list p h) s e c.requires.ordered (omega (arith, c.requires.within, rows-list p h)) left
+
+pub list::slice_of-returns : goal.list::slice_of-returns
+list::slice_of-returns t c =
+    let p = c.args.array.now in let h = c.validity.ensures.valid in let s = c.args.start in let e = c.args.end in
+    let q = c.slice_list.result in let cut = c.slice_list.ensures in let w = valid_of c.in_ok-validity.validity in
+    let left : IsLeft p.valid (nullability_by p.valid) (slice_range (present_bits p.valid (length (list_spans p).spans)) s e) w = rw (c.validity.ensures.value, c.len.ensures) at c.in_ok-validity.ensures.left in
+    let plain : IsAsPlain p.valid w = rw c.validity.ensures.value at c.in_ok-validity.ensures.plain in
+    rw c.into_array.ensures
+    (slice_step (list_spans p) (list_spans q) refl refl (ap (λ (x : ListParts). list_of x.elements.dtype) cut.parts) (fit-list p h) s e c.requires.ordered c.requires.within cut.lists
+    (rw (ap (λ (x : ListParts). x.valid) cut.parts) left) (rw (ap (λ (x : ListParts). x.valid) cut.parts) plain) (omega (arith, ap (λ (x : ListParts). x.elements.depth) cut.parts)))
+
+pub listview::slice_of-slice_view-requires-clause-fitting : goal.listview::slice_of-slice_view-requires-clause-fitting
+listview::slice_of-slice_view-requires-clause-fitting t c =
+    let p = c.args.array.now in let h = c.validity.ensures.valid in let s = c.args.start in let e = c.args.end in
+    let w = valid_of c.in_ok-validity.validity in let n = length (listview_spans p).spans in
+    let left : IsLeft p.valid (nullability_by p.valid) (slice_range (present_bits p.valid n) s e) w = rw (c.validity.ensures.value, c.len.ensures) at c.in_ok-validity.ensures.left in
+    fits_slice p.valid w (nullability_by p.valid) n (fit-listview p h) s e c.requires.ordered (omega (arith, c.requires.within, rows-listview p h)) left
+
+pub listview::slice_of-returns : goal.listview::slice_of-returns
+listview::slice_of-returns t c =
+    let p = c.args.array.now in let h = c.validity.ensures.valid in let s = c.args.start in let e = c.args.end in
+    let q = c.slice_view.result in let cut = c.slice_view.ensures in let w = valid_of c.in_ok-validity.validity in
+    let left : IsLeft p.valid (nullability_by p.valid) (slice_range (present_bits p.valid (length (listview_spans p).spans)) s e) w = rw (c.validity.ensures.value, c.len.ensures) at c.in_ok-validity.ensures.left in
+    let plain : IsAsPlain p.valid w = rw c.validity.ensures.value at c.in_ok-validity.ensures.plain in
+    rw c.into_array.ensures
+    (slice_step (listview_spans p) (listview_spans q) refl refl (ap (λ (x : ListViewParts). list_of x.elements.dtype) cut.parts) (fit-listview p h) s e c.requires.ordered c.requires.within cut.lists
+    (rw (ap (λ (x : ListViewParts). x.valid) cut.parts) left) (rw (ap (λ (x : ListViewParts). x.valid) cut.parts) plain) (omega (arith, ap (λ (x : ListViewParts). x.elements.depth) cut.parts)))
+
+pub fixed_size_list::slice_of-with_parts-requires-clause-valid : goal.fixed_size_list::slice_of-with_parts-requires-clause-valid
+fixed_size_list::slice_of-with_parts-requires-clause-valid t c =
+    let p = c.args.array.now in let h = c.elements.ensures.valid in let s = c.args.start in let e = c.args.end in
+    let w = valid_of c.in_ok-validity.validity in let n = length (fixed_spans p).spans in
+    let left : IsLeft p.valid (nullability_by p.valid) (slice_range (present_bits p.valid n) s e) w = rw (c.validity.ensures.value, c.len-len.ensures.rows) at c.in_ok-validity.ensures.left in
+    let cut : IsSlice p.elements (s * p.size) (e * p.size) c.in_ok-elements.elements = rw (c.deref-2.ensures ∙ c.elements-2.ensures.value, c.list_size-size.ensures.value) at c.in_ok-elements.ensures.cut in
+    let fit = fits_slice p.valid w (nullability_by p.valid) n (fit-fixed p h) s e c.requires.ordered (omega (arith, c.requires.within, rows-fixed p h)) left in
+    rw c.in_ok-into_ref.ensures
+    (fault-fixed-slice p c.in_ok-elements.elements s e h c.requires.ordered (omega (arith, c.requires.within, rows-fixed p h, spans-fixed p)) cut.step.rows w fit)
+
+pub fixed_size_list::slice_of-returns : goal.fixed_size_list::slice_of-returns
+fixed_size_list::slice_of-returns t c =
+    let p = c.args.array.now in let h = c.elements.ensures.valid in let s = c.args.start in let e = c.args.end in
+    let x = c.in_ok-elements.elements in let w = valid_of c.in_ok-validity.validity in
+    let q : FixedParts = record { elements = x; size = p.size; len = e - s; valid = w } in
+    let left : IsLeft p.valid (nullability_by p.valid) (slice_range (present_bits p.valid (length (fixed_spans p).spans)) s e) w = rw (c.validity.ensures.value, c.len-len.ensures.rows) at c.in_ok-validity.ensures.left in
+    let plain : IsAsPlain p.valid w = rw c.validity.ensures.value at c.in_ok-validity.ensures.plain in
+    let cut : IsSlice p.elements (s * p.size) (e * p.size) x = rw (c.deref-2.ensures ∙ c.elements-2.ensures.value, c.list_size-size.ensures.value) at c.in_ok-elements.ensures.cut in
+    let inside : e ≤ p.len = omega (arith, c.requires.within, rows-fixed p h, spans-fixed p) in
+    let made : c.into_array.result ≡ fixed_column q = c.into_array.ensures ∙ ap fixed_column (c.with_parts.ensures ∙ ap (λ (y : Column). let z : FixedParts = record { elements = y; size = p.size; len = e - s; valid = w } in z) c.in_ok-into_ref.ensures) in
+    rw made
+    (slice_step (fixed_spans p) (fixed_spans q) refl refl (ap (λ t. fixed_of t p.size) cut.step.dtype) (fit-fixed p h) s e c.requires.ordered c.requires.within
+    (lists-fixed-slice p x s e h c.requires.ordered inside cut.step.rows w) left plain cut.depth)

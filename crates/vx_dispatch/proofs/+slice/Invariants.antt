@@ -1,5 +1,6 @@
 -- How deep the column nests.
 use Rattle.std.proofs.Common.{◌+◌}
+use Rattle.std.specs.Prelude.{max}
 use Rattle.vx_model.specs.Valid.{valid_size}
 use Rattle.vx_model.specs.Dict.{dict_size}
 use Rattle.vx_model.specs.Filter.{filter_size}
@@ -21,3 +22,12 @@ decreases-stored::slice_of l = valid_size (parts_of l.stored).valid + 1
 
 abbrev pub decreases-validity::slice_validity : goal.decreases-validity::slice_validity
 decreases-validity::slice_validity l = valid_size (valid_of l.validity.now)
+
+abbrev pub decreases-fixed_size_list::slice_of : goal.decreases-fixed_size_list::slice_of
+decreases-fixed_size_list::slice_of l = max l.array.now.elements.depth (valid_size l.array.now.valid) + 2
+
+abbrev pub decreases-list::slice_of : goal.decreases-list::slice_of
+decreases-list::slice_of l = valid_size l.array.now.valid + 1
+
+abbrev pub decreases-listview::slice_of : goal.decreases-listview::slice_of
+decreases-listview::slice_of l = valid_size l.array.now.valid + 1

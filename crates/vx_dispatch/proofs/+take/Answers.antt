@@ -27,6 +27,27 @@ use Rattle.vx_model.proofs.LazySteps.{dict_fault-take, is_step-filter, is_take-d
 use Rattle.vx_dispatch.proofs.Codes.{codes-no_fault}
 use Rattle.vx_dispatch.proofs.Results.{weaker}
 use Rattle.vx_model.specs.Valid.{valid_size}
+use Rattle.std.proofs.Common.{ℕ, []}
+use Rattle.vx_lists.specs.Plans.{MakesLists}
+use Rattle.vx_model.specs.List.{ListParts, list_of, list_spans}
+use Rattle.vx_model.specs.ListView.{ListViewParts, listview_spans}
+use Rattle.vx_model.specs.Lists.{kept_lists, lists_of}
+use Rattle.vx_model.specs.Step.{IsStep}
+use Rattle.vx_model.specs.Valid.{IsLeft}
+use Rattle.vx_model.proofs.ListRows.{fit-list, fit-listview, rows-list, rows-listview}
+use Rattle.std.proofs.Common.{List, Option}
+use Rattle.vx_take.specs.Picks.{BoundedPicks, in_runs}
+use Rattle.vx_numbers.specs.Positions.{AllThere}
+use Rattle.vx_pieces.specs.Runs.{run_numbers}
+use Rattle.vx_pieces.proofs.PieceLists.{all_there-numbers}
+use Rattle.vx_dispatch.proofs.RunTakes.{runs_step}
+use Rattle.vx_dispatch.proofs.ListSteps.{take_kept_step, take_step}
+use Rattle.std.proofs.Common.{◌<◌, slice_range}
+use Rattle.std.proofs.lemmas.Bool.Decides.{nat_tests}
+use Rattle.std.specs.Prelude.{replicate}
+use Rattle.vx_model.specs.Filler.{filler_row}
+use Rattle.vx_model.specs.FixedSizeList.{FixedParts, fixed_of, fixed_spans}
+use Rattle.vx_model.proofs.ListRows.{fit-fixed, rows-fixed}
 use Rattle.vx_dispatch.proofs.+take.Goals as goal
 
 pub validity::take_validity-returns-in-AllInvalid-default-clause-left : goal.validity::take_validity-returns-in-AllInvalid-default-clause-left
@@ -160,3 +181,75 @@ stored::take_of-returns t c =
       unwrapped = step.unwrapped;
       direct = step.direct;
     })
+
+-- ---- lists
+
+pub list::take_of-returns : goal.list::take_of-returns
+list::take_of-returns t c =
+    let p = c.args.array.now in let h = c.validity.ensures.valid in let picks = c.args.picks.now.picks in
+    let w = valid_of c.in_ok-validity.validity in let plan = c.in_ok-offsets.field-0 in let x = c.in_ok-elements.elements in
+    let n = either_nullable (nullability_by p.valid) c.args.nullability in
+    let q : ListParts = record { elements = x; offsets = plan.offsets; valid = w } in
+    let left : IsLeft p.valid n (at false (present_bits p.valid (length (list_spans p).spans)) picks) w = rw (c.validity.ensures.value, c.requires.bound ∙ rows-list p h) at c.in_ok-validity.ensures.left in
+    let same = c.in_ok-offsets.ensures.valid in
+    let taken : IsStep p.elements (in_runs p.elements.rows plan.runs) p.elements.dtype x = rw (c.deref.ensures ∙ c.elements.ensures.value) at c.in_ok-elements.ensures in
+    let makes : MakesLists plan.offsets w (in_runs p.elements.rows plan.runs) (kept_lists (present_bits w (length picks)) (at [] (lists_of (list_spans p)) picks)) = c.in_ok-offsets.ensures.lists in
+    weaker c.relisted.result c.relisted.ensures (λ a is. rw (is, same)
+    (take_kept_step (list_spans p) (list_spans q) refl refl (ap list_of taken.dtype) (fit-list p h) picks n (makes x taken.rows).1 left))
+
+pub listview::take_of-returns : goal.listview::take_of-returns
+listview::take_of-returns t c =
+    let p = c.args.array.now in let h = c.validity.ensures.valid in let picks = c.args.picks.now.picks in
+    let w = valid_of c.in_ok-validity.validity in let plan = c.in_ok-plan.plan in
+    let n = either_nullable (nullability_by p.valid) c.args.nullability in
+    let q : ListViewParts = record { elements = p.elements; offsets = plan.offsets; sizes = plan.sizes; valid = w } in
+    let left : IsLeft p.valid n (at false (present_bits p.valid (length (listview_spans p).spans)) picks) w = rw (c.validity.ensures.value, c.requires.bound ∙ rows-listview p h) at c.in_ok-validity.ensures.left in
+    rw (c.relisted.ensures, c.in_ok-plan.ensures.valid)
+    (take_step (listview_spans p) (listview_spans q) refl refl refl (fit-listview p h) [] picks n c.in_ok-plan.ensures.lists.1 left)
+
+-- ---- runs
+
+pub runs::take_runs-take_picks-requires : goal.runs::take_runs-take_picks-requires
+runs::take_runs-take_picks-requires t c =
+    let made = c.in_ok-picks-in-None.ensures in (
+      omega arith,
+      (ap (λ (p : BoundedPicks). p.bound) made ∙ c.len.ensures, λ _. subst (λ (ps : List (Option ℕ)). AllThere ps) (sym (ap (λ (p : BoundedPicks). p.picks) made)) (all_there-numbers (run_numbers c.args.runs.now))),
+    )
+
+pub runs::take_runs-returns-in-Some : goal.runs::take_runs-returns-in-Some
+runs::take_runs-returns-in-Some t c =
+    runs_step c.args.array.now c.args.runs.now c.in-Some.taken c.requires (rw c.in-Some.is at c.in_ok-taken.ensures)
+
+pub runs::take_runs-returns-in_ok-picks-in-None : goal.runs::take_runs-returns-in_ok-picks-in-None
+runs::take_runs-returns-in_ok-picks-in-None t c =
+    let made = ap (λ (p : BoundedPicks). p.picks) c.in_ok-picks-in-None.ensures in
+    weaker c.take_picks.result c.take_picks.ensures (λ a take. runs_step c.args.array.now c.args.runs.now a c.requires (rw made at take))
+
+-- ---- lists of one size
+
+pub fixed_size_list::take_of-returns-then-len-eq0 : goal.fixed_size_list::take_of-returns-then-len-eq0
+fixed_size_list::take_of-returns-then-len-eq0 t c =
+    let p = c.args.array.now in let h = c.validity.ensures.valid in let picks = c.args.picks.now.picks in
+    let w = valid_of c.in_ok-validity.validity in let plan = c.in_ok-validity-2.field-0 in let x = c.in_ok-elements.elements in
+    let n = either_nullable (nullability_by p.valid) c.args.nullability in let fill = filler_row p.elements.dtype in
+    let q : FixedParts = record { elements = x; size = p.size; len = length picks; valid = w } in
+    let left : IsLeft p.valid n (at false (present_bits p.valid (length (fixed_spans p).spans)) picks) w = rw (c.validity.ensures.value, c.requires.bound ∙ rows-fixed p h) at c.in_ok-validity.ensures.left in
+    let none : p.len ≡ 0 = grind (arith, nat_tests, c.len.ensures.value, c.if-len-eq0.true) in
+    let typed = c.dtype.ensures.value ∙ ap (λ (k : Column). k.dtype) (c.deref.ensures ∙ c.elements.ensures.value) in
+    let rows = c.in_ok-elements.ensures.rows ∙ ap (λ (k : TypeTree). replicate plan.filler (filler_row k)) typed in
+    let makes = c.in_ok-validity-2.ensures.fillers none fill in
+    weaker c.relisted.result c.relisted.ensures (λ a is. rw (is, c.in_ok-validity-2.ensures.valid, c.len-then-len-eq0.ensures)
+    (take_step (fixed_spans p) (fixed_spans q) refl refl (ap (λ k. fixed_of k p.size) (c.in_ok-elements.ensures.dtype ∙ typed)) (fit-fixed p h) (replicate p.size fill) picks n (makes x rows).1 left))
+
+pub fixed_size_list::take_of-returns : goal.fixed_size_list::take_of-returns
+fixed_size_list::take_of-returns t c =
+    let p = c.args.array.now in let h = c.validity.ensures.valid in let picks = c.args.picks.now.picks in
+    let w = valid_of c.in_ok-validity.validity in let plan = c.in_ok-validity-2.field-0 in let x = c.in_ok-elements-2.elements in
+    let n = either_nullable (nullability_by p.valid) c.args.nullability in
+    let q : FixedParts = record { elements = x; size = p.size; len = length picks; valid = w } in
+    let left : IsLeft p.valid n (at false (present_bits p.valid (length (fixed_spans p).spans)) picks) w = rw (c.validity.ensures.value, c.requires.bound ∙ rows-fixed p h) at c.in_ok-validity.ensures.left in
+    let some : 0 < p.len = grind (arith, nat_tests, c.len.ensures.value, c.if-len-eq0.false) in
+    let taken : IsStep p.elements (in_runs p.elements.rows plan.runs) p.elements.dtype x = rw (c.deref-2.ensures ∙ c.elements-2.ensures.value) at c.in_ok-elements-2.ensures in
+    let makes = c.in_ok-validity-2.ensures.lists some in
+    weaker c.relisted-2.result c.relisted-2.ensures (λ a is. rw (is, c.in_ok-validity-2.ensures.valid, c.len-2.ensures)
+    (take_step (fixed_spans p) (fixed_spans q) refl refl (ap (λ k. fixed_of k p.size) taken.dtype) (fit-fixed p h) (slice_range p.elements.rows 0 p.size) picks n (makes x taken.rows).1 left))

@@ -1,5 +1,6 @@
 -- How deep the column nests.
 use Rattle.std.proofs.Common.{◌+◌}
+use Rattle.std.specs.Prelude.{max}
 use Rattle.vx_model.specs.Valid.{valid_size}
 use Rattle.vx_model.specs.Dict.{dict_size}
 use Rattle.vx_model.specs.Filter.{filter_size}
@@ -30,3 +31,17 @@ decreases-validity::take_validity l = valid_size (valid_of l.validity.now)
 
 abbrev pub decreases-validity::taken_bits : goal.decreases-validity::taken_bits
 decreases-validity::taken_bits l = l.array.now.depth
+
+abbrev pub decreases-list::take_of : goal.decreases-list::take_of
+decreases-list::take_of l = max l.array.now.elements.depth (valid_size l.array.now.valid) + 2
+
+abbrev pub decreases-listview::take_of : goal.decreases-listview::take_of
+decreases-listview::take_of l = valid_size l.array.now.valid + 1
+
+-- `take_runs` calls `take_picks` on the same column
+abbrev pub decreases-runs::take_runs : goal.decreases-runs::take_runs
+decreases-runs::take_runs l = l.array.now.depth + 1
+
+abbrev pub decreases-fixed_size_list::take_of : goal.decreases-fixed_size_list::take_of
+decreases-fixed_size_list::take_of l =
+    max l.array.now.elements.depth (valid_size l.array.now.valid) + 2

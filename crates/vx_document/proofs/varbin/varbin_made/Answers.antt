@@ -8,11 +8,9 @@ use Rattle.vx_document.proofs.varbin.varbin_made.Goals as goal
 pub returns-in-Ok : goal.returns-in-Ok
 unfolding varbin_made
 returns-in-Ok c =
-    let is = rw c.offsets_column.ensures at c.try_new.ensures in
-    made varbin_column _ _ _ (sym is ∙ c.in-Ok.is) ∙ ap Some (sym c.into_array.ensures)
+    made varbin_column _ _ _ (sym c.try_new.ensures ∙ c.in-Ok.is) ∙ ap Some (sym c.into_array.ensures)
 
 pub returns-in-Err : goal.returns-in-Err
 unfolding varbin_made
 returns-in-Err c =
-    let is = rw c.offsets_column.ensures at c.try_new.ensures in
-    refused varbin_column _ _ _ (sym is ∙ c.in-Err.is)
+    refused varbin_column _ _ _ (sym c.try_new.ensures ∙ c.in-Err.is)

@@ -5,6 +5,7 @@ use Rattle.vx_join.specs.Cells.{rows_of}
 use Rattle.vx_join.specs.Keys.{rows_from, rows_match}
 use Rattle.vx_join.specs.Pairs.{lefts, pairs, rights}
 use Rattle.vx_join.proofs.SmallRecords.{pairs_of_singles}
+use Rattle.vx_join.proofs.FlatKeys.{flat_left, flat_right}
 use Rattle.vx_join.proofs.Tied.{one_long}
 use Rattle.vx_join.proofs.keys.join_columns.Goals as goal
 
@@ -23,3 +24,9 @@ returns-in-Some-small_width-clause-right c =
     (pairs_of_singles l.rows r.rows c.args.left_len c.args.right_len (one_long c.args.left_len c.args.left.now l a c.requires.left) (one_long c.args.right_len c.args.right.now r b c.requires.right)
     ∙ (λ i. pairs rows_match (rows_from (rows_of (sym a i)) 0 c.args.left_len) (rows_from (rows_of (sym b i)) 0 c.args.right_len)))
     c.join_numbers.ensures.right
+
+pub join_cells-requires-clause-flat : goal.join_cells-requires-clause-flat
+join_cells-requires-clause-flat c = flat_left c.args.left.now c.args.right.now c.requires.alike
+
+pub join_cells-requires-clause-flat_right : goal.join_cells-requires-clause-flat_right
+join_cells-requires-clause-flat_right c = flat_right c.args.left.now c.args.right.now c.requires.alike

@@ -13,9 +13,9 @@ loop-k-preserved c =
     let at = c.put_rows-at.result in
     let dst = c.put_rows-at.new.dst in
     let end = 64 * s.k + c.min.result in
-    let short : length (drop at dst) ≤ 4288 - at = omega (arith, length-drop at dst) in
+    let short : length (drop at dst) ≤ 4352 - at = omega (arith, length-drop at dst) in
     c.in_ok-extend_from_slice.ensures.items
-    ∙ ap (λ l. s.text.items ++ l) (take_all (4288 - at) (drop at dst) short ∙ c.put_rows-at.ensures.put)
+    ∙ ap (λ l. s.text.items ++ l) (take_all (4352 - at) (drop at dst) short ∙ c.put_rows-at.ensures.put)
     ∙ ap (λ l. l ++ lines f (take (end - 64 * s.k) (drop (64 * s.k) rows))) s.invariant
     ∙ block_more f c.args.text.now.items rows (64 * s.k) end (omega arith) (omega arith)
     ∙ ap (λ (n : ℕ). c.args.text.now.items ++ lines f (take n rows)) next

@@ -14,7 +14,7 @@ loop-k-init c =
     record {
       room = omega arith;
       within = omega arith;
-      put = drop_all 4288 c.args.dst.now (omega arith) ∙ sym (ap (lines (row_text c.args.column.now.dtype)) (drop_all (end - 0) (take end rows) (omega arith)));
+      put = drop_all 4352 c.args.dst.now (omega arith) ∙ sym (ap (lines (row_text c.args.column.now.dtype)) (drop_all (end - 0) (take end rows) (omega arith)));
     }
 
 pub loop-k-preserved : goal.loop-k-preserved

@@ -27,9 +27,9 @@ loop-k-preserved g c =
     ∙ ap (λ w. record_rows (Some (word_bits w (end - 64 * s.k))) part) c.block_word.ensures
     ∙ block_rows bits c.args.records.now s.k (end - 64 * s.k) c.requires.long (sym count ∙ n) in
     let put : drop at dst ≡ lines f (take (end - 64 * s.k) (drop (64 * s.k) rows)) = c.put_block-at.ensures.put ∙ ap (lines f) block in
-    let short : length (drop at dst) ≤ 4288 - at = omega (arith, length-drop at dst) in
+    let short : length (drop at dst) ≤ 4352 - at = omega (arith, length-drop at dst) in
     c.in_ok-extend_from_slice.ensures.items
-    ∙ ap (λ l. s.text.items ++ l) (take_all (4288 - at) (drop at dst) short ∙ put)
+    ∙ ap (λ l. s.text.items ++ l) (take_all (4352 - at) (drop at dst) short ∙ put)
     ∙ ap (λ l. l ++ lines f (take (end - 64 * s.k) (drop (64 * s.k) rows))) s.invariant
     ∙ block_more f c.args.text.now.items rows (64 * s.k) end (omega arith) (omega arith)
     ∙ ap (λ (n : ℕ). c.args.text.now.items ++ lines f (take n rows)) next

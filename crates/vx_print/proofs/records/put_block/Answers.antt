@@ -19,7 +19,7 @@ loop-k-init g c =
     record {
       room = omega arith;
       within = omega arith;
-      put = drop_all 4288 c.args.dst.now (omega arith) ∙ sym (ap (lines (row_text_by (record_text c.args.form))) (drop_all (n - 0) (take n rows) (omega arith)));
+      put = drop_all 4352 c.args.dst.now (omega arith) ∙ sym (ap (lines (row_text_by (record_text c.args.form))) (drop_all (n - 0) (take n rows) (omega arith)));
     }
 
 pub loop-k-preserved : goal.loop-k-preserved

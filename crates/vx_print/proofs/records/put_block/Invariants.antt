@@ -7,7 +7,7 @@ use Rattle.vx_print.proofs.records.put_block.Given as goal
 -- the lines of the last k rows are written
 abbrev pub invariant-loop-k : goal.invariant-loop-k
 invariant-loop-k g l = record {
-  room : 4288 ≤ l.at + 67 * l.k;
-  within : l.at ≤ 4288;
+  room : 4352 ≤ l.at + 67 * l.k;
+  within : l.at ≤ 4352;
   put : drop l.at l.dst ≡ lines (row_text_by (record_text l.form)) (drop (length l.records - l.k) (take (length l.records) (record_rows (Some (word_bits l.word (length l.records))) l.records)));
 }

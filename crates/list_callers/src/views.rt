@@ -1,0 +1,79 @@
+//! Plans over columns of layout `ListView`.
+ghost use Rattle.std.specs.Prelude.{◌≡◌, length};
+ghost use Rattle.vx_model.specs.ListView.{listview_spans};
+
+use crate::columns::{elements, numbers, picks_of};
+use crate::text::numbers_of;
+use callers::mask_of;
+use std::alloc::Global;
+use std::test::Fail;
+use vx_column::{ListViewArray, PrimitiveArray, Validity};
+use vx_lists::{plan_view_filter, plan_view_take, slice_view};
+use vx_mask::Policy;
+
+/// A row for each plan of the views of offsets 4 and 0, sizes 1 and 2.
+pub(crate) fn print_rows(rt: &impl Print, alloc: Global) -> Result<(), Fail> {
+    let array = view_array(alloc)?;
+    print_filter(rt, alloc, &array)?;
+    print_take(rt, alloc, &array)?;
+    print_slice(rt, alloc, &array)
+}
+
+fn view_array(alloc: Global) -> Result<ListViewArray, Fail> {
+    let offsets = numbers(alloc, &[4, 0])?;
+    let sizes = numbers(alloc, &[1, 2])?;
+    let elements = elements(alloc, 5)?;
+    Ok(ListViewArray::try_new(alloc, elements, offsets, sizes, Validity::NonNullable)?)
+}
+
+// How many rows it has.
+#[tactic(auto, using(vx_model::proofs::ListRows::listview_rows))]
+fn rows_of(array: &ListViewArray) -> usize
+    ensures { result ≡ length (listview_spans array.now).spans }
+{
+    array.offsets().values().len()
+}
+
+fn print_views(
+    rt: &impl Print,
+    alloc: Global,
+    name: &str,
+    offsets: &PrimitiveArray,
+    sizes: &PrimitiveArray,
+) -> Result<(), Fail> {
+    let ptype = offsets.ptype();
+    let offsets = numbers_of(alloc, offsets)?;
+    let sizes = numbers_of(alloc, sizes)?;
+    println!(rt; "views, {name}: {ptype:?} offsets {offsets:?}, sizes {sizes:?}")?;
+    Ok(())
+}
+
+fn print_filter(rt: &impl Print, alloc: Global, array: &ListViewArray) -> Result<(), Fail> {
+    let mask = mask_of(alloc, &[false, true])?;
+    let Some(mask) = mask.values() else {
+        return Err("no list, or each".into());
+    };
+    if mask.len() != rows_of(array) {
+        return Err("another number of lists".into());
+    }
+    let policy = Policy::vortex();
+    let plan = plan_view_filter(alloc, array, mask, &policy, Validity::NonNullable)?;
+    print_views(rt, alloc, "filter 01", &plan.offsets, &plan.sizes)
+}
+
+fn print_take(rt: &impl Print, alloc: Global, array: &ListViewArray) -> Result<(), Fail> {
+    let picks = picks_of(alloc, 2, &[None, Some(0)])?;
+    if picks.bound() > rows_of(array) {
+        return Err("a pick past the lists".into());
+    }
+    let plan = plan_view_take(alloc, array, &picks, Validity::AllValid)?;
+    print_views(rt, alloc, "take null, 0", &plan.offsets, &plan.sizes)
+}
+
+fn print_slice(rt: &impl Print, alloc: Global, array: &ListViewArray) -> Result<(), Fail> {
+    if rows_of(array) < 2 {
+        return Err("another number of lists".into());
+    }
+    let cut = slice_view(array, 1, 2, Validity::NonNullable);
+    print_views(rt, alloc, "slice 1..2", cut.offsets(), cut.sizes())
+}

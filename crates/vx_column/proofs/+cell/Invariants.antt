@@ -1,0 +1,39 @@
+-- What a walk to a cell counts down: how deep what is left nests.
+use Rattle.std.proofs.Common.{◌+◌}
+use Rattle.std.specs.Prelude.{max}
+use Rattle.vx_model.specs.Dict.{dict_size}
+use Rattle.vx_model.specs.Filter.{filter_size}
+use Rattle.vx_model.specs.Valid.{valid_size}
+use Rattle.vx_column.specs.Lists.{spans_of}
+use Rattle.vx_column.specs.Validity.{valid_of}
+use Rattle.vx_column.proofs.+cell.Given as goal
+
+abbrev pub decreases-array::Array::cell_at : goal.decreases-array::Array::cell_at
+decreases-array::Array::cell_at l = l.self.now.depth
+
+abbrev pub decreases-boolean::BoolArray::cell_at : goal.decreases-boolean::BoolArray::cell_at
+decreases-boolean::BoolArray::cell_at l = valid_size l.self.now.valid + 1
+
+abbrev pub decreases-dict::DictArray::cell_at : goal.decreases-dict::DictArray::cell_at
+decreases-dict::DictArray::cell_at l = dict_size l.self.now
+
+abbrev pub decreases-filter::FilterArray::cell_at : goal.decreases-filter::FilterArray::cell_at
+decreases-filter::FilterArray::cell_at l = filter_size l.self.now
+
+abbrev pub decreases-lists::Lists::cell_at : goal.decreases-lists::Lists::cell_at
+decreases-lists::Lists::cell_at l =
+    max (spans_of l.self).elements.depth (valid_size (spans_of l.self).valid) + 2
+
+abbrev pub decreases-records::RecordArray::cell_at : goal.decreases-records::RecordArray::cell_at
+decreases-records::RecordArray::cell_at l = valid_size l.self.now.valid + 1
+
+abbrev pub decreases-validity::Validity::is_valid_at :
+    goal.decreases-validity::Validity::is_valid_at
+decreases-validity::Validity::is_valid_at l = valid_size (valid_of l.self.now)
+
+abbrev pub decreases-varbin::VarBinArray::cell_at : goal.decreases-varbin::VarBinArray::cell_at
+decreases-varbin::VarBinArray::cell_at l = valid_size l.self.now.valid + 1
+
+abbrev pub decreases-varbinview::VarBinViewArray::cell_at :
+    goal.decreases-varbinview::VarBinViewArray::cell_at
+decreases-varbinview::VarBinViewArray::cell_at l = valid_size l.self.now.valid + 1

@@ -1,0 +1,187 @@
+//! Layout `List`: lists whose elements stand one after another, cut by offsets.
+ghost use Rattle.std.specs.Prelude.{◌≡◌, ◌≤◌, ◌<◌, None, length, slice_index_or, IfOk};
+ghost use Rattle.vx_bits.specs.Results.{FailsBy};
+ghost use Rattle.vx_numbers.specs.Offsets.{offset_positions};
+ghost use Rattle.vx_model.specs.List.{list_column, list_fault, list_spans};
+ghost use Rattle.vx_model.specs.Numbers.{integers_of};
+ghost use Rattle.vx_column.specs.ListParts.{list_parts};
+ghost use Rattle.vx_column.specs.Validity.{valid_of};
+
+use crate::array::{Array, ArrayRef, Layout};
+use crate::offsets::{are_integers, cut, integer_at, row_count};
+use crate::primitive::PrimitiveArray;
+use crate::validity::Validity;
+use std::alloc::Global;
+use std::marker::Model;
+use vx_types::{ColumnError, DType, ElementType};
+
+/// A column of lists of one column's elements, each from its offset up to the next: Vortex's
+/// `ListArray`.
+#[cycle(array)]
+#[derive(Drop)]
+pub struct ListArray {
+    elements: ArrayRef,
+    element: ElementType,
+    offsets: PrimitiveArray,
+    validity: Validity,
+}
+
+impl Model for ListArray {
+    ghost use Rattle.vx_model.specs.List.{ListParts, coded_list_parts};
+
+    ghost Value = { ListParts };
+
+    ghost coded = { coded_list_parts };
+
+    ghost use Rattle.std.specs.Prelude.{◌+◌, max};
+    ghost use Rattle.std.proofs.Common.{arith};
+    ghost use Rattle.vx_model.specs.Valid.{valid_size};
+    ghost use Rattle.vx_column.specs.ListParts.{list_parts, IsList};
+
+    ghost view = { λ a. list_parts a.elements a.offsets a.validity };
+
+    ghost invariant = { λ a. IsList a.element (list_parts a.elements a.offsets a.validity) };
+
+    ghost size = { λ p. max p.elements.depth (valid_size p.valid) + 2 };
+
+    ghost size_decreases = { λ a h. Prim.grind arith };
+}
+
+impl ListArray {
+    /// A column with one row fewer than offsets: the elements from each offset up to the next.
+    ///
+    /// `WrongType` exactly where the offsets aren't a non-nullable column of integers. Else
+    /// `BadValidity` exactly where the validity can't be that of so many rows. Else `BadOffsets`
+    /// exactly where there is no offset, or one is negative, below the one before, or past the
+    /// elements. Else `NoMemory` alone.
+    pub fn try_new(
+        alloc: Global,
+        elements: ArrayRef,
+        offsets: PrimitiveArray,
+        validity: Validity,
+    ) -> Result<ListArray, ColumnError>
+        ensures made { IfOk result (λ a. a ≡ list_parts elements offsets validity) }
+        ensures refusal { FailsBy result (list_fault (list_parts elements offsets validity))
+            ColumnError.NoMemory }
+    {
+        if !are_integers(&offsets) {
+            return Err(ColumnError::WrongType);
+        }
+        if !validity.is_fitting(row_count(&offsets)) {
+            return Err(ColumnError::BadValidity);
+        }
+        if !cut(&offsets, elements.len()) {
+            return Err(ColumnError::BadOffsets);
+        }
+        match ElementType::new(alloc, elements.dtype().share()) {
+            Ok(element) => Ok(ListArray {
+                elements,
+                element,
+                offsets,
+                validity,
+            }),
+            Err(_) => Err(ColumnError::NoMemory),
+        }
+    }
+
+    /// Other sound parts, of which the elements have the same type: what a step leaves. It takes
+    /// no memory, and tests nothing.
+    pub fn with_parts(
+        &self,
+        elements: ArrayRef,
+        offsets: PrimitiveArray,
+        validity: Validity,
+    ) -> ListArray
+        requires valid { list_fault (list_parts elements offsets validity) ≡ None }
+        requires dtype { elements.dtype ≡ self.now.elements.dtype }
+        ensures { result ≡ list_parts elements offsets validity }
+    {
+        ListArray {
+            elements,
+            element: self.element.share(),
+            offsets,
+            validity,
+        }
+    }
+
+    /// The column that has the elements of all rows.
+    pub fn elements(&self) -> &ArrayRef
+        ensures value { result.now ≡ self.now.elements }
+        ensures valid { list_fault self.now ≡ None }
+    {
+        &self.elements
+    }
+
+    /// Where the elements of each row begin, and where those of the last end.
+    pub fn offsets(&self) -> &PrimitiveArray
+        ensures value { result.now ≡ self.now.offsets }
+        ensures valid { list_fault self.now ≡ None }
+    {
+        &self.offsets
+    }
+
+    /// Which rows are there.
+    pub fn validity(&self) -> &Validity
+        ensures value { valid_of result.now ≡ self.now.valid }
+        ensures valid { list_fault self.now ≡ None }
+    {
+        &self.validity
+    }
+
+    /// How many rows it has.
+    #[tactic(auto, using(vx_model::proofs::ListRows::list_rows))]
+    pub fn len(&self) -> usize
+        ensures { result ≡ length (list_spans self.now).spans }
+    {
+        row_count(&self.offsets)
+    }
+
+    // Where the elements of row `i` begin, and those of the one before it end.
+    #[tactic(auto, using(vx_model::proofs::ListRows::list_offsets))]
+    fn offset_at(&self, i: usize) -> usize
+        requires { i < length self.now.offsets.records }
+        ensures { result ≡ slice_index_or (offset_positions (integers_of self.now.offsets)) i 0 }
+    {
+        // its offsets are integers, none of them negative or past the elements
+        let _ = self.elements().len();
+        integer_at(&self.offsets, i) as usize
+    }
+
+    /// Where the elements of row `i` begin and end, of a null row too. It takes no memory.
+    #[tactic(auto, using(vx_model::proofs::ListRows::list_offsets))]
+    pub fn span_at(&self, i: usize) -> (usize, usize)
+        requires { i < length (list_spans self.now).spans }
+        ensures span { slice_index_or (list_spans self.now).spans i (0, 0) ≡ result }
+        ensures ordered { result.0 ≤ result.1 }
+        ensures within { result.1 ≤ length self.now.elements.rows }
+    {
+        // row `i` has an offset behind it
+        let _ = self.elements();
+        let _ = self.len();
+        (self.offset_at(i), self.offset_at(i + 1))
+    }
+
+    /// The same column once more. It takes no memory.
+    pub fn share(&self) -> ListArray
+        ensures { result ≡ self.now }
+    {
+        ListArray {
+            elements: self.elements.share(),
+            element: self.element.share(),
+            offsets: self.offsets.share(),
+            validity: self.validity.share(),
+        }
+    }
+
+    /// The column of this layout. It takes no memory.
+    #[tactic(auto, using(vx_model::proofs::ListRows::list_rows))]
+    pub fn into_array(self) -> Array
+        ensures { result ≡ list_column self }
+    {
+        // its elements' type is one that a column may have
+        let _ = self.elements.dtype();
+        let dtype = DType::List(self.element.share(), self.validity.nullability());
+        let len = row_count(&self.offsets);
+        Array::new(dtype, len, Layout::List(self))
+    }
+}

@@ -1,0 +1,12 @@
+-- One position more of the run.
+use Rattle.std.proofs.Common.{◌+◌, ◌++◌, [], ◌∷◌, sym, ap, ◌∙◌}
+use Rattle.std.proofs.lemmas.List.{append_assoc}
+use Rattle.vx_dispatch.proofs.RunTakes.{range-more}
+use Rattle.vx_dispatch.proofs.runs.push_run.Goals as goal
+
+pub loop-k-preserved : goal.loop-k-preserved
+loop-k-preserved c =
+    c.in_ok-push.ensures.items
+    ∙ ap (λ l. l ++ (c.args.start + c.loop-k.k) ∷ []) c.loop-k.invariant
+    ∙ append_assoc c.args.places.now.items _ _
+    ∙ ap (λ l. c.args.places.now.items ++ l) (sym (range-more c.args.start c.loop-k.k))

@@ -1,0 +1,66 @@
+//! Layouts of lists: their rows over the elements in another form.
+ghost use Rattle.std.specs.Prelude.{◌≡◌, length, false, IfOk};
+ghost use Rattle.vx_model.specs.Lists.{lists_column, stored_lists};
+ghost use Rattle.vx_model.specs.Plain.{is_lazy_layout};
+ghost use Rattle.vx_model.specs.Step.{IsStep};
+ghost use Rattle.vx_model.specs.Valid.{nullability_by, present_bits, IsLeft};
+ghost use Rattle.vx_column.specs.Lists.{spans_of};
+ghost use Rattle.vx_column.specs.Validity.{valid_of};
+
+use crate::executing::execute;
+use crate::validity::execute_validity;
+use std::alloc::Global;
+use vx_bits::NoMemory;
+use vx_column::{Array, ArrayRef, Lists, Validity};
+use vx_mask::Policy;
+
+// The same lists, of elements and with a validity that say the same.
+#[tactic(auto, using(vx_model::proofs::ListRows::list_rows, vx_model::proofs::ListRows::listview_rows, vx_model::proofs::ListRows::fixed_rows))]
+fn with_elements(lists: Lists<'_>, elements: ArrayRef, validity: Validity) -> Array
+    requires elements { IsStep (spans_of lists).elements (spans_of lists).elements.rows
+        (spans_of lists).elements.dtype elements }
+    requires left { IsLeft (spans_of lists).valid (nullability_by (spans_of lists).valid)
+        (present_bits (spans_of lists).valid (length (spans_of lists).spans)) (valid_of validity) }
+    ensures same { IsStep (lists_column (spans_of lists.entry))
+        (lists_column (spans_of lists.entry)).rows (lists_column (spans_of lists.entry)).dtype
+        result }
+    ensures direct { is_lazy_layout result.layout ≡ false }
+{
+    match lists {
+        Lists::List(array) => {
+            let offsets = array.offsets().share();
+            array.with_parts(elements, offsets, validity).into_array()
+        }
+        Lists::View(array) => {
+            let offsets = array.offsets().share();
+            let sizes = array.sizes().share();
+            array
+                .with_parts(elements, offsets, sizes, validity)
+                .into_array()
+        }
+        Lists::Fixed(array) => {
+            // the elements are as many as the lists have
+            let _ = array.list_size();
+            array
+                .with_parts(elements, validity, array.len())
+                .into_array()
+        }
+    }
+}
+
+/// The same rows, with the elements and the validity executed.
+#[cycle(execute)]
+pub(crate) fn execute_of(
+    alloc: Global,
+    lists: Lists<'_>,
+    policy: &Policy,
+) -> Result<Array, NoMemory>
+    ensures same { IfOk result (IsStep (lists_column (spans_of lists.entry))
+        (lists_column (spans_of lists.entry)).rows
+        (lists_column (spans_of lists.entry)).dtype) }
+    ensures direct { IfOk result (λ a. is_lazy_layout a.layout ≡ false) }
+{
+    let validity = execute_validity(alloc, lists.validity(), lists.len(), policy)?;
+    let elements = execute(alloc, lists.elements(), policy)?;
+    Ok(with_elements(lists, elements.into_ref(alloc)?, validity))
+}

@@ -1,0 +1,90 @@
+//! Layout `ListView`: offsets and sizes are made by a plan, and the elements stay.
+ghost use Rattle.std.specs.Prelude.{◌≡◌, ◌≤◌, None, length, IfOk};
+ghost use Rattle.std.specs.List.{items_where_true};
+ghost use Rattle.vx_types.specs.declared.nullability.Nullability.TheVariants.{NonNullable};
+ghost use Rattle.vx_numbers.specs.Positions.{AllThere};
+ghost use Rattle.vx_model.specs.ListView.{listview_column, listview_fault};
+ghost use Rattle.vx_model.specs.Step.{IsCut, IsSlice, IsTake};
+ghost use Rattle.vx_column.specs.Validity.{valid_of};
+
+use crate::validity::{filter_validity, slice_validity, take_validity};
+use std::alloc::Global;
+use vx_bits::NoMemory;
+use vx_column::{Array, ListViewArray, Nullability};
+use vx_lists::{ViewPlan, plan_view_filter, plan_view_take, slice_view};
+use vx_mask::{MaskValues, Policy};
+use vx_take::Picks;
+
+// The lists of the same elements at these offsets and of these sizes.
+fn relisted(array: &ListViewArray, plan: ViewPlan) -> Array
+    requires { listview_fault (record array.now {
+      offsets = plan.offsets;
+      sizes = plan.sizes;
+      valid = valid_of plan.validity;
+    }) ≡ None }
+    ensures { result ≡ listview_column (record array.now {
+      offsets = plan.offsets;
+      sizes = plan.sizes;
+      valid = valid_of plan.validity;
+    }) }
+{
+    let ViewPlan {
+        offsets,
+        sizes,
+        validity,
+    } = plan;
+    array
+        .with_parts(array.elements().share(), offsets, sizes, validity)
+        .into_array()
+}
+
+#[cycle(slice)]
+#[tactic(auto, using(vx_model::proofs::ListRows::listview_rows))]
+pub(crate) fn slice_of(
+    alloc: Global,
+    array: &ListViewArray,
+    start: usize,
+    end: usize,
+) -> Result<Array, NoMemory>
+    requires ordered { start ≤ end }
+    requires within { end ≤ length (listview_column array.now).rows }
+    ensures { IfOk result (IsSlice (listview_column array.now) start end) }
+{
+    let validity = slice_validity(alloc, array.validity(), array.len(), start, end)?;
+    Ok(slice_view(array, start, end, validity).into_array())
+}
+
+#[cycle(filter)]
+#[tactic(auto, using(vx_model::proofs::ListRows::listview_rows))]
+pub(crate) fn filter_of(
+    alloc: Global,
+    array: &ListViewArray,
+    mask: &MaskValues,
+    policy: &Policy,
+) -> Result<Array, NoMemory>
+    requires { length mask.now.bits.bits ≡ length (listview_column array.now).rows }
+    ensures { IfOk result (IsCut (listview_column array.now)
+        (items_where_true mask.now.bits.bits (listview_column array.now).rows)) }
+{
+    let validity = filter_validity(alloc, array.validity(), mask, policy)?;
+    let plan = plan_view_filter(alloc, array, mask, policy, validity)?;
+    Ok(relisted(array, plan))
+}
+
+#[cycle(take)]
+#[tactic(auto, using(vx_model::proofs::ListRows::listview_rows))]
+pub(crate) fn take_of(
+    alloc: Global,
+    array: &ListViewArray,
+    picks: &Picks,
+    nullability: Nullability,
+    policy: &Policy,
+) -> Result<Array, NoMemory>
+    requires bound { picks.now.bound ≡ length (listview_column array.now).rows }
+    requires there { nullability ≡ NonNullable → AllThere picks.now.picks }
+    ensures { IfOk result (IsTake (listview_column array.now) picks.now.picks nullability) }
+{
+    let validity = take_validity(alloc, array.validity(), picks, nullability, policy)?;
+    let plan = plan_view_take(alloc, array, picks, validity)?;
+    Ok(relisted(array, plan))
+}

@@ -1,0 +1,11 @@
+pub mod Spans
+pub mod Marks
+pub mod Members
+pub mod Joined
+pub mod SummedRows
+pub mod KeptLists
+pub mod TakenLists
+pub mod ListsOfOneSize
+pub mod ReadNumbers
+pub mod MadeLists
+pub mod ViewRows

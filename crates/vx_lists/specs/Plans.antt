@@ -1,0 +1,52 @@
+-- What plans promise of any column of the elements that are left.
+use Rattle.std.specs.Prelude.{◌≡◌, ℕ, ◌-◌, ◌≤◌, Bool, true, false, List, [], length, map, replicate, None, if◌then◌else◌}
+use Rattle.vx_types.specs.RowValue.{RowValue}
+use Rattle.vx_model.specs.Column.{Column}
+use Rattle.vx_model.specs.FixedSizeList.{fixed_fault, fixed_spans}
+use Rattle.vx_model.specs.List.{list_fault, list_spans}
+use Rattle.vx_model.specs.ListView.{ListViewParts, listview_fault, listview_spans}
+use Rattle.vx_model.specs.Lists.{lists_of}
+use Rattle.vx_model.specs.Records.{RecordParts}
+use Rattle.vx_model.specs.Valid.{Valid, non_nullable, all_valid, all_invalid, by_column}
+use Rattle.vx_lists.specs.Sums.{joined, offsets_of}
+
+-- any column of the elements that are left makes a column of these lists
+abbrev pub MakesLists : RecordParts → Valid → List RowValue → List (List RowValue) → Type 0
+MakesLists offsets valid left lists =
+    (e : Column) → e.rows ≡ left
+    → (list_fault (record { elements = e; offsets = offsets; valid = valid }) ≡ None)
+    × (lists_of (list_spans (record { elements = e; offsets = offsets; valid = valid })) ≡ lists)
+
+-- the same of lists of one size
+abbrev pub MakesFixed : ℕ → ℕ → Valid → List RowValue → List (List RowValue) → Type 0
+MakesFixed size len valid left lists =
+    (e : Column) → e.rows ≡ left
+    → (fixed_fault (record { elements = e; size = size; len = len; valid = valid }) ≡ None)
+    × (lists_of (fixed_spans (record { elements = e; size = size; len = len; valid = valid }))
+    ≡ lists)
+
+-- these parts make a column of these lists
+abbrev pub MakesViews : ListViewParts → List (List RowValue) → Type 0
+MakesViews p lists = (listview_fault p ≡ None) × (lists_of (listview_spans p) ≡ lists)
+
+-- no row is there
+abbrev pub is_all_invalid : Valid → Bool
+is_all_invalid non_nullable = false
+is_all_invalid all_valid = false
+is_all_invalid all_invalid = true
+is_all_invalid (by_column c) = false
+
+-- the lists that stay behind a validity: where no row is there, each is empty
+abbrev pub lists_left : Valid → List (List RowValue) → List (List RowValue)
+lists_left v lists = if is_all_invalid v then replicate (length lists) [] else lists
+
+-- the elements that are left are these lists, one after another, and offsets are their sums
+pub record LeavesLists (new_offsets : List ℕ) (left : List RowValue) (lists : List (List RowValue)) : Type 0 where
+  pub sums : new_offsets ≡ offsets_of (map length lists)
+  pub elements : left ≡ joined lists
+
+-- a range of so many elements, and bits for it
+pub record IsRangeOf (count : ℕ) (range : ℕ × ℕ) (bits : ℕ) : Type 0 where
+  pub ordered : range.0 ≤ range.1
+  pub within : range.1 ≤ count
+  pub long : bits ≡ range.1 - range.0

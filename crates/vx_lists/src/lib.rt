@@ -1,0 +1,20 @@
+//! Lists, filtered and taken: new offsets, and which elements stay, before any element is moved.
+#![tactic(auto)]
+
+mod element_mask;
+mod filter;
+mod fixed;
+mod fixed_size_list;
+mod list;
+mod listview;
+mod numbers;
+mod take;
+mod view;
+
+pub use element_mask::element_mask_from_offsets;
+pub use filter::{ListFilter, filter_lists};
+pub use fixed::{FixedTake, repeated_mask, take_fixed};
+pub use fixed_size_list::{FixedFilterPlan, FixedTakePlan, plan_fixed_filter, plan_fixed_take};
+pub use list::{ListFilterPlan, ListTakePlan, plan_list_filter, plan_list_take, slice_list};
+pub use listview::{ViewPlan, plan_view_filter, plan_view_take, slice_view};
+pub use take::{ListTake, take_lists};

@@ -1,0 +1,260 @@
+//! Layout `List`: what its filters and takes leave.
+ghost use Rattle.std.specs.Prelude.{◌≡◌, ◌+◌, ◌-◌, ◌≤◌, [], IfOk, length, map, pos, replicate, slice_range, true};
+ghost use Rattle.std.specs.List.{All, items_where_true};
+ghost use Rattle.vx_bits.specs.BitBuffer.{true_count_of};
+ghost use Rattle.vx_mask.specs.Mask.{mask_bits};
+ghost use Rattle.vx_model.specs.List.{list_spans};
+ghost use Rattle.vx_model.specs.Lists.{kept_lists, lists_of};
+ghost use Rattle.vx_model.specs.Numbers.{integers_of};
+ghost use Rattle.vx_model.specs.Records.{records_with};
+ghost use Rattle.vx_model.specs.Valid.{is_fitting, non_nullable, present_bits};
+ghost use Rattle.vx_numbers.specs.Offsets.{offset_positions};
+ghost use Rattle.vx_column.specs.Validity.{valid_of};
+ghost use Rattle.vx_take.specs.Picks.{at, in_runs};
+ghost use Rattle.vx_text.specs.Building.{type_of};
+ghost use Rattle.vx_types.specs.TypeTree.{primitive_kind};
+ghost use Rattle.vx_types.specs.declared.ptype.PType.TheVariants.{U64};
+ghost use Rattle.vx_lists.specs.Lists.{AreOffsets, last_offset};
+ghost use Rattle.vx_lists.specs.Numbers.{AreInType};
+ghost use Rattle.vx_lists.specs.Sums.{offsets_of};
+ghost use Rattle.vx_lists.specs.Plans.{IsRangeOf, LeavesLists, MakesLists, is_all_invalid, lists_left};
+
+use crate::filter::{ListFilter, filter_lists};
+use crate::numbers::{offset_column, offset_numbers, u64_column};
+use crate::take::{ListTake, taken_where};
+use std::alloc::Global;
+use vx_bits::NoMemory;
+use vx_column::{ListArray, PrimitiveArray, Validity};
+use vx_mask::{Mask, MaskValues, Policy};
+use vx_take::Picks;
+use vx_text::{present_mask, slice_offsets};
+use vx_types::Runs;
+
+/// What a filter of lists leaves: the elements of a column of these offsets are those of the range
+/// that the mask selects.
+#[derive(Drop)]
+pub struct ListFilterPlan {
+    /// The new offsets, from 0 on, of the type of the old ones.
+    pub offsets: PrimitiveArray,
+    /// Which rows are there.
+    pub validity: Validity,
+    /// The range of old elements, from its start up to its end, which it leaves out.
+    pub range: (usize, usize),
+    /// Which elements of the range stay.
+    pub mask: Mask,
+}
+
+/// What a take of lists leaves: the elements of a column of these offsets are those of the runs.
+#[derive(Drop)]
+pub struct ListTakePlan {
+    /// The new offsets, from 0 on, of type `U64`.
+    pub offsets: PrimitiveArray,
+    /// Which rows are there.
+    pub validity: Validity,
+    /// The new elements, as runs of old ones, each its start and its length.
+    pub runs: Runs,
+}
+
+// Whether it says no at each row.
+fn is_all_invalid(validity: &Validity) -> bool
+    ensures { result ≡ is_all_invalid (valid_of validity.now) }
+{
+    match validity {
+        Validity::NonNullable | Validity::AllValid | Validity::Array(_) => false,
+        Validity::AllInvalid => true,
+    }
+}
+
+// The offsets of a column of lists.
+#[tactic(auto, using(vx_model::proofs::ListRows::list_rows))]
+fn list_offsets(alloc: Global, array: &ListArray) -> Result<Vec<u64>, NoMemory>
+    ensures value { IfOk result
+        (λ v. v.items ≡ offset_positions (integers_of array.now.offsets)) }
+    ensures offsets { IfOk result (λ v. AreOffsets v.items) }
+    ensures within { IfOk result
+        (λ v. last_offset v.items ≤ length array.now.elements.rows) }
+    ensures small { IfOk result (λ v. AreInType (type_of array.now.offsets.kind) v.items) }
+{
+    offset_numbers(alloc, array.offsets(), array.elements().len())
+}
+
+// So many empty lists, of no elements.
+fn all_empty(alloc: Global, len: usize) -> Result<ListFilter, NoMemory>
+    ensures offsets { IfOk result (λ filter. filter.offsets.items ≡ replicate (len + 1) 0) }
+    ensures range { IfOk result (λ filter. filter.range ≡ (0, 0)) }
+    ensures mask { IfOk result (λ filter. mask_bits filter.mask ≡ []) }
+{
+    let count = len.checked_add(1).ok_or(NoMemory)?;
+    Ok(ListFilter {
+        offsets: vec![in alloc; 0; count]?,
+        range: (0, 0),
+        mask: Mask::AllFalse(0),
+    })
+}
+
+// What a filter leaves where some row may be there.
+fn some_left(
+    alloc: Global,
+    array: &ListArray,
+    mask: &MaskValues,
+    policy: &Policy,
+) -> Result<ListFilter, NoMemory>
+    requires { length mask.now.bits.bits ≡ length (list_spans array.now).spans }
+    ensures left { IfOk result (λ filter. LeavesLists filter.offsets.items
+        (items_where_true (mask_bits filter.mask)
+        (slice_range array.now.elements.rows filter.range.0 filter.range.1))
+        (items_where_true mask.now.bits.bits (lists_of (list_spans array.now)))) }
+    ensures small { IfOk result
+        (λ filter. AreInType (type_of array.now.offsets.kind) filter.offsets.items) }
+    ensures inside { IfOk result (λ filter. IsRangeOf (length array.now.elements.rows)
+        filter.range (length (mask_bits filter.mask))) }
+{
+    // Where the elements end.
+    let _ = array.elements().len();
+    let offsets = list_offsets(alloc, array)?;
+    let filter = filter_lists(alloc, offsets.as_slice(), mask, policy)?;
+    Ok(filter)
+}
+
+// What a filter leaves: no element where no row is there.
+fn left_by(
+    alloc: Global,
+    array: &ListArray,
+    mask: &MaskValues,
+    policy: &Policy,
+    validity: &Validity,
+) -> Result<ListFilter, NoMemory>
+    requires { length mask.now.bits.bits ≡ length (list_spans array.now).spans }
+    ensures left { IfOk result (λ filter. LeavesLists filter.offsets.items
+        (items_where_true (mask_bits filter.mask)
+        (slice_range array.now.elements.rows filter.range.0 filter.range.1))
+        (lists_left (valid_of validity.now)
+        (items_where_true mask.now.bits.bits (lists_of (list_spans array.now))))) }
+    ensures small { IfOk result
+        (λ filter. AreInType (type_of array.now.offsets.kind) filter.offsets.items) }
+    ensures inside { IfOk result (λ filter. IsRangeOf (length array.now.elements.rows)
+        filter.range (length (mask_bits filter.mask))) }
+{
+    if is_all_invalid(validity) {
+        let filter = all_empty(alloc, mask.true_count())?;
+        Ok(filter)
+    } else {
+        some_left(alloc, array, mask, policy)
+    }
+}
+
+/// The plan of the lists at the set positions of `mask`, in order, with their validity.
+///
+/// The elements of a selected null row are kept, but where the validity is `AllInvalid` each list
+/// is empty. The range is that of [`filter_lists`], which `policy` chooses. `NoMemory` alone.
+pub fn plan_list_filter(
+    alloc: Global,
+    array: &ListArray,
+    mask: &MaskValues,
+    policy: &Policy,
+    validity: Validity,
+) -> Result<ListFilterPlan, NoMemory>
+    requires long { length mask.now.bits.bits ≡ length (list_spans array.now).spans }
+    requires fitting { is_fitting (valid_of validity) (true_count_of mask.now.bits.bits) ≡ true }
+    ensures lists { IfOk result (λ plan. MakesLists plan.offsets (valid_of validity)
+        (items_where_true (mask_bits plan.mask)
+        (slice_range array.now.elements.rows plan.range.0 plan.range.1))
+        (lists_left (valid_of validity)
+        (items_where_true mask.now.bits.bits (lists_of (list_spans array.now))))) }
+    ensures kind { IfOk result (λ plan. plan.offsets.kind ≡ array.now.offsets.kind) }
+    ensures valid { IfOk result (λ plan. valid_of plan.validity ≡ valid_of validity) }
+    ensures inside { IfOk result (λ plan. IsRangeOf (length array.now.elements.rows)
+        plan.range (length (mask_bits plan.mask))) }
+{
+    let filter = left_by(alloc, array, mask, policy, &validity)?;
+    let offsets = offset_column(alloc, array.offsets().ptype(), filter.offsets.as_slice())?;
+    let ListFilter {
+        offsets: _,
+        range,
+        mask,
+    } = filter;
+    Ok(ListFilterPlan {
+        offsets,
+        validity,
+        range,
+        mask,
+    })
+}
+
+// What a take leaves.
+fn taken_by(
+    alloc: Global,
+    array: &ListArray,
+    picks: &Picks,
+    validity: &Validity,
+) -> Result<ListTake, NoMemory>
+    requires bound { picks.now.bound ≤ length (list_spans array.now).spans }
+    requires fitting { is_fitting (valid_of validity.now) (length picks.now.picks) ≡ true }
+    ensures left { IfOk result (λ take. LeavesLists take.offsets.items
+        (in_runs array.now.elements.rows take.runs)
+        (kept_lists (present_bits (valid_of validity.now) (length picks.now.picks))
+        (at [] (lists_of (list_spans array.now)) picks.now.picks))) }
+    ensures inside { IfOk result
+        (λ take. All (λ run. run.0 + run.1 ≤ length array.now.elements.rows) take.runs) }
+{
+    // Each pick is a row.
+    let _ = picks.bound();
+    let present = present_mask(alloc, validity, picks.len())?;
+    let offsets = list_offsets(alloc, array)?;
+    let take = taken_where(alloc, offsets.as_slice(), picks, &present)?;
+    Ok(take)
+}
+
+/// The plan of the lists at the picks, in order, with their validity: empty where it says no, and
+/// at a null.
+///
+/// The offsets are running sums of the lengths of the lists that are taken, and the last is the
+/// number of elements. More elements than `usize::MAX` are want of memory. `NoMemory` alone.
+pub fn plan_list_take(
+    alloc: Global,
+    array: &ListArray,
+    picks: &Picks,
+    validity: Validity,
+) -> Result<ListTakePlan, NoMemory>
+    requires bound { picks.now.bound ≤ length (list_spans array.now).spans }
+    requires fitting { is_fitting (valid_of validity) (length picks.now.picks) ≡ true }
+    ensures lists { IfOk result (λ plan. MakesLists plan.offsets (valid_of validity)
+        (in_runs array.now.elements.rows plan.runs)
+        (kept_lists (present_bits (valid_of validity) (length picks.now.picks))
+        (at [] (lists_of (list_spans array.now)) picks.now.picks))) }
+    ensures sums { IfOk result (λ plan. integers_of plan.offsets ≡ map pos (offsets_of
+        (map length (kept_lists (present_bits (valid_of validity) (length picks.now.picks))
+        (at [] (lists_of (list_spans array.now)) picks.now.picks))))) }
+    ensures kind { IfOk result (λ plan. plan.offsets.kind ≡ primitive_kind U64) }
+    ensures valid { IfOk result (λ plan. valid_of plan.validity ≡ valid_of validity) }
+    ensures inside { IfOk result
+        (λ plan. All (λ run. run.0 + run.1 ≤ length array.now.elements.rows) plan.runs) }
+{
+    let take = taken_by(alloc, array, picks, &validity)?;
+    let offsets = u64_column(alloc, take.offsets.as_slice())?;
+    let ListTake { offsets: _, runs } = take;
+    Ok(ListTakePlan {
+        offsets,
+        validity,
+        runs,
+    })
+}
+
+/// The rows from `start` up to `end`, with their validity: other offsets into the same elements.
+/// It takes no memory.
+pub fn slice_list(array: &ListArray, start: usize, end: usize, validity: Validity) -> ListArray
+    requires ordered { start ≤ end }
+    requires within { end ≤ length (list_spans array.now).spans }
+    requires fitting { is_fitting (valid_of validity) (end - start) ≡ true }
+    ensures parts { result ≡ record array.now {
+      offsets = records_with array.now.offsets
+          (slice_range array.now.offsets.records start (end + 1)) non_nullable;
+      valid = valid_of validity;
+    } }
+    ensures lists { lists_of (list_spans result)
+        ≡ slice_range (lists_of (list_spans array.now)) start end }
+{
+    let elements = array.elements().share();
+    let offsets = slice_offsets(array.offsets(), start, end);
+    array.with_parts(elements, offsets, validity)
+}

@@ -1,0 +1,126 @@
+-- What a step leaves of lists makes what it leaves of their column.
+use Rattle.std.proofs.Common.{◌≡◌, ℕ, ◌+◌, ◌≤◌, Bool, true, false, List, [], ◌∷◌, map, length, max, slice_range, Option, refl, sym, ap, ap₂, ◌∙◌, subst, arith}
+use Rattle.std.specs.Prelude.{◌&&◌, ◌||◌, if◌then◌else◌}
+use Rattle.std.specs.List.{items_where_true}
+use Rattle.std.proofs.lemmas.List.{length-map}
+use Rattle.vx_types.specs.TypeTree.{TypeKind, TypeTree}
+use Rattle.vx_types.specs.RowValue.{RowValue, null}
+use Rattle.vx_types.specs.declared.nullability.Nullability.{Nullability}
+use Rattle.vx_take.specs.Picks.{at}
+use Rattle.vx_numbers.specs.Offsets.{items_in}
+use Rattle.vx_model.specs.Column.{Column}
+use Rattle.vx_model.specs.Valid.{Valid, is_constant_form, is_fitting, is_flat_cover, nullability_by, present_bits, shown_rows, stored_rows, valid_size, IsLeft, IsAsPlain}
+use Rattle.vx_model.specs.Plain.{is_in_place, is_lazy_layout, is_null_layout, is_plain, is_row_layout, is_unwrapped}
+use Rattle.vx_model.specs.Lists.{ListsParts, kept_lists, list_row, lists_column, lists_of, stored_lists}
+use Rattle.vx_model.specs.Step.{IsStep, IsCut, IsSlice}
+use Rattle.vx_model.proofs.Items.{map-slice_range, map-items_where_true}
+use Rattle.vx_model.proofs.Steps.{slice-stored, filter-stored}
+use Rattle.vx_model.proofs.Takes.{take-stored}
+use Rattle.vx_model.proofs.ShownRows.{length-present_bits}
+use Rattle.vx_model.proofs.ListRows.{items-lists}
+
+-- such a column is neither unwrapped nor plain
+neither : (a b c : Bool) → (a || b) ≡ false → (a || (b && c)) ≡ false
+neither false false c h = refl
+neither false true c h = cc
+neither true b c h = cc
+
+not_unwrapped : (p : ListsParts) → is_in_place p.layout ≡ false → is_unwrapped (lists_column p) ≡ false
+not_unwrapped p h = neither (is_null_layout p.layout) (is_row_layout p.layout) (is_flat_cover (lists_column p).cover) h
+
+not_plain : (p : ListsParts) → is_in_place p.layout ≡ false → is_plain (lists_column p) ≡ false
+not_plain p h = neither (is_null_layout p.layout) (is_row_layout p.layout) (is_constant_form (lists_column p).cover) h
+
+-- ---- lists of the rows that are there
+
+length-kept_lists : {X : Type 0} (bits : List Bool) (lists : List (List X)) → length bits ≡ length lists → length (kept_lists bits lists) ≡ length lists
+length-kept_lists [] [] h = refl
+length-kept_lists [] (x ∷ lists) h = absurd (omega arith)
+length-kept_lists (b ∷ bits) [] h = absurd (omega arith)
+length-kept_lists (b ∷ bits) (x ∷ lists) h = omega (arith, length-kept_lists bits lists (omega arith))
+
+shown-kept_lists : (bits : List Bool) (lists : List (List RowValue)) → shown_rows bits (map list_row (kept_lists bits lists)) ≡ shown_rows bits (map list_row lists)
+shown-kept_lists [] lists = refl
+shown-kept_lists (b ∷ bits) [] = refl
+shown-kept_lists (true ∷ bits) (x ∷ lists) = ap (λ l. list_row x ∷ l) (shown-kept_lists bits lists)
+shown-kept_lists (false ∷ bits) (x ∷ lists) = ap (λ l. null ∷ l) (shown-kept_lists bits lists)
+
+-- the list behind a null doesn't show
+pub rows-kept_lists : (v : Valid) (lists : List (List RowValue)) → length (present_bits v (length lists)) ≡ length lists → stored_rows v (map list_row (kept_lists (present_bits v (length lists)) lists)) ≡ stored_rows v (map list_row lists)
+rows-kept_lists v lists h =
+    let bits = present_bits v (length lists) in
+    let kept = kept_lists bits lists in
+    let long : length (map list_row kept) ≡ length lists = length-map kept list_row ∙ length-kept_lists bits lists h in
+    let same : length (map list_row lists) ≡ length lists = length-map lists list_row in
+    ap (λ n. shown_rows (present_bits v n) (map list_row kept)) long
+    ∙ shown-kept_lists bits lists
+    ∙ ap (λ n. shown_rows (present_bits v n) (map list_row lists)) (sym same)
+
+-- ---- steps
+
+module _ (p q : ListsParts) (from : is_in_place p.layout ≡ false) (to : is_lazy_layout q.layout ≡ false) (kind : q.kind ≡ p.kind) where
+  -- a step whose rows and validity are these
+  pub is_step-lists : (left : List RowValue) (n : Nullability) (bits : List Bool) → stored_rows q.valid (map list_row (lists_of q)) ≡ left → IsLeft p.valid n bits q.valid → IsStep (lists_column p) left (record { kind = p.kind; nullability = n }) (lists_column q)
+  is_step-lists left n bits rows now =
+      record {
+        rows = rows;
+        dtype = ap₂ (λ (k : TypeKind) (m : Nullability). let t : TypeTree = record { kind = k; nullability = m } in t) kind now.nullability;
+        layout = λ h. let no : true ≡ false = sym h ∙ from in cc;
+        unwrapped = λ h. let no : true ≡ false = sym h ∙ not_unwrapped p from in cc;
+        direct = λ _. to;
+      }
+
+  -- the same of a step that keeps the type
+  pub is_cut-lists : (left : List RowValue) (bits : List Bool) → stored_rows q.valid (map list_row (lists_of q)) ≡ left → IsLeft p.valid (nullability_by p.valid) bits q.valid → IsAsPlain p.valid q.valid → q.elements.depth ≤ p.elements.depth → IsCut (lists_column p) left (lists_column q)
+  is_cut-lists left bits rows now plain inner =
+      record {
+        step = is_step-lists left (nullability_by p.valid) bits rows now;
+        plain = λ h. let no : true ≡ false = sym h ∙ not_plain p from in cc;
+        depth = omega (arith, plain.depth, inner);
+      }
+
+  module _ (fit : is_fitting p.valid (length (stored_lists p).items) ≡ true) where
+    pub is_slice-lists : (s e : ℕ) → s ≤ e → e ≤ length (stored_lists p).items → lists_of q ≡ slice_range (lists_of p) s e → IsLeft p.valid (nullability_by p.valid) (slice_range (present_bits p.valid (length (stored_lists p).items)) s e) q.valid → IsAsPlain p.valid q.valid → q.elements.depth ≤ p.elements.depth → IsSlice (lists_column p) s e (lists_column q)
+    is_slice-lists s e h l lists left plain inner =
+        is_cut-lists _ _
+        (ap (λ xs. stored_rows q.valid (map list_row xs)) lists ∙ slice-stored list_row (lists_of p) p.valid q.valid fit s e h l left)
+        left plain inner
+
+    pub is_filter-lists : (mask : List Bool) → length mask ≡ length (stored_lists p).items → lists_of q ≡ items_where_true mask (lists_of p) → IsLeft p.valid (nullability_by p.valid) (items_where_true mask (present_bits p.valid (length (stored_lists p).items))) q.valid → IsAsPlain p.valid q.valid → q.elements.depth ≤ p.elements.depth → IsCut (lists_column p) (items_where_true mask (lists_column p).rows) (lists_column q)
+    is_filter-lists mask h lists left plain inner =
+        is_cut-lists _ _
+        (ap (λ xs. stored_rows q.valid (map list_row xs)) lists ∙ filter-stored list_row (lists_of p) p.valid q.valid fit mask h left)
+        left plain inner
+
+    -- where no row is there, the lists don't show
+    pub is_filter-hidden : (mask : List Bool) (lists : List (List RowValue)) → length mask ≡ length (stored_lists p).items → lists ≡ items_where_true mask (lists_of p) → stored_rows q.valid (map list_row (lists_of q)) ≡ stored_rows q.valid (map list_row lists) → IsLeft p.valid (nullability_by p.valid) (items_where_true mask (present_bits p.valid (length (stored_lists p).items))) q.valid → IsAsPlain p.valid q.valid → q.elements.depth ≤ p.elements.depth → IsCut (lists_column p) (items_where_true mask (lists_column p).rows) (lists_column q)
+    is_filter-hidden mask lists h is same left plain inner =
+        is_cut-lists _ _
+        (same ∙ ap (λ xs. stored_rows q.valid (map list_row xs)) is ∙ filter-stored list_row (lists_of p) p.valid q.valid fit mask h left)
+        left plain inner
+
+    -- whatever stands at a null pick
+    pub is_take-lists : (missing : List RowValue) (picks : List (Option ℕ)) (n : Nullability) → lists_of q ≡ at missing (lists_of p) picks → IsLeft p.valid n (at false (present_bits p.valid (length (stored_lists p).items)) picks) q.valid → IsStep (lists_column p) (at null (lists_column p).rows picks) (record { kind = p.kind; nullability = n }) (lists_column q)
+    is_take-lists missing picks n lists left =
+        is_step-lists _ n _
+        (ap (λ xs. stored_rows q.valid (map list_row xs)) lists ∙ take-stored list_row missing (lists_of p) p.valid q.valid n fit picks left)
+        left
+
+    -- the same where the lists of rows that aren't there are empty
+    pub is_take-kept_lists : (missing : List RowValue) (picks : List (Option ℕ)) (n : Nullability) → is_fitting q.valid (length (at missing (lists_of p) picks)) ≡ true → lists_of q ≡ kept_lists (present_bits q.valid (length (at missing (lists_of p) picks))) (at missing (lists_of p) picks) → IsLeft p.valid n (at false (present_bits p.valid (length (stored_lists p).items)) picks) q.valid → IsStep (lists_column p) (at null (lists_column p).rows picks) (record { kind = p.kind; nullability = n }) (lists_column q)
+    is_take-kept_lists missing picks n fitting lists left =
+        let xs = at missing (lists_of p) picks in
+        is_step-lists _ n _
+        (ap (λ ys. stored_rows q.valid (map list_row ys)) lists
+        ∙ rows-kept_lists q.valid xs (length-present_bits q.valid (length xs) fitting)
+        ∙ take-stored list_row missing (lists_of p) p.valid q.valid n fit picks left)
+        left
+
+-- lists of spans of the same elements
+pub lists-slice : (p q : ListsParts) (s e : ℕ) → q.elements ≡ p.elements → q.spans ≡ slice_range p.spans s e → lists_of q ≡ slice_range (lists_of p) s e
+lists-slice p q s e same spans =
+    ap₂ (λ (c : Column) xs. map (items_in c.rows) xs) same spans ∙ map-slice_range (items_in p.elements.rows) p.spans s e
+
+pub lists-filter : (p q : ListsParts) (mask : List Bool) → q.elements ≡ p.elements → q.spans ≡ items_where_true mask p.spans → lists_of q ≡ items_where_true mask (lists_of p)
+lists-filter p q mask same spans =
+    ap₂ (λ (c : Column) xs. map (items_in c.rows) xs) same spans ∙ map-items_where_true (items_in p.elements.rows) mask p.spans
