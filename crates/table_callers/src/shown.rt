@@ -28,10 +28,7 @@ fn print_cell(rt: &impl Print, dtype: &DType, cell: Cell) -> Result<(), Fail> {
             (DType::Utf8(_), Ok(text)) => print!(rt; " {text:?}")?,
             _ => print_number(rt, bytes)?,
         },
-        Cell::List(list) => {
-            let len = list.end - list.start;
-            print!(rt; " a list of {len}")?
-        }
+        Cell::List(_) => print!(rt; " a list")?,
     }
     Ok(())
 }
