@@ -45,3 +45,7 @@ print("a row of the fill: Broken { step: 0, cause: BadRange { start: 2999, end: 
 print("a broken step: Broken { step: 2, cause: BadRange { start: 0, end: 3, len: 2 } }, reads [0]")
 rows = list(range(3000))[1022:2050][1:1027][1024:1026]
 steps("slices", rows, touched(rows))
+shown = "Nullable Some(2047) Some(0) None Some(2047)"
+print(f"room for a read: {shown}, reads [0]")
+print(f"never fails, None is empty: {shown}")
+print("never fails, Some(2) is empty: Damaged { block: 2 }")

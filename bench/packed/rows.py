@@ -74,12 +74,15 @@ def decoder(name, b, chunk, width):
         numbers, k, rest = numbers + got, k + 1, rest[n:]
     line = f"{name}: {len(numbers)} numbers, empty {str(not numbers).lower()}"
     if len(numbers) >= 1024 * (chunk + 1):
-        of = lambda p: " " + numbers[1024 * chunk + p].to_bytes(width, "little").hex()
-        line += "".join(map(of, (0, 1, 77, 1023))) + ", alone" + "".join(map(of, (1, 77, 1023)))
+        at = 1024 * chunk
+        of = lambda p: " " + numbers[at + p].to_bytes(width, "little").hex()
+        records = b"".join(n.to_bytes(width, "little") for n in numbers[at : at + 1024])
+        line += "".join(map(of, (0, 1, 77, 1023))) + f", sum {total(records)}, alone" + "".join(map(of, (1, 77, 1023)))
     print(line)
 
 
 spelling("100 and up", remainders(100, 4, 1024), 1)
+print(f"e4 among its bytes from the tenth on: {pack(remainders(100, 4, 1024))[9:].count(0xe4)}")
 spelling("sevens", remainders(7, 1, 1024), 1)
 spelling("none", [], 8)
 spelling("three chunks", remainders(40, 1500, 3072), 2)

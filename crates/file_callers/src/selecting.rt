@@ -2,8 +2,9 @@
 use crate::made::{block_of, file_of, positions, reader_of, take};
 use std::alloc::Global;
 use std::test::Fail;
+use vx_bits::Buffer;
 use vx_column::Array;
-use vx_file::{Blocks, FileError, MemoryBlocks, SteadyBlocks, open_file, select_file};
+use vx_file::{BlockReader, Blocks, FileError, MemoryBlocks, SteadyBlocks, open_file, select_file};
 use vx_mask::Policy;
 use vx_select::Step;
 
@@ -29,7 +30,32 @@ pub(crate) fn print_rows(rt: &impl Print, alloc: Global) -> Result<(), Fail> {
     let later = [slice(1024, 2048), slice(3, 5), slice(0, 3)];
     print_steps(rt, alloc, "a broken step", None, &[], &later)?;
     let ends = [slice(1022, 2050), slice(1, 1027), slice(1024, 1026)];
-    print_steps(rt, alloc, "slices", None, &[], &ends)
+    print_steps(rt, alloc, "slices", None, &[], &ends)?;
+    print_readers(rt, alloc, &steps)
+}
+
+// A reader that keeps its first read alone, and two that never fail.
+fn print_readers(rt: &impl Print, alloc: Global, steps: &[Step]) -> Result<(), Fail> {
+    let none = Buffer::from_vec(alloc, Vec::new(alloc))?;
+    let mut reader = MemoryBlocks::new(alloc, blocks_without(alloc, None)?, none, 1)?;
+    rt.print("room for a read:")?;
+    print_answer(rt, selected(alloc, &mut reader, steps))?;
+    println!(rt; ", reads {:?}", reader.reads())?;
+    print_steady(rt, alloc, None, steps)?;
+    print_steady(rt, alloc, Some(2), steps)
+}
+
+fn print_steady(
+    rt: &impl Print,
+    alloc: Global,
+    empty: Option<usize>,
+    steps: &[Step],
+) -> Result<(), Fail> {
+    let mut reader = SteadyBlocks::new(blocks_without(alloc, empty)?);
+    print!(rt; "never fails, {empty:?} is empty:")?;
+    print_answer(rt, selected(alloc, &mut reader, steps))?;
+    rt.println("")?;
+    Ok(())
 }
 
 fn slice(start: usize, end: usize) -> Step {
@@ -55,7 +81,11 @@ fn blocks_without(alloc: Global, empty: Option<usize>) -> Result<Blocks, Fail> {
     Ok(blocks)
 }
 
-fn selected(alloc: Global, reader: &mut MemoryBlocks, steps: &[Step]) -> Result<Array, FileError> {
+fn selected<R: BlockReader>(
+    alloc: Global,
+    reader: &mut R,
+    steps: &[Step],
+) -> Result<Array, FileError> {
     let shape = match open_file(reader) {
         Ok(shape) => shape,
         Err(error) => return Err(error),
@@ -73,11 +103,16 @@ fn print_steps(
 ) -> Result<(), Fail> {
     let mut reader = reader_of(alloc, blocks_without(alloc, empty)?, failing)?;
     print!(rt; "{name}:")?;
-    match selected(alloc, &mut reader, steps) {
+    print_answer(rt, selected(alloc, &mut reader, steps))?;
+    println!(rt; ", reads {:?}", reader.reads())?;
+    Ok(())
+}
+
+fn print_answer(rt: &impl Print, answer: Result<Array, FileError>) -> Result<(), Fail> {
+    match answer {
         Ok(column) => print_column(rt, &column)?,
         Err(error) => print!(rt; " {error:?}")?,
     }
-    println!(rt; ", reads {:?}", reader.reads())?;
     Ok(())
 }
 

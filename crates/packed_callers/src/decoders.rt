@@ -4,10 +4,10 @@ ghost use Rattle.vx_chunked.specs.Told.{whole_chunks};
 ghost use Rattle.vx_packed.specs.Faults.{is_width};
 ghost use Rattle.vx_packed.specs.Parts.{records_of};
 
-use crate::numbers::{packed, remainders};
+use crate::numbers::{packed, remainders, sum_of_bytes};
 use std::alloc::Global;
 use std::test::Fail;
-use vx_bits::Buffer;
+use vx_bits::{Buffer, NoMemory};
 use vx_chunked::{Call, ChunkDecoder, Logged, filter_chunked_mask};
 use vx_mask::{Mask, Policy};
 use vx_packed::{PackedChunks, PackedError};
@@ -103,6 +103,7 @@ fn print_chunk<const W: usize>(
     for place in [0, 1, 77, 1023] {
         print_record(rt, &all[place])?;
     }
+    print!(rt; ", sum {}", sum_of_records(alloc, &all)?)?;
     let mut some = zeros::<W>(alloc, 3)?;
     packed.decode_indices(chunk, &[1, 77, 1023], &mut some);
     rt.print(", alone")?;
@@ -110,6 +111,15 @@ fn print_chunk<const W: usize>(
         print_record(rt, record)?;
     }
     Ok(())
+}
+
+// The sum of the bytes of records, each times its place.
+fn sum_of_records<const W: usize>(alloc: Global, records: &[[u8; W]]) -> Result<u64, NoMemory> {
+    let mut bytes = Vec::new(alloc);
+    for record in records {
+        bytes.extend_from_slice(record)?;
+    }
+    Ok(sum_of_bytes(bytes.as_slice()))
 }
 
 fn print_record(rt: &impl Print, record: &[u8]) -> Result<(), Fail> {

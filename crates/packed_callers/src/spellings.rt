@@ -17,6 +17,7 @@ pub(crate) fn print_rows(rt: &impl Print, alloc: Global) -> Result<(), Fail> {
         &remainders(alloc, 100, 4, 1024)?,
         1,
     )?;
+    print_alike(rt, alloc)?;
     print_spelling(rt, alloc, "sevens", &remainders(alloc, 7, 1, 1024)?, 1)?;
     print_spelling(rt, alloc, "none", &remainders(alloc, 0, 1, 0)?, 8)?;
     print_spelling(
@@ -48,6 +49,19 @@ fn print_digits(
 {
     print!(rt; "{digits} digits, ")?;
     print_spelling(rt, alloc, "spread", &spread(alloc, base, digits)?, width)
+}
+
+// How many bytes of the offsets of 100 to 103, again and again, spell 0, 1, 2, 3.
+fn print_alike(rt: &impl Print, alloc: Global) -> Result<(), Fail> {
+    let bytes = packed(alloc, &remainders(alloc, 100, 4, 1024)?, 1)?;
+    let mut alike: u64 = 0;
+    for byte in bytes.as_slice().iter().skip(9) {
+        if *byte == 0xe4 {
+            alike = alike.wrapping_add(1);
+        }
+    }
+    println!(rt; "e4 among its bytes from the tenth on: {alike}")?;
+    Ok(())
 }
 
 // The bytes of numbers, and what their first chunk gives.
