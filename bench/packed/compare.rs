@@ -1,8 +1,8 @@
-//! Reads and packs a chunk by the library (`ours`) or by plain Rust (`rust`), so many times, or tells
+//! Reads, decodes and packs a chunk by the library (`ours`) or by plain Rust (`rust`), so many times, or tells
 //! the picoseconds a number of both.
 //!
-//! usage: compare read|pack ours|rust DIGITS TIMES
-//!        compare read|pack times DIGITS TIMES
+//! usage: compare read|decode|pack ours|rust DIGITS TIMES
+//!        compare read|decode|pack times DIGITS TIMES
 
 #[path = "../kernels/memory.rs"]
 mod memory;
@@ -12,6 +12,7 @@ use std::time::Instant;
 
 unsafe extern "C" {
     fn read_chunk_u64(b: *const u8, n: usize, o: *mut u64, m: usize, times: usize) -> usize;
+    fn decode_u64(b: *const u8, n: usize, o: *mut u64, m: usize, times: usize) -> usize;
     fn pack_u64(v: *const u64, n: usize, o: *mut u8, m: usize, times: usize) -> usize;
 }
 
@@ -65,6 +66,14 @@ fn read(bytes: &[u8], width: usize, dst: &mut [u64; 1024]) -> Result<(), u8> {
 }
 
 #[inline(never)]
+fn decode(bytes: &[u8], dst: &mut [[u8; 8]; 1024]) {
+    let (digits, base) = (bytes[0] as usize, word(bytes, 1));
+    for j in 0..1024 {
+        dst[j] = (base + field(&bytes[9..], j * digits, digits)).to_le_bytes();
+    }
+}
+
+#[inline(never)]
 fn pack(values: &[u64]) -> Vec<u8> {
     let mut out = Vec::new();
     for chunk in values.chunks_exact(1024) {
@@ -107,6 +116,16 @@ fn measured(args: &[String], values: &[u64], bytes: &[u8], times: usize) -> (Vec
             for _ in 0..times {
                 read(black_box(bytes), 8, black_box(&mut dst)).unwrap();
             }
+        }
+        ("decode", "ours") => unsafe {
+            decode_u64(bytes.as_ptr(), bytes.len(), dst.as_mut_ptr(), 1024, times);
+        },
+        ("decode", _) => {
+            let mut records = [[0u8; 8]; 1024];
+            for _ in 0..times {
+                decode(black_box(bytes), black_box(&mut records));
+            }
+            dst = records.map(u64::from_le_bytes);
         }
         ("pack", "ours") => unsafe {
             let n = pack_u64(values.as_ptr(), 1024, out.as_mut_ptr(), 8201, times);
@@ -153,5 +172,5 @@ fn main() {
         return;
     }
     let (dst, out) = measured(&args, &values, &bytes, times);
-    assert!(if args[1] == "read" { dst == values } else { out == bytes });
+    assert!(if args[1] == "pack" { out == bytes } else { dst == values });
 }

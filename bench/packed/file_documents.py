@@ -126,6 +126,43 @@ right("u8", TENS, [("slice", [2047, 2050]), ("take", [2, 0])], WHOLE)
 for policy in ["vortex", {}, {"min_average_run": 0}, {"in_place_min": [0, 1], "sparse_w1": 0}]:
     right("u8", TENS, [("slice", [1022, 1026]), ("filter", "0110")], WHOLE, policy=policy)
 
+
+def stepped(steps, picks, nullable=""):
+    """Steps that are spelled here, over the whole file of tens, and the picks that they leave."""
+    touched = sorted({1 + p // 1024 for p in picks if p is not None})
+    lines = ["= 0", f"= u8{nullable}"] + [f"= {'null' if p is None else TENS[p]}" for p in picks]
+    lines.append("= reads:" + "".join(f" {b}" for b in touched))
+    blocks = [b if k == 0 or k in touched else "ff" for k, b in enumerate(WHOLE)]
+    row(document(blocks, steps), lines + [f"=? block {b}" for b in [0] + touched])
+
+
+def column(kind, values, **more):
+    return {"layout": "Primitive", "type": kind, "values": values, **more}
+
+
+family("# every form of a step over a file; the blocks that hold no picked row are damaged")
+PIECES = {"starts": [0, 4998, 7], "lengths": [3, 2, 0], "multipliers": [1500, 1, 9], "len": 5}
+stepped([("take", {"pieces": PIECES})], [0, 1500, 3000, 4998, 4999])
+ONE = {"layout": "Constant", "type": "u16", "value": 4999, "len": 3}
+stepped([("take", ONE)], [4999] * 3)
+stepped([("take", {**ONE, "nullable": True, "value": None})], [None] * 3, "?")
+stepped([("take", {**ONE, "nullable": True})], [4999] * 3, "?")
+DICT = {"layout": "Dict", "codes": column("u8", [1, 0, 1]), "values": column("u16", [1023, 1024])}
+stepped([("take", DICT)], [1024, 1023, 1024])
+stepped([("take", column("i16", [3071, 3072], validity="AllValid"))], [3071, 3072], "?")
+stepped([("take", column("u16", [2047, 65535], validity=[True, False]))], [2047, None], "?")
+stepped([("take", column("u16", [65535, 65534], validity="AllInvalid"))], [None, None], "?")
+LAZY = {"layout": "Filter", "child": {"layout": "Primitive", "type": "u16", "ramp": 5000}}
+stepped([("take", {**LAZY, "mask": {"len": 5000, "set": [4095, 4096]}})], [4095, 4096])
+stepped([("filter", {"len": 5000, "set": [0, 4999]})], [0, 4999])
+stepped([("filter", {"len": 5000, "runs": [[1023, 1025], [3071, 3072]]})], [1023, 1024, 3071])
+stepped([("filter", {"len": 5000, "every": True}), ("slice", [4096, 4098])], [4096, 4097])
+stepped([("filter", {"len": 5000, "every": False})], [])
+stepped([("slice", [2045, 2051]), ("filter", {"bits": "011001", "offset": 2})], [2046, 2047, 2050])
+TRUE = {"layout": "Bool", "values": [True, None, False, True]}
+stepped([("slice", [3070, 3074]), ("filter_by", TRUE)], [3070, 3073])
+stepped([("take", [0, None, 4999]), ("filter_by", {"layout": "Bool", "values": "011"})], [None, 4999], "?")
+
 family("# a block that holds no picked row is never looked at")
 own = file_of("u32", OWN)
 right("u32", OWN, TAKEN, own[:3] + ["00"])
