@@ -2,7 +2,7 @@
 //! the picoseconds a number of both.
 //!
 //! usage: compare read|decode|pack ours|rust DIGITS TIMES
-//!        compare read|decode|pack times DIGITS TIMES
+//!        compare read|decode|pack times DIGITS RUNS
 
 #[path = "../kernels/memory.rs"]
 mod memory;
@@ -140,21 +140,18 @@ fn measured(args: &[String], values: &[u64], bytes: &[u8], times: usize) -> (Vec
     (dst.to_vec(), out)
 }
 
-// The least picoseconds a number of fifteen runs, by turns, less those of a tenth of the times.
-fn timed(args: &[String], values: &[u64], bytes: &[u8], times: usize) -> [u128; 2] {
+// The least picoseconds a number of so many short runs, by turns, so that other work on the machine
+// changes little.
+fn timed(args: &[String], values: &[u64], bytes: &[u8], runs: usize) -> [u128; 2] {
+    const TIMES: usize = 100;
     let mut args = args.to_vec();
     let mut least = [u128::MAX; 2];
-    for _ in 0..15 {
+    for _ in 0..runs {
         for (side, least) in ["ours", "rust"].iter().zip(&mut least) {
             args[2] = side.to_string();
-            let run = |times| {
-                let start = Instant::now();
-                black_box(measured(&args, values, bytes, times));
-                start.elapsed().as_nanos()
-            };
-            let short = run(times / 10);
-            let spent = run(times).saturating_sub(short);
-            *least = (*least).min(spent * 1000 / (1024 * (times - times / 10)) as u128);
+            let start = Instant::now();
+            black_box(measured(&args, values, bytes, TIMES));
+            *least = (*least).min(start.elapsed().as_nanos() * 1000 / (1024 * TIMES) as u128);
         }
     }
     least
