@@ -1,6 +1,7 @@
 //! Joins of two tables.
 use crate::made::{
-    bools, bytes, constant, decimals, dictionary, filtered, floats, nulls, numbers, table, texts,
+    bools, bytes, constant, decimals, dictionary, filtered, floats, nulls, numbers, shorts, table,
+    texts,
 };
 use crate::shown::print_table;
 use std::alloc::Global;
@@ -8,7 +9,7 @@ use std::test::Fail;
 use vx_column::ArrayRef;
 use vx_join::{JoinIndices, join, join_indices};
 use vx_mask::Policy;
-use vx_table::Table;
+use vx_table::{Table, page};
 use vx_take::Picks;
 
 fn print_picks(rt: &impl Print, picks: &Picks) -> Result<(), Fail> {
@@ -106,7 +107,8 @@ pub(crate) fn print_joins(rt: &impl Print, alloc: Global) -> Result<(), Fail> {
     print_constant(rt, alloc)?;
     print_dictionary(rt, alloc)?;
     print_lazy(rt, alloc)?;
-    print_several(rt, alloc, &numbered_bools(alloc)?, &bools_numbered(alloc)?)
+    print_several(rt, alloc, &numbered_bools(alloc)?, &bools_numbered(alloc)?)?;
+    print_wide(rt, alloc)
 }
 
 fn print_both(rt: &impl Print, alloc: Global, left: &Table, right: &Table) -> Result<(), Fail> {
@@ -124,14 +126,22 @@ fn print_none(rt: &impl Print, alloc: Global, left: &Table, none: &Table) -> Res
 fn print_zeros(rt: &impl Print, alloc: Global) -> Result<(), Fail> {
     let left = one(alloc, floats(alloc, &[0, 0x8000_0000])?)?;
     let right = one(alloc, floats(alloc, &[0x8000_0000, 0])?)?;
-    print_pairs(rt, alloc, "both zeros", &left, &right, &[(0, 0)])
+    print_pairs(rt, alloc, "both zeros", &left, &right, &[(0, 0)])?;
+    let nans = one(alloc, floats(alloc, &[0x7fc0_0000, 0x7fc0_0001])?)?;
+    print_pairs(rt, alloc, "two NaNs", &nans, &nans, &[(0, 0)])
 }
 
 // Records that are too wide for a number.
 fn print_decimals(rt: &impl Print, alloc: Global) -> Result<(), Fail> {
-    let left = one(alloc, decimals(alloc, &[5, 300, 5])?)?;
-    let right = one(alloc, decimals(alloc, &[300, 5])?)?;
-    print_pairs(rt, alloc, "decimals of 16 bytes", &left, &right, &[(0, 0)])
+    let left = one(alloc, decimals(alloc, 2, &[5, 300, 5])?)?;
+    let right = one(alloc, decimals(alloc, 2, &[300, 5])?)?;
+    print_pairs(rt, alloc, "decimals of 16 bytes", &left, &right, &[(0, 0)])?;
+    let behind = [5 + (1 << 64), 5 + (2 << 64), 5 + (1 << 64)];
+    let left = one(alloc, decimals(alloc, 2, &behind)?)?;
+    let right = one(alloc, decimals(alloc, 2, &[5 + (1 << 64), 5])?)?;
+    print_pairs(rt, alloc, "eight bytes alike", &left, &right, &[(0, 0)])?;
+    let right = one(alloc, decimals(alloc, 3, &[5])?)?;
+    print_pairs(rt, alloc, "another scale", &left, &right, &[(0, 0)])
 }
 
 fn print_nulls(rt: &impl Print, alloc: Global) -> Result<(), Fail> {
@@ -202,6 +212,45 @@ fn print_several(rt: &impl Print, alloc: Global, left: &Table, right: &Table) ->
     print_pairs(rt, alloc, "one key twice", left, right, &[(0, 1), (0, 1)])
 }
 
+// Ten columns of three rows: row i of column k is 10 * k + i on the left, and on the right that
+// of the row from behind in columns 3 and 5, and 100 more in all others.
+fn ten_columns(alloc: Global, is_right: bool) -> Result<Table, Fail> {
+    let mut columns = Vec::new(alloc);
+    for k in 0..10_u32 {
+        let rows = match (is_right, k) {
+            (false, _) => [Some(10 * k), Some(10 * k + 1), Some(10 * k + 2)],
+            (true, 3 | 5) => [Some(10 * k + 2), Some(10 * k + 1), Some(10 * k)],
+            (true, _) => [Some(10 * k + 100), Some(10 * k + 101), Some(10 * k + 102)],
+        };
+        columns.push(numbers(alloc, &rows)?)?;
+    }
+    let names = ["a", "b", "c", "d", "e", "f", "g", "h", "i", "j"];
+    table(alloc, &names, columns, 3)
+}
+
+// Tables of ten columns, and a page of three columns of the joined one.
+fn print_wide(rt: &impl Print, alloc: Global) -> Result<(), Fail> {
+    let (left, right) = (ten_columns(alloc, false)?, ten_columns(alloc, true)?);
+    let keys = [(5, 5), (3, 3)];
+    let policy = Policy::vortex();
+    print_pairs(rt, alloc, "ten columns", &left, &right, &keys)?;
+    match join(alloc, &left, &right, &keys, &policy) {
+        Ok(joined) => {
+            print_table(rt, "twenty columns", &joined)?;
+            print_cut(rt, alloc, &joined, &policy)
+        }
+        Err(error) => Err(error.into()),
+    }
+}
+
+// The second page of two rows.
+fn print_cut(rt: &impl Print, alloc: Global, joined: &Table, policy: &Policy) -> Result<(), Fail> {
+    match page(alloc, joined, &[19, 0, 13], &[], 1, 2, policy) {
+        Ok(rows) => print_table(rt, "page 1 of them", &rows),
+        Err(error) => Err(error.into()),
+    }
+}
+
 /// Each refusal, in order.
 pub(crate) fn print_refusals(rt: &impl Print, alloc: Global) -> Result<(), Fail> {
     print_refused(rt, alloc, &left_table(alloc)?, &right_table(alloc)?)?;
@@ -209,7 +258,7 @@ pub(crate) fn print_refusals(rt: &impl Print, alloc: Global) -> Result<(), Fail>
         rt,
         alloc,
         &left_table(alloc)?,
-        &one(alloc, numbers(alloc, &[Some(1)])?)?,
+        &one(alloc, shorts(alloc, &[1])?)?,
     )
 }
 
@@ -222,6 +271,6 @@ fn print_refused(rt: &impl Print, alloc: Global, left: &Table, right: &Table) ->
 }
 
 fn print_types(rt: &impl Print, alloc: Global, left: &Table, wide: &Table) -> Result<(), Fail> {
-    print_pairs(rt, alloc, "u8 and u32", left, wide, &[(0, 0)])?;
+    print_pairs(rt, alloc, "u8 and u16", left, wide, &[(0, 0)])?;
     print_pairs(rt, alloc, "texts", left, left, &[(0, 0), (1, 1)])
 }

@@ -50,6 +50,17 @@ pub(crate) fn bytes(alloc: Global, rows: &[Option<u8>]) -> Result<ArrayRef, Fail
     Ok(column.into_array().into_ref(alloc)?)
 }
 
+/// A column of `u16` rows.
+pub(crate) fn shorts(alloc: Global, rows: &[u16]) -> Result<ArrayRef, Fail> {
+    let mut records = Vec::new(alloc);
+    for row in rows {
+        records.push(row.to_le_bytes())?;
+    }
+    let values = Records::W2(Buffer::from_vec(alloc, records)?);
+    let column = PrimitiveArray::try_new(PType::U16, values, Validity::NonNullable)?;
+    Ok(column.into_array().into_ref(alloc)?)
+}
+
 /// A column of `f32` rows, by the bits that they are stored as.
 pub(crate) fn floats(alloc: Global, rows: &[u32]) -> Result<ArrayRef, Fail> {
     let mut records = Vec::new(alloc);
@@ -61,14 +72,15 @@ pub(crate) fn floats(alloc: Global, rows: &[u32]) -> Result<ArrayRef, Fail> {
     Ok(column.into_array().into_ref(alloc)?)
 }
 
-/// A column of decimals of 30 digits, whose records have sixteen bytes.
-pub(crate) fn decimals(alloc: Global, rows: &[u128]) -> Result<ArrayRef, Fail> {
+/// A column of decimals of 30 digits, `scale` of them behind the point, whose records have sixteen
+/// bytes.
+pub(crate) fn decimals(alloc: Global, scale: i8, rows: &[u128]) -> Result<ArrayRef, Fail> {
     let mut records = Vec::new(alloc);
     for row in rows {
         records.push(row.to_le_bytes())?;
     }
     let values = Records::W16(Buffer::from_vec(alloc, records)?);
-    let decimal = DecimalDType::try_new(30, 2, 16)?;
+    let decimal = DecimalDType::try_new(30, scale, 16)?;
     let column = DecimalArray::try_new(decimal, values, Validity::NonNullable)?;
     Ok(column.into_array().into_ref(alloc)?)
 }
