@@ -1,5 +1,6 @@
 //! Pages of a table, and of a join of two.
-ghost use Rattle.std.specs.Prelude.{◌≤◌, IfOk};
+ghost use Rattle.std.specs.Prelude.{◌≡◌, ◌≤◌, [], ◌∷◌, IfOk, length};
+ghost use Rattle.vx_join.specs.Keys.{matching_pairs};
 
 use crate::columns::u64_column;
 use crate::printing::print_numbers;
@@ -8,7 +9,7 @@ use std::alloc::Global;
 use std::rc::RcStr;
 use std::test::Fail;
 use vx_column::ArrayRef;
-use vx_join::join;
+use vx_join::{JoinError, join};
 use vx_mask::Policy;
 use vx_table::{Columns, PageError, Step, Table, page};
 
@@ -94,6 +95,19 @@ fn print_refusal(rt: &impl Print, alloc: Global, table: &Table) -> Result<(), Fa
     }
 }
 
+/// The orders with their buyers: a row for each pair of them whose first columns are equal.
+fn with_buyers(
+    alloc: Global,
+    orders: &Table,
+    buyers: &Table,
+    policy: &Policy,
+) -> Result<Table, JoinError>
+    ensures { IfOk result
+        (λ t. t.len ≡ length (matching_pairs orders.now buyers.now ((0, 0) ∷ []))) }
+{
+    join(alloc, orders, buyers, &[(0, 0)], policy)
+}
+
 // Orders by their buyers, and the buyers' codes.
 fn print_join(rt: &impl Print, alloc: Global) -> Result<(), Fail> {
     let buyers = u64_column(alloc, &[2, 1, 2, 3])?;
@@ -103,7 +117,7 @@ fn print_join(rt: &impl Print, alloc: Global) -> Result<(), Fail> {
     let codes = u64_column(alloc, &[100, 200])?;
     let buyers = numbered(alloc, vec![in alloc; ids, codes]?, 2)?;
     let policy = Policy::vortex();
-    match join(alloc, &orders, &buyers, &[(0, 0)], &policy) {
+    match with_buyers(alloc, &orders, &buyers, &policy) {
         Ok(joined) => print_joined(rt, alloc, &joined, &policy),
         Err(error) => Err(error.into()),
     }
