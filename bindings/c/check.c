@@ -1,0 +1,125 @@
+/* Calls the library as a C program does, mostly with arguments that it must refuse, and prints
+ * `c: N passed, M failed`. */
+#include <stdio.h>
+#include <string.h>
+
+#include "vortex_select.h"
+
+static int passed, failed;
+
+static void expect(int holds, const char *what) {
+    passed += holds;
+    failed += !holds;
+    if (!holds) {
+        printf("c: not so: %s\n", what);
+    }
+}
+
+static int is(vortex_answer answer, uint64_t status, uint64_t value) {
+    return answer.status == status && answer.value == value;
+}
+
+static const uint32_t four[4] = {10, 20, 30, 40};
+static const uint64_t odd[1] = {10};
+
+/* What an output holds before a call, and after one that is refused. */
+static uint32_t dst[4];
+
+static void refill(void) { memset(dst, 0xab, sizeof dst); }
+
+static int is_untouched(void) {
+    static uint32_t fresh[4];
+    memset(fresh, 0xab, sizeof fresh);
+    return memcmp(dst, fresh, sizeof dst) == 0;
+}
+
+static void filters(void) {
+    refill();
+    vortex_answer answer = vortex_filter_4(four, 4, odd, 1, dst, 4);
+    expect(is(answer, VORTEX_DONE, 2) && dst[0] == 20 && dst[1] == 40, "a filter");
+    expect(dst[2] == 0xabababab && dst[3] == 0xabababab, "the rest of its output stays");
+    refill();
+    answer = vortex_filter_4(four, 4, odd, 1, dst, 1);
+    expect(is(answer, VORTEX_ROOM, 2) && is_untouched(), "a filter into too little room");
+    answer = vortex_filter_4(four, 4, odd, 1, NULL, 0);
+    expect(is(answer, VORTEX_ROOM, 2), "a filter into no room");
+    answer = vortex_filter_4(four, 3, odd, 1, dst, 4);
+    expect(answer.status == VORTEX_BITS_PAST && is_untouched(), "a bit past the items");
+    const uint64_t two[2] = {10, 0};
+    answer = vortex_filter_4(four, 4, two, 2, dst, 4);
+    expect(answer.status == VORTEX_LENGTHS && is_untouched(), "a mask with a word too many");
+    answer = vortex_filter_4(four, 4, NULL, 0, dst, 4);
+    expect(answer.status == VORTEX_LENGTHS && is_untouched(), "a mask of no words");
+    answer = vortex_filter_4(NULL, 0, NULL, 0, NULL, 0);
+    expect(is(answer, VORTEX_DONE, 0), "a filter of nothing");
+}
+
+static void filters_in_place(void) {
+    uint32_t values[4] = {10, 20, 30, 40};
+    vortex_answer answer = vortex_filter_in_place_4(values, 3, odd, 1);
+    expect(answer.status == VORTEX_BITS_PAST, "in place, a bit past the items");
+    expect(memcmp(values, four, sizeof four) == 0, "values that a refusal leaves");
+    answer = vortex_filter_in_place_4(values, 4, odd, 1);
+    expect(is(answer, VORTEX_DONE, 2) && values[0] == 20 && values[1] == 40, "in place");
+    answer = vortex_filter_in_place_4(NULL, 0, NULL, 0);
+    expect(is(answer, VORTEX_DONE, 0), "nothing in place");
+}
+
+static void takes(void) {
+    const uint64_t indices[3] = {3, 4, 0}, valid[1] = {5}, most[1] = {UINT64_MAX};
+    refill();
+    vortex_answer answer = vortex_take_4(four, 4, indices, 3, NULL, 0, dst, 4);
+    expect(is(answer, VORTEX_INDEX, 1) && is_untouched(), "an index out of bounds");
+    answer = vortex_take_4(four, 4, most, 1, NULL, 0, dst, 4);
+    expect(is(answer, VORTEX_INDEX, 0) && is_untouched(), "the greatest index");
+    answer = vortex_take_4(NULL, 0, most, 1, NULL, 0, dst, 4);
+    expect(is(answer, VORTEX_INDEX, 0) && is_untouched(), "an index into nothing");
+    answer = vortex_take_4(four, 4, indices, 3, valid, 1, dst, 2);
+    expect(is(answer, VORTEX_ROOM, 3) && is_untouched(), "a take into too little room");
+    answer = vortex_take_4(four, 4, indices, 3, odd, 1, dst, 4);
+    expect(answer.status == VORTEX_BITS_PAST && is_untouched(), "a bit past the indices");
+    const uint64_t two[2] = {5, 0};
+    answer = vortex_take_4(four, 4, indices, 3, two, 2, dst, 4);
+    expect(answer.status == VORTEX_LENGTHS && is_untouched(), "validity with a word too many");
+    answer = vortex_take_4(four, 4, indices, 3, valid, 1, dst, 4);
+    expect(is(answer, VORTEX_DONE, 3), "a take with a null");
+    expect(dst[0] == 40 && dst[1] == 0 && dst[2] == 10 && dst[3] == 0xabababab, "what it gives");
+    answer = vortex_take_4(NULL, 0, NULL, 0, NULL, 0, NULL, 0);
+    expect(is(answer, VORTEX_DONE, 0), "a take of nothing");
+}
+
+static void positions(void) {
+    uint64_t set[2] = {7, 7};
+    vortex_answer answer = vortex_positions(odd, 1, 4, set, 1);
+    expect(is(answer, VORTEX_ROOM, 2) && set[0] == 7, "positions into too little room");
+    answer = vortex_positions(odd, 1, SIZE_MAX, set, 2);
+    expect(answer.status == VORTEX_LENGTHS && set[0] == 7, "as many rows as there are numbers");
+    answer = vortex_positions(odd, 1, 3, set, 2);
+    expect(answer.status == VORTEX_BITS_PAST && set[0] == 7, "a bit past the rows");
+    answer = vortex_positions(odd, 1, 4, set, 2);
+    expect(is(answer, VORTEX_DONE, 2) && set[0] == 1 && set[1] == 3, "positions");
+    answer = vortex_positions(NULL, 0, 0, NULL, 0);
+    expect(is(answer, VORTEX_DONE, 0), "positions of nothing");
+}
+
+static void ranks(void) {
+    expect(is(vortex_rank(odd, 1, 4, 1), VORTEX_DONE, 3), "a rank");
+    expect(is(vortex_rank(odd, 1, 4, 2), VORTEX_INDEX, 2), "a rank past the set bits");
+    expect(vortex_rank(odd, 1, 3, 0).status == VORTEX_BITS_PAST, "a rank, a bit past the rows");
+    expect(is(vortex_rank(NULL, 0, 0, 0), VORTEX_INDEX, 0), "a rank in nothing");
+    expect(is(vortex_count_before(odd, 1, 4, 2), VORTEX_DONE, 1), "a count");
+    expect(is(vortex_count_before(odd, 1, 4, 4), VORTEX_DONE, 2), "a count of all");
+    expect(vortex_count_before(odd, 1, 4, 5).status == VORTEX_INDEX, "a count past the rows");
+    expect(vortex_count_before(odd, 1, SIZE_MAX, 0).status == VORTEX_LENGTHS, "too many rows");
+    expect(is(vortex_count_before(NULL, 0, 0, 0), VORTEX_DONE, 0), "a count of nothing");
+}
+
+int main(void) {
+    filters();
+    filters_in_place();
+    takes();
+    positions();
+    ranks();
+    printf("c: %d passed, %d failed\n", passed, failed);
+    return failed != 0;
+}

@@ -1,0 +1,104 @@
+"""Compares the module with plain loops on random input, and runs the examples of its docs."""
+
+import doctest
+import os
+import random
+import unittest
+from array import array
+
+import vortex_select
+
+CALLS = int(os.environ.get("VORTEX_CALLS", "3000"))
+
+
+def bits_of(rows):
+    bits = bytearray((len(rows) + 7) // 8)
+    for k, row in enumerate(rows):
+        bits[k // 8] |= row << k % 8
+    return bytes(bits)
+
+
+def items_of(data, width):
+    return [bytes(data[i : i + width]) for i in range(0, len(data), width)]
+
+
+def random_input(dice, width):
+    data = dice.randbytes(width * dice.choice([0, 1, 63, 64, 65, dice.randrange(400)]))
+    given = dice.choice([bytes, bytearray, memoryview, lambda d: memoryview(b"x" + d)[1:]])(data)
+    return given, items_of(data, width)
+
+
+class Random(unittest.TestCase):
+    def setUp(self):
+        self.dice = random.Random(20)
+
+    def test_filter(self):
+        for _ in range(CALLS):
+            width = self.dice.choice([1, 2, 4, 8, 16, 32])
+            values, items = random_input(self.dice, width)
+            rows = [self.dice.random() < 0.5 for _ in items]
+            kept = [item for item, row in zip(items, rows) if row]
+            answer = vortex_select.filter(values, bits_of(rows), width)
+            self.assertEqual(items_of(answer, width), kept)
+            values = bytearray(values)
+            count = vortex_select.filter_in_place(values, bits_of(rows), width)
+            self.assertEqual(items_of(values, width)[:count], kept)
+
+    def test_take(self):
+        for _ in range(CALLS):
+            width = self.dice.choice([1, 2, 4, 8, 16, 32])
+            values, items = random_input(self.dice, width)
+            indices = [self.dice.randrange(len(items) + 1) for _ in range(self.dice.randrange(9))]
+            there = [self.dice.random() < 0.7 for _ in indices]
+            first = [k for k, i in enumerate(indices) if there[k] and i >= len(items)]
+            if first:
+                with self.assertRaisesRegex(IndexError, f"index {first[0]} of"):
+                    vortex_select.take(values, indices, bits_of(there), width)
+                continue
+            taken = [items[i] if t else bytes(width) for i, t in zip(indices, there)]
+            answer = vortex_select.take(values, indices, bits_of(there), width)
+            self.assertEqual(items_of(answer, width), taken)
+
+    def test_positions(self):
+        for _ in range(CALLS):
+            rows = [self.dice.random() < 0.3 for _ in range(self.dice.randrange(300))]
+            found = vortex_select.positions(bits_of(rows), len(rows))
+            selected = [k for k, row in enumerate(rows) if row]
+            self.assertEqual(found.tolist(), selected)
+            p = self.dice.randrange(len(rows) + 1)
+            count = vortex_select.count_before(bits_of(rows), len(rows), p)
+            self.assertEqual(count, sum(rows[:p]))
+            if selected:
+                k = self.dice.randrange(len(selected))
+                self.assertEqual(vortex_select.rank(bits_of(rows), len(rows), k), selected[k])
+            with self.assertRaises(IndexError):
+                vortex_select.rank(bits_of(rows), len(rows), len(selected))
+
+
+class Refused(unittest.TestCase):
+    def test_masks(self):
+        for mask in b"", b"\x00\x00":
+            with self.assertRaises(ValueError):
+                vortex_select.filter(b"abcd", mask)
+        with self.assertRaisesRegex(ValueError, "past the rows"):
+            vortex_select.filter(b"abcd", b"\x10")
+
+    def test_widths(self):
+        for width in 0, 3, 64:
+            with self.assertRaises(ValueError):
+                vortex_select.filter(b"abcd", b"\x00", width)
+        with self.assertRaises(ValueError):
+            vortex_select.filter(b"abc", b"\x00", 2)
+
+    def test_arrays(self):
+        values = array("H", [1, 2, 3])
+        self.assertEqual(array("H", vortex_select.filter(values, b"\x06")), array("H", [2, 3]))
+
+
+def load_tests(_loader, tests, _pattern):
+    tests.addTests(doctest.DocTestSuite(vortex_select))
+    return tests
+
+
+if __name__ == "__main__":
+    unittest.main()

@@ -1,0 +1,133 @@
+//! Row selection by the proved kernels of this repository: the values, bits and positions at the
+//! set bits of a mask, and the values at a list of indices.
+//!
+//! ```
+//! use vortex_select::{filter, take, Mask};
+//!
+//! let values = [10u32, 20, 30, 40];
+//! let mask = Mask::from_bools(&[true, false, true, true]);
+//! assert_eq!(filter(&values, &mask), [10, 30, 40]);
+//! assert_eq!(take(&values, &[3, 0, 0]), Ok(vec![40, 10, 10]));
+//! ```
+mod calls;
+mod mask;
+mod record;
+
+pub use mask::Mask;
+pub use record::Record;
+
+use calls::{Answer, DONE, INDEX};
+
+/// An index is out of bounds: the first one, by its place in the list of indices.
+#[derive(Clone, Copy, Debug, PartialEq, Eq)]
+pub struct OutOfBounds {
+    /// Which index of the list it is.
+    pub place: usize,
+}
+
+impl std::fmt::Display for OutOfBounds {
+    fn fmt(&self, f: &mut std::fmt::Formatter<'_>) -> std::fmt::Result {
+        write!(f, "index {} of the list is out of bounds", self.place)
+    }
+}
+
+impl std::error::Error for OutOfBounds {}
+
+/// Makes a list of `len` values by a call that writes them all.
+///
+/// # Safety
+/// Where `write` answers `DONE`, it wrote `len` values.
+unsafe fn written<T: Copy>(len: usize, write: impl FnOnce(*mut T) -> Answer) -> (Answer, Vec<T>) {
+    let mut list = Vec::with_capacity(len);
+    let answer = write(list.as_mut_ptr());
+    if answer.status == DONE {
+        list.set_len(len);
+    }
+    (answer, list)
+}
+
+/// The values at the set bits of the mask, in order.
+///
+/// # Panics
+/// Where the mask isn't as long as the values.
+///
+/// ```
+/// use vortex_select::{filter, Mask};
+///
+/// let mask = Mask::from_bools(&[false, true, true]);
+/// assert_eq!(filter(&[0.5f64, 1.5, 2.5], &mask), [1.5, 2.5]);
+/// ```
+pub fn filter<T: Record>(values: &[T], mask: &Mask) -> Vec<T> {
+    assert_eq!(values.len(), mask.len(), "a mask is as long as its values");
+    let count = mask.count();
+    let (answer, kept) = unsafe { written(count, |dst| T::filter(values, mask.words(), dst, count)) };
+    assert_eq!(answer.status, DONE);
+    kept
+}
+
+/// Keeps the values at the set bits of the mask, in order, in the memory that they have.
+///
+/// # Panics
+/// Where the mask isn't as long as the values.
+///
+/// ```
+/// use vortex_select::{filter_in_place, Mask};
+///
+/// let mut values = vec![1u8, 2, 3];
+/// filter_in_place(&mut values, &Mask::from_bools(&[true, false, true]));
+/// assert_eq!(values, [1, 3]);
+/// ```
+pub fn filter_in_place<T: Record>(values: &mut Vec<T>, mask: &Mask) {
+    assert_eq!(values.len(), mask.len(), "a mask is as long as its values");
+    let answer = T::filter_in_place(values, mask.words());
+    assert_eq!(answer.status, DONE);
+    values.truncate(answer.value as usize);
+}
+
+/// The values at the indices, in order, or the first index that is out of bounds.
+///
+/// ```
+/// use vortex_select::{take, OutOfBounds};
+///
+/// assert_eq!(take(&[7u16, 8, 9], &[2, 2, 0]), Ok(vec![9, 9, 7]));
+/// assert_eq!(take(&[7u16, 8, 9], &[2, 3]), Err(OutOfBounds { place: 1 }));
+/// ```
+pub fn take<T: Record>(values: &[T], indices: &[u64]) -> Result<Vec<T>, OutOfBounds> {
+    take_words(values, indices, &[])
+}
+
+/// The values at the indices that are there, in order, and zero at the others; or the first index
+/// that is there and out of bounds.
+///
+/// # Panics
+/// Where the mask isn't as long as the list of indices.
+///
+/// ```
+/// use vortex_select::{take_valid, Mask};
+///
+/// let there = Mask::from_bools(&[true, false, true]);
+/// assert_eq!(take_valid(&[7u16, 8, 9], &[2, 99, 0], &there), Ok(vec![9, 0, 7]));
+/// ```
+pub fn take_valid<T: Record>(
+    values: &[T],
+    indices: &[u64],
+    there: &Mask,
+) -> Result<Vec<T>, OutOfBounds> {
+    assert_eq!(indices.len(), there.len(), "a mask is as long as its indices");
+    take_words(values, indices, there.words())
+}
+
+fn take_words<T: Record>(
+    values: &[T],
+    indices: &[u64],
+    valid: &[u64],
+) -> Result<Vec<T>, OutOfBounds> {
+    let count = indices.len();
+    let (answer, taken) =
+        unsafe { written(count, |dst| T::take(values, indices, valid, dst, count)) };
+    match answer.status {
+        DONE => Ok(taken),
+        INDEX => Err(OutOfBounds { place: answer.value as usize }),
+        status => unreachable!("status {status} of a take"),
+    }
+}

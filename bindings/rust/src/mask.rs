@@ -1,0 +1,90 @@
+use crate::calls::{self, DONE};
+
+/// Which rows are selected: as many bits as there are rows, in words of 64, the first row lowest.
+#[derive(Clone, Debug, PartialEq, Eq)]
+pub struct Mask {
+    words: Vec<u64>,
+    len: usize,
+}
+
+impl Mask {
+    /// The mask that selects the rows whose bool is true.
+    pub fn from_bools(rows: &[bool]) -> Mask {
+        let word = |part: &[bool]| part.iter().rev().fold(0, |word, row| 2 * word + *row as u64);
+        Mask { words: rows.chunks(64).map(word).collect(), len: rows.len() }
+    }
+
+    /// The mask of so many rows whose bits the words hold. `None` where the words are not as many
+    /// as that takes, or a bit past the rows is set.
+    pub fn from_words(words: Vec<u64>, len: usize) -> Option<Mask> {
+        let is_clear = len % 64 == 0 || words.last().is_some_and(|word| word >> (len % 64) == 0);
+        (words.len() == len.div_ceil(64) && is_clear).then_some(Mask { words, len })
+    }
+
+    /// The number of rows.
+    pub fn len(&self) -> usize {
+        self.len
+    }
+
+    /// Whether there is no row.
+    pub fn is_empty(&self) -> bool {
+        self.len == 0
+    }
+
+    /// The words.
+    pub fn words(&self) -> &[u64] {
+        &self.words
+    }
+
+    /// The number of rows that are selected.
+    pub fn count(&self) -> usize {
+        self.words.iter().map(|word| word.count_ones() as usize).sum()
+    }
+
+    /// The rows that are selected, ascending.
+    ///
+    /// ```
+    /// use vortex_select::Mask;
+    ///
+    /// assert_eq!(Mask::from_bools(&[true, false, true]).positions(), [0, 2]);
+    /// ```
+    pub fn positions(&self) -> Vec<u64> {
+        let count = self.count();
+        let (words, rows) = (self.words.as_ptr(), self.len);
+        let (answer, positions) = unsafe {
+            crate::written(count, |dst| {
+                calls::vortex_positions(words, self.words.len(), rows, dst, count)
+            })
+        };
+        assert_eq!(answer.status, DONE);
+        positions
+    }
+
+    /// The `k`-th row that is selected, from 0. `None` where not so many are.
+    ///
+    /// ```
+    /// use vortex_select::Mask;
+    ///
+    /// let mask = Mask::from_bools(&[true, false, true]);
+    /// assert_eq!((mask.rank(1), mask.rank(2)), (Some(2), None));
+    /// ```
+    pub fn rank(&self, k: usize) -> Option<usize> {
+        let (words, m) = (self.words.as_ptr(), self.words.len());
+        let answer = unsafe { calls::vortex_rank(words, m, self.len, k) };
+        (answer.status == DONE).then_some(answer.value as usize)
+    }
+
+    /// How many rows before row `p` are selected. `None` where `p` is past the rows.
+    ///
+    /// ```
+    /// use vortex_select::Mask;
+    ///
+    /// let mask = Mask::from_bools(&[true, false, true]);
+    /// assert_eq!((mask.count_before(3), mask.count_before(4)), (Some(2), None));
+    /// ```
+    pub fn count_before(&self, p: usize) -> Option<usize> {
+        let (words, m) = (self.words.as_ptr(), self.words.len());
+        let answer = unsafe { calls::vortex_count_before(words, m, self.len, p) };
+        (answer.status == DONE).then_some(answer.value as usize)
+    }
+}

@@ -1,0 +1,125 @@
+//! Random calls, compared with plain loops. `VORTEX_CALLS` says how many of them are made.
+use std::fmt::Debug;
+use vortex_select::{filter, filter_in_place, take, take_valid, Mask, OutOfBounds, Record};
+
+/// Random numbers by xorshift.
+struct Dice(u64);
+
+impl Dice {
+    fn roll(&mut self) -> u64 {
+        self.0 ^= self.0 << 13;
+        self.0 ^= self.0 >> 7;
+        self.0 ^= self.0 << 17;
+        self.0
+    }
+
+    fn below(&mut self, bound: usize) -> usize {
+        (self.roll() >> 8) as usize % bound
+    }
+
+    /// A length: mostly short, at times up to 5,000, often beside a multiple of 64.
+    fn len(&mut self) -> usize {
+        match self.below(8) {
+            0 => self.below(5_001),
+            1 => 64 * self.below(20) + self.below(3),
+            2 => 0,
+            _ => self.below(200),
+        }
+    }
+
+    /// Bools of a random density, at times in runs.
+    fn bools(&mut self, len: usize) -> Vec<bool> {
+        let density = [0, 1, 10, 50, 90, 99, 100][self.below(7)];
+        let run = [1, 1, 5, 70][self.below(4)];
+        let mut rows = Vec::with_capacity(len);
+        while rows.len() < len {
+            let row = self.below(100) < density;
+            rows.resize(len.min(rows.len() + 1 + self.below(run)), row);
+        }
+        rows
+    }
+
+    fn indices(&mut self, len: usize, bound: usize) -> Vec<u64> {
+        let past = self.below(4) == 0;
+        let index = |dice: &mut Dice| match dice.below(200) {
+            0 if past => dice.roll(),
+            1 if past => bound as u64,
+            _ => dice.below(bound.max(1)) as u64,
+        };
+        (0..len).map(|_| index(self)).collect()
+    }
+}
+
+fn plain_filter<T: Copy>(values: &[T], rows: &[bool]) -> Vec<T> {
+    values.iter().zip(rows).filter(|(_, row)| **row).map(|(value, _)| *value).collect()
+}
+
+fn plain_take<T: Copy>(
+    values: &[T],
+    indices: &[u64],
+    there: &[bool],
+    zero: T,
+) -> Result<Vec<T>, OutOfBounds> {
+    let item = |(place, (index, there)): (usize, (&u64, &bool))| {
+        let item = usize::try_from(*index).ok().and_then(|i| values.get(i));
+        if *there { item.copied().ok_or(OutOfBounds { place }) } else { Ok(zero) }
+    };
+    indices.iter().zip(there).enumerate().map(item).collect()
+}
+
+fn one_call<T: Record + PartialEq + Debug>(dice: &mut Dice, zero: T, of: fn(u64) -> T) {
+    let values: Vec<T> = (0..dice.len()).map(|_| of(dice.roll())).collect();
+    match dice.below(5) {
+        0 => {
+            let rows = dice.bools(values.len());
+            assert_eq!(filter(&values, &Mask::from_bools(&rows)), plain_filter(&values, &rows));
+        }
+        1 => {
+            let rows = dice.bools(values.len());
+            let mut kept = values.clone();
+            filter_in_place(&mut kept, &Mask::from_bools(&rows));
+            assert_eq!(kept, plain_filter(&values, &rows));
+        }
+        2 => {
+            let len = dice.len();
+            let indices = dice.indices(len, values.len());
+            let all = vec![true; len];
+            assert_eq!(take(&values, &indices), plain_take(&values, &indices, &all, zero));
+        }
+        3 => {
+            let len = dice.len();
+            let indices = dice.indices(len, values.len());
+            let there = dice.bools(len);
+            let answer = take_valid(&values, &indices, &Mask::from_bools(&there));
+            assert_eq!(answer, plain_take(&values, &indices, &there, zero));
+        }
+        _ => {
+            let len = dice.len();
+            let rows = dice.bools(len);
+            let set: Vec<u64> = (0..rows.len() as u64).filter(|i| rows[*i as usize]).collect();
+            let mask = Mask::from_bools(&rows);
+            assert_eq!(mask.positions(), set);
+            let (k, p) = (dice.below(len + 2), dice.below(len + 2));
+            assert_eq!(mask.rank(k).map(|row| row as u64), set.get(k).copied());
+            let before = (p <= len).then(|| set.partition_point(|row| *row < p as u64));
+            assert_eq!(mask.count_before(p), before);
+        }
+    }
+}
+
+#[test]
+fn calls_agree_with_plain_loops() {
+    let calls = std::env::var("VORTEX_CALLS").map_or(100_000, |n| n.parse().unwrap());
+    let mut dice = Dice(88_172_645_463_325_252);
+    for _ in 0..calls {
+        match dice.below(7) {
+            0 => one_call::<u8>(&mut dice, 0, |n| n as u8),
+            1 => one_call::<i16>(&mut dice, 0, |n| n as i16),
+            2 => one_call::<u32>(&mut dice, 0, |n| n as u32),
+            3 => one_call::<f32>(&mut dice, 0.0, |n| (n % 1000) as f32),
+            4 => one_call::<u64>(&mut dice, 0, |n| n),
+            5 => one_call::<u128>(&mut dice, 0, |n| u128::from(n) << 40),
+            _ => one_call::<[u64; 4]>(&mut dice, [0; 4], |n| [n, n / 2, n / 3, n / 5]),
+        }
+    }
+}

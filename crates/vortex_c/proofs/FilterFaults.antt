@@ -1,0 +1,26 @@
+-- Why a filter is refused, and what it leaves where it is not.
+use Rattle.std.proofs.Common.{◌≡◌, ℕ, ◌+◌, ◌*◌, ◌^◌, ◌<◌, ◌≤◌, Bool, true, false, cond, eqb, ltb, List, ◌++◌, length, take, drop, eq-eqb, ne_eqb, refl, sym, ap, ap₂, ◌∙◌, arith}
+use Rattle.std.specs.List.{items_where_true}
+use Rattle.std.proofs.lemmas.Bool.{le-ltb, lt-ltb}
+use Rattle.std.proofs.lemmas.List.{take-append-drop}
+use Rattle.vx_filter.specs.Compact.{bits_of_words}
+use Rattle.vortex_c.specs.Masks.{count_of, mask_fault}
+use Rattle.vortex_c.specs.Filters.{filter_fault}
+
+-- the mask's fault is the filter's
+pub mask_refused : (items : ℕ) (words : List ℕ) (room fault : ℕ) → fault ≡ mask_fault items words → (fault ≡ 0 → ⊥) → fault ≡ filter_fault items words room
+mask_refused items words room fault e some =
+    e ∙ sym (ap (λ b. cond b (cond (ltb room (count_of words)) 3 0) (mask_fault items words)) (ne_eqb (mask_fault items words) 0 (λ none. some (e ∙ none))))
+
+faultless_is : (items : ℕ) (words : List ℕ) (room : ℕ) → mask_fault items words ≡ 0 → filter_fault items words room ≡ cond (ltb room (count_of words)) 3 0
+faultless_is items words room e = ap (λ b. cond b (cond (ltb room (count_of words)) 3 0) (mask_fault items words)) (eq-eqb (mask_fault items words) 0 e)
+
+pub no_room : (items : ℕ) (words : List ℕ) (room : ℕ) → mask_fault items words ≡ 0 → room < count_of words → 3 ≡ filter_fault items words room
+no_room items words room e h = sym (faultless_is items words room e ∙ ap (λ b. cond b 3 0) (lt-ltb room (count_of words) h))
+
+pub some_room : (items : ℕ) (words : List ℕ) (room : ℕ) → mask_fault items words ≡ 0 → count_of words ≤ room → 0 ≡ filter_fault items words room
+some_room items words room e h = sym (faultless_is items words room e ∙ ap (λ b. cond b 3 0) (le-ltb room (count_of words) h))
+
+-- a list whose front and rest are told
+pub front_and_rest : {X : Type 0} (n : ℕ) (new front rest : List X) → take n new ≡ front → drop n new ≡ rest → new ≡ front ++ rest
+front_and_rest n new front rest e f = sym (take-append-drop n new) ∙ ap₂ ◌++◌ e f

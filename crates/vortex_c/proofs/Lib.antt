@@ -1,0 +1,4 @@
+pub mod MaskWords
+pub mod MaskRows
+pub mod FilterFaults
+pub mod TakenItems

@@ -1,0 +1,4 @@
+pub mod Masks
+pub mod Filters
+pub mod Takes
+pub mod Positions

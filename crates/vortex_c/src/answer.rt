@@ -1,0 +1,34 @@
+//! What each call answers.
+ghost use Rattle.std.specs.Prelude.{◌≡◌};
+
+/// The call was done.
+pub(crate) const DONE: u64 = 0;
+
+/// Two lengths disagree.
+pub(crate) const LENGTHS: u64 = 1;
+
+/// A bit past the length is set.
+pub(crate) const BITS_PAST: u64 = 2;
+
+/// The output is too small.
+pub(crate) const ROOM: u64 = 3;
+
+/// An index is out of bounds.
+pub(crate) const INDEX: u64 = 4;
+
+/// A status, which is 0 where the call was done, and a number.
+#[repr(C)]
+#[derive(Clone, Copy)]
+pub struct Answer {
+    pub status: u64,
+    pub value: u64,
+}
+
+impl Answer {
+    // A refusal that tells no number.
+    pub(crate) fn refused(status: u64) -> Answer
+        ensures status { result.status ≡ status }
+    {
+        Answer { status, value: 0 }
+    }
+}

@@ -1,0 +1,129 @@
+//! Filters of records.
+ghost use Rattle.std.specs.Prelude.{◌≡◌, ◌*◌, ◌≤◌, false, length, take, drop};
+ghost use Rattle.std.specs.List.{items_where_true};
+ghost use Rattle.vx_bits.specs.BitBuffer.{true_count_of};
+ghost use Rattle.vx_bits.specs.Words.{word_count};
+ghost use Rattle.vx_filter.specs.Compact.{bits_of_words};
+ghost use Rattle.vx_mask.specs.Positions.{AllBits};
+ghost use Rattle.vortex_c.specs.Filters.{IsFiltered};
+
+use crate::answer::{Answer, DONE, ROOM};
+use crate::masks::{count_set, fault_of};
+use crate::records::{Record16, Record32};
+use vx_filter::{compact_runs, compact_words};
+
+// Whether the runs of set bits have four bits on average. A run that crosses words counts in each.
+fn has_long_runs(words: &[u64], count: usize) -> bool {
+    let mut runs: u64 = 0;
+    for word in words {
+        runs = runs.saturating_add(u64::from((word & !(word << 1)).count_ones()));
+    }
+    runs <= (count / 4) as u64
+}
+
+// Copies the items at the set bits, so many, to the front of the output: run after run where the
+// runs are long.
+fn compact<T: Copy>(src: &[T], words: &[u64], count: usize, dst: &mut [T]) -> usize
+    requires words { length words.now ≡ word_count (length src.now) }
+    requires clear { AllBits (bits_of_words words.now) (length src.now) (64 * length words.now)
+        false }
+    requires room { true_count_of (bits_of_words words.now) ≤ length dst.old }
+    ensures count { result ≡ true_count_of (bits_of_words words.now) }
+    ensures front { take result dst.new ≡ items_where_true (bits_of_words words.now) src.now }
+    ensures rest { drop result dst.new ≡ drop result dst.old }
+{
+    if has_long_runs(words, count) {
+        compact_runs(src, words, dst)
+    } else {
+        compact_words(src, words, dst)
+    }
+}
+
+// Copies the items at the set bits to the front of the output, or tells why not.
+fn filter<T: Copy>(src: &[T], words: &[u64], dst: &mut [T]) -> Answer
+    ensures { IsFiltered src.now words.now dst.old dst.new result.status result.value }
+{
+    let items = src.len();
+    let fault = fault_of(words, items);
+    if fault != DONE {
+        return Answer::refused(fault);
+    }
+    let count = count_set(words);
+    if count > dst.len() {
+        return Answer { status: ROOM, value: count as u64 };
+    }
+    let kept = compact(src, words, count, dst);
+    Answer { status: DONE, value: kept as u64 }
+}
+
+/// Copies the records of 1 byte at the set bits of `words` to the front of `dst`, in order. The
+/// answer is how many they are.
+///
+/// 1: `words` are not as many as hold a bit for each record. 2: a bit past the records is set. 3:
+/// `dst` is too small, and the number is how many records are selected.
+#[unsafe(no_mangle)]
+pub extern "C" fn vortex_filter_1(src: &[u8], words: &[u64], dst: &mut [u8]) -> Answer
+    ensures { IsFiltered src.now words.now dst.old dst.new result.status result.value }
+{
+    filter(src, words, dst)
+}
+
+/// Copies the records of 2 bytes at the set bits of `words` to the front of `dst`, in order. The
+/// answer is how many they are.
+///
+/// 1: `words` are not as many as hold a bit for each record. 2: a bit past the records is set. 3:
+/// `dst` is too small, and the number is how many records are selected.
+#[unsafe(no_mangle)]
+pub extern "C" fn vortex_filter_2(src: &[u16], words: &[u64], dst: &mut [u16]) -> Answer
+    ensures { IsFiltered src.now words.now dst.old dst.new result.status result.value }
+{
+    filter(src, words, dst)
+}
+
+/// Copies the records of 4 bytes at the set bits of `words` to the front of `dst`, in order. The
+/// answer is how many they are.
+///
+/// 1: `words` are not as many as hold a bit for each record. 2: a bit past the records is set. 3:
+/// `dst` is too small, and the number is how many records are selected.
+#[unsafe(no_mangle)]
+pub extern "C" fn vortex_filter_4(src: &[u32], words: &[u64], dst: &mut [u32]) -> Answer
+    ensures { IsFiltered src.now words.now dst.old dst.new result.status result.value }
+{
+    filter(src, words, dst)
+}
+
+/// Copies the records of 8 bytes at the set bits of `words` to the front of `dst`, in order. The
+/// answer is how many they are.
+///
+/// 1: `words` are not as many as hold a bit for each record. 2: a bit past the records is set. 3:
+/// `dst` is too small, and the number is how many records are selected.
+#[unsafe(no_mangle)]
+pub extern "C" fn vortex_filter_8(src: &[u64], words: &[u64], dst: &mut [u64]) -> Answer
+    ensures { IsFiltered src.now words.now dst.old dst.new result.status result.value }
+{
+    filter(src, words, dst)
+}
+
+/// Copies the records of 16 bytes at the set bits of `words` to the front of `dst`, in order. The
+/// answer is how many they are.
+///
+/// 1: `words` are not as many as hold a bit for each record. 2: a bit past the records is set. 3:
+/// `dst` is too small, and the number is how many records are selected.
+#[unsafe(no_mangle)]
+pub extern "C" fn vortex_filter_16(src: &[Record16], words: &[u64], dst: &mut [Record16]) -> Answer
+    ensures { IsFiltered src.now words.now dst.old dst.new result.status result.value }
+{
+    filter(src, words, dst)
+}
+
+/// Copies the records of 32 bytes at the set bits of `words` to the front of `dst`, in order. The
+/// answer is how many they are.
+///
+/// 1: `words` are not as many as hold a bit for each record. 2: a bit past the records is set. 3:
+/// `dst` is too small, and the number is how many records are selected.
+#[unsafe(no_mangle)]
+pub extern "C" fn vortex_filter_32(src: &[Record32], words: &[u64], dst: &mut [Record32]) -> Answer
+    ensures { IsFiltered src.now words.now dst.old dst.new result.status result.value }
+{
+    filter(src, words, dst)
+}

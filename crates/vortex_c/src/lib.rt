@@ -1,0 +1,14 @@
+//! The kernels of row selection, called from outside over memory of the caller's.
+//!
+//! Each function takes slices as a pointer and a length, tests what it asks of them, and answers a
+//! status and a number. A call whose status is not 0 is refused, and writes nothing.
+#![tactic(auto)]
+
+mod answer;
+mod filter;
+mod in_place;
+mod masks;
+mod positions;
+mod ranks;
+mod records;
+mod take;

@@ -1,0 +1,208 @@
+//! Takes of records.
+ghost use Rattle.std.specs.Prelude.{◌≡◌, ◌≢◌, ◌/◌, ◌<◌, ◌≤◌, ◌++◌, ℕ, MatchOption, None, Some, if◌then◌else◌, length, drop, true};
+ghost use Rattle.vx_take.specs.Picks.{at, item_at};
+ghost use Rattle.vortex_c.specs.Takes.{IsFirstPast, IsPast, IsTaken, is_there, picks_at, take_fault, valid_fault};
+
+use crate::answer::{Answer, DONE, INDEX, ROOM};
+use crate::masks::fault_of;
+use crate::records::{Record16, Record32};
+
+// Whether bit `k` of the words is set.
+#[inline(always)]
+fn is_set(words: &[u64], k: usize) -> bool
+    requires { k / 64 < length words.now }
+    ensures { result ≡ is_there words.now k }
+{
+    (words[k / 64] >> (k % 64)) & 1 == 1
+}
+
+// Whether pick `k` is there.
+#[inline(always)]
+fn there(valid: &[u64], k: usize) -> bool
+    requires { (length valid.now ≢ 0) → k / 64 < length valid.now }
+    ensures { result ≡ is_there valid.now k }
+{
+    valid.is_empty() || is_set(valid, k)
+}
+
+// The item at an index, or `fill` where it is not there.
+#[inline(always)]
+fn item_or<T: Copy>(src: &[T], there: bool, index: u64, fill: T) -> T
+    requires { there ≡ true → index < length src.now }
+    ensures { result ≡ item_at fill src.now (if there then Some index else None) }
+{
+    if there { src[index as usize] } else { fill }
+}
+
+// Why so many picks do not fit into so much room, or `DONE`.
+fn fault_of_take(picks: usize, valid: &[u64], room: usize) -> u64
+    ensures { result ≡ take_fault picks valid.now room }
+{
+    let fault = if valid.is_empty() { DONE } else { fault_of(valid, picks) };
+    if fault == DONE && picks > room { ROOM } else { fault }
+}
+
+// The first pick that is there and whose index is not below the bound.
+fn first_past(indices: &[u64], valid: &[u64], bound: usize) -> Option<usize>
+    requires { valid_fault (length indices.now) valid.now ≡ 0 }
+    ensures { MatchOption result
+        ((k : ℕ) → IsPast bound indices.now valid.now k → ⊥)
+        (IsFirstPast bound indices.now valid.now) }
+{
+    for (k, index) in indices.iter().enumerate() {
+        if *index >= bound as u64 && there(valid, k) {
+            return Some(k);
+        }
+    }
+    None
+}
+
+// Writes the items at the picks, and `fill` at each null.
+fn gather<T: Copy>(src: &[T], indices: &[u64], valid: &[u64], fill: T, dst: &mut [T])
+    requires valid { valid_fault (length indices.now) valid.now ≡ 0 }
+    requires within { (k : ℕ) → IsPast (length src.now) indices.now valid.now k → ⊥ }
+    requires room { length indices.now ≤ length dst.old }
+    ensures { dst.new
+        ≡ at fill src.now (picks_at indices.now valid.now) ++ drop (length indices.now) dst.old }
+{
+    for (k, index) in indices.iter().enumerate() {
+        dst[k] = item_or(src, there(valid, k), *index, fill);
+    }
+}
+
+// The items at the picks, at the front of the output.
+fn take<T: Copy>(src: &[T], indices: &[u64], valid: &[u64], fill: T, dst: &mut [T]) -> Answer
+    ensures { IsTaken fill src.now indices.now valid.now dst.old dst.new result.status
+        result.value }
+{
+    let value = indices.len() as u64;
+    let fault = fault_of_take(indices.len(), valid, dst.len());
+    if fault != DONE {
+        return Answer { status: fault, value };
+    }
+    if let Some(k) = first_past(indices, valid, src.len()) {
+        return Answer { status: INDEX, value: k as u64 };
+    }
+    gather(src, indices, valid, fill, dst);
+    Answer { status: DONE, value }
+}
+
+/// Writes the records of 1 byte at the indices to the front of `dst`, in order, and zeros at each
+/// null. The answer is how many they are. Pick k is null where bit k of `valid` is clear; without
+/// words none is.
+///
+/// 1: `valid` has words, but not as many as hold a bit for each index. 2: a bit past the indices is
+/// set. 3: `dst` is too small, and the number is how many indices there are. 4: an index that is
+/// not null is out of bounds, and the number is the first one's place.
+#[unsafe(no_mangle)]
+pub extern "C" fn vortex_take_1(
+    src: &[u8],
+    indices: &[u64],
+    valid: &[u64],
+    dst: &mut [u8],
+) -> Answer
+    ensures { IsTaken 0 src.now indices.now valid.now dst.old dst.new
+        result.status result.value }
+{
+    take(src, indices, valid, 0, dst)
+}
+
+/// Writes the records of 2 bytes at the indices to the front of `dst`, in order, and zeros at each
+/// null. The answer is how many they are. Pick k is null where bit k of `valid` is clear; without
+/// words none is.
+///
+/// 1: `valid` has words, but not as many as hold a bit for each index. 2: a bit past the indices is
+/// set. 3: `dst` is too small, and the number is how many indices there are. 4: an index that is
+/// not null is out of bounds, and the number is the first one's place.
+#[unsafe(no_mangle)]
+pub extern "C" fn vortex_take_2(
+    src: &[u16],
+    indices: &[u64],
+    valid: &[u64],
+    dst: &mut [u16],
+) -> Answer
+    ensures { IsTaken 0 src.now indices.now valid.now dst.old dst.new
+        result.status result.value }
+{
+    take(src, indices, valid, 0, dst)
+}
+
+/// Writes the records of 4 bytes at the indices to the front of `dst`, in order, and zeros at each
+/// null. The answer is how many they are. Pick k is null where bit k of `valid` is clear; without
+/// words none is.
+///
+/// 1: `valid` has words, but not as many as hold a bit for each index. 2: a bit past the indices is
+/// set. 3: `dst` is too small, and the number is how many indices there are. 4: an index that is
+/// not null is out of bounds, and the number is the first one's place.
+#[unsafe(no_mangle)]
+pub extern "C" fn vortex_take_4(
+    src: &[u32],
+    indices: &[u64],
+    valid: &[u64],
+    dst: &mut [u32],
+) -> Answer
+    ensures { IsTaken 0 src.now indices.now valid.now dst.old dst.new
+        result.status result.value }
+{
+    take(src, indices, valid, 0, dst)
+}
+
+/// Writes the records of 8 bytes at the indices to the front of `dst`, in order, and zeros at each
+/// null. The answer is how many they are. Pick k is null where bit k of `valid` is clear; without
+/// words none is.
+///
+/// 1: `valid` has words, but not as many as hold a bit for each index. 2: a bit past the indices is
+/// set. 3: `dst` is too small, and the number is how many indices there are. 4: an index that is
+/// not null is out of bounds, and the number is the first one's place.
+#[unsafe(no_mangle)]
+pub extern "C" fn vortex_take_8(
+    src: &[u64],
+    indices: &[u64],
+    valid: &[u64],
+    dst: &mut [u64],
+) -> Answer
+    ensures { IsTaken 0 src.now indices.now valid.now dst.old dst.new
+        result.status result.value }
+{
+    take(src, indices, valid, 0, dst)
+}
+
+/// Writes the records of 16 bytes at the indices to the front of `dst`, in order, and zeros at each
+/// null. The answer is how many they are. Pick k is null where bit k of `valid` is clear; without
+/// words none is.
+///
+/// 1: `valid` has words, but not as many as hold a bit for each index. 2: a bit past the indices is
+/// set. 3: `dst` is too small, and the number is how many indices there are. 4: an index that is
+/// not null is out of bounds, and the number is the first one's place.
+#[unsafe(no_mangle)]
+pub extern "C" fn vortex_take_16(
+    src: &[Record16],
+    indices: &[u64],
+    valid: &[u64],
+    dst: &mut [Record16],
+) -> Answer
+    ensures { IsTaken (record { low = 0; high = 0 }) src.now indices.now valid.now dst.old dst.new
+        result.status result.value }
+{
+    take(src, indices, valid, Record16 { low: 0, high: 0 }, dst)
+}
+
+/// Writes the records of 32 bytes at the indices to the front of `dst`, in order, and zeros at each
+/// null. The answer is how many they are. Pick k is null where bit k of `valid` is clear; without
+/// words none is.
+///
+/// 1: `valid` has words, but not as many as hold a bit for each index. 2: a bit past the indices is
+/// set. 3: `dst` is too small, and the number is how many indices there are. 4: an index that is
+/// not null is out of bounds, and the number is the first one's place.
+#[unsafe(no_mangle)]
+pub extern "C" fn vortex_take_32(
+    src: &[Record32],
+    indices: &[u64],
+    valid: &[u64],
+    dst: &mut [Record32],
+) -> Answer
+    ensures { IsTaken (record { a = 0; b = 0; c = 0; d = 0 }) src.now indices.now valid.now dst.old dst.new
+        result.status result.value }
+{
+    take(src, indices, valid, Record32 { a: 0, b: 0, c: 0, d: 0 }, dst)
+}

@@ -1,0 +1,122 @@
+/* Row selection by the proved kernels of this repository: link with libvortex_c.a.
+ *
+ * Each call answers a status and a number. A call whose status is not VORTEX_DONE is refused and
+ * writes nothing; the number is 0 where a function does not say what it is.
+ *
+ * Each list is handed in as a pointer and its number of items. The caller owes, and nothing tests:
+ * the pointer is aligned for the items and leads to so many of them, written ones where the list is
+ * read; the list is below 2^63 bytes; a list that is written overlaps no other list of the call, and
+ * no other thread touches it until the call is back. A list without items may have any pointer but
+ * a null one is allowed too. No function keeps a pointer, takes memory, or calls back.
+ *
+ * A mask of n rows is (n + 63) / 64 words: bit k % 64 of word k / 64, the lowest bit first, is set
+ * where row k is selected, and the bits past the rows are clear. */
+#ifndef VORTEX_SELECT_H
+#define VORTEX_SELECT_H
+
+#include <stddef.h>
+#include <stdint.h>
+
+#ifdef __cplusplus
+extern "C" {
+#endif
+
+typedef struct vortex_answer {
+    uint64_t status;
+    uint64_t value;
+} vortex_answer;
+
+enum {
+    VORTEX_DONE = 0,
+    VORTEX_LENGTHS = 1,   /* two lengths disagree */
+    VORTEX_BITS_PAST = 2, /* a bit past the length is set */
+    VORTEX_ROOM = 3,      /* the output is too small: the number is what it has to hold */
+    VORTEX_INDEX = 4      /* an index is out of bounds */
+};
+
+typedef struct vortex_record_16 {
+    uint64_t words[2];
+} vortex_record_16;
+
+typedef struct vortex_record_32 {
+    uint64_t words[4];
+} vortex_record_32;
+
+/* Copies the records of src at the set bits of the mask to the front of dst, in order; the rest of
+ * dst stays. The number is how many they are.
+ *
+ * VORTEX_LENGTHS: the mask has not as many words as src asks for. VORTEX_BITS_PAST. VORTEX_ROOM. */
+vortex_answer vortex_filter_1(const uint8_t *src, size_t src_len, const uint64_t *mask,
+    size_t mask_len, uint8_t *dst, size_t dst_len);
+vortex_answer vortex_filter_2(const uint16_t *src, size_t src_len, const uint64_t *mask,
+    size_t mask_len, uint16_t *dst, size_t dst_len);
+vortex_answer vortex_filter_4(const uint32_t *src, size_t src_len, const uint64_t *mask,
+    size_t mask_len, uint32_t *dst, size_t dst_len);
+vortex_answer vortex_filter_8(const uint64_t *src, size_t src_len, const uint64_t *mask,
+    size_t mask_len, uint64_t *dst, size_t dst_len);
+vortex_answer vortex_filter_16(const vortex_record_16 *src, size_t src_len, const uint64_t *mask,
+    size_t mask_len, vortex_record_16 *dst, size_t dst_len);
+vortex_answer vortex_filter_32(const vortex_record_32 *src, size_t src_len, const uint64_t *mask,
+    size_t mask_len, vortex_record_32 *dst, size_t dst_len);
+
+/* Moves the records at the set bits of the mask to the front, in order. The number is how many they
+ * are. What stands behind them then is not said.
+ *
+ * VORTEX_LENGTHS: the mask has not as many words as the values ask for. VORTEX_BITS_PAST. */
+vortex_answer vortex_filter_in_place_1(uint8_t *values, size_t values_len, const uint64_t *mask,
+    size_t mask_len);
+vortex_answer vortex_filter_in_place_2(uint16_t *values, size_t values_len, const uint64_t *mask,
+    size_t mask_len);
+vortex_answer vortex_filter_in_place_4(uint32_t *values, size_t values_len, const uint64_t *mask,
+    size_t mask_len);
+vortex_answer vortex_filter_in_place_8(uint64_t *values, size_t values_len, const uint64_t *mask,
+    size_t mask_len);
+vortex_answer vortex_filter_in_place_16(vortex_record_16 *values, size_t values_len, const uint64_t *mask,
+    size_t mask_len);
+vortex_answer vortex_filter_in_place_32(vortex_record_32 *values, size_t values_len, const uint64_t *mask,
+    size_t mask_len);
+
+/* Copies the records of src at the indices to the front of dst, in order; the rest of dst stays.
+ * Index k is null, and gives a record of zeros, where bit k of valid is clear; without words none
+ * is null. The number is how many indices there are.
+ *
+ * VORTEX_LENGTHS: valid has words, but not as many as a mask of the indices. VORTEX_BITS_PAST.
+ * VORTEX_ROOM. VORTEX_INDEX: an index that is not null is not below src_len, and the number is the
+ * place of the first one in the list of indices. */
+vortex_answer vortex_take_1(const uint8_t *src, size_t src_len, const uint64_t *indices,
+    size_t indices_len, const uint64_t *valid, size_t valid_len, uint8_t *dst, size_t dst_len);
+vortex_answer vortex_take_2(const uint16_t *src, size_t src_len, const uint64_t *indices,
+    size_t indices_len, const uint64_t *valid, size_t valid_len, uint16_t *dst, size_t dst_len);
+vortex_answer vortex_take_4(const uint32_t *src, size_t src_len, const uint64_t *indices,
+    size_t indices_len, const uint64_t *valid, size_t valid_len, uint32_t *dst, size_t dst_len);
+vortex_answer vortex_take_8(const uint64_t *src, size_t src_len, const uint64_t *indices,
+    size_t indices_len, const uint64_t *valid, size_t valid_len, uint64_t *dst, size_t dst_len);
+vortex_answer vortex_take_16(const vortex_record_16 *src, size_t src_len, const uint64_t *indices,
+    size_t indices_len, const uint64_t *valid, size_t valid_len, vortex_record_16 *dst, size_t dst_len);
+vortex_answer vortex_take_32(const vortex_record_32 *src, size_t src_len, const uint64_t *indices,
+    size_t indices_len, const uint64_t *valid, size_t valid_len, vortex_record_32 *dst, size_t dst_len);
+
+/* Writes the positions of the set bits of a mask of so many rows to the front of dst, ascending; the
+ * rest of dst stays. The number is how many they are.
+ *
+ * VORTEX_LENGTHS: the mask has not as many words as the rows ask for. VORTEX_BITS_PAST.
+ * VORTEX_ROOM. */
+vortex_answer vortex_positions(const uint64_t *mask, size_t mask_len, size_t rows, uint64_t *dst,
+    size_t dst_len);
+
+/* The number is the k-th set position of a mask of so many rows, from 0.
+ *
+ * VORTEX_LENGTHS, VORTEX_BITS_PAST: as for positions. VORTEX_INDEX: not more than k bits are set,
+ * and the number is how many are. */
+vortex_answer vortex_rank(const uint64_t *mask, size_t mask_len, size_t rows, size_t k);
+
+/* The number is how many rows before row p are selected by a mask of so many rows.
+ *
+ * VORTEX_LENGTHS, VORTEX_BITS_PAST: as for positions. VORTEX_INDEX: p is past the rows. */
+vortex_answer vortex_count_before(const uint64_t *mask, size_t mask_len, size_t rows, size_t p);
+
+#ifdef __cplusplus
+}
+#endif
+
+#endif
