@@ -72,7 +72,8 @@ class _Held:
         got.argtypes = [ctypes.py_object, ctypes.POINTER(_View), ctypes.c_int]
         got.restype = ctypes.c_int
         got(data, ctypes.byref(self._view), flags)
-        self.address, self.size = self._view.buf or 0, self._view.len
+        self.size = self._view.len
+        self.address = self._view.buf if self.size else 0
         self._copy = None
         if self.address % align and not writable:
             self._copy = ctypes.create_string_buffer(self.size + align)
