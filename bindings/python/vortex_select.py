@@ -123,8 +123,9 @@ def _checked(answer):
     raise ValueError(f"the call was refused: {answer.status}, {answer.value}")
 
 
-def _count(words):
-    return sum(bin(word).count("1") for word in words)
+def _count(words, rows):
+    with _Held(words, 8) as by:
+        return _checked(_calls.vortex_count_before(by.address, len(words), rows, rows))
 
 
 def filter(values, mask, width=None):
@@ -139,10 +140,10 @@ def filter(values, mask, width=None):
     with _Held(values, align) as src:
         items = src.size // width
         words = _words(mask, items)
-        kept = bytearray(src.size)
+        count = _count(words, items)
+        kept = bytearray(width * count)
         with _Held(words, 8) as by, _Held(kept, align, True) as dst:
-            answer = call(src.address, items, by.address, len(words), dst.address, items)
-        del kept[width * _checked(answer):]
+            _checked(call(src.address, items, by.address, len(words), dst.address, count))
         return kept
 
 
@@ -197,7 +198,7 @@ def positions(mask, rows):
     [1, 3]
     """
     words = _words(mask, rows)
-    found = array("Q", bytes(8 * _count(words)))
+    found = array("Q", bytes(8 * _count(words, rows)))
     with _Held(words, 8) as by, _Held(found, 8, True) as dst:
         call = _calls.vortex_positions
         _checked(call(by.address, len(words), rows, dst.address, len(found)))

@@ -1,9 +1,7 @@
 -- Why a filter is refused, and what it leaves where it is not.
-use Rattle.std.proofs.Common.{◌≡◌, ℕ, ◌+◌, ◌*◌, ◌^◌, ◌<◌, ◌≤◌, Bool, true, false, cond, eqb, ltb, List, ◌++◌, length, take, drop, eq-eqb, ne_eqb, refl, sym, ap, ap₂, ◌∙◌, arith}
-use Rattle.std.specs.List.{items_where_true}
+use Rattle.std.proofs.Common.{◌≡◌, ℕ, ◌<◌, ◌≤◌, cond, ltb, List, ◌++◌, take, drop, eq-eqb, ne_eqb, sym, ap, ap₂, ◌∙◌}
 use Rattle.std.proofs.lemmas.Bool.{le-ltb, lt-ltb}
 use Rattle.std.proofs.lemmas.List.{take-append-drop}
-use Rattle.vx_filter.specs.Compact.{bits_of_words}
 use Rattle.vortex_c.specs.Masks.{count_of, mask_fault}
 use Rattle.vortex_c.specs.Filters.{filter_fault}
 

@@ -1,14 +1,10 @@
 -- The bits of a mask's words, as many as there are rows.
-use Rattle.std.proofs.Common.{◌≡◌, ℕ, zero, suc, ◌+◌, ◌-◌, ◌*◌, ◌/◌, ◌%◌, ◌^◌, ◌<◌, ◌≤◌, Bool, true, false, List, [], ◌∷◌, ◌++◌, length, get_or, take, drop, inl, inr, refl, sym, ap, subst, ◌∙◌, arith}
-use Rattle.std.specs.Int.RustNames.{count_ones}
+use Rattle.std.proofs.Common.{◌≡◌, ℕ, zero, suc, ◌+◌, ◌-◌, ◌*◌, ◌/◌, ◌^◌, ◌<◌, ◌≤◌, Bool, true, false, List, [], ◌∷◌, ◌++◌, length, get_or, take, drop, inl, inr, refl, sym, ap, ◌∙◌, arith}
 use Rattle.std.specs.List.{items_where_true}
 use Rattle.std.proofs.lemmas.Bool.{cases_lt}
-use Rattle.std.proofs.lemmas.List.{drop_at, drop_more, drop-take, length-take-le, take-append-drop, take-append-le, take-take, take_all, take_at}
-use Rattle.std.proofs.lemmas.List.Sums.{count_by-le-length}
+use Rattle.std.proofs.lemmas.List.{drop_at, drop_more, drop-take, length-take-le, take-append-drop, take-append-le, take-take, take_all}
 use Rattle.std.proofs.lemmas.Grind.{flat_map-append}
-use Rattle.std.proofs.lemmas.Nat.{zero_from_ones}
-use Rattle.std.proofs.Math.Nat.{div-lt_iff_lt-mul}
-use Rattle.vx_bits.specs.Words.{word_at, word_bits, word_count}
+use Rattle.vx_bits.specs.Words.{word_at, word_bits}
 use Rattle.vx_bits.proofs.WordBits.{length-word_bits, take-word_bits}
 use Rattle.vx_bits.proofs.WordLists.{word_is}
 use Rattle.vx_filter.specs.Compact.{bits_of_words}
@@ -32,8 +28,8 @@ bits_from words w h =
     let front = bits_of_words (take w words) in
     let back = bits_of_words (drop (w + 1) words) in
     let whole : bits_of_words words ≡ front ++ (word_bits x 64 ++ back) =
-        ap bits_of_words (sym (take-append-drop w words)) ∙ flat_map-append (λ (y : ℕ). word_bits y 64) (take w words) (drop w words)
-        ∙ ap (λ l. front ++ bits_of_words l) (drop_more words w 0 h) in
+    ap bits_of_words (sym (take-append-drop w words)) ∙ flat_map-append (λ (y : ℕ). word_bits y 64) (take w words) (drop w words)
+    ∙ ap (λ l. front ++ bits_of_words l) (drop_more words w 0 h) in
     let long : length front ≡ 64 * w = omega (arith, length-bits_of_words (take w words), length-take-le w words (omega arith)) in
     ap (drop (64 * w)) whole ∙ drop_at front (word_bits x 64 ++ back) (64 * w) long
 
@@ -64,7 +60,7 @@ row_word rows words w h fits e =
           let last : w ≡ rows / 64 = omega (arith, mask.lengths) in
           let few : n ≤ 64 = omega arith in
           let cut : drop (64 * w) (take rows bits) ≡ word_bits (get_or words w 0) n =
-              ap (λ m. drop (64 * w) (take m bits)) more ∙ drop-take (64 * w) n bits ∙ word_front words w n h few in
+          ap (λ m. drop (64 * w) (take m bits)) more ∙ drop-take (64 * w) n bits ∙ word_front words w n h few in
           word_is (take rows bits) w (get_or words w 0) n (last_word_below rows words w e h fits (omega arith))
           (take_all 64 (drop (64 * w) (take rows bits)) (omega (arith, ap length cut, length-word_bits (get_or words w 0) n)) ∙ cut)
     ]

@@ -1,5 +1,5 @@
 -- The bits of a mask's words.
-use Rattle.std.proofs.Common.{◌≡◌, ◌==◌, ℕ, zero, suc, ◌+◌, ◌-◌, ◌*◌, ◌/◌, ◌%◌, ◌^◌, ◌<◌, ◌≤◌, Bool, true, false, cond, eqb, List, [], ◌∷◌, ◌++◌, length, get_or, take, drop, replicate, subst, eq-eqb, ne_eqb, eqb-true, refl, sym, ap, ap₂, ◌∙◌, arith}
+use Rattle.std.proofs.Common.{◌≡◌, ℕ, zero, suc, ◌+◌, ◌-◌, ◌*◌, ◌/◌, ◌%◌, ◌^◌, ◌<◌, ◌≤◌, Bool, true, false, cond, eqb, List, [], ◌∷◌, ◌++◌, length, get_or, take, drop, replicate, subst, eq-eqb, ne_eqb, eqb-true, refl, sym, ap, ap₂, ◌∙◌, arith}
 use Rattle.std.specs.Int.RustNames.{count_ones}
 use Rattle.std.proofs.lemmas.List.{drop-drop, drop_all, drop_at, flat_map_more, get_or-drop, length-append, length-take, length-take-le, take-append-drop, take_all, take_more}
 use Rattle.std.proofs.lemmas.Grind.{flat_map-append}
@@ -41,7 +41,7 @@ drop-word_bits : (x r n : ℕ) → r ≤ n → drop r (word_bits x n) ≡ word_b
 drop-word_bits x r n h =
     let all : n ≡ r + (n - r) = omega arith in
     let whole : word_bits x n ≡ word_bits (x % 2 ^ r) r ++ word_bits (x / 2 ^ r) (n - r) =
-        ap₂ word_bits (sym (div-add-mod' x (2 ^ r))) all ∙ word_bits-append (x % 2 ^ r) r (x / 2 ^ r) (n - r) (mod_below x (2 ^ r) (pow_pos r)) in
+    ap₂ word_bits (sym (div-add-mod' x (2 ^ r))) all ∙ word_bits-append (x % 2 ^ r) r (x / 2 ^ r) (n - r) (mod_below x (2 ^ r) (pow_pos r)) in
     ap (drop r) whole ∙ drop_at (word_bits (x % 2 ^ r) r) (word_bits (x / 2 ^ r) (n - r)) r (length-word_bits (x % 2 ^ r) r)
 
 -- the bits past the rows are those of the last word, shifted down
@@ -57,10 +57,10 @@ past_count words rows h fits =
     let low : r ≤ 64 = omega arith in
     let wide : 64 ≡ 64 - r + r = omega arith in
     let cut : drop rows (bits_of_words words) ≡ word_bits (x / 2 ^ r) (64 - r) =
-        ap (drop rows) whole ∙ ap (λ n. drop n (front ++ word_bits x 64)) place
-        ∙ sym (drop-drop r (64 * w) (front ++ word_bits x 64))
-        ∙ ap (drop r) (drop_at front (word_bits x 64) (64 * w) long)
-        ∙ drop-word_bits x r 64 low in
+    ap (drop rows) whole ∙ ap (λ n. drop n (front ++ word_bits x 64)) place
+    ∙ sym (drop-drop r (64 * w) (front ++ word_bits x 64))
+    ∙ ap (drop r) (drop_at front (word_bits x 64) (64 * w) long)
+    ∙ drop-word_bits x r 64 low in
     let below : x < 2 ^ (64 - r + r) = subst (λ (n : ℕ). x < 2 ^ n) wide fits in
     ap true_count_of cut ∙ true_count_of-word_bits (x / 2 ^ r) (64 - r) (shr_below x (64 - r) r below)
 
@@ -155,7 +155,7 @@ last_word_below rows words w e h fits short =
     let x = get_or words w 0 in
     let count = past_count words rows long (subst (λ (n : ℕ). get_or words n 0 < 2 ^ 64) last fits) in
     let none : x / 2 ^ (rows - 64 * w) ≡ 0 =
-        ap₂ (λ n k. get_or words n 0 / 2 ^ k) last (sym part) ∙ zero_from_ones _ (sym count ∙ eqb-true past 0 tests.1) in
+    ap₂ (λ n k. get_or words n 0 / 2 ^ k) last (sym part) ∙ zero_from_ones _ (sym count ∙ eqb-true past 0 tests.1) in
     let small : x / 2 ^ (rows - 64 * w) < 1 = omega (arith, none) in
     let above = (div-lt_iff_lt-mul (pow_pos (rows - 64 * w))).0 small in
     omega (arith, above)

@@ -1,5 +1,5 @@
 -- Picks of which some are null, and the items at them.
-use Rattle.std.proofs.Common.{◌≡◌, ℕ, ◌+◌, ◌*◌, ◌/◌, ◌%◌, ◌<◌, ◌≤◌, Bool, true, false, cond, eqb, ltb, List, [], ◌∷◌, ◌++◌, length, get_or, take, drop, set, map, Option, None, Some, eq-eqb, ne_eqb, inl, inr, refl, sym, ap, ap₂, ◌∙◌, arith}
+use Rattle.std.proofs.Common.{◌≡◌, ℕ, ◌+◌, ◌*◌, ◌/◌, ◌%◌, ◌<◌, ◌≤◌, true, cond, eqb, ltb, List, [], ◌∷◌, ◌++◌, length, get_or, take, drop, set, map, eq-eqb, ne_eqb, inl, inr, refl, sym, ap, ap₂, ◌∙◌, arith}
 use Rattle.std.specs.Int.{bit_at}
 use Rattle.std.specs.List.{range_with_len}
 use Rattle.std.proofs.lemmas.Bool.{cases_lt, le-ltb, lt-ltb}
@@ -10,9 +10,9 @@ use Rattle.vx_bits.proofs.WordBits.{get_or-word_bits, length-word_bits}
 use Rattle.vx_filter.specs.Compact.{bits_of_words}
 use Rattle.vx_take.specs.Picks.{at, item_at}
 use Rattle.vortex_c.specs.Masks.{mask_fault}
-use Rattle.vortex_c.specs.Takes.{IsFirstPast, IsPast, is_there, pick_at, picks_at, take_fault, valid_fault}
+use Rattle.vortex_c.specs.Takes.{IsPast, is_there, pick_at, take_fault, valid_fault}
 use Rattle.vortex_c.proofs.MaskRows.{bits_from}
-use Rattle.vortex_c.proofs.MaskWords.{IsMask, is_mask}
+use Rattle.vortex_c.proofs.MaskWords.{is_mask}
 
 -- ---- which picks are there
 

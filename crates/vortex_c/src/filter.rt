@@ -50,10 +50,16 @@ fn filter<T: Copy>(src: &[T], words: &[u64], dst: &mut [T]) -> Answer
     }
     let count = count_set(words);
     if count > dst.len() {
-        return Answer { status: ROOM, value: count as u64 };
+        return Answer {
+            status: ROOM,
+            value: count as u64,
+        };
     }
     let kept = compact(src, words, count, dst);
-    Answer { status: DONE, value: kept as u64 }
+    Answer {
+        status: DONE,
+        value: kept as u64,
+    }
 }
 
 /// Copies the records of 1 byte at the set bits of `words` to the front of `dst`, in order. The

@@ -22,7 +22,10 @@ fn filter_in_place<T: Copy>(values: &mut [T], words: &[u64]) -> Answer
         return Answer::refused(fault);
     }
     let kept = keep_words(values, words);
-    Answer { status: DONE, value: kept as u64 }
+    Answer {
+        status: DONE,
+        value: kept as u64,
+    }
 }
 
 // Moves the values where bits of the words are set to the front, and answers their number.

@@ -61,8 +61,14 @@ pub extern "C" fn vortex_positions(words: &[u64], rows: usize, dst: &mut [u64]) 
     let count = count_set(words);
     let value = count as u64;
     if count > dst.len() {
-        return Answer { status: ROOM, value };
+        return Answer {
+            status: ROOM,
+            value,
+        };
     }
     put_positions(words, dst);
-    Answer { status: DONE, value }
+    Answer {
+        status: DONE,
+        value,
+    }
 }

@@ -71,9 +71,15 @@ pub extern "C" fn vortex_rank(words: &[u64], rows: usize, k: usize) -> Answer
     }
     let count = count_set(words);
     if k >= count {
-        return Answer { status: INDEX, value: count as u64 };
+        return Answer {
+            status: INDEX,
+            value: count as u64,
+        };
     }
-    Answer { status: DONE, value: position_of(words, k) as u64 }
+    Answer {
+        status: DONE,
+        value: position_of(words, k) as u64,
+    }
 }
 
 /// How many rows before `p` are selected, by a mask of so many rows.
@@ -91,5 +97,8 @@ pub extern "C" fn vortex_count_before(words: &[u64], rows: usize, p: usize) -> A
     if p > rows {
         return Answer::refused(INDEX);
     }
-    Answer { status: DONE, value: count_to(words, p) as u64 }
+    Answer {
+        status: DONE,
+        value: count_to(words, p) as u64,
+    }
 }

@@ -38,8 +38,16 @@ fn item_or<T: Copy>(src: &[T], there: bool, index: u64, fill: T) -> T
 fn fault_of_take(picks: usize, valid: &[u64], room: usize) -> u64
     ensures { result ≡ take_fault picks valid.now room }
 {
-    let fault = if valid.is_empty() { DONE } else { fault_of(valid, picks) };
-    if fault == DONE && picks > room { ROOM } else { fault }
+    let fault = if valid.is_empty() {
+        DONE
+    } else {
+        fault_of(valid, picks)
+    };
+    if fault == DONE && picks > room {
+        ROOM
+    } else {
+        fault
+    }
 }
 
 // The first pick that is there and whose index is not below the bound.
@@ -78,13 +86,22 @@ fn take<T: Copy>(src: &[T], indices: &[u64], valid: &[u64], fill: T, dst: &mut [
     let value = indices.len() as u64;
     let fault = fault_of_take(indices.len(), valid, dst.len());
     if fault != DONE {
-        return Answer { status: fault, value };
+        return Answer {
+            status: fault,
+            value,
+        };
     }
     if let Some(k) = first_past(indices, valid, src.len()) {
-        return Answer { status: INDEX, value: k as u64 };
+        return Answer {
+            status: INDEX,
+            value: k as u64,
+        };
     }
     gather(src, indices, valid, fill, dst);
-    Answer { status: DONE, value }
+    Answer {
+        status: DONE,
+        value,
+    }
 }
 
 /// Writes the records of 1 byte at the indices to the front of `dst`, in order, and zeros at each
@@ -204,5 +221,16 @@ pub extern "C" fn vortex_take_32(
     ensures { IsTaken (record { a = 0; b = 0; c = 0; d = 0 }) src.now indices.now valid.now dst.old dst.new
         result.status result.value }
 {
-    take(src, indices, valid, Record32 { a: 0, b: 0, c: 0, d: 0 }, dst)
+    take(
+        src,
+        indices,
+        valid,
+        Record32 {
+            a: 0,
+            b: 0,
+            c: 0,
+            d: 0,
+        },
+        dst,
+    )
 }

@@ -1,4 +1,4 @@
-use Rattle.std.proofs.Common.{length, sym, arith}
+use Rattle.std.proofs.Common.{length, arith}
 use Rattle.vortex_c.proofs.MaskWords.{is_mask}
 use Rattle.vortex_c.proofs.filter.filter.Goals as goal
 

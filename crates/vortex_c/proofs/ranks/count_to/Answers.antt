@@ -1,4 +1,4 @@
-use Rattle.std.proofs.Common.{◌≡◌, ◌+◌, ◌*◌, ◌/◌, take, ap, ◌∙◌, arith, rules}
+use Rattle.std.proofs.Common.{◌≡◌, ◌+◌, ◌*◌, ◌/◌, take, ap, ◌∙◌, arith}
 use Rattle.vx_bits.specs.BitBuffer.{true_count_of}
 use Rattle.vx_filter.specs.Compact.{bits_of_words}
 use Rattle.vx_mask.proofs.BlockCounts.{count_fits}

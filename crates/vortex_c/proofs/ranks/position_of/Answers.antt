@@ -1,5 +1,4 @@
-use Rattle.std.proofs.Common.{◌≡◌, ◌*◌, length, take, sym, ap, arith}
-use Rattle.vx_bits.specs.BitBuffer.{true_count_of}
+use Rattle.std.proofs.Common.{◌*◌, sym, arith}
 use Rattle.vx_filter.specs.Compact.{bits_of_words}
 use Rattle.vx_mask.proofs.BlockCounts.{count_all}
 use Rattle.vx_mask.proofs.WordCounts.{count_of_word, rank_in_word}
