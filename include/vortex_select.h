@@ -1,13 +1,14 @@
 /* Row selection by the proved kernels of this repository: link with libvortex_c.a.
  *
  * Each call answers a status and a number. A call whose status is not VORTEX_DONE is refused and
- * writes nothing; the number is 0 where a function does not say what it is.
+ * writes nothing, but for what vortex_gather says; the number is 0 where a function does not say
+ * what it is.
  *
  * Each list is handed in as a pointer and its number of items. The caller owes, and nothing tests:
- * the pointer is aligned for the items and leads to so many of them, written ones where the list is
- * read; the list is below 2^63 bytes; a list that is written overlaps no other list of the call, and
- * no other thread touches it until the call is back. A list without items may have any pointer but
- * a null one is allowed too. No function keeps a pointer, takes memory, or calls back.
+ * the pointer is aligned for the items and leads to so many of them, written ones where the list
+ * is read; the list is below 2^63 bytes; a list that is written overlaps no other list of the call,
+ * and no other thread touches it until the call is back. A list without items may have any pointer,
+ * a null one too. No function keeps a pointer, takes memory, or calls back.
  *
  * A mask of n rows is (n + 63) / 64 words: bit k % 64 of word k / 64, the lowest bit first, is set
  * where row k is selected, and the bits past the rows are clear. */
@@ -71,10 +72,10 @@ vortex_answer vortex_filter_in_place_4(uint32_t *values, size_t values_len, cons
     size_t mask_len);
 vortex_answer vortex_filter_in_place_8(uint64_t *values, size_t values_len, const uint64_t *mask,
     size_t mask_len);
-vortex_answer vortex_filter_in_place_16(vortex_record_16 *values, size_t values_len, const uint64_t *mask,
-    size_t mask_len);
-vortex_answer vortex_filter_in_place_32(vortex_record_32 *values, size_t values_len, const uint64_t *mask,
-    size_t mask_len);
+vortex_answer vortex_filter_in_place_16(vortex_record_16 *values, size_t values_len,
+    const uint64_t *mask, size_t mask_len);
+vortex_answer vortex_filter_in_place_32(vortex_record_32 *values, size_t values_len,
+    const uint64_t *mask, size_t mask_len);
 
 /* Copies the records of src at the indices to the front of dst, in order; the rest of dst stays.
  * Index k is null, and gives a record of zeros, where bit k of valid is clear; without words none
@@ -92,12 +93,31 @@ vortex_answer vortex_take_4(const uint32_t *src, size_t src_len, const uint64_t 
 vortex_answer vortex_take_8(const uint64_t *src, size_t src_len, const uint64_t *indices,
     size_t indices_len, const uint64_t *valid, size_t valid_len, uint64_t *dst, size_t dst_len);
 vortex_answer vortex_take_16(const vortex_record_16 *src, size_t src_len, const uint64_t *indices,
-    size_t indices_len, const uint64_t *valid, size_t valid_len, vortex_record_16 *dst, size_t dst_len);
+    size_t indices_len, const uint64_t *valid, size_t valid_len,
+    vortex_record_16 *dst, size_t dst_len);
 vortex_answer vortex_take_32(const vortex_record_32 *src, size_t src_len, const uint64_t *indices,
-    size_t indices_len, const uint64_t *valid, size_t valid_len, vortex_record_32 *dst, size_t dst_len);
+    size_t indices_len, const uint64_t *valid, size_t valid_len,
+    vortex_record_32 *dst, size_t dst_len);
 
-/* Writes the positions of the set bits of a mask of so many rows to the front of dst, ascending; the
- * rest of dst stays. The number is how many they are.
+/* The same in one pass, which tests each index as it comes to it. Where an index is out of bounds
+ * (VORTEX_INDEX), the records at the indices before it stand at the front of dst. */
+vortex_answer vortex_gather_1(const uint8_t *src, size_t src_len, const uint64_t *indices,
+    size_t indices_len, const uint64_t *valid, size_t valid_len, uint8_t *dst, size_t dst_len);
+vortex_answer vortex_gather_2(const uint16_t *src, size_t src_len, const uint64_t *indices,
+    size_t indices_len, const uint64_t *valid, size_t valid_len, uint16_t *dst, size_t dst_len);
+vortex_answer vortex_gather_4(const uint32_t *src, size_t src_len, const uint64_t *indices,
+    size_t indices_len, const uint64_t *valid, size_t valid_len, uint32_t *dst, size_t dst_len);
+vortex_answer vortex_gather_8(const uint64_t *src, size_t src_len, const uint64_t *indices,
+    size_t indices_len, const uint64_t *valid, size_t valid_len, uint64_t *dst, size_t dst_len);
+vortex_answer vortex_gather_16(const vortex_record_16 *src, size_t src_len, const uint64_t *indices,
+    size_t indices_len, const uint64_t *valid, size_t valid_len,
+    vortex_record_16 *dst, size_t dst_len);
+vortex_answer vortex_gather_32(const vortex_record_32 *src, size_t src_len, const uint64_t *indices,
+    size_t indices_len, const uint64_t *valid, size_t valid_len,
+    vortex_record_32 *dst, size_t dst_len);
+
+/* Writes the positions of the set bits of a mask of so many rows to the front of dst, ascending;
+ * the rest of dst stays. The number is how many they are.
  *
  * VORTEX_LENGTHS: the mask has not as many words as the rows ask for. VORTEX_BITS_PAST.
  * VORTEX_ROOM. */

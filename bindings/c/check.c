@@ -88,6 +88,20 @@ static void takes(void) {
     expect(is(answer, VORTEX_DONE, 0), "a take of nothing");
 }
 
+static void gathers(void) {
+    const uint64_t indices[3] = {3, 4, 0}, valid[1] = {5};
+    refill();
+    vortex_answer answer = vortex_gather_4(four, 4, indices, 3, valid, 1, dst, 2);
+    expect(is(answer, VORTEX_ROOM, 3) && is_untouched(), "a gather into too little room");
+    answer = vortex_gather_4(four, 4, indices, 3, NULL, 0, dst, 4);
+    expect(is(answer, VORTEX_INDEX, 1), "a gather with an index out of bounds");
+    expect(dst[0] == 40 && dst[1] == 0xabababab, "what it gives before that index");
+    answer = vortex_gather_4(four, 4, indices, 3, valid, 1, dst, 4);
+    expect(is(answer, VORTEX_DONE, 3) && dst[1] == 0 && dst[2] == 10, "a gather with a null");
+    answer = vortex_gather_4(NULL, 0, NULL, 0, NULL, 0, NULL, 0);
+    expect(is(answer, VORTEX_DONE, 0), "a gather of nothing");
+}
+
 static void positions(void) {
     uint64_t set[2] = {7, 7};
     vortex_answer answer = vortex_positions(odd, 1, 4, set, 1);
@@ -118,6 +132,7 @@ int main(void) {
     filters();
     filters_in_place();
     takes();
+    gathers();
     positions();
     ranks();
     printf("c: %d passed, %d failed\n", passed, failed);

@@ -6,7 +6,10 @@ fn built(folder: &Path) -> PathBuf {
     let library = folder.join("out").join("libvortex_c.a");
     if !library.exists() {
         let run = Command::new("rt").arg("lib").current_dir(folder).status();
-        assert!(run.is_ok_and(|status| status.success()), "`rt lib` failed in {folder:?}");
+        assert!(
+            run.is_ok_and(|status| status.success()),
+            "`rt lib` failed in {folder:?}"
+        );
     }
     library
 }

@@ -31,10 +31,15 @@ struct Input<T> {
 fn input<T>(density: f64, of: fn(u64) -> T) -> Input<T> {
     let mut dice = Dice(88_172_645_463_325_252);
     let values = (0..ROWS).map(|_| of(dice.roll())).collect();
-    let rows: Vec<bool> =
-        (0..ROWS).map(|_| ((dice.roll() >> 11) as f64) < density * (1u64 << 53) as f64).collect();
+    let rows: Vec<bool> = (0..ROWS)
+        .map(|_| ((dice.roll() >> 11) as f64) < density * (1u64 << 53) as f64)
+        .collect();
     let indices = (0..ROWS).map(|_| dice.roll() % ROWS as u64).collect();
-    Input { values, mask: Mask::from_bools(&rows), indices }
+    Input {
+        values,
+        mask: Mask::from_bools(&rows),
+        indices,
+    }
 }
 
 /// The set bits of each word, the lowest first: the fastest of the plain forms that were tried.
@@ -53,12 +58,19 @@ fn plain_filter<T: Copy>(values: &[T], mask: &Mask) -> Vec<T> {
 
 #[inline(never)]
 fn plain_take<T: Copy>(values: &[T], indices: &[u64]) -> Vec<T> {
-    indices.iter().map(|index| values[*index as usize]).collect()
+    indices
+        .iter()
+        .map(|index| values[*index as usize])
+        .collect()
 }
 
 #[inline(never)]
 fn one<T: Record>(kernel: &str, is_ours: bool, input: &Input<T>) -> usize {
-    let Input { values, mask, indices } = input;
+    let Input {
+        values,
+        mask,
+        indices,
+    } = input;
     match (kernel.starts_with("filter"), is_ours) {
         (true, true) => black_box(filter(black_box(values), mask)).len(),
         (true, false) => black_box(plain_filter(black_box(values), mask)).len(),
@@ -84,23 +96,38 @@ fn many(kernel: &str, is_ours: bool, density: f64, times: usize) -> u128 {
 }
 
 fn nanoseconds(kernel: &str, is_ours: bool, density: f64) -> f64 {
-    let least = (0..15).map(|_| many(kernel, is_ours, density, 20)).min().unwrap_or(0);
+    let least = (0..15)
+        .map(|_| many(kernel, is_ours, density, 20))
+        .min()
+        .unwrap_or(0);
     least as f64 / (20 * ROWS) as f64
 }
 
 fn main() {
     let args: Vec<String> = std::env::args().collect();
     if let [_, kernel, side, density, times] = &args[..] {
-        many(kernel, side == "ours", density.parse().unwrap(), times.parse().unwrap());
+        many(
+            kernel,
+            side == "ours",
+            density.parse().unwrap(),
+            times.parse().unwrap(),
+        );
         return;
     }
     println!("| nanoseconds a row | density | ours | plain | ratio |\n|---|---|---|---|---|");
     for kernel in KERNELS {
-        let densities = if kernel.starts_with("take") { &DENSITIES[..1] } else { &DENSITIES[..] };
+        let densities = if kernel.starts_with("take") {
+            &DENSITIES[..1]
+        } else {
+            &DENSITIES[..]
+        };
         for density in densities {
             let ours = nanoseconds(kernel, true, *density);
             let plain = nanoseconds(kernel, false, *density);
-            println!("| {kernel} | {density} | {ours:.2} | {plain:.2} | **{:.2}** |", ours / plain);
+            println!(
+                "| {kernel} | {density} | {ours:.2} | {plain:.2} | **{:.2}** |",
+                ours / plain
+            );
         }
     }
 }

@@ -1,4 +1,5 @@
 //! The functions of the static library, as `include/vortex_select.h` has them.
+#![allow(dead_code)]
 
 pub const DONE: u64 = 0;
 pub const INDEX: u64 = 4;
@@ -18,31 +19,55 @@ pub struct Record16([u64; 2]);
 pub struct Record32([u64; 4]);
 
 macro_rules! of_width {
-    ($item:ty: $filter:ident $in_place:ident $take:ident) => {
+    ($item:ty: $filter:ident $in_place:ident $take:ident $gather:ident) => {
         extern "C" {
             pub fn $filter(
-                src: *const $item, n: usize, words: *const u64, m: usize, dst: *mut $item,
+                src: *const $item,
+                n: usize,
+                words: *const u64,
+                m: usize,
+                dst: *mut $item,
                 room: usize,
             ) -> Answer;
             pub fn $in_place(values: *mut $item, n: usize, words: *const u64, m: usize) -> Answer;
             pub fn $take(
-                src: *const $item, n: usize, indices: *const u64, k: usize, valid: *const u64,
-                m: usize, dst: *mut $item, room: usize,
+                src: *const $item,
+                n: usize,
+                indices: *const u64,
+                k: usize,
+                valid: *const u64,
+                m: usize,
+                dst: *mut $item,
+                room: usize,
+            ) -> Answer;
+            pub fn $gather(
+                src: *const $item,
+                n: usize,
+                indices: *const u64,
+                k: usize,
+                valid: *const u64,
+                m: usize,
+                dst: *mut $item,
+                room: usize,
             ) -> Answer;
         }
     };
 }
 
-of_width!(u8: vortex_filter_1 vortex_filter_in_place_1 vortex_take_1);
-of_width!(u16: vortex_filter_2 vortex_filter_in_place_2 vortex_take_2);
-of_width!(u32: vortex_filter_4 vortex_filter_in_place_4 vortex_take_4);
-of_width!(u64: vortex_filter_8 vortex_filter_in_place_8 vortex_take_8);
-of_width!(Record16: vortex_filter_16 vortex_filter_in_place_16 vortex_take_16);
-of_width!(Record32: vortex_filter_32 vortex_filter_in_place_32 vortex_take_32);
+of_width!(u8: vortex_filter_1 vortex_filter_in_place_1 vortex_take_1 vortex_gather_1);
+of_width!(u16: vortex_filter_2 vortex_filter_in_place_2 vortex_take_2 vortex_gather_2);
+of_width!(u32: vortex_filter_4 vortex_filter_in_place_4 vortex_take_4 vortex_gather_4);
+of_width!(u64: vortex_filter_8 vortex_filter_in_place_8 vortex_take_8 vortex_gather_8);
+of_width!(Record16: vortex_filter_16 vortex_filter_in_place_16 vortex_take_16 vortex_gather_16);
+of_width!(Record32: vortex_filter_32 vortex_filter_in_place_32 vortex_take_32 vortex_gather_32);
 
 extern "C" {
     pub fn vortex_positions(
-        words: *const u64, m: usize, rows: usize, dst: *mut u64, room: usize,
+        words: *const u64,
+        m: usize,
+        rows: usize,
+        dst: *mut u64,
+        room: usize,
     ) -> Answer;
     pub fn vortex_rank(words: *const u64, m: usize, rows: usize, k: usize) -> Answer;
     pub fn vortex_count_before(words: *const u64, m: usize, rows: usize, p: usize) -> Answer;

@@ -60,7 +60,8 @@ unsafe fn written<T: Copy>(len: usize, write: impl FnOnce(*mut T) -> Answer) -> 
 pub fn filter<T: Record>(values: &[T], mask: &Mask) -> Vec<T> {
     assert_eq!(values.len(), mask.len(), "a mask is as long as its values");
     let count = mask.count();
-    let (answer, kept) = unsafe { written(count, |dst| T::filter(values, mask.words(), dst, count)) };
+    let (answer, kept) =
+        unsafe { written(count, |dst| T::filter(values, mask.words(), dst, count)) };
     assert_eq!(answer.status, DONE);
     kept
 }
@@ -113,7 +114,11 @@ pub fn take_valid<T: Record>(
     indices: &[u64],
     there: &Mask,
 ) -> Result<Vec<T>, OutOfBounds> {
-    assert_eq!(indices.len(), there.len(), "a mask is as long as its indices");
+    assert_eq!(
+        indices.len(),
+        there.len(),
+        "a mask is as long as its indices"
+    );
     take_words(values, indices, there.words())
 }
 
@@ -127,7 +132,9 @@ fn take_words<T: Record>(
         unsafe { written(count, |dst| T::take(values, indices, valid, dst, count)) };
     match answer.status {
         DONE => Ok(taken),
-        INDEX => Err(OutOfBounds { place: answer.value as usize }),
+        INDEX => Err(OutOfBounds {
+            place: answer.value as usize,
+        }),
         status => unreachable!("status {status} of a take"),
     }
 }

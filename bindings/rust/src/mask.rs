@@ -10,8 +10,15 @@ pub struct Mask {
 impl Mask {
     /// The mask that selects the rows whose bool is true.
     pub fn from_bools(rows: &[bool]) -> Mask {
-        let word = |part: &[bool]| part.iter().rev().fold(0, |word, row| 2 * word + *row as u64);
-        Mask { words: rows.chunks(64).map(word).collect(), len: rows.len() }
+        let word = |part: &[bool]| {
+            part.iter()
+                .rev()
+                .fold(0, |word, row| 2 * word + *row as u64)
+        };
+        Mask {
+            words: rows.chunks(64).map(word).collect(),
+            len: rows.len(),
+        }
     }
 
     /// The mask of so many rows whose bits the words hold. `None` where the words are not as many
@@ -38,7 +45,10 @@ impl Mask {
 
     /// The number of rows that are selected.
     pub fn count(&self) -> usize {
-        self.words.iter().map(|word| word.count_ones() as usize).sum()
+        self.words
+            .iter()
+            .map(|word| word.count_ones() as usize)
+            .sum()
     }
 
     /// The rows that are selected, ascending.

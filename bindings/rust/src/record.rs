@@ -41,9 +41,9 @@ macro_rules! records {
     )+};
 }
 
-records!(vortex_filter_1 vortex_filter_in_place_1 vortex_take_1: u8 i8);
-records!(vortex_filter_2 vortex_filter_in_place_2 vortex_take_2: u16 i16);
-records!(vortex_filter_4 vortex_filter_in_place_4 vortex_take_4: u32 i32 f32);
-records!(vortex_filter_8 vortex_filter_in_place_8 vortex_take_8: u64 i64 f64 usize isize);
-records!(vortex_filter_16 vortex_filter_in_place_16 vortex_take_16: u128 i128 [u64; 2]);
-records!(vortex_filter_32 vortex_filter_in_place_32 vortex_take_32: [u64; 4]);
+records!(vortex_filter_1 vortex_filter_in_place_1 vortex_gather_1: u8 i8);
+records!(vortex_filter_2 vortex_filter_in_place_2 vortex_gather_2: u16 i16);
+records!(vortex_filter_4 vortex_filter_in_place_4 vortex_gather_4: u32 i32 f32);
+records!(vortex_filter_8 vortex_filter_in_place_8 vortex_gather_8: u64 i64 f64 usize isize);
+records!(vortex_filter_16 vortex_filter_in_place_16 vortex_gather_16: u128 i128 [u64; 2]);
+records!(vortex_filter_32 vortex_filter_in_place_32 vortex_gather_32: [u64; 4]);

@@ -51,7 +51,12 @@ impl Dice {
 }
 
 fn plain_filter<T: Copy>(values: &[T], rows: &[bool]) -> Vec<T> {
-    values.iter().zip(rows).filter(|(_, row)| **row).map(|(value, _)| *value).collect()
+    values
+        .iter()
+        .zip(rows)
+        .filter(|(_, row)| **row)
+        .map(|(value, _)| *value)
+        .collect()
 }
 
 fn plain_take<T: Copy>(
@@ -62,7 +67,11 @@ fn plain_take<T: Copy>(
 ) -> Result<Vec<T>, OutOfBounds> {
     let item = |(place, (index, there)): (usize, (&u64, &bool))| {
         let item = usize::try_from(*index).ok().and_then(|i| values.get(i));
-        if *there { item.copied().ok_or(OutOfBounds { place }) } else { Ok(zero) }
+        if *there {
+            item.copied().ok_or(OutOfBounds { place })
+        } else {
+            Ok(zero)
+        }
     };
     indices.iter().zip(there).enumerate().map(item).collect()
 }
@@ -72,7 +81,10 @@ fn one_call<T: Record + PartialEq + Debug>(dice: &mut Dice, zero: T, of: fn(u64)
     match dice.below(5) {
         0 => {
             let rows = dice.bools(values.len());
-            assert_eq!(filter(&values, &Mask::from_bools(&rows)), plain_filter(&values, &rows));
+            assert_eq!(
+                filter(&values, &Mask::from_bools(&rows)),
+                plain_filter(&values, &rows)
+            );
         }
         1 => {
             let rows = dice.bools(values.len());
@@ -84,7 +96,10 @@ fn one_call<T: Record + PartialEq + Debug>(dice: &mut Dice, zero: T, of: fn(u64)
             let len = dice.len();
             let indices = dice.indices(len, values.len());
             let all = vec![true; len];
-            assert_eq!(take(&values, &indices), plain_take(&values, &indices, &all, zero));
+            assert_eq!(
+                take(&values, &indices),
+                plain_take(&values, &indices, &all, zero)
+            );
         }
         3 => {
             let len = dice.len();
@@ -96,7 +111,9 @@ fn one_call<T: Record + PartialEq + Debug>(dice: &mut Dice, zero: T, of: fn(u64)
         _ => {
             let len = dice.len();
             let rows = dice.bools(len);
-            let set: Vec<u64> = (0..rows.len() as u64).filter(|i| rows[*i as usize]).collect();
+            let set: Vec<u64> = (0..rows.len() as u64)
+                .filter(|i| rows[*i as usize])
+                .collect();
             let mask = Mask::from_bools(&rows);
             assert_eq!(mask.positions(), set);
             let (k, p) = (dice.below(len + 2), dice.below(len + 2));

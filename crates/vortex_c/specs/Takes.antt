@@ -49,3 +49,14 @@ pub record IsTaken {X : Type 0} (fill : X) (src : List X) (indices valid : List 
   pub count : (status ≡ 0) ⊎ (status ≡ 3) → value ≡ length indices
   pub items : status ≡ 0 → new ≡ at fill src (picks_at indices valid) ++ drop value old
   pub refused : status ≢ 0 → new ≡ old
+
+-- the same, but where an index is out of bounds the items at the picks before it were written
+pub record IsGathered {X : Type 0} (fill : X) (src : List X) (indices valid : List ℕ) (old new : List X) (status value : ℕ) : Type 0 where
+  pub fault : take_fault (length indices) valid (length old) ≢ 0
+      → status ≡ take_fault (length indices) valid (length old)
+  pub fits : take_fault (length indices) valid (length old) ≡ 0 → (status ≡ 0) ⊎ (status ≡ 4)
+  pub past : status ≡ 4 → IsFirstPast (length src) indices valid value
+  pub count : (status ≡ 0) ⊎ (status ≡ 3) → value ≡ length indices
+  pub items : (status ≡ 0) ⊎ (status ≡ 4) → new
+      ≡ at fill src (map (pick_at indices valid) (range_with_len 0 value)) ++ drop value old
+  pub refused : status ≢ 0 → status ≢ 4 → new ≡ old

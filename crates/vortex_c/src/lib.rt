@@ -6,6 +6,7 @@
 
 mod answer;
 mod filter;
+mod gather;
 mod in_place;
 mod masks;
 mod positions;

@@ -18,7 +18,7 @@ fn is_set(words: &[u64], k: usize) -> bool
 
 // Whether pick `k` is there.
 #[inline(always)]
-fn there(valid: &[u64], k: usize) -> bool
+pub(crate) fn there(valid: &[u64], k: usize) -> bool
     requires { (length valid.now ≢ 0) → k / 64 < length valid.now }
     ensures { result ≡ is_there valid.now k }
 {
@@ -27,7 +27,7 @@ fn there(valid: &[u64], k: usize) -> bool
 
 // The item at an index, or `fill` where it is not there.
 #[inline(always)]
-fn item_or<T: Copy>(src: &[T], there: bool, index: u64, fill: T) -> T
+pub(crate) fn item_or<T: Copy>(src: &[T], there: bool, index: u64, fill: T) -> T
     requires { there ≡ true → index < length src.now }
     ensures { result ≡ item_at fill src.now (if there then Some index else None) }
 {
@@ -35,7 +35,7 @@ fn item_or<T: Copy>(src: &[T], there: bool, index: u64, fill: T) -> T
 }
 
 // Why so many picks do not fit into so much room, or `DONE`.
-fn fault_of_take(picks: usize, valid: &[u64], room: usize) -> u64
+pub(crate) fn fault_of_take(picks: usize, valid: &[u64], room: usize) -> u64
     ensures { result ≡ take_fault picks valid.now room }
 {
     let fault = if valid.is_empty() {
