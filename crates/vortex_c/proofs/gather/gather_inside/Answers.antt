@@ -2,7 +2,7 @@ use Rattle.std.proofs.Common.{◌≡◌, ◌<◌, ◌+◌, true, cond, length, g
 use Rattle.std.proofs.lemmas.List.{drop-set-lt}
 use Rattle.vx_filter.proofs.Moves.{same_further}
 use Rattle.vx_take.specs.Picks.{item_at}
-use Rattle.vortex_c.specs.Takes.{IsPast, is_there}
+use Rattle.vortex_c.specs.Takes.{IsPast}
 use Rattle.vortex_c.proofs.TakenItems.{gathered_more}
 use Rattle.vortex_c.proofs.gather.gather_inside.Goals.{else-is_there-via-then-is_there+else-index-src, else-is_there-via-else-is_there}
 use Rattle.vortex_c.proofs.gather.gather_inside.Goals as goal
