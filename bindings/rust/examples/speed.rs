@@ -42,7 +42,7 @@ fn input<T>(density: f64, of: fn(u64) -> T) -> Input<T> {
     }
 }
 
-/// The set bits of each word, the lowest first: the fastest of the plain forms that were tried.
+/// The set bits of each word, the lowest first: by the set bits of each word.
 #[inline(never)]
 fn plain_filter<T: Copy>(values: &[T], mask: &Mask) -> Vec<T> {
     let mut kept = Vec::with_capacity(mask.count());
