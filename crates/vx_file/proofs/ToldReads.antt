@@ -9,7 +9,7 @@ use Rattle.vx_outside.specs.Bytes.{Rose}
 use Rattle.vx_take.specs.Picks.{BoundedPicks}
 use Rattle.vx_file.specs.Blocks.{block_at}
 use Rattle.vx_file.specs.Errors.{MatchReading}
-use Rattle.vx_file.specs.Reading.{AreTold, IsNoSpelling, ReadLast, ReadUpTo}
+use Rattle.vx_file.specs.Reading.{AreTold, IsNoSpelling, NamesTouched, ReadLast, ReadUpTo}
 use Rattle.vx_file.specs.Touched.{block_of_rows, blocks_for, lies_in, touched}
 use Rattle.vx_file.specs.declared.error.FileError.{FileError}
 use Rattle.vx_file.specs.declared.error.FileError.TheVariants.{ReadFault, BadHeader, Damaged, Broken, NoMemory}
@@ -30,6 +30,15 @@ told_step picks k picked before now after here e f =
 pub count_step : (picks : List (Option ℕ)) (k : ℕ) (picked : Bool) → picked ≡ list_any (lies_in k) picks → length (touched picks (k + 1)) ≡ length (touched picks k) + length (block_of_rows picked k)
 count_step picks k picked here =
     ap length (touched_more picks k ∙ ap (λ b. touched picks k ++ block_of_rows b k) (sym here)) ∙ length-append (touched picks k) (block_of_rows picked k)
+
+-- an error at block k + 1 names no other
+pub names_touched : (k : ℕ) (picks : BoundedPicks) (F N : Type 0) (D : ℕ → Type 0) (e : FileError) → k < blocks_for picks.bound → list_any (lies_in k) picks.picks ≡ true
+    → MatchReading e F (λ block. (block ≡ k + 1) × D block) (λ _ _. ⊥) N → NamesTouched picks e
+names_touched k picks F N D ReadFault h any m = tt
+names_touched k picks F N D BadHeader h any m = m
+names_touched k picks F N D (Damaged block) h any m = record { rows = k; number = m.0; within = h; picked = any }
+names_touched k picks F N D (Broken step cause) h any m = absurd m
+names_touched k picks F N D NoMemory h any m = tt
 
 module _ (width k : ℕ) (picks : BoundedPicks) (spare f0 f1 f2 : ℕ) (before after : Option (List ℕ)) (blocks now : Option (List (List ℕ))) where
   -- what an error at block k + 1 says

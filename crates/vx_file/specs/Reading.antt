@@ -67,6 +67,17 @@ abbrev pub held_records : ℕ → List ℕ → List ℕ → List (Option ℕ) �
 held_records width numbers starts picks =
     map (λ pick. record_of width (held_number numbers starts pick)) picks
 
+-- block `rows + 1` holds a picked row
+pub record IsTouched (picks : BoundedPicks) (block : ℕ) : Type 0 where
+  pub rows : ℕ
+  pub number : block ≡ rows + 1
+  pub within : rows < blocks_for picks.bound
+  pub picked : list_any (lies_in rows) picks.picks ≡ true
+
+-- a block that an error names holds a picked row
+abbrev pub NamesTouched : BoundedPicks → FileError → Type 0
+NamesTouched picks e = MatchReading e (Unit {0}) (IsTouched picks) (λ _ _. Unit {0}) (Unit {0})
+
 -- each touched block is a spelling
 abbrev pub AreSpellings : ℕ → BoundedPicks → List (List ℕ) → Type 0
 AreSpellings width picks blocks =

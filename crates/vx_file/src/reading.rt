@@ -6,7 +6,7 @@ ghost use Rattle.vx_packed.specs.Chunk.{IsSpelling};
 ghost use Rattle.vx_packed.specs.Faults.{is_width};
 ghost use Rattle.vx_file.specs.Blocks.{block_at};
 ghost use Rattle.vx_file.specs.Errors.{MatchReading};
-ghost use Rattle.vx_file.specs.Reading.{AreHeld, AreTold, HasRoom, IsHeld, IsNoSpelling, ReadLast, ReadUpTo};
+ghost use Rattle.vx_file.specs.Reading.{AreHeld, AreTold, HasRoom, IsHeld, IsNoSpelling, NamesTouched, ReadLast, ReadUpTo};
 ghost use Rattle.vx_file.specs.Touched.{block_of_rows, blocks_for, touched};
 
 use crate::block_reader::{BLOCK_LEN, BlockReader};
@@ -88,6 +88,7 @@ pub(crate) fn read_touched<R: BlockReader>(
         (λ _ _. ⊥)
         (AreTold (R.spare reader.old) picks.now (ReadUpTo picks.now.picks (R.reads reader.old)
         (R.reads reader.new) (blocks_for picks.now.bound)))) }
+    ensures touched { IfErr result (NamesTouched picks.now) }
     ensures same { R.blocks reader.new ≡ R.blocks reader.old }
     ensures cost { R.spare reader.old ≤ R.spare reader.new
         + length (touched picks.now.picks (blocks_for picks.now.bound)) }

@@ -14,7 +14,7 @@ ghost use Rattle.vx_steps.specs.Step.{step_value};
 ghost use Rattle.vx_steps.specs.Walk.{walk};
 ghost use Rattle.vx_file.specs.Errors.{IfUnbroken, IsBrokenBy};
 ghost use Rattle.vx_file.specs.File.{file_rows};
-ghost use Rattle.vx_file.specs.Reading.{AllRead, AreSpellings, AreTold, IsReadError};
+ghost use Rattle.vx_file.specs.Reading.{AllRead, AreSpellings, AreTold, IsReadError, NamesTouched};
 ghost use Rattle.vx_file.specs.Shape.{row_type};
 ghost use Rattle.vx_file.specs.Touched.{composed, touched_count};
 
@@ -53,6 +53,7 @@ fn take_file<R: BlockReader>(
     ensures error { IfErr result (IsReadError (width shape.now.ptype) picks.now
         (R.spare reader.old) (Rose (R.faults reader.old) (R.faults reader.new))
         (R.reads reader.old) (R.reads reader.new) (R.blocks reader.old)) }
+    ensures touched { IfErr result (NamesTouched picks.now) }
     ensures same { R.blocks reader.new ≡ R.blocks reader.old }
     ensures cost { R.spare reader.old ≤ R.spare reader.new
         + touched_count picks.now }
@@ -108,6 +109,10 @@ pub fn select_file<R: BlockReader>(
         (IsReadError (width shape.now.ptype) (composed shape.now.len (map step_value steps.now))
         (R.spare reader.old) (Rose (R.faults reader.old) (R.faults reader.new))
         (R.reads reader.old) (R.reads reader.new) (R.blocks reader.old))) }
+
+    // A block that is told as damaged holds a picked row, whatever is told of the reads.
+    ensures touched { IfErr result (NamesTouched
+        (composed shape.now.len (map step_value steps.now))) }
     ensures same { R.blocks reader.new ≡ R.blocks reader.old }
     ensures cost { R.spare reader.old ≤ R.spare reader.new
         + touched_count (composed shape.now.len (map step_value steps.now)) }

@@ -6,7 +6,7 @@ use Rattle.vx_file.specs.Reading.{AreHeld, HasRoom, IsHeld}
 use Rattle.vx_file.specs.Touched.{blocks_for, lies_in}
 use Rattle.vx_file.specs.declared.error.FileError.TheVariants.{NoMemory}
 use Rattle.vx_file.proofs.Options.{err_is, for_all, if_both, under}
-use Rattle.vx_file.proofs.ToldReads.{count_step, raised, read_nothing, told_nothing, told_step}
+use Rattle.vx_file.proofs.ToldReads.{count_step, names_touched, raised, read_nothing, told_nothing, told_step}
 use Rattle.vx_file.proofs.TouchedLists.{held_more, room_more, touched_longer}
 use Rattle.vx_file.proofs.reading.read_touched.Goals as goal
 
@@ -95,3 +95,20 @@ returns-in-Err-clause-cost g c =
     let many : length flags ≡ blocks_for p.bound = ap length c.as_slice-flags.ensures.value ∙ marked.long in
     let here : picked ≡ list_any (lies_in k) p.picks = ap (λ l. get_or l k false) c.as_slice-flags.ensures.value ∙ marked.each k (omega (arith, many)) in
     omega (arith, count_step p.picks k picked here, touched_longer p.picks (k + 1) (blocks_for p.bound) (omega (arith, many)), c.loop-k.invariant.cost, c.in-Err.ensures.cost)
+
+pub returns-in_err-marks-clause-touched : goal.returns-in_err-marks-clause-touched
+returns-in_err-marks-clause-touched g c = err_is c.from_residual.result NoMemory _ c.from_residual.ensures.1 tt
+
+pub returns-in_err-starts-clause-touched : goal.returns-in_err-starts-clause-touched
+returns-in_err-starts-clause-touched g c = err_is c.from_residual-in_err-starts.result NoMemory _ c.from_residual-in_err-starts.ensures.1 tt
+
+pub returns-in-Err-clause-touched : goal.returns-in-Err-clause-touched
+returns-in-Err-clause-touched g c =
+    let p = c.args.picks.now in
+    let k = c.loop-k.k in
+    let flags = c.as_slice-flags.result.now in
+    let picked = get_or flags k false in
+    let marked = c.in_ok-marks.ensures in
+    let many : length flags ≡ blocks_for p.bound = ap length c.as_slice-flags.ensures.value ∙ marked.long in
+    let here : picked ≡ list_any (lies_in k) p.picks = ap (λ l. get_or l k false) c.as_slice-flags.ensures.value ∙ marked.each k (omega (arith, many)) in
+    names_touched k p _ _ _ c.in-Err.error (omega (arith, many)) (sym here ∙ c.in-Err.ensures.asked) c.in-Err.ensures.error

@@ -1,5 +1,5 @@
 use Rattle.std.proofs.Common.{◌≡◌, ◌∙◌, map, refl, sym, ap, subst}
-use Rattle.std.specs.Prelude.{IfSome}
+use Rattle.std.specs.Prelude.{IfErr, IfSome}
 use Rattle.vx_outside.specs.Bytes.{Rose}
 use Rattle.vx_types.specs.PType.{width}
 use Rattle.vx_types.specs.RowValue.{null}
@@ -10,7 +10,7 @@ use Rattle.vx_steps.specs.Answer.{answer_of, answer_rows, type_after}
 use Rattle.vx_steps.specs.Step.{step_value}
 use Rattle.vx_select.proofs.ChunkRows.{answered_rows, type_after-takes}
 use Rattle.vx_file.specs.File.{file_rows}
-use Rattle.vx_file.specs.Reading.{IsReadError}
+use Rattle.vx_file.specs.Reading.{IsReadError, NamesTouched}
 use Rattle.vx_file.specs.Shape.{row_type}
 use Rattle.vx_file.specs.Touched.{blocks_for, composed}
 use Rattle.vx_file.proofs.FileAnswers.{length-file_rows, read_err, same_picks, select_err, walk_same}
@@ -61,3 +61,10 @@ returns-clause-error g c =
     let blocks = g.R.BlockReader.blocks c.args.reader.now in
     if_err c.take_file.result (IsReadError (width s.ptype) c.in-Ok.picks spare raised before after blocks) _ c.take_file.ensures.error
     (λ e m. read_err _ (width s.ptype) (composed s.len steps) spare raised before after blocks e (subst (λ (q : BoundedPicks). IsReadError (width s.ptype) q spare raised before after blocks e) same m))
+
+pub returns-clause-touched : goal.returns-clause-touched
+returns-clause-touched g c =
+    let s = c.args.shape.now in
+    let steps = map step_value c.args.steps.now in
+    let same = same_picks c.in-Ok.picks c.len.result s.len steps c.in-Ok.ensures.picks c.in-Ok.ensures.bound c.len.ensures.value in
+    subst (λ (q : BoundedPicks). IfErr c.take_file.result (NamesTouched q)) same c.take_file.ensures.touched

@@ -30,3 +30,6 @@ returns-clause-rows g c =
     (λ all held. c.column_of.ensures.rows
     ∙ held_rows s p numbers starts all (records_of c.in_ok-values.values) (valid_of c.in_ok-validity.validity) (either_nullable NonNullable c.args.nullability) c.width-width.result (c.width-width.ensures ∙ ap width c.ptype-ptype.ensures.value) c.requires.bound
     (subst (λ (n : ℕ). AreBelow p.picks n) c.bound.ensures.value c.bound.ensures.below) c.in_ok-validity.ensures.left c.in_ok-values.ensures.records held)
+
+pub returns-in_err-validity-clause-touched : goal.returns-in_err-validity-clause-touched
+returns-in_err-validity-clause-touched g c = err_is c.from_residual.result NoMemory _ c.from_residual.ensures.1 tt
