@@ -1,9 +1,11 @@
 -- A value's cell is one of a dictionary's type.
-use Rattle.std.proofs.Common.{◌≡◌, ℕ, ◌<◌, true, length, refl, arith}
+use Rattle.std.proofs.Common.{◌≡◌, ℕ, ◌<◌, Some, true, length, refl, arith}
 use Rattle.std.proofs.lemmas.Bool.Decides.{nat_tests}
 use Rattle.vx_model.specs.Valid.{Valid, non_nullable, all_valid, all_invalid, by_column, is_fitting}
 use Rattle.vx_types.specs.Nullability.{is_nullable, either_nullable}
-use Rattle.vx_types.specs.TypeTree.{TypeTree, also_nullable}
+use Rattle.vx_types.specs.Scalar.{has_scalars}
+use Rattle.vx_types.specs.TypeTree.{TypeKind, TypeTree, also_nullable, is_int_kind, kind_width, null_kind, bool_kind, primitive_kind, decimal_kind, utf8_kind, binary_kind}
+use Rattle.vx_model.specs.Extension.{storage_kind}
 use Rattle.vx_types.specs.declared.nullability.Nullability.{Nullability}
 use Rattle.vx_types.specs.declared.nullability.Nullability.TheVariants.{NonNullable, Nullable}
 use Rattle.vx_column.specs.declared.cell.Cell.{Cell}
@@ -23,6 +25,7 @@ of_type-also cells.Null t n h = either_here t.nullability n h
 of_type-also (cells.Bit b) t n h = h
 of_type-also (cells.Bytes b) t n h = record { kind = h.kind; width = h.width }
 of_type-also (cells.List l) t n h = record { kind = h.kind; ordered = h.ordered; within = h.within }
+of_type-also (cells.Fields f) t n h = record { kind = h.kind; within = h.within }
 
 -- a null code is one of a nullable type
 pub null_code : (t : TypeTree) (n : Nullability) → is_nullable n ≡ true → is_nullable (also_nullable t n).nullability ≡ true
@@ -40,3 +43,25 @@ has_row (by_column c) n i h l =
     omega (arith, l, same)
 
 pub ruleset there = (has_row)
+
+-- ---- types that are no extensions
+
+pub stored-width : (k : TypeKind) (w : ℕ) → kind_width k ≡ Some w → storage_kind k ≡ k
+stored-width (primitive_kind p) w h = refl
+stored-width (decimal_kind p s v) w h = refl
+stored-width k w h = cc
+
+pub stored-int : (k : TypeKind) → is_int_kind k ≡ true → storage_kind k ≡ k
+stored-int (primitive_kind p) h = refl
+stored-int k h = cc
+
+pub stored-scalars : (k : TypeKind) → has_scalars k ≡ true → storage_kind k ≡ k
+stored-scalars null_kind h = refl
+stored-scalars bool_kind h = refl
+stored-scalars (primitive_kind p) h = refl
+stored-scalars (decimal_kind p s w) h = refl
+stored-scalars utf8_kind h = refl
+stored-scalars binary_kind h = refl
+stored-scalars k h = cc
+
+pub ruleset stored = (stored-width, stored-int, stored-scalars)

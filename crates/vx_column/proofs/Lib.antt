@@ -1,4 +1,6 @@
 pub mod Cells
+pub mod Fields
+pub mod Fillers
 pub mod Naturals
 pub mod NumberLists
 pub mod RowLists

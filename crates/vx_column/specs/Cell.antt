@@ -1,10 +1,13 @@
 -- One stored row.
-use Rattle.std.specs.Prelude.{◌≡◌, ℕ, ◌<◌, ◌≤◌, true, List, length, Some, slice_range}
+use Rattle.std.specs.Prelude.{◌≡◌, ℕ, ◌<◌, ◌≤◌, true, List, length, map, Option, Some, None, slice_index_or, slice_range}
 use Rattle.vx_types.specs.RowValue.{RowValue, null, bit, bytes}
 use Rattle.vx_types.specs.Nullability.{is_nullable}
 use Rattle.vx_types.specs.Scalar.{is_of_bytes, is_width_of}
-use Rattle.vx_types.specs.TypeTree.{TypeTree, is_bool_kind, type_width}
+use Rattle.vx_types.specs.TypeTree.{TypeKind, TypeTree, TypeTrees, is_bool_kind, struct_kind, type_width, types_of}
 use Rattle.vx_model.specs.Column.{Column}
+use Rattle.vx_model.specs.Columns.{are_long_past, columns_depth, types_in}
+use Rattle.vx_model.specs.Extension.{storage_type}
+use Rattle.vx_model.specs.Struct.{fields_row}
 use Rattle.vx_model.specs.Lists.{elements_type, list_row}
 use Rattle.vx_model.specs.Valid.{Valid, non_nullable, all_valid, all_invalid, by_column}
 use Rattle.vx_column.specs.declared.cell.Cell.{Cell}
@@ -16,6 +19,8 @@ row_of cells.Null = null
 row_of (cells.Bit b) = bit b
 row_of (cells.Bytes b) = bytes b.now
 row_of (cells.List l) = list_row (slice_range l.elements.now.rows l.start l.end)
+row_of (cells.Fields f) =
+    fields_row (map (λ (c : Column). slice_index_or c.rows f.row null) f.columns.now)
 
 -- how deep the column that it borrows nests
 abbrev pub cell_depth : Cell → ℕ
@@ -23,6 +28,7 @@ cell_depth cells.Null = 0
 cell_depth (cells.Bit b) = 0
 cell_depth (cells.Bytes b) = 0
 cell_depth (cells.List l) = l.elements.now.depth
+cell_depth (cells.Fields f) = columns_depth f.columns.now
 
 -- bytes are a row of this type, and as many as it says, where it says so
 pub record AreBytesOf (t : TypeTree) (b : List ℕ) : Type 0 where
@@ -35,13 +41,28 @@ pub record AreElementsOf (t : TypeTree) (c : Column) (start end : ℕ) : Type 0 
   pub ordered : start ≤ end
   pub within : end ≤ length c.rows
 
--- a null is one of a nullable type, a bit one of a bool type, bytes are of a type that has such, and
--- a list's elements are of the type that its type says
+-- the types of the fields of a struct
+abbrev pub field_types : TypeKind → Option TypeTrees
+field_types (struct_kind names ts) = Some ts
+field_types k = None
+
+-- row i of columns is one of a struct of this type
+pub record AreFieldsOf (t : TypeTree) (cs : List Column) (row : ℕ) : Type 0 where
+  pub kind : field_types t.kind ≡ Some (types_of (types_in cs))
+  pub within : are_long_past row cs ≡ true
+
+-- a null is one of a nullable type, a bit one of a bool type, bytes are of a type that has such, a
+-- list's elements are of the type that its type says, and a struct's fields of those that it says
+abbrev pub IsStoredAs : Cell → TypeTree → Type 0
+IsStoredAs cells.Null t = is_nullable t.nullability ≡ true
+IsStoredAs (cells.Bit b) t = is_bool_kind t.kind ≡ true
+IsStoredAs (cells.Bytes b) t = AreBytesOf t b.now
+IsStoredAs (cells.List l) t = AreElementsOf t l.elements.now l.start l.end
+IsStoredAs (cells.Fields f) t = AreFieldsOf t f.columns.now f.row
+
+-- the same, of a type that may be an extension of the one that it is stored as
 abbrev pub IsOfType : Cell → TypeTree → Type 0
-IsOfType cells.Null t = is_nullable t.nullability ≡ true
-IsOfType (cells.Bit b) t = is_bool_kind t.kind ≡ true
-IsOfType (cells.Bytes b) t = AreBytesOf t b.now
-IsOfType (cells.List l) t = AreElementsOf t l.elements.now l.start l.end
+IsOfType cell t = IsStoredAs cell (storage_type t)
 
 -- a validity array has row i
 abbrev pub HasRow : Valid → ℕ → Type 0

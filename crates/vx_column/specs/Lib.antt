@@ -1,5 +1,6 @@
 pub mod Bool
 pub mod Cell
+pub mod Fillers
 pub mod Flat
 pub mod Layout
 pub mod ListParts
@@ -9,6 +10,7 @@ pub mod Plain
 pub mod Records
 pub mod Shown
 pub mod Stored
+pub mod StructParts
 pub mod Text
 pub mod Truth
 pub mod Typed

@@ -8,12 +8,15 @@ use crate::boolean::BoolArray;
 use crate::constant::ConstantArray;
 use crate::decimal::DecimalArray;
 use crate::dict::DictArray;
+use crate::extension::ExtensionArray;
 use crate::filter::FilterArray;
 use crate::fixed_size_list::FixedSizeListArray;
 use crate::list::ListArray;
 use crate::listview::ListViewArray;
+use crate::map::MapArray;
 use crate::null::NullArray;
 use crate::primitive::PrimitiveArray;
+use crate::struct_::StructArray;
 use crate::varbin::VarBinArray;
 use crate::varbinview::VarBinViewArray;
 use std::alloc::Global;
@@ -55,6 +58,12 @@ pub enum Layout {
     ListView(ListViewArray),
     /// Lists of one column's elements, of one size.
     FixedSizeList(FixedSizeListArray),
+    /// List views of entries, each a struct of a key and a value.
+    Map(MapArray),
+    /// Columns side by side, each a field.
+    Struct(StructArray),
+    /// A storage column under a name.
+    Extension(ExtensionArray),
     /// One value for every row.
     Constant(ConstantArray),
     /// For each row a code that names one of the values.
@@ -113,6 +122,9 @@ impl Layout {
             Layout::List(a) => Layout::List(a.share()),
             Layout::ListView(a) => Layout::ListView(a.share()),
             Layout::FixedSizeList(a) => Layout::FixedSizeList(a.share()),
+            Layout::Map(a) => Layout::Map(a.share()),
+            Layout::Struct(a) => Layout::Struct(a.share()),
+            Layout::Extension(a) => Layout::Extension(a.share()),
             Layout::Constant(a) => Layout::Constant(a.share()),
             Layout::Dict(a) => Layout::Dict(a.share()),
             Layout::Filter(a) => Layout::Filter(a.share()),

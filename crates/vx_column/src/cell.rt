@@ -8,6 +8,7 @@ ghost use Rattle.vx_types.specs.Nullability.{is_nullable};
 ghost use Rattle.vx_column.specs.Cell.{cell_depth, row_of, IsOfType};
 
 use crate::array::{Array, Layout};
+use crate::columns::Columns;
 use crate::lists::Lists;
 use vx_types::DType;
 
@@ -22,6 +23,15 @@ pub struct ListCell<'a> {
     pub end: usize,
 }
 
+/// A row of each of some columns.
+#[derive(Clone, Copy)]
+pub struct FieldsCell<'a> {
+    /// The columns, one a field.
+    pub columns: &'a Columns,
+    /// The row.
+    pub row: usize,
+}
+
 /// A row of a column, borrowed from where it is stored.
 #[derive(Clone, Copy)]
 pub enum Cell<'a> {
@@ -33,6 +43,8 @@ pub enum Cell<'a> {
     Bytes(&'a [u8]),
     /// A list's elements.
     List(ListCell<'a>),
+    /// A struct's fields.
+    Fields(FieldsCell<'a>),
 }
 
 impl Cell<'_> {
@@ -51,7 +63,7 @@ impl Cell<'_> {
                 DType::Primitive(ptype, _) => Some(ptype.number(bytes)),
                 _ => unreachable!(),
             },
-            Cell::Bit(_) | Cell::List(_) => unreachable!(),
+            Cell::Bit(_) | Cell::List(_) | Cell::Fields(_) => unreachable!(),
         }
     }
 }
@@ -76,6 +88,9 @@ impl Array {
             Layout::List(a) => Lists::List(a).cell_at(i),
             Layout::ListView(a) => Lists::View(a).cell_at(i),
             Layout::FixedSizeList(a) => Lists::Fixed(a).cell_at(i),
+            Layout::Map(a) => Lists::Map(a).cell_at(i),
+            Layout::Struct(a) => a.cell_at(i),
+            Layout::Extension(a) => a.cell_at(i),
             Layout::Constant(a) => a.cell_at(i),
             Layout::Dict(a) => a.cell_at(i),
             Layout::Filter(a) => a.cell_at(i),

@@ -8,6 +8,7 @@ use vx_bits::NoMemory;
 use vx_shared::Shared;
 
 /// A shared list of columns of any types and lengths. A contract sees the columns, in order.
+#[cycle(array)]
 #[derive(Drop)]
 pub struct Columns {
     list: Shared<Vec<ArrayRef>>,
@@ -23,7 +24,14 @@ impl Model for Columns {
 
     ghost coded = { coded_list coded_column };
 
+    ghost use Rattle.std.proofs.Common.{arith};
+    ghost use Rattle.vx_model.specs.Columns.{columns_depth};
+
     ghost view = { λ c. c.list.items };
+
+    ghost size = { columns_depth };
+
+    ghost size_decreases = { λ a h. Prim.grind arith };
 }
 
 impl Columns {
@@ -49,6 +57,13 @@ impl Columns {
         ensures { slice_get self.now i ≡ Some result.now }
     {
         &self.list.as_ref()[i]
+    }
+
+    /// The columns, in order.
+    pub fn as_slice(&self) -> &[ArrayRef]
+        ensures { result.now ≡ self.now }
+    {
+        self.list.as_ref()
     }
 
     /// The same columns once more. It takes no memory.

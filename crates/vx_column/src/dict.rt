@@ -90,6 +90,18 @@ impl DictArray {
         }
     }
 
+    /// The same codes of other values that they name: what is left where the values take another
+    /// form. It takes no memory.
+    pub fn with_values(&self, values: ArrayRef) -> DictArray
+        requires { dict_fault (record { codes = self.now.codes; values = values }) ≡ None }
+        ensures { result ≡ record { codes = self.now.codes; values = values } }
+    {
+        DictArray {
+            codes: self.codes.share(),
+            values,
+        }
+    }
+
     /// The same column once more. It takes no memory.
     pub fn share(&self) -> DictArray
         ensures { result ≡ self.now }

@@ -1,16 +1,36 @@
 //! Columns of rows that stand where none is shown.
-ghost use Rattle.std.specs.Prelude.{◌≡◌, length, replicate, true, IfOk};
+ghost use Rattle.std.specs.Prelude.{◌≡◌, [], ◌∷◌, length, map, None, replicate, slice_index_or, true, IfOk};
 ghost use Rattle.vx_types.specs.DType.{type_of};
-ghost use Rattle.vx_types.specs.Nullability.{is_nullable};
+ghost use Rattle.vx_types.specs.RowValue.{bytes, null};
 ghost use Rattle.vx_types.specs.Scalar.{has_scalars, scalar_row};
-ghost use Rattle.vx_types.specs.TypeTree.{is_carried};
+ghost use Rattle.vx_types.specs.TypeTree.{are_carried, extension_type, fixed_type, is_carried, list_type, primitive_type, struct_type, types_of};
+ghost use Rattle.vx_types.specs.declared.nullability.Nullability.TheVariants.{NonNullable};
+ghost use Rattle.vx_types.specs.declared.ptype.PType.TheVariants.{U8};
+ghost use Rattle.vx_model.specs.Columns.{are_long, rows_across, types_in};
+ghost use Rattle.vx_model.specs.Dict.{dict_fault};
 ghost use Rattle.vx_model.specs.Filler.{filler_row, filler_value};
+ghost use Rattle.vx_model.specs.Map.{is_entry_type, map_of};
+ghost use Rattle.vx_column.specs.Fillers.{empty_views, valid_by, zero_numbers};
+ghost use Rattle.vx_column.specs.Validity.{valid_of};
 
-use crate::array::Array;
+use crate::array::{Array, ArrayRef};
+use crate::columns::Columns;
 use crate::constant::ConstantArray;
+use crate::dict::DictArray;
+use crate::extension::ExtensionArray;
+use crate::fixed_size_list::FixedSizeListArray;
+use crate::list::ListArray;
+use crate::listview::ListViewArray;
+use crate::map::MapArray;
+use crate::primitive::PrimitiveArray;
+use crate::struct_::StructArray;
+use crate::validity::Validity;
 use std::alloc::Global;
-use vx_bits::{Buffer, NoMemory};
-use vx_types::{DType, Scalar, ScalarValue};
+use vx_bits::{Buffer, NoMemory, Records};
+use vx_shared::Shared;
+use vx_types::{
+    ColumnError, DType, ExtDType, Nullability, PType, Scalar, ScalarValue, StructFields,
+};
 
 // So many zeros.
 fn zeros(alloc: Global, len: usize) -> Result<Buffer<u8>, NoMemory>
@@ -56,20 +76,236 @@ fn filler_scalar(alloc: Global, dtype: &DType) -> Result<Scalar, NoMemory>
     }
 }
 
+// Rows that are all null where the type has nulls, else all there.
+fn filler_validity(nullability: Nullability) -> Validity
+    ensures { valid_of result ≡ valid_by nullability }
+{
+    match nullability {
+        Nullability::NonNullable => Validity::NonNullable,
+        Nullability::Nullable => Validity::AllInvalid,
+    }
+}
+
+// So many numbers 0.
+fn zero_numbers(alloc: Global, len: usize) -> Result<PrimitiveArray, NoMemory>
+    ensures { IfOk result (λ a. a ≡ zero_numbers len) }
+{
+    let records = Records::W1(Buffer::from_vec(alloc, vec![in alloc; [0]; len]?)?);
+    match PrimitiveArray::try_new(PType::U8, records, Validity::NonNullable) {
+        Ok(numbers) => Ok(numbers),
+        Err(_) => unreachable!(),
+    }
+}
+
+// A list of no elements, as a column of one row.
+#[tactic(auto, using(crate::proofs::Fillers::empty_list))]
+fn filler_list(alloc: Global, elements: Array, nullability: Nullability) -> Result<Array, NoMemory>
+    requires { elements.rows ≡ [] }
+    ensures dtype { IfOk result (λ a. a.dtype ≡ list_type elements.dtype nullability) }
+    ensures rows { IfOk result
+        (λ a. a.rows ≡ filler_row (list_type elements.dtype nullability) ∷ []) }
+{
+    let validity = filler_validity(nullability);
+    let offsets = zero_numbers(alloc, 2)?;
+    match ListArray::try_new(alloc, elements.into_ref(alloc)?, offsets, validity) {
+        Ok(list) => Ok(list.into_array()),
+        Err(ColumnError::NoMemory) => Err(NoMemory),
+        Err(_) => unreachable!(),
+    }
+}
+
+// A list of so many elements that stand where none is shown, as a column of one row.
+#[tactic(auto, using(crate::proofs::Fillers::one_list))]
+fn filler_fixed(
+    alloc: Global,
+    elements: Array,
+    size: u32,
+    nullability: Nullability,
+) -> Result<Array, NoMemory>
+    requires { elements.rows ≡ replicate size (filler_row elements.dtype) }
+    ensures dtype { IfOk result (λ a. a.dtype ≡ fixed_type elements.dtype size nullability) }
+    ensures rows { IfOk result
+        (λ a. a.rows ≡ filler_row (fixed_type elements.dtype size nullability) ∷ []) }
+{
+    let validity = filler_validity(nullability);
+    match FixedSizeListArray::try_new(alloc, elements.into_ref(alloc)?, size, validity, 1) {
+        Ok(list) => Ok(list.into_array()),
+        Err(ColumnError::NoMemory) => Err(NoMemory),
+        Err(_) => unreachable!(),
+    }
+}
+
+// So many codes 0, which are one constant.
+fn zero_codes(alloc: Global, len: usize) -> Result<Array, NoMemory>
+    ensures dtype { IfOk result (λ a. a.dtype ≡ primitive_type U8 NonNullable) }
+    ensures rows { IfOk result (λ a. a.rows ≡ replicate len (bytes (0 ∷ []))) }
+{
+    let dtype = DType::Primitive(PType::U8, Nullability::NonNullable);
+    Ok(ConstantArray::new(filler_scalar(alloc, &dtype)?, len).into_array())
+}
+
+// The values that these codes name.
+fn decoded(codes: ArrayRef, values: ArrayRef) -> DictArray
+    requires { dict_fault (record { codes = codes; values = values }) ≡ None }
+    ensures { result ≡ record { codes = codes; values = values } }
+{
+    match DictArray::try_new(codes, values) {
+        Ok(rows) => rows,
+        Err(_) => unreachable!(),
+    }
+}
+
+// The one row of a column, so many times. One code is tested, and the others are the same.
+#[tactic(auto, using(crate::proofs::Fillers::one_code))]
+fn repeated(alloc: Global, column: Array, len: usize) -> Result<Array, NoMemory>
+    requires { length column.rows ≡ 1 }
+    ensures dtype { IfOk result (λ a. a.dtype ≡ column.dtype) }
+    ensures rows { IfOk result
+        (λ a. a.rows ≡ replicate len (slice_index_or column.rows 0 null)) }
+{
+    let one = zero_codes(alloc, 1)?.into_ref(alloc)?;
+    let codes = zero_codes(alloc, len)?.into_ref(alloc)?;
+    let row = decoded(one, column.into_ref(alloc)?);
+    Ok(row.with_codes(codes).into_array())
+}
+
+// The list views of one row that has none of these elements.
+#[tactic(auto, using(crate::proofs::Fillers::no_entries))]
+fn empty_views(
+    alloc: Global,
+    elements: Array,
+    nullability: Nullability,
+) -> Result<ListViewArray, NoMemory>
+    requires { elements.rows ≡ [] }
+    ensures { IfOk result (λ v. v ≡ empty_views elements nullability) }
+{
+    let validity = filler_validity(nullability);
+    let offsets = zero_numbers(alloc, 1)?;
+    let sizes = zero_numbers(alloc, 1)?;
+    match ListViewArray::try_new(alloc, elements.into_ref(alloc)?, offsets, sizes, validity) {
+        Ok(views) => Ok(views),
+        Err(ColumnError::NoMemory) => Err(NoMemory),
+        Err(_) => unreachable!(),
+    }
+}
+
+// A map of no entries, as a column of one row.
+#[tactic(auto, using(crate::proofs::Fillers::no_entries))]
+fn filler_map(alloc: Global, entries: Array, nullability: Nullability) -> Result<Array, NoMemory>
+    requires none { entries.rows ≡ [] }
+    requires entries { is_entry_type entries.dtype ≡ true }
+    ensures dtype { IfOk result
+        (λ a. a.dtype ≡ record { kind = map_of entries.dtype.kind; nullability = nullability }) }
+    ensures rows { IfOk result (λ a. a.rows ≡ filler_row
+        (record { kind = map_of entries.dtype.kind; nullability = nullability }) ∷ []) }
+{
+    match MapArray::try_new(empty_views(alloc, entries, nullability)?) {
+        Ok(maps) => Ok(maps.into_array()),
+        Err(_) => unreachable!(),
+    }
+}
+
+// Structs of these fields, of which none is to be shown.
+#[tactic(auto, using(crate::proofs::Fillers::structs))]
+fn filler_struct(
+    columns: Columns,
+    fields: &Shared<StructFields>,
+    nullability: Nullability,
+    len: usize,
+) -> Array
+    requires types { types_in columns ≡ fields.now.types }
+    requires long { are_long len columns ≡ true }
+    requires rows { rows_across columns len
+        ≡ replicate len (map filler_row fields.now.types) }
+    ensures dtype { result.dtype ≡ struct_type fields.now.names fields.now.types nullability }
+    ensures rows { result.rows ≡ replicate len
+        (filler_row (struct_type fields.now.names fields.now.types nullability)) }
+{
+    let validity = filler_validity(nullability);
+    match StructArray::try_new_with_dtype(columns, fields.share(), len, validity) {
+        Ok(structs) => structs.into_array(),
+        Err(_) => unreachable!(),
+    }
+}
+
+// The rows of the storage, under the extension's name.
+#[tactic(auto, using(crate::proofs::Fillers::extensions))]
+fn filler_extension(
+    alloc: Global,
+    ext: &Shared<ExtDType>,
+    storage: Array,
+) -> Result<Array, NoMemory>
+    requires { storage.dtype.kind ≡ ext.now.storage.kind }
+    ensures dtype { IfOk result (λ a. a.dtype
+        ≡ extension_type ext.now.name ext.now.storage storage.dtype.nullability) }
+    ensures rows { IfOk result (λ a. a.rows ≡ storage.rows) }
+{
+    match ExtensionArray::try_new(ext.share(), storage.into_ref(alloc)?) {
+        Ok(column) => Ok(column.into_array()),
+        Err(_) => unreachable!(),
+    }
+}
+
+impl Columns {
+    /// So many rows of each of these types, which are ones that columns may have; none of the rows
+    /// is to be shown. `NoMemory` alone.
+    #[cycle(filler)]
+    #[tactic(auto, using(crate::proofs::Fillers::each_filler))]
+    pub fn fillers(alloc: Global, types: &[DType], len: usize) -> Result<Columns, NoMemory>
+        requires { are_carried (types_of (map type_of types.now)) ≡ true }
+        ensures types { IfOk result (λ f. types_in f ≡ map type_of types.now) }
+        ensures long { IfOk result (λ f. are_long len f ≡ true) }
+        ensures rows { IfOk result (λ f. rows_across f len
+            ≡ replicate len (map filler_row (map type_of types.now))) }
+    {
+        let mut fillers = Vec::with_capacity(alloc, types.len())?;
+        for dtype in types {
+            fillers.push(Array::filler(alloc, dtype, len)?.into_ref(alloc)?)?;
+        }
+        Columns::new(alloc, fillers)
+    }
+}
+
 impl Array {
     /// A column of this type, which is one that a column may have, and of so many rows, none of
-    /// which is to be shown: nulls where the type has them, else zeros and empty texts. It is one
-    /// value for every row. `NoMemory` alone, and for now always where the type nests.
-    #[tactic(auto, using(vx_model::proofs::LazyRows::lazy_rows))]
+    /// which is to be shown: nulls where the type has them, else zeros, empty texts, empty lists
+    /// and maps, and lists and structs of such rows. However many rows it has, it takes the memory
+    /// of one value a level of the type. `NoMemory` alone, and for now always where the type has a
+    /// union in it.
+    #[cycle(filler)]
+    #[tactic(auto, using(vx_model::proofs::LazyRows::lazy_rows, crate::proofs::Fillers::carried_inside))]
     pub fn filler(alloc: Global, dtype: &DType, len: usize) -> Result<Array, NoMemory>
         requires { is_carried (type_of dtype.now) ≡ true }
         ensures dtype { IfOk result (λ a. a.dtype ≡ type_of dtype.now) }
         ensures rows { IfOk result
             (λ a. a.rows ≡ replicate len (filler_row (type_of dtype.now))) }
     {
-        if !dtype.has_scalars() {
-            return Err(NoMemory);
+        match dtype {
+            DType::List(element, n) => {
+                let elements = Array::filler(alloc, element.dtype(), 0)?;
+                repeated(alloc, filler_list(alloc, elements, *n)?, len)
+            }
+            DType::FixedSizeList(element, size, n) => {
+                let elements = Array::filler(alloc, element.dtype(), *size as usize)?;
+                repeated(alloc, filler_fixed(alloc, elements, *size, *n)?, len)
+            }
+            DType::Map(fields, n) => {
+                let columns = Columns::fillers(alloc, fields.types(), 0)?;
+                let entries = filler_struct(columns, fields, Nullability::NonNullable, 0);
+                repeated(alloc, filler_map(alloc, entries, *n)?, len)
+            }
+            DType::Struct(fields, n) => {
+                let columns = Columns::fillers(alloc, fields.types(), len)?;
+                Ok(filler_struct(columns, fields, *n, len))
+            }
+            DType::Extension(ext, n) => {
+                let storage = ext.storage().with_nullability(*n);
+                filler_extension(alloc, ext, Array::filler(alloc, &storage, len)?)
+            }
+            _ if dtype.has_scalars() => {
+                Ok(ConstantArray::new(filler_scalar(alloc, dtype)?, len).into_array())
+            }
+            _ => Err(NoMemory),
         }
-        Ok(ConstantArray::new(filler_scalar(alloc, dtype)?, len).into_array())
     }
 }

@@ -1,7 +1,8 @@
 //! The layouts of lists, taken together.
-ghost use Rattle.std.specs.Prelude.{◌≡◌, ◌≤◌, ◌<◌, length, slice_index_or, true};
+ghost use Rattle.std.specs.Prelude.{◌≡◌, ◌≤◌, ◌<◌, Some, length, slice_index_or, true};
 ghost use Rattle.vx_types.specs.RowValue.{null};
-ghost use Rattle.vx_model.specs.Lists.{lists_column};
+ghost use Rattle.vx_model.specs.Extension.{storage_kind};
+ghost use Rattle.vx_model.specs.Lists.{elements_type, lists_column};
 ghost use Rattle.vx_model.specs.Valid.{is_fitting};
 ghost use Rattle.vx_column.specs.Cell.{cell_depth, row_of, IsOfType};
 ghost use Rattle.vx_column.specs.Lists.{spans_of};
@@ -12,6 +13,7 @@ use crate::cell::{Cell, ListCell};
 use crate::fixed_size_list::FixedSizeListArray;
 use crate::list::ListArray;
 use crate::listview::ListViewArray;
+use crate::map::MapArray;
 use crate::validity::Validity;
 
 /// A borrowed column of a layout of lists: a row is the elements of a span.
@@ -23,6 +25,8 @@ pub enum Lists<'a> {
     View(&'a ListViewArray),
     /// Of one size.
     Fixed(&'a FixedSizeListArray),
+    /// Of entries.
+    Map(&'a MapArray),
 }
 
 impl<'a> Lists<'a> {
@@ -34,17 +38,22 @@ impl<'a> Lists<'a> {
             Lists::List(array) => array.len(),
             Lists::View(array) => array.len(),
             Lists::Fixed(array) => array.len(),
+            Lists::Map(array) => array.entries().len(),
         }
     }
 
     /// The column that has the elements of all rows.
+    #[tactic(auto, using(crate::proofs::Fields::typed))]
     pub fn elements(self) -> &'a ArrayRef
-        ensures { result.now ≡ (spans_of self.entry).elements }
+        ensures value { result.now ≡ (spans_of self.entry).elements }
+        ensures typed { elements_type (storage_kind (spans_of self.entry).kind)
+            ≡ Some (spans_of self.entry).elements.dtype }
     {
         match self {
             Lists::List(array) => array.elements(),
             Lists::View(array) => array.elements(),
             Lists::Fixed(array) => array.elements(),
+            Lists::Map(array) => array.entries().elements(),
         }
     }
 
@@ -59,6 +68,7 @@ impl<'a> Lists<'a> {
             Lists::List(array) => array.validity(),
             Lists::View(array) => array.validity(),
             Lists::Fixed(array) => array.validity(),
+            Lists::Map(array) => array.entries().validity(),
         }
     }
 
@@ -73,6 +83,7 @@ impl<'a> Lists<'a> {
             Lists::List(array) => array.span_at(i),
             Lists::View(array) => array.span_at(i),
             Lists::Fixed(array) => array.span_at(i),
+            Lists::Map(array) => array.entries().span_at(i),
         }
     }
 

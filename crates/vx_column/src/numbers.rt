@@ -17,7 +17,7 @@ impl Array {
     {
         match self.cell_at(i) {
             Cell::Null => false,
-            Cell::Bit(_) | Cell::Bytes(_) | Cell::List(_) => true,
+            Cell::Bit(_) | Cell::Bytes(_) | Cell::List(_) | Cell::Fields(_) => true,
         }
     }
 

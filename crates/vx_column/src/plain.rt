@@ -1,7 +1,8 @@
 //! What takes no memory: slices of plain columns, and the records of columns that store some.
 ghost use Rattle.std.specs.Prelude.{◌≡◌, ◌≤◌, ◌&&◌, length, option_map, is_some, IfSome};
 ghost use Rattle.vx_model.specs.Constant.{constant_column};
-ghost use Rattle.vx_model.specs.Plain.{is_constant_layout, stores_records};
+ghost use Rattle.vx_model.specs.ListView.{listview_column};
+ghost use Rattle.vx_model.specs.Plain.{is_constant_layout, is_listview_layout, stores_records};
 ghost use Rattle.vx_model.specs.Records.{records_column};
 ghost use Rattle.vx_model.specs.Step.{IsPlainSlice};
 ghost use Rattle.vx_model.specs.Valid.{is_bools};
@@ -9,6 +10,7 @@ ghost use Rattle.vx_column.specs.Plain.{HasRecords};
 ghost use Rattle.vx_column.specs.Shown.{AreShownRowsOf};
 
 use crate::array::{Array, Layout};
+use crate::listview::ListViewArray;
 use crate::records::RecordArray;
 use vx_bits::{BitBuffer, Records};
 use vx_types::Scalar;
@@ -44,6 +46,9 @@ impl Array {
             | Layout::List(_)
             | Layout::ListView(_)
             | Layout::FixedSizeList(_)
+            | Layout::Map(_)
+            | Layout::Struct(_)
+            | Layout::Extension(_)
             | Layout::Constant(_)
             | Layout::Dict(_)
             | Layout::Filter(_) => None,
@@ -87,6 +92,17 @@ impl Array {
     {
         match self.layout() {
             Layout::Constant(a) => Some(a.scalar()),
+            _ => None,
+        }
+    }
+
+    /// Its list views; some exactly where it is of layout `ListView`.
+    pub fn as_listview(&self) -> Option<&ListViewArray>
+        ensures value { IfSome result (λ v. listview_column v.now ≡ self.now) }
+        ensures told { is_some result ≡ is_listview_layout self.now.layout }
+    {
+        match self.layout() {
+            Layout::ListView(a) => Some(a),
             _ => None,
         }
     }

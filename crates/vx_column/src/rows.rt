@@ -1,10 +1,12 @@
 //! Reading one row whole.
-ghost use Rattle.std.specs.Prelude.{◌≡◌, ◌<◌, ◌≤◌, length, IfOk, slice_index_or, slice_range};
+ghost use Rattle.std.specs.Prelude.{◌≡◌, ◌<◌, ◌≤◌, length, map, true, IfOk, slice_index_or, slice_range};
 ghost use Rattle.vx_types.specs.Row.{row_value, rows_in};
 ghost use Rattle.vx_types.specs.RowValue.{null};
+ghost use Rattle.vx_model.specs.Columns.{are_long_past};
 
 use crate::array::Array;
 use crate::cell::Cell;
+use crate::columns::Columns;
 use std::alloc::Global;
 use vx_bits::NoMemory;
 use vx_types::{ByteList, Row, RowList};
@@ -19,6 +21,21 @@ fn rows_from(alloc: Global, column: &Array, start: usize, end: usize) -> Result<
 {
     let mut rows = Vec::with_capacity(alloc, end - start)?;
     for i in start..end {
+        rows.push(column.row_at(alloc, i)?)?;
+    }
+    Ok(RowList::from_vec(rows))
+}
+
+// Row `i` of each column.
+#[cycle(rows)]
+#[tactic(auto, using(crate::proofs::RowLists::row_of_each))]
+fn fields_at(alloc: Global, columns: &Columns, i: usize) -> Result<RowList, NoMemory>
+    requires { are_long_past i columns.now ≡ true }
+    ensures { IfOk result (λ r. rows_in r
+        ≡ map (λ c. slice_index_or c.rows i null) columns.now) }
+{
+    let mut rows = Vec::with_capacity(alloc, columns.len())?;
+    for column in columns.as_slice() {
         rows.push(column.row_at(alloc, i)?)?;
     }
     Ok(RowList::from_vec(rows))
@@ -43,6 +60,9 @@ impl Array {
                 list.start,
                 list.end,
             )?)),
+            Cell::Fields(fields) => {
+                Ok(Row::Fields(fields_at(alloc, fields.columns, fields.row)?))
+            }
         }
     }
 }

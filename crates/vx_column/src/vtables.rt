@@ -1,6 +1,6 @@
 //! The layouts as types.
 ghost use Rattle.vx_types.specs.declared.layout_name.LayoutName.{LayoutName};
-ghost use Rattle.vx_types.specs.declared.layout_name.LayoutName.TheVariants.{Null as NullName, Bool as BoolName, Primitive as PrimitiveName, Decimal as DecimalName, VarBin as VarBinName, VarBinView as VarBinViewName, List as ListName, ListView as ListViewName, FixedSizeList as FixedSizeListName, Constant as ConstantName, Dict as DictName, Filter as FilterName};
+ghost use Rattle.vx_types.specs.declared.layout_name.LayoutName.TheVariants.{Null as NullName, Bool as BoolName, Primitive as PrimitiveName, Decimal as DecimalName, VarBin as VarBinName, VarBinView as VarBinViewName, List as ListName, ListView as ListViewName, FixedSizeList as FixedSizeListName, Map as MapName, Struct as StructName, Extension as ExtensionName, Constant as ConstantName, Dict as DictName, Filter as FilterName};
 
 use vx_types::LayoutName;
 
@@ -100,6 +100,36 @@ impl VTable for FixedSizeList {
     const NAME: LayoutName = LayoutName::FixedSizeList;
 
     ghost NAME = { FixedSizeListName };
+}
+
+/// Layout `Map`.
+#[derive(Debug, Clone, Copy, Default)]
+pub struct Map;
+
+impl VTable for Map {
+    const NAME: LayoutName = LayoutName::Map;
+
+    ghost NAME = { MapName };
+}
+
+/// Layout `Struct`.
+#[derive(Debug, Clone, Copy, Default)]
+pub struct Struct;
+
+impl VTable for Struct {
+    const NAME: LayoutName = LayoutName::Struct;
+
+    ghost NAME = { StructName };
+}
+
+/// Layout `Extension`.
+#[derive(Debug, Clone, Copy, Default)]
+pub struct Extension;
+
+impl VTable for Extension {
+    const NAME: LayoutName = LayoutName::Extension;
+
+    ghost NAME = { ExtensionName };
 }
 
 /// Layout `Constant`.

@@ -21,3 +21,8 @@ pub mod Spans
 pub mod ListRows
 pub mod ListSteps
 pub mod ListForms
+pub mod Across
+pub mod NestedSteps
+pub mod StructSteps
+pub mod ExtensionSteps
+pub mod MapSteps

@@ -1,12 +1,7 @@
 -- Lists over other columns of elements: the same elements stored otherwise, and those of a slice.
-use Rattle.std.proofs.Common.{◌≡◌, ℕ, zero, suc, ◌+◌, ◌-◌, ◌*◌, ◌≤◌, ◌<◌, Bool, true, false, List, [], ◌∷◌, map, length, take, drop, slice_range, None, Some, refl, sym, ap, ap₂, ◌∙◌, arith}
-use Rattle.std.specs.Prelude.{◌==◌, if◌then◌else◌}
+use Rattle.std.proofs.Common.{◌≡◌, ℕ, zero, suc, ◌+◌, ◌-◌, ◌*◌, ◌≤◌, true, false, List, ◌∷◌, map, length, take, drop, slice_range, None, refl, sym, ap, ap₂, ◌∙◌, arith}
+use Rattle.std.specs.Prelude.{◌==◌}
 use Rattle.std.proofs.lemmas.Bool.Decides.{nat_tests}
-use Rattle.std.proofs.lemmas.List.{drop-take, length-map}
-use Rattle.vx_types.specs.RowValue.{RowValue}
-use Rattle.vx_types.specs.declared.nullability.Nullability.{Nullability}
-use Rattle.vx_types.specs.declared.error.ColumnError.{ColumnError}
-use Rattle.vx_types.specs.declared.error.ColumnError.TheVariants.{WrongType, WrongLength, BadValidity, BadOffsets, BadSizes}
 use Rattle.vx_numbers.specs.Offsets.{items_in}
 use Rattle.vx_model.specs.Column.{Column}
 use Rattle.vx_model.specs.FixedSizeList.{FixedParts, fixed_fault, fixed_spans, runs_from}

@@ -1,6 +1,6 @@
 -- The rows of the layouts of lists.
-use Rattle.std.proofs.Common.{◌≡◌, ℕ, zero, suc, ◌+◌, ◌-◌, ◌*◌, ◌<◌, ◌≤◌, Bool, true, false, List, [], ◌∷◌, map, length, get_or, slice_range, None, Some, refl, sym, ap, ap₂, ◌∙◌, arith}
-use Rattle.std.specs.Prelude.{if◌then◌else◌, ℤ, pos, ◌==◌, ◌&&◌}
+use Rattle.std.proofs.Common.{◌≡◌, ℕ, ◌+◌, ◌-◌, ◌*◌, ◌<◌, ◌≤◌, Bool, true, false, [], length, get_or, slice_range, None, Some, refl, sym, ap, ◌∙◌, arith}
+use Rattle.std.specs.Prelude.{if◌then◌else◌, pos, ◌==◌}
 use Rattle.std.specs.List.{list_all}
 use Rattle.std.proofs.lemmas.Bool.Decides.{nat_tests}
 use Rattle.std.proofs.lemmas.List.{length-map, get_or-map}
@@ -9,16 +9,15 @@ use Rattle.vx_types.specs.TypeTree.{TypeTree, is_carried}
 use Rattle.vx_types.specs.declared.nullability.Nullability.{Nullability}
 use Rattle.vx_types.specs.declared.error.ColumnError.{ColumnError}
 use Rattle.vx_types.specs.declared.error.ColumnError.TheVariants.{WrongType, WrongLength, BadValidity, BadOffsets, BadSizes}
-use Rattle.vx_numbers.specs.Offsets.{are_offsets, spans, items_in, offset_positions}
+use Rattle.vx_numbers.specs.Offsets.{are_offsets, items_in, offset_positions}
 use Rattle.vx_numbers.specs.Positions.{position_of}
 use Rattle.vx_numbers.proofs.Ascending.{le_first, le_second, offset_ascends, offset_value, offset_within}
-use Rattle.vx_model.specs.Valid.{Valid, is_fitting, is_present}
+use Rattle.vx_model.specs.Valid.{is_fitting, is_present}
 use Rattle.vx_model.specs.Numbers.{integer_by, integers_of}
-use Rattle.vx_model.specs.FixedSizeList.{FixedParts, fixed_fault, fixed_of, fixed_spans, fixed_column, runs_from}
+use Rattle.vx_model.specs.FixedSizeList.{FixedParts, fixed_fault, fixed_of, fixed_spans, fixed_column}
 use Rattle.vx_model.specs.List.{ListParts, list_fault, list_of, list_spans, list_column}
-use Rattle.vx_model.specs.ListView.{ListViewParts, are_as_many, are_sizes, are_view_types, are_views, is_natural, listview_fault, listview_spans, listview_column, view_spans}
+use Rattle.vx_model.specs.ListView.{ListViewParts, are_as_many, are_sizes, are_view_types, are_views, is_natural, listview_fault, listview_spans, listview_column}
 use Rattle.vx_model.specs.Lists.{ListsParts, list_row, lists_of, stored_lists, lists_column}
-use Rattle.vx_model.specs.Records.{RecordParts}
 use Rattle.vx_model.specs.VarBin.{are_integers, row_count}
 use Rattle.vx_model.proofs.Spans.{length-spans, get_or-spans, length-view_spans, get_or-view_spans, views_within, length-runs_from, get_or-runs_from, run_within, natural_value}
 use Rattle.vx_model.proofs.StoredRows.{length-stored_rows, get_or-stored_rows}

@@ -1,35 +1,21 @@
 -- What a step leaves of lists makes what it leaves of their column.
-use Rattle.std.proofs.Common.{◌≡◌, ℕ, ◌+◌, ◌≤◌, Bool, true, false, List, [], ◌∷◌, map, length, max, slice_range, Option, refl, sym, ap, ap₂, ◌∙◌, subst, arith}
-use Rattle.std.specs.Prelude.{◌&&◌, ◌||◌, if◌then◌else◌}
+use Rattle.std.proofs.Common.{◌≡◌, ℕ, ◌≤◌, Bool, true, false, List, [], ◌∷◌, map, length, slice_range, Option, refl, sym, ap, ap₂, ◌∙◌, arith}
 use Rattle.std.specs.List.{items_where_true}
 use Rattle.std.proofs.lemmas.List.{length-map}
-use Rattle.vx_types.specs.TypeTree.{TypeKind, TypeTree}
 use Rattle.vx_types.specs.RowValue.{RowValue, null}
 use Rattle.vx_types.specs.declared.nullability.Nullability.{Nullability}
 use Rattle.vx_take.specs.Picks.{at}
 use Rattle.vx_numbers.specs.Offsets.{items_in}
 use Rattle.vx_model.specs.Column.{Column}
-use Rattle.vx_model.specs.Valid.{Valid, is_constant_form, is_fitting, is_flat_cover, nullability_by, present_bits, shown_rows, stored_rows, valid_size, IsLeft, IsAsPlain}
-use Rattle.vx_model.specs.Plain.{is_in_place, is_lazy_layout, is_null_layout, is_plain, is_row_layout, is_unwrapped}
+use Rattle.vx_model.specs.Valid.{Valid, is_fitting, nullability_by, present_bits, shown_rows, stored_rows, IsLeft, IsAsPlain}
+use Rattle.vx_model.specs.Plain.{is_in_place, is_lazy_layout}
 use Rattle.vx_model.specs.Lists.{ListsParts, kept_lists, list_row, lists_column, lists_of, stored_lists}
 use Rattle.vx_model.specs.Step.{IsStep, IsCut, IsSlice}
 use Rattle.vx_model.proofs.Items.{map-slice_range, map-items_where_true}
 use Rattle.vx_model.proofs.Steps.{slice-stored, filter-stored}
 use Rattle.vx_model.proofs.Takes.{take-stored}
 use Rattle.vx_model.proofs.ShownRows.{length-present_bits}
-use Rattle.vx_model.proofs.ListRows.{items-lists}
-
--- such a column is neither unwrapped nor plain
-neither : (a b c : Bool) → (a || b) ≡ false → (a || (b && c)) ≡ false
-neither false false c h = refl
-neither false true c h = cc
-neither true b c h = cc
-
-not_unwrapped : (p : ListsParts) → is_in_place p.layout ≡ false → is_unwrapped (lists_column p) ≡ false
-not_unwrapped p h = neither (is_null_layout p.layout) (is_row_layout p.layout) (is_flat_cover (lists_column p).cover) h
-
-not_plain : (p : ListsParts) → is_in_place p.layout ≡ false → is_plain (lists_column p) ≡ false
-not_plain p h = neither (is_null_layout p.layout) (is_row_layout p.layout) (is_constant_form (lists_column p).cover) h
+use Rattle.vx_model.proofs.NestedSteps.{is_cut-nested, is_step-nested}
 
 -- ---- lists of the rows that are there
 
@@ -62,22 +48,12 @@ module _ (p q : ListsParts) (from : is_in_place p.layout ≡ false) (to : is_laz
   -- a step whose rows and validity are these
   pub is_step-lists : (left : List RowValue) (n : Nullability) (bits : List Bool) → stored_rows q.valid (map list_row (lists_of q)) ≡ left → IsLeft p.valid n bits q.valid → IsStep (lists_column p) left (record { kind = p.kind; nullability = n }) (lists_column q)
   is_step-lists left n bits rows now =
-      record {
-        rows = rows;
-        dtype = ap₂ (λ (k : TypeKind) (m : Nullability). let t : TypeTree = record { kind = k; nullability = m } in t) kind now.nullability;
-        layout = λ h. let no : true ≡ false = sym h ∙ from in cc;
-        unwrapped = λ h. let no : true ≡ false = sym h ∙ not_unwrapped p from in cc;
-        direct = λ _. to;
-      }
+      is_step-nested (stored_lists p) (stored_lists q) from to kind left bits rows n now
 
   -- the same of a step that keeps the type
   pub is_cut-lists : (left : List RowValue) (bits : List Bool) → stored_rows q.valid (map list_row (lists_of q)) ≡ left → IsLeft p.valid (nullability_by p.valid) bits q.valid → IsAsPlain p.valid q.valid → q.elements.depth ≤ p.elements.depth → IsCut (lists_column p) left (lists_column q)
   is_cut-lists left bits rows now plain inner =
-      record {
-        step = is_step-lists left (nullability_by p.valid) bits rows now;
-        plain = λ h. let no : true ≡ false = sym h ∙ not_plain p from in cc;
-        depth = omega (arith, plain.depth, inner);
-      }
+      is_cut-nested (stored_lists p) (stored_lists q) from to kind left bits rows now plain inner
 
   module _ (fit : is_fitting p.valid (length (stored_lists p).items) ≡ true) where
     pub is_slice-lists : (s e : ℕ) → s ≤ e → e ≤ length (stored_lists p).items → lists_of q ≡ slice_range (lists_of p) s e → IsLeft p.valid (nullability_by p.valid) (slice_range (present_bits p.valid (length (stored_lists p).items)) s e) q.valid → IsAsPlain p.valid q.valid → q.elements.depth ≤ p.elements.depth → IsSlice (lists_column p) s e (lists_column q)

@@ -1,16 +1,14 @@
 -- Spans of items: those between offsets, those of views, and those of one size.
-use Rattle.std.proofs.Common.{◌≡◌, ℕ, zero, suc, ◌+◌, ◌-◌, ◌*◌, ◌<◌, ◌≤◌, Bool, true, false, List, [], ◌∷◌, map, length, get_or, take, drop, slice_range, refl, sym, ap, ap₂, ◌∙◌, arith}
-use Rattle.std.specs.Prelude.{ℤ, pos, negsuc, int_le, nat_le, ◌&&◌}
+use Rattle.std.proofs.Common.{◌≡◌, ℕ, zero, suc, ◌+◌, ◌-◌, ◌*◌, ◌<◌, ◌≤◌, true, List, [], ◌∷◌, length, get_or, take, drop, slice_range, refl, ap, ◌∙◌, arith}
+use Rattle.std.specs.Prelude.{ℤ, pos, negsuc, nat_le}
 use Rattle.std.specs.List.{list_all}
 use Rattle.std.proofs.lemmas.Bool.Decides.{nat_tests}
 use Rattle.std.proofs.lemmas.Int.{ints}
-use Rattle.std.proofs.lemmas.List.{length-map, get_or-map}
-use Rattle.vx_numbers.specs.Offsets.{offset_positions, spans, items_in, lists_at}
+use Rattle.vx_numbers.specs.Offsets.{offset_positions, spans}
 use Rattle.vx_numbers.specs.Positions.{position_of}
 use Rattle.vx_numbers.proofs.Ascending.{le_first, le_second}
 use Rattle.vx_model.specs.FixedSizeList.{runs_from}
 use Rattle.vx_model.specs.ListView.{are_views, is_natural, view_spans}
-use Rattle.vx_model.proofs.Items.{map-slice_range}
 
 -- ---- between offsets
 

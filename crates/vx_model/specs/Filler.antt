@@ -1,10 +1,9 @@
 -- A row that stands where no row is shown.
-use Rattle.std.specs.Prelude.{ℕ, List, [], ◌∷◌, replicate, false, if◌then◌else◌}
+use Rattle.std.specs.Prelude.{[], replicate, false, if◌then◌else◌}
 use Rattle.vx_types.specs.Nullability.{is_nullable}
 use Rattle.vx_types.specs.PType.{width}
-use Rattle.vx_types.specs.RowValue.{RowValue, RowValues, null, bit, bytes, list, fields, tagged, none, more, row_values}
+use Rattle.vx_types.specs.RowValue.{RowValue, RowValues, null, bit, bytes, list, fields, none, more, row_values}
 use Rattle.vx_types.specs.TypeTree.{TypeKind, TypeTree, TypeTrees, null_kind, bool_kind, primitive_kind, decimal_kind, utf8_kind, binary_kind, list_kind, fixed_kind, map_kind, struct_kind, union_kind, extension_kind, no_types, more_types}
-use Rattle.vx_types.specs.declared.nullability.Nullability.{Nullability}
 
 abbrev mutual
   -- zeros, an empty text, or an empty list; inside it, a null where a type has one

@@ -1,5 +1,5 @@
 -- Layout `List`: lists whose elements stand one after another, cut by offsets.
-use Rattle.std.specs.Prelude.{length, List, Option, Some, None, if◌then◌else◌, refl}
+use Rattle.std.specs.Prelude.{length, Option, Some, None, if◌then◌else◌, refl}
 use Rattle.std.specs.Coded.{Coded, code_by, coded×}
 use Rattle.vx_types.specs.TypeTree.{TypeKind, TypeTree, list_kind}
 use Rattle.vx_types.specs.declared.layout_name.LayoutName.TheVariants.{List as ListLayout}

@@ -1,5 +1,5 @@
 -- Layout `ListView`: lists that each have an offset and a size.
-use Rattle.std.specs.Prelude.{ℕ, ℤ, pos, int_le, nat_le, ◌+◌, ◌==◌, ◌&&◌, Bool, true, false, length, List, [], ◌∷◌, Option, Some, None, if◌then◌else◌, refl}
+use Rattle.std.specs.Prelude.{ℕ, ℤ, pos, int_le, nat_le, ◌+◌, ◌==◌, ◌&&◌, Bool, true, length, List, [], ◌∷◌, Option, Some, None, if◌then◌else◌, refl}
 use Rattle.std.specs.Coded.{Coded, code_by, coded×}
 use Rattle.std.specs.List.{list_all}
 use Rattle.vx_types.specs.declared.layout_name.LayoutName.TheVariants.{ListView as ListViewLayout}

@@ -13,6 +13,10 @@ abbrev pub is_constant_layout : LayoutName → Bool
 is_constant_layout layouts.Constant = true
 is_constant_layout t = false
 
+abbrev pub is_listview_layout : LayoutName → Bool
+is_listview_layout layouts.ListView = true
+is_listview_layout t = false
+
 -- layouts whose rows are worked out when they are read
 abbrev pub is_lazy_layout : LayoutName → Bool
 is_lazy_layout layouts.Constant = true

@@ -23,7 +23,7 @@ pub record StoredParts : Type 0 where
 abbrev pub stored_column : StoredParts → Column
 stored_column p =
     record (bare_column (record { kind = p.kind; nullability = nullability_by p.valid })
-    (stored_rows p.valid p.items) p.layout (max p.inner (valid_size p.valid) + 3)) {
+    (stored_rows p.valid p.items) p.layout (max p.inner (valid_size p.valid) + 4)) {
       cover = cover_by p.valid;
       stored = p.records;
     }

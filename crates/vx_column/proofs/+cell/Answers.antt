@@ -9,6 +9,7 @@ use Rattle.vx_column.specs.Validity.{valid_of}
 use Rattle.vx_column.specs.declared.validity.Validity.{Validity}
 use Rattle.vx_column.proofs.Cells.{has_row}
 use Rattle.vx_model.proofs.Texts.{rows-views, shown-views}
+use Rattle.vx_model.proofs.StructSteps.{rows-struct, shown-struct}
 use Rattle.vx_column.proofs.+cell.Goals as goal
 
 pub varbinview::VarBinViewArray::cell_at-returns-then-is_valid_at-clause-row :
@@ -34,3 +35,10 @@ validity::Validity::is_valid_at-cell_at-requires t c =
       omega (arith, ap (λ (v : Validity). valid_size (valid_of v)) c.in-Array.is, ap (λ (k : Column). k.depth) same),
       omega (arith, row, ap (λ (k : Column). length k.rows) same),
     )
+
+pub struct_::StructArray::cell_at-returns-then-is_valid_at-clause-row :
+    goal.struct_::StructArray::cell_at-returns-then-is_valid_at-clause-row
+struct_::StructArray::cell_at-returns-then-is_valid_at-clause-row t c =
+    let p = c.args.self.now in let h = c.validity-validity.ensures.valid in
+    let there = ap (λ v. is_present v c.args.i) (sym c.validity-validity.ensures.value) ∙ sym c.is_valid_at.ensures ∙ c.if-is_valid_at.true in
+    rw c.fields-columns.ensures.value (shown-struct p h c.args.i (omega (arith, c.requires, rows-struct p h)) there)

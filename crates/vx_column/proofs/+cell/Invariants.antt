@@ -4,6 +4,8 @@ use Rattle.std.specs.Prelude.{max}
 use Rattle.vx_model.specs.Dict.{dict_size}
 use Rattle.vx_model.specs.Filter.{filter_size}
 use Rattle.vx_model.specs.Valid.{valid_size}
+use Rattle.vx_model.specs.Columns.{columns_depth}
+use Rattle.vx_model.specs.Extension.{extension_size}
 use Rattle.vx_column.specs.Lists.{spans_of}
 use Rattle.vx_column.specs.Validity.{valid_of}
 use Rattle.vx_column.proofs.+cell.Given as goal
@@ -37,3 +39,11 @@ decreases-varbin::VarBinArray::cell_at l = valid_size l.self.now.valid + 1
 abbrev pub decreases-varbinview::VarBinViewArray::cell_at :
     goal.decreases-varbinview::VarBinViewArray::cell_at
 decreases-varbinview::VarBinViewArray::cell_at l = valid_size l.self.now.valid + 1
+
+abbrev pub decreases-struct_::StructArray::cell_at : goal.decreases-struct_::StructArray::cell_at
+decreases-struct_::StructArray::cell_at l =
+    max (columns_depth l.self.now.columns) (valid_size l.self.now.valid) + 2
+
+abbrev pub decreases-extension::ExtensionArray::cell_at :
+    goal.decreases-extension::ExtensionArray::cell_at
+decreases-extension::ExtensionArray::cell_at l = extension_size l.self.now
