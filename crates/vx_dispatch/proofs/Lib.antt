@@ -2,3 +2,5 @@ pub mod Codes
 pub mod Results
 pub mod RunTakes
 pub mod ListSteps
+pub mod Maps
+pub mod EachColumn

@@ -80,7 +80,7 @@ pub(crate) fn take_of(
 }
 
 // The same picks once more.
-fn copied(alloc: Global, picks: &Picks) -> Result<Picks, NoMemory>
+pub(crate) fn copied(alloc: Global, picks: &Picks) -> Result<Picks, NoMemory>
     ensures { IfOk result (λ p. p ≡ picks.now) }
 {
     let mut copy = Picks::with_capacity(alloc, picks.bound(), picks.len())?;
@@ -129,4 +129,19 @@ pub(crate) fn execute_of(
     let values = execute(alloc, array.values(), policy)?;
     let named = column_picks(alloc, &codes, values.len())?;
     take_picks(alloc, &values, named, codes.dtype().nullability(), policy)
+}
+
+/// The same codes, of the values executed.
+#[cycle(execute)]
+#[tactic(auto, using(crate::proofs::Codes::other_values))]
+pub(crate) fn execute_values(
+    alloc: Global,
+    array: &DictArray,
+    policy: &Policy,
+) -> Result<Array, NoMemory>
+    ensures { IfOk result (IsStep (dict_column array.now) (dict_column array.now).rows
+        (dict_column array.now).dtype) }
+{
+    let values = execute(alloc, array.values(), policy)?;
+    Ok(array.with_values(values.into_ref(alloc)?).into_array())
 }

@@ -4,7 +4,7 @@ ghost use Rattle.vx_types.specs.TypeTree.{is_flat};
 ghost use Rattle.vx_model.specs.Plain.{is_lazy_layout, is_unwrapped};
 ghost use Rattle.vx_model.specs.Step.{IsStep};
 
-use crate::{constant, dict, filter_layout, lists, stored};
+use crate::{constant, dict, extension, filter_layout, lists, stored, struct_};
 use std::alloc::Global;
 use vx_bits::NoMemory;
 use vx_column::{Array, Layout, Lists, Stored};
@@ -13,6 +13,7 @@ use vx_mask::Policy;
 /// The same rows and type, unwrapped where the type is flat, and of no lazy layout. `NoMemory`
 /// alone, and never where the column is unwrapped.
 #[cycle(execute)]
+#[tactic(auto, using(crate::proofs::Maps::maps))]
 pub fn execute(alloc: Global, array: &Array, policy: &Policy) -> Result<Array, NoMemory>
     ensures same { IfOk result (IsStep array.now array.now.rows array.now.dtype) }
     ensures unwrapped { is_flat array.now.dtype ≡ true
@@ -30,6 +31,13 @@ pub fn execute(alloc: Global, array: &Array, policy: &Policy) -> Result<Array, N
         Layout::List(a) => lists::execute_of(alloc, Lists::List(a), policy),
         Layout::ListView(a) => lists::execute_of(alloc, Lists::View(a), policy),
         Layout::FixedSizeList(a) => lists::execute_of(alloc, Lists::Fixed(a), policy),
+        Layout::Map(a) => {
+            // its entries are structs, so that no map is flat
+            let _ = a.entries();
+            lists::execute_of(alloc, Lists::Map(a), policy)
+        }
+        Layout::Struct(a) => struct_::execute_of(alloc, a, policy),
+        Layout::Extension(a) => extension::execute_of(alloc, a, policy),
         Layout::Constant(a) => constant::execute_of(alloc, a),
         Layout::Dict(a) => dict::execute_of(alloc, a, policy),
         Layout::Filter(a) => filter_layout::execute_of(alloc, a, policy),

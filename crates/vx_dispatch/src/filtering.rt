@@ -6,7 +6,10 @@ ghost use Rattle.vx_model.specs.Plain.{is_null_layout, is_plain};
 ghost use Rattle.vx_model.specs.Step.{IsCut};
 
 use crate::slicing::slice;
-use crate::{constant, dict, filter_layout, fixed_size_list, list, listview, null, stored};
+use crate::{
+    constant, dict, extension, filter_layout, fixed_size_list, list, listview, map, null, stored,
+    struct_,
+};
 use std::alloc::Global;
 use vx_bits::NoMemory;
 use vx_column::{Array, Layout, Stored};
@@ -35,6 +38,9 @@ pub(crate) fn filter_values(
         Layout::List(a) => list::filter_of(alloc, a, mask, policy),
         Layout::ListView(a) => listview::filter_of(alloc, a, mask, policy),
         Layout::FixedSizeList(a) => fixed_size_list::filter_of(alloc, a, mask, policy),
+        Layout::Map(a) => map::filter_of(alloc, a, mask, policy),
+        Layout::Struct(a) => struct_::filter_of(alloc, a, mask, policy),
+        Layout::Extension(a) => extension::filter_of(alloc, a, mask, policy),
         Layout::Constant(a) => Ok(constant::filter_of(a, mask)),
         Layout::Dict(a) => dict::filter_of(alloc, a, mask, policy),
         Layout::Filter(a) => filter_layout::filter_of(alloc, a, mask, policy),

@@ -93,24 +93,26 @@ pub(crate) fn filter_of(
 pub(crate) fn take_of(
     alloc: Global,
     array: &FixedSizeListArray,
-    picks: &Picks,
+    picks: Picks,
     nullability: Nullability,
     policy: &Policy,
 ) -> Result<Array, NoMemory>
-    requires bound { picks.now.bound ≡ length (fixed_column array.now).rows }
-    requires there { nullability ≡ NonNullable → AllThere picks.now.picks }
-    ensures { IfOk result (IsTake (fixed_column array.now) picks.now.picks nullability) }
+    requires bound { picks.bound ≡ length (fixed_column array.now).rows }
+    requires there { nullability ≡ NonNullable → AllThere picks.picks }
+    ensures { IfOk result (IsTake (fixed_column array.now) picks.picks nullability) }
 {
-    let validity = take_validity(alloc, array.validity(), picks, nullability, policy)?;
+    let validity = take_validity(alloc, array.validity(), &picks, nullability, policy)?;
     let FixedTakePlan {
         validity,
         runs,
         filler,
-    } = plan_fixed_take(alloc, array, picks, validity)?;
+    } = plan_fixed_take(alloc, array, &picks, validity)?;
+    let len = picks.len();
+    drop(picks);
     if array.len() == 0 {
         let elements = Array::filler(alloc, array.elements().dtype(), filler)?;
-        return relisted(alloc, array, elements, validity, picks.len());
+        return relisted(alloc, array, elements, validity, len);
     }
-    let elements = take_runs(alloc, array.elements(), &runs, policy)?;
-    relisted(alloc, array, elements, validity, picks.len())
+    let elements = take_runs(alloc, array.elements(), runs, policy)?;
+    relisted(alloc, array, elements, validity, len)
 }

@@ -4,18 +4,21 @@
 mod constant;
 mod dict;
 mod executing;
+mod extension;
 mod filter_layout;
 mod filtering;
 mod fixed_size_list;
 mod list;
 mod lists;
 mod listview;
+mod map;
 mod materialized;
 mod null;
 mod ranges;
 mod runs;
 mod slicing;
 mod stored;
+mod struct_;
 mod taking;
 mod validity;
 
@@ -23,5 +26,6 @@ pub use executing::execute;
 pub use filtering::filter;
 pub use materialized::is_materialized;
 pub use slicing::slice;
+pub use struct_::filter_fields;
 pub use taking::take;
 pub use validity::{filter_validity, take_validity};

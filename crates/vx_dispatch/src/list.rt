@@ -79,20 +79,21 @@ pub(crate) fn filter_of(
 pub(crate) fn take_of(
     alloc: Global,
     array: &ListArray,
-    picks: &Picks,
+    picks: Picks,
     nullability: Nullability,
     policy: &Policy,
 ) -> Result<Array, NoMemory>
-    requires bound { picks.now.bound ≡ length (list_column array.now).rows }
-    requires there { nullability ≡ NonNullable → AllThere picks.now.picks }
-    ensures { IfOk result (IsTake (list_column array.now) picks.now.picks nullability) }
+    requires bound { picks.bound ≡ length (list_column array.now).rows }
+    requires there { nullability ≡ NonNullable → AllThere picks.picks }
+    ensures { IfOk result (IsTake (list_column array.now) picks.picks nullability) }
 {
-    let validity = take_validity(alloc, array.validity(), picks, nullability, policy)?;
+    let validity = take_validity(alloc, array.validity(), &picks, nullability, policy)?;
     let ListTakePlan {
         offsets,
         validity,
         runs,
-    } = plan_list_take(alloc, array, picks, validity)?;
-    let elements = take_runs(alloc, array.elements(), &runs, policy)?;
+    } = plan_list_take(alloc, array, &picks, validity)?;
+    drop(picks);
+    let elements = take_runs(alloc, array.elements(), runs, policy)?;
     relisted(alloc, array, elements, offsets, validity)
 }

@@ -1,6 +1,7 @@
 //! Layouts of lists: their rows over the elements in another form.
-ghost use Rattle.std.specs.Prelude.{◌≡◌, length, false, IfOk};
+ghost use Rattle.std.specs.Prelude.{◌≡◌, length, None, false, IfOk};
 ghost use Rattle.vx_model.specs.Lists.{lists_column, stored_lists};
+ghost use Rattle.vx_model.specs.ListView.{listview_fault, listview_spans};
 ghost use Rattle.vx_model.specs.Plain.{is_lazy_layout};
 ghost use Rattle.vx_model.specs.Step.{IsStep};
 ghost use Rattle.vx_model.specs.Valid.{nullability_by, present_bits, IsLeft};
@@ -9,10 +10,27 @@ ghost use Rattle.vx_column.specs.Validity.{valid_of};
 
 use crate::executing::execute;
 use crate::validity::execute_validity;
+use crate::{dict, map};
 use std::alloc::Global;
 use vx_bits::NoMemory;
-use vx_column::{Array, ArrayRef, Lists, Validity};
+use vx_column::{Array, ArrayRef, Layout, ListViewArray, Lists, Validity};
 use vx_mask::Policy;
+
+// The same list views, of elements and with a validity that say the same.
+fn views_with(array: &ListViewArray, elements: ArrayRef, validity: Validity) -> ListViewArray
+    requires elements { IsStep array.now.elements array.now.elements.rows
+        array.now.elements.dtype elements }
+    requires left { IsLeft array.now.valid (nullability_by array.now.valid)
+        (present_bits array.now.valid (length (listview_spans array.now).spans))
+        (valid_of validity) }
+    ensures parts { result
+        ≡ record array.now { elements = elements; valid = valid_of validity } }
+    ensures valid { listview_fault array.now ≡ None }
+{
+    let offsets = array.offsets().share();
+    let sizes = array.sizes().share();
+    array.with_parts(elements, offsets, sizes, validity)
+}
 
 // The same lists, of elements and with a validity that say the same.
 #[tactic(auto, using(vx_model::proofs::ListRows::list_rows, vx_model::proofs::ListRows::listview_rows, vx_model::proofs::ListRows::fixed_rows))]
@@ -31,13 +49,7 @@ fn with_elements(lists: Lists<'_>, elements: ArrayRef, validity: Validity) -> Ar
             let offsets = array.offsets().share();
             array.with_parts(elements, offsets, validity).into_array()
         }
-        Lists::View(array) => {
-            let offsets = array.offsets().share();
-            let sizes = array.sizes().share();
-            array
-                .with_parts(elements, offsets, sizes, validity)
-                .into_array()
-        }
+        Lists::View(array) => views_with(array, elements, validity).into_array(),
         Lists::Fixed(array) => {
             // the elements are as many as the lists have
             let _ = array.list_size();
@@ -45,6 +57,25 @@ fn with_elements(lists: Lists<'_>, elements: ArrayRef, validity: Validity) -> Ar
                 .with_parts(elements, validity, array.len())
                 .into_array()
         }
+        Lists::Map(array) => map::of_entries(views_with(array.entries(), elements, validity)),
+    }
+}
+
+// Whether it has one value for every row.
+fn is_constant(array: &Array) -> bool {
+    matches!(array.layout(), Layout::Constant(_))
+}
+
+// The elements, executed, but where one value or one code stands for each of them: they may be
+// more than any memory holds, as those behind null lists are.
+#[cycle(execute)]
+fn execute_elements(alloc: Global, elements: &Array, policy: &Policy) -> Result<Array, NoMemory>
+    ensures { IfOk result (IsStep elements.now elements.now.rows elements.now.dtype) }
+{
+    match elements.layout() {
+        Layout::Constant(_) => Ok(elements.share()),
+        Layout::Dict(a) if is_constant(a.codes()) => dict::execute_values(alloc, a, policy),
+        _ => execute(alloc, elements, policy),
     }
 }
 
@@ -61,6 +92,6 @@ pub(crate) fn execute_of(
     ensures direct { IfOk result (λ a. is_lazy_layout a.layout ≡ false) }
 {
     let validity = execute_validity(alloc, lists.validity(), lists.len(), policy)?;
-    let elements = execute(alloc, lists.elements(), policy)?;
+    let elements = execute_elements(alloc, lists.elements(), policy)?;
     Ok(with_elements(lists, elements.into_ref(alloc)?, validity))
 }

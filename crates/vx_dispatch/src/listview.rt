@@ -16,30 +16,44 @@ use vx_mask::{MaskValues, Policy};
 use vx_take::Picks;
 
 // The lists of the same elements at these offsets and of these sizes.
-fn relisted(array: &ListViewArray, plan: ViewPlan) -> Array
+fn relisted(array: &ListViewArray, plan: ViewPlan) -> ListViewArray
     requires { listview_fault (record array.now {
       offsets = plan.offsets;
       sizes = plan.sizes;
       valid = valid_of plan.validity;
     }) ≡ None }
-    ensures { result ≡ listview_column (record array.now {
+    ensures { result ≡ record array.now {
       offsets = plan.offsets;
       sizes = plan.sizes;
       valid = valid_of plan.validity;
-    }) }
+    } }
 {
     let ViewPlan {
         offsets,
         sizes,
         validity,
     } = plan;
-    array
-        .with_parts(array.elements().share(), offsets, sizes, validity)
-        .into_array()
+    array.with_parts(array.elements().share(), offsets, sizes, validity)
 }
 
 #[cycle(slice)]
 #[tactic(auto, using(vx_model::proofs::ListRows::listview_rows))]
+pub(crate) fn slice_views(
+    alloc: Global,
+    array: &ListViewArray,
+    start: usize,
+    end: usize,
+) -> Result<ListViewArray, NoMemory>
+    requires ordered { start ≤ end }
+    requires within { end ≤ length (listview_column array.now).rows }
+    ensures { IfOk result (λ a.
+        IsSlice (listview_column array.now) start end (listview_column a)) }
+{
+    let validity = slice_validity(alloc, array.validity(), array.len(), start, end)?;
+    Ok(slice_view(array, start, end, validity))
+}
+
+#[cycle(slice)]
 pub(crate) fn slice_of(
     alloc: Global,
     array: &ListViewArray,
@@ -50,12 +64,28 @@ pub(crate) fn slice_of(
     requires within { end ≤ length (listview_column array.now).rows }
     ensures { IfOk result (IsSlice (listview_column array.now) start end) }
 {
-    let validity = slice_validity(alloc, array.validity(), array.len(), start, end)?;
-    Ok(slice_view(array, start, end, validity).into_array())
+    Ok(slice_views(alloc, array, start, end)?.into_array())
 }
 
 #[cycle(filter)]
 #[tactic(auto, using(vx_model::proofs::ListRows::listview_rows))]
+pub(crate) fn filter_views(
+    alloc: Global,
+    array: &ListViewArray,
+    mask: &MaskValues,
+    policy: &Policy,
+) -> Result<ListViewArray, NoMemory>
+    requires { length mask.now.bits.bits ≡ length (listview_column array.now).rows }
+    ensures { IfOk result (λ a. IsCut (listview_column array.now)
+        (items_where_true mask.now.bits.bits (listview_column array.now).rows)
+        (listview_column a)) }
+{
+    let validity = filter_validity(alloc, array.validity(), mask, policy)?;
+    let plan = plan_view_filter(alloc, array, mask, policy, validity)?;
+    Ok(relisted(array, plan))
+}
+
+#[cycle(filter)]
 pub(crate) fn filter_of(
     alloc: Global,
     array: &ListViewArray,
@@ -66,13 +96,29 @@ pub(crate) fn filter_of(
     ensures { IfOk result (IsCut (listview_column array.now)
         (items_where_true mask.now.bits.bits (listview_column array.now).rows)) }
 {
-    let validity = filter_validity(alloc, array.validity(), mask, policy)?;
-    let plan = plan_view_filter(alloc, array, mask, policy, validity)?;
-    Ok(relisted(array, plan))
+    Ok(filter_views(alloc, array, mask, policy)?.into_array())
 }
 
 #[cycle(take)]
 #[tactic(auto, using(vx_model::proofs::ListRows::listview_rows))]
+pub(crate) fn take_views(
+    alloc: Global,
+    array: &ListViewArray,
+    picks: &Picks,
+    nullability: Nullability,
+    policy: &Policy,
+) -> Result<ListViewArray, NoMemory>
+    requires bound { picks.now.bound ≡ length (listview_column array.now).rows }
+    requires there { nullability ≡ NonNullable → AllThere picks.now.picks }
+    ensures { IfOk result (λ a.
+        IsTake (listview_column array.now) picks.now.picks nullability (listview_column a)) }
+{
+    let validity = take_validity(alloc, array.validity(), picks, nullability, policy)?;
+    let plan = plan_view_take(alloc, array, picks, validity)?;
+    Ok(relisted(array, plan))
+}
+
+#[cycle(take)]
 pub(crate) fn take_of(
     alloc: Global,
     array: &ListViewArray,
@@ -84,7 +130,5 @@ pub(crate) fn take_of(
     requires there { nullability ≡ NonNullable → AllThere picks.now.picks }
     ensures { IfOk result (IsTake (listview_column array.now) picks.now.picks nullability) }
 {
-    let validity = take_validity(alloc, array.validity(), picks, nullability, policy)?;
-    let plan = plan_view_take(alloc, array, picks, validity)?;
-    Ok(relisted(array, plan))
+    Ok(take_views(alloc, array, picks, nullability, policy)?.into_array())
 }

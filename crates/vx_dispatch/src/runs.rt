@@ -12,7 +12,7 @@ use crate::stored::take_record_runs;
 use crate::taking::take_picks;
 use std::alloc::Global;
 use vx_bits::NoMemory;
-use vx_column::{Array, Nullability, Runs};
+use vx_column::{Array, Layout, Nullability, Runs};
 use vx_mask::Policy;
 use vx_pieces::{Indices, PiecesError, PiecewiseSequence};
 use vx_take::Picks;
@@ -106,21 +106,53 @@ fn picks_in(alloc: Global, runs: &Runs, len: usize) -> Result<Picks, NoMemory>
     Ok(Picks::from_vec(places, len))
 }
 
+// A take of elements is begun where they are at most so many bytes or, where they aren't records,
+// so many, or at most twice as many as are stored. A short document can name a list that is longer
+// than any memory, by a few picks of one that is long: here it ends.
+const MOST_BYTES: usize = 1 << 32;
+
+const MOST_ELEMENTS: usize = 1 << 25;
+
+// How many elements a take makes at most.
+fn most_elements(array: &Array) -> usize {
+    if let Some(records) = array.records() {
+        return (MOST_BYTES / records.values().width().max(1)).max(array.len().saturating_mul(2));
+    }
+    match array.layout() {
+        Layout::Constant(_) | Layout::Dict(_) | Layout::Filter(_) => MOST_ELEMENTS,
+        _ => MOST_ELEMENTS.max(array.len().saturating_mul(2)),
+    }
+}
+
+// Refuses runs of more elements than a take makes.
+fn check_room(array: &Array, runs: &Runs) -> Result<(), NoMemory> {
+    let mut total: usize = 0;
+    for run in runs.as_slice() {
+        total = total.saturating_add(run.1);
+    }
+    if total > most_elements(array) {
+        return Err(NoMemory);
+    }
+    Ok(())
+}
+
 /// The rows in the runs, each its start and its length, one run after another. `NoMemory` alone.
 #[cycle(take)]
 pub(crate) fn take_runs(
     alloc: Global,
     array: &Array,
-    runs: &Runs,
+    runs: Runs,
     policy: &Policy,
 ) -> Result<Array, NoMemory>
-    requires { All (λ run. run.0 + run.1 ≤ length array.now.rows) runs.now }
-    ensures { IfOk result (IsStep array.now (in_runs array.now.rows runs.now) array.now.dtype) }
+    requires { All (λ run. run.0 + run.1 ≤ length array.now.rows) runs }
+    ensures { IfOk result (IsStep array.now (in_runs array.now.rows runs) array.now.dtype) }
 {
-    match take_stored_runs(alloc, array, runs)? {
+    check_room(array, &runs)?;
+    match take_stored_runs(alloc, array, &runs)? {
         Some(taken) => Ok(taken),
         None => {
-            let picks = picks_in(alloc, runs, array.len())?;
+            let picks = picks_in(alloc, &runs, array.len())?;
+            drop(runs);
             take_picks(alloc, array, picks, Nullability::NonNullable, policy)
         }
     }

@@ -3,7 +3,10 @@ ghost use Rattle.std.specs.Prelude.{◌≡◌, ◌≤◌, length, true, IfOk, Is
 ghost use Rattle.vx_model.specs.Plain.{is_plain};
 ghost use Rattle.vx_model.specs.Step.{IsSlice};
 
-use crate::{constant, dict, filter_layout, fixed_size_list, list, listview, null, stored};
+use crate::{
+    constant, dict, extension, filter_layout, fixed_size_list, list, listview, map, null, stored,
+    struct_,
+};
 use std::alloc::Global;
 use vx_bits::NoMemory;
 use vx_column::{Array, Layout, Stored};
@@ -26,6 +29,9 @@ pub fn slice(alloc: Global, array: &Array, start: usize, end: usize) -> Result<A
         Layout::List(a) => list::slice_of(alloc, a, start, end),
         Layout::ListView(a) => listview::slice_of(alloc, a, start, end),
         Layout::FixedSizeList(a) => fixed_size_list::slice_of(alloc, a, start, end),
+        Layout::Map(a) => map::slice_of(alloc, a, start, end),
+        Layout::Struct(a) => struct_::slice_of(alloc, a, start, end),
+        Layout::Extension(a) => extension::slice_of(alloc, a, start, end),
         Layout::Constant(a) => Ok(constant::slice_of(a, start, end)),
         Layout::Dict(a) => dict::slice_of(alloc, a, start, end),
         Layout::Filter(a) => filter_layout::slice_of(alloc, a, start, end),

@@ -8,7 +8,10 @@ ghost use Rattle.vx_model.specs.Step.{IsTake};
 
 use crate::executing::execute;
 use crate::runs::take_by_runs;
-use crate::{constant, dict, filter_layout, fixed_size_list, list, listview, null, stored};
+use crate::{
+    constant, dict, extension, filter_layout, fixed_size_list, list, listview, map, null, stored,
+    struct_,
+};
 use std::alloc::Global;
 use vx_bits::NoMemory;
 use vx_column::{Array, Layout, Nullability, Stored};
@@ -51,11 +54,14 @@ pub(crate) fn take_picks(
         Layout::VarBinView(a) => {
             stored::take_of(alloc, Stored::Views(a), &picks, nullability, policy)
         }
-        Layout::List(a) => list::take_of(alloc, a, &picks, nullability, policy),
+        Layout::List(a) => list::take_of(alloc, a, picks, nullability, policy),
         Layout::ListView(a) => listview::take_of(alloc, a, &picks, nullability, policy),
         Layout::FixedSizeList(a) => {
-            fixed_size_list::take_of(alloc, a, &picks, nullability, policy)
+            fixed_size_list::take_of(alloc, a, picks, nullability, policy)
         }
+        Layout::Map(a) => map::take_of(alloc, a, &picks, nullability, policy),
+        Layout::Struct(a) => struct_::take_of(alloc, a, &picks, nullability, policy),
+        Layout::Extension(a) => extension::take_of(alloc, a, picks, nullability, policy),
         Layout::Constant(a) => constant::take_of(alloc, a, &picks, nullability),
         Layout::Dict(a) => dict::take_of(alloc, a, picks, nullability, policy),
         Layout::Filter(a) => filter_layout::take_of(alloc, a, picks, nullability, policy),

@@ -96,8 +96,17 @@ pub(crate) fn taken_bits(
         Layout::Constant(a) => constant::bits_of(alloc, a, picks),
         Layout::Dict(a) => dict::bits_of(alloc, a, picks, policy),
         Layout::Filter(a) => filter_layout::bits_of(alloc, a, picks, policy),
-        Layout::Null(_) | Layout::List(_) | Layout::ListView(_) | Layout::FixedSizeList(_) =>
-            unreachable!(),
+        Layout::Null(_)
+        | Layout::List(_)
+        | Layout::ListView(_)
+        | Layout::FixedSizeList(_)
+        | Layout::Struct(_)
+        | Layout::Extension(_) => unreachable!(),
+        Layout::Map(a) => {
+            // no map is a bool
+            let _ = a.entries();
+            unreachable!()
+        }
         Layout::VarBin(a) => {
             // no text is a bool
             let _ = a.kind();

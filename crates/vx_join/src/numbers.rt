@@ -60,7 +60,7 @@ fn key_at(column: &Array, i: usize, width: usize) -> Option<u64>
 {
     match column.cell_at(i) {
         Cell::Null => None,
-        Cell::Bit(_) | Cell::List(_) => unreachable!(),
+        Cell::Bit(_) | Cell::List(_) | Cell::Fields(_) => unreachable!(),
         Cell::Bytes(bytes) => Some(spelt(bytes)),
     }
 }

@@ -8,12 +8,15 @@
 mod boolean;
 mod decimal;
 mod dict;
+mod extension;
 mod filter_layout;
 mod fixed_size_list;
 mod list;
 mod listview;
+mod map;
 mod null;
 mod primitive;
+mod struct_;
 mod taking;
 mod traits;
 mod varbin;
@@ -21,6 +24,7 @@ mod varbinview;
 
 pub use fixed_size_list::filter_fixed_size_list;
 pub use listview::filter_listview;
+pub use struct_::filter_struct;
 pub use taking::{TakeError, take};
 pub use traits::{FilterKernel, FilterReduce, SliceKernel, SliceReduce, TakeExecute, TakeReduce};
 pub use varbin::{VarBinSlice, take_varbin};

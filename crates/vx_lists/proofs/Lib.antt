@@ -9,3 +9,4 @@ pub mod ListsOfOneSize
 pub mod ReadNumbers
 pub mod MadeLists
 pub mod ViewRows
+pub mod WordRuns

@@ -5,6 +5,7 @@ ghost use Rattle.vx_lists.specs.Lists.{AreElementBits, AreOffsets, Covers, IsWit
 ghost use Rattle.vx_mask.specs.Mask.{indices_in, mask_bits, partial_of, slices_in};
 ghost use Rattle.vx_mask.specs.Positions.{ascending, run_positions, set_of};
 
+use crate::runs::set_runs;
 use std::alloc::Global;
 use vx_bits::{BitBuffer, BitBuilder, NoMemory};
 use vx_mask::{Mask, MaskValues, Policy, Ratio};
@@ -93,8 +94,8 @@ fn by_runs(
     ensures { IfOk result
         (λ b. AreElementBits offsets.now (mask_bits mask.now) range b.bits) }
 {
-    let kept = mask.with_slices(alloc)?;
-    marked_by_runs(alloc, offsets, runs_of(&kept), range)
+    let runs = set_runs(alloc, mask)?;
+    marked_by_runs(alloc, offsets, runs.as_slice(), range)
 }
 
 // The set positions that a mask keeps.

@@ -8,7 +8,8 @@ ghost use Rattle.vx_lists.specs.Lists.{AreElementBits, AreOffsets, last_offset, 
 ghost use Rattle.vx_lists.specs.Filters.{FiltersLists, IsElementRange, cropped, leaves_out, selected_range, whole_range};
 ghost use Rattle.vx_lists.specs.Sums.{length_at, offsets_of, sums_from};
 
-use crate::element_mask::{indices_of, marked_by_indices, marked_by_runs, runs_of};
+use crate::element_mask::{indices_of, marked_by_indices, marked_by_runs};
+use crate::runs::set_runs;
 use std::alloc::Global;
 use vx_bits::{BitBuffer, NoMemory};
 use vx_mask::{Mask, MaskValues, Policy, PolicyFields, Ratio};
@@ -174,10 +175,9 @@ fn parts_by_runs(
     ensures bits { IfOk result
         (λ parts. AreElementBits offsets.now (mask_bits mask.now) range parts.1.bits) }
 {
-    let kept = mask.with_slices(alloc)?;
-    let runs = runs_of(&kept);
-    let sums = sums_by_runs(alloc, offsets, runs, mask.true_count())?;
-    let bits = marked_by_runs(alloc, offsets, runs, range)?;
+    let runs = set_runs(alloc, mask)?;
+    let sums = sums_by_runs(alloc, offsets, runs.as_slice(), mask.true_count())?;
+    let bits = marked_by_runs(alloc, offsets, runs.as_slice(), range)?;
     Ok((sums, bits))
 }
 

@@ -8,6 +8,7 @@ mod fixed_size_list;
 mod list;
 mod listview;
 mod numbers;
+mod runs;
 mod take;
 mod view;
 

@@ -13,6 +13,15 @@ use Rattle.vx_model.specs.Valid.{is_fitting}
 use Rattle.vx_dispatch.proofs.Codes.{no_fault}
 use Rattle.vx_dispatch.proofs.Results.{weaker}
 use Rattle.vx_model.specs.Valid.{valid_size}
+use Rattle.std.proofs.Common.{ℕ, ◌+◌, ◌<◌, List, take, get_or, refl, sym, subst}
+use Rattle.vx_model.specs.Column.{Column}
+use Rattle.vx_model.specs.Columns.{AreSteps}
+use Rattle.vx_model.specs.Struct.{StructParts}
+use Rattle.vx_model.specs.Valid.{nullability_by, present_bits, IsLeft}
+use Rattle.vx_model.proofs.Across.{long-same, types-steps}
+use Rattle.vx_model.proofs.StructSteps.{fault-struct, fitting-struct, is_same-struct, long-struct}
+use Rattle.vx_dispatch.proofs.EachColumn.{same_more}
+use Rattle.vx_dispatch.proofs.ListSteps.{fits_same}
 use Rattle.vx_dispatch.proofs.+execute.Goals as goal
 
 pub dict::execute_of-column_picks-requires : goal.dict::execute_of-column_picks-requires
@@ -63,3 +72,35 @@ stored::execute_of-execute_validity-requires t c =
     let v = c.validity.ensures in
     let fits : is_fitting (valid_of c.validity.result.now) c.len.result ≡ true = rw (v.value, c.len.ensures) v.fitting in
     (omega (arith, ap valid_size v.value), fits)
+
+-- ---- structs
+
+pub struct_::execute_each-loop-column-preserved : goal.struct_::execute_each-loop-column-preserved
+struct_::execute_each-loop-column-preserved t c =
+    let cs = c.args.columns.now in let k = c.loop-column.column-index in
+    let column = c.column-item.result in let x = c.in_ok-into_ref.field-0 in
+    let here : k < length cs = rw (← c.as_slice-column-items.ensures) c.loop-column-test.true in
+    let is : column ≡ get_or cs k column = rw (← c.as_slice-column-items.ensures) c.column-item.is in
+    let step : IsStep column column.rows column.dtype x = rw (c.in_ok-into_ref.ensures, ← c.deref.ensures) c.in_ok-execute.ensures.same in
+    subst (λ (l : List Column). AreSteps (λ rows. rows) (take (k + 1) cs) l) (sym c.in_ok-push.ensures.items)
+    (same_more cs k column c.loop-column.executed.items x here is c.loop-column.invariant step)
+
+pub struct_::execute_of-with_parts-requires : goal.struct_::execute_of-with_parts-requires
+struct_::execute_of-with_parts-requires t c =
+    let p = c.args.array.now in let h = c.validity.ensures.valid in
+    let w = valid_of c.in_ok-validity.validity in let fields = c.in_ok-fields.fields in
+    let q : StructParts = record p { columns = fields; len = c.len-len.result; valid = w } in
+    let steps : AreSteps (λ rows. rows) p.columns fields = rw c.fields.ensures.value at c.in_ok-fields.ensures in
+    let left : IsLeft p.valid (nullability_by p.valid) (present_bits p.valid p.len) w = rw (c.validity.ensures.value, c.len-len.ensures) at c.in_ok-validity.ensures.left in
+    fault-struct p q h refl (types-steps _ p.columns fields steps)
+    (rw c.len-len.ensures (long-same p.len p.columns fields (long-struct p h) steps))
+    (rw c.len-len.ensures (fits_same p.valid w (nullability_by p.valid) p.len (fitting-struct p h) left))
+
+pub struct_::execute_of-returns-clause-same : goal.struct_::execute_of-returns-clause-same
+struct_::execute_of-returns-clause-same t c =
+    let p = c.args.array.now in let h = c.validity.ensures.valid in
+    let w = valid_of c.in_ok-validity.validity in let fields = c.in_ok-fields.fields in
+    let q : StructParts = record p { columns = fields; len = c.len-len.result; valid = w } in
+    let steps : AreSteps (λ rows. rows) p.columns fields = rw c.fields.ensures.value at c.in_ok-fields.ensures in
+    let left : IsLeft p.valid (nullability_by p.valid) (present_bits p.valid p.len) w = rw (c.validity.ensures.value, c.len-len.ensures) at c.in_ok-validity.ensures.left in
+    rw (c.into_array.ensures, c.with_parts.ensures) (is_same-struct p q h refl c.len-len.ensures steps left)

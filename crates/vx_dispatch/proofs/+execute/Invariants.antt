@@ -7,10 +7,17 @@ use Rattle.vx_model.specs.Dict.{dict_size}
 use Rattle.vx_model.specs.Filter.{filter_size}
 use Rattle.vx_column.specs.Stored.{parts_of}
 use Rattle.vx_column.specs.Validity.{valid_of}
+use Rattle.std.proofs.Common.{take}
+use Rattle.vx_model.specs.Columns.{AreSteps}
+use Rattle.vx_model.specs.Columns.{columns_depth}
+use Rattle.vx_model.specs.Extension.{extension_size}
 use Rattle.vx_dispatch.proofs.+execute.Given as goal
 
 abbrev pub decreases-dict::execute_of : goal.decreases-dict::execute_of
 decreases-dict::execute_of l = dict_size l.array.now
+
+abbrev pub decreases-dict::execute_values : goal.decreases-dict::execute_values
+decreases-dict::execute_values l = dict_size l.array.now
 
 abbrev pub decreases-executing::execute : goal.decreases-executing::execute
 decreases-executing::execute l = l.array.now.depth
@@ -27,3 +34,21 @@ decreases-validity::execute_validity l = valid_size (valid_of l.validity.now)
 abbrev pub decreases-lists::execute_of : goal.decreases-lists::execute_of
 decreases-lists::execute_of l =
     max (spans_of l.lists).elements.depth (valid_size (spans_of l.lists).valid) + 2
+
+abbrev pub decreases-extension::execute_of : goal.decreases-extension::execute_of
+decreases-extension::execute_of l = extension_size l.array.now
+
+abbrev pub decreases-struct_::execute_of : goal.decreases-struct_::execute_of
+decreases-struct_::execute_of l = max (columns_depth l.array.now.columns) (valid_size l.array.now.valid) + 2
+
+abbrev pub decreases-struct_::execute_each : goal.decreases-struct_::execute_each
+decreases-struct_::execute_each l = columns_depth l.columns.now
+
+-- what is made so far are the first columns' steps
+abbrev pub invariant-struct_::execute_each-loop-column : goal.invariant-struct_::execute_each-loop-column
+invariant-struct_::execute_each-loop-column l =
+    AreSteps (λ rows. rows) (take l.column-index l.columns) l.executed.items
+
+-- `execute_elements` calls `execute` on the same column
+abbrev pub decreases-lists::execute_elements : goal.decreases-lists::execute_elements
+decreases-lists::execute_elements l = l.elements.now.depth + 1

@@ -30,6 +30,19 @@ use Rattle.vx_model.specs.Step.{IsSlice}
 use Rattle.vx_model.specs.Valid.{Valid, nullability_by, present_bits, IsAsPlain, IsLeft}
 use Rattle.vx_model.proofs.ListRows.{elements-fixed, fit-fixed, fit-list, fit-listview, rows-fixed, rows-list, rows-listview, spans-fixed}
 use Rattle.vx_dispatch.proofs.ListSteps.{filter_left_step, filter_step, fits_filter, swapped}
+use Rattle.vx_bits.specs.BitBuffer.{true_count_of}
+use Rattle.vx_mask.specs.Mask.{mask_bits}
+use Rattle.vx_model.specs.Columns.{AreCuts}
+use Rattle.vx_model.specs.Struct.{StructParts}
+use Rattle.vx_model.proofs.Across.{long-filter, steps-cuts, types-steps}
+use Rattle.vx_model.proofs.ExtensionSteps.{fault-extension, is_cut-extension}
+use Rattle.vx_model.proofs.MapSteps.{elements-step, fault-map, is_cut-map}
+use Rattle.vx_model.proofs.StructSteps.{fault-struct, fitting-struct, is_filter-struct, long-struct, rows-struct}
+use Rattle.vx_dispatch.proofs.EachColumn.{bits-prepared, filters_more}
+use Rattle.vx_model.specs.ListView.{listview_column}
+use Rattle.vx_types.specs.TypeTree.{TypeTree}
+use Rattle.vx_mask.specs.MaskValues.{PartialMask}
+use Rattle.std.proofs.Common.{◌+◌, ◌<◌, List, take, get_or, subst}
 use Rattle.vx_dispatch.proofs.+filter.Goals as goal
 
 pub validity::filter_validity-returns-in-NonNullable-clause-left : goal.validity::filter_validity-returns-in-NonNullable-clause-left
@@ -137,15 +150,15 @@ list::filter_of-returns t c =
     (filter_left_step (list_spans p) (list_spans q) refl refl (ap list_of (kept.step.dtype ∙ part.step.dtype)) (fit-list p h) mask c.requires (makes x rows).1 left plain
     (omega (arith, kept.depth, part.depth))))
 
-pub listview::filter_of-plan_view_filter-requires-clause-fitting : goal.listview::filter_of-plan_view_filter-requires-clause-fitting
-listview::filter_of-plan_view_filter-requires-clause-fitting t c =
+pub listview::filter_views-plan_view_filter-requires-clause-fitting : goal.listview::filter_views-plan_view_filter-requires-clause-fitting
+listview::filter_views-plan_view_filter-requires-clause-fitting t c =
     let p = c.args.array.now in let h = c.validity.ensures.valid in let mask = c.args.mask.now.bits.bits in
     let w = valid_of c.in_ok-validity.validity in let n = length (listview_spans p).spans in let long = c.requires ∙ rows-listview p h in
     let left : IsLeft p.valid (nullability_by p.valid) (items_where_true mask (present_bits p.valid n)) w = rw (c.validity.ensures.value, long) at c.in_ok-validity.ensures.left in
     fits_filter p.valid w (nullability_by p.valid) n (fit-listview p h) mask long left
 
-pub listview::filter_of-returns : goal.listview::filter_of-returns
-listview::filter_of-returns t c =
+pub listview::filter_views-returns : goal.listview::filter_views-returns
+listview::filter_views-returns t c =
     let p = c.args.array.now in let h = c.validity.ensures.valid in let mask = c.args.mask.now.bits.bits in
     let w = valid_of c.in_ok-validity.validity in let plan = c.in_ok-plan.plan in
     let q : ListViewParts = record { elements = p.elements; offsets = plan.offsets; sizes = plan.sizes; valid = w } in
@@ -186,3 +199,67 @@ fixed_size_list::filter_of-filter-requires t c =
       omega (arith, ap (λ (x : Column). x.depth) same),
       bits ∙ both ∙ sym long ∙ ap (λ (x : Column). length x.rows) (sym same),
     )
+
+-- ---- extensions and maps
+
+pub extension::filter_of-restored-requires : goal.extension::filter_of-restored-requires
+extension::filter_of-restored-requires t c =
+    let p = c.args.array.now in let x = c.in_ok-storage.storage in let mask = c.args.mask.now.bits.bits in
+    let cut : IsCut p.storage (items_where_true mask p.storage.rows) x = rw (c.deref.ensures ∙ c.storage.ensures.value) at c.in_ok-storage.ensures.cut in
+    fault-extension p x c.storage.ensures.valid (ap (λ (t : TypeTree). t.kind) cut.step.dtype)
+
+pub extension::filter_of-returns : goal.extension::filter_of-returns
+extension::filter_of-returns t c =
+    let p = c.args.array.now in let x = c.in_ok-storage.storage in let mask = c.args.mask.now.bits.bits in
+    let cut : IsCut p.storage (items_where_true mask p.storage.rows) x = rw (c.deref.ensures ∙ c.storage.ensures.value) at c.in_ok-storage.ensures.cut in
+    weaker c.restored.result c.restored.ensures (λ a is. rw is (is_cut-extension p x _ cut))
+
+pub map::filter_of-of_entries-requires : goal.map::filter_of-of_entries-requires
+map::filter_of-of_entries-requires t c =
+    let p = c.args.array.now in let q = c.in_ok-entries.entries in let mask = c.args.mask.now.bits.bits in
+    let cut : IsCut (listview_column p) (items_where_true mask (listview_column p).rows) (listview_column q) = rw c.entries.ensures.value at c.in_ok-entries.ensures in
+    fault-map p q c.entries.ensures.valid (elements-step p q _ (nullability_by p.valid) cut.step)
+
+pub map::filter_of-returns : goal.map::filter_of-returns
+map::filter_of-returns t c =
+    let p = c.args.array.now in let q = c.in_ok-entries.entries in let mask = c.args.mask.now.bits.bits in
+    let cut : IsCut (listview_column p) (items_where_true mask (listview_column p).rows) (listview_column q) = rw c.entries.ensures.value at c.in_ok-entries.ensures in
+    rw c.of_entries.ensures (is_cut-map p q _ cut)
+
+-- ---- structs
+
+pub struct_::filter_each-loop-column-preserved : goal.struct_::filter_each-loop-column-preserved
+struct_::filter_each-loop-column-preserved t c =
+    let mask = mask_bits c.args.mask.now in let cs = c.args.columns.now in let k = c.loop-column.column-index in
+    let column = c.column-item.result in let x = c.in_ok-into_ref.field-0 in
+    let here : k < length cs = rw (← c.as_slice-column-items.ensures) c.loop-column-test.true in
+    let is : column ≡ get_or cs k column = rw (← c.as_slice-column-items.ensures) c.column-item.is in
+    let cut : IsCut column (items_where_true mask column.rows) x = rw (c.in_ok-into_ref.ensures, ← c.deref.ensures) c.in_ok-filter.ensures.cut in
+    subst (λ (l : List Column). AreCuts (items_where_true mask) (take (k + 1) cs) l) (sym c.in_ok-push.ensures.items)
+    (filters_more mask cs k column c.loop-column.cut.items x here is c.loop-column.invariant cut)
+
+pub struct_::filter_fields-with_parts-requires : goal.struct_::filter_fields-with_parts-requires
+struct_::filter_fields-with_parts-requires t c =
+    let p = c.args.array.now in let h = c.fields-columns.ensures.valid in let mask = c.args.mask.now.bits.bits in
+    let w = valid_of c.in_ok-validity.validity in let fields = c.in_ok-fields.fields in
+    let q : StructParts = record p { columns = fields; len = c.true_count.result; valid = w } in
+    let long : length mask ≡ p.len = c.requires ∙ rows-struct p h in
+    let bits : mask_bits c.in_ok-ready.ready ≡ mask = ap mask_bits c.in_ok-ready.ensures ∙ bits-prepared c.share.result c.len.result c.args.policy.now ∙ ap (λ (m : PartialMask). m.bits.bits) c.share.ensures in
+    let cuts : AreCuts (items_where_true mask) p.columns fields = rw (bits, c.fields-columns.ensures.value) at c.in_ok-fields.ensures in
+    let steps = steps-cuts _ p.columns fields cuts in
+    let left : IsLeft p.valid (nullability_by p.valid) (items_where_true mask (present_bits p.valid p.len)) w = rw (c.validity.ensures.value, long) at c.in_ok-validity.ensures.left in
+    fault-struct p q h refl (types-steps _ p.columns fields steps)
+    (rw c.true_count.ensures.count (long-filter p.len p.columns fields (long-struct p h) mask long steps))
+    (rw c.true_count.ensures.count (fits_filter p.valid w (nullability_by p.valid) p.len (fitting-struct p h) mask long left))
+
+pub struct_::filter_fields-returns : goal.struct_::filter_fields-returns
+struct_::filter_fields-returns t c =
+    let p = c.args.array.now in let h = c.fields-columns.ensures.valid in let mask = c.args.mask.now.bits.bits in
+    let w = valid_of c.in_ok-validity.validity in let fields = c.in_ok-fields.fields in
+    let q : StructParts = record p { columns = fields; len = c.true_count.result; valid = w } in
+    let long : length mask ≡ p.len = c.requires ∙ rows-struct p h in
+    let bits : mask_bits c.in_ok-ready.ready ≡ mask = ap mask_bits c.in_ok-ready.ensures ∙ bits-prepared c.share.result c.len.result c.args.policy.now ∙ ap (λ (m : PartialMask). m.bits.bits) c.share.ensures in
+    let cuts : AreCuts (items_where_true mask) p.columns fields = rw (bits, c.fields-columns.ensures.value) at c.in_ok-fields.ensures in
+    let left : IsLeft p.valid (nullability_by p.valid) (items_where_true mask (present_bits p.valid p.len)) w = rw (c.validity.ensures.value, long) at c.in_ok-validity.ensures.left in
+    let plain : IsAsPlain p.valid w = rw c.validity.ensures.value at c.in_ok-validity.ensures.plain in
+    rw c.with_parts.ensures (is_filter-struct p q h refl mask long c.true_count.ensures.count cuts left plain)

@@ -6,6 +6,12 @@ use Rattle.vx_model.specs.Dict.{dict_size}
 use Rattle.vx_model.specs.Filter.{filter_size}
 use Rattle.vx_column.specs.Stored.{parts_of}
 use Rattle.vx_column.specs.Validity.{valid_of}
+use Rattle.std.proofs.Common.{take}
+use Rattle.std.specs.List.{items_where_true}
+use Rattle.vx_mask.specs.Mask.{mask_bits}
+use Rattle.vx_model.specs.Columns.{AreCuts}
+use Rattle.vx_model.specs.Columns.{columns_depth}
+use Rattle.vx_model.specs.Extension.{extension_size}
 use Rattle.vx_dispatch.proofs.+filter.Given as goal
 
 abbrev pub decreases-dict::filter_of : goal.decreases-dict::filter_of
@@ -35,4 +41,27 @@ decreases-list::filter_of l =
     2 * (max l.array.now.elements.depth (valid_size l.array.now.valid) + 2)
 
 abbrev pub decreases-listview::filter_of : goal.decreases-listview::filter_of
-decreases-listview::filter_of l = 2 * (valid_size l.array.now.valid + 1)
+decreases-listview::filter_of l = 2 * (valid_size l.array.now.valid + 2)
+
+abbrev pub decreases-listview::filter_views : goal.decreases-listview::filter_views
+decreases-listview::filter_views l = 2 * (valid_size l.array.now.valid + 1)
+
+abbrev pub decreases-map::filter_of : goal.decreases-map::filter_of
+decreases-map::filter_of l = 2 * (valid_size l.array.now.valid + 2)
+
+abbrev pub decreases-extension::filter_of : goal.decreases-extension::filter_of
+decreases-extension::filter_of l = 2 * (extension_size l.array.now)
+
+abbrev pub decreases-struct_::filter_of : goal.decreases-struct_::filter_of
+decreases-struct_::filter_of l = 2 * (max (columns_depth l.array.now.columns) (valid_size l.array.now.valid) + 2)
+
+abbrev pub decreases-struct_::filter_fields : goal.decreases-struct_::filter_fields
+decreases-struct_::filter_fields l = 2 * (max (columns_depth l.array.now.columns) (valid_size l.array.now.valid) + 1)
+
+abbrev pub decreases-struct_::filter_each : goal.decreases-struct_::filter_each
+decreases-struct_::filter_each l = 2 * (columns_depth l.columns.now)
+
+-- what is made so far are the first columns' steps
+abbrev pub invariant-struct_::filter_each-loop-column : goal.invariant-struct_::filter_each-loop-column
+invariant-struct_::filter_each-loop-column l =
+    AreCuts (items_where_true (mask_bits l.mask)) (take l.column-index l.columns) l.cut.items

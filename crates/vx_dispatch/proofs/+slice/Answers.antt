@@ -23,6 +23,15 @@ use Rattle.vx_model.specs.Valid.{nullability_by, present_bits, IsAsPlain, IsLeft
 use Rattle.vx_model.proofs.ListForms.{fault-fixed-slice, lists-fixed-slice}
 use Rattle.vx_model.proofs.ListRows.{fit-fixed, fit-list, fit-listview, rows-fixed, rows-list, rows-listview, spans-fixed}
 use Rattle.vx_dispatch.proofs.ListSteps.{fits_slice, slice_step}
+use Rattle.vx_model.specs.Columns.{AreCuts}
+use Rattle.vx_model.specs.ListView.{listview_column}
+use Rattle.vx_model.specs.Struct.{StructParts}
+use Rattle.vx_model.proofs.Across.{long-slice, steps-cuts, types-steps}
+use Rattle.vx_model.proofs.ExtensionSteps.{fault-extension, is_cut-extension}
+use Rattle.vx_model.proofs.MapSteps.{elements-step, fault-map, is_cut-map}
+use Rattle.vx_model.proofs.StructSteps.{fault-struct, fitting-struct, is_slice-struct, long-struct, rows-struct}
+use Rattle.vx_dispatch.proofs.EachColumn.{slices_more}
+use Rattle.std.proofs.Common.{◌+◌, ◌<◌, get_or, sym, subst}
 use Rattle.vx_dispatch.proofs.+slice.Goals as goal
 
 pub validity::slice_validity-returns-in-NonNullable-clause-left : goal.validity::slice_validity-returns-in-NonNullable-clause-left
@@ -101,20 +110,19 @@ list::slice_of-returns t c =
     (slice_step (list_spans p) (list_spans q) refl refl (ap (λ (x : ListParts). list_of x.elements.dtype) cut.parts) (fit-list p h) s e c.requires.ordered c.requires.within cut.lists
     (rw (ap (λ (x : ListParts). x.valid) cut.parts) left) (rw (ap (λ (x : ListParts). x.valid) cut.parts) plain) (omega (arith, ap (λ (x : ListParts). x.elements.depth) cut.parts)))
 
-pub listview::slice_of-slice_view-requires-clause-fitting : goal.listview::slice_of-slice_view-requires-clause-fitting
-listview::slice_of-slice_view-requires-clause-fitting t c =
+pub listview::slice_views-slice_view-requires-clause-fitting : goal.listview::slice_views-slice_view-requires-clause-fitting
+listview::slice_views-slice_view-requires-clause-fitting t c =
     let p = c.args.array.now in let h = c.validity.ensures.valid in let s = c.args.start in let e = c.args.end in
     let w = valid_of c.in_ok-validity.validity in let n = length (listview_spans p).spans in
     let left : IsLeft p.valid (nullability_by p.valid) (slice_range (present_bits p.valid n) s e) w = rw (c.validity.ensures.value, c.len.ensures) at c.in_ok-validity.ensures.left in
     fits_slice p.valid w (nullability_by p.valid) n (fit-listview p h) s e c.requires.ordered (omega (arith, c.requires.within, rows-listview p h)) left
 
-pub listview::slice_of-returns : goal.listview::slice_of-returns
-listview::slice_of-returns t c =
+pub listview::slice_views-returns : goal.listview::slice_views-returns
+listview::slice_views-returns t c =
     let p = c.args.array.now in let h = c.validity.ensures.valid in let s = c.args.start in let e = c.args.end in
     let q = c.slice_view.result in let cut = c.slice_view.ensures in let w = valid_of c.in_ok-validity.validity in
     let left : IsLeft p.valid (nullability_by p.valid) (slice_range (present_bits p.valid (length (listview_spans p).spans)) s e) w = rw (c.validity.ensures.value, c.len.ensures) at c.in_ok-validity.ensures.left in
     let plain : IsAsPlain p.valid w = rw c.validity.ensures.value at c.in_ok-validity.ensures.plain in
-    rw c.into_array.ensures
     (slice_step (listview_spans p) (listview_spans q) refl refl (ap (λ (x : ListViewParts). list_of x.elements.dtype) cut.parts) (fit-listview p h) s e c.requires.ordered c.requires.within cut.lists
     (rw (ap (λ (x : ListViewParts). x.valid) cut.parts) left) (rw (ap (λ (x : ListViewParts). x.valid) cut.parts) plain) (omega (arith, ap (λ (x : ListViewParts). x.elements.depth) cut.parts)))
 
@@ -141,3 +149,66 @@ fixed_size_list::slice_of-returns t c =
     rw made
     (slice_step (fixed_spans p) (fixed_spans q) refl refl (ap (λ t. fixed_of t p.size) cut.step.dtype) (fit-fixed p h) s e c.requires.ordered c.requires.within
     (lists-fixed-slice p x s e h c.requires.ordered inside cut.step.rows w) left plain cut.depth)
+
+-- ---- extensions and maps
+
+pub extension::slice_of-restored-requires : goal.extension::slice_of-restored-requires
+extension::slice_of-restored-requires t c =
+    let p = c.args.array.now in let x = c.in_ok-storage.storage in
+    let cut : IsSlice p.storage c.args.start c.args.end x = rw (c.deref.ensures ∙ c.storage.ensures.value) at c.in_ok-storage.ensures.cut in
+    fault-extension p x c.storage.ensures.valid (ap (λ (t : TypeTree). t.kind) cut.step.dtype)
+
+pub extension::slice_of-returns : goal.extension::slice_of-returns
+extension::slice_of-returns t c =
+    let p = c.args.array.now in let x = c.in_ok-storage.storage in
+    let cut : IsSlice p.storage c.args.start c.args.end x = rw (c.deref.ensures ∙ c.storage.ensures.value) at c.in_ok-storage.ensures.cut in
+    weaker c.restored.result c.restored.ensures (λ a is. rw is (is_cut-extension p x _ cut))
+
+pub map::slice_of-of_entries-requires : goal.map::slice_of-of_entries-requires
+map::slice_of-of_entries-requires t c =
+    let p = c.args.array.now in let q = c.in_ok-entries.entries in
+    let cut : IsSlice (listview_column p) c.args.start c.args.end (listview_column q) = rw c.entries.ensures.value at c.in_ok-entries.ensures in
+    fault-map p q c.entries.ensures.valid (elements-step p q _ (nullability_by p.valid) cut.step)
+
+pub map::slice_of-returns : goal.map::slice_of-returns
+map::slice_of-returns t c =
+    let p = c.args.array.now in let q = c.in_ok-entries.entries in
+    let cut : IsSlice (listview_column p) c.args.start c.args.end (listview_column q) = rw c.entries.ensures.value at c.in_ok-entries.ensures in
+    rw c.of_entries.ensures (is_cut-map p q _ cut)
+
+-- ---- structs
+
+pub struct_::slice_of-with_parts-requires : goal.struct_::slice_of-with_parts-requires
+struct_::slice_of-with_parts-requires t c =
+    let p = c.args.array.now in let h = c.validity.ensures.valid in let s = c.args.start in let e = c.args.end in
+    let w = valid_of c.in_ok-validity.validity in let fields = c.in_ok-fields.fields in
+    let q : StructParts = record p { columns = fields; len = e - s; valid = w } in
+    let within : e ≤ p.len = omega (arith, c.requires.within, rows-struct p h) in
+    let cuts : AreCuts (λ rows. slice_range rows s e) p.columns fields = rw c.fields.ensures.value at c.in_ok-fields.ensures in
+    let steps = steps-cuts _ p.columns fields cuts in
+    let left : IsLeft p.valid (nullability_by p.valid) (slice_range (present_bits p.valid p.len) s e) w = rw (c.validity.ensures.value, c.len-len.ensures) at c.in_ok-validity.ensures.left in
+    fault-struct p q h refl (types-steps _ p.columns fields steps)
+    (long-slice p.len p.columns fields (long-struct p h) s e c.requires.ordered within steps)
+    (fits_slice p.valid w (nullability_by p.valid) p.len (fitting-struct p h) s e c.requires.ordered within left)
+
+pub struct_::slice_of-returns : goal.struct_::slice_of-returns
+struct_::slice_of-returns t c =
+    let p = c.args.array.now in let h = c.validity.ensures.valid in let s = c.args.start in let e = c.args.end in
+    let w = valid_of c.in_ok-validity.validity in let fields = c.in_ok-fields.fields in
+    let q : StructParts = record p { columns = fields; len = e - s; valid = w } in
+    let within : e ≤ p.len = omega (arith, c.requires.within, rows-struct p h) in
+    let cuts : AreCuts (λ rows. slice_range rows s e) p.columns fields = rw c.fields.ensures.value at c.in_ok-fields.ensures in
+    let left : IsLeft p.valid (nullability_by p.valid) (slice_range (present_bits p.valid p.len) s e) w = rw (c.validity.ensures.value, c.len-len.ensures) at c.in_ok-validity.ensures.left in
+    let plain : IsAsPlain p.valid w = rw c.validity.ensures.value at c.in_ok-validity.ensures.plain in
+    rw (c.into_array.ensures, c.with_parts.ensures)
+    (is_slice-struct p q h refl s e c.requires.ordered within refl cuts left plain)
+
+pub struct_::slice_each-loop-column-preserved : goal.struct_::slice_each-loop-column-preserved
+struct_::slice_each-loop-column-preserved t c =
+    let s = c.args.start in let e = c.args.end in let cs = c.args.columns.now in let k = c.loop-column.column-index in
+    let column = c.column-item.result in let x = c.in_ok-into_ref.field-0 in
+    let here : k < length cs = rw (← c.as_slice-column-items.ensures) c.loop-column-test.true in
+    let is : column ≡ get_or cs k column = rw (← c.as_slice-column-items.ensures) c.column-item.is in
+    let cut : IsSlice column s e x = rw (c.in_ok-into_ref.ensures, ← c.deref.ensures) c.in_ok-slice.ensures.cut in
+    subst (λ (l : List Column). AreCuts (λ rows. slice_range rows s e) (take (k + 1) cs) l) (sym c.in_ok-push.ensures.items)
+    (slices_more s e cs k column c.loop-column.cut.items x here is c.loop-column.invariant cut)

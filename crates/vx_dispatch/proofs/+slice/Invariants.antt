@@ -6,6 +6,10 @@ use Rattle.vx_model.specs.Dict.{dict_size}
 use Rattle.vx_model.specs.Filter.{filter_size}
 use Rattle.vx_column.specs.Stored.{parts_of}
 use Rattle.vx_column.specs.Validity.{valid_of}
+use Rattle.std.proofs.Common.{take, slice_range}
+use Rattle.vx_model.specs.Columns.{AreCuts}
+use Rattle.vx_model.specs.Columns.{columns_depth}
+use Rattle.vx_model.specs.Extension.{extension_size}
 use Rattle.vx_dispatch.proofs.+slice.Given as goal
 
 abbrev pub decreases-dict::slice_of : goal.decreases-dict::slice_of
@@ -30,4 +34,24 @@ abbrev pub decreases-list::slice_of : goal.decreases-list::slice_of
 decreases-list::slice_of l = valid_size l.array.now.valid + 1
 
 abbrev pub decreases-listview::slice_of : goal.decreases-listview::slice_of
-decreases-listview::slice_of l = valid_size l.array.now.valid + 1
+decreases-listview::slice_of l = valid_size l.array.now.valid + 2
+
+abbrev pub decreases-listview::slice_views : goal.decreases-listview::slice_views
+decreases-listview::slice_views l = valid_size l.array.now.valid + 1
+
+abbrev pub decreases-map::slice_of : goal.decreases-map::slice_of
+decreases-map::slice_of l = valid_size l.array.now.valid + 2
+
+abbrev pub decreases-extension::slice_of : goal.decreases-extension::slice_of
+decreases-extension::slice_of l = extension_size l.array.now
+
+abbrev pub decreases-struct_::slice_of : goal.decreases-struct_::slice_of
+decreases-struct_::slice_of l = max (columns_depth l.array.now.columns) (valid_size l.array.now.valid) + 2
+
+abbrev pub decreases-struct_::slice_each : goal.decreases-struct_::slice_each
+decreases-struct_::slice_each l = columns_depth l.columns.now
+
+-- what is made so far are the first columns' steps
+abbrev pub invariant-struct_::slice_each-loop-column : goal.invariant-struct_::slice_each-loop-column
+invariant-struct_::slice_each-loop-column l =
+    AreCuts (λ rows. slice_range rows l.start l.end) (take l.column-index l.columns) l.cut.items

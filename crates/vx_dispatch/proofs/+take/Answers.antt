@@ -41,13 +41,25 @@ use Rattle.vx_numbers.specs.Positions.{AllThere}
 use Rattle.vx_pieces.specs.Runs.{run_numbers}
 use Rattle.vx_pieces.proofs.PieceLists.{all_there-numbers}
 use Rattle.vx_dispatch.proofs.RunTakes.{runs_step}
-use Rattle.vx_dispatch.proofs.ListSteps.{take_kept_step, take_step}
+use Rattle.vx_dispatch.proofs.ListSteps.{fits_take, take_kept_step, take_step}
 use Rattle.std.proofs.Common.{◌<◌, slice_range}
 use Rattle.std.proofs.lemmas.Bool.Decides.{nat_tests}
 use Rattle.std.specs.Prelude.{replicate}
 use Rattle.vx_model.specs.Filler.{filler_row}
 use Rattle.vx_model.specs.FixedSizeList.{FixedParts, fixed_of, fixed_spans}
 use Rattle.vx_model.proofs.ListRows.{fit-fixed, rows-fixed}
+use Rattle.vx_model.specs.Columns.{AreSteps, are_long, columns_depth, firsts_for_nulls, types_in}
+use Rattle.vx_model.specs.ListView.{listview_column}
+use Rattle.vx_model.specs.Struct.{StructParts}
+use Rattle.vx_model.proofs.Across.{long-take, there-firsts, types-steps}
+use Rattle.vx_model.proofs.ExtensionSteps.{fault-extension, is_step-extension}
+use Rattle.vx_model.proofs.MapSteps.{elements-step, fault-map, is_step-map}
+use Rattle.vx_model.proofs.StructSteps.{fault-made, fault-struct, fitting-struct, is_take-none, is_take-struct, long-struct, rows-struct}
+use Rattle.vx_dispatch.proofs.EachColumn.{below-firsts, takes_more}
+use Rattle.std.proofs.Common.{◌+◌, take, get_or}
+use Rattle.std.proofs.lemmas.List.{length-map}
+use Rattle.vx_types.specs.FieldTypes.{FieldTypes}
+use Rattle.vx_types.specs.declared.nullability.Nullability.TheVariants.{NonNullable}
 use Rattle.vx_dispatch.proofs.+take.Goals as goal
 
 pub validity::take_validity-returns-in-AllInvalid-default-clause-left : goal.validity::take_validity-returns-in-AllInvalid-default-clause-left
@@ -186,7 +198,7 @@ stored::take_of-returns t c =
 
 pub list::take_of-returns : goal.list::take_of-returns
 list::take_of-returns t c =
-    let p = c.args.array.now in let h = c.validity.ensures.valid in let picks = c.args.picks.now.picks in
+    let p = c.args.array.now in let h = c.validity.ensures.valid in let picks = c.args.picks.picks in
     let w = valid_of c.in_ok-validity.validity in let plan = c.in_ok-offsets.field-0 in let x = c.in_ok-elements.elements in
     let n = either_nullable (nullability_by p.valid) c.args.nullability in
     let q : ListParts = record { elements = x; offsets = plan.offsets; valid = w } in
@@ -197,8 +209,8 @@ list::take_of-returns t c =
     weaker c.relisted.result c.relisted.ensures (λ a is. rw (is, same)
     (take_kept_step (list_spans p) (list_spans q) refl refl (ap list_of taken.dtype) (fit-list p h) picks n (makes x taken.rows).1 left))
 
-pub listview::take_of-returns : goal.listview::take_of-returns
-listview::take_of-returns t c =
+pub listview::take_views-returns : goal.listview::take_views-returns
+listview::take_views-returns t c =
     let p = c.args.array.now in let h = c.validity.ensures.valid in let picks = c.args.picks.now.picks in
     let w = valid_of c.in_ok-validity.validity in let plan = c.in_ok-plan.plan in
     let n = either_nullable (nullability_by p.valid) c.args.nullability in
@@ -213,23 +225,23 @@ pub runs::take_runs-take_picks-requires : goal.runs::take_runs-take_picks-requir
 runs::take_runs-take_picks-requires t c =
     let made = c.in_ok-picks-in-None.ensures in (
       omega arith,
-      (ap (λ (p : BoundedPicks). p.bound) made ∙ c.len.ensures, λ _. subst (λ (ps : List (Option ℕ)). AllThere ps) (sym (ap (λ (p : BoundedPicks). p.picks) made)) (all_there-numbers (run_numbers c.args.runs.now))),
+      (ap (λ (p : BoundedPicks). p.bound) made ∙ c.len.ensures, λ _. subst (λ (ps : List (Option ℕ)). AllThere ps) (sym (ap (λ (p : BoundedPicks). p.picks) made)) (all_there-numbers (run_numbers c.args.runs))),
     )
 
 pub runs::take_runs-returns-in-Some : goal.runs::take_runs-returns-in-Some
 runs::take_runs-returns-in-Some t c =
-    runs_step c.args.array.now c.args.runs.now c.in-Some.taken c.requires (rw c.in-Some.is at c.in_ok-taken.ensures)
+    runs_step c.args.array.now c.args.runs c.in-Some.taken c.requires (rw c.in-Some.is at c.in_ok-taken.ensures)
 
 pub runs::take_runs-returns-in_ok-picks-in-None : goal.runs::take_runs-returns-in_ok-picks-in-None
 runs::take_runs-returns-in_ok-picks-in-None t c =
     let made = ap (λ (p : BoundedPicks). p.picks) c.in_ok-picks-in-None.ensures in
-    weaker c.take_picks.result c.take_picks.ensures (λ a take. runs_step c.args.array.now c.args.runs.now a c.requires (rw made at take))
+    weaker c.take_picks.result c.take_picks.ensures (λ a take. runs_step c.args.array.now c.args.runs a c.requires (rw made at take))
 
 -- ---- lists of one size
 
 pub fixed_size_list::take_of-returns-then-len-eq0 : goal.fixed_size_list::take_of-returns-then-len-eq0
 fixed_size_list::take_of-returns-then-len-eq0 t c =
-    let p = c.args.array.now in let h = c.validity.ensures.valid in let picks = c.args.picks.now.picks in
+    let p = c.args.array.now in let h = c.validity.ensures.valid in let picks = c.args.picks.picks in
     let w = valid_of c.in_ok-validity.validity in let plan = c.in_ok-validity-2.field-0 in let x = c.in_ok-elements.elements in
     let n = either_nullable (nullability_by p.valid) c.args.nullability in let fill = filler_row p.elements.dtype in
     let q : FixedParts = record { elements = x; size = p.size; len = length picks; valid = w } in
@@ -238,12 +250,12 @@ fixed_size_list::take_of-returns-then-len-eq0 t c =
     let typed = c.dtype.ensures.value ∙ ap (λ (k : Column). k.dtype) (c.deref.ensures ∙ c.elements.ensures.value) in
     let rows = c.in_ok-elements.ensures.rows ∙ ap (λ (k : TypeTree). replicate plan.filler (filler_row k)) typed in
     let makes = c.in_ok-validity-2.ensures.fillers none fill in
-    weaker c.relisted.result c.relisted.ensures (λ a is. rw (is, c.in_ok-validity-2.ensures.valid, c.len-then-len-eq0.ensures)
+    weaker c.relisted.result c.relisted.ensures (λ a is. rw (is, c.in_ok-validity-2.ensures.valid, c.len-len.ensures)
     (take_step (fixed_spans p) (fixed_spans q) refl refl (ap (λ k. fixed_of k p.size) (c.in_ok-elements.ensures.dtype ∙ typed)) (fit-fixed p h) (replicate p.size fill) picks n (makes x rows).1 left))
 
 pub fixed_size_list::take_of-returns : goal.fixed_size_list::take_of-returns
 fixed_size_list::take_of-returns t c =
-    let p = c.args.array.now in let h = c.validity.ensures.valid in let picks = c.args.picks.now.picks in
+    let p = c.args.array.now in let h = c.validity.ensures.valid in let picks = c.args.picks.picks in
     let w = valid_of c.in_ok-validity.validity in let plan = c.in_ok-validity-2.field-0 in let x = c.in_ok-elements-2.elements in
     let n = either_nullable (nullability_by p.valid) c.args.nullability in
     let q : FixedParts = record { elements = x; size = p.size; len = length picks; valid = w } in
@@ -251,5 +263,109 @@ fixed_size_list::take_of-returns t c =
     let some : 0 < p.len = grind (arith, nat_tests, c.len.ensures.value, c.if-len-eq0.false) in
     let taken : IsStep p.elements (in_runs p.elements.rows plan.runs) p.elements.dtype x = rw (c.deref-2.ensures ∙ c.elements-2.ensures.value) at c.in_ok-elements-2.ensures in
     let makes = c.in_ok-validity-2.ensures.lists some in
-    weaker c.relisted-2.result c.relisted-2.ensures (λ a is. rw (is, c.in_ok-validity-2.ensures.valid, c.len-2.ensures)
+    weaker c.relisted-2.result c.relisted-2.ensures (λ a is. rw (is, c.in_ok-validity-2.ensures.valid, c.len-len.ensures)
     (take_step (fixed_spans p) (fixed_spans q) refl refl (ap (λ k. fixed_of k p.size) taken.dtype) (fit-fixed p h) (slice_range p.elements.rows 0 p.size) picks n (makes x taken.rows).1 left))
+
+-- ---- extensions and maps
+
+pub extension::take_of-restored-requires : goal.extension::take_of-restored-requires
+extension::take_of-restored-requires t c =
+    let p = c.args.array.now in let x = c.in_ok-storage.storage in let picks = c.args.picks.picks in let n = c.args.nullability in
+    let taken : IsTake p.storage picks n x = rw (c.deref.ensures ∙ c.storage.ensures.value) at c.in_ok-storage.ensures in
+    fault-extension p x c.storage.ensures.valid (ap (λ (t : TypeTree). t.kind) taken.dtype)
+
+pub extension::take_of-returns : goal.extension::take_of-returns
+extension::take_of-returns t c =
+    let p = c.args.array.now in let x = c.in_ok-storage.storage in let picks = c.args.picks.picks in let n = c.args.nullability in
+    let taken : IsTake p.storage picks n x = rw (c.deref.ensures ∙ c.storage.ensures.value) at c.in_ok-storage.ensures in
+    weaker c.restored.result c.restored.ensures (λ a is. rw is (is_step-extension p x _ (also_nullable p.storage.dtype n) taken))
+
+pub map::take_of-of_entries-requires : goal.map::take_of-of_entries-requires
+map::take_of-of_entries-requires t c =
+    let p = c.args.array.now in let q = c.in_ok-entries.entries in let picks = c.args.picks.now.picks in let n = c.args.nullability in
+    let taken : IsTake (listview_column p) picks n (listview_column q) = rw c.entries.ensures.value at c.in_ok-entries.ensures in
+    fault-map p q c.entries.ensures.valid (elements-step p q _ (either_nullable (nullability_by p.valid) n) taken)
+
+pub map::take_of-returns : goal.map::take_of-returns
+map::take_of-returns t c =
+    let p = c.args.array.now in let q = c.in_ok-entries.entries in let picks = c.args.picks.now.picks in let n = c.args.nullability in
+    let taken : IsTake (listview_column p) picks n (listview_column q) = rw c.entries.ensures.value at c.in_ok-entries.ensures in
+    rw c.of_entries.ensures (is_step-map p q _ (either_nullable (nullability_by p.valid) n) taken)
+
+-- ---- structs
+
+pub struct_::take_each-loop-column-preserved : goal.struct_::take_each-loop-column-preserved
+struct_::take_each-loop-column-preserved t c =
+    let picks = c.args.picks.now.picks in let cs = c.args.columns.now in let k = c.loop-column.column-index in
+    let column = c.column-item.result in let x = c.in_ok-into_ref.field-0 in
+    let here : k < length cs = rw (← c.as_slice-column-items.ensures) c.loop-column-test.true in
+    let is : column ≡ get_or cs k column = rw (← c.as_slice-column-items.ensures) c.column-item.is in
+    let same : c.in_ok-copy.copy.picks ≡ picks = ap (λ (b : BoundedPicks). b.picks) c.in_ok-copy.ensures in
+    let taken : IsTake column picks NonNullable x = rw (c.in_ok-into_ref.ensures, ← c.deref.ensures, ← same) c.in_ok-rows.ensures in
+    subst (λ (l : List Column). AreSteps (λ rows. at null rows picks) (take (k + 1) cs) l) (sym c.in_ok-push.ensures.items)
+    (takes_more picks cs k column c.loop-column.taken.items x here is c.loop-column.invariant taken)
+
+pub struct_::take_of-with_parts-requires : goal.struct_::take_of-with_parts-requires
+struct_::take_of-with_parts-requires t c =
+    let p = c.args.array.now in let h = c.validity.ensures.valid in let picks = c.args.picks.now.picks in
+    let w = valid_of c.in_ok-validity.validity in let fields = c.in_ok-fields.fields in
+    let n = either_nullable (nullability_by p.valid) c.args.nullability in
+    let q : StructParts = record p { columns = fields; len = length picks; valid = w } in
+    let left : IsLeft p.valid n (at false (present_bits p.valid p.len) picks) w = rw (c.validity.ensures.value, c.requires.bound ∙ rows-struct p h) at c.in_ok-validity.ensures.left in
+    let types : types_in fields ≡ p.types.types = c.in_ok-fields.ensures.types ∙ c.types-types.ensures.value ∙ ap (λ (f : FieldTypes). f.types) (c.deref.ensures ∙ c.struct_fields.ensures.value) in
+    rw c.len-len.ensures
+    (fault-made q types (rw c.len-len.ensures at c.in_ok-fields.ensures.long) (fits_take p.valid w n p.len (fitting-struct p h) picks left))
+
+pub struct_::take_of-returns-then-bound-eq0 : goal.struct_::take_of-returns-then-bound-eq0
+struct_::take_of-returns-then-bound-eq0 t c =
+    let p = c.args.array.now in let h = c.validity.ensures.valid in let picks = c.args.picks.now.picks in
+    let w = valid_of c.in_ok-validity.validity in let fields = c.in_ok-fields.fields in
+    let n = either_nullable (nullability_by p.valid) c.args.nullability in
+    let q : StructParts = record p { columns = fields; len = length picks; valid = w } in
+    let rows : c.args.picks.now.bound ≡ p.len = c.requires.bound ∙ rows-struct p h in
+    let left : IsLeft p.valid n (at false (present_bits p.valid p.len) picks) w = rw (c.validity.ensures.value, rows) at c.in_ok-validity.ensures.left in
+    let none : p.len ≡ 0 = grind (arith, nat_tests, rows, c.bound.ensures.value, c.if-bound-eq0.true) in
+    let below : AreBelow picks p.len = subst (AreBelow picks) (c.bound.ensures.value ∙ rows) c.bound.ensures.below in
+    rw (c.into_array.ensures, c.with_parts.ensures, c.len-len.ensures)
+    (is_take-none p q h refl _ picks n none below (rw c.len-len.ensures at c.in_ok-fields.ensures.rows) left)
+
+pub struct_::take_of-take_each-requires : goal.struct_::take_of-take_each-requires
+struct_::take_of-take_each-requires t c =
+    let p = c.args.array.now in let h = c.validity.ensures.valid in
+    let firsts = c.in_ok-firsts.ensures in
+    let long : are_long c.in_ok-firsts.firsts.bound c.fields.result.now ≡ true =
+    rw (ap (λ (b : BoundedPicks). b.bound) firsts ∙ c.requires.bound ∙ rows-struct p h, c.fields.ensures.value) (long-struct p h) in
+    let there : AllThere c.in_ok-firsts.firsts.picks = rw (ap (λ (b : BoundedPicks). b.picks) firsts) (there-firsts c.args.picks.now.picks) in (
+      omega (arith, ap columns_depth c.fields.ensures.value),
+      (long, there),
+    )
+
+pub struct_::take_of-with_parts-requires-2 : goal.struct_::take_of-with_parts-requires-2
+struct_::take_of-with_parts-requires-2 t c =
+    let p = c.args.array.now in let h = c.validity.ensures.valid in let picks = c.args.picks.now.picks in
+    let w = valid_of c.in_ok-validity.validity in let fields = c.in_ok-fields-2.fields in
+    let n = either_nullable (nullability_by p.valid) c.args.nullability in
+    let q : StructParts = record p { columns = fields; len = length picks; valid = w } in
+    let left : IsLeft p.valid n (at false (present_bits p.valid p.len) picks) w = rw (c.validity.ensures.value, c.requires.bound ∙ rows-struct p h) at c.in_ok-validity.ensures.left in
+    let steps : AreSteps (λ rows. at null rows (firsts_for_nulls picks)) p.columns fields =
+    rw (ap (λ (b : BoundedPicks). b.picks) c.in_ok-firsts.ensures, c.fields.ensures.value) at c.in_ok-fields-2.ensures in
+    let many : length (firsts_for_nulls picks) ≡ length picks = length-map picks _ in
+    rw c.len-len.ensures
+    (fault-struct p q h refl (types-steps _ p.columns fields steps)
+    (rw many at (long-take p.len p.columns fields (long-struct p h) (firsts_for_nulls picks) steps))
+    (fits_take p.valid w n p.len (fitting-struct p h) picks left))
+
+pub struct_::take_of-returns : goal.struct_::take_of-returns
+struct_::take_of-returns t c =
+    let p = c.args.array.now in let h = c.validity.ensures.valid in let picks = c.args.picks.now.picks in
+    let w = valid_of c.in_ok-validity.validity in let fields = c.in_ok-fields-2.fields in
+    let n = either_nullable (nullability_by p.valid) c.args.nullability in
+    let q : StructParts = record p { columns = fields; len = length picks; valid = w } in
+    let rows : c.args.picks.now.bound ≡ p.len = c.requires.bound ∙ rows-struct p h in
+    let left : IsLeft p.valid n (at false (present_bits p.valid p.len) picks) w = rw (c.validity.ensures.value, rows) at c.in_ok-validity.ensures.left in
+    let some : 0 < p.len = grind (arith, nat_tests, rows, c.bound.ensures.value, c.if-bound-eq0.false) in
+    let below : AreBelow picks p.len = subst (AreBelow picks) (c.bound.ensures.value ∙ rows) c.bound.ensures.below in
+    let steps : AreSteps (λ rows. at null rows (firsts_for_nulls picks)) p.columns fields =
+    rw (ap (λ (b : BoundedPicks). b.picks) c.in_ok-firsts.ensures, c.fields.ensures.value) at c.in_ok-fields-2.ensures in
+    rw (c.into_array-2.ensures, c.with_parts-2.ensures, c.len-len.ensures)
+    (is_take-struct p q h refl picks n below (below-firsts picks p.len some below) refl steps left)

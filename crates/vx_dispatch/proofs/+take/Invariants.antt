@@ -6,6 +6,12 @@ use Rattle.vx_model.specs.Dict.{dict_size}
 use Rattle.vx_model.specs.Filter.{filter_size}
 use Rattle.vx_column.specs.Stored.{parts_of}
 use Rattle.vx_column.specs.Validity.{valid_of}
+use Rattle.std.proofs.Common.{take}
+use Rattle.vx_types.specs.RowValue.{null}
+use Rattle.vx_take.specs.Picks.{at}
+use Rattle.vx_model.specs.Columns.{AreSteps}
+use Rattle.vx_model.specs.Columns.{columns_depth}
+use Rattle.vx_model.specs.Extension.{extension_size}
 use Rattle.vx_dispatch.proofs.+take.Given as goal
 
 abbrev pub decreases-dict::bits_of : goal.decreases-dict::bits_of
@@ -36,7 +42,7 @@ abbrev pub decreases-list::take_of : goal.decreases-list::take_of
 decreases-list::take_of l = max l.array.now.elements.depth (valid_size l.array.now.valid) + 2
 
 abbrev pub decreases-listview::take_of : goal.decreases-listview::take_of
-decreases-listview::take_of l = valid_size l.array.now.valid + 1
+decreases-listview::take_of l = valid_size l.array.now.valid + 2
 
 -- `take_runs` calls `take_picks` on the same column
 abbrev pub decreases-runs::take_runs : goal.decreases-runs::take_runs
@@ -45,3 +51,23 @@ decreases-runs::take_runs l = l.array.now.depth + 1
 abbrev pub decreases-fixed_size_list::take_of : goal.decreases-fixed_size_list::take_of
 decreases-fixed_size_list::take_of l =
     max l.array.now.elements.depth (valid_size l.array.now.valid) + 2
+
+abbrev pub decreases-listview::take_views : goal.decreases-listview::take_views
+decreases-listview::take_views l = valid_size l.array.now.valid + 1
+
+abbrev pub decreases-map::take_of : goal.decreases-map::take_of
+decreases-map::take_of l = valid_size l.array.now.valid + 2
+
+abbrev pub decreases-extension::take_of : goal.decreases-extension::take_of
+decreases-extension::take_of l = extension_size l.array.now
+
+abbrev pub decreases-struct_::take_of : goal.decreases-struct_::take_of
+decreases-struct_::take_of l = max (columns_depth l.array.now.columns) (valid_size l.array.now.valid) + 2
+
+abbrev pub decreases-struct_::take_each : goal.decreases-struct_::take_each
+decreases-struct_::take_each l = columns_depth l.columns.now
+
+-- what is made so far are the first columns' steps
+abbrev pub invariant-struct_::take_each-loop-column : goal.invariant-struct_::take_each-loop-column
+invariant-struct_::take_each-loop-column l =
+    AreSteps (λ rows. at null rows l.picks.picks) (take l.column-index l.columns) l.taken.items

@@ -6,6 +6,10 @@ use Rattle.vx_model.specs.FixedSizeList.{FixedParts, fixed_column, fixed_of, fix
 use Rattle.vx_model.specs.List.{ListParts, list_column, list_of, list_spans}
 use Rattle.vx_model.specs.ListView.{ListViewParts, listview_column, listview_spans}
 use Rattle.vx_model.specs.Lists.{lists_column}
+use Rattle.vx_model.specs.ListView.{listview_fault}
+use Rattle.vx_model.specs.Map.{map_column, map_of, map_spans}
+use Rattle.vx_model.proofs.MapSteps.{fault-map}
+use Rattle.std.proofs.Common.{None}
 use Rattle.vx_model.specs.Records.{RecordParts}
 use Rattle.vx_model.specs.Step.{IsStep}
 use Rattle.vx_model.specs.Valid.{is_fitting, nullability_by, present_bits, IsLeft}
@@ -23,14 +27,6 @@ with_parts-requires-clause-valid c =
     let rows : c.args.elements.rows ≡ p.elements.rows = rw c.in-List.is at c.requires.elements.rows in
     rw (c.share-offsets.ensures ∙ c.offsets.ensures.value)
     (fault-list-same p c.args.elements w h rows (fits_same p.valid w (nullability_by p.valid) (length (list_spans p).spans) (fit-list p h) left))
-
-pub with_parts-requires-in-View-clause-valid : goal.with_parts-requires-in-View-clause-valid
-with_parts-requires-in-View-clause-valid c =
-    let p = c.in-View.array.now in let w = valid_of c.args.validity in let h = c.offsets-in-View.ensures.valid in
-    let left : IsLeft p.valid (nullability_by p.valid) (present_bits p.valid (length (listview_spans p).spans)) w = rw c.in-View.is at c.requires.left in
-    let rows : c.args.elements.rows ≡ p.elements.rows = rw c.in-View.is at c.requires.elements.rows in
-    rw (c.share-offsets-in-View.ensures ∙ c.offsets-in-View.ensures.value, c.share-sizes.ensures ∙ c.sizes.ensures.value)
-    (fault-listview-same p c.args.elements w h rows (fits_same p.valid w (nullability_by p.valid) (length (listview_spans p).spans) (fit-listview p h) left))
 
 pub with_parts-requires-in-Fixed-clause-valid : goal.with_parts-requires-in-Fixed-clause-valid
 with_parts-requires-in-Fixed-clause-valid c =
@@ -53,14 +49,35 @@ returns-in-List-clause-same c =
 
 pub returns-in-View-clause-same : goal.returns-in-View-clause-same
 returns-in-View-clause-same c =
-    let p = c.in-View.array.now in let e = c.args.elements in let w = valid_of c.args.validity in let h = c.offsets-in-View.ensures.valid in
-    let q : ListViewParts = record { elements = e; offsets = p.offsets; sizes = p.sizes; valid = w } in
+    let p = c.in-View.array.now in let e = c.args.elements in let w = valid_of c.args.validity in let h = c.views_with.ensures.valid in
+    let q : ListViewParts = record p { elements = e; valid = w } in
     let left : IsLeft p.valid (nullability_by p.valid) (present_bits p.valid (length (listview_spans p).spans)) w = rw c.in-View.is at c.requires.left in
     let rows : e.rows ≡ p.elements.rows = rw c.in-View.is at c.requires.elements.rows in
     let dtype : e.dtype ≡ p.elements.dtype = rw c.in-View.is at c.requires.elements.dtype in
-    let made : c.into_array-in-View.result ≡ listview_column q = c.into_array-in-View.ensures ∙ ap listview_column (c.with_parts-in-View.ensures ∙ ap₂ (λ (o s : RecordParts). let x : ListViewParts = record { elements = e; offsets = o; sizes = s; valid = w } in x) (c.share-offsets-in-View.ensures ∙ c.offsets-in-View.ensures.value) (c.share-sizes.ensures ∙ c.sizes.ensures.value)) in
+    let made : c.into_array-in-View.result ≡ listview_column q = c.into_array-in-View.ensures ∙ ap listview_column c.views_with.ensures.parts in
     rw (made, c.in-View.is)
     (same_step (listview_spans p) (listview_spans q) refl refl (ap list_of dtype) (fit-listview p h) (lists-same (listview_spans p) (listview_spans q) refl rows) left)
+
+pub of_entries-requires : goal.of_entries-requires
+of_entries-requires c =
+    let p = c.in-Map.array.now in let e = c.args.elements in let w = valid_of c.args.validity in
+    let dtype : e.dtype ≡ p.elements.dtype = rw c.in-Map.is at c.requires.elements.dtype in
+    let q : ListViewParts = record p { elements = e; valid = w } in
+    let same : c.views_with-in-Map.result ≡ q = c.views_with-in-Map.ensures.parts ∙ ap (λ (x : ListViewParts). let y : ListViewParts = record x { elements = e; valid = w } in y) c.entries.ensures.value in
+    rw same (fault-map p q c.entries.ensures.valid dtype)
+
+pub returns-in-Map-clause-same : goal.returns-in-Map-clause-same
+returns-in-Map-clause-same c =
+    let p = c.in-Map.array.now in let e = c.args.elements in let w = valid_of c.args.validity in
+    let h : listview_fault p ≡ None = rw c.entries.ensures.value at c.views_with-in-Map.ensures.valid in
+    let q : ListViewParts = record p { elements = e; valid = w } in
+    let left : IsLeft p.valid (nullability_by p.valid) (present_bits p.valid (length (listview_spans p).spans)) w = rw c.in-Map.is at c.requires.left in
+    let rows : e.rows ≡ p.elements.rows = rw c.in-Map.is at c.requires.elements.rows in
+    let dtype : e.dtype ≡ p.elements.dtype = rw c.in-Map.is at c.requires.elements.dtype in
+    let same : c.views_with-in-Map.result ≡ q = c.views_with-in-Map.ensures.parts ∙ ap (λ (x : ListViewParts). let y : ListViewParts = record x { elements = e; valid = w } in y) c.entries.ensures.value in
+    let made : c.of_entries.result ≡ map_column q = c.of_entries.ensures ∙ ap map_column same in
+    rw (made, c.in-Map.is)
+    (same_step (map_spans p) (map_spans q) refl refl (ap (λ (t : TypeTree). map_of t.kind) dtype) (fit-listview p h) (lists-same (map_spans p) (map_spans q) refl rows) left)
 
 pub returns-in-Fixed-clause-same : goal.returns-in-Fixed-clause-same
 returns-in-Fixed-clause-same c =
