@@ -1,2 +1,4 @@
+pub mod Extensions
 pub mod Inside
+pub mod Maps
 pub mod Refusals

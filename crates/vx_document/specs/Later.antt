@@ -3,12 +3,10 @@ use Rattle.std.specs.Prelude.{ℕ, ◌&&◌, ◌||◌, List, [], ◌∷◌, Bool
 use Rattle.serde_json.specs.Data.{Data, null, boolean, number, string, array, object, Items, no_items, item, Members, no_members, member}
 use Rattle.vx_json.specs.Members.{is_among}
 
--- records, unions and extensions
+-- unions
 unfoldable pub later_words : List (List ℕ)
 later_words =
-    codes "Struct" ∷ codes "Union" ∷ codes "Extension" ∷ codes "names" ∷ codes "fields"
-    ∷ codes "type_ids" ∷ codes "variants" ∷ codes "id" ∷ codes "name" ∷ codes "children"
-    ∷ codes "storage" ∷ []
+    codes "Union" ∷ codes "type_ids" ∷ codes "variants" ∷ codes "id" ∷ codes "children" ∷ []
 
 -- names of members, layouts and types alike
 abbrev pub is_later_word : List ℕ → Bool

@@ -13,6 +13,9 @@ pub mod List
 pub mod ListView
 pub mod FixedSizeList
 pub mod Lists
+pub mod Map
+pub mod Struct
+pub mod Extension
 pub mod Columns
 pub mod Numbers
 pub mod Pieces

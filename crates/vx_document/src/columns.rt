@@ -1,26 +1,29 @@
 //! Columns of any layout, and the columns in them.
 ghost use Rattle.std.specs.Option.{option_map};
-ghost use Rattle.serde_json.specs.View.{view};
+ghost use Rattle.serde_json.specs.View.{view, items_view};
 ghost use Rattle.vx_column.specs.Validity.{valid_of};
 ghost use Rattle.vx_json.specs.Meaning.{Gives};
 ghost use Rattle.vx_document.specs.Validity.{validity_from, validity_stated};
-ghost use Rattle.vx_document.specs.Columns.{by_layout, column_of, inner_of, dict_in, filter_in, lists_in, flat_of};
+ghost use Rattle.vx_document.specs.Columns.{by_layout, column_of, each_column, inner_of, inner_lists_of, dict_in, filter_in, map_in, struct_in, extension_in, lists_in, flat_of};
 
 use crate::boolean::bool_by;
 use crate::constant::constant_by;
 use crate::decimal::decimal_by;
 use crate::dict::dict_by;
+use crate::extension::extension_by;
 use crate::filter::filter_by;
 use crate::lists::lists_by;
+use crate::map::map_by;
 use crate::null::null_by;
 use crate::primitive::primitive_by;
+use crate::struct_::struct_by;
 use crate::validity::{validity_alone, validity_listed, validity_named};
 use crate::varbin::varbin_by;
 use crate::varbinview::views_by;
 use serde_json::Value;
 use std::alloc::Global;
-use vx_column::{Array, FlatRef, Validity};
-use vx_json::{DocError, member, text_member};
+use vx_column::{Array, ArrayRef, FlatRef, Validity};
+use vx_json::{DocError, list_member, member, text_member};
 
 /// The column that the value means, by its layout.
 #[cycle(columns)]
@@ -34,8 +37,8 @@ pub(crate) fn column_of(alloc: Global, value: &Value) -> Result<Array, DocError>
 /// The column of the layout of this name that the value means.
 #[cycle(columns)]
 fn by_layout(alloc: Global, value: &Value, layout: &str) -> Result<Array, DocError>
-    ensures { Gives (λ c. c) result
-        (by_layout (view value.now) (inner_of (view value.now)) layout.now) }
+    ensures { Gives (λ c. c) result (by_layout (view value.now) (inner_of (view value.now))
+        (inner_lists_of (view value.now)) layout.now) }
 {
     match layout {
         "Null" => null_by(value),
@@ -47,6 +50,9 @@ fn by_layout(alloc: Global, value: &Value, layout: &str) -> Result<Array, DocErr
         "Constant" => constant_by(alloc, value),
         "Dict" => dict_in(alloc, value),
         "Filter" => filter_in(alloc, value),
+        "Map" => map_in(alloc, value),
+        "Struct" => struct_in(alloc, value),
+        "Extension" => extension_in(alloc, value),
         _ => lists_in(alloc, value, layout),
     }
 }
@@ -57,6 +63,26 @@ pub(crate) fn column_member(alloc: Global, value: &Value, name: &str) -> Result<
     ensures { Gives (λ c. c) result (inner_of (view value.now) name.now) }
 {
     column_of(alloc, member(value, name)?)
+}
+
+/// The columns that the items of the member of this name mean.
+#[cycle(columns)]
+fn columns_member(alloc: Global, value: &Value, name: &str) -> Result<Vec<ArrayRef>, DocError>
+    ensures { Gives (λ v. v.items) result (inner_lists_of (view value.now) name.now) }
+{
+    each_column(alloc, list_member(value, name)?)
+}
+
+/// The columns that the items of a list mean. `Malformed` where one means none.
+#[cycle(columns)]
+fn each_column(alloc: Global, items: &Vec<Value>) -> Result<Vec<ArrayRef>, DocError>
+    ensures { Gives (λ v. v.items) result (each_column (items_view items.now.items)) }
+{
+    let mut columns = Vec::with_capacity(alloc, items.len())?;
+    for item in items {
+        columns.push_reserved(column_of(alloc, item)?.into_ref(alloc)?);
+    }
+    Ok(columns)
 }
 
 /// The column of layout `Dict` that the value means.
@@ -78,6 +104,38 @@ fn filter_in(alloc: Global, value: &Value) -> Result<Array, DocError>
 {
     let child = column_member(alloc, value, "child")?;
     filter_by(alloc, value, child)
+}
+
+/// The column of layout `Map` that the value means.
+#[cycle(columns)]
+#[tactic(auto, unfolding(crate::specs::Columns::map_in))]
+fn map_in(alloc: Global, value: &Value) -> Result<Array, DocError>
+    ensures { Gives (λ c. c) result (map_in (view value.now) (inner_of (view value.now))) }
+{
+    let entries = column_member(alloc, value, "entries")?;
+    map_by(value, &entries)
+}
+
+/// The column of layout `Struct` that the value means.
+#[cycle(columns)]
+#[tactic(auto, unfolding(crate::specs::Columns::struct_in))]
+fn struct_in(alloc: Global, value: &Value) -> Result<Array, DocError>
+    ensures { Gives (λ c. c) result (struct_in (view value.now) (inner_of (view value.now))
+        (inner_lists_of (view value.now))) }
+{
+    let stated = validity_stated(alloc, value)?;
+    let fields = columns_member(alloc, value, "fields")?;
+    struct_by(alloc, value, fields, validity_alone(stated))
+}
+
+/// The column of layout `Extension` that the value means.
+#[cycle(columns)]
+#[tactic(auto, unfolding(crate::specs::Columns::extension_in))]
+fn extension_in(alloc: Global, value: &Value) -> Result<Array, DocError>
+    ensures { Gives (λ c. c) result (extension_in (view value.now) (inner_of (view value.now))) }
+{
+    let storage = column_member(alloc, value, "storage")?;
+    extension_by(alloc, value, storage)
 }
 
 /// The column of the layout of lists of this name that the value means. `Malformed` where there is

@@ -7,28 +7,12 @@ ghost use Rattle.vx_document.specs.Later.{later_words, is_later_word, is_later_t
 use serde_json::{Map, Value};
 use vx_json::is_among;
 
-/// Whether it is a word of records, unions or extensions. They are one pool: each counts as a name
-/// and as a text alike.
+/// Whether it is a word of unions. They are one pool: each counts as a name and as a text alike.
 #[tactic(auto, unfolding(crate::specs::Later::later_words))]
 fn is_later_word(word: &str) -> bool
     ensures { result ≡ is_later_word word.now }
 {
-    is_among(
-        &[
-            "Struct",
-            "Union",
-            "Extension",
-            "names",
-            "fields",
-            "type_ids",
-            "variants",
-            "id",
-            "name",
-            "children",
-            "storage",
-        ],
-        word,
-    )
+    is_among(&["Union", "type_ids", "variants", "id", "children"], word)
 }
 
 /// Whether a member of this name is a `layout` or a `type` with a later word for its text.

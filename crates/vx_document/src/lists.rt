@@ -26,8 +26,6 @@ pub(crate) fn refusal(fault: ColumnError) -> DocError
 
 /// The column of the layout of lists of this name that the value means, by the column that its
 /// member `elements` means. `Malformed` where there is no such layout.
-///
-/// No column has rows of structs yet, so no map can be made of one.
 pub(crate) fn lists_by(
     alloc: Global,
     value: &Value,

@@ -3,13 +3,14 @@ use Rattle.std.specs.Prelude.{ℕ, ◌+◌, pos, nat_le, List, [], ◌∷◌, ma
 use Rattle.std.specs.List.{concat}
 use Rattle.std.specs.Result.{result_ok}
 use Rattle.serde_json.specs.Data.{Data}
-use Rattle.serde_json.specs.Find.{as_str}
+use Rattle.serde_json.specs.Find.{as_str, as_array}
 use Rattle.hex.specs.Hex.{decode_of}
 use Rattle.vx_types.specs.PType.{record_of}
 use Rattle.vx_types.specs.declared.text.TextKind.{TextKind}
 use Rattle.vx_types.specs.declared.text.TextKind.TheVariants.{Utf8, Binary}
 use Rattle.vx_json.specs.Meaning.{◌>>=◌}
 use Rattle.vx_json.specs.Bools.{is_there}
+use Rattle.vx_json.specs.Items.{each}
 use Rattle.vx_json.specs.declared.texts.TheConstants.{GREATEST_OFFSET}
 
 unfoldable pub text_kind_named : List ℕ → Option TextKind
@@ -29,6 +30,10 @@ bytes_of d = as_str d >>= text_spelled Binary
 -- a text of that kind; `null` stands for an empty one
 unfoldable pub text_or_empty : TextKind → Data → Option (List ℕ)
 text_or_empty kind d = if is_there d then as_str d >>= text_spelled kind else Some []
+
+-- a list of texts
+unfoldable pub names_of : Data → Option (List (List ℕ))
+names_of d = as_array d >>= each as_str
 
 -- where each text ends, where the first begins at n
 abbrev pub ends_from : ℕ → List (List ℕ) → List ℕ

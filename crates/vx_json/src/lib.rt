@@ -28,7 +28,9 @@ pub use members::{
     bool_in, closed, is_among, is_closed, items_in, list_member, member, text_in, text_member,
 };
 pub use policies::policy_found;
-pub use texts::{StrungTexts, byte_lists_in, bytes_of, strung_texts, text_kind_named, text_of};
+pub use texts::{
+    StrungTexts, byte_lists_in, bytes_of, names_of, strung_texts, text_kind_named, text_of,
+};
 pub use values::{hex_value_of, hex_values_of, ptype_named, ramp_of, value_of, values_of};
 pub use views::{PlacedTexts, placed_texts, views_in};
 pub use wholes::{GREATEST_LEN, at_most, number_member, pair_of, pairs_in, whole_of, wholes_in};

@@ -3,15 +3,17 @@ ghost use Rattle.std.specs.Prelude.{◌≡◌, option_and_then};
 ghost use Rattle.std.specs.Result.{result_ok};
 ghost use Rattle.serde_json.specs.View.{view, items_view};
 ghost use Rattle.hex.specs.Hex.{decode_of};
+ghost use Rattle.vx_types.specs.Fields.{names_of as names_seen};
 ghost use Rattle.vx_json.specs.Meaning.{Gives, Leaves, with_read};
 ghost use Rattle.vx_json.specs.Items.{each};
-ghost use Rattle.vx_json.specs.Texts.{text_kind_named, text_spelled, bytes_of, text_or_empty, strung};
+ghost use Rattle.vx_json.specs.Texts.{text_kind_named, text_spelled, bytes_of, text_or_empty, strung, names_of};
 
 use crate::error::DocError;
 use crate::items::{ReadItem, read_each};
-use crate::members::text_in;
+use crate::members::{items_in, text_in};
 use serde_json::Value;
 use std::alloc::Global;
+use std::rc::RcStr;
 use vx_bits::Buffer;
 use vx_types::{TextKind, record_of};
 
@@ -115,6 +117,35 @@ pub fn byte_lists_in(alloc: Global, items: &Vec<Value>) -> Result<Vec<Buffer<u8>
     ensures { Gives (λ v. v.items) result (each bytes_of (items_view items.now.items)) }
 {
     read_each(alloc, &ByteLists, items)
+}
+
+#[derive(Clone, Copy)]
+struct Names;
+
+impl ReadItem for Names {
+    ghost use Rattle.std.specs.Prelude.{ℕ, List};
+    ghost use Rattle.std.specs.Rc.{rc_str_bytes};
+    ghost use Rattle.serde_json.specs.Find.{as_str};
+
+    type Out = RcStr;
+
+    ghost Seen = { List ℕ };
+
+    ghost seen = { λ s. rc_str_bytes s };
+
+    ghost meaning = { λ _ d. as_str d };
+
+    fn read(&self, alloc: Global, value: &Value) -> Result<RcStr, DocError> {
+        Ok(RcStr::from_str(alloc, text_in(value)?)?)
+    }
+}
+
+/// A list of texts. `Malformed` where the value is none.
+#[tactic(auto, unfolding(crate::specs::Texts::names_of))]
+pub fn names_of(alloc: Global, value: &Value) -> Result<Vec<RcStr>, DocError>
+    ensures { Gives (λ v. names_seen v.items) result (names_of (view value.now)) }
+{
+    read_each(alloc, &Names, items_in(value)?)
 }
 
 /// Texts one behind another.

@@ -1,49 +1,49 @@
 -- Rows in rows.
-use Rattle.std.proofs.Common.{◌≡◌, true, false, List, [], ◌∷◌, ◌++◌, ◌∙◌, Some, map, refl, ap}
+use Rattle.std.proofs.Common.{◌≡◌, ℕ, List, [], ◌∷◌, ◌++◌, ◌∙◌, Some, map, get_or, refl, ap}
 use Rattle.std.specs.Prelude.{codes}
-use Rattle.vx_types.specs.RowValue.{RowValue, row_values}
-use Rattle.vx_types.specs.Scalar.{is_of_bytes, is_text_kind}
-use Rattle.vx_types.specs.TypeTree.{TypeKind, TypeTree, is_flat_kind, null_kind, bool_kind, primitive_kind, decimal_kind, utf8_kind, binary_kind, list_kind, fixed_kind, map_kind, struct_kind, union_kind, extension_kind}
+use Rattle.vx_types.specs.RowValue.{RowValue, null, row_values}
+use Rattle.vx_types.specs.TypeTree.{TypeKind, TypeTree, TypeTrees, types_of, list_kind, fixed_kind, map_kind, struct_kind, extension_kind}
+use Rattle.vx_model.specs.Column.{Column}
+use Rattle.vx_model.specs.Columns.{types_in}
+use Rattle.vx_model.specs.Extension.{storage_kind}
 use Rattle.vx_model.specs.Lists.{elements_type, list_row}
-use Rattle.vx_print.specs.Text.{joined, item_kind, item_texts, row_text, row_text_as}
+use Rattle.vx_model.specs.Struct.{fields_row}
+use Rattle.vx_column.specs.Cell.{field_types as types_told}
+use Rattle.vx_print.specs.Fields.{texts_at}
+use Rattle.vx_print.specs.Text.{joined, labelled, name_label, field_names, field_texts, field_types, item_kind, item_texts, row_text, row_text_as}
 
 item_texts-map : (k : TypeKind) (xs : List RowValue) → item_texts k (row_values xs) ≡ map (row_text_as k) xs
 item_texts-map k [] = refl
 item_texts-map k (x ∷ xs) = ap (λ l. row_text_as k x ∷ l) (item_texts-map k xs)
 
-item_kind-elements : (k : TypeKind) (t : TypeTree) → elements_type k ≡ Some t → item_kind k ≡ t.kind
-item_kind-elements null_kind t h = cc
-item_kind-elements bool_kind t h = cc
-item_kind-elements (primitive_kind p) t h = cc
-item_kind-elements (decimal_kind p s w) t h = cc
-item_kind-elements utf8_kind t h = cc
-item_kind-elements binary_kind t h = cc
+-- an extension's elements are its storage's
+item_kind-elements : (k : TypeKind) (t : TypeTree) → elements_type (storage_kind k) ≡ Some t → item_kind k ≡ t.kind
 item_kind-elements (list_kind k n) t h = cc
 item_kind-elements (fixed_kind k n size) t h = cc
 item_kind-elements (map_kind names ts) t h = cc
-item_kind-elements (struct_kind names ts) t h = cc
-item_kind-elements (union_kind ids names ts) t h = cc
-item_kind-elements (extension_kind name k) t h = cc
+item_kind-elements (extension_kind name k) t h = item_kind-elements k t h
+item_kind-elements k t h = cc
 
 -- the text of a list of these elements
-pub list_text : (t : TypeTree) (e : TypeTree) (xs : List RowValue) → elements_type t.kind ≡ Some e → row_text t (list_row xs) ≡ codes "[" ++ joined (map (row_text e) xs) ++ codes "]"
+pub list_text : (t : TypeTree) (e : TypeTree) (xs : List RowValue) → elements_type (storage_kind t.kind) ≡ Some e → row_text t (list_row xs) ≡ codes "[" ++ joined (map (row_text e) xs) ++ codes "]"
 list_text t e xs h =
     ap (λ k. codes "[" ++ joined (item_texts k (row_values xs)) ++ codes "]") (item_kind-elements t.kind e h)
     ∙ ap (λ l. codes "[" ++ joined l ++ codes "]") (item_texts-map e.kind xs)
 
--- bytes that are of no flat type are text
-pub text_bytes : (k : TypeKind) → is_of_bytes k ≡ true → is_flat_kind k ≡ false → is_text_kind k ≡ true
-text_bytes null_kind h f = cc
-text_bytes bool_kind h f = cc
-text_bytes (primitive_kind p) h f = cc
-text_bytes (decimal_kind p s w) h f = cc
-text_bytes utf8_kind h f = refl
-text_bytes binary_kind h f = refl
-text_bytes (list_kind k n) h f = cc
-text_bytes (fixed_kind k n size) h f = cc
-text_bytes (map_kind names ts) h f = cc
-text_bytes (struct_kind names ts) h f = cc
-text_bytes (union_kind ids names ts) h f = cc
-text_bytes (extension_kind name k) h f = cc
+field_texts-at : (cs : List Column) (i : ℕ) → field_texts (types_of (types_in cs)) (row_values (map (λ (c : Column). get_or c.rows i null) cs)) ≡ texts_at cs i
+field_texts-at [] i = refl
+field_texts-at (c ∷ cs) i = ap (λ l. row_text c.dtype (get_or c.rows i null) ∷ l) (field_texts-at cs i)
 
-pub ruleset element_rows = (list_text, text_bytes)
+-- an extension's fields are its storage's
+field_types-told : (k : TypeKind) (ts : TypeTrees) → types_told (storage_kind k) ≡ Some ts → field_types k ≡ ts
+field_types-told (struct_kind names us) ts h = cc
+field_types-told (extension_kind name k) ts h = field_types-told k ts h
+field_types-told k ts h = cc
+
+-- the text of a struct of these fields
+pub fields_text : (t : TypeTree) (cs : List Column) (i : ℕ) → types_told (storage_kind t.kind) ≡ Some (types_of (types_in cs)) → row_text t (fields_row (map (λ (c : Column). get_or c.rows i null) cs)) ≡ codes "{" ++ joined (labelled (map name_label (field_names t.kind)) (texts_at cs i)) ++ codes "}"
+fields_text t cs i h =
+    ap (λ l. codes "{" ++ joined (labelled (map name_label (field_names t.kind)) l) ++ codes "}")
+    (ap (λ ts. field_texts ts (row_values (map (λ (c : Column). get_or c.rows i null) cs))) (field_types-told t.kind (types_of (types_in cs)) h) ∙ field_texts-at cs i)
+
+pub ruleset element_rows = (list_text)

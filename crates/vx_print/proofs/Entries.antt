@@ -4,18 +4,7 @@ use Rattle.vx_types.specs.DType.{type_of}
 use Rattle.vx_types.specs.TypeTree.{types_of, type_size, types_size}
 use Rattle.vx_types.specs.declared.dtype.DType.{DType}
 use Rattle.vx_print.specs.Text.{joined, gap, labelled, type_text, type_texts}
-use Rattle.vx_print.proofs.Gaps.{text_more}
-
-get_or-labelled : (ls ts : List (List ℕ)) (i : ℕ) → i < length ts → get_or (labelled ls ts) i [] ≡ get_or ls i [] ++ get_or ts i []
-get_or-labelled [] ts i h = refl
-get_or-labelled (l ∷ ls) [] i h = absurd (omega arith)
-get_or-labelled (l ∷ ls) (t ∷ ts) zero h = refl
-get_or-labelled (l ∷ ls) (t ∷ ts) (suc i) h = get_or-labelled ls ts i (omega arith)
-
-length-labelled : (ls ts : List (List ℕ)) → length (labelled ls ts) ≡ length ts
-length-labelled [] ts = refl
-length-labelled (l ∷ ls) [] = refl
-length-labelled (l ∷ ls) (t ∷ ts) = ap suc (length-labelled ls ts)
+use Rattle.vx_print.proofs.Labels.{get_or-labelled, label_more, length-labelled}
 
 get_or-type_texts : (ts : List DType) (i : ℕ) (d : DType) → i < length ts → get_or (type_texts (types_of (map type_of ts))) i [] ≡ type_text (type_of (get_or ts i d))
 get_or-type_texts [] i d h = absurd (omega arith)
@@ -45,13 +34,10 @@ length-entries ids names ts =
 pub entry_more : (ids names : List (List ℕ)) (ts : List DType) (bs : List ℕ) (i : ℕ) (d : DType) → i < length ts → ((((bs ++ joined (take i (entries ids names ts))) ++ gap (eqb i 0)) ++ get_or ids i []) ++ get_or names i []) ++ type_text (type_of (get_or ts i d)) ≡ bs ++ joined (take (i + 1) (entries ids names ts))
 entry_more ids names ts bs i d h =
     let texts = type_texts (types_of (map type_of ts)) in
-    let front = (bs ++ joined (take i (entries ids names ts))) ++ gap (eqb i 0) in
+    let front = ((bs ++ joined (take i (entries ids names ts))) ++ gap (eqb i 0)) ++ get_or ids i [] in
     let long : length texts ≡ length ts = length-type_texts ts in
     let named : get_or (labelled names texts) i [] ≡ get_or names i [] ++ type_text (type_of (get_or ts i d)) =
     get_or-labelled names texts i (omega (arith, long)) ∙ ap (λ t. get_or names i [] ++ t) (get_or-type_texts ts i d h) in
-    let entry : get_or (entries ids names ts) i [] ≡ get_or ids i [] ++ (get_or names i [] ++ type_text (type_of (get_or ts i d))) =
-    get_or-labelled ids (labelled names texts) i (omega (arith, long, length-labelled names texts)) ∙ ap (λ t. get_or ids i [] ++ t) named in
-    append_assoc (front ++ get_or ids i []) (get_or names i []) (type_text (type_of (get_or ts i d)))
-    ∙ append_assoc front (get_or ids i []) (get_or names i [] ++ type_text (type_of (get_or ts i d)))
-    ∙ sym (ap (λ t. front ++ t) entry)
-    ∙ text_more bs (entries ids names ts) i (omega (arith, length-entries ids names ts))
+    append_assoc front (get_or names i []) (type_text (type_of (get_or ts i d)))
+    ∙ sym (ap (λ t. front ++ t) named)
+    ∙ label_more ids (labelled names texts) bs i (omega (arith, long, length-labelled names texts))

@@ -30,6 +30,21 @@ fn put_primitive(ptype: PType, bytes: &[u8], dst: &mut [u8; ROOM], end: usize) -
     }
 }
 
+/// Appends a record of a primitive type, by way of `dst`. `NoMemory` alone.
+pub(crate) fn push_record(
+    text: &mut Vec<u8>,
+    dst: &mut [u8; ROOM],
+    ptype: PType,
+    bytes: &[u8],
+) -> Result<(), NoMemory>
+    requires { length bytes.now ≡ width ptype }
+    ensures { IsOk result → text.new.items ≡ text.old.items ++ primitive_text ptype bytes.now }
+{
+    let at = put_primitive(ptype, bytes, dst, ROOM);
+    text.extend_from_slice(&dst[at..])?;
+    Ok(())
+}
+
 // Writes a row of this type so that it ends at `end`, and answers where it begins.
 #[inline(always)]
 #[tactic(auto, using(crate::proofs::Widths::decimal_short))]
@@ -53,7 +68,7 @@ fn put_row(dtype: &DType, row: Cell<'_>, dst: &mut [u8; ROOM], end: usize) -> us
             prove!(width <= 32);
             put_hex(bytes, dst, end)
         }
-        (Cell::Bytes(_) | Cell::List(_), _) => unreachable!(),
+        (Cell::Bytes(_) | Cell::List(_) | Cell::Fields(_), _) => unreachable!(),
     }
 }
 

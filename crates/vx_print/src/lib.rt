@@ -10,6 +10,7 @@ mod nested;
 mod reads;
 mod records;
 mod row;
+mod stored;
 mod text;
 mod texts;
 mod types;

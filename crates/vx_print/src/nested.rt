@@ -1,17 +1,56 @@
-//! Rows of types that hold other types. They have no bound on their length, so they are written
-//! from the first to the last.
-ghost use Rattle.std.specs.Prelude.{◌≡◌, ◌≤◌, ◌++◌, codes, false, length, map, slice_range, IsOk};
+//! Rows of types that hold other types, and of extensions. They have no bound on their length, so
+//! they are written from the first to the last.
+ghost use Rattle.std.specs.Prelude.{◌≡◌, ◌≤◌, ◌++◌, codes, true, length, map, slice_range, IsOk};
 ghost use Rattle.vx_types.specs.DType.{type_of};
-ghost use Rattle.vx_types.specs.TypeTree.{is_flat};
+ghost use Rattle.vx_types.specs.Fields.{names_of};
+ghost use Rattle.vx_model.specs.Columns.{are_long_past};
 ghost use Rattle.vx_column.specs.Cell.{row_of, IsOfType};
-ghost use Rattle.vx_print.specs.Text.{joined, lines, row_text};
+ghost use Rattle.vx_print.specs.Fields.{texts_at};
+ghost use Rattle.vx_print.specs.Text.{joined, labelled, lines, name_label, row_text};
 
 use crate::cells::push_joined;
-use crate::joined::push_next;
+use crate::joined::{push_gap, push_next};
 use crate::row::ROOM;
-use crate::texts::{has_room, push_bytes};
+use crate::stored::{names_in, push_stored};
+use crate::texts::has_room;
+use crate::types::{push_name, push_word};
+use std::rc::RcStr;
 use vx_bits::NoMemory;
-use vx_column::{Array, Cell, DType, ListCell};
+use vx_column::{Array, ArrayRef, Cell, DType, FieldsCell, Layout, ListCell};
+
+// How many bytes an element takes at least, with what stands between two.
+const ELEMENT: usize = 3;
+
+// How many bytes the elements of the lists from `start` up to `end` take at least.
+fn least_bytes(column: &Array, start: usize, end: usize) -> usize
+    requires ordered { start ≤ end }
+    requires within { end ≤ length column.now.rows }
+{
+    let mut bytes: usize = 0;
+    for i in start..end {
+        if let Cell::List(list) = column.cell_at(i) {
+            let count = list.end.saturating_sub(list.start);
+            bytes = bytes.saturating_add(count.saturating_mul(ELEMENT));
+        }
+    }
+    bytes
+}
+
+// Refuses lists whose text can't be within its bound, where it is told at once: views can show the
+// same million elements a million times.
+fn check_room(text: usize, column: &Array, start: usize, end: usize) -> Result<(), NoMemory>
+    requires ordered { start ≤ end }
+    requires within { end ≤ length column.now.rows }
+{
+    let may_repeat = matches!(
+        column.layout(),
+        Layout::ListView(_) | Layout::Map(_) | Layout::Dict(_)
+    );
+    if may_repeat && !has_room(text, least_bytes(column, start, end)) {
+        return Err(NoMemory);
+    }
+    Ok(())
+}
 
 // Appends the rows from `start` up to `end`, with `, ` between them. Each is begun only where the
 // text that is there is within its bound.
@@ -31,6 +70,7 @@ fn push_elements(
     if column.dtype().is_flat() {
         return push_joined(text, dst, column, start, end);
     }
+    check_room(text.len(), column, start, end)?;
     for i in start..end {
         push_next(text, i == start)?;
         push_row(text, dst, column.dtype(), column.cell_at(i))?;
@@ -48,16 +88,55 @@ fn push_list(text: &mut Vec<u8>, dst: &mut [u8; ROOM], list: ListCell<'_>) -> Re
         (slice_range list.entry.elements.now.rows list.entry.start list.entry.end))
         ++ codes "]") }
 {
-    if !has_room(text.len(), 0) {
-        return Err(NoMemory);
-    }
     text.push(b'[')?;
     push_elements(text, dst, list.elements, list.start, list.end)?;
     text.push(b']')?;
     Ok(())
 }
 
-// Appends a row of this type.
+// Appends row `i` of each of these columns, behind its name where it has one, with `, ` between
+// them.
+#[cycle(nested)]
+fn push_fields(
+    text: &mut Vec<u8>,
+    dst: &mut [u8; ROOM],
+    names: &[RcStr],
+    columns: &[ArrayRef],
+    i: usize,
+) -> Result<(), NoMemory>
+    requires { are_long_past i columns.now ≡ true }
+    ensures { IsOk result → text.new.items ≡ text.old.items
+        ++ joined (labelled (map name_label (names_of names.now)) (texts_at columns.now i)) }
+{
+    for k in 0..columns.len() {
+        push_gap(text, k == 0)?;
+        push_name(text, names, k)?;
+        let column = &columns[k];
+        push_row(text, dst, column.dtype(), column.cell_at(i))?;
+    }
+    Ok(())
+}
+
+// Appends a struct of fields of these names.
+#[cycle(nested)]
+fn push_struct(
+    text: &mut Vec<u8>,
+    dst: &mut [u8; ROOM],
+    names: &[RcStr],
+    fields: FieldsCell<'_>,
+) -> Result<(), NoMemory>
+    requires { are_long_past fields.row fields.columns.now ≡ true }
+    ensures { IsOk result → text.new.items ≡ text.old.items ++ (codes "{" ++ joined
+        (labelled (map name_label (names_of names.now))
+        (texts_at fields.entry.columns.now fields.entry.row)) ++ codes "}") }
+{
+    text.push(b'{')?;
+    push_fields(text, dst, names, fields.columns.as_slice(), fields.row)?;
+    text.push(b'}')?;
+    Ok(())
+}
+
+// Appends a row of this type, which is begun only where the text that is there is within its bound.
 #[cycle(nested)]
 #[tactic(auto, using(crate::proofs::Elements::element_rows))]
 fn push_row(
@@ -66,31 +145,32 @@ fn push_row(
     dtype: &DType,
     row: Cell<'_>,
 ) -> Result<(), NoMemory>
-    requires unbounded { is_flat (type_of dtype.now) ≡ false }
-    requires of_type { IsOfType row (type_of dtype.now) }
+    requires { IsOfType row (type_of dtype.now) }
     ensures { IsOk result → text.new.items
         ≡ text.old.items ++ row_text (type_of dtype.now) (row_of row.entry) }
 {
+    if !has_room(text.len(), 0) {
+        return Err(NoMemory);
+    }
     match row {
-        Cell::Null => {
-            text.extend_from_slice(b"null")?;
-            Ok(())
-        }
-        Cell::Bytes(bytes) => push_bytes(text, dtype, bytes),
+        Cell::Null => push_word(text, b"null"),
+        Cell::Bit(true) => push_word(text, b"true"),
+        Cell::Bit(false) => push_word(text, b"false"),
+        Cell::Bytes(bytes) => push_stored(text, dst, dtype, bytes),
         Cell::List(list) => push_list(text, dst, list),
-        Cell::Bit(_) => unreachable!(),
+        Cell::Fields(fields) => push_struct(text, dst, names_in(dtype), fields),
     }
 }
 
-/// Appends a line for each row of a column that is neither of flat type nor of text. `NoMemory`
-/// alone, also where the text would grow past its bound.
+/// Appends a line for each row of any column. `NoMemory` alone, also where the text would grow past
+/// its bound.
 pub(crate) fn push_nested(text: &mut Vec<u8>, column: &Array) -> Result<(), NoMemory>
-    requires { is_flat column.now.dtype ≡ false }
     ensures { IsOk result → text.new.items
         ≡ text.old.items ++ lines (row_text column.now.dtype) column.now.rows }
 {
     let mut dst = [0; ROOM];
     let dtype = column.dtype();
+    check_room(text.len(), column, 0, column.len())?;
     for i in 0..column.len() {
         push_row(text, &mut dst, dtype, column.cell_at(i))?;
         text.push(b'\n')?;

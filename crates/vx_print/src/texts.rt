@@ -10,9 +10,9 @@ use hex::encode_to_slice;
 use vx_bits::NoMemory;
 use vx_column::{Array, Cell, DType};
 
-// A row of text or a list is begun only where the bytes that are there and those of the text, as
-// they are stored, are at most so many. A short document can name a text or a list of any length:
-// here it ends.
+// A row of text, or of a type that holds others, is begun only where the bytes that are there and
+// those of the text, as they are stored, are at most so many. A short document can name a text or a
+// list of any length: here it ends.
 const TEXT_BYTES: usize = 1 << 31;
 
 const DIGITS: &[u8; 16] = b"0123456789abcdef";
@@ -132,8 +132,8 @@ pub(crate) fn push_quoted(text: &mut Vec<u8>, bytes: &[u8]) -> Result<(), NoMemo
     Ok(())
 }
 
-// Appends bytes in hexadecimal digits.
-fn push_digits(text: &mut Vec<u8>, bytes: &[u8]) -> Result<(), NoMemory>
+/// Appends bytes in hexadecimal digits. `NoMemory` alone.
+pub(crate) fn push_digits(text: &mut Vec<u8>, bytes: &[u8]) -> Result<(), NoMemory>
     requires { length bytes.now ≤ TEXT_BYTES }
     ensures { IsOk result → text.new.items ≡ text.old.items ++ hex_text bytes.now }
 {
@@ -185,7 +185,7 @@ fn push_row(text: &mut Vec<u8>, dtype: &DType, row: Cell<'_>) -> Result<(), NoMe
             Ok(())
         }
         Cell::Bytes(bytes) => push_bytes(text, dtype, bytes),
-        Cell::Bit(_) | Cell::List(_) => unreachable!(),
+        Cell::Bit(_) | Cell::List(_) | Cell::Fields(_) => unreachable!(),
     }
 }
 

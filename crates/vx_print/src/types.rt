@@ -44,8 +44,8 @@ fn push_decimal(text: &mut Vec<u8>, decimal: DecimalDType) -> Result<(), NoMemor
     Ok(())
 }
 
-// Appends a word.
-fn push_word(text: &mut Vec<u8>, word: &[u8]) -> Result<(), NoMemory>
+/// Appends a word. `NoMemory` alone.
+pub(crate) fn push_word(text: &mut Vec<u8>, word: &[u8]) -> Result<(), NoMemory>
     ensures { IsOk result → text.new.items ≡ text.old.items ++ word.now }
 {
     text.extend_from_slice(word)?;
@@ -98,9 +98,9 @@ fn push_id(text: &mut Vec<u8>, ids: &[u8], i: usize) -> Result<(), NoMemory>
     }
 }
 
-// Appends the label of name `i`, where there is one.
+/// Appends the label of name `i`, where there is one. `NoMemory` alone.
 #[tactic(auto, using(crate::proofs::Labels::label_here))]
-fn push_name(text: &mut Vec<u8>, names: &[RcStr], i: usize) -> Result<(), NoMemory>
+pub(crate) fn push_name(text: &mut Vec<u8>, names: &[RcStr], i: usize) -> Result<(), NoMemory>
     ensures { IsOk result → text.new.items
         ≡ text.old.items ++ slice_index_or (map name_label (names_of names.now)) i [] }
 {

@@ -1,7 +1,10 @@
 -- What a walk over a row counts down: how deep the column that it reads nests.
-use Rattle.std.proofs.Common.{◌≡◌, ◌+◌, ◌*◌, ◌++◌, map, slice_range}
+use Rattle.std.proofs.Common.{◌≡◌, ◌+◌, ◌*◌, ◌++◌, map, slice_range, take}
+use Rattle.vx_types.specs.Fields.{names_of}
+use Rattle.vx_model.specs.Columns.{columns_depth}
 use Rattle.vx_column.specs.Cell.{cell_depth}
-use Rattle.vx_print.specs.Text.{joined, row_text}
+use Rattle.vx_print.specs.Fields.{texts_at}
+use Rattle.vx_print.specs.Text.{joined, labelled, name_label, row_text}
 use Rattle.vx_print.proofs.nested.+nested.Given as goal
 
 -- the rows from the first one on stand behind what was there
@@ -9,11 +12,22 @@ abbrev pub invariant-push_elements-loop-i : goal.invariant-push_elements-loop-i
 invariant-push_elements-loop-i l =
     l.text.items ≡ l.initial.text.items ++ joined (map (row_text l.column.dtype) (slice_range l.column.rows l.start l.i))
 
+-- the first k fields stand behind what was there
+abbrev pub invariant-push_fields-loop-k : goal.invariant-push_fields-loop-k
+invariant-push_fields-loop-k l =
+    l.text.items ≡ l.initial.text.items ++ joined (take l.k (labelled (map name_label (names_of l.names)) (texts_at l.columns l.i)))
+
 abbrev pub decreases-push_elements : goal.decreases-push_elements
 decreases-push_elements l = 3 * l.column.now.depth
 
 abbrev pub decreases-push_list : goal.decreases-push_list
 decreases-push_list l = 3 * l.list.elements.now.depth + 1
+
+abbrev pub decreases-push_fields : goal.decreases-push_fields
+decreases-push_fields l = 3 * columns_depth l.columns.now
+
+abbrev pub decreases-push_struct : goal.decreases-push_struct
+decreases-push_struct l = 3 * columns_depth l.fields.columns.now + 1
 
 abbrev pub decreases-push_row : goal.decreases-push_row
 decreases-push_row l = 3 * cell_depth l.row + 2
