@@ -5,8 +5,8 @@ use std::test::Fail;
 use vx_bits::{BitBuffer, Buffer, NoMemory, Records};
 use vx_column::{
     Array, ArrayRef, BoolArray, ConstantArray, DType, DecimalArray, DecimalDType, DictArray,
-    FilterArray, FlatRef, Nullability, PType, PrimitiveArray, Scalar, ScalarValue, Validity,
-    record_of,
+    FilterArray, FixedSizeListArray, FlatRef, ListArray, ListViewArray, Nullability, PType,
+    PrimitiveArray, Scalar, ScalarValue, Validity, record_of,
 };
 use vx_mask::Mask;
 use vx_pieces::{Indices, PiecewiseSequence};
@@ -20,9 +20,57 @@ fn byte_records(alloc: Global, values: &[[u8; 1]]) -> Result<Records, NoMemory> 
     Ok(Records::W1(Buffer::from_vec(alloc, Vec::from_slice(alloc, values)?)?))
 }
 
-pub(crate) fn bytes(alloc: Global, values: &[[u8; 1]]) -> Result<Array, Fail> {
+fn byte_array(
+    alloc: Global,
+    values: &[[u8; 1]],
+    validity: Validity,
+) -> Result<PrimitiveArray, Fail> {
     let values = byte_records(alloc, values)?;
-    Ok(PrimitiveArray::try_new(PType::U8, values, Validity::NonNullable)?.into_array())
+    Ok(PrimitiveArray::try_new(PType::U8, values, validity)?)
+}
+
+pub(crate) fn bytes(alloc: Global, values: &[[u8; 1]]) -> Result<Array, Fail> {
+    Ok(byte_array(alloc, values, Validity::NonNullable)?.into_array())
+}
+
+/// Offsets, or sizes.
+pub(crate) fn byte_offsets(alloc: Global, values: &[[u8; 1]]) -> Result<PrimitiveArray, Fail> {
+    byte_array(alloc, values, Validity::NonNullable)
+}
+
+/// Lists of bytes between these offsets.
+pub(crate) fn lists(
+    alloc: Global,
+    offsets: &[[u8; 1]],
+    elements: &[[u8; 1]],
+) -> Result<Array, Fail> {
+    let elements = bytes(alloc, elements)?.into_ref(alloc)?;
+    let offsets = byte_offsets(alloc, offsets)?;
+    Ok(ListArray::try_new(alloc, elements, offsets, Validity::NonNullable)?.into_array())
+}
+
+/// Lists of bytes at these offsets and of these sizes.
+pub(crate) fn views(
+    alloc: Global,
+    offsets: &[[u8; 1]],
+    sizes: &[[u8; 1]],
+    elements: &[[u8; 1]],
+) -> Result<ListViewArray, Fail> {
+    let elements = bytes(alloc, elements)?.into_ref(alloc)?;
+    let offsets = byte_offsets(alloc, offsets)?;
+    let sizes = byte_offsets(alloc, sizes)?;
+    Ok(ListViewArray::try_new(alloc, elements, offsets, sizes, Validity::NonNullable)?)
+}
+
+/// Lists of two bytes each, of which there are so many.
+pub(crate) fn pairs(
+    alloc: Global,
+    elements: &[[u8; 1]],
+    len: usize,
+) -> Result<FixedSizeListArray, Fail> {
+    let elements = bytes(alloc, elements)?.into_ref(alloc)?;
+    let validity = Validity::NonNullable;
+    Ok(FixedSizeListArray::try_new(alloc, elements, 2, validity, len)?)
 }
 
 /// Decimal numbers of two digits, stored in a byte.
@@ -46,6 +94,17 @@ pub(crate) fn dict(alloc: Global, codes: Array, values: Array) -> Result<Array, 
 pub(crate) fn indices(alloc: Global, values: &[[u8; 1]]) -> Result<Indices, Fail> {
     let column = bytes(alloc, values)?.into_ref(alloc)?;
     Ok(Indices::Array(FlatRef::try_new(column)?))
+}
+
+/// These indices, and a null where a bit is clear.
+pub(crate) fn indices_where(
+    alloc: Global,
+    values: &[[u8; 1]],
+    bits: &[bool],
+) -> Result<Indices, Fail> {
+    let validity = Validity::Array(bools(alloc, bits)?.into_ref(alloc)?);
+    let column = byte_array(alloc, values, validity)?.into_array();
+    Ok(Indices::Array(FlatRef::try_new(column.into_ref(alloc)?)?))
 }
 
 fn scalar(alloc: Global, number: i128) -> Result<Scalar, Fail> {

@@ -2,6 +2,8 @@
 #![tactic(auto)]
 
 mod columns;
+mod fillers;
+mod lists;
 mod print;
 mod steps;
 
@@ -14,5 +16,9 @@ fn main(rt: HostRuntime) -> Result<(), Fail> {
     steps::print_takes(&rt, rt.alloc())?;
     steps::print_any_take(&rt, rt.alloc())?;
     steps::print_lazy_takes(&rt, rt.alloc())?;
-    steps::print_long_takes(&rt, rt.alloc())
+    steps::print_long_takes(&rt, rt.alloc())?;
+    lists::print_lists(&rt, rt.alloc())?;
+    lists::print_views(&rt, rt.alloc())?;
+    lists::print_fixed(&rt, rt.alloc())?;
+    fillers::print_fillers(&rt, rt.alloc())
 }

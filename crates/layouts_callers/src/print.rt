@@ -2,23 +2,69 @@
 use std::alloc::Global;
 use std::io;
 use std::test::Fail;
-use vx_column::{Array, Row};
+use vx_column::{Array, Layout, ListArray, Row};
 
-fn print_row(rt: &impl Print, row: &Row) -> io::Result<()> {
+fn print_element(rt: &impl Print, row: &Row) -> io::Result<()> {
     match row {
-        Row::Null => print!(rt; " null"),
-        Row::Bit(bit) => print!(rt; " {bit}"),
-        Row::Bytes(bytes) => print!(rt; " {:?}", bytes.as_slice()),
-        Row::List(rows) | Row::Fields(rows) => print!(rt; " {} rows", rows.as_slice().len()),
-        Row::Tagged(id, _) => print!(rt; " a row of variant {id}"),
+        Row::Null => print!(rt; "null"),
+        Row::Bit(bit) => print!(rt; "{bit}"),
+        Row::Bytes(bytes) => print!(rt; "{:?}", bytes.as_slice()),
+        Row::List(rows) | Row::Fields(rows) => print!(rt; "{} rows", rows.as_slice().len()),
+        Row::Tagged(id, _) => print!(rt; "a row of variant {id}"),
     }
 }
 
-fn row_at(alloc: Global, array: &Array, i: usize) -> Result<Row, Fail> {
+fn print_elements(rt: &impl Print, rows: &[Row]) -> io::Result<()> {
+    for (i, row) in rows.iter().enumerate() {
+        if i != 0 {
+            print!(rt; " ")?;
+        }
+        print_element(rt, row)?;
+    }
+    Ok(())
+}
+
+fn print_row(rt: &impl Print, row: &Row) -> io::Result<()> {
+    match row {
+        Row::List(rows) => {
+            print!(rt; " (")?;
+            print_elements(rt, rows.as_slice())?;
+            print!(rt; ")")
+        }
+        _ => {
+            print!(rt; " ")?;
+            print_element(rt, row)
+        }
+    }
+}
+
+/// Where the lists begin and end among their elements, and the type of their offsets.
+fn print_spans(rt: &impl Print, array: &ListArray) -> io::Result<()> {
+    print!(rt; ", {:?}", array.offsets().ptype())?;
+    for i in 0..array.len() {
+        let (start, end) = array.span_at(i);
+        print!(rt; " {start}..{end}")?;
+    }
+    Ok(())
+}
+
+pub(crate) fn row_at(alloc: Global, array: &Array, i: usize) -> Result<Row, Fail> {
     if i >= array.len() {
         return Err("past the last row".into());
     }
     Ok(array.row_at(alloc, i)?)
+}
+
+/// The rows.
+pub(crate) fn print_rows(rt: &impl Print, alloc: Global, array: &Array) -> Result<(), Fail> {
+    for i in 0..array.len() {
+        print_row(rt, &row_at(alloc, array, i)?)?;
+    }
+    if let Layout::List(lists) = array.layout() {
+        print_spans(rt, lists)?;
+    }
+    println!(rt; "")?;
+    Ok(())
 }
 
 /// The rows, or that there are none since the step is left to the caller.
@@ -28,12 +74,7 @@ pub(crate) fn print_answer(
     answer: &Option<Array>,
 ) -> Result<(), Fail> {
     match answer {
-        Some(array) => {
-            for i in 0..array.len() {
-                print_row(rt, &row_at(alloc, array, i)?)?;
-            }
-            println!(rt; "")?;
-        }
+        Some(array) => print_rows(rt, alloc, array)?,
         None => println!(rt; " None")?,
     }
     Ok(())

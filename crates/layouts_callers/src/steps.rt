@@ -12,7 +12,7 @@ use vx_pieces::Indices;
 
 // Each call stands in a function that says nothing of it, so that few facts pile up.
 
-fn view_of<V: VTable>(array: &Array) -> Result<ArrayView<'_, V>, Fail> {
+pub(crate) fn view_of<V: VTable>(array: &Array) -> Result<ArrayView<'_, V>, Fail> {
     let Some(view) = array.as_opt::<V>() else {
         return Err("a column of another layout".into());
     };
@@ -26,7 +26,7 @@ fn rows_as<V: VTable>(array: &Array) -> Option<usize> {
     Some(view.array().len())
 }
 
-fn taken<V: TakeExecute>(
+pub(crate) fn taken<V: TakeExecute>(
     alloc: Global,
     view: ArrayView<'_, V>,
     indices: &Indices,
@@ -68,13 +68,13 @@ fn print_view<V: VTable>(rt: &impl Print, array: &Array) -> Result<(), Fail> {
     Ok(())
 }
 
-fn print_error(rt: &impl Print, error: TakeError) -> Result<(), Fail> {
+pub(crate) fn print_error(rt: &impl Print, error: TakeError) -> Result<(), Fail> {
     println!(rt; " {error:?}")?;
     Ok(())
 }
 
 /// A take by the layout, or its error.
-fn print_take<V: TakeExecute>(
+pub(crate) fn print_take<V: TakeExecute>(
     rt: &impl Print,
     alloc: Global,
     array: &Array,
@@ -102,7 +102,7 @@ fn print_filter<V: FilterReduce>(
 }
 
 /// A slice by the layout.
-fn print_slice<V: SliceReduce>(
+pub(crate) fn print_slice<V: SliceReduce>(
     rt: &impl Print,
     alloc: Global,
     array: &Array,

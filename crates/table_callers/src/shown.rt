@@ -29,6 +29,7 @@ fn print_cell(rt: &impl Print, dtype: &DType, cell: Cell) -> Result<(), Fail> {
             _ => print_number(rt, bytes)?,
         },
         Cell::List(_) => print!(rt; " a list")?,
+        Cell::Fields(_) => print!(rt; " a struct")?,
     }
     Ok(())
 }

@@ -1,0 +1,157 @@
+//! Steps over layouts of lists through their traits.
+use crate::columns::{indices, indices_where, lists, pairs, views};
+use crate::print::{print_answer, print_rows};
+use crate::steps::{print_error, print_slice, print_take, taken, view_of};
+use callers::mask_of;
+use std::alloc::Global;
+use std::test::Fail;
+use vx_column::vtables::{FixedSizeList, List, ListView};
+use vx_column::{Array, ArrayView, FixedSizeListArray, ListViewArray};
+use vx_layouts::{
+    FilterKernel, TakeError, TakeExecute, TakeReduce, filter_fixed_size_list, filter_listview,
+};
+use vx_mask::Mask;
+use vx_pieces::Indices;
+
+fn reduced<V: TakeReduce>(
+    alloc: Global,
+    view: ArrayView<'_, V>,
+    indices: &Indices,
+) -> Result<Option<Array>, TakeError> {
+    V::take(alloc, view, indices)
+}
+
+fn kept<V: FilterKernel>(
+    alloc: Global,
+    view: ArrayView<'_, V>,
+    mask: &Mask,
+) -> Result<Option<Array>, Fail> {
+    if mask.len() != view.array().len() {
+        return Err("not a bit for each row".into());
+    }
+    Ok(V::filter(alloc, view, mask)?)
+}
+
+/// A filter by the layout, while it is executed.
+fn print_kept<V: FilterKernel>(
+    rt: &impl Print,
+    alloc: Global,
+    array: &Array,
+    bits: &[bool],
+) -> Result<(), Fail> {
+    print!(rt; "filter of {:?}:", V::NAME)?;
+    let mask = mask_of(alloc, bits)?;
+    let answer = kept(alloc, view_of::<V>(array)?, &mask)?;
+    print_answer(rt, alloc, &answer)
+}
+
+/// A take by the layout while columns are put together, or its error.
+fn print_reduced<V: TakeReduce>(
+    rt: &impl Print,
+    alloc: Global,
+    array: &Array,
+    picks: &[[u8; 1]],
+) -> Result<(), Fail> {
+    print!(rt; "reduced take of {:?}:", V::NAME)?;
+    let view = view_of::<V>(array)?;
+    let indices = indices(alloc, picks)?;
+    match reduced(alloc, view, &indices) {
+        Ok(answer) => print_answer(rt, alloc, &answer),
+        Err(error) => print_error(rt, error),
+    }
+}
+
+/// A take of two rows, of which a null takes the place of the one whose bit is clear.
+fn print_null_take<V: TakeExecute>(
+    rt: &impl Print,
+    alloc: Global,
+    array: &Array,
+    picks: &[[u8; 1]],
+    bits: &[bool],
+) -> Result<(), Fail> {
+    print!(rt; "take of {:?}:", V::NAME)?;
+    let view = view_of::<V>(array)?;
+    let indices = indices_where(alloc, picks, bits)?;
+    match taken(alloc, view, &indices) {
+        Ok(answer) => print_answer(rt, alloc, &answer),
+        Err(error) => print_error(rt, error),
+    }
+}
+
+/// Steps of lists that offsets cut: takes begin at 0, filters keep the offsets' type, and a filter
+/// that keeps all or none is left to the caller.
+pub(crate) fn print_lists(rt: &impl Print, alloc: Global) -> Result<(), Fail> {
+    let column = lists(alloc, &[[0], [2], [2], [5]], &[[1], [2], [3], [4], [5]])?;
+    print_take::<List>(rt, alloc, &column, &[[2], [0], [2]])?;
+    print_take::<List>(rt, alloc, &column, &[[2], [3]])?;
+    print_null_take::<List>(rt, alloc, &column, &[[9], [2]], &[false, true])?;
+    print_kept::<List>(rt, alloc, &column, &[true, false, true])?;
+    print_kept::<List>(rt, alloc, &column, &[false, false, true])?;
+    print_kept::<List>(rt, alloc, &column, &[true, true, true])?;
+    print_kept::<List>(rt, alloc, &column, &[false, false, false])?;
+    print_slice::<List>(rt, alloc, &column, 1, 3)
+}
+
+/// Steps of views.
+pub(crate) fn print_views(rt: &impl Print, alloc: Global) -> Result<(), Fail> {
+    let views = views(alloc, &[[4], [0]], &[[1], [2]], &[[1], [2], [3], [4], [5]])?;
+    let column = views.share().into_array();
+    print_take::<ListView>(rt, alloc, &column, &[[1], [0], [1]])?;
+    print_take::<ListView>(rt, alloc, &column, &[[2]])?;
+    print_null_take::<ListView>(rt, alloc, &column, &[[9], [0]], &[false, true])?;
+    print_reduced::<ListView>(rt, alloc, &column, &[[1], [1]])?;
+    print_reduced::<ListView>(rt, alloc, &column, &[[0], [2]])?;
+    print_slice::<ListView>(rt, alloc, &column, 1, 2)?;
+    print_view_filter(rt, alloc, &views)
+}
+
+fn print_view_filter(rt: &impl Print, alloc: Global, array: &ListViewArray) -> Result<(), Fail> {
+    let mask = mask_of(alloc, &[false, true])?;
+    let Some(mask) = mask.values() else {
+        return Err("no list, or each".into());
+    };
+    if mask.len() != array.len() {
+        return Err("another number of lists".into());
+    }
+    print!(rt; "filter_listview:")?;
+    print_rows(
+        rt,
+        alloc,
+        &filter_listview(alloc, array, mask)?.into_array(),
+    )
+}
+
+/// Steps of lists of one size, of which there are three, and none.
+pub(crate) fn print_fixed(rt: &impl Print, alloc: Global) -> Result<(), Fail> {
+    let pairs = pairs(alloc, &[[1], [2], [3], [4], [5], [6]], 3)?;
+    let column = pairs.share().into_array();
+    print_take::<FixedSizeList>(rt, alloc, &column, &[[2], [0]])?;
+    print_take::<FixedSizeList>(rt, alloc, &column, &[[2], [3]])?;
+    print_null_take::<FixedSizeList>(rt, alloc, &column, &[[2], [9]], &[true, false])?;
+    print_slice::<FixedSizeList>(rt, alloc, &column, 1, 3)?;
+    print_fixed_filter(rt, alloc, &pairs)?;
+    print_no_pairs(rt, alloc)
+}
+
+fn print_fixed_filter(
+    rt: &impl Print,
+    alloc: Global,
+    array: &FixedSizeListArray,
+) -> Result<(), Fail> {
+    let mask = mask_of(alloc, &[false, true, true])?;
+    let Some(mask) = mask.values() else {
+        return Err("no list, or each".into());
+    };
+    if mask.len() != array.len() {
+        return Err("another number of lists".into());
+    }
+    print!(rt; "filter_fixed_size_list:")?;
+    let kept = filter_fixed_size_list(alloc, array, mask)?;
+    print_rows(rt, alloc, &kept.into_array())
+}
+
+fn print_no_pairs(rt: &impl Print, alloc: Global) -> Result<(), Fail> {
+    let column = pairs(alloc, &[], 0)?.into_array();
+    print_null_take::<FixedSizeList>(rt, alloc, &column, &[[0], [9]], &[false, false])?;
+    print_take::<FixedSizeList>(rt, alloc, &column, &[[0]])
+}

@@ -1,0 +1,43 @@
+//! Columns of rows that stand where none is shown.
+use crate::columns::{bytes, days, maps, points, structs, where_set};
+use crate::print::print_rows;
+use std::alloc::Global;
+use std::test::Fail;
+use vx_column::{Array, Validity};
+
+// As many rows as a document may state.
+const MANY: usize = 16_777_216;
+
+/// So many rows of a column's type.
+fn print_filler(rt: &impl Print, alloc: Global, array: &Array, len: usize) -> Result<(), Fail> {
+    print!(rt; "filler of {len} rows:")?;
+    print_rows(rt, alloc, &Array::filler(alloc, array.dtype(), len)?)
+}
+
+/// Structs of a map and an extension, as a column of no rows.
+fn no_structs(alloc: Global, validity: Validity) -> Result<Array, Fail> {
+    let maps = Array::filler(alloc, maps(alloc)?.into_array().dtype(), 0)?;
+    let days = Array::filler(alloc, days(alloc)?.into_array().dtype(), 0)?;
+    Ok(structs(alloc, ["m", "d"], maps, days, 0, validity)?.into_array())
+}
+
+fn print_many(rt: &impl Print, alloc: Global) -> Result<(), Fail> {
+    let types = no_structs(alloc, Validity::NonNullable)?;
+    let filler = Array::filler(alloc, types.dtype(), MANY)?;
+    println!(rt; "filler of {} rows", filler.len())?;
+    Ok(())
+}
+
+/// Fillers of types of structs, maps and extensions.
+pub(crate) fn print_fillers(rt: &impl Print, alloc: Global) -> Result<(), Fail> {
+    print_filler(rt, alloc, &points(alloc)?.into_array(), 2)?;
+    let x = bytes(alloc, &[[7]])?;
+    let y = bytes(alloc, &[[8]])?;
+    let there = structs(alloc, ["x", "y"], x, y, 1, Validity::NonNullable)?;
+    print_filler(rt, alloc, &there.into_array(), 2)?;
+    print_filler(rt, alloc, &maps(alloc)?.into_array(), 2)?;
+    print_filler(rt, alloc, &days(alloc)?.into_array(), 1)?;
+    print_filler(rt, alloc, &no_structs(alloc, Validity::NonNullable)?, 1)?;
+    print_filler(rt, alloc, &no_structs(alloc, where_set(alloc, &[])?)?, 1)?;
+    print_many(rt, alloc)
+}

@@ -1,0 +1,20 @@
+//! Calls the functions of structs, maps and extensions as a user does, and prints what each gives.
+#![tactic(auto)]
+
+mod columns;
+mod fillers;
+mod print;
+mod readers;
+mod refusals;
+mod steps;
+
+use std::test::Fail;
+
+fn main(rt: HostRuntime) -> Result<(), Fail> {
+    readers::print_readers(&rt, rt.alloc())?;
+    refusals::print_refusals(&rt, rt.alloc())?;
+    steps::print_structs(&rt, rt.alloc())?;
+    steps::print_maps(&rt, rt.alloc())?;
+    steps::print_extensions(&rt, rt.alloc())?;
+    fillers::print_fillers(&rt, rt.alloc())
+}

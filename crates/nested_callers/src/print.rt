@@ -1,0 +1,31 @@
+//! A column in a line.
+use std::alloc::Global;
+use std::test::Fail;
+use vx_column::Array;
+use vx_print::text_of;
+
+/// Prints the type and the rows, a blank before each.
+pub(crate) fn print_rows(rt: &impl Print, alloc: Global, column: &Array) -> Result<(), Fail> {
+    let text = text_of(alloc, column)?;
+    for line in text.as_slice().split(|byte| *byte == b'\n') {
+        match std::str::from_utf8(line) {
+            Ok(line) => print!(rt; " {line}")?,
+            Err(_) => return Err("no text".into()),
+        }
+    }
+    println!(rt; "")?;
+    Ok(())
+}
+
+/// The same, or that the step is left to the caller.
+pub(crate) fn print_answer(
+    rt: &impl Print,
+    alloc: Global,
+    answer: &Option<Array>,
+) -> Result<(), Fail> {
+    match answer {
+        Some(column) => print_rows(rt, alloc, column)?,
+        None => println!(rt; " None")?,
+    }
+    Ok(())
+}
