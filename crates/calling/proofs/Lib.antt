@@ -2,3 +2,4 @@ pub mod FirstRows
 pub mod NameTables
 pub mod NumberColumns
 pub mod SquareLists
+pub mod SideBySide

@@ -53,8 +53,8 @@ pub(crate) fn u32_column(alloc: Global, numbers: &[Option<u32>]) -> Result<Array
     Ok(PrimitiveArray::try_new(PType::U32, values, validity)?.into_array())
 }
 
-// A record for each number.
-fn u64_records(alloc: Global, numbers: &[u64]) -> Result<Records, NoMemory>
+/// A record for each number.
+pub(crate) fn u64_records(alloc: Global, numbers: &[u64]) -> Result<Records, NoMemory>
     ensures numbers { IfOk result (λ r. map (number U64) (records_of r) ≡ map pos numbers.now) }
     ensures width { IfOk result (λ r. width_of r ≡ 8) }
 {

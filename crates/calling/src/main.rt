@@ -6,6 +6,7 @@ mod chunks;
 mod columns;
 mod error;
 mod names;
+mod people;
 mod policies;
 mod printing;
 mod reading;
@@ -23,5 +24,6 @@ fn main(rt: HostRuntime) -> Result<(), Fail> {
     selecting::print_rows(&rt, rt.alloc())?;
     names::print_names(&rt, rt.alloc())?;
     chunks::print_squares(&rt, rt.alloc())?;
-    tables::print_pages(&rt, rt.alloc())
+    tables::print_pages(&rt, rt.alloc())?;
+    people::print_people(&rt, rt.alloc())
 }

@@ -19,7 +19,7 @@ pub(crate) fn print_numbers(rt: &impl Print, column: &Array) -> Result<(), Fail>
     Ok(())
 }
 
-fn print_number(rt: &impl Print, number: Option<i128>) -> io::Result<()> {
+pub(crate) fn print_number(rt: &impl Print, number: Option<i128>) -> io::Result<()> {
     match number {
         Some(number) => print!(rt; " {number}"),
         None => print!(rt; " null"),
@@ -46,7 +46,7 @@ pub(crate) fn print_text(rt: &impl Print, alloc: Global, column: &Array) -> Resu
     Ok(())
 }
 
-fn print_name(rt: &impl Print, row: &Row) -> Result<(), Fail> {
+pub(crate) fn print_name(rt: &impl Print, row: &Row) -> Result<(), Fail> {
     match row {
         Row::Bytes(bytes) => match std::str::from_utf8(bytes.as_slice()) {
             Ok(name) => print!(rt; " {name:?}")?,
@@ -54,6 +54,18 @@ fn print_name(rt: &impl Print, row: &Row) -> Result<(), Fail> {
         },
         _ => print!(rt; " null")?,
     }
+    Ok(())
+}
+
+/// The texts of a list.
+pub(crate) fn print_elements(rt: &impl Print, row: &Row) -> Result<(), Fail> {
+    print!(rt; " [")?;
+    if let Row::List(rows) = row {
+        for row in rows.as_slice() {
+            print_name(rt, row)?;
+        }
+    }
+    print!(rt; " ]")?;
     Ok(())
 }
 
