@@ -35,6 +35,9 @@ enum {
     VORTEX_INDEX = 4      /* an index is out of bounds */
 };
 
+/* A list of bits is that many bits of its words, from any of them on: bit k % 64 of word k / 64, the
+ * lowest bit first. The bits before and behind it play no part. */
+
 typedef struct vortex_record_16 {
     uint64_t words[2];
 } vortex_record_16;
@@ -115,6 +118,30 @@ vortex_answer vortex_gather_16(const vortex_record_16 *src, size_t src_len, cons
 vortex_answer vortex_gather_32(const vortex_record_32 *src, size_t src_len, const uint64_t *indices,
     size_t indices_len, const uint64_t *valid, size_t valid_len,
     vortex_record_32 *dst, size_t dst_len);
+
+/* Writes the bits of src at the set bits of the mask to the front of dst, in order, and clear bits
+ * to the end of the last word that they reach; the words behind it stay. The bits of src are the
+ * rows ones from bit src_at on, those of the mask as many from bit mask_at on. The number is how
+ * many bits are selected.
+ *
+ * VORTEX_LENGTHS: src or mask does not hold so many bits. VORTEX_ROOM: the number is how many bits
+ * are selected, and (number + 63) / 64 words hold them. */
+vortex_answer vortex_filter_bits(const uint64_t *src, size_t src_len, size_t src_at,
+    const uint64_t *mask, size_t mask_len, size_t mask_at, size_t rows, uint64_t *dst,
+    size_t dst_len);
+
+/* Writes the bits of src at the indices to the front of dst, in order, and clear bits to the end of
+ * the last word that they reach; the words behind it stay. The bits of src are the bits ones from
+ * bit src_at on. Index k is null, and gives a clear bit, where bit k of valid is clear; without
+ * words none is null. The number is how many indices there are.
+ *
+ * VORTEX_LENGTHS: src does not hold so many bits, or valid has words, but not as many as a mask of
+ * the indices. VORTEX_BITS_PAST: a bit of valid past the indices is set. VORTEX_ROOM: (number + 63) /
+ * 64 words hold the bits. VORTEX_INDEX: an index that is not null is not below bits, and the number
+ * is the place of the first one in the list of indices. */
+vortex_answer vortex_take_bits(const uint64_t *src, size_t src_len, size_t src_at, size_t bits,
+    const uint64_t *indices, size_t indices_len, const uint64_t *valid, size_t valid_len,
+    uint64_t *dst, size_t dst_len);
 
 /* Writes the positions of the set bits of a mask of so many rows to the front of dst, ascending;
  * the rest of dst stays. The number is how many they are.

@@ -102,6 +102,45 @@ static void gathers(void) {
     expect(is(answer, VORTEX_DONE, 0), "a gather of nothing");
 }
 
+static const uint64_t ten_bits[2] = {(uint64_t)3 << 60, 5};
+
+static void bit_filters(void) {
+    uint64_t bits[2] = {7, 7};
+    vortex_answer answer = vortex_filter_bits(ten_bits, 2, 60, odd, 1, 0, 4, bits, 0);
+    expect(is(answer, VORTEX_ROOM, 2) && bits[0] == 7, "bits into no room");
+    answer = vortex_filter_bits(ten_bits, 2, 60, odd, 1, 0, 69, bits, 2);
+    expect(answer.status == VORTEX_LENGTHS && bits[0] == 7, "more bits than there are");
+    answer = vortex_filter_bits(ten_bits, 2, SIZE_MAX, odd, 1, 0, 4, bits, 2);
+    expect(answer.status == VORTEX_LENGTHS && bits[0] == 7, "bits from far away");
+    answer = vortex_filter_bits(ten_bits, 2, 60, odd, 1, 61, 4, bits, 2);
+    expect(answer.status == VORTEX_LENGTHS && bits[0] == 7, "a mask of too few bits");
+    answer = vortex_filter_bits(ten_bits, 2, 60, ten_bits, 2, 60, 8, bits, 2);
+    expect(is(answer, VORTEX_DONE, 4) && bits[0] == 15 && bits[1] == 7, "bits by themselves");
+    answer = vortex_filter_bits(ten_bits, 2, 62, odd, 1, 0, 4, bits, 2);
+    expect(is(answer, VORTEX_DONE, 2) && bits[0] == 0 && bits[1] == 7, "bits at an offset");
+    answer = vortex_filter_bits(NULL, 0, 0, NULL, 0, 0, 0, NULL, 0);
+    expect(is(answer, VORTEX_DONE, 0), "a filter of no bits");
+}
+
+static void bit_takes(void) {
+    const uint64_t indices[4] = {4, 1, 9, 2}, there[1] = {11};
+    uint64_t bits[2] = {7, 7};
+    vortex_answer answer = vortex_take_bits(ten_bits, 2, 60, 8, indices, 4, NULL, 0, bits, 2);
+    expect(is(answer, VORTEX_INDEX, 2) && bits[0] == 7, "an index past the bits");
+    answer = vortex_take_bits(ten_bits, 2, 60, 8, indices, 4, there, 1, bits, 0);
+    expect(is(answer, VORTEX_ROOM, 4) && bits[0] == 7, "taken bits into no room");
+    answer = vortex_take_bits(ten_bits, 2, 60, 69, indices, 4, there, 1, bits, 2);
+    expect(answer.status == VORTEX_LENGTHS && bits[0] == 7, "a source of too few bits");
+    answer = vortex_take_bits(ten_bits, 2, 60, 8, indices, 3, there, 1, bits, 2);
+    expect(answer.status == VORTEX_BITS_PAST && bits[0] == 7, "a bit past the indices of bits");
+    answer = vortex_take_bits(ten_bits, 2, 60, 8, indices, 4, ten_bits, 2, bits, 2);
+    expect(answer.status == VORTEX_LENGTHS && bits[0] == 7, "validity of bits, too long");
+    answer = vortex_take_bits(ten_bits, 2, 60, 8, indices, 4, there, 1, bits, 2);
+    expect(is(answer, VORTEX_DONE, 4) && bits[0] == 3 && bits[1] == 7, "bits with a null");
+    answer = vortex_take_bits(NULL, 0, 0, 0, NULL, 0, NULL, 0, NULL, 0);
+    expect(is(answer, VORTEX_DONE, 0), "a take of no bits");
+}
+
 static void positions(void) {
     uint64_t set[2] = {7, 7};
     vortex_answer answer = vortex_positions(odd, 1, 4, set, 1);
@@ -133,6 +172,8 @@ int main(void) {
     filters_in_place();
     takes();
     gathers();
+    bit_filters();
+    bit_takes();
     positions();
     ranks();
     printf("c: %d passed, %d failed\n", passed, failed);

@@ -59,6 +59,25 @@ class Random(unittest.TestCase):
             answer = vortex_select.take(values, indices, bits_of(there), width)
             self.assertEqual(items_of(answer, width), taken)
 
+    def placed(self, rows):
+        at = self.dice.randrange(130)
+        before = [self.dice.random() < 0.5 for _ in range(at)]
+        return bits_of(before + rows + [True] * self.dice.randrange(9)), at
+
+    def test_bits(self):
+        for _ in range(CALLS):
+            src = [self.dice.random() < 0.5 for _ in range(self.dice.randrange(300))]
+            rows = [self.dice.random() < 0.7 for _ in src]
+            (bits, at), (mask, mask_at) = self.placed(src), self.placed(rows)
+            kept = [bit for bit, row in zip(src, rows) if row]
+            answer = vortex_select.filter_bits(bits, mask, len(src), at, mask_at)
+            self.assertEqual((bytes(answer[0]), answer[1]), (bits_of(kept), len(kept)))
+            indices = [self.dice.randrange(len(src) + 1) for _ in range(self.dice.randrange(90))]
+            there = [i < len(src) and self.dice.random() < 0.8 for i in indices]
+            taken = [t and src[i] for i, t in zip(indices, there)]
+            answer = vortex_select.take_bits(bits, len(src), indices, bits_of(there), at)
+            self.assertEqual(bytes(answer), bits_of(taken))
+
     def test_positions(self):
         for _ in range(CALLS):
             rows = [self.dice.random() < 0.3 for _ in range(self.dice.randrange(300))]
@@ -82,6 +101,12 @@ class Refused(unittest.TestCase):
                 vortex_select.filter(b"abcd", mask)
         with self.assertRaisesRegex(ValueError, "past the rows"):
             vortex_select.filter(b"abcd", b"\x10")
+
+    def test_bits(self):
+        with self.assertRaises(ValueError):
+            vortex_select.filter_bits(b"\x01", b"\xff\xff", 4, bits_at=5)
+        with self.assertRaisesRegex(IndexError, "index 1 of"):
+            vortex_select.take_bits(b"\xff", 7, [6, 7])
 
     def test_widths(self):
         for width in 0, 3, 64:

@@ -52,6 +52,10 @@ def _library():
         for width in _WIDTHS:
             call = getattr(library, f"vortex_{name}_{width}")
             call.argtypes, call.restype = [place, size] * count, _Answer
+    for name, sizes in {"filter": (2, 3), "take": (3, 1, 1)}.items():
+        call = getattr(library, f"vortex_{name}_bits")
+        lists = [kind for count in sizes for kind in [place] + [size] * count]
+        call.argtypes, call.restype = lists + [place, size], _Answer
     library.vortex_positions.argtypes = [place, size, size, place, size]
     library.vortex_positions.restype = _Answer
     for call in library.vortex_rank, library.vortex_count_before:
@@ -108,6 +112,12 @@ def _words(bits, rows):
     bits = bytes(bits)
     if len(bits) != (rows + 7) // 8:
         raise ValueError(f"{len(bits)} bytes are no mask of {rows} rows")
+    return _whole_words(bits)
+
+
+def _whole_words(bits):
+    """The words that hold all bits of a bytes-like object."""
+    bits = bytes(bits)
     words = array("Q")
     words.frombytes(bits + bytes(-len(bits) % 8))
     return words
@@ -165,6 +175,14 @@ def filter_in_place(values, mask, width=None):
             return _checked(call(src.address, items, by.address, len(words)))
 
 
+def _index_list(indices):
+    if not hasattr(indices, "__array_interface__") and not isinstance(indices, (array, memoryview)):
+        indices = array("Q", indices)
+    if memoryview(indices).itemsize != 8:
+        raise ValueError("indices are numbers of 64 bits")
+    return indices
+
+
 def take(values, indices, valid=None, width=None):
     """The items of `values` at the indices, in order, and zeros where the bit of `valid` is clear.
 
@@ -177,10 +195,7 @@ def take(values, indices, valid=None, width=None):
     width = _width_of(values, width)
     align = min(width, 8)
     call = getattr(_calls, f"vortex_take_{width}")
-    if not hasattr(indices, "__array_interface__") and not isinstance(indices, (array, memoryview)):
-        indices = array("Q", indices)
-    if memoryview(indices).itemsize != 8:
-        raise ValueError("indices are numbers of 64 bits")
+    indices = _index_list(indices)
     with _Held(values, align) as src, _Held(indices, 8) as at:
         picks = at.size // 8
         words = array("Q") if valid is None else _words(valid, picks)
@@ -189,6 +204,52 @@ def take(values, indices, valid=None, width=None):
             lists = (src.size // width, at.address, picks, there.address, len(words), dst.address)
             _checked(call(src.address, *lists, picks))
         return taken
+
+
+def _held_words(bits, at, count):
+    """The words of so many bits from bit `at` on."""
+    if min(at, count) < 0 or at + count > 8 * memoryview(bits).nbytes:
+        raise ValueError(f"there are no {count} bits from bit {at} on")
+    return _whole_words(bits)
+
+
+def filter_bits(bits, mask, rows, bits_at=0, mask_at=0):
+    """The bits at the set bits of a mask, in order, as bytes, and their number.
+
+    The bits are those from bit `bits_at` on and the mask's from bit `mask_at` on, `rows` of each.
+
+    >>> kept, count = filter_bits(b"\\xa0", b"\\x0e", 4, bits_at=4)
+    >>> bytes(kept), count
+    (b'\\x05', 3)
+    """
+    src, by = _held_words(bits, bits_at, rows), _held_words(mask, mask_at, rows)
+    with _Held(src, 8) as held, _Held(by, 8) as mask_held:
+        lists = (held.address, len(src), bits_at, mask_held.address, len(by), mask_at, rows)
+        count = _calls.vortex_filter_bits(*lists, 0, 0).value
+        kept = bytearray(8 * ((count + 63) // 64))
+        with _Held(kept, 8, True) as dst:
+            _checked(_calls.vortex_filter_bits(*lists, dst.address, len(kept) // 8))
+    return kept[: (count + 7) // 8], count
+
+
+def take_bits(bits, count, indices, valid=None, at=0):
+    """The bits at the indices, in order, as bytes, and clear ones where the bit of `valid` is clear.
+
+    The bits are the `count` ones from bit `at` on. The indices are as for `take`.
+
+    >>> bytes(take_bits(b"\\xa0", 4, [1, 3, 0, 9], valid=b"\\x07", at=4))
+    b'\\x03'
+    """
+    src, indices = _held_words(bits, at, count), _index_list(indices)
+    with _Held(src, 8) as held, _Held(indices, 8) as listed:
+        picks = listed.size // 8
+        words = array("Q") if valid is None else _words(valid, picks)
+        taken = bytearray(8 * ((picks + 63) // 64))
+        with _Held(words, 8) as there, _Held(taken, 8, True) as dst:
+            lists = (held.address, len(src), at, count, listed.address, picks)
+            room = (there.address, len(words), dst.address, len(taken) // 8)
+            _checked(_calls.vortex_take_bits(*lists, *room))
+    return taken[: (picks + 7) // 8]
 
 
 def positions(mask, rows):

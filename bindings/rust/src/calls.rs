@@ -62,6 +62,29 @@ of_width!(Record16: vortex_filter_16 vortex_filter_in_place_16 vortex_take_16 vo
 of_width!(Record32: vortex_filter_32 vortex_filter_in_place_32 vortex_take_32 vortex_gather_32);
 
 extern "C" {
+    pub fn vortex_filter_bits(
+        src: *const u64,
+        n: usize,
+        src_at: usize,
+        mask: *const u64,
+        m: usize,
+        mask_at: usize,
+        rows: usize,
+        dst: *mut u64,
+        room: usize,
+    ) -> Answer;
+    pub fn vortex_take_bits(
+        src: *const u64,
+        n: usize,
+        src_at: usize,
+        bits: usize,
+        indices: *const u64,
+        k: usize,
+        valid: *const u64,
+        m: usize,
+        dst: *mut u64,
+        room: usize,
+    ) -> Answer;
     pub fn vortex_positions(
         words: *const u64,
         m: usize,

@@ -9,10 +9,12 @@
 //! assert_eq!(filter(&values, &mask), [10, 30, 40]);
 //! assert_eq!(take(&values, &[3, 0, 0]), Ok(vec![40, 10, 10]));
 //! ```
+mod bits;
 mod calls;
 mod mask;
 mod record;
 
+pub use bits::{filter_bits, take_bits, take_bits_valid, Bits};
 pub use mask::Mask;
 pub use record::Record;
 

@@ -28,6 +28,11 @@ impl Mask {
         (words.len() == len.div_ceil(64) && is_clear).then_some(Mask { words, len })
     }
 
+    // The mask of words that the library wrote.
+    pub(crate) fn of(words: Vec<u64>, len: usize) -> Mask {
+        Mask { words, len }
+    }
+
     /// The number of rows.
     pub fn len(&self) -> usize {
         self.len

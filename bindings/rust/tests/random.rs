@@ -1,6 +1,9 @@
 //! Random calls, compared with plain loops. `VORTEX_CALLS` says how many of them are made.
 use std::fmt::Debug;
-use vortex_select::{filter, filter_in_place, take, take_valid, Mask, OutOfBounds, Record};
+use vortex_select::{
+    filter, filter_bits, filter_in_place, take, take_bits, take_bits_valid, take_valid, Bits, Mask,
+    OutOfBounds, Record,
+};
 
 /// Random numbers by xorshift.
 struct Dice(u64);
@@ -124,18 +127,57 @@ fn one_call<T: Record + PartialEq + Debug>(dice: &mut Dice, zero: T, of: fn(u64)
     }
 }
 
+/// Words in which the rows stand at a random place among other bits, and that place.
+fn placed(dice: &mut Dice, rows: &[bool]) -> (Vec<u64>, usize) {
+    let at = dice.below(130);
+    let behind = dice.below(70);
+    let mut all = dice.bools(at);
+    all.extend_from_slice(rows);
+    all.extend(dice.bools(behind));
+    (Mask::from_bools(&all).words().to_vec(), at)
+}
+
+fn one_call_of_bits(dice: &mut Dice) {
+    let len = dice.len();
+    let src = dice.bools(len);
+    let (words, at) = placed(dice, &src);
+    let bits = Bits::new(&words, at, len).unwrap();
+    let picks = dice.len();
+    let indices = dice.indices(picks, len);
+    match dice.below(3) {
+        0 => {
+            let rows = dice.bools(len);
+            let (by, by_at) = placed(dice, &rows);
+            let kept = filter_bits(bits, Bits::new(&by, by_at, len).unwrap());
+            assert_eq!(kept, Mask::from_bools(&plain_filter(&src, &rows)));
+        }
+        1 => {
+            let plain = plain_take(&src, &indices, &vec![true; picks], false);
+            let taken = take_bits(bits, &indices);
+            assert_eq!(taken, plain.map(|rows| Mask::from_bools(&rows)));
+        }
+        _ => {
+            let there = dice.bools(picks);
+            let plain = plain_take(&src, &indices, &there, false);
+            let taken = take_bits_valid(bits, &indices, &Mask::from_bools(&there));
+            assert_eq!(taken, plain.map(|rows| Mask::from_bools(&rows)));
+        }
+    }
+}
+
 #[test]
 fn calls_agree_with_plain_loops() {
     let calls = std::env::var("VORTEX_CALLS").map_or(100_000, |n| n.parse().unwrap());
     let mut dice = Dice(88_172_645_463_325_252);
     for _ in 0..calls {
-        match dice.below(7) {
+        match dice.below(8) {
             0 => one_call::<u8>(&mut dice, 0, |n| n as u8),
             1 => one_call::<i16>(&mut dice, 0, |n| n as i16),
             2 => one_call::<u32>(&mut dice, 0, |n| n as u32),
             3 => one_call::<f32>(&mut dice, 0.0, |n| (n % 1000) as f32),
             4 => one_call::<u64>(&mut dice, 0, |n| n),
             5 => one_call::<u128>(&mut dice, 0, |n| u128::from(n) << 40),
+            6 => one_call_of_bits(&mut dice),
             _ => one_call::<[u64; 4]>(&mut dice, [0; 4], |n| [n, n / 2, n / 3, n / 5]),
         }
     }

@@ -2,3 +2,4 @@ pub mod MaskWords
 pub mod MaskRows
 pub mod FilterFaults
 pub mod TakenItems
+pub mod BitWords

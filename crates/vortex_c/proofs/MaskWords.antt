@@ -37,7 +37,7 @@ pub count_fits : (words : List ℕ) (w : ℕ) → w < length words → get_or wo
 count_fits words w h fits = omega (arith, count_more words w h fits, count_within (take (w + 1) words), length-take-le (w + 1) words (omega arith))
 
 -- the bits of a word from one of them on
-drop-word_bits : (x r n : ℕ) → r ≤ n → drop r (word_bits x n) ≡ word_bits (x / 2 ^ r) (n - r)
+pub drop-word_bits : (x r n : ℕ) → r ≤ n → drop r (word_bits x n) ≡ word_bits (x / 2 ^ r) (n - r)
 drop-word_bits x r n h =
     let all : n ≡ r + (n - r) = omega arith in
     let whole : word_bits x n ≡ word_bits (x % 2 ^ r) r ++ word_bits (x / 2 ^ r) (n - r) =

@@ -69,11 +69,12 @@ below_bound bound indices valid k none within there = elim (cases_lt (get_or ind
 ]
 
 module _ {X : Type 0} (fill : X) (src : List X) (indices valid : List ℕ) where
+  -- the items at one more pick
+  pub items_more : (k : ℕ) → at fill src (map (pick_at indices valid) (range_with_len 0 k)) ++ item_at fill src (pick_at indices valid k) ∷ [] ≡ at fill src (map (pick_at indices valid) (range_with_len 0 (k + 1)))
+  items_more k =
+      sym (map-append (item_at fill src) (map (pick_at indices valid) (range_with_len 0 k)) (pick_at indices valid k ∷ []))
+      ∙ ap (at fill src) (sym (map-range_with_len_more (pick_at indices valid) 0 k k (omega arith)))
+
   -- the item at one more pick was written
   pub gathered_more : (dst : List X) (k : ℕ) (x : X) → k < length dst → take k dst ≡ at fill src (map (pick_at indices valid) (range_with_len 0 k)) → x ≡ item_at fill src (pick_at indices valid k) → take (k + 1) (set dst k x) ≡ at fill src (map (pick_at indices valid) (range_with_len 0 (k + 1)))
-  gathered_more dst k x room before item =
-      let picks = map (pick_at indices valid) (range_with_len 0 k) in
-      take_more_set dst k x room
-      ∙ ap₂ (λ l y. l ++ y ∷ []) before item
-      ∙ sym (map-append (item_at fill src) picks (pick_at indices valid k ∷ []))
-      ∙ ap (at fill src) (sym (map-range_with_len_more (pick_at indices valid) 0 k k (omega arith)))
+  gathered_more dst k x room before item = take_more_set dst k x room ∙ ap₂ (λ l y. l ++ y ∷ []) before item ∙ items_more k

@@ -1,4 +1,5 @@
 pub mod Masks
 pub mod Filters
 pub mod Takes
+pub mod Bits
 pub mod Positions

@@ -5,7 +5,9 @@
 #![tactic(auto)]
 
 mod answer;
+mod bits;
 mod filter;
+mod filter_bits;
 mod gather;
 mod in_place;
 mod masks;
@@ -13,3 +15,4 @@ mod positions;
 mod ranks;
 mod records;
 mod take;
+mod take_bits;

@@ -34,15 +34,22 @@ pub(crate) fn item_or<T: Copy>(src: &[T], there: bool, index: u64, fill: T) -> T
     if there { src[index as usize] } else { fill }
 }
 
+// Why the words do not say which of so many picks are there, or `DONE`.
+pub(crate) fn fault_of_valid(valid: &[u64], picks: usize) -> u64
+    ensures { result ≡ valid_fault picks valid.now }
+{
+    if valid.is_empty() {
+        DONE
+    } else {
+        fault_of(valid, picks)
+    }
+}
+
 // Why so many picks do not fit into so much room, or `DONE`.
 pub(crate) fn fault_of_take(picks: usize, valid: &[u64], room: usize) -> u64
     ensures { result ≡ take_fault picks valid.now room }
 {
-    let fault = if valid.is_empty() {
-        DONE
-    } else {
-        fault_of(valid, picks)
-    };
+    let fault = fault_of_valid(valid, picks);
     if fault == DONE && picks > room {
         ROOM
     } else {
@@ -51,7 +58,7 @@ pub(crate) fn fault_of_take(picks: usize, valid: &[u64], room: usize) -> u64
 }
 
 // The first pick that is there and whose index is not below the bound.
-fn first_past(indices: &[u64], valid: &[u64], bound: usize) -> Option<usize>
+pub(crate) fn first_past(indices: &[u64], valid: &[u64], bound: usize) -> Option<usize>
     requires { valid_fault (length indices.now) valid.now ≡ 0 }
     ensures { MatchOption result
         ((k : ℕ) → IsPast bound indices.now valid.now k → ⊥)

@@ -1,0 +1,146 @@
+use crate::calls::{self, DONE, INDEX};
+use crate::{Mask, OutOfBounds};
+
+/// Bits in words of the caller's, from any of them on, the first one lowest.
+#[derive(Clone, Copy, Debug)]
+pub struct Bits<'a> {
+    words: &'a [u64],
+    at: usize,
+    len: usize,
+}
+
+impl<'a> Bits<'a> {
+    /// The `len` bits from bit `at` of the words on. `None` where the words don't hold so many.
+    ///
+    /// ```
+    /// use vortex_select::Bits;
+    ///
+    /// let bits = Bits::new(&[0b1000], 3, 2).unwrap();
+    /// assert_eq!((bits.get(0), bits.get(1), bits.get(2)), (Some(true), Some(false), None));
+    /// assert!(Bits::new(&[0b1000], 3, 62).is_none());
+    /// ```
+    pub fn new(words: &'a [u64], at: usize, len: usize) -> Option<Bits<'a>> {
+        let is_held = at.checked_add(len)?.div_ceil(64) <= words.len();
+        is_held.then_some(Bits { words, at, len })
+    }
+
+    /// The number of bits.
+    pub fn len(&self) -> usize {
+        self.len
+    }
+
+    /// Whether there is no bit.
+    pub fn is_empty(&self) -> bool {
+        self.len == 0
+    }
+
+    /// Bit `k`, if there is one.
+    pub fn get(&self, k: usize) -> Option<bool> {
+        (k < self.len).then(|| {
+            let place = self.at + k;
+            self.words[place / 64] >> (place % 64) & 1 == 1
+        })
+    }
+}
+
+impl<'a> From<&'a Mask> for Bits<'a> {
+    fn from(mask: &'a Mask) -> Bits<'a> {
+        Bits {
+            words: mask.words(),
+            at: 0,
+            len: mask.len(),
+        }
+    }
+}
+
+/// The bits of `src` at the mask's set bits, in order.
+///
+/// # Panics
+/// Where the mask isn't as long as the bits.
+///
+/// ```
+/// use vortex_select::{filter_bits, Bits, Mask};
+///
+/// let src = Bits::new(&[0b1010_0000], 4, 4).unwrap();
+/// let mask = Mask::from_bools(&[false, true, true, true]);
+/// let kept = filter_bits(src, Bits::from(&mask));
+/// assert_eq!(kept, Mask::from_bools(&[true, false, true]));
+/// ```
+pub fn filter_bits(src: Bits, mask: Bits) -> Mask {
+    assert_eq!(src.len, mask.len, "a mask is as long as its bits");
+    let (s, m) = (src.words, mask.words);
+    let call = |dst: *mut u64, room| unsafe {
+        let (n, by) = (s.len(), m.as_ptr());
+        calls::vortex_filter_bits(
+            s.as_ptr(),
+            n,
+            src.at,
+            by,
+            m.len(),
+            mask.at,
+            mask.len,
+            dst,
+            room,
+        )
+    };
+    let count = call(std::ptr::NonNull::dangling().as_ptr(), 0).value as usize;
+    let room = count.div_ceil(64);
+    let (answer, words) = unsafe { crate::written(room, |dst| call(dst, room)) };
+    assert_eq!(answer.status, DONE);
+    Mask::of(words, count)
+}
+
+/// The bits of `src` at the indices, in order, or the first index that is out of bounds.
+///
+/// ```
+/// use vortex_select::{take_bits, Bits, Mask, OutOfBounds};
+///
+/// let bits = Mask::from_bools(&[true, false, true]);
+/// let taken = take_bits(Bits::from(&bits), &[2, 1, 0, 0]);
+/// assert_eq!(taken, Ok(Mask::from_bools(&[true, false, true, true])));
+/// assert_eq!(take_bits(Bits::from(&bits), &[3]), Err(OutOfBounds { place: 0 }));
+/// ```
+pub fn take_bits(src: Bits, indices: &[u64]) -> Result<Mask, OutOfBounds> {
+    take_words(src, indices, &[])
+}
+
+/// The bits of `src` at the indices that are there, in order, and clear ones at the others; or the
+/// first index that is there and out of bounds.
+///
+/// # Panics
+/// Where the mask isn't as long as the list of indices.
+///
+/// ```
+/// use vortex_select::{take_bits_valid, Bits, Mask};
+///
+/// let bits = Mask::from_bools(&[true, false, true]);
+/// let there = Mask::from_bools(&[true, false]);
+/// let taken = take_bits_valid(Bits::from(&bits), &[2, 99], &there);
+/// assert_eq!(taken, Ok(Mask::from_bools(&[true, false])));
+/// ```
+pub fn take_bits_valid(src: Bits, indices: &[u64], there: &Mask) -> Result<Mask, OutOfBounds> {
+    assert_eq!(
+        indices.len(),
+        there.len(),
+        "a mask is as long as its indices"
+    );
+    take_words(src, indices, there.words())
+}
+
+fn take_words(src: Bits, indices: &[u64], valid: &[u64]) -> Result<Mask, OutOfBounds> {
+    let room = indices.len().div_ceil(64);
+    let (s, n) = (src.words.as_ptr(), src.words.len());
+    let (i, k, v, m) = (indices.as_ptr(), indices.len(), valid.as_ptr(), valid.len());
+    let (answer, words) = unsafe {
+        crate::written(room, |dst| {
+            calls::vortex_take_bits(s, n, src.at, src.len, i, k, v, m, dst, room)
+        })
+    };
+    match answer.status {
+        DONE => Ok(Mask::of(words, k)),
+        INDEX => Err(OutOfBounds {
+            place: answer.value as usize,
+        }),
+        status => unreachable!("status {status} of a take"),
+    }
+}
