@@ -46,6 +46,12 @@ typedef struct vortex_record_32 {
     uint64_t words[4];
 } vortex_record_32;
 
+/* The rows from start up to end. */
+typedef struct vortex_run {
+    uint64_t start;
+    uint64_t end;
+} vortex_run;
+
 /* Copies the records of src at the set bits of the mask to the front of dst, in order; the rest of
  * dst stays. The number is how many they are.
  *
@@ -149,6 +155,13 @@ vortex_answer vortex_take_bits(const uint64_t *src, size_t src_len, size_t src_a
  * VORTEX_LENGTHS: the mask has not as many words as the rows ask for. VORTEX_BITS_PAST.
  * VORTEX_ROOM. */
 vortex_answer vortex_positions(const uint64_t *mask, size_t mask_len, size_t rows, uint64_t *dst,
+    size_t dst_len);
+
+/* Writes the maximal runs of the rows that a mask of so many selects to the front of dst, ascending:
+ * none is empty, and no two touch. The rest of dst stays. The number is how many they are.
+ *
+ * VORTEX_LENGTHS, VORTEX_BITS_PAST: as for positions. VORTEX_ROOM. */
+vortex_answer vortex_runs(const uint64_t *mask, size_t mask_len, size_t rows, vortex_run *dst,
     size_t dst_len);
 
 /* The number is the k-th set position of a mask of so many rows, from 0.

@@ -155,6 +155,22 @@ static void positions(void) {
     expect(is(answer, VORTEX_DONE, 0), "positions of nothing");
 }
 
+static void runs(void) {
+    vortex_run found[3] = {{7, 7}, {7, 7}, {7, 7}};
+    const uint64_t mask[2] = {(uint64_t)1 << 63 | 6, 1};
+    vortex_answer answer = vortex_runs(mask, 2, 65, found, 1);
+    expect(is(answer, VORTEX_ROOM, 2) && found[0].start == 7, "runs into too little room");
+    answer = vortex_runs(mask, 2, 64, found, 3);
+    expect(answer.status == VORTEX_LENGTHS && found[0].start == 7, "runs of a word too many");
+    answer = vortex_runs(odd, 1, 3, found, 3);
+    expect(answer.status == VORTEX_BITS_PAST && found[0].start == 7, "runs past the rows");
+    answer = vortex_runs(mask, 2, 65, found, 3);
+    expect(is(answer, VORTEX_DONE, 2) && found[0].start == 1 && found[0].end == 3, "runs");
+    expect(found[1].start == 63 && found[1].end == 65 && found[2].start == 7, "across two words");
+    answer = vortex_runs(NULL, 0, 0, NULL, 0);
+    expect(is(answer, VORTEX_DONE, 0), "runs of nothing");
+}
+
 static void ranks(void) {
     expect(is(vortex_rank(odd, 1, 4, 1), VORTEX_DONE, 3), "a rank");
     expect(is(vortex_rank(odd, 1, 4, 2), VORTEX_INDEX, 2), "a rank past the set bits");
@@ -175,6 +191,7 @@ int main(void) {
     bit_filters();
     bit_takes();
     positions();
+    runs();
     ranks();
     printf("c: %d passed, %d failed\n", passed, failed);
     return failed != 0;

@@ -84,6 +84,11 @@ class Random(unittest.TestCase):
             found = vortex_select.positions(bits_of(rows), len(rows))
             selected = [k for k, row in enumerate(rows) if row]
             self.assertEqual(found.tolist(), selected)
+            covered = [k for a, b in vortex_select.runs(bits_of(rows), len(rows)) for k in range(a, b)]
+            self.assertEqual(covered, selected)
+            starts = [k for k in selected if k == 0 or not rows[k - 1]]
+            runs = vortex_select.runs(bits_of(rows), len(rows))
+            self.assertEqual([a for a, _ in runs], starts)
             p = self.dice.randrange(len(rows) + 1)
             count = vortex_select.count_before(bits_of(rows), len(rows), p)
             self.assertEqual(count, sum(rows[:p]))

@@ -58,6 +58,8 @@ def _library():
         call.argtypes, call.restype = lists + [place, size], _Answer
     library.vortex_positions.argtypes = [place, size, size, place, size]
     library.vortex_positions.restype = _Answer
+    library.vortex_runs.argtypes = [place, size, size, place, size]
+    library.vortex_runs.restype = _Answer
     for call in library.vortex_rank, library.vortex_count_before:
         call.argtypes, call.restype = [place, size, size, size], _Answer
     return library
@@ -264,6 +266,23 @@ def positions(mask, rows):
         call = _calls.vortex_positions
         _checked(call(by.address, len(words), rows, dst.address, len(found)))
     return found
+
+
+def runs(mask, rows):
+    """The maximal runs of rows that a mask of so many selects, each its start and its end, ascending.
+
+    >>> runs(b"\\x0d", 4)
+    [(0, 1), (2, 4)]
+    """
+    words = _words(mask, rows)
+    with _Held(words, 8) as by:
+        count = _calls.vortex_runs(by.address, len(words), rows, 0, 0)
+        if count.status not in (_DONE, _ROOM):
+            _checked(count)
+        found = array("Q", bytes(16 * count.value))
+        with _Held(found, 8, True) as dst:
+            _checked(_calls.vortex_runs(by.address, len(words), rows, dst.address, count.value))
+    return list(zip(found[::2], found[1::2]))
 
 
 def rank(mask, rows, k):

@@ -12,6 +12,14 @@ pub struct Answer {
     pub value: u64,
 }
 
+/// The rows from `start` up to `end`.
+#[repr(C)]
+#[derive(Clone, Copy)]
+pub struct Run {
+    pub start: u64,
+    pub end: u64,
+}
+
 #[repr(C)]
 pub struct Record16([u64; 2]);
 
@@ -90,6 +98,13 @@ extern "C" {
         m: usize,
         rows: usize,
         dst: *mut u64,
+        room: usize,
+    ) -> Answer;
+    pub fn vortex_runs(
+        words: *const u64,
+        m: usize,
+        rows: usize,
+        dst: *mut Run,
         room: usize,
     ) -> Answer;
     pub fn vortex_rank(words: *const u64, m: usize, rows: usize, k: usize) -> Answer;

@@ -1,4 +1,6 @@
-use crate::calls::{self, DONE};
+use crate::calls::{self, Run, DONE};
+use std::ops::Range;
+use std::ptr::NonNull;
 
 /// Which rows are selected: as many bits as there are rows, in words of 64, the first row lowest.
 #[derive(Clone, Debug, PartialEq, Eq)]
@@ -73,6 +75,22 @@ impl Mask {
         };
         assert_eq!(answer.status, DONE);
         positions
+    }
+
+    /// The maximal runs of rows that are selected, each from its start up to its end, ascending.
+    ///
+    /// ```
+    /// use vortex_select::Mask;
+    ///
+    /// assert_eq!(Mask::from_bools(&[true, false, true, true]).runs(), [0..1, 2..4]);
+    /// ```
+    pub fn runs(&self) -> Vec<Range<u64>> {
+        let (words, m, rows) = (self.words.as_ptr(), self.words.len(), self.len);
+        let call = |dst: *mut Run, room| unsafe { calls::vortex_runs(words, m, rows, dst, room) };
+        let count = call(NonNull::dangling().as_ptr(), 0).value as usize;
+        let (answer, runs) = unsafe { crate::written(count, |dst| call(dst, count)) };
+        assert_eq!(answer.status, DONE);
+        runs.into_iter().map(|run| run.start..run.end).collect()
     }
 
     /// The `k`-th row that is selected, from 0. `None` where not so many are.

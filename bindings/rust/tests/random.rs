@@ -1,5 +1,6 @@
 //! Random calls, compared with plain loops. `VORTEX_CALLS` says how many of them are made.
 use std::fmt::Debug;
+use std::ops::Range;
 use vortex_select::{
     filter, filter_bits, filter_in_place, take, take_bits, take_bits_valid, take_valid, Bits, Mask,
     OutOfBounds, Record,
@@ -79,6 +80,17 @@ fn plain_take<T: Copy>(
     indices.iter().zip(there).enumerate().map(item).collect()
 }
 
+fn plain_runs(rows: &[bool]) -> Vec<Range<u64>> {
+    let mut runs: Vec<Range<u64>> = Vec::new();
+    for row in (0..rows.len() as u64).filter(|row| rows[*row as usize]) {
+        match runs.last_mut() {
+            Some(run) if run.end == row => run.end += 1,
+            _ => runs.push(row..row + 1),
+        }
+    }
+    runs
+}
+
 fn one_call<T: Record + PartialEq + Debug>(dice: &mut Dice, zero: T, of: fn(u64) -> T) {
     let values: Vec<T> = (0..dice.len()).map(|_| of(dice.roll())).collect();
     match dice.below(5) {
@@ -119,6 +131,7 @@ fn one_call<T: Record + PartialEq + Debug>(dice: &mut Dice, zero: T, of: fn(u64)
                 .collect();
             let mask = Mask::from_bools(&rows);
             assert_eq!(mask.positions(), set);
+            assert_eq!(mask.runs(), plain_runs(&rows));
             let (k, p) = (dice.below(len + 2), dice.below(len + 2));
             assert_eq!(mask.rank(k).map(|row| row as u64), set.get(k).copied());
             let before = (p <= len).then(|| set.partition_point(|row| *row < p as u64));

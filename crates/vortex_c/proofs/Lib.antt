@@ -3,3 +3,4 @@ pub mod MaskRows
 pub mod FilterFaults
 pub mod TakenItems
 pub mod BitWords
+pub mod MaskRuns

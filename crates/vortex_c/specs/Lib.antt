@@ -3,3 +3,4 @@ pub mod Filters
 pub mod Takes
 pub mod Bits
 pub mod Positions
+pub mod Runs

@@ -14,5 +14,6 @@ mod masks;
 mod positions;
 mod ranks;
 mod records;
+mod runs;
 mod take;
 mod take_bits;

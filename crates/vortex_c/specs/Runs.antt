@@ -1,0 +1,31 @@
+-- The runs of a mask, told from outside.
+use Rattle.std.specs.Prelude.{◌≡◌, ◌≢◌, ℕ, ◌==◌, Bool, List, ◌++◌, length, map, take, drop, if◌then◌else◌, nat_lt}
+use Rattle.vx_filter.specs.Compact.{bits_of_words}
+use Rattle.vx_mask.specs.Positions.{maximal_runs}
+use Rattle.vortex_c.specs.declared.runs.Run.{Run}
+use Rattle.vortex_c.specs.Masks.{mask_fault}
+
+-- a bit for each row of a mask
+abbrev pub rows_of : List ℕ → ℕ → List Bool
+rows_of words rows = take rows (bits_of_words words)
+
+-- a run, as it is handed out
+abbrev pub run_of : ℕ × ℕ → Run
+run_of run = record { start = run.0; end = run.1 }
+
+-- why the runs can't be listed in so much room: the mask's fault, else 3 where there are more of
+-- them, else 0
+abbrev pub run_fault : ℕ → List ℕ → ℕ → ℕ
+run_fault rows words room =
+    if mask_fault rows words == 0
+    then if nat_lt room (length (maximal_runs (rows_of words rows))) then 3 else 0
+    else mask_fault rows words
+
+-- the maximal runs stand at the front of the output and the rest of it is as it was, or the call
+-- was refused and all of it is
+pub record AreRunsListed (rows : ℕ) (words : List ℕ) (old new : List Run) (status value : ℕ) : Type 0 where
+  pub fault : status ≡ run_fault rows words (length old)
+  pub count : mask_fault rows words ≡ 0 → value ≡ length (maximal_runs (rows_of words rows))
+  pub runs : status ≡ 0 → new
+      ≡ map run_of (maximal_runs (rows_of words rows)) ++ drop value old
+  pub refused : status ≢ 0 → new ≡ old
