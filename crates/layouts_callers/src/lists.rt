@@ -110,7 +110,7 @@ fn print_view_filter(rt: &impl Print, alloc: Global, array: &ListViewArray) -> R
     let Some(mask) = mask.values() else {
         return Err("no list, or each".into());
     };
-    if mask.len() != array.len() {
+    if mask.len() != array.share().into_array().len() {
         return Err("another number of lists".into());
     }
     print!(rt; "filter_listview:")?;
@@ -142,7 +142,7 @@ fn print_fixed_filter(
     let Some(mask) = mask.values() else {
         return Err("no list, or each".into());
     };
-    if mask.len() != array.len() {
+    if mask.len() != array.share().into_array().len() {
         return Err("another number of lists".into());
     }
     print!(rt; "filter_fixed_size_list:")?;

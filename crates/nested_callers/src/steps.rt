@@ -157,7 +157,7 @@ fn print_struct_filter(rt: &impl Print, alloc: Global, array: &StructArray) -> R
     let Some(mask) = mask.values() else {
         return Err("no row, or each".into());
     };
-    if mask.len() != array.len() {
+    if mask.len() != array.share().into_array().len() {
         return Err("another number of rows".into());
     }
     print!(rt; "filter_struct:")?;
