@@ -2,4 +2,3 @@ pub mod FirstRows
 pub mod NameTables
 pub mod NumberColumns
 pub mod SquareLists
-pub mod SideBySide

@@ -1,9 +1,4 @@
 //! People: structs of an id, a name and a list of tags.
-ghost use Rattle.std.specs.Prelude.{◌≡◌, IfOk, map};
-ghost use Rattle.vx_types.specs.DType.{type_of};
-ghost use Rattle.vx_model.specs.Columns.{rows_across, types_in};
-ghost use Rattle.vx_model.specs.Struct.{fields_row};
-
 use crate::columns::{u64_column, u64_records};
 use crate::error::BuildError;
 use crate::names::text_column;
@@ -39,15 +34,12 @@ fn types_of(alloc: Global, columns: &[ArrayRef]) -> Result<Vec<DType>, NoMemory>
 }
 
 /// The column of `len` structs of these fields, none of them null.
-#[tactic(auto, using(crate::proofs::SideBySide::side_by_side))]
-pub(crate) fn side_by_side(
+fn side_by_side(
     alloc: Global,
     names: &[&str],
     columns: Vec<ArrayRef>,
     len: usize,
-) -> Result<Array, BuildError>
-    ensures { IfOk result (λ c. c.rows ≡ map fields_row (rows_across columns.items len)) }
-{
+) -> Result<Array, BuildError> {
     let fields = StructFields::try_new(alloc, names_of(alloc, names)?, types_of(alloc, &columns)?)?;
     let columns = Columns::new(alloc, columns)?;
     let structs = StructArray::try_new_with_dtype(columns, fields, len, Validity::NonNullable)?;
