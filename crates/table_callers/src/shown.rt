@@ -46,6 +46,14 @@ fn print_number(rt: &impl Print, bytes: &[u8]) -> Result<(), Fail> {
     Ok(())
 }
 
+// In a function that says nothing of it, so that few facts pile up.
+fn cell_of(column: &Array, i: usize) -> Result<Cell<'_>, Fail> {
+    if i >= column.len() {
+        return Err("past the last row".into());
+    }
+    Ok(column.cell_at(i))
+}
+
 fn print_column(rt: &impl Print, column: &Array) -> Result<(), Fail> {
     print_type(rt, column.dtype())?;
     if column.is_flat() {
@@ -54,7 +62,7 @@ fn print_column(rt: &impl Print, column: &Array) -> Result<(), Fail> {
     }
     print!(rt; ":")?;
     for i in 0..column.len() {
-        print_cell(rt, column.dtype(), column.cell_at(i))?;
+        print_cell(rt, column.dtype(), cell_of(column, i)?)?;
     }
     println!(rt; "")?;
     Ok(())
