@@ -26,6 +26,7 @@ of_type-also (cells.Bit b) t n h = h
 of_type-also (cells.Bytes b) t n h = record { kind = h.kind; width = h.width }
 of_type-also (cells.List l) t n h = record { kind = h.kind; ordered = h.ordered; within = h.within }
 of_type-also (cells.Fields f) t n h = record { kind = h.kind; within = h.within }
+of_type-also (cells.Tagged v) t n h = record { kind = h.kind; within = h.within }
 
 -- a null code is one of a nullable type
 pub null_code : (t : TypeTree) (n : Nullability) → is_nullable n ≡ true → is_nullable (also_nullable t n).nullability ≡ true

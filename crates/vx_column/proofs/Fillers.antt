@@ -1,16 +1,21 @@
 -- One row that stands where none is shown, and the same row many times.
 use Rattle.std.proofs.Common.{◌≡◌, ℕ, zero, suc, ◌+◌, ◌-◌, ◌*◌, ◌<◌, ◌≤◌, true, false, List, [], ◌∷◌, ◌++◌, map, length, get_or, take, slice_range, None, Some, refl, sym, ap, ap₂, ◌∙◌, arith}
-use Rattle.std.specs.Prelude.{◌==◌, not, pos, replicate, if◌then◌else◌}
+use Rattle.std.specs.Prelude.{◌==◌, nat_lt, not, pos, replicate, Bool, Option, if◌then◌else◌}
+use Rattle.std.specs.Int.{w8, from_le_bytes}
+use Rattle.std.specs.List.{list_all}
 use Rattle.std.specs.Cmp.{first_so, second_so}
 use Rattle.std.proofs.lemmas.Bool.Decides.{nat_tests}
 use Rattle.std.proofs.lemmas.List.{length-replicate, map_more, take_all, take-replicate}
 use Rattle.vx_types.specs.DType.{type_of}
-use Rattle.vx_types.specs.FieldTypes.{FieldTypes}
+use Rattle.vx_types.specs.FieldTypes.{FieldTypes, VariantTypes}
 use Rattle.vx_types.specs.Nullability.{is_nullable}
-use Rattle.vx_types.specs.RowValue.{RowValue, null, bytes, list, fields, none, more, row_values}
-use Rattle.vx_types.specs.Same.{is_same_kind}
+use Rattle.vx_types.specs.RowValue.{RowValue, null, bytes, list, fields, tagged, none, more, row_values}
+use Rattle.vx_types.specs.Same.{are_same_types, is_same_kind}
+use Rattle.vx_types.specs.Scalar.{scalar_fault}
+use Rattle.vx_types.specs.Variants.{are_alike, are_distinct, variants_fault}
+use Rattle.vx_types.specs.declared.error.ColumnError.TheVariants.{BadTypeId, WrongLength}
 use Rattle.vx_types.specs.SameLaws.{kind_decides}
-use Rattle.vx_types.specs.TypeTree.{TypeKind, TypeTree, also_nullable, are_carried, are_entries, fixed_type, is_carried, is_carried_as, list_type, map_type, null_kind, nullability_as, primitive_kind, primitive_type, struct_kind, struct_type, type_size, types_of, types_size, with_nullability}
+use Rattle.vx_types.specs.TypeTree.{TypeKind, TypeTree, also_nullable, are_carried, are_entries, fixed_type, is_carried, is_carried_as, list_type, map_type, null_kind, nullability_as, primitive_kind, primitive_type, struct_kind, struct_type, type_size, types_of, types_size, union_type, with_nullability}
 use Rattle.vx_types.specs.declared.dtype.DType.{DType}
 use Rattle.vx_types.specs.declared.nullability.Nullability.{Nullability}
 use Rattle.vx_types.specs.declared.nullability.Nullability.TheVariants.{NonNullable, Nullable}
@@ -27,11 +32,12 @@ use Rattle.vx_model.specs.ListView.{listview_fault}
 use Rattle.vx_model.specs.Map.{is_entry_kind, is_entry_type, map_column, map_of}
 use Rattle.vx_model.specs.Numbers.{number_in, numbers_of}
 use Rattle.vx_model.specs.Struct.{StructParts, fields_row, struct_column, struct_fault}
+use Rattle.vx_model.specs.Union.{UnionParts, is_known, tagged_rows, union_column, union_fault}
 use Rattle.vx_model.specs.Valid.{Valid, is_fitting, nullability_by, shown_rows, stored_rows}
 use Rattle.vx_model.proofs.ConstantRows.{all_shown}
 use Rattle.vx_model.proofs.Nullabilities.{also_nullable-none}
 use Rattle.vx_model.proofs.StructSteps.{fault-made}
-use Rattle.vx_column.specs.Fillers.{empty_views, valid_by, zero_numbers}
+use Rattle.vx_column.specs.Fillers.{empty_views, id_row, valid_by, zero_numbers}
 
 -- ---- a list of no elements
 
@@ -179,6 +185,75 @@ rows-structs cs t len v n e rows =
     ∙ ap (λ l. replicate len (if is_nullable n then null else fields l)) (sym (values-fields t.types))
 
 pub ruleset structs = (sound-structs, dtype-structs, rows-structs)
+
+-- ---- unions
+
+some-variants : (v : VariantTypes) → variants_fault v ≡ None → (0 < length v.ids) × (length v.ids ≡ length v.types)
+some-variants v h = by (are_alike v) (are_distinct v.ids) refl h
+  where
+    parts : are_alike v ≡ true → (0 < length v.ids) × (length v.ids ≡ length v.types)
+    parts e =
+        let names : (length v.ids == length v.names) ≡ true = first_so (length v.ids == length v.names) _ e in
+        let rest = second_so (length v.ids == length v.names) _ e in
+        let types : (length v.names == length v.types) ≡ true = first_so (length v.names == length v.types) _ rest in
+        let some : nat_lt 0 (length v.ids) ≡ true = second_so (length v.names == length v.types) _ rest in
+        (grind (arith, nat_tests), grind (arith, nat_tests))
+
+    by : (a b : Bool) → are_alike v ≡ a → (if a then (if b then None else Some BadTypeId) else Some WrongLength) ≡ None → (0 < length v.ids) × (length v.ids ≡ length v.types)
+    by true true e h = parts e
+    by true false e h = cc
+    by false b e h = cc
+
+pub many-variants : (v : VariantTypes) → variants_fault v ≡ None → length v.ids ≡ length v.types
+many-variants v h = (some-variants v h).1
+
+pub first-variant : (v : VariantTypes) → variants_fault v ≡ None → 0 < length v.ids
+first-variant v h = (some-variants v h).0
+
+-- the id is a number of its type
+pub scalar-id : (ids : List ℕ) (n : Nullability) → 0 < length ids → scalar_fault (primitive_type U8 n) (id_row ids n) ≡ None
+scalar-id [] n h = absurd (omega arith)
+scalar-id (i ∷ ids) NonNullable h = refl
+scalar-id (i ∷ ids) Nullable h = refl
+
+abbrev id_tags : List ℕ → Nullability → List (Option ℕ)
+id_tags ids n = positions_of (map (number_in (primitive_kind U8)) (id_row ids n ∷ []))
+
+same-id : (i : ℕ) → (i == from_le_bytes w8 (i ∷ [])) ≡ true
+same-id i =
+    let e : from_le_bytes w8 (i ∷ []) ≡ i = omega arith in
+    grind (arith, nat_tests)
+
+known-first : (ids : List ℕ) (n : Nullability) → 0 < length ids → list_all (is_known ids) (id_tags ids n) ≡ true
+known-first [] n h = absurd (omega arith)
+known-first (i ∷ ids) Nullable h = refl
+known-first (i ∷ ids) NonNullable h = rw (same-id i) refl
+
+row-first : (ids : List ℕ) (names : List (List ℕ)) (ts : List TypeTree) (n : Nullability) → 0 < length ids → length ids ≡ length ts → tagged_rows ids (id_tags ids n) (map filler_row ts ∷ []) ≡ filler_row (union_type ids names ts n) ∷ []
+row-first [] names ts n h l = absurd (omega arith)
+row-first (i ∷ ids) names [] n h l = absurd (omega arith)
+row-first (i ∷ ids) names (t ∷ ts) Nullable h l = refl
+row-first (i ∷ ids) names (t ∷ ts) NonNullable h l =
+    let e : from_le_bytes w8 (i ∷ []) ≡ i = omega arith in
+    rw (same-id i) (ap (λ k. tagged k (filler_row t) ∷ []) e)
+
+abbrev union_by : Column → VariantTypes → List Column → UnionParts
+union_by c v cs = record { ids = c; offsets = None; variants = v; columns = cs }
+
+pub sound-union : (c : Column) (v : VariantTypes) (cs : List Column) (n : Nullability) → variants_fault v ≡ None → c.dtype ≡ primitive_type U8 n → c.rows ≡ id_row v.ids n ∷ [] → types_in cs ≡ v.types → are_long 1 cs ≡ true → union_fault (union_by c v cs) ≡ None
+sound-union c v cs n h dtype rows types long =
+    let alike : are_same_types (types_in cs) v.types ≡ true =
+    ap (λ ts. are_same_types ts v.types) types ∙ (kind_decides (struct_kind [] (types_of v.types)) (struct_kind [] (types_of v.types))).1 refl in
+    rw (dtype, rows, alike, long, known-first v.ids n (first-variant v h)) refl
+
+pub dtype-union : (c : Column) (v : VariantTypes) (cs : List Column) (n : Nullability) → c.dtype ≡ primitive_type U8 n → (union_column (union_by c v cs)).dtype ≡ union_type v.ids v.names v.types n
+dtype-union c v cs n dtype = rw dtype refl
+
+pub row-union-first : (c : Column) (v : VariantTypes) (cs : List Column) (n : Nullability) → variants_fault v ≡ None → c.dtype ≡ primitive_type U8 n → c.rows ≡ id_row v.ids n ∷ [] → rows_across cs 1 ≡ map filler_row v.types ∷ [] → (union_column (union_by c v cs)).rows ≡ filler_row (union_type v.ids v.names v.types n) ∷ []
+row-union-first c v cs n h dtype rows across =
+    rw (dtype, rows, across) (row-first v.ids v.names v.types n (first-variant v h) (many-variants v h))
+
+pub ruleset unions = (first-variant, scalar-id, sound-union, dtype-union, row-union-first)
 
 -- ---- extensions
 

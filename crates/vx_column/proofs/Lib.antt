@@ -6,4 +6,5 @@ pub mod NumberLists
 pub mod RowLists
 pub mod ShownBits
 pub mod Stretches
+pub mod Tags
 pub mod TruthBits

@@ -1,6 +1,7 @@
 -- Columns of one row that has nothing in it.
-use Rattle.std.specs.Prelude.{ℕ, [], ◌∷◌, replicate, if◌then◌else◌}
+use Rattle.std.specs.Prelude.{ℕ, List, [], ◌∷◌, replicate, if◌then◌else◌}
 use Rattle.vx_types.specs.Nullability.{is_nullable}
+use Rattle.vx_types.specs.RowValue.{RowValue, null, bytes}
 use Rattle.vx_types.specs.TypeTree.{primitive_kind}
 use Rattle.vx_types.specs.declared.nullability.Nullability.{Nullability}
 use Rattle.vx_types.specs.declared.ptype.PType.TheVariants.{U8}
@@ -32,3 +33,8 @@ empty_views elements n =
       sizes = zero_numbers 1;
       valid = valid_by n;
     }
+
+-- the id of one row: a null where the type has nulls, else the first one
+abbrev pub id_row : List ℕ → Nullability → RowValue
+id_row [] n = null
+id_row (id ∷ ids) n = if is_nullable n then null else bytes (id ∷ [])

@@ -10,12 +10,13 @@ use Rattle.vx_model.specs.ListView.{listview_column}
 use Rattle.vx_model.specs.FixedSizeList.{fixed_column}
 use Rattle.vx_model.specs.Map.{map_column}
 use Rattle.vx_model.specs.Struct.{struct_column}
+use Rattle.vx_model.specs.Union.{union_column}
 use Rattle.vx_model.specs.Extension.{extension_column}
 use Rattle.vx_model.specs.Constant.{constant_column}
 use Rattle.vx_model.specs.Dict.{dict_column}
 use Rattle.vx_model.specs.Filter.{filter_column}
 use Rattle.vx_column.specs.declared.array.Layout.{Layout}
-use Rattle.vx_column.specs.declared.array.Layout.TheVariants.{Null, Bool, Primitive, Decimal, VarBin, VarBinView, List, ListView, FixedSizeList, Map, Struct, Extension, Constant, Dict, Filter}
+use Rattle.vx_column.specs.declared.array.Layout.TheVariants.{Null, Bool, Primitive, Decimal, VarBin, VarBinView, List, ListView, FixedSizeList, Map, Struct, Union, Extension, Constant, Dict, Filter}
 
 abbrev pub column_of : Layout → Column
 column_of (Null n) = null_column n
@@ -29,6 +30,7 @@ column_of (ListView p) = listview_column p
 column_of (FixedSizeList p) = fixed_column p
 column_of (Map p) = map_column p
 column_of (Struct p) = struct_column p
+column_of (Union p) = union_column p
 column_of (Extension p) = extension_column p
 column_of (Constant p) = constant_column p
 column_of (Dict p) = dict_column p

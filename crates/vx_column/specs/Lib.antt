@@ -13,5 +13,6 @@ pub mod Stored
 pub mod StructParts
 pub mod Text
 pub mod Truth
+pub mod UnionParts
 pub mod Typed
 pub mod Validity

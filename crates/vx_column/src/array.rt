@@ -17,6 +17,7 @@ use crate::map::MapArray;
 use crate::null::NullArray;
 use crate::primitive::PrimitiveArray;
 use crate::struct_::StructArray;
+use crate::union_::UnionArray;
 use crate::varbin::VarBinArray;
 use crate::varbinview::VarBinViewArray;
 use std::alloc::Global;
@@ -62,6 +63,8 @@ pub enum Layout {
     Map(MapArray),
     /// Columns side by side, each a field.
     Struct(StructArray),
+    /// For each row an id, and a row of the column of its variant.
+    Union(UnionArray),
     /// A storage column under a name.
     Extension(ExtensionArray),
     /// One value for every row.
@@ -124,6 +127,7 @@ impl Layout {
             Layout::FixedSizeList(a) => Layout::FixedSizeList(a.share()),
             Layout::Map(a) => Layout::Map(a.share()),
             Layout::Struct(a) => Layout::Struct(a.share()),
+            Layout::Union(a) => Layout::Union(a.share()),
             Layout::Extension(a) => Layout::Extension(a.share()),
             Layout::Constant(a) => Layout::Constant(a.share()),
             Layout::Dict(a) => Layout::Dict(a.share()),

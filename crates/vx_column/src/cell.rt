@@ -32,6 +32,17 @@ pub struct FieldsCell<'a> {
     pub row: usize,
 }
 
+/// A row of a column under the id of a variant.
+#[derive(Clone, Copy)]
+pub struct TaggedCell<'a> {
+    /// The id.
+    pub id: u8,
+    /// The column.
+    pub column: &'a Array,
+    /// The row.
+    pub row: usize,
+}
+
 /// A row of a column, borrowed from where it is stored.
 #[derive(Clone, Copy)]
 pub enum Cell<'a> {
@@ -45,6 +56,8 @@ pub enum Cell<'a> {
     List(ListCell<'a>),
     /// A struct's fields.
     Fields(FieldsCell<'a>),
+    /// A union's id and its variant's row.
+    Tagged(TaggedCell<'a>),
 }
 
 impl Cell<'_> {
@@ -63,7 +76,7 @@ impl Cell<'_> {
                 DType::Primitive(ptype, _) => Some(ptype.number(bytes)),
                 _ => unreachable!(),
             },
-            Cell::Bit(_) | Cell::List(_) | Cell::Fields(_) => unreachable!(),
+            Cell::Bit(_) | Cell::List(_) | Cell::Fields(_) | Cell::Tagged(_) => unreachable!(),
         }
     }
 }
@@ -90,6 +103,7 @@ impl Array {
             Layout::FixedSizeList(a) => Lists::Fixed(a).cell_at(i),
             Layout::Map(a) => Lists::Map(a).cell_at(i),
             Layout::Struct(a) => a.cell_at(i),
+            Layout::Union(a) => a.cell_at(i),
             Layout::Extension(a) => a.cell_at(i),
             Layout::Constant(a) => a.cell_at(i),
             Layout::Dict(a) => a.cell_at(i),

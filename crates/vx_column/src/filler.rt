@@ -1,16 +1,16 @@
 //! Columns of rows that stand where none is shown.
-ghost use Rattle.std.specs.Prelude.{◌≡◌, [], ◌∷◌, length, map, None, replicate, slice_index_or, true, IfOk};
+ghost use Rattle.std.specs.Prelude.{◌≡◌, ◌<◌, [], ◌∷◌, length, map, None, replicate, slice_index_or, true, IfOk};
 ghost use Rattle.vx_types.specs.DType.{type_of};
 ghost use Rattle.vx_types.specs.RowValue.{bytes, null};
 ghost use Rattle.vx_types.specs.Scalar.{has_scalars, scalar_row};
-ghost use Rattle.vx_types.specs.TypeTree.{are_carried, extension_type, fixed_type, is_carried, list_type, primitive_type, struct_type, types_of};
+ghost use Rattle.vx_types.specs.TypeTree.{are_carried, extension_type, fixed_type, is_carried, list_type, primitive_type, struct_type, types_of, union_type};
 ghost use Rattle.vx_types.specs.declared.nullability.Nullability.TheVariants.{NonNullable};
 ghost use Rattle.vx_types.specs.declared.ptype.PType.TheVariants.{U8};
 ghost use Rattle.vx_model.specs.Columns.{are_long, rows_across, types_in};
 ghost use Rattle.vx_model.specs.Dict.{dict_fault};
 ghost use Rattle.vx_model.specs.Filler.{filler_row, filler_value};
 ghost use Rattle.vx_model.specs.Map.{is_entry_type, map_of};
-ghost use Rattle.vx_column.specs.Fillers.{empty_views, valid_by, zero_numbers};
+ghost use Rattle.vx_column.specs.Fillers.{empty_views, id_row, valid_by, zero_numbers};
 ghost use Rattle.vx_column.specs.Validity.{valid_of};
 
 use crate::array::{Array, ArrayRef};
@@ -24,12 +24,14 @@ use crate::listview::ListViewArray;
 use crate::map::MapArray;
 use crate::primitive::PrimitiveArray;
 use crate::struct_::StructArray;
+use crate::union_::UnionArray;
 use crate::validity::Validity;
 use std::alloc::Global;
 use vx_bits::{Buffer, NoMemory, Records};
 use vx_shared::Shared;
 use vx_types::{
     ColumnError, DType, ExtDType, Nullability, PType, Scalar, ScalarValue, StructFields,
+    UnionVariants,
 };
 
 // So many zeros.
@@ -246,6 +248,57 @@ fn filler_extension(
     }
 }
 
+// The value of an id: a null where the type has one, else that of the first variant.
+fn filler_id(alloc: Global, ids: &[u8], nullability: Nullability) -> Result<ScalarValue, NoMemory>
+    requires { 0 < length ids.now }
+    ensures { IfOk result (λ v. scalar_row v ≡ id_row ids.now nullability) }
+{
+    match nullability {
+        Nullability::Nullable => Ok(ScalarValue::Null),
+        Nullability::NonNullable => {
+            let id = vec![in alloc; ids[0]; 1]?;
+            Ok(ScalarValue::Bytes(Buffer::from_vec(alloc, id)?))
+        }
+    }
+}
+
+// The ids of one row of a union.
+#[tactic(auto, using(crate::proofs::Fillers::unions))]
+fn filler_ids(alloc: Global, ids: &[u8], nullability: Nullability) -> Result<Array, NoMemory>
+    requires { 0 < length ids.now }
+    ensures dtype { IfOk result (λ a. a.dtype ≡ primitive_type U8 nullability) }
+    ensures rows { IfOk result (λ a. a.rows ≡ id_row ids.now nullability ∷ []) }
+{
+    let value = filler_id(alloc, ids, nullability)?;
+    match Scalar::try_new(DType::Primitive(PType::U8, nullability), value) {
+        Ok(scalar) => Ok(ConstantArray::new(scalar, 1).into_array()),
+        Err(_) => unreachable!(),
+    }
+}
+
+// One row of the first variant, or a null where the type has one.
+#[tactic(auto, using(crate::proofs::Fillers::unions))]
+fn filler_union(
+    alloc: Global,
+    columns: Columns,
+    variants: &Shared<UnionVariants>,
+    nullability: Nullability,
+) -> Result<Array, NoMemory>
+    requires types { types_in columns ≡ variants.now.types }
+    requires long { are_long 1 columns ≡ true }
+    requires rows { rows_across columns 1 ≡ map filler_row variants.now.types ∷ [] }
+    ensures dtype { IfOk result (λ a. a.dtype
+        ≡ union_type variants.now.ids variants.now.names variants.now.types nullability) }
+    ensures rows { IfOk result (λ a. a.rows ≡ filler_row
+        (union_type variants.now.ids variants.now.names variants.now.types nullability) ∷ []) }
+{
+    let ids = filler_ids(alloc, variants.ids(), nullability)?;
+    match UnionArray::try_new(ids.into_ref(alloc)?, variants.share(), columns) {
+        Ok(union) => Ok(union.into_array()),
+        Err(_) => unreachable!(),
+    }
+}
+
 impl Columns {
     /// So many rows of each of these types, which are ones that columns may have; none of the rows
     /// is to be shown. `NoMemory` alone.
@@ -269,9 +322,8 @@ impl Columns {
 impl Array {
     /// A column of this type, which is one that a column may have, and of so many rows, none of
     /// which is to be shown: nulls where the type has them, else zeros, empty texts, empty lists
-    /// and maps, and lists and structs of such rows. However many rows it has, it takes the memory
-    /// of one value a level of the type. `NoMemory` alone, and for now always where the type has a
-    /// union in it.
+    /// and maps, lists and structs of such rows, and such a row of a union's first variant. However
+    /// many rows it has, it takes the memory of one value a level of the type. `NoMemory` alone.
     #[cycle(filler)]
     #[tactic(auto, using(vx_model::proofs::LazyRows::lazy_rows, crate::proofs::Fillers::carried_inside))]
     pub fn filler(alloc: Global, dtype: &DType, len: usize) -> Result<Array, NoMemory>
@@ -298,6 +350,10 @@ impl Array {
                 let columns = Columns::fillers(alloc, fields.types(), len)?;
                 Ok(filler_struct(columns, fields, *n, len))
             }
+            DType::Union(variants, n) => {
+                let columns = Columns::fillers(alloc, variants.types(), 1)?;
+                repeated(alloc, filler_union(alloc, columns, variants, *n)?, len)
+            }
             DType::Extension(ext, n) => {
                 let storage = ext.storage().with_nullability(*n);
                 filler_extension(alloc, ext, Array::filler(alloc, &storage, len)?)
@@ -305,7 +361,7 @@ impl Array {
             _ if dtype.has_scalars() => {
                 Ok(ConstantArray::new(filler_scalar(alloc, dtype)?, len).into_array())
             }
-            _ => Err(NoMemory),
+            _ => unreachable!(),
         }
     }
 }

@@ -17,7 +17,8 @@ impl Array {
     {
         match self.cell_at(i) {
             Cell::Null => false,
-            Cell::Bit(_) | Cell::Bytes(_) | Cell::List(_) | Cell::Fields(_) => true,
+            Cell::Bit(_) | Cell::Bytes(_) | Cell::List(_) | Cell::Fields(_) | Cell::Tagged(_) =>
+                true,
         }
     }
 

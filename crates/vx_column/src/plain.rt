@@ -48,6 +48,7 @@ impl Array {
             | Layout::FixedSizeList(_)
             | Layout::Map(_)
             | Layout::Struct(_)
+            | Layout::Union(_)
             | Layout::Extension(_)
             | Layout::Constant(_)
             | Layout::Dict(_)

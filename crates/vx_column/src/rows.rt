@@ -63,6 +63,10 @@ impl Array {
             Cell::Fields(fields) => {
                 Ok(Row::Fields(fields_at(alloc, fields.columns, fields.row)?))
             }
+            Cell::Tagged(tagged) => {
+                let row = tagged.column.row_at(alloc, tagged.row)?;
+                Ok(Row::Tagged(tagged.id, Box::new(alloc, row)?))
+            }
         }
     }
 }

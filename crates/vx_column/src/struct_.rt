@@ -61,9 +61,9 @@ fn is_of_type(column: &Array, dtype: &DType) -> bool
     *column.dtype() == *dtype
 }
 
-// Whether the columns are of these types, one by one, which then are types that columns may have.
+/// Whether the columns are of these types, one by one, which then are types that columns may have.
 #[tactic(auto, using(crate::proofs::Fields::alike))]
-fn are_of_types(columns: &[ArrayRef], types: &[DType]) -> bool
+pub(crate) fn are_of_types(columns: &[ArrayRef], types: &[DType]) -> bool
     ensures same { result ≡ are_same_types (types_in columns.now) (map type_of types.now) }
     ensures carried { result ≡ true → are_carried (types_of (types_in columns.now)) ≡ true }
 {
@@ -78,9 +78,9 @@ fn are_of_types(columns: &[ArrayRef], types: &[DType]) -> bool
     true
 }
 
-// Whether each column has so many rows.
+/// Whether each column has so many rows.
 #[tactic(auto, using(crate::proofs::Fields::alike))]
-fn are_long(columns: &[ArrayRef], len: usize) -> bool
+pub(crate) fn are_long(columns: &[ArrayRef], len: usize) -> bool
     ensures { result ≡ are_long len columns.now }
 {
     for column in columns {

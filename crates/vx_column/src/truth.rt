@@ -197,7 +197,7 @@ impl Array {
         match self.cell_at(i) {
             Cell::Null => None,
             Cell::Bit(bit) => Some(bit),
-            Cell::Bytes(_) | Cell::List(_) | Cell::Fields(_) => unreachable!(),
+            Cell::Bytes(_) | Cell::List(_) | Cell::Fields(_) | Cell::Tagged(_) => { unreachable!() }
         }
     }
 

@@ -61,6 +61,7 @@ impl Array {
             Layout::FixedSizeList(_) => LayoutName::FixedSizeList,
             Layout::Map(_) => LayoutName::Map,
             Layout::Struct(_) => LayoutName::Struct,
+            Layout::Union(_) => LayoutName::Union,
             Layout::Extension(_) => LayoutName::Extension,
             Layout::Constant(_) => LayoutName::Constant,
             Layout::Dict(_) => LayoutName::Dict,

@@ -1,6 +1,6 @@
 //! The layouts as types.
 ghost use Rattle.vx_types.specs.declared.layout_name.LayoutName.{LayoutName};
-ghost use Rattle.vx_types.specs.declared.layout_name.LayoutName.TheVariants.{Null as NullName, Bool as BoolName, Primitive as PrimitiveName, Decimal as DecimalName, VarBin as VarBinName, VarBinView as VarBinViewName, List as ListName, ListView as ListViewName, FixedSizeList as FixedSizeListName, Map as MapName, Struct as StructName, Extension as ExtensionName, Constant as ConstantName, Dict as DictName, Filter as FilterName};
+ghost use Rattle.vx_types.specs.declared.layout_name.LayoutName.TheVariants.{Null as NullName, Bool as BoolName, Primitive as PrimitiveName, Decimal as DecimalName, VarBin as VarBinName, VarBinView as VarBinViewName, List as ListName, ListView as ListViewName, FixedSizeList as FixedSizeListName, Map as MapName, Struct as StructName, Union as UnionName, Extension as ExtensionName, Constant as ConstantName, Dict as DictName, Filter as FilterName};
 
 use vx_types::LayoutName;
 
@@ -120,6 +120,16 @@ impl VTable for Struct {
     const NAME: LayoutName = LayoutName::Struct;
 
     ghost NAME = { StructName };
+}
+
+/// Layout `Union`.
+#[derive(Debug, Clone, Copy, Default)]
+pub struct Union;
+
+impl VTable for Union {
+    const NAME: LayoutName = LayoutName::Union;
+
+    ghost NAME = { UnionName };
 }
 
 /// Layout `Extension`.

@@ -24,5 +24,7 @@ pub mod ListForms
 pub mod Across
 pub mod NestedSteps
 pub mod StructSteps
+pub mod UnionSteps
+pub mod UnionFaults
 pub mod ExtensionSteps
 pub mod MapSteps

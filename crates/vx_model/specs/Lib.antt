@@ -20,6 +20,7 @@ pub mod Step
 pub mod Stored
 pub mod Struct
 pub mod Text
+pub mod Union
 pub mod Valid
 pub mod ValidCode
 pub mod VarBin

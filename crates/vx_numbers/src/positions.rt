@@ -8,9 +8,9 @@ use std::alloc::Global;
 use vx_bits::NoMemory;
 use vx_take::Picks;
 
-// Whether a number is one of `len` positions.
+/// Whether a number is one of `len` positions.
 #[inline(always)]
-fn is_position(number: i128, len: usize) -> bool
+pub fn is_position(number: i128, len: usize) -> bool
     ensures { result ≡ is_position len number }
 {
     0 <= number && number < len as i128

@@ -6,6 +6,7 @@ use Rattle.vx_model.specs.Filter.{filter_size}
 use Rattle.vx_model.specs.Valid.{valid_size}
 use Rattle.vx_model.specs.Columns.{columns_depth}
 use Rattle.vx_model.specs.Extension.{extension_size}
+use Rattle.vx_model.specs.Union.{union_size}
 use Rattle.vx_column.specs.Lists.{spans_of}
 use Rattle.vx_column.specs.Validity.{valid_of}
 use Rattle.vx_column.proofs.+cell.Given as goal
@@ -47,3 +48,9 @@ decreases-struct_::StructArray::cell_at l =
 abbrev pub decreases-extension::ExtensionArray::cell_at :
     goal.decreases-extension::ExtensionArray::cell_at
 decreases-extension::ExtensionArray::cell_at l = extension_size l.self.now
+
+abbrev pub decreases-union_::UnionArray::cell_at : goal.decreases-union_::UnionArray::cell_at
+decreases-union_::UnionArray::cell_at l = union_size l.self.now
+
+abbrev pub decreases-union_::tag_at : goal.decreases-union_::tag_at
+decreases-union_::tag_at l = l.type_ids.now.depth + 1
