@@ -4,3 +4,4 @@ pub mod RunTakes
 pub mod ListSteps
 pub mod Maps
 pub mod EachColumn
+pub mod Unions

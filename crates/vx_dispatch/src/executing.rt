@@ -4,7 +4,7 @@ ghost use Rattle.vx_types.specs.TypeTree.{is_flat};
 ghost use Rattle.vx_model.specs.Plain.{is_lazy_layout, is_unwrapped};
 ghost use Rattle.vx_model.specs.Step.{IsStep};
 
-use crate::{constant, dict, extension, filter_layout, lists, stored, struct_};
+use crate::{constant, dict, extension, filter_layout, lists, stored, struct_, union_};
 use std::alloc::Global;
 use vx_bits::NoMemory;
 use vx_column::{Array, Layout, Lists, Stored};
@@ -37,6 +37,7 @@ pub fn execute(alloc: Global, array: &Array, policy: &Policy) -> Result<Array, N
             lists::execute_of(alloc, Lists::Map(a), policy)
         }
         Layout::Struct(a) => struct_::execute_of(alloc, a, policy),
+        Layout::Union(a) => union_::execute_of(alloc, a, policy),
         Layout::Extension(a) => extension::execute_of(alloc, a, policy),
         Layout::Constant(a) => constant::execute_of(alloc, a),
         Layout::Dict(a) => dict::execute_of(alloc, a, policy),

@@ -8,7 +8,7 @@ ghost use Rattle.vx_model.specs.Step.{IsCut};
 use crate::slicing::slice;
 use crate::{
     constant, dict, extension, filter_layout, fixed_size_list, list, listview, map, null, stored,
-    struct_,
+    struct_, union_,
 };
 use std::alloc::Global;
 use vx_bits::NoMemory;
@@ -40,6 +40,7 @@ pub(crate) fn filter_values(
         Layout::FixedSizeList(a) => fixed_size_list::filter_of(alloc, a, mask, policy),
         Layout::Map(a) => map::filter_of(alloc, a, mask, policy),
         Layout::Struct(a) => struct_::filter_of(alloc, a, mask, policy),
+        Layout::Union(a) => union_::filter_of(alloc, a, mask, policy),
         Layout::Extension(a) => extension::filter_of(alloc, a, mask, policy),
         Layout::Constant(a) => Ok(constant::filter_of(a, mask)),
         Layout::Dict(a) => dict::filter_of(alloc, a, mask, policy),

@@ -1,6 +1,7 @@
 //! One step over a column of any layout: this crate alone goes over the layouts.
 #![tactic(auto)]
 
+mod columns;
 mod constant;
 mod dict;
 mod executing;
@@ -20,6 +21,7 @@ mod slicing;
 mod stored;
 mod struct_;
 mod taking;
+mod union_;
 mod validity;
 
 pub use executing::execute;
@@ -28,4 +30,5 @@ pub use materialized::is_materialized;
 pub use slicing::slice;
 pub use struct_::filter_fields;
 pub use taking::take;
+pub use union_::filter_variants;
 pub use validity::{filter_validity, take_validity};

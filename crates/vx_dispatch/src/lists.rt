@@ -66,10 +66,14 @@ fn is_constant(array: &Array) -> bool {
     matches!(array.layout(), Layout::Constant(_))
 }
 
-// The elements, executed, but where one value or one code stands for each of them: they may be
-// more than any memory holds, as those behind null lists are.
+/// The elements, executed, but where one value or one code stands for each of them: they may be
+/// more than any memory holds, as those behind null lists are.
 #[cycle(execute)]
-fn execute_elements(alloc: Global, elements: &Array, policy: &Policy) -> Result<Array, NoMemory>
+pub(crate) fn execute_elements(
+    alloc: Global,
+    elements: &Array,
+    policy: &Policy,
+) -> Result<Array, NoMemory>
     ensures { IfOk result (IsStep elements.now elements.now.rows elements.now.dtype) }
 {
     match elements.layout() {

@@ -5,7 +5,7 @@ ghost use Rattle.vx_model.specs.Step.{IsSlice};
 
 use crate::{
     constant, dict, extension, filter_layout, fixed_size_list, list, listview, map, null, stored,
-    struct_,
+    struct_, union_,
 };
 use std::alloc::Global;
 use vx_bits::NoMemory;
@@ -31,6 +31,7 @@ pub fn slice(alloc: Global, array: &Array, start: usize, end: usize) -> Result<A
         Layout::FixedSizeList(a) => fixed_size_list::slice_of(alloc, a, start, end),
         Layout::Map(a) => map::slice_of(alloc, a, start, end),
         Layout::Struct(a) => struct_::slice_of(alloc, a, start, end),
+        Layout::Union(a) => union_::slice_of(alloc, a, start, end),
         Layout::Extension(a) => extension::slice_of(alloc, a, start, end),
         Layout::Constant(a) => Ok(constant::slice_of(a, start, end)),
         Layout::Dict(a) => dict::slice_of(alloc, a, start, end),

@@ -10,7 +10,7 @@ use crate::executing::execute;
 use crate::runs::take_by_runs;
 use crate::{
     constant, dict, extension, filter_layout, fixed_size_list, list, listview, map, null, stored,
-    struct_,
+    struct_, union_,
 };
 use std::alloc::Global;
 use vx_bits::NoMemory;
@@ -61,6 +61,7 @@ pub(crate) fn take_picks(
         }
         Layout::Map(a) => map::take_of(alloc, a, &picks, nullability, policy),
         Layout::Struct(a) => struct_::take_of(alloc, a, &picks, nullability, policy),
+        Layout::Union(a) => union_::take_of(alloc, a, &picks, nullability, policy),
         Layout::Extension(a) => extension::take_of(alloc, a, picks, nullability, policy),
         Layout::Constant(a) => constant::take_of(alloc, a, &picks, nullability),
         Layout::Dict(a) => dict::take_of(alloc, a, picks, nullability, policy),

@@ -101,6 +101,7 @@ pub(crate) fn taken_bits(
         | Layout::ListView(_)
         | Layout::FixedSizeList(_)
         | Layout::Struct(_)
+        | Layout::Union(_)
         | Layout::Extension(_) => unreachable!(),
         Layout::Map(a) => {
             // no map is a bool

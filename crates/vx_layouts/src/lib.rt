@@ -19,6 +19,7 @@ mod primitive;
 mod struct_;
 mod taking;
 mod traits;
+mod union_;
 mod varbin;
 mod varbinview;
 
@@ -27,6 +28,7 @@ pub use listview::filter_listview;
 pub use struct_::filter_struct;
 pub use taking::{TakeError, take};
 pub use traits::{FilterKernel, FilterReduce, SliceKernel, SliceReduce, TakeExecute, TakeReduce};
+pub use union_::filter_union;
 pub use varbin::{VarBinSlice, take_varbin};
 pub use varbinview::filter_varbinview;
 pub use vx_column::mask_of;

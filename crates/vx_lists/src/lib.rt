@@ -19,3 +19,4 @@ pub use fixed_size_list::{FixedFilterPlan, FixedTakePlan, plan_fixed_filter, pla
 pub use list::{ListFilterPlan, ListTakePlan, plan_list_filter, plan_list_take, slice_list};
 pub use listview::{ViewPlan, plan_view_filter, plan_view_take, slice_view};
 pub use take::{ListTake, take_lists};
+pub use view::{filter_numbers, slice_numbers, take_numbers};

@@ -73,7 +73,7 @@ fn take_records(alloc: Global, records: &Records, picks: &Picks) -> Result<Recor
 }
 
 /// The numbers at the set positions of `mask`, in order, of the same type. `NoMemory` alone.
-pub(crate) fn filter_numbers(
+pub fn filter_numbers(
     alloc: Global,
     numbers: &PrimitiveArray,
     mask: &MaskValues,
@@ -88,7 +88,7 @@ pub(crate) fn filter_numbers(
 }
 
 /// The numbers at the picks, in order, and 0 at a null, of the same type. `NoMemory` alone.
-pub(crate) fn take_numbers(
+pub fn take_numbers(
     alloc: Global,
     numbers: &PrimitiveArray,
     picks: &Picks,
@@ -102,7 +102,7 @@ pub(crate) fn take_numbers(
 }
 
 /// The numbers from `start` up to `end`, of the same type. It takes no memory.
-pub(crate) fn slice_numbers(numbers: &PrimitiveArray, start: usize, end: usize) -> PrimitiveArray
+pub fn slice_numbers(numbers: &PrimitiveArray, start: usize, end: usize) -> PrimitiveArray
     requires ordered { start ≤ end }
     requires within { end ≤ length numbers.now.records }
     ensures { result

@@ -46,7 +46,9 @@ pub(crate) fn natural_at(array: &Array, i: usize) -> usize
     ensures { result ≡ slice_index (naturals_of array.now) i }
 {
     match array.cell_at(i) {
-        Cell::Null | Cell::Bit(_) | Cell::List(_) | Cell::Fields(_) => unreachable!(),
+        Cell::Null | Cell::Bit(_) | Cell::List(_) | Cell::Fields(_) | Cell::Tagged(_) => {
+            unreachable!()
+        }
         Cell::Bytes(bytes) => match array.dtype() {
             DType::Primitive(ptype, _) => natural(*ptype, bytes),
             _ => unreachable!(),

@@ -22,6 +22,10 @@ use Rattle.vx_model.proofs.Across.{long-same, types-steps}
 use Rattle.vx_model.proofs.StructSteps.{fault-struct, fitting-struct, is_same-struct, long-struct}
 use Rattle.vx_dispatch.proofs.EachColumn.{same_more}
 use Rattle.vx_dispatch.proofs.ListSteps.{fits_same}
+use Rattle.std.proofs.Common.{Option, None}
+use Rattle.vx_model.specs.Records.{RecordParts}
+use Rattle.vx_model.specs.Union.{UnionParts, union_column, union_fault}
+use Rattle.vx_model.proofs.UnionFaults.{fault-union-same, is_same-union}
 use Rattle.vx_dispatch.proofs.+execute.Goals as goal
 
 pub dict::execute_of-column_picks-requires : goal.dict::execute_of-column_picks-requires
@@ -75,13 +79,13 @@ stored::execute_of-execute_validity-requires t c =
 
 -- ---- structs
 
-pub struct_::execute_each-loop-column-preserved : goal.struct_::execute_each-loop-column-preserved
-struct_::execute_each-loop-column-preserved t c =
+pub columns::execute_each-loop-column-preserved : goal.columns::execute_each-loop-column-preserved
+columns::execute_each-loop-column-preserved t c =
     let cs = c.args.columns.now in let k = c.loop-column.column-index in
     let column = c.column-item.result in let x = c.in_ok-into_ref.field-0 in
     let here : k < length cs = rw (← c.as_slice-column-items.ensures) c.loop-column-test.true in
     let is : column ≡ get_or cs k column = rw (← c.as_slice-column-items.ensures) c.column-item.is in
-    let step : IsStep column column.rows column.dtype x = rw (c.in_ok-into_ref.ensures, ← c.deref.ensures) c.in_ok-execute.ensures.same in
+    let step : IsStep column column.rows column.dtype x = rw (c.in_ok-into_ref.ensures, ← c.deref.ensures) c.in_ok-execute_elements.ensures in
     subst (λ (l : List Column). AreSteps (λ rows. rows) (take (k + 1) cs) l) (sym c.in_ok-push.ensures.items)
     (same_more cs k column c.loop-column.executed.items x here is c.loop-column.invariant step)
 
@@ -104,3 +108,25 @@ struct_::execute_of-returns-clause-same t c =
     let steps : AreSteps (λ rows. rows) p.columns fields = rw c.fields.ensures.value at c.in_ok-fields.ensures in
     let left : IsLeft p.valid (nullability_by p.valid) (present_bits p.valid p.len) w = rw (c.validity.ensures.value, c.len-len.ensures) at c.in_ok-validity.ensures.left in
     rw (c.into_array.ensures, c.with_parts.ensures) (is_same-struct p q h refl c.len-len.ensures steps left)
+
+-- ---- unions
+
+pub union_::execute_of-with_parts-requires :
+    goal.union_::execute_of-with_parts-requires
+union_::execute_of-with_parts-requires t c =
+    let p = c.args.array.now in let h = c.type_ids.ensures.valid in
+    let a = c.in_ok-ids.ids in let cs = c.in_ok-columns.columns in
+    let step : IsStep p.ids p.ids.rows p.ids.dtype a = subst (λ (x : Column). IsStep x x.rows x.dtype a) (c.deref.ensures ∙ c.type_ids.ensures.value) (rw c.in_ok-ids.ensures c.in_ok-execute.ensures.same) in
+    let steps : AreSteps (λ rows. rows) p.columns cs = rw c.children.ensures.value at c.in_ok-columns.ensures in
+    ap (λ (o : Option RecordParts). union_fault (record p { ids = a; offsets = o; columns = cs })) c.shared_offsets-offsets.ensures ∙ fault-union-same p h a step cs steps
+
+pub union_::execute_of-returns-clause-same :
+    goal.union_::execute_of-returns-clause-same
+union_::execute_of-returns-clause-same t c =
+    let p = c.args.array.now in let h = c.type_ids.ensures.valid in
+    let a = c.in_ok-ids.ids in let cs = c.in_ok-columns.columns in
+    let step : IsStep p.ids p.ids.rows p.ids.dtype a = subst (λ (x : Column). IsStep x x.rows x.dtype a) (c.deref.ensures ∙ c.type_ids.ensures.value) (rw c.in_ok-ids.ensures c.in_ok-execute.ensures.same) in
+    let steps : AreSteps (λ rows. rows) p.columns cs = rw c.children.ensures.value at c.in_ok-columns.ensures in
+    let q : c.into_array.result ≡ union_column (record p { ids = a; columns = cs }) =
+    c.into_array.ensures ∙ ap union_column (c.with_parts.ensures ∙ ap (λ (o : Option RecordParts). let u : UnionParts = record p { ids = a; offsets = o; columns = cs } in u) c.shared_offsets-offsets.ensures) in
+    subst (λ (x : Column). IsStep (union_column p) (union_column p).rows (union_column p).dtype x) (sym q) (is_same-union p h a step cs steps)

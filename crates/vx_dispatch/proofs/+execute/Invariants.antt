@@ -11,6 +11,7 @@ use Rattle.std.proofs.Common.{take}
 use Rattle.vx_model.specs.Columns.{AreSteps}
 use Rattle.vx_model.specs.Columns.{columns_depth}
 use Rattle.vx_model.specs.Extension.{extension_size}
+use Rattle.vx_model.specs.Union.{union_size}
 use Rattle.vx_dispatch.proofs.+execute.Given as goal
 
 abbrev pub decreases-dict::execute_of : goal.decreases-dict::execute_of
@@ -41,14 +42,17 @@ decreases-extension::execute_of l = extension_size l.array.now
 abbrev pub decreases-struct_::execute_of : goal.decreases-struct_::execute_of
 decreases-struct_::execute_of l = max (columns_depth l.array.now.columns) (valid_size l.array.now.valid) + 2
 
-abbrev pub decreases-struct_::execute_each : goal.decreases-struct_::execute_each
-decreases-struct_::execute_each l = columns_depth l.columns.now
+abbrev pub decreases-columns::execute_each : goal.decreases-columns::execute_each
+decreases-columns::execute_each l = columns_depth l.columns.now + 1
 
 -- what is made so far are the first columns' steps
-abbrev pub invariant-struct_::execute_each-loop-column : goal.invariant-struct_::execute_each-loop-column
-invariant-struct_::execute_each-loop-column l =
+abbrev pub invariant-columns::execute_each-loop-column : goal.invariant-columns::execute_each-loop-column
+invariant-columns::execute_each-loop-column l =
     AreSteps (λ rows. rows) (take l.column-index l.columns) l.executed.items
 
 -- `execute_elements` calls `execute` on the same column
 abbrev pub decreases-lists::execute_elements : goal.decreases-lists::execute_elements
 decreases-lists::execute_elements l = l.elements.now.depth + 1
+
+abbrev pub decreases-union_::execute_of : goal.decreases-union_::execute_of
+decreases-union_::execute_of l = union_size l.array.now

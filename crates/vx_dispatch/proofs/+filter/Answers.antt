@@ -43,6 +43,12 @@ use Rattle.vx_model.specs.ListView.{listview_column}
 use Rattle.vx_types.specs.TypeTree.{TypeTree}
 use Rattle.vx_mask.specs.MaskValues.{PartialMask}
 use Rattle.std.proofs.Common.{◌+◌, ◌<◌, List, take, get_or, subst}
+use Rattle.std.proofs.Common.{Option, Some, None}
+use Rattle.std.specs.Prelude.{is_some}
+use Rattle.vx_model.specs.Records.{RecordParts, records_with}
+use Rattle.vx_model.specs.Union.{UnionParts, union_column, union_fault}
+use Rattle.vx_model.proofs.UnionFaults.{fault-dense-filter, fault-sparse-filter, is_filter-dense, is_filter-sparse}
+use Rattle.vx_model.proofs.UnionSteps.{rows-union}
 use Rattle.vx_dispatch.proofs.+filter.Goals as goal
 
 pub validity::filter_validity-returns-in-NonNullable-clause-left : goal.validity::filter_validity-returns-in-NonNullable-clause-left
@@ -228,8 +234,8 @@ map::filter_of-returns t c =
 
 -- ---- structs
 
-pub struct_::filter_each-loop-column-preserved : goal.struct_::filter_each-loop-column-preserved
-struct_::filter_each-loop-column-preserved t c =
+pub columns::filter_each-loop-column-preserved : goal.columns::filter_each-loop-column-preserved
+columns::filter_each-loop-column-preserved t c =
     let mask = mask_bits c.args.mask.now in let cs = c.args.columns.now in let k = c.loop-column.column-index in
     let column = c.column-item.result in let x = c.in_ok-into_ref.field-0 in
     let here : k < length cs = rw (← c.as_slice-column-items.ensures) c.loop-column-test.true in
@@ -263,3 +269,50 @@ struct_::filter_fields-returns t c =
     let left : IsLeft p.valid (nullability_by p.valid) (items_where_true mask (present_bits p.valid p.len)) w = rw (c.validity.ensures.value, long) at c.in_ok-validity.ensures.left in
     let plain : IsAsPlain p.valid w = rw c.validity.ensures.value at c.in_ok-validity.ensures.plain in
     rw c.with_parts.ensures (is_filter-struct p q h refl mask long c.true_count.ensures.count cuts left plain)
+
+-- ---- unions
+
+pub union_::filter_sparse-with_parts-requires :
+    goal.union_::filter_sparse-with_parts-requires
+union_::filter_sparse-with_parts-requires t c =
+    let p = c.args.array.now in let h = c.children-columns.ensures.valid in let mask = c.args.mask.now.bits.bits in
+    let a = c.args.ids in let cs = c.in_ok-cut.cut in
+    let bits : mask_bits c.in_ok-ready.ready ≡ mask = ap mask_bits c.in_ok-ready.ensures ∙ bits-prepared c.share.result c.len.result c.args.policy.now ∙ ap (λ (m : PartialMask). m.bits.bits) c.share.ensures in
+    let cuts : AreCuts (items_where_true mask) p.columns cs = rw (bits, c.children-columns.ensures.value) at c.in_ok-cut.ensures in
+    fault-sparse-filter p h c.requires.sparse a cs mask c.requires.rows c.requires.ids cuts
+
+pub union_::filter_sparse-returns-clause-cut :
+    goal.union_::filter_sparse-returns-clause-cut
+union_::filter_sparse-returns-clause-cut t c =
+    let p = c.args.array.now in let h = c.children-columns.ensures.valid in let mask = c.args.mask.now.bits.bits in
+    let a = c.args.ids in let cs = c.in_ok-cut.cut in
+    let bits : mask_bits c.in_ok-ready.ready ≡ mask = ap mask_bits c.in_ok-ready.ensures ∙ bits-prepared c.share.result c.len.result c.args.policy.now ∙ ap (λ (m : PartialMask). m.bits.bits) c.share.ensures in
+    let cuts : AreCuts (items_where_true mask) p.columns cs = rw (bits, c.children-columns.ensures.value) at c.in_ok-cut.ensures in
+    rw c.with_parts.ensures (is_filter-sparse p h c.requires.sparse a cs mask c.requires.rows c.requires.ids cuts)
+
+pub union_::filter_variants-with_parts-requires :
+    goal.union_::filter_variants-with_parts-requires
+union_::filter_variants-with_parts-requires t c =
+    let p = c.args.array.now in let h = c.type_ids.ensures.valid in let mask = c.args.mask.now.bits.bits in
+    let a = c.in_ok-ids.ids in let o = c.in-Some.offsets.now in
+    let some : p.offsets ≡ Some o = sym c.in-Some.ensures.value in
+    let cut : IsCut p.ids (items_where_true mask p.ids.rows) a = subst (λ (x : Column). IsCut x (items_where_true mask x.rows) a) (c.deref.ensures ∙ c.type_ids.ensures.value) (rw c.in_ok-ids.ensures c.in_ok-filter_values.ensures.cut) in
+    ap₂ (λ (r : RecordParts) (cs : List Column). union_fault (record p { ids = a; offsets = Some r; columns = cs })) c.in_ok-places-in-Some.ensures (c.share-columns.ensures ∙ c.children.ensures.value)
+    ∙ fault-dense-filter p o h some a mask (c.requires ∙ rows-union p h) cut
+
+pub union_::filter_variants-returns-in_ok-places-in-Some-clause-cut :
+    goal.union_::filter_variants-returns-in_ok-places-in-Some-clause-cut
+union_::filter_variants-returns-in_ok-places-in-Some-clause-cut t c =
+    let p = c.args.array.now in let h = c.type_ids.ensures.valid in let mask = c.args.mask.now.bits.bits in
+    let a = c.in_ok-ids.ids in let o = c.in-Some.offsets.now in
+    let some : p.offsets ≡ Some o = sym c.in-Some.ensures.value in
+    let cut : IsCut p.ids (items_where_true mask p.ids.rows) a = subst (λ (x : Column). IsCut x (items_where_true mask x.rows) a) (c.deref.ensures ∙ c.type_ids.ensures.value) (rw c.in_ok-ids.ensures c.in_ok-filter_values.ensures.cut) in
+    let q : c.with_parts.result ≡ record p { ids = a; offsets = Some (records_with o (items_where_true mask o.records) non_nullable) } =
+    c.with_parts.ensures
+    ∙ ap₂ (λ (r : RecordParts) (cs : List Column). let u : UnionParts = record p { ids = a; offsets = Some r; columns = cs } in u) c.in_ok-places-in-Some.ensures (c.share-columns.ensures ∙ c.children.ensures.value) in
+    subst (λ (u : UnionParts). IsCut (union_column p) (items_where_true mask (union_column p).rows) (union_column u)) (sym q) (is_filter-dense p o h some a mask cut)
+
+pub union_::filter_variants-returns-in-None-clause-form :
+    goal.union_::filter_variants-returns-in-None-clause-form
+union_::filter_variants-returns-in-None-clause-form t c =
+    weaker c.filter_sparse.result c.filter_sparse.ensures.sparse (λ u is. ap is_some (is ∙ c.in-None.ensures.value))

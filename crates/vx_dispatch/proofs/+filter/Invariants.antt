@@ -12,6 +12,7 @@ use Rattle.vx_mask.specs.Mask.{mask_bits}
 use Rattle.vx_model.specs.Columns.{AreCuts}
 use Rattle.vx_model.specs.Columns.{columns_depth}
 use Rattle.vx_model.specs.Extension.{extension_size}
+use Rattle.vx_model.specs.Union.{union_size}
 use Rattle.vx_dispatch.proofs.+filter.Given as goal
 
 abbrev pub decreases-dict::filter_of : goal.decreases-dict::filter_of
@@ -58,10 +59,19 @@ decreases-struct_::filter_of l = 2 * (max (columns_depth l.array.now.columns) (v
 abbrev pub decreases-struct_::filter_fields : goal.decreases-struct_::filter_fields
 decreases-struct_::filter_fields l = 2 * (max (columns_depth l.array.now.columns) (valid_size l.array.now.valid) + 1)
 
-abbrev pub decreases-struct_::filter_each : goal.decreases-struct_::filter_each
-decreases-struct_::filter_each l = 2 * (columns_depth l.columns.now)
+abbrev pub decreases-columns::filter_each : goal.decreases-columns::filter_each
+decreases-columns::filter_each l = 2 * (columns_depth l.columns.now)
 
 -- what is made so far are the first columns' steps
-abbrev pub invariant-struct_::filter_each-loop-column : goal.invariant-struct_::filter_each-loop-column
-invariant-struct_::filter_each-loop-column l =
+abbrev pub invariant-columns::filter_each-loop-column : goal.invariant-columns::filter_each-loop-column
+invariant-columns::filter_each-loop-column l =
     AreCuts (items_where_true (mask_bits l.mask)) (take l.column-index l.columns) l.cut.items
+
+abbrev pub decreases-union_::filter_of : goal.decreases-union_::filter_of
+decreases-union_::filter_of l = 2 * union_size l.array.now
+
+abbrev pub decreases-union_::filter_variants : goal.decreases-union_::filter_variants
+decreases-union_::filter_variants l = 2 * (max l.array.now.ids.depth (columns_depth l.array.now.columns) + 1) + 1
+
+abbrev pub decreases-union_::filter_sparse : goal.decreases-union_::filter_sparse
+decreases-union_::filter_sparse l = 2 * (max l.array.now.ids.depth (columns_depth l.array.now.columns) + 1)

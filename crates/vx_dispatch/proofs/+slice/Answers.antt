@@ -32,6 +32,11 @@ use Rattle.vx_model.proofs.MapSteps.{elements-step, fault-map, is_cut-map}
 use Rattle.vx_model.proofs.StructSteps.{fault-struct, fitting-struct, is_slice-struct, long-struct, rows-struct}
 use Rattle.vx_dispatch.proofs.EachColumn.{slices_more}
 use Rattle.std.proofs.Common.{◌+◌, ◌<◌, get_or, sym, subst}
+use Rattle.std.proofs.Common.{Option, Some, None}
+use Rattle.vx_model.specs.Records.{RecordParts, records_with}
+use Rattle.vx_model.specs.Union.{UnionParts, union_column, union_fault}
+use Rattle.vx_model.proofs.UnionFaults.{fault-dense-slice, fault-sparse-slice, is_slice-dense, is_slice-sparse}
+use Rattle.vx_model.proofs.UnionSteps.{rows-union}
 use Rattle.vx_dispatch.proofs.+slice.Goals as goal
 
 pub validity::slice_validity-returns-in-NonNullable-clause-left : goal.validity::slice_validity-returns-in-NonNullable-clause-left
@@ -203,8 +208,8 @@ struct_::slice_of-returns t c =
     rw (c.into_array.ensures, c.with_parts.ensures)
     (is_slice-struct p q h refl s e c.requires.ordered within refl cuts left plain)
 
-pub struct_::slice_each-loop-column-preserved : goal.struct_::slice_each-loop-column-preserved
-struct_::slice_each-loop-column-preserved t c =
+pub columns::slice_each-loop-column-preserved : goal.columns::slice_each-loop-column-preserved
+columns::slice_each-loop-column-preserved t c =
     let s = c.args.start in let e = c.args.end in let cs = c.args.columns.now in let k = c.loop-column.column-index in
     let column = c.column-item.result in let x = c.in_ok-into_ref.field-0 in
     let here : k < length cs = rw (← c.as_slice-column-items.ensures) c.loop-column-test.true in
@@ -212,3 +217,46 @@ struct_::slice_each-loop-column-preserved t c =
     let cut : IsSlice column s e x = rw (c.in_ok-into_ref.ensures, ← c.deref.ensures) c.in_ok-slice.ensures.cut in
     subst (λ (l : List Column). AreCuts (λ rows. slice_range rows s e) (take (k + 1) cs) l) (sym c.in_ok-push.ensures.items)
     (slices_more s e cs k column c.loop-column.cut.items x here is c.loop-column.invariant cut)
+
+-- ---- unions
+
+pub union_::slice_of-with_parts-requires :
+    goal.union_::slice_of-with_parts-requires
+union_::slice_of-with_parts-requires t c =
+    let p = c.args.array.now in let h = c.type_ids.ensures.valid in let s = c.args.start in let e = c.args.end in
+    let a = c.in_ok-ids.ids in let o = c.in-Some.offsets.now in
+    let some : p.offsets ≡ Some o = sym c.in-Some.ensures.value in
+    let cut : IsSlice p.ids s e a = subst (λ (x : Column). IsSlice x s e a) (c.deref.ensures ∙ c.type_ids.ensures.value) (rw c.in_ok-ids.ensures c.in_ok-slice.ensures.cut) in
+    ap₂ (λ (r : RecordParts) (cs : List Column). union_fault (record p { ids = a; offsets = Some r; columns = cs })) c.slice_numbers-places.ensures (c.share-columns.ensures ∙ c.children.ensures.value)
+    ∙ fault-dense-slice p o h some a s e c.requires.ordered (omega (arith, c.requires.within, rows-union p h)) cut
+
+pub union_::slice_of-with_parts-requires-in-None :
+    goal.union_::slice_of-with_parts-requires-in-None
+union_::slice_of-with_parts-requires-in-None t c =
+    let p = c.args.array.now in let h = c.type_ids.ensures.valid in let s = c.args.start in let e = c.args.end in
+    let a = c.in_ok-ids.ids in let cs = c.in_ok-columns-in-None.columns in
+    let cut : IsSlice p.ids s e a = subst (λ (x : Column). IsSlice x s e a) (c.deref.ensures ∙ c.type_ids.ensures.value) (rw c.in_ok-ids.ensures c.in_ok-slice.ensures.cut) in
+    let cuts : AreCuts (λ rows. slice_range rows s e) p.columns cs = rw c.children-in-None.ensures.value at c.in_ok-columns-in-None.ensures in
+    fault-sparse-slice p h (sym c.in-None.ensures.value) a cs s e c.requires.ordered (omega (arith, c.requires.within, rows-union p h)) cut cuts
+
+pub union_::slice_of-returns-in-Some :
+    goal.union_::slice_of-returns-in-Some
+union_::slice_of-returns-in-Some t c =
+    let p = c.args.array.now in let h = c.type_ids.ensures.valid in let s = c.args.start in let e = c.args.end in
+    let a = c.in_ok-ids.ids in let o = c.in-Some.offsets.now in
+    let some : p.offsets ≡ Some o = sym c.in-Some.ensures.value in
+    let cut : IsSlice p.ids s e a = subst (λ (x : Column). IsSlice x s e a) (c.deref.ensures ∙ c.type_ids.ensures.value) (rw c.in_ok-ids.ensures c.in_ok-slice.ensures.cut) in
+    let q : c.into_array.result ≡ union_column (record p { ids = a; offsets = Some (records_with o (slice_range o.records s e) non_nullable) }) =
+    c.into_array.ensures ∙ ap union_column (c.with_parts.ensures
+    ∙ ap₂ (λ (r : RecordParts) (cs : List Column). let u : UnionParts = record p { ids = a; offsets = Some r; columns = cs } in u) c.slice_numbers-places.ensures (c.share-columns.ensures ∙ c.children.ensures.value)) in
+    subst (λ (x : Column). IsSlice (union_column p) s e x) (sym q) (is_slice-dense p o h some a s e cut)
+
+pub union_::slice_of-returns-in_ok-columns-in-None :
+    goal.union_::slice_of-returns-in_ok-columns-in-None
+union_::slice_of-returns-in_ok-columns-in-None t c =
+    let p = c.args.array.now in let h = c.type_ids.ensures.valid in let s = c.args.start in let e = c.args.end in
+    let a = c.in_ok-ids.ids in let cs = c.in_ok-columns-in-None.columns in
+    let cut : IsSlice p.ids s e a = subst (λ (x : Column). IsSlice x s e a) (c.deref.ensures ∙ c.type_ids.ensures.value) (rw c.in_ok-ids.ensures c.in_ok-slice.ensures.cut) in
+    let cuts : AreCuts (λ rows. slice_range rows s e) p.columns cs = rw c.children-in-None.ensures.value at c.in_ok-columns-in-None.ensures in
+    rw (c.into_array-in-None.ensures, c.with_parts-in-None.ensures)
+    (is_slice-sparse p h (sym c.in-None.ensures.value) a cs s e c.requires.ordered (omega (arith, c.requires.within, rows-union p h)) cut cuts)

@@ -10,6 +10,7 @@ use Rattle.std.proofs.Common.{take, slice_range}
 use Rattle.vx_model.specs.Columns.{AreCuts}
 use Rattle.vx_model.specs.Columns.{columns_depth}
 use Rattle.vx_model.specs.Extension.{extension_size}
+use Rattle.vx_model.specs.Union.{union_size}
 use Rattle.vx_dispatch.proofs.+slice.Given as goal
 
 abbrev pub decreases-dict::slice_of : goal.decreases-dict::slice_of
@@ -48,10 +49,13 @@ decreases-extension::slice_of l = extension_size l.array.now
 abbrev pub decreases-struct_::slice_of : goal.decreases-struct_::slice_of
 decreases-struct_::slice_of l = max (columns_depth l.array.now.columns) (valid_size l.array.now.valid) + 2
 
-abbrev pub decreases-struct_::slice_each : goal.decreases-struct_::slice_each
-decreases-struct_::slice_each l = columns_depth l.columns.now
+abbrev pub decreases-columns::slice_each : goal.decreases-columns::slice_each
+decreases-columns::slice_each l = columns_depth l.columns.now
 
 -- what is made so far are the first columns' steps
-abbrev pub invariant-struct_::slice_each-loop-column : goal.invariant-struct_::slice_each-loop-column
-invariant-struct_::slice_each-loop-column l =
+abbrev pub invariant-columns::slice_each-loop-column : goal.invariant-columns::slice_each-loop-column
+invariant-columns::slice_each-loop-column l =
     AreCuts (λ rows. slice_range rows l.start l.end) (take l.column-index l.columns) l.cut.items
+
+abbrev pub decreases-union_::slice_of : goal.decreases-union_::slice_of
+decreases-union_::slice_of l = union_size l.array.now

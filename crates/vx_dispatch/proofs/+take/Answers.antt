@@ -60,6 +60,12 @@ use Rattle.std.proofs.Common.{◌+◌, take, get_or}
 use Rattle.std.proofs.lemmas.List.{length-map}
 use Rattle.vx_types.specs.FieldTypes.{FieldTypes}
 use Rattle.vx_types.specs.declared.nullability.Nullability.TheVariants.{NonNullable}
+use Rattle.std.proofs.Common.{Option, Some, None, replicate}
+use Rattle.vx_model.specs.Records.{RecordParts, records_with}
+use Rattle.vx_model.specs.Union.{UnionParts, union_column, union_fault}
+use Rattle.vx_types.specs.FieldTypes.{VariantTypes}
+use Rattle.vx_model.proofs.UnionFaults.{fault-dense-take, fault-sparse-any, fault-sparse-take, is_take-dense, is_take-sparse, is_take-sparse-none, sparse-long}
+use Rattle.vx_dispatch.proofs.Unions.{types-variants}
 use Rattle.vx_dispatch.proofs.+take.Goals as goal
 
 pub validity::take_validity-returns-in-AllInvalid-default-clause-left : goal.validity::take_validity-returns-in-AllInvalid-default-clause-left
@@ -294,8 +300,8 @@ map::take_of-returns t c =
 
 -- ---- structs
 
-pub struct_::take_each-loop-column-preserved : goal.struct_::take_each-loop-column-preserved
-struct_::take_each-loop-column-preserved t c =
+pub columns::take_each-loop-column-preserved : goal.columns::take_each-loop-column-preserved
+columns::take_each-loop-column-preserved t c =
     let picks = c.args.picks.now.picks in let cs = c.args.columns.now in let k = c.loop-column.column-index in
     let column = c.column-item.result in let x = c.in_ok-into_ref.field-0 in
     let here : k < length cs = rw (← c.as_slice-column-items.ensures) c.loop-column-test.true in
@@ -369,3 +375,79 @@ struct_::take_of-returns t c =
     rw (ap (λ (b : BoundedPicks). b.picks) c.in_ok-firsts.ensures, c.fields.ensures.value) at c.in_ok-fields-2.ensures in
     rw (c.into_array-2.ensures, c.with_parts-2.ensures, c.len-len.ensures)
     (is_take-struct p q h refl picks n below (below-firsts picks p.len some below) refl steps left)
+
+-- ---- unions
+
+pub union_::take_of-with_parts-requires :
+    goal.union_::take_of-with_parts-requires
+union_::take_of-with_parts-requires t c =
+    let p = c.args.array.now in let h = c.type_ids.ensures.valid in let picks = c.args.picks.now.picks in let n = c.args.nullability in
+    let a = c.in_ok-ids.ids in let o = c.in-Some.offsets.now in
+    let some : p.offsets ≡ Some o = sym c.in-Some.ensures.value in
+    let same : c.in_ok-copy.copy.picks ≡ picks = ap (λ (b : BoundedPicks). b.picks) c.in_ok-copy.ensures in
+    let step : IsTake p.ids picks n a = subst (λ (x : Column). IsTake x picks n a) (c.deref.ensures ∙ c.type_ids.ensures.value) (rw (c.in_ok-ids.ensures, ← same) c.in_ok-taken.ensures) in
+    ap₂ (λ (r : RecordParts) (cs : List Column). union_fault (record p { ids = a; offsets = Some r; columns = cs })) c.in_ok-places-in-Some.ensures (c.share-columns.ensures ∙ c.children.ensures.value)
+    ∙ fault-dense-take p o h some a (replicate o.width 0) picks n step
+
+pub union_::take_of-returns-in_ok-places-in-Some :
+    goal.union_::take_of-returns-in_ok-places-in-Some
+union_::take_of-returns-in_ok-places-in-Some t c =
+    let p = c.args.array.now in let h = c.type_ids.ensures.valid in let picks = c.args.picks.now.picks in let n = c.args.nullability in
+    let a = c.in_ok-ids.ids in let o = c.in-Some.offsets.now in
+    let some : p.offsets ≡ Some o = sym c.in-Some.ensures.value in
+    let same : c.in_ok-copy.copy.picks ≡ picks = ap (λ (b : BoundedPicks). b.picks) c.in_ok-copy.ensures in
+    let step : IsTake p.ids picks n a = subst (λ (x : Column). IsTake x picks n a) (c.deref.ensures ∙ c.type_ids.ensures.value) (rw (c.in_ok-ids.ensures, ← same) c.in_ok-taken.ensures) in
+    let q : c.into_array.result ≡ union_column (record p { ids = a; offsets = Some (records_with o (at (replicate o.width 0) o.records picks) non_nullable) }) =
+    c.into_array.ensures ∙ ap union_column (c.with_parts.ensures
+    ∙ ap₂ (λ (r : RecordParts) (cs : List Column). let u : UnionParts = record p { ids = a; offsets = Some r; columns = cs } in u) c.in_ok-places-in-Some.ensures (c.share-columns.ensures ∙ c.children.ensures.value)) in
+    subst (λ (x : Column). IsTake (union_column p) picks n x) (sym q) (is_take-dense p o h some a (replicate o.width 0) picks n step)
+
+pub union_::take_sparse-with_parts-requires :
+    goal.union_::take_sparse-with_parts-requires
+union_::take_sparse-with_parts-requires t c =
+    let p = c.args.array.now in let h = c.variants.ensures.valid in let picks = c.args.picks.now.picks in let n = c.args.nullability in
+    let cs = c.in_ok-columns.columns in
+    let types : types_in cs ≡ p.variants.types = c.in_ok-columns.ensures.types ∙ c.types-types.ensures.value ∙ ap (λ (v : VariantTypes). v.types) (c.deref.ensures ∙ c.variants.ensures.value) in
+    fault-sparse-any p h c.requires.sparse c.args.ids cs picks n c.requires.ids (types ∙ types-variants p h) (rw c.len.ensures at c.in_ok-columns.ensures.long)
+
+pub union_::take_sparse-returns-then-bound-eq0 :
+    goal.union_::take_sparse-returns-then-bound-eq0
+union_::take_sparse-returns-then-bound-eq0 t c =
+    let p = c.args.array.now in let h = c.variants.ensures.valid in let picks = c.args.picks.now.picks in let n = c.args.nullability in
+    let none : length p.ids.rows ≡ 0 = grind (arith, nat_tests, c.requires.bound, c.bound.ensures.value, c.if-bound-eq0.true) in
+    let below : AreBelow picks (length p.ids.rows) = subst (AreBelow picks) (c.bound.ensures.value ∙ c.requires.bound) c.bound.ensures.below in
+    rw (c.into_array.ensures, c.with_parts.ensures)
+    (is_take-sparse-none p h c.requires.sparse c.args.ids c.in_ok-columns.columns _ picks n none below c.requires.ids (rw c.len.ensures at c.in_ok-columns.ensures.rows))
+
+pub union_::take_sparse-take_each-requires :
+    goal.union_::take_sparse-take_each-requires
+union_::take_sparse-take_each-requires t c =
+    let p = c.args.array.now in let h = c.children.ensures.valid in
+    let firsts = c.in_ok-firsts.ensures in
+    let long : are_long c.in_ok-firsts.firsts.bound c.children.result.now ≡ true =
+    rw (ap (λ (b : BoundedPicks). b.bound) firsts ∙ c.requires.bound, c.children.ensures.value) (sparse-long p h c.requires.sparse) in
+    let there : AllThere c.in_ok-firsts.firsts.picks = rw (ap (λ (b : BoundedPicks). b.picks) firsts) (there-firsts c.args.picks.now.picks) in (
+      omega (arith, ap columns_depth c.children.ensures.value),
+      (long, there),
+    )
+
+pub union_::take_sparse-with_parts-requires-2 :
+    goal.union_::take_sparse-with_parts-requires-2
+union_::take_sparse-with_parts-requires-2 t c =
+    let p = c.args.array.now in let h = c.children.ensures.valid in let picks = c.args.picks.now.picks in let n = c.args.nullability in
+    let cs = c.in_ok-columns-2.columns in
+    let steps : AreSteps (λ rows. at null rows (firsts_for_nulls picks)) p.columns cs =
+    rw (ap (λ (b : BoundedPicks). b.picks) c.in_ok-firsts.ensures, c.children.ensures.value) at c.in_ok-columns-2.ensures in
+    fault-sparse-take p h c.requires.sparse c.args.ids cs picks n c.requires.ids steps
+
+pub union_::take_sparse-returns :
+    goal.union_::take_sparse-returns
+union_::take_sparse-returns t c =
+    let p = c.args.array.now in let h = c.children.ensures.valid in let picks = c.args.picks.now.picks in let n = c.args.nullability in
+    let cs = c.in_ok-columns-2.columns in
+    let some : 0 < length p.ids.rows = grind (arith, nat_tests, c.requires.bound, c.bound.ensures.value, c.if-bound-eq0.false) in
+    let below : AreBelow picks (length p.ids.rows) = subst (AreBelow picks) (c.bound.ensures.value ∙ c.requires.bound) c.bound.ensures.below in
+    let steps : AreSteps (λ rows. at null rows (firsts_for_nulls picks)) p.columns cs =
+    rw (ap (λ (b : BoundedPicks). b.picks) c.in_ok-firsts.ensures, c.children.ensures.value) at c.in_ok-columns-2.ensures in
+    rw (c.into_array-2.ensures, c.with_parts-2.ensures)
+    (is_take-sparse p h c.requires.sparse c.args.ids cs picks n below (below-firsts picks (length p.ids.rows) some below) c.requires.ids steps)

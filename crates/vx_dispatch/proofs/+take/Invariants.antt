@@ -12,6 +12,7 @@ use Rattle.vx_take.specs.Picks.{at}
 use Rattle.vx_model.specs.Columns.{AreSteps}
 use Rattle.vx_model.specs.Columns.{columns_depth}
 use Rattle.vx_model.specs.Extension.{extension_size}
+use Rattle.vx_model.specs.Union.{union_size}
 use Rattle.vx_dispatch.proofs.+take.Given as goal
 
 abbrev pub decreases-dict::bits_of : goal.decreases-dict::bits_of
@@ -64,10 +65,16 @@ decreases-extension::take_of l = extension_size l.array.now
 abbrev pub decreases-struct_::take_of : goal.decreases-struct_::take_of
 decreases-struct_::take_of l = max (columns_depth l.array.now.columns) (valid_size l.array.now.valid) + 2
 
-abbrev pub decreases-struct_::take_each : goal.decreases-struct_::take_each
-decreases-struct_::take_each l = columns_depth l.columns.now
+abbrev pub decreases-columns::take_each : goal.decreases-columns::take_each
+decreases-columns::take_each l = columns_depth l.columns.now
 
 -- what is made so far are the first columns' steps
-abbrev pub invariant-struct_::take_each-loop-column : goal.invariant-struct_::take_each-loop-column
-invariant-struct_::take_each-loop-column l =
+abbrev pub invariant-columns::take_each-loop-column : goal.invariant-columns::take_each-loop-column
+invariant-columns::take_each-loop-column l =
     AreSteps (λ rows. at null rows l.picks.picks) (take l.column-index l.columns) l.taken.items
+
+abbrev pub decreases-union_::take_of : goal.decreases-union_::take_of
+decreases-union_::take_of l = union_size l.array.now
+
+abbrev pub decreases-union_::take_sparse : goal.decreases-union_::take_sparse
+decreases-union_::take_sparse l = max l.array.now.ids.depth (columns_depth l.array.now.columns) + 1

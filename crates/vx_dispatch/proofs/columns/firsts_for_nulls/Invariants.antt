@@ -1,7 +1,7 @@
 -- The picks before the one at hand.
 use Rattle.std.proofs.Common.{◌≡◌, take}
 use Rattle.vx_model.specs.Columns.{firsts_for_nulls}
-use Rattle.vx_dispatch.proofs.struct_.firsts_for_nulls.Given as goal
+use Rattle.vx_dispatch.proofs.columns.firsts_for_nulls.Given as goal
 
 abbrev pub invariant-loop-i : goal.invariant-loop-i
 invariant-loop-i l = record {

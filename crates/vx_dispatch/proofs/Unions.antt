@@ -1,0 +1,23 @@
+-- The types of a union's columns are those of its variants.
+use Rattle.std.proofs.Common.{◌≡◌, true, List, [], ◌∷◌, None, refl, sym, ap₂, ◌∙◌}
+use Rattle.vx_types.specs.TypeTree.{TypeKind, TypeTree, types_of}
+use Rattle.vx_types.specs.declared.nullability.Nullability.{Nullability}
+use Rattle.vx_model.specs.Columns.{types_in}
+use Rattle.vx_model.specs.Union.{UnionParts, union_fault}
+use Rattle.vx_model.proofs.StructSteps.{same_trees}
+use Rattle.vx_model.proofs.UnionSteps.{alike-union}
+
+same_lists : (ts us : List TypeTree) → types_of ts ≡ types_of us → ts ≡ us
+same_lists [] [] h = refl
+same_lists [] (u ∷ us) h = cc
+same_lists (t ∷ ts) [] h = cc
+same_lists (t ∷ ts) (u ∷ us) h =
+    let kind : t.kind ≡ u.kind = cc in
+    let nullability : t.nullability ≡ u.nullability = cc in
+    let rest : types_of ts ≡ types_of us = cc in
+    ap₂ (λ (x : TypeTree) xs. x ∷ xs)
+    (ap₂ (λ (k : TypeKind) (n : Nullability). let x : TypeTree = record { kind = k; nullability = n } in x) kind nullability)
+    (same_lists ts us rest)
+
+pub types-variants : (p : UnionParts) → union_fault p ≡ None → p.variants.types ≡ types_in p.columns
+types-variants p h = sym (same_lists (types_in p.columns) p.variants.types (same_trees _ _ (alike-union p h)))

@@ -1,0 +1,198 @@
+//! Layout `Union`: a step over the rows is that step over the ids, and over each column where the
+//! union is sparse or over the offsets where it is dense.
+ghost use Rattle.std.specs.Prelude.{◌≡◌, ◌≤◌, length, None, Some, false, IfOk};
+ghost use Rattle.std.specs.List.{items_where_true};
+ghost use Rattle.vx_types.specs.RowValue.{null};
+ghost use Rattle.vx_types.specs.declared.nullability.Nullability.TheVariants.{NonNullable};
+ghost use Rattle.vx_take.specs.Picks.{at};
+ghost use Rattle.vx_numbers.specs.Positions.{AllThere};
+ghost use Rattle.vx_model.specs.Plain.{is_lazy_layout};
+ghost use Rattle.vx_model.specs.Step.{IsCut, IsSlice, IsStep, IsTake};
+ghost use Rattle.vx_model.specs.Union.{union_column};
+
+use crate::columns::{execute_each, filter_each, firsts_for_nulls, slice_each, take_each};
+use crate::dict::copied;
+use crate::executing::execute;
+use crate::filtering::filter_values;
+use crate::slicing::slice;
+use crate::taking::take_picks;
+use std::alloc::Global;
+use vx_bits::NoMemory;
+use vx_column::{Array, ArrayRef, Columns, Nullability, PrimitiveArray, UnionArray};
+use vx_lists::{filter_numbers, slice_numbers, take_numbers};
+use vx_mask::{Mask, MaskValues, Policy, prepare_mask_for_reuse};
+use vx_take::Picks;
+
+#[cycle(slice)]
+#[tactic(auto, using(vx_model::proofs::UnionSteps::rows_of_unions))]
+pub(crate) fn slice_of(
+    alloc: Global,
+    array: &UnionArray,
+    start: usize,
+    end: usize,
+) -> Result<Array, NoMemory>
+    requires ordered { start ≤ end }
+    requires within { end ≤ length (union_column array.now).rows }
+    ensures { IfOk result (IsSlice (union_column array.now) start end) }
+{
+    let ids = slice(alloc, array.type_ids(), start, end)?.into_ref(alloc)?;
+    match array.offsets() {
+        Some(offsets) => {
+            let places = slice_numbers(offsets, start, end);
+            let columns = array.children().share();
+            Ok(array.with_parts(ids, Some(places), columns).into_array())
+        }
+        None => {
+            let columns = slice_each(alloc, array.children(), array.len(), start, end)?;
+            Ok(array.with_parts(ids, None, columns).into_array())
+        }
+    }
+}
+
+// The rows of a sparse union at the set positions of a mask that is as long, whose ids these are:
+// each column's rows there, by a mask that is made ready for as many consumers as there are columns.
+#[cycle(filter)]
+#[tactic(auto, using(vx_model::proofs::UnionSteps::rows_of_unions))]
+fn filter_sparse(
+    alloc: Global,
+    array: &UnionArray,
+    ids: ArrayRef,
+    mask: &MaskValues,
+    policy: &Policy,
+) -> Result<UnionArray, NoMemory>
+    requires sparse { array.now.offsets ≡ None }
+    requires rows { length mask.now.bits.bits ≡ length array.now.ids.rows }
+    requires ids { IsCut array.now.ids (items_where_true mask.now.bits.bits array.now.ids.rows) ids }
+    ensures cut { IfOk result (λ a. IsCut (union_column array.now)
+        (items_where_true mask.now.bits.bits (union_column array.now).rows) (union_column a)) }
+    ensures sparse { IfOk result (λ a. a.offsets ≡ None) }
+{
+    let columns = array.children();
+    let shared = Mask::Values(mask.share());
+    let ready = prepare_mask_for_reuse(alloc, &shared, columns.len(), policy)?;
+    let cut = filter_each(alloc, columns, &ready, policy)?;
+    Ok(array.with_parts(ids, None, cut))
+}
+
+/// The rows of a union at the set positions of a mask that is as long, in the union's form.
+/// `NoMemory` alone.
+#[cycle(filter)]
+#[tactic(auto, using(vx_model::proofs::UnionSteps::rows_of_unions))]
+pub fn filter_variants(
+    alloc: Global,
+    array: &UnionArray,
+    mask: &MaskValues,
+    policy: &Policy,
+) -> Result<UnionArray, NoMemory>
+    requires { length mask.now.bits.bits ≡ length (union_column array.now).rows }
+    ensures cut { IfOk result (λ a. IsCut (union_column array.now)
+        (items_where_true mask.now.bits.bits (union_column array.now).rows) (union_column a)) }
+    ensures form { IfOk result (λ a. (union_column a).dense ≡ (union_column array.now).dense) }
+{
+    let ids = filter_values(alloc, array.type_ids(), mask, policy)?.into_ref(alloc)?;
+    match array.offsets() {
+        Some(offsets) => {
+            let places = filter_numbers(alloc, offsets, mask, policy)?;
+            let columns = array.children().share();
+            Ok(array.with_parts(ids, Some(places), columns))
+        }
+        None => filter_sparse(alloc, array, ids, mask, policy),
+    }
+}
+
+#[cycle(filter)]
+pub(crate) fn filter_of(
+    alloc: Global,
+    array: &UnionArray,
+    mask: &MaskValues,
+    policy: &Policy,
+) -> Result<Array, NoMemory>
+    requires { length mask.now.bits.bits ≡ length (union_column array.now).rows }
+    ensures { IfOk result (IsCut (union_column array.now)
+        (items_where_true mask.now.bits.bits (union_column array.now).rows)) }
+{
+    Ok(filter_variants(alloc, array, mask, policy)?.into_array())
+}
+
+// The rows of a sparse union at the picks, whose ids these are. At a null pick the columns have row
+// 0, or fillers where there is no row; the ids hide them.
+#[cycle(take)]
+#[tactic(auto, using(vx_model::proofs::UnionSteps::rows_of_unions))]
+fn take_sparse(
+    alloc: Global,
+    array: &UnionArray,
+    ids: ArrayRef,
+    picks: &Picks,
+    nullability: Nullability,
+    policy: &Policy,
+) -> Result<Array, NoMemory>
+    requires sparse { array.now.offsets ≡ None }
+    requires bound { picks.now.bound ≡ length array.now.ids.rows }
+    requires ids { IsTake array.now.ids picks.now.picks nullability ids }
+    ensures { IfOk result (IsTake (union_column array.now) picks.now.picks nullability) }
+{
+    // the type of the ids is nullable where it is
+    let _ = nullability;
+    if picks.bound() == 0 {
+        let types = array.variants().types();
+        let columns = Columns::fillers(alloc, types, picks.len())?;
+        return Ok(array.with_parts(ids, None, columns).into_array());
+    }
+    let firsts = firsts_for_nulls(alloc, picks)?;
+    let columns = take_each(alloc, array.children(), &firsts, policy)?;
+    Ok(array.with_parts(ids, None, columns).into_array())
+}
+
+#[cycle(take)]
+#[tactic(auto, using(vx_model::proofs::UnionSteps::rows_of_unions))]
+pub(crate) fn take_of(
+    alloc: Global,
+    array: &UnionArray,
+    picks: &Picks,
+    nullability: Nullability,
+    policy: &Policy,
+) -> Result<Array, NoMemory>
+    requires bound { picks.now.bound ≡ length (union_column array.now).rows }
+    requires there { nullability ≡ NonNullable → AllThere picks.now.picks }
+    ensures { IfOk result (IsTake (union_column array.now) picks.now.picks nullability) }
+{
+    let copy = copied(alloc, picks)?;
+    let taken = take_picks(alloc, array.type_ids(), copy, nullability, policy)?;
+    let ids = taken.into_ref(alloc)?;
+    match array.offsets() {
+        Some(offsets) => {
+            let places = take_numbers(alloc, offsets, picks)?;
+            let columns = array.children().share();
+            Ok(array.with_parts(ids, Some(places), columns).into_array())
+        }
+        None => take_sparse(alloc, array, ids, picks, nullability, policy),
+    }
+}
+
+// The offsets once more.
+fn shared_offsets(array: &UnionArray) -> Option<PrimitiveArray>
+    ensures { result ≡ array.now.offsets }
+{
+    match array.offsets() {
+        Some(offsets) => Some(offsets.share()),
+        None => None,
+    }
+}
+
+/// The same rows, with the ids and the columns executed.
+#[cycle(execute)]
+#[tactic(auto, using(vx_model::proofs::UnionSteps::rows_of_unions))]
+pub(crate) fn execute_of(
+    alloc: Global,
+    array: &UnionArray,
+    policy: &Policy,
+) -> Result<Array, NoMemory>
+    ensures same { IfOk result (IsStep (union_column array.now) (union_column array.now).rows
+        (union_column array.now).dtype) }
+    ensures direct { IfOk result (λ a. is_lazy_layout a.layout ≡ false) }
+{
+    let ids = execute(alloc, array.type_ids(), policy)?.into_ref(alloc)?;
+    let columns = execute_each(alloc, array.children(), policy)?;
+    let offsets = shared_offsets(array);
+    Ok(array.with_parts(ids, offsets, columns).into_array())
+}
