@@ -20,6 +20,7 @@ use Rattle.vx_document.specs.Filter.{filter_by}
 use Rattle.vx_document.specs.Lists.{lists_by}
 use Rattle.vx_document.specs.Map.{map_by}
 use Rattle.vx_document.specs.Struct.{struct_by}
+use Rattle.vx_document.specs.Union.{union_by}
 use Rattle.vx_document.specs.Extension.{extension_by}
 
 -- the column that each member of an object means, by the member's name
@@ -51,6 +52,12 @@ struct_in d inner lists = do
   fields ← lists (codes "fields")
   struct_by d fields (validity_alone stated)
 
+unfoldable pub union_in : Data → Inner → InnerLists → Option Column
+union_in d inner lists = do
+  ids ← inner (codes "type_ids")
+  children ← lists (codes "children")
+  union_by d ids children
+
 unfoldable pub lists_in : Data → Inner → List ℕ → Option Column
 lists_in d inner layout = do
   stated ← validity_stated d inner
@@ -71,6 +78,7 @@ by_layout d inner lists layout =
     else if bytes_eq layout (codes "Filter") then filter_in d inner
     else if bytes_eq layout (codes "Map") then map_in d inner
     else if bytes_eq layout (codes "Struct") then struct_in d inner lists
+    else if bytes_eq layout (codes "Union") then union_in d inner lists
     else if bytes_eq layout (codes "Extension") then extension_in d inner
     else lists_in d inner layout
 

@@ -15,6 +15,7 @@ pub mod FixedSizeList
 pub mod Lists
 pub mod Map
 pub mod Struct
+pub mod Union
 pub mod Extension
 pub mod Columns
 pub mod Numbers
@@ -24,4 +25,3 @@ pub mod Steps
 pub mod Documents
 pub mod Chunks
 pub mod Reading
-pub mod Later

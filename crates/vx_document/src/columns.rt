@@ -4,7 +4,7 @@ ghost use Rattle.serde_json.specs.View.{view, items_view};
 ghost use Rattle.vx_column.specs.Validity.{valid_of};
 ghost use Rattle.vx_json.specs.Meaning.{Gives};
 ghost use Rattle.vx_document.specs.Validity.{validity_from, validity_stated};
-ghost use Rattle.vx_document.specs.Columns.{by_layout, column_of, each_column, inner_of, inner_lists_of, dict_in, filter_in, map_in, struct_in, extension_in, lists_in, flat_of};
+ghost use Rattle.vx_document.specs.Columns.{by_layout, column_of, each_column, inner_of, inner_lists_of, dict_in, filter_in, map_in, struct_in, union_in, extension_in, lists_in, flat_of};
 
 use crate::boolean::bool_by;
 use crate::constant::constant_by;
@@ -17,6 +17,7 @@ use crate::map::map_by;
 use crate::null::null_by;
 use crate::primitive::primitive_by;
 use crate::struct_::struct_by;
+use crate::union_::union_by;
 use crate::validity::{validity_alone, validity_listed, validity_named};
 use crate::varbin::varbin_by;
 use crate::varbinview::views_by;
@@ -52,6 +53,7 @@ fn by_layout(alloc: Global, value: &Value, layout: &str) -> Result<Array, DocErr
         "Filter" => filter_in(alloc, value),
         "Map" => map_in(alloc, value),
         "Struct" => struct_in(alloc, value),
+        "Union" => union_in(alloc, value),
         "Extension" => extension_in(alloc, value),
         _ => lists_in(alloc, value, layout),
     }
@@ -126,6 +128,18 @@ fn struct_in(alloc: Global, value: &Value) -> Result<Array, DocError>
     let stated = validity_stated(alloc, value)?;
     let fields = columns_member(alloc, value, "fields")?;
     struct_by(alloc, value, fields, validity_alone(stated))
+}
+
+/// The column of layout `Union` that the value means.
+#[cycle(columns)]
+#[tactic(auto, unfolding(crate::specs::Columns::union_in))]
+fn union_in(alloc: Global, value: &Value) -> Result<Array, DocError>
+    ensures { Gives (λ c. c) result (union_in (view value.now) (inner_of (view value.now))
+        (inner_lists_of (view value.now))) }
+{
+    let type_ids = column_member(alloc, value, "type_ids")?;
+    let children = columns_member(alloc, value, "children")?;
+    union_by(alloc, value, type_ids, children)
 }
 
 /// The column of layout `Extension` that the value means.

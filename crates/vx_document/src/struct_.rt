@@ -18,7 +18,7 @@ use vx_json::{DocError, GREATEST_LEN, closed, member, names_of, number_member};
 use vx_shared::Shared;
 
 /// The columns' types, in order.
-fn types_of(alloc: Global, columns: &[ArrayRef]) -> Result<Vec<DType>, NoMemory>
+pub(crate) fn types_of(alloc: Global, columns: &[ArrayRef]) -> Result<Vec<DType>, NoMemory>
     ensures { IfOk result (λ v. map type_of v.items ≡ types_in columns.now) }
 {
     let mut types = Vec::with_capacity(alloc, columns.len())?;

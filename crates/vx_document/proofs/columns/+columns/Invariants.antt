@@ -25,6 +25,9 @@ decreases-map_in l = 5 * depth (view l.value.now) + 1
 abbrev pub decreases-struct_in : goal.decreases-struct_in
 decreases-struct_in l = 5 * depth (view l.value.now) + 2
 
+abbrev pub decreases-union_in : goal.decreases-union_in
+decreases-union_in l = 5 * depth (view l.value.now) + 1
+
 abbrev pub decreases-extension_in : goal.decreases-extension_in
 decreases-extension_in l = 5 * depth (view l.value.now) + 1
 
