@@ -1,16 +1,16 @@
 -- Rows in rows.
-use Rattle.std.proofs.Common.{◌≡◌, ℕ, List, [], ◌∷◌, ◌++◌, ◌∙◌, Some, map, get_or, refl, ap}
-use Rattle.std.specs.Prelude.{codes}
-use Rattle.vx_types.specs.RowValue.{RowValue, null, row_values}
-use Rattle.vx_types.specs.TypeTree.{TypeKind, TypeTree, TypeTrees, types_of, list_kind, fixed_kind, map_kind, struct_kind, extension_kind}
+use Rattle.std.proofs.Common.{◌≡◌, ℕ, Bool, true, false, List, [], ◌∷◌, ◌++◌, ◌∙◌, Some, map, get_or, refl, ap}
+use Rattle.std.specs.Prelude.{◌==◌, codes, decimal, if◌then◌else◌}
+use Rattle.vx_types.specs.RowValue.{RowValue, null, row_values, tagged}
+use Rattle.vx_types.specs.TypeTree.{TypeKind, TypeTree, TypeTrees, types_of, list_kind, fixed_kind, map_kind, struct_kind, union_kind, extension_kind, more_types, no_types}
 use Rattle.vx_model.specs.Column.{Column}
 use Rattle.vx_model.specs.Columns.{types_in}
 use Rattle.vx_model.specs.Extension.{storage_kind}
 use Rattle.vx_model.specs.Lists.{elements_type, list_row}
 use Rattle.vx_model.specs.Struct.{fields_row}
-use Rattle.vx_column.specs.Cell.{field_types as types_told}
+use Rattle.vx_column.specs.Cell.{field_types as types_told, type_by_id, variant_type}
 use Rattle.vx_print.specs.Fields.{texts_at}
-use Rattle.vx_print.specs.Text.{joined, labelled, name_label, field_names, field_texts, field_types, item_kind, item_texts, row_text, row_text_as}
+use Rattle.vx_print.specs.Text.{joined, labelled, name_label, field_names, field_texts, field_types, item_kind, item_texts, kind_by_id, row_text, row_text_as, variant_kind}
 
 item_texts-map : (k : TypeKind) (xs : List RowValue) → item_texts k (row_values xs) ≡ map (row_text_as k) xs
 item_texts-map k [] = refl
@@ -46,4 +46,24 @@ fields_text t cs i h =
     ap (λ l. codes "{" ++ joined (labelled (map name_label (field_names t.kind)) l) ++ codes "}")
     (ap (λ ts. field_texts ts (row_values (map (λ (c : Column). get_or c.rows i null) cs))) (field_types-told t.kind (types_of (types_in cs)) h) ∙ field_texts-at cs i)
 
-pub ruleset element_rows = (list_text)
+kind_by_id-told : (ids : List ℕ) (ts : TypeTrees) (id : ℕ) (t : TypeTree) → type_by_id ids ts id ≡ Some t → kind_by_id ids ts id ≡ t.kind
+kind_by_id-told [] ts id t h = cc
+kind_by_id-told (v ∷ ids) no_types id t h = cc
+kind_by_id-told (v ∷ ids) (more_types k n ts) id t h = by (v == id) (λ e. kind_by_id-told ids ts id t e) h
+  where
+    by : (b : Bool) → (type_by_id ids ts id ≡ Some t → kind_by_id ids ts id ≡ t.kind) → (if b then Some (let u : TypeTree = record { kind = k; nullability = n } in u) else type_by_id ids ts id) ≡ Some t → (if b then k else kind_by_id ids ts id) ≡ t.kind
+    by true f e = cc
+    by false f e = f e
+
+-- an extension's variants are its storage's
+variant_kind-told : (k : TypeKind) (id : ℕ) (t : TypeTree) → variant_type (storage_kind k) id ≡ Some t → variant_kind k id ≡ t.kind
+variant_kind-told (union_kind ids names ts) id t h = kind_by_id-told ids ts id t h
+variant_kind-told (extension_kind name k) id t h = variant_kind-told k id t h
+variant_kind-told k id t h = cc
+
+-- the text of a row of this variant
+pub variant_text : (t v : TypeTree) (id : ℕ) (x : RowValue) → variant_type (storage_kind t.kind) id ≡ Some v → row_text t (tagged id x) ≡ decimal id ++ codes ":" ++ row_text v x
+variant_text t v id x h =
+    ap (λ k. decimal id ++ codes ":" ++ row_text_as k x) (variant_kind-told t.kind id v h)
+
+pub ruleset element_rows = (list_text, variant_text)

@@ -1,6 +1,7 @@
 pub mod Blocks
 pub mod Elements
 pub mod Entries
+pub mod Extensions
 pub mod Gaps
 pub mod Labels
 pub mod Lines

@@ -1,16 +1,20 @@
 -- Rows that are stored as records.
-use Rattle.std.proofs.Common.{◌≡◌, ℕ, ◌-◌, ◌*◌, ◌^◌, ◌<◌, Bool, true, false, List, [], ◌∷◌, ◌++◌, map, length, take, drop, get_or, min, Option, Some, None, refl, sym, ap, ap₂, ◌∙◌, length-drop, arith}
+use Rattle.std.proofs.Common.{◌≡◌, ℕ, ◌-◌, ◌*◌, ◌^◌, ◌<◌, Bool, true, false, List, [], ◌∷◌, ◌++◌, map, length, take, drop, get_or, slice_range, min, Option, Some, None, refl, sym, ap, ap₂, ◌∙◌, length-drop, arith}
 use Rattle.std.specs.Prelude.{if◌then◌else◌, codes, replicate}
 use Rattle.std.proofs.lemmas.List.{length-map, get_or-map, length-take-le, take-map, drop-map, take-take, take_all}
+use Rattle.vx_bits.specs.Records.{records_of}
 use Rattle.vx_bits.specs.Words.{word_at, word_bits}
+use Rattle.vx_bits.specs.declared.records.Records.{Records}
 use Rattle.vx_bits.proofs.WordBits.{ones-word_bits}
 use Rattle.vx_bits.proofs.WordLists.{length-bits_in, word_bits_in}
 use Rattle.vx_types.specs.RowValue.{RowValue, null, bytes}
 use Rattle.vx_types.specs.TypeTree.{TypeKind}
+use Rattle.vx_model.specs.Column.{Column}
 use Rattle.vx_model.specs.Valid.{shown_rows}
 use Rattle.vx_model.proofs.ShownRows.{length-shown_rows, get_or-shown_rows, take-shown_rows, drop-shown_rows, shown_rows-all}
+use Rattle.vx_column.specs.Plain.{AreRowsOf}
 use Rattle.vx_print.specs.Records.{record_rows, block_word, IsLong}
-use Rattle.vx_print.specs.Text.{bytes_text, line, lines, row_text_as, row_text_by}
+use Rattle.vx_print.specs.Text.{bytes_text, joined, line, lines, row_text, row_text_as, row_text_by}
 
 -- there are as many rows as records
 pub length-record_rows : (bits : Option (List Bool)) (rs : List (List ℕ)) → IsLong bits (length rs) → length (record_rows bits rs) ≡ length rs
@@ -45,6 +49,23 @@ block_rows (Some bits) rs k n h e =
     ap₂ shown_rows same (sym (part-map rs (64 * k) n))
     ∙ sym (take-shown_rows n (drop (64 * k) bits) (drop (64 * k) (map bytes rs)))
     ∙ sym (ap (take n) (drop-shown_rows (64 * k) bits (map bytes rs)))
+
+-- elements that are records
+elements-bytes : (k : TypeKind) (rs : List (List ℕ)) → map (bytes_text k) rs ≡ map (row_text_as k) (map bytes rs)
+elements-bytes k [] = refl
+elements-bytes k (r ∷ rs) = ap (λ l. bytes_text k r ∷ l) (elements-bytes k rs)
+
+pub record_elements : (c : Column) (r : Records) (s e : ℕ) → AreRowsOf c r → joined (map (bytes_text c.dtype.kind) (slice_range (records_of r) s e)) ≡ joined (map (row_text c.dtype) (slice_range c.rows s e))
+record_elements c r s e are =
+    let rs = records_of r in
+    ap joined (elements-bytes c.dtype.kind (slice_range rs s e)
+    ∙ ap (map (row_text c.dtype)) (sym (part-map rs s (e - s)) ∙ ap (λ l. slice_range l s e) (sym are.rows)))
+
+-- as many as rows
+pub elements_long : (c : Column) (r : Records) → AreRowsOf c r → length (records_of r) ≡ length c.rows
+elements_long c r are = sym (ap length are.rows ∙ length-map (records_of r) bytes)
+
+pub ruleset elements = (record_elements, elements_long)
 
 -- no record holds other rows
 lines-bytes : (k : TypeKind) (rs : List (List ℕ)) → lines (row_text_by (bytes_text k)) (map bytes rs) ≡ lines (row_text_as k) (map bytes rs)

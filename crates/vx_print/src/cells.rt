@@ -1,6 +1,6 @@
 //! Rows of flat types, read as cells and written by blocks: each block from its last row back to
 //! its first.
-ghost use Rattle.std.specs.Prelude.{◌≡◌, ◌+◌, ◌≤◌, ◌++◌, length, drop, map, IsOk, slice_range, true};
+ghost use Rattle.std.specs.Prelude.{◌≡◌, ◌+◌, ◌≤◌, ◌++◌, codes, decimal, length, drop, map, IsOk, slice_range, true};
 ghost use Rattle.vx_types.specs.DType.{type_of};
 ghost use Rattle.vx_types.specs.PType.{width};
 ghost use Rattle.vx_types.specs.TypeTree.{is_flat};
@@ -8,7 +8,8 @@ ghost use Rattle.vx_column.specs.Cell.{row_of, IsOfType};
 ghost use Rattle.vx_print.specs.Text.{joined, lines, primitive_text, row_text};
 
 use crate::joined::{push_next, put_gap};
-use crate::row::{BLOCK, ROOM, ROW, put_hex, put_number, put_word};
+use crate::record_lists::put_elements;
+use crate::row::{BLOCK, ROOM, ROW, put_hex, put_number, put_unsigned, put_word};
 use vx_bits::NoMemory;
 use vx_column::{Array, Cell, DType, PType};
 
@@ -45,6 +46,16 @@ pub(crate) fn push_record(
     Ok(())
 }
 
+/// Appends a variant's id and a colon, by way of `dst`. `NoMemory` alone.
+pub(crate) fn push_id(text: &mut Vec<u8>, dst: &mut [u8; ROOM], id: u8) -> Result<(), NoMemory>
+    ensures { IsOk result → text.new.items ≡ text.old.items ++ (decimal id ++ codes ":") }
+{
+    dst[ROOM - 1] = b':';
+    let at = put_unsigned(u64::from(id), dst, ROOM - 1);
+    text.extend_from_slice(&dst[at..])?;
+    Ok(())
+}
+
 // Writes a row of this type so that it ends at `end`, and answers where it begins.
 #[inline(always)]
 #[tactic(auto, using(crate::proofs::Widths::decimal_short))]
@@ -68,7 +79,7 @@ fn put_row(dtype: &DType, row: Cell<'_>, dst: &mut [u8; ROOM], end: usize) -> us
             prove!(width <= 32);
             put_hex(bytes, dst, end)
         }
-        (Cell::Bytes(_) | Cell::List(_) | Cell::Fields(_), _) => unreachable!(),
+        (Cell::Bytes(_) | Cell::List(_) | Cell::Fields(_) | Cell::Tagged(_), _) => unreachable!(),
     }
 }
 
@@ -109,8 +120,8 @@ pub(crate) fn push_rows(text: &mut Vec<u8>, column: &Array) -> Result<(), NoMemo
 }
 
 // Writes the rows from `start` up to `end`, with `, ` between them, so that they end where `dst`
-// does, and answers where they begin.
-fn put_joined(column: &Array, start: usize, end: usize, dst: &mut [u8; ROOM]) -> usize
+// does, and answers where they begin: each is read as a cell.
+fn put_cells(column: &Array, start: usize, end: usize, dst: &mut [u8; ROOM]) -> usize
     requires flat { is_flat column.now.dtype ≡ true }
     requires ordered { start ≤ end }
     requires block { end ≤ start + BLOCK }
@@ -125,6 +136,23 @@ fn put_joined(column: &Array, start: usize, end: usize, dst: &mut [u8; ROOM]) ->
         at = put_row(column.dtype(), column.cell_at(end - 1 - k), dst, at);
     }
     at
+}
+
+// The same, of records where they are stored as such.
+#[tactic(auto, using(crate::proofs::Lines::elements))]
+fn put_joined(column: &Array, start: usize, end: usize, dst: &mut [u8; ROOM]) -> usize
+    requires flat { is_flat column.now.dtype ≡ true }
+    requires ordered { start ≤ end }
+    requires block { end ≤ start + BLOCK }
+    requires within { end ≤ length column.now.rows }
+    ensures within { result ≤ ROOM }
+    ensures put { drop result dst.new
+        ≡ joined (map (row_text column.now.dtype) (slice_range column.now.rows start end)) }
+{
+    match column.present_records() {
+        Some(records) => put_elements(column.dtype(), records, start, end, dst),
+        None => put_cells(column, start, end, dst),
+    }
 }
 
 /// Appends the rows from `start` up to `end` of a column of flat type, with `, ` between them, by

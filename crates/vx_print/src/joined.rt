@@ -12,7 +12,8 @@ pub(crate) fn push_gap(text: &mut Vec<u8>, is_first: bool) -> Result<(), NoMemor
     ensures { IsOk result → text.new.items ≡ text.old.items ++ gap is_first }
 {
     if !is_first {
-        text.extend_from_slice(b", ")?;
+        text.push(b',')?;
+        text.push(b' ')?;
     }
     Ok(())
 }

@@ -8,6 +8,7 @@ mod fault;
 mod joined;
 mod nested;
 mod reads;
+mod record_lists;
 mod records;
 mod row;
 mod stored;

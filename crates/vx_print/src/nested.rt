@@ -1,39 +1,45 @@
 //! Rows of types that hold other types, and of extensions. They have no bound on their length, so
 //! they are written from the first to the last.
-ghost use Rattle.std.specs.Prelude.{◌≡◌, ◌≤◌, ◌++◌, codes, true, length, map, slice_range, IsOk};
+ghost use Rattle.std.specs.Prelude.{◌≡◌, ◌<◌, ◌≤◌, ◌++◌, codes, decimal, true, length, map, slice_index_or, slice_range, IsOk};
 ghost use Rattle.vx_types.specs.DType.{type_of};
 ghost use Rattle.vx_types.specs.Fields.{names_of};
+ghost use Rattle.vx_types.specs.RowValue.{null};
 ghost use Rattle.vx_model.specs.Columns.{are_long_past};
 ghost use Rattle.vx_column.specs.Cell.{row_of, IsOfType};
 ghost use Rattle.vx_print.specs.Fields.{texts_at};
 ghost use Rattle.vx_print.specs.Text.{joined, labelled, lines, name_label, row_text};
 
-use crate::cells::push_joined;
+use crate::cells::{push_id, push_joined};
 use crate::joined::{push_gap, push_next};
 use crate::row::ROOM;
-use crate::stored::{names_in, push_stored};
+use crate::stored::{names_in, push_stored, storage_of};
 use crate::texts::has_room;
 use crate::types::{push_name, push_word};
 use std::rc::RcStr;
 use vx_bits::NoMemory;
-use vx_column::{Array, ArrayRef, Cell, DType, FieldsCell, Layout, ListCell};
+use vx_column::{Array, ArrayRef, Cell, DType, FieldsCell, Layout, ListCell, TaggedCell};
 
 // How many bytes an element takes at least, with what stands between two.
 const ELEMENT: usize = 3;
 
-// How many bytes the elements of the lists from `start` up to `end` take at least.
-fn least_bytes(column: &Array, start: usize, end: usize) -> usize
-    requires ordered { start ≤ end }
-    requires within { end ≤ length column.now.rows }
+// How many bytes the elements of row `i` take at least, where it is a list, also one behind ids.
+fn least_bytes(column: &Array, i: usize) -> usize
+    requires { i < length column.now.rows }
 {
-    let mut bytes: usize = 0;
-    for i in start..end {
-        if let Cell::List(list) = column.cell_at(i) {
-            let count = list.end.saturating_sub(list.start);
-            bytes = bytes.saturating_add(count.saturating_mul(ELEMENT));
-        }
+    match column.cell_at(i) {
+        Cell::List(list) => list.end.saturating_sub(list.start).saturating_mul(ELEMENT),
+        Cell::Tagged(tagged) => least_bytes(tagged.column, tagged.row),
+        Cell::Null | Cell::Bit(_) | Cell::Bytes(_) | Cell::Fields(_) => 0,
     }
-    bytes
+}
+
+// Whether rows of this layout may be the same lists again and again.
+fn may_repeat(layout: &Layout) -> bool {
+    match layout {
+        Layout::ListView(_) | Layout::Map(_) | Layout::Dict(_) => true,
+        Layout::Union(union) => union.variants().types().iter().any(|t| !t.has_scalars()),
+        _ => false,
+    }
 }
 
 // Refuses lists whose text can't be within its bound, where it is told at once: views can show the
@@ -42,14 +48,18 @@ fn check_room(text: usize, column: &Array, start: usize, end: usize) -> Result<(
     requires ordered { start ≤ end }
     requires within { end ≤ length column.now.rows }
 {
-    let may_repeat = matches!(
-        column.layout(),
-        Layout::ListView(_) | Layout::Map(_) | Layout::Dict(_)
-    );
-    if may_repeat && !has_room(text, least_bytes(column, start, end)) {
-        return Err(NoMemory);
+    if !may_repeat(column.layout()) {
+        return Ok(());
     }
-    Ok(())
+    let mut bytes: usize = 0;
+    for i in start..end {
+        bytes = bytes.saturating_add(least_bytes(column, i));
+    }
+    if has_room(text, bytes) {
+        Ok(())
+    } else {
+        Err(NoMemory)
+    }
 }
 
 // Appends the rows from `start` up to `end`, with `, ` between them. Each is begun only where the
@@ -89,7 +99,7 @@ fn push_list(text: &mut Vec<u8>, dst: &mut [u8; ROOM], list: ListCell<'_>) -> Re
         ++ codes "]") }
 {
     text.push(b'[')?;
-    push_elements(text, dst, list.elements, list.start, list.end)?;
+    push_elements(text, dst, storage_of(list.elements), list.start, list.end)?;
     text.push(b']')?;
     Ok(())
 }
@@ -136,6 +146,23 @@ fn push_struct(
     Ok(())
 }
 
+// Appends a union's row: its id, a colon, and the row of its variant.
+#[cycle(nested)]
+fn push_tagged(
+    text: &mut Vec<u8>,
+    dst: &mut [u8; ROOM],
+    tagged: TaggedCell<'_>,
+) -> Result<(), NoMemory>
+    requires { tagged.row < length tagged.column.now.rows }
+    ensures { IsOk result → text.new.items ≡ text.old.items ++ (decimal tagged.entry.id ++ codes ":"
+        ++ row_text tagged.entry.column.now.dtype
+        (slice_index_or tagged.entry.column.now.rows tagged.entry.row null)) }
+{
+    let column = tagged.column;
+    push_id(text, dst, tagged.id)?;
+    push_row(text, dst, column.dtype(), column.cell_at(tagged.row))
+}
+
 // Appends a row of this type, which is begun only where the text that is there is within its bound.
 #[cycle(nested)]
 #[tactic(auto, using(crate::proofs::Elements::element_rows))]
@@ -159,6 +186,7 @@ fn push_row(
         Cell::Bytes(bytes) => push_stored(text, dst, dtype, bytes),
         Cell::List(list) => push_list(text, dst, list),
         Cell::Fields(fields) => push_struct(text, dst, names_in(dtype), fields),
+        Cell::Tagged(tagged) => push_tagged(text, dst, tagged),
     }
 }
 

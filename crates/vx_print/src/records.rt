@@ -20,9 +20,9 @@ pub(crate) enum Form {
     Hex,
 }
 
-// Writes a record so that it ends at `end`, and answers where it begins.
+/// Writes a record so that it ends at `end`, and answers where it begins.
 #[inline(always)]
-fn put_record(form: Form, value: &[u8], dst: &mut [u8; ROOM], end: usize) -> usize
+pub(crate) fn put_record(form: Form, value: &[u8], dst: &mut [u8; ROOM], end: usize) -> usize
     requires width { IsWide form (length value.now) }
     requires room { ROW ≤ end }
     requires within { end ≤ ROOM }

@@ -58,9 +58,9 @@ pub(crate) fn put_hex(bytes: &[u8], dst: &mut [u8; ROOM], end: usize) -> usize
     put_word(b"0x", dst, start)
 }
 
-// The same of a number, in decimal digits.
+/// The same of a number, in decimal digits.
 #[inline(always)]
-fn put_unsigned(number: u64, dst: &mut [u8; ROOM], end: usize) -> usize
+pub(crate) fn put_unsigned(number: u64, dst: &mut [u8; ROOM], end: usize) -> usize
     requires room { ROW ≤ end }
     requires within { end ≤ ROOM }
     ensures room { end ≤ result + ROW }

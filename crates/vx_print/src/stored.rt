@@ -1,17 +1,31 @@
 //! What a row is stored as, whatever extensions its type is.
-ghost use Rattle.std.specs.Prelude.{◌≡◌, ◌++◌, IsOk};
+ghost use Rattle.std.specs.Prelude.{◌≡◌, ◌≤◌, ◌++◌, IsOk};
 ghost use Rattle.vx_types.specs.DType.{type_of};
 ghost use Rattle.vx_types.specs.Fields.{names_of};
 ghost use Rattle.vx_model.specs.Extension.{storage_type};
 ghost use Rattle.vx_column.specs.Cell.{AreBytesOf};
-ghost use Rattle.vx_print.specs.Text.{bytes_text, field_names};
+ghost use Rattle.vx_print.specs.Text.{bytes_text, field_names, row_text};
 
 use crate::cells::push_record;
 use crate::row::ROOM;
 use crate::texts::{push_bytes, push_digits};
 use std::rc::RcStr;
 use vx_bits::NoMemory;
-use vx_column::DType;
+use vx_column::{Array, DType, Layout};
+
+/// The column that stores the rows of this one, below whatever extensions it is. Its rows have the
+/// same text.
+#[tactic(auto, using(vx_model::proofs::ExtensionSteps::extension_rows, crate::proofs::Extensions::extensions))]
+pub(crate) fn storage_of(column: &Array) -> &Array
+    ensures rows { result.now.rows ≡ column.now.rows }
+    ensures text { row_text result.now.dtype ≡ row_text column.now.dtype }
+    ensures nested { result.now.depth ≤ column.now.depth }
+{
+    match column.layout() {
+        Layout::Extension(extension) => storage_of(extension.storage()),
+        _ => column,
+    }
+}
 
 /// Appends bytes that are a row of this type. `NoMemory` alone, also where the text would grow past
 /// its bound.

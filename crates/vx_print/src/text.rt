@@ -9,6 +9,7 @@ ghost use Rattle.vx_print.specs.Records.{record_rows, bits_in, IsLong};
 use crate::cells::push_rows;
 use crate::nested::push_nested;
 use crate::records::{push_hex, push_primitive};
+use crate::stored::storage_of;
 use crate::texts::push_texts;
 use crate::types::push_type;
 use itoa::{Buffer, Integer};
@@ -78,7 +79,7 @@ fn push_text(all: &mut Vec<u8>, column: &Array) -> Result<(), NoMemory>
 {
     push_type(all, column.dtype())?;
     all.push(b'\n')?;
-    push_lines(all, column)
+    push_lines(all, storage_of(column))
 }
 
 /// The text of a column: the line of its type, and a line for each row. `NoMemory` alone.

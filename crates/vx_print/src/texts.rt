@@ -185,7 +185,7 @@ fn push_row(text: &mut Vec<u8>, dtype: &DType, row: Cell<'_>) -> Result<(), NoMe
             Ok(())
         }
         Cell::Bytes(bytes) => push_bytes(text, dtype, bytes),
-        Cell::Bit(_) | Cell::List(_) | Cell::Fields(_) => unreachable!(),
+        Cell::Bit(_) | Cell::List(_) | Cell::Fields(_) | Cell::Tagged(_) => unreachable!(),
     }
 }
 

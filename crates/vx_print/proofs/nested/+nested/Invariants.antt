@@ -29,5 +29,8 @@ decreases-push_fields l = 3 * columns_depth l.columns.now
 abbrev pub decreases-push_struct : goal.decreases-push_struct
 decreases-push_struct l = 3 * columns_depth l.fields.columns.now + 1
 
+abbrev pub decreases-push_tagged : goal.decreases-push_tagged
+decreases-push_tagged l = 3 * l.tagged.column.now.depth
+
 abbrev pub decreases-push_row : goal.decreases-push_row
 decreases-push_row l = 3 * cell_depth l.row + 2

@@ -5,7 +5,7 @@ use Rattle.vx_column.specs.Cell.{row_of}
 use Rattle.vx_print.specs.Text.{gap, joined, row_text}
 use Rattle.vx_print.proofs.Blocks.{rows_between}
 use Rattle.vx_print.proofs.Gaps.{element_in_front}
-use Rattle.vx_print.proofs.cells.put_joined.Goals as goal
+use Rattle.vx_print.proofs.cells.put_cells.Goals as goal
 
 pub loop-k-init : goal.loop-k-init
 loop-k-init c =

@@ -1,6 +1,6 @@
 use Rattle.std.proofs.Common.{◌≡◌, ◌+◌, ◌*◌, ◌-◌, ◌≤◌, map, take, drop}
 use Rattle.vx_print.specs.Text.{joined, row_text}
-use Rattle.vx_print.proofs.cells.put_joined.Given as goal
+use Rattle.vx_print.proofs.cells.put_cells.Given as goal
 
 -- the last k rows are written
 abbrev pub invariant-loop-k : goal.invariant-loop-k
