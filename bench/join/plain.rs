@@ -1,5 +1,5 @@
-//! The same joins in plain Rust: by an ordered map with chains of rows, as the crate goes, by a
-//! hashed map, and by a sort.
+//! The same joins in plain Rust: by a sort, as the crate goes for keys of one number, by an ordered
+//! map with chains of rows, as it goes for other keys, and by a hashed map.
 use std::collections::{BTreeMap, HashMap};
 use std::hash::Hash;
 

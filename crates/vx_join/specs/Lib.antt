@@ -4,3 +4,4 @@ pub mod Join
 pub mod Keys
 pub mod Numbers
 pub mod Pairs
+pub mod Runs

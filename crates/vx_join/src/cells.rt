@@ -35,8 +35,8 @@ fn key_cell<'a>(dtype: &DType, cell: Cell<'a>) -> KeyCell<'a>
         Cell::Null => KeyCell::Null,
         Cell::Bit(bit) => KeyCell::Bit(bit),
         Cell::Bytes(bytes) => KeyCell::Bytes(bytes),
-        Cell::List(_) | Cell::Fields(_) => {
-            // no flat type is one of lists or structs
+        Cell::List(_) | Cell::Fields(_) | Cell::Tagged(_) => {
+            // no flat type is one of lists, structs or unions
             let _ = dtype;
             unreachable!()
         }

@@ -11,6 +11,7 @@ mod keys;
 mod matching;
 mod numbers;
 mod prefixes;
+mod runs;
 
 pub use error::JoinError;
 pub use indices::JoinIndices;

@@ -7,7 +7,8 @@ ghost use Rattle.vx_join.specs.Keys.{same_value};
 ghost use Rattle.vx_join.specs.Numbers.{IsRecord, IsSmall, number_key};
 ghost use Rattle.vx_join.specs.Pairs.{lefts, pairs, rights};
 
-use crate::matching::{Found, join_keys};
+use crate::matching::Found;
+use crate::runs::join_sorted;
 use std::alloc::Global;
 use vx_bits::NoMemory;
 use vx_column::{Array, Cell};
@@ -60,7 +61,7 @@ fn key_at(column: &Array, i: usize, width: usize) -> Option<u64>
 {
     match column.cell_at(i) {
         Cell::Null => None,
-        Cell::Bit(_) | Cell::List(_) | Cell::Fields(_) => unreachable!(),
+        Cell::Bit(_) | Cell::List(_) | Cell::Fields(_) | Cell::Tagged(_) => unreachable!(),
         Cell::Bytes(bytes) => Some(spelt(bytes)),
     }
 }
@@ -95,5 +96,5 @@ pub(crate) fn join_numbers(
 {
     let left_keys = keys_of(alloc, left, width)?;
     let right_keys = keys_of(alloc, right, width)?;
-    join_keys(alloc, &left_keys, &right_keys)
+    join_sorted(alloc, &left_keys, &right_keys)
 }
