@@ -2,7 +2,7 @@
 use Rattle.std.proofs.Common.{◌≡◌, ℕ, List, None, IfSome, refl, sym, ap, arith}
 use Rattle.std.specs.Prelude.{◌⊎◌, ◌≢◌, ◌≤◌, IsSomeAnd}
 use Rattle.std.proofs.Common.{inl, inr}
-use Rattle.vx_rows.specs.Program.{Outcome, Malformed, NotBuilt, IsDone, IsBroken, IsPrinted, status_of, traced_by}
+use Rattle.vx_rows.specs.Program.{Outcome, Malformed, IsDone, IsBroken, IsPrinted, status_of, traced_by}
 use Rattle.vx_rows.specs.Reply.{Replies, text_of_reply, status_of_reply, traced_by_reply}
 use Rattle.vx_rows.specs.declared.reply.Reply.{Reply}
 use Rattle.vx_rows.specs.declared.reply.Reply.TheVariants as replies
@@ -12,51 +12,38 @@ pub is_done : (r : Reply) (o : Outcome) (Q : List ℕ → Type 0) → Replies r 
 is_done (replies.Done text asked) o Q h s q = rw h q
 is_done (replies.Broken step cause) o Q h s q = absurd (omega arith)
 is_done replies.Malformed o Q h s q = absurd (omega arith)
-is_done replies.NotBuilt o Q h s q = absurd (omega arith)
 is_done replies.NoMemory o Q h s q = absurd (omega arith)
 
 pub is_broken : (r : Reply) (o : Outcome) (Q : List ℕ → Type 0) → Replies r o → status_of_reply r ≡ 1 → IfSome (text_of_reply r) Q → IsBroken o Q
 is_broken (replies.Done text asked) o Q h s q = absurd (omega arith)
 is_broken (replies.Broken step cause) o Q h s q = rw h q
 is_broken replies.Malformed o Q h s q = absurd (omega arith)
-is_broken replies.NotBuilt o Q h s q = absurd (omega arith)
 is_broken replies.NoMemory o Q h s q = absurd (omega arith)
 
 pub is_printed : (r : Reply) (o : Outcome) (Q : List ℕ → Type 0) → Replies r o → IsSomeAnd (text_of_reply r) Q → IsPrinted o Q
 is_printed (replies.Done text asked) o Q h q = rw h q
 is_printed (replies.Broken step cause) o Q h q = rw h q
 is_printed replies.Malformed o Q h q = absurd q
-is_printed replies.NotBuilt o Q h q = absurd q
 is_printed replies.NoMemory o Q h q = absurd q
 
 pub is_malformed : (r : Reply) (o : Outcome) → Replies r o → status_of_reply r ≡ 2 → o ≡ Malformed
 is_malformed (replies.Done text asked) o h s = absurd (omega arith)
 is_malformed (replies.Broken step cause) o h s = absurd (omega arith)
 is_malformed replies.Malformed o h s = h
-is_malformed replies.NotBuilt o h s = absurd (omega arith)
 is_malformed replies.NoMemory o h s = absurd (omega arith)
-
-pub is_not_built : (r : Reply) (o : Outcome) → Replies r o → status_of_reply r ≡ 8 → o ≡ NotBuilt
-is_not_built (replies.Done text asked) o h s = absurd (omega arith)
-is_not_built (replies.Broken step cause) o h s = absurd (omega arith)
-is_not_built replies.Malformed o h s = absurd (omega arith)
-is_not_built replies.NotBuilt o h s = h
-is_not_built replies.NoMemory o h s = absurd (omega arith)
 
 -- the status is that of the outcome, or memory is wanting
 pub status_or_memory : (r : Reply) (o : Outcome) → Replies r o → (status_of_reply r ≡ 6) ⊎ (status_of_reply r ≡ status_of o)
 status_or_memory (replies.Done text asked) o h = inr (sym (ap status_of h))
 status_or_memory (replies.Broken step cause) o h = inr (sym (ap status_of h))
 status_or_memory replies.Malformed o h = inr (sym (ap status_of h))
-status_or_memory replies.NotBuilt o h = inr (sym (ap status_of h))
 status_or_memory replies.NoMemory o h = inl refl
 
 -- no reply has another status
-pub status_known : (r : Reply) → (status_of_reply r ≤ 8) × (status_of_reply r ≢ 3) × (status_of_reply r ≢ 4) × (status_of_reply r ≢ 5) × (status_of_reply r ≢ 7)
+pub status_known : (r : Reply) → (status_of_reply r ≤ 7) × (status_of_reply r ≢ 3) × (status_of_reply r ≢ 4) × (status_of_reply r ≢ 5) × (status_of_reply r ≢ 7)
 status_known (replies.Done text asked) = (omega arith, omega arith, omega arith, omega arith, omega arith)
 status_known (replies.Broken step cause) = (omega arith, omega arith, omega arith, omega arith, omega arith)
 status_known replies.Malformed = (omega arith, omega arith, omega arith, omega arith, omega arith)
-status_known replies.NotBuilt = (omega arith, omega arith, omega arith, omega arith, omega arith)
 status_known replies.NoMemory = (omega arith, omega arith, omega arith, omega arith, omega arith)
 
 -- what isn't written has a status of its own
@@ -64,7 +51,6 @@ pub unwritten : (r : Reply) → status_of_reply r ≢ 0 → status_of_reply r �
 unwritten (replies.Done text asked) a b = absurd (a refl)
 unwritten (replies.Broken step cause) a b = absurd (b refl)
 unwritten replies.Malformed a b = refl
-unwritten replies.NotBuilt a b = refl
 unwritten replies.NoMemory a b = refl
 
 -- ---- the trace
@@ -74,7 +60,6 @@ pub traced_alike : (r : Reply) (o : Outcome) (t : Trace) → Replies r o → sta
 traced_alike (replies.Done text asked) o t h s = sym (ap (λ x. traced_by x t) h)
 traced_alike (replies.Broken step cause) o t h s = sym (ap (λ x. traced_by x t) h)
 traced_alike replies.Malformed o t h s = sym (ap (λ x. traced_by x t) h)
-traced_alike replies.NotBuilt o t h s = sym (ap (λ x. traced_by x t) h)
 traced_alike replies.NoMemory o t h s = absurd (s refl)
 
 -- what is written isn't want of memory
@@ -82,7 +67,6 @@ pub written_status : (r : Reply) (Q : List ℕ → Type 0) → IsSomeAnd (text_o
 written_status (replies.Done text asked) Q q = omega arith
 written_status (replies.Broken step cause) Q q = omega arith
 written_status replies.Malformed Q q = absurd q
-written_status replies.NotBuilt Q q = absurd q
 written_status replies.NoMemory Q q = absurd q
 
 -- a trace is left as it was where no text is done
@@ -90,5 +74,4 @@ pub untraced : (r : Reply) (t : Trace) → status_of_reply r ≢ 0 → traced_by
 untraced (replies.Done text asked) t s = absurd (s refl)
 untraced (replies.Broken step cause) t s = refl
 untraced replies.Malformed t s = refl
-untraced replies.NotBuilt t s = refl
 untraced replies.NoMemory t s = refl

@@ -90,7 +90,6 @@ module _ (blocks : List (List ℕ)) (steps : List StepValue) (s : ShapeValue) wh
   honest (replies.Done text x) h = tt
   honest (replies.Broken step cause) h = tt
   honest replies.Malformed h = tt
-  honest replies.NotBuilt h = tt
   honest replies.NoMemory h = at_walk (walk s.len steps) refl h
     where
       at_walk : (w : Walk) → walk s.len steps ≡ w → IsUnbroken w → IsHonest replies.NoMemory (file_answer blocks s steps)

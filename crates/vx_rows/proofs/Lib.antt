@@ -1,8 +1,11 @@
+pub mod Asks
 pub mod Checked
 pub mod Delivered
 pub mod Filed
 pub mod JsonValues
 pub mod MadeRows
 pub mod Numerals
+pub mod OtherLayouts
+pub mod Paged
 pub mod Told
 pub mod TraceParts

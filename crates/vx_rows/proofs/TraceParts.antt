@@ -1,9 +1,8 @@
 -- What of a trace a run leaves, whatever it read.
 use Rattle.std.proofs.Common.{◌≡◌, ℕ, Bool, true, false, List, Option, None, Some, refl, subst}
-use Rattle.std.specs.Prelude.{◌∷◌, if◌then◌else◌}
+use Rattle.std.specs.Prelude.{◌∷◌}
 use Rattle.serde_json.specs.Data.{Data}
 use Rattle.vx_document.specs.Documents.{DocumentValue, SourceValue, column_source, chunks_source}
-use Rattle.vx_document.specs.Later.{holds_later}
 use Rattle.vx_document.specs.Reading.{document_of}
 use Rattle.vx_file.specs.Blocks.{block_at}
 use Rattle.vx_file.specs.Shape.{ShapeValue}
@@ -12,7 +11,8 @@ use Rattle.vx_steps.specs.Answer.{Answer, answer_fault, answer_rows}
 use Rattle.vx_rows.specs.Commands.{LeavesTrace}
 use Rattle.vx_rows.specs.FileDocument.{FileValue, file_document_of}
 use Rattle.vx_rows.specs.Made.{made_answer}
-use Rattle.vx_rows.specs.Program.{Outcome, NotBuilt, answer_to, asked_by, file_answer, made, of_answer, of_document, of_file, of_file_answer, of_form, of_header, of_made, of_value, outcome_of, touched_by, traced_by, value_of}
+use Rattle.vx_rows.specs.Pages.{page_of}
+use Rattle.vx_rows.specs.Program.{Outcome, answer_to, asked_by, file_answer, made, of_answer, of_document, of_file, of_file_answer, of_form, of_header, of_made, of_page, of_page_answer, of_value, outcome_of, touched_by, traced_by, value_of}
 use Rattle.vx_rows.specs.Reply.{Replies, traced_by_reply}
 use Rattle.vx_rows.specs.declared.asked.Asked.TheVariants.{Reads}
 use Rattle.vx_rows.specs.declared.command.Command.TheVariants.{Read}
@@ -29,6 +29,7 @@ Leaves form before after = LeavesTrace (Some (Read form)) before after
 pub same_trace : (form : Form) (t : Trace) → LeavesTrace (Some (Read form)) t t
 same_trace forms.Rows t = refl
 same_trace forms.File t = refl
+same_trace (forms.Page number len) t = refl
 
 module _ (t : Trace) where
   rows_answer : (a : Answer) (source : SourceValue) (d : DocumentValue) → Leaves forms.Rows t (traced_by (of_answer a (asked_by source d)) t)
@@ -53,17 +54,23 @@ module _ (t : Trace) where
   of_blocks None = refl
   of_blocks (Some f) = by_header f (shape_in (block_at f.blocks 0))
 
+  by_answer : (o : Option Answer) → traced_by (of_page_answer o) t ≡ t
+  by_answer None = refl
+  by_answer (Some (answer_fault k cause)) = refl
+  by_answer (Some (answer_rows dtype rows)) = refl
+
+  by_page : (number len : ℕ) (o : Option DocumentValue) → traced_by (of_page number len o) t ≡ t
+  by_page number len None = refl
+  by_page number len (Some d) = by_answer (page_of number len d.source d.steps)
+
   by_form : (form : Form) (d : Data) → Leaves form t (traced_by (of_form form d) t)
   by_form forms.Rows d = of_rows (document_of d)
   by_form forms.File d = of_blocks (file_document_of d)
-
-  unless_later : (form : Form) (d : Data) (later : Bool) → Leaves form t (traced_by (if later then NotBuilt else of_form form d) t)
-  unless_later form d true = same_trace form t
-  unless_later form d false = by_form form d
+  by_form (forms.Page number len) d = by_page number len (document_of d)
 
   by_value : (form : Form) (o : Option Data) → Leaves form t (traced_by (of_value form o) t)
   by_value form None = same_trace form t
-  by_value form (Some d) = unless_later form d (holds_later d)
+  by_value form (Some d) = by_form form d
 
   by_outcome : (form : Form) (bytes : List ℕ) → Leaves form t (traced_by (outcome_of form bytes) t)
   unfolding outcome_of
@@ -73,7 +80,6 @@ module _ (t : Trace) where
   by_reply P (replies.Done text asked) o h same p = subst (λ x. P (traced_by x t)) h p
   by_reply P (replies.Broken step cause) o h same p = same
   by_reply P replies.Malformed o h same p = same
-  by_reply P replies.NotBuilt o h same p = same
   by_reply P replies.NoMemory o h same p = same
 
   -- a document leaves one part of a trace

@@ -3,5 +3,7 @@ pub mod Commands
 pub mod FileDocument
 pub mod Files
 pub mod Made
+pub mod Pages
 pub mod Program
 pub mod Reply
+pub mod Tables

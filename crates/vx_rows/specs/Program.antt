@@ -20,8 +20,8 @@ use Rattle.vx_file.specs.Touched.{blocks_for, composed, touched}
 use Rattle.vx_rows.specs.Commands.{command_of, IfCommand}
 use Rattle.vx_rows.specs.FileDocument.{FileValue, file_document_of}
 use Rattle.vx_rows.specs.Made.{made_answer, made_text}
+use Rattle.vx_rows.specs.Pages.{page_of}
 use Rattle.vx_document.specs.Documents.{DocumentValue, SourceValue, column_source, chunks_source}
-use Rattle.vx_document.specs.Later.{holds_later}
 use Rattle.vx_document.specs.Reading.{document_of}
 use Rattle.vx_outside.specs.declared.transfer.TheConstants.{MAX_BYTES}
 use Rattle.vx_print.specs.Calls.{calls_text}
@@ -39,7 +39,6 @@ use Rattle.vx_rows.specs.declared.trace.Trace.{Trace}
 pub data Outcome : Type 0 where
   TooLong : Outcome
   Malformed : Outcome
-  NotBuilt : Outcome
   -- a step is broken: the fault's line
   Broken : List ℕ → Outcome
   -- the text, and what was asked for the rows
@@ -109,15 +108,27 @@ abbrev pub of_file : Option FileValue → Outcome
 of_file None = Malformed
 of_file (Some f) = of_header f.blocks f.steps (shape_in (block_at f.blocks 0))
 
+-- ---- a page
+
+-- what is no table has no page
+abbrev pub of_page_answer : Option Answer → Outcome
+of_page_answer None = Malformed
+of_page_answer (Some a) = of_answer a Nothing
+
+abbrev pub of_page : ℕ → ℕ → Option DocumentValue → Outcome
+of_page number len None = Malformed
+of_page number len (Some d) = of_page_answer (page_of number len d.source d.steps)
+
 -- ---- a document
 
 abbrev pub of_form : Form → Data → Outcome
 of_form forms.Rows d = of_document (document_of d)
 of_form forms.File d = of_file (file_document_of d)
+of_form (forms.Page number len) d = of_page number len (document_of d)
 
 abbrev pub of_value : Form → Option Data → Outcome
 of_value form None = Malformed
-of_value form (Some d) = if holds_later d then NotBuilt else of_form form d
+of_value form (Some d) = of_form form d
 
 -- of bytes that aren't too many
 unfoldable pub outcome_of : Form → List ℕ → Outcome
@@ -179,7 +190,6 @@ status_of (Done text asked) = 0
 status_of (Broken line) = 1
 status_of Malformed = 2
 status_of TooLong = 7
-status_of NotBuilt = 8
 
 -- a fact of what comes of the words and of what the source had, where the words name a command and
 -- the source tells its bytes

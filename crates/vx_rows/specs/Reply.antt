@@ -2,7 +2,7 @@
 use Rattle.std.specs.Prelude.{◌≡◌, ℕ, List, Option, None, Some}
 use Rattle.vx_steps.specs.Answer.{Answer, answer_fault}
 use Rattle.vx_print.specs.Fault.{fault_text}
-use Rattle.vx_rows.specs.Program.{Outcome, Malformed, NotBuilt, Broken, Done, kept}
+use Rattle.vx_rows.specs.Program.{Outcome, Malformed, Broken, Done, kept}
 use Rattle.vx_rows.specs.declared.reply.Reply.{Reply}
 use Rattle.vx_rows.specs.declared.reply.Reply.TheVariants as replies
 use Rattle.vx_rows.specs.declared.trace.Trace.{Trace}
@@ -12,7 +12,6 @@ abbrev pub Replies : Reply → Outcome → Type 0
 Replies (replies.Done text asked) o = o ≡ Done text.items asked
 Replies (replies.Broken step cause) o = o ≡ Broken (fault_text step cause)
 Replies replies.Malformed o = o ≡ Malformed
-Replies replies.NotBuilt o = o ≡ NotBuilt
 Replies replies.NoMemory o = Unit {0}
 
 -- memory isn't wanting where a step is broken
@@ -36,5 +35,4 @@ abbrev pub status_of_reply : Reply → ℕ
 status_of_reply (replies.Done text asked) = 0
 status_of_reply (replies.Broken step cause) = 1
 status_of_reply replies.Malformed = 2
-status_of_reply replies.NotBuilt = 8
 status_of_reply replies.NoMemory = 6

@@ -1,7 +1,7 @@
 //! What the words ask for.
 ghost use Rattle.std.specs.Prelude.{◌≡◌, map, string_bytes};
 ghost use Rattle.std.specs.Str.{all_ascii_digits};
-ghost use Rattle.vx_rows.specs.Commands.{command_named, command_of, command_with, number_named};
+ghost use Rattle.vx_rows.specs.Commands.{command_named, command_of, command_with, command_with_two, number_named, page_named};
 
 /// What form of document a command reads.
 #[derive(Clone, Copy, Debug, PartialEq, Eq)]
@@ -10,6 +10,13 @@ pub(crate) enum Form {
     Rows,
     /// A file of blocks.
     File,
+    /// Rows in a column of structs, whose fields are a table, of which one page is printed.
+    Page {
+        /// The page's number, from 0.
+        number: u32,
+        /// How many rows a page has, one at least.
+        len: u32,
+    },
 }
 
 /// A command that words may name.
@@ -69,6 +76,28 @@ fn command_with(word: &str, number: &str) -> Option<Command>
     }
 }
 
+// The page that two numbers name: its own, and how many rows a page has.
+fn page_named(number: &str, len: &str) -> Option<Command>
+    ensures { result ≡ page_named number.now len.now }
+{
+    let number = number_named(number)?;
+    let len = number_named(len)?;
+    if len > 0 {
+        Some(Command::Read(Form::Page { number, len }))
+    } else {
+        None
+    }
+}
+
+fn command_with_two(word: &str, number: &str, len: &str) -> Option<Command>
+    ensures { result ≡ command_with_two word.now number.now len.now }
+{
+    match word {
+        "page" => page_named(number, len),
+        _ => None,
+    }
+}
+
 /// The command that the words name.
 pub(crate) fn command_of(words: &[String]) -> Option<Command>
     ensures { result ≡ command_of (map string_bytes words.now) }
@@ -76,6 +105,7 @@ pub(crate) fn command_of(words: &[String]) -> Option<Command>
     match words {
         [word] => command_named(word.as_str()),
         [word, number] => command_with(word.as_str(), number.as_str()),
+        [word, number, len] => command_with_two(word.as_str(), number.as_str(), len.as_str()),
         _ => None,
     }
 }

@@ -45,7 +45,6 @@ pub(crate) fn deliver_reply<K: Sink>(sink: &mut K, trace: &mut Trace, reply: Rep
             }
         }
         Reply::Malformed => 2,
-        Reply::NotBuilt => 8,
         Reply::NoMemory => 6,
     }
 }

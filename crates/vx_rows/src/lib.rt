@@ -9,6 +9,7 @@ mod file_blocks;
 mod file_document;
 mod file_reply;
 mod made;
+mod pages;
 mod program;
 mod reply;
 mod trace;

@@ -1,8 +1,8 @@
 //! All that the program does, over any source and sink.
 ghost use Rattle.std.specs.Prelude.{◌≡◌, ◌≢◌, ◌↔◌, ◌⊎◌, ◌≤◌, ◌+◌, ℕ, [], take, map, string_bytes, IfSome, Some, None};
 ghost use Rattle.vx_outside.specs.Bytes.{Rose, Loses, with_back};
-ghost use Rattle.vx_rows.specs.Program.{TooLong, Malformed, NotBuilt, made, program, IsDone, IsBroken, IsPrinted, status_of, IfTold, HasRead, traced_by};
-ghost use Rattle.vx_rows.specs.Commands.{command_of, IfCommand, LeavesTrace, MayEnd, UnlessRead};
+ghost use Rattle.vx_rows.specs.Program.{TooLong, Malformed, made, program, IsDone, IsBroken, IsPrinted, status_of, IfTold, HasRead, traced_by};
+ghost use Rattle.vx_rows.specs.Commands.{command_of, HasRows, IfCommand, LeavesTrace, MayEnd, UnlessRead};
 ghost use Rattle.vx_rows.specs.declared.command.Command.TheVariants.{Read};
 
 use crate::command::{Command, Form, command_of};
@@ -21,7 +21,9 @@ fn run_document<S: Source, K: Sink>(
     sink: &mut K,
     trace: &mut Trace,
 ) -> u8
-    ensures known { result ≤ 8 }
+    requires { HasRows form }
+
+    ensures known { result ≤ 7 }
     ensures other_words { result ≢ 3 }
 
     ensures done { result ≡ 0 → IfSome (S.rest source.old) (λ b. IsDone (program form b)
@@ -38,7 +40,6 @@ fn run_document<S: Source, K: Sink>(
         (λ text. (n : ℕ) × (K.held sink.new ≡ with_back (K.held sink.old) (take n text)))) }
     ensures too_long { result ≡ 7 → IfSome (S.rest source.old) (λ b. program form b ≡ TooLong) }
     ensures past { result ≡ 7 → Loses (S.rest source.old) (S.rest source.new) (MAX_BYTES + 1) }
-    ensures not_built { result ≡ 8 → IfSome (S.rest source.old) (λ b. program form b ≡ NotBuilt) }
 
     ensures source_fault_told { result ≢ 4 → S.faults source.new ≡ S.faults source.old }
     ensures sink_fault_told { result ≢ 5 → K.faults sink.new ≡ K.faults sink.old }
@@ -94,7 +95,6 @@ fn run_made<K: Sink>(alloc: Global, seed: u32, sink: &mut K, trace: &mut Trace) 
 /// | 5 | the sink failed; what was written is a prefix of the text |
 /// | 6 | memory is wanting; nothing was written |
 /// | 7 | 16,777,217 bytes were taken; nothing was written |
-/// | 8 | the document has a word that isn't read yet; nothing was written |
 ///
 /// The whole text is made before the first write. Where the rows are behind a decoder, its calls
 /// are the text's last line, and are left in `trace`, also where the sink fails. So are the blocks
@@ -130,8 +130,6 @@ pub fn run<S: Source, K: Sink>(
     ensures too_long { result ≡ 7 →
         IfTold (map string_bytes words.now) (S.rest source.old) (λ o. o ≡ TooLong) }
     ensures past { result ≡ 7 → Loses (S.rest source.old) (S.rest source.new) (MAX_BYTES + 1) }
-    ensures not_built { result ≡ 8 →
-        IfTold (map string_bytes words.now) (S.rest source.old) (λ o. o ≡ NotBuilt) }
 
     // A fault is not forgotten.
     ensures source_fault_told { result ≢ 4 → S.faults source.new ≡ S.faults source.old }

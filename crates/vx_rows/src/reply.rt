@@ -1,8 +1,9 @@
 //! What is answered to the bytes of a document.
-ghost use Rattle.std.specs.Prelude.{◌≡◌, IfOk, Some, drop};
+ghost use Rattle.std.specs.Prelude.{◌≡◌, ◌<◌, IfOk, Some, drop};
 ghost use Rattle.serde_json.specs.View.{view};
 ghost use Rattle.vx_json.specs.Meaning.{Gives};
 ghost use Rattle.vx_document.specs.Documents.{IsWhole, document_value};
+ghost use Rattle.vx_rows.specs.Commands.{HasRows};
 ghost use Rattle.vx_rows.specs.Program.{Done, value_of, outcome_of, answer_to, of_document, of_form, text_with};
 ghost use Rattle.vx_rows.specs.Reply.{Replies, IsHonest};
 ghost use Rattle.vx_rows.specs.declared.command.Form.TheVariants as forms;
@@ -12,11 +13,12 @@ use crate::asked::Asked;
 use crate::command::Form;
 use crate::file_document::file_document;
 use crate::file_reply::reply_to_file;
+use crate::pages::reply_of_page;
 use serde_json::Value;
 use std::alloc::Global;
 use vx_bits::NoMemory;
 use vx_column::Array;
-use vx_document::{DocError, Document, document, holds_later};
+use vx_document::{DocError, Document, document};
 use vx_file::ReadLog;
 use vx_json::let_go;
 use vx_print::{calls_line, reads_line, text_of};
@@ -41,8 +43,6 @@ pub(crate) enum Reply {
     },
     /// The bytes have no meaning.
     Malformed,
-    /// The document has a word that isn't read yet.
-    NotBuilt,
     /// Want of memory.
     NoMemory,
 }
@@ -67,6 +67,7 @@ fn value_of(alloc: Global, bytes: &[u8]) -> Result<Value, DocError>
 /// made, and the JSON value before the rows are.
 #[tactic(auto, unfolding(crate::specs::Program::outcome_of))]
 pub(crate) fn reply_to(alloc: Global, form: Form, bytes: Vec<u8>) -> Reply
+    requires { HasRows form }
     ensures { Replies result (outcome_of form bytes.items) }
 {
     let value = match value_of(alloc, &bytes) {
@@ -75,12 +76,10 @@ pub(crate) fn reply_to(alloc: Global, form: Form, bytes: Vec<u8>) -> Reply
         Err(DocError::NoMemory) => return Reply::NoMemory,
     };
     drop(bytes);
-    if holds_later(&value) {
-        return Reply::NotBuilt;
-    }
     match form {
         Form::Rows => reply_to_rows(alloc, value),
         Form::File => reply_to_blocks(alloc, value),
+        Form::Page { number, len } => reply_to_page(alloc, value, number as usize, len as usize),
     }
 }
 
@@ -92,6 +91,20 @@ fn reply_to_rows(alloc: Global, value: Value) -> Reply
     let_go(value);
     match document {
         Ok(document) => reply_of(alloc, &document),
+        Err(DocError::Malformed) => Reply::Malformed,
+        Err(DocError::NoMemory) => Reply::NoMemory,
+    }
+}
+
+// What comes of a value as a document of rows of which one page is printed.
+fn reply_to_page(alloc: Global, value: Value, number: usize, len: usize) -> Reply
+    requires { 0 < len }
+    ensures { Replies result (of_form (forms.Page number len) (view value)) }
+{
+    let document = document(alloc, &value);
+    let_go(value);
+    match document {
+        Ok(document) => reply_of_page(alloc, &document, number, len),
         Err(DocError::Malformed) => Reply::Malformed,
         Err(DocError::NoMemory) => Reply::NoMemory,
     }

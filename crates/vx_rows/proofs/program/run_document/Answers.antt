@@ -2,8 +2,8 @@
 use Rattle.std.proofs.Common.{◌≡◌, ℕ, List, Err, Some, take, ap, refl, sym, subst, ◌∙◌, inl, inr, arith}
 use Rattle.std.specs.Prelude.{◌≢◌}
 use Rattle.vx_outside.specs.Bytes.{with_back}
-use Rattle.vx_rows.specs.Program.{TooLong, Malformed, NotBuilt, IsBroken, IsDone, IsPrinted, status_of, traced_by}
-use Rattle.vx_rows.proofs.Delivered.{is_done, is_broken, is_printed, is_malformed, is_not_built, status_or_memory, traced_alike, written_status}
+use Rattle.vx_rows.specs.Program.{TooLong, Malformed, IsBroken, IsDone, IsPrinted, status_of, traced_by}
+use Rattle.vx_rows.proofs.Delivered.{is_done, is_broken, is_printed, is_malformed, status_or_memory, traced_alike, written_status}
 use Rattle.vx_rows.specs.Reply.{status_of_reply, traced_by_reply}
 use Rattle.vx_rows.specs.Commands.{LeavesTrace}
 use Rattle.vx_rows.specs.declared.command.Command.TheVariants.{Read}
@@ -49,13 +49,6 @@ returns-clause-part g c = λ five.
     let Q = λ (text : List ℕ). (n : ℕ) × (held c.deliver_reply.new.sink ≡ with_back (held c.args.sink.now) (take n text)) in
     told c.args.form (λ o. IsPrinted o Q) _ _ _ _ e.taken e.end e.short refl _ refl
     (is_printed c.reply_to.result _ Q c.reply_to.ensures (c.deliver_reply.ensures.part five))
-
-pub returns-clause-not_built : goal.returns-clause-not_built
-returns-clause-not_built g c = λ eight.
-    let e = c.in-Ok.ensures in
-    let other : c.deliver_reply.result ≢ 5 = λ five. absurd (omega arith) in
-    told c.args.form (λ o. o ≡ NotBuilt) _ _ _ _ e.taken e.end e.short refl _ refl
-    (is_not_built c.reply_to.result _ c.reply_to.ensures (sym (c.deliver_reply.ensures.status other) ∙ eight))
 
 pub returns-clause-complete : goal.returns-clause-complete
 returns-clause-complete g c = λ _ sound.

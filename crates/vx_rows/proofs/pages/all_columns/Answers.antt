@@ -1,0 +1,8 @@
+-- One number more.
+use Rattle.std.proofs.Common.{◌++◌, [], ◌∷◌, ap, sym, ◌∙◌}
+use Rattle.vx_rows.proofs.Paged.{range_more}
+use Rattle.vx_rows.proofs.pages.all_columns.Goals as goal
+
+pub loop-i-preserved : goal.loop-i-preserved
+loop-i-preserved c =
+    c.in_ok-push.ensures.items ∙ ap (λ l. l ++ c.loop-i.i ∷ []) c.loop-i.invariant ∙ sym (range_more c.loop-i.i)
