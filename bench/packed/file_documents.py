@@ -294,9 +294,9 @@ row({"file": three, "steps": []}, MALFORMED, words="rows")
 right("u32", [7, 7, 7], [("take", [2])], three + ["00" * 8201])
 right("u32", [7, 7, 7], [("take", [2])], [three[0].upper(), three[1].upper()])
 
-family("# a word that isn't read yet comes before the meaning of a document of a file")
-row({"file": three, "steps": [{"take": {"layout": "Struct"}}]}, ["= 8"])
-row({"file": ["0"], "steps": [], "fields": 1}, ["= 8"])
+family("# words of unions in a document of a file")
+row({"file": three, "steps": [{"take": {"layout": "Union"}}]}, MALFORMED)
+row({"file": ["0"], "steps": [], "variants": 1}, MALFORMED)
 
 family("# faults of a source and of a sink, at a file")
 good = document([header("u8", 5000)] + WHOLE[1:], [("take", [1024, None])])

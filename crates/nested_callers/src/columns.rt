@@ -10,7 +10,8 @@ use vx_column::{
 use vx_pieces::Indices;
 use vx_shared::Shared;
 
-fn byte_array(
+/// Bytes as numbers.
+pub(crate) fn byte_array(
     alloc: Global,
     values: &[[u8; 1]],
     validity: Validity,
@@ -42,14 +43,16 @@ pub(crate) fn indices(alloc: Global, picks: &[[u8; 1]], bits: &[bool]) -> Result
     Ok(Indices::Array(FlatRef::try_new(picks.into_ref(alloc)?)?))
 }
 
-fn two_names(alloc: Global, a: &str, b: &str) -> Result<Vec<RcStr>, NoMemory> {
+/// Two names.
+pub(crate) fn two_names(alloc: Global, a: &str, b: &str) -> Result<Vec<RcStr>, NoMemory> {
     let mut names = Vec::with_capacity(alloc, 2)?;
     names.push(RcStr::from_str(alloc, a)?)?;
     names.push(RcStr::from_str(alloc, b)?)?;
     Ok(names)
 }
 
-fn two_types(alloc: Global, a: DType, b: DType) -> Result<Vec<DType>, NoMemory> {
+/// Two types.
+pub(crate) fn two_types(alloc: Global, a: DType, b: DType) -> Result<Vec<DType>, NoMemory> {
     let mut types = Vec::with_capacity(alloc, 2)?;
     types.push(a)?;
     types.push(b)?;

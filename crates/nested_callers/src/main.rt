@@ -1,4 +1,4 @@
-//! Calls the functions of structs, maps and extensions as a user does, and prints what each gives.
+//! Calls the functions of structs, maps, extensions and unions as a user does, and prints what each gives.
 #![tactic(auto)]
 
 mod columns;
@@ -7,6 +7,7 @@ mod print;
 mod readers;
 mod refusals;
 mod steps;
+mod unions;
 
 use std::test::Fail;
 
@@ -16,5 +17,6 @@ fn main(rt: HostRuntime) -> Result<(), Fail> {
     steps::print_structs(&rt, rt.alloc())?;
     steps::print_maps(&rt, rt.alloc())?;
     steps::print_extensions(&rt, rt.alloc())?;
-    fillers::print_fillers(&rt, rt.alloc())
+    fillers::print_fillers(&rt, rt.alloc())?;
+    unions::print_unions(&rt, rt.alloc())
 }

@@ -10,7 +10,8 @@ use vx_column::{
     StructFields, Validity,
 };
 
-fn print_result<T: Drop>(
+/// Whether a constructor makes a column, or why it doesn't.
+pub(crate) fn print_result<T: Drop>(
     rt: &impl Print,
     name: &str,
     made: Result<T, ColumnError>,

@@ -99,7 +99,7 @@ fn print_taken(
 }
 
 /// A take of two rows, the second by a null where its bit is clear.
-fn print_reduced_take<V: TakeReduce>(
+pub(crate) fn print_reduced_take<V: TakeReduce>(
     rt: &impl Print,
     alloc: Global,
     array: &Array,
@@ -131,7 +131,8 @@ fn print_executed_take<V: TakeExecute>(
     )
 }
 
-fn print_reduced_slice<V: SliceReduce>(
+/// The second row, by a slice.
+pub(crate) fn print_reduced_slice<V: SliceReduce>(
     rt: &impl Print,
     alloc: Global,
     array: &Array,

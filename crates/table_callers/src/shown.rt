@@ -30,6 +30,7 @@ fn print_cell(rt: &impl Print, dtype: &DType, cell: Cell) -> Result<(), Fail> {
         },
         Cell::List(_) => print!(rt; " a list")?,
         Cell::Fields(_) => print!(rt; " a struct")?,
+        Cell::Tagged(_) => print!(rt; " a union")?,
     }
     Ok(())
 }
