@@ -178,7 +178,7 @@ DOCUMENTS = [
     # filler
     right('16,777,216 nulls of no list of the longest size', lambda: filler(LONGEST),
           front=b'fixed(u8, 4294967295)?\nnull\n', printed=23 + NULLS),
-    right('the same of lists in lists', lambda: filler_within(2), printed=43 + NULLS),
+    right('the same of lists in lists', lambda: filler_within(2), printed=42 + NULLS),
     right('the same of lists 60 deep', lambda: filler_within(DEEP),
           printed=len('fixed(, 4294967295)') * DEEP + 4 + NULLS),
     right('the same, sliced', lambda: filler(LONGEST, {'slice': [5, MOST_ROWS]}), printed=23 + NULLS - 25),

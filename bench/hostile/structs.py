@@ -74,11 +74,11 @@ def extensions_within(depth, rows):
 
 NULLS = 5 * MANY
 DOCUMENTS = [
-    right('100,000 fields of no rows', lambda: many_fields(MANY, 0), seconds=3, mib=1024, printed=type_of(MANY)),
-    right('and 100,000 nulls of it', lambda: many_fields(MANY, 0, every(None, MANY)), seconds=5, mib=2048,
+    right('100,000 fields of no rows', lambda: many_fields(MANY, 0), seconds=2, mib=384, printed=type_of(MANY)),
+    right('and 100,000 nulls of it', lambda: many_fields(MANY, 0, every(None, MANY)), seconds=2, mib=384,
           printed=type_of(MANY) + 1 + NULLS),
     right('100,000 fields of a row, and 1,000 nulls of it', lambda: many_fields(MANY, 1, every(None, 1000)),
-          seconds=10, mib=4096, printed=type_of(MANY) + 1 + 5 * 1000),
+          seconds=3, mib=512, printed=type_of(MANY) + 1 + 5 * 1000),
     *(right(f'{name} as deep as brackets may nest{told}', lambda make=make, steps=steps: text(deepest(make), *steps),
             seconds=1, mib=128)
       for name, make in (('structs', structs_within), ('structs of lists', mixed_within))
@@ -95,6 +95,6 @@ DOCUMENTS = [
     *(right(f'dictionaries of structs by lazy codes {depth} deep over 100,000 rows, taken',
             lambda depth=depth: text(shrinking(depth, MANY), back(MANY - depth)), seconds=10, mib=2048)
       for depth in (1, 10, 30)),
-    right('extensions 120 deep over 16,777,216 rows', lambda: text(extensions_within(120, MOST_ROWS)), seconds=10,
-          mib=2048),
+    right('extensions 120 deep over 16,777,216 rows', lambda: text(extensions_within(120, MOST_ROWS)), seconds=2,
+          mib=192),
 ]

@@ -58,23 +58,23 @@ STEPS = (('', ()), (', filtered and taken', (odd(MANY), back(MANY // 2))))
 DEEPEST = (BRACKETS - 2) // 2
 DOCUMENTS = [
     *(right(f'256 variants of 100,000 rows, each row of another than the row before{told}',
-            lambda steps=steps: text(sparse(VARIANTS, MANY), *steps), seconds=10, mib=2048)
+            lambda steps=steps: text(sparse(VARIANTS, MANY), *steps), seconds=1, mib=128)
       for told, steps in STEPS),
-    *(right(f'the same by offsets that fall{told}', lambda steps=steps: text(dense(MANY), *steps), seconds=10, mib=2048)
+    *(right(f'the same by offsets that fall{told}', lambda steps=steps: text(dense(MANY), *steps), seconds=1, mib=128)
       for told, steps in STEPS),
     right('256 variants of no rows, and 100,000 nulls of it', lambda: text(sparse(VARIANTS, 0), every(None, MANY)),
-          seconds=10, mib=2048),
-    right('a million offsets of one row', lambda: text(same_row(MILLION)), seconds=10, mib=2048),
-    right('and taken from the last row on', lambda: text(same_row(MILLION), back(MILLION)), seconds=10, mib=2048),
+          seconds=1, mib=128),
+    right('a million offsets of one row', lambda: text(same_row(MILLION)), seconds=1, mib=128),
+    right('and taken from the last row on', lambda: text(same_row(MILLION), back(MILLION)), seconds=1, mib=192),
     right('one constant id over 16,777,216 rows',
           lambda: text(union({'layout': 'Constant', 'type': 'u8', 'value': 0, 'len': MOST_ROWS}, [ramp(MOST_ROWS)])),
-          seconds=15, mib=2048),
+          seconds=3, mib=256),
     *(right(f'unions {depth} deep over 100,000 rows{told}',
-            lambda depth=depth, steps=steps: text(unions_within(depth, MANY), *steps), seconds=20, mib=4096)
+            lambda depth=depth, steps=steps: text(unions_within(depth, MANY), *steps), seconds=2, mib=128)
       for depth in (1, 10, 60)
       for told, steps in STEPS),
     right('unions as deep as brackets may nest', lambda: text(unions_within(DEEPEST, 3)), seconds=1, mib=128),
     *(right(f'unions of dictionaries by lazy codes {depth} deep over 100,000 rows',
-            lambda depth=depth: text(shrinking(depth, MANY)), seconds=20, mib=4096)
+            lambda depth=depth: text(shrinking(depth, MANY)), seconds=6, mib=320)
       for depth in (1, 10, 30)),
 ]
