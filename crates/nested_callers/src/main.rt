@@ -1,4 +1,5 @@
-//! Calls the functions of structs, maps, extensions and unions as a user does, and prints what each gives.
+//! Calls the functions of structs, maps, extensions and unions as a user does, and prints what each
+//! gives.
 #![tactic(auto)]
 
 mod columns;
