@@ -6,6 +6,7 @@ mod calls;
 mod cells;
 mod fault;
 mod joined;
+mod name_labels;
 mod nested;
 mod reads;
 mod record_lists;

@@ -6,15 +6,17 @@ ghost use Rattle.vx_types.specs.Fields.{names_of};
 ghost use Rattle.vx_types.specs.RowValue.{null};
 ghost use Rattle.vx_model.specs.Columns.{are_long_past};
 ghost use Rattle.vx_column.specs.Cell.{row_of, IsOfType};
-ghost use Rattle.vx_print.specs.Fields.{texts_at};
-ghost use Rattle.vx_print.specs.Text.{joined, labelled, lines, name_label, row_text};
+ghost use Rattle.vx_print.specs.Fields.{texts_at, AreLabels};
+ghost use Rattle.vx_print.specs.Text.{field_names, joined, labelled, lines, name_label, row_text};
 
 use crate::cells::{push_id, push_joined};
-use crate::joined::{push_gap, push_next};
+use crate::joined::push_next;
+use crate::name_labels::{labels_of, push_label};
 use crate::row::ROOM;
 use crate::stored::{names_in, push_stored, storage_of};
-use crate::texts::has_room;
-use crate::types::{push_name, push_word};
+use crate::texts::{has_room, push_listed};
+use crate::types::push_word;
+use std::alloc::Global;
 use std::rc::RcStr;
 use vx_bits::NoMemory;
 use vx_column::{Array, ArrayRef, Cell, DType, FieldsCell, Layout, ListCell, TaggedCell};
@@ -80,10 +82,13 @@ fn push_elements(
     if column.dtype().is_flat() {
         return push_joined(text, dst, column, start, end);
     }
+    if column.dtype().has_scalars() {
+        return push_listed(text, column, start, end);
+    }
     check_room(text.len(), column, start, end)?;
     for i in start..end {
         push_next(text, i == start)?;
-        push_row(text, dst, column.dtype(), column.cell_at(i))?;
+        push_row(text, dst, &[], column.dtype(), column.cell_at(i))?;
     }
     Ok(())
 }
@@ -111,18 +116,19 @@ fn push_fields(
     text: &mut Vec<u8>,
     dst: &mut [u8; ROOM],
     names: &[RcStr],
+    labels: &[Vec<u8>],
     columns: &[ArrayRef],
     i: usize,
 ) -> Result<(), NoMemory>
-    requires { are_long_past i columns.now ≡ true }
+    requires rows { are_long_past i columns.now ≡ true }
+    requires labels { AreLabels (names_of names.now) (map (λ l. l.items) labels.now) }
     ensures { IsOk result → text.new.items ≡ text.old.items
         ++ joined (labelled (map name_label (names_of names.now)) (texts_at columns.now i)) }
 {
     for k in 0..columns.len() {
-        push_gap(text, k == 0)?;
-        push_name(text, names, k)?;
+        push_label(text, names, labels, k)?;
         let column = &columns[k];
-        push_row(text, dst, column.dtype(), column.cell_at(i))?;
+        push_row(text, dst, &[], column.dtype(), column.cell_at(i))?;
     }
     Ok(())
 }
@@ -133,15 +139,18 @@ fn push_struct(
     text: &mut Vec<u8>,
     dst: &mut [u8; ROOM],
     names: &[RcStr],
+    labels: &[Vec<u8>],
     fields: FieldsCell<'_>,
 ) -> Result<(), NoMemory>
-    requires { are_long_past fields.row fields.columns.now ≡ true }
+    requires rows { are_long_past fields.row fields.columns.now ≡ true }
+    requires labels { AreLabels (names_of names.now) (map (λ l. l.items) labels.now) }
     ensures { IsOk result → text.new.items ≡ text.old.items ++ (codes "{" ++ joined
         (labelled (map name_label (names_of names.now))
         (texts_at fields.entry.columns.now fields.entry.row)) ++ codes "}") }
 {
     text.push(b'{')?;
-    push_fields(text, dst, names, fields.columns.as_slice(), fields.row)?;
+    let columns = fields.columns.as_slice();
+    push_fields(text, dst, names, labels, columns, fields.row)?;
     text.push(b'}')?;
     Ok(())
 }
@@ -160,19 +169,23 @@ fn push_tagged(
 {
     let column = tagged.column;
     push_id(text, dst, tagged.id)?;
-    push_row(text, dst, column.dtype(), column.cell_at(tagged.row))
+    push_row(text, dst, &[], column.dtype(), column.cell_at(tagged.row))
 }
 
 // Appends a row of this type, which is begun only where the text that is there is within its bound.
+// The labels are those of its first fields, where it is a struct.
 #[cycle(nested)]
 #[tactic(auto, using(crate::proofs::Elements::element_rows))]
 fn push_row(
     text: &mut Vec<u8>,
     dst: &mut [u8; ROOM],
+    labels: &[Vec<u8>],
     dtype: &DType,
     row: Cell<'_>,
 ) -> Result<(), NoMemory>
-    requires { IsOfType row (type_of dtype.now) }
+    requires of_type { IsOfType row (type_of dtype.now) }
+    requires labels { AreLabels (field_names (type_of dtype.now).kind)
+        (map (λ l. l.items) labels.now) }
     ensures { IsOk result → text.new.items
         ≡ text.old.items ++ row_text (type_of dtype.now) (row_of row.entry) }
 {
@@ -185,22 +198,23 @@ fn push_row(
         Cell::Bit(false) => push_word(text, b"false"),
         Cell::Bytes(bytes) => push_stored(text, dst, dtype, bytes),
         Cell::List(list) => push_list(text, dst, list),
-        Cell::Fields(fields) => push_struct(text, dst, names_in(dtype), fields),
+        Cell::Fields(fields) => push_struct(text, dst, names_in(dtype), labels, fields),
         Cell::Tagged(tagged) => push_tagged(text, dst, tagged),
     }
 }
 
 /// Appends a line for each row of any column. `NoMemory` alone, also where the text would grow past
 /// its bound.
-pub(crate) fn push_nested(text: &mut Vec<u8>, column: &Array) -> Result<(), NoMemory>
+pub(crate) fn push_nested(alloc: Global, text: &mut Vec<u8>, column: &Array) -> Result<(), NoMemory>
     ensures { IsOk result → text.new.items
         ≡ text.old.items ++ lines (row_text column.now.dtype) column.now.rows }
 {
     let mut dst = [0; ROOM];
     let dtype = column.dtype();
+    let labels = labels_of(alloc, names_in(dtype))?;
     check_room(text.len(), column, 0, column.len())?;
     for i in 0..column.len() {
-        push_row(text, &mut dst, dtype, column.cell_at(i))?;
+        push_row(text, &mut dst, labels.as_slice(), dtype, column.cell_at(i))?;
         text.push(b'\n')?;
     }
     Ok(())

@@ -52,7 +52,7 @@ fn push_records(
 }
 
 // Appends a line for each row.
-fn push_lines(text: &mut Vec<u8>, column: &Array) -> Result<(), NoMemory>
+fn push_lines(alloc: Global, text: &mut Vec<u8>, column: &Array) -> Result<(), NoMemory>
     ensures { IsOk result → text.new.items
         ≡ text.old.items ++ lines (row_text column.now.dtype) column.now.rows }
 {
@@ -68,18 +68,18 @@ fn push_lines(text: &mut Vec<u8>, column: &Array) -> Result<(), NoMemory>
     if column.dtype().has_scalars() {
         push_texts(text, column)
     } else {
-        push_nested(text, column)
+        push_nested(alloc, text, column)
     }
 }
 
 // Appends the line of a column's type, and a line for each row.
-fn push_text(all: &mut Vec<u8>, column: &Array) -> Result<(), NoMemory>
+fn push_text(alloc: Global, all: &mut Vec<u8>, column: &Array) -> Result<(), NoMemory>
     ensures { IsOk result → all.new.items
         ≡ all.old.items ++ text column.now.dtype column.now.rows }
 {
     push_type(all, column.dtype())?;
     all.push(b'\n')?;
-    push_lines(all, storage_of(column))
+    push_lines(alloc, all, storage_of(column))
 }
 
 /// The text of a column: the line of its type, and a line for each row. `NoMemory` alone.
@@ -87,6 +87,6 @@ pub fn text_of(alloc: Global, column: &Array) -> Result<Vec<u8>, NoMemory>
     ensures { IfOk result (λ v. v.items ≡ text column.now.dtype column.now.rows) }
 {
     let mut text = Vec::new(alloc);
-    push_text(&mut text, column)?;
+    push_text(alloc, &mut text, column)?;
     Ok(text)
 }

@@ -1,11 +1,12 @@
 //! Lines of rows of text, which have no bound on their length: written from the first to the last.
-ghost use Rattle.std.specs.Prelude.{◌≡◌, ◌++◌, ◌≤◌, length, flat_map, true, false, IsOk};
+ghost use Rattle.std.specs.Prelude.{◌≡◌, ◌+◌, ◌++◌, ◌<◌, ◌≤◌, length, flat_map, map, slice_range, true, false, vec_len, vec_capacity, IsOk};
 ghost use Rattle.std.specs.List.{list_all};
 ghost use Rattle.vx_types.specs.DType.{type_of};
 ghost use Rattle.vx_types.specs.Scalar.{is_text_kind};
 ghost use Rattle.vx_column.specs.Cell.{row_of, IsOfType};
-ghost use Rattle.vx_print.specs.Text.{bytes_text, hex_text, is_plain, lines, quoted_byte, quoted_text, row_text};
+ghost use Rattle.vx_print.specs.Text.{bytes_text, hex_text, is_plain, joined, lines, quoted_byte, quoted_text, row_text};
 
+use crate::joined::push_next;
 use hex::encode_to_slice;
 use vx_bits::NoMemory;
 use vx_column::{Array, Cell, DType};
@@ -36,6 +37,9 @@ static PLAIN: [bool; 256] = [
 // Texts of fewer bytes are tested by the table.
 const MANY: usize = 16;
 
+// How many bytes they take at most, with their quotes.
+const FEW: usize = 4 * MANY + 2;
+
 // Whether a byte stands for itself between quotes.
 #[inline(always)]
 fn is_plain(byte: u8) -> bool
@@ -44,7 +48,7 @@ fn is_plain(byte: u8) -> bool
     (0x20..=0x7e).contains(&byte) && byte != b'"' && byte != b'\\'
 }
 
-// The same by the table.
+// The same by the table, where a loop looks at one byte after the other.
 #[inline(always)]
 fn is_listed(byte: u8) -> bool
     ensures { result ≡ is_plain byte }
@@ -52,25 +56,11 @@ fn is_listed(byte: u8) -> bool
     PLAIN[usize::from(byte)]
 }
 
-// Whether each of a few bytes stands for itself.
-fn are_listed(bytes: &[u8]) -> bool
-    ensures { result ≡ list_all is_plain bytes.now }
-{
-    let mut plain = true;
-    for byte in bytes {
-        plain &= is_listed(*byte);
-    }
-    plain
-}
-
 // Whether each byte stands for itself. It looks at all of them, so that the compiler may take many
 // at once.
 fn are_plain(bytes: &[u8]) -> bool
     ensures { result ≡ list_all is_plain bytes.now }
 {
-    if bytes.len() < MANY {
-        return are_listed(bytes);
-    }
     let mut plain = true;
     for byte in bytes {
         plain &= is_plain(*byte);
@@ -117,11 +107,47 @@ fn push_runs(text: &mut Vec<u8>, bytes: &[u8]) -> Result<(), NoMemory>
     Ok(())
 }
 
+// Appends a byte as it stands between quotes, where there is room for it.
+#[inline(always)]
+fn put_quoted(text: &mut Vec<u8>, byte: u8)
+    requires { vec_len text.old + 4 ≤ vec_capacity text.old }
+    ensures put { text.new.items ≡ text.old.items ++ quoted_byte byte }
+    ensures len { vec_len text.new ≤ vec_len text.old + 4 }
+    ensures capacity { vec_capacity text.new ≡ vec_capacity text.old }
+{
+    if is_listed(byte) {
+        text.push_reserved(byte);
+    } else {
+        text.push_reserved(b'\\');
+        text.push_reserved(b'x');
+        text.push_reserved(DIGITS[usize::from(byte / 16)]);
+        text.push_reserved(DIGITS[usize::from(byte % 16)]);
+    }
+}
+
+// Appends a few bytes between quotes, byte by byte.
+#[inline(always)]
+fn push_few(text: &mut Vec<u8>, bytes: &[u8]) -> Result<(), NoMemory>
+    requires { length bytes.now < MANY }
+    ensures { IsOk result → text.new.items ≡ text.old.items ++ quoted_text bytes.now }
+{
+    text.reserve(FEW)?;
+    text.push_reserved(b'"');
+    for byte in bytes {
+        put_quoted(text, *byte);
+    }
+    text.push_reserved(b'"');
+    Ok(())
+}
+
 /// Appends bytes between quotes. `NoMemory` alone.
 #[inline(always)]
 pub(crate) fn push_quoted(text: &mut Vec<u8>, bytes: &[u8]) -> Result<(), NoMemory>
     ensures { IsOk result → text.new.items ≡ text.old.items ++ quoted_text bytes.now }
 {
+    if bytes.len() < MANY {
+        return push_few(text, bytes);
+    }
     text.push(b'"')?;
     if are_plain(bytes) {
         text.extend_from_slice(bytes)?;
@@ -173,6 +199,7 @@ pub(crate) fn push_bytes(text: &mut Vec<u8>, dtype: &DType, bytes: &[u8]) -> Res
 }
 
 // Appends a row of this type.
+#[inline(always)]
 fn push_row(text: &mut Vec<u8>, dtype: &DType, row: Cell<'_>) -> Result<(), NoMemory>
     requires text { is_text_kind (type_of dtype.now).kind ≡ true }
     requires of_type { IsOfType row (type_of dtype.now) }
@@ -200,6 +227,28 @@ pub(crate) fn push_texts(text: &mut Vec<u8>, column: &Array) -> Result<(), NoMem
     for i in 0..column.len() {
         push_row(text, dtype, column.cell_at(i))?;
         text.push(b'\n')?;
+    }
+    Ok(())
+}
+
+/// Appends the rows from `start` up to `end` of a column of text, with `, ` between them.
+/// `NoMemory` alone, also where the text would grow past its bound.
+pub(crate) fn push_listed(
+    text: &mut Vec<u8>,
+    column: &Array,
+    start: usize,
+    end: usize,
+) -> Result<(), NoMemory>
+    requires text { is_text_kind column.now.dtype.kind ≡ true }
+    requires ordered { start ≤ end }
+    requires within { end ≤ length column.now.rows }
+    ensures { IsOk result → text.new.items ≡ text.old.items
+        ++ joined (map (row_text column.now.dtype) (slice_range column.now.rows start end)) }
+{
+    let dtype = column.dtype();
+    for i in start..end {
+        push_next(text, i == start)?;
+        push_row(text, dtype, column.cell_at(i))?;
     }
     Ok(())
 }

@@ -1,5 +1,5 @@
 -- The next row, and the next field.
-use Rattle.std.proofs.Common.{◌<◌, [], ◌++◌, ◌∙◌, eqb, length, map, take, get_or, ap, refl, subst, sym, arith}
+use Rattle.std.proofs.Common.{◌≡◌, ◌<◌, [], ◌++◌, ◌∙◌, append_assoc, eqb, length, map, take, get_or, ap, refl, subst, sym, arith}
 use Rattle.std.specs.Prelude.{codes}
 use Rattle.std.proofs.lemmas.List.{take_all}
 use Rattle.vx_types.specs.DType.{type_of}
@@ -37,13 +37,17 @@ push_fields-loop-k-preserved t c =
     let u = c.index-columns-k.result in
     let lt : k < length cs = omega arith in
     let init = c.args.text.now.items in
-    let text = c.push_name.new.text.items in
-    let front = ((init ++ joined (take k (labelled names (texts_at cs i)))) ++ gap (eqb k 0)) ++ get_or names k [] in
+    let text = c.push_label.new.text.items in
+    let before = init ++ joined (take k (labelled names (texts_at cs i))) in
+    let front = (before ++ gap (eqb k 0)) ++ get_or names k [] in
+    let label : text ≡ front =
+    c.in_ok-push_label.ensures refl
+    ∙ ap (λ l. l ++ (gap (eqb k 0) ++ get_or names k [])) c.loop-k.invariant
+    ∙ sym (append_assoc before (gap (eqb k 0)) (get_or names k [])) in
     c.in_ok-push_row.ensures refl
     ∙ ap (λ d. text ++ row_text d (row_of c.cell_at.result)) (c.dtype.ensures.value ∙ ap (λ (v : Column). v.dtype) c.deref.ensures)
     ∙ ap (λ x. text ++ row_text u.dtype x) (c.cell_at.ensures.row ∙ ap (λ (v : Column). get_or v.rows i null) c.deref-in-loop-k.ensures)
-    ∙ ap (λ l. l ++ row_text u.dtype (get_or u.rows i null)) (c.in_ok-push_name.ensures refl
-    ∙ ap (λ l. l ++ get_or names k []) (c.in_ok-push_gap.ensures refl ∙ ap (λ l. l ++ gap (eqb k 0)) c.loop-k.invariant))
+    ∙ ap (λ l. l ++ row_text u.dtype (get_or u.rows i null)) label
     ∙ ap (λ (v : Column). front ++ row_text v.dtype (get_or v.rows i null)) c.index-columns-k.is
     ∙ field_more names cs i init k u lt
 
@@ -60,7 +64,7 @@ push_row-returns-in-Fields t c = λ ok.
     let cs = c.in-Fields.fields.columns.now in
     let i = c.in-Fields.fields.row in
     let text = c.args.text.now.items in
-    let of_type = subst (λ (r : Cell). IsOfType r d) c.in-Fields.is c.requires in
+    let of_type = subst (λ (r : Cell). IsOfType r d) c.in-Fields.is c.requires.of_type in
     c.push_struct.ensures ok
     ∙ ap (λ ns. text ++ (codes "{" ++ joined (labelled (map name_label ns) (texts_at cs i)) ++ codes "}")) c.names_in.ensures
     ∙ sym (ap (λ l. text ++ l) (fields_text d cs i of_type.kind))
