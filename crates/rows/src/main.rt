@@ -1,6 +1,8 @@
 //! The program: it hands its words, standard input and standard output to [`run`], and ends with
-//! the status.
+//! the status. From 2 on a line on standard error says what the status stands for.
 #![tactic(auto)]
+
+ghost use Rattle.std.specs.Prelude.{◌≤◌, ◌↔◌, IsSome};
 
 use std::env;
 use std::process::ExitCode;
@@ -9,16 +11,42 @@ use vx_rows::{StdSink, StdSource, Trace, run};
 /// The status where the words can't be had.
 const NO_WORDS: u8 = 9;
 
-fn main(rt: HostRuntime) -> ExitCode {
+/// What a status stands for; 0 and 1 are told on standard output.
+fn meaning(status: u8) -> Option<&'static str>
+    ensures { IsSome result ↔ 2 ≤ status }
+{
+    match status {
+        0 | 1 => None,
+        2 => Some("malformed document"),
+        3 => Some("wrong words; usage: rows rows|page P L|file|made N"),
+        4 => Some("reading failed"),
+        5 => Some("writing failed"),
+        6 => Some("memory is wanting, or the text would be too long"),
+        7 => Some("more than 16,777,216 bytes"),
+        _ => Some("the program's words can't be had"),
+    }
+}
+
+/// Does what the words ask, and answers the status.
+fn status_of(rt: &HostRuntime) -> u8 {
     let alloc = rt.alloc();
-    let Ok(args) = env::args(&rt) else {
-        return ExitCode::from(NO_WORDS);
+    let Ok(args) = env::args(rt) else {
+        return NO_WORDS;
     };
     let Ok(words) = args.skip(1).collect::<Vec<String>>(alloc) else {
-        return ExitCode::from(NO_WORDS);
+        return NO_WORDS;
     };
     let mut source = StdSource::new(rt.stdin());
     let mut sink = StdSink::new(rt.stdout());
     let mut trace = Trace::new();
-    ExitCode::from(run(alloc, &words, &mut source, &mut sink, &mut trace))
+    run(alloc, &words, &mut source, &mut sink, &mut trace)
+}
+
+/// Where the line can't be written, the status is the same.
+fn main(rt: HostRuntime) -> ExitCode {
+    let status = status_of(&rt);
+    if let Some(text) = meaning(status) {
+        let _ = eprintln!(rt; "rows: {text} (status {status})");
+    }
+    ExitCode::from(status)
 }
