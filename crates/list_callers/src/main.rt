@@ -5,6 +5,7 @@ mod columns;
 mod fixed;
 mod lists;
 mod masks;
+mod presence;
 mod text;
 mod views;
 

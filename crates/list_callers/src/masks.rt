@@ -1,6 +1,6 @@
 //! Masks of elements, and plans over plain offsets.
 use crate::columns::picks_of;
-use crate::text::bits_of;
+use crate::text::print_bits;
 use callers::mask_of;
 use std::alloc::Global;
 use std::test::Fail;
@@ -12,12 +12,18 @@ const OFFSETS: [u64; 4] = [0, 2, 2, 5];
 
 /// A row for each mask, a filter and a take.
 pub(crate) fn print_rows(rt: &impl Print, alloc: Global) -> Result<(), Fail> {
-    let first = bits_of(alloc, &first_list(alloc)?)?;
-    println!(rt; "lists 100 of offsets 0 2 2 5, elements 0..5: {first}")?;
-    let last = bits_of(alloc, &last_list(alloc)?)?;
-    println!(rt; "lists 001 of offsets 0 2 2 5, elements 2..5: {last}")?;
+    print!(rt; "lists 100 of offsets 0 2 2 5, elements 0..5: ")?;
+    print_mask(rt, &first_list(alloc)?)?;
+    print!(rt; "lists 001 of offsets 0 2 2 5, elements 2..5: ")?;
+    print_mask(rt, &last_list(alloc)?)?;
     print_filter(rt, alloc)?;
     print_take(rt, alloc)
+}
+
+fn print_mask(rt: &impl Print, mask: &Mask) -> Result<(), Fail> {
+    print_bits(rt, mask)?;
+    println!(rt; "")?;
+    Ok(())
 }
 
 fn first_list(alloc: Global) -> Result<Mask, Fail> {
@@ -42,11 +48,8 @@ fn print_filter(rt: &impl Print, alloc: Global) -> Result<(), Fail> {
         Some(lists) => {
             let filter = filter_lists(alloc, &OFFSETS, lists, &Policy::vortex())?;
             let (offsets, range) = (&filter.offsets, filter.range);
-            let mask = bits_of(alloc, &filter.mask)?;
-            println!(rt;
-                "lists 001 by offsets alone: offsets {offsets:?}, {range:?}, mask {mask}"
-            )?;
-            Ok(())
+            print!(rt; "lists 001 by offsets alone: offsets {offsets:?}, {range:?}, mask ")?;
+            print_mask(rt, &filter.mask)
         }
         None => Err("no list, or each".into()),
     }

@@ -1,17 +1,14 @@
 //! Masks and numbers, as they are printed.
-
-use std::alloc::Global;
-use vx_bits::NoMemory;
+use std::io;
 use vx_column::PrimitiveArray;
 use vx_mask::Mask;
 
-/// The bits of a mask, as a text of `0` and `1`.
-pub(crate) fn bits_of(alloc: Global, mask: &Mask) -> Result<String, NoMemory> {
-    let mut text = String::new(alloc);
+/// The bits of a mask, each a `0` or a `1`.
+pub(crate) fn print_bits(rt: &impl Print, mask: &Mask) -> io::Result<()> {
     for i in 0..mask.len() {
-        text.push(if mask.value(i) { '1' } else { '0' })?;
+        print!(rt; "{}", u8::from(mask.value(i)))?;
     }
-    Ok(text)
+    Ok(())
 }
 
 /// The number that bytes spell in a column; 0 where it isn't one of integers.
@@ -26,12 +23,15 @@ fn number(column: &PrimitiveArray, bytes: &[u8]) -> i128 {
     ptype.number(bytes)
 }
 
-/// The numbers of a column.
-pub(crate) fn numbers_of(alloc: Global, column: &PrimitiveArray) -> Result<Vec<i128>, NoMemory> {
+/// The numbers of a column between brackets.
+pub(crate) fn print_numbers(rt: &impl Print, column: &PrimitiveArray) -> io::Result<()> {
     let values = column.values();
-    let mut list = Vec::new(alloc);
+    print!(rt; "[")?;
     for i in 0..values.len() {
-        list.push(number(column, values.record_bytes(i)))?;
+        if i != 0 {
+            print!(rt; ", ")?;
+        }
+        print!(rt; "{}", number(column, values.record_bytes(i)))?;
     }
-    Ok(list)
+    print!(rt; "]")
 }
