@@ -1,12 +1,13 @@
 //! Small columns, masks and indices.
 use callers::mask_of;
 use std::alloc::Global;
+use std::rc::RcStr;
 use std::test::Fail;
 use vx_bits::{BitBuffer, Buffer, NoMemory, Records};
 use vx_column::{
-    Array, ArrayRef, BoolArray, ConstantArray, DType, DecimalArray, DecimalDType, DictArray,
-    FilterArray, FixedSizeListArray, FlatRef, ListArray, ListViewArray, Nullability, PType,
-    PrimitiveArray, Scalar, ScalarValue, Validity, record_of,
+    Array, ArrayRef, BoolArray, Columns, ConstantArray, DType, DecimalArray, DecimalDType,
+    DictArray, FilterArray, FixedSizeListArray, FlatRef, ListArray, ListViewArray, Nullability,
+    PType, PrimitiveArray, Scalar, ScalarValue, StructArray, StructFields, Validity, record_of,
 };
 use vx_mask::Mask;
 use vx_pieces::{Indices, PiecewiseSequence};
@@ -73,6 +74,41 @@ pub(crate) fn pairs(
     Ok(FixedSizeListArray::try_new(alloc, elements, 2, validity, len)?)
 }
 
+// The name `x`, once.
+fn one_name(alloc: Global) -> Result<Vec<RcStr>, NoMemory> {
+    let mut names = Vec::with_capacity(alloc, 1)?;
+    names.push(RcStr::from_str(alloc, "x")?)?;
+    Ok(names)
+}
+
+fn one_type(alloc: Global, dtype: DType) -> Result<Vec<DType>, NoMemory> {
+    let mut types = Vec::with_capacity(alloc, 1)?;
+    types.push(dtype)?;
+    Ok(types)
+}
+
+fn one_column(alloc: Global, column: ArrayRef) -> Result<Columns, NoMemory> {
+    let mut columns = Vec::with_capacity(alloc, 1)?;
+    columns.push(column)?;
+    Columns::new(alloc, columns)
+}
+
+/// Structs of one field `x`, of these bytes.
+pub(crate) fn structs(alloc: Global, values: &[[u8; 1]]) -> Result<Array, Fail> {
+    let x = bytes(alloc, values)?.into_ref(alloc)?;
+    let types = one_type(alloc, x.dtype().share())?;
+    let fields = StructFields::try_new(alloc, one_name(alloc)?, types)?;
+    let columns = one_column(alloc, x)?;
+    let validity = Validity::NonNullable;
+    Ok(StructArray::try_new_with_dtype(columns, fields, values.len(), validity)?.into_array())
+}
+
+/// Bytes, and a null where a bit is clear.
+pub(crate) fn bytes_where(alloc: Global, values: &[[u8; 1]], bits: &[bool]) -> Result<Array, Fail> {
+    let validity = Validity::Array(bools(alloc, bits)?.into_ref(alloc)?);
+    Ok(byte_array(alloc, values, validity)?.into_array())
+}
+
 /// Decimal numbers of two digits, stored in a byte.
 pub(crate) fn decimals(alloc: Global, values: &[[u8; 1]]) -> Result<Array, Fail> {
     let dtype = DecimalDType::try_new(2, 0, 1)?;
@@ -102,9 +138,8 @@ pub(crate) fn indices_where(
     values: &[[u8; 1]],
     bits: &[bool],
 ) -> Result<Indices, Fail> {
-    let validity = Validity::Array(bools(alloc, bits)?.into_ref(alloc)?);
-    let column = byte_array(alloc, values, validity)?.into_array();
-    Ok(Indices::Array(FlatRef::try_new(column.into_ref(alloc)?)?))
+    let column = bytes_where(alloc, values, bits)?.into_ref(alloc)?;
+    Ok(Indices::Array(FlatRef::try_new(column)?))
 }
 
 fn scalar(alloc: Global, number: i128) -> Result<Scalar, Fail> {

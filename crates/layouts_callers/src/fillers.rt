@@ -39,23 +39,45 @@ fn print_filler(
 fn print_lists(rt: &impl Print, alloc: Global) -> Result<(), Fail> {
     let lists = no_lists(alloc, bytes(alloc, &[])?, Validity::NonNullable)?;
     print_filler(rt, alloc, "list(u8)", &lists, 2)?;
-    print_filler(rt, alloc, "list(u8)", &lists, 0)?;
+    print_filler(rt, alloc, "list(u8)", &lists, 0)
+}
+
+fn print_nullable_lists(rt: &impl Print, alloc: Global) -> Result<(), Fail> {
     let nullable = no_lists(alloc, bytes(alloc, &[])?, Validity::AllValid)?;
     print_filler(rt, alloc, "list(u8)?", &nullable, 3)?;
-    let lists = no_lists(alloc, nullable, Validity::NonNullable)?;
+    print_lists_of(rt, alloc, nullable)
+}
+
+fn print_lists_of(rt: &impl Print, alloc: Global, elements: Array) -> Result<(), Fail> {
+    let lists = no_lists(alloc, elements, Validity::NonNullable)?;
     print_filler(rt, alloc, "list(list(u8)?)", &lists, 1)
 }
 
 fn print_fixed(rt: &impl Print, alloc: Global) -> Result<(), Fail> {
     let pairs = no_fixed(alloc, bytes(alloc, &[])?, 2, Validity::NonNullable)?;
-    print_filler(rt, alloc, "fixed(u8, 2)", &pairs, 2)?;
+    print_filler(rt, alloc, "fixed(u8, 2)", &pairs, 2)
+}
+
+fn print_nullable_fixed(rt: &impl Print, alloc: Global) -> Result<(), Fail> {
     let nullable = no_fixed(alloc, bytes(alloc, &[])?, 2, Validity::AllValid)?;
     print_filler(rt, alloc, "fixed(u8, 2)?", &nullable, 3)?;
-    let pairs = no_fixed(alloc, nullable, 2, Validity::NonNullable)?;
-    print_filler(rt, alloc, "fixed(fixed(u8, 2)?, 2)", &pairs, 2)?;
+    print_pairs_of(rt, alloc, "fixed(fixed(u8, 2)?, 2)", nullable, 2)
+}
+
+fn print_pairs_of(
+    rt: &impl Print,
+    alloc: Global,
+    name: &str,
+    elements: Array,
+    len: usize,
+) -> Result<(), Fail> {
+    let pairs = no_fixed(alloc, elements, 2, Validity::NonNullable)?;
+    print_filler(rt, alloc, name, &pairs, len)
+}
+
+fn print_fixed_lists(rt: &impl Print, alloc: Global) -> Result<(), Fail> {
     let lists = no_lists(alloc, bytes(alloc, &[])?, Validity::NonNullable)?;
-    let pairs = no_fixed(alloc, lists, 2, Validity::NonNullable)?;
-    print_filler(rt, alloc, "fixed(list(u8), 2)", &pairs, 1)
+    print_pairs_of(rt, alloc, "fixed(list(u8), 2)", lists, 1)
 }
 
 /// Lists of the greatest size, in such lists: their elements outnumber any memory.
@@ -75,6 +97,9 @@ fn print_longest(rt: &impl Print, alloc: Global) -> Result<(), Fail> {
 /// Fillers of types of lists.
 pub(crate) fn print_fillers(rt: &impl Print, alloc: Global) -> Result<(), Fail> {
     print_lists(rt, alloc)?;
+    print_nullable_lists(rt, alloc)?;
     print_fixed(rt, alloc)?;
+    print_nullable_fixed(rt, alloc)?;
+    print_fixed_lists(rt, alloc)?;
     print_longest(rt, alloc)
 }

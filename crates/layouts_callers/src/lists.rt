@@ -95,14 +95,17 @@ pub(crate) fn print_lists(rt: &impl Print, alloc: Global) -> Result<(), Fail> {
 /// Steps of views.
 pub(crate) fn print_views(rt: &impl Print, alloc: Global) -> Result<(), Fail> {
     let views = views(alloc, &[[4], [0]], &[[1], [2]], &[[1], [2], [3], [4], [5]])?;
-    let column = views.share().into_array();
-    print_take::<ListView>(rt, alloc, &column, &[[1], [0], [1]])?;
-    print_take::<ListView>(rt, alloc, &column, &[[2]])?;
-    print_null_take::<ListView>(rt, alloc, &column, &[[9], [0]], &[false, true])?;
-    print_reduced::<ListView>(rt, alloc, &column, &[[1], [1]])?;
-    print_reduced::<ListView>(rt, alloc, &column, &[[0], [2]])?;
-    print_slice::<ListView>(rt, alloc, &column, 1, 2)?;
+    print_view_steps(rt, alloc, &views.share().into_array())?;
     print_view_filter(rt, alloc, &views)
+}
+
+fn print_view_steps(rt: &impl Print, alloc: Global, column: &Array) -> Result<(), Fail> {
+    print_take::<ListView>(rt, alloc, column, &[[1], [0], [1]])?;
+    print_take::<ListView>(rt, alloc, column, &[[2]])?;
+    print_null_take::<ListView>(rt, alloc, column, &[[9], [0]], &[false, true])?;
+    print_reduced::<ListView>(rt, alloc, column, &[[1], [1]])?;
+    print_reduced::<ListView>(rt, alloc, column, &[[0], [2]])?;
+    print_slice::<ListView>(rt, alloc, column, 1, 2)
 }
 
 fn print_view_filter(rt: &impl Print, alloc: Global, array: &ListViewArray) -> Result<(), Fail> {
@@ -124,13 +127,16 @@ fn print_view_filter(rt: &impl Print, alloc: Global, array: &ListViewArray) -> R
 /// Steps of lists of one size, of which there are three, and none.
 pub(crate) fn print_fixed(rt: &impl Print, alloc: Global) -> Result<(), Fail> {
     let pairs = pairs(alloc, &[[1], [2], [3], [4], [5], [6]], 3)?;
-    let column = pairs.share().into_array();
-    print_take::<FixedSizeList>(rt, alloc, &column, &[[2], [0]])?;
-    print_take::<FixedSizeList>(rt, alloc, &column, &[[2], [3]])?;
-    print_null_take::<FixedSizeList>(rt, alloc, &column, &[[2], [9]], &[true, false])?;
-    print_slice::<FixedSizeList>(rt, alloc, &column, 1, 3)?;
+    print_fixed_steps(rt, alloc, &pairs.share().into_array())?;
     print_fixed_filter(rt, alloc, &pairs)?;
     print_no_pairs(rt, alloc)
+}
+
+fn print_fixed_steps(rt: &impl Print, alloc: Global, column: &Array) -> Result<(), Fail> {
+    print_take::<FixedSizeList>(rt, alloc, column, &[[2], [0]])?;
+    print_take::<FixedSizeList>(rt, alloc, column, &[[2], [3]])?;
+    print_null_take::<FixedSizeList>(rt, alloc, column, &[[2], [9]], &[true, false])?;
+    print_slice::<FixedSizeList>(rt, alloc, column, 1, 3)
 }
 
 fn print_fixed_filter(

@@ -1,6 +1,7 @@
 //! Calls the steps of layouts through their traits, and prints what each gives.
 #![tactic(auto)]
 
+mod adaptors;
 mod columns;
 mod fillers;
 mod lists;
@@ -20,5 +21,6 @@ fn main(rt: HostRuntime) -> Result<(), Fail> {
     lists::print_lists(&rt, rt.alloc())?;
     lists::print_views(&rt, rt.alloc())?;
     lists::print_fixed(&rt, rt.alloc())?;
-    fillers::print_fillers(&rt, rt.alloc())
+    fillers::print_fillers(&rt, rt.alloc())?;
+    adaptors::print_adaptors(&rt, rt.alloc())
 }

@@ -31,6 +31,11 @@ fn print_row(rt: &impl Print, row: &Row) -> io::Result<()> {
             print_elements(rt, rows.as_slice())?;
             print!(rt; ")")
         }
+        Row::Fields(fields) => {
+            print!(rt; " {{")?;
+            print_elements(rt, fields.as_slice())?;
+            print!(rt; "}}")
+        }
         _ => {
             print!(rt; " ")?;
             print_element(rt, row)

@@ -28,16 +28,24 @@ fn print_many(rt: &impl Print, alloc: Global) -> Result<(), Fail> {
     Ok(())
 }
 
-/// Fillers of types of structs, maps and extensions.
-pub(crate) fn print_fillers(rt: &impl Print, alloc: Global) -> Result<(), Fail> {
-    print_filler(rt, alloc, &points(alloc)?.into_array(), 2)?;
+fn print_there(rt: &impl Print, alloc: Global) -> Result<(), Fail> {
     let x = bytes(alloc, &[[7]])?;
     let y = bytes(alloc, &[[8]])?;
     let there = structs(alloc, ["x", "y"], x, y, 1, Validity::NonNullable)?;
-    print_filler(rt, alloc, &there.into_array(), 2)?;
+    print_filler(rt, alloc, &there.into_array(), 2)
+}
+
+fn print_nested(rt: &impl Print, alloc: Global, validity: Validity) -> Result<(), Fail> {
+    print_filler(rt, alloc, &no_structs(alloc, validity)?, 1)
+}
+
+/// Fillers of types of structs, maps and extensions.
+pub(crate) fn print_fillers(rt: &impl Print, alloc: Global) -> Result<(), Fail> {
+    print_filler(rt, alloc, &points(alloc)?.into_array(), 2)?;
+    print_there(rt, alloc)?;
     print_filler(rt, alloc, &maps(alloc)?.into_array(), 2)?;
     print_filler(rt, alloc, &days(alloc)?.into_array(), 1)?;
-    print_filler(rt, alloc, &no_structs(alloc, Validity::NonNullable)?, 1)?;
-    print_filler(rt, alloc, &no_structs(alloc, where_set(alloc, &[])?)?, 1)?;
+    print_nested(rt, alloc, Validity::NonNullable)?;
+    print_nested(rt, alloc, where_set(alloc, &[])?)?;
     print_many(rt, alloc)
 }

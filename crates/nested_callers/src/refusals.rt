@@ -53,29 +53,33 @@ fn print_struct(
     print_result(rt, name, struct_of(alloc, b, second, len, validity)?)
 }
 
-fn print_structs(rt: &impl Print, alloc: Global) -> Result<(), Fail> {
-    let right = byte_type(Nullability::NonNullable);
-    print_struct(rt, alloc, "structs", right.share(), 2, Validity::AllValid)?;
+// Structs of which the validity says that one row is there.
+fn print_short(
+    rt: &impl Print,
+    alloc: Global,
+    name: &str,
+    second: Nullability,
+    len: usize,
+) -> Result<(), Fail> {
     let short = where_set(alloc, &[true])?;
+    print_struct(rt, alloc, name, byte_type(second), len, short)
+}
+
+fn print_structs(rt: &impl Print, alloc: Global) -> Result<(), Fail> {
+    let (right, other) = (Nullability::NonNullable, Nullability::Nullable);
     print_struct(
         rt,
         alloc,
-        "a validity of one row",
-        right.share(),
-        2,
-        short.share(),
-    )?;
-    print_struct(rt, alloc, "and of three rows", right, 3, short.share())?;
-    let nullable = byte_type(Nullability::Nullable);
-    print_struct(rt, alloc, "and of a nullable field", nullable, 3, short)?;
-    print_struct(
-        rt,
-        alloc,
-        "a field of bools",
-        DType::Bool(Nullability::NonNullable),
+        "structs",
+        byte_type(right),
         2,
         Validity::AllValid,
-    )
+    )?;
+    print_short(rt, alloc, "a validity of one row", right, 2)?;
+    print_short(rt, alloc, "and of three rows", right, 3)?;
+    print_short(rt, alloc, "and of a nullable field", other, 3)?;
+    let bools = DType::Bool(right);
+    print_struct(rt, alloc, "a field of bools", bools, 2, Validity::AllValid)
 }
 
 fn print_fields(rt: &impl Print, alloc: Global) -> Result<(), Fail> {
@@ -97,17 +101,44 @@ fn map_of(
     Ok(MapArray::try_new(views(alloc, entries, &[[0]], &[[1]])?))
 }
 
-fn print_maps(rt: &impl Print, alloc: Global) -> Result<(), Fail> {
-    let (none, all) = (Validity::NonNullable, Validity::AllValid);
-    print_result(rt, "maps", map_of(alloc, none.share(), none.share())?)?;
-    print_result(
-        rt,
-        "maps of nullable keys",
-        map_of(alloc, all.share(), none.share())?,
-    )?;
-    print_result(rt, "maps of nullable entries", map_of(alloc, none, all)?)?;
+fn print_map(
+    rt: &impl Print,
+    alloc: Global,
+    name: &str,
+    key: Validity,
+    entry: Validity,
+) -> Result<(), Fail> {
+    print_result(rt, name, map_of(alloc, key, entry)?)
+}
+
+fn print_maps_of_bytes(rt: &impl Print, alloc: Global) -> Result<(), Fail> {
     let lists = views(alloc, bytes(alloc, &[[1]])?, &[[0]], &[[1]])?;
     print_result(rt, "maps of bytes", MapArray::try_new(lists))
+}
+
+fn print_maps(rt: &impl Print, alloc: Global) -> Result<(), Fail> {
+    print_map(
+        rt,
+        alloc,
+        "maps",
+        Validity::NonNullable,
+        Validity::NonNullable,
+    )?;
+    print_map(
+        rt,
+        alloc,
+        "maps of nullable keys",
+        Validity::AllValid,
+        Validity::NonNullable,
+    )?;
+    print_map(
+        rt,
+        alloc,
+        "maps of nullable entries",
+        Validity::NonNullable,
+        Validity::AllValid,
+    )?;
+    print_maps_of_bytes(rt, alloc)
 }
 
 fn extension_of(
@@ -117,20 +148,16 @@ fn extension_of(
     Ok(ExtensionArray::try_new(byte_ext(alloc, "day")?, storage.into_ref(alloc)?))
 }
 
+fn print_extension(rt: &impl Print, alloc: Global, name: &str, storage: Array) -> Result<(), Fail> {
+    print_result(rt, name, extension_of(alloc, storage)?)
+}
+
 fn print_extensions(rt: &impl Print, alloc: Global) -> Result<(), Fail> {
-    print_result(
-        rt,
-        "an extension",
-        extension_of(alloc, bytes(alloc, &[[1]])?)?,
-    )?;
+    print_extension(rt, alloc, "an extension", bytes(alloc, &[[1]])?)?;
     let nullable = bytes_with(alloc, &[[1]], Validity::AllValid)?;
-    print_result(
-        rt,
-        "over a nullable storage",
-        extension_of(alloc, nullable)?,
-    )?;
+    print_extension(rt, alloc, "over a nullable storage", nullable)?;
     let lists = views(alloc, bytes(alloc, &[[1]])?, &[[0]], &[[1]])?;
-    print_result(rt, "over lists", extension_of(alloc, lists.into_array())?)
+    print_extension(rt, alloc, "over lists", lists.into_array())
 }
 
 /// Each refusal, in its order.

@@ -168,37 +168,54 @@ fn print_struct_filter(rt: &impl Print, alloc: Global, array: &StructArray) -> R
 /// Steps of structs.
 pub(crate) fn print_structs(rt: &impl Print, alloc: Global) -> Result<(), Fail> {
     let points = points(alloc)?;
-    let column = points.share().into_array();
-    print_reduced_take::<Struct>(rt, alloc, &column, &[[2], [0]], &[true, true])?;
-    print_reduced_take::<Struct>(rt, alloc, &column, &[[0], [9]], &[true, false])?;
-    print_reduced_take::<Struct>(rt, alloc, &column, &[[0], [3]], &[true, true])?;
-    print_reduced_slice::<Struct>(rt, alloc, &column)?;
+    print_struct_steps(rt, alloc, &points.share().into_array())?;
     print_struct_filter(rt, alloc, &points)
+}
+
+fn print_struct_steps(rt: &impl Print, alloc: Global, column: &Array) -> Result<(), Fail> {
+    print_reduced_take::<Struct>(rt, alloc, column, &[[2], [0]], &[true, true])?;
+    print_reduced_take::<Struct>(rt, alloc, column, &[[0], [9]], &[true, false])?;
+    print_reduced_take::<Struct>(rt, alloc, column, &[[0], [3]], &[true, true])?;
+    print_reduced_slice::<Struct>(rt, alloc, column)
+}
+
+fn print_executed_slice(rt: &impl Print, alloc: Global, column: &Array) -> Result<(), Fail> {
+    print!(rt; "executed slice 1..2 of Map:")?;
+    let sliced = executed_slice(alloc, view_of::<Map>(column)?, 1, 2)?;
+    print_answer(rt, alloc, &sliced)
+}
+
+fn print_executed_filter(rt: &impl Print, alloc: Global, column: &Array) -> Result<(), Fail> {
+    print!(rt; "executed filter of Map:")?;
+    let mask = mask_of(alloc, &[false, true])?;
+    let kept = executed_filter(alloc, view_of::<Map>(column)?, &mask)?;
+    print_answer(rt, alloc, &kept)
+}
+
+fn print_map_steps(rt: &impl Print, alloc: Global, column: &Array) -> Result<(), Fail> {
+    print_reduced_take::<Map>(rt, alloc, column, &[[1], [0]], &[true, true])?;
+    print_executed_take::<Map>(rt, alloc, column, &[[1], [9]], &[true, false])?;
+    print_executed_take::<Map>(rt, alloc, column, &[[0], [2]], &[true, true])?;
+    print_reduced_slice::<Map>(rt, alloc, column)?;
+    print_executed_slice(rt, alloc, column)?;
+    print_reduced_filter::<Map>(rt, alloc, column, &[false, true])?;
+    print_executed_filter(rt, alloc, column)
 }
 
 /// Steps of maps, at both times.
 pub(crate) fn print_maps(rt: &impl Print, alloc: Global) -> Result<(), Fail> {
-    let column = maps(alloc)?.into_array();
-    print_reduced_take::<Map>(rt, alloc, &column, &[[1], [0]], &[true, true])?;
-    print_executed_take::<Map>(rt, alloc, &column, &[[1], [9]], &[true, false])?;
-    print_executed_take::<Map>(rt, alloc, &column, &[[0], [2]], &[true, true])?;
-    print_reduced_slice::<Map>(rt, alloc, &column)?;
-    print!(rt; "executed slice 1..2 of Map:")?;
-    let sliced = executed_slice(alloc, view_of::<Map>(&column)?, 1, 2)?;
-    print_answer(rt, alloc, &sliced)?;
-    print_reduced_filter::<Map>(rt, alloc, &column, &[false, true])?;
-    print!(rt; "executed filter of Map:")?;
-    let mask = mask_of(alloc, &[false, true])?;
-    let kept = executed_filter(alloc, view_of::<Map>(&column)?, &mask)?;
-    print_answer(rt, alloc, &kept)
+    print_map_steps(rt, alloc, &maps(alloc)?.into_array())
 }
 
 /// Steps of extensions.
 pub(crate) fn print_extensions(rt: &impl Print, alloc: Global) -> Result<(), Fail> {
-    let column = days(alloc)?.into_array();
-    print_reduced_take::<Extension>(rt, alloc, &column, &[[2], [1]], &[true, true])?;
-    print_executed_take::<Extension>(rt, alloc, &column, &[[2], [9]], &[true, false])?;
-    print_executed_take::<Extension>(rt, alloc, &column, &[[9], [3]], &[false, true])?;
-    print_reduced_slice::<Extension>(rt, alloc, &column)?;
-    print_reduced_filter::<Extension>(rt, alloc, &column, &[true, false, true])
+    print_extension_steps(rt, alloc, &days(alloc)?.into_array())
+}
+
+fn print_extension_steps(rt: &impl Print, alloc: Global, column: &Array) -> Result<(), Fail> {
+    print_reduced_take::<Extension>(rt, alloc, column, &[[2], [1]], &[true, true])?;
+    print_executed_take::<Extension>(rt, alloc, column, &[[2], [9]], &[true, false])?;
+    print_executed_take::<Extension>(rt, alloc, column, &[[9], [3]], &[false, true])?;
+    print_reduced_slice::<Extension>(rt, alloc, column)?;
+    print_reduced_filter::<Extension>(rt, alloc, column, &[true, false, true])
 }

@@ -118,12 +118,15 @@ fn print_filter(rt: &impl Print, alloc: Global, union: &UnionArray) -> Result<()
 }
 
 fn print_steps(rt: &impl Print, alloc: Global, union: &UnionArray) -> Result<(), Fail> {
-    let column = union.share().into_array();
-    print_reduced_take::<Union>(rt, alloc, &column, &[[2], [0]], &[true, true])?;
-    print_reduced_take::<Union>(rt, alloc, &column, &[[1], [9]], &[true, false])?;
-    print_reduced_take::<Union>(rt, alloc, &column, &[[0], [3]], &[true, true])?;
-    print_reduced_slice::<Union>(rt, alloc, &column)?;
+    print_reduced_steps(rt, alloc, &union.share().into_array())?;
     print_filter(rt, alloc, union)
+}
+
+fn print_reduced_steps(rt: &impl Print, alloc: Global, column: &Array) -> Result<(), Fail> {
+    print_reduced_take::<Union>(rt, alloc, column, &[[2], [0]], &[true, true])?;
+    print_reduced_take::<Union>(rt, alloc, column, &[[1], [9]], &[true, false])?;
+    print_reduced_take::<Union>(rt, alloc, column, &[[0], [3]], &[true, true])?;
+    print_reduced_slice::<Union>(rt, alloc, column)
 }
 
 fn print_union(

@@ -24,13 +24,14 @@ fn print_offsets(rt: &impl Print, alloc: Global) -> Result<(), Fail> {
     print_cut(rt, alloc, PType::U8, &[[0], [3], [2]])?;
     print_cut(rt, alloc, PType::U8, &[[0], [4]])?;
     print_cut(rt, alloc, PType::I8, &[[255], [3]])?;
+    print_nullable(rt, alloc)
+}
+
+// The same of offsets of a type that has nulls.
+fn print_nullable(rt: &impl Print, alloc: Global) -> Result<(), Fail> {
     let nullable = numbers(alloc, PType::U8, &[[0]], Validity::AllValid)?;
-    let column = VarBinArray::try_new(
-        TextKind::Utf8,
-        nullable,
-        bytes(alloc, b"")?,
-        Validity::NonNullable,
-    );
+    let text = bytes(alloc, b"")?;
+    let column = VarBinArray::try_new(TextKind::Utf8, nullable, text, Validity::NonNullable);
     println!(rt; "nullable offsets: {:?}", column.err())?;
     Ok(())
 }

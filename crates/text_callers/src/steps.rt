@@ -5,7 +5,7 @@ use callers::mask_of;
 use std::alloc::Global;
 use std::test::Fail;
 use vx_column::vtables::{VarBin, VarBinView};
-use vx_column::{Array, BinaryView, Validity, VarBinViewArray};
+use vx_column::{Array, ArrayView, BinaryView, VTable, Validity, VarBinArray, VarBinViewArray};
 use vx_layouts::{
     FilterKernel, SliceReduce, TakeExecute, VarBinSlice, filter_varbinview, take_varbin,
 };
@@ -25,35 +25,88 @@ fn print_some(
     rt: &impl Print,
     alloc: Global,
     name: &str,
-    answer: Option<Array>,
+    answer: &Option<Array>,
 ) -> Result<(), Fail> {
     match answer {
-        Some(column) => print_rows(rt, alloc, name, &column),
+        Some(column) => print_rows(rt, alloc, name, column),
         None => Err("left to the caller".into()),
     }
 }
 
-/// Prints takes of either layout, and one that is refused.
-pub(crate) fn print_takes(rt: &impl Print, alloc: Global) -> Result<(), Fail> {
-    let texts = ann_and_bo(alloc)?;
-    let taken = take_varbin(alloc, &texts, &indices(alloc, &[[1], [0], [1]])?)?;
+fn view_of<V: VTable>(column: &Array) -> Result<ArrayView<'_, V>, Fail> {
+    match column.as_opt::<V>() {
+        Some(view) => Ok(view),
+        None => Err("a column of another layout".into()),
+    }
+}
+
+fn print_taken(rt: &impl Print, alloc: Global, taken: VarBinArray) -> Result<(), Fail> {
     println!(rt; "take_varbin has offsets of {:?}", taken.offsets().ptype())?;
-    print_rows(rt, alloc, "take_varbin", &taken.into_array())?;
-    match take_varbin(alloc, &texts, &indices(alloc, &[[1], [2]])?) {
+    print_rows(rt, alloc, "take_varbin", &taken.into_array())
+}
+
+fn print_varbin_take(rt: &impl Print, alloc: Global, texts: &VarBinArray) -> Result<(), Fail> {
+    let indices = indices(alloc, &[[1], [0], [1]])?;
+    print_taken(rt, alloc, take_varbin(alloc, texts, &indices)?)
+}
+
+fn print_refused_take(rt: &impl Print, alloc: Global, texts: &VarBinArray) -> Result<(), Fail> {
+    let indices = indices(alloc, &[[1], [2]])?;
+    match take_varbin(alloc, texts, &indices) {
         Ok(_) => println!(rt; "take_varbin: Ok")?,
         Err(error) => println!(rt; "take_varbin: {error:?}")?,
     }
-    let column = texts.into_array();
-    if let Some(view) = column.as_opt::<VarBin>() {
-        let taken = VarBin::take(alloc, view, &indices(alloc, &[[1], [1]])?)?;
-        print_some(rt, alloc, "take of VarBin", taken)?;
-    }
-    let column = three_views(alloc)?.into_array();
-    if let Some(view) = column.as_opt::<VarBinView>() {
-        let taken = VarBinView::take(alloc, view, &indices(alloc, &[[1], [2]])?)?;
-        print_some(rt, alloc, "take of VarBinView", taken)?;
-    }
     Ok(())
+}
+
+fn print_take<V: TakeExecute>(
+    rt: &impl Print,
+    alloc: Global,
+    name: &str,
+    column: &Array,
+    picks: &[[u8; 1]],
+) -> Result<(), Fail> {
+    let view = view_of::<V>(column)?;
+    let indices = indices(alloc, picks)?;
+    let taken = V::take(alloc, view, &indices)?;
+    print_some(rt, alloc, name, &taken)
+}
+
+fn print_text_takes(rt: &impl Print, alloc: Global) -> Result<(), Fail> {
+    let texts = ann_and_bo(alloc)?;
+    print_varbin_take(rt, alloc, &texts)?;
+    print_refused_take(rt, alloc, &texts)?;
+    print_take::<VarBin>(
+        rt,
+        alloc,
+        "take of VarBin",
+        &texts.into_array(),
+        &[[1], [1]],
+    )
+}
+
+/// Prints takes of either layout, and one that is refused.
+pub(crate) fn print_takes(rt: &impl Print, alloc: Global) -> Result<(), Fail> {
+    print_text_takes(rt, alloc)?;
+    let column = three_views(alloc)?.into_array();
+    print_take::<VarBinView>(rt, alloc, "take of VarBinView", &column, &[[1], [2]])
+}
+
+fn filtered<V: FilterKernel>(
+    alloc: Global,
+    view: ArrayView<'_, V>,
+    mask: &Mask,
+) -> Result<Option<Array>, Fail> {
+    if mask.len() != view.array().len() {
+        return Err("another length".into());
+    }
+    Ok(V::filter(alloc, view, mask)?)
+}
+
+fn print_filter(rt: &impl Print, alloc: Global, column: &Array) -> Result<(), Fail> {
+    let mask = mask_of(alloc, &[false, true])?;
+    let kept = filtered(alloc, view_of::<VarBin>(column)?, &mask)?;
+    print_some(rt, alloc, "filter of VarBin", &kept)
 }
 
 // The views at the set positions of a mask, where it is as long.
@@ -65,56 +118,63 @@ fn kept_views(alloc: Global, texts: &VarBinViewArray, mask: &MaskValues) -> Resu
     Ok(filter_varbinview(alloc, texts, mask)?.into_array())
 }
 
-/// Prints filters of either layout.
-pub(crate) fn print_filters(rt: &impl Print, alloc: Global) -> Result<(), Fail> {
-    let column = ann_and_bo(alloc)?.into_array();
-    let mask = mask_of(alloc, &[false, true])?;
-    if mask.len() != column.len() {
-        return Err("another length".into());
-    }
-    if let Some(view) = column.as_opt::<VarBin>() {
-        print_some(
-            rt,
-            alloc,
-            "filter of VarBin",
-            VarBin::filter(alloc, view, &mask)?,
-        )?;
-    }
+fn print_kept_views(rt: &impl Print, alloc: Global, texts: &VarBinViewArray) -> Result<(), Fail> {
     match mask_of(alloc, &[false, true, true])? {
         Mask::Values(mask) => {
-            let kept = kept_views(alloc, &three_views(alloc)?, &mask)?;
+            let kept = kept_views(alloc, texts, &mask)?;
             print_rows(rt, alloc, "filter_varbinview", &kept)
         }
         _ => Err("no such mask".into()),
     }
 }
 
+/// Prints filters of either layout.
+pub(crate) fn print_filters(rt: &impl Print, alloc: Global) -> Result<(), Fail> {
+    print_filter(rt, alloc, &ann_and_bo(alloc)?.into_array())?;
+    print_kept_views(rt, alloc, &three_views(alloc)?)
+}
+
+fn sliced<V: SliceReduce>(
+    alloc: Global,
+    view: ArrayView<'_, V>,
+    start: usize,
+    end: usize,
+) -> Result<Option<Array>, Fail> {
+    if start > end || end > view.array().len() {
+        return Err("a slice past the rows".into());
+    }
+    Ok(V::slice(alloc, view, start, end)?)
+}
+
+fn print_slice<V: SliceReduce>(
+    rt: &impl Print,
+    alloc: Global,
+    name: &str,
+    column: &Array,
+    start: usize,
+    end: usize,
+) -> Result<(), Fail> {
+    let cut = sliced(alloc, view_of::<V>(column)?, start, end)?;
+    print_some(rt, alloc, name, &cut)
+}
+
+fn print_varbin_slice(rt: &impl Print, alloc: Global, column: &Array) -> Result<(), Fail> {
+    let view = view_of::<VarBin>(column)?;
+    if view.array().len() != 2 {
+        return Err("another length".into());
+    }
+    print_rows(rt, alloc, "_slice", &VarBin::_slice(alloc, view, 1, 2)?)
+}
+
+fn print_text_slices(rt: &impl Print, alloc: Global) -> Result<(), Fail> {
+    let column = ann_and_bo(alloc)?.into_array();
+    print_varbin_slice(rt, alloc, &column)?;
+    print_slice::<VarBin>(rt, alloc, "slice of VarBin", &column, 0, 1)
+}
+
 /// Prints slices of either layout.
 pub(crate) fn print_slices(rt: &impl Print, alloc: Global) -> Result<(), Fail> {
-    let column = ann_and_bo(alloc)?.into_array();
-    if column.len() != 2 {
-        return Err("another length".into());
-    }
-    if let Some(view) = column.as_opt::<VarBin>() {
-        print_rows(rt, alloc, "_slice", &VarBin::_slice(alloc, view, 1, 2)?)?;
-        print_some(
-            rt,
-            alloc,
-            "slice of VarBin",
-            VarBin::slice(alloc, view, 0, 1)?,
-        )?;
-    }
+    print_text_slices(rt, alloc)?;
     let column = three_views(alloc)?.into_array();
-    if column.len() != 3 {
-        return Err("another length".into());
-    }
-    if let Some(view) = column.as_opt::<VarBinView>() {
-        print_some(
-            rt,
-            alloc,
-            "slice of VarBinView",
-            VarBinView::slice(alloc, view, 1, 3)?,
-        )?;
-    }
-    Ok(())
+    print_slice::<VarBinView>(rt, alloc, "slice of VarBinView", &column, 1, 3)
 }

@@ -1,6 +1,7 @@
--- What a layout answers to one step over a column of its own: the rows of the step, or none where it
--- leaves the step to its caller.
-use Rattle.std.specs.Prelude.{◌≡◌, ℕ, ◌==◌, ◌||◌, Bool, List, length, Option, is_none, Result, IfOk, IfSome}
+-- What a layout answers to one step over a column of its own: the rows of the step, or none where
+-- it leaves the step to its caller.
+use Rattle.std.specs.Prelude.{◌≡◌, ℕ, ◌==◌, ◌||◌, Bool, List, length, Option, is_none, Result, IfOk}
+use Rattle.std.specs.Prelude.{IfSome}
 use Rattle.std.specs.List.{items_where_true}
 use Rattle.vx_bits.specs.BitBuffer.{true_count_of}
 use Rattle.vx_bits.specs.Results.{FailsBy}

@@ -7,7 +7,8 @@ use Rattle.vx_pieces.specs.Indices.{IndexValue, index_fault, index_nullability, 
 use Rattle.vx_pieces.specs.declared.fault.IndexFault.{IndexFault}
 use Rattle.vx_pieces.specs.declared.fault.IndexFault.TheVariants as faults
 use Rattle.vx_layouts.specs.declared.taking.TakeError.{TakeError}
-use Rattle.vx_layouts.specs.declared.taking.TakeError.TheVariants.{InvalidIndices, BadPieces, OutOfBounds}
+use Rattle.vx_layouts.specs.declared.taking.TakeError.TheVariants.{InvalidIndices, BadPieces}
+use Rattle.vx_layouts.specs.declared.taking.TakeError.TheVariants.{OutOfBounds}
 
 -- the error of a fault, in a take from so many rows
 abbrev pub error_of : ℕ → IndexFault → TakeError

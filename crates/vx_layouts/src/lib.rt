@@ -5,6 +5,7 @@
 //! layout.
 #![tactic(auto)]
 
+mod adaptors;
 mod boolean;
 mod decimal;
 mod dict;
@@ -23,6 +24,7 @@ mod union_;
 mod varbin;
 mod varbinview;
 
+pub use adaptors::{TakeExecuteAdaptor, TakeReduceAdaptor};
 pub use fixed_size_list::filter_fixed_size_list;
 pub use listview::filter_listview;
 pub use struct_::filter_struct;

@@ -2,7 +2,8 @@
 use Rattle.std.specs.Prelude.{ℕ, List, ◌++◌, codes, decimal}
 use Rattle.std.specs.Fmt.{signed_decimal}
 use Rattle.vx_steps.specs.declared.cause.Cause.{Cause}
-use Rattle.vx_steps.specs.declared.cause.Cause.TheVariants.{BadRange, BadMask, NotBool, InvalidIndices, BadPieces, OutOfBounds}
+use Rattle.vx_steps.specs.declared.cause.Cause.TheVariants.{BadRange, BadMask, NotBool}
+use Rattle.vx_steps.specs.declared.cause.Cause.TheVariants.{InvalidIndices, BadPieces, OutOfBounds}
 
 abbrev pub cause_text : Cause → List ℕ
 cause_text (BadRange start end len) =

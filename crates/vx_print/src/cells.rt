@@ -1,6 +1,7 @@
 //! Rows of flat types, read as cells and written by blocks: each block from its last row back to
 //! its first.
-ghost use Rattle.std.specs.Prelude.{◌≡◌, ◌+◌, ◌≤◌, ◌++◌, codes, decimal, length, drop, map, IsOk, slice_range, true};
+ghost use Rattle.std.specs.Prelude.{◌≡◌, ◌+◌, ◌≤◌, ◌++◌, codes, decimal, length, drop, map, IsOk};
+ghost use Rattle.std.specs.Prelude.{slice_range, true};
 ghost use Rattle.vx_types.specs.DType.{type_of};
 ghost use Rattle.vx_types.specs.PType.{width};
 ghost use Rattle.vx_types.specs.TypeTree.{is_flat};

@@ -1,6 +1,7 @@
 //! Rows of types that hold other types, and of extensions. They have no bound on their length, so
 //! they are written from the first to the last.
-ghost use Rattle.std.specs.Prelude.{◌≡◌, ◌<◌, ◌≤◌, ◌++◌, codes, decimal, true, length, map, slice_index_or, slice_range, IsOk};
+ghost use Rattle.std.specs.Prelude.{◌≡◌, ◌<◌, ◌≤◌, ◌++◌, codes, decimal, true, length, map};
+ghost use Rattle.std.specs.Prelude.{slice_index_or, slice_range, IsOk};
 ghost use Rattle.vx_types.specs.DType.{type_of};
 ghost use Rattle.vx_types.specs.Fields.{names_of};
 ghost use Rattle.vx_types.specs.RowValue.{null};

@@ -1,11 +1,13 @@
 //! Lines of records, written by blocks: each block from its last row back to its first.
-ghost use Rattle.std.specs.Prelude.{◌≡◌, ◌+◌, ◌/◌, ◌<◌, ◌≤◌, ◌++◌, false, length, drop, IsOk, IfSome, Some, slice_index_or, if◌then◌else◌};
+ghost use Rattle.std.specs.Prelude.{◌≡◌, ◌+◌, ◌/◌, ◌<◌, ◌≤◌, ◌++◌, false, length, drop, IsOk};
+ghost use Rattle.std.specs.Prelude.{IfSome, Some, slice_index_or, if◌then◌else◌};
 ghost use Rattle.vx_bits.specs.Words.{word_bits};
 ghost use Rattle.vx_bits.specs.Records.{records_of, width_of};
 ghost use Rattle.vx_types.specs.PType.{width};
 ghost use Rattle.vx_types.specs.RowValue.{null, bytes};
 ghost use Rattle.vx_print.specs.Text.{lines, hex_text, primitive_text, row_text_by};
-ghost use Rattle.vx_print.specs.Records.{record_text, record_rows, block_word, bits_in, signed_of, unsigned_of, IsWide, IsLong};
+ghost use Rattle.vx_print.specs.Records.{record_text, record_rows, block_word, bits_in, signed_of};
+ghost use Rattle.vx_print.specs.Records.{unsigned_of, IsWide, IsLong};
 
 use crate::row::{BLOCK, ROOM, ROW, put_hex, put_number, put_word};
 use vx_bits::{BitBuffer, Buffer, NoMemory, Records, match_each_record_width};

@@ -1,10 +1,12 @@
 //! Lines of rows of text, which have no bound on their length: written from the first to the last.
-ghost use Rattle.std.specs.Prelude.{◌≡◌, ◌+◌, ◌++◌, ◌<◌, ◌≤◌, length, flat_map, map, slice_range, true, false, vec_len, vec_capacity, IsOk};
+ghost use Rattle.std.specs.Prelude.{◌≡◌, ◌+◌, ◌++◌, ◌<◌, ◌≤◌, length, flat_map, map, slice_range};
+ghost use Rattle.std.specs.Prelude.{true, false, vec_len, vec_capacity, IsOk};
 ghost use Rattle.std.specs.List.{list_all};
 ghost use Rattle.vx_types.specs.DType.{type_of};
 ghost use Rattle.vx_types.specs.Scalar.{is_text_kind};
 ghost use Rattle.vx_column.specs.Cell.{row_of, IsOfType};
-ghost use Rattle.vx_print.specs.Text.{bytes_text, hex_text, is_plain, joined, lines, quoted_byte, quoted_text, row_text};
+ghost use Rattle.vx_print.specs.Text.{bytes_text, hex_text, is_plain, joined, lines, quoted_byte};
+ghost use Rattle.vx_print.specs.Text.{quoted_text, row_text};
 
 use crate::joined::push_next;
 use hex::encode_to_slice;

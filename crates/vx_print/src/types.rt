@@ -3,7 +3,9 @@ ghost use Rattle.std.specs.Prelude.{◌≡◌, ◌++◌, ◌∷◌, [], codes, d
 ghost use Rattle.vx_types.specs.DType.{type_of};
 ghost use Rattle.vx_types.specs.Fields.{names_of};
 ghost use Rattle.vx_types.specs.TypeTree.{types_of};
-ghost use Rattle.vx_print.specs.Text.{ptype_text, decimal_text, mark, mark_of, kind_text, type_text, type_texts, joined, labelled, name_label, id_label, quoted_text};
+ghost use Rattle.vx_print.specs.Text.{ptype_text, decimal_text, mark, mark_of, kind_text};
+ghost use Rattle.vx_print.specs.Text.{type_text, type_texts, joined, labelled, name_label};
+ghost use Rattle.vx_print.specs.Text.{id_label, quoted_text};
 
 use crate::joined::push_gap;
 use crate::text::push_number;

@@ -1,5 +1,7 @@
 -- What the words ask for.
-use Rattle.std.specs.Prelude.{◌≡◌, ◌≢◌, ◌<◌, ◌≤◌, ◌⊎◌, ℕ, ◌^◌, ◌&&◌, nat_le, nat_lt, length, List, [], ◌∷◌, Option, Some, None, option_map, codes, bytes_eq, if◌then◌else◌}
+use Rattle.std.specs.Prelude.{◌≡◌, ◌≢◌, ◌<◌, ◌≤◌, ◌⊎◌, ℕ, ◌^◌, ◌&&◌, nat_le, nat_lt, length, List}
+use Rattle.std.specs.Prelude.{[], ◌∷◌, Option, Some, None, option_map, codes, bytes_eq}
+use Rattle.std.specs.Prelude.{if◌then◌else◌}
 use Rattle.std.specs.Str.{all_ascii_digits}
 use Rattle.std.specs.Str.Parse.{digits_value}
 use Rattle.vx_rows.specs.declared.command.Command.{Command}

@@ -1,5 +1,6 @@
 -- What a JSON value means as a document of a file.
-use Rattle.std.specs.Prelude.{ℕ, ◌/◌, List, [], ◌∷◌, length, nat_le, if◌then◌else◌, Option, Some, None, codes}
+use Rattle.std.specs.Prelude.{ℕ, ◌/◌, List, [], ◌∷◌, length, nat_le, if◌then◌else◌, Option, Some}
+use Rattle.std.specs.Prelude.{None, codes}
 use Rattle.std.specs.Result.{result_ok}
 use Rattle.serde_json.specs.Data.{Data}
 use Rattle.serde_json.specs.Find.{get, as_array, as_str}

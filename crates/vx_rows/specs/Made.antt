@@ -1,5 +1,7 @@
 -- The command `made`: the rows and the steps that a number makes, and the line of their answer.
-use Rattle.std.specs.Prelude.{ℕ, zero, suc, ◌+◌, ◌-◌, ◌*◌, ◌/◌, ◌%◌, ◌^◌, ◌==◌, List, [], ◌∷◌, ◌++◌, length, map, take, drop, sum, count_by, Bool, true, not, slice_range, slice_set, codes, decimal}
+use Rattle.std.specs.Prelude.{ℕ, zero, suc, ◌+◌, ◌-◌, ◌*◌, ◌/◌, ◌%◌, ◌^◌, ◌==◌, List, [], ◌∷◌, ◌++◌}
+use Rattle.std.specs.Prelude.{length, map, take, drop, sum, count_by, Bool, true, not, slice_range}
+use Rattle.std.specs.Prelude.{slice_set, codes, decimal}
 use Rattle.std.specs.Int.{w32, w64, to_le_bytes, from_le_bytes}
 use Rattle.vx_types.specs.TypeTree.{primitive_kind, primitive_type}
 use Rattle.vx_types.specs.RowValue.{RowValue, bytes, is_null}

@@ -1,8 +1,10 @@
 -- Pages: a column of structs as a table of its fields, and one page of the rows that steps leave.
-use Rattle.std.specs.Prelude.{ℕ, List, length, true, false, Bool, ◌&&◌, not, if◌then◌else◌, Option, None, Some}
+use Rattle.std.specs.Prelude.{ℕ, List, length, true, false, Bool, ◌&&◌, not, if◌then◌else◌, Option}
+use Rattle.std.specs.Prelude.{None, Some}
 use Rattle.vx_types.specs.Nullability.{is_nullable}
 use Rattle.vx_types.specs.RowValue.{RowValues, null, fields, none, more}
-use Rattle.vx_types.specs.TypeTree.{TypeKind, TypeTree, TypeTrees, no_types, more_types, struct_kind}
+use Rattle.vx_types.specs.TypeTree.{TypeKind, TypeTree, TypeTrees, no_types, more_types}
+use Rattle.vx_types.specs.TypeTree.{struct_kind}
 use Rattle.vx_types.specs.declared.layout_name.LayoutName.{LayoutName}
 use Rattle.vx_types.specs.declared.layout_name.LayoutName.TheVariants.{Struct}
 use Rattle.vx_types.specs.declared.nullability.Nullability.TheVariants.{NonNullable}

@@ -1,5 +1,6 @@
 -- What the program makes of the bytes that it reads.
-use Rattle.std.specs.Prelude.{◌≡◌, ℕ, Bool, List, [], ◌∷◌, ◌++◌, drop, length, unwrap_or, nat_lt, if◌then◌else◌, Option, Some, None, option_map, IfSome}
+use Rattle.std.specs.Prelude.{◌≡◌, ℕ, Bool, List, [], ◌∷◌, ◌++◌, drop, length, unwrap_or, nat_lt}
+use Rattle.std.specs.Prelude.{if◌then◌else◌, Option, Some, None, option_map, IfSome}
 use Rattle.std.specs.Str.{is_utf8}
 use Rattle.serde_json.specs.Data.{Data}
 use Rattle.serde_json.specs.Read.{read}

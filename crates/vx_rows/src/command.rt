@@ -1,7 +1,8 @@
 //! What the words ask for.
 ghost use Rattle.std.specs.Prelude.{◌≡◌, map, string_bytes};
 ghost use Rattle.std.specs.Str.{all_ascii_digits};
-ghost use Rattle.vx_rows.specs.Commands.{command_named, command_of, command_with, command_with_two, number_named, page_named};
+ghost use Rattle.vx_rows.specs.Commands.{command_named, command_of, command_with, command_with_two};
+ghost use Rattle.vx_rows.specs.Commands.{number_named, page_named};
 
 /// What form of document a command reads.
 #[derive(Clone, Copy, Debug, PartialEq, Eq)]

@@ -16,8 +16,8 @@ use vx_file::{FileError, FileShape, open_file, select_file};
 use vx_mask::Policy;
 use vx_select::Step;
 
-// What comes of steps over a file of this shape, whose header was read. Memory isn't wanting where a
-// step is broken.
+// What comes of steps over a file of this shape, whose header was read. Memory isn't wanting where
+// a step is broken.
 fn reply_over(
     alloc: Global,
     mut blocks: FileBlocks,

@@ -1,9 +1,11 @@
 //! The rows and the steps that a number makes, and the line of their answer.
-ghost use Rattle.std.specs.Prelude.{◌≡◌, ◌⊎◌, ◌<◌, ◌≤◌, ◌+◌, ◌-◌, ◌/◌, ◌%◌, ◌==◌, IfOk, count_by, length, map, not, sum};
+ghost use Rattle.std.specs.Prelude.{◌≡◌, ◌⊎◌, ◌<◌, ◌≤◌, ◌+◌, ◌-◌, ◌/◌, ◌%◌, ◌==◌, IfOk, count_by};
+ghost use Rattle.std.specs.Prelude.{length, map, not, sum};
 ghost use Rattle.std.specs.Int.{to_le_bytes, w32, w64};
 ghost use Rattle.vx_types.specs.RowValue.{is_null};
 ghost use Rattle.vx_types.specs.TypeTree.{primitive_type};
-ghost use Rattle.vx_types.specs.declared.nullability.Nullability.TheVariants.{NonNullable, Nullable};
+ghost use Rattle.vx_types.specs.declared.nullability.Nullability.TheVariants.{NonNullable};
+ghost use Rattle.vx_types.specs.declared.nullability.Nullability.TheVariants.{Nullable};
 ghost use Rattle.vx_types.specs.declared.ptype.PType.TheVariants.{U32};
 ghost use Rattle.vx_model.specs.Bool.{bits_column};
 ghost use Rattle.vx_model.specs.Records.{records_column};
@@ -11,7 +13,9 @@ ghost use Rattle.vx_pieces.specs.Indices.{by_column, index_value};
 ghost use Rattle.vx_steps.specs.Step.{step_value};
 ghost use Rattle.vx_column.specs.Cell.{IsOfType, row_of};
 ghost use Rattle.vx_steps.specs.Answer.{answer_rows};
-ghost use Rattle.vx_rows.specs.Made.{next_state, draws, drawn_rows, drawn_bits, drawn_indices, drawn_answer, drawn_steps, made_answer, made_text, number_or_zero};
+ghost use Rattle.vx_rows.specs.Made.{next_state, draws, drawn_rows, drawn_bits, drawn_indices};
+ghost use Rattle.vx_rows.specs.Made.{drawn_answer, drawn_steps, made_answer, made_text};
+ghost use Rattle.vx_rows.specs.Made.{number_or_zero};
 ghost use Rattle.vx_rows.specs.Program.{Done, made};
 ghost use Rattle.vx_rows.specs.declared.asked.Asked.TheVariants.{Nothing};
 ghost use Rattle.vx_rows.specs.Reply.{Replies, status_of_reply};

@@ -135,8 +135,8 @@ fn whole_page(
     }
 }
 
-// How many fields the rows of a page in front of its last one may have: a field takes seven bytes at
-// least, with its quotes, colon and comma, and `vx_print` begins no row behind 2 GiB of text.
+// How many fields the rows of a page in front of its last one may have: a field takes seven bytes
+// at least, with its quotes, colon and comma, and `vx_print` begins no row behind 2 GiB of text.
 const MOST_FIELDS: usize = (1 << 31) / 7;
 
 // Whether a page of so many of the rows may be printed, as far as it is told before it is made.

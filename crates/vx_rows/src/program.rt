@@ -1,8 +1,11 @@
 //! All that the program does, over any source and sink.
-ghost use Rattle.std.specs.Prelude.{◌≡◌, ◌≢◌, ◌↔◌, ◌⊎◌, ◌≤◌, ◌+◌, ℕ, [], take, map, string_bytes, IfSome, Some, None};
+ghost use Rattle.std.specs.Prelude.{◌≡◌, ◌≢◌, ◌↔◌, ◌⊎◌, ◌≤◌, ◌+◌, ℕ, [], take, map, string_bytes};
+ghost use Rattle.std.specs.Prelude.{IfSome, Some, None};
 ghost use Rattle.vx_outside.specs.Bytes.{Rose, Loses, with_back};
-ghost use Rattle.vx_rows.specs.Program.{TooLong, Malformed, made, program, IsDone, IsBroken, IsPrinted, status_of, IfTold, HasRead, traced_by};
-ghost use Rattle.vx_rows.specs.Commands.{command_of, HasRows, IfCommand, LeavesTrace, MayEnd, UnlessRead};
+ghost use Rattle.vx_rows.specs.Program.{TooLong, Malformed, made, program, IsDone, IsBroken};
+ghost use Rattle.vx_rows.specs.Program.{IsPrinted, status_of, IfTold, HasRead, traced_by};
+ghost use Rattle.vx_rows.specs.Commands.{command_of, HasRows, IfCommand, LeavesTrace, MayEnd};
+ghost use Rattle.vx_rows.specs.Commands.{UnlessRead};
 ghost use Rattle.vx_rows.specs.declared.command.Command.TheVariants.{Read};
 
 use crate::command::{Command, Form, command_of};

@@ -4,7 +4,8 @@ ghost use Rattle.serde_json.specs.View.{view};
 ghost use Rattle.vx_json.specs.Meaning.{Gives};
 ghost use Rattle.vx_document.specs.Documents.{IsWhole, document_value};
 ghost use Rattle.vx_rows.specs.Commands.{HasRows};
-ghost use Rattle.vx_rows.specs.Program.{Done, value_of, outcome_of, answer_to, of_document, of_form, text_with};
+ghost use Rattle.vx_rows.specs.Program.{Done, value_of, outcome_of, answer_to, of_document};
+ghost use Rattle.vx_rows.specs.Program.{of_form, text_with};
 ghost use Rattle.vx_rows.specs.Reply.{Replies, IsHonest};
 ghost use Rattle.vx_rows.specs.declared.command.Form.TheVariants as forms;
 
