@@ -2,19 +2,19 @@
 use Rattle.std.proofs.Common.{◌≡◌, ℕ, ◌≤◌, Bool, true, false, ◌&&◌, ◌||◌, List, [], ◌∷◌, length, take, None, refl, sym, ap, ◌∙◌, arith}
 use Rattle.std.specs.Prelude.{slice_range}
 use Rattle.std.proofs.lemmas.Bool.Decides.{nat_tests}
-use Rattle.vx_types.specs.TypeTree.{TypeTree}
-use Rattle.vx_types.specs.RowValue.{RowValue}
-use Rattle.vx_model.specs.Column.{Column}
-use Rattle.vx_model.specs.Plain.{is_null_layout, is_plain}
-use Rattle.vx_steps.specs.Step.{slice_step}
-use Rattle.vx_steps.specs.Walk.{all_positions, broken, unless_broken, walk_picks}
-use Rattle.vx_steps.specs.Answer.{Answer, answer, answer_fault, answer_rows}
-use Rattle.vx_steps.specs.Cause.{MatchError}
-use Rattle.vx_steps.specs.declared.cause.SelectError.{SelectError}
-use Rattle.vx_steps.specs.declared.cause.SelectError.TheVariants.{Broken, NoMemory}
-use Rattle.vx_select.specs.Select.{IsRows, needs_no_memory}
-use Rattle.vx_steps.proofs.Walks.{length-all_positions}
-use Rattle.vx_select.proofs.Selecting.{answered, at-all_positions, at-apply}
+use Rattle.vortex_select.specs.TypeTree.{TypeTree}
+use Rattle.vortex_select.specs.RowValue.{RowValue}
+use Rattle.vortex_select.specs.Column.{Column}
+use Rattle.vortex_select.specs.Plain.{is_null_layout, is_plain}
+use Rattle.vortex_select.specs.Step.{slice_step}
+use Rattle.vortex_select.specs.Walk.{all_positions, broken, unless_broken, walk_picks}
+use Rattle.vortex_select.specs.Answer.{Answer, answer, answer_fault, answer_rows}
+use Rattle.vortex_select.specs.Cause.{MatchError}
+use Rattle.vortex_select.specs.SelectErrors.{SelectError}
+use Rattle.vortex_select.specs.SelectErrors.TheVariants.{Broken, NoMemory}
+use Rattle.vortex_select.specs.Select.{IsRows, needs_no_memory}
+use Rattle.vortex_select.proofs.Walks.{length-all_positions}
+use Rattle.vortex_select.proofs.Selecting.{answered, at-all_positions, at-apply}
 
 -- the slice breaks no rule
 sound : (len n : ℕ) → n ≤ len → broken (slice_step 0 n) (length (all_positions len)) ≡ None

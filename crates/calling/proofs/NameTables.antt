@@ -6,21 +6,21 @@ use Rattle.std.specs.List.{items_where_true}
 use Rattle.std.specs.Option.{option_map}
 use Rattle.std.proofs.lemmas.Bool.Decides.{nat_tests}
 use Rattle.std.proofs.lemmas.List.{map_more}
-use Rattle.vx_types.specs.declared.ptype.PType.TheVariants.{I32}
-use Rattle.vx_numbers.specs.Positions.{positions_of}
-use Rattle.vx_text.specs.Building.{AreTexts}
-use Rattle.vx_text.specs.OffsetList.{OffsetList, with_offset}
-use Rattle.vx_text.proofs.BuiltTexts.{one_text}
-use Rattle.vx_model.specs.Column.{Column}
-use Rattle.vx_steps.specs.Step.{filter_step}
-use Rattle.vx_steps.specs.Walk.{all_positions, broken, unless_broken, walk_picks}
-use Rattle.vx_steps.specs.Answer.{answer, answer_fault, answer_rows}
-use Rattle.vx_steps.specs.declared.cause.Cause.{Cause}
-use Rattle.vx_steps.specs.declared.cause.SelectError.{SelectError}
-use Rattle.vx_steps.specs.declared.cause.SelectError.TheVariants.{Broken}
-use Rattle.vx_select.specs.Select.{IsAnswer, IsSelection}
-use Rattle.vx_steps.proofs.Walks.{length-all_positions}
-use Rattle.vx_select.proofs.Selecting.{answered, at-all_positions, at-apply}
+use Rattle.vortex_select.specs.PTypes.TheVariants.{I32}
+use Rattle.vortex_select.specs.Positions.{positions_of}
+use Rattle.vortex_select.specs.Building.{AreTexts}
+use Rattle.vortex_select.specs.OffsetList.{OffsetList, with_offset}
+use Rattle.vortex_select.proofs.BuiltTexts.{one_text}
+use Rattle.vortex_select.specs.Column.{Column}
+use Rattle.vortex_select.specs.Step.{filter_step}
+use Rattle.vortex_select.specs.Walk.{all_positions, broken, unless_broken, walk_picks}
+use Rattle.vortex_select.specs.Answer.{answer, answer_fault, answer_rows}
+use Rattle.vortex_select.specs.Causes.{Cause}
+use Rattle.vortex_select.specs.SelectErrors.{SelectError}
+use Rattle.vortex_select.specs.SelectErrors.TheVariants.{Broken}
+use Rattle.vortex_select.specs.Select.{IsAnswer, IsSelection}
+use Rattle.vortex_select.proofs.Walks.{length-all_positions}
+use Rattle.vortex_select.proofs.Selecting.{answered, at-all_positions, at-apply}
 
 -- codes are the positions that they are
 pub codes_back : (codes : List (Option ℕ)) → positions_of (map (option_map pos) codes) ≡ codes

@@ -5,13 +5,13 @@ use Rattle.std.specs.Option.{option_map}
 use Rattle.std.specs.Int.{to_le_bytes, w32, w64}
 use Rattle.std.proofs.lemmas.List.{map_more, map_push}
 use Rattle.std.proofs.lemmas.Nat.{from_le_bytes-to_le_bytes_4, from_le_bytes-to_le_bytes_8}
-use Rattle.vx_bits.specs.Results.{ok_unless}
-use Rattle.vx_types.specs.PType.{number}
-use Rattle.vx_types.specs.RowValue.{bit, bytes}
-use Rattle.vx_types.specs.TypeTree.{primitive_kind}
-use Rattle.vx_types.specs.declared.ptype.PType.TheVariants.{U32, U64}
-use Rattle.vx_model.specs.Valid.{is_yes, shown_rows}
-use Rattle.vx_model.specs.Numbers.{number_in}
+use Rattle.vortex_select.specs.Results.{ok_unless}
+use Rattle.vortex_select.specs.PType.{number}
+use Rattle.vortex_select.specs.RowValue.{bit, bytes}
+use Rattle.vortex_select.specs.TypeTree.{primitive_kind}
+use Rattle.vortex_select.specs.PTypes.TheVariants.{U32, U64}
+use Rattle.vortex_select.specs.Valid.{is_yes, shown_rows}
+use Rattle.vortex_select.specs.Numbers.{number_in}
 
 -- what a constructor makes is its parts
 pub made : {T E : Type 0} (fault : Option E) (parts x : T) → Ok x ≡ ok_unless fault parts → x ≡ parts

@@ -1,8 +1,8 @@
 -- The row of the source that stands at a row of the answer.
 use Rattle.std.specs.Prelude.{◌≡◌, ℕ, List, Option, None, slice_index_or}
-use Rattle.vx_types.specs.RowValue.{RowValue, null}
-use Rattle.vx_take.specs.Picks.{item_at}
-use Rattle.vx_steps.specs.Walk.{Walk, walk_fault, walk_picks}
+use Rattle.vortex_select.specs.RowValue.{RowValue, null}
+use Rattle.vortex_select.specs.Picks.{item_at}
+use Rattle.vortex_select.specs.Walk.{Walk, walk_fault, walk_picks}
 
 -- the row at pick i: the source's row there, or null where the pick is null or there are no more
 abbrev pub row_at_pick : List RowValue → List (Option ℕ) → ℕ → RowValue

@@ -1,11 +1,11 @@
 //! Rows of values behind a decoder, and what it is asked for them.
 ghost use Rattle.std.specs.Prelude.{◌≡◌, ◌+◌, ◌*◌, ◌≤◌, IfOk, Some, map};
-ghost use Rattle.vx_types.specs.TypeTree.{type_width};
-ghost use Rattle.vx_mask.specs.Policy.{sparse_limit_of};
-ghost use Rattle.vx_chunked.specs.Asked.{touched};
-ghost use Rattle.vx_steps.specs.Step.{step_value};
-ghost use Rattle.vx_steps.specs.Walk.{walk};
-ghost use Rattle.vx_select.specs.Chunks.{asked_by_walk};
+ghost use Rattle.vortex_select.specs.TypeTree.{type_width};
+ghost use Rattle.vortex_select.specs.Policy.{sparse_limit_of};
+ghost use Rattle.vortex_select.specs.Asked.{touched};
+ghost use Rattle.vortex_select.specs.Step.{step_value};
+ghost use Rattle.vortex_select.specs.Walk.{walk};
+ghost use Rattle.vortex_select.specs.Chunks.{asked_by_walk};
 
 use crate::policies::with_sparse_limit;
 use crate::printing::{print_calls, print_fault, print_numbers};
@@ -13,10 +13,10 @@ use crate::squares::Squares;
 use crate::steps::{slice, take};
 use std::alloc::Global;
 use std::test::Fail;
-use vx_chunked::{Call, CallLog, Logged};
-use vx_column::{Array, ColumnError, DType, Nullability, PType, Validity};
-use vx_mask::Policy;
-use vx_select::{ChunkShape, SelectError, Step, select_chunked};
+use vortex_select::{
+    Array, Call, CallLog, ChunkShape, ColumnError, DType, Logged, Nullability, PType, Policy,
+    SelectError, Step, Validity, select_chunked,
+};
 
 /// The squares at the picks, out of three chunks, and the calls that they asked for: `told` says
 /// which these are.

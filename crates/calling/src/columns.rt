@@ -1,23 +1,23 @@
 //! Columns that are built from lists.
-ghost use Rattle.std.specs.Prelude.{◌≡◌, IfOk, Some, is_some, map, option_map, pos, true, unwrap_or};
+ghost use Rattle.std.specs.Prelude.{◌≡◌, IfOk, Some, is_some, map, option_map, pos, true};
+ghost use Rattle.std.specs.Prelude.{unwrap_or};
 ghost use Rattle.std.specs.List.{items_where_true};
-ghost use Rattle.vx_bits.specs.Records.{records_of, width_of};
-ghost use Rattle.vx_model.specs.Numbers.{numbers_of};
-ghost use Rattle.vx_model.specs.Plain.{is_plain};
-ghost use Rattle.vx_mask.specs.Mask.{mask_bits};
-ghost use Rattle.vx_numbers.specs.Positions.{positions_of};
-ghost use Rattle.vx_take.specs.Picks.{at};
-ghost use Rattle.vx_types.specs.PType.{number};
-ghost use Rattle.vx_types.specs.RowValue.{null};
-ghost use Rattle.vx_types.specs.declared.ptype.PType.TheVariants.{U32, U64};
+ghost use Rattle.vortex_select.specs.Records.{records_of, width_of};
+ghost use Rattle.vortex_select.specs.Numbers.{numbers_of};
+ghost use Rattle.vortex_select.specs.Plain.{is_plain};
+ghost use Rattle.vortex_select.specs.Mask.{mask_bits};
+ghost use Rattle.vortex_select.specs.Positions.{positions_of};
+ghost use Rattle.vortex_select.specs.Picks.{at};
+ghost use Rattle.vortex_select.specs.PType.{number};
+ghost use Rattle.vortex_select.specs.RowValue.{null};
+ghost use Rattle.vortex_select.specs.PTypes.TheVariants.{U32, U64};
 
 use crate::error::BuildError;
 use std::alloc::Global;
-use vx_bits::{BitBuffer, BitBuilder, Buffer, NoMemory, Records};
-use vx_column::{
-    Array, ArrayRef, BoolArray, DictArray, FilterArray, PType, PrimitiveArray, Validity,
+use vortex_select::{
+    Array, ArrayRef, BitBuffer, BitBuilder, BoolArray, Buffer, DictArray, FilterArray, Mask,
+    NoMemory, PType, PrimitiveArray, Records, Validity,
 };
-use vx_mask::Mask;
 
 // A record for each number: of 0 for each that isn't there.
 fn u32_records(alloc: Global, numbers: &[Option<u32>]) -> Result<Records, NoMemory>

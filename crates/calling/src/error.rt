@@ -1,7 +1,6 @@
 //! Why a column or a step isn't built.
 
-use vx_bits::NoMemory;
-use vx_column::ColumnError;
+use vortex_select::{ColumnError, NoMemory};
 
 /// Why a column or a step isn't built.
 #[derive(Debug, Clone, Copy, PartialEq, Eq)]

@@ -1,22 +1,21 @@
 //! A table of names: a dictionary of texts, and the rows of it that a mask keeps.
 ghost use Rattle.std.specs.Prelude.{◌≡◌, ◌++◌, ◌<◌, ◌^◌, IfOk, OnOk, length, map};
 ghost use Rattle.std.specs.List.{items_where_true};
-ghost use Rattle.vx_types.specs.RowValue.{bytes, null};
-ghost use Rattle.vx_types.specs.declared.ptype.PType.TheVariants.{I32};
-ghost use Rattle.vx_take.specs.Picks.{at};
-ghost use Rattle.vx_text.specs.Building.{AreTexts};
-ghost use Rattle.vx_text.specs.OffsetList.{with_offset};
+ghost use Rattle.vortex_select.specs.RowValue.{bytes, null};
+ghost use Rattle.vortex_select.specs.PTypes.TheVariants.{I32};
+ghost use Rattle.vortex_select.specs.Picks.{at};
+ghost use Rattle.vortex_select.specs.Building.{AreTexts};
+ghost use Rattle.vortex_select.specs.OffsetList.{with_offset};
 
 use crate::columns::{dictionary, mask_of, u32_column};
 use crate::error::BuildError;
 use crate::printing::print_text;
 use std::alloc::Global;
 use std::test::Fail;
-use vx_bits::{Buffer, NoMemory};
-use vx_column::{Array, PType, TextKind, Validity, VarBinArray};
-use vx_mask::Policy;
-use vx_select::{SelectError, Step, select};
-use vx_text::Offsets;
+use vortex_select::{
+    Array, Buffer, NoMemory, Offsets, PType, Policy, SelectError, Step, TextKind, Validity,
+    VarBinArray, select,
+};
 
 // Texts one after another, and the offsets that cut them.
 #[derive(Drop)]

@@ -7,13 +7,10 @@ use crate::steps::{filter, take};
 use std::alloc::Global;
 use std::rc::RcStr;
 use std::test::Fail;
-use vx_bits::NoMemory;
-use vx_column::{
-    Array, ArrayRef, Columns, DType, Layout, ListArray, PType, PrimitiveArray, StructArray,
-    StructFields, Validity,
+use vortex_select::{
+    Array, ArrayRef, Columns, DType, Layout, ListArray, NoMemory, PType, Policy, PrimitiveArray,
+    StructArray, StructFields, Validity, select,
 };
-use vx_mask::Policy;
-use vx_select::select;
 
 // The names of fields.
 fn names_of(alloc: Global, names: &[&str]) -> Result<Vec<RcStr>, NoMemory> {

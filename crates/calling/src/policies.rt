@@ -1,8 +1,8 @@
 //! A policy of the caller's own.
 ghost use Rattle.std.specs.Prelude.{◌≡◌, IfOk};
-ghost use Rattle.vx_mask.specs.Policy.{sparse_limit_of};
+ghost use Rattle.vortex_select.specs.Policy.{sparse_limit_of};
 
-use vx_mask::{Policy, PolicyError, PolicyFields};
+use vortex_select::{Policy, PolicyError, PolicyFields};
 
 /// Vortex's policy with other sparse limits: `limit` for records of every width.
 pub(crate) fn with_sparse_limit(limit: usize) -> Result<Policy, PolicyError>

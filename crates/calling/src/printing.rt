@@ -2,9 +2,7 @@
 use std::alloc::Global;
 use std::io;
 use std::test::Fail;
-use vx_chunked::Call;
-use vx_column::{Array, Row};
-use vx_select::Cause;
+use vortex_select::{Array, Call, Cause, Row};
 
 /// The numbers of a column of integer type, from row to row.
 pub(crate) fn print_numbers(rt: &impl Print, column: &Array) -> Result<(), Fail> {

@@ -1,17 +1,15 @@
 //! Reading rows, and what the clauses of `select` say of them.
 ghost use Rattle.std.specs.Prelude.{◌≡◌, ◌≤◌, IfErr, IfOk, count_by, length, map, not, take, true};
-ghost use Rattle.vx_types.specs.Row.{row_value};
-ghost use Rattle.vx_types.specs.RowValue.{is_null};
-ghost use Rattle.vx_model.specs.Plain.{is_plain};
-ghost use Rattle.vx_steps.specs.Step.{step_value};
-ghost use Rattle.vx_steps.specs.Walk.{walk};
-ghost use Rattle.vx_steps.specs.Compose.{IsFaultOf};
+ghost use Rattle.vortex_select.specs.Row.{row_value};
+ghost use Rattle.vortex_select.specs.RowValue.{is_null};
+ghost use Rattle.vortex_select.specs.Plain.{is_plain};
+ghost use Rattle.vortex_select.specs.Step.{step_value};
+ghost use Rattle.vortex_select.specs.Walk.{walk};
+ghost use Rattle.vortex_select.specs.Compose.{IsFaultOf};
 ghost use Rattle.calling.specs.Picked.{IsPicked};
 
 use std::alloc::Global;
-use vx_column::{Array, Row};
-use vx_mask::Policy;
-use vx_select::{SelectError, Step, select};
+use vortex_select::{Array, Policy, Row, SelectError, Step, select};
 
 /// Row `i` of what the steps leave: the source's row at the `i`th pick, and null where the pick is
 /// null or no such row is left. `select`'s clause `answer` says so.

@@ -7,9 +7,7 @@ use crate::reading::{first_rows, present_rows, row_or_null};
 use crate::steps::{filter, slice, take, take_pieces};
 use std::alloc::Global;
 use std::test::Fail;
-use vx_column::Array;
-use vx_mask::Policy;
-use vx_select::{SelectError, Step, select};
+use vortex_select::{Array, Policy, SelectError, Step, select};
 
 /// The values that the codes name.
 fn by_codes(

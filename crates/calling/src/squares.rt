@@ -2,7 +2,7 @@
 ghost use Rattle.std.specs.Prelude.{◌≡◌, ◌-◌, ◌^◌, ◌≤◌};
 ghost use Rattle.calling.specs.Squares.{square};
 
-use vx_chunked::{ChunkDecoder, FILTER_CHUNK_LEN};
+use vortex_select::{ChunkDecoder, FILTER_CHUNK_LEN};
 
 /// The squares of the first whole numbers, 8 bytes each, in so many chunks of 1024. It counts the
 /// calls that it is asked, and tells no list of them.

@@ -2,9 +2,7 @@
 use crate::columns::{mask_of, u32_column, u64_column};
 use crate::error::BuildError;
 use std::alloc::Global;
-use vx_column::FlatRef;
-use vx_pieces::{Indices, PiecewiseSequence};
-use vx_select::Step;
+use vortex_select::{FlatRef, Indices, PiecewiseSequence, Step};
 
 /// The rows from `start` up to `end`.
 pub(crate) fn slice(start: usize, end: usize) -> Step {

@@ -1,6 +1,6 @@
 //! Pages of a table, and of a join of two.
 ghost use Rattle.std.specs.Prelude.{◌≡◌, ◌≤◌, [], ◌∷◌, IfOk, length};
-ghost use Rattle.vx_join.specs.Keys.{matching_pairs};
+ghost use Rattle.vortex_select.specs.Keys.{matching_pairs};
 
 use crate::columns::u64_column;
 use crate::printing::print_numbers;
@@ -8,10 +8,7 @@ use crate::steps::slice;
 use std::alloc::Global;
 use std::rc::RcStr;
 use std::test::Fail;
-use vx_column::ArrayRef;
-use vx_join::{JoinError, join};
-use vx_mask::Policy;
-use vx_table::{Columns, PageError, Step, Table, page};
+use vortex_select::{ArrayRef, Columns, JoinError, PageError, Policy, Step, Table, join, page};
 
 /// Of the rows that the steps leave, page `number` of four rows, of these columns.
 fn four_rows(

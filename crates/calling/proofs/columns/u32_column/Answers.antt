@@ -1,14 +1,14 @@
 use Rattle.std.proofs.Common.{◌≡◌, length, map, ap, sym, ◌∙◌}
 use Rattle.std.proofs.lemmas.List.{length-map}
-use Rattle.vx_types.specs.RowValue.{bit, bytes}
-use Rattle.vx_types.specs.TypeTree.{primitive_kind}
-use Rattle.vx_types.specs.declared.ptype.PType.TheVariants.{U32}
-use Rattle.vx_model.specs.Bool.{BoolParts, bool_column, bool_fault}
-use Rattle.vx_model.specs.Column.{Column}
-use Rattle.vx_model.specs.Records.{RecordParts, records_column}
-use Rattle.vx_model.specs.Numbers.{number_in, numbers_of}
-use Rattle.vx_model.specs.Valid.{is_yes, non_nullable, shown_rows}
-use Rattle.vx_bits.specs.Records.{records_of}
+use Rattle.vortex_select.specs.RowValue.{bit, bytes}
+use Rattle.vortex_select.specs.TypeTree.{primitive_kind}
+use Rattle.vortex_select.specs.PTypes.TheVariants.{U32}
+use Rattle.vortex_select.specs.Bool.{BoolParts, bool_column, bool_fault}
+use Rattle.vortex_select.specs.Column.{Column}
+use Rattle.vortex_select.specs.RecordColumns.{RecordParts, records_column}
+use Rattle.vortex_select.specs.Numbers.{number_in, numbers_of}
+use Rattle.vortex_select.specs.Valid.{is_yes, non_nullable, shown_rows}
+use Rattle.vortex_select.specs.Records.{records_of}
 use Rattle.calling.proofs.NumberColumns.{made, read_some, stored_bits}
 use Rattle.calling.proofs.columns.u32_column.Goals as goal
 

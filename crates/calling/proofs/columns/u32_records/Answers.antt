@@ -2,8 +2,8 @@
 use Rattle.std.proofs.Common.{◌∙◌, None, ap, length, map, arith}
 use Rattle.std.specs.Prelude.{pos, unwrap_or}
 use Rattle.std.proofs.lemmas.List.{length-append}
-use Rattle.vx_types.specs.PType.{number}
-use Rattle.vx_types.specs.declared.ptype.PType.TheVariants.{U32}
+use Rattle.vortex_select.specs.PType.{number}
+use Rattle.vortex_select.specs.PTypes.TheVariants.{U32}
 use Rattle.calling.proofs.NumberColumns.{push_read, read_u32}
 use Rattle.calling.proofs.columns.u32_records.Goals as goal
 

@@ -1,9 +1,9 @@
 use Rattle.std.proofs.Common.{length, map, refl, ap, ◌∙◌}
-use Rattle.vx_types.specs.RowValue.{bytes}
-use Rattle.vx_model.specs.Records.{RecordParts, records_column}
-use Rattle.vx_model.specs.Numbers.{numbers_of}
-use Rattle.vx_model.specs.Plain.{is_plain}
-use Rattle.vx_bits.specs.Records.{records_of}
+use Rattle.vortex_select.specs.RowValue.{bytes}
+use Rattle.vortex_select.specs.RecordColumns.{RecordParts, records_column}
+use Rattle.vortex_select.specs.Numbers.{numbers_of}
+use Rattle.vortex_select.specs.Plain.{is_plain}
+use Rattle.vortex_select.specs.Records.{records_of}
 use Rattle.calling.proofs.NumberColumns.{made, read_all}
 use Rattle.calling.proofs.columns.u64_column.Goals as goal
 

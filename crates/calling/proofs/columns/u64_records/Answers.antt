@@ -2,8 +2,8 @@
 use Rattle.std.proofs.Common.{◌∙◌, ap, get_or, length, map, arith}
 use Rattle.std.specs.Prelude.{pos}
 use Rattle.std.proofs.lemmas.List.{length-append}
-use Rattle.vx_types.specs.PType.{number}
-use Rattle.vx_types.specs.declared.ptype.PType.TheVariants.{U64}
+use Rattle.vortex_select.specs.PType.{number}
+use Rattle.vortex_select.specs.PTypes.TheVariants.{U64}
 use Rattle.calling.proofs.NumberColumns.{push_read, read_u64}
 use Rattle.calling.proofs.columns.u64_records.Goals as goal
 

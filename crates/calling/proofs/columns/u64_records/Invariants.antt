@@ -1,8 +1,8 @@
 use Rattle.std.proofs.Common.{◌≡◌, length, take, map}
 use Rattle.std.specs.Prelude.{pos}
 use Rattle.std.specs.Vec.{vec_capacity}
-use Rattle.vx_types.specs.PType.{number}
-use Rattle.vx_types.specs.declared.ptype.PType.TheVariants.{U64}
+use Rattle.vortex_select.specs.PType.{number}
+use Rattle.vortex_select.specs.PTypes.TheVariants.{U64}
 use Rattle.calling.proofs.columns.u64_records.Given as goal
 
 abbrev pub invariant-loop-number : goal.invariant-loop-number

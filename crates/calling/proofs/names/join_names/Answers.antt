@@ -1,8 +1,8 @@
 -- One name more.
 use Rattle.std.proofs.Common.{ap, ◌∙◌}
-use Rattle.vx_types.specs.declared.ptype.PType.TheVariants.{I32}
-use Rattle.vx_text.specs.OffsetList.{with_offset}
-use Rattle.vx_text.proofs.BuiltTexts.{no_texts}
+use Rattle.vortex_select.specs.PTypes.TheVariants.{I32}
+use Rattle.vortex_select.specs.OffsetList.{with_offset}
+use Rattle.vortex_select.proofs.BuiltTexts.{no_texts}
 use Rattle.calling.proofs.NameTables.{one_name}
 use Rattle.calling.proofs.names.join_names.Goals as goal
 

@@ -1,7 +1,7 @@
 -- The names before the one at hand.
 use Rattle.std.proofs.Common.{map, take}
-use Rattle.vx_types.specs.declared.ptype.PType.TheVariants.{I32}
-use Rattle.vx_text.specs.Building.{AreTexts}
+use Rattle.vortex_select.specs.PTypes.TheVariants.{I32}
+use Rattle.vortex_select.specs.Building.{AreTexts}
 use Rattle.calling.proofs.names.join_names.Given as goal
 
 abbrev pub invariant-loop-name : goal.invariant-loop-name

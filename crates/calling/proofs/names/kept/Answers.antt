@@ -1,6 +1,6 @@
 -- One filter by a mask that is as long breaks no rule.
 use Rattle.std.proofs.Common.{Err, ap, ◌∙◌}
-use Rattle.vx_mask.specs.Mask.{mask_bits}
+use Rattle.vortex_select.specs.Mask.{mask_bits}
 use Rattle.calling.proofs.NameTables.{kept_rows, unbroken}
 use Rattle.calling.proofs.names.kept.Goals as goal
 

@@ -1,9 +1,9 @@
 -- A code is the position that it names.
 use Rattle.std.proofs.Common.{◌≡◌, List, ℕ, Option, ap, ap₂, subst, ◌∙◌}
 use Rattle.std.specs.Prelude.{IfOk}
-use Rattle.vx_types.specs.RowValue.{RowValue, null}
-use Rattle.vx_numbers.specs.Positions.{positions_of}
-use Rattle.vx_take.specs.Picks.{at}
+use Rattle.vortex_select.specs.RowValue.{RowValue, null}
+use Rattle.vortex_select.specs.Positions.{positions_of}
+use Rattle.vortex_select.specs.Picks.{at}
 use Rattle.calling.proofs.NameTables.{codes_back}
 use Rattle.calling.proofs.names.table.Goals as goal
 

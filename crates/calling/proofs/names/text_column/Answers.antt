@@ -1,15 +1,15 @@
 -- The offsets cut the bytes into the names, and each is a row.
 use Rattle.std.proofs.Common.{◌≡◌, length, map, refl, ap, ◌∙◌}
 use Rattle.std.proofs.lemmas.Simd.{map-map}
-use Rattle.vx_types.specs.RowValue.{bytes}
-use Rattle.vx_types.specs.declared.text.TextKind.TheVariants.{Utf8}
-use Rattle.vx_numbers.specs.Offsets.{lists_at, offset_positions}
-use Rattle.vx_model.specs.Column.{Column}
-use Rattle.vx_model.specs.Numbers.{integers_of}
-use Rattle.vx_model.specs.Valid.{non_nullable}
-use Rattle.vx_model.specs.VarBin.{VarBinParts, varbin_column}
-use Rattle.vx_model.proofs.ShownRows.{shown_rows-all}
-use Rattle.vx_text.proofs.BuiltTexts.{built_texts}
+use Rattle.vortex_select.specs.RowValue.{bytes}
+use Rattle.vortex_select.specs.TextKinds.TheVariants.{Utf8}
+use Rattle.vortex_select.specs.Offsets.{lists_at, offset_positions}
+use Rattle.vortex_select.specs.Column.{Column}
+use Rattle.vortex_select.specs.Numbers.{integers_of}
+use Rattle.vortex_select.specs.Valid.{non_nullable}
+use Rattle.vortex_select.specs.VarBin.{VarBinParts, varbin_column}
+use Rattle.vortex_select.proofs.ShownRows.{shown_rows-all}
+use Rattle.vortex_select.proofs.BuiltTexts.{built_texts}
 use Rattle.calling.proofs.NumberColumns.{made}
 use Rattle.calling.proofs.names.text_column.Goals as goal
 

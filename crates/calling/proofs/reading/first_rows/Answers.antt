@@ -1,5 +1,5 @@
 use Rattle.std.proofs.Common.{◌≡◌, ap, sym, ◌∙◌, Err, take}
-use Rattle.vx_steps.specs.Answer.{answer_rows}
+use Rattle.vortex_select.specs.Answer.{answer_rows}
 use Rattle.calling.proofs.FirstRows.{first_answer, free_slice, no_error}
 use Rattle.calling.proofs.reading.first_rows.Goals as goal
 

@@ -1,6 +1,6 @@
 use Rattle.std.proofs.Common.{◌≡◌, ◌≤◌, take}
 use Rattle.std.specs.Prelude.{count_by, not}
-use Rattle.vx_types.specs.RowValue.{is_null}
+use Rattle.vortex_select.specs.RowValue.{is_null}
 use Rattle.calling.proofs.reading.present_rows.Given as goal
 
 abbrev pub invariant-loop-i : goal.invariant-loop-i

@@ -1,11 +1,11 @@
 -- A page has no more rows than it is to have.
 use Rattle.std.proofs.Common.{ℕ, ◌≤◌, ◌*◌, List, drop, map, arith}
 use Rattle.std.proofs.lemmas.List.{length-take}
-use Rattle.vx_steps.specs.Step.{StepValue, step_value}
-use Rattle.vx_steps.specs.Walk.{Walk, walk, walk_fault, walk_picks}
-use Rattle.vx_table.specs.Table.{TableValue}
-use Rattle.vx_table.specs.Page.{IsPage}
-use Rattle.vx_table.proofs.Lists.{weaker}
+use Rattle.vortex_select.specs.Step.{StepValue, step_value}
+use Rattle.vortex_select.specs.Walk.{Walk, walk, walk_fault, walk_picks}
+use Rattle.vortex_select.specs.Table.{TableValue}
+use Rattle.vortex_select.specs.Page.{IsPage}
+use Rattle.vortex_select.proofs.TableLists.{weaker}
 use Rattle.calling.proofs.tables.four_rows.Goals as goal
 
 few : (t p : TableValue) (projection : List ℕ) (steps : List StepValue) (page len : ℕ) (w : Walk) → IsPage t projection steps page len w p → p.len ≤ len

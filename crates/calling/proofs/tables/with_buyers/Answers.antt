@@ -1,5 +1,5 @@
 -- A joined table has a row a pair.
-use Rattle.vx_table.proofs.Lists.{weaker}
+use Rattle.vortex_select.proofs.TableLists.{weaker}
 use Rattle.calling.proofs.tables.with_buyers.Goals as goal
 
 pub returns : goal.returns

@@ -1,7 +1,7 @@
 use Rattle.std.proofs.Common.{◌≡◌, ℕ, ◌+◌, ◌*◌, ◌<◌, List, length, get_or, true, arith}
 use Rattle.std.specs.Prelude.{slice_get}
-use Rattle.vx_mask.specs.Positions.{ascending}
-use Rattle.vx_chunked.proofs.Ascends.{ascend_of, ascend_below}
+use Rattle.vortex_select.specs.MaskPositions.{ascending}
+use Rattle.vortex_select.proofs.Ascends.{ascend_of, ascend_below}
 use Rattle.calling.specs.Squares.{squares_below}
 use Rattle.calling.proofs.SquareLists.{length-squares, put_at, square_at}
 use Rattle.calling.proofs.squares.SquaresChunkDecoderArrayU88.decode_indices.Goals as goal

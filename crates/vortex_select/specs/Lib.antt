@@ -1,0 +1,77 @@
+pub use Rattle.vx_bits.specs.BitBuffer
+pub use Rattle.vx_bits.specs.Records
+pub use Rattle.vx_bits.specs.Results
+pub use Rattle.vx_chunked.specs.Asked
+pub use Rattle.vx_column.specs.Cell
+pub use Rattle.vx_column.specs.Flat
+pub use Rattle.vx_file.specs.Blocks
+pub use Rattle.vx_file.specs.Errors
+pub use Rattle.vx_file.specs.File
+pub use Rattle.vx_file.specs.Reading
+pub use Rattle.vx_join.specs.Join
+pub use Rattle.vx_join.specs.Keys
+pub use Rattle.vx_join.specs.Pairs
+pub use Rattle.vx_layouts.specs.Answers as LayoutAnswers
+pub use Rattle.vx_layouts.specs.Taking
+pub use Rattle.vx_mask.specs.Mask
+pub use Rattle.vx_mask.specs.Policy
+pub use Rattle.vx_mask.specs.Positions as MaskPositions
+pub use Rattle.vx_model.specs.Bool
+pub use Rattle.vx_model.specs.Column
+pub use Rattle.vx_model.specs.Columns
+pub use Rattle.vx_model.specs.Constant
+pub use Rattle.vx_model.specs.Dict
+pub use Rattle.vx_model.specs.Extension as ExtensionLayout
+pub use Rattle.vx_model.specs.Filter as FilterLayout
+pub use Rattle.vx_model.specs.FixedSizeList
+pub use Rattle.vx_model.specs.List
+pub use Rattle.vx_model.specs.ListView
+pub use Rattle.vx_model.specs.Map
+pub use Rattle.vx_model.specs.Null
+pub use Rattle.vx_model.specs.Numbers
+pub use Rattle.vx_model.specs.Plain
+pub use Rattle.vx_model.specs.Records as RecordColumns
+pub use Rattle.vx_model.specs.Step as ColumnSteps
+pub use Rattle.vx_model.specs.Struct
+pub use Rattle.vx_model.specs.Text as TextColumns
+pub use Rattle.vx_model.specs.Union
+pub use Rattle.vx_model.specs.Valid
+pub use Rattle.vx_model.specs.VarBin
+pub use Rattle.vx_model.specs.VarBinView
+pub use Rattle.vx_numbers.specs.Offsets
+pub use Rattle.vx_numbers.specs.Positions
+pub use Rattle.vx_pieces.specs.Indices
+pub use Rattle.vx_pieces.specs.Pieces
+pub use Rattle.vx_select.specs.Chunks
+pub use Rattle.vx_select.specs.Select
+pub use Rattle.vx_steps.specs.Answer
+pub use Rattle.vx_steps.specs.Cause
+pub use Rattle.vx_steps.specs.Check
+pub use Rattle.vx_steps.specs.Compose
+pub use Rattle.vx_steps.specs.Shape
+pub use Rattle.vx_steps.specs.Step
+pub use Rattle.vx_steps.specs.Walk
+pub use Rattle.vx_steps.specs.declared.cause.Cause as Causes
+pub use Rattle.vx_steps.specs.declared.cause.SelectError as SelectErrors
+pub use Rattle.vx_table.specs.Page
+pub use Rattle.vx_table.specs.Table
+pub use Rattle.vx_take.specs.Picks
+pub use Rattle.vx_text.specs.Building
+pub use Rattle.vx_text.specs.OffsetList
+pub use Rattle.vx_types.specs.DType
+pub use Rattle.vx_types.specs.Decimal
+pub use Rattle.vx_types.specs.Extension as ExtensionType
+pub use Rattle.vx_types.specs.Fields
+pub use Rattle.vx_types.specs.Nullability
+pub use Rattle.vx_types.specs.PType
+pub use Rattle.vx_types.specs.Row
+pub use Rattle.vx_types.specs.RowValue
+pub use Rattle.vx_types.specs.Scalar
+pub use Rattle.vx_types.specs.Text as Texts
+pub use Rattle.vx_types.specs.TypeTree
+pub use Rattle.vx_types.specs.Variants
+pub use Rattle.vx_types.specs.declared.error.ColumnError as ColumnErrors
+pub use Rattle.vx_types.specs.declared.layout_name.LayoutName as LayoutNames
+pub use Rattle.vx_types.specs.declared.nullability.Nullability as Nullabilities
+pub use Rattle.vx_types.specs.declared.ptype.PType as PTypes
+pub use Rattle.vx_types.specs.declared.text.TextKind as TextKinds
