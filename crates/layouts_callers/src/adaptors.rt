@@ -31,10 +31,10 @@ fn reduced<V: TakeReduce>(
 fn print_result(
     rt: &impl Print,
     alloc: Global,
-    result: Result<Option<Array>, TakeError>,
+    answer: Result<Option<Array>, TakeError>,
 ) -> Result<(), Fail> {
-    match result {
-        Ok(answer) => print_answer(rt, alloc, &answer),
+    match answer {
+        Ok(rows) => print_answer(rt, alloc, &rows),
         Err(error) => print_error(rt, error),
     }
 }

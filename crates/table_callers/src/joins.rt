@@ -12,6 +12,9 @@ use vx_mask::Policy;
 use vx_table::{Table, page};
 use vx_take::Picks;
 
+// The keys of the tables of ten columns.
+const WIDE_KEYS: [(usize, usize); 2] = [(5, 5), (3, 3)];
+
 fn print_picks(rt: &impl Print, picks: &Picks) -> Result<(), Fail> {
     for i in 0..picks.len() {
         match picks.get(i) {
@@ -122,26 +125,61 @@ fn print_none(rt: &impl Print, alloc: Global, left: &Table, none: &Table) -> Res
     print_pairs(rt, alloc, "no rows on the left", none, left, &[(0, 0)])
 }
 
+// A key column against another.
+fn print_keys(
+    rt: &impl Print,
+    alloc: Global,
+    name: &str,
+    left: ArrayRef,
+    right: ArrayRef,
+) -> Result<(), Fail> {
+    let left = one(alloc, left)?;
+    print_right(rt, alloc, name, &left, right)
+}
+
+fn print_right(
+    rt: &impl Print,
+    alloc: Global,
+    name: &str,
+    left: &Table,
+    right: ArrayRef,
+) -> Result<(), Fail> {
+    let right = one(alloc, right)?;
+    print_pairs(rt, alloc, name, left, &right, &[(0, 0)])
+}
+
 // Floats are compared as they are stored.
 fn print_zeros(rt: &impl Print, alloc: Global) -> Result<(), Fail> {
-    let left = one(alloc, floats(alloc, &[0, 0x8000_0000])?)?;
-    let right = one(alloc, floats(alloc, &[0x8000_0000, 0])?)?;
-    print_pairs(rt, alloc, "both zeros", &left, &right, &[(0, 0)])?;
-    let nans = one(alloc, floats(alloc, &[0x7fc0_0000, 0x7fc0_0001])?)?;
-    print_pairs(rt, alloc, "two NaNs", &nans, &nans, &[(0, 0)])
+    let zeros = floats(alloc, &[0, 0x8000_0000])?;
+    print_keys(
+        rt,
+        alloc,
+        "both zeros",
+        zeros,
+        floats(alloc, &[0x8000_0000, 0])?,
+    )?;
+    let nans = floats(alloc, &[0x7fc0_0000, 0x7fc0_0001])?;
+    print_keys(rt, alloc, "two NaNs", nans.share(), nans)
+}
+
+fn print_numbers(
+    rt: &impl Print,
+    alloc: Global,
+    name: &str,
+    left: &[u128],
+    right: &[u128],
+) -> Result<(), Fail> {
+    let left = decimals(alloc, 2, left)?;
+    print_keys(rt, alloc, name, left, decimals(alloc, 2, right)?)
 }
 
 // Records that are too wide for a number.
 fn print_decimals(rt: &impl Print, alloc: Global) -> Result<(), Fail> {
-    let left = one(alloc, decimals(alloc, 2, &[5, 300, 5])?)?;
-    let right = one(alloc, decimals(alloc, 2, &[300, 5])?)?;
-    print_pairs(rt, alloc, "decimals of 16 bytes", &left, &right, &[(0, 0)])?;
+    print_numbers(rt, alloc, "decimals of 16 bytes", &[5, 300, 5], &[300, 5])?;
     let behind = [5 + (1 << 64), 5 + (2 << 64), 5 + (1 << 64)];
-    let left = one(alloc, decimals(alloc, 2, &behind)?)?;
-    let right = one(alloc, decimals(alloc, 2, &[5 + (1 << 64), 5])?)?;
-    print_pairs(rt, alloc, "eight bytes alike", &left, &right, &[(0, 0)])?;
-    let right = one(alloc, decimals(alloc, 3, &[5])?)?;
-    print_pairs(rt, alloc, "another scale", &left, &right, &[(0, 0)])
+    print_numbers(rt, alloc, "eight bytes alike", &behind, &[5 + (1 << 64), 5])?;
+    let left = decimals(alloc, 2, &behind)?;
+    print_keys(rt, alloc, "another scale", left, decimals(alloc, 3, &[5])?)
 }
 
 fn print_nulls(rt: &impl Print, alloc: Global) -> Result<(), Fail> {
@@ -230,14 +268,17 @@ fn ten_columns(alloc: Global, is_right: bool) -> Result<Table, Fail> {
 
 // Tables of ten columns, and a page of three columns of the joined one.
 fn print_wide(rt: &impl Print, alloc: Global) -> Result<(), Fail> {
-    let (left, right) = (ten_columns(alloc, false)?, ten_columns(alloc, true)?);
-    let keys = [(5, 5), (3, 3)];
-    let policy = Policy::vortex();
-    print_pairs(rt, alloc, "ten columns", &left, &right, &keys)?;
-    match join(alloc, &left, &right, &keys, &policy) {
+    let left = ten_columns(alloc, false)?;
+    let right = ten_columns(alloc, true)?;
+    print_pairs(rt, alloc, "ten columns", &left, &right, &WIDE_KEYS)?;
+    print_twenty(rt, alloc, &left, &right)
+}
+
+fn print_twenty(rt: &impl Print, alloc: Global, left: &Table, right: &Table) -> Result<(), Fail> {
+    match join(alloc, left, right, &WIDE_KEYS, &Policy::vortex()) {
         Ok(joined) => {
             print_table(rt, "twenty columns", &joined)?;
-            print_cut(rt, alloc, &joined, &policy)
+            print_cut(rt, alloc, &joined, &Policy::vortex())
         }
         Err(error) => Err(error.into()),
     }

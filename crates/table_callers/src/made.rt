@@ -22,32 +22,52 @@ fn validity_of(alloc: Global, there: &[bool]) -> Result<Validity, Fail> {
     Ok(Validity::Array(bools.into_ref(alloc)?))
 }
 
-/// A column of `u32` rows.
-pub(crate) fn numbers(alloc: Global, rows: &[Option<u32>]) -> Result<ArrayRef, Fail> {
-    let mut records = Vec::new(alloc);
+// Which rows are there.
+fn presence_of<T>(alloc: Global, rows: &[Option<T>]) -> Result<Vec<bool>, NoMemory> {
     let mut there = Vec::new(alloc);
     for row in rows {
-        records.push(row.unwrap_or(7).to_le_bytes())?;
         there.push(row.is_some())?;
     }
-    let values = Records::W4(Buffer::from_vec(alloc, records)?);
-    let validity = validity_of(alloc, &there)?;
-    let column = PrimitiveArray::try_new(PType::U32, values, validity)?;
+    Ok(there)
+}
+
+fn primitive(
+    alloc: Global,
+    ptype: PType,
+    values: Records,
+    there: &[bool],
+) -> Result<ArrayRef, Fail> {
+    let validity = validity_of(alloc, there)?;
+    let column = PrimitiveArray::try_new(ptype, values, validity)?;
     Ok(column.into_array().into_ref(alloc)?)
+}
+
+fn u32_records(alloc: Global, rows: &[Option<u32>]) -> Result<Records, NoMemory> {
+    let mut records = Vec::new(alloc);
+    for row in rows {
+        records.push(row.unwrap_or(7).to_le_bytes())?;
+    }
+    Ok(Records::W4(Buffer::from_vec(alloc, records)?))
+}
+
+/// A column of `u32` rows.
+pub(crate) fn numbers(alloc: Global, rows: &[Option<u32>]) -> Result<ArrayRef, Fail> {
+    let there = presence_of(alloc, rows)?;
+    primitive(alloc, PType::U32, u32_records(alloc, rows)?, &there)
+}
+
+fn u8_records(alloc: Global, rows: &[Option<u8>]) -> Result<Records, NoMemory> {
+    let mut records = Vec::new(alloc);
+    for row in rows {
+        records.push(row.unwrap_or(2).to_le_bytes())?;
+    }
+    Ok(Records::W1(Buffer::from_vec(alloc, records)?))
 }
 
 /// A column of `u8` rows.
 pub(crate) fn bytes(alloc: Global, rows: &[Option<u8>]) -> Result<ArrayRef, Fail> {
-    let mut records = Vec::new(alloc);
-    let mut there = Vec::new(alloc);
-    for row in rows {
-        records.push(row.unwrap_or(2).to_le_bytes())?;
-        there.push(row.is_some())?;
-    }
-    let values = Records::W1(Buffer::from_vec(alloc, records)?);
-    let validity = validity_of(alloc, &there)?;
-    let column = PrimitiveArray::try_new(PType::U8, values, validity)?;
-    Ok(column.into_array().into_ref(alloc)?)
+    let there = presence_of(alloc, rows)?;
+    primitive(alloc, PType::U8, u8_records(alloc, rows)?, &there)
 }
 
 /// A column of `u16` rows.
@@ -97,23 +117,44 @@ pub(crate) fn bools(alloc: Global, rows: &[bool]) -> Result<ArrayRef, Fail> {
     Ok(column.into_array().into_ref(alloc)?)
 }
 
-/// A column of texts.
-pub(crate) fn texts(alloc: Global, rows: &[Option<&str>]) -> Result<ArrayRef, Fail> {
+// The texts one behind another.
+fn joined(alloc: Global, rows: &[Option<&str>]) -> Result<Vec<u8>, NoMemory> {
     let mut bytes = Vec::new(alloc);
-    let mut there = Vec::new(alloc);
-    let mut offsets = Vec::new(alloc);
-    offsets.push(0_u64.to_le_bytes())?;
     for row in rows {
         bytes.extend_from_slice(row.unwrap_or("").as_bytes())?;
-        there.push(row.is_some())?;
-        offsets.push((bytes.len() as u64).to_le_bytes())?;
     }
-    let offsets = Records::W8(Buffer::from_vec(alloc, offsets)?);
-    let offsets = PrimitiveArray::try_new(PType::U64, offsets, Validity::NonNullable)?;
-    let bytes = Buffer::from_vec(alloc, bytes)?;
-    let validity = validity_of(alloc, &there)?;
+    Ok(bytes)
+}
+
+// Where each text begins, and where the last one ends.
+fn offsets_of(alloc: Global, rows: &[Option<&str>]) -> Result<Records, NoMemory> {
+    let mut offsets = Vec::new(alloc);
+    let mut end = 0_u64;
+    offsets.push(end.to_le_bytes())?;
+    for row in rows {
+        end = end.wrapping_add(row.unwrap_or("").len() as u64);
+        offsets.push(end.to_le_bytes())?;
+    }
+    Ok(Records::W8(Buffer::from_vec(alloc, offsets)?))
+}
+
+fn texts_cut(
+    alloc: Global,
+    rows: &[Option<&str>],
+    offsets: PrimitiveArray,
+    validity: Validity,
+) -> Result<ArrayRef, Fail> {
+    let bytes = Buffer::from_vec(alloc, joined(alloc, rows)?)?;
     let column = VarBinArray::try_new(TextKind::Utf8, offsets, bytes, validity)?;
     Ok(column.into_array().into_ref(alloc)?)
+}
+
+/// A column of texts.
+pub(crate) fn texts(alloc: Global, rows: &[Option<&str>]) -> Result<ArrayRef, Fail> {
+    let offsets = offsets_of(alloc, rows)?;
+    let offsets = PrimitiveArray::try_new(PType::U64, offsets, Validity::NonNullable)?;
+    let there = presence_of(alloc, rows)?;
+    texts_cut(alloc, rows, offsets, validity_of(alloc, &there)?)
 }
 
 /// A column of so many rows of one number.
