@@ -4,6 +4,7 @@
 
 mod columns;
 mod fillers;
+mod packing;
 mod print;
 mod readers;
 mod refusals;
@@ -19,5 +20,6 @@ fn main(rt: HostRuntime) -> Result<(), Fail> {
     steps::print_maps(&rt, rt.alloc())?;
     steps::print_extensions(&rt, rt.alloc())?;
     fillers::print_fillers(&rt, rt.alloc())?;
-    unions::print_unions(&rt, rt.alloc())
+    unions::print_unions(&rt, rt.alloc())?;
+    packing::print_packing(&rt, rt.alloc())
 }

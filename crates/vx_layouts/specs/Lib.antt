@@ -1,4 +1,6 @@
 pub mod Adaptors
 pub mod Answers
 pub use Rattle.vx_dispatch.specs.Materialized
+pub mod Pack
+pub mod Sorted
 pub mod Taking

@@ -17,12 +17,12 @@ const VALUES: usize = 1;
 
 /// A layout's take while columns are put together, as a dictionary of its columns asks for it:
 /// Vortex's `TakeReduceAdaptor`.
-#[derive(Debug, Default)]
+#[derive(Debug, Default, Drop)]
 pub struct TakeReduceAdaptor<V>(pub V);
 
 /// A layout's take while columns are executed, as a dictionary of its columns asks for it: Vortex's
 /// `TakeExecuteAdaptor`.
-#[derive(Debug, Default)]
+#[derive(Debug, Default, Drop)]
 pub struct TakeExecuteAdaptor<V>(pub V);
 
 // The codes of a dictionary, of integer type; some exactly where the column is one.

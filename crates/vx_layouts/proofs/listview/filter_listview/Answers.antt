@@ -1,5 +1,5 @@
 -- The offsets and sizes that are kept make what is kept of the lists.
-use Rattle.std.proofs.Common.{◌≡◌, length, refl, ◌∙◌, arith}
+use Rattle.std.proofs.Common.{length, refl, ◌∙◌, arith}
 use Rattle.std.specs.List.{items_where_true}
 use Rattle.vx_model.specs.ListView.{ListViewParts, listview_spans}
 use Rattle.vx_model.specs.Valid.{nullability_by, present_bits, IsAsPlain, IsLeft}

@@ -1,5 +1,5 @@
 -- The views that are kept make what is kept of the column.
-use Rattle.std.proofs.Common.{◌≡◌, length, refl, sym, ap, ap₂, ◌∙◌}
+use Rattle.std.proofs.Common.{◌≡◌, length, refl, sym, ap₂, ◌∙◌}
 use Rattle.vx_model.specs.Valid.{is_fitting, nullability_by}
 use Rattle.vx_model.specs.Text.{stored_texts}
 use Rattle.vx_model.specs.VarBinView.{view_texts}
