@@ -11,7 +11,10 @@ pub use Rattle.vx_file.specs.Reading
 pub use Rattle.vx_join.specs.Join
 pub use Rattle.vx_join.specs.Keys
 pub use Rattle.vx_join.specs.Pairs
+pub use Rattle.vx_layouts.specs.Adaptors
 pub use Rattle.vx_layouts.specs.Answers as LayoutAnswers
+pub use Rattle.vx_layouts.specs.Pack
+pub use Rattle.vx_layouts.specs.Sorted
 pub use Rattle.vx_layouts.specs.Taking
 pub use Rattle.vx_mask.specs.Mask
 pub use Rattle.vx_mask.specs.Policy
