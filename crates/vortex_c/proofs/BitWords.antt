@@ -1,10 +1,10 @@
 -- Bits that words hold, read from any of them on and written from the first one.
-use Rattle.std.proofs.Common.{◌≡◌, ℕ, zero, suc, ◌+◌, ◌-◌, ◌*◌, ◌/◌, ◌%◌, ◌^◌, ◌<◌, ◌≤◌, min, Bool, true, false, cond, eqb, List, [], ◌∷◌, ◌++◌, length, get_or, take, drop, set, map, inl, inr, refl, sym, ap, ap₂, subst, ◌∙◌, arith}
+use Rattle.std.proofs.Common.{◌≡◌, ℕ, zero, suc, ◌+◌, ◌-◌, ◌*◌, ◌/◌, ◌%◌, ◌^◌, ◌<◌, ◌≤◌, min, Bool, true, false, eqb, List, [], ◌∷◌, ◌++◌, length, get_or, take, drop, set, map, inl, inr, refl, sym, ap, ap₂, subst, ◌∙◌, arith}
 use mir.Val.{bool_byte}
 use Rattle.std.specs.Int.{bit_at}
 use Rattle.std.specs.List.{range_with_len}
 use Rattle.std.proofs.lemmas.Bool.{cases_lt}
-use Rattle.std.proofs.lemmas.List.{append_assoc, append-nil, drop-append-le, drop-drop, drop-set-lt, drop-take, drop_all, drop_more, get_or-drop, get_or-take, get_or_default, length-append, length-drop, length-take, length-take-le, take-append-drop, take-append-le, take-take, take_all, take_more_set}
+use Rattle.std.proofs.lemmas.List.{append_assoc, drop-append-le, drop-drop, drop-set-lt, drop-take, drop_more, get_or-drop, get_or-take, get_or_default, length-append, length-drop, length-take, length-take-le, take-append-drop, take-append-le, take-take, take_all, take_more_set}
 use Rattle.std.proofs.lemmas.Nat.{mod_below, mul-add-lt, pow_pos, shl_whole}
 use Rattle.std.proofs.Math.Nat.{mod-eq_of_lt, mul_assoc, mul_comm, pow-suc}
 use Rattle.std.proofs.Math.Pow.{pow_mono}
