@@ -109,8 +109,8 @@ fn put_rest<T: Copy>(
     indices.len()
 }
 
-// Writes the items at the picks, up to the first whose index is out of bounds, and answers the place
-// of that one.
+// Writes the items at the picks, up to the first whose index is out of bounds, and answers the
+// place of that one.
 #[inline(always)]
 fn put_front<T: Copy>(src: &[T], indices: &[u64], valid: &[u64], fill: T, dst: &mut [T]) -> usize
     requires valid { valid_fault (length indices.now) valid.now ≡ 0 }

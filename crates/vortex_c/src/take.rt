@@ -239,8 +239,8 @@ pub extern "C" fn vortex_take_32(
     valid: &[u64],
     dst: &mut [Record32],
 ) -> Answer
-    ensures { IsTaken (record { a = 0; b = 0; c = 0; d = 0 }) src.now indices.now valid.now dst.old dst.new
-        result.status result.value }
+    ensures { IsTaken (record { a = 0; b = 0; c = 0; d = 0 }) src.now indices.now valid.now dst.old
+        dst.new result.status result.value }
 {
     take(
         src,

@@ -26,10 +26,10 @@ fn take_front<T: Copy>(src: &[T], indices: &[u64], valid: &[u64], fill: T, dst: 
     }
 }
 
-/// Writes the records of 1 byte at the indices before the first that is out of bounds to the front
-/// of `dst`, in order, and zeros at each null. The answer is how many they are: as many as there are
-/// indices where none is out of bounds, else the place of the first one. Pick k is null where bit k
-/// of `valid` is clear; without words none is.
+/// Writes the records of 1 byte at the indices before the first that is out of bounds to the
+/// front of `dst`, in order, and zeros at each null. The answer is how many they are: as many as
+/// there are indices where none is out of bounds, else the place of the first one. Pick k is null
+/// where bit k of `valid` is clear; without words none is.
 ///
 /// 1: `valid` has words, but not as many as hold a bit for each index. 2: a bit past the indices is
 /// set. 3: `dst` is too small for all of them, and the number is how many indices there are.
@@ -46,10 +46,10 @@ pub extern "C" fn vortex_take_front_1(
     take_front(src, indices, valid, 0, dst)
 }
 
-/// Writes the records of 2 bytes at the indices before the first that is out of bounds to the front
-/// of `dst`, in order, and zeros at each null. The answer is how many they are: as many as there are
-/// indices where none is out of bounds, else the place of the first one. Pick k is null where bit k
-/// of `valid` is clear; without words none is.
+/// Writes the records of 2 bytes at the indices before the first that is out of bounds to the
+/// front of `dst`, in order, and zeros at each null. The answer is how many they are: as many as
+/// there are indices where none is out of bounds, else the place of the first one. Pick k is null
+/// where bit k of `valid` is clear; without words none is.
 ///
 /// 1: `valid` has words, but not as many as hold a bit for each index. 2: a bit past the indices is
 /// set. 3: `dst` is too small for all of them, and the number is how many indices there are.
@@ -66,10 +66,10 @@ pub extern "C" fn vortex_take_front_2(
     take_front(src, indices, valid, 0, dst)
 }
 
-/// Writes the records of 4 bytes at the indices before the first that is out of bounds to the front
-/// of `dst`, in order, and zeros at each null. The answer is how many they are: as many as there are
-/// indices where none is out of bounds, else the place of the first one. Pick k is null where bit k
-/// of `valid` is clear; without words none is.
+/// Writes the records of 4 bytes at the indices before the first that is out of bounds to the
+/// front of `dst`, in order, and zeros at each null. The answer is how many they are: as many as
+/// there are indices where none is out of bounds, else the place of the first one. Pick k is null
+/// where bit k of `valid` is clear; without words none is.
 ///
 /// 1: `valid` has words, but not as many as hold a bit for each index. 2: a bit past the indices is
 /// set. 3: `dst` is too small for all of them, and the number is how many indices there are.
@@ -86,10 +86,10 @@ pub extern "C" fn vortex_take_front_4(
     take_front(src, indices, valid, 0, dst)
 }
 
-/// Writes the records of 8 bytes at the indices before the first that is out of bounds to the front
-/// of `dst`, in order, and zeros at each null. The answer is how many they are: as many as there are
-/// indices where none is out of bounds, else the place of the first one. Pick k is null where bit k
-/// of `valid` is clear; without words none is.
+/// Writes the records of 8 bytes at the indices before the first that is out of bounds to the
+/// front of `dst`, in order, and zeros at each null. The answer is how many they are: as many as
+/// there are indices where none is out of bounds, else the place of the first one. Pick k is null
+/// where bit k of `valid` is clear; without words none is.
 ///
 /// 1: `valid` has words, but not as many as hold a bit for each index. 2: a bit past the indices is
 /// set. 3: `dst` is too small for all of them, and the number is how many indices there are.
@@ -106,10 +106,10 @@ pub extern "C" fn vortex_take_front_8(
     take_front(src, indices, valid, 0, dst)
 }
 
-/// Writes the records of 16 bytes at the indices before the first that is out of bounds to the front
-/// of `dst`, in order, and zeros at each null. The answer is how many they are: as many as there are
-/// indices where none is out of bounds, else the place of the first one. Pick k is null where bit k
-/// of `valid` is clear; without words none is.
+/// Writes the records of 16 bytes at the indices before the first that is out of bounds to the
+/// front of `dst`, in order, and zeros at each null. The answer is how many they are: as many as
+/// there are indices where none is out of bounds, else the place of the first one. Pick k is null
+/// where bit k of `valid` is clear; without words none is.
 ///
 /// 1: `valid` has words, but not as many as hold a bit for each index. 2: a bit past the indices is
 /// set. 3: `dst` is too small for all of them, and the number is how many indices there are.
@@ -126,10 +126,10 @@ pub extern "C" fn vortex_take_front_16(
     take_front(src, indices, valid, Record16 { low: 0, high: 0 }, dst)
 }
 
-/// Writes the records of 32 bytes at the indices before the first that is out of bounds to the front
-/// of `dst`, in order, and zeros at each null. The answer is how many they are: as many as there are
-/// indices where none is out of bounds, else the place of the first one. Pick k is null where bit k
-/// of `valid` is clear; without words none is.
+/// Writes the records of 32 bytes at the indices before the first that is out of bounds to the
+/// front of `dst`, in order, and zeros at each null. The answer is how many they are: as many as
+/// there are indices where none is out of bounds, else the place of the first one. Pick k is null
+/// where bit k of `valid` is clear; without words none is.
 ///
 /// 1: `valid` has words, but not as many as hold a bit for each index. 2: a bit past the indices is
 /// set. 3: `dst` is too small for all of them, and the number is how many indices there are.
@@ -140,8 +140,8 @@ pub extern "C" fn vortex_take_front_32(
     valid: &[u64],
     dst: &mut [Record32],
 ) -> Answer
-    ensures { IsFrontTaken (record { a = 0; b = 0; c = 0; d = 0 }) src.now indices.now valid.now dst.old
-        dst.new result.status result.value }
+    ensures { IsFrontTaken (record { a = 0; b = 0; c = 0; d = 0 }) src.now indices.now valid.now
+        dst.old dst.new result.status result.value }
 {
     take_front(
         src,
