@@ -1,8 +1,7 @@
 /* Row selection by the proved kernels of this repository: link with libvortex_c.a.
  *
  * Each call answers a status and a number. A call whose status is not VORTEX_DONE is refused and
- * writes nothing, but for what vortex_gather says; the number is 0 where a function does not say
- * what it is.
+ * writes nothing; the number is 0 where a function does not say what it is.
  *
  * Each list is handed in as a pointer and its number of items. The caller owes, and nothing tests:
  * the pointer is aligned for the items and leads to so many of them, written ones where the list
@@ -11,7 +10,8 @@
  * a null one too. No function keeps a pointer, takes memory, or calls back.
  *
  * A mask of n rows is (n + 63) / 64 words: bit k % 64 of word k / 64, the lowest bit first, is set
- * where row k is selected, and the bits past the rows are clear. */
+ * where row k is selected, and the bits past the rows are clear. Other bits may begin at any bit of
+ * their words, and those before and behind them play no part. */
 #ifndef VORTEX_SELECT_H
 #define VORTEX_SELECT_H
 
@@ -34,9 +34,6 @@ enum {
     VORTEX_ROOM = 3,      /* the output is too small: the number is what it has to hold */
     VORTEX_INDEX = 4      /* an index is out of bounds */
 };
-
-/* A list of bits is that many bits of its words, from any of them on: bit k % 64 of word k / 64, the
- * lowest bit first. The bits before and behind it play no part. */
 
 typedef struct vortex_record_16 {
     uint64_t words[2];
@@ -108,21 +105,25 @@ vortex_answer vortex_take_32(const vortex_record_32 *src, size_t src_len, const 
     size_t indices_len, const uint64_t *valid, size_t valid_len,
     vortex_record_32 *dst, size_t dst_len);
 
-/* The same in one pass, which tests each index as it comes to it. Where an index is out of bounds
- * (VORTEX_INDEX), the records at the indices before it stand at the front of dst. */
-vortex_answer vortex_gather_1(const uint8_t *src, size_t src_len, const uint64_t *indices,
+/* The same in one pass over the indices, which stops at the first that is out of bounds: copies the
+ * records at the indices before that one. The number is how many they are, which is indices_len
+ * where no index is out of bounds, and else the place of the first one.
+ *
+ * VORTEX_LENGTHS: valid has words, but not as many as a mask of the indices. VORTEX_BITS_PAST.
+ * VORTEX_ROOM: dst has not as many records as there are indices. */
+vortex_answer vortex_take_front_1(const uint8_t *src, size_t src_len, const uint64_t *indices,
     size_t indices_len, const uint64_t *valid, size_t valid_len, uint8_t *dst, size_t dst_len);
-vortex_answer vortex_gather_2(const uint16_t *src, size_t src_len, const uint64_t *indices,
+vortex_answer vortex_take_front_2(const uint16_t *src, size_t src_len, const uint64_t *indices,
     size_t indices_len, const uint64_t *valid, size_t valid_len, uint16_t *dst, size_t dst_len);
-vortex_answer vortex_gather_4(const uint32_t *src, size_t src_len, const uint64_t *indices,
+vortex_answer vortex_take_front_4(const uint32_t *src, size_t src_len, const uint64_t *indices,
     size_t indices_len, const uint64_t *valid, size_t valid_len, uint32_t *dst, size_t dst_len);
-vortex_answer vortex_gather_8(const uint64_t *src, size_t src_len, const uint64_t *indices,
+vortex_answer vortex_take_front_8(const uint64_t *src, size_t src_len, const uint64_t *indices,
     size_t indices_len, const uint64_t *valid, size_t valid_len, uint64_t *dst, size_t dst_len);
-vortex_answer vortex_gather_16(const vortex_record_16 *src, size_t src_len, const uint64_t *indices,
-    size_t indices_len, const uint64_t *valid, size_t valid_len,
+vortex_answer vortex_take_front_16(const vortex_record_16 *src, size_t src_len,
+    const uint64_t *indices, size_t indices_len, const uint64_t *valid, size_t valid_len,
     vortex_record_16 *dst, size_t dst_len);
-vortex_answer vortex_gather_32(const vortex_record_32 *src, size_t src_len, const uint64_t *indices,
-    size_t indices_len, const uint64_t *valid, size_t valid_len,
+vortex_answer vortex_take_front_32(const vortex_record_32 *src, size_t src_len,
+    const uint64_t *indices, size_t indices_len, const uint64_t *valid, size_t valid_len,
     vortex_record_32 *dst, size_t dst_len);
 
 /* Writes the bits of src at the set bits of the mask to the front of dst, in order, and clear bits

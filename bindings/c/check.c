@@ -88,18 +88,23 @@ static void takes(void) {
     expect(is(answer, VORTEX_DONE, 0), "a take of nothing");
 }
 
-static void gathers(void) {
-    const uint64_t indices[3] = {3, 4, 0}, valid[1] = {5};
-    refill();
-    vortex_answer answer = vortex_gather_4(four, 4, indices, 3, valid, 1, dst, 2);
-    expect(is(answer, VORTEX_ROOM, 3) && is_untouched(), "a gather into too little room");
-    answer = vortex_gather_4(four, 4, indices, 3, NULL, 0, dst, 4);
-    expect(is(answer, VORTEX_INDEX, 1), "a gather with an index out of bounds");
-    expect(dst[0] == 40 && dst[1] == 0xabababab, "what it gives before that index");
-    answer = vortex_gather_4(four, 4, indices, 3, valid, 1, dst, 4);
-    expect(is(answer, VORTEX_DONE, 3) && dst[1] == 0 && dst[2] == 10, "a gather with a null");
-    answer = vortex_gather_4(NULL, 0, NULL, 0, NULL, 0, NULL, 0);
-    expect(is(answer, VORTEX_DONE, 0), "a gather of nothing");
+static void fronts(void) {
+    const uint64_t indices[6] = {3, 0, 1, 1, 2, 4}, valid[1] = {31}, most[1] = {UINT64_MAX};
+    uint32_t out[6];
+    memset(out, 0xab, sizeof out);
+    vortex_answer answer = vortex_take_front_4(four, 4, indices, 6, NULL, 0, out, 5);
+    expect(is(answer, VORTEX_ROOM, 6) && out[0] == 0xabababab, "a front into too little room");
+    answer = vortex_take_front_4(four, 4, indices, 4, valid, 1, out, 6);
+    expect(answer.status == VORTEX_BITS_PAST && out[0] == 0xabababab, "a front, a bit past");
+    answer = vortex_take_front_4(four, 4, most, 1, NULL, 0, out, 6);
+    expect(is(answer, VORTEX_DONE, 0) && out[0] == 0xabababab, "a front of nothing");
+    answer = vortex_take_front_4(four, 4, indices, 6, NULL, 0, out, 6);
+    expect(is(answer, VORTEX_DONE, 5), "a front, by where it ends");
+    expect(out[0] == 40 && out[3] == 20 && out[4] == 30 && out[5] == 0xabababab, "what it has");
+    answer = vortex_take_front_4(four, 4, indices, 6, valid, 1, out, 6);
+    expect(is(answer, VORTEX_DONE, 6) && out[5] == 0, "a front, which ends at no null");
+    answer = vortex_take_front_4(NULL, 0, NULL, 0, NULL, 0, NULL, 0);
+    expect(is(answer, VORTEX_DONE, 0), "a front of no indices");
 }
 
 static const uint64_t ten_bits[2] = {(uint64_t)3 << 60, 5};
@@ -187,7 +192,7 @@ int main(void) {
     filters();
     filters_in_place();
     takes();
-    gathers();
+    fronts();
     bit_filters();
     bit_takes();
     positions();

@@ -47,7 +47,7 @@ def _library():
     beside = os.path.join(here, "libvortex_select.so")
     library = ctypes.CDLL(os.environ.get("VORTEX_SELECT_LIBRARY", beside))
     place, size = ctypes.c_void_p, ctypes.c_size_t
-    lists = {"filter": 3, "filter_in_place": 2, "take": 4}
+    lists = {"filter": 3, "filter_in_place": 2, "take_front": 4}
     for name, count in lists.items():
         for width in _WIDTHS:
             call = getattr(library, f"vortex_{name}_{width}")
@@ -196,7 +196,7 @@ def take(values, indices, valid=None, width=None):
     """
     width = _width_of(values, width)
     align = min(width, 8)
-    call = getattr(_calls, f"vortex_take_{width}")
+    call = getattr(_calls, f"vortex_take_front_{width}")
     indices = _index_list(indices)
     with _Held(values, align) as src, _Held(indices, 8) as at:
         picks = at.size // 8
@@ -204,7 +204,9 @@ def take(values, indices, valid=None, width=None):
         taken = bytearray(width * picks)
         with _Held(words, 8) as there, _Held(taken, align, True) as dst:
             lists = (src.size // width, at.address, picks, there.address, len(words), dst.address)
-            _checked(call(src.address, *lists, picks))
+            place = _checked(call(src.address, *lists, picks))
+        if place < picks:
+            raise IndexError(f"index {place} of the list is out of bounds")
         return taken
 
 

@@ -27,7 +27,7 @@ pub struct Record16([u64; 2]);
 pub struct Record32([u64; 4]);
 
 macro_rules! of_width {
-    ($item:ty: $filter:ident $in_place:ident $take:ident $gather:ident) => {
+    ($item:ty: $filter:ident $in_place:ident $take:ident $front:ident) => {
         extern "C" {
             pub fn $filter(
                 src: *const $item,
@@ -48,7 +48,7 @@ macro_rules! of_width {
                 dst: *mut $item,
                 room: usize,
             ) -> Answer;
-            pub fn $gather(
+            pub fn $front(
                 src: *const $item,
                 n: usize,
                 indices: *const u64,
@@ -62,12 +62,12 @@ macro_rules! of_width {
     };
 }
 
-of_width!(u8: vortex_filter_1 vortex_filter_in_place_1 vortex_take_1 vortex_gather_1);
-of_width!(u16: vortex_filter_2 vortex_filter_in_place_2 vortex_take_2 vortex_gather_2);
-of_width!(u32: vortex_filter_4 vortex_filter_in_place_4 vortex_take_4 vortex_gather_4);
-of_width!(u64: vortex_filter_8 vortex_filter_in_place_8 vortex_take_8 vortex_gather_8);
-of_width!(Record16: vortex_filter_16 vortex_filter_in_place_16 vortex_take_16 vortex_gather_16);
-of_width!(Record32: vortex_filter_32 vortex_filter_in_place_32 vortex_take_32 vortex_gather_32);
+of_width!(u8: vortex_filter_1 vortex_filter_in_place_1 vortex_take_1 vortex_take_front_1);
+of_width!(u16: vortex_filter_2 vortex_filter_in_place_2 vortex_take_2 vortex_take_front_2);
+of_width!(u32: vortex_filter_4 vortex_filter_in_place_4 vortex_take_4 vortex_take_front_4);
+of_width!(u64: vortex_filter_8 vortex_filter_in_place_8 vortex_take_8 vortex_take_front_8);
+of_width!(Record16: vortex_filter_16 vortex_filter_in_place_16 vortex_take_16 vortex_take_front_16);
+of_width!(Record32: vortex_filter_32 vortex_filter_in_place_32 vortex_take_32 vortex_take_front_32);
 
 extern "C" {
     pub fn vortex_filter_bits(

@@ -130,10 +130,43 @@ fn take_words<T: Record>(
     valid: &[u64],
 ) -> Result<Vec<T>, OutOfBounds> {
     let count = indices.len();
-    let (answer, taken) =
-        unsafe { written(count, |dst| T::take(values, indices, valid, dst, count)) };
+    let mut taken = Vec::with_capacity(count);
+    let answer = T::take_front(values, indices, valid, taken.as_mut_ptr(), count);
+    assert_eq!(answer.status, DONE);
+    let place = answer.value as usize;
+    if place < count {
+        return Err(OutOfBounds { place });
+    }
+    // SAFETY: the call wrote as many values as it answers.
+    unsafe { taken.set_len(count) };
+    Ok(taken)
+}
+
+/// Writes the values at the indices to `dst`, in order; or writes nothing, and tells the first
+/// index that is out of bounds.
+///
+/// # Panics
+/// Where `dst` isn't as long as the list of indices.
+///
+/// ```
+/// use vortex_select::{take_into, OutOfBounds};
+///
+/// let mut taken = [1u16, 2];
+/// assert_eq!(take_into(&[7, 8, 9], &[2, 3], &mut taken), Err(OutOfBounds { place: 1 }));
+/// assert_eq!(taken, [1, 2]);
+/// assert_eq!(take_into(&[7, 8, 9], &[2, 0], &mut taken), Ok(()));
+/// assert_eq!(taken, [9, 7]);
+/// ```
+pub fn take_into<T: Record>(
+    values: &[T],
+    indices: &[u64],
+    dst: &mut [T],
+) -> Result<(), OutOfBounds> {
+    assert_eq!(indices.len(), dst.len(), "a list is as long as its indices");
+    let room = dst.len();
+    let answer = T::take(values, indices, &[], dst.as_mut_ptr(), room);
     match answer.status {
-        DONE => Ok(taken),
+        DONE => Ok(()),
         INDEX => Err(OutOfBounds {
             place: answer.value as usize,
         }),

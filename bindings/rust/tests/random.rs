@@ -2,8 +2,8 @@
 use std::fmt::Debug;
 use std::ops::Range;
 use vortex_select::{
-    filter, filter_bits, filter_in_place, take, take_bits, take_bits_valid, take_valid, Bits, Mask,
-    OutOfBounds, Record,
+    filter, filter_bits, filter_in_place, take, take_bits, take_bits_valid, take_into, take_valid,
+    Bits, Mask, OutOfBounds, Record,
 };
 
 /// Random numbers by xorshift.
@@ -93,7 +93,7 @@ fn plain_runs(rows: &[bool]) -> Vec<Range<u64>> {
 
 fn one_call<T: Record + PartialEq + Debug>(dice: &mut Dice, zero: T, of: fn(u64) -> T) {
     let values: Vec<T> = (0..dice.len()).map(|_| of(dice.roll())).collect();
-    match dice.below(5) {
+    match dice.below(6) {
         0 => {
             let rows = dice.bools(values.len());
             assert_eq!(
@@ -122,6 +122,16 @@ fn one_call<T: Record + PartialEq + Debug>(dice: &mut Dice, zero: T, of: fn(u64)
             let there = dice.bools(len);
             let answer = take_valid(&values, &indices, &Mask::from_bools(&there));
             assert_eq!(answer, plain_take(&values, &indices, &there, zero));
+        }
+        4 => {
+            let len = dice.len();
+            let indices = dice.indices(len, values.len());
+            let old: Vec<T> = (0..len).map(|_| of(dice.roll())).collect();
+            let plain = plain_take(&values, &indices, &vec![true; len], zero);
+            let mut dst = old.clone();
+            let answer = take_into(&values, &indices, &mut dst);
+            assert_eq!(answer, plain.as_ref().map(|_| ()).map_err(|fault| *fault));
+            assert_eq!(dst, plain.unwrap_or(old));
         }
         _ => {
             let len = dice.len();

@@ -1,10 +1,11 @@
 -- Bits that words hold, read from any of them on and written from the first one.
-use Rattle.std.proofs.Common.{◌≡◌, ℕ, zero, suc, ◌+◌, ◌-◌, ◌*◌, ◌/◌, ◌%◌, ◌^◌, ◌<◌, ◌≤◌, min, Bool, true, false, cond, eqb, List, [], ◌∷◌, ◌++◌, length, get_or, take, drop, set, map, inl, inr, refl, sym, ap, ap₂, subst, ◌∙◌, arith}
+use Rattle.std.proofs.Common.{◌≡◌, ℕ, zero, suc, ◌+◌, ◌-◌, ◌*◌, ◌/◌, ◌%◌, ◌^◌, ◌<◌, ◌≤◌, min, Bool, true, false, eqb, List, [], ◌∷◌, ◌++◌, length, get_or, take, drop, set, map, inl, inr, refl, sym, ap, ap₂, subst, ◌∙◌, add-zero, zero-add, arith}
 use mir.Val.{bool_byte}
 use Rattle.std.specs.Int.{bit_at}
 use Rattle.std.specs.List.{range_with_len}
 use Rattle.std.proofs.lemmas.Bool.{cases_lt}
-use Rattle.std.proofs.lemmas.List.{append_assoc, append-nil, drop-append-le, drop-drop, drop-set-lt, drop-take, drop_all, drop_more, get_or-drop, get_or-take, get_or_default, length-append, length-drop, length-take, length-take-le, take-append-drop, take-append-le, take-take, take_all, take_more_set}
+use Rattle.std.proofs.lemmas.List.FromFn.{map-range_with_len_more}
+use Rattle.std.proofs.lemmas.List.{append-nil, append_assoc, drop-append-le, drop-drop, drop-set-lt, drop-take, drop_more, get_or-drop, get_or-take, get_or_default, length-append, length-drop, length-take, length-take-le, take-append-drop, take-append-le, take-take, take_all, take_more_set}
 use Rattle.std.proofs.lemmas.Nat.{mod_below, mul-add-lt, pow_pos, shl_whole}
 use Rattle.std.proofs.Math.Nat.{mod-eq_of_lt, mul_assoc, mul_comm, pow-suc}
 use Rattle.std.proofs.Math.Pow.{pow_mono}
@@ -249,3 +250,43 @@ none_packed words full next held e f g =
       next = f ∙ sym (ap (word_at []) e ∙ none);
       count = omega (arith, e, g);
     }
+
+-- ---- bits one by one
+
+pub record IsAdded (bits : List Bool) (j number : ℕ) : Type 0 where
+  pub spells : number ≡ number_of bits
+  pub below : number < 2 ^ (j + 1)
+
+-- a bit above the number of others
+pub bit_added : (bits : List Bool) (bit : Bool) (word j shifted : ℕ) → j < 64 → length bits ≡ j → word ≡ number_of bits → shifted ≡ bool_byte bit * 2 ^ j % 2 ^ 64 → IsAdded (bits ++ bit ∷ []) j (word + shifted)
+bit_added bits false word j shifted few long e es =
+    let all = number_joined bits (false ∷ []) in
+    let step : j + 1 ≡ suc j = omega arith in
+    let power : 2 ^ (j + 1) ≡ 2 * 2 ^ j = ap (λ n. 2 ^ n) step ∙ pow-suc 2 j ∙ mul_comm _ 2 in
+    let below : word < 2 ^ j = subst (λ (n : ℕ). word < 2 ^ n) long (subst (λ (x : ℕ). x < 2 ^ length bits) (sym e) (number_below bits)) in
+    record { spells = omega (arith, all, e, es); below = omega (arith, below, power, es) }
+bit_added bits true word j shifted few long e es =
+    let all : number_of (bits ++ true ∷ []) ≡ 1 * 2 ^ j + number_of bits = number_joined bits (true ∷ []) ∙ ap (λ n. 1 * 2 ^ n + number_of bits) long in
+    let step : j + 1 ≡ suc j = omega arith in
+    let power : 2 ^ (j + 1) ≡ 2 * 2 ^ j = ap (λ n. 2 ^ n) step ∙ pow-suc 2 j ∙ mul_comm _ 2 in
+    let below : word < 2 ^ j = subst (λ (n : ℕ). word < 2 ^ n) long (subst (λ (x : ℕ). x < 2 ^ length bits) (sym e) (number_below bits)) in
+    let most : j ≤ 63 = omega arith in
+    let small : 2 ^ j ≤ 2 ^ 63 = pow_mono most in
+    record { spells = omega (arith, all, e, es, small); below = omega (arith, below, power, es, small) }
+
+-- a list that two functions of the place make, one behind the other
+pub places_joined : {X : Type 0} (f : ℕ → X) (a n m : ℕ) → map f (range_with_len a (n + m)) ≡ map f (range_with_len a n) ++ map f (range_with_len (a + n) m)
+places_joined f a n zero = ap (λ k. map f (range_with_len a k)) (add-zero n) ∙ sym (append-nil (map f (range_with_len a n)))
+places_joined f a n (suc m) =
+    let front = map f (range_with_len a n) in
+    let next : n + suc m ≡ n + m + 1 = omega arith in
+    let last : suc m ≡ m + 1 = omega arith in
+    ap (λ k. map f (range_with_len a k)) next
+    ∙ map-range_with_len_more f a (n + m) (a + n + m) (omega arith)
+    ∙ ap (λ l. l ++ f (a + n + m) ∷ []) (places_joined f a n m)
+    ∙ append_assoc front (map f (range_with_len (a + n) m)) (f (a + n + m) ∷ [])
+    ∙ ap (λ l. front ++ l) (sym (ap (λ k. map f (range_with_len (a + n) k)) last ∙ map-range_with_len_more f (a + n) m (a + n + m) refl))
+
+pub places_behind : {X : Type 0} (f : ℕ → X) (n m : ℕ) → map f (range_with_len 0 n) ++ map f (range_with_len n m) ≡ map f (range_with_len 0 (n + m))
+places_behind f n m =
+    ap (λ k. map f (range_with_len 0 n) ++ map f (range_with_len k m)) (sym (zero-add n)) ∙ sym (places_joined f 0 n m)

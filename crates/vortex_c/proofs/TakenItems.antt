@@ -1,16 +1,17 @@
 -- Picks of which some are null, and the items at them.
-use Rattle.std.proofs.Common.{◌≡◌, ℕ, ◌+◌, ◌*◌, ◌/◌, ◌%◌, ◌<◌, ◌≤◌, true, cond, eqb, ltb, List, [], ◌∷◌, ◌++◌, length, get_or, take, drop, set, map, eq-eqb, ne_eqb, inl, inr, refl, sym, ap, ap₂, ◌∙◌, arith}
+use Rattle.std.proofs.Common.{◌≡◌, ℕ, ◌+◌, ◌*◌, ◌/◌, ◌%◌, ◌<◌, ◌≤◌, true, cond, eqb, ltb, List, [], ◌∷◌, ◌++◌, length, get_or, take, drop, set, map, eq-eqb, ne_eqb, inl, inr, refl, subst, sym, ap, ap₂, ◌∙◌, arith}
 use Rattle.std.specs.Int.{bit_at}
 use Rattle.std.specs.List.{range_with_len}
 use Rattle.std.proofs.lemmas.Bool.{cases_lt, le-ltb, lt-ltb}
-use Rattle.std.proofs.lemmas.List.{get_or-drop, get_or_append_left, map-append, take_more_set}
+use Rattle.std.proofs.Math.ListN.{length-set}
+use Rattle.std.proofs.lemmas.List.{get_or-drop, get_or_append_left, map-append, take-append-drop, take_more_set}
 use Rattle.std.proofs.lemmas.List.FromFn.{map-range_with_len_more}
 use Rattle.vx_bits.specs.Words.{word_bits}
 use Rattle.vx_bits.proofs.WordBits.{get_or-word_bits, length-word_bits}
 use Rattle.vx_filter.specs.Compact.{bits_of_words}
 use Rattle.vx_take.specs.Picks.{at, item_at}
 use Rattle.vortex_c.specs.Masks.{mask_fault}
-use Rattle.vortex_c.specs.Takes.{IsPast, is_there, pick_at, take_fault, valid_fault}
+use Rattle.vortex_c.specs.Takes.{IsFront, IsPast, front_at, is_there, pick_at, take_fault, valid_fault}
 use Rattle.vortex_c.proofs.MaskRows.{bits_from}
 use Rattle.vortex_c.proofs.MaskWords.{is_mask}
 
@@ -40,6 +41,11 @@ word_there picks valid k e h some =
     omega (arith, (is_mask picks valid fault).lengths)
 
 -- ---- faults
+
+-- without a word the words are none
+pub no_word : (valid : List ℕ) → length valid ≡ 0 → [] ≡ valid
+no_word [] e = refl
+no_word (x ∷ valid) e = absurd (omega (arith, e))
 
 pub no_words : (picks : ℕ) (valid : List ℕ) → length valid ≡ 0 → 0 ≡ valid_fault picks valid
 no_words picks valid e = sym (ap (λ b. cond b 0 (mask_fault picks valid)) (eq-eqb (length valid) 0 e))
@@ -78,3 +84,26 @@ module _ {X : Type 0} (fill : X) (src : List X) (indices valid : List ℕ) where
   -- the item at one more pick was written
   pub gathered_more : (dst : List X) (k : ℕ) (x : X) → k < length dst → take k dst ≡ at fill src (map (pick_at indices valid) (range_with_len 0 k)) → x ≡ item_at fill src (pick_at indices valid k) → take (k + 1) (set dst k x) ≡ at fill src (map (pick_at indices valid) (range_with_len 0 (k + 1)))
   gathered_more dst k x room before item = take_more_set dst k x room ∙ ap₂ (λ l y. l ++ y ∷ []) before item ∙ items_more k
+
+  -- the same where the next place is named
+  stored_next : (dst : List X) (k n : ℕ) (x : X) → n ≡ k + 1 → k < length dst → take k dst ≡ front_at fill src indices valid k → x ≡ item_at fill src (pick_at indices valid k) → take n (set dst k x) ≡ front_at fill src indices valid n
+  stored_next dst k n x e room before item =
+      subst (λ m. take m (set dst k x) ≡ front_at fill src indices valid m) (sym e) (gathered_more dst k x room before item)
+
+  -- the items at four more picks were written
+  pub four_more : (dst : List X) (k : ℕ) (a b c d : X) → k + 4 ≤ length dst → take k dst ≡ front_at fill src indices valid k → a ≡ item_at fill src (pick_at indices valid k) → b ≡ item_at fill src (pick_at indices valid (k + 1)) → c ≡ item_at fill src (pick_at indices valid (k + 2)) → d ≡ item_at fill src (pick_at indices valid (k + 3)) → take (k + 4) (set (set (set (set dst k a) (k + 1) b) (k + 2) c) (k + 3) d) ≡ front_at fill src indices valid (k + 4)
+  four_more dst k a b c d room before ea eb ec ed =
+      let one = set dst k a in
+      let two = set one (k + 1) b in
+      let three = set two (k + 2) c in
+      let n1 : length one ≡ length dst = length-set dst k a in
+      let n2 : length two ≡ length one = length-set one (k + 1) b in
+      let n3 : length three ≡ length two = length-set two (k + 2) c in
+      let s1 = stored_next dst k (k + 1) a refl (omega arith) before ea in
+      let s2 = stored_next one (k + 1) (k + 2) b (omega arith) (omega arith) s1 eb in
+      let s3 = stored_next two (k + 2) (k + 3) c (omega arith) (omega arith) s2 ec in
+      stored_next three (k + 3) (k + 4) d (omega arith) (omega arith) s3 ed
+
+  -- the whole list behind the first k items
+  pub front_whole : (old new : List X) (k : ℕ) → IsFront fill src indices valid old new k → new ≡ front_at fill src indices valid k ++ drop k old
+  front_whole old new k f = sym (take-append-drop k new) ∙ ap₂ (λ a b. a ++ b) f.items f.rest

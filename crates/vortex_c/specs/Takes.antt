@@ -1,5 +1,5 @@
 -- What a take from outside answers, and what it leaves.
-use Rattle.std.specs.Prelude.{◌≡◌, ◌≢◌, ◌⊎◌, ℕ, ◌<◌, ◌≤◌, ◌==◌, Bool, true, List, ◌++◌, length, map, drop, Option, None, Some, slice_index, slice_index_or, if◌then◌else◌, nat_lt}
+use Rattle.std.specs.Prelude.{◌≡◌, ◌≢◌, ◌⊎◌, ℕ, ◌<◌, ◌≤◌, ◌==◌, Bool, true, List, ◌++◌, length, map, take, drop, Option, None, Some, slice_index, slice_index_or, if◌then◌else◌, nat_lt}
 use Rattle.std.specs.List.{range_with_len}
 use Rattle.vx_filter.specs.Compact.{bits_of_words}
 use Rattle.vx_take.specs.Picks.{at}
@@ -50,13 +50,26 @@ pub record IsTaken {X : Type 0} (fill : X) (src : List X) (indices valid : List 
   pub items : status ≡ 0 → new ≡ at fill src (picks_at indices valid) ++ drop value old
   pub refused : status ≢ 0 → new ≡ old
 
--- the same, but where an index is out of bounds the items at the picks before it were written
-pub record IsGathered {X : Type 0} (fill : X) (src : List X) (indices valid : List ℕ) (old new : List X) (status value : ℕ) : Type 0 where
-  pub fault : take_fault (length indices) valid (length old) ≢ 0
-      → status ≡ take_fault (length indices) valid (length old)
-  pub fits : take_fault (length indices) valid (length old) ≡ 0 → (status ≡ 0) ⊎ (status ≡ 4)
-  pub past : status ≡ 4 → IsFirstPast (length src) indices valid value
-  pub count : (status ≡ 0) ⊎ (status ≡ 3) → value ≡ length indices
-  pub items : (status ≡ 0) ⊎ (status ≡ 4) → new
-      ≡ at fill src (map (pick_at indices valid) (range_with_len 0 value)) ++ drop value old
-  pub refused : status ≢ 0 → status ≢ 4 → new ≡ old
+-- the items at the first k picks
+abbrev pub front_at : {X : Type 0} → X → List X → List ℕ → List ℕ → ℕ → List X
+front_at fill src indices valid k = at fill src (map (pick_at indices valid) (range_with_len 0 k))
+
+-- no index of the first k picks is out of bounds, their items stand at the front, and the rest is as
+-- it was
+pub record IsFront {X : Type 0} (fill : X) (src : List X) (indices valid : List ℕ) (old new : List X) (k : ℕ) : Type 0 where
+  pub within : k ≤ length indices
+  pub inside : (j : ℕ) → j < k → IsPast (length src) indices valid j → ⊥
+  pub items : take k new ≡ front_at fill src indices valid k
+  pub rest : drop k new ≡ drop k old
+
+-- the items at the picks before the first that is out of bounds stand at the front of the output,
+-- `fill` at each null, the number is how many they are, and the rest of it is as it was; or the call
+-- was refused and all of it is
+pub record IsFrontTaken {X : Type 0} (fill : X) (src : List X) (indices valid : List ℕ) (old new : List X) (status value : ℕ) : Type 0 where
+  pub fault : status ≡ take_fault (length indices) valid (length old)
+  pub room : status ≡ 3 → value ≡ length indices
+  pub within : status ≡ 0 → value ≤ length indices
+  pub inside : status ≡ 0 → (k : ℕ) → k < value → IsPast (length src) indices valid k → ⊥
+  pub past : status ≡ 0 → value < length indices → IsPast (length src) indices valid value
+  pub items : status ≡ 0 → new ≡ front_at fill src indices valid value ++ drop value old
+  pub refused : status ≢ 0 → new ≡ old

@@ -22,7 +22,8 @@ fn count_bits(words: &[u64], offset: usize, len: usize) -> usize
     count
 }
 
-// The bits of a word at the set bits of another, packed from bit 0. A full one takes the word whole.
+// The bits of a word at the set bits of another, packed from bit 0. A full one takes the word
+// whole.
 #[inline(always)]
 fn picked(word: u64, picks: u64) -> u64
     ensures { result ≡ pext word picks }

@@ -1,16 +1,131 @@
-//! Takes of records in one pass, which tests each index as it comes to it.
-ghost use Rattle.std.specs.Prelude.{◌≡◌, ◌<◌, ◌≤◌, ◌++◌, ℕ, length, map, drop};
-ghost use Rattle.std.specs.List.{range_with_len};
-ghost use Rattle.vx_take.specs.Picks.{at};
-ghost use Rattle.vortex_c.specs.Takes.{IsGathered, IsPast, pick_at, valid_fault};
+//! The items at picks, as far as their indices are below the bound.
+ghost use Rattle.std.specs.Prelude.{◌≡◌, ◌+◌, ◌<◌, ◌≤◌, ℕ, MatchOption, length, take, drop, true, false};
+ghost use Rattle.vx_take.specs.Picks.{item_at};
+ghost use Rattle.vortex_c.specs.Takes.{IsFront, IsPast, front_at, pick_at, valid_fault};
 
-use crate::answer::{Answer, DONE, INDEX};
-use crate::records::{Record16, Record32};
-use crate::take::{fault_of_take, item_or, there};
+use crate::take::there;
 
-// Writes the items at the picks, and `fill` at each null, up to the first pick that is out of
-// bounds, and answers how many they are.
-fn gather_inside<T: Copy>(
+// The item at pick `k`, or `fill` where it is null; none where its index is out of bounds.
+#[inline(always)]
+fn item_inside<T: Copy>(src: &[T], indices: &[u64], valid: &[u64], fill: T, k: usize) -> Option<T>
+    requires valid { valid_fault (length indices.now) valid.now ≡ 0 }
+    requires place { k < length indices.now }
+    ensures { MatchOption result
+        (IsPast (length src.now) indices.now valid.now k)
+        (λ item. (IsPast (length src.now) indices.now valid.now k → ⊥)
+        × (item ≡ item_at fill src.now (pick_at indices.now valid.now k))) }
+{
+    let index = indices[k];
+    if !there(valid, k) {
+        return Some(fill);
+    }
+    if index >= src.len() as u64 {
+        return None;
+    }
+    Some(src[index as usize])
+}
+
+// Writes the items at four picks from `k` on, where no index of theirs is out of bounds.
+#[inline(always)]
+fn put_four<T: Copy>(
+    src: &[T],
+    indices: &[u64],
+    valid: &[u64],
+    fill: T,
+    k: usize,
+    dst: &mut [T],
+) -> bool
+    requires valid { valid_fault (length indices.now) valid.now ≡ 0 }
+    requires place { k + 4 ≤ length indices.now }
+    requires room { length indices.now ≤ length dst.old }
+    ensures inside { result ≡ true
+        → (j : ℕ) → k ≤ j → j < k + 4 → IsPast (length src.now) indices.now valid.now j → ⊥ }
+    ensures items { result ≡ true
+        → take k dst.old ≡ front_at fill src.now indices.now valid.now k
+        → take (k + 4) dst.new ≡ front_at fill src.now indices.now valid.now (k + 4) }
+    ensures rest { drop (k + 4) dst.new ≡ drop (k + 4) dst.old }
+    ensures same { result ≡ false → dst.new ≡ dst.old }
+{
+    let Some(first) = item_inside(src, indices, valid, fill, k) else {
+        return false;
+    };
+    let Some(second) = item_inside(src, indices, valid, fill, k + 1) else {
+        return false;
+    };
+    let Some(third) = item_inside(src, indices, valid, fill, k + 2) else {
+        return false;
+    };
+    let Some(fourth) = item_inside(src, indices, valid, fill, k + 3) else {
+        return false;
+    };
+    dst[k] = first;
+    dst[k + 1] = second;
+    dst[k + 2] = third;
+    dst[k + 3] = fourth;
+    true
+}
+
+// Writes four items at a time, up to the last four picks or the first ones of which an index is out
+// of bounds, and answers how many they are.
+#[inline(always)]
+fn put_fours<T: Copy>(src: &[T], indices: &[u64], valid: &[u64], fill: T, dst: &mut [T]) -> usize
+    requires valid { valid_fault (length indices.now) valid.now ≡ 0 }
+    requires room { length indices.now ≤ length dst.old }
+    ensures { IsFront fill src.now indices.now valid.now dst.old dst.new result }
+{
+    for four in 0..indices.len() / 4 {
+        if !put_four(src, indices, valid, fill, 4 * four, dst) {
+            return 4 * four;
+        }
+    }
+    indices.len() / 4 * 4
+}
+
+// Writes the items from pick `from` on, up to the first whose index is out of bounds, and answers
+// the place of that one.
+#[inline(always)]
+fn put_rest<T: Copy>(
+    src: &[T],
+    indices: &[u64],
+    valid: &[u64],
+    fill: T,
+    from: usize,
+    dst: &mut [T],
+) -> usize
+    requires valid { valid_fault (length indices.now) valid.now ≡ 0 }
+    requires room { length indices.now ≤ length dst.old }
+    requires front { IsFront fill src.now indices.now valid.now dst.old dst.old from }
+    ensures front { IsFront fill src.now indices.now valid.now dst.old dst.new result }
+    ensures further { from ≤ result }
+    ensures past { result < length indices.now
+        → IsPast (length src.now) indices.now valid.now result }
+{
+    for k in from..indices.len() {
+        let Some(item) = item_inside(src, indices, valid, fill, k) else {
+            return k;
+        };
+        dst[k] = item;
+    }
+    indices.len()
+}
+
+// Writes the items at the picks, up to the first whose index is out of bounds, and answers the
+// place of that one.
+#[inline(always)]
+fn put_front<T: Copy>(src: &[T], indices: &[u64], valid: &[u64], fill: T, dst: &mut [T]) -> usize
+    requires valid { valid_fault (length indices.now) valid.now ≡ 0 }
+    requires room { length indices.now ≤ length dst.old }
+    ensures front { IsFront fill src.now indices.now valid.now dst.old dst.new result }
+    ensures past { result < length indices.now
+        → IsPast (length src.now) indices.now valid.now result }
+{
+    let from = put_fours(src, indices, valid, fill, dst);
+    put_rest(src, indices, valid, fill, from, dst)
+}
+
+// Writes the items at the picks, and `fill` at each null, up to the first pick whose index is out
+// of bounds, and answers how many they are. Where no pick is null, none is asked for.
+pub(crate) fn gather<T: Copy>(
     src: &[T],
     indices: &[u64],
     valid: &[u64],
@@ -19,141 +134,13 @@ fn gather_inside<T: Copy>(
 ) -> usize
     requires valid { valid_fault (length indices.now) valid.now ≡ 0 }
     requires room { length indices.now ≤ length dst.old }
-    ensures count { result ≤ length indices.now }
-    ensures inside { (k : ℕ) → k < result → IsPast (length src.now) indices.now valid.now k → ⊥ }
+    ensures front { IsFront fill src.now indices.now valid.now dst.old dst.new result }
     ensures past { result < length indices.now
         → IsPast (length src.now) indices.now valid.now result }
-    ensures items { dst.new
-        ≡ at fill src.now (map (pick_at indices.now valid.now) (range_with_len 0 result))
-        ++ drop result dst.old }
 {
-    for (k, index) in indices.iter().enumerate() {
-        let is_there = there(valid, k);
-        if is_there && *index >= src.len() as u64 {
-            return k;
-        }
-        dst[k] = item_or(src, is_there, *index, fill);
+    if valid.is_empty() {
+        put_front(src, indices, &[], fill, dst)
+    } else {
+        put_front(src, indices, valid, fill, dst)
     }
-    indices.len()
-}
-
-// The items at the picks, at the front of the output.
-fn gather<T: Copy>(src: &[T], indices: &[u64], valid: &[u64], fill: T, dst: &mut [T]) -> Answer
-    ensures { IsGathered fill src.now indices.now valid.now dst.old dst.new result.status
-        result.value }
-{
-    let fault = fault_of_take(indices.len(), valid, dst.len());
-    if fault != DONE {
-        return Answer {
-            status: fault,
-            value: indices.len() as u64,
-        };
-    }
-    let count = gather_inside(src, indices, valid, fill, dst);
-    let status = if count < indices.len() { INDEX } else { DONE };
-    Answer {
-        status,
-        value: count as u64,
-    }
-}
-
-/// `vortex_take_1` in one pass: where an index is out of bounds (4), the records at the picks before
-/// it stand at the front of `dst`.
-#[unsafe(no_mangle)]
-pub extern "C" fn vortex_gather_1(
-    src: &[u8],
-    indices: &[u64],
-    valid: &[u64],
-    dst: &mut [u8],
-) -> Answer
-    ensures { IsGathered 0 src.now indices.now valid.now dst.old dst.new
-        result.status result.value }
-{
-    gather(src, indices, valid, 0, dst)
-}
-
-/// `vortex_take_2` in one pass: where an index is out of bounds (4), the records at the picks before
-/// it stand at the front of `dst`.
-#[unsafe(no_mangle)]
-pub extern "C" fn vortex_gather_2(
-    src: &[u16],
-    indices: &[u64],
-    valid: &[u64],
-    dst: &mut [u16],
-) -> Answer
-    ensures { IsGathered 0 src.now indices.now valid.now dst.old dst.new
-        result.status result.value }
-{
-    gather(src, indices, valid, 0, dst)
-}
-
-/// `vortex_take_4` in one pass: where an index is out of bounds (4), the records at the picks before
-/// it stand at the front of `dst`.
-#[unsafe(no_mangle)]
-pub extern "C" fn vortex_gather_4(
-    src: &[u32],
-    indices: &[u64],
-    valid: &[u64],
-    dst: &mut [u32],
-) -> Answer
-    ensures { IsGathered 0 src.now indices.now valid.now dst.old dst.new
-        result.status result.value }
-{
-    gather(src, indices, valid, 0, dst)
-}
-
-/// `vortex_take_8` in one pass: where an index is out of bounds (4), the records at the picks before
-/// it stand at the front of `dst`.
-#[unsafe(no_mangle)]
-pub extern "C" fn vortex_gather_8(
-    src: &[u64],
-    indices: &[u64],
-    valid: &[u64],
-    dst: &mut [u64],
-) -> Answer
-    ensures { IsGathered 0 src.now indices.now valid.now dst.old dst.new
-        result.status result.value }
-{
-    gather(src, indices, valid, 0, dst)
-}
-
-/// `vortex_take_16` in one pass: where an index is out of bounds (4), the records at the picks before
-/// it stand at the front of `dst`.
-#[unsafe(no_mangle)]
-pub extern "C" fn vortex_gather_16(
-    src: &[Record16],
-    indices: &[u64],
-    valid: &[u64],
-    dst: &mut [Record16],
-) -> Answer
-    ensures { IsGathered (record { low = 0; high = 0 }) src.now indices.now valid.now dst.old dst.new
-        result.status result.value }
-{
-    gather(src, indices, valid, Record16 { low: 0, high: 0 }, dst)
-}
-
-/// `vortex_take_32` in one pass: where an index is out of bounds (4), the records at the picks before
-/// it stand at the front of `dst`.
-#[unsafe(no_mangle)]
-pub extern "C" fn vortex_gather_32(
-    src: &[Record32],
-    indices: &[u64],
-    valid: &[u64],
-    dst: &mut [Record32],
-) -> Answer
-    ensures { IsGathered (record { a = 0; b = 0; c = 0; d = 0 }) src.now indices.now valid.now dst.old dst.new
-        result.status result.value }
-{
-    gather(
-        src,
-        indices,
-        valid,
-        Record32 {
-            a: 0,
-            b: 0,
-            c: 0,
-            d: 0,
-        },
-        dst,
-    )
 }

@@ -17,3 +17,4 @@ mod records;
 mod runs;
 mod take;
 mod take_bits;
+mod take_front;

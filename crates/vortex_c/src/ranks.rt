@@ -59,8 +59,8 @@ fn count_to(words: &[u64], p: usize) -> usize
 
 /// The `k`-th set position of a mask of so many rows, from 0.
 ///
-/// 1: `words` are not as many as hold a bit for each row. 2: a bit past the rows is set. 4: not more
-/// than `k` bits are set, and the number is how many are.
+/// 1: `words` are not as many as hold a bit for each row. 2: a bit past the rows is set. 4: not
+/// more than `k` bits are set, and the number is how many are.
 #[unsafe(no_mangle)]
 pub extern "C" fn vortex_rank(words: &[u64], rows: usize, k: usize) -> Answer
     ensures { IsRanked rows words.now k result.status result.value }

@@ -24,7 +24,8 @@ fn wanted(word: u64, want: bool) -> u64
     if want { word } else { !word }
 }
 
-// The first row from `from` on that is selected, as `want` says, or is not; else how many there are.
+// The first row from `from` on that is selected, as `want` says, or is not; else how many there
+// are.
 fn next_with(words: &[u64], rows: usize, from: usize, want: bool) -> usize
     requires mask { mask_fault rows words.now ≡ 0 }
     requires lengths { length words.now ≡ word_count rows }
@@ -94,8 +95,8 @@ fn put_runs(words: &[u64], rows: usize, dst: &mut [Run])
 /// Writes the maximal runs of selected rows of a mask of so many to the front of `dst`, ascending:
 /// none is empty, and no two touch. The answer is how many they are.
 ///
-/// 1: `words` are not as many as hold a bit for each row. 2: a bit past the rows is set. 3: `dst` is
-/// too small, and the number is how many runs there are.
+/// 1: `words` are not as many as hold a bit for each row. 2: a bit past the rows is set. 3: `dst`
+/// is too small, and the number is how many runs there are.
 #[unsafe(no_mangle)]
 pub extern "C" fn vortex_runs(words: &[u64], rows: usize, dst: &mut [Run]) -> Answer
     ensures { AreRunsListed rows words.now dst.old dst.new result.status result.value }

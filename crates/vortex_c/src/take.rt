@@ -1,9 +1,9 @@
 //! Takes of records.
-ghost use Rattle.std.specs.Prelude.{◌≡◌, ◌≢◌, ◌/◌, ◌<◌, ◌≤◌, ◌++◌, ℕ, MatchOption, None, Some, if◌then◌else◌, length, drop, true};
-ghost use Rattle.vx_take.specs.Picks.{at, item_at};
-ghost use Rattle.vortex_c.specs.Takes.{IsFirstPast, IsPast, IsTaken, is_there, picks_at, take_fault, valid_fault};
+ghost use Rattle.std.specs.Prelude.{◌≡◌, ◌≢◌, ◌/◌, ◌^◌, ◌<◌, ℕ, MatchOption, length, slice_index, true};
+ghost use Rattle.vortex_c.specs.Takes.{IsFirstPast, IsPast, IsTaken, is_there, take_fault, valid_fault};
 
 use crate::answer::{Answer, DONE, INDEX, ROOM};
+use crate::gather::gather;
 use crate::masks::fault_of;
 use crate::records::{Record16, Record32};
 
@@ -23,15 +23,6 @@ pub(crate) fn there(valid: &[u64], k: usize) -> bool
     ensures { result ≡ is_there valid.now k }
 {
     valid.is_empty() || is_set(valid, k)
-}
-
-// The item at an index, or `fill` where it is not there.
-#[inline(always)]
-pub(crate) fn item_or<T: Copy>(src: &[T], there: bool, index: u64, fill: T) -> T
-    requires { there ≡ true → index < length src.now }
-    ensures { result ≡ item_at fill src.now (if there then Some index else None) }
-{
-    if there { src[index as usize] } else { fill }
 }
 
 // Why the words do not say which of so many picks are there, or `DONE`.
@@ -57,8 +48,42 @@ pub(crate) fn fault_of_take(picks: usize, valid: &[u64], room: usize) -> u64
     }
 }
 
+// A number below 2^63 shows that the index is below the bound.
+#[inline(always)]
+fn sign_of(index: u64, bound: u64) -> u64
+    ensures { result < 2 ^ 63 → index < bound }
+{
+    bound.wrapping_sub(1).wrapping_sub(index) | index
+}
+
+// Whether all indices are below the bound, the null ones too. It may miss that they are where the
+// bound is past 2^63.
+fn are_below(indices: &[u64], bound: usize) -> bool
+    ensures { result ≡ true
+        → (k : ℕ) → k < length indices.now → slice_index indices.now k < bound }
+{
+    let mut signs: u64 = 0;
+    for index in indices {
+        signs |= sign_of(*index, bound as u64);
+    }
+    signs < 1 << 63
+}
+
 // The first pick that is there and whose index is not below the bound.
 pub(crate) fn first_past(indices: &[u64], valid: &[u64], bound: usize) -> Option<usize>
+    requires { valid_fault (length indices.now) valid.now ≡ 0 }
+    ensures { MatchOption result
+        ((k : ℕ) → IsPast bound indices.now valid.now k → ⊥)
+        (IsFirstPast bound indices.now valid.now) }
+{
+    if are_below(indices, bound) {
+        return None;
+    }
+    search_past(indices, valid, bound)
+}
+
+// The same, one pick after another.
+fn search_past(indices: &[u64], valid: &[u64], bound: usize) -> Option<usize>
     requires { valid_fault (length indices.now) valid.now ≡ 0 }
     ensures { MatchOption result
         ((k : ℕ) → IsPast bound indices.now valid.now k → ⊥)
@@ -70,19 +95,6 @@ pub(crate) fn first_past(indices: &[u64], valid: &[u64], bound: usize) -> Option
         }
     }
     None
-}
-
-// Writes the items at the picks, and `fill` at each null.
-fn gather<T: Copy>(src: &[T], indices: &[u64], valid: &[u64], fill: T, dst: &mut [T])
-    requires valid { valid_fault (length indices.now) valid.now ≡ 0 }
-    requires within { (k : ℕ) → IsPast (length src.now) indices.now valid.now k → ⊥ }
-    requires room { length indices.now ≤ length dst.old }
-    ensures { dst.new
-        ≡ at fill src.now (picks_at indices.now valid.now) ++ drop (length indices.now) dst.old }
-{
-    for (k, index) in indices.iter().enumerate() {
-        dst[k] = item_or(src, there(valid, k), *index, fill);
-    }
 }
 
 // The items at the picks, at the front of the output.
@@ -98,16 +110,18 @@ fn take<T: Copy>(src: &[T], indices: &[u64], valid: &[u64], fill: T, dst: &mut [
             value,
         };
     }
-    if let Some(k) = first_past(indices, valid, src.len()) {
-        return Answer {
+    match first_past(indices, valid, src.len()) {
+        Some(k) => Answer {
             status: INDEX,
             value: k as u64,
-        };
-    }
-    gather(src, indices, valid, fill, dst);
-    Answer {
-        status: DONE,
-        value,
+        },
+        None => {
+            gather(src, indices, valid, fill, dst);
+            Answer {
+                status: DONE,
+                value,
+            }
+        }
     }
 }
 
@@ -225,8 +239,8 @@ pub extern "C" fn vortex_take_32(
     valid: &[u64],
     dst: &mut [Record32],
 ) -> Answer
-    ensures { IsTaken (record { a = 0; b = 0; c = 0; d = 0 }) src.now indices.now valid.now dst.old dst.new
-        result.status result.value }
+    ensures { IsTaken (record { a = 0; b = 0; c = 0; d = 0 }) src.now indices.now valid.now dst.old
+        dst.new result.status result.value }
 {
     take(
         src,

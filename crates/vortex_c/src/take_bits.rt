@@ -1,9 +1,11 @@
 //! A take of bits.
-ghost use Rattle.std.specs.Prelude.{◌≡◌, ◌+◌, ◌*◌, ◌<◌, ◌≤◌, ◌++◌, ℕ, None, Some, if◌then◌else◌, false, true, length, drop};
+ghost use Rattle.std.specs.Prelude.{◌≡◌, ◌+◌, ◌*◌, ◌<◌, ◌≤◌, ◌++◌, ℕ, None, Some, if◌then◌else◌, false, true, length, map, drop};
+ghost use Rattle.std.specs.List.{range_with_len};
+ghost use Rattle.vx_bits.specs.BitBuffer.{number_of};
 ghost use Rattle.vx_bits.specs.Words.{word_count};
 ghost use Rattle.vx_take.specs.Picks.{at, item_at};
 ghost use Rattle.vortex_c.specs.Bits.{AreBitsTaken, bit_take_fault, bits_at, words_of};
-ghost use Rattle.vortex_c.specs.Takes.{IsPast, picks_at, valid_fault};
+ghost use Rattle.vortex_c.specs.Takes.{IsPast, pick_at, picks_at, valid_fault};
 
 use crate::answer::{Answer, DONE, INDEX, LENGTHS, ROOM};
 use crate::bits::{Packed, bit_of, hold};
@@ -39,8 +41,37 @@ fn fault_of(src: &[u64], src_at: usize, len: usize, picks: usize, valid: &[u64],
     }
 }
 
+// The bits at so many picks from `start` on, the first one lowest, and a clear one at each null.
+#[inline(always)]
+fn word_taken(
+    src: &[u64],
+    src_at: usize,
+    len: usize,
+    indices: &[u64],
+    valid: &[u64],
+    start: usize,
+    count: usize,
+) -> u64
+    requires held { src_at + len ≤ 64 * length src.now }
+    requires valid { valid_fault (length indices.now) valid.now ≡ 0 }
+    requires within { (k : ℕ) → IsPast len indices.now valid.now k → ⊥ }
+    requires place { start + count ≤ length indices.now }
+    requires few { count ≤ 64 }
+    ensures { result ≡ number_of (at false (bits_at src.now src_at len)
+        (map (pick_at indices.now valid.now) (range_with_len start count))) }
+{
+    let mut word: u64 = 0;
+    for j in 0..count {
+        let k = start + j;
+        let bit = bit_or_clear(src, src_at, len, there(valid, k), indices[k]);
+        word += u64::from(bit) << j;
+    }
+    word
+}
+
 // Writes the bits at the picks, and a clear one at each null.
-fn put_taken(
+#[inline(always)]
+fn put_words(
     src: &[u64],
     src_at: usize,
     len: usize,
@@ -57,11 +88,36 @@ fn put_taken(
         ++ drop (word_count (length indices.now)) dst.old }
 {
     let mut taken = Packed::new();
-    for (k, index) in indices.iter().enumerate() {
-        let bit = bit_or_clear(src, src_at, len, there(valid, k), *index);
-        taken = taken.append(dst, u64::from(bit), 1);
+    for i in 0..indices.len().div_ceil(64) {
+        let count = (indices.len() - 64 * i).min(64);
+        let word = word_taken(src, src_at, len, indices, valid, 64 * i, count);
+        taken = taken.append(dst, word, count as u32);
     }
     taken.close(dst);
+}
+
+// The same. Whole words of bits, none of them null, are the most common.
+fn put_taken(
+    src: &[u64],
+    src_at: usize,
+    len: usize,
+    indices: &[u64],
+    valid: &[u64],
+    dst: &mut [u64],
+)
+    requires held { src_at + len ≤ 64 * length src.now }
+    requires valid { valid_fault (length indices.now) valid.now ≡ 0 }
+    requires within { (k : ℕ) → IsPast len indices.now valid.now k → ⊥ }
+    requires room { length indices.now ≤ 64 * length dst.old }
+    ensures { dst.new
+        ≡ words_of (at false (bits_at src.now src_at len) (picks_at indices.now valid.now))
+        ++ drop (word_count (length indices.now)) dst.old }
+{
+    if src_at == 0 && valid.is_empty() {
+        put_words(src, 0, len, indices, &[], dst);
+    } else {
+        put_words(src, src_at, len, indices, valid, dst);
+    }
 }
 
 /// Writes the bits of `src` at the indices to the front of `dst`, in order, a clear one at each
@@ -69,8 +125,8 @@ fn put_taken(
 /// `src` are the `len` ones from bit `src_at` on. Pick k is null where bit k of `valid` is clear;
 /// without words none is.
 ///
-/// 1: `src` does not hold so many bits, or `valid` has words, but not as many as hold a bit for each
-/// index. 2: a bit past the indices is set. 3: `dst` is too small, and the number is how many
+/// 1: `src` does not hold so many bits, or `valid` has words, but not as many as hold a bit for
+/// each index. 2: a bit past the indices is set. 3: `dst` is too small, and the number is how many
 /// indices there are. 4: an index that is not null is out of bounds, and the number is the first
 /// one's place.
 #[unsafe(no_mangle)]

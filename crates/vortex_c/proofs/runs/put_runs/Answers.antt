@@ -1,7 +1,6 @@
-use Rattle.std.proofs.Common.{◌+◌, ◌++◌, length, map, drop, refl, ap, ◌∙◌, arith}
+use Rattle.std.proofs.Common.{◌+◌, map, drop, refl, ap, ◌∙◌, arith}
 use Rattle.std.proofs.lemmas.List.{drop-set-lt}
 use Rattle.vx_filter.proofs.Moves.{same_further}
-use Rattle.vx_mask.specs.Positions.{maximal_runs}
 use Rattle.vortex_c.specs.Runs.{rows_of, run_of}
 use Rattle.vortex_c.proofs.FilterFaults.{front_and_rest}
 use Rattle.vortex_c.proofs.MaskRows.{length-rows}

@@ -1,7 +1,5 @@
-use Rattle.std.proofs.Common.{◌≡◌, ◌+◌, ◌*◌, ◌≤◌, ◌++◌, [], ◌∷◌, Bool, true, false, cond, List, None, Some, get_or, length, map, drop, subst, refl, sym, ap, ◌∙◌, arith}
+use Rattle.std.proofs.Common.{◌≡◌, ◌≤◌, ◌++◌, [], ◌∷◌, Bool, false, cond, List, None, Some, get_or, length, map, drop, subst, refl, ap, ◌∙◌, arith}
 use Rattle.std.specs.List.{range_with_len}
-use Rattle.std.proofs.lemmas.List.FromFn.{length-map-range_with_len}
-use Rattle.std.proofs.lemmas.List.{length-map}
 use Rattle.vx_bits.specs.Words.{word_count}
 use Rattle.vx_filter.proofs.Moves.{same_further}
 use Rattle.vx_take.specs.Picks.{at, item_at}
