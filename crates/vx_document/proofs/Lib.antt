@@ -1,4 +1,1 @@
-pub mod Extensions
 pub mod Inside
-pub mod Maps
-pub mod Refusals

@@ -16,9 +16,9 @@ use Rattle.vx_json.specs.Decimals.{decimal_of}
 use Rattle.vx_json.specs.Wholes.{at_most}
 use Rattle.vx_json.specs.Values.{ptype_named, hex_or_zero}
 use Rattle.vx_json.specs.declared.wholes.TheConstants.{GREATEST_LEN}
-use Rattle.vx_document.specs.Validity.{validity_alone, validity_stated}
+use Rattle.vx_column_json.specs.Validity.{validity_alone, validity_stated}
+use Rattle.vx_column_json.specs.Primitive.{ramp_listed, values_there}
 use Rattle.vx_document.specs.Columns.{inner_of}
-use Rattle.vx_document.specs.Primitive.{ramp_listed, values_there}
 use Rattle.vx_document.specs.Documents.{SourceValue, chunks_source}
 
 -- ---- its records

@@ -7,21 +7,21 @@ use Rattle.serde_json.specs.Find.{get, as_str}
 use Rattle.vx_model.specs.Column.{Column}
 use Rattle.vx_column.specs.Flat.{flat_fault}
 use Rattle.vx_json.specs.Meaning.{◌>>=◌, unless_fault}
-use Rattle.vx_document.specs.Validity.{validity_alone, validity_stated}
-use Rattle.vx_document.specs.Null.{null_by}
-use Rattle.vx_document.specs.Boolean.{bool_by}
-use Rattle.vx_document.specs.Primitive.{primitive_by}
-use Rattle.vx_document.specs.Decimal.{decimal_by}
-use Rattle.vx_document.specs.VarBin.{varbin_by}
-use Rattle.vx_document.specs.VarBinView.{views_by}
-use Rattle.vx_document.specs.Constant.{constant_by}
-use Rattle.vx_document.specs.Dict.{dict_by}
-use Rattle.vx_document.specs.Filter.{filter_by}
-use Rattle.vx_document.specs.Lists.{lists_by}
-use Rattle.vx_document.specs.Map.{map_by}
-use Rattle.vx_document.specs.Struct.{struct_by}
-use Rattle.vx_document.specs.Union.{union_by}
-use Rattle.vx_document.specs.Extension.{extension_by}
+use Rattle.vx_column_json.specs.Validity.{validity_alone, validity_stated}
+use Rattle.vx_column_json.specs.Null.{null_by}
+use Rattle.vx_column_json.specs.Boolean.{bool_by}
+use Rattle.vx_column_json.specs.Primitive.{primitive_by}
+use Rattle.vx_column_json.specs.Decimal.{decimal_by}
+use Rattle.vx_column_json.specs.VarBin.{varbin_by}
+use Rattle.vx_column_json.specs.VarBinView.{views_by}
+use Rattle.vx_column_json.specs.Constant.{constant_by}
+use Rattle.vx_column_json.specs.Dict.{dict_by}
+use Rattle.vx_column_json.specs.Filter.{filter_by}
+use Rattle.vx_column_json.specs.Lists.{lists_by}
+use Rattle.vx_column_json.specs.Map.{map_by}
+use Rattle.vx_column_json.specs.Struct.{struct_by}
+use Rattle.vx_column_json.specs.Union.{union_by}
+use Rattle.vx_column_json.specs.Extension.{extension_by}
 
 -- the column that each member of an object means, by the member's name
 abbrev pub Inner : Type 0

@@ -4,7 +4,7 @@ use Rattle.serde_json.specs.Data.{Data, Items}
 use Rattle.serde_json.specs.Find.{as_array}
 use Rattle.vx_types.specs.declared.ptype.PType.{PType}
 use Rattle.vx_model.specs.Column.{Column}
-use Rattle.vx_document.specs.Primitive.{primitive_by_items}
+use Rattle.vx_column_json.specs.Primitive.{primitive_by_items}
 use Rattle.vx_document.specs.Columns.{column_of}
 
 -- a list of numbers and nulls, of that type, or else a column

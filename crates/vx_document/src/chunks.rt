@@ -13,12 +13,11 @@ ghost use Rattle.vx_document.specs.Chunks.{values_by, decimals_listed, decimals_
 
 use crate::columns::validity_stated;
 use crate::documents::DocumentSource;
-use crate::primitive::{ramp_listed, values_there};
-use crate::validity::validity_alone;
 use serde_json::Value;
 use std::alloc::Global;
 use vx_bits::{Buffer, NoMemory, Records, map_each_record_width};
 use vx_column::{DType, DecimalDType, PType, Validity};
+use vx_column_json::{ramp_listed, validity_alone, values_there};
 use vx_json::{
     DocError, GREATEST_LEN, decimal_of, has_null, hex_values_of, is_closed, list_member,
     number_member, ptype_named, text_member,

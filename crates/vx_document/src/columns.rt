@@ -3,27 +3,17 @@ ghost use Rattle.std.specs.Option.{option_map};
 ghost use Rattle.serde_json.specs.View.{view, items_view};
 ghost use Rattle.vx_column.specs.Validity.{valid_of};
 ghost use Rattle.vx_json.specs.Meaning.{Gives};
-ghost use Rattle.vx_document.specs.Validity.{validity_from, validity_stated};
+ghost use Rattle.vx_column_json.specs.Validity.{validity_from, validity_stated};
 ghost use Rattle.vx_document.specs.Columns.{by_layout, column_of, each_column, inner_of, inner_lists_of, dict_in, filter_in, map_in, struct_in, union_in, extension_in, lists_in, flat_of};
 
-use crate::boolean::bool_by;
-use crate::constant::constant_by;
-use crate::decimal::decimal_by;
-use crate::dict::dict_by;
-use crate::extension::extension_by;
-use crate::filter::filter_by;
-use crate::lists::lists_by;
-use crate::map::map_by;
-use crate::null::null_by;
-use crate::primitive::primitive_by;
-use crate::struct_::struct_by;
-use crate::union_::union_by;
-use crate::validity::{validity_alone, validity_listed, validity_named};
-use crate::varbin::varbin_by;
-use crate::varbinview::views_by;
 use serde_json::Value;
 use std::alloc::Global;
 use vx_column::{Array, ArrayRef, FlatRef, Validity};
+use vx_column_json::{
+    bool_by, constant_by, decimal_by, dict_by, extension_by, filter_by, lists_by, map_by, null_by,
+    primitive_by, struct_by, union_by, validity_alone, validity_listed, validity_named, varbin_by,
+    views_by,
+};
 use vx_json::{DocError, list_member, member, text_member};
 
 /// The column that the value means, by its layout.
@@ -167,7 +157,7 @@ fn lists_in(alloc: Global, value: &Value, layout: &str) -> Result<Array, DocErro
 
 /// The validity that the value states, if it states one.
 #[cycle(columns)]
-#[tactic(auto, unfolding(crate::specs::Validity::validity_stated))]
+#[tactic(auto, unfolding(vx_column_json::specs::Validity::validity_stated))]
 pub(crate) fn validity_stated(alloc: Global, value: &Value) -> Result<Option<Validity>, DocError>
     ensures { Gives (λ v. option_map valid_of v) result
         (validity_stated (view value.now) (inner_of (view value.now))) }
@@ -180,7 +170,7 @@ pub(crate) fn validity_stated(alloc: Global, value: &Value) -> Result<Option<Val
 
 /// The validity that a member means: a text, a list of bools, or else a column.
 #[cycle(columns)]
-#[tactic(auto, unfolding(crate::specs::Validity::validity_from))]
+#[tactic(auto, unfolding(vx_column_json::specs::Validity::validity_from))]
 fn validity_from(alloc: Global, value: &Value) -> Result<Validity, DocError>
     ensures { Gives valid_of result (validity_from (view value.now) (column_of (view value.now))) }
 {

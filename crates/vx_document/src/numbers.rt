@@ -4,10 +4,10 @@ ghost use Rattle.vx_json.specs.Meaning.{Gives};
 ghost use Rattle.vx_document.specs.Numbers.{numbers_in};
 
 use crate::columns::column_of;
-use crate::primitive::primitive_by_items;
 use serde_json::Value;
 use std::alloc::Global;
 use vx_column::{Array, PType};
+use vx_column_json::primitive_by_items;
 use vx_json::DocError;
 
 /// The numbers that the value means: a list of numbers and nulls, of that type, or else a column.

@@ -74,8 +74,8 @@ impl ReadItem for StepItem {
     }
 }
 
-/// The list of steps that the value means. `Malformed` exactly where it means none, but that want of
-/// memory may come in place of any answer.
+/// The list of steps that the value means. `Malformed` exactly where it means none, but that want
+/// of memory may come in place of any answer.
 #[tactic(auto, unfolding(crate::specs::Steps::steps_of))]
 pub fn steps_of(alloc: Global, value: &Value) -> Result<StepList, DocError>
     ensures { Gives (map step_value) result (steps_of (view value.now)) }

@@ -1,6 +1,5 @@
 //! Policies.
-ghost use Rattle.std.specs.Prelude.{◌≡◌, option_and_then, option_map, Some};
-ghost use Rattle.serde_json.specs.Find.{as_object};
+ghost use Rattle.std.specs.Prelude.{◌≡◌, option_map, Some};
 ghost use Rattle.serde_json.specs.View.{view, members_view};
 ghost use Rattle.vx_mask.specs.Policy.{policy_fault, vortex_fields};
 ghost use Rattle.vx_json.specs.Meaning.{Gives, found_or, unless_fault};
@@ -109,17 +108,6 @@ fn with_members(f: PolicyFields, members: &Map<String, Value>) -> Result<PolicyF
     Ok(fields)
 }
 
-/// The usual fields with what each member says.
-fn fields_by_members(value: &Value) -> Result<PolicyFields, DocError>
-    ensures { Gives (λ f. f) result
-        (option_and_then (with_members vortex_fields) (as_object (view value.now))) }
-{
-    match value.as_object() {
-        Some(members) => with_members(*Policy::vortex().fields(), members),
-        None => Err(DocError::Malformed),
-    }
-}
-
 /// The policy of these fields. `Malformed` where they make none.
 fn policy_with(fields: PolicyFields) -> Result<Policy, DocError>
     ensures { Gives (λ p. p) result (unless_fault (policy_fault fields) fields) }
@@ -134,7 +122,10 @@ fn policy_with(fields: PolicyFields) -> Result<Policy, DocError>
 fn policy_by_members(value: &Value) -> Result<Policy, DocError>
     ensures { Gives (λ p. p) result (policy_by_members (view value.now)) }
 {
-    policy_with(fields_by_members(value)?)
+    match value.as_object() {
+        Some(members) => policy_with(with_members(*Policy::vortex().fields(), members)?),
+        None => Err(DocError::Malformed),
+    }
 }
 
 #[tactic(auto, unfolding(crate::specs::Policies::policy_of))]

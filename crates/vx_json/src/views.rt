@@ -26,7 +26,8 @@ const GREATEST_U32: usize = 4_294_967_295;
 /// the text has others than pairs of digits.
 #[tactic(auto, unfolding(crate::specs::Views::inlined_bytes))]
 fn view_spelled(digits: &str) -> Result<BinaryView, DocError>
-    ensures { Gives (λ v. v) result (option_and_then (λ b. Some (view_of b 0 0)) (inlined_bytes digits.now)) }
+    ensures { Gives (λ v. v) result
+        (option_and_then (λ b. Some (view_of b 0 0)) (inlined_bytes digits.now)) }
 {
     if digits.len() > 24 {
         return Err(DocError::Malformed);

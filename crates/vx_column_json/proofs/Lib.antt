@@ -1,0 +1,3 @@
+pub mod Extensions
+pub mod Maps
+pub mod Refusals

@@ -1,0 +1,34 @@
+-- What a JSON value means as a column of layout `List`.
+use Rattle.std.specs.Prelude.{[], ◌∷◌, if◌then◌else◌, Option, None, codes}
+use Rattle.serde_json.specs.Data.{Data}
+use Rattle.vx_types.specs.declared.ptype.PType.TheVariants.{I64}
+use Rattle.vx_model.specs.Column.{Column}
+use Rattle.vx_model.specs.List.{ListParts, list_fault, list_column}
+use Rattle.vx_model.specs.Records.{RecordParts}
+use Rattle.vx_model.specs.Valid.{Valid}
+use Rattle.vx_json.specs.Meaning.{◌>>=◌, unless_fault}
+use Rattle.vx_json.specs.Members.{is_closed}
+use Rattle.vx_column_json.specs.Offsets.{offset_type_of, offsets_in}
+
+abbrev pub list_parts : Column → RecordParts → Valid → ListParts
+list_parts elements offsets valid =
+    record { elements = elements; offsets = offsets; valid = valid }
+
+-- the column of the lists that the offsets cut, where they can, and where the validity can be its
+unfoldable pub list_made : Column → RecordParts → Valid → Option Column
+list_made elements offsets valid =
+    unless_fault (list_fault (list_parts elements offsets valid))
+    (list_column (list_parts elements offsets valid))
+
+unfoldable pub list_by_offsets : Column → Valid → Data → Option Column
+list_by_offsets elements valid d = do
+  ptype ← offset_type_of I64 d
+  offsets ← offsets_in ptype (codes "offsets") d
+  list_made elements offsets valid
+
+unfoldable pub list_by : Data → Column → Valid → Option Column
+list_by d elements valid =
+    if is_closed (codes "layout" ∷ codes "offsets" ∷ codes "offset_type" ∷ codes "elements"
+    ∷ codes "validity" ∷ []) d
+    then list_by_offsets elements valid d
+    else None

@@ -1,0 +1,46 @@
+//! Columns of layout `Filter`.
+ghost use Rattle.std.specs.Prelude.{◌≡◌, IfOk};
+ghost use Rattle.serde_json.specs.View.{view};
+ghost use Rattle.vx_mask.specs.Mask.{mask_bits};
+ghost use Rattle.vx_json.specs.Meaning.{Gives};
+ghost use Rattle.vx_column_json.specs.Filter.{filter_made, filter_by};
+
+use serde_json::Value;
+use std::alloc::Global;
+use vx_bits::NoMemory;
+use vx_column::{Array, FilterArray};
+use vx_json::{DocError, closed, mask_of, member};
+use vx_mask::Mask;
+
+/// The same mask, with what finds its rows fast: their positions where it keeps at most a 64th,
+/// which take no more memory than its bits, or else its block counts.
+fn with_ranks(alloc: Global, mask: Mask) -> Result<Mask, NoMemory>
+    ensures { IfOk result (λ m. mask_bits m ≡ mask_bits mask) }
+{
+    if mask.true_count() <= mask.len() / 64 {
+        mask.with_indices(alloc)
+    } else {
+        mask.with_blocks(alloc)
+    }
+}
+
+/// The column of the rows of the child that the mask keeps. `Malformed` where it isn't as long.
+fn filter_made(alloc: Global, child: Array, mask: Mask) -> Result<Array, DocError>
+    ensures { Gives (λ c. c) result (filter_made child (mask_bits mask)) }
+{
+    match FilterArray::try_new(child.into_ref(alloc)?, mask) {
+        Ok(column) => Ok(column.into_array()),
+        Err(_) => Err(DocError::Malformed),
+    }
+}
+
+/// The column of layout `Filter` that the value means, by the column that its member `child` means.
+/// `Malformed` where there is no mask, the mask isn't as long, or there is another member.
+#[tactic(auto, unfolding(crate::specs::Filter::filter_by))]
+pub fn filter_by(alloc: Global, value: &Value, child: Array) -> Result<Array, DocError>
+    ensures { Gives (λ c. c) result (filter_by (view value.now) child) }
+{
+    let object = closed(value, &["layout", "child", "mask"])?;
+    let mask = mask_of(alloc, member(object, "mask")?)?;
+    filter_made(alloc, child, with_ranks(alloc, mask)?)
+}

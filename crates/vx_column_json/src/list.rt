@@ -1,0 +1,64 @@
+//! Columns of layout `List`.
+ghost use Rattle.serde_json.specs.View.{view};
+ghost use Rattle.vx_column.specs.Validity.{valid_of};
+ghost use Rattle.vx_json.specs.Meaning.{Gives};
+ghost use Rattle.vx_column_json.specs.List.{list_made, list_by_offsets, list_by};
+
+use crate::lists::refusal;
+use crate::offsets::{offset_type_of, offsets_member};
+use serde_json::Value;
+use std::alloc::Global;
+use vx_column::{Array, ListArray, PType, PrimitiveArray, Validity};
+use vx_json::{DocError, is_closed};
+
+/// The column of the lists that these offsets cut the elements into. `Malformed` where they can't,
+/// or the validity can't be its.
+fn list_made(
+    alloc: Global,
+    elements: Array,
+    offsets: PrimitiveArray,
+    validity: Validity,
+) -> Result<Array, DocError>
+    ensures { Gives (λ c. c) result (list_made elements offsets (valid_of validity)) }
+{
+    match ListArray::try_new(alloc, elements.into_ref(alloc)?, offsets, validity) {
+        Ok(column) => Ok(column.into_array()),
+        Err(fault) => Err(refusal(fault)),
+    }
+}
+
+#[tactic(auto, unfolding(crate::specs::List::list_by_offsets))]
+fn list_by_offsets(
+    alloc: Global,
+    elements: Array,
+    validity: Validity,
+    value: &Value,
+) -> Result<Array, DocError>
+    ensures { Gives (λ c. c) result
+        (list_by_offsets elements (valid_of validity) (view value.now)) }
+{
+    let ptype = offset_type_of(PType::I64, value)?;
+    let offsets = offsets_member(alloc, ptype, value, "offsets")?;
+    list_made(alloc, elements, offsets, validity)
+}
+
+/// The column of that layout that the value means, by the column that its member `elements` means
+/// and the validity that it states.
+#[tactic(auto, unfolding(crate::specs::List::list_by))]
+pub(crate) fn list_by(
+    alloc: Global,
+    value: &Value,
+    elements: Array,
+    validity: Validity,
+) -> Result<Array, DocError>
+    ensures { Gives (λ c. c) result (list_by (view value.now) elements (valid_of validity)) }
+{
+    if is_closed(
+        value,
+        &["layout", "offsets", "offset_type", "elements", "validity"],
+    ) {
+        list_by_offsets(alloc, elements, validity, value)
+    } else {
+        Err(DocError::Malformed)
+    }
+}
