@@ -1,4 +1,8 @@
 //! People: structs of an id, a name and a list of tags.
+ghost use Rattle.std.specs.Prelude.{◌≡◌, IfOk, map};
+ghost use Rattle.vortex_select.specs.Columns.{rows_across};
+ghost use Rattle.vortex_select.specs.Struct.{fields_row};
+
 use crate::columns::{u64_column, u64_records};
 use crate::error::BuildError;
 use crate::names::text_column;
@@ -30,13 +34,17 @@ fn types_of(alloc: Global, columns: &[ArrayRef]) -> Result<Vec<DType>, NoMemory>
     Ok(types)
 }
 
-/// The column of `len` structs of these fields, none of them null.
+/// The column of `len` structs of these fields, none of them null: each row is the record of that
+/// row of every column.
 fn side_by_side(
     alloc: Global,
     names: &[&str],
     columns: Vec<ArrayRef>,
     len: usize,
-) -> Result<Array, BuildError> {
+) -> Result<Array, BuildError>
+    ensures rows { IfOk result
+        (λ c. c.rows ≡ map fields_row (rows_across columns.items len)) }
+{
     let fields = StructFields::try_new(alloc, names_of(alloc, names)?, types_of(alloc, &columns)?)?;
     let columns = Columns::new(alloc, columns)?;
     let structs = StructArray::try_new_with_dtype(columns, fields, len, Validity::NonNullable)?;
@@ -44,28 +52,27 @@ fn side_by_side(
 }
 
 /// The lists that these offsets cut the texts into.
-fn tags(alloc: Global, offsets: &[u64], texts: &[&str]) -> Result<Array, BuildError> {
-    let elements = text_column(alloc, texts)?.into_ref(alloc)?;
+fn tags(alloc: Global, offsets: &[u64], texts: &[&str]) -> Result<ArrayRef, BuildError> {
     let records = u64_records(alloc, offsets)?;
     let offsets = PrimitiveArray::try_new(PType::U64, records, Validity::NonNullable)?;
-    Ok(ListArray::try_new(alloc, elements, offsets, Validity::NonNullable)?.into_array())
+    let elements = text_column(alloc, texts)?.into_ref(alloc)?;
+    let lists = ListArray::try_new(alloc, elements, offsets, Validity::NonNullable)?;
+    Ok(lists.into_array().into_ref(alloc)?)
 }
 
-fn three(alloc: Global, a: ArrayRef, b: Array, c: Array) -> Result<Vec<ArrayRef>, NoMemory> {
+// Their ids, names and tags; the second has no tag.
+fn columns_of_people(alloc: Global) -> Result<Vec<ArrayRef>, Fail> {
     let mut columns = Vec::with_capacity(alloc, 3)?;
-    columns.push(a)?;
-    columns.push(b.into_ref(alloc)?)?;
-    columns.push(c.into_ref(alloc)?)?;
+    columns.push(u64_column(alloc, &[7, 8, 9, 10])?)?;
+    columns.push(text_column(alloc, &["Ann", "Bo", "Cy", "Dee"])?.into_ref(alloc)?)?;
+    columns.push(tags(alloc, &[0, 1, 1, 3, 4], &["new", "old", "big", "new"])?)?;
     Ok(columns)
 }
 
-/// Four people, the second of them without a tag.
-fn people(alloc: Global) -> Result<Array, BuildError> {
-    let names = text_column(alloc, &["Ann", "Bo", "Cy", "Dee"])?;
-    let tags = tags(alloc, &[0, 1, 1, 3, 4], &["new", "old", "big", "new"])?;
-    let ids = u64_column(alloc, &[7, 8, 9, 10])?;
-    let columns = three(alloc, ids, names, tags)?;
-    side_by_side(alloc, &["id", "name", "tags"], columns, 4)
+/// Four people.
+fn people(alloc: Global) -> Result<Array, Fail> {
+    let columns = columns_of_people(alloc)?;
+    Ok(side_by_side(alloc, &["id", "name", "tags"], columns, 4)?)
 }
 
 /// All but the second, and of these the second, none, and the first.

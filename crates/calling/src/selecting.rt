@@ -81,14 +81,18 @@ pub(crate) fn print_answers(rt: &impl Print, alloc: Global) -> Result<(), Fail> 
     let column = source(alloc)?;
     let [present, len] = [present_rows(&column), column.len()];
     println!(rt; "{present} of {len} rows are there")?;
-    print_by_policies(rt, alloc, &column)?;
+    print_by_policies(rt, alloc, &column, &steps_of(alloc)?)?;
     print_lazy(rt, alloc, &lazy(alloc, column)?)
 }
 
-fn print_by_policies(rt: &impl Print, alloc: Global, column: &Array) -> Result<(), Fail> {
-    let steps = steps_of(alloc)?;
+fn print_by_policies(
+    rt: &impl Print,
+    alloc: Global,
+    column: &Array,
+    steps: &[Step],
+) -> Result<(), Fail> {
     for policy in &[Policy::vortex(), with_sparse_limit(0)?] {
-        print_answer(rt, alloc, "steps:", column, &steps, policy)?;
+        print_answer(rt, alloc, "steps:", column, steps, policy)?;
     }
     Ok(())
 }
@@ -134,13 +138,12 @@ fn broken_step(alloc: Global, n: usize) -> Result<Step, BuildError> {
 /// A step that breaks a rule, one before it that leaves four rows or five, and behind it one that
 /// isn't looked at any more.
 fn broken_steps(alloc: Global, n: usize) -> Result<Vec<Step>, Fail> {
-    let mut steps = Vec::new(alloc);
+    let broken = broken_step(alloc, n)?;
     if n < 2 {
-        steps.push(slice(0, 4 + n))?;
+        Ok(vec![in alloc; slice(0, 4 + n), broken, slice(9, 1)]?)
+    } else {
+        Ok(vec![in alloc; broken, slice(9, 1)]?)
     }
-    steps.push(broken_step(alloc, n)?)?;
-    steps.push(slice(9, 1))?;
-    Ok(steps)
 }
 
 /// Single rows of the answer, and the first rows of a plain column.

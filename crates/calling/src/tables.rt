@@ -1,5 +1,5 @@
 //! Pages of a table, and of a join of two.
-ghost use Rattle.std.specs.Prelude.{◌≡◌, ◌≤◌, [], ◌∷◌, IfOk, length};
+ghost use Rattle.std.specs.Prelude.{◌≡◌, ◌≤◌, ◌<◌, [], ◌∷◌, IfOk, length};
 ghost use Rattle.vortex_select.specs.Keys.{matching_pairs};
 
 use crate::columns::u64_column;
@@ -37,21 +37,34 @@ fn numbered(alloc: Global, columns: Vec<ArrayRef>, len: usize) -> Result<Table, 
     for i in 0..columns.len() {
         names.push(RcStr::from_string(format!(in alloc; "c{i}")?)?)?;
     }
-    match Table::try_new(names, Columns::new(alloc, columns)?, len) {
-        Ok(table) => Ok(table),
-        Err(error) => Err(error.into()),
-    }
+    Ok(Table::try_new(names, Columns::new(alloc, columns)?, len)?)
 }
 
-// Ten columns of seven rows: row i of column k is 10 * k + i.
+// A table of these columns of numbers.
+fn table_of(alloc: Global, columns: &[&[u64]], len: usize) -> Result<Table, Fail> {
+    let mut made = Vec::with_capacity(alloc, columns.len())?;
+    for numbers in columns {
+        made.push(u64_column(alloc, numbers)?)?;
+    }
+    numbered(alloc, made, len)
+}
+
+// Column k of those ten: row i is 10 * k + i.
+fn seven_rows(alloc: Global, k: u64) -> Result<ArrayRef, Fail>
+    requires { k < 10 }
+{
+    let mut rows = Vec::with_capacity(alloc, 7)?;
+    for i in 0..7_u64 {
+        rows.push(10 * k + i)?;
+    }
+    Ok(u64_column(alloc, &rows)?)
+}
+
+// Ten columns of seven rows.
 fn ten_columns(alloc: Global) -> Result<Table, Fail> {
-    let mut columns = Vec::new(alloc);
+    let mut columns = Vec::with_capacity(alloc, 10)?;
     for k in 0..10_u64 {
-        let mut rows = Vec::new(alloc);
-        for i in 0..7_u64 {
-            rows.push(10 * k + i)?;
-        }
-        columns.push(u64_column(alloc, &rows)?)?;
+        columns.push(seven_rows(alloc, k)?)?;
     }
     numbered(alloc, columns, 7)
 }
@@ -69,26 +82,29 @@ fn print_columns(rt: &impl Print, table: &Table) -> Result<(), Fail> {
     Ok(())
 }
 
-/// The second page of three columns out of ten, and one page more of two joined tables.
+/// The second page of three columns out of ten, the same where a step is broken, and a page of two
+/// joined tables.
 pub(crate) fn print_pages(rt: &impl Print, alloc: Global) -> Result<(), Fail> {
-    let table = ten_columns(alloc)?;
-    rt.println("page 1 of 1..7:")?;
-    match four_rows(alloc, &table, &[7, 2, 0], &[slice(1, 7)], 1) {
-        Ok(rows) => print_columns(rt, &rows)?,
-        Err(error) => println!(rt; "  {error:?}")?,
-    }
-    print_refusal(rt, alloc, &table)?;
+    print_ten(rt, alloc, &ten_columns(alloc)?)?;
     print_join(rt, alloc)
 }
 
-// A step that is broken.
-fn print_refusal(rt: &impl Print, alloc: Global, table: &Table) -> Result<(), Fail> {
-    match four_rows(alloc, table, &[7, 2, 0], &[slice(1, 8)], 1) {
-        Ok(rows) => print_columns(rt, &rows),
-        Err(error) => {
-            println!(rt; "page 1 of 1..8: {error:?}")?;
-            Ok(())
+fn print_ten(rt: &impl Print, alloc: Global, table: &Table) -> Result<(), Fail> {
+    for end in [7, 8] {
+        print!(rt; "page 1 of 1..{end}:")?;
+        print_page(rt, alloc, table, &[slice(1, end)])?;
+    }
+    Ok(())
+}
+
+// Page 1 of three columns, or why there is none.
+fn print_page(rt: &impl Print, alloc: Global, table: &Table, steps: &[Step]) -> Result<(), Fail> {
+    match four_rows(alloc, table, &[7, 2, 0], steps, 1) {
+        Ok(rows) => {
+            println!(rt; "")?;
+            print_columns(rt, &rows)
         }
+        Err(error) => Ok(println!(rt; " {error:?}")?),
     }
 }
 
@@ -107,30 +123,16 @@ fn with_buyers(
 
 // Orders by their buyers, and the buyers' codes.
 fn print_join(rt: &impl Print, alloc: Global) -> Result<(), Fail> {
-    let buyers = u64_column(alloc, &[2, 1, 2, 3])?;
-    let amounts = u64_column(alloc, &[10, 20, 30, 40])?;
-    let orders = numbered(alloc, vec![in alloc; buyers, amounts]?, 4)?;
-    let ids = u64_column(alloc, &[1, 2])?;
-    let codes = u64_column(alloc, &[100, 200])?;
-    let buyers = numbered(alloc, vec![in alloc; ids, codes]?, 2)?;
-    let policy = Policy::vortex();
-    match with_buyers(alloc, &orders, &buyers, &policy) {
-        Ok(joined) => print_joined(rt, alloc, &joined, &policy),
-        Err(error) => Err(error.into()),
-    }
+    let orders = table_of(alloc, &[&[2, 1, 2, 3], &[10, 20, 30, 40]], 4)?;
+    let buyers = table_of(alloc, &[&[1, 2], &[100, 200]], 2)?;
+    let joined = with_buyers(alloc, &orders, &buyers, &Policy::vortex())?;
+    print_joined(rt, alloc, &joined)
 }
 
 // The first page of two pairs, amounts and codes.
-fn print_joined(
-    rt: &impl Print,
-    alloc: Global,
-    joined: &Table,
-    policy: &Policy,
-) -> Result<(), Fail> {
-    let pairs = joined.len();
-    println!(rt; "{pairs} pairs, the first two:")?;
-    match page(alloc, joined, &[1, 3], &[], 0, 2, policy) {
-        Ok(rows) => print_columns(rt, &rows),
-        Err(error) => Err(error.into()),
-    }
+fn print_joined(rt: &impl Print, alloc: Global, joined: &Table) -> Result<(), Fail> {
+    println!(rt; "{} pairs, the first two:", joined.len())?;
+    let policy = Policy::vortex();
+    let rows = page(alloc, joined, &[1, 3], &[], 0, 2, &policy)?;
+    print_columns(rt, &rows)
 }

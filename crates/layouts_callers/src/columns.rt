@@ -11,6 +11,7 @@ use vx_column::{
 };
 use vx_mask::Mask;
 use vx_pieces::{Indices, PiecewiseSequence};
+use vx_shared::Shared;
 
 pub(crate) fn bools(alloc: Global, bits: &[bool]) -> Result<Array, Fail> {
     let bits = BitBuffer::from_bools(alloc, bits)?;
@@ -74,31 +75,18 @@ pub(crate) fn pairs(
     Ok(FixedSizeListArray::try_new(alloc, elements, 2, validity, len)?)
 }
 
-// The name `x`, once.
-fn one_name(alloc: Global) -> Result<Vec<RcStr>, NoMemory> {
-    let mut names = Vec::with_capacity(alloc, 1)?;
-    names.push(RcStr::from_str(alloc, "x")?)?;
-    Ok(names)
-}
-
-fn one_type(alloc: Global, dtype: DType) -> Result<Vec<DType>, NoMemory> {
-    let mut types = Vec::with_capacity(alloc, 1)?;
-    types.push(dtype)?;
-    Ok(types)
-}
-
-fn one_column(alloc: Global, column: ArrayRef) -> Result<Columns, NoMemory> {
-    let mut columns = Vec::with_capacity(alloc, 1)?;
-    columns.push(column)?;
-    Columns::new(alloc, columns)
+// The field `x` of this type.
+fn one_field(alloc: Global, dtype: &DType) -> Result<Shared<StructFields>, Fail> {
+    let names = vec![in alloc; RcStr::from_str(alloc, "x")?]?;
+    let types = vec![in alloc; dtype.share()]?;
+    Ok(StructFields::try_new(alloc, names, types)?)
 }
 
 /// Structs of one field `x`, of these bytes.
 pub(crate) fn structs(alloc: Global, values: &[[u8; 1]]) -> Result<Array, Fail> {
     let x = bytes(alloc, values)?.into_ref(alloc)?;
-    let types = one_type(alloc, x.dtype().share())?;
-    let fields = StructFields::try_new(alloc, one_name(alloc)?, types)?;
-    let columns = one_column(alloc, x)?;
+    let fields = one_field(alloc, x.dtype())?;
+    let columns = Columns::new(alloc, vec![in alloc; x]?)?;
     let validity = Validity::NonNullable;
     Ok(StructArray::try_new_with_dtype(columns, fields, values.len(), validity)?.into_array())
 }

@@ -80,13 +80,20 @@ fn print_fixed_lists(rt: &impl Print, alloc: Global) -> Result<(), Fail> {
     print_pairs_of(rt, alloc, "fixed(list(u8), 2)", lists, 1)
 }
 
+fn longest(alloc: Global) -> Result<Array, Fail> {
+    let inner = no_fixed(alloc, bytes(alloc, &[])?, u32::MAX, Validity::NonNullable)?;
+    no_fixed(alloc, inner, u32::MAX, Validity::AllValid)
+}
+
+fn is_null_at(alloc: Global, array: &Array, i: usize) -> Result<bool, Fail> {
+    Ok(matches!(row_at(alloc, array, i)?, Row::Null))
+}
+
 /// Lists of the greatest size, in such lists: their elements outnumber any memory.
 fn print_longest(rt: &impl Print, alloc: Global) -> Result<(), Fail> {
-    let inner = no_fixed(alloc, bytes(alloc, &[])?, u32::MAX, Validity::NonNullable)?;
-    let outer = no_fixed(alloc, inner, u32::MAX, Validity::AllValid)?;
-    let filler = filler(alloc, &outer, MANY)?;
-    let last = row_at(alloc, &filler, MANY - 1)?;
-    let null = matches!(last, Row::Null);
+    let lists = longest(alloc)?;
+    let filler = filler(alloc, &lists, MANY)?;
+    let null = is_null_at(alloc, &filler, MANY - 1)?;
     println!(rt;
         "filler of lists of the longest size in such lists: {} rows, the last null: {null}",
         filler.len()

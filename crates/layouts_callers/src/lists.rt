@@ -82,21 +82,39 @@ fn print_null_take<V: TakeExecute>(
 /// that keeps all or none is left to the caller.
 pub(crate) fn print_lists(rt: &impl Print, alloc: Global) -> Result<(), Fail> {
     let column = lists(alloc, &[[0], [2], [2], [5]], &[[1], [2], [3], [4], [5]])?;
-    print_take::<List>(rt, alloc, &column, &[[2], [0], [2]])?;
-    print_take::<List>(rt, alloc, &column, &[[2], [3]])?;
-    print_null_take::<List>(rt, alloc, &column, &[[9], [2]], &[false, true])?;
-    print_kept::<List>(rt, alloc, &column, &[true, false, true])?;
-    print_kept::<List>(rt, alloc, &column, &[false, false, true])?;
-    print_kept::<List>(rt, alloc, &column, &[true, true, true])?;
-    print_kept::<List>(rt, alloc, &column, &[false, false, false])?;
+    print_list_takes(rt, alloc, &column)?;
+    print_list_filters(rt, alloc, &column)?;
     print_slice::<List>(rt, alloc, &column, 1, 3)
+}
+
+fn print_list_takes(rt: &impl Print, alloc: Global, column: &Array) -> Result<(), Fail> {
+    print_take::<List>(rt, alloc, column, &[[2], [0], [2]])?;
+    print_take::<List>(rt, alloc, column, &[[2], [3]])?;
+    print_null_take::<List>(rt, alloc, column, &[[9], [2]], &[false, true])
+}
+
+fn print_list_filters(rt: &impl Print, alloc: Global, column: &Array) -> Result<(), Fail> {
+    let filters = [
+        [true, false, true],
+        [false, false, true],
+        [true, true, true],
+        [false, false, false],
+    ];
+    for bits in filters {
+        print_kept::<List>(rt, alloc, column, &bits)?;
+    }
+    Ok(())
 }
 
 /// Steps of views.
 pub(crate) fn print_views(rt: &impl Print, alloc: Global) -> Result<(), Fail> {
     let views = views(alloc, &[[4], [0]], &[[1], [2]], &[[1], [2], [3], [4], [5]])?;
+    print_steps_of_views(rt, alloc, &views)
+}
+
+fn print_steps_of_views(rt: &impl Print, alloc: Global, views: &ListViewArray) -> Result<(), Fail> {
     print_view_steps(rt, alloc, &views.share().into_array())?;
-    print_view_filter(rt, alloc, &views)
+    print_view_filter(rt, alloc, views)
 }
 
 fn print_view_steps(rt: &impl Print, alloc: Global, column: &Array) -> Result<(), Fail> {
@@ -108,28 +126,37 @@ fn print_view_steps(rt: &impl Print, alloc: Global, column: &Array) -> Result<()
     print_slice::<ListView>(rt, alloc, column, 1, 2)
 }
 
-fn print_view_filter(rt: &impl Print, alloc: Global, array: &ListViewArray) -> Result<(), Fail> {
-    let mask = mask_of(alloc, &[false, true])?;
+fn kept_views(alloc: Global, array: &ListViewArray, mask: &Mask) -> Result<Array, Fail> {
     let Some(mask) = mask.values() else {
         return Err("no list, or each".into());
     };
     if mask.len() != array.share().into_array().len() {
         return Err("another number of lists".into());
     }
+    Ok(filter_listview(alloc, array, mask)?.into_array())
+}
+
+fn print_view_filter(rt: &impl Print, alloc: Global, array: &ListViewArray) -> Result<(), Fail> {
+    let mask = mask_of(alloc, &[false, true])?;
+    let kept = kept_views(alloc, array, &mask)?;
     print!(rt; "filter_listview:")?;
-    print_rows(
-        rt,
-        alloc,
-        &filter_listview(alloc, array, mask)?.into_array(),
-    )
+    print_rows(rt, alloc, &kept)
 }
 
 /// Steps of lists of one size, of which there are three, and none.
 pub(crate) fn print_fixed(rt: &impl Print, alloc: Global) -> Result<(), Fail> {
     let pairs = pairs(alloc, &[[1], [2], [3], [4], [5], [6]], 3)?;
-    print_fixed_steps(rt, alloc, &pairs.share().into_array())?;
-    print_fixed_filter(rt, alloc, &pairs)?;
+    print_steps_of_pairs(rt, alloc, &pairs)?;
     print_no_pairs(rt, alloc)
+}
+
+fn print_steps_of_pairs(
+    rt: &impl Print,
+    alloc: Global,
+    pairs: &FixedSizeListArray,
+) -> Result<(), Fail> {
+    print_fixed_steps(rt, alloc, &pairs.share().into_array())?;
+    print_fixed_filter(rt, alloc, pairs)
 }
 
 fn print_fixed_steps(rt: &impl Print, alloc: Global, column: &Array) -> Result<(), Fail> {
@@ -139,21 +166,25 @@ fn print_fixed_steps(rt: &impl Print, alloc: Global, column: &Array) -> Result<(
     print_slice::<FixedSizeList>(rt, alloc, column, 1, 3)
 }
 
-fn print_fixed_filter(
-    rt: &impl Print,
-    alloc: Global,
-    array: &FixedSizeListArray,
-) -> Result<(), Fail> {
-    let mask = mask_of(alloc, &[false, true, true])?;
+fn kept_fixed(alloc: Global, array: &FixedSizeListArray, mask: &Mask) -> Result<Array, Fail> {
     let Some(mask) = mask.values() else {
         return Err("no list, or each".into());
     };
     if mask.len() != array.share().into_array().len() {
         return Err("another number of lists".into());
     }
+    Ok(filter_fixed_size_list(alloc, array, mask)?.into_array())
+}
+
+fn print_fixed_filter(
+    rt: &impl Print,
+    alloc: Global,
+    array: &FixedSizeListArray,
+) -> Result<(), Fail> {
+    let mask = mask_of(alloc, &[false, true, true])?;
+    let kept = kept_fixed(alloc, array, &mask)?;
     print!(rt; "filter_fixed_size_list:")?;
-    let kept = filter_fixed_size_list(alloc, array, mask)?;
-    print_rows(rt, alloc, &kept.into_array())
+    print_rows(rt, alloc, &kept)
 }
 
 fn print_no_pairs(rt: &impl Print, alloc: Global) -> Result<(), Fail> {

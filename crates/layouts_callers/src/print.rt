@@ -9,8 +9,8 @@ fn print_element(rt: &impl Print, row: &Row) -> io::Result<()> {
         Row::Null => print!(rt; "null"),
         Row::Bit(bit) => print!(rt; "{bit}"),
         Row::Bytes(bytes) => print!(rt; "{:?}", bytes.as_slice()),
-        Row::List(rows) | Row::Fields(rows) => print!(rt; "{} rows", rows.as_slice().len()),
-        Row::Tagged(id, _) => print!(rt; "a row of variant {id}"),
+        Row::List(rows) => print!(rt; "{} rows", rows.as_slice().len()),
+        _ => print!(rt; "a row of fields or of a variant"),
     }
 }
 
@@ -24,22 +24,18 @@ fn print_elements(rt: &impl Print, rows: &[Row]) -> io::Result<()> {
     Ok(())
 }
 
+fn print_between(rt: &impl Print, open: &str, rows: &[Row], close: &str) -> io::Result<()> {
+    print!(rt; "{open}")?;
+    print_elements(rt, rows)?;
+    print!(rt; "{close}")
+}
+
 fn print_row(rt: &impl Print, row: &Row) -> io::Result<()> {
+    print!(rt; " ")?;
     match row {
-        Row::List(rows) => {
-            print!(rt; " (")?;
-            print_elements(rt, rows.as_slice())?;
-            print!(rt; ")")
-        }
-        Row::Fields(fields) => {
-            print!(rt; " {{")?;
-            print_elements(rt, fields.as_slice())?;
-            print!(rt; "}}")
-        }
-        _ => {
-            print!(rt; " ")?;
-            print_element(rt, row)
-        }
+        Row::List(rows) => print_between(rt, "(", rows.as_slice(), ")"),
+        Row::Fields(fields) => print_between(rt, "{", fields.as_slice(), "}"),
+        _ => print_element(rt, row),
     }
 }
 

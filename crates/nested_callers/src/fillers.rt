@@ -1,8 +1,9 @@
 //! Columns of rows that stand where none is shown.
-use crate::columns::{bytes, days, maps, points, structs, where_set};
+use crate::columns::{byte_columns, days, maps, points, structs, two_columns, where_set};
 use crate::print::print_rows;
 use std::alloc::Global;
 use std::test::Fail;
+use vx_bits::NoMemory;
 use vx_column::{Array, Validity};
 
 // As many rows as a document may state.
@@ -14,11 +15,16 @@ fn print_filler(rt: &impl Print, alloc: Global, array: &Array, len: usize) -> Re
     print_rows(rt, alloc, &Array::filler(alloc, array.dtype(), len)?)
 }
 
+fn no_rows(alloc: Global, array: &Array) -> Result<Array, NoMemory> {
+    Array::filler(alloc, array.dtype(), 0)
+}
+
 /// Structs of a map and an extension, as a column of no rows.
 fn no_structs(alloc: Global, validity: Validity) -> Result<Array, Fail> {
-    let maps = Array::filler(alloc, maps(alloc)?.into_array().dtype(), 0)?;
-    let days = Array::filler(alloc, days(alloc)?.into_array().dtype(), 0)?;
-    Ok(structs(alloc, ["m", "d"], maps, days, 0, validity)?.into_array())
+    let maps = no_rows(alloc, &maps(alloc)?.into_array())?;
+    let days = no_rows(alloc, &days(alloc)?.into_array())?;
+    let columns = two_columns(alloc, maps, days)?;
+    Ok(structs(alloc, &["m", "d"], columns, 0, validity)?.into_array())
 }
 
 fn print_many(rt: &impl Print, alloc: Global) -> Result<(), Fail> {
@@ -29,9 +35,8 @@ fn print_many(rt: &impl Print, alloc: Global) -> Result<(), Fail> {
 }
 
 fn print_there(rt: &impl Print, alloc: Global) -> Result<(), Fail> {
-    let x = bytes(alloc, &[[7]])?;
-    let y = bytes(alloc, &[[8]])?;
-    let there = structs(alloc, ["x", "y"], x, y, 1, Validity::NonNullable)?;
+    let columns = byte_columns(alloc, &[[7]], &[[8]])?;
+    let there = structs(alloc, &["x", "y"], columns, 1, Validity::NonNullable)?;
     print_filler(rt, alloc, &there.into_array(), 2)
 }
 

@@ -1,7 +1,5 @@
 //! Unions packed, each column with just the rows of its id.
-use crate::columns::{
-    byte_array, bytes, bytes_with, indices, two_columns, two_names, two_types, where_set,
-};
+use crate::columns::{byte_array, bytes, bytes_where, indices, names_of, two_columns};
 use crate::print::print_rows;
 use std::alloc::Global;
 use std::test::Fail;
@@ -16,12 +14,10 @@ use vx_shared::Shared;
 
 /// The variants `a` of id 0, of bytes, and `b` of id 1, of bools.
 fn variants(alloc: Global) -> Result<Shared<UnionVariants>, Fail> {
-    let mut ids = Vec::with_capacity(alloc, 2)?;
-    ids.push(0)?;
-    ids.push(1)?;
     let byte = DType::Primitive(PType::U8, Nullability::NonNullable);
-    let types = two_types(alloc, byte, DType::Bool(Nullability::NonNullable))?;
-    Ok(UnionVariants::try_new(alloc, ids, two_names(alloc, "a", "b")?, types)?)
+    let types = vec![in alloc; byte, DType::Bool(Nullability::NonNullable)]?;
+    let names = names_of(alloc, &["a", "b"])?;
+    Ok(UnionVariants::try_new(alloc, vec![in alloc; 0, 1]?, names, types)?)
 }
 
 /// A column of bytes and one of bools.
@@ -57,7 +53,10 @@ fn packed(alloc: Global, column: &Array) -> Result<UnionArray, Fail> {
 
 /// The rows, the offsets and the columns of a union that is packed.
 fn print_packed(rt: &impl Print, alloc: Global, column: &Array) -> Result<(), Fail> {
-    let packed = packed(alloc, column)?;
+    print_parts(rt, alloc, &packed(alloc, column)?)
+}
+
+fn print_parts(rt: &impl Print, alloc: Global, packed: &UnionArray) -> Result<(), Fail> {
     print!(rt; "pack_union:")?;
     print_rows(rt, alloc, &packed.share().into_array())?;
     if let Some(offsets) = packed.offsets() {
@@ -71,28 +70,24 @@ fn print_packed(rt: &impl Print, alloc: Global, column: &Array) -> Result<(), Fa
     Ok(())
 }
 
-fn slice_of(alloc: Global, column: &Array, start: usize, end: usize) -> Result<Array, Fail> {
-    if start > end || end > column.len() {
-        return Err("a slice past the rows".into());
-    }
-    Ok(slice(alloc, column, start, end)?)
+fn taken(alloc: Global, union: &Array) -> Result<Array, Fail> {
+    let indices = indices(alloc, &[[2], [0], [1]], &[true, false, true])?;
+    Ok(take(alloc, union, &indices, &Policy::vortex())?)
 }
 
 /// What a take leaves, whose columns have a row that no row is of.
 fn print_taken(rt: &impl Print, alloc: Global) -> Result<(), Fail> {
     let columns = columns(alloc, &[[7], [9]], &[true])?;
     let union = dense(alloc, &[[0], [1], [0]], &[[0], [0], [1]], columns)?;
-    let indices = indices(alloc, &[[2], [0], [1]], &[true, false, true])?;
-    let taken = take(alloc, &union, &indices, &Policy::vortex())?;
-    print_packed(rt, alloc, &taken)
+    print_packed(rt, alloc, &taken(alloc, &union)?)
 }
 
 /// A sparse union, of which a row is null.
 fn print_sparse(rt: &impl Print, alloc: Global) -> Result<(), Fail> {
-    let a = &[[1], [2], [3], [4], [5]];
-    let columns = columns(alloc, a, &[true, false, true, false, true])?;
-    let there = where_set(alloc, &[true, false, true, true, true])?;
-    let ids = bytes_with(alloc, &[[1], [0], [0], [1], [0]], there)?;
+    let bits = [true, false, true, true, true];
+    let ids = bytes_where(alloc, &[[1], [0], [0], [1], [0]], &bits)?;
+    let bools = [true, false, true, false, true];
+    let columns = columns(alloc, &[[1], [2], [3], [4], [5]], &bools)?;
     print_packed(rt, alloc, &sparse(alloc, ids, columns)?)
 }
 
@@ -102,13 +97,27 @@ fn print_one_id(rt: &impl Print, alloc: Global) -> Result<(), Fail> {
     print_packed(rt, alloc, &dense(alloc, &[[0], [0]], &[[1], [0]], columns)?)
 }
 
+fn print_slice(
+    rt: &impl Print,
+    alloc: Global,
+    column: &Array,
+    start: usize,
+    end: usize,
+) -> Result<(), Fail> {
+    if start > end || end > column.len() {
+        return Err("a slice past the rows".into());
+    }
+    print_packed(rt, alloc, &slice(alloc, column, start, end)?)
+}
+
 /// Two slices of a dense union, one of them of no row.
 fn print_slices(rt: &impl Print, alloc: Global) -> Result<(), Fail> {
     let columns = columns(alloc, &[[7], [8], [9]], &[true])?;
-    let ids = &[[0], [1], [0], [0]];
-    let union = dense(alloc, ids, &[[0], [0], [1], [2]], columns)?;
-    print_packed(rt, alloc, &slice_of(alloc, &union, 2, 4)?)?;
-    print_packed(rt, alloc, &slice_of(alloc, &union, 1, 1)?)
+    let union = dense(alloc, &[[0], [1], [0], [0]], &[[0], [0], [1], [2]], columns)?;
+    for (start, end) in [(2, 4), (1, 1)] {
+        print_slice(rt, alloc, &union, start, end)?;
+    }
+    Ok(())
 }
 
 /// What packing leaves of a union that was taken, of a sparse one, and of slices.

@@ -1,7 +1,8 @@
-//! A column in a line.
+//! A column in a line, and what a constructor says.
 use std::alloc::Global;
+use std::io;
 use std::test::Fail;
-use vx_column::Array;
+use vx_column::{Array, ColumnError};
 use vx_print::text_of;
 
 /// Prints the type and the rows, a blank before each.
@@ -28,4 +29,16 @@ pub(crate) fn print_answer(
         None => println!(rt; " None")?,
     }
     Ok(())
+}
+
+/// That a constructor makes a column, or why it doesn't.
+pub(crate) fn print_fault(
+    rt: &impl Print,
+    name: &str,
+    fault: Option<ColumnError>,
+) -> io::Result<()> {
+    match fault {
+        None => println!(rt; "{name}: Ok"),
+        Some(error) => println!(rt; "{name}: {error:?}"),
+    }
 }

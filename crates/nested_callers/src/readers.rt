@@ -1,5 +1,5 @@
 //! What the readers give.
-use crate::columns::{bytes, days, maps, points, two_columns};
+use crate::columns::{byte_columns, days, maps, points};
 use crate::print::print_rows;
 use std::alloc::Global;
 use std::test::Fail;
@@ -21,7 +21,7 @@ fn print_column(rt: &impl Print, alloc: Global, columns: &Columns, i: usize) -> 
 }
 
 fn print_columns(rt: &impl Print, alloc: Global) -> Result<(), Fail> {
-    let columns = two_columns(alloc, bytes(alloc, &[[1]])?, bytes(alloc, &[[2], [3]])?)?;
+    let columns = byte_columns(alloc, &[[1]], &[[2], [3]])?;
     print!(rt; "{} columns, the second:", columns.share().len())?;
     print_column(rt, alloc, &columns, 1)
 }

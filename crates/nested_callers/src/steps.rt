@@ -87,14 +87,11 @@ fn executed_slice<V: SliceKernel>(
 fn print_taken(
     rt: &impl Print,
     alloc: Global,
-    answer: Result<Option<Array>, TakeError>,
+    answer: &Result<Option<Array>, TakeError>,
 ) -> Result<(), Fail> {
     match answer {
-        Ok(answer) => print_answer(rt, alloc, &answer),
-        Err(error) => {
-            println!(rt; " {error:?}")?;
-            Ok(())
-        }
+        Ok(answer) => print_answer(rt, alloc, answer),
+        Err(error) => Ok(println!(rt; " {error:?}")?),
     }
 }
 
@@ -107,12 +104,9 @@ pub(crate) fn print_reduced_take<V: TakeReduce>(
     bits: &[bool],
 ) -> Result<(), Fail> {
     print!(rt; "reduced take of {:?}:", V::NAME)?;
+    let view = view_of::<V>(array)?;
     let indices = indices(alloc, picks, bits)?;
-    print_taken(
-        rt,
-        alloc,
-        reduced_take(alloc, view_of::<V>(array)?, &indices),
-    )
+    print_taken(rt, alloc, &reduced_take(alloc, view, &indices))
 }
 
 fn print_executed_take<V: TakeExecute>(
@@ -123,12 +117,9 @@ fn print_executed_take<V: TakeExecute>(
     bits: &[bool],
 ) -> Result<(), Fail> {
     print!(rt; "executed take of {:?}:", V::NAME)?;
+    let view = view_of::<V>(array)?;
     let indices = indices(alloc, picks, bits)?;
-    print_taken(
-        rt,
-        alloc,
-        executed_take(alloc, view_of::<V>(array)?, &indices),
-    )
+    print_taken(rt, alloc, &executed_take(alloc, view, &indices))
 }
 
 /// The second row, by a slice.
@@ -149,33 +140,52 @@ fn print_reduced_filter<V: FilterReduce>(
     bits: &[bool],
 ) -> Result<(), Fail> {
     print!(rt; "reduced filter of {:?}:", V::NAME)?;
-    let answer = reduced_filter(alloc, view_of::<V>(array)?, &mask_of(alloc, bits)?)?;
+    let view = view_of::<V>(array)?;
+    let mask = mask_of(alloc, bits)?;
+    let answer = reduced_filter(alloc, view, &mask)?;
     print_answer(rt, alloc, &answer)
 }
 
-fn print_struct_filter(rt: &impl Print, alloc: Global, array: &StructArray) -> Result<(), Fail> {
-    let mask = mask_of(alloc, &[false, true, true])?;
+fn kept_structs(alloc: Global, array: &StructArray, mask: &Mask) -> Result<Array, Fail> {
     let Some(mask) = mask.values() else {
         return Err("no row, or each".into());
     };
     if mask.len() != array.share().into_array().len() {
         return Err("another number of rows".into());
     }
+    Ok(filter_struct(alloc, array, mask)?.into_array())
+}
+
+fn print_struct_filter(rt: &impl Print, alloc: Global, array: &StructArray) -> Result<(), Fail> {
+    let mask = mask_of(alloc, &[false, true, true])?;
+    let kept = kept_structs(alloc, array, &mask)?;
     print!(rt; "filter_struct:")?;
-    print_rows(rt, alloc, &filter_struct(alloc, array, mask)?.into_array())
+    print_rows(rt, alloc, &kept)
 }
 
 /// Steps of structs.
 pub(crate) fn print_structs(rt: &impl Print, alloc: Global) -> Result<(), Fail> {
-    let points = points(alloc)?;
+    print_steps_of_structs(rt, alloc, &points(alloc)?)
+}
+
+fn print_steps_of_structs(
+    rt: &impl Print,
+    alloc: Global,
+    points: &StructArray,
+) -> Result<(), Fail> {
     print_struct_steps(rt, alloc, &points.share().into_array())?;
-    print_struct_filter(rt, alloc, &points)
+    print_struct_filter(rt, alloc, points)
 }
 
 fn print_struct_steps(rt: &impl Print, alloc: Global, column: &Array) -> Result<(), Fail> {
-    print_reduced_take::<Struct>(rt, alloc, column, &[[2], [0]], &[true, true])?;
-    print_reduced_take::<Struct>(rt, alloc, column, &[[0], [9]], &[true, false])?;
-    print_reduced_take::<Struct>(rt, alloc, column, &[[0], [3]], &[true, true])?;
+    let takes = [
+        ([[2], [0]], [true, true]),
+        ([[0], [9]], [true, false]),
+        ([[0], [3]], [true, true]),
+    ];
+    for (picks, bits) in takes {
+        print_reduced_take::<Struct>(rt, alloc, column, &picks, &bits)?;
+    }
     print_reduced_slice::<Struct>(rt, alloc, column)
 }
 

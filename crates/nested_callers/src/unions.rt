@@ -1,7 +1,6 @@
 //! Unions, sparse and dense.
-use crate::columns::{byte_array, bytes, bytes_with, two_columns, two_names, two_types, where_set};
-use crate::print::print_rows;
-use crate::refusals::print_result;
+use crate::columns::{byte_array, byte_columns, bytes, bytes_where, bytes_with, names_of};
+use crate::print::{print_fault, print_rows};
 use crate::steps::{print_reduced_slice, print_reduced_take};
 use callers::mask_of;
 use std::alloc::Global;
@@ -11,24 +10,22 @@ use vx_column::{
     Array, ColumnError, DType, Nullability, PType, UnionArray, UnionVariants, Validity,
 };
 use vx_layouts::filter_union;
+use vx_mask::Mask;
 use vx_shared::Shared;
 
 /// The variants `a` of id 0 and `b` of id 5, both of bytes.
 fn variants(alloc: Global) -> Result<Shared<UnionVariants>, Fail> {
-    let mut ids = Vec::with_capacity(alloc, 2)?;
-    ids.push(0)?;
-    ids.push(5)?;
     let byte = DType::Primitive(PType::U8, Nullability::NonNullable);
-    let types = two_types(alloc, byte.share(), byte)?;
-    Ok(UnionVariants::try_new(alloc, ids, two_names(alloc, "a", "b")?, types)?)
+    let types = vec![in alloc; byte.share(), byte]?;
+    let names = names_of(alloc, &["a", "b"])?;
+    Ok(UnionVariants::try_new(alloc, vec![in alloc; 0, 5]?, names, types)?)
 }
 
 /// A sparse union of these ids.
 fn sparse(alloc: Global, ids: Array) -> Result<Result<UnionArray, ColumnError>, Fail> {
-    let a = bytes(alloc, &[[7], [8], [9]])?;
-    let b = bytes(alloc, &[[1], [2], [3]])?;
-    let columns = two_columns(alloc, a, b)?;
-    Ok(UnionArray::try_new(ids.into_ref(alloc)?, variants(alloc)?, columns))
+    let ids = ids.into_ref(alloc)?;
+    let columns = byte_columns(alloc, &[[7], [8], [9]], &[[1], [2], [3]])?;
+    Ok(UnionArray::try_new(ids, variants(alloc)?, columns))
 }
 
 /// A dense union of these ids and offsets, over two rows of `a` and one of `b`.
@@ -37,59 +34,44 @@ fn dense(
     ids: Array,
     offsets: &[[u8; 1]],
 ) -> Result<Result<UnionArray, ColumnError>, Fail> {
-    let columns = two_columns(alloc, bytes(alloc, &[[7], [8]])?, bytes(alloc, &[[1]])?)?;
-    let offsets = byte_array(alloc, offsets, Validity::NonNullable)?;
     let ids = ids.into_ref(alloc)?;
+    let offsets = byte_array(alloc, offsets, Validity::NonNullable)?;
+    let columns = byte_columns(alloc, &[[7], [8]], &[[1]])?;
     Ok(UnionArray::try_new_dense(ids, offsets, variants(alloc)?, columns))
 }
 
 /// Three ids, the last of them null.
 fn ids(alloc: Global, values: &[[u8; 1]]) -> Result<Array, Fail> {
-    bytes_with(alloc, values, where_set(alloc, &[true, true, false])?)
+    bytes_where(alloc, values, &[true, true, false])
 }
 
-fn print_sparse(
-    rt: &impl Print,
-    alloc: Global,
-    name: &str,
-    values: &[[u8; 1]],
-) -> Result<(), Fail> {
-    print_result(rt, name, sparse(alloc, bytes(alloc, values)?)?)
+/// What the constructor of sparse unions refuses, in its order.
+fn print_sparse(rt: &impl Print, alloc: Global) -> Result<(), Fail> {
+    let cases: [(&str, &[[u8; 1]]); 3] = [
+        ("a sparse union", &[[0], [5], [0]]),
+        ("ids of two rows", &[[0], [5]]),
+        ("an id of no variant", &[[0], [3], [0]]),
+    ];
+    for (name, ids) in cases {
+        print_fault(rt, name, sparse(alloc, bytes(alloc, ids)?)?.err())?;
+    }
+    Ok(())
 }
 
-fn print_dense(
-    rt: &impl Print,
-    alloc: Global,
-    name: &str,
-    values: &[[u8; 1]],
-    offsets: &[[u8; 1]],
-) -> Result<(), Fail> {
-    print_result(rt, name, dense(alloc, bytes(alloc, values)?, offsets)?)
-}
-
-/// Each refusal, in its order.
-fn print_refused(rt: &impl Print, alloc: Global) -> Result<(), Fail> {
-    print_sparse(rt, alloc, "a sparse union", &[[0], [5], [0]])?;
-    print_sparse(rt, alloc, "ids of two rows", &[[0], [5]])?;
-    print_sparse(rt, alloc, "an id of no variant", &[[0], [3], [0]])?;
-    let ids = &[[5], [0], [0]];
-    print_dense(rt, alloc, "a dense union", ids, &[[0], [1], [0]])?;
-    print_dense(rt, alloc, "offsets of two rows", ids, &[[0], [1]])?;
-    print_dense(
-        rt,
-        alloc,
-        "an offset past its column",
-        ids,
-        &[[1], [1], [0]],
-    )?;
-    let other = &[[5], [3], [0]];
-    print_dense(
-        rt,
-        alloc,
-        "and at an id of no variant",
-        other,
-        &[[0], [9], [0]],
-    )
+/// The same of dense unions.
+fn print_dense(rt: &impl Print, alloc: Global) -> Result<(), Fail> {
+    let (ids, other): ([[u8; 1]; 3], [[u8; 1]; 3]) = ([[5], [0], [0]], [[5], [3], [0]]);
+    let cases: [(&str, [[u8; 1]; 3], &[[u8; 1]]); 4] = [
+        ("a dense union", ids, &[[0], [1], [0]]),
+        ("offsets of two rows", ids, &[[0], [1]]),
+        ("an offset past its column", ids, &[[1], [1], [0]]),
+        ("and at an id of no variant", other, &[[0], [9], [0]]),
+    ];
+    for (name, ids, offsets) in cases {
+        let made = dense(alloc, bytes(alloc, &ids)?, offsets)?;
+        print_fault(rt, name, made.err())?;
+    }
+    Ok(())
 }
 
 fn print_parts(rt: &impl Print, alloc: Global, union: &UnionArray) -> Result<(), Fail> {
@@ -104,15 +86,19 @@ fn print_parts(rt: &impl Print, alloc: Global, union: &UnionArray) -> Result<(),
     print_rows(rt, alloc, &union.share().into_array())
 }
 
-fn print_filter(rt: &impl Print, alloc: Global, union: &UnionArray) -> Result<(), Fail> {
-    let mask = mask_of(alloc, &[false, true, true])?;
+fn kept(alloc: Global, union: &UnionArray, mask: &Mask) -> Result<UnionArray, Fail> {
     let Some(mask) = mask.values() else {
         return Err("no row, or each".into());
     };
     if mask.len() != union.share().into_array().len() {
         return Err("another number of rows".into());
     }
-    let kept = filter_union(alloc, union, mask)?;
+    Ok(filter_union(alloc, union, mask)?)
+}
+
+fn print_filter(rt: &impl Print, alloc: Global, union: &UnionArray) -> Result<(), Fail> {
+    let mask = mask_of(alloc, &[false, true, true])?;
+    let kept = kept(alloc, union, &mask)?;
     print!(rt; "filter_union, offsets {}:", kept.offsets().is_some())?;
     print_rows(rt, alloc, &kept.into_array())
 }
@@ -123,9 +109,14 @@ fn print_steps(rt: &impl Print, alloc: Global, union: &UnionArray) -> Result<(),
 }
 
 fn print_reduced_steps(rt: &impl Print, alloc: Global, column: &Array) -> Result<(), Fail> {
-    print_reduced_take::<Union>(rt, alloc, column, &[[2], [0]], &[true, true])?;
-    print_reduced_take::<Union>(rt, alloc, column, &[[1], [9]], &[true, false])?;
-    print_reduced_take::<Union>(rt, alloc, column, &[[0], [3]], &[true, true])?;
+    let takes = [
+        ([[2], [0]], [true, true]),
+        ([[1], [9]], [true, false]),
+        ([[0], [3]], [true, true]),
+    ];
+    for (picks, bits) in takes {
+        print_reduced_take::<Union>(rt, alloc, column, &picks, &bits)?;
+    }
     print_reduced_slice::<Union>(rt, alloc, column)
 }
 
@@ -148,7 +139,8 @@ fn print_filler(rt: &impl Print, alloc: Global, validity: Validity) -> Result<()
 
 /// What is refused, the parts and the steps of both forms, and rows that stand where none is shown.
 pub(crate) fn print_unions(rt: &impl Print, alloc: Global) -> Result<(), Fail> {
-    print_refused(rt, alloc)?;
+    print_sparse(rt, alloc)?;
+    print_dense(rt, alloc)?;
     print_union(rt, alloc, sparse(alloc, ids(alloc, &[[0], [5], [9]])?)?)?;
     let dense = dense(alloc, ids(alloc, &[[5], [0], [9]])?, &[[0], [1], [9]])?;
     print_union(rt, alloc, dense)?;

@@ -9,7 +9,7 @@ use callers::mask_of;
 use std::alloc::Global;
 use std::test::Fail;
 use vx_column::{PType, Validity, VarBinArray};
-use vx_mask::{Mask, MaskValues, Policy};
+use vx_mask::{Mask, Policy};
 use vx_text::filter_varbin;
 
 // No row is null, or each is.
@@ -28,41 +28,45 @@ fn validity_of(there: bool) -> Validity
 fn kept_texts(
     alloc: Global,
     texts: &VarBinArray,
-    mask: &MaskValues,
+    mask: &Mask,
     there: bool,
 ) -> Result<VarBinArray, Fail> {
     let _ = texts.offsets();
-    let column = texts.share().into_array();
-    if mask.len() != column.len() {
+    let Some(mask) = mask.values() else {
+        return Err("no such mask".into());
+    };
+    if mask.len() != texts.share().into_array().len() {
         return Err("another length".into());
     }
-    let validity = validity_of(there);
-    Ok(filter_varbin(alloc, texts, mask, &Policy::vortex(), validity)?)
+    Ok(filter_varbin(alloc, texts, mask, &Policy::vortex(), validity_of(there))?)
 }
 
-// Prints what a mask keeps of four texts, and how many bytes are stored.
+// Prints what a mask keeps of texts, and how many bytes are stored.
 fn print_some(
     rt: &impl Print,
     alloc: Global,
     name: &str,
+    texts: &VarBinArray,
     bits: &[bool],
     there: bool,
 ) -> Result<(), Fail> {
-    let texts = texts(alloc, PType::U8, &[[0], [1], [3], [6], [10]], b"abbcccdddd")??;
-    match mask_of(alloc, bits)? {
-        Mask::Values(mask) => {
-            let kept = kept_texts(alloc, &texts, &mask, there)?;
-            print!(rt; "{} bytes, ", kept.bytes().len())?;
-            print_rows(rt, alloc, name, &kept.into_array())
-        }
-        _ => Err("no such mask".into()),
-    }
+    let mask = mask_of(alloc, bits)?;
+    let kept = kept_texts(alloc, texts, &mask, there)?;
+    print!(rt; "{} bytes, ", kept.bytes().len())?;
+    print_rows(rt, alloc, name, &kept.into_array())
 }
 
 /// Prints texts that masks keep: by runs, by set positions, and null rows.
 pub(crate) fn print_kept(rt: &impl Print, alloc: Global) -> Result<(), Fail> {
-    print_some(rt, alloc, "two runs", &[true, true, false, true], true)?;
-    print_some(rt, alloc, "one run", &[false, true, true, false], true)?;
-    print_some(rt, alloc, "one row", &[false, false, false, true], true)?;
-    print_some(rt, alloc, "null rows", &[true, true, false, true], false)
+    let texts = texts(alloc, PType::U8, &[[0], [1], [3], [6], [10]], b"abbcccdddd")??;
+    let cases = [
+        ("two runs", [true, true, false, true], true),
+        ("one run", [false, true, true, false], true),
+        ("one row", [false, false, false, true], true),
+        ("null rows", [true, true, false, true], false),
+    ];
+    for (name, bits, there) in cases {
+        print_some(rt, alloc, name, &texts, &bits, there)?;
+    }
+    Ok(())
 }

@@ -9,7 +9,7 @@ use vx_column::{Array, ArrayView, BinaryView, VTable, Validity, VarBinArray, Var
 use vx_layouts::{
     FilterKernel, SliceReduce, TakeExecute, VarBinSlice, filter_varbinview, take_varbin,
 };
-use vx_mask::{Mask, MaskValues};
+use vx_mask::Mask;
 
 // The texts `bo`, one of thirteen bytes, and an empty one.
 fn three_views(alloc: Global) -> Result<VarBinViewArray, Fail> {
@@ -73,16 +73,14 @@ fn print_take<V: TakeExecute>(
 }
 
 fn print_text_takes(rt: &impl Print, alloc: Global) -> Result<(), Fail> {
-    let texts = ann_and_bo(alloc)?;
-    print_varbin_take(rt, alloc, &texts)?;
-    print_refused_take(rt, alloc, &texts)?;
-    print_take::<VarBin>(
-        rt,
-        alloc,
-        "take of VarBin",
-        &texts.into_array(),
-        &[[1], [1]],
-    )
+    print_takes_of(rt, alloc, &ann_and_bo(alloc)?)
+}
+
+fn print_takes_of(rt: &impl Print, alloc: Global, texts: &VarBinArray) -> Result<(), Fail> {
+    print_varbin_take(rt, alloc, texts)?;
+    print_refused_take(rt, alloc, texts)?;
+    let column = texts.share().into_array();
+    print_take::<VarBin>(rt, alloc, "take of VarBin", &column, &[[1], [1]])
 }
 
 /// Prints takes of either layout, and one that is refused.
@@ -110,22 +108,20 @@ fn print_filter(rt: &impl Print, alloc: Global, column: &Array) -> Result<(), Fa
 }
 
 // The views at the set positions of a mask, where it is as long.
-fn kept_views(alloc: Global, texts: &VarBinViewArray, mask: &MaskValues) -> Result<Array, Fail> {
-    let column = texts.share().into_array();
-    if mask.len() != column.len() {
+fn kept_views(alloc: Global, texts: &VarBinViewArray, mask: &Mask) -> Result<Array, Fail> {
+    let Some(mask) = mask.values() else {
+        return Err("no such mask".into());
+    };
+    if mask.len() != texts.share().into_array().len() {
         return Err("another length".into());
     }
     Ok(filter_varbinview(alloc, texts, mask)?.into_array())
 }
 
 fn print_kept_views(rt: &impl Print, alloc: Global, texts: &VarBinViewArray) -> Result<(), Fail> {
-    match mask_of(alloc, &[false, true, true])? {
-        Mask::Values(mask) => {
-            let kept = kept_views(alloc, texts, &mask)?;
-            print_rows(rt, alloc, "filter_varbinview", &kept)
-        }
-        _ => Err("no such mask".into()),
-    }
+    let mask = mask_of(alloc, &[false, true, true])?;
+    let kept = kept_views(alloc, texts, &mask)?;
+    print_rows(rt, alloc, "filter_varbinview", &kept)
 }
 
 /// Prints filters of either layout.
@@ -166,15 +162,14 @@ fn print_varbin_slice(rt: &impl Print, alloc: Global, column: &Array) -> Result<
     print_rows(rt, alloc, "_slice", &VarBin::_slice(alloc, view, 1, 2)?)
 }
 
-fn print_text_slices(rt: &impl Print, alloc: Global) -> Result<(), Fail> {
-    let column = ann_and_bo(alloc)?.into_array();
-    print_varbin_slice(rt, alloc, &column)?;
-    print_slice::<VarBin>(rt, alloc, "slice of VarBin", &column, 0, 1)
+fn print_text_slices(rt: &impl Print, alloc: Global, column: &Array) -> Result<(), Fail> {
+    print_varbin_slice(rt, alloc, column)?;
+    print_slice::<VarBin>(rt, alloc, "slice of VarBin", column, 0, 1)
 }
 
 /// Prints slices of either layout.
 pub(crate) fn print_slices(rt: &impl Print, alloc: Global) -> Result<(), Fail> {
-    print_text_slices(rt, alloc)?;
+    print_text_slices(rt, alloc, &ann_and_bo(alloc)?.into_array())?;
     let column = three_views(alloc)?.into_array();
     print_slice::<VarBinView>(rt, alloc, "slice of VarBinView", &column, 1, 3)
 }
