@@ -1,5 +1,5 @@
 //! A status and a number, and the answer to a text that was made.
-ghost use Rattle.std.specs.Prelude.{◌≡◌, ◌≢◌, ◌<◌, ◌≤◌, length};
+ghost use Rattle.std.specs.Prelude.{◌≡◌, ◌≢◌, ◌⊎◌, ◌<◌, ◌≤◌, length};
 ghost use Rattle.vortex_rows_c.specs.Running.{IsPut, IsTooLong};
 
 /// What a call answers.
@@ -11,9 +11,6 @@ pub struct Answer {
     /// How many bytes the text has, at status 0, 1 and 16.
     pub value: u64,
 }
-
-/// The status where the sink fails, which is want of memory.
-const SINK_FAULT: u8 = 5;
 
 /// The status where memory is wanting.
 const NO_MEMORY: u64 = 6;
@@ -46,28 +43,15 @@ impl Answer {
     }
 }
 
-// The answer to a run that ended with a status and made a text, which it puts to the front of the
-// output.
-pub(crate) fn answer_to(status: u8, text: &[u8], dst: &mut [u8]) -> Answer
-    ensures fault { status ≡ 5 → result.status ≡ 6 }
-    ensures fits { status ≤ 1 → length text.now ≤ length dst.old → result.status ≡ status }
-    ensures put { status ≤ 1 → length text.now ≤ length dst.old
+// Puts a text to the front of the output, where it has the room, and answers this status.
+fn put(status: u64, text: &[u8], dst: &mut [u8]) -> Answer
+    ensures fits { length text.now ≤ length dst.old → result.status ≡ status }
+    ensures put { length text.now ≤ length dst.old
         → IsPut text.now dst.old dst.new result.value }
-    ensures small { status ≤ 1 → length dst.old < length text.now → result.status ≡ 16 }
-    ensures wanted { status ≤ 1 → length dst.old < length text.now
-        → IsTooLong text.now dst.old result.value }
-    ensures other { 1 < status → status ≢ 5 → result.status ≡ status }
-    ensures refused { 1 < result.status → dst.new ≡ dst.old }
+    ensures small { length dst.old < length text.now → result.status ≡ 16 }
+    ensures wanted { length dst.old < length text.now → IsTooLong text.now dst.old result.value }
+    ensures refused { length dst.old < length text.now → dst.new ≡ dst.old }
 {
-    if status == SINK_FAULT {
-        return Answer::no_memory();
-    }
-    if status > 1 {
-        return Answer {
-            status: u64::from(status),
-            value: 0,
-        };
-    }
     let len = text.len();
     if len > dst.len() {
         return Answer {
@@ -77,7 +61,31 @@ pub(crate) fn answer_to(status: u8, text: &[u8], dst: &mut [u8]) -> Answer
     }
     dst[..len].copy_from_slice(text);
     Answer {
-        status: u64::from(status),
+        status,
         value: len as u64,
+    }
+}
+
+// The answer to a run that ended with a status and made a text. The sink fails for want of memory
+// alone, and the source never.
+pub(crate) fn answer_to(status: u8, text: &[u8], dst: &mut [u8]) -> Answer
+    ensures fits { status ≤ 1 → length text.now ≤ length dst.old → result.status ≡ status }
+    ensures put { status ≤ 1 → length text.now ≤ length dst.old
+        → IsPut text.now dst.old dst.new result.value }
+    ensures small { status ≤ 1 → length dst.old < length text.now → result.status ≡ 16 }
+    ensures wanted { status ≤ 1 → length dst.old < length text.now
+        → IsTooLong text.now dst.old result.value }
+    ensures too_small { status ≤ 1 → length dst.old < length text.now → dst.new ≡ dst.old }
+    ensures told { (status ≡ 2) ⊎ (status ≡ 3) ⊎ (status ≡ 7) → result.status ≡ status }
+    ensures other { 1 < status → status ≢ 2 → status ≢ 3 → status ≢ 7 → result.status ≡ 6 }
+    ensures refused { 1 < status → dst.new ≡ dst.old }
+{
+    match status {
+        0 | 1 => put(u64::from(status), text, dst),
+        2 | 3 | 7 => Answer {
+            status: u64::from(status),
+            value: 0,
+        },
+        _ => Answer::no_memory(),
     }
 }

