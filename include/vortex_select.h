@@ -1,4 +1,5 @@
-/* Row selection by the proved kernels of this repository: link with libvortex_c.a.
+/* Row selection by the proved kernels of this repository: link with libvortex_c.a, and for
+ * vortex_program with libvortex_rows_c.a and bindings/c/memory.c.
  *
  * Each call answers a status and a number. A call whose status is not VORTEX_DONE is refused and
  * writes nothing; the number is 0 where a function does not say what it is.
@@ -7,7 +8,7 @@
  * the pointer is aligned for the items and leads to so many of them, written ones where the list
  * is read; the list is below 2^63 bytes; a list that is written overlaps no other list of the call,
  * and no other thread touches it until the call is back. A list without items may have any pointer,
- * a null one too. No function keeps a pointer, takes memory, or calls back.
+ * a null one too. No function keeps a pointer or calls back, and none but vortex_program takes memory.
  *
  * A mask of n rows is (n + 63) / 64 words: bit k % 64 of word k / 64, the lowest bit first, is set
  * where row k is selected, and the bits past the rows are clear. Other bits may begin at any bit of
@@ -175,6 +176,29 @@ vortex_answer vortex_rank(const uint64_t *mask, size_t mask_len, size_t rows, si
  *
  * VORTEX_LENGTHS, VORTEX_BITS_PAST: as for positions. VORTEX_INDEX: p is past the rows. */
 vortex_answer vortex_count_before(const uint64_t *mask, size_t mask_len, size_t rows, size_t p);
+
+/* The statuses of vortex_program, which are those of the program rows, but for the last one. */
+enum {
+    VORTEX_PROGRAM_DONE = 0,      /* no step is broken */
+    VORTEX_PROGRAM_BROKEN = 1,    /* a step is broken */
+    VORTEX_PROGRAM_MALFORMED = 2, /* the document spells no JSON value, or it has no meaning */
+    VORTEX_PROGRAM_WORDS = 3,     /* the words are others */
+    VORTEX_PROGRAM_MEMORY = 6,    /* memory is wanting, or the text would be too long */
+    VORTEX_PROGRAM_TOO_LONG = 7,  /* the document has more than 16,777,216 bytes */
+    VORTEX_PROGRAM_NO_WORDS = 9,  /* a word is not UTF-8 */
+    VORTEX_PROGRAM_ROOM = 16      /* dst is too small */
+};
+
+/* Does what the words ask, with the document in place of the program's standard input, and writes
+ * what it prints to the front of dst: the text of the rows (VORTEX_PROGRAM_DONE), or the fault's
+ * line (VORTEX_PROGRAM_BROKEN). The number is how many bytes that are, and the rest of dst stays.
+ * Each word is ended by a byte 0, as in "rows\0" or "page\0" "1\0" "3\0"; the last one may end
+ * with the bytes.
+ *
+ * At every other status nothing is written. VORTEX_PROGRAM_ROOM: the number is how many bytes the
+ * text has. It takes memory, of the C library where memory.c is linked, and gives all of it back. */
+vortex_answer vortex_program(const uint8_t *words, size_t words_len, const uint8_t *document,
+    size_t document_len, uint8_t *dst, size_t dst_len);
 
 #ifdef __cplusplus
 }

@@ -2,6 +2,7 @@
 
 import doctest
 import os
+import pathlib
 import random
 import unittest
 from array import array
@@ -123,6 +124,35 @@ class Refused(unittest.TestCase):
     def test_arrays(self):
         values = array("H", [1, 2, 3])
         self.assertEqual(array("H", vortex_select.filter(values, b"\x06")), array("H", [2, 3]))
+
+
+EXAMPLES = pathlib.Path(__file__).resolve().parents[2] / "examples"
+
+
+class Program(unittest.TestCase):
+    def held(self, example, kind, other):
+        held = example.with_suffix(kind)
+        return held.read_bytes() if held.exists() else other
+
+    def test_examples(self):
+        documents = EXAMPLES.glob("*.json")
+        examples = [path for path in documents if not path.with_suffix(".to").exists()]
+        self.assertGreater(len(examples), 90)
+        for example in examples:
+            words = self.held(example, ".words", b"rows").decode().split()
+            status = int(self.held(example, ".status", b"0"))
+            answer = vortex_select.run(words, example.read_bytes())
+            self.assertEqual(answer, (status, self.held(example, ".out", b"")), example)
+
+    def test_hostile(self):
+        for document in b"", b"\xff", b"[" * 100_000, b" " * 16_777_216:
+            self.assertEqual(vortex_select.rows(document), (2, b""))
+        self.assertEqual(vortex_select.rows(bytearray(16_777_217)), (7, b""))
+        for words in [], [""], ["rows", ""], ["rows\0"], ["made", "4294967296"], ["p\u00e4ge"]:
+            self.assertEqual(vortex_select.run(words, b"{}"), (3, b""))
+        self.assertEqual(vortex_select.made(7), vortex_select.run(["made", "7"]))
+        self.assertEqual(vortex_select.file(memoryview(b"{}")).status, 2)
+        self.assertEqual(vortex_select.page(0, 1, b"{}").status, 2)
 
 
 def load_tests(_loader, tests, _pattern):

@@ -15,8 +15,10 @@ where row k is selected.
 import ctypes
 import os
 from array import array
+from collections import namedtuple
 
 _DONE, _LENGTHS, _BITS_PAST, _ROOM, _INDEX = range(5)
+_TOO_SMALL = 16
 _WIDTHS = (1, 2, 4, 8, 16, 32)
 
 
@@ -62,6 +64,9 @@ def _library():
     library.vortex_runs.restype = _Answer
     for call in library.vortex_rank, library.vortex_count_before:
         call.argtypes, call.restype = [place, size, size, size], _Answer
+    if hasattr(library, "vortex_program"):
+        library.vortex_program.argtypes = [place, size] * 3
+        library.vortex_program.restype = _Answer
     return library
 
 
@@ -313,3 +318,58 @@ def count_before(mask, rows, p):
     if answer.status == _INDEX:
         raise IndexError(f"row {p} is past the rows")
     return _checked(answer)
+
+
+Answer = namedtuple("Answer", ["status", "text"])
+Answer.__doc__ = """What the program ends with: its status, and the bytes that it prints."""
+
+
+def run(words, document=b""):
+    """What the program does by its words, with the document in place of its standard input.
+
+    The status is 0 where no step is broken, 1 where one is, 2 where the document has no meaning, 3
+    where the words are others, 6 where memory is wanting, and 7 where the document has more than
+    16,777,216 bytes. The text is that of the rows at 0, the fault's line at 1, else nothing.
+
+    >>> run(["made", "7"]).text
+    b'made 7 rows 500 nulls 45 sum 512344210835\\n'
+    """
+    if any("\0" in word for word in words):
+        return Answer(3, b"")
+    said = "".join(word + "\0" for word in words).encode()
+    with _Held(said, 1) as by, _Held(document, 1) as read:
+        room = max(4096, 2 * read.size)
+        while True:
+            text = bytearray(room)
+            with _Held(text, 1, True) as dst:
+                lists = (by.address, by.size, read.address, read.size, dst.address, dst.size)
+                answer = _calls.vortex_program(*lists)
+            if answer.status != _TOO_SMALL:
+                break
+            room = answer.value
+    return Answer(answer.status, bytes(text[: answer.value]))
+
+
+def rows(document):
+    """The rows that a document asks for.
+
+    >>> column = b'{"layout":"Primitive","type":"u8","values":[5,6,7]}'
+    >>> rows(b'{"column":%s,"steps":[{"slice":[1,3]}]}' % column)
+    Answer(status=0, text=b'u8\\n6\\n7\\n')
+    """
+    return run(["rows"], document)
+
+
+def page(number, length, document):
+    """A page of the table that a document asks for: its number, from 0, and its number of rows."""
+    return run(["page", str(number), str(length)], document)
+
+
+def file(document):
+    """The rows that a document asks for of a file that it holds."""
+    return run(["file"], document)
+
+
+def made(seed):
+    """A line of the rows that are made from a number."""
+    return run(["made", str(seed)])

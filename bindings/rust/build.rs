@@ -1,24 +1,30 @@
-//! Has the static library built, if it isn't there, and links it.
-use std::path::{Path, PathBuf};
+//! Has the static libraries built, if they aren't there, and links them.
+use std::path::Path;
 use std::process::Command;
 
-fn built(folder: &Path) -> PathBuf {
-    let library = folder.join("out").join("libvortex_c.a");
+fn link(crates: &Path, name: &str) {
+    let folder = crates.join(name);
+    let library = folder.join("out").join(format!("lib{name}.a"));
     if !library.exists() {
-        let run = Command::new("rt").arg("lib").current_dir(folder).status();
+        let run = Command::new("rt").arg("lib").current_dir(&folder).status();
         assert!(
             run.is_ok_and(|status| status.success()),
             "`rt lib` failed in {folder:?}"
         );
     }
-    library
+    println!("cargo:rerun-if-changed={}", library.display());
+    println!(
+        "cargo:rustc-link-search=native={}",
+        folder.join("out").display()
+    );
+    println!("cargo:rustc-link-lib=static={name}");
 }
 
 fn main() {
-    let here = PathBuf::from(std::env::var_os("CARGO_MANIFEST_DIR").expect("cargo sets it"));
-    let library = built(&here.join("../../crates/vortex_c"));
-    let folder = library.parent().expect("it stands in out").display();
-    println!("cargo:rerun-if-changed={}", library.display());
-    println!("cargo:rustc-link-search=native={folder}");
-    println!("cargo:rustc-link-lib=static=vortex_c");
+    let here = std::env::var_os("CARGO_MANIFEST_DIR").expect("cargo sets it");
+    let crates = Path::new(&here).join("../../crates");
+    link(&crates, "vortex_c");
+    if std::env::var_os("CARGO_FEATURE_ROWS").is_some() {
+        link(&crates, "vortex_rows_c");
+    }
 }

@@ -110,3 +110,15 @@ extern "C" {
     pub fn vortex_rank(words: *const u64, m: usize, rows: usize, k: usize) -> Answer;
     pub fn vortex_count_before(words: *const u64, m: usize, rows: usize, p: usize) -> Answer;
 }
+
+#[cfg(feature = "rows")]
+extern "C" {
+    pub fn vortex_program(
+        words: *const u8,
+        n: usize,
+        document: *const u8,
+        m: usize,
+        dst: *mut u8,
+        room: usize,
+    ) -> Answer;
+}

@@ -12,13 +12,19 @@
 mod bits;
 mod calls;
 mod mask;
+#[cfg(feature = "rows")]
+mod memory;
 mod record;
+#[cfg(feature = "rows")]
+mod rows;
 
 pub use bits::{filter_bits, take_bits, take_bits_valid, Bits};
 pub use mask::Mask;
 pub use record::Record;
+#[cfg(feature = "rows")]
+pub use rows::{file, made, page, rows, run, Answer};
 
-use calls::{Answer, DONE, INDEX};
+use calls::{DONE, INDEX};
 
 /// An index is out of bounds: the first one, by its place in the list of indices.
 #[derive(Clone, Copy, Debug, PartialEq, Eq)]
@@ -39,7 +45,10 @@ impl std::error::Error for OutOfBounds {}
 ///
 /// # Safety
 /// Where `write` answers `DONE`, it wrote `len` values.
-unsafe fn written<T: Copy>(len: usize, write: impl FnOnce(*mut T) -> Answer) -> (Answer, Vec<T>) {
+unsafe fn written<T: Copy>(
+    len: usize,
+    write: impl FnOnce(*mut T) -> calls::Answer,
+) -> (calls::Answer, Vec<T>) {
     let mut list = Vec::with_capacity(len);
     let answer = write(list.as_mut_ptr());
     if answer.status == DONE {
