@@ -10,7 +10,9 @@ use Rattle.calling.proofs.people.side_by_side.Goals as goal
 pub returns : goal.returns
 returns c =
     let rows = map fields_row (rows_across c.in_ok-columns.columns c.args.len) in
-    ap (λ (k : Column). k.rows) c.into_array.ensures
-    ∙ ap (λ (p : StructParts). (struct_column p).rows) (made _ _ _ c.in_ok-structs.ensures)
-    ∙ shown_rows-all (length rows) rows refl
-    ∙ ap (λ (columns : List Column). map fields_row (rows_across columns c.args.len)) c.in_ok-columns.ensures
+    record {
+      rows = ap (λ (k : Column). k.rows) c.into_array.ensures
+          ∙ ap (λ (p : StructParts). (struct_column p).rows) (made _ _ _ c.in_ok-structs.ensures)
+          ∙ shown_rows-all (length rows) rows refl
+          ∙ ap (λ (columns : List Column). map fields_row (rows_across columns c.args.len)) c.in_ok-columns.ensures;
+    }
