@@ -22,7 +22,11 @@ fn the_examples_give_what_they_must() {
         if !is_document || example.with_extension("to").exists() {
             continue;
         }
-        let words = held(&example, "words", "rows");
+        // words that are no text can't be handed in here: the C check has them
+        let words = fs::read(example.with_extension("words")).unwrap_or(b"rows".into());
+        let Ok(words) = String::from_utf8(words) else {
+            continue;
+        };
         let words: Vec<&str> = words.split_whitespace().collect();
         let answer = run(&words, &fs::read(&example).unwrap());
         let status = held(&example, "status", "0").trim().parse().unwrap();
