@@ -5,8 +5,7 @@ ghost use Rattle.vx_model.specs.Column.{Codes};
 ghost use Rattle.vx_pieces.specs.Indices.{by_column, index_value};
 ghost use Rattle.vx_layouts.specs.Adaptors.{codes_of, AnswersCodes};
 
-use crate::taking::TakeError;
-use crate::traits::{TakeExecute, TakeReduce};
+use crate::taking::{TakeError, TakeExecute, TakeReduce};
 use std::alloc::Global;
 use vx_column::vtables::Dict;
 use vx_column::{Array, ArrayRef, ArrayView, FlatRef, Layout};

@@ -1,75 +1,14 @@
 //! Layout `Extension`.
-ghost use Rattle.std.specs.Prelude.{◌≡◌, ◌≤◌, false, length};
-ghost use Rattle.vx_mask.specs.Mask.{mask_bits};
-ghost use Rattle.vx_pieces.specs.Indices.{index_value};
-ghost use Rattle.vx_layouts.specs.Answers.{AnswersFilter, AnswersSlice, AnswersTake};
 
-use crate::taking::{TakeError, take};
-use crate::traits::{FilterReduce, SliceReduce, TakeExecute, TakeReduce};
-use std::alloc::Global;
-use vx_bits::NoMemory;
+use crate::filtering::FilterReduceAlways;
+use crate::slicing::SliceReduceAlways;
+use crate::taking::{TakeExecuteAlways, TakeReduceAlways};
 use vx_column::vtables::Extension;
-use vx_column::{Array, ArrayView};
-use vx_dispatch::{filter, slice};
-use vx_mask::{Mask, Policy};
-use vx_pieces::Indices;
 
-impl TakeReduce for Extension {
-    ghost declines = { λ _ _. false };
+impl TakeReduceAlways for Extension {}
 
-    fn take(
-        alloc: Global,
-        array: ArrayView<'_, Extension>,
-        indices: &Indices,
-    ) -> Result<Option<Array>, TakeError>
-        ensures { AnswersTake array.entry.array.now (index_value indices.now) false result }
-    {
-        Ok(Some(take(alloc, array.array(), indices, &Policy::vortex())?))
-    }
-}
+impl TakeExecuteAlways for Extension {}
 
-impl TakeExecute for Extension {
-    ghost declines = { λ _ _. false };
+impl FilterReduceAlways for Extension {}
 
-    fn take(
-        alloc: Global,
-        array: ArrayView<'_, Extension>,
-        indices: &Indices,
-    ) -> Result<Option<Array>, TakeError>
-        ensures { AnswersTake array.entry.array.now (index_value indices.now) false result }
-    {
-        Ok(Some(take(alloc, array.array(), indices, &Policy::vortex())?))
-    }
-}
-
-impl FilterReduce for Extension {
-    ghost declines = { λ _ _. false };
-
-    fn filter(
-        alloc: Global,
-        array: ArrayView<'_, Extension>,
-        mask: &Mask,
-    ) -> Result<Option<Array>, NoMemory>
-        requires { length (mask_bits mask.now) ≡ length array.array.now.rows }
-        ensures { AnswersFilter array.entry.array.now (mask_bits mask.now) false result }
-    {
-        Ok(Some(filter(alloc, array.array(), mask, &Policy::vortex())?))
-    }
-}
-
-impl SliceReduce for Extension {
-    ghost declines = { λ _ _ _. false };
-
-    fn slice(
-        alloc: Global,
-        array: ArrayView<'_, Extension>,
-        start: usize,
-        end: usize,
-    ) -> Result<Option<Array>, NoMemory>
-        requires ordered { start ≤ end }
-        requires within { end ≤ length array.array.now.rows }
-        ensures { AnswersSlice array.entry.array.now start end false result }
-    {
-        Ok(Some(slice(alloc, array.array(), start, end)?))
-    }
-}
+impl SliceReduceAlways for Extension {}

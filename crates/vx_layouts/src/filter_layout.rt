@@ -5,8 +5,7 @@ ghost use Rattle.vx_pieces.specs.Indices.{index_len, index_value};
 ghost use Rattle.vx_layouts.specs.Answers.{AnswersTake};
 ghost use Rattle.vx_dispatch.specs.Materialized.{is_materialized};
 
-use crate::taking::{TakeError, take_fault};
-use crate::traits::TakeExecute;
+use crate::taking::{TakeError, TakeExecute, take_fault};
 use std::alloc::Global;
 use vx_column::vtables::Filter;
 use vx_column::{Array, ArrayView};

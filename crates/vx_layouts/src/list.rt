@@ -1,32 +1,19 @@
 //! Layout `List`.
-ghost use Rattle.std.specs.Prelude.{◌≡◌, ◌≤◌, false, length};
+ghost use Rattle.std.specs.Prelude.{◌≡◌, length};
 ghost use Rattle.vx_mask.specs.Mask.{mask_bits};
-ghost use Rattle.vx_pieces.specs.Indices.{index_value};
-ghost use Rattle.vx_layouts.specs.Answers.{are_alike, AnswersFilter, AnswersSlice, AnswersTake};
+ghost use Rattle.vx_layouts.specs.Answers.{are_alike, AnswersFilter};
 
-use crate::taking::{TakeError, take};
-use crate::traits::{FilterKernel, SliceReduce, TakeExecute};
+use crate::filtering::FilterKernel;
+use crate::slicing::SliceReduceAlways;
+use crate::taking::TakeExecuteAlways;
 use std::alloc::Global;
 use vx_bits::NoMemory;
 use vx_column::vtables::List;
 use vx_column::{Array, ArrayView};
-use vx_dispatch::{filter, slice};
+use vx_dispatch::filter;
 use vx_mask::{Mask, Policy};
-use vx_pieces::Indices;
 
-impl TakeExecute for List {
-    ghost declines = { λ _ _. false };
-
-    fn take(
-        alloc: Global,
-        array: ArrayView<'_, List>,
-        indices: &Indices,
-    ) -> Result<Option<Array>, TakeError>
-        ensures { AnswersTake array.entry.array.now (index_value indices.now) false result }
-    {
-        Ok(Some(take(alloc, array.array(), indices, &Policy::vortex())?))
-    }
-}
+impl TakeExecuteAlways for List {}
 
 impl FilterKernel for List {
     ghost declines = { λ _ bits. are_alike bits };
@@ -48,19 +35,4 @@ impl FilterKernel for List {
     }
 }
 
-impl SliceReduce for List {
-    ghost declines = { λ _ _ _. false };
-
-    fn slice(
-        alloc: Global,
-        array: ArrayView<'_, List>,
-        start: usize,
-        end: usize,
-    ) -> Result<Option<Array>, NoMemory>
-        requires ordered { start ≤ end }
-        requires within { end ≤ length array.array.now.rows }
-        ensures { AnswersSlice array.entry.array.now start end false result }
-    {
-        Ok(Some(slice(alloc, array.array(), start, end)?))
-    }
-}
+impl SliceReduceAlways for List {}

@@ -1,66 +1,24 @@
 //! Layout `ListView`.
-ghost use Rattle.std.specs.Prelude.{◌≡◌, ◌≤◌, false, length, IfOk};
+ghost use Rattle.std.specs.Prelude.{◌≡◌, length, IfOk};
 ghost use Rattle.std.specs.List.{items_where_true};
 ghost use Rattle.vx_model.specs.ListView.{listview_column};
 ghost use Rattle.vx_model.specs.Step.{IsCut};
-ghost use Rattle.vx_pieces.specs.Indices.{index_value};
-ghost use Rattle.vx_layouts.specs.Answers.{AnswersSlice, AnswersTake};
 
-use crate::taking::{TakeError, take};
-use crate::traits::{SliceReduce, TakeExecute, TakeReduce};
+use crate::slicing::SliceReduceAlways;
+use crate::taking::{TakeExecuteAlways, TakeReduceAlways};
 use std::alloc::Global;
 use vx_bits::NoMemory;
+use vx_column::ListViewArray;
 use vx_column::vtables::ListView;
-use vx_column::{Array, ArrayView, ListViewArray};
-use vx_dispatch::{filter_validity, slice};
+use vx_dispatch::filter_validity;
 use vx_lists::plan_view_filter;
 use vx_mask::{MaskValues, Policy};
-use vx_pieces::Indices;
 
-impl TakeReduce for ListView {
-    ghost declines = { λ _ _. false };
+impl TakeReduceAlways for ListView {}
 
-    fn take(
-        alloc: Global,
-        array: ArrayView<'_, ListView>,
-        indices: &Indices,
-    ) -> Result<Option<Array>, TakeError>
-        ensures { AnswersTake array.entry.array.now (index_value indices.now) false result }
-    {
-        Ok(Some(take(alloc, array.array(), indices, &Policy::vortex())?))
-    }
-}
+impl TakeExecuteAlways for ListView {}
 
-impl TakeExecute for ListView {
-    ghost declines = { λ _ _. false };
-
-    fn take(
-        alloc: Global,
-        array: ArrayView<'_, ListView>,
-        indices: &Indices,
-    ) -> Result<Option<Array>, TakeError>
-        ensures { AnswersTake array.entry.array.now (index_value indices.now) false result }
-    {
-        Ok(Some(take(alloc, array.array(), indices, &Policy::vortex())?))
-    }
-}
-
-impl SliceReduce for ListView {
-    ghost declines = { λ _ _ _. false };
-
-    fn slice(
-        alloc: Global,
-        array: ArrayView<'_, ListView>,
-        start: usize,
-        end: usize,
-    ) -> Result<Option<Array>, NoMemory>
-        requires ordered { start ≤ end }
-        requires within { end ≤ length array.array.now.rows }
-        ensures { AnswersSlice array.entry.array.now start end false result }
-    {
-        Ok(Some(slice(alloc, array.array(), start, end)?))
-    }
-}
+impl SliceReduceAlways for ListView {}
 
 /// The lists at the set positions of a mask that is as long, of the same elements: Vortex's
 /// `filter_listview`. `NoMemory` alone.

@@ -1,51 +1,21 @@
 //! Layout `Struct`.
-ghost use Rattle.std.specs.Prelude.{◌≡◌, ◌≤◌, false, length, IfOk};
+ghost use Rattle.std.specs.Prelude.{◌≡◌, length, IfOk};
 ghost use Rattle.std.specs.List.{items_where_true};
 ghost use Rattle.vx_model.specs.Step.{IsCut};
 ghost use Rattle.vx_model.specs.Struct.{struct_column};
-ghost use Rattle.vx_pieces.specs.Indices.{index_value};
-ghost use Rattle.vx_layouts.specs.Answers.{AnswersSlice, AnswersTake};
 
-use crate::taking::{TakeError, take};
-use crate::traits::{SliceReduce, TakeReduce};
+use crate::slicing::SliceReduceAlways;
+use crate::taking::TakeReduceAlways;
 use std::alloc::Global;
 use vx_bits::NoMemory;
+use vx_column::StructArray;
 use vx_column::vtables::Struct;
-use vx_column::{Array, ArrayView, StructArray};
-use vx_dispatch::{filter_fields, slice};
+use vx_dispatch::filter_fields;
 use vx_mask::{MaskValues, Policy};
-use vx_pieces::Indices;
 
-impl TakeReduce for Struct {
-    ghost declines = { λ _ _. false };
+impl TakeReduceAlways for Struct {}
 
-    fn take(
-        alloc: Global,
-        array: ArrayView<'_, Struct>,
-        indices: &Indices,
-    ) -> Result<Option<Array>, TakeError>
-        ensures { AnswersTake array.entry.array.now (index_value indices.now) false result }
-    {
-        Ok(Some(take(alloc, array.array(), indices, &Policy::vortex())?))
-    }
-}
-
-impl SliceReduce for Struct {
-    ghost declines = { λ _ _ _. false };
-
-    fn slice(
-        alloc: Global,
-        array: ArrayView<'_, Struct>,
-        start: usize,
-        end: usize,
-    ) -> Result<Option<Array>, NoMemory>
-        requires ordered { start ≤ end }
-        requires within { end ≤ length array.array.now.rows }
-        ensures { AnswersSlice array.entry.array.now start end false result }
-    {
-        Ok(Some(slice(alloc, array.array(), start, end)?))
-    }
-}
+impl SliceReduceAlways for Struct {}
 
 /// The structs at the set positions of a mask that is as long: Vortex's `filter_struct`. The mask
 /// is made ready for as many consumers as there are fields. `NoMemory` alone.

@@ -1,13 +1,19 @@
-//! Takes from a column of any layout, with the indices judged first.
-ghost use Rattle.std.specs.Prelude.{◌≡◌, None, true, IfOk, IsOk};
+//! Takes from a column of any layout, with the indices judged first, and the takes that a layout
+//! answers itself: two traits, for two times. What they promise is the same.
+//!
+//! A layout that leaves no take to its caller is marked, and a take of it is the one over every
+//! layout.
+ghost use Rattle.std.specs.Prelude.{◌≡◌, ℕ, Bool, None, false, true, IfOk, IsOk};
 ghost use Rattle.vx_bits.specs.Results.{FailsBy};
+ghost use Rattle.vx_model.specs.Column.{Column};
 ghost use Rattle.vx_model.specs.Plain.{is_null_layout};
-ghost use Rattle.vx_pieces.specs.Indices.{index_value};
+ghost use Rattle.vx_pieces.specs.Indices.{index_len, index_value};
+ghost use Rattle.vx_layouts.specs.Answers.{AnswersTake};
 ghost use Rattle.vx_layouts.specs.Taking.{IsTakeBy, take_fault};
 
 use std::alloc::Global;
 use vx_bits::NoMemory;
-use vx_column::Array;
+use vx_column::{Array, ArrayView, VTable};
 use vx_mask::Policy;
 use vx_pieces::{IndexFault, Indices};
 
@@ -74,4 +80,76 @@ pub fn take(
         return Err(error);
     }
     Ok(vx_dispatch::take(alloc, array, indices, policy)?)
+}
+
+/// A layout that answers a take while columns are put together: Vortex's `TakeReduce`.
+pub trait TakeReduce: VTable {
+    // whether a take of so many indices from a column is left to the caller
+    ghost declines: { Column → ℕ → Bool };
+
+    /// The rows that indices name, as [`crate::take`] gives them by the policy of Vortex; none
+    /// where the take is left to the caller. The errors of the indices come before either.
+    fn take(
+        alloc: Global,
+        array: ArrayView<'_, Self>,
+        indices: &Indices,
+    ) -> Result<Option<Array>, TakeError>
+        ensures { AnswersTake array.entry.array.now (index_value indices.now)
+            (declines array.entry.array.now (index_len (index_value indices.now))) result };
+}
+
+/// A layout that answers a take while columns are executed: Vortex's `TakeExecute`.
+pub trait TakeExecute: VTable {
+    // whether a take of so many indices from a column is left to the caller
+    ghost declines: { Column → ℕ → Bool };
+
+    /// The rows that indices name, as [`crate::take`] gives them by the policy of Vortex; none
+    /// where the take is left to the caller. The errors of the indices come before either.
+    fn take(
+        alloc: Global,
+        array: ArrayView<'_, Self>,
+        indices: &Indices,
+    ) -> Result<Option<Array>, TakeError>
+        ensures { AnswersTake array.entry.array.now (index_value indices.now)
+            (declines array.entry.array.now (index_len (index_value indices.now))) result };
+}
+
+/// A layout that answers every take while columns are put together.
+pub trait TakeReduceAlways: VTable {}
+
+/// A layout that answers every take while columns are executed.
+pub trait TakeExecuteAlways: VTable {}
+
+fn taken(alloc: Global, array: &Array, indices: &Indices) -> Result<Option<Array>, TakeError>
+    ensures { AnswersTake array.now (index_value indices.now) false result }
+{
+    Ok(Some(take(alloc, array, indices, &Policy::vortex())?))
+}
+
+impl<V: TakeReduceAlways> TakeReduce for V {
+    ghost declines = { λ _ _. false };
+
+    fn take(
+        alloc: Global,
+        array: ArrayView<'_, V>,
+        indices: &Indices,
+    ) -> Result<Option<Array>, TakeError>
+        ensures { AnswersTake array.entry.array.now (index_value indices.now) false result }
+    {
+        taken(alloc, array.array(), indices)
+    }
+}
+
+impl<V: TakeExecuteAlways> TakeExecute for V {
+    ghost declines = { λ _ _. false };
+
+    fn take(
+        alloc: Global,
+        array: ArrayView<'_, V>,
+        indices: &Indices,
+    ) -> Result<Option<Array>, TakeError>
+        ensures { AnswersTake array.entry.array.now (index_value indices.now) false result }
+    {
+        taken(alloc, array.array(), indices)
+    }
 }

@@ -1,51 +1,21 @@
 //! Layout `Union`.
-ghost use Rattle.std.specs.Prelude.{◌≡◌, ◌≤◌, false, length, IfOk};
+ghost use Rattle.std.specs.Prelude.{◌≡◌, length, IfOk};
 ghost use Rattle.std.specs.List.{items_where_true};
 ghost use Rattle.vx_model.specs.Step.{IsCut};
 ghost use Rattle.vx_model.specs.Union.{union_column};
-ghost use Rattle.vx_pieces.specs.Indices.{index_value};
-ghost use Rattle.vx_layouts.specs.Answers.{AnswersSlice, AnswersTake};
 
-use crate::taking::{TakeError, take};
-use crate::traits::{SliceReduce, TakeReduce};
+use crate::slicing::SliceReduceAlways;
+use crate::taking::TakeReduceAlways;
 use std::alloc::Global;
 use vx_bits::NoMemory;
+use vx_column::UnionArray;
 use vx_column::vtables::Union;
-use vx_column::{Array, ArrayView, UnionArray};
-use vx_dispatch::{filter_variants, slice};
+use vx_dispatch::filter_variants;
 use vx_mask::{MaskValues, Policy};
-use vx_pieces::Indices;
 
-impl TakeReduce for Union {
-    ghost declines = { λ _ _. false };
+impl TakeReduceAlways for Union {}
 
-    fn take(
-        alloc: Global,
-        array: ArrayView<'_, Union>,
-        indices: &Indices,
-    ) -> Result<Option<Array>, TakeError>
-        ensures { AnswersTake array.entry.array.now (index_value indices.now) false result }
-    {
-        Ok(Some(take(alloc, array.array(), indices, &Policy::vortex())?))
-    }
-}
-
-impl SliceReduce for Union {
-    ghost declines = { λ _ _ _. false };
-
-    fn slice(
-        alloc: Global,
-        array: ArrayView<'_, Union>,
-        start: usize,
-        end: usize,
-    ) -> Result<Option<Array>, NoMemory>
-        requires ordered { start ≤ end }
-        requires within { end ≤ length array.array.now.rows }
-        ensures { AnswersSlice array.entry.array.now start end false result }
-    {
-        Ok(Some(slice(alloc, array.array(), start, end)?))
-    }
-}
+impl SliceReduceAlways for Union {}
 
 /// The rows of a union at the set positions of a mask that is as long, in the union's form, sparse
 /// or dense: Vortex's `filter_union`. A sparse union makes the mask ready for as many consumers as

@@ -1,69 +1,28 @@
 //! Layout `VarBin`.
-ghost use Rattle.std.specs.Prelude.{◌≡◌, ◌≤◌, false, length, IfOk};
+ghost use Rattle.std.specs.Prelude.{◌≤◌, length, IfOk};
 ghost use Rattle.vx_bits.specs.Results.{FailsBy};
-ghost use Rattle.vx_mask.specs.Mask.{mask_bits};
 ghost use Rattle.vx_model.specs.Step.{IsSlice};
 ghost use Rattle.vx_model.specs.VarBin.{varbin_column};
 ghost use Rattle.vx_pieces.specs.Indices.{index_value};
-ghost use Rattle.vx_layouts.specs.Answers.{AnswersFilter, AnswersSlice, AnswersTake};
 ghost use Rattle.vx_layouts.specs.Taking.{IsTakeBy, take_fault};
 
-use crate::taking::{TakeError, take, take_fault};
-use crate::traits::{FilterKernel, SliceReduce, TakeExecute};
+use crate::filtering::FilterKernelAlways;
+use crate::slicing::SliceReduceAlways;
+use crate::taking::{TakeError, TakeExecuteAlways, take_fault};
 use std::alloc::Global;
 use vx_bits::NoMemory;
 use vx_column::vtables::VarBin;
 use vx_column::{Array, ArrayView, VTable, VarBinArray};
-use vx_dispatch::{filter, slice, take_validity};
-use vx_mask::{Mask, Policy};
+use vx_dispatch::{slice, take_validity};
+use vx_mask::Policy;
 use vx_pieces::Indices;
 use vx_text::take_varbin_picks;
 
-impl TakeExecute for VarBin {
-    ghost declines = { λ _ _. false };
+impl TakeExecuteAlways for VarBin {}
 
-    fn take(
-        alloc: Global,
-        array: ArrayView<'_, VarBin>,
-        indices: &Indices,
-    ) -> Result<Option<Array>, TakeError>
-        ensures { AnswersTake array.entry.array.now (index_value indices.now) false result }
-    {
-        Ok(Some(take(alloc, array.array(), indices, &Policy::vortex())?))
-    }
-}
+impl FilterKernelAlways for VarBin {}
 
-impl FilterKernel for VarBin {
-    ghost declines = { λ _ _. false };
-
-    fn filter(
-        alloc: Global,
-        array: ArrayView<'_, VarBin>,
-        mask: &Mask,
-    ) -> Result<Option<Array>, NoMemory>
-        requires { length (mask_bits mask.now) ≡ length array.array.now.rows }
-        ensures { AnswersFilter array.entry.array.now (mask_bits mask.now) false result }
-    {
-        Ok(Some(filter(alloc, array.array(), mask, &Policy::vortex())?))
-    }
-}
-
-impl SliceReduce for VarBin {
-    ghost declines = { λ _ _ _. false };
-
-    fn slice(
-        alloc: Global,
-        array: ArrayView<'_, VarBin>,
-        start: usize,
-        end: usize,
-    ) -> Result<Option<Array>, NoMemory>
-        requires ordered { start ≤ end }
-        requires within { end ≤ length array.array.now.rows }
-        ensures { AnswersSlice array.entry.array.now start end false result }
-    {
-        Ok(Some(slice(alloc, array.array(), start, end)?))
-    }
-}
+impl SliceReduceAlways for VarBin {}
 
 /// A slice of a column of layout `VarBin`, by the name that Vortex gives it.
 pub trait VarBinSlice: VTable {

@@ -1,52 +1,22 @@
 //! Layout `VarBinView`.
-ghost use Rattle.std.specs.Prelude.{◌≡◌, ◌≤◌, false, length, IfOk};
+ghost use Rattle.std.specs.Prelude.{◌≡◌, length, IfOk};
 ghost use Rattle.std.specs.List.{items_where_true};
 ghost use Rattle.vx_model.specs.Step.{IsCut};
 ghost use Rattle.vx_model.specs.VarBinView.{views_column};
-ghost use Rattle.vx_pieces.specs.Indices.{index_value};
-ghost use Rattle.vx_layouts.specs.Answers.{AnswersSlice, AnswersTake};
 
-use crate::taking::{TakeError, take};
-use crate::traits::{SliceReduce, TakeExecute};
+use crate::slicing::SliceReduceAlways;
+use crate::taking::TakeExecuteAlways;
 use std::alloc::Global;
 use vx_bits::NoMemory;
+use vx_column::VarBinViewArray;
 use vx_column::vtables::VarBinView;
-use vx_column::{Array, ArrayView, VarBinViewArray};
-use vx_dispatch::{filter_validity, slice};
+use vx_dispatch::filter_validity;
 use vx_mask::{MaskValues, Policy};
-use vx_pieces::Indices;
 use vx_text::filter_views;
 
-impl TakeExecute for VarBinView {
-    ghost declines = { λ _ _. false };
+impl TakeExecuteAlways for VarBinView {}
 
-    fn take(
-        alloc: Global,
-        array: ArrayView<'_, VarBinView>,
-        indices: &Indices,
-    ) -> Result<Option<Array>, TakeError>
-        ensures { AnswersTake array.entry.array.now (index_value indices.now) false result }
-    {
-        Ok(Some(take(alloc, array.array(), indices, &Policy::vortex())?))
-    }
-}
-
-impl SliceReduce for VarBinView {
-    ghost declines = { λ _ _ _. false };
-
-    fn slice(
-        alloc: Global,
-        array: ArrayView<'_, VarBinView>,
-        start: usize,
-        end: usize,
-    ) -> Result<Option<Array>, NoMemory>
-        requires ordered { start ≤ end }
-        requires within { end ≤ length array.array.now.rows }
-        ensures { AnswersSlice array.entry.array.now start end false result }
-    {
-        Ok(Some(slice(alloc, array.array(), start, end)?))
-    }
-}
+impl SliceReduceAlways for VarBinView {}
 
 /// The rows at the set positions of a mask that is as long: Vortex's `filter_varbinview`.
 /// `NoMemory` alone.

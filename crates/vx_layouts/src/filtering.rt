@@ -1,0 +1,91 @@
+//! The filters that a layout answers itself: two traits, for two times. What they promise is the same.
+//!
+//! A layout that leaves no filter to its caller is marked, and a filter of it is the one over every
+//! layout.
+ghost use Rattle.std.specs.Prelude.{◌≡◌, Bool, List, false, length};
+ghost use Rattle.vx_mask.specs.Mask.{mask_bits};
+ghost use Rattle.vx_model.specs.Column.{Column};
+ghost use Rattle.vx_layouts.specs.Answers.{AnswersFilter};
+
+use std::alloc::Global;
+use vx_bits::NoMemory;
+use vx_column::{Array, ArrayView, VTable};
+use vx_dispatch::filter;
+use vx_mask::{Mask, Policy};
+
+/// A layout that answers a filter while columns are put together: Vortex's `FilterReduce`.
+pub trait FilterReduce: VTable {
+    // whether a filter of a column by these bits is left to the caller
+    ghost declines: { Column → List Bool → Bool };
+
+    /// The rows at the set positions of a mask that is as long, as [`crate::filter`] gives them by
+    /// the policy of Vortex; none where the filter is left to the caller.
+    fn filter(
+        alloc: Global,
+        array: ArrayView<'_, Self>,
+        mask: &Mask,
+    ) -> Result<Option<Array>, NoMemory>
+        requires { length (mask_bits mask.now) ≡ length array.array.now.rows }
+        ensures { AnswersFilter array.entry.array.now (mask_bits mask.now)
+            (declines array.entry.array.now (mask_bits mask.now)) result };
+}
+
+/// A layout that answers a filter while columns are executed: Vortex's `FilterKernel`.
+pub trait FilterKernel: VTable {
+    // whether a filter of a column by these bits is left to the caller
+    ghost declines: { Column → List Bool → Bool };
+
+    /// The rows at the set positions of a mask that is as long, as [`crate::filter`] gives them by
+    /// the policy of Vortex; none where the filter is left to the caller.
+    fn filter(
+        alloc: Global,
+        array: ArrayView<'_, Self>,
+        mask: &Mask,
+    ) -> Result<Option<Array>, NoMemory>
+        requires { length (mask_bits mask.now) ≡ length array.array.now.rows }
+        ensures { AnswersFilter array.entry.array.now (mask_bits mask.now)
+            (declines array.entry.array.now (mask_bits mask.now)) result };
+}
+
+/// A layout that answers every filter while columns are put together.
+pub trait FilterReduceAlways: VTable {}
+
+/// A layout that answers every filter while columns are executed.
+pub trait FilterKernelAlways: VTable {}
+
+fn kept(alloc: Global, array: &Array, mask: &Mask) -> Result<Option<Array>, NoMemory>
+    requires { length (mask_bits mask.now) ≡ length array.now.rows }
+    ensures { AnswersFilter array.now (mask_bits mask.now) false result }
+{
+    Ok(Some(filter(alloc, array, mask, &Policy::vortex())?))
+}
+
+impl<V: FilterReduceAlways> FilterReduce for V {
+    ghost declines = { λ _ _. false };
+
+    fn filter(
+        alloc: Global,
+        array: ArrayView<'_, V>,
+        mask: &Mask,
+    ) -> Result<Option<Array>, NoMemory>
+        requires { length (mask_bits mask.now) ≡ length array.array.now.rows }
+        ensures { AnswersFilter array.entry.array.now (mask_bits mask.now) false result }
+    {
+        kept(alloc, array.array(), mask)
+    }
+}
+
+impl<V: FilterKernelAlways> FilterKernel for V {
+    ghost declines = { λ _ _. false };
+
+    fn filter(
+        alloc: Global,
+        array: ArrayView<'_, V>,
+        mask: &Mask,
+    ) -> Result<Option<Array>, NoMemory>
+        requires { length (mask_bits mask.now) ≡ length array.array.now.rows }
+        ensures { AnswersFilter array.entry.array.now (mask_bits mask.now) false result }
+    {
+        kept(alloc, array.array(), mask)
+    }
+}
