@@ -69,25 +69,28 @@ impl<'a> From<&'a Mask> for Bits<'a> {
 pub fn filter_bits(src: Bits, mask: Bits) -> Mask {
     assert_eq!(src.len, mask.len, "a mask is as long as its bits");
     let (s, m) = (src.words, mask.words);
-    let call = |dst: *mut u64, room| unsafe {
-        let (n, by) = (s.len(), m.as_ptr());
+    // A bit of room for each row, so that none is counted before.
+    let room = mask.len.div_ceil(64);
+    let mut kept = Vec::with_capacity(room);
+    let answer = unsafe {
         calls::vortex_filter_bits(
             s.as_ptr(),
-            n,
+            s.len(),
             src.at,
-            by,
+            m.as_ptr(),
             m.len(),
             mask.at,
             mask.len,
-            dst,
+            kept.as_mut_ptr(),
             room,
         )
     };
-    let count = call(std::ptr::NonNull::dangling().as_ptr(), 0).value as usize;
-    let room = count.div_ceil(64);
-    let (answer, words) = unsafe { crate::written(room, |dst| call(dst, room)) };
     assert_eq!(answer.status, DONE);
-    Mask::of(words, count)
+    let count = answer.value as usize;
+    // SAFETY: the call wrote the words of as many bits as it answers.
+    unsafe { kept.set_len(count.div_ceil(64)) };
+    kept.shrink_to_fit();
+    Mask::of(kept, count)
 }
 
 /// The bits of `src` at the indices, in order, or the first index that is out of bounds.

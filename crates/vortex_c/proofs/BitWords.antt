@@ -1,19 +1,19 @@
 -- Bits that words hold, read from any of them on and written from the first one.
-use Rattle.std.proofs.Common.{◌≡◌, ℕ, zero, suc, ◌+◌, ◌-◌, ◌*◌, ◌/◌, ◌%◌, ◌^◌, ◌<◌, ◌≤◌, min, Bool, true, false, eqb, List, [], ◌∷◌, ◌++◌, length, get_or, take, drop, set, map, inl, inr, refl, sym, ap, ap₂, subst, ◌∙◌, add-zero, zero-add, arith}
+use Rattle.std.proofs.Common.{◌≡◌, ℕ, zero, suc, ◌+◌, ◌-◌, ◌*◌, ◌/◌, ◌%◌, ◌^◌, ◌<◌, ◌≤◌, min, Bool, true, false, eqb, List, [], ◌∷◌, ◌++◌, length, get_or, take, drop, set, map, bit_or, inl, inr, refl, sym, ap, ap₂, subst, ◌∙◌, add-zero, zero-add, arith}
 use mir.Val.{bool_byte}
 use Rattle.std.specs.Int.{bit_at}
 use Rattle.std.specs.List.{range_with_len}
 use Rattle.std.proofs.lemmas.Bool.{cases_lt}
 use Rattle.std.proofs.lemmas.List.FromFn.{map-range_with_len_more}
 use Rattle.std.proofs.lemmas.List.{append-nil, append_assoc, drop-append-le, drop-drop, drop-set-lt, drop-take, drop_more, get_or-drop, get_or-take, get_or_default, length-append, length-drop, length-take, length-take-le, take-append-drop, take-append-le, take-take, take_all, take_more_set}
-use Rattle.std.proofs.lemmas.Nat.{mod_below, mul-add-lt, pow_pos, shl_whole}
-use Rattle.std.proofs.Math.Nat.{mod-eq_of_lt, mul_assoc, mul_comm, pow-suc}
+use Rattle.std.proofs.lemmas.Nat.{mod_below, mod_low, mod-pow-add, or_shifted, pow-add, pow_pos, shr_below, shr_high, shr-shr}
+use Rattle.std.proofs.Math.Nat.{mod-eq_of_lt, mul-add-div_right, mul_assoc, mul_comm, pow-suc}
 use Rattle.std.proofs.Math.Pow.{pow_mono}
 use Rattle.vx_bits.specs.BitBuffer.{number_of}
 use Rattle.vx_bits.specs.Words.{word_at, word_bits, word_count}
 use Rattle.vx_bits.proofs.BitLists.{number_below}
 use Rattle.vx_bits.proofs.WordBits.{length-word_bits, number_of-word_bits, take-word_bits, word_bits-append, word_bits_low}
-use Rattle.vx_bits.proofs.WordLists.{picked_full_word, word_is}
+use Rattle.vx_bits.proofs.WordLists.{picked_full_word, picked_no_word, word_is}
 use Rattle.vx_bits.proofs.WordsJoined.{words_to, words_to_more}
 use Rattle.vx_bitfilter.specs.Pext.{pext}
 use Rattle.vx_bitfilter.proofs.PackedBits.{picked_bits}
@@ -177,14 +177,27 @@ packed_short bits more words full next held word n after packed is_word is_n sho
       count = omega (arith, count, packed.count);
     }
 
+-- the bits for which a word has no room are those of the sum above it
+past_room : (next held word : ℕ) → next < 2 ^ held → held < 64 → word / 2 ^ (64 - held) ≡ (word * 2 ^ held + next) / 2 ^ 64
+past_room next held word below short =
+    let whole : held + (64 - held) ≡ 64 = omega arith in
+    let all = word * 2 ^ held + next in
+    ap (λ n. n / 2 ^ (64 - held)) (sym (shr_high word held next below))
+    ∙ shr-shr all held (64 - held)
+    ∙ ap (λ n. all / 2 ^ n) whole
+
 -- a full word is written
-pub packed_full : (bits more : List Bool) (words : List ℕ) (full next held word n low high : ℕ) → IsPacked bits words full next held → word ≡ number_of more → n ≡ length more → held < 64 → n ≤ 64 → 64 ≤ held + n → full < length words → low ≡ (word * 2 ^ held + next) % 2 ^ 64 → high ≡ (word * 2 ^ held + next) / 2 ^ 64 → IsPacked (bits ++ more) (set words full low) (full + 1) high (held + n - 64)
+pub packed_full : (bits more : List Bool) (words : List ℕ) (full next held word n low high : ℕ) → IsPacked bits words full next held → word ≡ number_of more → n ≡ length more → held < 64 → n ≤ 64 → 64 ≤ held + n → full < length words → low ≡ (word * 2 ^ held + next) % 2 ^ 64 → high ≡ word / 2 ^ (64 - held) → IsPacked (bits ++ more) (set words full low) (full + 1) high (held + n - 64)
 unfolding word_at
 packed_full bits more words full next held word n low high packed is_word is_n open_word few many room is_low is_high =
     let both = bits ++ more in
     let tail = drop (64 * full) both in
+    let own = drop (64 * full) bits in
     let count = length-append bits more in
     let long : length tail ≡ held + n = omega (arith, length-drop (64 * full) both, count, packed.count) in
+    let open_long : length own ≡ held = omega (arith, length-drop (64 * full) bits, packed.count) in
+    let is_next : next ≡ number_of own = packed.next ∙ first_word bits full (omega arith) in
+    let below : next < 2 ^ held = subst (λ (n : ℕ). next < 2 ^ n) open_long (subst (λ (x : ℕ). x < 2 ^ length own) (sym is_next) (number_below own)) in
     let number = spelled bits more full next held word packed.next packed.count open_word is_word in
     let cut = cut_number tail (omega arith) in
     let low_is : low ≡ word_at both full = is_low ∙ ap (λ x. x % 2 ^ 64) (sym number) ∙ sym cut.low in
@@ -195,7 +208,7 @@ packed_full bits more words full next held word n low high packed is_word is_n o
       words = take_more_set words full low room
           ∙ ap₂ (λ l x. l ++ x ∷ []) (packed.words ∙ sym (words_stay bits more full (omega (arith, packed.count)))) low_is
           ∙ sym (words_to_more both full);
-      next = is_high ∙ ap (λ x. x / 2 ^ 64) (sym number) ∙ sym cut.high ∙ sym (first_word both (full + 1) short ∙ ap number_of rest);
+      next = is_high ∙ past_room next held word below open_word ∙ ap (λ x. x / 2 ^ 64) (sym number) ∙ sym cut.high ∙ sym (first_word both (full + 1) short ∙ ap number_of rest);
       count = omega (arith, count, packed.count);
     }
 
@@ -213,20 +226,30 @@ closed bits words full next held packed none =
     let count : word_count (length bits) ≡ full = omega (arith, packed.count) in
     front_and_rest full words _ _ packed.words refl ∙ sym (ap (λ n. words_to bits n ++ drop n words) count)
 
--- a word is moved up behind another's bits, and both fit
-pub moved_up : (word held : ℕ) → word < 2 ^ 64 → held < 64 → word * 2 ^ held % 2 ^ 128 ≡ word * 2 ^ held
-moved_up word held fits short = shl_whole word 64 held 128 fits (omega arith)
-
-pub both_fit : (word next held : ℕ) → word < 2 ^ 64 → next < 2 ^ 64 → held < 64 → word * 2 ^ held + next < 2 ^ 128
-both_fit word next held fits small short =
-    let most : held ≤ 63 = omega arith in
-    let power : 2 ^ held ≤ 2 ^ 63 = pow_mono most in
-    omega (arith, mul-add-lt word (2 ^ held) 0 (2 ^ 64) fits (pow_pos held), power)
+-- two words moved down by some bits
+pub moved_is : (low high s : ℕ) → low < 2 ^ 64 → 0 < s → s < 64 → bit_or (high * 2 ^ (64 - s) % 2 ^ 64) (low / 2 ^ s) ≡ (high * 2 ^ 64 + low) / 2 ^ s % 2 ^ 64
+moved_is low high s fits p q =
+    let k = 64 - s in
+    let whole : k + s ≡ 64 = omega arith in
+    let turned : s + k ≡ 64 = omega arith in
+    let small : low / 2 ^ s < 2 ^ k = shr_below low k s (subst (λ (n : ℕ). low < 2 ^ n) (sym whole) fits) in
+    let low_half : (n l : ℕ) → l < 2 ^ k → n ≡ high * 2 ^ k + l → n % 2 ^ 64 ≡ high % 2 ^ s * 2 ^ k + l =
+    λ n l h e. ap (λ w. n % 2 ^ w) (sym turned) ∙ mod-pow-add n s k
+    ∙ ap₂ (λ a b. a % 2 ^ s * 2 ^ k + b) (ap (λ x. x / 2 ^ k) e ∙ shr_high high k l h) (ap (λ x. x % 2 ^ k) e ∙ mod_low high k l h) in
+    let up = low_half (high * 2 ^ k) 0 (pow_pos k) (omega arith) in
+    let up_is : high * 2 ^ k % 2 ^ 64 ≡ high % 2 ^ s * 2 ^ k = omega (arith, up) in
+    let wide : high * 2 ^ 64 ≡ high * 2 ^ k * 2 ^ s = ap (λ n. high * 2 ^ n) (sym whole) ∙ ap (λ p. high * p) (pow-add 2 k s) ∙ sym (mul_assoc high (2 ^ k) (2 ^ s)) in
+    let down : (high * 2 ^ 64 + low) / 2 ^ s ≡ high * 2 ^ k + low / 2 ^ s = ap (λ n. (n + low) / 2 ^ s) wide ∙ mul-add-div_right (pow_pos s) (high * 2 ^ k) low in
+    ap (λ x. bit_or x (low / 2 ^ s)) up_is ∙ or_shifted (high % 2 ^ s) k (low / 2 ^ s) small
+    ∙ sym (low_half ((high * 2 ^ 64 + low) / 2 ^ s) (low / 2 ^ s) small down)
 
 -- the number of the bits that a word picks
 pub pext_is : (src mask : ℕ) → pext src mask ≡ number_of (picked_bits src mask)
 unfolding pext
 pext_is src mask = refl
+
+pub no_pext : (src mask : ℕ) → mask ≡ 0 → pext src mask ≡ 0
+no_pext src mask none = pext_is src mask ∙ ap number_of (picked_no_word mask (word_bits src 64) none)
 
 pub full_pext : (src mask : ℕ) → src < 2 ^ 64 → mask ≡ 2 ^ 64 - 1 → src ≡ pext src mask
 full_pext src mask fits full =

@@ -4,3 +4,4 @@ pub mod FilterFaults
 pub mod TakenItems
 pub mod BitWords
 pub mod MaskRuns
+pub mod TopBits

@@ -1,5 +1,5 @@
 //! Bits that words of the caller's hold, read from any of them on and written from the first one.
-ghost use Rattle.std.specs.Prelude.{◌≡◌, ℕ, ◌+◌, ◌*◌, ◌/◌, ◌%◌, ◌^◌, ◌<◌, ◌≤◌, Bool, List, ◌++◌, false, length, drop, nat_le, slice_index_or};
+ghost use Rattle.std.specs.Prelude.{◌≡◌, ℕ, ◌+◌, ◌-◌, ◌*◌, ◌/◌, ◌%◌, ◌^◌, ◌<◌, ◌≤◌, Bool, List, ◌++◌, false, length, drop, nat_le, slice_index_or};
 ghost use Rattle.vx_bits.specs.BitBuffer.{number_of};
 ghost use Rattle.vx_bits.specs.Words.{word_at, word_count};
 ghost use Rattle.vortex_c.specs.Bits.{IsPacked, bits_at, words_of};
@@ -36,8 +36,33 @@ fn cut(low: u64, high: u64, shift: u32, count: u32) -> u64
     requires short { count ≤ 64 }
     ensures { result ≡ (high * 2 ^ 64 + low) / 2 ^ shift % 2 ^ count }
 {
-    let both = u128::from(low) | (u128::from(high) << 64);
-    ((both >> shift) & ((1 << count) - 1)) as u64
+    front(moved_down(low, high, shift), count)
+}
+
+// The 64 bits of two words from bit `shift` on.
+#[inline(always)]
+fn moved_down(low: u64, high: u64, shift: u32) -> u64
+    requires { shift < 64 }
+    ensures { result ≡ (high * 2 ^ 64 + low) / 2 ^ shift % 2 ^ 64 }
+{
+    if shift == 0 {
+        low
+    } else {
+        (high << (64 - shift)) | (low >> shift)
+    }
+}
+
+// The lowest `count` bits of a word.
+#[inline(always)]
+fn front(word: u64, count: u32) -> u64
+    requires { count ≤ 64 }
+    ensures { result ≡ word % 2 ^ count }
+{
+    if count < 64 {
+        word & ((1 << count) - 1)
+    } else {
+        word
+    }
 }
 
 // Bit `index` of the `len` bits from bit `offset` of the words on.
@@ -89,8 +114,7 @@ impl Packed {
         ensures count { 64 * result.full + result.held ≡ 64 * self.full + self.held + n }
         ensures rest { drop result.full dst.new ≡ drop result.full dst.old }
     {
-        let all = joined(self.next, self.held, word);
-        let low = low_half(all);
+        let low = low_word(self.next, self.held, word);
         let held = self.held + n;
         if held < 64 {
             return Packed {
@@ -99,7 +123,7 @@ impl Packed {
                 held,
             };
         }
-        let next = high_half(all);
+        let next = past_word(self.held, word);
         dst[self.full] = low;
         Packed {
             full: self.full + 1,
@@ -122,25 +146,20 @@ impl Packed {
     }
 }
 
-// A word with `held` bits, and behind them the bits of another.
+// A word with `held` bits, and behind them the bits of another, as many as there is room for.
 #[inline(always)]
-fn joined(next: u64, held: u32, more: u64) -> u128
+fn low_word(next: u64, held: u32, more: u64) -> u64
     requires { held < 64 }
-    ensures { result ≡ more * 2 ^ held + next }
+    ensures { result ≡ (more * 2 ^ held + next) % 2 ^ 64 }
 {
-    u128::from(next) + (u128::from(more) << held)
+    next.wrapping_add(more << held)
 }
 
+// The bits of the other word for which there was no room.
 #[inline(always)]
-fn low_half(x: u128) -> u64
-    ensures { result ≡ x % 2 ^ 64 }
+fn past_word(held: u32, more: u64) -> u64
+    requires { held < 64 }
+    ensures { result ≡ more / 2 ^ (64 - held) }
 {
-    (x & 0xffff_ffff_ffff_ffff) as u64
-}
-
-#[inline(always)]
-fn high_half(x: u128) -> u64
-    ensures { result ≡ x / 2 ^ 64 }
-{
-    (x >> 64) as u64
+    (more >> 1) >> (63 - held)
 }

@@ -2,7 +2,7 @@ use Rattle.std.proofs.Common.{◌≡◌, ◌+◌, ◌*◌, ◌<◌, take, drop}
 use Rattle.std.specs.List.{items_where_true}
 use Rattle.vx_bits.specs.BitBuffer.{true_count_of}
 use Rattle.vortex_c.specs.Bits.{IsPacked, bits_at}
-use Rattle.vortex_c.proofs.filter_bits.put_kept.Given as goal
+use Rattle.vortex_c.proofs.filter_bits.put_words.Given as goal
 
 abbrev pub invariant-loop-i : goal.invariant-loop-i
 invariant-loop-i l =

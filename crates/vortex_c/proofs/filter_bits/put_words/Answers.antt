@@ -10,7 +10,7 @@ use Rattle.vx_filter.proofs.Moves.{same_further}
 use Rattle.vx_mask.proofs.WordCounts.{count_of_word, counts_rise}
 use Rattle.vortex_c.specs.Bits.{IsPacked, bits_at, words_of}
 use Rattle.vortex_c.proofs.BitWords.{length-bits_at, none_packed, pext_is}
-use Rattle.vortex_c.proofs.filter_bits.put_kept.Goals as goal
+use Rattle.vortex_c.proofs.filter_bits.put_words.Goals as goal
 
 pub loop-i-init : goal.loop-i-init
 loop-i-init c =
@@ -27,7 +27,7 @@ pub append-kept-requires-clause-room : goal.append-kept-requires-clause-room
 append-kept-requires-clause-room c =
     let m = bits_at c.args.mask.now c.args.mask_at c.args.rows in
     let i = c.loop-i.i in
-    omega (arith, c.loop-i.invariant.count, count_of_word m i _ c.word_of-picks.ensures, counts_rise m (64 * (i + 1)), c.requires.room)
+    omega (arith, c.loop-i.invariant.count, c.picked-found.ensures.count, count_of_word m i _ c.word_of-picks.ensures, counts_rise m (64 * (i + 1)), c.requires.room)
 
 pub loop-i-preserved : goal.loop-i-preserved
 loop-i-preserved c =
@@ -43,17 +43,17 @@ loop-i-preserved c =
     let before = items_where_true (take (64 * i) m) s in
     let step = c.append-kept.ensures in
     let within : 64 * i ≤ length m = omega (arith, long_m) in
-    let packed = step.packed before more v.packed (c.picked-bits.ensures ∙ pext_is word picks) (sym (count_picked word picks (omega arith))) in
+    let packed = step.packed before more v.packed (c.picked-found.ensures.bits ∙ pext_is word picks) ((c.picked-found.ensures.count ∙ sym (count_picked word picks (omega arith)))) in
     let all = word_kept m s before (before ++ more) i (long_s ∙ sym long_m) within refl (ap (λ l. before ++ l) (ap₂ picked_bits c.word_of-word.ensures c.word_of-picks.ensures)) in
     record {
       packed = subst (λ (l : List Bool). IsPacked l c.append-kept.new.dst c.append-kept.result.full c.append-kept.result.next c.append-kept.result.held) all packed;
       open_word = step.open;
-      count = omega (arith, step.count, v.count, count_of_word m i _ c.word_of-picks.ensures);
+      count = omega (arith, step.count, v.count, c.picked-found.ensures.count, count_of_word m i _ c.word_of-picks.ensures);
       rest = step.rest ∙ same_further c.args.dst.now c.loop-i.dst c.loop-i.kept.full c.append-kept.result.full (omega (arith, step.count, step.open, v.open_word)) v.rest;
     }
 
-pub returns : goal.returns
-returns c =
+pub returns-clause-bits : goal.returns-clause-bits
+returns-clause-bits c =
     let v = c.loop-i.invariant in
     let i = c.loop-i.i in
     let m = bits_at c.args.mask.now c.args.mask_at c.args.rows in
