@@ -36,7 +36,8 @@ fn cut(low: u64, high: u64, shift: u32, count: u32) -> u64
     requires short { count ≤ 64 }
     ensures { result ≡ (high * 2 ^ 64 + low) / 2 ^ shift % 2 ^ count }
 {
-    front(moved_down(low, high, shift), count)
+    let word = moved_down(low, high, shift);
+    if count < 64 { front(word, count) } else { word }
 }
 
 // The 64 bits of two words from bit `shift` on.
@@ -52,17 +53,13 @@ fn moved_down(low: u64, high: u64, shift: u32) -> u64
     }
 }
 
-// The lowest `count` bits of a word.
-#[inline(always)]
+// The lowest `count` bits of a word. Only a last word is cut, so it is no part of the loops.
+#[inline(never)]
 fn front(word: u64, count: u32) -> u64
-    requires { count ≤ 64 }
+    requires { count < 64 }
     ensures { result ≡ word % 2 ^ count }
 {
-    if count < 64 {
-        word & ((1 << count) - 1)
-    } else {
-        word
-    }
+    word & ((1 << count) - 1)
 }
 
 // Bit `index` of the `len` bits from bit `offset` of the words on.
