@@ -56,13 +56,12 @@ fn picked_one_by_one(word: u64, picks: u64) -> Kept
 {
     let mut top: u64 = 0;
     let mut left = picks;
-    let mut count: u32 = 0;
     'bits: while left != 0 {
         let from_there = word >> left.trailing_zeros();
         top = (top >> 1) | (from_there << 63);
         left &= left - 1;
-        count += 1;
     }
+    let count = picks.count_ones();
     Kept {
         bits: top >> (64 - count),
         count,
