@@ -5,3 +5,4 @@ pub mod TakenItems
 pub mod BitWords
 pub mod MaskRuns
 pub mod TopBits
+pub mod RunStarts

@@ -112,6 +112,7 @@ pub record IsMask (rows : ℕ) (words : List ℕ) : Type 0 where
   pub lengths : length words ≡ word_count rows
   pub clear : AllBits (bits_of_words words) rows (64 * length words) false
   pub few : count_of words ≤ rows
+  pub none : true_count_of (drop rows (bits_of_words words)) ≡ 0
 
 abbrev fault_by : Bool → Bool → ℕ
 fault_by a b = cond a (cond b 0 2) 1
@@ -141,6 +142,7 @@ is_mask rows words h =
       lengths = eqb-true (length words) (word_count rows) tests.0;
       clear = λ k p q. clear_past (bits_of_words words) rows k p (eqb-true past 0 tests.1);
       few = count_in_rows rows words (eqb-true past 0 tests.1);
+      none = eqb-true past 0 tests.1;
     }
 
 -- no bit of the last word is set past the rows

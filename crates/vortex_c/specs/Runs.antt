@@ -1,5 +1,5 @@
 -- The runs of a mask, told from outside.
-use Rattle.std.specs.Prelude.{◌≡◌, ◌≢◌, ℕ, ◌==◌, Bool, List, ◌++◌, length, map, take, drop, if◌then◌else◌, nat_lt}
+use Rattle.std.specs.Prelude.{◌≡◌, ◌≢◌, ℕ, ◌==◌, ◌&&◌, Bool, not, List, [], ◌∷◌, ◌++◌, length, map, take, drop, if◌then◌else◌, nat_lt}
 use Rattle.vx_filter.specs.Compact.{bits_of_words}
 use Rattle.vx_mask.specs.Positions.{maximal_runs}
 use Rattle.vortex_c.specs.declared.runs.Run.{Run}
@@ -29,3 +29,9 @@ pub record AreRunsListed (rows : ℕ) (words : List ℕ) (old new : List Run) (s
   pub runs : status ≡ 0 → new
       ≡ map run_of (maximal_runs (rows_of words rows)) ++ drop value old
   pub refused : status ≢ 0 → new ≡ old
+
+-- for each bit whether a run starts there: it is set, and the one before it is not, which is `last`
+-- before the first one
+abbrev pub starts : Bool → List Bool → List Bool
+starts last [] = []
+starts last (bit ∷ bits) = (bit && not last) ∷ starts bit bits

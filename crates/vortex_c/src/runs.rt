@@ -1,9 +1,10 @@
 //! The maximal runs of a mask.
-ghost use Rattle.std.specs.Prelude.{◌≡◌, ◌-◌, ◌^◌, ◌<◌, ◌≤◌, ◌++◌, cond, false, not, length, map, drop, slice_index_or};
-ghost use Rattle.vx_bits.specs.Words.{word_count};
+ghost use Rattle.std.specs.Prelude.{◌≡◌, ◌==◌, ◌-◌, ◌^◌, ◌<◌, ◌≤◌, ◌++◌, cond, false, not, length, map, drop, slice_index_or};
+ghost use Rattle.std.specs.Int.{bit_at};
+ghost use Rattle.vx_bits.specs.Words.{word_bits, word_count};
 ghost use Rattle.vx_mask.specs.Positions.{AllBits, maximal_runs};
 ghost use Rattle.vortex_c.specs.Masks.{mask_fault};
-ghost use Rattle.vortex_c.specs.Runs.{AreRunsListed, rows_of, run_of};
+ghost use Rattle.vortex_c.specs.Runs.{AreRunsListed, rows_of, run_of, starts};
 
 use crate::answer::{Answer, DONE, ROOM};
 use crate::masks::fault_of;
@@ -52,6 +53,14 @@ fn next_with(words: &[u64], rows: usize, from: usize, want: bool) -> usize
     rows
 }
 
+// The bits of a word at which a run starts: `before` is the word before it.
+#[inline(always)]
+fn starts_in(word: u64, before: u64) -> u64
+    ensures { word_bits result 64 ≡ starts (bit_at before 63 == 1) (word_bits word 64) }
+{
+    (word ^ ((word << 1) | (before >> 63))) & word
+}
+
 // How many maximal runs there are.
 fn count_runs(words: &[u64], rows: usize) -> usize
     requires mask { mask_fault rows words.now ≡ 0 }
@@ -59,12 +68,10 @@ fn count_runs(words: &[u64], rows: usize) -> usize
     ensures { result ≡ length (maximal_runs (rows_of words.now rows)) }
 {
     let mut count = 0;
-    let mut start = next_with(words, rows, 0, true);
-    'runs: while start < rows {
-        let end = next_with(words, rows, start, false);
-        let next = next_with(words, rows, end, true);
-        count += 1;
-        start = next;
+    let mut before = 0;
+    for w in 0..rows.div_ceil(64) {
+        count += starts_in(words[w], before).count_ones() as usize;
+        before = words[w];
     }
     count
 }

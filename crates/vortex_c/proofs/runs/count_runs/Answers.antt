@@ -1,30 +1,34 @@
-use Rattle.std.proofs.Common.{arith}
-use Rattle.vortex_c.specs.Runs.{rows_of}
-use Rattle.vortex_c.proofs.MaskRows.{length-rows}
-use Rattle.vortex_c.proofs.MaskRuns.{all_behind, next_run, none_behind}
-use Rattle.vortex_c.proofs.MaskWords.{is_mask}
+use Rattle.std.proofs.Common.{◌+◌, false, get_or, take, refl, ap, ◌∙◌, arith}
+use Rattle.std.proofs.lemmas.List.{take_all}
+use Rattle.vx_bits.specs.BitBuffer.{true_count_of}
+use Rattle.vx_bits.proofs.WordBits.{true_count_of-word_bits}
+use Rattle.vx_filter.specs.Compact.{bits_of_words}
+use Rattle.vortex_c.specs.Runs.{starts}
+use Rattle.vortex_c.proofs.MaskWords.{bits_more, count_below, is_mask}
+use Rattle.vortex_c.proofs.RunStarts.{all_counted, few_starts, further}
 use Rattle.vortex_c.proofs.runs.count_runs.Goals as goal
 
-pub runs-init : goal.runs-init
-runs-init c = record {
-  behind = none_behind (rows_of c.args.words.now c.args.rows) c.args.rows c.next_with-start.result (length-rows c.args.rows c.args.words.now (is_mask c.args.rows c.args.words.now c.requires.mask)) c.next_with-start.ensures.within c.next_with-start.ensures.passed c.next_with-start.ensures.found;
-  below = omega arith;
-  within = c.next_with-start.ensures.within;
-}
+pub loop-w-init : goal.loop-w-init
+loop-w-init c = record { count = refl; last = refl }
 
-pub runs-preserved : goal.runs-preserved
-runs-preserved c =
-    let step = next_run (rows_of c.args.words.now c.args.rows) c.args.rows c.runs.count c.runs.start c.next_with-end.result c.next_with-next.result (length-rows c.args.rows c.args.words.now (is_mask c.args.rows c.args.words.now c.requires.mask)) c.runs-test.true c.next_with-end.ensures.from c.next_with-end.ensures.within c.next_with-end.ensures.passed c.next_with-end.ensures.found c.next_with-next.ensures.from c.next_with-next.ensures.within c.next_with-next.ensures.passed c.next_with-next.ensures.found c.runs.invariant.behind in
-    record {
-      behind = step.behind;
-      below = omega (arith, step.later, c.runs.invariant.below);
-      within = c.next_with-next.ensures.within;
-    }
+pub overflow_add-count : goal.overflow_add-count
+overflow_add-count c =
+    let words = c.args.words.now in
+    let w = c.loop-w.w in
+    let found = c.starts_in.result in
+    let step = further (bits_of_words (take w words)) (bits_of_words (take (w + 1) words)) (get_or words w 0) c.loop-w.before found _ (bits_more words w (omega arith)) c.loop-w.invariant.last (omega arith) c.starts_in.ensures (true_count_of-word_bits found 64 (omega arith)) in
+    omega (arith, c.loop-w.invariant.count, step.count, few_starts (bits_of_words (take (w + 1) words)), count_below words (w + 1), (is_mask c.args.rows words c.requires.mask).few)
 
-pub runs-smaller : goal.runs-smaller
-runs-smaller c =
-    let step = next_run (rows_of c.args.words.now c.args.rows) c.args.rows c.runs.count c.runs.start c.next_with-end.result c.next_with-next.result (length-rows c.args.rows c.args.words.now (is_mask c.args.rows c.args.words.now c.requires.mask)) c.runs-test.true c.next_with-end.ensures.from c.next_with-end.ensures.within c.next_with-end.ensures.passed c.next_with-end.ensures.found c.next_with-next.ensures.from c.next_with-next.ensures.within c.next_with-next.ensures.passed c.next_with-next.ensures.found c.runs.invariant.behind in
-    omega (arith, step.later, c.runs-test.true, c.next_with-next.ensures.within)
+pub loop-w-preserved : goal.loop-w-preserved
+loop-w-preserved c =
+    let words = c.args.words.now in
+    let w = c.loop-w.w in
+    let found = c.starts_in.result in
+    let step = further (bits_of_words (take w words)) (bits_of_words (take (w + 1) words)) (get_or words w 0) c.loop-w.before found _ (bits_more words w (omega arith)) c.loop-w.invariant.last (omega arith) c.starts_in.ensures (true_count_of-word_bits found 64 (omega arith)) in
+    record { count = omega (arith, c.loop-w.invariant.count, step.count); last = step.last }
 
 pub returns : goal.returns
-returns c = (all_behind (rows_of c.args.words.now c.args.rows) c.args.rows c.runs.count c.runs.start (length-rows c.args.rows c.args.words.now (is_mask c.args.rows c.args.words.now c.requires.mask)) (omega (arith, c.runs-test.false)) c.runs.invariant.behind).1
+returns c =
+    let words = c.args.words.now in
+    c.loop-w.invariant.count ∙ ap (λ l. true_count_of (starts false (bits_of_words l))) (take_all c.loop-w.w words (omega (arith, c.requires.lengths)))
+    ∙ all_counted c.args.rows words (is_mask c.args.rows words c.requires.mask)

@@ -1,14 +1,13 @@
-use Rattle.std.proofs.Common.{◌-◌, ◌≤◌}
-use Rattle.vortex_c.specs.Runs.{rows_of}
-use Rattle.vortex_c.proofs.MaskRuns.{AreBehind}
+use Rattle.std.proofs.Common.{◌≡◌, false, eqb, take}
+use Rattle.std.specs.Int.{bit_at}
+use Rattle.vx_bits.specs.BitBuffer.{true_count_of}
+use Rattle.vx_filter.specs.Compact.{bits_of_words}
+use Rattle.vortex_c.specs.Runs.{starts}
+use Rattle.vortex_c.proofs.RunStarts.{last_of}
 use Rattle.vortex_c.proofs.runs.count_runs.Given as goal
 
-abbrev pub invariant-runs : goal.invariant-runs
-invariant-runs l = record {
-  behind : AreBehind (rows_of l.words l.rows) l.rows l.count l.start;
-  below : l.count ≤ l.start;
-  within : l.start ≤ l.rows;
+abbrev pub invariant-loop-w : goal.invariant-loop-w
+invariant-loop-w l = record {
+  count : l.count ≡ true_count_of (starts false (bits_of_words (take l.w l.words)));
+  last : eqb (bit_at l.before 63) 1 ≡ last_of false (bits_of_words (take l.w l.words));
 }
-
-abbrev pub decreases-runs : goal.decreases-runs
-decreases-runs l = l.rows - l.start
