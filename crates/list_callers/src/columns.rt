@@ -59,8 +59,11 @@ fn policy_by(fields: PolicyFields) -> Result<Policy, Fail> {
     }
 }
 
-/// The policy by which one element outside is enough for a crop.
-pub(crate) fn cropping() -> Result<Policy, Fail> {
+/// The policy of Vortex, or the one by which one element outside is enough for a crop.
+pub(crate) fn policy_of(crops: bool) -> Result<Policy, Fail> {
+    if !crops {
+        return Ok(Policy::vortex());
+    }
     let mut fields = *Policy::vortex().fields();
     fields.crop_min = 1;
     policy_by(fields)

@@ -9,29 +9,48 @@ use vx_lists::{FixedFilterPlan, FixedTakePlan, plan_fixed_filter, plan_fixed_tak
 use vx_mask::{Mask, Policy};
 use vx_take::Picks;
 
+/// What a line asks of a column.
+#[derive(Clone, Copy)]
+enum Asks {
+    /// The plan of a filter.
+    Filter,
+    /// The same, whose mask keeps runs.
+    Runs,
+    /// The plan of a take.
+    Take(&'static [Option<usize>]),
+}
+
+// What a line says first, the lists' size, how many there are, and what it asks.
+const LINES: [(&str, u32, u32, Asks); 7] = [
+    ("size 2", 2, 3, Asks::Filter),
+    ("size 2, keeping runs", 2, 3, Asks::Runs),
+    ("size 2", 2, 3, Asks::Take(&[Some(2), None])),
+    ("size 2", 2, 3, Asks::Take(&[Some(1), Some(2)])),
+    ("size 0", 0, 3, Asks::Filter),
+    ("size 0", 0, 3, Asks::Take(&[Some(2), None])),
+    ("size 2, no list", 2, 0, Asks::Take(&[None, None])),
+];
+
 /// A row for each plan of lists of two elements, of none, and where there is no list.
 pub(crate) fn print_rows(rt: &impl Print, alloc: Global) -> Result<(), Fail> {
-    print_pairs(rt, alloc, &fixed_array(alloc, 2, 3)?)?;
-    print_empty(rt, alloc, &fixed_array(alloc, 0, 3)?)?;
-    print_take(
-        rt,
-        alloc,
-        "size 2, no list",
-        &fixed_array(alloc, 2, 0)?,
-        &[None, None],
-    )
+    for (name, size, len, asks) in &LINES {
+        print_line(rt, alloc, name, &fixed_array(alloc, *size, *len)?, *asks)?;
+    }
+    Ok(())
 }
 
-fn print_pairs(rt: &impl Print, alloc: Global, pairs: &FixedSizeListArray) -> Result<(), Fail> {
-    print_filter(rt, alloc, "size 2", pairs, &Policy::vortex())?;
-    print_filter(rt, alloc, "size 2, keeping runs", pairs, &keeping()?)?;
-    print_take(rt, alloc, "size 2", pairs, &[Some(2), None])?;
-    print_take(rt, alloc, "size 2", pairs, &[Some(1), Some(2)])
-}
-
-fn print_empty(rt: &impl Print, alloc: Global, empty: &FixedSizeListArray) -> Result<(), Fail> {
-    print_filter(rt, alloc, "size 0", empty, &Policy::vortex())?;
-    print_take(rt, alloc, "size 0", empty, &[Some(2), None])
+fn print_line(
+    rt: &impl Print,
+    alloc: Global,
+    name: &str,
+    array: &FixedSizeListArray,
+    asks: Asks,
+) -> Result<(), Fail> {
+    match asks {
+        Asks::Filter => print_filter(rt, alloc, name, array, &Policy::vortex()),
+        Asks::Runs => print_filter(rt, alloc, name, array, &keeping()?),
+        Asks::Take(list) => print_take(rt, alloc, name, array, list),
+    }
 }
 
 fn fixed_array(alloc: Global, size: u32, len: u32) -> Result<FixedSizeListArray, Fail> {

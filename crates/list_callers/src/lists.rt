@@ -4,7 +4,7 @@
 ghost use Rattle.std.specs.Prelude.{◌≡◌, length};
 ghost use Rattle.vx_model.specs.List.{list_spans};
 
-use crate::columns::{cropping, elements, numbers, picks_of};
+use crate::columns::{elements, numbers, picks_of, policy_of};
 use crate::presence::{Presence, validity_of};
 use crate::text::{print_bits, print_numbers};
 use callers::mask_of;
@@ -41,24 +41,26 @@ fn rows_of(array: &ListArray) -> usize
 }
 
 // The first and the last list, and the last one alone: with the whole range, cropped, and where no
-// row is there.
+// row is there. Each says what it prints first, the lists, whether it crops, and which rows are
+// there.
+const FILTERS: [(&str, [bool; 3], bool, Presence); 4] = [
+    ("101", [true, false, true], false, Presence::Each),
+    ("001", [false, false, true], false, Presence::Each),
+    ("001, cropped", [false, false, true], true, Presence::Each),
+    (
+        "001, no row there",
+        [false, false, true],
+        false,
+        Presence::None,
+    ),
+];
+
 fn print_filters(rt: &impl Print, alloc: Global, array: &ListArray) -> Result<(), Fail> {
-    let (vortex, last) = (Policy::vortex(), [false, false, true]);
-    print!(rt; "filter 101: ")?;
-    print_filter(
-        rt,
-        alloc,
-        array,
-        &[true, false, true],
-        &vortex,
-        Presence::Each,
-    )?;
-    print!(rt; "filter 001: ")?;
-    print_filter(rt, alloc, array, &last, &vortex, Presence::Each)?;
-    print!(rt; "filter 001, cropped: ")?;
-    print_filter(rt, alloc, array, &last, &cropping()?, Presence::Each)?;
-    print!(rt; "filter 001, no row there: ")?;
-    print_filter(rt, alloc, array, &last, &vortex, Presence::None)
+    for (name, bits, crops, presence) in &FILTERS {
+        print!(rt; "filter {name}: ")?;
+        print_filter(rt, alloc, array, bits, &policy_of(*crops)?, *presence)?;
+    }
+    Ok(())
 }
 
 fn print_filter(
@@ -115,24 +117,19 @@ fn print_filter_plan(rt: &impl Print, plan: &ListFilterPlan) -> Result<(), Fail>
 }
 
 // Takes with runs that lie apart and one behind the other, with a null, and with hidden rows.
+const TAKES: [(&[Option<usize>], Presence); 5] = [
+    (&[Some(2), Some(0), Some(2)], Presence::Each),
+    (&[Some(0), Some(1), Some(2)], Presence::EachNullable),
+    (&[None, Some(2)], Presence::EachNullable),
+    (&[Some(2), Some(0)], Presence::None),
+    (&[Some(2), Some(0)], Presence::Second),
+];
+
 fn print_takes(rt: &impl Print, alloc: Global, array: &ListArray) -> Result<(), Fail> {
-    print_take(
-        rt,
-        alloc,
-        array,
-        &[Some(2), Some(0), Some(2)],
-        Presence::Each,
-    )?;
-    print_take(
-        rt,
-        alloc,
-        array,
-        &[Some(0), Some(1), Some(2)],
-        Presence::EachNullable,
-    )?;
-    print_take(rt, alloc, array, &[None, Some(2)], Presence::EachNullable)?;
-    print_take(rt, alloc, array, &[Some(2), Some(0)], Presence::None)?;
-    print_take(rt, alloc, array, &[Some(2), Some(0)], Presence::Second)
+    for (list, presence) in &TAKES {
+        print_take(rt, alloc, array, list, *presence)?;
+    }
+    Ok(())
 }
 
 fn print_take(
