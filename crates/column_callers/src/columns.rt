@@ -1,65 +1,96 @@
 //! Columns, the reading of one row, and lists of indices.
 ghost use Rattle.std.specs.Prelude.{◌≤◌};
 
-use crate::rows::{print_flag, print_picks, print_refusal};
+use crate::layouts::{coded, filtered};
+use crate::rows::{print_picks, print_shown};
 use std::alloc::Global;
 use std::test::Fail;
 use vx_bits::{BitBuffer, Buffer, NoMemory, Records};
-use vx_column::{
-    Array, BoolArray, ColumnError, FlatRef, PType, PrimitiveArray, Row, Validity, record_of,
-};
+use vx_column::{Array, BoolArray, FlatRef, PType, PrimitiveArray, Row, Validity, record_of};
 use vx_pieces::Indices;
 
 /// The records of these numbers, W bytes each.
-pub(crate) fn record_list<const W: usize>(
-    alloc: Global,
-    numbers: &[i128],
-) -> Result<Vec<[u8; W]>, NoMemory>
+fn record_list<const W: usize>(alloc: Global, numbers: &[i128]) -> Result<Buffer<[u8; W]>, NoMemory>
     requires { W ≤ 16 }
 {
     let mut records = Vec::new(alloc);
     for number in numbers {
         records.push(record_of::<W>(*number))?;
     }
-    Ok(records)
+    Buffer::from_vec(alloc, records)
 }
 
-fn u32_records(alloc: Global, numbers: &[i128]) -> Result<Records, NoMemory> {
-    Ok(Records::W4(Buffer::from_vec(alloc, record_list::<4>(alloc, numbers)?)?))
+/// The records of these numbers, as wide as the type wants them.
+fn records_of(alloc: Global, ptype: PType, numbers: &[i128]) -> Result<Records, NoMemory> {
+    Ok(match ptype.width() {
+        1 => Records::W1(record_list(alloc, numbers)?),
+        2 => Records::W2(record_list(alloc, numbers)?),
+        4 => Records::W4(record_list(alloc, numbers)?),
+        _ => Records::W8(record_list(alloc, numbers)?),
+    })
 }
 
-/// A column of integers of a type, where the records and the validity let it be.
-pub(crate) fn primitive(
-    ptype: PType,
-    values: Records,
-    validity: Validity,
-) -> Result<Array, ColumnError> {
-    Ok(PrimitiveArray::try_new(ptype, values, validity)?.into_array())
-}
-
-/// A column of type `u32` of these numbers, where the validity lets them be.
-pub(crate) fn u32_column(
+/// A column of these integers, where the validity lets them be.
+pub(crate) fn integers(
     alloc: Global,
+    ptype: PType,
     numbers: &[i128],
     validity: Validity,
 ) -> Result<Array, Fail> {
-    Ok(primitive(PType::U32, u32_records(alloc, numbers)?, validity)?)
+    let values = records_of(alloc, ptype, numbers)?;
+    Ok(PrimitiveArray::try_new(ptype, values, validity)?.into_array())
 }
 
-/// A column of integers of one byte.
-pub(crate) fn byte_column(alloc: Global, ptype: PType, values: &[[u8; 1]]) -> Result<Array, Fail> {
-    let values = Records::W1(Buffer::from_vec(alloc, values.to_vec(alloc)?)?);
-    Ok(primitive(ptype, values, Validity::NonNullable)?)
-}
-
-fn bools(alloc: Global, bits: &[bool]) -> Result<Array, Fail> {
+/// A column of these bools, where the validity lets them be.
+pub(crate) fn bools(alloc: Global, bits: &[bool], validity: Validity) -> Result<Array, Fail> {
     let bits = BitBuffer::from_bools(alloc, bits)?;
-    Ok(BoolArray::try_new(bits, Validity::NonNullable)?.into_array())
+    Ok(BoolArray::try_new(bits, validity)?.into_array())
 }
 
 /// The validity that is a column of these bits.
 pub(crate) fn by_bits(alloc: Global, bits: &[bool]) -> Result<Validity, Fail> {
-    Ok(Validity::Array(bools(alloc, bits)?.into_ref(alloc)?))
+    Ok(Validity::Array(bools(alloc, bits, Validity::NonNullable)?.into_ref(alloc)?))
+}
+
+/// A column, as a line writes it.
+#[derive(Clone, Copy)]
+pub(crate) enum Column {
+    /// Integers of a type.
+    Integers(PType, &'static [i128]),
+    /// The integers of a type from 0 on, so many.
+    Ramp(PType, i128),
+    /// Numbers of type `u32`, which are there or null.
+    Nullable(&'static [i128], &'static [bool]),
+    /// Bools.
+    Bools(&'static [bool]),
+    /// A dictionary whose codes are a constant.
+    Coded,
+    /// A lazy filter.
+    Filtered,
+}
+
+fn ramp(alloc: Global, ptype: PType, len: i128) -> Result<Array, Fail> {
+    let mut numbers = Vec::new(alloc);
+    for number in 0..len {
+        numbers.push(number)?;
+    }
+    integers(alloc, ptype, &numbers, Validity::NonNullable)
+}
+
+/// The column that a line writes.
+pub(crate) fn column_of(alloc: Global, column: Column) -> Result<Array, Fail> {
+    match column {
+        Column::Integers(ptype, rows) => integers(alloc, ptype, rows, Validity::NonNullable),
+        Column::Ramp(ptype, len) => ramp(alloc, ptype, len),
+        Column::Nullable(rows, there) => nullable(alloc, rows, there),
+        Column::Bools(rows) => bools(alloc, rows, Validity::NonNullable),
+        Column::Coded => coded(alloc),
+        Column::Filtered => filtered(alloc),
+    }
+}
+
+fn nullable(alloc: Global, numbers: &[i128], there: &[bool]) -> Result<Array, Fail> {
+    integers(alloc, PType::U32, numbers, by_bits(alloc, there)?)
 }
 
 /// The indices that a column is.
@@ -68,7 +99,7 @@ pub(crate) fn indices_of(alloc: Global, column: Array) -> Result<Indices, Fail> 
 }
 
 /// The bytes of a row, where it has any.
-pub(crate) fn bytes_of(row: &Row) -> &[u8] {
+fn bytes_of(row: &Row) -> &[u8] {
     match row {
         Row::Bytes(bytes) => bytes.as_slice(),
         _ => &[],
@@ -76,7 +107,7 @@ pub(crate) fn bytes_of(row: &Row) -> &[u8] {
 }
 
 /// Row i, where there is one.
-pub(crate) fn row_at(alloc: Global, column: &Array, i: usize) -> Result<Row, Fail> {
+fn row_at(alloc: Global, column: &Array, i: usize) -> Result<Row, Fail> {
     if i >= column.len() {
         return Err("past the last row".into());
     }
@@ -92,16 +123,28 @@ fn is_valid_at(column: &Array, i: usize) -> Result<bool, Fail> {
 
 /// Each reader of a row of a column.
 pub(crate) fn print_readers(rt: &impl Print, alloc: Global) -> Result<(), Fail> {
-    let column = u32_column(alloc, &[1500, 7], by_bits(alloc, &[true, false])?)?;
-    print_cells(rt, alloc, &column)?;
-    let shared = column.share().into_ref(alloc)?;
-    println!(rt; "into_ref: {} rows", shared.len())?;
+    print_cells(rt, alloc, &nullable(alloc, &[1500, 7], &[true, false])?)
+}
+
+fn print_cells(rt: &impl Print, alloc: Global, column: &Array) -> Result<(), Fail> {
+    print_first(rt, alloc, "row_at 0", column)?;
+    print_shown(rt, "row_at 1 is null", &is_null_at(alloc, column, 1)?)?;
+    print_shown(rt, "is_valid_at 1", &is_valid_at(column, 1)?)?;
+    print_shown(rt, "is flat", &column.is_flat())?;
+    let rows = column.share().into_ref(alloc)?.len();
+    println!(rt; "into_ref: {rows} rows")?;
     Ok(())
 }
 
-fn print_first(rt: &impl Print, alloc: Global, column: &Array) -> Result<(), Fail> {
+/// The bytes of row 0.
+pub(crate) fn print_first(
+    rt: &impl Print,
+    alloc: Global,
+    name: &str,
+    column: &Array,
+) -> Result<(), Fail> {
     let row = row_at(alloc, column, 0)?;
-    println!(rt; "row_at 0: {:?}", bytes_of(&row))?;
+    print_shown(rt, name, &bytes_of(&row))?;
     Ok(())
 }
 
@@ -109,53 +152,42 @@ fn is_null_at(alloc: Global, column: &Array, i: usize) -> Result<bool, Fail> {
     Ok(matches!(row_at(alloc, column, i)?, Row::Null))
 }
 
-fn print_cells(rt: &impl Print, alloc: Global, column: &Array) -> Result<(), Fail> {
-    print_first(rt, alloc, column)?;
-    print_flag(rt, "row_at 1 is null", is_null_at(alloc, column, 1)?)?;
-    print_flag(rt, "is_valid_at 1", is_valid_at(column, 1)?)?;
-    print_flag(rt, "is flat", column.is_flat())
-}
-
+/// What a constructor says of records of four bytes.
 fn print_refused(
     rt: &impl Print,
+    alloc: Global,
     name: &str,
     ptype: PType,
-    values: Records,
+    numbers: &[i128],
     validity: Validity,
 ) -> Result<(), Fail> {
-    match primitive(ptype, values, validity) {
-        Ok(_) => print_refusal(rt, name, None),
-        Err(error) => print_refusal(rt, name, Some(error)),
-    }
+    let values = Records::W4(record_list(alloc, numbers)?);
+    let refusal = PrimitiveArray::try_new(ptype, values, validity).err();
+    print_shown(rt, name, &refusal)?;
+    Ok(())
+}
+
+/// The validity that is a column of a number, which none can be.
+fn by_number(alloc: Global) -> Result<Validity, Fail> {
+    let numbers = integers(alloc, PType::U32, &[1], Validity::NonNullable)?;
+    Ok(Validity::Array(numbers.into_ref(alloc)?))
 }
 
 /// What constructors refuse.
 pub(crate) fn print_refusals(rt: &impl Print, alloc: Global) -> Result<(), Fail> {
-    let one = u32_records(alloc, &[1])?;
+    let plain = Validity::NonNullable;
     print_refused(
         rt,
+        alloc,
         "records of 4 bytes as i64",
         PType::I64,
-        one,
-        Validity::NonNullable,
+        &[1],
+        plain,
     )?;
     let bit = by_bits(alloc, &[true])?;
-    print_refused(
-        rt,
-        "a bit for two rows",
-        PType::U32,
-        u32_records(alloc, &[1, 2])?,
-        bit,
-    )?;
-    let numbers = u32_column(alloc, &[1], Validity::NonNullable)?.into_ref(alloc)?;
-    let numbers = Validity::Array(numbers);
-    print_refused(
-        rt,
-        "numbers as a validity",
-        PType::U32,
-        u32_records(alloc, &[1])?,
-        numbers,
-    )
+    print_refused(rt, alloc, "a bit for two rows", PType::U32, &[1, 2], bit)?;
+    let number = by_number(alloc)?;
+    print_refused(rt, alloc, "numbers as a validity", PType::U32, &[1], number)
 }
 
 /// How many rows a slice has that takes no memory.
@@ -166,18 +198,21 @@ fn plain_length(column: &Array, start: usize, end: usize) -> Option<usize> {
     Some(column.slice_plain(start, end)?.len())
 }
 
-/// The lengths of slices that take no memory, and of one that would.
-pub(crate) fn print_slice(rt: &impl Print, alloc: Global) -> Result<(), Fail> {
-    let numbers = [10, 20, 30, 40];
-    let plain = u32_column(alloc, &numbers, Validity::AllInvalid)?;
-    print_plain_length(rt, "slice_plain 1..3", &plain)?;
-    let covered = u32_column(alloc, &numbers, by_bits(alloc, &[true; 4])?)?;
-    print_plain_length(rt, "by bits", &covered)
+fn print_plain_length(
+    rt: &impl Print,
+    alloc: Global,
+    name: &str,
+    validity: Validity,
+) -> Result<(), Fail> {
+    let column = integers(alloc, PType::U32, &[10, 20, 30, 40], validity)?;
+    print_shown(rt, name, &plain_length(&column, 1, 3))?;
+    Ok(())
 }
 
-fn print_plain_length(rt: &impl Print, name: &str, column: &Array) -> Result<(), Fail> {
-    println!(rt; "{name}: {:?}", plain_length(column, 1, 3))?;
-    Ok(())
+/// The lengths of slices that take no memory, and of one that would.
+pub(crate) fn print_slice(rt: &impl Print, alloc: Global) -> Result<(), Fail> {
+    print_plain_length(rt, alloc, "slice_plain 1..3", Validity::AllInvalid)?;
+    print_plain_length(rt, alloc, "by bits", by_bits(alloc, &[true; 4])?)
 }
 
 /// The picks of indices over so many rows, or the fault of the indices.
@@ -187,25 +222,29 @@ fn print_picked(rt: &impl Print, alloc: Global, indices: &Indices, len: usize) -
         return Ok(());
     }
     print!(rt; "picks of {len}, {:?}:", indices.nullability())?;
-    print_picks(rt, &indices.share().picks(alloc, len)?)
+    print_picks(rt, &indices.share().picks(alloc, len)?)?;
+    Ok(())
 }
 
-fn print_picked_by(rt: &impl Print, alloc: Global, column: Array, len: usize) -> Result<(), Fail> {
-    print_picked(rt, alloc, &indices_of(alloc, column)?, len)
-}
-
-/// Indices with a null, over rows that are enough and over rows that aren't: a null's payload is
-/// never looked at.
-fn print_nullable(rt: &impl Print, alloc: Global) -> Result<(), Fail> {
-    let validity = by_bits(alloc, &[true, false, true, true])?;
-    let indices = indices_of(alloc, u32_column(alloc, &[2, 200, 1, 2], validity)?)?;
-    print_picked(rt, alloc, &indices, 3)?;
-    print_picked(rt, alloc, &indices, 2)
-}
+const PICKED: [(Column, usize); 4] = [
+    // a null's payload is never looked at
+    (
+        Column::Nullable(&[2, 200, 1, 2], &[true, false, true, true]),
+        3,
+    ),
+    (
+        Column::Nullable(&[2, 200, 1, 2], &[true, false, true, true]),
+        2,
+    ),
+    (Column::Bools(&[]), 3),
+    (Column::Integers(PType::I8, &[-1]), 300),
+];
 
 /// Lists of indices.
 pub(crate) fn print_indices(rt: &impl Print, alloc: Global) -> Result<(), Fail> {
-    print_nullable(rt, alloc)?;
-    print_picked_by(rt, alloc, bools(alloc, &[])?, 3)?;
-    print_picked_by(rt, alloc, byte_column(alloc, PType::I8, &[[255]])?, 300)
+    for (column, len) in &PICKED {
+        let indices = indices_of(alloc, column_of(alloc, *column)?)?;
+        print_picked(rt, alloc, &indices, *len)?;
+    }
+    Ok(())
 }

@@ -2,6 +2,7 @@
 
 use std::alloc::Global;
 use std::test::Fail;
+use vx_bits::NoMemory;
 
 /// The generator of the command.
 #[derive(Drop)]
@@ -19,14 +20,19 @@ impl Generator {
     }
 }
 
-/// The rows that the slice and the filter leave.
-fn kept(alloc: Global, generator: &mut Generator, len: usize) -> Result<Vec<u64>, Fail> {
+/// So many rows.
+fn rows_of(alloc: Global, generator: &mut Generator, len: usize) -> Result<Vec<u64>, NoMemory> {
     let mut rows = Vec::new(alloc);
     for _ in 0..len {
         rows.push(generator.draw())?;
     }
+    Ok(rows)
+}
+
+/// The rows that the slice and the filter leave.
+fn kept(alloc: Global, generator: &mut Generator, rows: &[u64]) -> Result<Vec<u64>, NoMemory> {
     let mut kept = Vec::new(alloc);
-    for i in 10..len.saturating_sub(10) {
+    for i in 10..rows.len().saturating_sub(10) {
         let draw = generator.draw();
         if i == 10 || draw % 4 != 0 {
             kept.push(rows.get(i).copied().unwrap_or(0))?;
@@ -35,14 +41,9 @@ fn kept(alloc: Global, generator: &mut Generator, len: usize) -> Result<Vec<u64>
     Ok(kept)
 }
 
-/// The line of a number.
-fn print_line(rt: &impl Print, alloc: Global, seed: u32) -> Result<(), Fail> {
-    let mut generator = Generator {
-        state: u64::from(seed),
-    };
-    let kept = kept(alloc, &mut generator, 1000 + seed as usize % 999_001)?;
-    let mut nulls = 0_u32;
-    let mut sum = 0_u64;
+/// The nulls of the take, and the sum of the other rows.
+fn taken(generator: &mut Generator, kept: &[u64]) -> (u32, u64) {
+    let (mut nulls, mut sum) = (0_u32, 0_u64);
     for _ in 0..500 {
         let draw = generator.draw();
         if draw % 10 == 0 {
@@ -52,6 +53,17 @@ fn print_line(rt: &impl Print, alloc: Global, seed: u32) -> Result<(), Fail> {
             sum = sum.saturating_add(kept.get(index as usize).copied().unwrap_or(0));
         }
     }
+    (nulls, sum)
+}
+
+/// The line of a number.
+fn print_line(rt: &impl Print, alloc: Global, seed: u32) -> Result<(), Fail> {
+    let mut generator = Generator {
+        state: u64::from(seed),
+    };
+    let rows = rows_of(alloc, &mut generator, 1000 + seed as usize % 999_001)?;
+    let kept = kept(alloc, &mut generator, &rows)?;
+    let (nulls, sum) = taken(&mut generator, &kept);
     println!(rt; "made {seed} rows 500 nulls {nulls} sum {sum}")?;
     Ok(())
 }

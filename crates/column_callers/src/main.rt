@@ -5,7 +5,7 @@
 mod chunked;
 mod columns;
 mod fused;
-mod fused_layouts;
+mod layouts;
 mod made;
 mod pieces;
 mod rows;
@@ -14,25 +14,34 @@ mod shapes;
 mod steps;
 mod truth;
 
+use std::alloc::Global;
 use std::test::Fail;
 
+fn print_rows(rt: &impl Print, alloc: Global) -> Result<(), Fail> {
+    columns::print_readers(rt, alloc)?;
+    columns::print_refusals(rt, alloc)?;
+    columns::print_slice(rt, alloc)?;
+    columns::print_indices(rt, alloc)?;
+    pieces::print_sound(rt, alloc)?;
+    pieces::print_unsound(rt, alloc)?;
+    pieces::print_takes(rt, alloc)?;
+    pieces::print_runs(rt, alloc)?;
+    steps::print_rules(rt, alloc)?;
+    selecting::print_policies(rt, alloc)?;
+    fused::print_each(rt, alloc)?;
+    layouts::print_decimal(rt, alloc)
+}
+
+fn print_more(rt: &impl Print, alloc: Global) -> Result<(), Fail> {
+    shapes::print_refusals(rt)?;
+    shapes::print_shape(rt)?;
+    shapes::print_composed(rt, alloc)?;
+    truth::print_true_rows(rt, alloc)?;
+    made::print_lines(rt, alloc)
+}
+
 fn main(rt: HostRuntime) -> Result<(), Fail> {
-    columns::print_readers(&rt, rt.alloc())?;
-    columns::print_refusals(&rt, rt.alloc())?;
-    columns::print_slice(&rt, rt.alloc())?;
-    columns::print_indices(&rt, rt.alloc())?;
-    pieces::print_sound(&rt, rt.alloc())?;
-    pieces::print_unsound(&rt, rt.alloc())?;
-    pieces::print_takes(&rt, rt.alloc())?;
-    pieces::print_runs(&rt, rt.alloc())?;
-    steps::print_rules(&rt)?;
-    selecting::print_policies(&rt, rt.alloc())?;
-    fused::print_each(&rt, rt.alloc())?;
-    fused_layouts::print_each(&rt, rt.alloc())?;
+    print_rows(&rt, rt.alloc())?;
     chunked::print_answers(&rt, rt.alloc())?;
-    shapes::print_refusals(&rt)?;
-    shapes::print_shape(&rt)?;
-    shapes::print_composed(&rt, rt.alloc())?;
-    truth::print_true_rows(&rt, rt.alloc())?;
-    made::print_lines(&rt, rt.alloc())
+    print_more(&rt, rt.alloc())
 }

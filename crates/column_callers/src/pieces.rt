@@ -1,23 +1,89 @@
 //! Piecewise sequences, and takes by them.
-use crate::columns::{primitive, record_list};
-use crate::rows::{print_flag, print_numbers, print_refusal};
+use crate::columns::integers;
+use crate::layouts::constant;
+use crate::rows::{print_numbers, print_shown};
+use crate::steps::{Rule, Written, print_left};
 use std::alloc::Global;
+use std::io;
 use std::test::Fail;
-use vx_bits::{Buffer, NoMemory, Records};
-use vx_column::{
-    ArrayRef, ConstantArray, DType, Nullability, PType, Scalar, ScalarValue, Validity, record_of,
-};
-use vx_pieces::{Indices, PiecewiseSequence, PiecewiseSequenceArraySlotsExt};
-use vx_select::{SelectError, Step, check_steps};
+use vx_column::{Array, ArrayRef, ColumnError, Nullability, PType, Validity};
+use vx_pieces::{PiecewiseSequence, PiecewiseSequenceArraySlotsExt};
 
-fn u64_records(alloc: Global, numbers: &[i128]) -> Result<Records, NoMemory> {
-    Ok(Records::W8(Buffer::from_vec(alloc, record_list::<8>(alloc, numbers)?)?))
+/// The numbers of pieces whose multipliers are stored.
+#[derive(Clone, Copy)]
+pub(crate) struct Parts {
+    pub(crate) starts: &'static [i128],
+    pub(crate) lengths: &'static [i128],
+    pub(crate) multipliers: &'static [i128],
 }
+
+const MAX: i128 = 18446744073709551615;
+
+/// Two pieces, of five numbers in all.
+pub(crate) const TWO: Parts = Parts {
+    starts: &[3, 0],
+    lengths: &[2, 3],
+    multipliers: &[1, 2],
+};
+
+/// A piece of no numbers, which starts past any row.
+pub(crate) const EMPTY: Parts = Parts {
+    starts: &[99],
+    lengths: &[0],
+    multipliers: &[1],
+};
+
+/// A piece whose second number is past `usize::MAX`.
+pub(crate) const PAST: Parts = Parts {
+    starts: &[MAX],
+    lengths: &[2],
+    multipliers: &[1],
+};
+
+/// A piece of one number twice, which is `usize::MAX`.
+pub(crate) const LAST: Parts = Parts {
+    starts: &[MAX],
+    lengths: &[2],
+    multipliers: &[0],
+};
+
+/// A piece whose second number is `usize::MAX` and one more.
+const FAR: Parts = Parts {
+    starts: &[2],
+    lengths: &[2],
+    multipliers: &[MAX - 1],
+};
+
+const ONES: Parts = Parts {
+    starts: &[3, 0],
+    lengths: &[2, 0],
+    multipliers: &[1, 1],
+};
+
+/// Takes from three rows by one piece: a sequence is tested before its numbers are, and an empty
+/// piece starts anywhere.
+const TAKES: [Rule; 4] = [
+    ("0 from 99 by 1, of 3 rows", 3, &[Written::Pieces(EMPTY, 0)]),
+    (
+        "2 from 18446744073709551615 by 1, of 3 rows",
+        3,
+        &[Written::Pieces(PAST, 2)],
+    ),
+    (
+        "2 from 18446744073709551615 by 0, of 3 rows",
+        3,
+        &[Written::Pieces(LAST, 2)],
+    ),
+    (
+        "2 from 2 by 18446744073709551614, of 3 rows",
+        3,
+        &[Written::Pieces(FAR, 2)],
+    ),
+];
 
 /// A column of type `u64` of these numbers.
 fn u64_column(alloc: Global, numbers: &[i128]) -> Result<ArrayRef, Fail> {
-    let records = u64_records(alloc, numbers)?;
-    Ok(primitive(PType::U64, records, Validity::NonNullable)?.into_ref(alloc)?)
+    Ok(integers(alloc, PType::U64, numbers, Validity::NonNullable)?.into_ref(alloc)?)
 }
 
 /// The sequence of these starts, lengths and multipliers.
@@ -33,19 +99,33 @@ fn pieces(
 }
 
 /// The same with multipliers that are stored.
-pub(crate) fn pieces_of(
-    alloc: Global,
-    starts: &[i128],
-    lengths: &[i128],
-    multipliers: &[i128],
-    len: usize,
-) -> Result<PiecewiseSequence, Fail> {
-    pieces(alloc, starts, lengths, u64_column(alloc, multipliers)?, len)
+pub(crate) fn stored(alloc: Global, parts: Parts, len: usize) -> Result<PiecewiseSequence, Fail> {
+    let multipliers = u64_column(alloc, parts.multipliers)?;
+    pieces(alloc, parts.starts, parts.lengths, multipliers, len)
 }
 
-/// Two pieces, of five numbers in all.
-fn two_pieces(alloc: Global, len: usize) -> Result<PiecewiseSequence, Fail> {
-    pieces(alloc, &[3, 0], &[2, 3], u64_column(alloc, &[1, 2])?, len)
+/// The numbers of a sequence, or why it has none.
+fn print_expanded(rt: &impl Print, alloc: Global, pieces: &PiecewiseSequence) -> Result<(), Fail> {
+    match pieces.execute(alloc) {
+        Ok(column) => print_line(rt, &column),
+        Err(error) => Ok(print_shown(rt, "no numbers", &error)?),
+    }
+}
+
+fn print_line(rt: &impl Print, column: &Array) -> Result<(), Fail> {
+    rt.print("numbers:")?;
+    print_numbers(rt, column)?;
+    rt.println("")?;
+    Ok(())
+}
+
+fn print_number(
+    rt: &impl Print,
+    name: &str,
+    pieces: &PiecewiseSequence,
+    i: usize,
+) -> io::Result<()> {
+    print_shown(rt, name, &pieces.scalar_at(i))
 }
 
 fn first_at_least(pieces: &PiecewiseSequence, n: usize) -> Result<Option<usize>, Fail> {
@@ -55,125 +135,67 @@ fn first_at_least(pieces: &PiecewiseSequence, n: usize) -> Result<Option<usize>,
     Ok(pieces.first_at_least(n))
 }
 
-fn rows_left(len: usize, indices: Indices) -> Result<usize, SelectError> {
-    check_steps(len, &[Step::Take(indices)])
-}
-
-/// The numbers of a sequence, or why it has none.
-fn print_expanded(rt: &impl Print, alloc: Global, pieces: &PiecewiseSequence) -> Result<(), Fail> {
-    match pieces.execute(alloc) {
-        Ok(column) => {
-            rt.print("numbers:")?;
-            print_numbers(rt, &column)?;
-            rt.println("")?;
-        }
-        Err(error) => println!(rt; "no numbers: {error:?}")?,
-    }
-    Ok(())
-}
-
-fn print_number(
-    rt: &impl Print,
-    name: &str,
-    pieces: &PiecewiseSequence,
-    i: usize,
-) -> Result<(), Fail> {
-    println!(rt; "number {name}: {:?}", pieces.scalar_at(i))?;
-    Ok(())
-}
-
-fn print_from(rt: &impl Print, pieces: &PiecewiseSequence, n: usize) -> Result<(), Fail> {
-    println!(rt; "from {n} on: {:?}", first_at_least(pieces, n)?)?;
-    Ok(())
-}
-
 /// A sequence of as many numbers as its pieces have.
 pub(crate) fn print_sound(rt: &impl Print, alloc: Global) -> Result<(), Fail> {
-    print_five(rt, alloc, &two_pieces(alloc, 5)?)
+    print_five(rt, alloc, &stored(alloc, TWO, 5)?)
 }
 
 fn print_five(rt: &impl Print, alloc: Global, five: &PiecewiseSequence) -> Result<(), Fail> {
     print_expanded(rt, alloc, five)?;
-    print_number(rt, "3", five, 3)?;
-    print_number(rt, "5", five, 5)?;
-    print_from(rt, five, 4)?;
-    print_from(rt, five, 5)
+    print_number(rt, "number 3", five, 3)?;
+    print_number(rt, "number 5", five, 5)?;
+    print_shown(rt, "from 4 on", &first_at_least(five, 4)?)?;
+    print_shown(rt, "from 5 on", &first_at_least(five, 5)?)?;
+    Ok(())
 }
 
 /// A sequence that declares a number more, and one that is refused.
 pub(crate) fn print_unsound(rt: &impl Print, alloc: Global) -> Result<(), Fail> {
-    print_six(rt, alloc, &two_pieces(alloc, 6)?)?;
-    print_refused(rt, alloc)
+    print_six(rt, alloc, &stored(alloc, TWO, 6)?)?;
+    print_shown(rt, "two starts and one length", &refused(alloc)?)?;
+    Ok(())
 }
 
 fn print_six(rt: &impl Print, alloc: Global, six: &PiecewiseSequence) -> Result<(), Fail> {
     print_expanded(rt, alloc, six)?;
-    print_number(rt, "3 of 6 declared", six, 3)?;
+    print_number(rt, "number 3 of 6 declared", six, 3)?;
     println!(rt; "{} pieces, {} declared", six.starts().len(), six.len())?;
     Ok(())
 }
 
-fn print_refused(rt: &impl Print, alloc: Global) -> Result<(), Fail> {
+fn refused(alloc: Global) -> Result<Option<ColumnError>, Fail> {
     let (starts, multipliers) = (u64_column(alloc, &[3, 0])?, u64_column(alloc, &[1, 1])?);
-    let name = "two starts and one length";
     let lengths = u64_column(alloc, &[2])?;
-    match PiecewiseSequence::try_new(starts, lengths, multipliers, 2) {
-        Ok(_) => print_refusal(rt, name, None),
-        Err(error) => print_refusal(rt, name, Some(error)),
-    }
+    Ok(PiecewiseSequence::try_new(starts, lengths, multipliers, 2).err())
 }
 
-/// What a take from 3 rows by one piece is.
-fn print_take(rt: &impl Print, alloc: Global, piece: [i128; 3], len: usize) -> Result<(), Fail> {
-    let [start, length, multiplier] = piece;
-    let multipliers = u64_column(alloc, &[multiplier])?;
-    let sequence = pieces(alloc, &[start], &[length], multipliers, len)?;
-    let left = rows_left(3, Indices::Pieces(sequence));
-    println!(rt; "{length} from {start} by {multiplier}, of 3 rows: {left:?}")?;
-    Ok(())
-}
-
-/// Takes by pieces: a sequence is tested before its numbers are, and an empty piece starts
-/// anywhere.
+/// Takes by pieces.
 pub(crate) fn print_takes(rt: &impl Print, alloc: Global) -> Result<(), Fail> {
-    print_take(rt, alloc, [99, 0, 1], 0)?;
-    print_take(rt, alloc, [18446744073709551615, 2, 1], 2)?;
-    print_take(rt, alloc, [18446744073709551615, 2, 0], 2)?;
-    print_take(rt, alloc, [2, 2, 18446744073709551614], 2)
+    print_left(rt, alloc, &TAKES)
 }
 
-fn scalar(alloc: Global, number: i128) -> Result<Scalar, Fail> {
-    let bytes = Buffer::from_vec(alloc, record_of::<8>(number).to_vec(alloc)?)?;
-    let dtype = DType::Primitive(PType::U64, Nullability::NonNullable);
-    Ok(Scalar::try_new(dtype, ScalarValue::Bytes(bytes))?)
-}
-
-/// A column of layout `Constant`, of so many rows of type `u64`, each this number.
-fn constant(alloc: Global, number: i128, len: usize) -> Result<ArrayRef, Fail> {
-    let column = ConstantArray::new(scalar(alloc, number)?, len).into_array();
-    Ok(column.into_ref(alloc)?)
-}
-
-fn print_runs_of(rt: &impl Print, alloc: Global, number: i128, len: usize) -> Result<(), Fail> {
-    let sequence = pieces(alloc, &[3, 0], &[2, 0], constant(alloc, number, 2)?, len)?;
-    print_runs_in(rt, alloc, &sequence)
-}
-
-fn print_runs_in(rt: &impl Print, alloc: Global, pieces: &PiecewiseSequence) -> Result<(), Fail> {
-    print_flag(rt, "constant 1", pieces.is_constant_one())?;
-    match pieces.contiguous_runs(alloc) {
-        Ok(Some(runs)) => println!(rt; "runs: {:?}", runs.as_slice())?,
-        Ok(None) => rt.println("no runs")?,
-        Err(error) => println!(rt; "no runs: {error:?}")?,
-    }
+fn print_runs_of(rt: &impl Print, alloc: Global, number: u64, len: usize) -> Result<(), Fail> {
+    let number = number.to_le_bytes();
+    let number = constant(alloc, PType::U64, Nullability::NonNullable, &number, 2)?;
+    print_runs_in(rt, alloc, &pieces(alloc, &[3, 0], &[2, 0], number, len)?)?;
     Ok(())
+}
+
+fn print_runs_in(rt: &impl Print, alloc: Global, pieces: &PiecewiseSequence) -> io::Result<()> {
+    print_shown(rt, "constant 1", &pieces.is_constant_one())?;
+    match pieces.contiguous_runs(alloc) {
+        Ok(Some(runs)) => print_shown(rt, "runs", &runs.as_slice()),
+        Ok(None) => rt.println("no runs"),
+        Err(error) => print_shown(rt, "no runs", &error),
+    }
 }
 
 /// The runs of sequences whose multipliers are a constant.
 pub(crate) fn print_runs(rt: &impl Print, alloc: Global) -> Result<(), Fail> {
-    for (number, len) in [(1, 2), (2, 2), (1, 3)] {
-        print_runs_of(rt, alloc, number, len)?;
-    }
-    let stored = pieces(alloc, &[3, 0], &[2, 0], u64_column(alloc, &[1, 1])?, 2)?;
-    print_flag(rt, "stored 1", stored.is_constant_one())
+    print_runs_of(rt, alloc, 1, 2)?;
+    print_runs_of(rt, alloc, 2, 2)?;
+    print_runs_of(rt, alloc, 1, 3)?;
+    let ones = stored(alloc, ONES, 2)?;
+    print_shown(rt, "stored 1", &ones.is_constant_one())?;
+    Ok(())
 }

@@ -1,6 +1,8 @@
-//! The numbers of a column and picks, in the rest of a line, and flags and refusals, a line each.
+//! The numbers of a column and picks, in the rest of a line, and a line for anything else.
+use std::fmt::Debug;
+use std::io;
 use std::test::Fail;
-use vx_column::{Array, ColumnError};
+use vx_column::Array;
 use vx_take::Picks;
 
 /// The numbers of a column of integers.
@@ -19,26 +21,14 @@ fn number_at(column: &Array, i: usize) -> Result<Option<i128>, Fail> {
 }
 
 /// The picks, and the end of the line.
-pub(crate) fn print_picks(rt: &impl Print, picks: &Picks) -> Result<(), Fail> {
+pub(crate) fn print_picks(rt: &impl Print, picks: &Picks) -> io::Result<()> {
     for i in 0..picks.len() {
         print!(rt; " {:?}", picks.get(i))?;
     }
-    rt.println("")?;
-    Ok(())
+    rt.println("")
 }
 
-/// Whether what is named is so.
-pub(crate) fn print_flag(rt: &impl Print, name: &str, flag: bool) -> Result<(), Fail> {
-    println!(rt; "{name}: {flag}")?;
-    Ok(())
-}
-
-/// What a constructor said of values that it is to refuse.
-pub(crate) fn print_refusal(
-    rt: &impl Print,
-    name: &str,
-    refusal: Option<ColumnError>,
-) -> Result<(), Fail> {
-    println!(rt; "{name}: {refusal:?}")?;
-    Ok(())
+/// What is named, and what it is.
+pub(crate) fn print_shown<T: Debug>(rt: &impl Print, name: &str, value: &T) -> io::Result<()> {
+    println!(rt; "{name}: {value:?}")
 }

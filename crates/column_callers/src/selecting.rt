@@ -1,16 +1,16 @@
 //! Answers under several policies.
-use crate::columns::byte_column;
+use crate::columns::integers;
 use crate::rows::print_numbers;
-use crate::steps::slice;
-use callers::mask_of;
+use crate::steps::{Written, steps_of};
 use std::alloc::Global;
 use std::test::Fail;
-use vx_column::{Array, PType};
+use vx_column::{Array, PType, Validity};
 use vx_mask::{Policy, PolicyFields, Ratio};
 use vx_select::{Step, select};
 
-/// The policy of the crate, with this in place of the ratios that a filter looks at.
-pub(crate) fn policy_of(ratio: Ratio) -> Result<Policy, Fail> {
+/// The policy of the crate, with this number in place of the ratios that a filter looks at.
+pub(crate) fn policy_of(num: u64) -> Result<Policy, Fail> {
+    let ratio = Ratio { num, den: 1 };
     Ok(Policy::try_new(PolicyFields {
         dense_w1: ratio,
         cached_indices_max: ratio,
@@ -18,6 +18,11 @@ pub(crate) fn policy_of(ratio: Ratio) -> Result<Policy, Fail> {
         ..*Policy::vortex().fields()
     })?)
 }
+
+const STEPS: [Written; 2] = [
+    Written::Filter(&[true, false, true, true, false]),
+    Written::Slice(1, 3),
+];
 
 /// What steps keep of the column under a policy.
 fn print_policy(
@@ -35,15 +40,17 @@ fn print_policy(
 
 fn print_each(rt: &impl Print, alloc: Global, column: &Array, steps: &[Step]) -> Result<(), Fail> {
     print_policy(rt, alloc, column, steps, &Policy::vortex())?;
-    let by_none = policy_of(Ratio { num: 0, den: 1 })?;
-    print_policy(rt, alloc, column, steps, &by_none)?;
-    let by_twice = policy_of(Ratio { num: 2, den: 1 })?;
-    print_policy(rt, alloc, column, steps, &by_twice)
+    print_policy(rt, alloc, column, steps, &policy_of(0)?)?;
+    print_policy(rt, alloc, column, steps, &policy_of(2)?)
 }
 
 /// A filter and a slice, the same under each policy.
 pub(crate) fn print_policies(rt: &impl Print, alloc: Global) -> Result<(), Fail> {
-    let column = byte_column(alloc, PType::U8, &[[10], [20], [30], [40], [50]])?;
-    let mask = mask_of(alloc, &[true, false, true, true, false])?;
-    print_each(rt, alloc, &column, &[Step::Filter(mask), slice(1, 3)])
+    let tens = integers(
+        alloc,
+        PType::U8,
+        &[10, 20, 30, 40, 50],
+        Validity::NonNullable,
+    )?;
+    print_each(rt, alloc, &tens, &steps_of(alloc, &STEPS)?)
 }

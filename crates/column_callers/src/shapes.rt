@@ -1,11 +1,12 @@
 //! What shapes of chunks refuse and show, and the picks of steps.
-use crate::rows::{print_picks, print_refusal};
-use crate::steps::{slice, take};
-use callers::mask_of;
+use crate::columns::Column;
+use crate::rows::{print_picks, print_shown};
+use crate::steps::{Written, steps_of};
 use std::alloc::Global;
+use std::io;
 use std::test::Fail;
 use vx_column::{DType, Nullability, PType, Validity};
-use vx_select::{ChunkShape, Step, compose};
+use vx_select::{ChunkShape, compose};
 
 const U32: DType = DType::Primitive(PType::U32, Nullability::NonNullable);
 
@@ -15,15 +16,13 @@ fn print_refused(
     dtype: DType,
     (offset, len): (usize, usize),
     validity: Validity,
-) -> Result<(), Fail> {
-    match ChunkShape::try_new(dtype, offset, len, validity) {
-        Ok(_) => print_refusal(rt, name, None),
-        Err(error) => print_refusal(rt, name, Some(error)),
-    }
+) -> io::Result<()> {
+    let refusal = ChunkShape::try_new(dtype, offset, len, validity).err();
+    print_shown(rt, name, &refusal)
 }
 
 /// What a shape refuses.
-pub(crate) fn print_refusals(rt: &impl Print) -> Result<(), Fail> {
+pub(crate) fn print_refusals(rt: &impl Print) -> io::Result<()> {
     let bools = DType::Bool(Nullability::NonNullable);
     print_refused(
         rt,
@@ -46,11 +45,12 @@ pub(crate) fn print_refusals(rt: &impl Print) -> Result<(), Fail> {
         (1024, 10),
         Validity::NonNullable,
     )?;
+    let all = (1, usize::MAX);
     print_refused(
         rt,
         "a shape of MAX from 1 on",
         U32,
-        (1, usize::MAX),
+        all,
         Validity::NonNullable,
     )
 }
@@ -63,14 +63,16 @@ pub(crate) fn print_shape(rt: &impl Print) -> Result<(), Fail> {
     Ok(())
 }
 
+const STEPS: [Written; 3] = [
+    Written::Slice(1, 6),
+    Written::Filter(&[true, false, true, true, false]),
+    Written::Take(Column::Nullable(&[2, 0, 9], &[true, true, false])),
+];
+
 /// The picks of steps over six rows.
 pub(crate) fn print_composed(rt: &impl Print, alloc: Global) -> Result<(), Fail> {
-    let mask = mask_of(alloc, &[true, false, true, true, false])?;
-    let take = take(alloc, &[2, 0, 9], &[true, true, false])?;
-    print_picked(rt, alloc, &[slice(1, 6), Step::Filter(mask), take])
-}
-
-fn print_picked(rt: &impl Print, alloc: Global, steps: &[Step]) -> Result<(), Fail> {
+    let steps = steps_of(alloc, &STEPS)?;
     rt.print("1..6, 10110, take 2 0 null of 6:")?;
-    print_picks(rt, &compose(alloc, 6, steps)?)
+    print_picks(rt, &compose(alloc, 6, &steps)?)?;
+    Ok(())
 }

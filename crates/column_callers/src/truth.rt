@@ -1,64 +1,68 @@
 //! Calls of columns of bools: the bit in a row, and the mask of the rows that are true.
-
+use crate::columns::{bools, by_bits};
 use std::alloc::Global;
+use std::io;
 use std::test::Fail;
-use vx_bits::BitBuffer;
-use vx_column::{Array, BoolArray, FilterArray, Validity, mask_of};
+use vx_column::{Array, FilterArray, mask_of};
 use vx_mask::Mask;
 
 /// True, null with a set bit behind it, false, true.
-fn bools(alloc: Global) -> Result<Array, Fail> {
-    let there = BitBuffer::from_bools(alloc, &[true, false, true, true])?;
-    let there = BoolArray::try_new(there, Validity::NonNullable)?.into_array();
-    let bits = BitBuffer::from_bools(alloc, &[true, true, false, true])?;
-    let validity = Validity::Array(there.into_ref(alloc)?);
-    Ok(BoolArray::try_new(bits, validity)?.into_array())
+fn some_true(alloc: Global) -> Result<Array, Fail> {
+    let there = by_bits(alloc, &[true, false, true, true])?;
+    bools(alloc, &[true, true, false, true], there)
+}
+
+/// The same from the second row on, by a lazy filter.
+fn filtered(alloc: Global, child: Array) -> Result<Array, Fail> {
+    let mask = callers::mask_of(alloc, &[false, true, true, true])?;
+    Ok(FilterArray::try_new(child.into_ref(alloc)?, mask)?.into_array())
 }
 
 /// Each bit of a column of bools.
-fn print_bits(rt: &impl Print, column: &Array) -> Result<(), Fail> {
+fn print_bits(rt: &impl Print, column: &Array) -> io::Result<()> {
     print!(rt; "bits:")?;
-    if column.is_bool() {
-        for i in 0..column.len() {
-            match column.bit_at(i) {
-                Some(bit) => print!(rt; " {bit}")?,
-                None => print!(rt; " null")?,
-            }
-        }
+    for i in 0..column.len() {
+        print_bit(rt, bit_at(column, i))?;
     }
-    let count = column.true_rows();
-    println!(rt; ", {count} true")?;
-    Ok(())
+    println!(rt; ", {} true", column.true_rows())
+}
+
+fn bit_at(column: &Array, i: usize) -> Option<bool> {
+    if i >= column.len() || !column.is_bool() {
+        return None;
+    }
+    column.bit_at(i)
+}
+
+fn print_bit(rt: &impl Print, bit: Option<bool>) -> io::Result<()> {
+    match bit {
+        Some(bit) => print!(rt; " {bit}"),
+        None => print!(rt; " null"),
+    }
 }
 
 /// Each set position.
-fn print_set(rt: &impl Print, mask: &Mask) -> Result<(), Fail> {
+fn print_set(rt: &impl Print, mask: &Mask) -> io::Result<()> {
+    print!(rt; "mask of {}:", mask.len())?;
     for i in 0..mask.len() {
         if mask.value(i) {
             print!(rt; " {i}")?;
         }
     }
-    Ok(())
+    println!(rt; "")
 }
 
-/// The set positions of the mask of a column.
-fn print_mask(rt: &impl Print, alloc: Global, column: &Array) -> Result<(), Fail> {
-    let mask = mask_of(alloc, column)?;
-    let len = mask.len();
-    print!(rt; "mask of {len}:")?;
-    print_set(rt, &mask)?;
-    println!(rt; "")?;
+/// The bits, and the set positions of the mask.
+fn print_column(rt: &impl Print, alloc: Global, column: &Array) -> Result<(), Fail> {
+    print_bits(rt, column)?;
+    print_set(rt, &mask_of(alloc, column)?)?;
     Ok(())
 }
 
 /// A column of bools, and a lazy filter of it.
 pub(crate) fn print_true_rows(rt: &impl Print, alloc: Global) -> Result<(), Fail> {
     println!(rt; "# rows that are true")?;
-    let column = bools(alloc)?;
-    print_bits(rt, &column)?;
-    print_mask(rt, alloc, &column)?;
-    let mask = Mask::from_buffer(BitBuffer::from_bools(alloc, &[false, true, true, true])?);
-    let lazy = FilterArray::try_new(column.into_ref(alloc)?, mask)?.into_array();
-    print_bits(rt, &lazy)?;
-    print_mask(rt, alloc, &lazy)
+    let column = some_true(alloc)?;
+    print_column(rt, alloc, &column)?;
+    print_column(rt, alloc, &filtered(alloc, column)?)
 }
