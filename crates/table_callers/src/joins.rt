@@ -1,57 +1,390 @@
 //! Joins of two tables.
-use crate::made::{
-    bools, bytes, constant, decimals, dictionary, filtered, floats, nulls, numbers, shorts, table,
-    texts,
-};
+use crate::columns::{Column, Rows};
+use crate::made::{Made, names_of, shared_columns, table_of};
 use crate::shown::print_table;
 use std::alloc::Global;
+use std::io;
 use std::test::Fail;
-use vx_column::ArrayRef;
+use vx_column::PType;
 use vx_join::{JoinIndices, join, join_indices};
 use vx_mask::Policy;
 use vx_table::{Table, page};
 use vx_take::Picks;
 
-// The keys of the tables of ten columns.
-const WIDE_KEYS: [(usize, usize); 2] = [(5, 5), (3, 3)];
+const LEFT_KEYS: Rows = &[Some(1), Some(2), None, Some(2)];
 
-fn print_picks(rt: &impl Print, picks: &Picks) -> Result<(), Fail> {
+const LEFT: Made = Made {
+    names: &["k", "a"],
+    columns: &[
+        Column::Numbers(PType::U8, LEFT_KEYS),
+        Column::Texts(&[Some("w"), Some("x"), Some("y"), Some("z")]),
+    ],
+    len: 4,
+};
+
+const RIGHT: Made = Made {
+    names: &["k", "b"],
+    columns: &[
+        Column::Numbers(PType::U8, &[Some(2), None, Some(1), Some(2)]),
+        Column::Bools(&[true, true, false, false]),
+    ],
+    len: 4,
+};
+
+const NONE: Made = Made {
+    names: &["k", "b"],
+    columns: &[Column::Numbers(PType::U8, &[]), Column::Bools(&[])],
+    len: 0,
+};
+
+// Floats are compared as they are stored.
+const ZEROS: Made = Made {
+    names: &["k"],
+    columns: &[Column::Numbers(PType::F32, &[Some(0), Some(0x8000_0000)])],
+    len: 2,
+};
+
+const ZEROS_BACK: Made = Made {
+    names: &["k"],
+    columns: &[Column::Numbers(PType::F32, &[Some(0x8000_0000), Some(0)])],
+    len: 2,
+};
+
+const NANS: Made = Made {
+    names: &["k"],
+    columns: &[Column::Numbers(PType::F32, &[Some(0x7fc0_0000), Some(0x7fc0_0001)])],
+    len: 2,
+};
+
+// Records that are too wide for a number.
+const SMALL: Made = Made {
+    names: &["k"],
+    columns: &[Column::Decimals(2, &[Some(5), Some(300), Some(5)])],
+    len: 3,
+};
+
+const SMALL_BACK: Made = Made {
+    names: &["k"],
+    columns: &[Column::Decimals(2, &[Some(300), Some(5)])],
+    len: 2,
+};
+
+const BEHIND: Made = Made {
+    names: &["k"],
+    columns: &[Column::Decimals(
+        2,
+        &[
+            Some(5 + (1 << 64)),
+            Some(5 + (2 << 64)),
+            Some(5 + (1 << 64)),
+        ],
+    )],
+    len: 3,
+};
+
+const BEHIND_TWO: Made = Made {
+    names: &["k"],
+    columns: &[Column::Decimals(2, &[Some(5 + (1 << 64)), Some(5)])],
+    len: 2,
+};
+
+const SCALED: Made = Made {
+    names: &["k"],
+    columns: &[Column::Decimals(3, &[Some(5)])],
+    len: 1,
+};
+
+const NULLS: Made = Made {
+    names: &["k"],
+    columns: &[Column::Nulls(2)],
+    len: 2,
+};
+
+const TWOS: Made = Made {
+    names: &["k"],
+    columns: &[Column::Constant(2, 3)],
+    len: 3,
+};
+
+// The rows 2, 1, null.
+const CODED: Made = Made {
+    names: &["k"],
+    columns: &[Column::Dictionary(&[Some(1), Some(0), None], PType::U8, &[Some(1), Some(2)])],
+    len: 3,
+};
+
+// The rows 2, null, 2.
+const LAZY: Made = Made {
+    names: &["k"],
+    columns: &[Column::Filtered(PType::U8, LEFT_KEYS, &[false, true, true, true])],
+    len: 3,
+};
+
+const NUMBERED: Made = Made {
+    names: &["k", "l"],
+    columns: &[
+        Column::Numbers(PType::U8, &[Some(1), Some(1), None, Some(2)]),
+        Column::Bools(&[true, false, true, true]),
+    ],
+    len: 4,
+};
+
+const BY_BOOLS: Made = Made {
+    names: &["k", "l"],
+    columns: &[
+        Column::Bools(&[true, false, true, true]),
+        Column::Numbers(PType::U8, &[Some(2), Some(1), Some(1), None]),
+    ],
+    len: 4,
+};
+
+const WIDE: Made = Made {
+    names: &["k"],
+    columns: &[Column::Numbers(PType::U16, &[Some(1)])],
+    len: 1,
+};
+
+const TEN_NAMES: [&str; 10] = ["a", "b", "c", "d", "e", "f", "g", "h", "i", "j"];
+
+const TEN_LEFT: Made = Made {
+    names: &TEN_NAMES,
+    columns: &[
+        Column::Numbers(PType::U32, &[Some(0), Some(1), Some(2)]),
+        Column::Numbers(PType::U32, &[Some(10), Some(11), Some(12)]),
+        Column::Numbers(PType::U32, &[Some(20), Some(21), Some(22)]),
+        Column::Numbers(PType::U32, &[Some(30), Some(31), Some(32)]),
+        Column::Numbers(PType::U32, &[Some(40), Some(41), Some(42)]),
+        Column::Numbers(PType::U32, &[Some(50), Some(51), Some(52)]),
+        Column::Numbers(PType::U32, &[Some(60), Some(61), Some(62)]),
+        Column::Numbers(PType::U32, &[Some(70), Some(71), Some(72)]),
+        Column::Numbers(PType::U32, &[Some(80), Some(81), Some(82)]),
+        Column::Numbers(PType::U32, &[Some(90), Some(91), Some(92)]),
+    ],
+    len: 3,
+};
+
+// Columns d and f have the left one's rows from behind, and all others other numbers.
+const TEN_RIGHT: Made = Made {
+    names: &TEN_NAMES,
+    columns: &[
+        Column::Numbers(PType::U32, &[Some(100), Some(101), Some(102)]),
+        Column::Numbers(PType::U32, &[Some(110), Some(111), Some(112)]),
+        Column::Numbers(PType::U32, &[Some(120), Some(121), Some(122)]),
+        Column::Numbers(PType::U32, &[Some(32), Some(31), Some(30)]),
+        Column::Numbers(PType::U32, &[Some(140), Some(141), Some(142)]),
+        Column::Numbers(PType::U32, &[Some(52), Some(51), Some(50)]),
+        Column::Numbers(PType::U32, &[Some(160), Some(161), Some(162)]),
+        Column::Numbers(PType::U32, &[Some(170), Some(171), Some(172)]),
+        Column::Numbers(PType::U32, &[Some(180), Some(181), Some(182)]),
+        Column::Numbers(PType::U32, &[Some(190), Some(191), Some(192)]),
+    ],
+    len: 3,
+};
+
+// The keys of the tables of ten columns.
+const TEN_KEYS: [(usize, usize); 2] = [(5, 5), (3, 3)];
+
+/// What a line shows.
+#[derive(Clone, Copy)]
+enum Shows {
+    /// The rows of the pairs.
+    Pairs,
+    /// The joined table.
+    Table,
+}
+
+/// The table on the right.
+#[derive(Clone, Copy)]
+enum Right {
+    /// One of its own.
+    Other(Made),
+    /// The one on the left.
+    Left,
+    /// One of the left one's columns, which are shared.
+    Shared,
+}
+
+// What a line says first, what it shows, the tables, and the key columns.
+type Line = (&'static str, Shows, Made, Right, &'static [(usize, usize)]);
+
+const LINES: [Line; 17] = [
+    (
+        "one key",
+        Shows::Pairs,
+        LEFT,
+        Right::Other(RIGHT),
+        &[(0, 0)],
+    ),
+    ("joined", Shows::Table, LEFT, Right::Other(RIGHT), &[(0, 0)]),
+    (
+        "no rows on the right",
+        Shows::Pairs,
+        LEFT,
+        Right::Other(NONE),
+        &[(0, 0)],
+    ),
+    (
+        "joined with none",
+        Shows::Table,
+        LEFT,
+        Right::Other(NONE),
+        &[(0, 0)],
+    ),
+    (
+        "no rows on the left",
+        Shows::Pairs,
+        NONE,
+        Right::Other(LEFT),
+        &[(0, 0)],
+    ),
+    (
+        "both zeros",
+        Shows::Pairs,
+        ZEROS,
+        Right::Other(ZEROS_BACK),
+        &[(0, 0)],
+    ),
+    ("two NaNs", Shows::Pairs, NANS, Right::Shared, &[(0, 0)]),
+    (
+        "decimals of 16 bytes",
+        Shows::Pairs,
+        SMALL,
+        Right::Other(SMALL_BACK),
+        &[(0, 0)],
+    ),
+    (
+        "eight bytes alike",
+        Shows::Pairs,
+        BEHIND,
+        Right::Other(BEHIND_TWO),
+        &[(0, 0)],
+    ),
+    (
+        "another scale",
+        Shows::Pairs,
+        BEHIND,
+        Right::Other(SCALED),
+        &[(0, 0)],
+    ),
+    ("nulls alone", Shows::Pairs, NULLS, Right::Left, &[(0, 0)]),
+    (
+        "a constant",
+        Shows::Pairs,
+        TWOS,
+        Right::Other(RIGHT),
+        &[(0, 0)],
+    ),
+    (
+        "a dictionary",
+        Shows::Pairs,
+        CODED,
+        Right::Other(RIGHT),
+        &[(0, 0)],
+    ),
+    (
+        "a lazy filter",
+        Shows::Pairs,
+        LAZY,
+        Right::Other(RIGHT),
+        &[(0, 0)],
+    ),
+    // both keys have to match, and neither may be null
+    (
+        "two keys",
+        Shows::Pairs,
+        NUMBERED,
+        Right::Other(BY_BOOLS),
+        &[(0, 1), (1, 0)],
+    ),
+    (
+        "one of them",
+        Shows::Pairs,
+        NUMBERED,
+        Right::Other(BY_BOOLS),
+        &[(0, 1)],
+    ),
+    (
+        "one key twice",
+        Shows::Pairs,
+        NUMBERED,
+        Right::Other(BY_BOOLS),
+        &[(0, 1), (0, 1)],
+    ),
+];
+
+const TEN: Line = (
+    "ten columns",
+    Shows::Pairs,
+    TEN_LEFT,
+    Right::Other(TEN_RIGHT),
+    &TEN_KEYS,
+);
+
+const REFUSED: [Line; 6] = [
+    ("no keys", Shows::Pairs, LEFT, Right::Other(RIGHT), &[]),
+    (
+        "no right column 2",
+        Shows::Pairs,
+        LEFT,
+        Right::Other(RIGHT),
+        &[(1, 1), (0, 0), (0, 2), (2, 0)],
+    ),
+    (
+        "no left column 2",
+        Shows::Pairs,
+        LEFT,
+        Right::Other(RIGHT),
+        &[(2, 0)],
+    ),
+    (
+        "u8 and bool",
+        Shows::Table,
+        LEFT,
+        Right::Other(RIGHT),
+        &[(0, 0), (0, 1)],
+    ),
+    (
+        "u8 and u16",
+        Shows::Pairs,
+        LEFT,
+        Right::Other(WIDE),
+        &[(0, 0)],
+    ),
+    ("texts", Shows::Pairs, LEFT, Right::Left, &[(0, 0), (1, 1)]),
+];
+
+fn print_picks(rt: &impl Print, picks: &Picks) -> io::Result<()> {
     for i in 0..picks.len() {
         match picks.get(i) {
             Some(row) => print!(rt; " {row}")?,
-            None => print!(rt; " null")?,
+            None => rt.print(" null")?,
         }
     }
     Ok(())
 }
 
-fn print_found(rt: &impl Print, found: &JoinIndices) -> Result<(), Fail> {
+fn print_found(rt: &impl Print, found: &JoinIndices) -> io::Result<()> {
     print_picks(rt, found.left())?;
-    print!(rt; ",")?;
+    rt.print(",")?;
     print_picks(rt, found.right())?;
-    println!(rt; "")?;
-    Ok(())
+    rt.println("")
 }
 
-// The rows of the pairs, or the refusal.
+/// The rows of the pairs, or the refusal.
 fn print_pairs(
     rt: &impl Print,
     alloc: Global,
-    name: &str,
     left: &Table,
     right: &Table,
     keys: &[(usize, usize)],
-) -> Result<(), Fail> {
-    print!(rt; "{name}:")?;
+) -> io::Result<()> {
     match join_indices(alloc, left, right, keys) {
         Ok(found) => print_found(rt, &found),
-        Err(error) => {
-            println!(rt; " {error:?}")?;
-            Ok(())
-        }
+        Err(error) => println!(rt; " {error:?}"),
     }
 }
 
+/// The joined table, or the refusal.
 fn print_joined(
     rt: &impl Print,
     alloc: Global,
@@ -62,256 +395,73 @@ fn print_joined(
 ) -> Result<(), Fail> {
     match join(alloc, left, right, keys, &Policy::vortex()) {
         Ok(table) => print_table(rt, name, &table),
-        Err(error) => {
-            println!(rt; "{name}: {error:?}")?;
-            Ok(())
-        }
+        Err(error) => Ok(println!(rt; "{name}: {error:?}")?),
     }
 }
 
-// A table of one key column.
-fn one(alloc: Global, column: ArrayRef) -> Result<Table, Fail> {
-    let len = column.len();
-    table(alloc, &["k"], vec![in alloc; column]?, len)
-}
-
-// A table of a key column and another one that is as long.
-fn two(alloc: Global, name: &str, key: ArrayRef, other: ArrayRef) -> Result<Table, Fail> {
-    let len = key.len();
-    table(alloc, &["k", name], vec![in alloc; key, other]?, len)
-}
-
-fn left_keys(alloc: Global) -> Result<ArrayRef, Fail> {
-    bytes(alloc, &[Some(1), Some(2), None, Some(2)])
-}
-
-fn left_table(alloc: Global) -> Result<Table, Fail> {
-    let a = texts(alloc, &[Some("w"), Some("x"), Some("y"), Some("z")])?;
-    two(alloc, "a", left_keys(alloc)?, a)
-}
-
-fn right_table(alloc: Global) -> Result<Table, Fail> {
-    let keys = bytes(alloc, &[Some(2), None, Some(1), Some(2)])?;
-    two(alloc, "b", keys, bools(alloc, &[true, true, false, false])?)
-}
-
-fn no_rows(alloc: Global) -> Result<Table, Fail> {
-    let keys = bytes(alloc, &[])?;
-    two(alloc, "b", keys, bools(alloc, &[])?)
-}
-
-/// Pairs by one key column and by several, and the joined tables.
-pub(crate) fn print_joins(rt: &impl Print, alloc: Global) -> Result<(), Fail> {
-    print_both(rt, alloc, &left_table(alloc)?, &right_table(alloc)?)?;
-    print_none(rt, alloc, &left_table(alloc)?, &no_rows(alloc)?)?;
-    print_zeros(rt, alloc)?;
-    print_decimals(rt, alloc)?;
-    print_nulls(rt, alloc)?;
-    print_constant(rt, alloc)?;
-    print_dictionary(rt, alloc)?;
-    print_lazy(rt, alloc)?;
-    print_several(rt, alloc, &numbered_bools(alloc)?, &bools_numbered(alloc)?)?;
-    print_wide(rt, alloc)
-}
-
-fn print_both(rt: &impl Print, alloc: Global, left: &Table, right: &Table) -> Result<(), Fail> {
-    print_pairs(rt, alloc, "one key", left, right, &[(0, 0)])?;
-    print_joined(rt, alloc, "joined", left, right, &[(0, 0)])
-}
-
-fn print_none(rt: &impl Print, alloc: Global, left: &Table, none: &Table) -> Result<(), Fail> {
-    print_pairs(rt, alloc, "no rows on the right", left, none, &[(0, 0)])?;
-    print_joined(rt, alloc, "joined with none", left, none, &[(0, 0)])?;
-    print_pairs(rt, alloc, "no rows on the left", none, left, &[(0, 0)])
-}
-
-// A key column against another.
-fn print_keys(
+fn print_shown(
     rt: &impl Print,
     alloc: Global,
-    name: &str,
-    left: ArrayRef,
-    right: ArrayRef,
-) -> Result<(), Fail> {
-    let left = one(alloc, left)?;
-    print_right(rt, alloc, name, &left, right)
-}
-
-fn print_right(
-    rt: &impl Print,
-    alloc: Global,
-    name: &str,
+    (name, shows, _, _, keys): Line,
     left: &Table,
-    right: ArrayRef,
+    right: &Table,
 ) -> Result<(), Fail> {
-    let right = one(alloc, right)?;
-    print_pairs(rt, alloc, name, left, &right, &[(0, 0)])
-}
-
-// Floats are compared as they are stored.
-fn print_zeros(rt: &impl Print, alloc: Global) -> Result<(), Fail> {
-    let zeros = floats(alloc, &[0, 0x8000_0000])?;
-    print_keys(
-        rt,
-        alloc,
-        "both zeros",
-        zeros,
-        floats(alloc, &[0x8000_0000, 0])?,
-    )?;
-    let nans = floats(alloc, &[0x7fc0_0000, 0x7fc0_0001])?;
-    print_keys(rt, alloc, "two NaNs", nans.share(), nans)
-}
-
-fn print_numbers(
-    rt: &impl Print,
-    alloc: Global,
-    name: &str,
-    left: &[u128],
-    right: &[u128],
-) -> Result<(), Fail> {
-    let left = decimals(alloc, 2, left)?;
-    print_keys(rt, alloc, name, left, decimals(alloc, 2, right)?)
-}
-
-// Records that are too wide for a number.
-fn print_decimals(rt: &impl Print, alloc: Global) -> Result<(), Fail> {
-    print_numbers(rt, alloc, "decimals of 16 bytes", &[5, 300, 5], &[300, 5])?;
-    let behind = [5 + (1 << 64), 5 + (2 << 64), 5 + (1 << 64)];
-    print_numbers(rt, alloc, "eight bytes alike", &behind, &[5 + (1 << 64), 5])?;
-    let left = decimals(alloc, 2, &behind)?;
-    print_keys(rt, alloc, "another scale", left, decimals(alloc, 3, &[5])?)
-}
-
-fn print_nulls(rt: &impl Print, alloc: Global) -> Result<(), Fail> {
-    let table = one(alloc, nulls(alloc, 2)?)?;
-    print_pairs(rt, alloc, "nulls alone", &table, &table, &[(0, 0)])
-}
-
-fn print_constant(rt: &impl Print, alloc: Global) -> Result<(), Fail> {
-    let left = one(alloc, constant(alloc, 2, 3)?)?;
-    print_pairs(
-        rt,
-        alloc,
-        "a constant",
-        &left,
-        &right_table(alloc)?,
-        &[(0, 0)],
-    )
-}
-
-// The rows 2, 1, null.
-fn print_dictionary(rt: &impl Print, alloc: Global) -> Result<(), Fail> {
-    let codes = numbers(alloc, &[Some(1), Some(0), None])?;
-    let rows = dictionary(alloc, codes, bytes(alloc, &[Some(1), Some(2)])?)?;
-    let left = one(alloc, rows)?;
-    print_pairs(
-        rt,
-        alloc,
-        "a dictionary",
-        &left,
-        &right_table(alloc)?,
-        &[(0, 0)],
-    )
-}
-
-// The rows 2, null, 2.
-fn print_lazy(rt: &impl Print, alloc: Global) -> Result<(), Fail> {
-    let rows = filtered(alloc, left_keys(alloc)?, &[false, true, true, true])?;
-    let left = one(alloc, rows)?;
-    print_pairs(
-        rt,
-        alloc,
-        "a lazy filter",
-        &left,
-        &right_table(alloc)?,
-        &[(0, 0)],
-    )
-}
-
-fn numbered_bools(alloc: Global) -> Result<Table, Fail> {
-    let keys = bytes(alloc, &[Some(1), Some(1), None, Some(2)])?;
-    two(alloc, "l", keys, bools(alloc, &[true, false, true, true])?)
-}
-
-fn bools_numbered(alloc: Global) -> Result<Table, Fail> {
-    let keys = bools(alloc, &[true, false, true, true])?;
-    two(
-        alloc,
-        "l",
-        keys,
-        bytes(alloc, &[Some(2), Some(1), Some(1), None])?,
-    )
-}
-
-// Two key columns: both have to match, and neither may be null.
-fn print_several(rt: &impl Print, alloc: Global, left: &Table, right: &Table) -> Result<(), Fail> {
-    print_pairs(rt, alloc, "two keys", left, right, &[(0, 1), (1, 0)])?;
-    print_pairs(rt, alloc, "one of them", left, right, &[(0, 1)])?;
-    print_pairs(rt, alloc, "one key twice", left, right, &[(0, 1), (0, 1)])
-}
-
-// Ten columns of three rows: row i of column k is 10 * k + i on the left, and on the right that
-// of the row from behind in columns 3 and 5, and 100 more in all others.
-fn ten_columns(alloc: Global, is_right: bool) -> Result<Table, Fail> {
-    let mut columns = Vec::new(alloc);
-    for k in 0..10_u32 {
-        let rows = match (is_right, k) {
-            (false, _) => [Some(10 * k), Some(10 * k + 1), Some(10 * k + 2)],
-            (true, 3 | 5) => [Some(10 * k + 2), Some(10 * k + 1), Some(10 * k)],
-            (true, _) => [Some(10 * k + 100), Some(10 * k + 101), Some(10 * k + 102)],
-        };
-        columns.push(numbers(alloc, &rows)?)?;
-    }
-    let names = ["a", "b", "c", "d", "e", "f", "g", "h", "i", "j"];
-    table(alloc, &names, columns, 3)
-}
-
-// Tables of ten columns, and a page of three columns of the joined one.
-fn print_wide(rt: &impl Print, alloc: Global) -> Result<(), Fail> {
-    let left = ten_columns(alloc, false)?;
-    let right = ten_columns(alloc, true)?;
-    print_pairs(rt, alloc, "ten columns", &left, &right, &WIDE_KEYS)?;
-    print_twenty(rt, alloc, &left, &right)
-}
-
-fn print_twenty(rt: &impl Print, alloc: Global, left: &Table, right: &Table) -> Result<(), Fail> {
-    match join(alloc, left, right, &WIDE_KEYS, &Policy::vortex()) {
-        Ok(joined) => {
-            print_table(rt, "twenty columns", &joined)?;
-            print_cut(rt, alloc, &joined, &Policy::vortex())
+    match shows {
+        Shows::Pairs => {
+            print!(rt; "{name}:")?;
+            Ok(print_pairs(rt, alloc, left, right, keys)?)
         }
-        Err(error) => Err(error.into()),
+        Shows::Table => print_joined(rt, alloc, name, left, right, keys),
     }
+}
+
+// A table of the same columns, which are shared.
+fn shared(alloc: Global, names: &[&str], table: &Table) -> Result<Table, Fail> {
+    let columns = shared_columns(alloc, table.columns())?;
+    Ok(Table::try_new(names_of(alloc, names)?, columns, table.len())?)
+}
+
+fn print_line(rt: &impl Print, alloc: Global, line: Line) -> Result<(), Fail> {
+    print_right(rt, alloc, line, &table_of(alloc, line.2)?)
+}
+
+fn print_right(rt: &impl Print, alloc: Global, line: Line, left: &Table) -> Result<(), Fail> {
+    match line.3 {
+        Right::Left => print_shown(rt, alloc, line, left, left),
+        Right::Shared => print_shown(rt, alloc, line, left, &shared(alloc, line.2.names, left)?),
+        Right::Other(made) => print_shown(rt, alloc, line, left, &table_of(alloc, made)?),
+    }
+}
+
+fn print_lines(rt: &impl Print, alloc: Global, lines: &[Line]) -> Result<(), Fail> {
+    for line in lines {
+        print_line(rt, alloc, *line)?;
+    }
+    Ok(())
+}
+
+fn joined(alloc: Global) -> Result<Table, Fail> {
+    let left = table_of(alloc, TEN_LEFT)?;
+    let right = table_of(alloc, TEN_RIGHT)?;
+    Ok(join(alloc, &left, &right, &TEN_KEYS, &Policy::vortex())?)
 }
 
 // The second page of two rows.
-fn print_cut(rt: &impl Print, alloc: Global, joined: &Table, policy: &Policy) -> Result<(), Fail> {
-    match page(alloc, joined, &[19, 0, 13], &[], 1, 2, policy) {
-        Ok(rows) => print_table(rt, "page 1 of them", &rows),
-        Err(error) => Err(error.into()),
-    }
+fn cut(alloc: Global, joined: &Table) -> Result<Table, Fail> {
+    Ok(page(alloc, joined, &[19, 0, 13], &[], 1, 2, &Policy::vortex())?)
 }
 
-/// Each refusal, in order.
-pub(crate) fn print_refusals(rt: &impl Print, alloc: Global) -> Result<(), Fail> {
-    print_refused(rt, alloc, &left_table(alloc)?, &right_table(alloc)?)?;
-    print_types(
-        rt,
-        alloc,
-        &left_table(alloc)?,
-        &one(alloc, shorts(alloc, &[1])?)?,
-    )
+// The joined table of ten columns and ten, and a page of three columns of it.
+fn print_twenty(rt: &impl Print, alloc: Global, joined: &Table) -> Result<(), Fail> {
+    print_table(rt, "twenty columns", joined)?;
+    print_table(rt, "page 1 of them", &cut(alloc, joined)?)
 }
 
-fn print_refused(rt: &impl Print, alloc: Global, left: &Table, right: &Table) -> Result<(), Fail> {
-    print_pairs(rt, alloc, "no keys", left, right, &[])?;
-    let keys = [(1, 1), (0, 0), (0, 2), (2, 0)];
-    print_pairs(rt, alloc, "no right column 2", left, right, &keys)?;
-    print_pairs(rt, alloc, "no left column 2", left, right, &[(2, 0)])?;
-    print_joined(rt, alloc, "u8 and bool", left, right, &[(0, 0), (0, 1)])
-}
-
-fn print_types(rt: &impl Print, alloc: Global, left: &Table, wide: &Table) -> Result<(), Fail> {
-    print_pairs(rt, alloc, "u8 and u16", left, wide, &[(0, 0)])?;
-    print_pairs(rt, alloc, "texts", left, left, &[(0, 0), (1, 1)])
+/// Pairs by one key column and by several, the joined tables, a page of one, and each refusal, in
+/// order.
+pub(crate) fn print_joins(rt: &impl Print, alloc: Global) -> Result<(), Fail> {
+    print_lines(rt, alloc, &LINES)?;
+    print_line(rt, alloc, TEN)?;
+    print_twenty(rt, alloc, &joined(alloc)?)?;
+    print_lines(rt, alloc, &REFUSED)
 }

@@ -1,50 +1,52 @@
 //! Tables as lines of text.
-use std::str;
 use std::test::Fail;
+use std::{io, str};
 use vx_column::{Array, Cell, DType, PType};
 use vx_table::Table;
 
-fn print_type(rt: &impl Print, dtype: &DType) -> Result<(), Fail> {
+fn name_of(dtype: &DType) -> &'static str {
     match dtype {
-        DType::Null => print!(rt; "null")?,
-        DType::Bool(_) => print!(rt; "bool")?,
-        DType::Primitive(PType::U8, _) => print!(rt; "u8")?,
-        DType::Primitive(PType::U32, _) => print!(rt; "u32")?,
-        DType::Primitive(ptype, _) => print!(rt; "{ptype:?}")?,
-        DType::Utf8(_) => print!(rt; "utf8")?,
-        _ => print!(rt; "other")?,
+        DType::Null => "null",
+        DType::Bool(_) => "bool",
+        DType::Primitive(PType::U8, _) => "u8",
+        DType::Primitive(PType::U32, _) => "u32",
+        DType::Utf8(_) => "utf8",
+        _ => "other",
     }
-    if dtype.is_nullable() {
-        print!(rt; "?")?;
-    }
-    Ok(())
 }
 
-fn print_cell(rt: &impl Print, dtype: &DType, cell: Cell) -> Result<(), Fail> {
-    match cell {
-        Cell::Null => print!(rt; " null")?,
-        Cell::Bit(bit) => print!(rt; " {bit}")?,
-        Cell::Bytes(bytes) => match (dtype, str::from_utf8(bytes)) {
-            (DType::Utf8(_), Ok(text)) => print!(rt; " {text:?}")?,
-            _ => print_number(rt, bytes)?,
-        },
-        Cell::List(_) => print!(rt; " a list")?,
-        Cell::Fields(_) => print!(rt; " a struct")?,
-        Cell::Tagged(_) => print!(rt; " a union")?,
+fn print_type(rt: &impl Print, column: &Array) -> io::Result<()> {
+    rt.print(name_of(column.dtype()))?;
+    if column.dtype().is_nullable() {
+        rt.print("?")?;
     }
-    Ok(())
+    if column.is_flat() {
+        print!(rt; " as {:?}", column.layout_name())?;
+    }
+    rt.print(":")
 }
 
-fn print_number(rt: &impl Print, bytes: &[u8]) -> Result<(), Fail> {
+// The number that one byte or four spell.
+fn number_of(bytes: &[u8]) -> Option<u32> {
     match bytes {
-        [a] => print!(rt; " {a}")?,
-        [a, b, c, d] => {
-            let number = u32::from_le_bytes([*a, *b, *c, *d]);
-            print!(rt; " {number}")?
-        }
-        _ => print!(rt; " {bytes:?}")?,
+        [a] => Some(u32::from(*a)),
+        [a, b, c, d] => Some(u32::from_le_bytes([*a, *b, *c, *d])),
+        _ => None,
     }
-    Ok(())
+}
+
+fn print_number(rt: &impl Print, bytes: &[u8]) -> io::Result<()> {
+    match number_of(bytes) {
+        Some(number) => print!(rt; " {number}"),
+        None => print!(rt; " {bytes:?}"),
+    }
+}
+
+fn print_bytes(rt: &impl Print, dtype: &DType, bytes: &[u8]) -> io::Result<()> {
+    match (dtype, str::from_utf8(bytes)) {
+        (DType::Utf8(_), Ok(text)) => print!(rt; " {text:?}"),
+        _ => print_number(rt, bytes),
+    }
 }
 
 // In a function that says nothing of it, so that few facts pile up.
@@ -55,28 +57,31 @@ fn cell_of(column: &Array, i: usize) -> Result<Cell<'_>, Fail> {
     Ok(column.cell_at(i))
 }
 
-fn print_column(rt: &impl Print, column: &Array) -> Result<(), Fail> {
-    print_type(rt, column.dtype())?;
-    if column.is_flat() {
-        let layout = column.layout_name();
-        print!(rt; " as {layout:?}")?;
+fn print_cell(rt: &impl Print, dtype: &DType, cell: Cell) -> io::Result<()> {
+    match cell {
+        Cell::Null => rt.print(" null"),
+        Cell::Bit(true) => rt.print(" true"),
+        Cell::Bit(false) => rt.print(" false"),
+        Cell::Bytes(bytes) => print_bytes(rt, dtype, bytes),
+        Cell::List(_) | Cell::Fields(_) | Cell::Tagged(_) => rt.print(" nested"),
     }
-    print!(rt; ":")?;
+}
+
+fn print_column(rt: &impl Print, column: &Array) -> Result<(), Fail> {
+    print_type(rt, column)?;
     for i in 0..column.len() {
         print_cell(rt, column.dtype(), cell_of(column, i)?)?;
     }
-    println!(rt; "")?;
+    rt.println("")?;
     Ok(())
 }
 
 /// A line for the number of rows, and one for each column.
 pub(crate) fn print_table(rt: &impl Print, name: &str, table: &Table) -> Result<(), Fail> {
-    let len = table.len();
-    println!(rt; "{name}: {len} rows")?;
+    println!(rt; "{name}: {} rows", table.len())?;
     let columns = table.columns();
     for (i, column_name) in table.names().iter().enumerate() {
-        let text = column_name.as_str();
-        print!(rt; "  {text:?}: ")?;
+        print!(rt; "  {:?}: ", column_name.as_str())?;
         if i < columns.len() {
             print_column(rt, columns.get(i))?;
         }
