@@ -1,4 +1,4 @@
-"""What `file_callers` must print, worked out from the definition of a column file alone."""
+"""What `file_callers` must print of `vx_file`, worked out from the definition of a column file alone."""
 
 from struct import pack
 

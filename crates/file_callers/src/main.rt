@@ -1,14 +1,18 @@
-//! Calls the column file as its users do, and prints what each gives.
+//! Calls the sources and sinks, the packed chunks and the column file as their users do, and prints
+//! what each gives.
 #![tactic(auto)]
 
-mod flaky;
-mod made;
-mod opening;
-mod selecting;
+mod file;
+mod outside;
+mod packed;
 
 use std::test::Fail;
 
 fn main(rt: HostRuntime) -> Result<(), Fail> {
-    opening::print_rows(&rt, rt.alloc())?;
-    selecting::print_rows(&rt, rt.alloc())
+    rt.println("# vx_outside")?;
+    outside::print_rows(&rt, rt.alloc())?;
+    rt.println("# vx_packed")?;
+    packed::print_rows(&rt, rt.alloc())?;
+    rt.println("# vx_file")?;
+    file::print_rows(&rt, rt.alloc())
 }

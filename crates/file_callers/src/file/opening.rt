@@ -1,6 +1,6 @@
 //! Headers, blocks and readers.
-use crate::flaky::Flaky;
-use crate::made::{block_of, file_of, positions, reader_of};
+use crate::file::flaky::Flaky;
+use crate::file::made::{block_of, file_of, positions, reader_of};
 use std::alloc::Global;
 use std::test::Fail;
 use vx_bits::NoMemory;

@@ -1,5 +1,5 @@
 //! Rows of a file, and the blocks that are read for them.
-use crate::made::{block_of, file_of, positions, reader_of, take};
+use crate::file::made::{block_of, file_of, positions, reader_of, take};
 use std::alloc::Global;
 use std::test::Fail;
 use vx_bits::Buffer;
