@@ -1,6 +1,5 @@
 -- Bits that words hold, read from any of them on and written from the first one.
 use Rattle.std.proofs.Common.{◌≡◌, ℕ, zero, suc, ◌+◌, ◌-◌, ◌*◌, ◌/◌, ◌%◌, ◌^◌, ◌<◌, ◌≤◌, min, Bool, true, false, eqb, List, [], ◌∷◌, ◌++◌, length, get_or, take, drop, set, map, bit_or, inl, inr, refl, sym, ap, ap₂, subst, ◌∙◌, add-zero, zero-add, arith}
-use mir.Val.{bool_byte}
 use Rattle.std.specs.Int.{bit_at}
 use Rattle.std.specs.List.{range_with_len}
 use Rattle.std.proofs.lemmas.Bool.{cases_lt}
@@ -258,11 +257,6 @@ full_pext src mask fits full =
     ∙ number_of-word_bits src 64
     ∙ mod-eq_of_lt fits)
 
--- a bit is a number
-pub bit_number : (bit : Bool) → bool_byte bit ≡ number_of (bit ∷ [])
-bit_number true = refl
-bit_number false = refl
-
 -- no bit is packed
 pub none_packed : (words : List ℕ) (full next held : ℕ) → full ≡ 0 → next ≡ 0 → held ≡ 0 → IsPacked [] words full next held
 unfolding word_at
@@ -273,29 +267,6 @@ none_packed words full next held e f g =
       next = f ∙ sym (ap (word_at []) e ∙ none);
       count = omega (arith, e, g);
     }
-
--- ---- bits one by one
-
-pub record IsAdded (bits : List Bool) (j number : ℕ) : Type 0 where
-  pub spells : number ≡ number_of bits
-  pub below : number < 2 ^ (j + 1)
-
--- a bit above the number of others
-pub bit_added : (bits : List Bool) (bit : Bool) (word j shifted : ℕ) → j < 64 → length bits ≡ j → word ≡ number_of bits → shifted ≡ bool_byte bit * 2 ^ j % 2 ^ 64 → IsAdded (bits ++ bit ∷ []) j (word + shifted)
-bit_added bits false word j shifted few long e es =
-    let all = number_joined bits (false ∷ []) in
-    let step : j + 1 ≡ suc j = omega arith in
-    let power : 2 ^ (j + 1) ≡ 2 * 2 ^ j = ap (λ n. 2 ^ n) step ∙ pow-suc 2 j ∙ mul_comm _ 2 in
-    let below : word < 2 ^ j = subst (λ (n : ℕ). word < 2 ^ n) long (subst (λ (x : ℕ). x < 2 ^ length bits) (sym e) (number_below bits)) in
-    record { spells = omega (arith, all, e, es); below = omega (arith, below, power, es) }
-bit_added bits true word j shifted few long e es =
-    let all : number_of (bits ++ true ∷ []) ≡ 1 * 2 ^ j + number_of bits = number_joined bits (true ∷ []) ∙ ap (λ n. 1 * 2 ^ n + number_of bits) long in
-    let step : j + 1 ≡ suc j = omega arith in
-    let power : 2 ^ (j + 1) ≡ 2 * 2 ^ j = ap (λ n. 2 ^ n) step ∙ pow-suc 2 j ∙ mul_comm _ 2 in
-    let below : word < 2 ^ j = subst (λ (n : ℕ). word < 2 ^ n) long (subst (λ (x : ℕ). x < 2 ^ length bits) (sym e) (number_below bits)) in
-    let most : j ≤ 63 = omega arith in
-    let small : 2 ^ j ≤ 2 ^ 63 = pow_mono most in
-    record { spells = omega (arith, all, e, es, small); below = omega (arith, below, power, es, small) }
 
 -- a list that two functions of the place make, one behind the other
 pub places_joined : {X : Type 0} (f : ℕ → X) (a n m : ℕ) → map f (range_with_len a (n + m)) ≡ map f (range_with_len a n) ++ map f (range_with_len (a + n) m)

@@ -1,5 +1,5 @@
 //! Bits that words of the caller's hold, read from any of them on and written from the first one.
-ghost use Rattle.std.specs.Prelude.{◌≡◌, ℕ, ◌+◌, ◌-◌, ◌*◌, ◌/◌, ◌%◌, ◌^◌, ◌<◌, ◌≤◌, Bool, List, ◌++◌, false, length, drop, nat_le, slice_index_or};
+ghost use Rattle.std.specs.Prelude.{◌≡◌, ℕ, ◌+◌, ◌-◌, ◌*◌, ◌/◌, ◌%◌, ◌^◌, ◌<◌, ◌≤◌, ◌==◌, Bool, List, ◌++◌, false, length, drop, nat_le, slice_index_or};
 ghost use Rattle.vx_bits.specs.BitBuffer.{number_of};
 ghost use Rattle.vx_bits.specs.Words.{word_at, word_count};
 ghost use Rattle.vortex_c.specs.Bits.{IsPacked, bits_at, words_of};
@@ -62,15 +62,16 @@ fn front(word: u64, count: u32) -> u64
     word & ((1 << count) - 1)
 }
 
-// Bit `index` of the `len` bits from bit `offset` of the words on.
+// Bit `index` of the `len` bits from bit `offset` of the words on, lowest, and what stands above it
+// in its word.
 #[inline(always)]
-pub(crate) fn bit_of(words: &[u64], offset: usize, len: usize, index: u64) -> bool
+pub(crate) fn from_bit(words: &[u64], offset: usize, len: usize, index: u64) -> u64
     requires held { offset + len ≤ 64 * length words.now }
     requires within { index < len }
-    ensures { result ≡ slice_index_or (bits_at words.now offset len) index false }
+    ensures { (result % 2 == 1) ≡ slice_index_or (bits_at words.now offset len) index false }
 {
     let place = offset as u128 + u128::from(index);
-    (words[(place / 64) as usize] >> (place % 64) as u32) & 1 == 1
+    words[(place / 64) as usize] >> (place % 64) as u32
 }
 
 // How many words are full, and the bits behind them, fewer than 64.

@@ -1,5 +1,5 @@
 //! A take of bits.
-ghost use Rattle.std.specs.Prelude.{◌≡◌, ◌+◌, ◌*◌, ◌<◌, ◌≤◌, ◌++◌, ℕ, None, Some, if◌then◌else◌, false, true, length, map, drop};
+ghost use Rattle.std.specs.Prelude.{◌≡◌, ◌+◌, ◌*◌, ◌%◌, ◌<◌, ◌≤◌, ◌==◌, ◌++◌, ℕ, None, Some, if◌then◌else◌, false, true, length, map, drop};
 ghost use Rattle.std.specs.List.{range_with_len};
 ghost use Rattle.vx_bits.specs.BitBuffer.{number_of};
 ghost use Rattle.vx_bits.specs.Words.{word_count};
@@ -8,21 +8,21 @@ ghost use Rattle.vortex_c.specs.Bits.{AreBitsTaken, bit_take_fault, bits_at, wor
 ghost use Rattle.vortex_c.specs.Takes.{IsPast, pick_at, picks_at, valid_fault};
 
 use crate::answer::{Answer, DONE, INDEX, LENGTHS, ROOM};
-use crate::bits::{Packed, bit_of, hold};
+use crate::bits::{Packed, from_bit, hold};
 use crate::take::{fault_of_valid, first_past, there};
 
-// The bit at an index, or a clear one where it is not there.
+// The bit at an index, or a clear one where it is not there, lowest, and what stands above it.
 #[inline(always)]
-fn bit_or_clear(src: &[u64], src_at: usize, len: usize, there: bool, index: u64) -> bool
+fn from_bit_or_clear(src: &[u64], src_at: usize, len: usize, there: bool, index: u64) -> u64
     requires held { src_at + len ≤ 64 * length src.now }
     requires within { there ≡ true → index < len }
-    ensures { result
+    ensures { (result % 2 == 1)
         ≡ item_at false (bits_at src.now src_at len) (if there then Some index else None) }
 {
     if there {
-        bit_of(src, src_at, len, index)
+        from_bit(src, src_at, len, index)
     } else {
-        false
+        0
     }
 }
 
@@ -42,6 +42,7 @@ fn fault_of(src: &[u64], src_at: usize, len: usize, picks: usize, valid: &[u64],
 }
 
 // The bits at so many picks from `start` on, the first one lowest, and a clear one at each null.
+// Each comes in from above.
 #[inline(always)]
 fn word_taken(
     src: &[u64],
@@ -56,17 +57,18 @@ fn word_taken(
     requires valid { valid_fault (length indices.now) valid.now ≡ 0 }
     requires within { (k : ℕ) → IsPast len indices.now valid.now k → ⊥ }
     requires place { start + count ≤ length indices.now }
+    requires some { 0 < count }
     requires few { count ≤ 64 }
     ensures { result ≡ number_of (at false (bits_at src.now src_at len)
         (map (pick_at indices.now valid.now) (range_with_len start count))) }
 {
-    let mut word: u64 = 0;
+    let mut top: u64 = 0;
     for j in 0..count {
         let k = start + j;
-        let bit = bit_or_clear(src, src_at, len, there(valid, k), indices[k]);
-        word += u64::from(bit) << j;
+        let from_there = from_bit_or_clear(src, src_at, len, there(valid, k), indices[k]);
+        top = (top >> 1) | (from_there << 63);
     }
-    word
+    top >> (64 - count)
 }
 
 // Writes the bits at the picks, and a clear one at each null.
