@@ -3,6 +3,6 @@ pub mod MaskRows
 pub mod FilterFaults
 pub mod TakenItems
 pub mod BitWords
-pub mod MaskRuns
 pub mod TopBits
 pub mod RunStarts
+pub mod RunMarks

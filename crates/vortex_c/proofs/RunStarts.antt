@@ -26,7 +26,7 @@ record Counted (bits : List Bool) : Type 0 where
 clear_first : (bits : List Bool) → true_count_of (false ∷ bits) ≡ true_count_of bits
 clear_first bits = omega (arith, true_count_of-cons false bits)
 
-one_more : (n : ℕ) (bits : List Bool) → replicate (suc n) true ++ true ∷ bits ≡ replicate (suc (suc n)) true ++ bits
+pub one_more : (n : ℕ) (bits : List Bool) → replicate (suc n) true ++ true ∷ bits ≡ replicate (suc (suc n)) true ++ bits
 one_more zero bits = refl
 one_more (suc n) bits = ap (λ l. true ∷ l) (one_more n bits)
 
@@ -106,20 +106,35 @@ word_starts (suc n) w c h =
     ∙ ap (λ b. b ∷ starts (eqb (w % 2) 1) (word_bits (w / 2) n)) (one_digit (w % 2) c (omega arith) h)
 
 -- what the code computes of a word and the one before it
-pub starts_is : (word before : ℕ) → word < 2 ^ 64 → before < 2 ^ 64 → word_bits (bit_and (bit_xor word (bit_or (word * 2 ^ 1 % 2 ^ 64) (before / 2 ^ 63))) word) 64 ≡ starts (eqb (bit_at before 63) 1) (word_bits word 64)
-starts_is word before fits small =
+pub marks_is : (word before : ℕ) → word < 2 ^ 64 → before < 2 ^ 64 → bit_xor word (bit_or (word * 2 ^ 1 % 2 ^ 64) (before / 2 ^ 63)) ≡ bit_xor word (2 * word + before / 2 ^ 63) % 2 ^ 64
+marks_is word before fits small =
     let c = before / 2 ^ 63 in
     let bit : c < 2 = omega arith in
     let all = 2 * word + c in
     let up : word * 2 ^ 1 % 2 ^ 64 ≡ word % 2 ^ 63 * 2 ^ 1 = omega arith in
     let joined : bit_or (word * 2 ^ 1 % 2 ^ 64) c ≡ all % 2 ^ 64 =
     ap (λ x. bit_or x c) up ∙ or_shifted (word % 2 ^ 63) 1 c bit ∙ omega (arith, bit) in
-    let own : word ≡ word % 2 ^ 64 = sym (mod-eq_of_lt fits) in
-    let cut : bit_and (bit_xor word (bit_or (word * 2 ^ 1 % 2 ^ 64) c)) word ≡ bit_and (bit_xor word all) word % 2 ^ 64 =
-    ap₂ (λ x y. bit_and x y) (ap₂ bit_xor own joined ∙ sym (xor_mod word all 64)) own ∙ sym (and_mod (bit_xor word all) word 64) in
-    let last : c ≡ bit_at before 63 = sym (mod-eq_of_lt bit) ∙ sym (and_mask c 1) ∙ shr_and_one before 63 in
-    ap (λ x. word_bits x 64) cut ∙ word_bits_low (bit_and (bit_xor word all) word) 64 ∙ word_starts 64 word c bit
-    ∙ ap (λ b. starts (eqb b 1) (word_bits word 64)) last
+    ap₂ bit_xor (sym (mod-eq_of_lt fits)) joined ∙ sym (xor_mod word all 64)
+
+pub last_is : (before : ℕ) → before < 2 ^ 64 → before / 2 ^ 63 ≡ bit_at before 63
+last_is before small =
+    let c = before / 2 ^ 63 in
+    let bit : c < 2 = omega arith in
+    sym (mod-eq_of_lt bit) ∙ sym (and_mask c 1) ∙ shr_and_one before 63
+
+pub starts_is : (word before marks : ℕ) → word < 2 ^ 64 → before < 2 ^ 64 → marks ≡ bit_xor word (2 * word + before / 2 ^ 63) % 2 ^ 64 → word_bits (bit_and marks word) 64 ≡ starts (eqb (bit_at before 63) 1) (word_bits word 64)
+starts_is word before marks fits small is =
+    let c = before / 2 ^ 63 in
+    let bit : c < 2 = omega arith in
+    let all = bit_xor word (2 * word + c) in
+    let cut : bit_and marks word ≡ bit_and all word % 2 ^ 64 = ap₂ bit_and is (sym (mod-eq_of_lt fits)) ∙ sym (and_mod all word 64) in
+    ap (λ x. word_bits x 64) cut ∙ word_bits_low (bit_and all word) 64 ∙ word_starts 64 word c bit
+    ∙ ap (λ b. starts (eqb b 1) (word_bits word 64)) (last_is before small)
+
+-- a word's last bit
+pub last_of_word : (last : Bool) (word : ℕ) → last_of last (word_bits word 64) ≡ eqb (bit_at word 63) 1
+last_of_word last word =
+    ap (last_of last) (word_bits_more word 63) ∙ last_of-append last (word_bits word 63) (eqb (bit_at word 63) 1)
 
 -- the starts of some bits and of a word behind them
 pub record IsFurther (bits more : List Bool) (word before set : ℕ) : Type 0 where
@@ -133,8 +148,7 @@ further bits more word before found set e last fits is set_is =
           ∙ count-append (starts false bits) (starts (last_of false bits) (word_bits word 64))
           ∙ ap (λ n. true_count_of (starts false bits) + n) (ap (λ b. true_count_of (starts b (word_bits word 64))) (sym last) ∙ ap true_count_of (sym is) ∙ set_is);
       last = sym (ap (last_of false) e ∙ last_of-joined false bits (word_bits word 64)
-          ∙ ap (last_of (last_of false bits)) (word_bits_more word 63)
-          ∙ last_of-append (last_of false bits) (word_bits word 63) (eqb (bit_at word 63) 1));
+          ∙ last_of_word (last_of false bits) word);
     }
 
 pub few_starts : (bits : List Bool) → true_count_of (starts false bits) ≤ true_count_of bits

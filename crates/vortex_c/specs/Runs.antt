@@ -1,5 +1,5 @@
 -- The runs of a mask, told from outside.
-use Rattle.std.specs.Prelude.{◌≡◌, ◌≢◌, ℕ, ◌==◌, ◌&&◌, Bool, not, List, [], ◌∷◌, ◌++◌, length, map, take, drop, if◌then◌else◌, nat_lt}
+use Rattle.std.specs.Prelude.{◌≡◌, ◌≢◌, ℕ, ◌==◌, ◌&&◌, Bool, not, Option, None, Some, List, [], ◌∷◌, ◌++◌, length, map, take, drop, if◌then◌else◌, nat_lt}
 use Rattle.vx_filter.specs.Compact.{bits_of_words}
 use Rattle.vx_mask.specs.Positions.{maximal_runs}
 use Rattle.vortex_c.specs.declared.runs.Run.{Run}
@@ -35,3 +35,20 @@ pub record AreRunsListed (rows : ℕ) (words : List ℕ) (old new : List Run) (s
 abbrev pub starts : Bool → List Bool → List Bool
 starts last [] = []
 starts last (bit ∷ bits) = (bit && not last) ∷ starts bit bits
+
+-- for each bit whether it is other than the one before it, which is `last` before the first one
+abbrev pub changes : Bool → List Bool → List Bool
+changes last [] = []
+changes last (bit ∷ bits) = (if last then not bit else bit) ∷ changes bit bits
+
+-- runs by the places where one starts or ends, in turn: the last one ends at `end` where its end is
+-- not among them
+abbrev pub pairs : ℕ → List ℕ → List (ℕ × ℕ)
+pairs end [] = []
+pairs end (start ∷ []) = (start, end) ∷ []
+pairs end (start ∷ stop ∷ places) = (start, stop) ∷ pairs end places
+
+-- the place at which a run starts that has no end yet
+abbrev pub opened : Option ℕ → List ℕ
+opened None = []
+opened (Some start) = start ∷ []

@@ -1,10 +1,11 @@
 //! The maximal runs of a mask.
-ghost use Rattle.std.specs.Prelude.{◌≡◌, ◌==◌, ◌-◌, ◌^◌, ◌<◌, ◌≤◌, ◌++◌, cond, false, not, length, map, drop, slice_index_or};
+ghost use Rattle.std.specs.Prelude.{◌≡◌, ◌==◌, ℕ, ◌+◌, ◌*◌, ◌/◌, ◌%◌, ◌^◌, ◌≤◌, List, ◌++◌, length, map, take, drop, bit_xor};
 ghost use Rattle.std.specs.Int.{bit_at};
+ghost use Rattle.std.specs.Int.RustNames.{count_ones};
 ghost use Rattle.vx_bits.specs.Words.{word_bits, word_count};
-ghost use Rattle.vx_mask.specs.Positions.{AllBits, maximal_runs};
+ghost use Rattle.vx_mask.specs.Positions.{maximal_runs, positions};
 ghost use Rattle.vortex_c.specs.Masks.{mask_fault};
-ghost use Rattle.vortex_c.specs.Runs.{AreRunsListed, rows_of, run_of, starts};
+ghost use Rattle.vortex_c.specs.Runs.{AreRunsListed, opened, pairs, rows_of, run_of, starts};
 
 use crate::answer::{Answer, DONE, ROOM};
 use crate::masks::fault_of;
@@ -17,48 +18,21 @@ pub struct Run {
     pub end: u64,
 }
 
-// The word whose set bits are those that are `want`.
+// The bits of a word that are other than the bit before them, so that a run starts or ends there:
+// `before` is the word before it.
 #[inline(always)]
-fn wanted(word: u64, want: bool) -> u64
-    ensures { result ≡ cond want word (2 ^ 64 - 1 - word) }
+fn marks_in(word: u64, before: u64) -> u64
+    ensures { result ≡ bit_xor word (2 * word + before / 2 ^ 63) % 2 ^ 64 }
 {
-    if want { word } else { !word }
+    word ^ ((word << 1) | (before >> 63))
 }
 
-// The first row from `from` on that is selected, as `want` says, or is not; else how many there
-// are.
-fn next_with(words: &[u64], rows: usize, from: usize, want: bool) -> usize
-    requires mask { mask_fault rows words.now ≡ 0 }
-    requires lengths { length words.now ≡ word_count rows }
-    requires from { from ≤ rows }
-    ensures from { from ≤ result }
-    ensures within { result ≤ rows }
-    ensures passed { AllBits (rows_of words.now rows) from result (not want) }
-    ensures found { result < rows
-        → slice_index_or (rows_of words.now rows) result false ≡ want }
-{
-    let mut keep = u64::MAX << (from % 64);
-    for w in from / 64..rows.div_ceil(64) {
-        let found = wanted(words[w], want) & keep;
-        if found != 0 {
-            let place = found.trailing_zeros() as usize;
-            return if place < rows - 64 * w {
-                64 * w + place
-            } else {
-                rows
-            };
-        }
-        keep = u64::MAX;
-    }
-    rows
-}
-
-// The bits of a word at which a run starts: `before` is the word before it.
+// Those of them at which a run starts.
 #[inline(always)]
 fn starts_in(word: u64, before: u64) -> u64
     ensures { word_bits result 64 ≡ starts (bit_at before 63 == 1) (word_bits word 64) }
 {
-    (word ^ ((word << 1) | (before >> 63))) & word
+    marks_in(word, before) & word
 }
 
 // How many maximal runs there are.
@@ -76,7 +50,75 @@ fn count_runs(words: &[u64], rows: usize) -> usize
     count
 }
 
-// Writes the maximal runs to the front.
+// How many runs are written, and where the one that has no end yet starts.
+#[derive(Clone, Copy)]
+struct Told {
+    count: usize,
+    begun: Option<u64>,
+}
+
+// Writes the runs that a word's marks tell behind so many others, each from a mark up to the next
+// one. The word's first bit is row `base`.
+#[inline(always)]
+fn put_pairs(dst: &mut [Run], count: usize, base: u64, marks: u64) -> Told
+    requires counted { base + 64 ≤ 2 ^ 64 }
+    requires room { 2 * count + count_ones marks ≤ 2 * length dst.old + 1 }
+    ensures told { (end : ℕ) (more : List ℕ)
+        → take result.count dst.new ++ map run_of (pairs end (opened result.begun ++ more))
+        ≡ take count dst.old
+        ++ map run_of (pairs end (positions base (word_bits marks 64) ++ more)) }
+    ensures count { 2 * result.count + length (opened result.begun)
+        ≡ 2 * count + count_ones marks }
+    ensures rest { drop result.count dst.new ≡ drop result.count dst.old }
+{
+    let mut next = count;
+    let mut left = marks;
+    'pairs: while left != 0 {
+        let start = base + u64::from(left.trailing_zeros());
+        let ends = left & (left - 1);
+        if ends == 0 {
+            return Told {
+                count: next,
+                begun: Some(start),
+            };
+        }
+        let end = base + u64::from(ends.trailing_zeros());
+        dst[next] = Run { start, end };
+        next += 1;
+        left = ends & (ends - 1);
+    }
+    Told {
+        count: next,
+        begun: None,
+    }
+}
+
+// The same where a run may have no end yet: the first mark is its end.
+#[inline(always)]
+fn put_word(dst: &mut [Run], told: Told, base: u64, marks: u64) -> Told
+    requires counted { base + 64 ≤ 2 ^ 64 }
+    requires room { 2 * told.count + length (opened told.begun) + count_ones marks
+        ≤ 2 * length dst.old + 1 }
+    ensures told { (end : ℕ) (more : List ℕ)
+        → take result.count dst.new ++ map run_of (pairs end (opened result.begun ++ more))
+        ≡ take told.count dst.old ++ map run_of (pairs end
+        (opened told.begun ++ (positions base (word_bits marks 64) ++ more))) }
+    ensures count { 2 * result.count + length (opened result.begun)
+        ≡ 2 * told.count + length (opened told.begun) + count_ones marks }
+    ensures rest { drop result.count dst.new ≡ drop result.count dst.old }
+{
+    let Some(start) = told.begun else {
+        return put_pairs(dst, told.count, base, marks);
+    };
+    if marks == 0 {
+        return told;
+    }
+    let end = base + u64::from(marks.trailing_zeros());
+    dst[told.count] = Run { start, end };
+    put_pairs(dst, told.count + 1, base, marks & (marks - 1))
+}
+
+// Writes the maximal runs to the front. One that has no end in the words ends with the rows.
 fn put_runs(words: &[u64], rows: usize, dst: &mut [Run])
     requires mask { mask_fault rows words.now ≡ 0 }
     requires lengths { length words.now ≡ word_count rows }
@@ -85,17 +127,19 @@ fn put_runs(words: &[u64], rows: usize, dst: &mut [Run])
         ≡ map run_of (maximal_runs (rows_of words.now rows))
         ++ drop (length (maximal_runs (rows_of words.now rows))) dst.old }
 {
-    let mut count = 0;
-    let mut start = next_with(words, rows, 0, true);
-    'runs: while start < rows {
-        let end = next_with(words, rows, start, false);
-        let next = next_with(words, rows, end, true);
-        dst[count] = Run {
-            start: start as u64,
-            end: end as u64,
-        };
-        count += 1;
-        start = next;
+    let mut told = Told {
+        count: 0,
+        begun: None,
+    };
+    let mut before = 0;
+    for w in 0..rows.div_ceil(64) {
+        let marks = marks_in(words[w], before);
+        told = put_word(dst, told, 64 * w as u64, marks);
+        before = words[w];
+    }
+    if let Some(start) = told.begun {
+        let end = rows as u64;
+        dst[told.count] = Run { start, end };
     }
 }
 

@@ -1,17 +1,13 @@
-use Rattle.std.proofs.Common.{◌≡◌, ◌-◌, ◌≤◌, map, take, drop}
+use Rattle.std.proofs.Common.{◌≡◌, ◌^◌, ◌<◌, ◌≤◌, ◌++◌, length, map, take, drop}
 use Rattle.vx_mask.specs.Positions.{maximal_runs}
-use Rattle.vortex_c.specs.Runs.{rows_of, run_of}
-use Rattle.vortex_c.proofs.MaskRuns.{AreBehind}
+use Rattle.vortex_c.specs.Runs.{opened, pairs, rows_of, run_of}
+use Rattle.vortex_c.proofs.RunMarks.{ahead}
 use Rattle.vortex_c.proofs.runs.put_runs.Given as goal
 
-abbrev pub invariant-runs : goal.invariant-runs
-invariant-runs l = record {
-  behind : AreBehind (rows_of l.words l.rows) l.rows l.count l.start;
-  below : l.count ≤ l.start;
-  within : l.start ≤ l.rows;
-  front : take l.count l.dst ≡ map run_of (take l.count (maximal_runs (rows_of l.words l.rows)));
-  rest : drop l.count l.dst ≡ drop l.count l.initial.dst;
+abbrev pub invariant-loop-w : goal.invariant-loop-w
+invariant-loop-w l = record {
+  told : take l.told.count l.dst ++ map run_of (pairs l.rows (opened l.told.begun ++ ahead l.words l.w l.before)) ≡ map run_of (maximal_runs (rows_of l.words l.rows));
+  within : l.told.count ≤ length l.dst;
+  before : l.before < 2 ^ 64;
+  rest : drop l.told.count l.dst ≡ drop l.told.count l.initial.dst;
 }
-
-abbrev pub decreases-runs : goal.decreases-runs
-decreases-runs l = l.rows - l.start
