@@ -12,7 +12,7 @@ use std::alloc::Global;
 use std::rc::RcStr;
 use std::test::Fail;
 use vortex_select::{
-    Array, ArrayRef, Columns, DType, Layout, ListArray, NoMemory, PType, Policy, PrimitiveArray,
+    Array, ArrayRef, Columns, DType, ListArray, NoMemory, PType, Policy, PrimitiveArray,
     StructArray, StructFields, Validity, select,
 };
 
@@ -106,7 +106,7 @@ fn print_person(
 /// The people that are picked, a line each.
 pub(crate) fn print_people(rt: &impl Print, alloc: Global) -> Result<(), Fail> {
     let answer = picked(alloc, &people(alloc)?)?;
-    let Layout::Struct(people) = answer.layout() else {
+    let Some(people) = answer.as_struct() else {
         return Err("no structs".into());
     };
     for i in 0..answer.len() {

@@ -2,7 +2,7 @@
 use std::alloc::Global;
 use std::io;
 use std::test::Fail;
-use vx_column::{Array, Layout, ListArray, Row};
+use vx_column::{Array, ListArray, Row};
 
 fn print_element(rt: &impl Print, row: &Row) -> io::Result<()> {
     match row {
@@ -61,7 +61,7 @@ pub(crate) fn print_rows(rt: &impl Print, alloc: Global, array: &Array) -> Resul
     for i in 0..array.len() {
         print_row(rt, &row_at(alloc, array, i)?)?;
     }
-    if let Layout::List(lists) = array.layout() {
+    if let Some(lists) = array.as_list() {
         print_spans(rt, lists)?;
     }
     println!(rt; "")?;

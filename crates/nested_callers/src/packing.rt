@@ -5,8 +5,7 @@ use std::alloc::Global;
 use std::test::Fail;
 use vx_bits::BitBuffer;
 use vx_column::{
-    Array, BoolArray, Columns, DType, Layout, Nullability, PType, UnionArray, UnionVariants,
-    Validity,
+    Array, BoolArray, Columns, DType, Nullability, PType, UnionArray, UnionVariants, Validity,
 };
 use vx_layouts::{pack_union, slice, take};
 use vx_mask::Policy;
@@ -45,9 +44,9 @@ fn dense(
 }
 
 fn packed(alloc: Global, column: &Array) -> Result<UnionArray, Fail> {
-    match column.layout() {
-        Layout::Union(union) => Ok(pack_union(alloc, union)?),
-        _ => Err("no union".into()),
+    match column.as_union() {
+        Some(union) => Ok(pack_union(alloc, union)?),
+        None => Err("no union".into()),
     }
 }
 

@@ -12,6 +12,9 @@ use std::marker::Model;
 // The most whole bytes: with fewer than 64 bits behind them they are at most `usize::MAX` bits.
 const MOST_BYTES: usize = 0x1fff_ffff_ffff_fff8;
 
+// How many bytes alike are copied at once.
+const BLOCK: usize = 256;
+
 /// A list of bits that grows, and becomes a `BitBuffer`.
 ///
 /// Clauses see the bits. A refused append leaves them as they were. More than `usize::MAX` bits
@@ -242,7 +245,23 @@ fn push_words(bytes: &mut Vec<u8>, first: u64, byte: u8, words: usize) -> Result
     }
     bytes.reserve(more)?;
     put_eight(bytes, first);
-    let len = bytes.len();
-    bytes.resize(len + 8 * words, byte)?;
+    put_alike(bytes, byte, 8 * words);
     Ok(())
+}
+
+// Appends a byte so many times, a block at a time.
+fn put_alike(bytes: &mut Vec<u8>, byte: u8, n: usize)
+    requires { vec_len bytes.old + n ≤ vec_capacity bytes.old }
+    ensures items { bytes.new.items ≡ bytes.old.items ++ replicate n byte }
+    ensures len { vec_len bytes.new ≡ vec_len bytes.old + n }
+{
+    let block = [byte; BLOCK];
+    for k in 0..n / BLOCK {
+        let Ok(()) = bytes.extend_from_slice(&block) else {
+            unreachable!();
+        };
+    }
+    let Ok(()) = bytes.extend_from_slice(&block[..n % BLOCK]) else {
+        unreachable!();
+    };
 }

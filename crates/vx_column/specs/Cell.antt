@@ -71,8 +71,8 @@ pub record IsVariantOf (t : TypeTree) (id : ℕ) (c : Column) (row : ℕ) : Type
   pub within : row < length c.rows
 
 -- a null is one of a nullable type, a bit one of a bool type, bytes are of a type that has such, a
--- list's elements are of the type that its type says, a struct's fields of those that it says, and a
--- union's row of its variant's
+-- list's elements are of the type that its type says, a struct's fields of those that it says, and
+-- a union's row of its variant's
 abbrev pub IsStoredAs : Cell → TypeTree → Type 0
 IsStoredAs cells.Null t = is_nullable t.nullability ≡ true
 IsStoredAs (cells.Bit b) t = is_bool_kind t.kind ≡ true

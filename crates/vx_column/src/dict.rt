@@ -1,13 +1,14 @@
 //! Layout `Dict`: for each row a code, the number of one of the values.
-ghost use Rattle.std.specs.Prelude.{◌≡◌, None};
+ghost use Rattle.std.specs.Prelude.{◌≡◌, ◌↔◌, None, IfSome, IsSome, option_map};
 ghost use Rattle.vx_bits.specs.Results.{ok_unless};
-ghost use Rattle.vx_model.specs.Dict.{dict_fault, dict_column, dict_with};
+ghost use Rattle.vx_model.specs.Dict.{dict_codes, dict_column, dict_fault, dict_with};
 ghost use Rattle.std.specs.Prelude.{◌<◌, Some, length, slice_index_or, true};
 ghost use Rattle.vx_types.specs.TypeTree.{int_type_of};
 ghost use Rattle.vx_numbers.specs.Positions.{first_bad};
 ghost use Rattle.vx_model.specs.Numbers.{numbers_of};
 ghost use Rattle.vx_types.specs.RowValue.{null};
 ghost use Rattle.vx_column.specs.Cell.{cell_depth, row_of, IsOfType};
+ghost use Rattle.vx_types.specs.declared.layout_name.LayoutName.TheVariants.{Dict as DictLayout};
 
 use crate::array::{Array, ArrayRef, Layout};
 use crate::cell::Cell;
@@ -150,5 +151,19 @@ impl DictArray {
         ensures { result ≡ true → first_bad len (numbers_of (dict_column self.now)) ≡ None }
     {
         self.values().tells_positions(ptype, len)
+    }
+}
+
+impl Array {
+    /// Its codes and values; some exactly where it is of layout `Dict`.
+    pub fn as_dict(&self) -> Option<&DictArray>
+        ensures value { IfSome result (λ d. dict_column d.now ≡ self.now) }
+        ensures codes { option_map (λ d. dict_codes d.now) result ≡ self.now.codes }
+        ensures told { IsSome result ↔ (self.now.layout ≡ DictLayout) }
+    {
+        match self.layout() {
+            Layout::Dict(a) => Some(a),
+            _ => None,
+        }
     }
 }

@@ -1,9 +1,10 @@
 //! Layout `Extension`: a storage column under a name.
-ghost use Rattle.std.specs.Prelude.{◌≡◌, ◌<◌, None, length, slice_index_or};
+ghost use Rattle.std.specs.Prelude.{◌≡◌, ◌<◌, ◌↔◌, None, IfSome, IsSome, length, slice_index_or};
 ghost use Rattle.vx_bits.specs.Results.{ok_unless};
 ghost use Rattle.vx_types.specs.RowValue.{null};
 ghost use Rattle.vx_model.specs.Extension.{extension_column, extension_fault, extension_with};
 ghost use Rattle.vx_column.specs.Cell.{cell_depth, row_of, IsOfType};
+ghost use Rattle.vx_types.specs.declared.layout_name.LayoutName.TheVariants.{Extension as ExtensionLayout};
 
 use crate::array::{Array, ArrayRef, Layout};
 use crate::cell::Cell;
@@ -114,5 +115,18 @@ impl ExtensionArray {
     {
         let storage = self.storage();
         storage.cell_at(i)
+    }
+}
+
+impl Array {
+    /// Its storage, and the name that it is under; some exactly where it is of layout `Extension`.
+    pub fn as_extension(&self) -> Option<&ExtensionArray>
+        ensures value { IfSome result (λ e. extension_column e.now ≡ self.now) }
+        ensures told { IsSome result ↔ (self.now.layout ≡ ExtensionLayout) }
+    {
+        match self.layout() {
+            Layout::Extension(a) => Some(a),
+            _ => None,
+        }
     }
 }

@@ -1,11 +1,12 @@
 //! Layout `List`: lists whose elements stand one after another, cut by offsets.
-ghost use Rattle.std.specs.Prelude.{◌≡◌, ◌≤◌, ◌<◌, None, length, slice_index_or, IfOk};
+ghost use Rattle.std.specs.Prelude.{◌≡◌, ◌≤◌, ◌<◌, ◌↔◌, None, length, slice_index_or, IfOk, IfSome, IsSome};
 ghost use Rattle.vx_bits.specs.Results.{FailsBy};
 ghost use Rattle.vx_numbers.specs.Offsets.{offset_positions};
 ghost use Rattle.vx_model.specs.List.{list_column, list_fault, list_spans};
 ghost use Rattle.vx_model.specs.Numbers.{integers_of};
 ghost use Rattle.vx_column.specs.ListParts.{list_parts};
 ghost use Rattle.vx_column.specs.Validity.{valid_of};
+ghost use Rattle.vx_types.specs.declared.layout_name.LayoutName.TheVariants.{List as ListLayout};
 
 use crate::array::{Array, ArrayRef, Layout};
 use crate::offsets::{are_integers, cut, integer_at, row_count};
@@ -183,5 +184,18 @@ impl ListArray {
         let dtype = DType::List(self.element.share(), self.validity.nullability());
         let len = row_count(&self.offsets);
         Array::new(dtype, len, Layout::List(self))
+    }
+}
+
+impl Array {
+    /// Its lists; some exactly where it is of layout `List`.
+    pub fn as_list(&self) -> Option<&ListArray>
+        ensures value { IfSome result (λ l. list_column l.now ≡ self.now) }
+        ensures told { IsSome result ↔ (self.now.layout ≡ ListLayout) }
+    {
+        match self.layout() {
+            Layout::List(a) => Some(a),
+            _ => None,
+        }
     }
 }

@@ -1,7 +1,7 @@
 //! Layout `Null`: rows that are all null.
-ghost use Rattle.std.specs.Prelude.{◌≡◌};
+ghost use Rattle.std.specs.Prelude.{◌≡◌, ◌≤◌, IfSome, is_some, length};
 ghost use Rattle.vx_model.specs.Null.{null_column};
-ghost use Rattle.std.specs.Prelude.{◌≤◌, length};
+ghost use Rattle.vx_model.specs.Plain.{is_null_layout};
 ghost use Rattle.vx_model.specs.Step.{IsPlainSlice};
 
 use crate::array::{Array, Layout};
@@ -58,5 +58,18 @@ impl NullArray {
         ensures { IsPlainSlice (null_column self.now) start end result }
     {
         Some(NullArray::new(end - start).into_array())
+    }
+}
+
+impl Array {
+    /// Its nulls; some exactly where it is of layout `Null`.
+    pub fn as_null(&self) -> Option<&NullArray>
+        ensures value { IfSome result (λ n. null_column n.now ≡ self.now) }
+        ensures told { is_some result ≡ is_null_layout self.now.layout }
+    {
+        match self.layout() {
+            Layout::Null(a) => Some(a),
+            _ => None,
+        }
     }
 }

@@ -40,7 +40,8 @@ impl Array {
     pub fn number_at(&self, i: usize) -> Option<i128>
         requires int { is_int_type self.now.dtype ≡ true }
         requires row { i < length self.now.rows }
-        ensures value { result ≡ number_in self.now.dtype.kind (slice_index_or self.now.rows i null) }
+        ensures value { result
+            ≡ number_in self.now.dtype.kind (slice_index_or self.now.rows i null) }
         ensures null { (result ≡ None) ↔ (slice_index_or self.now.rows i null ≡ null) }
         ensures nullable { result ≡ None → is_nullable self.now.dtype.nullability ≡ true }
     {

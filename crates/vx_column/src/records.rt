@@ -95,7 +95,8 @@ impl Model for RecordArray {
 
     ghost view = { λ a. record_parts a.record_type a.values a.validity };
 
-    ghost invariant = { λ a. records_fault (record_parts a.record_type a.values a.validity) ≡ None };
+    ghost invariant = { λ a.
+        records_fault (record_parts a.record_type a.values a.validity) ≡ None };
 
     ghost size = { λ p. valid_size p.valid };
 

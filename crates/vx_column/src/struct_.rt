@@ -1,5 +1,5 @@
 //! Layout `Struct`: columns side by side, each a field.
-ghost use Rattle.std.specs.Prelude.{◌≡◌, ◌<◌, None, length, map, slice_index_or, true};
+ghost use Rattle.std.specs.Prelude.{◌≡◌, ◌<◌, ◌↔◌, None, IfSome, IsSome, length, map, slice_index_or, true};
 ghost use Rattle.vx_bits.specs.Results.{ok_unless};
 ghost use Rattle.vx_types.specs.DType.{type_of};
 ghost use Rattle.vx_types.specs.RowValue.{null};
@@ -11,6 +11,7 @@ ghost use Rattle.vx_model.specs.Valid.{is_fitting};
 ghost use Rattle.vx_column.specs.Cell.{cell_depth, row_of, IsOfType};
 ghost use Rattle.vx_column.specs.StructParts.{struct_parts};
 ghost use Rattle.vx_column.specs.Validity.{valid_of};
+ghost use Rattle.vx_types.specs.declared.layout_name.LayoutName.TheVariants.{Struct as StructLayout};
 
 use crate::array::{Array, ArrayRef, Layout};
 use crate::cell::{Cell, FieldsCell};
@@ -215,6 +216,19 @@ impl StructArray {
             Cell::Fields(FieldsCell { columns, row: i })
         } else {
             Cell::Null
+        }
+    }
+}
+
+impl Array {
+    /// Its structs; some exactly where it is of layout `Struct`.
+    pub fn as_struct(&self) -> Option<&StructArray>
+        ensures value { IfSome result (λ s. struct_column s.now ≡ self.now) }
+        ensures told { IsSome result ↔ (self.now.layout ≡ StructLayout) }
+    {
+        match self.layout() {
+            Layout::Struct(a) => Some(a),
+            _ => None,
         }
     }
 }

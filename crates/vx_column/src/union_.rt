@@ -1,5 +1,5 @@
 //! Layout `Union`: for each row an id, and a row of the column of the variant of that id.
-ghost use Rattle.std.specs.Prelude.{◌≡◌, ◌<◌, length, pos, None, Some, option_map, slice_index_or, true};
+ghost use Rattle.std.specs.Prelude.{◌≡◌, ◌<◌, ◌↔◌, length, pos, None, Some, IfSome, IsSome, option_map, slice_index_or, true};
 ghost use Rattle.std.specs.List.{list_all};
 ghost use Rattle.vx_bits.specs.Results.{ok_unless};
 ghost use Rattle.vx_types.specs.DType.{type_of};
@@ -11,6 +11,7 @@ ghost use Rattle.vx_model.specs.Numbers.{integers_of, numbers_of};
 ghost use Rattle.vx_model.specs.Union.{are_places, are_union_types, has_row, have_rows, index_of, is_id_type, is_known, is_union_long, place_at, union_column, union_fault, IsPlace};
 ghost use Rattle.vx_column.specs.Cell.{cell_depth, row_of, IsOfType};
 ghost use Rattle.vx_column.specs.UnionParts.{union_parts};
+ghost use Rattle.vx_types.specs.declared.layout_name.LayoutName.TheVariants.{Union as UnionLayout};
 
 use crate::array::{Array, ArrayRef, Layout};
 use crate::cell::{Cell, TaggedCell};
@@ -416,6 +417,19 @@ impl UnionArray {
                 Cell::Tagged(TaggedCell { id, column, row })
             }
             None => unreachable!(),
+        }
+    }
+}
+
+impl Array {
+    /// Its union; some exactly where it is of layout `Union`.
+    pub fn as_union(&self) -> Option<&UnionArray>
+        ensures value { IfSome result (λ u. union_column u.now ≡ self.now) }
+        ensures told { IsSome result ↔ (self.now.layout ≡ UnionLayout) }
+    {
+        match self.layout() {
+            Layout::Union(a) => Some(a),
+            _ => None,
         }
     }
 }

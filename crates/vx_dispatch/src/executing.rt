@@ -4,10 +4,11 @@ ghost use Rattle.vx_types.specs.TypeTree.{is_flat};
 ghost use Rattle.vx_model.specs.Plain.{is_lazy_layout, is_unwrapped};
 ghost use Rattle.vx_model.specs.Step.{IsStep};
 
-use crate::{constant, dict, extension, filter_layout, lists, stored, struct_, union_};
+use crate::{dict, extension, filter_layout, lists, stored, struct_, union_};
 use std::alloc::Global;
 use vx_bits::NoMemory;
 use vx_column::{Array, Layout, Lists, Stored};
+use vx_flat::execute_constant;
 use vx_mask::Policy;
 
 /// The same rows and type, unwrapped where the type is flat, and of no lazy layout. `NoMemory`
@@ -39,7 +40,7 @@ pub fn execute(alloc: Global, array: &Array, policy: &Policy) -> Result<Array, N
         Layout::Struct(a) => struct_::execute_of(alloc, a, policy),
         Layout::Union(a) => union_::execute_of(alloc, a, policy),
         Layout::Extension(a) => extension::execute_of(alloc, a, policy),
-        Layout::Constant(a) => constant::execute_of(alloc, a),
+        Layout::Constant(a) => execute_constant(alloc, a),
         Layout::Dict(a) => dict::execute_of(alloc, a, policy),
         Layout::Filter(a) => filter_layout::execute_of(alloc, a, policy),
     }

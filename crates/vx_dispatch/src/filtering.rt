@@ -7,12 +7,12 @@ ghost use Rattle.vx_model.specs.Step.{IsCut};
 
 use crate::slicing::slice;
 use crate::{
-    constant, dict, extension, filter_layout, fixed_size_list, list, listview, map, null, stored,
-    struct_, union_,
+    dict, extension, filter_layout, fixed_size_list, list, listview, map, stored, struct_, union_,
 };
 use std::alloc::Global;
 use vx_bits::NoMemory;
 use vx_column::{Array, Layout, Stored};
+use vx_flat::{filter_constant, filter_nulls};
 use vx_mask::{Mask, MaskValues, Policy};
 
 // The rows at the set positions of a mask that selects some and not all.
@@ -29,7 +29,7 @@ pub(crate) fn filter_values(
     ensures null { is_null_layout array.now.layout ≡ true → IsOk result }
 {
     match array.layout() {
-        Layout::Null(a) => Ok(null::filter_of(a, mask)),
+        Layout::Null(a) => Ok(filter_nulls(a, mask)),
         Layout::Bool(a) => stored::filter_of(alloc, Stored::Bits(a), mask, policy),
         Layout::Primitive(a) => stored::filter_of(alloc, Stored::Records(a.rows()), mask, policy),
         Layout::Decimal(a) => stored::filter_of(alloc, Stored::Records(a.rows()), mask, policy),
@@ -42,7 +42,7 @@ pub(crate) fn filter_values(
         Layout::Struct(a) => struct_::filter_of(alloc, a, mask, policy),
         Layout::Union(a) => union_::filter_of(alloc, a, mask, policy),
         Layout::Extension(a) => extension::filter_of(alloc, a, mask, policy),
-        Layout::Constant(a) => Ok(constant::filter_of(a, mask)),
+        Layout::Constant(a) => Ok(filter_constant(a, mask)),
         Layout::Dict(a) => dict::filter_of(alloc, a, mask, policy),
         Layout::Filter(a) => filter_layout::filter_of(alloc, a, mask, policy),
     }

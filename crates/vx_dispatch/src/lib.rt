@@ -2,7 +2,6 @@
 #![tactic(auto)]
 
 mod columns;
-mod constant;
 mod dict;
 mod executing;
 mod extension;
@@ -14,7 +13,6 @@ mod lists;
 mod listview;
 mod map;
 mod materialized;
-mod null;
 mod ranges;
 mod runs;
 mod slicing;

@@ -4,12 +4,12 @@ ghost use Rattle.vx_model.specs.Plain.{is_plain};
 ghost use Rattle.vx_model.specs.Step.{IsSlice};
 
 use crate::{
-    constant, dict, extension, filter_layout, fixed_size_list, list, listview, map, null, stored,
-    struct_, union_,
+    dict, extension, filter_layout, fixed_size_list, list, listview, map, stored, struct_, union_,
 };
 use std::alloc::Global;
 use vx_bits::NoMemory;
 use vx_column::{Array, Layout, Stored};
+use vx_flat::{slice_constant, slice_nulls};
 
 /// The rows from `start` up to `end`. `NoMemory` alone, and never over a plain column.
 #[cycle(slice)]
@@ -20,7 +20,7 @@ pub fn slice(alloc: Global, array: &Array, start: usize, end: usize) -> Result<A
     ensures plain { is_plain array.now ≡ true → IsOk result }
 {
     match array.layout() {
-        Layout::Null(a) => Ok(null::slice_of(a, start, end)),
+        Layout::Null(a) => Ok(slice_nulls(a, start, end)),
         Layout::Bool(a) => stored::slice_of(alloc, Stored::Bits(a), start, end),
         Layout::Primitive(a) => stored::slice_of(alloc, Stored::Records(a.rows()), start, end),
         Layout::Decimal(a) => stored::slice_of(alloc, Stored::Records(a.rows()), start, end),
@@ -33,7 +33,7 @@ pub fn slice(alloc: Global, array: &Array, start: usize, end: usize) -> Result<A
         Layout::Struct(a) => struct_::slice_of(alloc, a, start, end),
         Layout::Union(a) => union_::slice_of(alloc, a, start, end),
         Layout::Extension(a) => extension::slice_of(alloc, a, start, end),
-        Layout::Constant(a) => Ok(constant::slice_of(a, start, end)),
+        Layout::Constant(a) => Ok(slice_constant(a, start, end)),
         Layout::Dict(a) => dict::slice_of(alloc, a, start, end),
         Layout::Filter(a) => filter_layout::slice_of(alloc, a, start, end),
     }

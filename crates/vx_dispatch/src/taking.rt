@@ -3,18 +3,19 @@ ghost use Rattle.std.specs.Prelude.{◌≡◌, length, None, true, IfOk, IsOk};
 ghost use Rattle.vx_numbers.specs.Positions.{AllThere};
 ghost use Rattle.vx_types.specs.declared.nullability.Nullability.TheVariants.{NonNullable};
 ghost use Rattle.vx_pieces.specs.Indices.{index_fault, index_nullability, index_picks, index_value};
+ghost use Rattle.vx_model.specs.Null.{null_column};
 ghost use Rattle.vx_model.specs.Plain.{is_null_layout};
 ghost use Rattle.vx_model.specs.Step.{IsTake};
 
 use crate::executing::execute;
 use crate::runs::take_by_runs;
 use crate::{
-    constant, dict, extension, filter_layout, fixed_size_list, list, listview, map, null, stored,
-    struct_, union_,
+    dict, extension, filter_layout, fixed_size_list, list, listview, map, stored, struct_, union_,
 };
 use std::alloc::Global;
 use vx_bits::NoMemory;
-use vx_column::{Array, Layout, Nullability, Stored};
+use vx_column::{Array, Layout, NullArray, Nullability, Stored};
+use vx_flat::{take_constant, take_nulls};
 use vx_mask::Policy;
 use vx_pieces::{Indices, column_picks};
 use vx_take::Picks;
@@ -34,7 +35,7 @@ pub(crate) fn take_picks(
     ensures { IfOk result (IsTake array.now picks.picks nullability) }
 {
     match array.layout() {
-        Layout::Null(a) => Ok(null::take_of(a, &picks, nullability)),
+        Layout::Null(a) => Ok(take_nulls(a, &picks, nullability)),
         Layout::Bool(a) => stored::take_of(alloc, Stored::Bits(a), &picks, nullability, policy),
         Layout::Primitive(a) => stored::take_of(
             alloc,
@@ -63,7 +64,7 @@ pub(crate) fn take_picks(
         Layout::Struct(a) => struct_::take_of(alloc, a, &picks, nullability, policy),
         Layout::Union(a) => union_::take_of(alloc, a, &picks, nullability, policy),
         Layout::Extension(a) => extension::take_of(alloc, a, picks, nullability, policy),
-        Layout::Constant(a) => constant::take_of(alloc, a, &picks, nullability),
+        Layout::Constant(a) => take_constant(alloc, a, &picks, nullability),
         Layout::Dict(a) => dict::take_of(alloc, a, picks, nullability, policy),
         Layout::Filter(a) => filter_layout::take_of(alloc, a, picks, nullability, policy),
     }
@@ -83,12 +84,22 @@ pub fn take(
     ensures null { is_null_layout array.now.layout ≡ true → IsOk result }
 {
     match array.layout() {
-        Layout::Null(a) => Ok(null::nulls_for(a, indices)),
+        Layout::Null(a) => Ok(nulls_for(a, indices)),
         _ => match take_by_runs(alloc, array, indices)? {
             Some(taken) => Ok(taken),
             None => take_by_picks(alloc, array, indices, policy),
         },
     }
+}
+
+// A null for each of the indices, whatever they name.
+fn nulls_for(array: &NullArray, indices: &Indices) -> Array
+    requires { index_fault (index_value indices.now) (length (null_column array.now).rows) ≡ None }
+    ensures { IsTake (null_column array.now) (index_picks (index_value indices.now))
+        (index_nullability (index_value indices.now)) result }
+{
+    let _ = array;
+    NullArray::new(indices.len()).into_array()
 }
 
 // The positions that the indices name. A column of them is unwrapped first, so that no row of a

@@ -50,7 +50,8 @@ pub(crate) fn slice_of(
 }
 
 // The rows of a sparse union at the set positions of a mask that is as long, whose ids these are:
-// each column's rows there, by a mask that is made ready for as many consumers as there are columns.
+// each column's rows there, by a mask that is made ready for as many consumers as there are
+// columns.
 #[cycle(filter)]
 #[tactic(auto, using(vx_model::proofs::UnionSteps::rows_of_unions))]
 fn filter_sparse(
@@ -62,7 +63,8 @@ fn filter_sparse(
 ) -> Result<UnionArray, NoMemory>
     requires sparse { array.now.offsets ≡ None }
     requires rows { length mask.now.bits.bits ≡ length array.now.ids.rows }
-    requires ids { IsCut array.now.ids (items_where_true mask.now.bits.bits array.now.ids.rows) ids }
+    requires ids { IsCut array.now.ids
+        (items_where_true mask.now.bits.bits array.now.ids.rows) ids }
     ensures cut { IfOk result (λ a. IsCut (union_column array.now)
         (items_where_true mask.now.bits.bits (union_column array.now).rows) (union_column a)) }
     ensures sparse { IfOk result (λ a. a.offsets ≡ None) }

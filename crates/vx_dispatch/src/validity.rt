@@ -13,12 +13,13 @@ ghost use Rattle.vx_column.specs.Validity.{valid_of};
 use crate::executing::execute;
 use crate::filtering::filter_values;
 use crate::slicing::slice;
-use crate::{constant, dict, filter_layout};
+use crate::{dict, filter_layout};
 use std::alloc::Global;
 use vx_bits::{BitBuffer, NoMemory};
 use vx_column::{Array, Layout, Nullability, Validity};
+use vx_flat::{by_picks, constant_bits};
 use vx_mask::{MaskValues, Policy};
-use vx_take::{Picks, gather_bits, valid_bits};
+use vx_take::{Picks, gather_bits};
 
 // The validity that is a column.
 fn of_column(alloc: Global, column: Array) -> Result<Validity, NoMemory>
@@ -93,7 +94,7 @@ pub(crate) fn taken_bits(
 {
     match array.layout() {
         Layout::Bool(a) => gather_bits(alloc, a.bits(), picks, false),
-        Layout::Constant(a) => constant::bits_of(alloc, a, picks),
+        Layout::Constant(a) => constant_bits(alloc, a, picks),
         Layout::Dict(a) => dict::bits_of(alloc, a, picks, policy),
         Layout::Filter(a) => filter_layout::bits_of(alloc, a, picks, policy),
         Layout::Null(_)
@@ -129,14 +130,6 @@ pub(crate) fn taken_bits(
             unreachable!()
         }
     }
-}
-
-// The validity that says which picks are there.
-pub(crate) fn by_picks(alloc: Global, picks: &Picks) -> Result<Validity, NoMemory>
-    ensures { IfOk result
-        (λ v. valid_of v ≡ by_column (bits_column (map is_some picks.now.picks) 0)) }
-{
-    Validity::from_bits(alloc, valid_bits(alloc, picks)?)
 }
 
 /// The validity of the rows at the picks, where a null pick leaves a null. `nullability` says

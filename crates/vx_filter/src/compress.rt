@@ -27,8 +27,10 @@ pub struct CompressTable {
 }
 
 impl CompressTable {
-    /// The table. `NoMemory` alone.
-    pub fn new(alloc: Global) -> Result<CompressTable, NoMemory> {
+    /// The table, with the row of each byte. `NoMemory` alone.
+    pub fn new(alloc: Global) -> Result<CompressTable, NoMemory>
+        ensures { IfOk result (λ table. IsTable 256 table.places.items) }
+    {
         let mut places = Vec::with_capacity(alloc, 2048)?;
         for byte in 0..256u16 {
             places.extend_from_slice(&row_of(byte as u8))?;

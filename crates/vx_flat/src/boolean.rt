@@ -21,8 +21,8 @@ pub(crate) fn slice_bool(array: &BoolArray, start: usize, end: usize, validity: 
     requires ordered { start ≤ end }
     requires within { end ≤ length (stored_bits array.now).items }
     requires left { IsLeft array.now.valid (nullability_by array.now.valid)
-        (slice_range (present_bits array.now.valid (length (stored_bits array.now).items)) start end)
-        (valid_of validity) }
+        (slice_range (present_bits array.now.valid (length (stored_bits array.now).items))
+        start end) (valid_of validity) }
     requires plain { IsAsPlain array.now.valid (valid_of validity) }
     ensures { IsSlice (bool_column array.now) start end result }
 {
@@ -82,8 +82,8 @@ pub(crate) fn take_bool(
 ) -> Result<Array, NoMemory>
     requires bound { picks.now.bound ≡ length (stored_bits array.now).items }
     requires left { IsLeft array.now.valid (nullability_by (valid_of validity))
-        (at false (present_bits array.now.valid (length (stored_bits array.now).items)) picks.now.picks)
-        (valid_of validity) }
+        (at false (present_bits array.now.valid (length (stored_bits array.now).items))
+        picks.now.picks) (valid_of validity) }
     ensures { IfOk result (IsStep (bool_column array.now)
         (at null (bool_column array.now).rows picks.now.picks)
         (left_type (bool_column array.now).dtype (valid_of validity))) }

@@ -12,7 +12,8 @@ abbrev pub codes_of : Column → Codes
 codes_of k = record { numbers = numbers_of k; nullability = k.dtype.nullability }
 
 -- the answer of a layout, which says what takes it declines, to a take from c at these codes
-pub record AnswersCodes (c : Column) (codes : Codes) (declines : Column → ℕ → Bool) (result : Result (Option Column) TakeError) : Type 0 where
+pub record AnswersCodes (c : Column) (codes : Codes) (declines : Column → ℕ → Bool)
+    (result : Result (Option Column) TakeError) : Type 0 where
   -- a column of integers that are the codes
   pub indices : Column
   pub integers : is_int_type indices.dtype ≡ true

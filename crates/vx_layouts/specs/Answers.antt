@@ -18,7 +18,8 @@ abbrev pub are_alike : List Bool → Bool
 are_alike bits = (true_count_of bits == 0) || (true_count_of bits == length bits)
 
 -- the answer to a take by these indices, of which a layout says whether it declines it
-pub record AnswersTake (c : Column) (indices : IndexValue) (declines : Bool) (result : Result (Option Column) TakeError) : Type 0 where
+pub record AnswersTake (c : Column) (indices : IndexValue) (declines : Bool)
+    (result : Result (Option Column) TakeError) : Type 0 where
   pub taken : IfOk result (λ r. IfSome r (IsTakeBy indices c))
   -- none exactly where it declines
   pub declined : IfOk result (λ r. is_none r ≡ declines)
@@ -26,11 +27,13 @@ pub record AnswersTake (c : Column) (indices : IndexValue) (declines : Bool) (re
   pub fault : FailsBy result (take_fault c indices) OutOfMemory
 
 -- the answer to a filter by the bits of a mask
-pub record AnswersFilter (c : Column) (bits : List Bool) (declines : Bool) (result : Result (Option Column) NoMemory) : Type 0 where
+pub record AnswersFilter (c : Column) (bits : List Bool) (declines : Bool)
+    (result : Result (Option Column) NoMemory) : Type 0 where
   pub kept : IfOk result (λ r. IfSome r (IsCut c (items_where_true bits c.rows)))
   pub declined : IfOk result (λ r. is_none r ≡ declines)
 
 -- the answer to a slice from one position up to another
-pub record AnswersSlice (c : Column) (start end : ℕ) (declines : Bool) (result : Result (Option Column) NoMemory) : Type 0 where
+pub record AnswersSlice (c : Column) (start end : ℕ) (declines : Bool)
+    (result : Result (Option Column) NoMemory) : Type 0 where
   pub cut : IfOk result (λ r. IfSome r (IsSlice c start end))
   pub declined : IfOk result (λ r. is_none r ≡ declines)

@@ -8,7 +8,7 @@ ghost use Rattle.vx_layouts.specs.Adaptors.{codes_of, AnswersCodes};
 use crate::taking::{TakeError, TakeExecute, TakeReduce};
 use std::alloc::Global;
 use vx_column::vtables::Dict;
-use vx_column::{Array, ArrayRef, ArrayView, FlatRef, Layout};
+use vx_column::{Array, ArrayRef, ArrayView, FlatRef};
 use vx_pieces::Indices;
 
 // The place of the values among a dictionary's children.
@@ -29,9 +29,9 @@ fn codes_of<'a>(parent: ArrayView<'a, Dict>) -> Option<&'a ArrayRef>
     ensures value { option_map (λ k. codes_of k.now) result ≡ parent.entry.array.now.codes }
     ensures integers { IfSome result (λ k. is_int_type k.now.dtype ≡ true) }
 {
-    match parent.array().layout() {
-        Layout::Dict(dict) => Some(dict.codes()),
-        _ => None,
+    match parent.array().as_dict() {
+        Some(dict) => Some(dict.codes()),
+        None => None,
     }
 }
 

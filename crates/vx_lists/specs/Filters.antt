@@ -14,8 +14,10 @@ whole_range offsets = (slice_index offsets 0, last_offset offsets)
 
 -- from the start of the first selected list up to the end of the last one
 abbrev pub selected_range : List ℕ → List Bool → ℕ × ℕ
-selected_range offsets selection =
-    (slice_index offsets (rank_of selection 0), slice_index offsets (rank_of selection (true_count_of selection - 1) + 1))
+selected_range offsets selection = (
+  slice_index offsets (rank_of selection 0),
+  slice_index offsets (rank_of selection (true_count_of selection - 1) + 1),
+)
 
 -- how many elements of a range lie outside a part of it
 abbrev pub outside : ℕ × ℕ → ℕ × ℕ → ℕ

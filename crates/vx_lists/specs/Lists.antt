@@ -35,7 +35,8 @@ Covers range offsets selection = All (IsWithin range) (selected_spans offsets se
 
 -- bits for a range of elements, set just where they lie in the selected lists: the set positions,
 -- from the range's start on, are those of the elements of the selected lists, list by list
-pub record AreElementBits (offsets : List ℕ) (selection : List Bool) (range : ℕ × ℕ) (bits : List Bool) : Type 0 where
+pub record AreElementBits (offsets : List ℕ) (selection : List Bool) (range : ℕ × ℕ)
+    (bits : List Bool) : Type 0 where
   pub len : length bits ≡ range.1 - range.0
   pub set : map (λ p. range.0 + p) (set_of bits) ≡ run_positions (selected_spans offsets selection)
 

@@ -41,7 +41,8 @@ abbrev pub lists_left : Valid → List (List RowValue) → List (List RowValue)
 lists_left v lists = if is_all_invalid v then replicate (length lists) [] else lists
 
 -- the elements that are left are these lists, one after another, and offsets are their sums
-pub record LeavesLists (new_offsets : List ℕ) (left : List RowValue) (lists : List (List RowValue)) : Type 0 where
+pub record LeavesLists (new_offsets : List ℕ) (left : List RowValue)
+    (lists : List (List RowValue)) : Type 0 where
   pub sums : new_offsets ≡ offsets_of (map length lists)
   pub elements : left ≡ joined lists
 

@@ -41,7 +41,8 @@ TakesLists offsets picks new_offsets runs =
 
 -- new offsets are the sums of the lengths of the picked lists, and runs, which lie within the
 -- elements, have their places
-pub record IsTake (offsets : List ℕ) (picks : List (Option ℕ)) (new_offsets : List ℕ) (runs : List (ℕ × ℕ)) : Type 0 where
+pub record IsTake (offsets : List ℕ) (picks : List (Option ℕ)) (new_offsets : List ℕ)
+    (runs : List (ℕ × ℕ)) : Type 0 where
   pub sums : new_offsets ≡ offsets_of (map (picked_length offsets) picks)
   pub places : run_places runs ≡ run_places (map (picked_run offsets) picks)
   pub inside : All (λ run. run.0 + run.1 ≤ last_offset offsets) runs

@@ -26,8 +26,8 @@ pub struct ListTake {
 /// pick is null.
 ///
 /// The offsets are running sums of the lengths of the lists that are taken. The runs of picks of
-/// which each is the row behind the one before are joined, and there is none of an empty list. More elements than
-/// `usize::MAX` are want of memory. `NoMemory` alone.
+/// which each is the row behind the one before are joined, and there is none of an empty list.
+/// More elements than `usize::MAX` are want of memory. `NoMemory` alone.
 pub fn take_lists(
     alloc: Global,
     offsets: &[u64],

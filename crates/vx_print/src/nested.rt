@@ -20,7 +20,7 @@ use crate::types::push_word;
 use std::alloc::Global;
 use std::rc::RcStr;
 use vx_bits::NoMemory;
-use vx_column::{Array, ArrayRef, Cell, DType, FieldsCell, Layout, ListCell, TaggedCell};
+use vx_column::{Array, ArrayRef, Cell, DType, FieldsCell, LayoutName, ListCell, TaggedCell};
 
 // How many bytes an element takes at least, with what stands between two.
 const ELEMENT: usize = 3;
@@ -36,11 +36,19 @@ fn least_bytes(column: &Array, i: usize) -> usize
     }
 }
 
-// Whether rows of this layout may be the same lists again and again.
-fn may_repeat(layout: &Layout) -> bool {
-    match layout {
-        Layout::ListView(_) | Layout::Map(_) | Layout::Dict(_) => true,
-        Layout::Union(union) => union.variants().types().iter().any(|t| !t.has_scalars()),
+// Whether a union's rows may be lists.
+fn has_lists(dtype: &DType) -> bool {
+    match dtype {
+        DType::Union(variants, _) => variants.types().iter().any(|t| !t.has_scalars()),
+        _ => false,
+    }
+}
+
+// Whether its rows may be the same lists again and again, by its layout.
+fn may_repeat(column: &Array) -> bool {
+    match column.layout_name() {
+        LayoutName::ListView | LayoutName::Map | LayoutName::Dict => true,
+        LayoutName::Union => has_lists(column.dtype()),
         _ => false,
     }
 }
@@ -51,7 +59,7 @@ fn check_room(text: usize, column: &Array, start: usize, end: usize) -> Result<(
     requires ordered { start ≤ end }
     requires within { end ≤ length column.now.rows }
 {
-    if !may_repeat(column.layout()) {
+    if !may_repeat(column) {
         return Ok(());
     }
     let mut bytes: usize = 0;

@@ -11,7 +11,7 @@ use crate::row::ROOM;
 use crate::texts::{push_bytes, push_digits};
 use std::rc::RcStr;
 use vx_bits::NoMemory;
-use vx_column::{Array, DType, Layout};
+use vx_column::{Array, DType};
 
 /// The column that stores the rows of this one, below whatever extensions it is. Its rows have the
 /// same text.
@@ -21,9 +21,9 @@ pub(crate) fn storage_of(column: &Array) -> &Array
     ensures text { row_text result.now.dtype ≡ row_text column.now.dtype }
     ensures nested { result.now.depth ≤ column.now.depth }
 {
-    match column.layout() {
-        Layout::Extension(extension) => storage_of(extension.storage()),
-        _ => column,
+    match column.as_extension() {
+        Some(extension) => storage_of(extension.storage()),
+        None => column,
     }
 }
 

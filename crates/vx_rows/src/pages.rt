@@ -21,7 +21,7 @@ use crate::reply::{Reply, reply_with};
 use std::alloc::Global;
 use std::rc::RcStr;
 use vx_bits::NoMemory;
-use vx_column::{Array, ArrayRef, ColumnError, DType, Layout, StructArray, StructFields, Validity};
+use vx_column::{Array, ArrayRef, ColumnError, DType, StructArray, StructFields, Validity};
 use vx_document::{Document, DocumentSource};
 use vx_mask::Policy;
 use vx_select::{SelectError, Step, check_steps};
@@ -33,12 +33,12 @@ fn table_in(column: &Array) -> Option<&StructArray>
     ensures { MatchOption result (is_table column.now ≡ false)
         (λ structs. IsTableOf column.now structs.now) }
 {
-    match column.layout() {
-        Layout::Struct(structs) => match structs.validity() {
+    match column.as_struct() {
+        Some(structs) => match structs.validity() {
             Validity::NonNullable => Some(structs),
             Validity::AllValid | Validity::AllInvalid | Validity::Array(_) => None,
         },
-        _ => None,
+        None => None,
     }
 }
 

@@ -1,7 +1,7 @@
 -- The rows of a part of a column.
 use Rattle.std.proofs.Common.{◌≡◌, ℕ, ◌+◌, ◌-◌, ◌≤◌, List, length, take_all, slice_range, refl, sym, ap, ◌∙◌, true, arith}
-use Rattle.std.proofs.Common.{Bool, subst}
-use Rattle.std.specs.Prelude.{replicate}
+use Rattle.std.proofs.Common.{Bool, false, subst}
+use Rattle.std.specs.Prelude.{replicate, Option, Some, None, IfSome, is_some}
 use Rattle.std.specs.List.{items_where_true}
 use Rattle.std.proofs.lemmas.List.{length-replicate}
 use Rattle.std.proofs.lemmas.List.Sums.{count_by-le-length}
@@ -78,13 +78,21 @@ null_step c a bits count e is nulls long =
     })
 
 -- a part of layout `Null` has nulls alone
-pub null_part : (column part : Column) (n s e : ℕ) → column ≡ null_column n → s ≤ e → e ≤ length column.rows → record column { rows = slice_range column.rows s e } ≡ part → part.rows ≡ replicate (length part.rows) null
+null_part : (column part : Column) (n s e : ℕ) → column ≡ null_column n → s ≤ e → e ≤ length column.rows → record column { rows = slice_range column.rows s e } ≡ part → part.rows ≡ replicate (length part.rows) null
 null_part column part n s e is h k view =
     let long : length column.rows ≡ n = ap (λ (c : Column). length c.rows) is ∙ length-replicate n null in
     let rows : part.rows ≡ replicate (e - s) null =
     sym (ap (λ (c : Column). c.rows) view) ∙ ap (λ (c : Column). slice_range c.rows s e) is ∙ slice_range-replicate n null s e h (omega (arith, long)) in
     let count : length part.rows ≡ e - s = ap length rows ∙ length-replicate (e - s) null in
     rows ∙ ap (λ m. replicate m null) (sym count)
+
+no_some : false ≡ true → ⊥
+no_some h = cc
+
+pub null_part_if : {X : Type 0} (nulls : Option X) (length_of : X → ℕ) (column part : Column) (s e : ℕ) → IfSome nulls (λ x. null_column (length_of x) ≡ column) → is_some nulls ≡ true → s ≤ e → e ≤ length column.rows → record column { rows = slice_range column.rows s e } ≡ part → part.rows ≡ replicate (length part.rows) null
+null_part_if (Some x) length_of column part s e is told h k view =
+    null_part column part (length_of x) s e (sym is) h k view
+null_part_if None length_of column part s e is told h k view = absurd (no_some told)
 
 -- no more rows are true than there are
 pub few_true : (column : Column) (count n : ℕ) → count ≡ true_count_of (true_bits column) → length column.rows ≡ n → count ≤ n

@@ -7,7 +7,7 @@ ghost use Rattle.vx_model.specs.Step.{IsStep};
 use std::alloc::Global;
 use std::marker::Model;
 use vx_bits::NoMemory;
-use vx_column::{Array, Layout};
+use vx_column::Array;
 use vx_dispatch::slice;
 
 /// The rows of a column from `start` up to `end`. A contract sees it as the column with these rows
@@ -67,10 +67,7 @@ impl Part {
         ensures nulls { result ≡ true
             → self.now.rows ≡ replicate (length self.now.rows) null }
     {
-        match self.column.layout() {
-            Layout::Null(_) => true,
-            _ => false,
-        }
+        self.column.as_null().is_some()
     }
 
     /// The column of its rows. `NoMemory` alone, and never of a plain column.

@@ -45,8 +45,8 @@ fn page_indices(
 /// page may have fewer rows, and one past the end has none. A column's type is that after the
 /// steps, and a flat column is unwrapped.
 ///
-/// Each step is judged once, and the picks are composed once, for the whole table: a page costs what
-/// composing the steps costs, and its own rows in each of its columns.
+/// Each step is judged once, and the picks are composed once, for the whole table: a page costs
+/// what composing the steps costs, and its own rows in each of its columns.
 ///
 /// `NoColumn` exactly where a number of the projection isn't below the number of columns, with the
 /// first one. Else `EmptyPage` exactly where `page_len` is 0. Else `Broken` exactly where a step

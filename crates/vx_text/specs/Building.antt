@@ -32,4 +32,5 @@ pub record AreTexts (p : PType) (offsets : OffsetList) (bytes : List ℕ) (left 
 -- whatever texts offsets cut bytes into, other offsets cut more bytes into those and some behind
 abbrev pub AddsTexts : OffsetList → List ℕ → OffsetList → List ℕ → List (List ℕ) → Type 0
 AddsTexts old bytes new more texts =
-    (p : PType) (left : List (List ℕ)) → AreTexts p old bytes left → AreTexts p new more (left ++ texts)
+    (p : PType) (left : List (List ℕ))
+    → AreTexts p old bytes left → AreTexts p new more (left ++ texts)

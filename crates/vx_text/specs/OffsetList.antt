@@ -33,7 +33,9 @@ wide_type p = if is_signed p then I64 else U64
 abbrev pub with_offset : OffsetList → ℕ → OffsetList
 with_offset offsets n =
     record {
-      ptype = if nat_le n (greatest_offset offsets.ptype) then offsets.ptype else wide_type offsets.ptype;
+      ptype =
+          if nat_le n (greatest_offset offsets.ptype) then offsets.ptype
+          else wide_type offsets.ptype;
       numbers = offsets.numbers ++ n ∷ [];
     }
 
@@ -67,4 +69,5 @@ stored_width (Wide records) = 8
 -- where the rows of a run end, if their bytes stand behind `base` others
 abbrev pub run_ends : List ℕ → ℕ → ℕ → ℕ → List ℕ
 run_ends offsets base start end =
-    map (λ i. base + (slice_index offsets i - slice_index offsets start)) (range_with_len (start + 1) (end - start))
+    map (λ i. base + (slice_index offsets i - slice_index offsets start))
+    (range_with_len (start + 1) (end - start))

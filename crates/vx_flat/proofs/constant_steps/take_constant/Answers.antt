@@ -1,6 +1,6 @@
 -- One value at picks: a null, a value where all picks are there, and a value beside nulls.
 use Rattle.std.proofs.Common.{◌≡◌, ℕ, true, map, refl, sym, ap, ap₂, ◌∙◌, subst}
-use Rattle.std.specs.Prelude.{is_some, replicate}
+use Rattle.std.specs.Prelude.{is_some, replicate, Result, Ok, Err, IfOk}
 use Rattle.std.proofs.lemmas.List.{length-map}
 use Rattle.vx_types.specs.Nullability.{is_nullable}
 use Rattle.vx_types.specs.RowValue.{RowValue, null, is_null}
@@ -16,8 +16,11 @@ use Rattle.vx_model.proofs.Takes.{is_left-bits_column}
 use Rattle.vx_model.proofs.Nullabilities.{also_nullable-own, also_nullable-nullable}
 use Rattle.vx_model.proofs.ConstantRows.{null_is, is_take-null_constant, is_take-stored_constant}
 use Rattle.std.proofs.lemmas.Result.{IfOk-at_ok}
-use Rattle.vx_dispatch.proofs.Results.{if_ok}
-use Rattle.vx_dispatch.proofs.constant.take_of.Goals as goal
+use Rattle.vx_flat.proofs.constant_steps.take_constant.Goals as goal
+
+if_ok : {T E : Type 0} (r : Result T E) (P : T → Type 0) → ((x : T) → r ≡ Ok x → P x) → IfOk r P
+if_ok (Ok x) P h = h x refl
+if_ok (Err e) P h = tt
 
 pub returns-then-is_null : goal.returns-then-is_null
 returns-then-is_null c =

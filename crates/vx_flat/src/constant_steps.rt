@@ -1,4 +1,4 @@
-//! Layout `Constant`.
+//! Layout `Constant`: what a step leaves of one value for every row.
 ghost use Rattle.std.specs.Prelude.{◌≡◌, ◌≤◌, ℕ, length, map, replicate, true, false, IfOk};
 ghost use Rattle.std.specs.List.{items_where_true};
 ghost use Rattle.vx_numbers.specs.Positions.{AllThere};
@@ -13,16 +13,17 @@ ghost use Rattle.vx_types.specs.TypeTree.{is_flat, with_nullability};
 ghost use Rattle.vx_column.specs.Validity.{valid_of};
 ghost use Rattle.vx_model.specs.Step.{IsSlice, IsCut, IsStep, IsTake};
 
+use crate::constant::store_scalar;
 use crate::validity::by_picks;
 use std::alloc::Global;
 use vx_bits::{BitBuffer, BitBuilder, NoMemory};
 use vx_column::{Array, ConstantArray, Nullability, Scalar, ScalarValue, Validity};
-use vx_flat::store_scalar;
 use vx_mask::MaskValues;
 use vx_take::{Picks, valid_bits};
 
+/// The rows from `start` up to `end`. It takes no memory.
 #[tactic(auto, using(vx_model::proofs::LazyRows::lazy_rows))]
-pub(crate) fn slice_of(array: &ConstantArray, start: usize, end: usize) -> Array
+pub fn slice_constant(array: &ConstantArray, start: usize, end: usize) -> Array
     requires ordered { start ≤ end }
     requires within { end ≤ length (constant_column array.now).rows }
     ensures { IsSlice (constant_column array.now) start end result }
@@ -30,8 +31,9 @@ pub(crate) fn slice_of(array: &ConstantArray, start: usize, end: usize) -> Array
     ConstantArray::new(array.scalar().share(), end - start).into_array()
 }
 
+/// The rows at the set positions of `mask`. It takes no memory.
 #[tactic(auto, using(vx_model::proofs::LazyRows::lazy_rows))]
-pub(crate) fn filter_of(array: &ConstantArray, mask: &MaskValues) -> Array
+pub fn filter_constant(array: &ConstantArray, mask: &MaskValues) -> Array
     requires { length mask.now.bits.bits ≡ length (constant_column array.now).rows }
     ensures { IsCut (constant_column array.now)
         (items_where_true mask.now.bits.bits (constant_column array.now).rows) result }
@@ -51,10 +53,10 @@ fn is_null(scalar: &Scalar) -> bool
     }
 }
 
-// A null stays null at any picks, and a value stays itself where all picks are there; else the
-// value is stored for each pick, beside which of them are there.
+/// The rows at the picks: a null stays null at any of them, and a value stays itself where all are
+/// there; else the value is stored for each pick, beside which of them are there. `NoMemory` alone.
 #[tactic(auto, using(vx_model::proofs::LazyRows::lazy_rows))]
-pub(crate) fn take_of(
+pub fn take_constant(
     alloc: Global,
     array: &ConstantArray,
     picks: &Picks,
@@ -90,9 +92,10 @@ fn is_set(scalar: &Scalar) -> bool
     }
 }
 
-// The bits of the rows at the picks, of one bool: where picks are there, or none.
+/// The bits of the rows at the picks, of one bool: where picks are there, or none. `NoMemory`
+/// alone.
 #[tactic(auto, using(vx_model::proofs::LazyRows::lazy_rows))]
-pub(crate) fn bits_of(
+pub fn constant_bits(
     alloc: Global,
     array: &ConstantArray,
     picks: &Picks,
@@ -131,9 +134,9 @@ fn validity_for(scalar: &Scalar) -> Validity
     }
 }
 
-/// The same rows, stored one after another.
+/// The same rows, stored one after another. `NoMemory` alone.
 #[tactic(auto, using(vx_model::proofs::LazyRows::lazy_rows))]
-pub(crate) fn execute_of(alloc: Global, array: &ConstantArray) -> Result<Array, NoMemory>
+pub fn execute_constant(alloc: Global, array: &ConstantArray) -> Result<Array, NoMemory>
     ensures same { IfOk result (IsStep (constant_column array.now) (constant_column array.now).rows
         (constant_column array.now).dtype) }
     ensures unwrapped { is_flat (constant_column array.now).dtype ≡ true

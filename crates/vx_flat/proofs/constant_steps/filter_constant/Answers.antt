@@ -4,7 +4,7 @@ use Rattle.vx_model.specs.Constant.{constant_column}
 use Rattle.vx_model.proofs.LazyRows.{length-constant}
 use Rattle.vx_model.proofs.LazySteps.{is_filter-constant}
 use Rattle.vx_types.specs.Scalar.{TypedRow}
-use Rattle.vx_dispatch.proofs.constant.filter_of.Goals as goal
+use Rattle.vx_flat.proofs.constant_steps.filter_constant.Goals as goal
 
 pub returns : goal.returns
 returns c =

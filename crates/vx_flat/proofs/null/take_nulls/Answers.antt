@@ -2,7 +2,7 @@
 use Rattle.std.proofs.Common.{◌∙◌, ap}
 use Rattle.vx_model.specs.Null.{null_column}
 use Rattle.vx_model.proofs.Takes.{is_take-null}
-use Rattle.vx_dispatch.proofs.null.take_of.Goals as goal
+use Rattle.vx_flat.proofs.null.take_nulls.Goals as goal
 
 pub returns : goal.returns
 returns c =

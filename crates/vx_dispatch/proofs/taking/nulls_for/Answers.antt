@@ -3,7 +3,7 @@ use Rattle.std.proofs.Common.{length, sym, ap, ◌∙◌}
 use Rattle.vx_pieces.specs.Indices.{index_nullability, index_picks, index_value}
 use Rattle.vx_model.specs.Null.{null_column}
 use Rattle.vx_model.proofs.Takes.{is_take-null}
-use Rattle.vx_dispatch.proofs.null.nulls_for.Goals as goal
+use Rattle.vx_dispatch.proofs.taking.nulls_for.Goals as goal
 
 pub returns : goal.returns
 returns c =

@@ -3,7 +3,7 @@ use Rattle.std.proofs.Common.{◌≤◌, ap, ◌∙◌, arith}
 use Rattle.vx_model.specs.Null.{null_column}
 use Rattle.vx_model.proofs.Layouts.{length-null}
 use Rattle.vx_model.proofs.Steps.{is_slice-null}
-use Rattle.vx_dispatch.proofs.null.slice_of.Goals as goal
+use Rattle.vx_flat.proofs.null.slice_nulls.Goals as goal
 
 pub returns : goal.returns
 returns c =

@@ -1,17 +1,16 @@
-//! Layout `Null`.
-ghost use Rattle.std.specs.Prelude.{◌≡◌, ◌≤◌, None, length};
+//! Layout `Null`: what a step leaves of rows that are all null.
+ghost use Rattle.std.specs.Prelude.{◌≡◌, ◌≤◌, length};
 ghost use Rattle.std.specs.List.{items_where_true};
 ghost use Rattle.vx_model.specs.Null.{null_column};
 ghost use Rattle.vx_model.specs.Step.{IsSlice, IsCut, IsTake};
-ghost use Rattle.vx_pieces.specs.Indices.{index_fault, index_nullability, index_picks, index_value};
 
 use vx_column::{Array, NullArray, Nullability};
 use vx_mask::MaskValues;
-use vx_pieces::Indices;
 use vx_take::Picks;
 
+/// The rows from `start` up to `end`. It takes no memory.
 #[tactic(auto, using(vx_model::proofs::Layouts::layout_rows))]
-pub(crate) fn slice_of(array: &NullArray, start: usize, end: usize) -> Array
+pub fn slice_nulls(array: &NullArray, start: usize, end: usize) -> Array
     requires ordered { start ≤ end }
     requires within { end ≤ length (null_column array.now).rows }
     ensures { IsSlice (null_column array.now) start end result }
@@ -20,7 +19,8 @@ pub(crate) fn slice_of(array: &NullArray, start: usize, end: usize) -> Array
     NullArray::new(end - start).into_array()
 }
 
-pub(crate) fn filter_of(array: &NullArray, mask: &MaskValues) -> Array
+/// The rows at the set positions of `mask`. It takes no memory.
+pub fn filter_nulls(array: &NullArray, mask: &MaskValues) -> Array
     requires { length mask.now.bits.bits ≡ length (null_column array.now).rows }
     ensures { IsCut (null_column array.now)
         (items_where_true mask.now.bits.bits (null_column array.now).rows) result }
@@ -29,20 +29,11 @@ pub(crate) fn filter_of(array: &NullArray, mask: &MaskValues) -> Array
     NullArray::new(mask.true_count()).into_array()
 }
 
-pub(crate) fn take_of(array: &NullArray, picks: &Picks, nullability: Nullability) -> Array
+/// A null for each of the picks. It takes no memory.
+pub fn take_nulls(array: &NullArray, picks: &Picks, nullability: Nullability) -> Array
     ensures { IsTake (null_column array.now) picks.now.picks nullability result }
 {
     let _ = array;
     let _ = nullability;
     NullArray::new(picks.len()).into_array()
-}
-
-// A null for each of the indices, whatever they name.
-pub(crate) fn nulls_for(array: &NullArray, indices: &Indices) -> Array
-    requires { index_fault (index_value indices.now) (length (null_column array.now).rows) ≡ None }
-    ensures { IsTake (null_column array.now) (index_picks (index_value indices.now))
-        (index_nullability (index_value indices.now)) result }
-{
-    let _ = array;
-    NullArray::new(indices.len()).into_array()
 }

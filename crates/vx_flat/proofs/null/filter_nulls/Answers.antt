@@ -3,7 +3,7 @@ use Rattle.std.proofs.Common.{ap, ◌∙◌}
 use Rattle.vx_model.specs.Null.{null_column}
 use Rattle.vx_model.proofs.Layouts.{length-null}
 use Rattle.vx_model.proofs.Steps.{is_filter-null}
-use Rattle.vx_dispatch.proofs.null.filter_of.Goals as goal
+use Rattle.vx_flat.proofs.null.filter_nulls.Goals as goal
 
 pub returns : goal.returns
 returns c =
