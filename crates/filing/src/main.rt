@@ -1,6 +1,7 @@
-//! Writes a document of a file to standard output. On standard input stands the name of a type, `u8`,
-//! `u16`, `u32` or `u64`, and behind it numbers of that type, between blanks or line ends. The
-//! program's first word, if it has one, is the list of the document's steps; else there are none.
+//! Writes a document of a file to standard output. On standard input stands the name of a type,
+//! `u8`, `u16`, `u32` or `u64`, and behind it numbers of that type, between blanks or line ends.
+//! The program's first word, if it has one, is the list of the document's steps; else there are
+//! none.
 #![tactic(auto)]
 
 use anyhow::bail;

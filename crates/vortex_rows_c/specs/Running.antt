@@ -40,7 +40,8 @@ pub record IsTooLong (text old : List ℕ) (value : ℕ) : Type 0 where
   pub small : length old < value
 
 -- what a run by these words leaves, and answers, with the document in place of its input
-pub record IsRun (said : List (List ℕ)) (document old new : List ℕ) (status value : ℕ) : Type 0 where
+pub record IsRun (said : List (List ℕ)) (document old new : List ℕ) (status value : ℕ)
+    : Type 0 where
   pub done : status ≡ 0 → IfTold said (Some document)
       (λ o. IsDone o (λ text. IsPut text old new value))
   pub broken : status ≡ 1 → IfTold said (Some document)

@@ -1,4 +1,5 @@
-//! The filters that a layout answers itself: two traits, for two times. What they promise is the same.
+//! The filters that a layout answers itself: two traits, for two times. What they promise is the
+//! same.
 //!
 //! A layout that leaves no filter to its caller is marked, and a filter of it is the one over every
 //! layout.

@@ -1,4 +1,5 @@
-//! The slices that a layout answers itself: two traits, for two times. What they promise is the same.
+//! The slices that a layout answers itself: two traits, for two times. What they promise is the
+//! same.
 //!
 //! A layout that leaves no slice to its caller is marked, and a slice of it is the one over every
 //! layout.

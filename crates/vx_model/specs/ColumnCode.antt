@@ -54,8 +54,10 @@ coded_kept =
     (coded× (coded_option coded_codes) (coded× coded_bool coded_ℕ))
 
 abbrev column_fields : Column → Shown × Kept
-column_fields c =
-    (((c.dtype, c.rows), (c.layout, c.cover)), ((c.stored, c.constant), (c.codes, (c.dense, c.depth))))
+column_fields c = (
+  ((c.dtype, c.rows), (c.layout, c.cover)),
+  ((c.stored, c.constant), (c.codes, (c.dense, c.depth))),
+)
 
 abbrev column_with : Shown × Kept → Column
 column_with f =

@@ -52,7 +52,8 @@ fixed_column p = lists_column (fixed_spans p)
 
 abbrev pub coded_fixed : Coded FixedParts
 coded_fixed =
-    code_by ((Column × ℕ) × (ℕ × Valid)) (coded× (coded× coded_column coded_ℕ) (coded× coded_ℕ coded_valid))
+    code_by ((Column × ℕ) × (ℕ × Valid))
+    (coded× (coded× coded_column coded_ℕ) (coded× coded_ℕ coded_valid))
     (λ p. ((p.elements, p.size), (p.len, p.valid)))
     (λ f. record { elements = f.0.0; size = f.0.1; len = f.1.0; valid = f.1.1 })
     (λ _. refl)

@@ -86,7 +86,8 @@ mutual
       λ i. list_kind (kind_one k l (first_so _ (is_same_nullability n m) h) i)
       (nullability_one n m (second_so (is_same_kind k l) _ h) i)
   kind_one (fixed_kind k n size) (fixed_kind l m other) h =
-      let g : (is_same_kind k l && is_same_nullability n m) ≡ true = first_so _ (nat_eq size other) h in
+      let g : (is_same_kind k l && is_same_nullability n m) ≡ true =
+      first_so _ (nat_eq size other) h in
       λ i. fixed_kind (kind_one k l (first_so _ (is_same_nullability n m) g) i)
       (nullability_one n m (second_so (is_same_kind k l) _ g) i)
       (nat_one size other (second_so (is_same_kind k l && is_same_nullability n m) _ h) i)
@@ -97,7 +98,8 @@ mutual
       λ i. struct_kind (names_one ns ms (first_so _ (are_same ts us) h) i)
       (types_one ts us (second_so (are_same_names ns ms) _ h) i)
   kind_one (union_kind is ns ts) (union_kind js ms us) h =
-      let g : (are_same_names ns ms && are_same ts us) ≡ true = second_so (are_same_bytes is js) _ h in
+      let g : (are_same_names ns ms && are_same ts us) ≡ true =
+      second_so (are_same_bytes is js) _ h in
       λ i. union_kind (bytes_one is js (first_so _ (are_same_names ns ms && are_same ts us) h) i)
       (names_one ns ms (first_so _ (are_same ts us) g) i)
       (types_one ts us (second_so (are_same_names ns ms) _ g) i)
@@ -109,7 +111,8 @@ mutual
   types_one : (ts us : TypeTrees) → are_same ts us ≡ true → ts ≡ us
   types_one no_types no_types h = refl
   types_one (more_types k n ts) (more_types l m us) h =
-      let g : (is_same_kind k l && is_same_nullability n m) ≡ true = first_so _ (are_same ts us) h in
+      let g : (is_same_kind k l && is_same_nullability n m) ≡ true =
+      first_so _ (are_same ts us) h in
       λ i. more_types (kind_one k l (first_so _ (is_same_nullability n m) g) i)
       (nullability_one n m (second_so (is_same_kind k l) _ g) i)
       (types_one ts us (second_so (is_same_kind k l && is_same_nullability n m) _ h) i)
@@ -138,9 +141,12 @@ mutual
 type_one : (a b : TypeTree) → is_same_type a b ≡ true → a ≡ b
 type_one a b h =
     λ i. record {
-      kind = kind_one a.kind b.kind (first_so _ (is_same_nullability a.nullability b.nullability) h) i;
+      kind =
+          kind_one a.kind b.kind
+          (first_so _ (is_same_nullability a.nullability b.nullability) h) i;
       nullability =
-          nullability_one a.nullability b.nullability (second_so (is_same_kind a.kind b.kind) _ h) i;
+          nullability_one a.nullability b.nullability
+          (second_so (is_same_kind a.kind b.kind) _ h) i;
     }
 
 type_self : (a : TypeTree) → is_same_type a a ≡ true

@@ -31,10 +31,12 @@ view_text buffers (Ref len prefix buffer offset) =
 -- a text of more than twelve bytes stands at an offset, and begins so
 abbrev pub is_text_at : List ℕ → ℕ → List ℕ → ℕ → Bool
 is_text_at bytes len prefix offset =
-    nat_lt 12 len && (nat_le (offset + len) (length bytes) && bytes_eq (slice_range bytes offset (offset + 4)) prefix)
+    nat_lt 12 len && (nat_le (offset + len) (length bytes)
+    && bytes_eq (slice_range bytes offset (offset + 4)) prefix)
 
 -- a view is one of a text: at most twelve bytes in itself, or more that stand in a buffer
 abbrev pub is_view : List (List ℕ) → BinaryView → Bool
 is_view buffers (Inlined inline) = nat_le inline.len 12
 is_view buffers (Ref len prefix buffer offset) =
-    nat_lt buffer (length buffers) && is_text_at (slice_index_or buffers buffer []) len prefix offset
+    nat_lt buffer (length buffers)
+    && is_text_at (slice_index_or buffers buffer []) len prefix offset
