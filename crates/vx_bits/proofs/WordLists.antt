@@ -4,9 +4,9 @@ use Rattle.std.specs.Int.{bit_at}
 use Rattle.std.specs.Int.RustNames.{count_ones}
 use Rattle.std.specs.List.{items_where_true}
 use Rattle.std.proofs.lemmas.Bool.{cases_lt}
-use Rattle.std.proofs.lemmas.List.{append-nil, drop-replicate, get_or-drop, get_or-take, length-drop, length-take, length-take-le, take-replicate, take-take, take_all, take_min}
+use Rattle.std.proofs.lemmas.List.{append-nil, get_or-drop, get_or-take, length-drop, length-take, length-take-le, take-take, take_all, take_min}
 use Rattle.std.proofs.lemmas.List.Sums.{sum_by-append, sum_by-cons}
-use Rattle.std.proofs.lemmas.Nat.{mod-pow-add, zero_from_ones}
+use Rattle.std.proofs.lemmas.Nat.{mod-pow-add}
 use Rattle.std.proofs.Math.Nat.{mod-eq_of_lt, mod-lt, pow-suc, zero-lt-suc}
 use Rattle.std.proofs.Math.Pow.{pow_mono}
 use lib.Bits.{and_step, and_self}
@@ -154,10 +154,6 @@ no_bits (false ∷ bits) h = ap (λ l. false ∷ l) (no_bits bits (omega (arith,
 pub no_word : (bits : List Bool) (i : ℕ) → word_at bits i ≡ 0 → bits_in bits i ≡ replicate (length (bits_in bits i)) false
 no_word bits i e = no_bits (bits_in bits i) (true_count_of-bits_in bits i ∙ ap count_ones e ∙ zero_ones)
 
--- and where no bit is set the word is 0
-pub word_at_none : (bits : List Bool) (i : ℕ) → true_count_of (bits_in bits i) ≡ 0 → word_at bits i ≡ 0
-word_at_none bits i h = zero_from_ones (word_at bits i) (sym (true_count_of-bits_in bits i) ∙ h)
-
 full_length : (bits : List Bool) (i : ℕ) → word_at bits i ≡ 2 ^ 64 - 1 → length (bits_in bits i) ≡ 64
 unfolding word_at
 full_length bits i e =
@@ -176,22 +172,6 @@ full_word bits i e =
     let part = bits_in bits i in
     let long : length part ≡ 64 = full_length bits i e in
     sym (word_bits_in bits i 64 (sym long)) ∙ ap (λ w. word_bits w 64) e ∙ full-word_bits 64
-
--- and where 64 bits are set the word is all ones
-pub word_at_full : (bits : List Bool) (i : ℕ) → bits_in bits i ≡ replicate 64 true → word_at bits i ≡ 2 ^ 64 - 1
-word_at_full bits i e = sym (word_is bits i (2 ^ 64 - 1) 64 (omega arith) (e ∙ sym (full-word_bits 64)))
-
--- a whole word of a list of set bits, and any word of a list of clear ones
-pub word_at-ones : (n i : ℕ) → 64 * i + 64 ≤ n → word_at (replicate n true) i ≡ 2 ^ 64 - 1
-word_at-ones n i h = word_at_full (replicate n true) i (ap (take 64) (drop-replicate (64 * i) n true) ∙ take-replicate 64 (n - 64 * i) true (omega arith))
-
-pub word_at-zeros : (n i : ℕ) → word_at (replicate n false) i ≡ 0
-word_at-zeros n i = word_at_none (replicate n false) i (ap (λ l. true_count_of (take 64 l)) (drop-replicate (64 * i) n false) ∙ none (n - 64 * i) 64)
-  where
-    none : (n k : ℕ) → true_count_of (take k (replicate n false)) ≡ 0
-    none n zero = refl
-    none zero (suc k) = refl
-    none (suc n) (suc k) = let e = none n k in omega (arith, sum_by-cons (λ bit. cond bit 1 0) false (take k (replicate n false)))
 
 -- ---- the lowest set bit
 

@@ -1,6 +1,6 @@
 -- Positions that ascend.
-use Rattle.std.proofs.Common.{◌≡◌, refl, true, ℕ, zero, suc, ◌+◌, ◌-◌, ◌<◌, ◌≤◌, List, [], ◌∷◌, ◌++◌, length, get_or, take, drop, map, set, sym, ap, ap₂, subst, ◌∙◌, inl, inr, Option, None, Some, slice_get, arith}
-use Rattle.std.proofs.lemmas.List.{drop_more, drop_all, append_assoc, map_push, map-append, take_more_set, take-append-drop, length-take-le, get_or-take, get_or_default}
+use Rattle.std.proofs.Common.{◌≡◌, refl, true, ℕ, zero, suc, ◌+◌, ◌-◌, ◌<◌, ◌≤◌, List, [], ◌∷◌, ◌++◌, length, get_or, take, drop, map, sym, ap, ap₂, subst, ◌∙◌, inl, inr, Option, None, Some, slice_get, arith}
+use Rattle.std.proofs.lemmas.List.{drop_more, drop_all, map-append, take-append-drop, length-take-le, get_or-take, get_or_default}
 use Rattle.std.specs.List.{All, range_with_len}
 use Rattle.std.proofs.lemmas.Bool.{cases_lt}
 use Rattle.std.proofs.lemmas.List.Elements.{All-head, All-tail}
@@ -76,14 +76,6 @@ ascend_past f low high mid xs k h p le =
 
 pub ascend_done : (f : ℕ → ℕ) (mid : ℕ) (xs : List ℕ) (k : ℕ) → length xs ≤ k → All (λ p. mid ≤ p) (map f (drop k xs))
 ascend_done f mid xs k p = subst (λ (l : List ℕ). All (λ q. mid ≤ q) (map f l)) (sym (drop_all k xs p)) (λ j d h. absurd (omega arith))
-
--- one more place is taken
-pub take_place : (f : ℕ → ℕ) (base : ℕ) (all places xs : List ℕ) (k p : ℕ) → all ≡ map (λ q. base + q) (take k places) ++ map f (drop k xs) → k < length places → k < length xs → base + p ≡ f (get_or xs k 0) → all ≡ map (λ q. base + q) (take (k + 1) (set places k p)) ++ map f (drop (k + 1) xs)
-take_place f base all places xs k p h a b e =
-    h ∙ ap (λ l. map (λ q. base + q) (take k places) ++ map f l) (drop_more xs k 0 b)
-    ∙ ap (λ y. map (λ q. base + q) (take k places) ++ y ∷ map f (drop (k + 1) xs)) (sym e)
-    ∙ sym (append_assoc (map (λ q. base + q) (take k places)) ((base + p) ∷ []) (map f (drop (k + 1) xs)))
-    ∙ ap (λ l. l ++ map f (drop (k + 1) xs)) (sym (map_push (λ q. base + q) (take k places) p) ∙ ap (map (λ q. base + q)) (sym (take_more_set places k p a)))
 
 -- no number lies between
 pub ascend_none : (low high : ℕ) (xs : List ℕ) → AscendFrom low high xs → high ≤ low → xs ≡ []

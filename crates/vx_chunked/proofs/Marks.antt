@@ -98,21 +98,6 @@ ones_more front word from h =
     ∙ length-append (positions from (bits_of_words front)) (positions next (word_bits word 64))
     ∙ ap (λ n. length (positions from (bits_of_words front)) + n) (ones_of_word next word h)
 
--- no more are in the first words than in all
-pub words_part : (words : List ℕ) (w from : ℕ) → length (positions from (bits_of_words (take w words))) ≤ length (positions from (bits_of_words words))
-words_part words zero from = omega arith
-words_part [] (suc w) from = omega arith
-words_part (x ∷ words) (suc w) from =
-    let next = from + length (word_bits x 64) in
-    omega (
-      arith,
-      words_part words w next,
-      ap length (positions-append from (word_bits x 64) (bits_of_words (take w words))),
-      ap length (positions-append from (word_bits x 64) (bits_of_words words)),
-      length-append (positions from (word_bits x 64)) (positions next (bits_of_words (take w words))),
-      length-append (positions from (word_bits x 64)) (positions next (bits_of_words words)),
-    )
-
 -- a list that has as many items as all is all of them
 pub all_of_front : {X : Type 0} (xs ys all : List X) → xs ++ ys ≡ all → length all ≤ length xs → xs ≡ all
 all_of_front xs [] all e h = sym (append-nil xs) ∙ e

@@ -54,11 +54,6 @@ pub ascend_skip : (low high : ℕ) (xs ys : List ℕ) → AscendFrom low high (x
 ascend_skip low high [] ys h = ascend_lower low (low + 0) high ys h (omega arith)
 ascend_skip low high (x ∷ xs) ys h = ascend_lower (x + 1 + length xs) (low + suc (length xs)) high ys (ascend_skip (x + 1) high xs ys h.2) (omega (arith, h.0))
 
-pub range_below : (a n high : ℕ) → a + n ≤ high → All (λ p. p < high) (range_with_len a n)
-range_below a zero high h k d p = absurd (omega arith)
-range_below a (suc n) high h zero d p = omega arith
-range_below a (suc n) high h (suc k) d p = range_below (a + 1) n high (omega arith) k d (omega arith)
-
 pub length_runs_split : (start end more : ℕ) (runs : List (ℕ × ℕ)) → more ≤ end - start → length (with_runs start end runs) ≡ more + length (with_runs (start + more) end runs)
 length_runs_split start end more runs h =
     ap length (runs_split start end more runs h) ∙ simp (length-append, length-range_with_len)

@@ -3,7 +3,7 @@ use Rattle.std.proofs.Common.{◌≡◌, ℕ, ◌+◌, ◌-◌, ◌*◌, ◌^◌
 use Rattle.std.specs.List.{All, range_with_len}
 use Rattle.std.proofs.lemmas.Bool.{cases_lt}
 use Rattle.std.proofs.lemmas.List.{append-nil, length-append, length-drop, length-replicate, take_all}
-use Rattle.std.proofs.lemmas.List.Elements.{All-append, All-drop, All-replicate, All-take}
+use Rattle.std.proofs.lemmas.List.Elements.{All-append, All-replicate}
 use Rattle.std.proofs.lemmas.List.FromFn.{map-range_with_len_more}
 use Rattle.vx_packed.specs.Chunk.{IsChunk, chunk_at, spell, spell_list}
 use Rattle.vx_packed.proofs.CutParts.{spell_list_cons, spell_list_none}
@@ -46,11 +46,6 @@ rows_cut values k end e = elim (cases_lt (length values) (1024 * k + 1024)) [
       let whole : end - 1024 * k ≡ 1024 = omega arith in
       ap (λ n. take n (drop (1024 * k) values)) whole
 ]
-
-pub rows_below : (width : ℕ) (values : List ℕ) (m k : ℕ) → All (λ n. n < 2 ^ (8 * width)) values → All (λ n. n < 2 ^ (8 * width)) (take m (drop k values))
-rows_below width values m k h =
-    let P : ℕ → Type 0 = λ n. n < 2 ^ (8 * width) in
-    All-take P m (drop k values) (All-drop P k values h)
 
 -- one block more
 pub block_more : (s : ShapeValue) (values : List ℕ) (k : ℕ) (blocks : List (List ℕ)) (bytes cut : List ℕ) → blocks ≡ header s ∷ map (λ j. spell (filled (chunk_at values j))) (range_with_len 0 k) → bytes ≡ spell (filled cut) → cut ≡ chunk_at values k → blocks ++ bytes ∷ [] ≡ header s ∷ map (λ j. spell (filled (chunk_at values j))) (range_with_len 0 (k + 1))

@@ -2,7 +2,7 @@
 use Rattle.std.proofs.Common.{◌≡◌, ℕ, suc, ◌+◌, ◌-◌, ◌<◌, ◌≤◌, Bool, true, false, cond, List, [], ◌∷◌, ◌++◌, length, map, drop, get_or, Option, None, Some, refl, sym, ◌∙◌, ap, arith, append_assoc, length-drop}
 use Rattle.std.specs.Prelude.{slice_index_or}
 use Rattle.std.specs.Cmp.{IsEquivalence}
-use Rattle.std.proofs.lemmas.List.{at_drop_more, at_drop_all, get_or_default, get_or-drop, drop-drop, map-append, map-id}
+use Rattle.std.proofs.lemmas.List.{at_drop_more, get_or_default, get_or-drop, drop-drop, map-append, map-id}
 use Rattle.std.proofs.lemmas.Simd.{map-map}
 use Rattle.vx_join.specs.Chains.{keys_match, first_from, first_match, AreLinked}
 use Rattle.vx_join.specs.Pairs.{positions_from, pairs_from, lefts, rights}
@@ -110,10 +110,6 @@ module _ {K : Type 0} {same : K → K → Bool} (laws : IsEquivalence same) (key
     pub left_more : (i : ℕ) (out start : List ℕ) → out ++ map (λ _. i) (positions_from (keys_match same (Some key)) j (drop j rows)) ≡ start
         → (out ++ i ∷ []) ++ map (λ _. i) (positions_from (keys_match same (Some key)) (to) (drop (to) rows)) ≡ start
     left_more i out start h = rw append_assoc (ap (λ ps. out ++ map (λ _. i) ps) (sym link_positions) ∙ h)
-
--- nothing is left at the end
-pub positions_end : {X : Type 0} (test : X → Bool) (xs : List X) (j : ℕ) → length xs ≤ j → positions_from test j (drop j xs) ≡ []
-positions_end test xs j h = at_drop_all (positions_from test j) xs j h
 
 -- ---- row by row on the left
 

@@ -35,9 +35,6 @@ padded_small xs h (suc (suc (suc (suc (suc (suc zero)))))) = h 6
 padded_small xs h (suc (suc (suc (suc (suc (suc (suc zero))))))) = h 7
 padded_small xs h (suc (suc (suc (suc (suc (suc (suc (suc i)))))))) = lit< tt
 
-pub spelt_padded : (xs : List ℕ) → from_le_bytes w64 (padded xs) ≡ from_le_bytes w64 xs
-spelt_padded xs = refl
-
 padded_at : (xs : List ℕ) (i : ℕ) → i < 8 → get_or (padded xs) i 0 ≡ slice_index xs i
 padded_at xs zero h = refl
 padded_at xs (suc zero) h = refl

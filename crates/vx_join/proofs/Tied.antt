@@ -1,16 +1,12 @@
 -- Keys, the columns that they name, and what is found of them.
-use Rattle.std.proofs.Common.{◌≡◌, ℕ, zero, suc, ◌+◌, ◌<◌, ◌≤◌, Bool, true, false, cond, ◌&&◌, List, [], ◌∷◌, ◌++◌, length, map, take, Option, None, Some, refl, sym, ◌∙◌, ap, ap₂, subst, arith, rules}
-use Rattle.std.specs.Prelude.{not, nat_lt, slice_get, slice_index, ◌==◌}
+use Rattle.std.proofs.Common.{◌≡◌, ℕ, zero, suc, ◌+◌, ◌<◌, ◌≤◌, Bool, true, false, cond, ◌&&◌, List, [], ◌∷◌, ◌++◌, length, map, take, Option, None, Some, refl, sym, ◌∙◌, ap, ap₂, subst, arith}
+use Rattle.std.specs.Prelude.{not, nat_lt, slice_get, slice_index}
 use Rattle.std.specs.List.{All, cons_option, position_from}
-use Rattle.std.specs.Ordering.{int_eq}
-use Rattle.std.proofs.lemmas.Bool.{eqb-true, ltb-true}
+use Rattle.std.proofs.lemmas.Bool.{ltb-true}
 use Rattle.std.proofs.lemmas.List.{length-map, map-append, take_more}
 use Rattle.std.proofs.lemmas.List.Elements.{All-append, All-cons, All-nil}
-use denote.Enum.Bare.{same_true}
-use Rattle.vx_types.specs.contracts.ptype.PType.{the_type}
-use Rattle.vx_types.specs.PType.{width}
 use Rattle.vx_types.specs.RowValue.{RowValue, null}
-use Rattle.vx_types.specs.TypeTree.{TypeKind, TypeTree, also_nullable, is_flat, kind_width, null_kind, bool_kind, primitive_kind, decimal_kind}
+use Rattle.vx_types.specs.TypeTree.{also_nullable, is_flat}
 use Rattle.vx_types.specs.declared.nullability.Nullability.{Nullability}
 use Rattle.vx_types.specs.declared.nullability.Nullability.TheVariants.{NonNullable}
 use Rattle.vx_take.specs.Picks.{at}
@@ -23,9 +19,9 @@ use Rattle.vx_table.specs.Taken.{IsTaken, beside, chosen}
 use Rattle.vx_table.proofs.Lists.{All-chosen, All-rest, filter_map-more}
 use Rattle.vx_table.proofs.Tables.{retyped}
 use Rattle.vx_join.specs.Cells.{rows_of}
-use Rattle.vx_join.specs.Join.{IsJoin, are_key_kinds, are_key_types, has_key_types, have_key_types, is_there}
-use Rattle.vx_join.specs.Keys.{AreOfKeyTypes, AreThere, left_keys, matching_pairs, right_keys, rows_from, rows_match}
-use Rattle.vx_join.specs.Numbers.{AreAlike, IsSmall, types_of}
+use Rattle.vx_join.specs.Join.{IsJoin, has_key_types, have_key_types, is_there}
+use Rattle.vx_join.specs.Keys.{AreOfKeyTypes, AreThere, left_keys, right_keys, rows_from}
+use Rattle.vx_join.specs.Numbers.{AreAlike, types_of}
 use Rattle.vx_join.specs.Pairs.{lefts, pairs, pairs_from, positions_from, rights}
 
 -- ---- pairs of keys that no rule refuses
@@ -98,11 +94,6 @@ long_rows n (c ∷ cs) (d ∷ ds) e h =
 pub long_keys : (t : TableValue) (numbers : List ℕ) (columns : List Column) → AreLong t.len t.columns → rows_of columns ≡ rows_of (chosen numbers t.columns) → AreLong t.len columns
 long_keys t numbers columns h e =
     long_rows t.len columns (chosen numbers t.columns) e (All-chosen (λ (c : Column). length c.rows ≡ t.len) t.columns numbers h)
-
--- the pairs of their rows are those of the keys
-pub keyed_pairs : (left right : TableValue) (keys : List (ℕ × ℕ)) (ls rs : List Column) (n m : ℕ) → rows_of ls ≡ rows_of (chosen (left_keys keys) left.columns) → rows_of rs ≡ rows_of (chosen (right_keys keys) right.columns) → n ≡ left.len → m ≡ right.len
-    → pairs rows_match (rows_from (rows_of ls) 0 n) (rows_from (rows_of rs) 0 m) ≡ matching_pairs left right keys
-keyed_pairs left right keys ls rs n m l r ln rn = λ i. pairs rows_match (rows_from (l i) 0 (ln i)) (rows_from (r i) 0 (rn i))
 
 -- ---- the positions are below the lengths
 
@@ -180,15 +171,3 @@ module _ (left right lt rt : TableValue) (ps : List (ℕ × ℕ)) (lp rp : List 
             ∙ ap₂ ◌++◌ (hl.columns.rows ∙ ap (λ q. map (λ (c : Column). at null c.rows q) left.columns) l) (hr.columns.rows ∙ ap (λ q. map (λ (c : Column). at null c.rows q) right.columns) r);
         unwrapped = All-append (λ (c : Column). is_flat c.dtype ≡ true → is_unwrapped c ≡ true) lt.columns rt.columns hl.columns.unwrapped hr.columns.unwrapped;
       })
-
--- ---- the widths of keys
-
-key_widths : (k l : TypeKind) → are_key_kinds k l ≡ true → kind_width k ≡ kind_width l
-key_widths null_kind null_kind h = refl
-key_widths bool_kind bool_kind h = refl
-key_widths (primitive_kind p) (primitive_kind q) h = ap (λ x. Some (width x)) (same_true the_type (search rules) p q h)
-key_widths (decimal_kind p s w) (decimal_kind q t v) h = ap Some (eqb-true w v (both ((p == q) && int_eq s t) (w == v) h).1)
-key_widths k l h = cc
-
-pub as_small : (t u : TypeTree) (w : ℕ) → are_key_types t u ≡ true → IsSmall t w → IsSmall u w
-as_small t u w h small = record { width_is = sym (key_widths t.kind u.kind h) ∙ small.width_is; few = small.few }

@@ -12,7 +12,7 @@ use Rattle.vx_take.specs.Picks.{AreBelow, at}
 use Rattle.vx_model.specs.Column.{Column}
 use Rattle.vx_model.specs.Valid.{is_yes, shown_rows}
 use Rattle.vx_model.specs.Constant.{ConstantParts, constant_column, constant_with}
-use Rattle.vx_model.specs.Step.{IsStep, IsTake}
+use Rattle.vx_model.specs.Step.{IsTake}
 use Rattle.vx_model.proofs.Nullabilities.{with_nullability-nullable}
 use Rattle.vx_model.proofs.Scalars.{scalar_null, scalar_carried}
 use Rattle.vx_model.proofs.ShownRows.{shown_rows-all}
@@ -81,9 +81,6 @@ null_is (list xs) h = cc
 null_is (fields xs) h = cc
 null_is (tagged n x) h = cc
 
-pub null_isn't : (x : RowValue) → is_null x ≡ false → x ≡ null → ⊥
-null_isn't x h e = let no : true ≡ false = ap is_null (sym e) ∙ h in cc
-
 pub nullable_scalar : (t : TypeTree) (x : RowValue) → scalar_fault t x ≡ None → x ≡ null → is_nullable t.nullability ≡ true
 nullable_scalar t x h e = scalar_null t (ap (scalar_fault t) (sym e) ∙ h)
 
@@ -110,14 +107,3 @@ own_non_nullable t x f h =
 
 -- what a proof about a null constant needs
 pub ruleset nulls = (null_is, nullable_scalar, own_nullable, own_non_nullable, all_shown, nulls_shown)
-
--- the same rows and type as a constant's
-pub is_step-stored_constant : (p : ConstantParts) (a : Column) → a.rows ≡ replicate p.len p.scalar.row → a.dtype ≡ p.scalar.dtype → IsStep (constant_column p) (constant_column p).rows (constant_column p).dtype a
-is_step-stored_constant p a rows dtype =
-    record {
-      rows = rows;
-      dtype = dtype;
-      layout = λ h. let no : false ≡ true = h in cc;
-      unwrapped = λ h. let no : false ≡ true = h in cc;
-      direct = λ h. let no : true ≡ false = h in cc;
-    }

@@ -1,9 +1,8 @@
 -- The items that a mask keeps: their slices, their ranks, and what a mask of them keeps.
-use Rattle.std.proofs.Common.{◌≡◌, ℕ, zero, suc, ◌+◌, ◌-◌, ◌≤◌, ◌<◌, Bool, true, false, cond, List, [], ◌∷◌, map, length, get_or, take, drop, slice_range, Some, inl, inr, refl, sym, ap, ap₂, ◌∙◌, arith, take_all}
+use Rattle.std.proofs.Common.{◌≡◌, ℕ, zero, suc, ◌-◌, ◌≤◌, ◌<◌, Bool, true, false, cond, List, [], ◌∷◌, map, length, take, drop, slice_range, Some, inl, inr, refl, sym, ap, ap₂, ◌∙◌, arith, take_all}
 use Rattle.std.specs.List.{items_where_true, slice_get}
 use Rattle.std.proofs.Math.Seq.{take-nil, drop-nil}
 use Rattle.std.proofs.lemmas.Bool.{cases_lt}
-use Rattle.std.proofs.lemmas.List.Sums.{sum_by_more}
 use Rattle.std.proofs.lemmas.Simd.{map-map}
 use Rattle.vx_bits.specs.BitBuffer.{true_count_of}
 use Rattle.vx_mask.specs.Positions.{rank_of, set_of}
@@ -74,17 +73,6 @@ count-at-rank mask k h =
       ]
     ] in
     ap (λ n. true_count_of (take n mask)) here ∙ same
-
--- and one more up to it
-pub count-past-rank : (mask : List Bool) (k : ℕ) → k < true_count_of mask → true_count_of (take (rank_of mask k + 1) mask) ≡ k + 1
-count-past-rank mask k h =
-    let place = place_of 0 mask k 0 h in
-    let i : ℕ = place.0 in
-    let here : rank_of mask k ≡ i = place.1.position ∙ omega arith in
-    let more : true_count_of (take (i + 1) mask) ≡ true_count_of (take i mask) + one_if (get_or mask i false) = sum_by_more one_if mask i false place.1.within in
-    let one : one_if (get_or mask i false) ≡ 1 = ap one_if place.1.set in
-    let before : true_count_of (take i mask) ≡ k = ap (λ n. true_count_of (take n mask)) (sym here) ∙ count-at-rank mask k h in
-    ap (λ n. true_count_of (take (n + 1) mask)) here ∙ omega (arith, more, one, before)
 
 -- ---- masks of what is kept
 

@@ -9,7 +9,7 @@ use Rattle.vx_types.specs.RowValue.{RowValue, null, bit, bytes}
 use Rattle.vx_types.specs.Nullability.{is_nullable}
 use Rattle.vx_types.specs.declared.layout_name.LayoutName.TheVariants as layouts
 use Rattle.vx_model.specs.Valid.{Valid, non_nullable, all_valid, all_invalid, by_column, is_fitting, is_present, nullability_by, stored_rows}
-use Rattle.vx_model.specs.Plain.{is_null_layout, is_row_layout, stores_records}
+use Rattle.vx_model.specs.Plain.{is_null_layout, is_row_layout}
 use Rattle.vx_model.specs.Null.{null_column}
 use Rattle.vx_model.specs.Bool.{BoolParts, stored_bits, bool_fault, bool_column}
 use Rattle.vx_model.specs.Records.{RecordParts, stored_records, is_width_of_kind, record_layout, records_fault, records_column}
@@ -41,10 +41,6 @@ pub ruleset layout_names = (layout-primitive, layout-decimal)
 pub null_layout-records : (k : TypeKind) → is_null_layout (record_layout k) ≡ false
 null_layout-records (primitive_kind p) = refl
 null_layout-records k = refl
-
-pub stores-records : (k : TypeKind) → stores_records (record_layout k) ≡ true
-stores-records (primitive_kind p) = refl
-stores-records k = refl
 
 pub row_layout-records : (k : TypeKind) → is_row_layout (record_layout k) ≡ true
 row_layout-records (primitive_kind p) = refl

@@ -1,43 +1,23 @@
 -- The bits of bools that stand for other bools, and validities that are such columns.
 use Rattle.std.proofs.Common.{◌≡◌, ℕ, Bool, true, false, List, [], ◌∷◌, map, length, Option, None, Some, refl, sym, ap, ◌∙◌}
-use Rattle.std.specs.Prelude.{◌&&◌, ◌==◌, not, if◌then◌else◌}
+use Rattle.std.specs.Prelude.{◌&&◌, ◌==◌}
 use Rattle.std.specs.Option.{option_map}
 use Rattle.std.proofs.lemmas.List.{length-map}
-use Rattle.vx_bits.specs.BitBuffer.{true_count_of}
-use Rattle.vx_types.specs.PType.{is_int}
 use Rattle.vx_types.specs.RowValue.{null}
-use Rattle.vx_types.specs.Nullability.{is_nullable, either_nullable}
-use Rattle.vx_types.specs.TypeTree.{TypeKind, TypeTree, primitive_kind, also_nullable, int_kind_of, is_bool_kind, is_int_kind}
-use Rattle.vx_types.specs.declared.ptype.PType.{PType}
 use Rattle.vx_types.specs.declared.nullability.Nullability.{Nullability}
-use Rattle.vx_types.specs.declared.nullability.Nullability.TheVariants.{NonNullable, Nullable}
-use Rattle.vx_take.specs.Picks.{AreBelow, at}
+use Rattle.vx_take.specs.Picks.{at}
 use Rattle.vx_take.specs.Ranks.{translated}
-use Rattle.vx_take.proofs.TakenLists.{takes_join, take_of_filter}
+use Rattle.vx_take.proofs.TakenLists.{takes_join}
 use Rattle.vx_numbers.specs.Positions.{AllThere, position_of, positions_of}
 use Rattle.vx_model.specs.Column.{Column}
 use Rattle.vx_model.specs.Numbers.{numbers_of}
 use Rattle.vx_model.specs.Valid.{Valid, by_column, cover_by, is_bool_layout, is_fitting, is_flat_cover, is_non_null_bool, is_yes, nullability_by, present_bits, IsLeft}
 use Rattle.vx_model.specs.Dict.{DictParts, dict_column}
-use Rattle.vx_model.specs.Filter.{FilterParts, filter_fault, filter_column}
 use Rattle.vx_model.specs.Step.{IsStep, IsTake}
-use Rattle.vx_model.proofs.Items.{map-items_where_true}
 use Rattle.vx_model.proofs.Takes.{map-at}
-use Rattle.vx_model.proofs.LazyRows.{long-filter}
 use Rattle.vx_model.proofs.CodeNumbers.{numbers_of-take}
 use Rattle.vx_model.proofs.ShownRows.{length-present_bits}
 use Rattle.vx_model.proofs.Validities.{is_fitting-step}
-
--- ---- integer types
-
-some_type : (p : PType) (b : Bool) → b ≡ true → (if b then Some p else None) ≡ None → ⊥
-some_type p true h e = cc
-some_type p false h e = cc
-
--- a type of integers has a primitive type
-pub has_int_type : (k : TypeKind) → is_int_kind k ≡ true → int_kind_of k ≡ None → ⊥
-has_int_type (primitive_kind p) h e = some_type p (is_int p) h e
-has_int_type k h e = cc
 
 -- ---- picks
 
@@ -48,14 +28,6 @@ there-translated bits (Some k ∷ ranks) h = there-translated bits ranks h
 
 -- ---- dictionaries
 
-non_null_part : (b : Bool) (m n : Nullability) → (b && not (is_nullable (either_nullable m n))) ≡ true → (b && not (is_nullable m)) ≡ true
-non_null_part true NonNullable n h = refl
-non_null_part true Nullable n h = cc
-non_null_part false m n h = cc
-
-pub non_null_values : (t : TypeTree) (n : Nullability) → is_non_null_bool (also_nullable t n) ≡ true → is_non_null_bool t ≡ true
-non_null_values t n h = non_null_part (is_bool_kind t.kind) t.nullability n h
-
 -- the bits of the values that codes at picks name
 pub bits-dict : (p : DictParts) (codes : Column) (picks : List (Option ℕ)) (n : Nullability) → IsTake p.codes picks n codes → at false (map is_yes p.values.rows) (positions_of (numbers_of codes)) ≡ at false (map is_yes (dict_column p).rows) picks
 bits-dict p codes picks n step =
@@ -64,13 +36,6 @@ bits-dict p codes picks n step =
     ∙ ap (at false values) (map-at (option_map position_of) None numbers picks)
     ∙ sym (takes_join false values (positions_of numbers) picks)
     ∙ ap (λ bits. at false bits picks) (sym (map-at is_yes null p.values.rows (positions_of numbers)))
-
--- ---- lazy filters
-
-pub bits-filter : (p : FilterParts) (picks : List (Option ℕ)) → filter_fault p ≡ None → AreBelow picks (true_count_of p.mask) → at false (map is_yes p.child.rows) (translated p.mask picks) ≡ at false (map is_yes (filter_column p).rows) picks
-bits-filter p picks h below =
-    sym (take_of_filter false p.mask (map is_yes p.child.rows) picks (long-filter p h ∙ sym (length-map p.child.rows is_yes)) below)
-    ∙ ap (λ bits. at false bits picks) (sym (map-items_where_true is_yes p.mask p.child.rows))
 
 -- ---- validities
 

@@ -4,7 +4,6 @@ use Rattle.std.specs.Prelude.{replicate}
 use Rattle.std.specs.List.{items_where_true}
 use Rattle.std.specs.Option.{option_map}
 use Rattle.std.proofs.Math.ListN.{get_or-replicate}
-use Rattle.std.proofs.lemmas.Bool.Decides.{nat_tests}
 use Rattle.vx_bits.specs.BitBuffer.{true_count_of}
 use Rattle.vx_types.specs.TypeTree.{TypeTree, also_nullable, is_int_type}
 use Rattle.vx_types.specs.RowValue.{RowValue, null}
@@ -21,7 +20,7 @@ use Rattle.vx_model.specs.Dict.{DictParts, dict_fault, dict_column, dict_with}
 use Rattle.vx_model.specs.Filter.{FilterParts, filter_fault, filter_column}
 use Rattle.vx_model.specs.Numbers.{numbers_of}
 use Rattle.vx_model.specs.Step.{IsStep, IsCut, IsSlice, IsTake}
-use Rattle.vx_model.proofs.Items.{length-slice_range, items_where_true-replicate, slice_range-replicate, map-items_where_true, map-slice_range}
+use Rattle.vx_model.proofs.Items.{items_where_true-replicate, slice_range-replicate, map-items_where_true, map-slice_range}
 use Rattle.vx_model.proofs.Takes.{map-at}
 use Rattle.vx_model.proofs.LazyRows.{int-dict, sound-dict, long-filter}
 use Rattle.vx_model.proofs.Nullabilities.{also_nullable-none, also_nullable-codes}
@@ -131,17 +130,6 @@ is_take-dict p codes picks n h step =
     }
 
 -- ---- lazy filters
-
-faultless_filter : (p : FilterParts) → length p.mask ≡ length p.child.rows → filter_fault p ≡ None
-faultless_filter p h = grind (arith, nat_tests)
-
-pub filter_fault-slice : (p : FilterParts) (child : Column) (lo hi : ℕ) → filter_fault p ≡ None → lo ≤ hi → hi ≤ length p.mask → IsSlice p.child lo hi child → filter_fault (record { child = child; mask = slice_range p.mask lo hi }) ≡ None
-filter_fault-slice p child lo hi f h l cut =
-    let long = long-filter p f in
-    faultless_filter (record { child = child; mask = slice_range p.mask lo hi })
-    (length-slice_range p.mask lo hi h l
-    ∙ sym (length-slice_range p.child.rows lo hi h (omega (arith, long)))
-    ∙ ap length (sym cut.step.rows))
 
 -- from a place with so many kept rows before it up to such a place
 pub is_slice-filter : (p : FilterParts) (child : Column) (s e lo hi : ℕ) → filter_fault p ≡ None → lo ≤ hi → hi ≤ length p.mask → true_count_of (take lo p.mask) ≡ s → true_count_of (take hi p.mask) ≡ e → IsSlice p.child lo hi child → IsSlice (filter_column p) s e (filter_column (record { child = child; mask = slice_range p.mask lo hi }))

@@ -1,17 +1,14 @@
 -- What a step leaves of lists makes what it leaves of their column.
-use Rattle.std.proofs.Common.{◌≡◌, ℕ, ◌≤◌, Bool, true, false, List, [], ◌∷◌, map, length, slice_range, Option, refl, sym, ap, ap₂, ◌∙◌, arith}
+use Rattle.std.proofs.Common.{◌≡◌, ℕ, ◌≤◌, Bool, true, false, List, [], ◌∷◌, map, length, slice_range, Option, refl, sym, ap, ◌∙◌, arith}
 use Rattle.std.specs.List.{items_where_true}
 use Rattle.std.proofs.lemmas.List.{length-map}
 use Rattle.vx_types.specs.RowValue.{RowValue, null}
 use Rattle.vx_types.specs.declared.nullability.Nullability.{Nullability}
 use Rattle.vx_take.specs.Picks.{at}
-use Rattle.vx_numbers.specs.Offsets.{items_in}
-use Rattle.vx_model.specs.Column.{Column}
 use Rattle.vx_model.specs.Valid.{Valid, is_fitting, nullability_by, present_bits, shown_rows, stored_rows, IsLeft, IsAsPlain}
 use Rattle.vx_model.specs.Plain.{is_in_place, is_lazy_layout}
 use Rattle.vx_model.specs.Lists.{ListsParts, kept_lists, list_row, lists_column, lists_of, stored_lists}
 use Rattle.vx_model.specs.Step.{IsStep, IsCut, IsSlice}
-use Rattle.vx_model.proofs.Items.{map-slice_range, map-items_where_true}
 use Rattle.vx_model.proofs.Steps.{slice-stored, filter-stored}
 use Rattle.vx_model.proofs.Takes.{take-stored}
 use Rattle.vx_model.proofs.ShownRows.{length-present_bits}
@@ -91,12 +88,3 @@ module _ (p q : ListsParts) (from : is_in_place p.layout ≡ false) (to : is_laz
         ∙ rows-kept_lists q.valid xs (length-present_bits q.valid (length xs) fitting)
         ∙ take-stored list_row missing (lists_of p) p.valid q.valid n fit picks left)
         left
-
--- lists of spans of the same elements
-pub lists-slice : (p q : ListsParts) (s e : ℕ) → q.elements ≡ p.elements → q.spans ≡ slice_range p.spans s e → lists_of q ≡ slice_range (lists_of p) s e
-lists-slice p q s e same spans =
-    ap₂ (λ (c : Column) xs. map (items_in c.rows) xs) same spans ∙ map-slice_range (items_in p.elements.rows) p.spans s e
-
-pub lists-filter : (p q : ListsParts) (mask : List Bool) → q.elements ≡ p.elements → q.spans ≡ items_where_true mask p.spans → lists_of q ≡ items_where_true mask (lists_of p)
-lists-filter p q mask same spans =
-    ap₂ (λ (c : Column) xs. map (items_in c.rows) xs) same spans ∙ map-items_where_true (items_in p.elements.rows) mask p.spans

@@ -8,16 +8,12 @@ use Rattle.vx_take.specs.Picks.{at}
 use Rattle.vx_numbers.specs.Positions.{first_bad, positions_of}
 use Rattle.vx_model.specs.Column.{Column}
 use Rattle.vx_model.specs.Numbers.{number_in, numbers_of}
-use Rattle.vx_model.specs.Valid.{Valid, cover_by, is_fitting, is_flat_cover, nullability_by, present_bits, shown_rows, stored_rows, IsLeft}
-use Rattle.vx_model.specs.Plain.{is_unwrapped}
-use Rattle.vx_model.specs.Bool.{BoolParts, bool_column}
-use Rattle.vx_model.specs.Records.{RecordParts, records_column}
+use Rattle.vx_model.specs.Valid.{Valid, is_fitting, nullability_by, present_bits, shown_rows, stored_rows, IsLeft}
 use Rattle.vx_model.specs.Dict.{DictParts, dict_fault, dict_column}
 use Rattle.vx_model.specs.Filter.{FilterParts, filter_column}
 use Rattle.vx_model.specs.Step.{IsStep, IsCut, IsTake}
 use Rattle.vx_model.proofs.ShownRows.{length-present_bits}
 use Rattle.vx_model.proofs.StoredRows.{is_step-stored}
-use Rattle.vx_model.proofs.Layouts.{null_layout-records, row_layout-records}
 use Rattle.vx_model.specs.Stored.{StoredParts, stored_column}
 use Rattle.vx_model.proofs.LazyRows.{sound-dict}
 use Rattle.vx_model.proofs.LazySteps.{is_step-filter}
@@ -59,13 +55,6 @@ module _ (p : StoredParts) (w : Valid) (fit : is_fitting p.valid (length p.items
 
   pub execute-stored : IsStep (stored_column p) (stored_column p).rows (stored_column p).dtype (stored_column (record p { valid = w }))
   execute-stored = is_step-stored p w _ _ _ _ _ same-stored left
-
--- each is unwrapped where its validity is flat
-pub unwrapped-bool : (p : BoolParts) → is_flat_cover (cover_by p.valid) ≡ true → is_unwrapped (bool_column p) ≡ true
-unwrapped-bool p h = h
-
-pub unwrapped-records : (p : RecordParts) → is_flat_cover (cover_by p.valid) ≡ true → is_unwrapped (records_column p) ≡ true
-unwrapped-records p h = rw (null_layout-records p.kind, row_layout-records p.kind) h
 
 -- ---- constants
 

@@ -10,7 +10,7 @@ use Rattle.vx_types.specs.declared.layout_name.LayoutName.{LayoutName}
 use Rattle.vx_types.specs.declared.layout_name.LayoutName.TheVariants as layouts
 use Rattle.vx_model.specs.Column.{Column, by_bools, by_other}
 use Rattle.vx_model.specs.Plain.{is_in_place}
-use Rattle.vx_model.specs.Valid.{by_column, is_yes, is_fitting, is_non_null_bool, is_constant_form, is_flat_cover, is_bool_layout, cover_by, nullability_by, present_bits, IsLeft, IsAsPlain}
+use Rattle.vx_model.specs.Valid.{by_column, is_yes, is_fitting, is_non_null_bool, is_constant_form, is_flat_cover, is_bool_layout, cover_by, nullability_by, present_bits, IsLeft}
 use Rattle.vx_model.specs.Step.{IsStep, IsCut, IsSlice}
 use Rattle.vx_model.proofs.Items.{map-items_where_true, map-slice_range, length-items_where_true, length-slice_range}
 
@@ -64,13 +64,6 @@ is_fitting-step c d left n m step h long =
 
 count-by_column : (c : Column) (n : ℕ) → is_fitting (by_column c) n ≡ true → length c.rows ≡ n
 count-by_column c n h = grind (arith, nat_tests)
-
-pub is_as_plain-by_column : (c d : Column) (left : List RowValue) → IsCut c left d → IsAsPlain (by_column c) (by_column d)
-is_as_plain-by_column c d left cut =
-    record {
-      constant = λ h. let no : false ≡ true = constant-by_column c h in cc;
-      depth = omega (arith, cut.depth);
-    }
 
 -- over a slice
 pub is_left-slice-by_column : (c d : Column) (n s e : ℕ) → is_fitting (by_column c) n ≡ true → s ≤ e → e ≤ n → IsSlice c s e d → IsLeft (by_column c) (nullability_by (by_column c)) (slice_range (present_bits (by_column c) n) s e) (by_column d)

@@ -28,10 +28,6 @@ pub are_offsets-some : (n : ℕ) (zs : List ℤ) → 0 < length zs → are_offse
 are_offsets-some n [] h = absurd (omega arith)
 are_offsets-some n (z ∷ zs) h = refl
 
-pub are_offsets-none : (n : ℕ) (zs : List ℤ) → length zs ≡ 0 → are_offsets zs n ≡ false
-are_offsets-none n [] h = refl
-are_offsets-none n (z ∷ zs) h = absurd (omega arith)
-
 pub both : (a b : Bool) → a ≡ true → b ≡ (a && b)
 both true b h = refl
 both false b h = cc

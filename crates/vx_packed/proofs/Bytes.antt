@@ -1,14 +1,11 @@
 -- Bits as bytes and back.
-use Rattle.std.proofs.Common.{◌≡◌, ℕ, zero, suc, ◌+◌, ◌-◌, ◌*◌, ◌/◌, ◌%◌, ◌^◌, ◌<◌, ◌≤◌, Bool, false, eqb, List, [], ◌++◌, length, get_or, take, drop, inl, inr, refl, sym, ap, ap₂, ◌∙◌, arith}
+use Rattle.std.proofs.Common.{◌≡◌, ℕ, zero, suc, ◌+◌, ◌-◌, ◌*◌, ◌/◌, ◌%◌, ◌<◌, Bool, false, eqb, List, length, get_or, take, drop, sym, ap, ap₂, ◌∙◌, arith}
 use Rattle.std.specs.Int.{bit_at, to_le_bytes, w64}
-use Rattle.std.proofs.lemmas.Bool.{cases_lt}
-use Rattle.std.proofs.lemmas.List.{get_or-append_right, get_or-drop, get_or-take, get_or_append_left, get_or_default, get_or_past, length-take, same_lists}
+use Rattle.std.proofs.lemmas.List.{get_or-drop, get_or-take, get_or_default, same_lists}
 use Rattle.std.proofs.lemmas.List.FromFn.{get_or-map-range_with_len, length-map-range_with_len}
 use Rattle.std.proofs.Math.Nat.{mod-eq_of_lt}
-use Rattle.std.proofs.Math.Pow.{pow_mono}
 use Rattle.vx_bits.specs.BitBuffer.{bit_of, bits_of, number_of}
-use Rattle.vx_bits.proofs.BitLists.{bit_in, bit_of_number, bits_cut, bits_of_byte, length_bits, number_below}
-use Rattle.vx_bits.proofs.ByteLists.{bits_joined}
+use Rattle.vx_bits.proofs.BitLists.{bit_in, bit_of_number, bits_cut, bits_of_byte, length_bits}
 use Rattle.vx_bits.proofs.WordBits.{number_of-word_bits}
 use Rattle.vx_packed.specs.Chunk.{bytes_of}
 
@@ -58,37 +55,6 @@ bytes_of-bits_of bytes fits =
     ∙ get_or_default bytes k 0 d below)
 
 -- ---- bytes that are joined
-
-pub bytes_of_none : (bits : List Bool) → bytes_of (take 0 bits) ≡ []
-unfolding bytes_of
-bytes_of_none bits = refl
-
-byte_below : (bits : List Bool) (i : ℕ) → get_or (bytes_of bits) i 0 < 256
-byte_below bits i = elim (cases_lt i (length bits / 8)) [
-  | inl h ↦
-      let part = take 8 (drop (8 * i) bits) in
-      let short : length part ≤ 8 = omega (arith, length-take 8 (drop (8 * i) bits)) in
-      let small : 2 ^ length part ≤ 2 ^ 8 = pow_mono short in
-      omega (arith, byte_of bits i 0 h, number_below part, small)
-  | inr h ↦
-      let past : length (bytes_of bits) ≤ i = omega (arith, length-bytes_of bits) in
-      omega (arith, get_or_past (bytes_of bits) i 0 past)
-]
-
--- the bytes of bits, and of those behind them
-pub bytes_of-append : (xs ys : List Bool) (m n : ℕ) → length xs ≡ 8 * m → length ys ≡ 8 * n → bytes_of (xs ++ ys) ≡ bytes_of xs ++ bytes_of ys
-bytes_of-append xs ys m n p q =
-    let a = bytes_of xs in
-    let b = bytes_of ys in
-    let la : length a ≡ m = omega (arith, length-bytes_of xs, p) in
-    let lb : length b ≡ n = omega (arith, length-bytes_of ys, q) in
-    let bits_a : bits_of a 0 (8 * length a) ≡ xs = ap (λ k. bits_of a 0 (8 * k)) la ∙ bits_of-bytes_of xs m p in
-    let bits_b : bits_of b 0 (8 * length b) ≡ ys = ap (λ k. bits_of b 0 (8 * k)) lb ∙ bits_of-bytes_of ys n q in
-    ap bytes_of (sym (bits_joined a b ∙ ap₂ ◌++◌ bits_a bits_b))
-    ∙ bytes_of-bits_of (a ++ b) (λ i. elim (cases_lt i (length a)) [
-      | inl h ↦ omega (arith, get_or_append_left a b 0 i h, byte_below xs i)
-      | inr h ↦ omega (arith, get_or-append_right a b (length a) i 0 refl h, byte_below ys (i - length a))
-    ])
 
 -- the bytes of a word are bytes
 pub le_below : (x i : ℕ) → get_or (to_le_bytes w64 x) i 0 < 256

@@ -289,9 +289,6 @@ pub record Placed (bytes : List ℕ) (starts : List ℕ) (start : ℕ) : Type 0 
   pub places : (k : ℕ) → k < length starts → take (front_len (drop (get_or starts k 0) bytes)) (drop (get_or starts k 0) bytes) ≡ get_or (parts_of bytes) k []
   pub left : drop (length starts) (parts_of bytes) ≡ parts_of (drop start bytes)
 
-pub placed_none : (bytes : List ℕ) → Placed bytes [] 0
-placed_none bytes = record { within = omega arith; few = omega arith; inside = λ k h. absurd (omega arith); places = λ k h. absurd (omega arith); left = refl }
-
 pub placed_more : (bytes starts : List ℕ) (start n : ℕ) → start < length bytes → n ≡ length (take (front_len (drop start bytes)) (drop start bytes)) → Placed bytes starts start → Placed bytes (starts ++ start ∷ []) (start + n)
 placed_more bytes starts start n h e p =
     let rest = drop start bytes in

@@ -1,6 +1,6 @@
 -- What the status of a reply says of the outcome.
-use Rattle.std.proofs.Common.{◌≡◌, ℕ, List, None, IfSome, refl, sym, ap, arith}
-use Rattle.std.specs.Prelude.{◌⊎◌, ◌≢◌, ◌≤◌, IsSomeAnd}
+use Rattle.std.proofs.Common.{◌≡◌, ℕ, List, IfSome, refl, sym, ap, arith}
+use Rattle.std.specs.Prelude.{◌⊎◌, ◌≢◌, IsSomeAnd}
 use Rattle.std.proofs.Common.{inl, inr}
 use Rattle.vx_rows.specs.Program.{Outcome, Malformed, IsDone, IsBroken, IsPrinted, status_of, traced_by}
 use Rattle.vx_rows.specs.Reply.{Replies, text_of_reply, status_of_reply, traced_by_reply}
@@ -38,20 +38,6 @@ status_or_memory (replies.Done text asked) o h = inr (sym (ap status_of h))
 status_or_memory (replies.Broken step cause) o h = inr (sym (ap status_of h))
 status_or_memory replies.Malformed o h = inr (sym (ap status_of h))
 status_or_memory replies.NoMemory o h = inl refl
-
--- no reply has another status
-pub status_known : (r : Reply) → (status_of_reply r ≤ 7) × (status_of_reply r ≢ 3) × (status_of_reply r ≢ 4) × (status_of_reply r ≢ 5) × (status_of_reply r ≢ 7)
-status_known (replies.Done text asked) = (omega arith, omega arith, omega arith, omega arith, omega arith)
-status_known (replies.Broken step cause) = (omega arith, omega arith, omega arith, omega arith, omega arith)
-status_known replies.Malformed = (omega arith, omega arith, omega arith, omega arith, omega arith)
-status_known replies.NoMemory = (omega arith, omega arith, omega arith, omega arith, omega arith)
-
--- what isn't written has a status of its own
-pub unwritten : (r : Reply) → status_of_reply r ≢ 0 → status_of_reply r ≢ 1 → text_of_reply r ≡ None
-unwritten (replies.Done text asked) a b = absurd (a refl)
-unwritten (replies.Broken step cause) a b = absurd (b refl)
-unwritten replies.Malformed a b = refl
-unwritten replies.NoMemory a b = refl
 
 -- ---- the trace
 

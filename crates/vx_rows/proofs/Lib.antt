@@ -5,7 +5,6 @@ pub mod Filed
 pub mod JsonValues
 pub mod MadeRows
 pub mod Numerals
-pub mod OtherLayouts
 pub mod Paged
 pub mod Told
 pub mod TraceParts

@@ -2,7 +2,7 @@
 use Rattle.std.proofs.Common.{◌≡◌, ℕ, zero, suc, ◌+◌, ◌-◌, ◌<◌, ◌≤◌, Bool, true, false, List, [], ◌∷◌, ◌++◌, map, length, take, drop, get_or, Option, Some, None, refl, sym, ap, ap₂, ◌∙◌, subst, arith}
 use Rattle.std.specs.Prelude.{IfOk, is_some, slice_range, ◌&&◌, Result, Ok, Err}
 use Rattle.std.specs.List.{All, list_all, range_with_len, items_where_true}
-use Rattle.std.proofs.lemmas.List.{length-drop, get_or-drop, get_or_default, map_more, take_all, take_more}
+use Rattle.std.proofs.lemmas.List.{length-drop, get_or-drop, get_or_default, take_more}
 use Rattle.std.proofs.lemmas.List.FromFn.{get_or-map-range_with_len, length-map-range_with_len, take-map-range_with_len}
 use Rattle.std.proofs.lemmas.Simd.{map-map}
 use Rattle.vx_bits.specs.BitBuffer.{true_count_of}
@@ -15,9 +15,8 @@ use Rattle.vx_take.specs.Picks.{AreBelow, at, item_at}
 use Rattle.vx_take.proofs.TakenLists.{take_at_the_set}
 use Rattle.vx_numbers.specs.Positions.{AllThere}
 use Rattle.vx_steps.specs.Step.{StepValue}
-use Rattle.vx_steps.specs.Walk.{Walk, all_positions, walk_fault, walk_picks}
-use Rattle.vx_steps.specs.Check.{HasCount}
-use Rattle.vx_steps.specs.Compose.{IsUnbroken, numbered, range_picks, step_nullability, takes_nullability}
+use Rattle.vx_steps.specs.Walk.{all_positions}
+use Rattle.vx_steps.specs.Compose.{numbered, range_picks, step_nullability, takes_nullability}
 
 -- ---- ranges
 
@@ -63,12 +62,6 @@ slice_range-more xs start i d h l =
     ∙ take_more (drop start xs) (i - start) d (omega (arith, length-drop start xs))
     ∙ ap (λ x. slice_range xs start i ++ x ∷ []) (get_or-drop start xs (i - start) d ∙ ap (λ n. get_or xs n d) here)
 
-pub slice_range-none : {X : Type 0} (xs : List X) (start : ℕ) → [] ≡ slice_range xs start start
-slice_range-none xs start = let none : 0 ≡ start - start = omega arith in ap (λ n. take n (drop start xs)) none
-
-pub slice_range-all : {X : Type 0} (xs : List X) (n : ℕ) → n ≡ length xs → slice_range xs 0 n ≡ xs
-slice_range-all xs n h = take_all (n - 0) xs (omega arith)
-
 -- ---- set positions
 
 pub numbered-set : (picks : List (Option ℕ)) (bits : List Bool) → length bits ≡ length picks → numbered picks (set_of bits) ≡ items_where_true bits picks
@@ -80,12 +73,6 @@ pub numbers_within : (bits : List Bool) (picks : List (Option ℕ)) (numbers : L
 numbers_within bits picks numbers h is = subst (All (λ i. i < length picks)) (sym is) (λ k d l.
     let ranked : k < true_count_of bits = omega (arith, l, length-positions 0 bits) in
     omega (arith, h, get_or_default (set_of bits) k d 0 l, rank_within bits k ranked))
-
-pub numbered-more : (picks : List (Option ℕ)) (numbers : List ℕ) (k : ℕ) → k < length numbers → numbered picks (take (k + 1) numbers) ≡ numbered picks (take k numbers) ++ get_or picks (get_or numbers k 0) None ∷ []
-numbered-more picks numbers k h = map_more (λ i. get_or picks i None) numbers k 0 h
-
-pub at-more : (picks later : List (Option ℕ)) (k : ℕ) → k < length later → at None picks (take (k + 1) later) ≡ at None picks (take k later) ++ item_at None picks (get_or later k None) ∷ []
-at-more picks later k h = map_more (item_at None picks) later k None h
 
 -- ---- picks that are all there
 
@@ -170,9 +157,3 @@ takes_nullability-more (x ∷ steps) (suc k) s l is =
 pub if_ok : {T E : Type 0} (P Q : T → Type 0) (r : Result T E) → IfOk r P → ((x : T) → P x → Q x) → IfOk r Q
 if_ok P Q (Ok x) h f = f x h
 if_ok P Q (Err e) h f = h
-
--- ---- walks
-
-pub unbroken_by_count : (w : Walk) (n : ℕ) → HasCount w n → IsUnbroken w
-unbroken_by_count (walk_fault k cause) n h = absurd h
-unbroken_by_count (walk_picks picks) n h = tt

@@ -1,8 +1,8 @@
 -- One item more at the picks, and the rows that picks name.
-use Rattle.std.proofs.Common.{◌≡◌, ℕ, ◌+◌, ◌<◌, ◌≤◌, List, [], ◌∷◌, ◌++◌, map, length, get_or, take, Option, None, Some, sym, ap, ap₂, ◌∙◌, arith}
+use Rattle.std.proofs.Common.{◌≡◌, ℕ, ◌+◌, ◌<◌, List, [], ◌∷◌, ◌++◌, map, length, get_or, take, Option, None, Some, sym, ap, ap₂, ◌∙◌, arith}
 use Rattle.std.specs.Prelude.{IfSome}
 use Rattle.std.specs.List.{All}
-use Rattle.std.proofs.lemmas.List.{length-append, map_more, take_all}
+use Rattle.std.proofs.lemmas.List.{length-append, map_more}
 use Rattle.vx_take.specs.Picks.{AreBelow}
 
 -- a row below a bound has an offset behind it
@@ -19,8 +19,5 @@ one_more f picks i d old new item h is more one =
 
 pub one_longer : {X : Type 0} (old new : List X) (item : X) (k : ℕ) → new ≡ old ++ item ∷ [] → length old ≡ k → length new ≡ k + 1
 one_longer old new item k more n = ap length more ∙ length-append old (item ∷ []) ∙ omega (arith, n)
-
-pub all_of_them : {A X : Type 0} (f : A → X) (picks : List A) (i : ℕ) (all : List X) → length picks ≤ i → all ≡ map f (take i picks) → all ≡ map f picks
-all_of_them f picks i all h is = is ∙ ap (map f) (take_all i picks h)
 
 pub ruleset picked_row = (next_row)
