@@ -9,7 +9,7 @@ mod packed;
 use std::test::Fail;
 
 fn main(rt: HostRuntime) -> Result<(), Fail> {
-    rt.println("# vx_outside")?;
+    rt.println("# vx_io")?;
     outside::print_rows(&rt, rt.alloc())?;
     rt.println("# vx_packed")?;
     packed::print_rows(&rt, rt.alloc())?;

@@ -2,7 +2,7 @@
 use Rattle.std.proofs.Common.{◌≡◌, ◌≢◌, ◌⊎◌, ℕ, ◌<◌, ◌≤◌, List, [], ◌++◌, length, Option, None, Some, unwrap_or, inl, inr, refl, ap, subst, sym, ◌∙◌, arith}
 use Rattle.std.specs.Prelude.{IfSome}
 use Rattle.std.proofs.lemmas.Bool.{cases_eq, cases_lt}
-use Rattle.vx_outside.specs.Bytes.{Rose, with_back}
+use Rattle.vx_io.specs.Bytes.{Rose, with_back}
 use Rattle.vx_rows.specs.Commands.{IfCommand, command_of}
 use Rattle.vx_rows.specs.Program.{Broken, Done, IfTold, IsBroken, IsDone, IsPrinted, Malformed, Outcome, TooLong, outcome_told, status_of}
 use Rattle.vortex_rows_c.specs.Running.{AreTexts, IsPut, IsRun, IsTooLong}

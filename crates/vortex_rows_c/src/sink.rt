@@ -1,6 +1,6 @@
 //! A text in memory, to write to.
 ghost use Rattle.std.specs.Prelude.{◌≡◌, ◌+◌, ◌≤◌, ◌++◌, [], length, take, IsOk, IfOk, OnOk, OnErr};
-ghost use Rattle.vx_outside.specs.Bytes.{Rose};
+ghost use Rattle.vx_io.specs.Bytes.{Rose};
 
 use std::alloc::Global;
 use std::marker::Model;

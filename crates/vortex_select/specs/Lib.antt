@@ -41,8 +41,8 @@ pub use Rattle.vx_model.specs.Union
 pub use Rattle.vx_model.specs.Valid
 pub use Rattle.vx_model.specs.VarBin
 pub use Rattle.vx_model.specs.VarBinView
-pub use Rattle.vx_numbers.specs.Offsets
-pub use Rattle.vx_numbers.specs.Positions
+pub use Rattle.vx_positions.specs.Offsets
+pub use Rattle.vx_positions.specs.Positions
 pub use Rattle.vx_pieces.specs.Indices
 pub use Rattle.vx_pieces.specs.Pieces
 pub use Rattle.vx_select.specs.Chunks

@@ -21,7 +21,7 @@ use Rattle.vx_types.specs.declared.nullability.Nullability.{Nullability}
 use Rattle.vx_types.specs.declared.nullability.Nullability.TheVariants.{NonNullable, Nullable}
 use Rattle.vx_types.specs.declared.ptype.PType.TheVariants.{U8}
 use Rattle.vx_take.specs.Picks.{at}
-use Rattle.vx_numbers.specs.Positions.{first_bad, positions_of}
+use Rattle.vx_positions.specs.Positions.{first_bad, positions_of}
 use Rattle.vx_model.specs.Column.{Column}
 use Rattle.vx_model.specs.Columns.{are_long, rows_across, types_in, with_fronts}
 use Rattle.vx_model.specs.Dict.{DictParts, dict_column, dict_fault}

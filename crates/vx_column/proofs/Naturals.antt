@@ -3,14 +3,14 @@ use Rattle.std.proofs.Common.{◌≡◌, ℕ, ◌+◌, ◌<◌, ◌≤◌, Bool,
 use Rattle.std.specs.Prelude.{ℤ, pos, nat_le, ◌&&◌}
 use Rattle.std.specs.List.{list_all}
 use Rattle.std.proofs.lemmas.List.{at_drop_more, at_drop_all, length-map, get_or-map}
-use Rattle.vx_numbers.specs.Offsets.{offset_positions}
-use Rattle.vx_numbers.specs.Positions.{position_of}
+use Rattle.vx_positions.specs.Offsets.{offset_positions}
+use Rattle.vx_positions.specs.Positions.{position_of}
 use Rattle.vx_model.specs.ListView.{are_views, is_natural}
 use Rattle.vx_model.specs.Numbers.{integer_by, integers_of}
 use Rattle.vx_model.specs.Records.{RecordParts}
 use Rattle.vx_model.specs.VarBin.{are_integers, is_never_null}
 use Rattle.vx_model.proofs.Spans.{natural_value}
-use Rattle.vx_numbers.proofs.Ascending.{le_first, le_second}
+use Rattle.vx_positions.proofs.Ascending.{le_first, le_second}
 use Rattle.vx_types.specs.TypeTree.{is_int_kind}
 use Rattle.vx_column.specs.Naturals.{are_naturals}
 

@@ -9,7 +9,7 @@ use Rattle.vx_types.specs.RowValue.{null, bytes}
 use Rattle.vx_types.specs.TypeTree.{TypeKind, TypeTree, primitive_kind, int_kind_of, int_type_of, is_int_kind, is_int_type, kind_width, type_width}
 use Rattle.vx_types.specs.declared.ptype.PType.{PType}
 use Rattle.vx_model.specs.Valid.{shown_rows}
-use Rattle.vx_numbers.specs.Stored.{number_of, present_numbers, shown_numbers}
+use Rattle.vx_positions.specs.Stored.{number_of, present_numbers, shown_numbers}
 
 -- the number in row i of a column
 pub number_of_row : (c : Column) (i : ℕ) → i < length c.rows → get_or (numbers_of c) i None ≡ number_in c.dtype.kind (get_or c.rows i null)

@@ -11,7 +11,7 @@ use Rattle.std.specs.Int.{w8, from_le_bytes}
 use Rattle.vx_types.specs.RowValue.{RowValue, null, bytes}
 use Rattle.vx_types.specs.TypeTree.{TypeTree, is_int_type, primitive_kind}
 use Rattle.vx_types.specs.declared.ptype.PType.TheVariants.{U8}
-use Rattle.vx_numbers.specs.Positions.{is_position, position_of, positions_of}
+use Rattle.vx_positions.specs.Positions.{is_position, position_of, positions_of}
 use Rattle.vx_model.specs.Column.{Column}
 use Rattle.vx_model.specs.Numbers.{number_in, numbers_of}
 use Rattle.vx_types.specs.FieldTypes.{VariantTypes}

@@ -4,7 +4,7 @@ ghost use Rattle.vx_bits.specs.Results.{ok_unless};
 ghost use Rattle.vx_model.specs.Dict.{dict_codes, dict_column, dict_fault, dict_with};
 ghost use Rattle.std.specs.Prelude.{◌<◌, Some, length, slice_index_or, true};
 ghost use Rattle.vx_types.specs.TypeTree.{int_type_of};
-ghost use Rattle.vx_numbers.specs.Positions.{first_bad};
+ghost use Rattle.vx_positions.specs.Positions.{first_bad};
 ghost use Rattle.vx_model.specs.Numbers.{numbers_of};
 ghost use Rattle.vx_types.specs.RowValue.{null};
 ghost use Rattle.vx_column.specs.Cell.{cell_depth, row_of, IsOfType};
@@ -13,7 +13,7 @@ ghost use Rattle.vx_types.specs.declared.layout_name.LayoutName.TheVariants.{Dic
 use crate::array::{Array, ArrayRef, Layout};
 use crate::cell::Cell;
 use std::marker::Model;
-use vx_numbers::position;
+use vx_positions::position;
 use vx_types::{ColumnError, PType};
 
 /// A column of values that codes name: Vortex's `DictArray`.

@@ -5,7 +5,7 @@ ghost use Rattle.vx_mask.specs.Mask.{mask_bits};
 ghost use Rattle.vx_model.specs.Filter.{filter_fault, filter_column};
 ghost use Rattle.std.specs.Prelude.{◌<◌, Some, length, slice_index_or, true};
 ghost use Rattle.vx_types.specs.TypeTree.{int_type_of};
-ghost use Rattle.vx_numbers.specs.Positions.{first_bad};
+ghost use Rattle.vx_positions.specs.Positions.{first_bad};
 ghost use Rattle.vx_model.specs.Numbers.{numbers_of};
 ghost use Rattle.vx_types.specs.RowValue.{null};
 ghost use Rattle.vx_column.specs.Cell.{cell_depth, row_of, IsOfType};

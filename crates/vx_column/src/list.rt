@@ -1,7 +1,7 @@
 //! Layout `List`: lists whose elements stand one after another, cut by offsets.
 ghost use Rattle.std.specs.Prelude.{◌≡◌, ◌≤◌, ◌<◌, ◌↔◌, None, length, slice_index_or, IfOk, IfSome, IsSome};
 ghost use Rattle.vx_bits.specs.Results.{FailsBy};
-ghost use Rattle.vx_numbers.specs.Offsets.{offset_positions};
+ghost use Rattle.vx_positions.specs.Offsets.{offset_positions};
 ghost use Rattle.vx_model.specs.List.{list_column, list_fault, list_spans};
 ghost use Rattle.vx_model.specs.Numbers.{integers_of};
 ghost use Rattle.vx_column.specs.ListParts.{list_parts};

@@ -1,7 +1,7 @@
 //! Layout `ListView`: lists that each have an offset and a size.
 ghost use Rattle.std.specs.Prelude.{◌≡◌, ◌≤◌, ◌<◌, None, length, slice_index_or, IfOk};
 ghost use Rattle.vx_bits.specs.Results.{FailsBy};
-ghost use Rattle.vx_numbers.specs.Offsets.{offset_positions};
+ghost use Rattle.vx_positions.specs.Offsets.{offset_positions};
 ghost use Rattle.vx_model.specs.ListView.{listview_column, listview_fault, listview_spans};
 ghost use Rattle.vx_model.specs.Numbers.{integers_of};
 ghost use Rattle.vx_column.specs.ListParts.{listview_parts};

@@ -2,7 +2,7 @@
 ghost use Rattle.std.specs.Prelude.{◌≡◌, ◌+◌, ◌<◌, [], length, nat_le, slice_index_or, true};
 ghost use Rattle.std.specs.List.{list_all};
 ghost use Rattle.vx_types.specs.TypeTree.{is_int_kind};
-ghost use Rattle.vx_numbers.specs.Offsets.{are_offsets, offset_positions};
+ghost use Rattle.vx_positions.specs.Offsets.{are_offsets, offset_positions};
 ghost use Rattle.vx_model.specs.ListView.{are_views, is_natural};
 ghost use Rattle.vx_model.specs.Numbers.{integer_by, integers_of};
 ghost use Rattle.vx_model.specs.VarBin.{are_integers, row_count};
@@ -10,7 +10,7 @@ ghost use Rattle.vx_column.specs.Naturals.{are_naturals};
 
 use crate::primitive::PrimitiveArray;
 use crate::validity::Validity;
-use vx_numbers::are_offsets;
+use vx_positions::are_offsets;
 
 /// Whether it is a column of integers that has no null.
 pub(crate) fn are_integers(offsets: &PrimitiveArray) -> bool

@@ -3,13 +3,13 @@
 ghost use Rattle.std.specs.Prelude.{◌≡◌, None, Some, true, IfOk, IfSome};
 ghost use Rattle.vx_types.specs.TypeTree.{int_type_of, is_int_type};
 ghost use Rattle.vx_types.specs.declared.nullability.Nullability.TheVariants.{NonNullable};
-ghost use Rattle.vx_numbers.specs.Positions.{AllThere, first_bad, positions_of};
+ghost use Rattle.vx_positions.specs.Positions.{AllThere, first_bad, positions_of};
 ghost use Rattle.vx_model.specs.Numbers.{numbers_of};
 
 use crate::array::{Array, Layout};
 use std::alloc::Global;
 use vx_bits::NoMemory;
-use vx_numbers::{
+use vx_positions::{
     Numbers, first_bad, first_bad_by_bits, first_bad_present, picks_by_bits, picks_of,
     picks_present,
 };

@@ -6,7 +6,7 @@ ghost use Rattle.vx_types.specs.DType.{type_of};
 ghost use Rattle.vx_types.specs.Nullability.{is_nullable};
 ghost use Rattle.vx_types.specs.RowValue.{null};
 ghost use Rattle.vx_types.specs.TypeTree.{are_carried, is_int_kind, types_of};
-ghost use Rattle.vx_numbers.specs.Positions.{is_position, positions_of};
+ghost use Rattle.vx_positions.specs.Positions.{is_position, positions_of};
 ghost use Rattle.vx_model.specs.Numbers.{integers_of, numbers_of};
 ghost use Rattle.vx_model.specs.Union.{are_places, are_union_types, has_row, have_rows, index_of, is_id_type, is_known, is_union_long, place_at, union_column, union_fault, IsPlace};
 ghost use Rattle.vx_column.specs.Cell.{cell_depth, row_of, IsOfType};
@@ -20,7 +20,7 @@ use crate::offsets::{are_integers, integer_at};
 use crate::primitive::PrimitiveArray;
 use crate::struct_::{are_long, are_of_types};
 use std::marker::Model;
-use vx_numbers::{is_position, position};
+use vx_positions::{is_position, position};
 use vx_shared::Shared;
 use vx_types::{ColumnError, DType, PType, UnionVariants};
 

@@ -3,10 +3,10 @@ use Rattle.std.proofs.Common.{◌≡◌, ℕ, true, false, List, length, None, r
 use Rattle.vx_types.specs.RowValue.{RowValue, null}
 use Rattle.vx_types.specs.TypeTree.{TypeTree, also_nullable}
 use Rattle.vx_take.specs.Picks.{at}
-use Rattle.vx_numbers.specs.Positions.{positions_of}
+use Rattle.vx_positions.specs.Positions.{positions_of}
 use Rattle.vx_model.specs.Step.{IsStep}
 use Rattle.vx_types.specs.TypeTree.{is_int_type}
-use Rattle.vx_numbers.specs.Positions.{first_bad}
+use Rattle.vx_positions.specs.Positions.{first_bad}
 use Rattle.vx_model.specs.Column.{Column}
 use Rattle.vx_model.specs.Numbers.{numbers_of}
 use Rattle.vx_model.specs.Dict.{DictParts, dict_column, dict_fault}

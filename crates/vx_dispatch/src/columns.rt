@@ -4,7 +4,7 @@ ghost use Rattle.std.specs.List.{items_where_true};
 ghost use Rattle.vx_types.specs.RowValue.{null};
 ghost use Rattle.vx_mask.specs.Mask.{mask_bits};
 ghost use Rattle.vx_take.specs.Picks.{at};
-ghost use Rattle.vx_numbers.specs.Positions.{AllThere};
+ghost use Rattle.vx_positions.specs.Positions.{AllThere};
 ghost use Rattle.vx_model.specs.Columns.{AreCuts, AreSteps, are_long, firsts_for_nulls, or_first};
 
 use crate::dict::copied;

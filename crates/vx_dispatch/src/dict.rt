@@ -2,7 +2,7 @@
 ghost use Rattle.std.specs.Prelude.{◌≡◌, ◌≤◌, length, map, None, true, false, IfOk};
 ghost use Rattle.std.specs.List.{items_where_true};
 ghost use Rattle.vx_take.specs.Picks.{at};
-ghost use Rattle.vx_numbers.specs.Positions.{AllThere};
+ghost use Rattle.vx_positions.specs.Positions.{AllThere};
 ghost use Rattle.vx_types.specs.TypeTree.{is_flat};
 ghost use Rattle.vx_types.specs.declared.nullability.Nullability.TheVariants.{NonNullable};
 ghost use Rattle.vx_model.specs.Dict.{dict_column, dict_fault, dict_with};

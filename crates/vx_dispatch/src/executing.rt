@@ -8,7 +8,7 @@ use crate::{dict, extension, filter_layout, lists, stored, struct_, union_};
 use std::alloc::Global;
 use vx_bits::NoMemory;
 use vx_column::{Array, Layout, Lists, Stored};
-use vx_flat::execute_constant;
+use vx_stored::execute_constant;
 use vx_mask::Policy;
 
 /// The same rows and type, unwrapped where the type is flat, and of no lazy layout. `NoMemory`

@@ -6,7 +6,7 @@ ghost use Rattle.vx_mask.specs.Mask.{mask_bits};
 ghost use Rattle.vx_mask.specs.Positions.{rank_of, set_of};
 ghost use Rattle.vx_take.specs.Picks.{AreBelow, at};
 ghost use Rattle.vx_take.specs.Ranks.{translated};
-ghost use Rattle.vx_numbers.specs.Positions.{AllThere};
+ghost use Rattle.vx_positions.specs.Positions.{AllThere};
 ghost use Rattle.vx_types.specs.TypeTree.{is_flat};
 ghost use Rattle.vx_types.specs.declared.nullability.Nullability.TheVariants.{NonNullable};
 ghost use Rattle.vx_model.specs.Filter.{filter_column};

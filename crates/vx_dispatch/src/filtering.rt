@@ -12,7 +12,7 @@ use crate::{
 use std::alloc::Global;
 use vx_bits::NoMemory;
 use vx_column::{Array, Layout, Stored};
-use vx_flat::{filter_constant, filter_nulls};
+use vx_stored::{filter_constant, filter_nulls};
 use vx_mask::{Mask, MaskValues, Policy};
 
 // The rows at the set positions of a mask that selects some and not all.

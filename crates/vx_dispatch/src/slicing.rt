@@ -9,7 +9,7 @@ use crate::{
 use std::alloc::Global;
 use vx_bits::NoMemory;
 use vx_column::{Array, Layout, Stored};
-use vx_flat::{slice_constant, slice_nulls};
+use vx_stored::{slice_constant, slice_nulls};
 
 /// The rows from `start` up to `end`. `NoMemory` alone, and never over a plain column.
 #[cycle(slice)]

@@ -1,9 +1,9 @@
 //! Layouts that store a row's bit or bytes: the new validity is made here, and the rows by
-//! `vx_flat`.
+//! `vx_stored`.
 ghost use Rattle.std.specs.Prelude.{◌≡◌, ◌+◌, ◌≤◌, All, length, map, Some, true, false, IfOk, IfSome, IsOk};
 ghost use Rattle.std.specs.List.{items_where_true};
 ghost use Rattle.vx_types.specs.declared.nullability.Nullability.TheVariants.{NonNullable};
-ghost use Rattle.vx_numbers.specs.Positions.{AllThere};
+ghost use Rattle.vx_positions.specs.Positions.{AllThere};
 ghost use Rattle.vx_types.specs.TypeTree.{is_flat};
 ghost use Rattle.vx_model.specs.Plain.{is_lazy_layout, is_plain, is_unwrapped};
 ghost use Rattle.vx_model.specs.Records.{records_column};
@@ -16,7 +16,7 @@ use crate::validity::{execute_validity, filter_validity, slice_validity, take_va
 use std::alloc::Global;
 use vx_bits::NoMemory;
 use vx_column::{Array, Nullability, RecordArray, Runs, Stored};
-use vx_flat::{filter_stored, slice_stored, take_array_runs, take_stored, with_validity};
+use vx_stored::{filter_stored, slice_stored, take_array_runs, take_stored, with_validity};
 use vx_mask::{MaskValues, Policy};
 use vx_take::Picks;
 

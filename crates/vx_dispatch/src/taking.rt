@@ -1,6 +1,6 @@
 //! The rows at picks, over every layout.
 ghost use Rattle.std.specs.Prelude.{◌≡◌, length, None, true, IfOk, IsOk};
-ghost use Rattle.vx_numbers.specs.Positions.{AllThere};
+ghost use Rattle.vx_positions.specs.Positions.{AllThere};
 ghost use Rattle.vx_types.specs.declared.nullability.Nullability.TheVariants.{NonNullable};
 ghost use Rattle.vx_pieces.specs.Indices.{index_fault, index_nullability, index_picks, index_value};
 ghost use Rattle.vx_model.specs.Null.{null_column};
@@ -15,7 +15,7 @@ use crate::{
 use std::alloc::Global;
 use vx_bits::NoMemory;
 use vx_column::{Array, Layout, NullArray, Nullability, Stored};
-use vx_flat::{take_constant, take_nulls};
+use vx_stored::{take_constant, take_nulls};
 use vx_mask::Policy;
 use vx_pieces::{Indices, column_picks};
 use vx_take::Picks;

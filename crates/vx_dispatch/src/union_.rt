@@ -5,7 +5,7 @@ ghost use Rattle.std.specs.List.{items_where_true};
 ghost use Rattle.vx_types.specs.RowValue.{null};
 ghost use Rattle.vx_types.specs.declared.nullability.Nullability.TheVariants.{NonNullable};
 ghost use Rattle.vx_take.specs.Picks.{at};
-ghost use Rattle.vx_numbers.specs.Positions.{AllThere};
+ghost use Rattle.vx_positions.specs.Positions.{AllThere};
 ghost use Rattle.vx_model.specs.Plain.{is_lazy_layout};
 ghost use Rattle.vx_model.specs.Step.{IsCut, IsSlice, IsStep, IsTake};
 ghost use Rattle.vx_model.specs.Union.{union_column};

@@ -4,7 +4,7 @@ ghost use Rattle.std.specs.List.{items_where_true};
 ghost use Rattle.vx_types.specs.Nullability.{either_nullable};
 ghost use Rattle.vx_types.specs.declared.nullability.Nullability.TheVariants.{NonNullable};
 ghost use Rattle.vx_take.specs.Picks.{at};
-ghost use Rattle.vx_numbers.specs.Positions.{AllThere};
+ghost use Rattle.vx_positions.specs.Positions.{AllThere};
 ghost use Rattle.vx_model.specs.Bool.{bits_column};
 ghost use Rattle.vx_model.specs.Valid.{by_column, is_yes, is_non_null_bool, is_fitting, is_constant_form, is_flat_cover, is_bool_layout, cover_by, nullability_by, present_bits, IsLeft, IsAsPlain};
 ghost use Rattle.vx_model.specs.Plain.{is_unwrapped};
@@ -17,7 +17,7 @@ use crate::{dict, filter_layout};
 use std::alloc::Global;
 use vx_bits::{BitBuffer, NoMemory};
 use vx_column::{Array, Layout, Nullability, Validity};
-use vx_flat::{by_picks, constant_bits};
+use vx_stored::{by_picks, constant_bits};
 use vx_mask::{MaskValues, Policy};
 use vx_take::{Picks, gather_bits};
 

@@ -1,6 +1,6 @@
 -- What contracts see of blocks, and of a reader of blocks in memory.
 use Rattle.std.specs.Prelude.{ℕ, ◌-◌, List, [], ◌∷◌, ◌++◌, Option, None, Some, nat_le, nat_lt, slice_index_or, if◌then◌else◌}
-use Rattle.vx_outside.specs.Bytes.{next_count}
+use Rattle.vx_io.specs.Bytes.{next_count}
 
 -- the bytes of a block; a block past the last one has none
 abbrev pub block_at : List (List ℕ) → ℕ → List ℕ

@@ -1,7 +1,7 @@
 //! What the blocks of a file are read from.
 ghost use Rattle.std.specs.Prelude.{◌≡◌, ℕ, ◌+◌, ◌<◌, ◌≤◌, List, [], ◌∷◌, Option, take, IfOk, OnErr, IfSome};
 ghost use Rattle.vx_bits.specs.WordReader.{then_told};
-ghost use Rattle.vx_outside.specs.Bytes.{Rose};
+ghost use Rattle.vx_io.specs.Bytes.{Rose};
 ghost use Rattle.vx_file.specs.Blocks.{block_at};
 
 use vx_bits::Failed;

@@ -1,7 +1,7 @@
 //! Blocks in memory, of which some reads fail.
 ghost use Rattle.std.specs.Prelude.{◌≡◌, ◌↔◌, ◌+◌, ◌-◌, ◌<◌, ◌≤◌, [], ◌∷◌, take, IsErr, IfOk, OnOk, OnErr, Contains};
 ghost use Rattle.vx_bits.specs.WordReader.{then_told};
-ghost use Rattle.vx_outside.specs.Bytes.{Rose};
+ghost use Rattle.vx_io.specs.Bytes.{Rose};
 ghost use Rattle.vx_file.specs.Blocks.{after_call, after_failed_call, block_at, new_reader, reads_left, told_reads};
 
 use crate::block_reader::BlockReader;

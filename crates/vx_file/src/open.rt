@@ -1,7 +1,7 @@
 //! Opening a file.
 ghost use Rattle.std.specs.Prelude.{◌≡◌, ◌+◌, ◌≤◌, [], ◌∷◌, IfErr, IfOk, IfSome};
 ghost use Rattle.vx_bits.specs.WordReader.{then_told};
-ghost use Rattle.vx_outside.specs.Bytes.{Rose};
+ghost use Rattle.vx_io.specs.Bytes.{Rose};
 ghost use Rattle.vx_file.specs.Blocks.{block_at};
 ghost use Rattle.vx_file.specs.Errors.{MatchOpening};
 ghost use Rattle.vx_file.specs.Shape.{IsNoHeader, header};

@@ -1,7 +1,7 @@
 //! Reading the blocks that hold picked rows.
 ghost use Rattle.std.specs.Prelude.{◌≡◌, ◌+◌, ◌^◌, ◌<◌, ◌≤◌, true, IfErr, IfOk, IfSome, OnOk, length, take, if◌then◌else◌};
 ghost use Rattle.vx_bits.specs.WordReader.{then_told};
-ghost use Rattle.vx_outside.specs.Bytes.{Rose};
+ghost use Rattle.vx_io.specs.Bytes.{Rose};
 ghost use Rattle.vx_packed.specs.Chunk.{IsSpelling};
 ghost use Rattle.vx_packed.specs.Faults.{is_width};
 ghost use Rattle.vx_file.specs.Blocks.{block_at};

@@ -1,12 +1,12 @@
 //! The answer to a list of steps over a file.
 ghost use Rattle.std.specs.Prelude.{◌≡◌, ◌+◌, ◌≤◌, IfErr, IfOk, IfSome, MatchResult, OnOk, map, true};
-ghost use Rattle.vx_outside.specs.Bytes.{Rose};
+ghost use Rattle.vx_io.specs.Bytes.{Rose};
 ghost use Rattle.vx_types.specs.PType.{width};
 ghost use Rattle.vx_types.specs.RowValue.{null};
 ghost use Rattle.vx_types.specs.TypeTree.{also_nullable};
 ghost use Rattle.vx_types.specs.declared.nullability.Nullability.TheVariants.{NonNullable};
 ghost use Rattle.vx_take.specs.Picks.{at};
-ghost use Rattle.vx_numbers.specs.Positions.{AllThere};
+ghost use Rattle.vx_positions.specs.Positions.{AllThere};
 ghost use Rattle.vx_model.specs.Plain.{is_unwrapped};
 ghost use Rattle.vx_steps.specs.Answer.{answer_of, answer_rows, type_after};
 ghost use Rattle.vx_steps.specs.Compose.{IsUnbroken};

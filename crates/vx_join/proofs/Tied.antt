@@ -13,7 +13,7 @@ use Rattle.vx_take.specs.Picks.{at}
 use Rattle.vx_model.specs.Plain.{is_unwrapped}
 use Rattle.vx_model.proofs.Nullabilities.{also_nullable-none}
 use Rattle.vx_model.specs.Column.{Column}
-use Rattle.vx_numbers.specs.Positions.{AllThere}
+use Rattle.vx_positions.specs.Positions.{AllThere}
 use Rattle.vx_table.specs.Table.{AreLong, TableValue}
 use Rattle.vx_table.specs.Taken.{IsTaken, beside, chosen}
 use Rattle.vx_table.proofs.Lists.{All-chosen, All-rest, filter_map-more}

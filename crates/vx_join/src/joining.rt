@@ -1,7 +1,7 @@
 //! Joins of two tables.
 ghost use Rattle.std.specs.Prelude.{◌≡◌, IfOk};
 ghost use Rattle.vx_bits.specs.Results.{FailsBy};
-ghost use Rattle.vx_numbers.specs.Positions.{AllThere};
+ghost use Rattle.vx_positions.specs.Positions.{AllThere};
 ghost use Rattle.vx_table.specs.Taken.{IsTaken};
 ghost use Rattle.vx_join.specs.Join.{IsJoin, join_fault, rows_of_pairs};
 ghost use Rattle.vx_join.specs.Keys.{AreThere, AreOfKeyTypes, left_keys, matching_pairs, right_keys};

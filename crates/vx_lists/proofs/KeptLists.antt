@@ -12,7 +12,7 @@ use Rattle.vx_mask.specs.Positions.{ascending, rank_of, run_positions, set_of}
 use Rattle.vx_mask.proofs.AscendingLists.{ascending_first, index_parts}
 use Rattle.vx_mask.proofs.PositionLists.{get_or_of_slice_get, length-positions, position_at}
 use Rattle.vx_mask.proofs.RankedItems.{items_at_the_set}
-use Rattle.vx_numbers.specs.Offsets.{items_in, lists_at}
+use Rattle.vx_positions.specs.Offsets.{items_in, lists_at}
 use Rattle.vx_lists.specs.Lists.{AreElementBits, AreOffsets, IsWithin, last_offset, row_count, span_at}
 use Rattle.vx_lists.specs.Sums.{joined, length_at, offsets_of, sums_from}
 use Rattle.vx_lists.specs.Filters.{FiltersLists, IsElementRange, selected_range, whole_range}

@@ -18,7 +18,7 @@ use Rattle.vx_mask.specs.Mask.{slices_fault}
 use Rattle.vx_mask.specs.declared.error.MaskError.TheVariants.{Slices}
 use Rattle.vx_filter.proofs.Moves.{run_first_of, runs_within}
 use Rattle.vx_filter.proofs.Picks.{set_ascends}
-use Rattle.vx_numbers.specs.Offsets.{items_in}
+use Rattle.vx_positions.specs.Offsets.{items_in}
 use Rattle.vx_types.specs.RowValue.{RowValue}
 use Rattle.vx_types.specs.declared.error.ColumnError.TheVariants.{BadValidity, WrongLength}
 use Rattle.vx_model.specs.FixedSizeList.{FixedParts, fixed_fault, fixed_spans, runs_from}

@@ -16,7 +16,7 @@ use Rattle.vx_bits.specs.BitBuffer.{true_count_of}
 use Rattle.vx_mask.specs.Positions.{set_of}
 use Rattle.vx_filter.proofs.Picks.{set_below}
 use Rattle.vx_take.specs.Picks.{AreBelow, at, in_runs}
-use Rattle.vx_numbers.specs.Offsets.{are_offsets, items_in, lists_at, offset_positions, spans}
+use Rattle.vx_positions.specs.Offsets.{are_offsets, items_in, lists_at, offset_positions, spans}
 use Rattle.vx_model.specs.Column.{Column}
 use Rattle.vx_model.specs.List.{ListParts, list_fault, list_spans}
 use Rattle.vx_model.specs.Lists.{kept_lists, lists_of}
@@ -26,8 +26,8 @@ use Rattle.vx_model.specs.Valid.{Valid, is_fitting, non_nullable, present_bits}
 use Rattle.vx_model.proofs.Items.{length-items_where_true, length-slice_range, map-slice_range}
 use Rattle.vx_model.proofs.ListRows.{integers-list, offsets-list, spans-list}
 use Rattle.vx_model.proofs.Spans.{spans-slice}
-use Rattle.vx_numbers.specs.Positions.{position_of}
-use Rattle.vx_numbers.proofs.Ascending.{le_first}
+use Rattle.vx_positions.specs.Positions.{position_of}
+use Rattle.vx_positions.proofs.Ascending.{le_first}
 use Rattle.vx_types.specs.TypeTree.{is_int_kind}
 use Rattle.vx_text.proofs.CutOffsets.{are_offsets-slice}
 use Rattle.vx_model.proofs.ShownRows.{length-present_bits}

@@ -14,9 +14,9 @@ use Rattle.vx_types.specs.PType.{greatest, is_int, number}
 use Rattle.vx_types.specs.TypeTree.{primitive_kind}
 use Rattle.vx_types.specs.declared.ptype.PType.{PType}
 use Rattle.vx_types.specs.declared.ptype.PType.TheVariants.{U8, U16, U32, U64, I8, I16, I32, I64, F16, F32, F64}
-use Rattle.vx_numbers.specs.Offsets.{are_offsets, offset_positions}
-use Rattle.vx_numbers.specs.Positions.{position_of}
-use Rattle.vx_numbers.proofs.Ascending.{offset_ascends, offset_within}
+use Rattle.vx_positions.specs.Offsets.{are_offsets, offset_positions}
+use Rattle.vx_positions.specs.Positions.{position_of}
+use Rattle.vx_positions.proofs.Ascending.{offset_ascends, offset_within}
 use Rattle.vx_model.specs.Numbers.{integer_by}
 use Rattle.vx_lists.specs.Numbers.{AreInType, record_by}
 use Rattle.vx_lists.specs.Lists.{AreOffsets, last_offset, row_count}

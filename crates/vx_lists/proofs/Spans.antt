@@ -5,7 +5,7 @@ use Rattle.std.proofs.lemmas.Bool.{cases_lt}
 use Rattle.std.proofs.lemmas.List.Elements.{All-cons, All-tail}
 use Rattle.vx_mask.specs.Positions.{ascending, positions, run_positions, set_of}
 use Rattle.vx_filter.proofs.Picks.{set_ascends}
-use Rattle.vx_numbers.specs.Offsets.{spans}
+use Rattle.vx_positions.specs.Offsets.{spans}
 use Rattle.vx_lists.specs.Lists.{AreElementBits, AreOffsets, Covers, IsWithin, row_count, selected_spans, span_at}
 
 -- ---- each span by its row

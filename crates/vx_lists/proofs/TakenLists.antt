@@ -10,7 +10,7 @@ use Rattle.vx_bits.specs.BitBuffer.{PlacedBits}
 use Rattle.vx_filter.proofs.Moves.{cut_picked}
 use Rattle.vx_filter.proofs.Picks.{same_items}
 use Rattle.vx_take.specs.Picks.{AreBelow, at, in_runs, item_at}
-use Rattle.vx_numbers.specs.Offsets.{items_in, lists_at}
+use Rattle.vx_positions.specs.Offsets.{items_in, lists_at}
 use Rattle.vx_lists.specs.Lists.{AreOffsets, last_offset, row_count, span_at}
 use Rattle.vx_lists.specs.Sums.{joined, offsets_of, sums_from}
 use Rattle.vx_lists.specs.Takes.{IsTake, TakesLists, picked_length, picked_run, run_places, shown_by, shown_picks}

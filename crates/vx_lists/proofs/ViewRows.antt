@@ -20,8 +20,8 @@ use Rattle.vx_types.specs.declared.ptype.PType.TheVariants.{U8, U16, U32, U64, I
 use Rattle.vx_types.specs.declared.error.ColumnError.TheVariants.{WrongType, WrongLength, BadValidity, BadOffsets, BadSizes}
 use Rattle.vx_take.specs.Picks.{AreBelow, at, item_at}
 use Rattle.vx_take.proofs.TakenLists.{take_at_the_set}
-use Rattle.vx_numbers.specs.Offsets.{items_in, offset_positions}
-use Rattle.vx_numbers.proofs.Ascending.{le_first}
+use Rattle.vx_positions.specs.Offsets.{items_in, offset_positions}
+use Rattle.vx_positions.proofs.Ascending.{le_first}
 use Rattle.vx_model.specs.ListView.{ListViewParts, are_views, is_natural, listview_fault, listview_spans, view_spans}
 use Rattle.vx_model.specs.Lists.{lists_of}
 use Rattle.vx_model.specs.Numbers.{integer_by, integers_of}

@@ -4,7 +4,7 @@ use Rattle.std.specs.List.{All, flat_map, range_with_len}
 use Rattle.vx_bits.specs.BitBuffer.{PlacedBits}
 use Rattle.vx_types.specs.RowValue.{RowValue}
 use Rattle.vx_take.specs.Picks.{at, in_runs}
-use Rattle.vx_numbers.specs.Offsets.{lists_at}
+use Rattle.vx_positions.specs.Offsets.{lists_at}
 use Rattle.vx_lists.specs.Lists.{last_offset}
 use Rattle.vx_lists.specs.Sums.{length_at, offsets_of}
 

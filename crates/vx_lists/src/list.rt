@@ -8,7 +8,7 @@ ghost use Rattle.vx_model.specs.Lists.{kept_lists, lists_of};
 ghost use Rattle.vx_model.specs.Numbers.{integers_of};
 ghost use Rattle.vx_model.specs.Records.{records_with};
 ghost use Rattle.vx_model.specs.Valid.{is_fitting, non_nullable, present_bits};
-ghost use Rattle.vx_numbers.specs.Offsets.{offset_positions};
+ghost use Rattle.vx_positions.specs.Offsets.{offset_positions};
 ghost use Rattle.vx_column.specs.Validity.{valid_of};
 ghost use Rattle.vx_take.specs.Picks.{at, in_runs};
 ghost use Rattle.vx_text.specs.Building.{type_of};

@@ -5,7 +5,7 @@ ghost use Rattle.vx_bits.specs.Records.{records_of, width_of};
 ghost use Rattle.vx_model.specs.Numbers.{integers_of};
 ghost use Rattle.vx_model.specs.Valid.{non_nullable};
 ghost use Rattle.vx_model.specs.VarBin.{are_integers};
-ghost use Rattle.vx_numbers.specs.Offsets.{are_offsets, offset_positions, record_numbers};
+ghost use Rattle.vx_positions.specs.Offsets.{are_offsets, offset_positions, record_numbers};
 ghost use Rattle.vx_text.specs.Building.{type_of};
 ghost use Rattle.vx_types.specs.PType.{greatest, is_int, number, width};
 ghost use Rattle.vx_types.specs.TypeTree.{primitive_kind};
@@ -16,7 +16,7 @@ ghost use Rattle.vx_lists.specs.Numbers.{AreInType, record_by};
 use std::alloc::Global;
 use vx_bits::{Buffer, NoMemory, Records};
 use vx_column::{PType, PrimitiveArray, Validity};
-use vx_numbers::by_type;
+use vx_positions::by_type;
 use vx_text::offset_at;
 
 // What bytes spell is at most the greatest number of their type.

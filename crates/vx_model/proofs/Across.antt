@@ -9,7 +9,7 @@ use Rattle.vx_bits.specs.BitBuffer.{true_count_of}
 use Rattle.vx_types.specs.RowValue.{RowValue, null}
 use Rattle.vx_types.specs.TypeTree.{TypeTree}
 use Rattle.vx_take.specs.Picks.{AreBelow, at, item_at}
-use Rattle.vx_numbers.specs.Positions.{AllThere}
+use Rattle.vx_positions.specs.Positions.{AllThere}
 use Rattle.vx_model.specs.Column.{Column}
 use Rattle.vx_model.specs.Columns.{AreCuts, AreSteps, are_long, columns_depth, firsts_for_nulls, rows_across, types_in, with_fronts}
 use Rattle.vx_model.proofs.Items.{items_where_true-replicate, slice_range-replicate, length-items_where_true, length-slice_range}

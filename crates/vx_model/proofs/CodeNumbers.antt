@@ -7,7 +7,7 @@ use Rattle.vx_types.specs.TypeTree.{TypeTree}
 use Rattle.vx_types.specs.RowValue.{RowValue, null}
 use Rattle.vx_types.specs.declared.nullability.Nullability.{Nullability}
 use Rattle.vx_take.specs.Picks.{at, item_at}
-use Rattle.vx_numbers.specs.Positions.{bad_number, first_bad}
+use Rattle.vx_positions.specs.Positions.{bad_number, first_bad}
 use Rattle.vx_model.specs.Column.{Column}
 use Rattle.vx_model.specs.Numbers.{number_in, numbers_of}
 use Rattle.vx_model.specs.Step.{IsStep, IsCut, IsSlice, IsTake}

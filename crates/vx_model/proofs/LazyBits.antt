@@ -8,7 +8,7 @@ use Rattle.vx_types.specs.declared.nullability.Nullability.{Nullability}
 use Rattle.vx_take.specs.Picks.{at}
 use Rattle.vx_take.specs.Ranks.{translated}
 use Rattle.vx_take.proofs.TakenLists.{takes_join}
-use Rattle.vx_numbers.specs.Positions.{AllThere, position_of, positions_of}
+use Rattle.vx_positions.specs.Positions.{AllThere, position_of, positions_of}
 use Rattle.vx_model.specs.Column.{Column}
 use Rattle.vx_model.specs.Numbers.{numbers_of}
 use Rattle.vx_model.specs.Valid.{Valid, by_column, cover_by, is_bool_layout, is_fitting, is_flat_cover, is_non_null_bool, is_yes, nullability_by, present_bits, IsLeft}

@@ -1,7 +1,7 @@
 -- The numbers of the layouts that stand for rows of other columns.
 use Rattle.std.proofs.Common.{◌≡◌, ℕ, None, ap, ◌∙◌}
 use Rattle.vx_types.specs.RowValue.{null}
-use Rattle.vx_numbers.specs.Positions.{first_bad, positions_of}
+use Rattle.vx_positions.specs.Positions.{first_bad, positions_of}
 use Rattle.vx_model.specs.Numbers.{number_in, numbers_of}
 use Rattle.vx_model.specs.Dict.{DictParts, dict_column}
 use Rattle.vx_model.specs.Filter.{FilterParts, filter_column}

@@ -14,8 +14,8 @@ use Rattle.vx_types.specs.declared.nullability.Nullability.{Nullability}
 use Rattle.vx_types.specs.declared.nullability.Nullability.TheVariants.{NonNullable, Nullable}
 use Rattle.vx_take.specs.Picks.{item_at}
 use Rattle.vx_take.proofs.TakenLists.{take_at_the_set}
-use Rattle.vx_numbers.specs.Positions.{first_bad, is_position, position_of, positions_of}
-use Rattle.vx_numbers.proofs.NumberLists.{each_is_position}
+use Rattle.vx_positions.specs.Positions.{first_bad, is_position, position_of, positions_of}
+use Rattle.vx_positions.proofs.NumberLists.{each_is_position}
 use Rattle.vx_model.specs.Numbers.{number_in, numbers_of}
 use Rattle.vx_model.specs.Constant.{ConstantParts, constant_column}
 use Rattle.vx_model.specs.Dict.{DictParts, dict_fault, dict_column}

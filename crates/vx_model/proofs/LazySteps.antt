@@ -13,7 +13,7 @@ use Rattle.vx_mask.specs.Positions.{rank_of, set_of}
 use Rattle.vx_take.specs.Ranks.{translated}
 use Rattle.vx_take.specs.Picks.{AreBelow, at, item_at}
 use Rattle.vx_take.proofs.TakenLists.{take_of_filter, takes_join}
-use Rattle.vx_numbers.specs.Positions.{AllThere, first_bad, position_of, positions_of}
+use Rattle.vx_positions.specs.Positions.{AllThere, first_bad, position_of, positions_of}
 use Rattle.vx_model.specs.Column.{Column}
 use Rattle.vx_model.specs.Constant.{ConstantParts, constant_column, constant_with}
 use Rattle.vx_model.specs.Dict.{DictParts, dict_fault, dict_column, dict_with}

@@ -9,9 +9,9 @@ use Rattle.vx_types.specs.TypeTree.{TypeTree, is_carried}
 use Rattle.vx_types.specs.declared.nullability.Nullability.{Nullability}
 use Rattle.vx_types.specs.declared.error.ColumnError.{ColumnError}
 use Rattle.vx_types.specs.declared.error.ColumnError.TheVariants.{WrongType, WrongLength, BadValidity, BadOffsets, BadSizes}
-use Rattle.vx_numbers.specs.Offsets.{are_offsets, items_in, offset_positions}
-use Rattle.vx_numbers.specs.Positions.{position_of}
-use Rattle.vx_numbers.proofs.Ascending.{le_first, le_second, offset_ascends, offset_value, offset_within}
+use Rattle.vx_positions.specs.Offsets.{are_offsets, items_in, offset_positions}
+use Rattle.vx_positions.specs.Positions.{position_of}
+use Rattle.vx_positions.proofs.Ascending.{le_first, le_second, offset_ascends, offset_value, offset_within}
 use Rattle.vx_model.specs.Valid.{is_fitting, is_present}
 use Rattle.vx_model.specs.Numbers.{integer_by, integers_of}
 use Rattle.vx_model.specs.FixedSizeList.{FixedParts, fixed_fault, fixed_of, fixed_spans, fixed_column}

@@ -4,9 +4,9 @@ use Rattle.std.specs.Prelude.{ℤ, pos, negsuc, nat_le}
 use Rattle.std.specs.List.{list_all}
 use Rattle.std.proofs.lemmas.Bool.Decides.{nat_tests}
 use Rattle.std.proofs.lemmas.Int.{ints}
-use Rattle.vx_numbers.specs.Offsets.{offset_positions, spans}
-use Rattle.vx_numbers.specs.Positions.{position_of}
-use Rattle.vx_numbers.proofs.Ascending.{le_first, le_second}
+use Rattle.vx_positions.specs.Offsets.{offset_positions, spans}
+use Rattle.vx_positions.specs.Positions.{position_of}
+use Rattle.vx_positions.proofs.Ascending.{le_first, le_second}
 use Rattle.vx_model.specs.FixedSizeList.{runs_from}
 use Rattle.vx_model.specs.ListView.{are_views, is_natural, view_spans}
 

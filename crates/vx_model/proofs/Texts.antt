@@ -12,9 +12,9 @@ use Rattle.vx_types.specs.declared.text.BinaryView.{BinaryView}
 use Rattle.vx_types.specs.declared.text.TextKind.{TextKind}
 use Rattle.vx_types.specs.declared.text.TextKind.TheVariants.{Utf8, Binary}
 use Rattle.vx_types.specs.declared.error.ColumnError.TheVariants.{WrongType, BadValidity, BadOffsets, BadViews}
-use Rattle.vx_numbers.specs.Offsets.{are_offsets, spans, items_in, lists_at, offset_positions}
-use Rattle.vx_numbers.specs.Positions.{position_of}
-use Rattle.vx_numbers.proofs.Ascending.{le_first, le_second, offset_ascends, offset_value, offset_within}
+use Rattle.vx_positions.specs.Offsets.{are_offsets, spans, items_in, lists_at, offset_positions}
+use Rattle.vx_positions.specs.Positions.{position_of}
+use Rattle.vx_positions.proofs.Ascending.{le_first, le_second, offset_ascends, offset_value, offset_within}
 use Rattle.vx_model.specs.Valid.{Valid, is_fitting, is_present}
 use Rattle.vx_model.specs.Numbers.{integer_by, integers_of}
 use Rattle.vx_model.specs.Text.{TextParts, stored_texts, text_column}

@@ -13,8 +13,8 @@ use Rattle.vx_types.specs.declared.nullability.Nullability.{Nullability}
 use Rattle.vx_types.specs.Same.{is_same_kind}
 use Rattle.vx_types.specs.declared.ptype.PType.TheVariants.{U8}
 use Rattle.vx_take.specs.Picks.{AreBelow, at, item_at}
-use Rattle.vx_numbers.specs.Offsets.{offset_positions}
-use Rattle.vx_numbers.specs.Positions.{is_position, position_of, positions_of}
+use Rattle.vx_positions.specs.Offsets.{offset_positions}
+use Rattle.vx_positions.specs.Positions.{is_position, position_of, positions_of}
 use Rattle.vx_model.specs.Column.{Column}
 use Rattle.vx_model.specs.Columns.{AreCuts, AreSteps, are_long, columns_depth, firsts_for_nulls, rows_across, types_in}
 use Rattle.vx_model.specs.Numbers.{integer_by, integers_of, number_in, numbers_of}

@@ -15,8 +15,8 @@ use Rattle.vx_types.specs.declared.error.ColumnError.{ColumnError}
 use Rattle.vx_types.specs.declared.error.ColumnError.TheVariants.{WrongType, WrongLength, BadOffsets, BadTypeId}
 use Rattle.vx_types.specs.declared.nullability.Nullability.{Nullability}
 use Rattle.vx_take.specs.Picks.{at}
-use Rattle.vx_numbers.specs.Offsets.{offset_positions}
-use Rattle.vx_numbers.specs.Positions.{is_position, position_of, positions_of}
+use Rattle.vx_positions.specs.Offsets.{offset_positions}
+use Rattle.vx_positions.specs.Positions.{is_position, position_of, positions_of}
 use Rattle.vx_model.specs.Column.{Column}
 use Rattle.vx_model.specs.Columns.{are_long, rows_across, types_in}
 use Rattle.vx_model.specs.Numbers.{integer_by, integers_of, numbers_of}

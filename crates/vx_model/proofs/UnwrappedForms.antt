@@ -5,7 +5,7 @@ use Rattle.std.specs.List.{items_where_true}
 use Rattle.vx_types.specs.TypeTree.{TypeTree, also_nullable}
 use Rattle.vx_types.specs.RowValue.{RowValue, null}
 use Rattle.vx_take.specs.Picks.{at}
-use Rattle.vx_numbers.specs.Positions.{first_bad, positions_of}
+use Rattle.vx_positions.specs.Positions.{first_bad, positions_of}
 use Rattle.vx_model.specs.Column.{Column}
 use Rattle.vx_model.specs.Numbers.{number_in, numbers_of}
 use Rattle.vx_model.specs.Valid.{Valid, is_fitting, nullability_by, present_bits, shown_rows, stored_rows, IsLeft}

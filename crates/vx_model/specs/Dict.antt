@@ -7,7 +7,7 @@ use Rattle.vx_types.specs.declared.layout_name.LayoutName.TheVariants.{Dict}
 use Rattle.vx_types.specs.declared.error.ColumnError.{ColumnError}
 use Rattle.vx_types.specs.declared.error.ColumnError.TheVariants.{WrongType, CodeOutOfRange}
 use Rattle.vx_take.specs.Picks.{at}
-use Rattle.vx_numbers.specs.Positions.{first_bad, positions_of}
+use Rattle.vx_positions.specs.Positions.{first_bad, positions_of}
 use Rattle.vx_model.specs.Column.{Codes, Column, bare_column}
 use Rattle.vx_model.specs.ColumnCode.{coded_column}
 use Rattle.vx_model.specs.Numbers.{numbers_of}

@@ -5,7 +5,7 @@ use Rattle.std.specs.List.{list_all}
 use Rattle.vx_types.specs.declared.layout_name.LayoutName.TheVariants.{ListView as ListViewLayout}
 use Rattle.vx_types.specs.declared.error.ColumnError.{ColumnError}
 use Rattle.vx_types.specs.declared.error.ColumnError.TheVariants.{WrongType, WrongLength, BadValidity, BadOffsets, BadSizes}
-use Rattle.vx_numbers.specs.Offsets.{offset_positions}
+use Rattle.vx_positions.specs.Offsets.{offset_positions}
 use Rattle.vx_model.specs.Column.{Column}
 use Rattle.vx_model.specs.ColumnCode.{coded_column}
 use Rattle.vx_model.specs.List.{list_of}

@@ -11,8 +11,8 @@ use Rattle.vx_types.specs.declared.layout_name.LayoutName.TheVariants.{Union as 
 use Rattle.vx_types.specs.declared.error.ColumnError.{ColumnError}
 use Rattle.vx_types.specs.declared.error.ColumnError.TheVariants.{WrongType, WrongLength, BadOffsets, BadTypeId}
 use Rattle.vx_types.specs.declared.ptype.PType.TheVariants.{U8}
-use Rattle.vx_numbers.specs.Offsets.{offset_positions}
-use Rattle.vx_numbers.specs.Positions.{is_position, positions_of}
+use Rattle.vx_positions.specs.Offsets.{offset_positions}
+use Rattle.vx_positions.specs.Positions.{is_position, positions_of}
 use Rattle.vx_model.specs.Column.{Column, bare_column}
 use Rattle.vx_model.specs.ColumnCode.{coded_column}
 use Rattle.vx_model.specs.Columns.{are_long, columns_depth, rows_across, types_in}

@@ -7,7 +7,7 @@ use Rattle.std.proofs.lemmas.List.{length-map}
 use Rattle.std.proofs.lemmas.List.Sums.{sum_by-cons}
 use Rattle.std.proofs.lemmas.Bool.Decides.{Decides-eqb}
 use Rattle.vx_model.specs.Numbers.{numbers_of}
-use Rattle.vx_numbers.specs.Positions.{position_of}
+use Rattle.vx_positions.specs.Positions.{position_of}
 use Rattle.vx_pieces.specs.Indices.{IndexValue, by_column, by_pieces, index_fault, index_len, index_picks, sequence_fault}
 use Rattle.vx_pieces.specs.Pieces.{PiecesParts, expand, greatest_index, is_sound, is_sound_piece, piece_numbers, pieces_of, total_length}
 use Rattle.vx_pieces.specs.declared.fault.IndexFault.{IndexFault}

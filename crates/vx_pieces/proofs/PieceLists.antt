@@ -6,7 +6,7 @@ use Rattle.std.specs.Option.{option_or}
 use Rattle.std.proofs.lemmas.List.{drop_more, take_more, append-nil, take-append-drop}
 use Rattle.std.proofs.lemmas.List.Concat.{flat_map-append}
 use Rattle.std.proofs.lemmas.List.Folds.{find-append, list_all_at}
-use Rattle.vx_numbers.specs.Positions.{AllThere}
+use Rattle.vx_positions.specs.Positions.{AllThere}
 use Rattle.vx_pieces.specs.Pieces.{first_from, is_sound_piece, piece_numbers}
 use Rattle.vx_pieces.specs.declared.piece.Piece.{Piece}
 

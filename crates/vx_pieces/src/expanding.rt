@@ -2,7 +2,7 @@
 ghost use Rattle.std.specs.Prelude.{◌≡◌, ◌++◌, None, Some, IfOk, OnOk, map, true};
 ghost use Rattle.std.specs.Int.{w64, to_le_bytes};
 ghost use Rattle.vx_bits.specs.Results.{FailsBy};
-ghost use Rattle.vx_numbers.specs.Positions.{AllThere};
+ghost use Rattle.vx_positions.specs.Positions.{AllThere};
 ghost use Rattle.vx_pieces.specs.Pieces.{expand, first_from, is_sound, is_sound_piece, numbers_column, piece_numbers, sound_fault};
 
 use crate::error::PiecesError;

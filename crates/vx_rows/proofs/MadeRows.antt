@@ -16,7 +16,7 @@ use Rattle.vx_types.specs.RowValue.{RowValue, null, bytes}
 use Rattle.vx_types.specs.TypeTree.{TypeTree, primitive_kind, primitive_type}
 use Rattle.vx_types.specs.declared.nullability.Nullability.TheVariants.{NonNullable, Nullable}
 use Rattle.vx_types.specs.declared.ptype.PType.TheVariants.{U32, I64}
-use Rattle.vx_numbers.specs.Positions.{bad_number, first_bad}
+use Rattle.vx_positions.specs.Positions.{bad_number, first_bad}
 use Rattle.vx_model.specs.Valid.{non_nullable, is_yes, shown_rows}
 use Rattle.vx_model.specs.Bool.{BoolParts, bits_column, bool_column, bool_with}
 use Rattle.vx_model.specs.Records.{records_column, records_fault}

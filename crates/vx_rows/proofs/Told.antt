@@ -2,10 +2,10 @@
 use Rattle.std.proofs.Common.{◌≡◌, ℕ, ◌<◌, ◌≤◌, List, [], length, true, false, nat_lt, Option, Some, None, IfSome, refl, sym, ap, ◌∙◌, subst, arith}
 use Rattle.std.proofs.lemmas.Bool.Decides.{nat_tests}
 use Rattle.std.proofs.lemmas.List.{append-nil}
-use Rattle.vx_outside.specs.Bytes.{with_front}
+use Rattle.vx_io.specs.Bytes.{with_front}
 use Rattle.vx_rows.specs.Program.{Outcome, TooLong, program, outcome_of}
 use Rattle.vx_rows.specs.declared.command.Form.{Form}
-use Rattle.vx_outside.specs.declared.transfer.TheConstants.{MAX_BYTES}
+use Rattle.vx_io.specs.declared.transfer.TheConstants.{MAX_BYTES}
 
 program-short : (form : Form) (bytes : List ℕ) → length bytes ≤ MAX_BYTES → program form bytes ≡ outcome_of form bytes
 unfolding program

@@ -24,7 +24,7 @@ use Rattle.vx_rows.specs.Made.{made_answer, made_text}
 use Rattle.vx_rows.specs.Pages.{page_of}
 use Rattle.vx_document.specs.Documents.{DocumentValue, SourceValue, column_source, chunks_source}
 use Rattle.vx_document.specs.Reading.{document_of}
-use Rattle.vx_outside.specs.declared.transfer.TheConstants.{MAX_BYTES}
+use Rattle.vx_io.specs.declared.transfer.TheConstants.{MAX_BYTES}
 use Rattle.vx_print.specs.Calls.{calls_text}
 use Rattle.vx_print.specs.Fault.{fault_text}
 use Rattle.vx_print.specs.Reads.{reads_text}

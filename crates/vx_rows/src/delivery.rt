@@ -1,11 +1,11 @@
 //! Delivering a reply to a sink.
 ghost use Rattle.std.specs.Prelude.{◌≡◌, ◌≢◌, ◌≤◌, ℕ, take, None, IfSome, IsSomeAnd};
-ghost use Rattle.vx_outside.specs.Bytes.{Rose, with_back};
+ghost use Rattle.vx_io.specs.Bytes.{Rose, with_back};
 ghost use Rattle.vx_rows.specs.Reply.{text_of_reply, status_of_reply, traced_by_reply};
 
 use crate::reply::Reply;
 use crate::trace::Trace;
-use vx_outside::{Sink, deliver};
+use vx_io::{Sink, deliver};
 use vx_print::{FAULT_ROOM, fault_line};
 
 /// The status where the sink fails.

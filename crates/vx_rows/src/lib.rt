@@ -19,7 +19,7 @@ pub use trace::Trace;
 pub use vx_chunked::{Call, CallLog};
 pub use vx_document::{DocError, Document, DocumentSource, StepList, document};
 pub use vx_file::ReadLog;
-pub use vx_outside::{
+pub use vx_io::{
     CountingSink, Failed, MemorySink, MemorySource, Sink, Source, StdSink, StdSource, SteadySource,
 };
 pub use vx_print::{calls_line, fault_line, reads_line, text_of};

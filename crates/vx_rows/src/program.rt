@@ -1,7 +1,7 @@
 //! All that the program does, over any source and sink.
 ghost use Rattle.std.specs.Prelude.{◌≡◌, ◌≢◌, ◌↔◌, ◌⊎◌, ◌≤◌, ◌+◌, ℕ, [], take, map, string_bytes};
 ghost use Rattle.std.specs.Prelude.{IfSome, Some, None};
-ghost use Rattle.vx_outside.specs.Bytes.{Rose, Loses, with_back};
+ghost use Rattle.vx_io.specs.Bytes.{Rose, Loses, with_back};
 ghost use Rattle.vx_rows.specs.Program.{TooLong, Malformed, made, program, IsDone, IsBroken};
 ghost use Rattle.vx_rows.specs.Program.{IsPrinted, status_of, IfTold, HasRead, traced_by};
 ghost use Rattle.vx_rows.specs.Commands.{command_of, HasRows, IfCommand, LeavesTrace, MayEnd};
@@ -14,7 +14,7 @@ use crate::made::reply_to_made;
 use crate::reply::reply_to;
 use crate::trace::Trace;
 use std::alloc::Global;
-use vx_outside::{MAX_BYTES, Sink, Source, Stop, read_all};
+use vx_io::{MAX_BYTES, Sink, Source, Stop, read_all};
 
 // Reads a document of this form, and prints the rows that its steps pick, or its fault.
 fn run_document<S: Source, K: Sink>(

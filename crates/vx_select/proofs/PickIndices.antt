@@ -10,7 +10,7 @@ use Rattle.vx_types.specs.declared.ptype.PType.TheVariants.{U64}
 use Rattle.vx_types.specs.RowValue.{RowValue, bytes}
 use Rattle.vx_types.specs.TypeTree.{TypeTree, primitive_kind, primitive_type, is_int_type}
 use Rattle.vx_take.specs.Picks.{AreBelow}
-use Rattle.vx_numbers.specs.Positions.{AllThere, first_bad, is_position, positions_of}
+use Rattle.vx_positions.specs.Positions.{AllThere, first_bad, is_position, positions_of}
 use Rattle.vx_model.specs.Bool.{BoolParts, bool_column}
 use Rattle.vx_model.specs.Column.{Column}
 use Rattle.vx_model.specs.Numbers.{number_in, numbers_of}

@@ -15,7 +15,7 @@ ghost use Rattle.vx_model.specs.Valid.{cover_by, is_fitting, is_flat_cover, null
 ghost use Rattle.vx_column.specs.Validity.{valid_of};
 ghost use Rattle.vx_take.specs.Picks.{at, item_at};
 ghost use Rattle.vx_types.specs.declared.nullability.Nullability.TheVariants.{NonNullable};
-ghost use Rattle.vx_numbers.specs.Positions.{AllThere};
+ghost use Rattle.vx_positions.specs.Positions.{AllThere};
 ghost use Rattle.vx_chunked.specs.Asked.{touched};
 ghost use Rattle.vx_steps.specs.Step.{step_value};
 ghost use Rattle.vx_steps.specs.Walk.{walk};

@@ -6,7 +6,7 @@ ghost use Rattle.vx_types.specs.TypeTree.{is_flat, primitive_type};
 ghost use Rattle.vx_types.specs.RowValue.{bytes};
 ghost use Rattle.vx_column.specs.Validity.{valid_of};
 ghost use Rattle.vx_model.specs.Valid.{is_fitting, nullability_by, present_bits, stored_rows};
-ghost use Rattle.vx_numbers.specs.Positions.{AllThere};
+ghost use Rattle.vx_positions.specs.Positions.{AllThere};
 ghost use Rattle.vx_pieces.specs.Indices.{by_column, index_fault, index_nullability, index_picks, index_value};
 ghost use Rattle.vx_select.specs.IndexRecords.{index_record};
 

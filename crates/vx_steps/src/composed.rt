@@ -4,7 +4,7 @@ ghost use Rattle.std.specs.List.{All, items_where_true};
 ghost use Rattle.vx_types.specs.declared.nullability.Nullability.TheVariants.{NonNullable};
 ghost use Rattle.vx_mask.specs.Mask.{mask_bits, partial_of};
 ghost use Rattle.vx_take.specs.Picks.{at, item_at};
-ghost use Rattle.vx_numbers.specs.Positions.{AllThere};
+ghost use Rattle.vx_positions.specs.Positions.{AllThere};
 ghost use Rattle.vx_pieces.specs.Indices.{index_fault, index_nullability, index_picks, index_value};
 ghost use Rattle.vx_column.specs.Truth.{true_bits};
 ghost use Rattle.vx_steps.specs.Step.{step_value};

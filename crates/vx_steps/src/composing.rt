@@ -1,7 +1,7 @@
 //! The picks that a list of steps leaves.
 ghost use Rattle.std.specs.Prelude.{◌≡◌, ◌≤◌, IfErr, IfOk, OnOk, map};
 ghost use Rattle.vx_types.specs.declared.nullability.Nullability.TheVariants.{NonNullable};
-ghost use Rattle.vx_numbers.specs.Positions.{AllThere};
+ghost use Rattle.vx_positions.specs.Positions.{AllThere};
 ghost use Rattle.vx_steps.specs.Step.{step_value};
 ghost use Rattle.vx_steps.specs.Walk.{walk, walk_picks};
 ghost use Rattle.vx_steps.specs.Compose.{IsCounted, IsFaultOf, IsPartOf, bound_of, picks_in, step_nullability, takes_nullability};

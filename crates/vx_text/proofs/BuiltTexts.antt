@@ -16,7 +16,7 @@ use Rattle.vx_model.specs.VarBin.{is_never_null, row_count, varbin_fault}
 use Rattle.vx_model.proofs.Texts.{length-lists_at}
 use Rattle.vx_model.specs.Text.{kept_texts}
 use Rattle.vx_text.proofs.CutOffsets.{sound-varbin}
-use Rattle.vx_numbers.specs.Offsets.{ascend_within, are_offsets, offset_positions, lists_at}
+use Rattle.vx_positions.specs.Offsets.{ascend_within, are_offsets, offset_positions, lists_at}
 use Rattle.vx_text.specs.OffsetList.{OffsetList, first_type, greatest_offset, wide_type, with_offset}
 use Rattle.vx_text.specs.Building.{is_cut, type_for, AreTexts}
 use Rattle.vx_text.proofs.Both.{first, rest, join}

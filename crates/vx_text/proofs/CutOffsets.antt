@@ -5,8 +5,8 @@ use Rattle.std.proofs.lemmas.List.{length-map}
 use Rattle.vx_types.specs.TypeTree.{is_int_kind}
 use Rattle.vx_types.specs.declared.error.ColumnError.TheVariants.{WrongType, BadValidity, BadOffsets}
 use Rattle.vx_types.specs.declared.text.TextKind.{TextKind}
-use Rattle.vx_numbers.specs.Positions.{position_of}
-use Rattle.vx_numbers.specs.Offsets.{ascend_within, are_offsets, offset_positions, spans, items_in, lists_at}
+use Rattle.vx_positions.specs.Positions.{position_of}
+use Rattle.vx_positions.specs.Offsets.{ascend_within, are_offsets, offset_positions, spans, items_in, lists_at}
 use Rattle.vx_model.specs.Valid.{Valid, is_fitting, non_nullable}
 use Rattle.vx_model.specs.Numbers.{integer_by, integers_of}
 use Rattle.vx_model.specs.Records.{RecordParts, records_with}

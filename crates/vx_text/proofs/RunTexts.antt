@@ -7,9 +7,9 @@ use Rattle.std.proofs.lemmas.List.Elements.{All-get_or}
 use Rattle.std.proofs.lemmas.Grind.{flat_map-append}
 use Rattle.std.proofs.Math.Seq.{take-add}
 use Rattle.vx_types.specs.declared.ptype.PType.{PType}
-use Rattle.vx_numbers.specs.Offsets.{are_offsets, lists_at, offset_positions, record_numbers}
-use Rattle.vx_numbers.specs.Positions.{position_of}
-use Rattle.vx_numbers.proofs.Ascending.{length-numbers}
+use Rattle.vx_positions.specs.Offsets.{are_offsets, lists_at, offset_positions, record_numbers}
+use Rattle.vx_positions.specs.Positions.{position_of}
+use Rattle.vx_positions.proofs.Ascending.{length-numbers}
 use Rattle.vx_model.proofs.Items.{length-slice_range}
 use Rattle.vx_model.proofs.Texts.{get_or-lists_at, length-lists_at}
 use Rattle.vx_text.specs.Building.{AddsTexts, AreTexts}

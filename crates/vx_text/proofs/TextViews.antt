@@ -11,9 +11,9 @@ use Rattle.vx_types.specs.Text.{inlined, is_view, view_of, view_text}
 use Rattle.vx_types.specs.declared.text.BinaryView.TheVariants.{Inlined, Ref}
 use Rattle.vx_types.specs.declared.ptype.PType.{PType}
 use Rattle.vx_take.specs.Picks.{at, item_at}
-use Rattle.vx_numbers.specs.Offsets.{are_offsets, lists_at, offset_positions, record_numbers}
-use Rattle.vx_numbers.specs.Positions.{position_of}
-use Rattle.vx_numbers.proofs.Ascending.{length-numbers, offset_ascends, offset_within}
+use Rattle.vx_positions.specs.Offsets.{are_offsets, lists_at, offset_positions, record_numbers}
+use Rattle.vx_positions.specs.Positions.{position_of}
+use Rattle.vx_positions.proofs.Ascending.{length-numbers, offset_ascends, offset_within}
 use Rattle.vx_model.proofs.Items.{length-slice_range}
 use Rattle.vx_model.proofs.Texts.{get_or-lists_at}
 use Rattle.vx_text.specs.Views.{text_view}

@@ -3,7 +3,7 @@ use Rattle.std.specs.Prelude.{◌≡◌, ℕ, ◌==◌, ◌&&◌, nat_le, List, 
 use Rattle.vx_types.specs.TypeTree.{TypeKind, primitive_kind}
 use Rattle.vx_types.specs.declared.ptype.PType.{PType}
 use Rattle.vx_types.specs.declared.ptype.PType.TheVariants.{U64}
-use Rattle.vx_numbers.specs.Offsets.{lists_at}
+use Rattle.vx_positions.specs.Offsets.{lists_at}
 use Rattle.vx_text.specs.OffsetList.{OffsetList, first_type, greatest_offset, wide_type}
 
 -- none is below the one before, and the last is n

@@ -2,7 +2,7 @@
 ghost use Rattle.std.specs.Prelude.{◌≡◌, ◌+◌, ◌-◌, ◌++◌, ◌<◌, ◌≤◌, ◌^◌, length, map, slice_index, true, OnErr, OnOk};
 ghost use Rattle.std.specs.Int.{w32, w64, from_le_bytes};
 ghost use Rattle.vx_types.specs.PType.{is_int, width};
-ghost use Rattle.vx_numbers.specs.Offsets.{are_offsets, offset_positions, record_numbers};
+ghost use Rattle.vx_positions.specs.Offsets.{are_offsets, offset_positions, record_numbers};
 ghost use Rattle.vx_text.specs.OffsetList.{run_ends};
 
 use crate::reading::offset_at;

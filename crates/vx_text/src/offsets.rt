@@ -4,7 +4,7 @@ ghost use Rattle.std.specs.Int.{w32, w64, from_le_bytes};
 ghost use Rattle.vx_bits.specs.Records.{records_of, width_of};
 ghost use Rattle.vx_types.specs.PType.{is_int, width};
 ghost use Rattle.vx_types.specs.TypeTree.{is_int_kind, primitive_kind};
-ghost use Rattle.vx_numbers.specs.Offsets.{are_offsets, offset_positions, record_numbers};
+ghost use Rattle.vx_positions.specs.Offsets.{are_offsets, offset_positions, record_numbers};
 ghost use Rattle.vx_model.specs.Numbers.{integers_of};
 ghost use Rattle.vx_model.specs.Valid.{non_nullable};
 ghost use Rattle.vx_text.specs.OffsetList.{first_type, greatest_offset, is_wide, numbers_of, run_ends, stored_records, stored_width, type_by, with_offset};

@@ -5,7 +5,7 @@ ghost use Rattle.vx_types.specs.PType.{is_int, width};
 ghost use Rattle.vx_types.specs.TypeTree.{primitive_kind};
 ghost use Rattle.vx_mask.specs.Mask.{mask_bits};
 ghost use Rattle.vx_take.specs.Picks.{at, item_at};
-ghost use Rattle.vx_numbers.specs.Offsets.{are_offsets, lists_at, offset_positions, record_numbers};
+ghost use Rattle.vx_positions.specs.Offsets.{are_offsets, lists_at, offset_positions, record_numbers};
 ghost use Rattle.vx_model.specs.Numbers.{integers_of};
 ghost use Rattle.vx_model.specs.Text.{kept_texts};
 ghost use Rattle.vx_model.specs.Valid.{is_fitting, present_bits};
@@ -19,7 +19,7 @@ use std::alloc::Global;
 use vx_bits::{NoMemory, Records};
 use vx_column::{PType, PrimitiveArray, Validity, VarBinArray, mask_of};
 use vx_mask::Mask;
-use vx_numbers::by_type;
+use vx_positions::by_type;
 use vx_take::Picks;
 
 /// Which of `len` rows are there. `NoMemory` alone.

@@ -3,7 +3,7 @@ ghost use Rattle.std.specs.Prelude.{◌≡◌, ◌+◌, ◌-◌, ◌<◌, ◌≤
 ghost use Rattle.vx_bits.specs.Records.{records_of, width_of};
 ghost use Rattle.vx_types.specs.PType.{is_int, width};
 ghost use Rattle.vx_take.specs.Picks.{at};
-ghost use Rattle.vx_numbers.specs.Offsets.{are_offsets, offset_positions, record_numbers};
+ghost use Rattle.vx_positions.specs.Offsets.{are_offsets, offset_positions, record_numbers};
 ghost use Rattle.vx_model.specs.Valid.{is_fitting};
 ghost use Rattle.vx_model.specs.Numbers.{integers_of};
 ghost use Rattle.vx_model.specs.VarBin.{are_integers, row_count, varbin_texts};
@@ -17,7 +17,7 @@ use crate::reading::span_at;
 use std::alloc::Global;
 use vx_bits::{Buffer, NoMemory, Records};
 use vx_column::{BinaryView, PType, PrimitiveArray, Validity, VarBinArray, VarBinViewArray};
-use vx_numbers::by_type;
+use vx_positions::by_type;
 use vx_take::Picks;
 
 // The view of the text at a pick.

@@ -3,7 +3,7 @@ ghost use Rattle.std.specs.Prelude.{◌≡◌, ◌+◌, ◌-◌, ◌++◌, ◌<�
 ghost use Rattle.std.specs.List.{All, flat_map};
 ghost use Rattle.vx_bits.specs.Records.{records_of, width_of};
 ghost use Rattle.vx_types.specs.PType.{is_int, width};
-ghost use Rattle.vx_numbers.specs.Offsets.{are_offsets, lists_at, offset_positions, record_numbers};
+ghost use Rattle.vx_positions.specs.Offsets.{are_offsets, lists_at, offset_positions, record_numbers};
 ghost use Rattle.vx_model.specs.Numbers.{integers_of};
 ghost use Rattle.vx_model.specs.VarBin.{are_integers};
 ghost use Rattle.vx_text.specs.Building.{type_of, AddsTexts, AreTexts};
@@ -14,7 +14,7 @@ use crate::texts::Texts;
 use std::alloc::Global;
 use vx_bits::{NoMemory, Records};
 use vx_column::{PType, PrimitiveArray};
-use vx_numbers::by_type;
+use vx_positions::by_type;
 
 // The bytes of the rows of a run.
 #[inline(always)]

@@ -4,7 +4,7 @@ ghost use Rattle.std.specs.Prelude.{◌≤◌, IfOk};
 use std::io::{self, ErrorKind, Read, Write};
 use std::test::Fail;
 use vx_bits::Failed;
-use vx_outside::{Sink, Source, StdSink, StdSource};
+use vx_io::{Sink, Source, StdSink, StdSource};
 
 /// Some calls are interrupted, then some fail otherwise, then some give and take nothing, and from
 /// then on each gives and takes three bytes.

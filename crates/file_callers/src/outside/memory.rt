@@ -2,7 +2,7 @@
 use std::alloc::Global;
 use std::test::Fail;
 use vx_bits::{Buffer, Failed, NoMemory};
-use vx_outside::{CountingSink, MemorySink, MemorySource, Sink, Source, SteadySource};
+use vx_io::{CountingSink, MemorySink, MemorySource, Sink, Source, SteadySource};
 
 /// These bytes as a buffer.
 fn bytes_of(alloc: Global, bytes: &[u8]) -> Result<Buffer<u8>, NoMemory> {

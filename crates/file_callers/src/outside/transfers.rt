@@ -3,7 +3,7 @@ use crate::outside::memory::{failing_sink, failing_source};
 use std::alloc::Global;
 use std::test::Fail;
 use vx_bits::{Buffer, Failed, NoMemory};
-use vx_outside::{Sink, Source, SteadySource, Stop, deliver, read_all};
+use vx_io::{Sink, Source, SteadySource, Stop, deliver, read_all};
 
 fn bytes_in<S: Source>(alloc: Global, source: &mut S) -> Result<Vec<u8>, Stop> {
     read_all(alloc, source)

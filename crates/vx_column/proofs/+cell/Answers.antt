@@ -17,7 +17,7 @@ use Rattle.vx_types.specs.RowValue.{null, tagged}
 use Rattle.vx_types.specs.FieldTypes.{VariantTypes}
 use Rattle.vx_types.specs.Nullability.{is_nullable}
 use Rattle.vx_types.specs.Variants.{variants_fault}
-use Rattle.vx_numbers.specs.Positions.{positions_of}
+use Rattle.vx_positions.specs.Positions.{positions_of}
 use Rattle.vx_model.specs.Numbers.{numbers_of}
 use Rattle.vx_model.specs.Union.{UnionParts, IsPlace, index_of, place_at, tags_of}
 use Rattle.vx_model.proofs.Across.{shallow-get}

@@ -1,6 +1,6 @@
 -- Where the rows that a column is made of are positions, its own are.
 use Rattle.std.proofs.Common.{◌≡◌, None, ◌∙◌}
-use Rattle.vx_numbers.specs.Positions.{first_bad}
+use Rattle.vx_positions.specs.Positions.{first_bad}
 use Rattle.vx_model.specs.Numbers.{numbers_of}
 use Rattle.vx_model.proofs.LazyNumbers.{sound-values, sound-child}
 use Rattle.vx_column.proofs.+told.Goals as goal

@@ -2,7 +2,7 @@
 use Rattle.std.proofs.Common.{◌≡◌, length, true, ap, ◌∙◌, arith}
 use Rattle.vx_types.specs.TypeTree.{TypeTree, is_flat, is_int_type}
 use Rattle.vx_take.specs.Picks.{BoundedPicks}
-use Rattle.vx_numbers.specs.Positions.{positions_of}
+use Rattle.vx_positions.specs.Positions.{positions_of}
 use Rattle.vx_model.specs.Numbers.{numbers_of}
 use Rattle.std.specs.Prelude.{IfOk}
 use Rattle.vx_model.specs.Step.{IsStep, IsTake}

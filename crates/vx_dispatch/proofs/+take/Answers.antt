@@ -21,7 +21,7 @@ use Rattle.vx_model.specs.Filter.{filter_column}
 use Rattle.vx_model.specs.Step.{IsCut, IsTake}
 use Rattle.vx_model.specs.Column.{Column}
 use Rattle.vx_model.specs.Numbers.{numbers_of}
-use Rattle.vx_numbers.specs.Positions.{positions_of}
+use Rattle.vx_positions.specs.Positions.{positions_of}
 use Rattle.vx_model.proofs.LazyBits.{bits-dict}
 use Rattle.vx_model.proofs.LazySteps.{dict_fault-take, is_step-filter, is_take-dict, is_take-filter}
 use Rattle.vx_dispatch.proofs.Codes.{codes-no_fault}
@@ -37,7 +37,7 @@ use Rattle.vx_model.specs.Valid.{IsLeft}
 use Rattle.vx_model.proofs.ListRows.{fit-list, fit-listview, rows-list, rows-listview}
 use Rattle.std.proofs.Common.{List, Option}
 use Rattle.vx_take.specs.Picks.{BoundedPicks, in_runs}
-use Rattle.vx_numbers.specs.Positions.{AllThere}
+use Rattle.vx_positions.specs.Positions.{AllThere}
 use Rattle.vx_pieces.specs.Runs.{run_numbers}
 use Rattle.vx_pieces.proofs.PieceLists.{all_there-numbers}
 use Rattle.vx_dispatch.proofs.RunTakes.{runs_step}

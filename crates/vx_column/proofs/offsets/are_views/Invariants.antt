@@ -1,5 +1,5 @@
 use Rattle.std.proofs.Common.{◌≡◌, drop}
-use Rattle.vx_numbers.specs.Offsets.{offset_positions}
+use Rattle.vx_positions.specs.Offsets.{offset_positions}
 use Rattle.vx_model.specs.ListView.{are_views}
 use Rattle.vx_model.specs.Numbers.{integers_of}
 use Rattle.vx_column.proofs.offsets.are_views.Given as goal

@@ -3,7 +3,7 @@ use Rattle.std.proofs.Common.{◌≡◌, ◌<◌, ◌^◌, arith, ◌∙◌, get
 use Rattle.std.specs.Prelude.{pos}
 use Rattle.std.proofs.lemmas.Bool.Decides.{nat_tests}
 use Rattle.std.proofs.lemmas.Int.{ints, to_z-of_z}
-use Rattle.vx_numbers.specs.Offsets.{offset_positions}
+use Rattle.vx_positions.specs.Offsets.{offset_positions}
 use Rattle.vx_model.specs.Numbers.{integers_of}
 use Rattle.vx_column.proofs.Naturals.{is_integer_kind, is_integers, natural_at}
 use Rattle.vx_column.proofs.offsets.is_within.Goals as goal

@@ -1,6 +1,6 @@
 use Rattle.std.proofs.Common.{◌≡◌, drop}
 use Rattle.std.specs.List.{list_all}
-use Rattle.vx_numbers.specs.Positions.{positions_of}
+use Rattle.vx_positions.specs.Positions.{positions_of}
 use Rattle.vx_model.specs.Numbers.{numbers_of}
 use Rattle.vx_model.specs.Union.{is_known}
 use Rattle.vx_column.proofs.union_.are_known.Given as goal

@@ -1,7 +1,7 @@
 -- The place is one of the column that the id names, or of none.
 use Rattle.std.proofs.Common.{◌≡◌, Some, None, get_or, length, ap, sym, ◌∙◌}
 use Rattle.std.specs.Prelude.{pos}
-use Rattle.vx_numbers.specs.Positions.{is_position}
+use Rattle.vx_positions.specs.Positions.{is_position}
 use Rattle.vx_model.specs.Column.{Column}
 use Rattle.vx_model.specs.Numbers.{integers_of}
 use Rattle.vx_model.specs.Union.{has_row}

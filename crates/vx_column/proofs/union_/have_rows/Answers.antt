@@ -1,7 +1,7 @@
 -- One row after the other.
 use Rattle.std.proofs.Common.{◌≡◌, ◌<◌, ◌+◌, drop, get_or, length, None, true, false, ap, sym, ◌∙◌, arith}
 use Rattle.std.specs.Prelude.{pos, ◌&&◌}
-use Rattle.vx_numbers.specs.Positions.{positions_of}
+use Rattle.vx_positions.specs.Positions.{positions_of}
 use Rattle.vx_model.specs.Numbers.{integers_of, numbers_of}
 use Rattle.vx_model.specs.Union.{has_row, have_rows}
 use Rattle.vx_column.proofs.Naturals.{integers_long}

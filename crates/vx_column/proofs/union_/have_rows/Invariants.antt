@@ -1,5 +1,5 @@
 use Rattle.std.proofs.Common.{◌≡◌, drop}
-use Rattle.vx_numbers.specs.Positions.{positions_of}
+use Rattle.vx_positions.specs.Positions.{positions_of}
 use Rattle.vx_model.specs.Numbers.{integers_of, numbers_of}
 use Rattle.vx_model.specs.Union.{have_rows}
 use Rattle.vx_column.proofs.union_.have_rows.Given as goal

@@ -9,7 +9,7 @@ use Rattle.vx_model.specs.Valid.{cover_by, is_constant_form, nullability_by, pre
 use Rattle.vx_model.proofs.Layouts.{items-records, length-records}
 use Rattle.vx_model.proofs.Takes.{is_take-records}
 use Rattle.vx_column.specs.Validity.{valid_of}
-use Rattle.vx_flat.specs.Records.{zero_record}
+use Rattle.vx_stored.specs.Records.{zero_record}
 use Rattle.vx_pieces.specs.Runs.{run_numbers}
 use Rattle.vx_pieces.proofs.RunLists.{in_runs-within}
 use Rattle.vx_dispatch.proofs.RunTakes.{below_runs, left-constant}

@@ -1,6 +1,6 @@
 use Rattle.std.proofs.Common.{◌≡◌, ◌∙◌, map, refl, sym, ap, subst}
 use Rattle.std.specs.Prelude.{IfErr, IfSome}
-use Rattle.vx_outside.specs.Bytes.{Rose}
+use Rattle.vx_io.specs.Bytes.{Rose}
 use Rattle.vx_types.specs.PType.{width}
 use Rattle.vx_types.specs.RowValue.{null}
 use Rattle.vx_types.specs.TypeTree.{also_nullable}

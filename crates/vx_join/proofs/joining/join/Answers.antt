@@ -1,6 +1,6 @@
 -- The rows of the pairs, side by side.
 use Rattle.std.proofs.Common.{◌∙◌, ap, sym, subst}
-use Rattle.vx_numbers.specs.Positions.{AllThere}
+use Rattle.vx_positions.specs.Positions.{AllThere}
 use Rattle.vx_take.specs.Picks.{BoundedPicks}
 use Rattle.vx_join.specs.Join.{JoinValue}
 use Rattle.vx_join.specs.Keys.{matching_pairs}

@@ -1,7 +1,7 @@
 -- No element is left where no row is there.
 use Rattle.std.proofs.Common.{sym, ◌∙◌}
 use Rattle.std.proofs.lemmas.List.{length-map}
-use Rattle.vx_numbers.specs.Offsets.{items_in}
+use Rattle.vx_positions.specs.Offsets.{items_in}
 use Rattle.vx_model.specs.List.{list_spans}
 use Rattle.vx_model.specs.Lists.{lists_of}
 use Rattle.vx_column.specs.Validity.{valid_of}

@@ -1,6 +1,6 @@
 -- What the filter leaves is the selected lists.
 use Rattle.std.proofs.Common.{◌≡◌, ◌+◌, ◌≤◌, ◌∙◌, length, ap, arith}
-use Rattle.vx_numbers.specs.Offsets.{offset_positions}
+use Rattle.vx_positions.specs.Offsets.{offset_positions}
 use Rattle.vx_model.specs.Numbers.{integers_of}
 use Rattle.vx_model.proofs.Spans.{length-spans}
 use Rattle.vx_text.specs.Building.{type_of}

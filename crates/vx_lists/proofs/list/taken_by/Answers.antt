@@ -1,6 +1,6 @@
 -- What the take leaves is the picked lists.
 use Rattle.std.proofs.Common.{◌≤◌, ◌∙◌, Bool, List, length, ap, subst, arith}
-use Rattle.vx_numbers.specs.Offsets.{offset_positions}
+use Rattle.vx_positions.specs.Offsets.{offset_positions}
 use Rattle.vx_model.specs.Numbers.{integers_of}
 use Rattle.vx_model.specs.Valid.{present_bits}
 use Rattle.vx_model.proofs.Spans.{length-spans}

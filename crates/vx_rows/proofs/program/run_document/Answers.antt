@@ -1,7 +1,7 @@
 -- What was delivered, by what was read.
 use Rattle.std.proofs.Common.{◌≡◌, ℕ, List, Err, Some, take, ap, refl, sym, subst, ◌∙◌, inl, inr, arith}
 use Rattle.std.specs.Prelude.{◌≢◌}
-use Rattle.vx_outside.specs.Bytes.{with_back}
+use Rattle.vx_io.specs.Bytes.{with_back}
 use Rattle.vx_rows.specs.Program.{TooLong, Malformed, IsBroken, IsDone, IsPrinted, status_of, traced_by}
 use Rattle.vx_rows.proofs.Delivered.{is_done, is_broken, is_printed, is_malformed, status_or_memory, traced_alike, written_status}
 use Rattle.vx_rows.specs.Reply.{status_of_reply, traced_by_reply}

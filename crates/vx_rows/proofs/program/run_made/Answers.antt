@@ -1,7 +1,7 @@
 -- What was delivered of the line that a number makes.
 use Rattle.std.proofs.Common.{◌≡◌, ℕ, List, take, sym, ◌∙◌, inl, inr, arith}
 use Rattle.std.specs.Prelude.{◌≢◌}
-use Rattle.vx_outside.specs.Bytes.{with_back}
+use Rattle.vx_io.specs.Bytes.{with_back}
 use Rattle.vx_rows.specs.Program.{made}
 use Rattle.vx_rows.specs.Reply.{status_of_reply, traced_by_reply}
 use Rattle.vx_rows.proofs.Delivered.{is_done, is_printed, status_or_memory, traced_alike, written_status}

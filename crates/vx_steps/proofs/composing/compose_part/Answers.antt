@@ -1,6 +1,6 @@
 -- A part of picks that are all there is all there.
 use Rattle.std.proofs.Common.{◌^◌, ◌<◌, length, ap, sym, subst, arith}
-use Rattle.vx_numbers.specs.Positions.{AllThere}
+use Rattle.vx_positions.specs.Positions.{AllThere}
 use Rattle.vx_take.specs.Picks.{BoundedPicks}
 use Rattle.vx_steps.specs.Compose.{IsCounted, picks_in}
 use Rattle.vx_steps.proofs.ComposedPicks.{there-slice}

@@ -1,7 +1,7 @@
 -- What holds before each step.
 use Rattle.std.proofs.Common.{◌≡◌, map}
 use Rattle.vx_types.specs.declared.nullability.Nullability.TheVariants.{NonNullable}
-use Rattle.vx_numbers.specs.Positions.{AllThere}
+use Rattle.vx_positions.specs.Positions.{AllThere}
 use Rattle.vx_steps.specs.Step.{step_value}
 use Rattle.vx_steps.specs.Compose.{bound_of, picks_in, takes_nullability}
 use Rattle.vx_steps.proofs.Walks.{Reached}

@@ -2,7 +2,7 @@
 use Rattle.std.proofs.Common.{◌≡◌, ◌+◌, ◌-◌, ◌≤◌, ◌++◌, map}
 use Rattle.std.specs.Int.{w32, from_le_bytes}
 use Rattle.std.specs.Vec.{vec_capacity, vec_len}
-use Rattle.vx_numbers.specs.Offsets.{offset_positions, record_numbers}
+use Rattle.vx_positions.specs.Offsets.{offset_positions, record_numbers}
 use Rattle.vx_text.specs.OffsetList.{run_ends}
 use Rattle.vx_text.proofs.ends.push_narrow.Given as goal
 

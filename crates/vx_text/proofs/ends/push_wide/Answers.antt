@@ -2,7 +2,7 @@
 use Rattle.std.proofs.Common.{◌+◌, ◌-◌, ◌^◌, ◌<◌, ◌≤◌, length, ap, ap₂, ◌∙◌, arith}
 use Rattle.std.specs.Int.{w64, from_le_bytes}
 use Rattle.std.proofs.lemmas.Nat.{from_le_bytes-to_le_bytes_8}
-use Rattle.vx_numbers.specs.Offsets.{offset_positions, record_numbers}
+use Rattle.vx_positions.specs.Offsets.{offset_positions, record_numbers}
 use Rattle.vx_text.proofs.ReadOffsets.{run_ordered}
 use Rattle.vx_text.proofs.RunEnds.{first_ends, more_ends}
 use Rattle.vx_text.proofs.ends.push_wide.Goals as goal

@@ -5,7 +5,7 @@ use Rattle.std.specs.List.{items_where_true}
 use Rattle.vx_mask.specs.Mask.{mask_bits}
 use Rattle.vx_take.specs.Picks.{at, BoundedPicks}
 use Rattle.vx_take.proofs.TakenLists.{take_at_the_set}
-use Rattle.vx_numbers.specs.Offsets.{lists_at, offset_positions}
+use Rattle.vx_positions.specs.Offsets.{lists_at, offset_positions}
 use Rattle.vx_model.specs.Numbers.{integers_of}
 use Rattle.vx_model.specs.Records.{RecordParts}
 use Rattle.vx_model.specs.Text.{kept_texts}

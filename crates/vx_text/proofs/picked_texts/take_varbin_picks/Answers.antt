@@ -2,7 +2,7 @@
 use Rattle.std.proofs.Common.{◌≡◌, [], ℕ, Bool, List, length, ap, ap₂, sym, subst, ◌∙◌, arith}
 use Rattle.std.specs.Prelude.{IfOk}
 use Rattle.vx_take.specs.Picks.{at}
-use Rattle.vx_numbers.specs.Offsets.{lists_at, offset_positions}
+use Rattle.vx_positions.specs.Offsets.{lists_at, offset_positions}
 use Rattle.vx_mask.specs.Mask.{mask_bits}
 use Rattle.vx_model.specs.Numbers.{integers_of}
 use Rattle.vx_model.specs.Records.{RecordParts}

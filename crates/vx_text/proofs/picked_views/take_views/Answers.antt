@@ -4,7 +4,7 @@ use Rattle.std.specs.Prelude.{map}
 use Rattle.std.proofs.lemmas.List.{length-map}
 use Rattle.vx_types.specs.Text.{view_text}
 use Rattle.vx_types.specs.declared.text.BinaryView.{BinaryView}
-use Rattle.vx_numbers.specs.Offsets.{offset_positions}
+use Rattle.vx_positions.specs.Offsets.{offset_positions}
 use Rattle.vx_model.specs.Numbers.{integer_by, integers_of}
 use Rattle.vx_model.specs.Records.{RecordParts}
 use Rattle.vx_model.specs.Valid.{is_fitting}

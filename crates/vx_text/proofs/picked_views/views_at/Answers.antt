@@ -1,6 +1,6 @@
 -- One view more is put out, and there is room for it.
 use Rattle.std.proofs.Common.{rules, ◌<◌, None, length, ap, ◌∙◌, arith}
-use Rattle.vx_numbers.specs.Offsets.{offset_positions, record_numbers}
+use Rattle.vx_positions.specs.Offsets.{offset_positions, record_numbers}
 use Rattle.vx_text.specs.Views.{text_view}
 use Rattle.vx_text.proofs.PickedRows.{next_row, one_longer, one_more}
 use Rattle.vx_text.proofs.picked_views.views_at.Goals as goal

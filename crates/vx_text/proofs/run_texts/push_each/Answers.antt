@@ -1,9 +1,9 @@
 -- One row more is put out.
 use Rattle.std.proofs.Common.{◌≡◌, ℕ, ◌+◌, ◌-◌, ◌<◌, ◌≤◌, ◌++◌, List, length, get_or, slice_range, sym, ap, ap₂, subst, ◌∙◌, arith}
 use Rattle.std.proofs.lemmas.List.{length-map}
-use Rattle.vx_numbers.specs.Offsets.{lists_at, offset_positions, record_numbers}
-use Rattle.vx_numbers.specs.Positions.{position_of}
-use Rattle.vx_numbers.proofs.Ascending.{length-numbers}
+use Rattle.vx_positions.specs.Offsets.{lists_at, offset_positions, record_numbers}
+use Rattle.vx_positions.specs.Positions.{position_of}
+use Rattle.vx_positions.proofs.Ascending.{length-numbers}
 use Rattle.vx_text.specs.Building.{AddsTexts}
 use Rattle.vx_text.specs.OffsetList.{with_offset}
 use Rattle.vx_text.proofs.ReadOffsets.{run_ordered}

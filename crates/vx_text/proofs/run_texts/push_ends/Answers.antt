@@ -1,6 +1,6 @@
 -- All ends at once are the ends one by one.
 use Rattle.std.proofs.Common.{◌+◌, ◌-◌, ◌≤◌, get_or, arith}
-use Rattle.vx_numbers.specs.Offsets.{offset_positions, record_numbers}
+use Rattle.vx_positions.specs.Offsets.{offset_positions, record_numbers}
 use Rattle.vx_text.specs.OffsetList.{greatest_offset}
 use Rattle.vx_text.proofs.RunTexts.{run_added}
 use Rattle.vx_text.proofs.run_texts.push_ends.Goals as goal

@@ -1,7 +1,7 @@
 -- The records are the numbers of the column.
 use Rattle.std.proofs.Common.{sym, ap, ◌∙◌}
 use Rattle.vx_bits.specs.Records.{records_of, width_of}
-use Rattle.vx_numbers.specs.Positions.{first_bad}
+use Rattle.vx_positions.specs.Positions.{first_bad}
 use Rattle.vx_column.proofs.NumberLists.{is_int-typed, width-typed, numbers-present, numbers-shown}
 use Rattle.vx_column.proofs.array.Array.bad_record.Goals as goal
 

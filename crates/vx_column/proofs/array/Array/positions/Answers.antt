@@ -2,7 +2,7 @@
 use Rattle.std.proofs.Common.{sym, ap, ◌∙◌}
 use Rattle.std.proofs.lemmas.Result.{IfOk-weaker}
 use Rattle.vx_bits.specs.Records.{records_of, width_of}
-use Rattle.vx_numbers.specs.Positions.{first_bad}
+use Rattle.vx_positions.specs.Positions.{first_bad}
 use Rattle.vx_column.proofs.NumberLists.{is_int-typed, width-typed, numbers-present, numbers-shown}
 use Rattle.vx_column.proofs.array.Array.positions.Goals as goal
 

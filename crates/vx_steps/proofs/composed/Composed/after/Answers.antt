@@ -1,7 +1,7 @@
 -- No null comes in by a slice or a filter.
 use Rattle.std.proofs.Common.{subst, sym}
 use Rattle.vx_mask.specs.Mask.{mask_bits}
-use Rattle.vx_numbers.specs.Positions.{AllThere}
+use Rattle.vx_positions.specs.Positions.{AllThere}
 use Rattle.vx_steps.specs.Compose.{picks_in}
 use Rattle.vx_steps.proofs.ComposedPicks.{if_ok, there-slice, there-filter}
 use Rattle.vx_steps.proofs.composed.Composed.after.Goals as goal

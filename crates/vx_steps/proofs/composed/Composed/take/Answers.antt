@@ -1,7 +1,7 @@
 -- No null comes in where the indices and the picks before have none.
 use Rattle.std.proofs.Common.{◌∙◌, ap, subst, sym, length}
 use Rattle.vx_take.specs.Picks.{AreBelow}
-use Rattle.vx_numbers.specs.Positions.{AllThere}
+use Rattle.vx_positions.specs.Positions.{AllThere}
 use Rattle.vx_steps.specs.Compose.{picks_in}
 use Rattle.vx_steps.proofs.ComposedPicks.{there-at}
 use Rattle.vx_steps.proofs.composed.Composed.take.Goals as goal
