@@ -6,3 +6,5 @@ pub mod BitWords
 pub mod TopBits
 pub mod RunStarts
 pub mod RunMarks
+pub mod PickRanks
+pub mod PutRows

@@ -1,35 +1,11 @@
 -- Bits that a word takes in from above.
-use Rattle.std.proofs.Common.{◌≡◌, ℕ, suc, ◌+◌, ◌-◌, ◌*◌, ◌/◌, ◌%◌, ◌^◌, ◌<◌, ◌≤◌, Bool, true, false, eqb, List, [], ◌∷◌, ◌++◌, length, bit_and, bit_or, refl, sym, subst, ap, ap₂, ◌∙◌, arith}
-use Rattle.std.specs.Int.RustNames.{count_ones}
+use Rattle.std.proofs.Common.{◌≡◌, ℕ, suc, ◌+◌, ◌-◌, ◌*◌, ◌/◌, ◌%◌, ◌^◌, ◌<◌, Bool, true, false, eqb, List, [], ◌∷◌, ◌++◌, length, bit_or, sym, subst, ap, ap₂, ◌∙◌, arith}
 use Rattle.std.proofs.lemmas.Bool.{eqb-false, eqb-true}
-use Rattle.std.proofs.lemmas.Nat.{and_mask, or_comm, or_shifted, pow-add, shl_below, shl-shr}
+use Rattle.std.proofs.lemmas.Nat.{or_comm, or_shifted, pow-add, shl_below}
 use Rattle.std.proofs.Math.Nat.{add-mul, mul_assoc, pow-suc}
-use lib.Count.{count_trailing_zeros}
 use Rattle.vx_bits.specs.BitBuffer.{number_of}
-use Rattle.vx_bits.specs.Words.{word_bits}
 use Rattle.vx_bits.proofs.BitLists.{number_below}
-use Rattle.vx_bits.proofs.WordBits.{word_bits-none}
-use Rattle.vx_bits.proofs.WordLists.{one_less}
-use Rattle.vx_bitfilter.specs.Pext.{pext}
-use Rattle.vx_bitfilter.proofs.PackedBits.{all_packed, bit_behind, pack_lowest, picked_bits}
 use Rattle.vortex_c.proofs.BitWords.{number_joined}
-
--- the highest k bits of `top` are what is packed, and those at `left` are to be picked
-pub record OnTop (src mask top left k : ℕ) : Type 0 where
-  pub packed : ℕ
-  pub is : top ≡ packed * 2 ^ (64 - k)
-  pub value : word_bits packed k ++ picked_bits src left ≡ picked_bits src mask
-  pub below : packed < 2 ^ k
-  pub count : count_ones left + k ≡ count_ones mask
-
-pub none_on_top : (src mask : ℕ) → OnTop src mask 0 mask 0
-none_on_top src mask = record {
-  packed = 0;
-  is = omega arith;
-  value = ap (λ l. l ++ picked_bits src mask) (word_bits-none 0);
-  below = omega arith;
-  count = omega arith;
-}
 
 -- the lowest bit of a number comes in from above, behind k others
 in_from_above : (packed k top here : ℕ) → k < 64 → packed < 2 ^ k → top ≡ packed * 2 ^ (64 - k) → bit_or (top / 2) (here * 2 ^ 63 % 2 ^ 64) ≡ (here % 2 * 2 ^ k + packed) * 2 ^ (64 - (k + 1))
@@ -49,27 +25,6 @@ in_from_above packed k top here short below e =
     ap₂ bit_or half up ∙ or_comm low (bit * 2 ^ 63) ∙ or_shifted bit 63 low bound
     ∙ ap (λ x. x + low) (sym high) ∙ sym spread ∙ ap (λ n. (bit * 2 ^ k + packed) * 2 ^ n) (sym last)
 
--- the lowest set bit of what is left is taken in
-pub taken_in : (src mask top left k : ℕ) → 0 < left → left < 2 ^ 64 → count_ones mask ≤ 64 → OnTop src mask top left k → OnTop src mask (bit_or (top / 2) (src / 2 ^ count_trailing_zeros 64 left * 2 ^ 63 % 2 ^ 64)) (bit_and left (left - 1)) (k + 1)
-taken_in src mask top left k some fits most v =
-    let less = one_less 64 left some fits in
-    let short : k < 64 = omega (arith, v.count, less, most) in
-    let here = src / 2 ^ count_trailing_zeros 64 left in
-    let bit = bit_and here 1 in
-    let bit_is : bit ≡ here % 2 = and_mask here 1 in
-    let after = bit_or v.packed (bit * 2 ^ k % 2 ^ 64) in
-    let step = pack_lowest src v.packed left k after some fits short v.below refl in
-    let after_is : after ≡ bit * 2 ^ k + v.packed = bit_behind v.packed k bit v.below (omega (arith, bit_is)) short in
-    record {
-      packed = after;
-      is = in_from_above v.packed k top here short v.below v.is
-          ∙ ap (λ x. (x * 2 ^ k + v.packed) * 2 ^ (64 - (k + 1))) (sym bit_is)
-          ∙ ap (λ x. x * 2 ^ (64 - (k + 1))) (sym after_is);
-      value = step.value ∙ v.value;
-      below = step.below;
-      count = omega (arith, less, v.count);
-    }
-
 -- a lowest bit is a number
 lowest_is : (here : ℕ) (bit : Bool) → eqb (here % 2) 1 ≡ bit → here % 2 ≡ number_of (bit ∷ [])
 lowest_is here true e = eqb-true (here % 2) 1 e
@@ -84,7 +39,24 @@ in_behind bits bit top j here few long e is =
     in_from_above (number_of bits) j top here few below e
     ∙ ap (λ x. x * 2 ^ (64 - (j + 1))) (ap₂ (λ b n. b * 2 ^ n + number_of bits) (lowest_is here bit is) (sym long) ∙ sym (number_joined bits (bit ∷ [])))
 
--- where nothing is left, the highest bits are the word
-pub all_on_top : (src mask top left k : ℕ) → left ≡ 0 → OnTop src mask top left k → top / 2 ^ (64 - k) ≡ pext src mask
-all_on_top src mask top left k none v =
-    ap (λ x. x / 2 ^ (64 - k)) v.is ∙ shl-shr v.packed (64 - k) ∙ all_packed src mask v.packed left k none v.below v.value
+-- four bits come in behind the others
+pub four_behind : (bits four : List Bool) (top j here : ℕ) → j < 16 → length bits ≡ 4 * j → length four ≡ 4 → top ≡ number_of bits * 2 ^ (64 - 4 * j) → here ≡ number_of four → bit_or (top / 2 ^ 4) (here * 2 ^ 60 % 2 ^ 64) ≡ number_of (bits ++ four) * 2 ^ (64 - 4 * (j + 1))
+four_behind bits four top j here few long short e is =
+    let n = number_of bits in
+    let m = 60 - 4 * j in
+    let low = n * 2 ^ m in
+    let whole : 4 * j + m ≡ 60 = omega arith in
+    let wide : n * 2 ^ (64 - 4 * j) ≡ low * 2 ^ 4 =
+    let up : 64 - 4 * j ≡ m + 4 = omega arith in
+    ap (λ k. n * 2 ^ k) up ∙ ap (λ p. n * p) (pow-add 2 m 4) ∙ sym (mul_assoc n (2 ^ m) (2 ^ 4)) in
+    let quarter : top / 2 ^ 4 ≡ low = omega (arith, e, wide) in
+    let below : n < 2 ^ (4 * j) = subst (λ (k : ℕ). n < 2 ^ k) long (number_below bits) in
+    let bound : low < 2 ^ 60 = subst (λ (k : ℕ). low < 2 ^ k) whole (shl_below n (4 * j) m below) in
+    let small : here < 2 ^ 4 = subst (λ (x : ℕ). x < 2 ^ 4) (sym is) (subst (λ (k : ℕ). number_of four < 2 ^ k) short (number_below four)) in
+    let up : here * 2 ^ 60 % 2 ^ 64 ≡ here * 2 ^ 60 = omega arith in
+    let high : here * 2 ^ (4 * j) * 2 ^ m ≡ here * 2 ^ 60 = mul_assoc here (2 ^ (4 * j)) (2 ^ m) ∙ ap (λ p. here * p) (sym (pow-add 2 (4 * j) m) ∙ ap (λ k. 2 ^ k) whole) in
+    let spread : (here * 2 ^ (4 * j) + n) * 2 ^ m ≡ here * 2 ^ (4 * j) * 2 ^ m + low = add-mul (here * 2 ^ (4 * j)) n (2 ^ m) in
+    let joined : number_of (bits ++ four) ≡ here * 2 ^ (4 * j) + n = number_joined bits four ∙ ap₂ (λ x k. x * 2 ^ k + n) (sym is) long in
+    let last : 64 - 4 * (j + 1) ≡ m = omega arith in
+    ap₂ bit_or quarter up ∙ or_comm low (here * 2 ^ 60) ∙ or_shifted here 60 low bound
+    ∙ ap (λ x. x + low) (sym high) ∙ sym spread ∙ ap₂ (λ x k. x * 2 ^ k) (sym joined) (sym last)

@@ -1,7 +1,10 @@
 -- What a filter from outside answers, and what it leaves.
-use Rattle.std.specs.Prelude.{◌≡◌, ◌≢◌, ℕ, ◌==◌, List, ◌++◌, length, take, drop, if◌then◌else◌, nat_lt}
+use Rattle.std.specs.Prelude.{◌≡◌, ◌≢◌, ℕ, ◌+◌, ◌==◌, List, ◌++◌, Some, length, map, take, drop, if◌then◌else◌, nat_lt, slice_get}
 use Rattle.std.specs.List.{items_where_true}
+use Rattle.vx_bits.specs.BitBuffer.{true_count_of}
+use Rattle.vx_bits.specs.Words.{word_bits}
 use Rattle.vx_filter.specs.Compact.{bits_of_words}
+use Rattle.vx_mask.specs.Positions.{positions}
 use Rattle.vortex_c.specs.Masks.{count_of, mask_fault}
 
 -- why so many items can't be filtered by the words into so much room: the mask's fault, else 3 where
@@ -26,3 +29,11 @@ pub record IsKept {X : Type 0} (words : List ℕ) (old new : List X) (status val
   pub count : status ≡ 0 → value ≡ count_of words
   pub items : status ≡ 0 → take value new ≡ items_where_true (bits_of_words words) old
   pub refused : status ≢ 0 → new ≡ old
+
+-- the items at the set ones of a word's lowest n bits, the first of which has position `from`, stand
+-- from place `to` on up to `next`, and n places from `to` on the output is as it was
+pub record AreRowsPut {X : Type 0} (src : List X) (from word n : ℕ) (old new : List X) (to next : ℕ) : Type 0 where
+  pub count : next ≡ to + true_count_of (word_bits word n)
+  pub front : map Some (take next new)
+      ≡ map Some (take to old) ++ map (slice_get src) (positions from (word_bits word n))
+  pub rest : drop (to + n) new ≡ drop (to + n) old

@@ -10,15 +10,27 @@ ghost use Rattle.vortex_c.specs.Filters.{IsFiltered};
 use crate::answer::{Answer, DONE, ROOM};
 use crate::masks::{count_set, fault_of};
 use crate::records::{Record16, Record32};
+use crate::rows::compact_rows;
 use vx_filter::{compact_runs, compact_words};
 
-// Whether the runs of set bits have four bits on average. A run that crosses words counts in each.
-fn has_long_runs(words: &[u64], count: usize) -> bool {
+// How many runs the set bits make. A run that crosses words counts in each.
+fn count_runs(words: &[u64]) -> u64 {
     let mut runs: u64 = 0;
     for word in words {
         runs = runs.saturating_add(u64::from((word & !(word << 1)).count_ones()));
     }
-    runs <= (count / 4) as u64
+    runs
+}
+
+// Whether the runs have four bits on average.
+fn has_long_runs(words: &[u64], count: usize) -> bool {
+    count_runs(words) <= (count / 4) as u64
+}
+
+// Whether a word has 40 set bits on average, in more than two runs: then its 64 rows cost less than
+// a turn for each set bit or each run.
+fn has_many_rows(words: &[u64], count: usize) -> bool {
+    count / 40 >= words.len() && count_runs(words) / 2 > words.len() as u64
 }
 
 // Copies the items at the set bits, so many, to the front of the output: run after run where the
@@ -39,8 +51,26 @@ fn compact<T: Copy>(src: &[T], words: &[u64], count: usize, dst: &mut [T]) -> us
     }
 }
 
-// Copies the items at the set bits to the front of the output, or tells why not.
-fn filter<T: Copy>(src: &[T], words: &[u64], dst: &mut [T]) -> Answer
+// The same: row after row where many are selected and an item has no more than 16 bytes.
+fn keep<T: Copy>(src: &[T], words: &[u64], count: usize, dst: &mut [T], size: usize) -> usize
+    requires words { length words.now ≡ word_count (length src.now) }
+    requires clear { AllBits (bits_of_words words.now) (length src.now) (64 * length words.now)
+        false }
+    requires counted { count ≡ true_count_of (bits_of_words words.now) }
+    requires room { count ≤ length dst.old }
+    ensures count { result ≡ true_count_of (bits_of_words words.now) }
+    ensures front { take result dst.new ≡ items_where_true (bits_of_words words.now) src.now }
+    ensures rest { drop result dst.new ≡ drop result dst.old }
+{
+    if size <= 16 && has_many_rows(words, count) {
+        compact_rows(src, words, count, dst)
+    } else {
+        compact(src, words, count, dst)
+    }
+}
+
+// Copies the items, of so many bytes, at the set bits to the front of the output, or tells why not.
+fn filter<T: Copy>(src: &[T], words: &[u64], dst: &mut [T], size: usize) -> Answer
     ensures { IsFiltered src.now words.now dst.old dst.new result.status result.value }
 {
     let items = src.len();
@@ -55,7 +85,7 @@ fn filter<T: Copy>(src: &[T], words: &[u64], dst: &mut [T]) -> Answer
             value: count as u64,
         };
     }
-    let kept = compact(src, words, count, dst);
+    let kept = keep(src, words, count, dst, size);
     Answer {
         status: DONE,
         value: kept as u64,
@@ -71,7 +101,7 @@ fn filter<T: Copy>(src: &[T], words: &[u64], dst: &mut [T]) -> Answer
 pub extern "C" fn vortex_filter_1(src: &[u8], words: &[u64], dst: &mut [u8]) -> Answer
     ensures { IsFiltered src.now words.now dst.old dst.new result.status result.value }
 {
-    filter(src, words, dst)
+    filter(src, words, dst, 1)
 }
 
 /// Copies the records of 2 bytes at the set bits of `words` to the front of `dst`, in order. The
@@ -83,7 +113,7 @@ pub extern "C" fn vortex_filter_1(src: &[u8], words: &[u64], dst: &mut [u8]) -> 
 pub extern "C" fn vortex_filter_2(src: &[u16], words: &[u64], dst: &mut [u16]) -> Answer
     ensures { IsFiltered src.now words.now dst.old dst.new result.status result.value }
 {
-    filter(src, words, dst)
+    filter(src, words, dst, 2)
 }
 
 /// Copies the records of 4 bytes at the set bits of `words` to the front of `dst`, in order. The
@@ -95,7 +125,7 @@ pub extern "C" fn vortex_filter_2(src: &[u16], words: &[u64], dst: &mut [u16]) -
 pub extern "C" fn vortex_filter_4(src: &[u32], words: &[u64], dst: &mut [u32]) -> Answer
     ensures { IsFiltered src.now words.now dst.old dst.new result.status result.value }
 {
-    filter(src, words, dst)
+    filter(src, words, dst, 4)
 }
 
 /// Copies the records of 8 bytes at the set bits of `words` to the front of `dst`, in order. The
@@ -107,7 +137,7 @@ pub extern "C" fn vortex_filter_4(src: &[u32], words: &[u64], dst: &mut [u32]) -
 pub extern "C" fn vortex_filter_8(src: &[u64], words: &[u64], dst: &mut [u64]) -> Answer
     ensures { IsFiltered src.now words.now dst.old dst.new result.status result.value }
 {
-    filter(src, words, dst)
+    filter(src, words, dst, 8)
 }
 
 /// Copies the records of 16 bytes at the set bits of `words` to the front of `dst`, in order. The
@@ -119,7 +149,7 @@ pub extern "C" fn vortex_filter_8(src: &[u64], words: &[u64], dst: &mut [u64]) -
 pub extern "C" fn vortex_filter_16(src: &[Record16], words: &[u64], dst: &mut [Record16]) -> Answer
     ensures { IsFiltered src.now words.now dst.old dst.new result.status result.value }
 {
-    filter(src, words, dst)
+    filter(src, words, dst, 16)
 }
 
 /// Copies the records of 32 bytes at the set bits of `words` to the front of `dst`, in order. The
@@ -131,5 +161,5 @@ pub extern "C" fn vortex_filter_16(src: &[Record16], words: &[u64], dst: &mut [R
 pub extern "C" fn vortex_filter_32(src: &[Record32], words: &[u64], dst: &mut [Record32]) -> Answer
     ensures { IsFiltered src.now words.now dst.old dst.new result.status result.value }
 {
-    filter(src, words, dst)
+    filter(src, words, dst, 32)
 }

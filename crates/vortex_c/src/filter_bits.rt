@@ -44,27 +44,27 @@ fn picked(word: u64, picks: u64) -> Kept
             count: 64,
         };
     }
-    picked_one_by_one(word, picks)
+    picked_by_ranks(word, picks)
 }
 
-// A turn for each set bit, the lowest first: its bit comes in from above.
+// A turn for each set bit that is picked, the lowest first: its place is the number of picks below
+// it. `left - 1` has the bits below the lowest one in place of it.
 #[inline(always)]
-fn picked_one_by_one(word: u64, picks: u64) -> Kept
-    requires { 0 < picks }
+fn picked_by_ranks(word: u64, picks: u64) -> Kept
     ensures bits { result.bits ≡ pext word picks }
     ensures count { result.count ≡ count_ones picks }
 {
-    let mut top: u64 = 0;
-    let mut left = picks;
+    let mut packed: u64 = 0;
+    let mut left = word & picks;
     'bits: while left != 0 {
-        let from_there = word >> left.trailing_zeros();
-        top = (top >> 1) | (from_there << 63);
-        left &= left - 1;
+        let rest = left & (left - 1);
+        let below = (left - 1) - rest;
+        packed |= 1 << (picks & below).count_ones();
+        left = rest;
     }
-    let count = picks.count_ones();
     Kept {
-        bits: top >> (64 - count),
-        count,
+        bits: packed,
+        count: picks.count_ones(),
     }
 }
 

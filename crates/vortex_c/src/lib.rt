@@ -14,6 +14,7 @@ mod masks;
 mod positions;
 mod ranks;
 mod records;
+mod rows;
 mod runs;
 mod take;
 mod take_bits;

@@ -41,10 +41,79 @@ fn fault_of(src: &[u64], src_at: usize, len: usize, picks: usize, valid: &[u64],
     }
 }
 
-// The bits at so many picks from `start` on, the first one lowest, and a clear one at each null.
-// Each comes in from above.
+// The bit at pick `k`, or a clear one where it is null.
 #[inline(always)]
-fn word_taken(
+fn bit_taken(
+    src: &[u64],
+    src_at: usize,
+    len: usize,
+    indices: &[u64],
+    valid: &[u64],
+    k: usize,
+) -> u64
+    requires held { src_at + len ≤ 64 * length src.now }
+    requires valid { valid_fault (length indices.now) valid.now ≡ 0 }
+    requires within { (k : ℕ) → IsPast len indices.now valid.now k → ⊥ }
+    requires place { k < length indices.now }
+    ensures bit { result < 2 }
+    ensures value { (result == 1)
+        ≡ item_at false (bits_at src.now src_at len) (pick_at indices.now valid.now k) }
+{
+    from_bit_or_clear(src, src_at, len, there(valid, k), indices[k]) & 1
+}
+
+// The bits at four picks from `k` on, the first one lowest.
+#[inline(always)]
+fn four_taken(
+    src: &[u64],
+    src_at: usize,
+    len: usize,
+    indices: &[u64],
+    valid: &[u64],
+    k: usize,
+) -> u64
+    requires held { src_at + len ≤ 64 * length src.now }
+    requires valid { valid_fault (length indices.now) valid.now ≡ 0 }
+    requires within { (k : ℕ) → IsPast len indices.now valid.now k → ⊥ }
+    requires place { k + 4 ≤ length indices.now }
+    ensures { result ≡ number_of (at false (bits_at src.now src_at len)
+        (map (pick_at indices.now valid.now) (range_with_len k 4))) }
+{
+    let first = bit_taken(src, src_at, len, indices, valid, k);
+    let second = bit_taken(src, src_at, len, indices, valid, k + 1);
+    let third = bit_taken(src, src_at, len, indices, valid, k + 2);
+    let fourth = bit_taken(src, src_at, len, indices, valid, k + 3);
+    first + 2 * second + 4 * third + 8 * fourth
+}
+
+// The bits at 64 picks from `start` on: four at a time come in from above.
+#[inline(always)]
+fn full_word_taken(
+    src: &[u64],
+    src_at: usize,
+    len: usize,
+    indices: &[u64],
+    valid: &[u64],
+    start: usize,
+) -> u64
+    requires held { src_at + len ≤ 64 * length src.now }
+    requires valid { valid_fault (length indices.now) valid.now ≡ 0 }
+    requires within { (k : ℕ) → IsPast len indices.now valid.now k → ⊥ }
+    requires place { start + 64 ≤ length indices.now }
+    ensures { result ≡ number_of (at false (bits_at src.now src_at len)
+        (map (pick_at indices.now valid.now) (range_with_len start 64))) }
+{
+    let mut top: u64 = 0;
+    for j in 0..16 {
+        let four = four_taken(src, src_at, len, indices, valid, start + 4 * j);
+        top = (top >> 4) | (four << 60);
+    }
+    top
+}
+
+// The bits at so many picks from `start` on: each comes in from above.
+#[inline(always)]
+fn part_taken(
     src: &[u64],
     src_at: usize,
     len: usize,
@@ -69,6 +138,33 @@ fn word_taken(
         top = (top >> 1) | (from_there << 63);
     }
     top >> (64 - count)
+}
+
+// The bits at so many picks from `start` on, the first one lowest, and a clear one at each null.
+#[inline(always)]
+fn word_taken(
+    src: &[u64],
+    src_at: usize,
+    len: usize,
+    indices: &[u64],
+    valid: &[u64],
+    start: usize,
+    count: usize,
+) -> u64
+    requires held { src_at + len ≤ 64 * length src.now }
+    requires valid { valid_fault (length indices.now) valid.now ≡ 0 }
+    requires within { (k : ℕ) → IsPast len indices.now valid.now k → ⊥ }
+    requires place { start + count ≤ length indices.now }
+    requires some { 0 < count }
+    requires few { count ≤ 64 }
+    ensures { result ≡ number_of (at false (bits_at src.now src_at len)
+        (map (pick_at indices.now valid.now) (range_with_len start count))) }
+{
+    if count == 64 {
+        full_word_taken(src, src_at, len, indices, valid, start)
+    } else {
+        part_taken(src, src_at, len, indices, valid, start, count)
+    }
 }
 
 // Writes the bits at the picks, and a clear one at each null.

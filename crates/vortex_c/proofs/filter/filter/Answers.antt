@@ -7,6 +7,6 @@ count_set-count-requires g c =
     let mask = is_mask (length c.args.src.now) c.args.words.now (omega (arith, c.fault_of-fault.ensures, c.if-fault-ne-DONE.false)) in
     omega (arith, mask.few)
 
-pub compact-kept-requires-clause-clear : goal.compact-kept-requires-clause-clear
-compact-kept-requires-clause-clear g c =
+pub keep-kept-requires-clause-clear : goal.keep-kept-requires-clause-clear
+keep-kept-requires-clause-clear g c =
     (is_mask (length c.args.src.now) c.args.words.now (omega (arith, c.fault_of-fault.ensures, c.if-fault-ne-DONE.false))).clear
