@@ -1,11 +1,15 @@
 -- Bits that are set in the elements of lists, list by list.
-use Rattle.std.proofs.Common.{◌≡◌, ℕ, zero, suc, ◌+◌, ◌-◌, ◌<◌, ◌≤◌, Bool, true, false, cond, List, [], ◌∷◌, ◌++◌, length, get_or, map, take, drop, replicate, refl, sym, ap, ap₂, subst, ◌∙◌, arith}
+use Rattle.std.proofs.Common.{◌≡◌, ℕ, zero, suc, ◌+◌, ◌-◌, ◌*◌, ◌/◌, ◌%◌, ◌^◌, ◌<◌, ◌≤◌, Bool, true, false, cond, List, [], ◌∷◌, ◌++◌, length, get_or, map, take, drop, replicate, refl, sym, ap, ap₂, subst, ◌∙◌, append_assoc, arith}
 use Rattle.std.specs.List.{All, range_with_len}
 use Rattle.std.specs.Prelude.{nat_lt}
+use Rattle.std.proofs.lemmas.Nat.{pow_pos, shl_whole}
+use Rattle.std.proofs.lemmas.Nat.Bits.{ones_shr}
 use Rattle.std.proofs.lemmas.Bool.{ltb-true}
 use Rattle.std.proofs.lemmas.List.{drop_more, length-append, length-replicate, map-append, take_more}
 use Rattle.std.proofs.lemmas.List.Concat.{flat_map-append}
 use Rattle.std.proofs.lemmas.List.Elements.{All-cons, All-get_or}
+use Rattle.vx_bits.specs.Words.{word_bits}
+use Rattle.vx_bits.proofs.WordBits.{full-word_bits, word_bits-append, zero-word_bits}
 use Rattle.vx_mask.specs.Positions.{ascending, run_positions, set_of}
 use Rattle.vx_mask.proofs.AscendingLists.{covered_more}
 use Rattle.vx_mask.proofs.PositionLists.{set_of_clear, set_of_set}
@@ -153,6 +157,24 @@ module _ (offsets : List ℕ) (range : ℕ × ℕ) (bits : List Bool) (runs : Li
       (rows_marked offsets range bits new (run_positions (take k runs)) (run_positions (drop (k + 1) runs)) run.0 run.1 (some k (0, 0) h) are (All-run (λ i. IsWithin range (span_at offsets i)) runs k h covers) (next_run_rows h v) e long)
 
 -- ---- the bits of one step
+
+-- so many ones
+ones_word : (n : ℕ) → n ≤ 64 → (2 ^ 64 - 1) / 2 ^ (64 - n) ≡ 2 ^ n - 1
+ones_word n h =
+    let left : 64 - (64 - n) ≡ n = omega arith in
+    ones_shr 64 (64 - n) (omega arith) ∙ ap (λ k. 2 ^ k - 1) left
+
+pub ones_put : (bits : List Bool) (n : ℕ) → n ≤ 64 → bits ++ word_bits ((2 ^ 64 - 1) / 2 ^ (64 - n)) n ≡ bits ++ replicate n true
+ones_put bits n h = ap (λ l. bits ++ l) (ap (λ w. word_bits w n) (ones_word n h) ∙ full-word_bits n)
+
+-- clear bits, and set ones behind them, as one word
+pub run_put : (bits : List Bool) (clear set : ℕ) → clear + set ≤ 64 → bits ++ word_bits ((2 ^ 64 - 1) / 2 ^ (64 - set) * 2 ^ clear % 2 ^ 64) (clear + set) ≡ (bits ++ replicate clear false) ++ replicate set true
+run_put bits clear set h =
+    let some = pow_pos set in
+    let none : (2 ^ set - 1) * 2 ^ clear ≡ (2 ^ set - 1) * 2 ^ clear + 0 = omega arith in
+    let word = ap (λ w. w * 2 ^ clear % 2 ^ 64) (ones_word set (omega arith)) ∙ shl_whole (2 ^ set - 1) set clear 64 (omega (arith, some)) (omega arith) ∙ none in
+    ap (λ l. bits ++ l) (ap (λ w. word_bits w (clear + set)) word ∙ word_bits-append 0 clear (2 ^ set - 1) set (pow_pos clear) ∙ ap₂ ◌++◌ (zero-word_bits clear) (full-word_bits set))
+    ∙ sym (append_assoc bits (replicate clear false) (replicate set true))
 
 -- clear bits up to a place, and set ones behind them
 pub elements_appended : (bits first both : List Bool) (start low high : ℕ) → low < high → start + length bits ≤ low → first ≡ bits ++ replicate (low - start - length bits) false → both ≡ first ++ replicate (high - low) true → (map (λ p. start + p) (set_of both) ≡ map (λ p. start + p) (set_of bits) ++ range_with_len low (high - low)) × (length both ≡ high - start)

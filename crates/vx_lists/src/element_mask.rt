@@ -1,5 +1,5 @@
 //! The mask of the elements of selected lists.
-ghost use Rattle.std.specs.Prelude.{◌≡◌, ◌+◌, ◌-◌, ◌<◌, ◌≤◌, ◌++◌, IfOk, IsSome, OnOk, length, map, nat_lt, true, if◌then◌else◌};
+ghost use Rattle.std.specs.Prelude.{◌≡◌, ◌+◌, ◌-◌, ◌^◌, ◌<◌, ◌≤◌, ◌++◌, IfOk, IsSome, OnOk, length, map, nat_lt, replicate, false, true, if◌then◌else◌};
 ghost use Rattle.std.specs.List.{All, range_with_len};
 ghost use Rattle.vx_lists.specs.Lists.{AreElementBits, AreOffsets, Covers, IsWithin, MarksSelected, row_count, span_at};
 ghost use Rattle.vx_mask.specs.Mask.{indices_in, mask_bits, partial_of, slices_in};
@@ -182,10 +182,36 @@ fn append_elements(bits: &mut BitBuilder, start: usize, low: u64, high: u64) -> 
 {
     if low < high {
         let clear = low as usize - start - bits.len();
-        bits.append_n(false, clear)?;
-        bits.append_n(true, (high - low) as usize)?;
+        append_run(bits, clear, (high - low) as usize)?;
     }
     Ok(())
+}
+
+// Appends so many clear bits and then so many set ones: as one word, where they fit into one.
+#[inline(always)]
+fn append_run(bits: &mut BitBuilder, clear: usize, set: usize) -> Result<(), NoMemory>
+    requires some { 0 < set }
+    requires counted { clear + set < 2 ^ 64 }
+    ensures { OnOk result
+        (bits.new ≡ (bits.old ++ replicate clear false) ++ replicate set true) }
+{
+    if clear + set <= 64 {
+        return bits.append_word((u64::MAX >> (64 - set)) << clear, clear + set);
+    }
+    bits.append_n(false, clear)?;
+    append_ones(bits, set)
+}
+
+// Appends so many set bits.
+#[inline(always)]
+fn append_ones(bits: &mut BitBuilder, n: usize) -> Result<(), NoMemory>
+    requires { 0 < n }
+    ensures { OnOk result (bits.new ≡ bits.old ++ replicate n true) }
+{
+    if n <= 64 {
+        return bits.append_word(u64::MAX >> (64 - n), n);
+    }
+    bits.append_n(true, n)
 }
 
 // These bits, and clear ones up to this length.

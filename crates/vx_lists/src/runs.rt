@@ -57,14 +57,41 @@ fn push_runs(runs: &mut Vec<(usize, usize)>, len: usize, base: usize, word: u64)
     ensures count { vec_len runs.new ≤ vec_len runs.old + count_ones word }
     ensures capacity { vec_capacity runs.new ≡ vec_capacity runs.old }
 {
-    let _ = len;
-    let mut left = word;
+    let mut left = lengthen_last(runs, len, base, word);
     'run: while left != 0 {
         let run = lowest_run(left);
         let start = base + run.low;
         runs.push_reserved((start, start + run.count));
         left = run.rest;
     }
+}
+
+// Lengthens the last run by the lowest one of such a word, where that begins at its end. Gives what
+// is left of the word.
+#[inline(always)]
+fn lengthen_last(runs: &mut Vec<(usize, usize)>, len: usize, base: usize, word: u64) -> u64
+    requires within { All (λ p. p < len) (positions base (word_bits word 64)) }
+    requires none_empty { All (λ run. run.0 < run.1) runs.old.items }
+    ensures places { run_positions runs.new.items ++ positions base (word_bits result 64)
+        ≡ run_positions runs.old.items ++ positions base (word_bits word 64) }
+    ensures within { All (λ p. p < len) (positions base (word_bits result 64)) }
+    ensures none_empty { All (λ run. run.0 < run.1) runs.new.items }
+    ensures ones { count_ones result ≤ count_ones word }
+    ensures count { vec_len runs.new ≡ vec_len runs.old }
+    ensures capacity { vec_capacity runs.new ≡ vec_capacity runs.old }
+{
+    let _ = len;
+    let count = runs.len();
+    if count == 0 || word % 2 == 0 {
+        return word;
+    }
+    let run = lowest_run(word);
+    let last = runs[count - 1];
+    if last.1 != base + run.low {
+        return word;
+    }
+    runs[count - 1] = (last.0, last.1 + run.count);
+    run.rest
 }
 
 // The lowest run of set bits of a word, and the word without it.

@@ -27,4 +27,4 @@ run-preserved c =
 pub returns-clause-places : goal.returns-clause-places
 returns-clause-places c =
     let v = c.run.invariant in
-    sym (append-nil (run_positions c.run.runs.items)) ∙ sym (ap (λ l. run_positions c.run.runs.items ++ l) (ap (λ n. positions c.args.base (word_bits n 64)) (omega arith) ∙ no_positions c.args.base)) ∙ v.places
+    sym (append-nil (run_positions c.run.runs.items)) ∙ sym (ap (λ l. run_positions c.run.runs.items ++ l) (ap (λ n. positions c.args.base (word_bits n 64)) (omega arith) ∙ no_positions c.args.base)) ∙ v.places ∙ c.lengthen_last-left.ensures.places
