@@ -1,14 +1,9 @@
 -- Why a filter is refused, and what it leaves where it is not.
-use Rattle.std.proofs.Common.{◌≡◌, ℕ, ◌<◌, ◌≤◌, cond, ltb, List, ◌++◌, take, drop, eq-eqb, ne_eqb, sym, ap, ap₂, ◌∙◌}
+use Rattle.std.proofs.Common.{◌≡◌, ℕ, ◌<◌, ◌≤◌, cond, ltb, List, ◌++◌, take, drop, eq-eqb, sym, ap, ap₂, ◌∙◌}
 use Rattle.std.proofs.lemmas.Bool.{le-ltb, lt-ltb}
 use Rattle.std.proofs.lemmas.List.{take-append-drop}
 use Rattle.vortex_c.specs.Masks.{count_of, mask_fault}
 use Rattle.vortex_c.specs.Filters.{filter_fault}
-
--- the mask's fault is the filter's
-pub mask_refused : (items : ℕ) (words : List ℕ) (room fault : ℕ) → fault ≡ mask_fault items words → (fault ≡ 0 → ⊥) → fault ≡ filter_fault items words room
-mask_refused items words room fault e some =
-    e ∙ sym (ap (λ b. cond b (cond (ltb room (count_of words)) 3 0) (mask_fault items words)) (ne_eqb (mask_fault items words) 0 (λ none. some (e ∙ none))))
 
 faultless_is : (items : ℕ) (words : List ℕ) (room : ℕ) → mask_fault items words ≡ 0 → filter_fault items words room ≡ cond (ltb room (count_of words)) 3 0
 faultless_is items words room e = ap (λ b. cond b (cond (ltb room (count_of words)) 3 0) (mask_fault items words)) (eq-eqb (mask_fault items words) 0 e)

@@ -1,8 +1,8 @@
 -- Picks of which some are null, and the items at them.
-use Rattle.std.proofs.Common.{◌≡◌, ℕ, ◌+◌, ◌*◌, ◌/◌, ◌%◌, ◌<◌, ◌≤◌, true, cond, eqb, ltb, List, [], ◌∷◌, ◌++◌, length, get_or, take, drop, set, map, eq-eqb, ne_eqb, inl, inr, refl, subst, sym, ap, ap₂, ◌∙◌, arith}
+use Rattle.std.proofs.Common.{◌≡◌, ℕ, ◌+◌, ◌*◌, ◌/◌, ◌%◌, ◌<◌, ◌≤◌, true, cond, eqb, ltb, List, [], ◌∷◌, ◌++◌, length, get_or, take, drop, set, map, eq-eqb, refl, subst, sym, ap, ap₂, ◌∙◌, arith}
 use Rattle.std.specs.Int.{bit_at}
 use Rattle.std.specs.List.{range_with_len}
-use Rattle.std.proofs.lemmas.Bool.{cases_lt, le-ltb, lt-ltb}
+use Rattle.std.proofs.lemmas.Bool.{le-ltb, lt-ltb}
 use Rattle.std.proofs.Math.ListN.{length-set}
 use Rattle.std.proofs.lemmas.List.{get_or-drop, get_or_append_left, map-append, take-append-drop, take_more_set}
 use Rattle.std.proofs.lemmas.List.FromFn.{map-range_with_len_more}
@@ -11,9 +11,8 @@ use Rattle.vx_bits.proofs.WordBits.{get_or-word_bits, length-word_bits}
 use Rattle.vx_filter.specs.Compact.{bits_of_words}
 use Rattle.vx_take.specs.Picks.{at, item_at}
 use Rattle.vortex_c.specs.Masks.{mask_fault}
-use Rattle.vortex_c.specs.Takes.{IsFront, IsPast, front_at, is_there, pick_at, take_fault, valid_fault}
+use Rattle.vortex_c.specs.Takes.{IsFront, front_at, is_there, pick_at, take_fault, valid_fault}
 use Rattle.vortex_c.proofs.MaskRows.{bits_from}
-use Rattle.vortex_c.proofs.MaskWords.{is_mask}
 
 -- ---- which picks are there
 
@@ -34,12 +33,6 @@ there_bit valid k h =
     ∙ get_or_append_left (word_bits x 64) (bits_of_words (drop (w + 1) valid)) true r (omega (arith, length-word_bits x 64))
     ∙ get_or-word_bits x 64 r true low
 
--- validity without a fault has a word for each pick, where it has any
-pub word_there : (picks : ℕ) (valid : List ℕ) (k : ℕ) → valid_fault picks valid ≡ 0 → k < picks → (length valid ≡ 0 → ⊥) → k / 64 < length valid
-word_there picks valid k e h some =
-    let fault : mask_fault picks valid ≡ 0 = sym (ap (λ b. cond b 0 (mask_fault picks valid)) (ne_eqb (length valid) 0 some)) ∙ e in
-    omega (arith, (is_mask picks valid fault).lengths)
-
 -- ---- faults
 
 -- without a word the words are none
@@ -49,12 +42,6 @@ no_word (x ∷ valid) e = absurd (omega (arith, e))
 
 pub no_words : (picks : ℕ) (valid : List ℕ) → length valid ≡ 0 → 0 ≡ valid_fault picks valid
 no_words picks valid e = sym (ap (λ b. cond b 0 (mask_fault picks valid)) (eq-eqb (length valid) 0 e))
-
-pub some_words : (picks : ℕ) (valid : List ℕ) → (length valid ≡ 0 → ⊥) → mask_fault picks valid ≡ valid_fault picks valid
-some_words picks valid some = sym (ap (λ b. cond b 0 (mask_fault picks valid)) (ne_eqb (length valid) 0 some))
-
-pub valid_refused : (picks : ℕ) (valid : List ℕ) (room : ℕ) → (valid_fault picks valid ≡ 0 → ⊥) → valid_fault picks valid ≡ take_fault picks valid room
-valid_refused picks valid room some = sym (ap (λ b. cond b (cond (ltb room picks) 3 0) (valid_fault picks valid)) (ne_eqb (valid_fault picks valid) 0 some))
 
 valid_passed : (picks : ℕ) (valid : List ℕ) (room : ℕ) → valid_fault picks valid ≡ 0 → take_fault picks valid room ≡ cond (ltb room picks) 3 0
 valid_passed picks valid room e = ap (λ b. cond b (cond (ltb room picks) 3 0) (valid_fault picks valid)) (eq-eqb (valid_fault picks valid) 0 e)
@@ -66,13 +53,6 @@ pub some_room : (picks : ℕ) (valid : List ℕ) (room : ℕ) → valid_fault pi
 some_room picks valid room e h = sym (valid_passed picks valid room e ∙ ap (λ b. cond b 3 0) (le-ltb room picks h))
 
 -- ---- items
-
--- where no pick is past the bound, each that is there is below it
-pub below_bound : (bound : ℕ) (indices valid : List ℕ) (k : ℕ) → ((j : ℕ) → IsPast bound indices valid j → ⊥) → k < length indices → is_there valid k ≡ true → get_or indices k 0 < bound
-below_bound bound indices valid k none within there = elim (cases_lt (get_or indices k 0) bound) [
-  | inl below ↦ below
-  | inr past ↦ absurd (none k (record { within = within; there = there; past = past }))
-]
 
 module _ {X : Type 0} (fill : X) (src : List X) (indices valid : List ℕ) where
   -- the items at one more pick

@@ -36,7 +36,8 @@ bit_filter_fault src src_at mask mask_at rows room =
 
 -- the bits at the mask's set bits are the first ones of the output, clear bits fill the last word,
 -- and the words behind it are as they were; or the call was refused and all of it is
-pub record AreBitsFiltered (src : List ℕ) (src_at : ℕ) (mask : List ℕ) (mask_at rows : ℕ) (old new : List ℕ) (status value : ℕ) : Type 0 where
+pub record AreBitsFiltered (src : List ℕ) (src_at : ℕ) (mask : List ℕ) (mask_at rows : ℕ)
+    (old new : List ℕ) (status value : ℕ) : Type 0 where
   pub fault : status ≡ bit_filter_fault src src_at mask mask_at rows (length old)
   pub count : (status ≡ 0) ⊎ (status ≡ 3) → value ≡ true_count_of (bits_at mask mask_at rows)
   pub bits : status ≡ 0 → new
@@ -57,7 +58,8 @@ bit_take_fault src src_at len picks valid room =
 
 -- the bits at the picks are the first ones of the output, a clear one at each null, clear bits fill
 -- the last word, and the words behind it are as they were; or the call was refused and all of it is
-pub record AreBitsTaken (src : List ℕ) (src_at len : ℕ) (indices valid old new : List ℕ) (status value : ℕ) : Type 0 where
+pub record AreBitsTaken (src : List ℕ) (src_at len : ℕ) (indices valid old new : List ℕ)
+    (status value : ℕ) : Type 0 where
   pub fault : bit_take_fault src src_at len (length indices) valid (length old) ≢ 0
       → status ≡ bit_take_fault src src_at len (length indices) valid (length old)
   pub fits : bit_take_fault src src_at len (length indices) valid (length old) ≡ 0

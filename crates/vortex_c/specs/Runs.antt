@@ -23,7 +23,8 @@ run_fault rows words room =
 
 -- the maximal runs stand at the front of the output and the rest of it is as it was, or the call
 -- was refused and all of it is
-pub record AreRunsListed (rows : ℕ) (words : List ℕ) (old new : List Run) (status value : ℕ) : Type 0 where
+pub record AreRunsListed (rows : ℕ) (words : List ℕ) (old new : List Run) (status value : ℕ)
+    : Type 0 where
   pub fault : status ≡ run_fault rows words (length old)
   pub count : mask_fault rows words ≡ 0 → value ≡ length (maximal_runs (rows_of words rows))
   pub runs : status ≡ 0 → new

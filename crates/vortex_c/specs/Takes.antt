@@ -41,7 +41,8 @@ pub record IsFirstPast (bound : ℕ) (indices valid : List ℕ) (k : ℕ) : Type
 
 -- the items at the picks stand at the front of the output, `fill` at each null, and the rest of it
 -- is as it was; or the call was refused and all of it is
-pub record IsTaken {X : Type 0} (fill : X) (src : List X) (indices valid : List ℕ) (old new : List X) (status value : ℕ) : Type 0 where
+pub record IsTaken {X : Type 0} (fill : X) (src : List X) (indices valid : List ℕ)
+    (old new : List X) (status value : ℕ) : Type 0 where
   pub fault : take_fault (length indices) valid (length old) ≢ 0
       → status ≡ take_fault (length indices) valid (length old)
   pub fits : take_fault (length indices) valid (length old) ≡ 0 → (status ≡ 0) ⊎ (status ≡ 4)
@@ -54,18 +55,20 @@ pub record IsTaken {X : Type 0} (fill : X) (src : List X) (indices valid : List 
 abbrev pub front_at : {X : Type 0} → X → List X → List ℕ → List ℕ → ℕ → List X
 front_at fill src indices valid k = at fill src (map (pick_at indices valid) (range_with_len 0 k))
 
--- no index of the first k picks is out of bounds, their items stand at the front, and the rest is as
--- it was
-pub record IsFront {X : Type 0} (fill : X) (src : List X) (indices valid : List ℕ) (old new : List X) (k : ℕ) : Type 0 where
+-- no index of the first k picks is out of bounds, their items stand at the front, and the rest is
+-- as it was
+pub record IsFront {X : Type 0} (fill : X) (src : List X) (indices valid : List ℕ)
+    (old new : List X) (k : ℕ) : Type 0 where
   pub within : k ≤ length indices
   pub inside : (j : ℕ) → j < k → IsPast (length src) indices valid j → ⊥
   pub items : take k new ≡ front_at fill src indices valid k
   pub rest : drop k new ≡ drop k old
 
 -- the items at the picks before the first that is out of bounds stand at the front of the output,
--- `fill` at each null, the number is how many they are, and the rest of it is as it was; or the call
--- was refused and all of it is
-pub record IsFrontTaken {X : Type 0} (fill : X) (src : List X) (indices valid : List ℕ) (old new : List X) (status value : ℕ) : Type 0 where
+-- `fill` at each null, the number is how many they are, and the rest of it is as it was; or the
+-- call was refused and all of it is
+pub record IsFrontTaken {X : Type 0} (fill : X) (src : List X) (indices valid : List ℕ)
+    (old new : List X) (status value : ℕ) : Type 0 where
   pub fault : status ≡ take_fault (length indices) valid (length old)
   pub room : status ≡ 3 → value ≡ length indices
   pub within : status ≡ 0 → value ≤ length indices

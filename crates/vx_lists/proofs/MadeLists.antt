@@ -1,5 +1,5 @@
 -- Columns of lists that are made of offsets and of the elements that are left.
-use Rattle.std.proofs.Common.{◌≡◌, ℕ, zero, suc, ◌+◌, ◌-◌, ◌<◌, ◌≤◌, Bool, true, false, List, [], ◌∷◌, length, get_or, map, replicate, Ok, Err, Result, IfOk, None, Some, Option, refl, sym, ap, ap₂, subst, ◌∙◌, add-one, arith}
+use Rattle.std.proofs.Common.{◌≡◌, ℕ, zero, suc, ◌+◌, ◌-◌, ◌<◌, ◌≤◌, Bool, true, false, List, [], ◌∷◌, length, get_or, map, replicate, None, Some, Option, refl, sym, ap, ap₂, subst, ◌∙◌, add-one, arith}
 use Rattle.std.specs.Prelude.{ℤ, pos, int_le, nat_le, ◌&&◌, if◌then◌else◌}
 use Rattle.std.specs.List.{All, items_where_true, slice_range, sum_by}
 use Rattle.std.proofs.lemmas.Bool.{le-leb}
@@ -85,11 +85,6 @@ made_lists offsets valid os left lists int numbers leaves fits e rows =
   where
     cut_whole : (ls : List (List RowValue)) → is_cut (offsets_of (map length ls)) (sum_by length ls) ≡ true
     cut_whole ls = let none : sum_by length ls ≡ 0 + sum_by length ls = omega arith in ap (is_cut (offsets_of (map length ls))) none ∙ cut_sums 0 ls
-
--- the same of an answer
-pub ok_made : {V E : Type 0} (r : Result V E) (column : V → RecordParts) (valid : Valid) (os : List ℕ) (left : List RowValue) (lists : List (List RowValue)) → IfOk r (λ v. are_integers (column v) ≡ true) → IfOk r (λ v. integers_of (column v) ≡ map pos os) → LeavesLists os left lists → is_fitting valid (length lists) ≡ true → IfOk r (λ v. MakesLists (column v) valid left lists)
-ok_made (Ok v) column valid os left lists int numbers leaves fits = made_lists (column v) valid os left lists int numbers leaves fits
-ok_made (Err x) column valid os left lists int numbers leaves fits = int
 
 -- ---- lists that are all empty
 
@@ -182,10 +177,6 @@ empty_leaves v mask lists n os bits left gone h count zeros none =
       elements = ap (λ b. items_where_true b left) none ∙ empty.elements ∙ ap (λ k. joined (replicate k no_elements)) many;
     } in
     subst (λ (l : List (List RowValue)). LeavesLists os (items_where_true bits left) l) (ap (λ (b : Bool). if b then replicate (length (items_where_true mask lists)) [] else items_where_true mask lists) (sym gone)) whole
-
-pub some_left_by : (v : Valid) (os : List ℕ) (left : List RowValue) (lists : List (List RowValue)) → is_all_invalid v ≡ false → LeavesLists os left lists → LeavesLists os left (lists_left v lists)
-some_left_by v os left lists there l =
-    subst (λ (xs : List (List RowValue)). LeavesLists os left xs) (ap (λ (b : Bool). if b then replicate (length lists) [] else lists) (sym there)) l
 
 -- ---- a slice
 

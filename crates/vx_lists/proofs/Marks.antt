@@ -26,15 +26,6 @@ pub record AreMarked (offsets : List ℕ) (range : ℕ × ℕ) (bits : List Bool
   pub within : length bits ≤ range.1 - range.0
   pub rest : ascending low (row_count offsets) left ≡ true
 
-pub none_marked : (offsets : List ℕ) (range : ℕ × ℕ) (bits : List Bool) (left : List ℕ) → bits ≡ [] → ascending 0 (row_count offsets) left ≡ true → AreMarked offsets range bits [] left
-none_marked offsets range bits left e h = record {
-  low = 0;
-  set = ap (λ l. map (λ p. range.0 + p) (set_of l)) e;
-  behind = omega (arith, ap length e);
-  within = omega (arith, ap length e);
-  rest = h;
-}
-
 -- where the items of the rows from i up to j can be put
 pub record IsPlaced (offsets : List ℕ) (range : ℕ × ℕ) (bits : List Bool) (i j : ℕ) : Type 0 where
   pub last : j < length offsets

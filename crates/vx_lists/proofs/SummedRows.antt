@@ -1,5 +1,5 @@
 -- The running sums of the lengths of lists that ascend.
-use Rattle.std.proofs.Common.{◌≡◌, ℕ, ◌+◌, ◌-◌, ◌<◌, ◌≤◌, true, List, [], ◌∷◌, ◌++◌, length, get_or, map, take, drop, refl, sym, ap, ap₂, subst, ◌∙◌, append_assoc, arith}
+use Rattle.std.proofs.Common.{◌≡◌, ℕ, ◌+◌, ◌-◌, ◌<◌, ◌≤◌, true, List, [], ◌∷◌, ◌++◌, length, get_or, map, take, drop, sym, ap, ap₂, subst, ◌∙◌, append_assoc, arith}
 use Rattle.std.specs.List.{All, range_with_len, sum_by}
 use Rattle.std.proofs.lemmas.List.{length-append, take_more}
 use Rattle.std.proofs.lemmas.List.Sums.{sum_by-append, sum_by-cons, sum_by_push}
@@ -28,9 +28,6 @@ pub record AreSummed (offsets : List ℕ) (done left sums : List ℕ) (total : �
   pub all : total ≡ sum_by (length_at offsets) done
   pub behind : total ≤ get_or offsets low 0
   pub rest : ascending low (row_count offsets) left ≡ true
-
-pub none_summed : (offsets left sums : List ℕ) → sums ≡ 0 ∷ [] → ascending 0 (row_count offsets) left ≡ true → AreSummed offsets [] left sums 0
-none_summed offsets left sums e h = record { low = 0; kept = e; all = refl; behind = omega arith; rest = h }
 
 -- ---- by indices
 

@@ -120,10 +120,6 @@ pub All-changed : {X : Type 0} (P : X → Type 0) (xs : List X) (x y : X) → Al
 All-changed P [] x y h p = All-cons P y [] p (All-nil P)
 All-changed P (z ∷ xs) x y h p = All-cons P z (xs ++ y ∷ []) (h 0 z (omega arith)) (All-changed P xs x y (All-tail P z (xs ++ x ∷ []) h) p)
 
-pub All-last : {X : Type 0} (P : X → Type 0) (xs : List X) (x : X) → All P (xs ++ x ∷ []) → P x
-All-last P [] x h = h 0 x (omega arith)
-All-last P (y ∷ xs) x h = All-last P xs x (All-tail P y (xs ++ x ∷ []) h)
-
 -- ---- the picked lists
 
 module _ {X : Type 0} (offsets : List ℕ) (items : List X) where
