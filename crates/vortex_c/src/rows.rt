@@ -81,8 +81,8 @@ fn put_rows<T: Copy>(dst: &mut [T], to: usize, src: &[T], from: usize, word: u64
     next
 }
 
-// Copies the items that a word picks behind those that are kept, and answers how many are kept then.
-// What stands behind them up to `end` is free: where a word's 64 rows fit there, each is written.
+// Copies the items that a word picks behind those that are kept, and answers how many are kept
+// then. What stands behind them up to `end` is free: where 64 rows fit there, each is written.
 #[inline(always)]
 fn copy_rows<T: Copy>(
     dst: &mut [T],
