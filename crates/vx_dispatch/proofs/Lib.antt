@@ -2,6 +2,6 @@ pub mod Codes
 pub mod Results
 pub mod RunTakes
 pub mod ListSteps
-pub mod Maps
+pub mod Unflat
 pub mod EachColumn
 pub mod Unions

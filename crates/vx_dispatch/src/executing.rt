@@ -4,17 +4,28 @@ ghost use Rattle.vx_types.specs.TypeTree.{is_flat};
 ghost use Rattle.vx_model.specs.Plain.{is_lazy_layout, is_unwrapped};
 ghost use Rattle.vx_model.specs.Step.{IsStep};
 
-use crate::{dict, extension, filter_layout, lists, stored, struct_, union_};
+use crate::parts::{Parts, Step};
 use std::alloc::Global;
 use vx_bits::NoMemory;
 use vx_column::{Array, Layout, Lists, Stored};
 use vx_stored::execute_constant;
 use vx_mask::Policy;
 
+// A layout whose rows the recursion unwraps.
+pub(crate) trait ExecuteRows: Parts {
+    // The same rows, as `execute` gives them.
+    fn execute(&self, alloc: Global, policy: &Policy) -> Step
+        ensures same { IfOk result (IsStep (Self.column self.now) (Self.column self.now).rows
+            (Self.column self.now).dtype) }
+        ensures unwrapped { is_flat (Self.column self.now).dtype ≡ true
+            → IfOk result (λ a. is_unwrapped a ≡ true) }
+        ensures direct { IfOk result (λ a. is_lazy_layout a.layout ≡ false) }
+        ensures kept { is_unwrapped (Self.column self.now) ≡ true → IsOk result };
+}
+
 /// The same rows and type, unwrapped where the type is flat, and of no lazy layout. `NoMemory`
 /// alone, and never where the column is unwrapped.
 #[cycle(execute)]
-#[tactic(auto, using(crate::proofs::Maps::maps))]
 pub fn execute(alloc: Global, array: &Array, policy: &Policy) -> Result<Array, NoMemory>
     ensures same { IfOk result (IsStep array.now array.now.rows array.now.dtype) }
     ensures unwrapped { is_flat array.now.dtype ≡ true
@@ -24,24 +35,20 @@ pub fn execute(alloc: Global, array: &Array, policy: &Policy) -> Result<Array, N
 {
     match array.layout() {
         Layout::Null(_) => Ok(array.share()),
-        Layout::Bool(a) => stored::execute_of(alloc, Stored::Bits(a), policy),
-        Layout::Primitive(a) => stored::execute_of(alloc, Stored::Records(a.rows()), policy),
-        Layout::Decimal(a) => stored::execute_of(alloc, Stored::Records(a.rows()), policy),
-        Layout::VarBin(a) => stored::execute_of(alloc, Stored::Texts(a), policy),
-        Layout::VarBinView(a) => stored::execute_of(alloc, Stored::Views(a), policy),
-        Layout::List(a) => lists::execute_of(alloc, Lists::List(a), policy),
-        Layout::ListView(a) => lists::execute_of(alloc, Lists::View(a), policy),
-        Layout::FixedSizeList(a) => lists::execute_of(alloc, Lists::Fixed(a), policy),
-        Layout::Map(a) => {
-            // its entries are structs, so that no map is flat
-            let _ = a.entries();
-            lists::execute_of(alloc, Lists::Map(a), policy)
-        }
-        Layout::Struct(a) => struct_::execute_of(alloc, a, policy),
-        Layout::Union(a) => union_::execute_of(alloc, a, policy),
-        Layout::Extension(a) => extension::execute_of(alloc, a, policy),
+        Layout::Bool(a) => Stored::Bits(a).execute(alloc, policy),
+        Layout::Primitive(a) => Stored::Records(a.rows()).execute(alloc, policy),
+        Layout::Decimal(a) => Stored::Records(a.rows()).execute(alloc, policy),
+        Layout::VarBin(a) => Stored::Texts(a).execute(alloc, policy),
+        Layout::VarBinView(a) => Stored::Views(a).execute(alloc, policy),
+        Layout::List(a) => Lists::List(a).execute(alloc, policy),
+        Layout::ListView(a) => Lists::View(a).execute(alloc, policy),
+        Layout::FixedSizeList(a) => Lists::Fixed(a).execute(alloc, policy),
+        Layout::Map(a) => Lists::Map(a).execute(alloc, policy),
+        Layout::Struct(a) => a.execute(alloc, policy),
+        Layout::Union(a) => a.execute(alloc, policy),
+        Layout::Extension(a) => a.execute(alloc, policy),
         Layout::Constant(a) => execute_constant(alloc, a),
-        Layout::Dict(a) => dict::execute_of(alloc, a, policy),
-        Layout::Filter(a) => filter_layout::execute_of(alloc, a, policy),
+        Layout::Dict(a) => a.execute(alloc, policy),
+        Layout::Filter(a) => a.execute(alloc, policy),
     }
 }

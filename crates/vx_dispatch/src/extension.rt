@@ -1,16 +1,12 @@
 //! Layout `Extension`: a step over the rows is that step over the storage.
-ghost use Rattle.std.specs.Prelude.{◌≡◌, ◌≤◌, length, None, false, IfOk};
-ghost use Rattle.std.specs.List.{items_where_true};
-ghost use Rattle.vx_types.specs.declared.nullability.Nullability.TheVariants.{NonNullable};
-ghost use Rattle.vx_positions.specs.Positions.{AllThere};
+ghost use Rattle.std.specs.Prelude.{◌≡◌, None, IfOk};
 ghost use Rattle.vx_model.specs.Extension.{extension_column, extension_fault, extension_with};
-ghost use Rattle.vx_model.specs.Plain.{is_lazy_layout};
-ghost use Rattle.vx_model.specs.Step.{IsCut, IsSlice, IsStep, IsTake};
 
-use crate::executing::execute;
-use crate::filtering::filter_values;
-use crate::slicing::slice;
-use crate::taking::take_picks;
+use crate::executing::{ExecuteRows, execute};
+use crate::filtering::{FilterRows, filter_values};
+use crate::parts::{Parts, Step};
+use crate::slicing::{SliceRows, slice};
+use crate::taking::{TakeRows, take_picks};
 use std::alloc::Global;
 use vx_bits::NoMemory;
 use vx_column::{Array, ExtensionArray, Nullability};
@@ -25,63 +21,39 @@ fn restored(alloc: Global, array: &ExtensionArray, storage: Array) -> Result<Arr
     Ok(array.with_storage(storage.into_ref(alloc)?).into_array())
 }
 
-#[cycle(slice)]
-pub(crate) fn slice_of(
-    alloc: Global,
-    array: &ExtensionArray,
-    start: usize,
-    end: usize,
-) -> Result<Array, NoMemory>
-    requires ordered { start ≤ end }
-    requires within { end ≤ length (extension_column array.now).rows }
-    ensures { IfOk result (IsSlice (extension_column array.now) start end) }
-{
-    let storage = slice(alloc, array.storage(), start, end)?;
-    restored(alloc, array, storage)
+impl Parts for ExtensionArray {
+    ghost column = { extension_column };
 }
 
-#[cycle(filter)]
-pub(crate) fn filter_of(
-    alloc: Global,
-    array: &ExtensionArray,
-    mask: &MaskValues,
-    policy: &Policy,
-) -> Result<Array, NoMemory>
-    requires { length mask.now.bits.bits ≡ length (extension_column array.now).rows }
-    ensures { IfOk result (IsCut (extension_column array.now)
-        (items_where_true mask.now.bits.bits (extension_column array.now).rows)) }
-{
-    let storage = filter_values(alloc, array.storage(), mask, policy)?;
-    restored(alloc, array, storage)
+impl SliceRows for ExtensionArray {
+    #[cycle(slice)]
+    fn slice(&self, alloc: Global, start: usize, end: usize) -> Step {
+        let storage = slice(alloc, self.storage(), start, end)?;
+        restored(alloc, self, storage)
+    }
 }
 
-#[cycle(take)]
-pub(crate) fn take_of(
-    alloc: Global,
-    array: &ExtensionArray,
-    picks: Picks,
-    nullability: Nullability,
-    policy: &Policy,
-) -> Result<Array, NoMemory>
-    requires bound { picks.bound ≡ length (extension_column array.now).rows }
-    requires there { nullability ≡ NonNullable → AllThere picks.picks }
-    ensures { IfOk result (IsTake (extension_column array.now) picks.picks nullability) }
-{
-    let storage = take_picks(alloc, array.storage(), picks, nullability, policy)?;
-    restored(alloc, array, storage)
+impl FilterRows for ExtensionArray {
+    #[cycle(filter)]
+    fn filter(&self, alloc: Global, mask: &MaskValues, policy: &Policy) -> Step {
+        let storage = filter_values(alloc, self.storage(), mask, policy)?;
+        restored(alloc, self, storage)
+    }
 }
 
-/// The same rows, with the storage executed.
-#[cycle(execute)]
-pub(crate) fn execute_of(
-    alloc: Global,
-    array: &ExtensionArray,
-    policy: &Policy,
-) -> Result<Array, NoMemory>
-    ensures same { IfOk result (IsStep (extension_column array.now)
-        (extension_column array.now).rows (extension_column array.now).dtype) }
-    ensures direct { IfOk result (λ a. is_lazy_layout a.layout ≡ false) }
-{
-    let storage = execute(alloc, array.storage(), policy)?;
-    restored(alloc, array, storage)
+impl TakeRows for ExtensionArray {
+    #[cycle(take)]
+    fn take(&self, alloc: Global, picks: Picks, nullability: Nullability, policy: &Policy) -> Step {
+        let storage = take_picks(alloc, self.storage(), picks, nullability, policy)?;
+        restored(alloc, self, storage)
+    }
+}
+
+// The same rows, with the storage executed.
+impl ExecuteRows for ExtensionArray {
+    #[cycle(execute)]
+    fn execute(&self, alloc: Global, policy: &Policy) -> Step {
+        let storage = execute(alloc, self.storage(), policy)?;
+        restored(alloc, self, storage)
+    }
 }

@@ -5,15 +5,22 @@ ghost use Rattle.vx_mask.specs.Mask.{mask_bits, partial_of};
 ghost use Rattle.vx_model.specs.Plain.{is_null_layout, is_plain};
 ghost use Rattle.vx_model.specs.Step.{IsCut};
 
+use crate::parts::{Parts, Step};
 use crate::slicing::slice;
-use crate::{
-    dict, extension, filter_layout, fixed_size_list, list, listview, map, stored, struct_, union_,
-};
 use std::alloc::Global;
 use vx_bits::NoMemory;
 use vx_column::{Array, Layout, Stored};
 use vx_stored::{filter_constant, filter_nulls};
 use vx_mask::{Mask, MaskValues, Policy};
+
+// A layout whose rows the recursion filters.
+pub(crate) trait FilterRows: Parts {
+    // The rows at the set positions of a mask that selects some and not all.
+    fn filter(&self, alloc: Global, mask: &MaskValues, policy: &Policy) -> Step
+        requires { length mask.now.bits.bits ≡ length (Self.column self.now).rows }
+        ensures { IfOk result (IsCut (Self.column self.now)
+            (items_where_true mask.now.bits.bits (Self.column self.now).rows)) };
+}
 
 // The rows at the set positions of a mask that selects some and not all.
 #[cycle(filter)]
@@ -30,21 +37,21 @@ pub(crate) fn filter_values(
 {
     match array.layout() {
         Layout::Null(a) => Ok(filter_nulls(a, mask)),
-        Layout::Bool(a) => stored::filter_of(alloc, Stored::Bits(a), mask, policy),
-        Layout::Primitive(a) => stored::filter_of(alloc, Stored::Records(a.rows()), mask, policy),
-        Layout::Decimal(a) => stored::filter_of(alloc, Stored::Records(a.rows()), mask, policy),
-        Layout::VarBin(a) => stored::filter_of(alloc, Stored::Texts(a), mask, policy),
-        Layout::VarBinView(a) => stored::filter_of(alloc, Stored::Views(a), mask, policy),
-        Layout::List(a) => list::filter_of(alloc, a, mask, policy),
-        Layout::ListView(a) => listview::filter_of(alloc, a, mask, policy),
-        Layout::FixedSizeList(a) => fixed_size_list::filter_of(alloc, a, mask, policy),
-        Layout::Map(a) => map::filter_of(alloc, a, mask, policy),
-        Layout::Struct(a) => struct_::filter_of(alloc, a, mask, policy),
-        Layout::Union(a) => union_::filter_of(alloc, a, mask, policy),
-        Layout::Extension(a) => extension::filter_of(alloc, a, mask, policy),
+        Layout::Bool(a) => Stored::Bits(a).filter(alloc, mask, policy),
+        Layout::Primitive(a) => Stored::Records(a.rows()).filter(alloc, mask, policy),
+        Layout::Decimal(a) => Stored::Records(a.rows()).filter(alloc, mask, policy),
+        Layout::VarBin(a) => Stored::Texts(a).filter(alloc, mask, policy),
+        Layout::VarBinView(a) => Stored::Views(a).filter(alloc, mask, policy),
+        Layout::List(a) => a.filter(alloc, mask, policy),
+        Layout::ListView(a) => a.filter(alloc, mask, policy),
+        Layout::FixedSizeList(a) => a.filter(alloc, mask, policy),
+        Layout::Map(a) => a.filter(alloc, mask, policy),
+        Layout::Struct(a) => a.filter(alloc, mask, policy),
+        Layout::Union(a) => a.filter(alloc, mask, policy),
+        Layout::Extension(a) => a.filter(alloc, mask, policy),
         Layout::Constant(a) => Ok(filter_constant(a, mask)),
-        Layout::Dict(a) => dict::filter_of(alloc, a, mask, policy),
-        Layout::Filter(a) => filter_layout::filter_of(alloc, a, mask, policy),
+        Layout::Dict(a) => a.filter(alloc, mask, policy),
+        Layout::Filter(a) => a.filter(alloc, mask, policy),
     }
 }
 

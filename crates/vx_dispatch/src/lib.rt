@@ -13,6 +13,7 @@ mod lists;
 mod listview;
 mod map;
 mod materialized;
+mod parts;
 mod ranges;
 mod runs;
 mod slicing;

@@ -1,15 +1,13 @@
 //! Layout `List`: the offsets are made by a plan, and the elements by a step over their column.
-ghost use Rattle.std.specs.Prelude.{◌≡◌, ◌≤◌, length, None, IfOk};
-ghost use Rattle.std.specs.List.{items_where_true};
-ghost use Rattle.vx_types.specs.declared.nullability.Nullability.TheVariants.{NonNullable};
-ghost use Rattle.vx_positions.specs.Positions.{AllThere};
+ghost use Rattle.std.specs.Prelude.{◌≡◌, None, IfOk};
 ghost use Rattle.vx_model.specs.List.{list_column, list_fault};
-ghost use Rattle.vx_model.specs.Step.{IsCut, IsSlice, IsTake};
 ghost use Rattle.vx_column.specs.ListParts.{list_parts};
 
-use crate::filtering::filter;
+use crate::filtering::{FilterRows, filter};
+use crate::parts::{Parts, Step};
 use crate::runs::take_runs;
-use crate::slicing::slice;
+use crate::slicing::{SliceRows, slice};
+use crate::taking::TakeRows;
 use crate::validity::{filter_validity, slice_validity, take_validity};
 use std::alloc::Global;
 use vx_bits::NoMemory;
@@ -34,66 +32,48 @@ fn relisted(
     Ok(array.with_parts(elements, offsets, validity).into_array())
 }
 
-#[cycle(slice)]
-#[tactic(auto, using(vx_model::proofs::ListRows::list_rows))]
-pub(crate) fn slice_of(
-    alloc: Global,
-    array: &ListArray,
-    start: usize,
-    end: usize,
-) -> Result<Array, NoMemory>
-    requires ordered { start ≤ end }
-    requires within { end ≤ length (list_column array.now).rows }
-    ensures { IfOk result (IsSlice (list_column array.now) start end) }
-{
-    let validity = slice_validity(alloc, array.validity(), array.len(), start, end)?;
-    Ok(slice_list(array, start, end, validity).into_array())
+impl Parts for ListArray {
+    ghost column = { list_column };
 }
 
-#[cycle(filter)]
-#[tactic(auto, using(vx_model::proofs::ListRows::list_rows))]
-pub(crate) fn filter_of(
-    alloc: Global,
-    array: &ListArray,
-    mask: &MaskValues,
-    policy: &Policy,
-) -> Result<Array, NoMemory>
-    requires { length mask.now.bits.bits ≡ length (list_column array.now).rows }
-    ensures { IfOk result (IsCut (list_column array.now)
-        (items_where_true mask.now.bits.bits (list_column array.now).rows)) }
-{
-    let validity = filter_validity(alloc, array.validity(), mask, policy)?;
-    let ListFilterPlan {
-        offsets,
-        validity,
-        range,
-        mask: kept,
-    } = plan_list_filter(alloc, array, mask, policy, validity)?;
-    let part = slice(alloc, array.elements(), range.0, range.1)?;
-    let elements = filter(alloc, &part, &kept, policy)?;
-    relisted(alloc, array, elements, offsets, validity)
+impl SliceRows for ListArray {
+    #[cycle(slice)]
+    #[tactic(auto, using(vx_model::proofs::ListRows::list_rows))]
+    fn slice(&self, alloc: Global, start: usize, end: usize) -> Step {
+        let validity = slice_validity(alloc, self.validity(), self.len(), start, end)?;
+        Ok(slice_list(self, start, end, validity).into_array())
+    }
 }
 
-#[cycle(take)]
-#[tactic(auto, using(vx_model::proofs::ListRows::list_rows))]
-pub(crate) fn take_of(
-    alloc: Global,
-    array: &ListArray,
-    picks: Picks,
-    nullability: Nullability,
-    policy: &Policy,
-) -> Result<Array, NoMemory>
-    requires bound { picks.bound ≡ length (list_column array.now).rows }
-    requires there { nullability ≡ NonNullable → AllThere picks.picks }
-    ensures { IfOk result (IsTake (list_column array.now) picks.picks nullability) }
-{
-    let validity = take_validity(alloc, array.validity(), &picks, nullability, policy)?;
-    let ListTakePlan {
-        offsets,
-        validity,
-        runs,
-    } = plan_list_take(alloc, array, &picks, validity)?;
-    drop(picks);
-    let elements = take_runs(alloc, array.elements(), runs, policy)?;
-    relisted(alloc, array, elements, offsets, validity)
+impl FilterRows for ListArray {
+    #[cycle(filter)]
+    #[tactic(auto, using(vx_model::proofs::ListRows::list_rows))]
+    fn filter(&self, alloc: Global, mask: &MaskValues, policy: &Policy) -> Step {
+        let validity = filter_validity(alloc, self.validity(), mask, policy)?;
+        let ListFilterPlan {
+            offsets,
+            validity,
+            range,
+            mask: kept,
+        } = plan_list_filter(alloc, self, mask, policy, validity)?;
+        let part = slice(alloc, self.elements(), range.0, range.1)?;
+        let elements = filter(alloc, &part, &kept, policy)?;
+        relisted(alloc, self, elements, offsets, validity)
+    }
+}
+
+impl TakeRows for ListArray {
+    #[cycle(take)]
+    #[tactic(auto, using(vx_model::proofs::ListRows::list_rows))]
+    fn take(&self, alloc: Global, picks: Picks, nullability: Nullability, policy: &Policy) -> Step {
+        let validity = take_validity(alloc, self.validity(), &picks, nullability, policy)?;
+        let ListTakePlan {
+            offsets,
+            validity,
+            runs,
+        } = plan_list_take(alloc, self, &picks, validity)?;
+        drop(picks);
+        let elements = take_runs(alloc, self.elements(), runs, policy)?;
+        relisted(alloc, self, elements, offsets, validity)
+    }
 }

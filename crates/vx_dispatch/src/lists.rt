@@ -1,6 +1,6 @@
 //! Layouts of lists: their rows over the elements in another form.
 ghost use Rattle.std.specs.Prelude.{◌≡◌, length, None, false, IfOk};
-ghost use Rattle.vx_model.specs.Lists.{lists_column, stored_lists};
+ghost use Rattle.vx_model.specs.Lists.{lists_column};
 ghost use Rattle.vx_model.specs.ListView.{listview_fault, listview_spans};
 ghost use Rattle.vx_model.specs.Plain.{is_lazy_layout};
 ghost use Rattle.vx_model.specs.Step.{IsStep};
@@ -8,7 +8,8 @@ ghost use Rattle.vx_model.specs.Valid.{nullability_by, present_bits, IsLeft};
 ghost use Rattle.vx_column.specs.Lists.{spans_of};
 ghost use Rattle.vx_column.specs.Validity.{valid_of};
 
-use crate::executing::execute;
+use crate::executing::{ExecuteRows, execute};
+use crate::parts::{Parts, Step};
 use crate::validity::execute_validity;
 use crate::{dict, map};
 use std::alloc::Global;
@@ -83,19 +84,17 @@ pub(crate) fn execute_elements(
     }
 }
 
-/// The same rows, with the elements and the validity executed.
-#[cycle(execute)]
-pub(crate) fn execute_of(
-    alloc: Global,
-    lists: Lists<'_>,
-    policy: &Policy,
-) -> Result<Array, NoMemory>
-    ensures same { IfOk result (IsStep (lists_column (spans_of lists.entry))
-        (lists_column (spans_of lists.entry)).rows
-        (lists_column (spans_of lists.entry)).dtype) }
-    ensures direct { IfOk result (λ a. is_lazy_layout a.layout ≡ false) }
-{
-    let validity = execute_validity(alloc, lists.validity(), lists.len(), policy)?;
-    let elements = execute_elements(alloc, lists.elements(), policy)?;
-    Ok(with_elements(lists, elements.into_ref(alloc)?, validity))
+impl Parts for Lists<'_> {
+    ghost column = { λ lists. lists_column (spans_of lists) };
+}
+
+// The same rows, with the elements and the validity executed.
+impl ExecuteRows for Lists<'_> {
+    #[cycle(execute)]
+    #[tactic(auto, using(crate::proofs::Unflat::unflat))]
+    fn execute(&self, alloc: Global, policy: &Policy) -> Step {
+        let validity = execute_validity(alloc, self.validity(), self.len(), policy)?;
+        let elements = execute_elements(alloc, self.elements(), policy)?;
+        Ok(with_elements(*self, elements.into_ref(alloc)?, validity))
+    }
 }

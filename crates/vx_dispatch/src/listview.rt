@@ -7,10 +7,14 @@ ghost use Rattle.vx_model.specs.ListView.{listview_column, listview_fault};
 ghost use Rattle.vx_model.specs.Step.{IsCut, IsSlice, IsTake};
 ghost use Rattle.vx_column.specs.Validity.{valid_of};
 
+use crate::filtering::FilterRows;
+use crate::parts::{Parts, Step};
+use crate::slicing::SliceRows;
+use crate::taking::TakeRows;
 use crate::validity::{filter_validity, slice_validity, take_validity};
 use std::alloc::Global;
 use vx_bits::NoMemory;
-use vx_column::{Array, ListViewArray, Nullability};
+use vx_column::{ListViewArray, Nullability};
 use vx_lists::{ViewPlan, plan_view_filter, plan_view_take, slice_view};
 use vx_mask::{MaskValues, Policy};
 use vx_take::Picks;
@@ -53,18 +57,15 @@ pub(crate) fn slice_views(
     Ok(slice_view(array, start, end, validity))
 }
 
-#[cycle(slice)]
-pub(crate) fn slice_of(
-    alloc: Global,
-    array: &ListViewArray,
-    start: usize,
-    end: usize,
-) -> Result<Array, NoMemory>
-    requires ordered { start ≤ end }
-    requires within { end ≤ length (listview_column array.now).rows }
-    ensures { IfOk result (IsSlice (listview_column array.now) start end) }
-{
-    Ok(slice_views(alloc, array, start, end)?.into_array())
+impl Parts for ListViewArray {
+    ghost column = { listview_column };
+}
+
+impl SliceRows for ListViewArray {
+    #[cycle(slice)]
+    fn slice(&self, alloc: Global, start: usize, end: usize) -> Step {
+        Ok(slice_views(alloc, self, start, end)?.into_array())
+    }
 }
 
 #[cycle(filter)]
@@ -85,18 +86,11 @@ pub(crate) fn filter_views(
     Ok(relisted(array, plan))
 }
 
-#[cycle(filter)]
-pub(crate) fn filter_of(
-    alloc: Global,
-    array: &ListViewArray,
-    mask: &MaskValues,
-    policy: &Policy,
-) -> Result<Array, NoMemory>
-    requires { length mask.now.bits.bits ≡ length (listview_column array.now).rows }
-    ensures { IfOk result (IsCut (listview_column array.now)
-        (items_where_true mask.now.bits.bits (listview_column array.now).rows)) }
-{
-    Ok(filter_views(alloc, array, mask, policy)?.into_array())
+impl FilterRows for ListViewArray {
+    #[cycle(filter)]
+    fn filter(&self, alloc: Global, mask: &MaskValues, policy: &Policy) -> Step {
+        Ok(filter_views(alloc, self, mask, policy)?.into_array())
+    }
 }
 
 #[cycle(take)]
@@ -118,17 +112,9 @@ pub(crate) fn take_views(
     Ok(relisted(array, plan))
 }
 
-#[cycle(take)]
-pub(crate) fn take_of(
-    alloc: Global,
-    array: &ListViewArray,
-    picks: &Picks,
-    nullability: Nullability,
-    policy: &Policy,
-) -> Result<Array, NoMemory>
-    requires bound { picks.now.bound ≡ length (listview_column array.now).rows }
-    requires there { nullability ≡ NonNullable → AllThere picks.now.picks }
-    ensures { IfOk result (IsTake (listview_column array.now) picks.now.picks nullability) }
-{
-    Ok(take_views(alloc, array, picks, nullability, policy)?.into_array())
+impl TakeRows for ListViewArray {
+    #[cycle(take)]
+    fn take(&self, alloc: Global, picks: Picks, nullability: Nullability, policy: &Policy) -> Step {
+        Ok(take_views(alloc, self, &picks, nullability, policy)?.into_array())
+    }
 }

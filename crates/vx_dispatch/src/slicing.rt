@@ -3,13 +3,21 @@ ghost use Rattle.std.specs.Prelude.{◌≡◌, ◌≤◌, length, true, IfOk, Is
 ghost use Rattle.vx_model.specs.Plain.{is_plain};
 ghost use Rattle.vx_model.specs.Step.{IsSlice};
 
-use crate::{
-    dict, extension, filter_layout, fixed_size_list, list, listview, map, stored, struct_, union_,
-};
+use crate::parts::{Parts, Step};
 use std::alloc::Global;
 use vx_bits::NoMemory;
 use vx_column::{Array, Layout, Stored};
 use vx_stored::{slice_constant, slice_nulls};
+
+// A layout whose rows the recursion slices.
+pub(crate) trait SliceRows: Parts {
+    // The rows from `start` up to `end`, as `slice` gives them.
+    fn slice(&self, alloc: Global, start: usize, end: usize) -> Step
+        requires ordered { start ≤ end }
+        requires within { end ≤ length (Self.column self.now).rows }
+        ensures cut { IfOk result (IsSlice (Self.column self.now) start end) }
+        ensures plain { is_plain (Self.column self.now) ≡ true → IsOk result };
+}
 
 /// The rows from `start` up to `end`. `NoMemory` alone, and never over a plain column.
 #[cycle(slice)]
@@ -21,20 +29,20 @@ pub fn slice(alloc: Global, array: &Array, start: usize, end: usize) -> Result<A
 {
     match array.layout() {
         Layout::Null(a) => Ok(slice_nulls(a, start, end)),
-        Layout::Bool(a) => stored::slice_of(alloc, Stored::Bits(a), start, end),
-        Layout::Primitive(a) => stored::slice_of(alloc, Stored::Records(a.rows()), start, end),
-        Layout::Decimal(a) => stored::slice_of(alloc, Stored::Records(a.rows()), start, end),
-        Layout::VarBin(a) => stored::slice_of(alloc, Stored::Texts(a), start, end),
-        Layout::VarBinView(a) => stored::slice_of(alloc, Stored::Views(a), start, end),
-        Layout::List(a) => list::slice_of(alloc, a, start, end),
-        Layout::ListView(a) => listview::slice_of(alloc, a, start, end),
-        Layout::FixedSizeList(a) => fixed_size_list::slice_of(alloc, a, start, end),
-        Layout::Map(a) => map::slice_of(alloc, a, start, end),
-        Layout::Struct(a) => struct_::slice_of(alloc, a, start, end),
-        Layout::Union(a) => union_::slice_of(alloc, a, start, end),
-        Layout::Extension(a) => extension::slice_of(alloc, a, start, end),
+        Layout::Bool(a) => Stored::Bits(a).slice(alloc, start, end),
+        Layout::Primitive(a) => Stored::Records(a.rows()).slice(alloc, start, end),
+        Layout::Decimal(a) => Stored::Records(a.rows()).slice(alloc, start, end),
+        Layout::VarBin(a) => Stored::Texts(a).slice(alloc, start, end),
+        Layout::VarBinView(a) => Stored::Views(a).slice(alloc, start, end),
+        Layout::List(a) => a.slice(alloc, start, end),
+        Layout::ListView(a) => a.slice(alloc, start, end),
+        Layout::FixedSizeList(a) => a.slice(alloc, start, end),
+        Layout::Map(a) => a.slice(alloc, start, end),
+        Layout::Struct(a) => a.slice(alloc, start, end),
+        Layout::Union(a) => a.slice(alloc, start, end),
+        Layout::Extension(a) => a.slice(alloc, start, end),
         Layout::Constant(a) => Ok(slice_constant(a, start, end)),
-        Layout::Dict(a) => dict::slice_of(alloc, a, start, end),
-        Layout::Filter(a) => filter_layout::slice_of(alloc, a, start, end),
+        Layout::Dict(a) => a.slice(alloc, start, end),
+        Layout::Filter(a) => a.slice(alloc, start, end),
     }
 }

@@ -1,17 +1,18 @@
 //! Layouts that store a row's bit or bytes: the new validity is made here, and the rows by
 //! `vx_stored`.
-ghost use Rattle.std.specs.Prelude.{◌≡◌, ◌+◌, ◌≤◌, All, length, map, Some, true, false, IfOk, IfSome, IsOk};
-ghost use Rattle.std.specs.List.{items_where_true};
+ghost use Rattle.std.specs.Prelude.{◌+◌, ◌≤◌, All, length, map, Some, IfOk, IfSome};
 ghost use Rattle.vx_types.specs.declared.nullability.Nullability.TheVariants.{NonNullable};
-ghost use Rattle.vx_positions.specs.Positions.{AllThere};
-ghost use Rattle.vx_types.specs.TypeTree.{is_flat};
-ghost use Rattle.vx_model.specs.Plain.{is_lazy_layout, is_plain, is_unwrapped};
 ghost use Rattle.vx_model.specs.Records.{records_column};
-ghost use Rattle.vx_model.specs.Step.{IsSlice, IsCut, IsStep, IsTake};
+ghost use Rattle.vx_model.specs.Step.{IsTake};
 ghost use Rattle.vx_model.specs.Stored.{stored_column};
 ghost use Rattle.vx_pieces.specs.Runs.{run_numbers};
 ghost use Rattle.vx_column.specs.Stored.{parts_of};
 
+use crate::executing::ExecuteRows;
+use crate::filtering::FilterRows;
+use crate::parts::{Parts, Step};
+use crate::slicing::SliceRows;
+use crate::taking::TakeRows;
 use crate::validity::{execute_validity, filter_validity, slice_validity, take_validity};
 use std::alloc::Global;
 use vx_bits::NoMemory;
@@ -20,71 +21,41 @@ use vx_stored::{filter_stored, slice_stored, take_array_runs, take_stored, with_
 use vx_mask::{MaskValues, Policy};
 use vx_take::Picks;
 
-#[cycle(slice)]
-pub(crate) fn slice_of(
-    alloc: Global,
-    stored: Stored<'_>,
-    start: usize,
-    end: usize,
-) -> Result<Array, NoMemory>
-    requires ordered { start ≤ end }
-    requires within { end ≤ length (stored_column (parts_of stored)).rows }
-    ensures cut { IfOk result (IsSlice (stored_column (parts_of stored.entry)) start end) }
-    ensures plain { is_plain (stored_column (parts_of stored.entry)) ≡ true → IsOk result }
-{
-    let validity = slice_validity(alloc, stored.validity(), stored.len(), start, end)?;
-    Ok(slice_stored(stored, start, end, validity))
+impl Parts for Stored<'_> {
+    ghost column = { λ stored. stored_column (parts_of stored) };
 }
 
-#[cycle(filter)]
-pub(crate) fn filter_of(
-    alloc: Global,
-    stored: Stored<'_>,
-    mask: &MaskValues,
-    policy: &Policy,
-) -> Result<Array, NoMemory>
-    requires { length mask.now.bits.bits ≡ length (stored_column (parts_of stored)).rows }
-    ensures { IfOk result (IsCut (stored_column (parts_of stored.entry))
-        (items_where_true mask.now.bits.bits (stored_column (parts_of stored.entry)).rows)) }
-{
-    let validity = filter_validity(alloc, stored.validity(), mask, policy)?;
-    filter_stored(alloc, stored, mask, policy, validity)
+impl SliceRows for Stored<'_> {
+    #[cycle(slice)]
+    fn slice(&self, alloc: Global, start: usize, end: usize) -> Step {
+        let validity = slice_validity(alloc, self.validity(), self.len(), start, end)?;
+        Ok(slice_stored(*self, start, end, validity))
+    }
 }
 
-#[cycle(take)]
-pub(crate) fn take_of(
-    alloc: Global,
-    stored: Stored<'_>,
-    picks: &Picks,
-    nullability: Nullability,
-    policy: &Policy,
-) -> Result<Array, NoMemory>
-    requires bound { picks.now.bound ≡ length (stored_column (parts_of stored)).rows }
-    requires there { nullability ≡ NonNullable → AllThere picks.now.picks }
-    ensures { IfOk result
-        (IsTake (stored_column (parts_of stored.entry)) picks.now.picks nullability) }
-{
-    let validity = take_validity(alloc, stored.validity(), picks, nullability, policy)?;
-    take_stored(alloc, stored, picks, validity)
+impl FilterRows for Stored<'_> {
+    #[cycle(filter)]
+    fn filter(&self, alloc: Global, mask: &MaskValues, policy: &Policy) -> Step {
+        let validity = filter_validity(alloc, self.validity(), mask, policy)?;
+        filter_stored(alloc, *self, mask, policy, validity)
+    }
 }
 
-/// The same rows, with the validity unwrapped.
-#[cycle(execute)]
-pub(crate) fn execute_of(
-    alloc: Global,
-    stored: Stored<'_>,
-    policy: &Policy,
-) -> Result<Array, NoMemory>
-    ensures same { IfOk result (IsStep (stored_column (parts_of stored.entry))
-        (stored_column (parts_of stored.entry)).rows
-        (stored_column (parts_of stored.entry)).dtype) }
-    ensures unwrapped { is_flat (stored_column (parts_of stored.entry)).dtype ≡ true
-        → IfOk result (λ a. is_unwrapped a ≡ true) }
-    ensures direct { IfOk result (λ a. is_lazy_layout a.layout ≡ false) }
-    ensures kept { is_unwrapped (stored_column (parts_of stored.entry)) ≡ true → IsOk result }
-{
-    let validity = execute_validity(alloc, stored.validity(), stored.len(), policy)?;
-    Ok(with_validity(stored, validity))
+impl TakeRows for Stored<'_> {
+    #[cycle(take)]
+    fn take(&self, alloc: Global, picks: Picks, nullability: Nullability, policy: &Policy) -> Step {
+        let validity = take_validity(alloc, self.validity(), &picks, nullability, policy)?;
+        take_stored(alloc, *self, &picks, validity)
+    }
+}
+
+// The same rows, with the validity unwrapped.
+impl ExecuteRows for Stored<'_> {
+    #[cycle(execute)]
+    fn execute(&self, alloc: Global, policy: &Policy) -> Step {
+        let validity = execute_validity(alloc, self.validity(), self.len(), policy)?;
+        Ok(with_validity(*self, validity))
+    }
 }
 
 /// The rows in the runs, each its start and its length, one run after another; none where the

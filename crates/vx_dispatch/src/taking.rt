@@ -8,10 +8,8 @@ ghost use Rattle.vx_model.specs.Plain.{is_null_layout};
 ghost use Rattle.vx_model.specs.Step.{IsTake};
 
 use crate::executing::execute;
+use crate::parts::{Parts, Step};
 use crate::runs::take_by_runs;
-use crate::{
-    dict, extension, filter_layout, fixed_size_list, list, listview, map, stored, struct_, union_,
-};
 use std::alloc::Global;
 use vx_bits::NoMemory;
 use vx_column::{Array, Layout, NullArray, Nullability, Stored};
@@ -19,6 +17,15 @@ use vx_stored::{take_constant, take_nulls};
 use vx_mask::Policy;
 use vx_pieces::{Indices, column_picks};
 use vx_take::Picks;
+
+// A layout whose rows the recursion takes.
+pub(crate) trait TakeRows: Parts {
+    // The rows at the picks, as `take_picks` gives them.
+    fn take(&self, alloc: Global, picks: Picks, nullability: Nullability, policy: &Policy) -> Step
+        requires bound { picks.bound ≡ length (Self.column self.now).rows }
+        requires there { nullability ≡ NonNullable → AllThere picks.picks }
+        ensures { IfOk result (IsTake (Self.column self.now) picks.picks nullability) };
+}
 
 // The rows at the picks, in order, and a null at each null. The type is nullable also where
 // `nullability` is, and no pick is a null where it isn't.
@@ -36,37 +43,21 @@ pub(crate) fn take_picks(
 {
     match array.layout() {
         Layout::Null(a) => Ok(take_nulls(a, &picks, nullability)),
-        Layout::Bool(a) => stored::take_of(alloc, Stored::Bits(a), &picks, nullability, policy),
-        Layout::Primitive(a) => stored::take_of(
-            alloc,
-            Stored::Records(a.rows()),
-            &picks,
-            nullability,
-            policy,
-        ),
-        Layout::Decimal(a) => stored::take_of(
-            alloc,
-            Stored::Records(a.rows()),
-            &picks,
-            nullability,
-            policy,
-        ),
-        Layout::VarBin(a) => stored::take_of(alloc, Stored::Texts(a), &picks, nullability, policy),
-        Layout::VarBinView(a) => {
-            stored::take_of(alloc, Stored::Views(a), &picks, nullability, policy)
-        }
-        Layout::List(a) => list::take_of(alloc, a, picks, nullability, policy),
-        Layout::ListView(a) => listview::take_of(alloc, a, &picks, nullability, policy),
-        Layout::FixedSizeList(a) => {
-            fixed_size_list::take_of(alloc, a, picks, nullability, policy)
-        }
-        Layout::Map(a) => map::take_of(alloc, a, &picks, nullability, policy),
-        Layout::Struct(a) => struct_::take_of(alloc, a, &picks, nullability, policy),
-        Layout::Union(a) => union_::take_of(alloc, a, &picks, nullability, policy),
-        Layout::Extension(a) => extension::take_of(alloc, a, picks, nullability, policy),
+        Layout::Bool(a) => Stored::Bits(a).take(alloc, picks, nullability, policy),
+        Layout::Primitive(a) => Stored::Records(a.rows()).take(alloc, picks, nullability, policy),
+        Layout::Decimal(a) => Stored::Records(a.rows()).take(alloc, picks, nullability, policy),
+        Layout::VarBin(a) => Stored::Texts(a).take(alloc, picks, nullability, policy),
+        Layout::VarBinView(a) => { Stored::Views(a).take(alloc, picks, nullability, policy) }
+        Layout::List(a) => a.take(alloc, picks, nullability, policy),
+        Layout::ListView(a) => a.take(alloc, picks, nullability, policy),
+        Layout::FixedSizeList(a) => { a.take(alloc, picks, nullability, policy) }
+        Layout::Map(a) => a.take(alloc, picks, nullability, policy),
+        Layout::Struct(a) => a.take(alloc, picks, nullability, policy),
+        Layout::Union(a) => a.take(alloc, picks, nullability, policy),
+        Layout::Extension(a) => a.take(alloc, picks, nullability, policy),
         Layout::Constant(a) => take_constant(alloc, a, &picks, nullability),
-        Layout::Dict(a) => dict::take_of(alloc, a, picks, nullability, policy),
-        Layout::Filter(a) => filter_layout::take_of(alloc, a, picks, nullability, policy),
+        Layout::Dict(a) => a.take(alloc, picks, nullability, policy),
+        Layout::Filter(a) => a.take(alloc, picks, nullability, policy),
     }
 }
 

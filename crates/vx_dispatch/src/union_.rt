@@ -1,21 +1,17 @@
 //! Layout `Union`: a step over the rows is that step over the ids, and over each column where the
 //! union is sparse or over the offsets where it is dense.
-ghost use Rattle.std.specs.Prelude.{◌≡◌, ◌≤◌, length, None, Some, false, IfOk};
+ghost use Rattle.std.specs.Prelude.{◌≡◌, length, None, Some, IfOk};
 ghost use Rattle.std.specs.List.{items_where_true};
-ghost use Rattle.vx_types.specs.RowValue.{null};
-ghost use Rattle.vx_types.specs.declared.nullability.Nullability.TheVariants.{NonNullable};
-ghost use Rattle.vx_take.specs.Picks.{at};
-ghost use Rattle.vx_positions.specs.Positions.{AllThere};
-ghost use Rattle.vx_model.specs.Plain.{is_lazy_layout};
-ghost use Rattle.vx_model.specs.Step.{IsCut, IsSlice, IsStep, IsTake};
+ghost use Rattle.vx_model.specs.Step.{IsCut, IsTake};
 ghost use Rattle.vx_model.specs.Union.{union_column};
 
 use crate::columns::{execute_each, filter_each, firsts_for_nulls, slice_each, take_each};
 use crate::dict::copied;
-use crate::executing::execute;
-use crate::filtering::filter_values;
-use crate::slicing::slice;
-use crate::taking::take_picks;
+use crate::executing::{ExecuteRows, execute};
+use crate::filtering::{FilterRows, filter_values};
+use crate::parts::{Parts, Step};
+use crate::slicing::{SliceRows, slice};
+use crate::taking::{TakeRows, take_picks};
 use std::alloc::Global;
 use vx_bits::NoMemory;
 use vx_column::{Array, ArrayRef, Columns, Nullability, PrimitiveArray, UnionArray};
@@ -23,28 +19,25 @@ use vx_lists::{filter_numbers, slice_numbers, take_numbers};
 use vx_mask::{Mask, MaskValues, Policy, prepare_mask_for_reuse};
 use vx_take::Picks;
 
-#[cycle(slice)]
-#[tactic(auto, using(vx_model::proofs::UnionSteps::rows_of_unions))]
-pub(crate) fn slice_of(
-    alloc: Global,
-    array: &UnionArray,
-    start: usize,
-    end: usize,
-) -> Result<Array, NoMemory>
-    requires ordered { start ≤ end }
-    requires within { end ≤ length (union_column array.now).rows }
-    ensures { IfOk result (IsSlice (union_column array.now) start end) }
-{
-    let ids = slice(alloc, array.type_ids(), start, end)?.into_ref(alloc)?;
-    match array.offsets() {
-        Some(offsets) => {
-            let places = slice_numbers(offsets, start, end);
-            let columns = array.children().share();
-            Ok(array.with_parts(ids, Some(places), columns).into_array())
-        }
-        None => {
-            let columns = slice_each(alloc, array.children(), array.len(), start, end)?;
-            Ok(array.with_parts(ids, None, columns).into_array())
+impl Parts for UnionArray {
+    ghost column = { union_column };
+}
+
+impl SliceRows for UnionArray {
+    #[cycle(slice)]
+    #[tactic(auto, using(vx_model::proofs::UnionSteps::rows_of_unions))]
+    fn slice(&self, alloc: Global, start: usize, end: usize) -> Step {
+        let ids = slice(alloc, self.type_ids(), start, end)?.into_ref(alloc)?;
+        match self.offsets() {
+            Some(offsets) => {
+                let places = slice_numbers(offsets, start, end);
+                let columns = self.children().share();
+                Ok(self.with_parts(ids, Some(places), columns).into_array())
+            }
+            None => {
+                let columns = slice_each(alloc, self.children(), self.len(), start, end)?;
+                Ok(self.with_parts(ids, None, columns).into_array())
+            }
         }
     }
 }
@@ -102,18 +95,11 @@ pub fn filter_variants(
     }
 }
 
-#[cycle(filter)]
-pub(crate) fn filter_of(
-    alloc: Global,
-    array: &UnionArray,
-    mask: &MaskValues,
-    policy: &Policy,
-) -> Result<Array, NoMemory>
-    requires { length mask.now.bits.bits ≡ length (union_column array.now).rows }
-    ensures { IfOk result (IsCut (union_column array.now)
-        (items_where_true mask.now.bits.bits (union_column array.now).rows)) }
-{
-    Ok(filter_variants(alloc, array, mask, policy)?.into_array())
+impl FilterRows for UnionArray {
+    #[cycle(filter)]
+    fn filter(&self, alloc: Global, mask: &MaskValues, policy: &Policy) -> Step {
+        Ok(filter_variants(alloc, self, mask, policy)?.into_array())
+    }
 }
 
 // The rows of a sparse union at the picks, whose ids these are. At a null pick the columns have row
@@ -145,29 +131,21 @@ fn take_sparse(
     Ok(array.with_parts(ids, None, columns).into_array())
 }
 
-#[cycle(take)]
-#[tactic(auto, using(vx_model::proofs::UnionSteps::rows_of_unions))]
-pub(crate) fn take_of(
-    alloc: Global,
-    array: &UnionArray,
-    picks: &Picks,
-    nullability: Nullability,
-    policy: &Policy,
-) -> Result<Array, NoMemory>
-    requires bound { picks.now.bound ≡ length (union_column array.now).rows }
-    requires there { nullability ≡ NonNullable → AllThere picks.now.picks }
-    ensures { IfOk result (IsTake (union_column array.now) picks.now.picks nullability) }
-{
-    let copy = copied(alloc, picks)?;
-    let taken = take_picks(alloc, array.type_ids(), copy, nullability, policy)?;
-    let ids = taken.into_ref(alloc)?;
-    match array.offsets() {
-        Some(offsets) => {
-            let places = take_numbers(alloc, offsets, picks)?;
-            let columns = array.children().share();
-            Ok(array.with_parts(ids, Some(places), columns).into_array())
+impl TakeRows for UnionArray {
+    #[cycle(take)]
+    #[tactic(auto, using(vx_model::proofs::UnionSteps::rows_of_unions))]
+    fn take(&self, alloc: Global, picks: Picks, nullability: Nullability, policy: &Policy) -> Step {
+        let copy = copied(alloc, &picks)?;
+        let taken = take_picks(alloc, self.type_ids(), copy, nullability, policy)?;
+        let ids = taken.into_ref(alloc)?;
+        match self.offsets() {
+            Some(offsets) => {
+                let places = take_numbers(alloc, offsets, &picks)?;
+                let columns = self.children().share();
+                Ok(self.with_parts(ids, Some(places), columns).into_array())
+            }
+            None => take_sparse(alloc, self, ids, &picks, nullability, policy),
         }
-        None => take_sparse(alloc, array, ids, picks, nullability, policy),
     }
 }
 
@@ -181,20 +159,14 @@ fn shared_offsets(array: &UnionArray) -> Option<PrimitiveArray>
     }
 }
 
-/// The same rows, with the ids and the columns executed.
-#[cycle(execute)]
-#[tactic(auto, using(vx_model::proofs::UnionSteps::rows_of_unions))]
-pub(crate) fn execute_of(
-    alloc: Global,
-    array: &UnionArray,
-    policy: &Policy,
-) -> Result<Array, NoMemory>
-    ensures same { IfOk result (IsStep (union_column array.now) (union_column array.now).rows
-        (union_column array.now).dtype) }
-    ensures direct { IfOk result (λ a. is_lazy_layout a.layout ≡ false) }
-{
-    let ids = execute(alloc, array.type_ids(), policy)?.into_ref(alloc)?;
-    let columns = execute_each(alloc, array.children(), policy)?;
-    let offsets = shared_offsets(array);
-    Ok(array.with_parts(ids, offsets, columns).into_array())
+// The same rows, with the ids and the columns executed.
+impl ExecuteRows for UnionArray {
+    #[cycle(execute)]
+    #[tactic(auto, using(vx_model::proofs::UnionSteps::rows_of_unions))]
+    fn execute(&self, alloc: Global, policy: &Policy) -> Step {
+        let ids = execute(alloc, self.type_ids(), policy)?.into_ref(alloc)?;
+        let columns = execute_each(alloc, self.children(), policy)?;
+        let offsets = shared_offsets(self);
+        Ok(self.with_parts(ids, offsets, columns).into_array())
+    }
 }

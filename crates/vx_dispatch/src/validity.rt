@@ -1,19 +1,18 @@
 //! What a step leaves of a validity.
-ghost use Rattle.std.specs.Prelude.{◌≡◌, ◌≤◌, length, map, is_some, true, false, slice_range, IfOk, IsOk};
+ghost use Rattle.std.specs.Prelude.{◌≡◌, ◌≤◌, length, map, true, false, slice_range, IfOk, IsOk};
 ghost use Rattle.std.specs.List.{items_where_true};
 ghost use Rattle.vx_types.specs.Nullability.{either_nullable};
 ghost use Rattle.vx_types.specs.declared.nullability.Nullability.TheVariants.{NonNullable};
 ghost use Rattle.vx_take.specs.Picks.{at};
 ghost use Rattle.vx_positions.specs.Positions.{AllThere};
-ghost use Rattle.vx_model.specs.Bool.{bits_column};
 ghost use Rattle.vx_model.specs.Valid.{by_column, is_yes, is_non_null_bool, is_fitting, is_constant_form, is_flat_cover, is_bool_layout, cover_by, nullability_by, present_bits, IsLeft, IsAsPlain};
 ghost use Rattle.vx_model.specs.Plain.{is_unwrapped};
 ghost use Rattle.vx_column.specs.Validity.{valid_of};
 
 use crate::executing::execute;
 use crate::filtering::filter_values;
+use crate::parts::Parts;
 use crate::slicing::slice;
-use crate::{dict, filter_layout};
 use std::alloc::Global;
 use vx_bits::{BitBuffer, NoMemory};
 use vx_column::{Array, Layout, Nullability, Validity};
@@ -78,6 +77,16 @@ pub fn filter_validity(
     }
 }
 
+// A layout whose bools the recursion looks up.
+pub(crate) trait TakeBits: Parts {
+    // The bits of the rows at the picks, as `taken_bits` gives them.
+    fn bits(&self, alloc: Global, picks: &Picks, policy: &Policy) -> Result<BitBuffer, NoMemory>
+        requires bools { is_non_null_bool (Self.column self.now).dtype ≡ true }
+        requires bound { picks.now.bound ≡ length (Self.column self.now).rows }
+        ensures { IfOk result
+            (λ b. b.bits ≡ at false (map is_yes (Self.column self.now).rows) picks.now.picks) };
+}
+
 // The bits of a non-nullable column of bools at the picks, and false at a null.
 #[cycle(take)]
 #[tactic(auto, using(vx_model::proofs::Takes::bool_bits))]
@@ -95,8 +104,8 @@ pub(crate) fn taken_bits(
     match array.layout() {
         Layout::Bool(a) => gather_bits(alloc, a.bits(), picks, false),
         Layout::Constant(a) => constant_bits(alloc, a, picks),
-        Layout::Dict(a) => dict::bits_of(alloc, a, picks, policy),
-        Layout::Filter(a) => filter_layout::bits_of(alloc, a, picks, policy),
+        Layout::Dict(a) => a.bits(alloc, picks, policy),
+        Layout::Filter(a) => a.bits(alloc, picks, policy),
         Layout::Null(_)
         | Layout::List(_)
         | Layout::ListView(_)

@@ -28,17 +28,17 @@ use Rattle.vx_model.specs.Union.{UnionParts, union_column, union_fault}
 use Rattle.vx_model.proofs.UnionFaults.{fault-union-same, is_same-union}
 use Rattle.vx_dispatch.proofs.+execute.Goals as goal
 
-pub dict::execute_of-column_picks-requires : goal.dict::execute_of-column_picks-requires
-dict::execute_of-column_picks-requires t c =
-    let p = c.args.array.now in let codes = c.in_ok-codes.codes in let values = c.in_ok-values.values in
+pub dict::DictArrayExecuteRows::execute-column_picks-requires : goal.dict::DictArrayExecuteRows::execute-column_picks-requires
+dict::DictArrayExecuteRows::execute-column_picks-requires t c =
+    let p = c.args.self.now in let codes = c.in_ok-codes.codes in let values = c.in_ok-values.values in
     let valid = c.codes.ensures.valid in
     let coded : IsStep p.codes p.codes.rows p.codes.dtype codes = rw (c.deref.ensures ∙ c.codes.ensures.value) at c.in_ok-codes.ensures.same in
     let valued : IsStep p.values p.values.rows p.values.dtype values = rw (c.deref-2.ensures ∙ c.values.ensures.value) at c.in_ok-values.ensures.same in
     rw c.len.ensures (no_fault codes (length values.rows) (ap is_int_type coded.dtype ∙ int-dict p valid) (first_bad-execute p codes values coded valued valid))
 
-pub dict::execute_of-returns-clause-same : goal.dict::execute_of-returns-clause-same
-dict::execute_of-returns-clause-same t c =
-    let p = c.args.array.now in let codes = c.in_ok-codes.codes in let values = c.in_ok-values.values in
+pub dict::DictArrayExecuteRows::execute-returns-clause-same : goal.dict::DictArrayExecuteRows::execute-returns-clause-same
+dict::DictArrayExecuteRows::execute-returns-clause-same t c =
+    let p = c.args.self.now in let codes = c.in_ok-codes.codes in let values = c.in_ok-values.values in
     let coded : IsStep p.codes p.codes.rows p.codes.dtype codes = rw (c.deref.ensures ∙ c.codes.ensures.value) at c.in_ok-codes.ensures.same in
     let valued : IsStep p.values p.values.rows p.values.dtype values = rw (c.deref-2.ensures ∙ c.values.ensures.value) at c.in_ok-values.ensures.same in
     let named : c.in_ok-named.named.picks ≡ positions_of (numbers_of codes) = ap (λ (x : BoundedPicks). x.picks) c.in_ok-named.ensures.picks in
@@ -46,33 +46,33 @@ dict::execute_of-returns-clause-same t c =
     let taken : IfOk c.take_picks.result (IsTake values (positions_of (numbers_of codes)) codes.dtype.nullability) = rw (← named, ← nullability) c.take_picks.ensures in
     weaker c.take_picks.result taken (λ a. execute-dict p codes values a coded valued)
 
-pub dict::execute_of-returns-clause-unwrapped : goal.dict::execute_of-returns-clause-unwrapped
-dict::execute_of-returns-clause-unwrapped t c = λ flat.
-    let p = c.args.array.now in
+pub dict::DictArrayExecuteRows::execute-returns-clause-unwrapped : goal.dict::DictArrayExecuteRows::execute-returns-clause-unwrapped
+dict::DictArrayExecuteRows::execute-returns-clause-unwrapped t c = λ flat.
+    let p = c.args.self.now in
     let values = c.in_ok-values.ensures.unwrapped (ap (λ x. is_flat x.dtype) (c.deref-2.ensures ∙ c.values.ensures.value) ∙ flat) in
     weaker c.take_picks.result c.take_picks.ensures (λ a taken. taken.unwrapped values)
 
-pub dict::execute_of-returns-clause-direct : goal.dict::execute_of-returns-clause-direct
-dict::execute_of-returns-clause-direct t c =
+pub dict::DictArrayExecuteRows::execute-returns-clause-direct : goal.dict::DictArrayExecuteRows::execute-returns-clause-direct
+dict::DictArrayExecuteRows::execute-returns-clause-direct t c =
     weaker c.take_picks.result c.take_picks.ensures (λ a taken. taken.direct c.in_ok-values.ensures.direct)
 
-pub filter_layout::execute_of-returns-clause-same : goal.filter_layout::execute_of-returns-clause-same
-filter_layout::execute_of-returns-clause-same t c =
-    let p = c.args.array.now in let child = c.in_ok-child.child in
+pub filter_layout::FilterArrayExecuteRows::execute-returns-clause-same : goal.filter_layout::FilterArrayExecuteRows::execute-returns-clause-same
+filter_layout::FilterArrayExecuteRows::execute-returns-clause-same t c =
+    let p = c.args.self.now in let child = c.in_ok-child.child in
     let same : IsStep p.child p.child.rows p.child.dtype child = rw (c.deref.ensures ∙ c.child.ensures.value) at c.in_ok-child.ensures.same in
     weaker c.filter.result c.filter.ensures.cut (λ a cut. execute-filter p child a same (rw c.mask.ensures.value at cut))
 
-pub filter_layout::execute_of-returns-clause-unwrapped : goal.filter_layout::execute_of-returns-clause-unwrapped
-filter_layout::execute_of-returns-clause-unwrapped t c = λ flat.
+pub filter_layout::FilterArrayExecuteRows::execute-returns-clause-unwrapped : goal.filter_layout::FilterArrayExecuteRows::execute-returns-clause-unwrapped
+filter_layout::FilterArrayExecuteRows::execute-returns-clause-unwrapped t c = λ flat.
     let child = c.in_ok-child.ensures.unwrapped (ap (λ x. is_flat x.dtype) (c.deref.ensures ∙ c.child.ensures.value) ∙ flat) in
     weaker c.filter.result c.filter.ensures.cut (λ a cut. cut.step.unwrapped child)
 
-pub filter_layout::execute_of-returns-clause-direct : goal.filter_layout::execute_of-returns-clause-direct
-filter_layout::execute_of-returns-clause-direct t c =
+pub filter_layout::FilterArrayExecuteRows::execute-returns-clause-direct : goal.filter_layout::FilterArrayExecuteRows::execute-returns-clause-direct
+filter_layout::FilterArrayExecuteRows::execute-returns-clause-direct t c =
     weaker c.filter.result c.filter.ensures.cut (λ a cut. cut.step.direct c.in_ok-child.ensures.direct)
 
-pub stored::execute_of-execute_validity-requires : goal.stored::execute_of-execute_validity-requires
-stored::execute_of-execute_validity-requires t c =
+pub stored::StoredExecuteRows::execute-execute_validity-requires : goal.stored::StoredExecuteRows::execute-execute_validity-requires
+stored::StoredExecuteRows::execute-execute_validity-requires t c =
     let v = c.validity.ensures in
     let fits : is_fitting (valid_of c.validity.result.now) c.len.result ≡ true = rw (v.value, c.len.ensures) v.fitting in
     (omega (arith, ap valid_size v.value), fits)
@@ -89,9 +89,9 @@ columns::execute_each-loop-column-preserved t c =
     subst (λ (l : List Column). AreSteps (λ rows. rows) (take (k + 1) cs) l) (sym c.in_ok-push.ensures.items)
     (same_more cs k column c.loop-column.executed.items x here is c.loop-column.invariant step)
 
-pub struct_::execute_of-with_parts-requires : goal.struct_::execute_of-with_parts-requires
-struct_::execute_of-with_parts-requires t c =
-    let p = c.args.array.now in let h = c.validity.ensures.valid in
+pub struct_::StructArrayExecuteRows::execute-with_parts-requires : goal.struct_::StructArrayExecuteRows::execute-with_parts-requires
+struct_::StructArrayExecuteRows::execute-with_parts-requires t c =
+    let p = c.args.self.now in let h = c.validity.ensures.valid in
     let w = valid_of c.in_ok-validity.validity in let fields = c.in_ok-fields.fields in
     let q : StructParts = record p { columns = fields; len = c.len-len.result; valid = w } in
     let steps : AreSteps (λ rows. rows) p.columns fields = rw c.fields.ensures.value at c.in_ok-fields.ensures in
@@ -100,9 +100,9 @@ struct_::execute_of-with_parts-requires t c =
     (rw c.len-len.ensures (long-same p.len p.columns fields (long-struct p h) steps))
     (rw c.len-len.ensures (fits_same p.valid w (nullability_by p.valid) p.len (fitting-struct p h) left))
 
-pub struct_::execute_of-returns-clause-same : goal.struct_::execute_of-returns-clause-same
-struct_::execute_of-returns-clause-same t c =
-    let p = c.args.array.now in let h = c.validity.ensures.valid in
+pub struct_::StructArrayExecuteRows::execute-returns-clause-same : goal.struct_::StructArrayExecuteRows::execute-returns-clause-same
+struct_::StructArrayExecuteRows::execute-returns-clause-same t c =
+    let p = c.args.self.now in let h = c.validity.ensures.valid in
     let w = valid_of c.in_ok-validity.validity in let fields = c.in_ok-fields.fields in
     let q : StructParts = record p { columns = fields; len = c.len-len.result; valid = w } in
     let steps : AreSteps (λ rows. rows) p.columns fields = rw c.fields.ensures.value at c.in_ok-fields.ensures in
@@ -111,19 +111,19 @@ struct_::execute_of-returns-clause-same t c =
 
 -- ---- unions
 
-pub union_::execute_of-with_parts-requires :
-    goal.union_::execute_of-with_parts-requires
-union_::execute_of-with_parts-requires t c =
-    let p = c.args.array.now in let h = c.type_ids.ensures.valid in
+pub union_::UnionArrayExecuteRows::execute-with_parts-requires :
+    goal.union_::UnionArrayExecuteRows::execute-with_parts-requires
+union_::UnionArrayExecuteRows::execute-with_parts-requires t c =
+    let p = c.args.self.now in let h = c.type_ids.ensures.valid in
     let a = c.in_ok-ids.ids in let cs = c.in_ok-columns.columns in
     let step : IsStep p.ids p.ids.rows p.ids.dtype a = subst (λ (x : Column). IsStep x x.rows x.dtype a) (c.deref.ensures ∙ c.type_ids.ensures.value) (rw c.in_ok-ids.ensures c.in_ok-execute.ensures.same) in
     let steps : AreSteps (λ rows. rows) p.columns cs = rw c.children.ensures.value at c.in_ok-columns.ensures in
     ap (λ (o : Option RecordParts). union_fault (record p { ids = a; offsets = o; columns = cs })) c.shared_offsets-offsets.ensures ∙ fault-union-same p h a step cs steps
 
-pub union_::execute_of-returns-clause-same :
-    goal.union_::execute_of-returns-clause-same
-union_::execute_of-returns-clause-same t c =
-    let p = c.args.array.now in let h = c.type_ids.ensures.valid in
+pub union_::UnionArrayExecuteRows::execute-returns-clause-same :
+    goal.union_::UnionArrayExecuteRows::execute-returns-clause-same
+union_::UnionArrayExecuteRows::execute-returns-clause-same t c =
+    let p = c.args.self.now in let h = c.type_ids.ensures.valid in
     let a = c.in_ok-ids.ids in let cs = c.in_ok-columns.columns in
     let step : IsStep p.ids p.ids.rows p.ids.dtype a = subst (λ (x : Column). IsStep x x.rows x.dtype a) (c.deref.ensures ∙ c.type_ids.ensures.value) (rw c.in_ok-ids.ensures c.in_ok-execute.ensures.same) in
     let steps : AreSteps (λ rows. rows) p.columns cs = rw c.children.ensures.value at c.in_ok-columns.ensures in

@@ -14,8 +14,8 @@ use Rattle.vx_model.specs.Extension.{extension_size}
 use Rattle.vx_model.specs.Union.{union_size}
 use Rattle.vx_dispatch.proofs.+execute.Given as goal
 
-abbrev pub decreases-dict::execute_of : goal.decreases-dict::execute_of
-decreases-dict::execute_of l = dict_size l.array.now
+abbrev pub decreases-dict::DictArrayExecuteRows::execute : goal.decreases-dict::DictArrayExecuteRows::execute
+decreases-dict::DictArrayExecuteRows::execute l = dict_size l.self.now
 
 abbrev pub decreases-dict::execute_values : goal.decreases-dict::execute_values
 decreases-dict::execute_values l = dict_size l.array.now
@@ -23,24 +23,24 @@ decreases-dict::execute_values l = dict_size l.array.now
 abbrev pub decreases-executing::execute : goal.decreases-executing::execute
 decreases-executing::execute l = l.array.now.depth
 
-abbrev pub decreases-filter_layout::execute_of : goal.decreases-filter_layout::execute_of
-decreases-filter_layout::execute_of l = filter_size l.array.now
+abbrev pub decreases-filter_layout::FilterArrayExecuteRows::execute : goal.decreases-filter_layout::FilterArrayExecuteRows::execute
+decreases-filter_layout::FilterArrayExecuteRows::execute l = filter_size l.self.now
 
-abbrev pub decreases-stored::execute_of : goal.decreases-stored::execute_of
-decreases-stored::execute_of l = valid_size (parts_of l.stored).valid + 1
+abbrev pub decreases-stored::StoredExecuteRows::execute : goal.decreases-stored::StoredExecuteRows::execute
+decreases-stored::StoredExecuteRows::execute l = valid_size (parts_of l.self.now).valid + 1
 
 abbrev pub decreases-validity::execute_validity : goal.decreases-validity::execute_validity
 decreases-validity::execute_validity l = valid_size (valid_of l.validity.now)
 
-abbrev pub decreases-lists::execute_of : goal.decreases-lists::execute_of
-decreases-lists::execute_of l =
-    max (spans_of l.lists).elements.depth (valid_size (spans_of l.lists).valid) + 2
+abbrev pub decreases-lists::ListsExecuteRows::execute : goal.decreases-lists::ListsExecuteRows::execute
+decreases-lists::ListsExecuteRows::execute l =
+    max (spans_of l.self.now).elements.depth (valid_size (spans_of l.self.now).valid) + 2
 
-abbrev pub decreases-extension::execute_of : goal.decreases-extension::execute_of
-decreases-extension::execute_of l = extension_size l.array.now
+abbrev pub decreases-extension::ExtensionArrayExecuteRows::execute : goal.decreases-extension::ExtensionArrayExecuteRows::execute
+decreases-extension::ExtensionArrayExecuteRows::execute l = extension_size l.self.now
 
-abbrev pub decreases-struct_::execute_of : goal.decreases-struct_::execute_of
-decreases-struct_::execute_of l = max (columns_depth l.array.now.columns) (valid_size l.array.now.valid) + 2
+abbrev pub decreases-struct_::StructArrayExecuteRows::execute : goal.decreases-struct_::StructArrayExecuteRows::execute
+decreases-struct_::StructArrayExecuteRows::execute l = max (columns_depth l.self.now.columns) (valid_size l.self.now.valid) + 2
 
 abbrev pub decreases-columns::execute_each : goal.decreases-columns::execute_each
 decreases-columns::execute_each l = columns_depth l.columns.now + 1
@@ -54,5 +54,5 @@ invariant-columns::execute_each-loop-column l =
 abbrev pub decreases-lists::execute_elements : goal.decreases-lists::execute_elements
 decreases-lists::execute_elements l = l.elements.now.depth + 1
 
-abbrev pub decreases-union_::execute_of : goal.decreases-union_::execute_of
-decreases-union_::execute_of l = union_size l.array.now
+abbrev pub decreases-union_::UnionArrayExecuteRows::execute : goal.decreases-union_::UnionArrayExecuteRows::execute
+decreases-union_::UnionArrayExecuteRows::execute l = union_size l.self.now

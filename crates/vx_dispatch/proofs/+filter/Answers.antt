@@ -72,21 +72,21 @@ validity::filter_validity-returns-in_ok-filter_values-in-Array-clause-left t c =
     let left = is_left-filter-by_column a kept mask fit cut in
     rw c.in-Array.is (weaker c.of_column.result c.of_column.ensures (λ v is. rw is left))
 
-pub dict::filter_of-recoded-requires : goal.dict::filter_of-recoded-requires
-dict::filter_of-recoded-requires t c =
-    let p = c.args.array.now in let codes = c.in_ok-codes.codes in let mask = c.args.mask.now.bits.bits in
+pub dict::DictArrayFilterRows::filter-recoded-requires : goal.dict::DictArrayFilterRows::filter-recoded-requires
+dict::DictArrayFilterRows::filter-recoded-requires t c =
+    let p = c.args.self.now in let codes = c.in_ok-codes.codes in let mask = c.args.mask.now.bits.bits in
     let cut : IsCut p.codes (items_where_true mask p.codes.rows) codes = rw (c.deref.ensures ∙ c.codes.ensures.value) at c.in_ok-codes.ensures.cut in
     dict_fault-filter p codes mask c.codes.ensures.valid cut
 
-pub dict::filter_of-returns : goal.dict::filter_of-returns
-dict::filter_of-returns t c =
-    let p = c.args.array.now in let codes = c.in_ok-codes.codes in let mask = c.args.mask.now.bits.bits in
+pub dict::DictArrayFilterRows::filter-returns : goal.dict::DictArrayFilterRows::filter-returns
+dict::DictArrayFilterRows::filter-returns t c =
+    let p = c.args.self.now in let codes = c.in_ok-codes.codes in let mask = c.args.mask.now.bits.bits in
     let cut : IsCut p.codes (items_where_true mask p.codes.rows) codes = rw (c.deref.ensures ∙ c.codes.ensures.value) at c.in_ok-codes.ensures.cut in
     weaker c.recoded.result c.recoded.ensures (λ a is. rw is (is_filter-dict p codes mask c.codes.ensures.valid cut))
 
-pub filter_layout::filter_of-returns : goal.filter_layout::filter_of-returns
-filter_layout::filter_of-returns t c =
-    let p = c.args.array.now in let other = c.args.mask.now.bits.bits in let both = mask_bits c.in_ok-both.both in
+pub filter_layout::FilterArrayFilterRows::filter-returns : goal.filter_layout::FilterArrayFilterRows::filter-returns
+filter_layout::FilterArrayFilterRows::filter-returns t c =
+    let p = c.args.self.now in let other = c.args.mask.now.bits.bits in let both = mask_bits c.in_ok-both.both in
     let sound = c.child-child.ensures.valid in let same = c.mask.ensures.value in
     let set : set_of both ≡ map (rank_of p.mask) (set_of other) = rw same at c.in_ok-both.ensures.set in
     let long : length both ≡ length p.mask = rw same at c.in_ok-both.ensures.len in
@@ -114,35 +114,35 @@ filtering::filter-returns-in-AllFalse-clause-cut t c =
     let none = items_where_true-none c.in-AllFalse.field-0 c.args.array.now.rows in
     rw c.in-AllFalse.is (rw (← none) c.slice.ensures.cut)
 
-pub stored::filter_of-filter_validity-requires : goal.stored::filter_of-filter_validity-requires
-stored::filter_of-filter_validity-requires t c =
-    let p = parts_of c.args.stored in let v = c.validity.ensures in
+pub stored::StoredFilterRows::filter-filter_validity-requires : goal.stored::StoredFilterRows::filter-filter_validity-requires
+stored::StoredFilterRows::filter-filter_validity-requires t c =
+    let p = parts_of c.args.self.now in let v = c.validity.ensures in
     let long = c.requires ∙ length-stored_rows p.valid p.items v.fitting in
     let fits : is_fitting (valid_of c.validity.result.now) (length c.args.mask.now.bits.bits) ≡ true = rw (v.value, long) v.fitting in
     (omega (arith, ap valid_size v.value), fits)
 
-pub stored::filter_of-filter_stored-requires-clause-long : goal.stored::filter_of-filter_stored-requires-clause-long
-stored::filter_of-filter_stored-requires-clause-long t c =
-    let p = parts_of c.args.stored in c.requires ∙ length-stored_rows p.valid p.items c.validity.ensures.fitting
+pub stored::StoredFilterRows::filter-filter_stored-requires-clause-long : goal.stored::StoredFilterRows::filter-filter_stored-requires-clause-long
+stored::StoredFilterRows::filter-filter_stored-requires-clause-long t c =
+    let p = parts_of c.args.self.now in c.requires ∙ length-stored_rows p.valid p.items c.validity.ensures.fitting
 
-pub stored::filter_of-filter_stored-requires-clause-left : goal.stored::filter_of-filter_stored-requires-clause-left
-stored::filter_of-filter_stored-requires-clause-left t c =
-    let p = parts_of c.args.stored in let v = c.validity.ensures in
+pub stored::StoredFilterRows::filter-filter_stored-requires-clause-left : goal.stored::StoredFilterRows::filter-filter_stored-requires-clause-left
+stored::StoredFilterRows::filter-filter_stored-requires-clause-left t c =
+    let p = parts_of c.args.self.now in let v = c.validity.ensures in
     let long = c.requires ∙ length-stored_rows p.valid p.items v.fitting in
     rw (← long, ← v.value) c.in_ok-validity.ensures.left
 
 -- ---- lists
 
-pub list::filter_of-plan_list_filter-requires-clause-fitting : goal.list::filter_of-plan_list_filter-requires-clause-fitting
-list::filter_of-plan_list_filter-requires-clause-fitting t c =
-    let p = c.args.array.now in let h = c.validity.ensures.valid in let mask = c.args.mask.now.bits.bits in
+pub list::ListArrayFilterRows::filter-plan_list_filter-requires-clause-fitting : goal.list::ListArrayFilterRows::filter-plan_list_filter-requires-clause-fitting
+list::ListArrayFilterRows::filter-plan_list_filter-requires-clause-fitting t c =
+    let p = c.args.self.now in let h = c.validity.ensures.valid in let mask = c.args.mask.now.bits.bits in
     let w = valid_of c.in_ok-validity.validity in let n = length (list_spans p).spans in let long = c.requires ∙ rows-list p h in
     let left : IsLeft p.valid (nullability_by p.valid) (items_where_true mask (present_bits p.valid n)) w = rw (c.validity.ensures.value, long) at c.in_ok-validity.ensures.left in
     fits_filter p.valid w (nullability_by p.valid) n (fit-list p h) mask long left
 
-pub list::filter_of-returns : goal.list::filter_of-returns
-list::filter_of-returns t c =
-    let p = c.args.array.now in let h = c.validity.ensures.valid in let mask = c.args.mask.now.bits.bits in
+pub list::ListArrayFilterRows::filter-returns : goal.list::ListArrayFilterRows::filter-returns
+list::ListArrayFilterRows::filter-returns t c =
+    let p = c.args.self.now in let h = c.validity.ensures.valid in let mask = c.args.mask.now.bits.bits in
     let w = valid_of c.in_ok-validity.validity in let plan = c.in_ok-offsets.field-0 in let x = c.in_ok-elements.elements in
     let q : ListParts = record { elements = x; offsets = plan.offsets; valid = w } in
     let left : IsLeft p.valid (nullability_by p.valid) (items_where_true mask (present_bits p.valid (length (list_spans p).spans))) w = rw (c.validity.ensures.value, c.requires ∙ rows-list p h) at c.in_ok-validity.ensures.left in
@@ -173,16 +173,16 @@ listview::filter_views-returns t c =
     rw (c.relisted.ensures, c.in_ok-plan.ensures.valid)
     (filter_step (listview_spans p) (listview_spans q) refl refl refl (fit-listview p h) mask c.requires c.in_ok-plan.ensures.lists.1 left plain (omega arith))
 
-pub fixed_size_list::filter_of-plan_fixed_filter-requires-clause-fitting : goal.fixed_size_list::filter_of-plan_fixed_filter-requires-clause-fitting
-fixed_size_list::filter_of-plan_fixed_filter-requires-clause-fitting t c =
-    let p = c.args.array.now in let h = c.validity.ensures.valid in let mask = c.args.mask.now.bits.bits in
+pub fixed_size_list::FixedSizeListArrayFilterRows::filter-plan_fixed_filter-requires-clause-fitting : goal.fixed_size_list::FixedSizeListArrayFilterRows::filter-plan_fixed_filter-requires-clause-fitting
+fixed_size_list::FixedSizeListArrayFilterRows::filter-plan_fixed_filter-requires-clause-fitting t c =
+    let p = c.args.self.now in let h = c.validity.ensures.valid in let mask = c.args.mask.now.bits.bits in
     let w = valid_of c.in_ok-validity.validity in let n = length (fixed_spans p).spans in let long = c.requires ∙ rows-fixed p h in
     let left : IsLeft p.valid (nullability_by p.valid) (items_where_true mask (present_bits p.valid n)) w = rw (c.validity.ensures.value, long) at c.in_ok-validity.ensures.left in
     fits_filter p.valid w (nullability_by p.valid) n (fit-fixed p h) mask long left
 
-pub fixed_size_list::filter_of-returns : goal.fixed_size_list::filter_of-returns
-fixed_size_list::filter_of-returns t c =
-    let p = c.args.array.now in let h = c.validity.ensures.valid in let mask = c.args.mask.now.bits.bits in
+pub fixed_size_list::FixedSizeListArrayFilterRows::filter-returns : goal.fixed_size_list::FixedSizeListArrayFilterRows::filter-returns
+fixed_size_list::FixedSizeListArrayFilterRows::filter-returns t c =
+    let p = c.args.self.now in let h = c.validity.ensures.valid in let mask = c.args.mask.now.bits.bits in
     let w = valid_of c.in_ok-validity.validity in let plan = c.in_ok-validity-2.field-0 in let x = c.in_ok-elements.elements in
     let q : FixedParts = record { elements = x; size = p.size; len = true_count_of mask; valid = w } in
     let left : IsLeft p.valid (nullability_by p.valid) (items_where_true mask (present_bits p.valid (length (fixed_spans p).spans))) w = rw (c.validity.ensures.value, c.requires ∙ rows-fixed p h) at c.in_ok-validity.ensures.left in
@@ -194,9 +194,9 @@ fixed_size_list::filter_of-returns t c =
     rw made
     (filter_step (fixed_spans p) (fixed_spans q) refl refl (ap (λ t. fixed_of t p.size) kept.step.dtype) (fit-fixed p h) mask c.requires (makes x kept.step.rows).1 left plain kept.depth)
 
-pub fixed_size_list::filter_of-filter-requires : goal.fixed_size_list::filter_of-filter-requires
-fixed_size_list::filter_of-filter-requires t c =
-    let p = c.args.array.now in let h = c.validity.ensures.valid in let mask = c.args.mask.now.bits.bits in
+pub fixed_size_list::FixedSizeListArrayFilterRows::filter-filter-requires : goal.fixed_size_list::FixedSizeListArrayFilterRows::filter-filter-requires
+fixed_size_list::FixedSizeListArrayFilterRows::filter-filter-requires t c =
+    let p = c.args.self.now in let h = c.validity.ensures.valid in let mask = c.args.mask.now.bits.bits in
     let same = c.deref.ensures ∙ c.elements.ensures.value in
     let rows : length mask ≡ p.len = c.requires ∙ rows-fixed p h ∙ spans-fixed p in
     let bits : length (mask_bits c.in_ok-validity-2.field-0.mask) ≡ length mask * p.size = ap length c.in_ok-validity-2.ensures.mask ∙ length-repeated p.size mask in
@@ -208,27 +208,27 @@ fixed_size_list::filter_of-filter-requires t c =
 
 -- ---- extensions and maps
 
-pub extension::filter_of-restored-requires : goal.extension::filter_of-restored-requires
-extension::filter_of-restored-requires t c =
-    let p = c.args.array.now in let x = c.in_ok-storage.storage in let mask = c.args.mask.now.bits.bits in
+pub extension::ExtensionArrayFilterRows::filter-restored-requires : goal.extension::ExtensionArrayFilterRows::filter-restored-requires
+extension::ExtensionArrayFilterRows::filter-restored-requires t c =
+    let p = c.args.self.now in let x = c.in_ok-storage.storage in let mask = c.args.mask.now.bits.bits in
     let cut : IsCut p.storage (items_where_true mask p.storage.rows) x = rw (c.deref.ensures ∙ c.storage.ensures.value) at c.in_ok-storage.ensures.cut in
     fault-extension p x c.storage.ensures.valid (ap (λ (t : TypeTree). t.kind) cut.step.dtype)
 
-pub extension::filter_of-returns : goal.extension::filter_of-returns
-extension::filter_of-returns t c =
-    let p = c.args.array.now in let x = c.in_ok-storage.storage in let mask = c.args.mask.now.bits.bits in
+pub extension::ExtensionArrayFilterRows::filter-returns : goal.extension::ExtensionArrayFilterRows::filter-returns
+extension::ExtensionArrayFilterRows::filter-returns t c =
+    let p = c.args.self.now in let x = c.in_ok-storage.storage in let mask = c.args.mask.now.bits.bits in
     let cut : IsCut p.storage (items_where_true mask p.storage.rows) x = rw (c.deref.ensures ∙ c.storage.ensures.value) at c.in_ok-storage.ensures.cut in
     weaker c.restored.result c.restored.ensures (λ a is. rw is (is_cut-extension p x _ cut))
 
-pub map::filter_of-of_entries-requires : goal.map::filter_of-of_entries-requires
-map::filter_of-of_entries-requires t c =
-    let p = c.args.array.now in let q = c.in_ok-entries.entries in let mask = c.args.mask.now.bits.bits in
+pub map::MapArrayFilterRows::filter-of_entries-requires : goal.map::MapArrayFilterRows::filter-of_entries-requires
+map::MapArrayFilterRows::filter-of_entries-requires t c =
+    let p = c.args.self.now in let q = c.in_ok-entries.entries in let mask = c.args.mask.now.bits.bits in
     let cut : IsCut (listview_column p) (items_where_true mask (listview_column p).rows) (listview_column q) = rw c.entries.ensures.value at c.in_ok-entries.ensures in
     fault-map p q c.entries.ensures.valid (elements-step p q _ (nullability_by p.valid) cut.step)
 
-pub map::filter_of-returns : goal.map::filter_of-returns
-map::filter_of-returns t c =
-    let p = c.args.array.now in let q = c.in_ok-entries.entries in let mask = c.args.mask.now.bits.bits in
+pub map::MapArrayFilterRows::filter-returns : goal.map::MapArrayFilterRows::filter-returns
+map::MapArrayFilterRows::filter-returns t c =
+    let p = c.args.self.now in let q = c.in_ok-entries.entries in let mask = c.args.mask.now.bits.bits in
     let cut : IsCut (listview_column p) (items_where_true mask (listview_column p).rows) (listview_column q) = rw c.entries.ensures.value at c.in_ok-entries.ensures in
     rw c.of_entries.ensures (is_cut-map p q _ cut)
 

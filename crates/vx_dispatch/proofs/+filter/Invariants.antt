@@ -15,11 +15,11 @@ use Rattle.vx_model.specs.Extension.{extension_size}
 use Rattle.vx_model.specs.Union.{union_size}
 use Rattle.vx_dispatch.proofs.+filter.Given as goal
 
-abbrev pub decreases-dict::filter_of : goal.decreases-dict::filter_of
-decreases-dict::filter_of l = 2 * dict_size l.array.now
+abbrev pub decreases-dict::DictArrayFilterRows::filter : goal.decreases-dict::DictArrayFilterRows::filter
+decreases-dict::DictArrayFilterRows::filter l = 2 * dict_size l.self.now
 
-abbrev pub decreases-filter_layout::filter_of : goal.decreases-filter_layout::filter_of
-decreases-filter_layout::filter_of l = 2 * filter_size l.array.now
+abbrev pub decreases-filter_layout::FilterArrayFilterRows::filter : goal.decreases-filter_layout::FilterArrayFilterRows::filter
+decreases-filter_layout::FilterArrayFilterRows::filter l = 2 * filter_size l.self.now
 
 abbrev pub decreases-filtering::filter : goal.decreases-filtering::filter
 decreases-filtering::filter l = 2 * l.array.now.depth + 1
@@ -27,34 +27,34 @@ decreases-filtering::filter l = 2 * l.array.now.depth + 1
 abbrev pub decreases-filtering::filter_values : goal.decreases-filtering::filter_values
 decreases-filtering::filter_values l = 2 * l.array.now.depth
 
-abbrev pub decreases-stored::filter_of : goal.decreases-stored::filter_of
-decreases-stored::filter_of l = 2 * (valid_size (parts_of l.stored).valid + 1)
+abbrev pub decreases-stored::StoredFilterRows::filter : goal.decreases-stored::StoredFilterRows::filter
+decreases-stored::StoredFilterRows::filter l = 2 * (valid_size (parts_of l.self.now).valid + 1)
 
 abbrev pub decreases-validity::filter_validity : goal.decreases-validity::filter_validity
 decreases-validity::filter_validity l = 2 * valid_size (valid_of l.validity.now)
 
-abbrev pub decreases-fixed_size_list::filter_of : goal.decreases-fixed_size_list::filter_of
-decreases-fixed_size_list::filter_of l =
-    2 * (max l.array.now.elements.depth (valid_size l.array.now.valid) + 2)
+abbrev pub decreases-fixed_size_list::FixedSizeListArrayFilterRows::filter : goal.decreases-fixed_size_list::FixedSizeListArrayFilterRows::filter
+decreases-fixed_size_list::FixedSizeListArrayFilterRows::filter l =
+    2 * (max l.self.now.elements.depth (valid_size l.self.now.valid) + 2)
 
-abbrev pub decreases-list::filter_of : goal.decreases-list::filter_of
-decreases-list::filter_of l =
-    2 * (max l.array.now.elements.depth (valid_size l.array.now.valid) + 2)
+abbrev pub decreases-list::ListArrayFilterRows::filter : goal.decreases-list::ListArrayFilterRows::filter
+decreases-list::ListArrayFilterRows::filter l =
+    2 * (max l.self.now.elements.depth (valid_size l.self.now.valid) + 2)
 
-abbrev pub decreases-listview::filter_of : goal.decreases-listview::filter_of
-decreases-listview::filter_of l = 2 * (valid_size l.array.now.valid + 2)
+abbrev pub decreases-listview::ListViewArrayFilterRows::filter : goal.decreases-listview::ListViewArrayFilterRows::filter
+decreases-listview::ListViewArrayFilterRows::filter l = 2 * (valid_size l.self.now.valid + 2)
 
 abbrev pub decreases-listview::filter_views : goal.decreases-listview::filter_views
 decreases-listview::filter_views l = 2 * (valid_size l.array.now.valid + 1)
 
-abbrev pub decreases-map::filter_of : goal.decreases-map::filter_of
-decreases-map::filter_of l = 2 * (valid_size l.array.now.valid + 2)
+abbrev pub decreases-map::MapArrayFilterRows::filter : goal.decreases-map::MapArrayFilterRows::filter
+decreases-map::MapArrayFilterRows::filter l = 2 * (valid_size l.self.now.valid + 2)
 
-abbrev pub decreases-extension::filter_of : goal.decreases-extension::filter_of
-decreases-extension::filter_of l = 2 * (extension_size l.array.now)
+abbrev pub decreases-extension::ExtensionArrayFilterRows::filter : goal.decreases-extension::ExtensionArrayFilterRows::filter
+decreases-extension::ExtensionArrayFilterRows::filter l = 2 * (extension_size l.self.now)
 
-abbrev pub decreases-struct_::filter_of : goal.decreases-struct_::filter_of
-decreases-struct_::filter_of l = 2 * (max (columns_depth l.array.now.columns) (valid_size l.array.now.valid) + 2)
+abbrev pub decreases-struct_::StructArrayFilterRows::filter : goal.decreases-struct_::StructArrayFilterRows::filter
+decreases-struct_::StructArrayFilterRows::filter l = 2 * (max (columns_depth l.self.now.columns) (valid_size l.self.now.valid) + 2)
 
 abbrev pub decreases-struct_::filter_fields : goal.decreases-struct_::filter_fields
 decreases-struct_::filter_fields l = 2 * (max (columns_depth l.array.now.columns) (valid_size l.array.now.valid) + 1)
@@ -67,8 +67,8 @@ abbrev pub invariant-columns::filter_each-loop-column : goal.invariant-columns::
 invariant-columns::filter_each-loop-column l =
     AreCuts (items_where_true (mask_bits l.mask)) (take l.column-index l.columns) l.cut.items
 
-abbrev pub decreases-union_::filter_of : goal.decreases-union_::filter_of
-decreases-union_::filter_of l = 2 * union_size l.array.now
+abbrev pub decreases-union_::UnionArrayFilterRows::filter : goal.decreases-union_::UnionArrayFilterRows::filter
+decreases-union_::UnionArrayFilterRows::filter l = 2 * union_size l.self.now
 
 abbrev pub decreases-union_::filter_variants : goal.decreases-union_::filter_variants
 decreases-union_::filter_variants l = 2 * (max l.array.now.ids.depth (columns_depth l.array.now.columns) + 1) + 1

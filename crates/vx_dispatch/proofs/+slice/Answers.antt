@@ -60,21 +60,21 @@ validity::slice_validity-returns-in_ok-slice-in-Array-clause-left t c =
     let left = is_left-slice-by_column a part c.args.len s e fit c.requires.ordered c.requires.within cut in
     rw c.in-Array.is (weaker c.of_column.result c.of_column.ensures (λ v is. rw is left))
 
-pub dict::slice_of-recoded-requires : goal.dict::slice_of-recoded-requires
-dict::slice_of-recoded-requires t c =
-    let p = c.args.array.now in let codes = c.in_ok-codes.codes in
+pub dict::DictArraySliceRows::slice-recoded-requires : goal.dict::DictArraySliceRows::slice-recoded-requires
+dict::DictArraySliceRows::slice-recoded-requires t c =
+    let p = c.args.self.now in let codes = c.in_ok-codes.codes in
     let cut : IsSlice p.codes c.args.start c.args.end codes = rw (c.deref.ensures ∙ c.codes.ensures.value) at c.in_ok-codes.ensures.cut in
     dict_fault-slice p codes c.args.start c.args.end c.codes.ensures.valid cut
 
-pub dict::slice_of-returns : goal.dict::slice_of-returns
-dict::slice_of-returns t c =
-    let p = c.args.array.now in let codes = c.in_ok-codes.codes in
+pub dict::DictArraySliceRows::slice-returns-clause-cut : goal.dict::DictArraySliceRows::slice-returns-clause-cut
+dict::DictArraySliceRows::slice-returns-clause-cut t c =
+    let p = c.args.self.now in let codes = c.in_ok-codes.codes in
     let cut : IsSlice p.codes c.args.start c.args.end codes = rw (c.deref.ensures ∙ c.codes.ensures.value) at c.in_ok-codes.ensures.cut in
     weaker c.recoded.result c.recoded.ensures (λ a is. rw is (is_slice-dict p codes c.args.start c.args.end c.codes.ensures.valid cut))
 
-pub filter_layout::slice_of-returns : goal.filter_layout::slice_of-returns
-filter_layout::slice_of-returns t c =
-    let p = c.args.array.now in let child = c.in_ok-part.part in let range = c.mask_range-low in
+pub filter_layout::FilterArraySliceRows::slice-returns-clause-cut : goal.filter_layout::FilterArraySliceRows::slice-returns-clause-cut
+filter_layout::FilterArraySliceRows::slice-returns-clause-cut t c =
+    let p = c.args.self.now in let child = c.in_ok-part.part in let range = c.mask_range-low in
     let low = range.result.0 in let high = range.result.1 in
     let same = c.mask-mask.ensures.value in
     let cut : IsSlice p.child low high child = rw (c.deref.ensures ∙ c.child-child.ensures.value) at c.in_ok-part.ensures.cut in
@@ -84,30 +84,30 @@ filter_layout::slice_of-returns t c =
     rw (c.into_array.ensures ∙ ap filter_column (c.of.ensures ∙ ap₂ (λ (x : Column) (m : List Bool). record { child = x; mask = m }) c.in_ok-into_ref.ensures (c.slice_mask.ensures ∙ ap (λ (m : List Bool). slice_range m low high) same)))
     (is_slice-filter p child c.args.start c.args.end low high c.mask-mask.ensures.valid range.ensures.ordered within start end cut)
 
-pub stored::slice_of-slice_validity-requires : goal.stored::slice_of-slice_validity-requires
-stored::slice_of-slice_validity-requires t c =
-    let p = parts_of c.args.stored in let v = c.validity.ensures in
+pub stored::StoredSliceRows::slice-slice_validity-requires : goal.stored::StoredSliceRows::slice-slice_validity-requires
+stored::StoredSliceRows::slice-slice_validity-requires t c =
+    let p = parts_of c.args.self.now in let v = c.validity.ensures in
     let long = length-stored_rows p.valid p.items v.fitting in
     let fits : is_fitting (valid_of c.validity.result.now) c.len.result ≡ true = rw (v.value, c.len.ensures) v.fitting in
     (omega (arith, ap valid_size v.value), (fits, (c.requires.ordered, omega (arith, long, c.len.ensures, c.requires.within))))
 
-pub stored::slice_of-slice_stored-requires-clause-within : goal.stored::slice_of-slice_stored-requires-clause-within
-stored::slice_of-slice_stored-requires-clause-within t c =
-    let p = parts_of c.args.stored in
+pub stored::StoredSliceRows::slice-slice_stored-requires-clause-within : goal.stored::StoredSliceRows::slice-slice_stored-requires-clause-within
+stored::StoredSliceRows::slice-slice_stored-requires-clause-within t c =
+    let p = parts_of c.args.self.now in
     omega (arith, length-stored_rows p.valid p.items c.validity.ensures.fitting, c.requires.within)
 
 -- ---- lists
 
-pub list::slice_of-slice_list-requires-clause-fitting : goal.list::slice_of-slice_list-requires-clause-fitting
-list::slice_of-slice_list-requires-clause-fitting t c =
-    let p = c.args.array.now in let h = c.validity.ensures.valid in let s = c.args.start in let e = c.args.end in
+pub list::ListArraySliceRows::slice-slice_list-requires-clause-fitting : goal.list::ListArraySliceRows::slice-slice_list-requires-clause-fitting
+list::ListArraySliceRows::slice-slice_list-requires-clause-fitting t c =
+    let p = c.args.self.now in let h = c.validity.ensures.valid in let s = c.args.start in let e = c.args.end in
     let w = valid_of c.in_ok-validity.validity in let n = length (list_spans p).spans in
     let left : IsLeft p.valid (nullability_by p.valid) (slice_range (present_bits p.valid n) s e) w = rw (c.validity.ensures.value, c.len.ensures) at c.in_ok-validity.ensures.left in
     fits_slice p.valid w (nullability_by p.valid) n (fit-list p h) s e c.requires.ordered (omega (arith, c.requires.within, rows-list p h)) left
 
-pub list::slice_of-returns : goal.list::slice_of-returns
-list::slice_of-returns t c =
-    let p = c.args.array.now in let h = c.validity.ensures.valid in let s = c.args.start in let e = c.args.end in
+pub list::ListArraySliceRows::slice-returns-clause-cut : goal.list::ListArraySliceRows::slice-returns-clause-cut
+list::ListArraySliceRows::slice-returns-clause-cut t c =
+    let p = c.args.self.now in let h = c.validity.ensures.valid in let s = c.args.start in let e = c.args.end in
     let q = c.slice_list.result in let cut = c.slice_list.ensures in let w = valid_of c.in_ok-validity.validity in
     let left : IsLeft p.valid (nullability_by p.valid) (slice_range (present_bits p.valid (length (list_spans p).spans)) s e) w = rw (c.validity.ensures.value, c.len.ensures) at c.in_ok-validity.ensures.left in
     let plain : IsAsPlain p.valid w = rw c.validity.ensures.value at c.in_ok-validity.ensures.plain in
@@ -131,9 +131,9 @@ listview::slice_views-returns t c =
     (slice_step (listview_spans p) (listview_spans q) refl refl (ap (λ (x : ListViewParts). list_of x.elements.dtype) cut.parts) (fit-listview p h) s e c.requires.ordered c.requires.within cut.lists
     (rw (ap (λ (x : ListViewParts). x.valid) cut.parts) left) (rw (ap (λ (x : ListViewParts). x.valid) cut.parts) plain) (omega (arith, ap (λ (x : ListViewParts). x.elements.depth) cut.parts)))
 
-pub fixed_size_list::slice_of-with_parts-requires-clause-valid : goal.fixed_size_list::slice_of-with_parts-requires-clause-valid
-fixed_size_list::slice_of-with_parts-requires-clause-valid t c =
-    let p = c.args.array.now in let h = c.elements.ensures.valid in let s = c.args.start in let e = c.args.end in
+pub fixed_size_list::FixedSizeListArraySliceRows::slice-with_parts-requires-clause-valid : goal.fixed_size_list::FixedSizeListArraySliceRows::slice-with_parts-requires-clause-valid
+fixed_size_list::FixedSizeListArraySliceRows::slice-with_parts-requires-clause-valid t c =
+    let p = c.args.self.now in let h = c.elements.ensures.valid in let s = c.args.start in let e = c.args.end in
     let w = valid_of c.in_ok-validity.validity in let n = length (fixed_spans p).spans in
     let left : IsLeft p.valid (nullability_by p.valid) (slice_range (present_bits p.valid n) s e) w = rw (c.validity.ensures.value, c.len-len.ensures.rows) at c.in_ok-validity.ensures.left in
     let cut : IsSlice p.elements (s * p.size) (e * p.size) c.in_ok-elements.elements = rw (c.deref-2.ensures ∙ c.elements-2.ensures.value, c.list_size-size.ensures.value) at c.in_ok-elements.ensures.cut in
@@ -141,9 +141,9 @@ fixed_size_list::slice_of-with_parts-requires-clause-valid t c =
     rw c.in_ok-into_ref.ensures
     (fault-fixed-slice p c.in_ok-elements.elements s e h c.requires.ordered (omega (arith, c.requires.within, rows-fixed p h, spans-fixed p)) cut.step.rows w fit)
 
-pub fixed_size_list::slice_of-returns : goal.fixed_size_list::slice_of-returns
-fixed_size_list::slice_of-returns t c =
-    let p = c.args.array.now in let h = c.elements.ensures.valid in let s = c.args.start in let e = c.args.end in
+pub fixed_size_list::FixedSizeListArraySliceRows::slice-returns-clause-cut : goal.fixed_size_list::FixedSizeListArraySliceRows::slice-returns-clause-cut
+fixed_size_list::FixedSizeListArraySliceRows::slice-returns-clause-cut t c =
+    let p = c.args.self.now in let h = c.elements.ensures.valid in let s = c.args.start in let e = c.args.end in
     let x = c.in_ok-elements.elements in let w = valid_of c.in_ok-validity.validity in
     let q : FixedParts = record { elements = x; size = p.size; len = e - s; valid = w } in
     let left : IsLeft p.valid (nullability_by p.valid) (slice_range (present_bits p.valid (length (fixed_spans p).spans)) s e) w = rw (c.validity.ensures.value, c.len-len.ensures.rows) at c.in_ok-validity.ensures.left in
@@ -157,35 +157,35 @@ fixed_size_list::slice_of-returns t c =
 
 -- ---- extensions and maps
 
-pub extension::slice_of-restored-requires : goal.extension::slice_of-restored-requires
-extension::slice_of-restored-requires t c =
-    let p = c.args.array.now in let x = c.in_ok-storage.storage in
+pub extension::ExtensionArraySliceRows::slice-restored-requires : goal.extension::ExtensionArraySliceRows::slice-restored-requires
+extension::ExtensionArraySliceRows::slice-restored-requires t c =
+    let p = c.args.self.now in let x = c.in_ok-storage.storage in
     let cut : IsSlice p.storage c.args.start c.args.end x = rw (c.deref.ensures ∙ c.storage.ensures.value) at c.in_ok-storage.ensures.cut in
     fault-extension p x c.storage.ensures.valid (ap (λ (t : TypeTree). t.kind) cut.step.dtype)
 
-pub extension::slice_of-returns : goal.extension::slice_of-returns
-extension::slice_of-returns t c =
-    let p = c.args.array.now in let x = c.in_ok-storage.storage in
+pub extension::ExtensionArraySliceRows::slice-returns-clause-cut : goal.extension::ExtensionArraySliceRows::slice-returns-clause-cut
+extension::ExtensionArraySliceRows::slice-returns-clause-cut t c =
+    let p = c.args.self.now in let x = c.in_ok-storage.storage in
     let cut : IsSlice p.storage c.args.start c.args.end x = rw (c.deref.ensures ∙ c.storage.ensures.value) at c.in_ok-storage.ensures.cut in
     weaker c.restored.result c.restored.ensures (λ a is. rw is (is_cut-extension p x _ cut))
 
-pub map::slice_of-of_entries-requires : goal.map::slice_of-of_entries-requires
-map::slice_of-of_entries-requires t c =
-    let p = c.args.array.now in let q = c.in_ok-entries.entries in
+pub map::MapArraySliceRows::slice-of_entries-requires : goal.map::MapArraySliceRows::slice-of_entries-requires
+map::MapArraySliceRows::slice-of_entries-requires t c =
+    let p = c.args.self.now in let q = c.in_ok-entries.entries in
     let cut : IsSlice (listview_column p) c.args.start c.args.end (listview_column q) = rw c.entries.ensures.value at c.in_ok-entries.ensures in
     fault-map p q c.entries.ensures.valid (elements-step p q _ (nullability_by p.valid) cut.step)
 
-pub map::slice_of-returns : goal.map::slice_of-returns
-map::slice_of-returns t c =
-    let p = c.args.array.now in let q = c.in_ok-entries.entries in
+pub map::MapArraySliceRows::slice-returns-clause-cut : goal.map::MapArraySliceRows::slice-returns-clause-cut
+map::MapArraySliceRows::slice-returns-clause-cut t c =
+    let p = c.args.self.now in let q = c.in_ok-entries.entries in
     let cut : IsSlice (listview_column p) c.args.start c.args.end (listview_column q) = rw c.entries.ensures.value at c.in_ok-entries.ensures in
     rw c.of_entries.ensures (is_cut-map p q _ cut)
 
 -- ---- structs
 
-pub struct_::slice_of-with_parts-requires : goal.struct_::slice_of-with_parts-requires
-struct_::slice_of-with_parts-requires t c =
-    let p = c.args.array.now in let h = c.validity.ensures.valid in let s = c.args.start in let e = c.args.end in
+pub struct_::StructArraySliceRows::slice-with_parts-requires : goal.struct_::StructArraySliceRows::slice-with_parts-requires
+struct_::StructArraySliceRows::slice-with_parts-requires t c =
+    let p = c.args.self.now in let h = c.validity.ensures.valid in let s = c.args.start in let e = c.args.end in
     let w = valid_of c.in_ok-validity.validity in let fields = c.in_ok-fields.fields in
     let q : StructParts = record p { columns = fields; len = e - s; valid = w } in
     let within : e ≤ p.len = omega (arith, c.requires.within, rows-struct p h) in
@@ -196,9 +196,9 @@ struct_::slice_of-with_parts-requires t c =
     (long-slice p.len p.columns fields (long-struct p h) s e c.requires.ordered within steps)
     (fits_slice p.valid w (nullability_by p.valid) p.len (fitting-struct p h) s e c.requires.ordered within left)
 
-pub struct_::slice_of-returns : goal.struct_::slice_of-returns
-struct_::slice_of-returns t c =
-    let p = c.args.array.now in let h = c.validity.ensures.valid in let s = c.args.start in let e = c.args.end in
+pub struct_::StructArraySliceRows::slice-returns-clause-cut : goal.struct_::StructArraySliceRows::slice-returns-clause-cut
+struct_::StructArraySliceRows::slice-returns-clause-cut t c =
+    let p = c.args.self.now in let h = c.validity.ensures.valid in let s = c.args.start in let e = c.args.end in
     let w = valid_of c.in_ok-validity.validity in let fields = c.in_ok-fields.fields in
     let q : StructParts = record p { columns = fields; len = e - s; valid = w } in
     let within : e ≤ p.len = omega (arith, c.requires.within, rows-struct p h) in
@@ -220,29 +220,29 @@ columns::slice_each-loop-column-preserved t c =
 
 -- ---- unions
 
-pub union_::slice_of-with_parts-requires :
-    goal.union_::slice_of-with_parts-requires
-union_::slice_of-with_parts-requires t c =
-    let p = c.args.array.now in let h = c.type_ids.ensures.valid in let s = c.args.start in let e = c.args.end in
+pub union_::UnionArraySliceRows::slice-with_parts-requires :
+    goal.union_::UnionArraySliceRows::slice-with_parts-requires
+union_::UnionArraySliceRows::slice-with_parts-requires t c =
+    let p = c.args.self.now in let h = c.type_ids.ensures.valid in let s = c.args.start in let e = c.args.end in
     let a = c.in_ok-ids.ids in let o = c.in-Some.offsets.now in
     let some : p.offsets ≡ Some o = sym c.in-Some.ensures.value in
     let cut : IsSlice p.ids s e a = subst (λ (x : Column). IsSlice x s e a) (c.deref.ensures ∙ c.type_ids.ensures.value) (rw c.in_ok-ids.ensures c.in_ok-slice.ensures.cut) in
     ap₂ (λ (r : RecordParts) (cs : List Column). union_fault (record p { ids = a; offsets = Some r; columns = cs })) c.slice_numbers-places.ensures (c.share-columns.ensures ∙ c.children.ensures.value)
     ∙ fault-dense-slice p o h some a s e c.requires.ordered (omega (arith, c.requires.within, rows-union p h)) cut
 
-pub union_::slice_of-with_parts-requires-in-None :
-    goal.union_::slice_of-with_parts-requires-in-None
-union_::slice_of-with_parts-requires-in-None t c =
-    let p = c.args.array.now in let h = c.type_ids.ensures.valid in let s = c.args.start in let e = c.args.end in
+pub union_::UnionArraySliceRows::slice-with_parts-requires-in-None :
+    goal.union_::UnionArraySliceRows::slice-with_parts-requires-in-None
+union_::UnionArraySliceRows::slice-with_parts-requires-in-None t c =
+    let p = c.args.self.now in let h = c.type_ids.ensures.valid in let s = c.args.start in let e = c.args.end in
     let a = c.in_ok-ids.ids in let cs = c.in_ok-columns-in-None.columns in
     let cut : IsSlice p.ids s e a = subst (λ (x : Column). IsSlice x s e a) (c.deref.ensures ∙ c.type_ids.ensures.value) (rw c.in_ok-ids.ensures c.in_ok-slice.ensures.cut) in
     let cuts : AreCuts (λ rows. slice_range rows s e) p.columns cs = rw c.children-in-None.ensures.value at c.in_ok-columns-in-None.ensures in
     fault-sparse-slice p h (sym c.in-None.ensures.value) a cs s e c.requires.ordered (omega (arith, c.requires.within, rows-union p h)) cut cuts
 
-pub union_::slice_of-returns-in-Some :
-    goal.union_::slice_of-returns-in-Some
-union_::slice_of-returns-in-Some t c =
-    let p = c.args.array.now in let h = c.type_ids.ensures.valid in let s = c.args.start in let e = c.args.end in
+pub union_::UnionArraySliceRows::slice-returns-in-Some-clause-cut :
+    goal.union_::UnionArraySliceRows::slice-returns-in-Some-clause-cut
+union_::UnionArraySliceRows::slice-returns-in-Some-clause-cut t c =
+    let p = c.args.self.now in let h = c.type_ids.ensures.valid in let s = c.args.start in let e = c.args.end in
     let a = c.in_ok-ids.ids in let o = c.in-Some.offsets.now in
     let some : p.offsets ≡ Some o = sym c.in-Some.ensures.value in
     let cut : IsSlice p.ids s e a = subst (λ (x : Column). IsSlice x s e a) (c.deref.ensures ∙ c.type_ids.ensures.value) (rw c.in_ok-ids.ensures c.in_ok-slice.ensures.cut) in
@@ -251,10 +251,10 @@ union_::slice_of-returns-in-Some t c =
     ∙ ap₂ (λ (r : RecordParts) (cs : List Column). let u : UnionParts = record p { ids = a; offsets = Some r; columns = cs } in u) c.slice_numbers-places.ensures (c.share-columns.ensures ∙ c.children.ensures.value)) in
     subst (λ (x : Column). IsSlice (union_column p) s e x) (sym q) (is_slice-dense p o h some a s e cut)
 
-pub union_::slice_of-returns-in_ok-columns-in-None :
-    goal.union_::slice_of-returns-in_ok-columns-in-None
-union_::slice_of-returns-in_ok-columns-in-None t c =
-    let p = c.args.array.now in let h = c.type_ids.ensures.valid in let s = c.args.start in let e = c.args.end in
+pub union_::UnionArraySliceRows::slice-returns-in_ok-columns-in-None-clause-cut :
+    goal.union_::UnionArraySliceRows::slice-returns-in_ok-columns-in-None-clause-cut
+union_::UnionArraySliceRows::slice-returns-in_ok-columns-in-None-clause-cut t c =
+    let p = c.args.self.now in let h = c.type_ids.ensures.valid in let s = c.args.start in let e = c.args.end in
     let a = c.in_ok-ids.ids in let cs = c.in_ok-columns-in-None.columns in
     let cut : IsSlice p.ids s e a = subst (λ (x : Column). IsSlice x s e a) (c.deref.ensures ∙ c.type_ids.ensures.value) (rw c.in_ok-ids.ensures c.in_ok-slice.ensures.cut) in
     let cuts : AreCuts (λ rows. slice_range rows s e) p.columns cs = rw c.children-in-None.ensures.value at c.in_ok-columns-in-None.ensures in

@@ -13,41 +13,41 @@ use Rattle.vx_model.specs.Extension.{extension_size}
 use Rattle.vx_model.specs.Union.{union_size}
 use Rattle.vx_dispatch.proofs.+slice.Given as goal
 
-abbrev pub decreases-dict::slice_of : goal.decreases-dict::slice_of
-decreases-dict::slice_of l = dict_size l.array.now
+abbrev pub decreases-dict::DictArraySliceRows::slice : goal.decreases-dict::DictArraySliceRows::slice
+decreases-dict::DictArraySliceRows::slice l = dict_size l.self.now
 
-abbrev pub decreases-filter_layout::slice_of : goal.decreases-filter_layout::slice_of
-decreases-filter_layout::slice_of l = filter_size l.array.now
+abbrev pub decreases-filter_layout::FilterArraySliceRows::slice : goal.decreases-filter_layout::FilterArraySliceRows::slice
+decreases-filter_layout::FilterArraySliceRows::slice l = filter_size l.self.now
 
 abbrev pub decreases-slicing::slice : goal.decreases-slicing::slice
 decreases-slicing::slice l = l.array.now.depth
 
-abbrev pub decreases-stored::slice_of : goal.decreases-stored::slice_of
-decreases-stored::slice_of l = valid_size (parts_of l.stored).valid + 1
+abbrev pub decreases-stored::StoredSliceRows::slice : goal.decreases-stored::StoredSliceRows::slice
+decreases-stored::StoredSliceRows::slice l = valid_size (parts_of l.self.now).valid + 1
 
 abbrev pub decreases-validity::slice_validity : goal.decreases-validity::slice_validity
 decreases-validity::slice_validity l = valid_size (valid_of l.validity.now)
 
-abbrev pub decreases-fixed_size_list::slice_of : goal.decreases-fixed_size_list::slice_of
-decreases-fixed_size_list::slice_of l = max l.array.now.elements.depth (valid_size l.array.now.valid) + 2
+abbrev pub decreases-fixed_size_list::FixedSizeListArraySliceRows::slice : goal.decreases-fixed_size_list::FixedSizeListArraySliceRows::slice
+decreases-fixed_size_list::FixedSizeListArraySliceRows::slice l = max l.self.now.elements.depth (valid_size l.self.now.valid) + 2
 
-abbrev pub decreases-list::slice_of : goal.decreases-list::slice_of
-decreases-list::slice_of l = valid_size l.array.now.valid + 1
+abbrev pub decreases-list::ListArraySliceRows::slice : goal.decreases-list::ListArraySliceRows::slice
+decreases-list::ListArraySliceRows::slice l = valid_size l.self.now.valid + 1
 
-abbrev pub decreases-listview::slice_of : goal.decreases-listview::slice_of
-decreases-listview::slice_of l = valid_size l.array.now.valid + 2
+abbrev pub decreases-listview::ListViewArraySliceRows::slice : goal.decreases-listview::ListViewArraySliceRows::slice
+decreases-listview::ListViewArraySliceRows::slice l = valid_size l.self.now.valid + 2
 
 abbrev pub decreases-listview::slice_views : goal.decreases-listview::slice_views
 decreases-listview::slice_views l = valid_size l.array.now.valid + 1
 
-abbrev pub decreases-map::slice_of : goal.decreases-map::slice_of
-decreases-map::slice_of l = valid_size l.array.now.valid + 2
+abbrev pub decreases-map::MapArraySliceRows::slice : goal.decreases-map::MapArraySliceRows::slice
+decreases-map::MapArraySliceRows::slice l = valid_size l.self.now.valid + 2
 
-abbrev pub decreases-extension::slice_of : goal.decreases-extension::slice_of
-decreases-extension::slice_of l = extension_size l.array.now
+abbrev pub decreases-extension::ExtensionArraySliceRows::slice : goal.decreases-extension::ExtensionArraySliceRows::slice
+decreases-extension::ExtensionArraySliceRows::slice l = extension_size l.self.now
 
-abbrev pub decreases-struct_::slice_of : goal.decreases-struct_::slice_of
-decreases-struct_::slice_of l = max (columns_depth l.array.now.columns) (valid_size l.array.now.valid) + 2
+abbrev pub decreases-struct_::StructArraySliceRows::slice : goal.decreases-struct_::StructArraySliceRows::slice
+decreases-struct_::StructArraySliceRows::slice l = max (columns_depth l.self.now.columns) (valid_size l.self.now.valid) + 2
 
 abbrev pub decreases-columns::slice_each : goal.decreases-columns::slice_each
 decreases-columns::slice_each l = columns_depth l.columns.now
@@ -57,5 +57,5 @@ abbrev pub invariant-columns::slice_each-loop-column : goal.invariant-columns::s
 invariant-columns::slice_each-loop-column l =
     AreCuts (λ rows. slice_range rows l.start l.end) (take l.column-index l.columns) l.cut.items
 
-abbrev pub decreases-union_::slice_of : goal.decreases-union_::slice_of
-decreases-union_::slice_of l = union_size l.array.now
+abbrev pub decreases-union_::UnionArraySliceRows::slice : goal.decreases-union_::UnionArraySliceRows::slice
+decreases-union_::UnionArraySliceRows::slice l = union_size l.self.now

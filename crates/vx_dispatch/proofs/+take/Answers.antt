@@ -118,44 +118,44 @@ validity::taken_bits-returns-in-Bool t c =
     let rows = ap (λ b. at false b picks) (ap (λ x. x.bits) c.bits.ensures.bits ∙ sym (yes-bool p bools) ∙ ap (λ x. map is_yes x.rows) same) in
     weaker c.gather_bits.result c.gather_bits.ensures (λ b h. ap (λ b. b.bits) h ∙ rows)
 
-pub dict::take_of-recoded-requires : goal.dict::take_of-recoded-requires
-dict::take_of-recoded-requires t c =
-    let p = c.args.array.now in let codes = c.in_ok-codes.codes in let picks = c.args.picks.picks in let n = c.args.nullability in
+pub dict::DictArrayTakeRows::take-recoded-requires : goal.dict::DictArrayTakeRows::take-recoded-requires
+dict::DictArrayTakeRows::take-recoded-requires t c =
+    let p = c.args.self.now in let codes = c.in_ok-codes.codes in let picks = c.args.picks.picks in let n = c.args.nullability in
     let taken : IsTake p.codes picks n codes = rw (c.deref.ensures ∙ c.codes.ensures.value) at c.in_ok-codes.ensures in
     dict_fault-take p codes picks n c.codes.ensures.valid taken
 
-pub dict::take_of-returns : goal.dict::take_of-returns
-dict::take_of-returns t c =
-    let p = c.args.array.now in let codes = c.in_ok-codes.codes in let picks = c.args.picks.picks in let n = c.args.nullability in
+pub dict::DictArrayTakeRows::take-returns : goal.dict::DictArrayTakeRows::take-returns
+dict::DictArrayTakeRows::take-returns t c =
+    let p = c.args.self.now in let codes = c.in_ok-codes.codes in let picks = c.args.picks.picks in let n = c.args.nullability in
     let taken : IsTake p.codes picks n codes = rw (c.deref.ensures ∙ c.codes.ensures.value) at c.in_ok-codes.ensures in
     weaker c.recoded.result c.recoded.ensures (λ a is. rw is (is_take-dict p codes picks n c.codes.ensures.valid taken))
 
 -- the rows that the mask keeps are materialized
-pub filter_layout::take_of-returns-then-is_materialized : goal.filter_layout::take_of-returns-then-is_materialized
-filter_layout::take_of-returns-then-is_materialized t c =
-    let p = c.args.array.now in let picks = c.args.picks.picks in let n = c.args.nullability in
+pub filter_layout::FilterArrayTakeRows::take-returns-then-is_materialized : goal.filter_layout::FilterArrayTakeRows::take-returns-then-is_materialized
+filter_layout::FilterArrayTakeRows::take-returns-then-is_materialized t c =
+    let p = c.args.self.now in let picks = c.args.picks.picks in let n = c.args.nullability in
     let child = c.deref-then-is_materialized.ensures ∙ c.child-child.ensures.value in
     let cut : IsCut p.child (items_where_true p.mask p.child.rows) c.in_ok-kept.kept = rw (child, c.mask-mask.ensures.value) at c.in_ok-kept.ensures.cut in
     weaker c.take_picks.result c.take_picks.ensures (λ a taken. is_step-filter p _ _ a
     (taken.rows ∙ ap (λ r. at null r picks) cut.step.rows)
     (taken.dtype ∙ ap (λ d. also_nullable d n) cut.step.dtype))
 
-pub filter_layout::take_of-returns : goal.filter_layout::take_of-returns
-filter_layout::take_of-returns t c =
-    let p = c.args.array.now in let picks = c.args.picks.picks in let n = c.args.nullability in
+pub filter_layout::FilterArrayTakeRows::take-returns : goal.filter_layout::FilterArrayTakeRows::take-returns
+filter_layout::FilterArrayTakeRows::take-returns t c =
+    let p = c.args.self.now in let picks = c.args.picks.picks in let n = c.args.nullability in
     let child = c.deref-2.ensures ∙ c.child-child.ensures.value in
     weaker c.take_picks-2.result c.take_picks-2.ensures (λ a taken. is_take-filter p picks n a c.child-child.ensures.valid c.child_picks.ensures.below (rw (child, c.in_ok-positions.ensures.picks) at taken))
 
-pub dict::bits_of-column_picks-requires : goal.dict::bits_of-column_picks-requires
-dict::bits_of-column_picks-requires t c =
-    let p = c.args.array.now in let codes = c.in_ok-codes.codes in let picks = c.in_ok-copy.copy.picks in
+pub dict::DictArrayTakeBits::bits-column_picks-requires : goal.dict::DictArrayTakeBits::bits-column_picks-requires
+dict::DictArrayTakeBits::bits-column_picks-requires t c =
+    let p = c.args.self.now in let codes = c.in_ok-codes.codes in let picks = c.in_ok-copy.copy.picks in
     let taken : IsTake p.codes picks Nullable codes = rw (c.deref.ensures ∙ c.codes.ensures.value) at c.in_ok-codes.ensures in
     rw (c.len.ensures ∙ ap (λ (x : Column). length x.rows) (c.deref-2.ensures ∙ c.values-values.ensures.value))
     (codes-no_fault (dict_with p codes) (dict_fault-take p codes picks Nullable c.codes.ensures.valid taken))
 
-pub dict::bits_of-returns : goal.dict::bits_of-returns
-dict::bits_of-returns t c =
-    let p = c.args.array.now in let codes = c.in_ok-codes.codes in let picks = c.in_ok-copy.copy.picks in
+pub dict::DictArrayTakeBits::bits-returns : goal.dict::DictArrayTakeBits::bits-returns
+dict::DictArrayTakeBits::bits-returns t c =
+    let p = c.args.self.now in let codes = c.in_ok-codes.codes in let picks = c.in_ok-copy.copy.picks in
     let taken : IsTake p.codes picks Nullable codes = rw (c.deref.ensures ∙ c.codes.ensures.value) at c.in_ok-codes.ensures in
     let named : c.in_ok-named.named.picks ≡ positions_of (numbers_of codes) = ap (λ x. x.picks) c.in_ok-named.ensures.picks in
     let rows = ap₂ (λ (x : Column) l. at false (map is_yes x.rows) l) (c.deref-3.ensures ∙ c.values-values.ensures.value) named in
@@ -163,34 +163,34 @@ dict::bits_of-returns t c =
     weaker c.taken_bits.result c.taken_bits.ensures (λ b h. h ∙ rows ∙ bits-dict p codes picks Nullable taken ∙ same)
 
 -- the rows that the mask keeps are materialized
-pub filter_layout::bits_of-returns : goal.filter_layout::bits_of-returns
-filter_layout::bits_of-returns t c =
-    let p = c.args.array.now in let picks = c.args.picks.now.picks in
+pub filter_layout::FilterArrayTakeBits::bits-returns : goal.filter_layout::FilterArrayTakeBits::bits-returns
+filter_layout::FilterArrayTakeBits::bits-returns t c =
+    let p = c.args.self.now in let picks = c.args.picks.now.picks in
     let kept : c.in_ok-kept.kept.rows ≡ (filter_column p).rows =
     rw (c.deref.ensures ∙ c.child.ensures.value, c.mask.ensures.value) at c.in_ok-kept.ensures.cut.step.rows in
     weaker c.taken_bits.result c.taken_bits.ensures (λ b h. h ∙ ap (λ r. at false (map is_yes r) picks) kept)
 
-pub stored::take_of-take_validity-requires : goal.stored::take_of-take_validity-requires
-stored::take_of-take_validity-requires t c =
-    let p = parts_of c.args.stored in let v = c.validity.ensures in
+pub stored::StoredTakeRows::take-take_validity-requires : goal.stored::StoredTakeRows::take-take_validity-requires
+stored::StoredTakeRows::take-take_validity-requires t c =
+    let p = parts_of c.args.self.now in let v = c.validity.ensures in
     let long = c.requires.bound ∙ length-stored_rows p.valid p.items v.fitting in
-    let fits : is_fitting (valid_of c.validity.result.now) c.args.picks.now.bound ≡ true = rw (v.value, long) v.fitting in
+    let fits : is_fitting (valid_of c.validity.result.now) c.args.picks.bound ≡ true = rw (v.value, long) v.fitting in
     (omega (arith, ap valid_size v.value), (fits, c.requires.there))
 
-pub stored::take_of-take_stored-requires-clause-bound : goal.stored::take_of-take_stored-requires-clause-bound
-stored::take_of-take_stored-requires-clause-bound t c =
-    let p = parts_of c.args.stored in c.requires.bound ∙ length-stored_rows p.valid p.items c.validity.ensures.fitting
+pub stored::StoredTakeRows::take-take_stored-requires-clause-bound : goal.stored::StoredTakeRows::take-take_stored-requires-clause-bound
+stored::StoredTakeRows::take-take_stored-requires-clause-bound t c =
+    let p = parts_of c.args.self.now in c.requires.bound ∙ length-stored_rows p.valid p.items c.validity.ensures.fitting
 
-pub stored::take_of-take_stored-requires-clause-left : goal.stored::take_of-take_stored-requires-clause-left
-stored::take_of-take_stored-requires-clause-left t c =
-    let p = parts_of c.args.stored in let v = c.validity.ensures in
+pub stored::StoredTakeRows::take-take_stored-requires-clause-left : goal.stored::StoredTakeRows::take-take_stored-requires-clause-left
+stored::StoredTakeRows::take-take_stored-requires-clause-left t c =
+    let p = parts_of c.args.self.now in let v = c.validity.ensures in
     let long = c.requires.bound ∙ length-stored_rows p.valid p.items v.fitting in
     let left = c.in_ok-validity.ensures.left in
     rw (left.nullability) (rw (← long, ← v.value) left)
 
-pub stored::take_of-returns : goal.stored::take_of-returns
-stored::take_of-returns t c =
-    let p = parts_of c.args.stored in let v = c.validity.ensures in
+pub stored::StoredTakeRows::take-returns : goal.stored::StoredTakeRows::take-returns
+stored::StoredTakeRows::take-returns t c =
+    let p = parts_of c.args.self.now in let v = c.validity.ensures in
     let same = c.in_ok-validity.ensures.left.nullability ∙ ap (λ (x : Valid). either_nullable (nullability_by x) c.args.nullability) v.value in
     weaker c.take_stored.result c.take_stored.ensures (λ a step. record {
       rows = step.rows;
@@ -202,9 +202,9 @@ stored::take_of-returns t c =
 
 -- ---- lists
 
-pub list::take_of-returns : goal.list::take_of-returns
-list::take_of-returns t c =
-    let p = c.args.array.now in let h = c.validity.ensures.valid in let picks = c.args.picks.picks in
+pub list::ListArrayTakeRows::take-returns : goal.list::ListArrayTakeRows::take-returns
+list::ListArrayTakeRows::take-returns t c =
+    let p = c.args.self.now in let h = c.validity.ensures.valid in let picks = c.args.picks.picks in
     let w = valid_of c.in_ok-validity.validity in let plan = c.in_ok-offsets.field-0 in let x = c.in_ok-elements.elements in
     let n = either_nullable (nullability_by p.valid) c.args.nullability in
     let q : ListParts = record { elements = x; offsets = plan.offsets; valid = w } in
@@ -245,9 +245,9 @@ runs::take_runs-returns-in_ok-picks-in-None t c =
 
 -- ---- lists of one size
 
-pub fixed_size_list::take_of-returns-then-len-eq0 : goal.fixed_size_list::take_of-returns-then-len-eq0
-fixed_size_list::take_of-returns-then-len-eq0 t c =
-    let p = c.args.array.now in let h = c.validity.ensures.valid in let picks = c.args.picks.picks in
+pub fixed_size_list::FixedSizeListArrayTakeRows::take-returns-then-len-eq0 : goal.fixed_size_list::FixedSizeListArrayTakeRows::take-returns-then-len-eq0
+fixed_size_list::FixedSizeListArrayTakeRows::take-returns-then-len-eq0 t c =
+    let p = c.args.self.now in let h = c.validity.ensures.valid in let picks = c.args.picks.picks in
     let w = valid_of c.in_ok-validity.validity in let plan = c.in_ok-validity-2.field-0 in let x = c.in_ok-elements.elements in
     let n = either_nullable (nullability_by p.valid) c.args.nullability in let fill = filler_row p.elements.dtype in
     let q : FixedParts = record { elements = x; size = p.size; len = length picks; valid = w } in
@@ -259,9 +259,9 @@ fixed_size_list::take_of-returns-then-len-eq0 t c =
     weaker c.relisted.result c.relisted.ensures (λ a is. rw (is, c.in_ok-validity-2.ensures.valid, c.len-len.ensures)
     (take_step (fixed_spans p) (fixed_spans q) refl refl (ap (λ k. fixed_of k p.size) (c.in_ok-elements.ensures.dtype ∙ typed)) (fit-fixed p h) (replicate p.size fill) picks n (makes x rows).1 left))
 
-pub fixed_size_list::take_of-returns : goal.fixed_size_list::take_of-returns
-fixed_size_list::take_of-returns t c =
-    let p = c.args.array.now in let h = c.validity.ensures.valid in let picks = c.args.picks.picks in
+pub fixed_size_list::FixedSizeListArrayTakeRows::take-returns : goal.fixed_size_list::FixedSizeListArrayTakeRows::take-returns
+fixed_size_list::FixedSizeListArrayTakeRows::take-returns t c =
+    let p = c.args.self.now in let h = c.validity.ensures.valid in let picks = c.args.picks.picks in
     let w = valid_of c.in_ok-validity.validity in let plan = c.in_ok-validity-2.field-0 in let x = c.in_ok-elements-2.elements in
     let n = either_nullable (nullability_by p.valid) c.args.nullability in
     let q : FixedParts = record { elements = x; size = p.size; len = length picks; valid = w } in
@@ -274,27 +274,27 @@ fixed_size_list::take_of-returns t c =
 
 -- ---- extensions and maps
 
-pub extension::take_of-restored-requires : goal.extension::take_of-restored-requires
-extension::take_of-restored-requires t c =
-    let p = c.args.array.now in let x = c.in_ok-storage.storage in let picks = c.args.picks.picks in let n = c.args.nullability in
+pub extension::ExtensionArrayTakeRows::take-restored-requires : goal.extension::ExtensionArrayTakeRows::take-restored-requires
+extension::ExtensionArrayTakeRows::take-restored-requires t c =
+    let p = c.args.self.now in let x = c.in_ok-storage.storage in let picks = c.args.picks.picks in let n = c.args.nullability in
     let taken : IsTake p.storage picks n x = rw (c.deref.ensures ∙ c.storage.ensures.value) at c.in_ok-storage.ensures in
     fault-extension p x c.storage.ensures.valid (ap (λ (t : TypeTree). t.kind) taken.dtype)
 
-pub extension::take_of-returns : goal.extension::take_of-returns
-extension::take_of-returns t c =
-    let p = c.args.array.now in let x = c.in_ok-storage.storage in let picks = c.args.picks.picks in let n = c.args.nullability in
+pub extension::ExtensionArrayTakeRows::take-returns : goal.extension::ExtensionArrayTakeRows::take-returns
+extension::ExtensionArrayTakeRows::take-returns t c =
+    let p = c.args.self.now in let x = c.in_ok-storage.storage in let picks = c.args.picks.picks in let n = c.args.nullability in
     let taken : IsTake p.storage picks n x = rw (c.deref.ensures ∙ c.storage.ensures.value) at c.in_ok-storage.ensures in
     weaker c.restored.result c.restored.ensures (λ a is. rw is (is_step-extension p x _ (also_nullable p.storage.dtype n) taken))
 
-pub map::take_of-of_entries-requires : goal.map::take_of-of_entries-requires
-map::take_of-of_entries-requires t c =
-    let p = c.args.array.now in let q = c.in_ok-entries.entries in let picks = c.args.picks.now.picks in let n = c.args.nullability in
+pub map::MapArrayTakeRows::take-of_entries-requires : goal.map::MapArrayTakeRows::take-of_entries-requires
+map::MapArrayTakeRows::take-of_entries-requires t c =
+    let p = c.args.self.now in let q = c.in_ok-entries.entries in let picks = c.args.picks.picks in let n = c.args.nullability in
     let taken : IsTake (listview_column p) picks n (listview_column q) = rw c.entries.ensures.value at c.in_ok-entries.ensures in
     fault-map p q c.entries.ensures.valid (elements-step p q _ (either_nullable (nullability_by p.valid) n) taken)
 
-pub map::take_of-returns : goal.map::take_of-returns
-map::take_of-returns t c =
-    let p = c.args.array.now in let q = c.in_ok-entries.entries in let picks = c.args.picks.now.picks in let n = c.args.nullability in
+pub map::MapArrayTakeRows::take-returns : goal.map::MapArrayTakeRows::take-returns
+map::MapArrayTakeRows::take-returns t c =
+    let p = c.args.self.now in let q = c.in_ok-entries.entries in let picks = c.args.picks.picks in let n = c.args.nullability in
     let taken : IsTake (listview_column p) picks n (listview_column q) = rw c.entries.ensures.value at c.in_ok-entries.ensures in
     rw c.of_entries.ensures (is_step-map p q _ (either_nullable (nullability_by p.valid) n) taken)
 
@@ -311,9 +311,9 @@ columns::take_each-loop-column-preserved t c =
     subst (λ (l : List Column). AreSteps (λ rows. at null rows picks) (take (k + 1) cs) l) (sym c.in_ok-push.ensures.items)
     (takes_more picks cs k column c.loop-column.taken.items x here is c.loop-column.invariant taken)
 
-pub struct_::take_of-with_parts-requires : goal.struct_::take_of-with_parts-requires
-struct_::take_of-with_parts-requires t c =
-    let p = c.args.array.now in let h = c.validity.ensures.valid in let picks = c.args.picks.now.picks in
+pub struct_::StructArrayTakeRows::take-with_parts-requires : goal.struct_::StructArrayTakeRows::take-with_parts-requires
+struct_::StructArrayTakeRows::take-with_parts-requires t c =
+    let p = c.args.self.now in let h = c.validity.ensures.valid in let picks = c.args.picks.picks in
     let w = valid_of c.in_ok-validity.validity in let fields = c.in_ok-fields.fields in
     let n = either_nullable (nullability_by p.valid) c.args.nullability in
     let q : StructParts = record p { columns = fields; len = length picks; valid = w } in
@@ -322,33 +322,33 @@ struct_::take_of-with_parts-requires t c =
     rw c.len-len.ensures
     (fault-made q types (rw c.len-len.ensures at c.in_ok-fields.ensures.long) (fits_take p.valid w n p.len (fitting-struct p h) picks left))
 
-pub struct_::take_of-returns-then-bound-eq0 : goal.struct_::take_of-returns-then-bound-eq0
-struct_::take_of-returns-then-bound-eq0 t c =
-    let p = c.args.array.now in let h = c.validity.ensures.valid in let picks = c.args.picks.now.picks in
+pub struct_::StructArrayTakeRows::take-returns-then-bound-eq0 : goal.struct_::StructArrayTakeRows::take-returns-then-bound-eq0
+struct_::StructArrayTakeRows::take-returns-then-bound-eq0 t c =
+    let p = c.args.self.now in let h = c.validity.ensures.valid in let picks = c.args.picks.picks in
     let w = valid_of c.in_ok-validity.validity in let fields = c.in_ok-fields.fields in
     let n = either_nullable (nullability_by p.valid) c.args.nullability in
     let q : StructParts = record p { columns = fields; len = length picks; valid = w } in
-    let rows : c.args.picks.now.bound ≡ p.len = c.requires.bound ∙ rows-struct p h in
+    let rows : c.args.picks.bound ≡ p.len = c.requires.bound ∙ rows-struct p h in
     let left : IsLeft p.valid n (at false (present_bits p.valid p.len) picks) w = rw (c.validity.ensures.value, rows) at c.in_ok-validity.ensures.left in
     let none : p.len ≡ 0 = grind (arith, nat_tests, rows, c.bound.ensures.value, c.if-bound-eq0.true) in
     let below : AreBelow picks p.len = subst (AreBelow picks) (c.bound.ensures.value ∙ rows) c.bound.ensures.below in
     rw (c.into_array.ensures, c.with_parts.ensures, c.len-len.ensures)
     (is_take-none p q h refl _ picks n none below (rw c.len-len.ensures at c.in_ok-fields.ensures.rows) left)
 
-pub struct_::take_of-take_each-requires : goal.struct_::take_of-take_each-requires
-struct_::take_of-take_each-requires t c =
-    let p = c.args.array.now in let h = c.validity.ensures.valid in
+pub struct_::StructArrayTakeRows::take-take_each-requires : goal.struct_::StructArrayTakeRows::take-take_each-requires
+struct_::StructArrayTakeRows::take-take_each-requires t c =
+    let p = c.args.self.now in let h = c.validity.ensures.valid in
     let firsts = c.in_ok-firsts.ensures in
     let long : are_long c.in_ok-firsts.firsts.bound c.fields.result.now ≡ true =
     rw (ap (λ (b : BoundedPicks). b.bound) firsts ∙ c.requires.bound ∙ rows-struct p h, c.fields.ensures.value) (long-struct p h) in
-    let there : AllThere c.in_ok-firsts.firsts.picks = rw (ap (λ (b : BoundedPicks). b.picks) firsts) (there-firsts c.args.picks.now.picks) in (
+    let there : AllThere c.in_ok-firsts.firsts.picks = rw (ap (λ (b : BoundedPicks). b.picks) firsts) (there-firsts c.args.picks.picks) in (
       omega (arith, ap columns_depth c.fields.ensures.value),
       (long, there),
     )
 
-pub struct_::take_of-with_parts-requires-2 : goal.struct_::take_of-with_parts-requires-2
-struct_::take_of-with_parts-requires-2 t c =
-    let p = c.args.array.now in let h = c.validity.ensures.valid in let picks = c.args.picks.now.picks in
+pub struct_::StructArrayTakeRows::take-with_parts-requires-2 : goal.struct_::StructArrayTakeRows::take-with_parts-requires-2
+struct_::StructArrayTakeRows::take-with_parts-requires-2 t c =
+    let p = c.args.self.now in let h = c.validity.ensures.valid in let picks = c.args.picks.picks in
     let w = valid_of c.in_ok-validity.validity in let fields = c.in_ok-fields-2.fields in
     let n = either_nullable (nullability_by p.valid) c.args.nullability in
     let q : StructParts = record p { columns = fields; len = length picks; valid = w } in
@@ -361,13 +361,13 @@ struct_::take_of-with_parts-requires-2 t c =
     (rw many at (long-take p.len p.columns fields (long-struct p h) (firsts_for_nulls picks) steps))
     (fits_take p.valid w n p.len (fitting-struct p h) picks left))
 
-pub struct_::take_of-returns : goal.struct_::take_of-returns
-struct_::take_of-returns t c =
-    let p = c.args.array.now in let h = c.validity.ensures.valid in let picks = c.args.picks.now.picks in
+pub struct_::StructArrayTakeRows::take-returns : goal.struct_::StructArrayTakeRows::take-returns
+struct_::StructArrayTakeRows::take-returns t c =
+    let p = c.args.self.now in let h = c.validity.ensures.valid in let picks = c.args.picks.picks in
     let w = valid_of c.in_ok-validity.validity in let fields = c.in_ok-fields-2.fields in
     let n = either_nullable (nullability_by p.valid) c.args.nullability in
     let q : StructParts = record p { columns = fields; len = length picks; valid = w } in
-    let rows : c.args.picks.now.bound ≡ p.len = c.requires.bound ∙ rows-struct p h in
+    let rows : c.args.picks.bound ≡ p.len = c.requires.bound ∙ rows-struct p h in
     let left : IsLeft p.valid n (at false (present_bits p.valid p.len) picks) w = rw (c.validity.ensures.value, rows) at c.in_ok-validity.ensures.left in
     let some : 0 < p.len = grind (arith, nat_tests, rows, c.bound.ensures.value, c.if-bound-eq0.false) in
     let below : AreBelow picks p.len = subst (AreBelow picks) (c.bound.ensures.value ∙ rows) c.bound.ensures.below in
@@ -378,10 +378,10 @@ struct_::take_of-returns t c =
 
 -- ---- unions
 
-pub union_::take_of-with_parts-requires :
-    goal.union_::take_of-with_parts-requires
-union_::take_of-with_parts-requires t c =
-    let p = c.args.array.now in let h = c.type_ids.ensures.valid in let picks = c.args.picks.now.picks in let n = c.args.nullability in
+pub union_::UnionArrayTakeRows::take-with_parts-requires :
+    goal.union_::UnionArrayTakeRows::take-with_parts-requires
+union_::UnionArrayTakeRows::take-with_parts-requires t c =
+    let p = c.args.self.now in let h = c.type_ids.ensures.valid in let picks = c.args.picks.picks in let n = c.args.nullability in
     let a = c.in_ok-ids.ids in let o = c.in-Some.offsets.now in
     let some : p.offsets ≡ Some o = sym c.in-Some.ensures.value in
     let same : c.in_ok-copy.copy.picks ≡ picks = ap (λ (b : BoundedPicks). b.picks) c.in_ok-copy.ensures in
@@ -389,10 +389,10 @@ union_::take_of-with_parts-requires t c =
     ap₂ (λ (r : RecordParts) (cs : List Column). union_fault (record p { ids = a; offsets = Some r; columns = cs })) c.in_ok-places-in-Some.ensures (c.share-columns.ensures ∙ c.children.ensures.value)
     ∙ fault-dense-take p o h some a (replicate o.width 0) picks n step
 
-pub union_::take_of-returns-in_ok-places-in-Some :
-    goal.union_::take_of-returns-in_ok-places-in-Some
-union_::take_of-returns-in_ok-places-in-Some t c =
-    let p = c.args.array.now in let h = c.type_ids.ensures.valid in let picks = c.args.picks.now.picks in let n = c.args.nullability in
+pub union_::UnionArrayTakeRows::take-returns-in-Some :
+    goal.union_::UnionArrayTakeRows::take-returns-in-Some
+union_::UnionArrayTakeRows::take-returns-in-Some t c =
+    let p = c.args.self.now in let h = c.type_ids.ensures.valid in let picks = c.args.picks.picks in let n = c.args.nullability in
     let a = c.in_ok-ids.ids in let o = c.in-Some.offsets.now in
     let some : p.offsets ≡ Some o = sym c.in-Some.ensures.value in
     let same : c.in_ok-copy.copy.picks ≡ picks = ap (λ (b : BoundedPicks). b.picks) c.in_ok-copy.ensures in
