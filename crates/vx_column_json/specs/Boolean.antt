@@ -5,18 +5,18 @@ use Rattle.serde_json.specs.Find.{get, as_str, as_array}
 use Rattle.vx_model.specs.Column.{Column}
 use Rattle.vx_model.specs.Valid.{Valid}
 use Rattle.vx_model.specs.Bool.{bool_with, bool_fault, bool_column}
-use Rattle.vx_json.specs.Meaning.{◌>>=◌, found_or, unless_fault}
+use Rattle.vx_json.specs.Meaning.{◌>>=◌, found_or}
 use Rattle.vx_json.specs.Members.{closed}
 use Rattle.vx_json.specs.Items.{each}
 use Rattle.vx_json.specs.Wholes.{at_most}
 use Rattle.vx_json.specs.BitText.{bits_in}
 use Rattle.vx_json.specs.Bools.{bool_or_clear}
+use Rattle.vx_column_json.specs.Made.{made}
 use Rattle.vx_column_json.specs.Validity.{validity_alone, validity_beside}
 
 -- the column of these bits, where the validity can be theirs
-unfoldable pub bool_made : List Bool → Valid → Option Column
-bool_made bits valid =
-    unless_fault (bool_fault (bool_with bits 0 valid)) (bool_column (bool_with bits 0 valid))
+abbrev pub bool_made : List Bool → Valid → Option Column
+bool_made bits valid = made bool_fault bool_column (bool_with bits 0 valid)
 
 -- a list of bools and nulls
 unfoldable pub bool_by_items : Option Valid → Items → Option Column

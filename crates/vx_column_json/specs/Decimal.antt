@@ -7,11 +7,12 @@ use Rattle.vx_types.specs.TypeTree.{decimal_kind}
 use Rattle.vx_model.specs.Column.{Column}
 use Rattle.vx_model.specs.Valid.{Valid}
 use Rattle.vx_model.specs.Records.{RecordParts, records_fault, records_column}
-use Rattle.vx_json.specs.Meaning.{◌>>=◌, unless_fault}
+use Rattle.vx_json.specs.Meaning.{◌>>=◌}
 use Rattle.vx_json.specs.Members.{is_closed}
 use Rattle.vx_json.specs.Items.{each}
 use Rattle.vx_json.specs.Decimals.{decimal_of}
 use Rattle.vx_json.specs.Values.{hex_or_zero}
+use Rattle.vx_column_json.specs.Made.{made}
 use Rattle.vx_column_json.specs.Validity.{validity_beside}
 
 abbrev pub decimal_parts : DecimalValue → List (List ℕ) → Valid → RecordParts
@@ -24,10 +25,8 @@ decimal_parts t records valid =
     }
 
 -- the column of these records, where the validity can be theirs
-unfoldable pub decimal_made : DecimalValue → List (List ℕ) → Valid → Option Column
-decimal_made t records valid =
-    unless_fault (records_fault (decimal_parts t records valid))
-    (records_column (decimal_parts t records valid))
+abbrev pub decimal_made : DecimalValue → List (List ℕ) → Valid → Option Column
+decimal_made t records valid = made records_fault records_column (decimal_parts t records valid)
 
 -- a list of records and nulls
 unfoldable pub decimal_by_values : Option Valid → Data → Option Column

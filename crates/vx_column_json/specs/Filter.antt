@@ -4,17 +4,17 @@ use Rattle.serde_json.specs.Data.{Data}
 use Rattle.serde_json.specs.Find.{get}
 use Rattle.vx_model.specs.Column.{Column}
 use Rattle.vx_model.specs.Filter.{FilterParts, filter_fault, filter_column}
-use Rattle.vx_json.specs.Meaning.{◌>>=◌, unless_fault}
+use Rattle.vx_json.specs.Meaning.{◌>>=◌}
 use Rattle.vx_json.specs.Members.{closed}
 use Rattle.vx_json.specs.Masks.{mask_of}
+use Rattle.vx_column_json.specs.Made.{made}
 
 abbrev pub filter_parts : Column → List Bool → FilterParts
 filter_parts child bits = record { child = child; mask = bits }
 
 -- the column of these rows of the child, where the mask is as long
-unfoldable pub filter_made : Column → List Bool → Option Column
-filter_made child bits =
-    unless_fault (filter_fault (filter_parts child bits)) (filter_column (filter_parts child bits))
+abbrev pub filter_made : Column → List Bool → Option Column
+filter_made child bits = made filter_fault filter_column (filter_parts child bits)
 
 unfoldable pub filter_by : Data → Column → Option Column
 filter_by d child = do

@@ -5,10 +5,11 @@ use Rattle.serde_json.specs.Find.{get}
 use Rattle.vx_model.specs.Column.{Column}
 use Rattle.vx_model.specs.FixedSizeList.{FixedParts, fixed_fault, fixed_column}
 use Rattle.vx_model.specs.Valid.{Valid}
-use Rattle.vx_json.specs.Meaning.{◌>>=◌, unless_fault}
+use Rattle.vx_json.specs.Meaning.{◌>>=◌}
 use Rattle.vx_json.specs.Members.{closed}
 use Rattle.vx_json.specs.Wholes.{at_most}
 use Rattle.vx_json.specs.declared.wholes.TheConstants.{GREATEST_LEN}
+use Rattle.vx_column_json.specs.Made.{made}
 
 abbrev pub fixed_parts : Column → ℕ → ℕ → Valid → FixedParts
 fixed_parts elements size len valid =
@@ -16,10 +17,9 @@ fixed_parts elements size len valid =
 
 -- the column of `len` lists of `size` elements each, where the elements are as many, and where the
 -- validity can be its
-unfoldable pub fixed_made : Column → ℕ → ℕ → Valid → Option Column
+abbrev pub fixed_made : Column → ℕ → ℕ → Valid → Option Column
 fixed_made elements size len valid =
-    unless_fault (fixed_fault (fixed_parts elements size len valid))
-    (fixed_column (fixed_parts elements size len valid))
+    made fixed_fault fixed_column (fixed_parts elements size len valid)
 
 -- a size of 32 bits, and the number of rows
 unfoldable pub fixed_by : Data → Column → Valid → Option Column

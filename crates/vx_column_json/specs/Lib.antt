@@ -1,3 +1,4 @@
+pub mod Made
 pub mod Validity
 pub mod Null
 pub mod Boolean

@@ -6,8 +6,9 @@ use Rattle.vx_model.specs.Column.{Column}
 use Rattle.vx_model.specs.List.{ListParts, list_fault, list_column}
 use Rattle.vx_model.specs.Records.{RecordParts}
 use Rattle.vx_model.specs.Valid.{Valid}
-use Rattle.vx_json.specs.Meaning.{◌>>=◌, unless_fault}
+use Rattle.vx_json.specs.Meaning.{◌>>=◌}
 use Rattle.vx_json.specs.Members.{is_closed}
+use Rattle.vx_column_json.specs.Made.{made}
 use Rattle.vx_column_json.specs.Offsets.{offset_type_of, offsets_in}
 
 abbrev pub list_parts : Column → RecordParts → Valid → ListParts
@@ -15,10 +16,8 @@ list_parts elements offsets valid =
     record { elements = elements; offsets = offsets; valid = valid }
 
 -- the column of the lists that the offsets cut, where they can, and where the validity can be its
-unfoldable pub list_made : Column → RecordParts → Valid → Option Column
-list_made elements offsets valid =
-    unless_fault (list_fault (list_parts elements offsets valid))
-    (list_column (list_parts elements offsets valid))
+abbrev pub list_made : Column → RecordParts → Valid → Option Column
+list_made elements offsets valid = made list_fault list_column (list_parts elements offsets valid)
 
 unfoldable pub list_by_offsets : Column → Valid → Data → Option Column
 list_by_offsets elements valid d = do

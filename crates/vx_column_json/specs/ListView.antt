@@ -6,8 +6,9 @@ use Rattle.vx_model.specs.Column.{Column}
 use Rattle.vx_model.specs.ListView.{ListViewParts, listview_fault, listview_column}
 use Rattle.vx_model.specs.Records.{RecordParts}
 use Rattle.vx_model.specs.Valid.{Valid}
-use Rattle.vx_json.specs.Meaning.{◌>>=◌, unless_fault}
+use Rattle.vx_json.specs.Meaning.{◌>>=◌}
 use Rattle.vx_json.specs.Members.{is_closed}
+use Rattle.vx_column_json.specs.Made.{made}
 use Rattle.vx_column_json.specs.Offsets.{offset_type_of, offsets_in}
 
 abbrev pub listview_parts : Column → RecordParts → RecordParts → Valid → ListViewParts
@@ -16,10 +17,9 @@ listview_parts elements offsets sizes valid =
 
 -- the column of the lists of so many elements from each offset on, where they are there, and where
 -- the validity can be its
-unfoldable pub listview_made : Column → RecordParts → RecordParts → Valid → Option Column
+abbrev pub listview_made : Column → RecordParts → RecordParts → Valid → Option Column
 listview_made elements offsets sizes valid =
-    unless_fault (listview_fault (listview_parts elements offsets sizes valid))
-    (listview_column (listview_parts elements offsets sizes valid))
+    made listview_fault listview_column (listview_parts elements offsets sizes valid)
 
 -- the offsets and the sizes have one type
 unfoldable pub listview_by_offsets : Column → Valid → Data → Option Column

@@ -8,13 +8,14 @@ use Rattle.vx_types.specs.declared.ptype.PType.{PType}
 use Rattle.vx_model.specs.Column.{Column}
 use Rattle.vx_model.specs.Valid.{Valid}
 use Rattle.vx_model.specs.Records.{RecordParts, records_fault, records_column}
-use Rattle.vx_json.specs.Meaning.{◌>>=◌, unless_fault}
+use Rattle.vx_json.specs.Meaning.{◌>>=◌}
 use Rattle.vx_json.specs.Bools.{has_null}
 use Rattle.vx_json.specs.Members.{is_closed}
 use Rattle.vx_json.specs.Items.{each}
 use Rattle.vx_json.specs.Wholes.{at_most}
 use Rattle.vx_json.specs.Values.{ptype_named, value_or_zero, ramp_records}
 use Rattle.vx_json.specs.declared.wholes.TheConstants.{GREATEST_LEN}
+use Rattle.vx_column_json.specs.Made.{made}
 use Rattle.vx_column_json.specs.Validity.{validity_alone, validity_beside}
 
 abbrev pub primitive_parts : PType → List (List ℕ) → Valid → RecordParts
@@ -22,10 +23,8 @@ primitive_parts p records valid =
     record { kind = primitive_kind p; width = width p; records = records; valid = valid }
 
 -- the column of these records, where the validity can be theirs
-unfoldable pub primitive_made : PType → List (List ℕ) → Valid → Option Column
-primitive_made p records valid =
-    unless_fault (records_fault (primitive_parts p records valid))
-    (records_column (primitive_parts p records valid))
+abbrev pub primitive_made : PType → List (List ℕ) → Valid → Option Column
+primitive_made p records valid = made records_fault records_column (primitive_parts p records valid)
 
 -- a list of values and nulls
 unfoldable pub primitive_by_items : PType → Option Valid → Items → Option Column
@@ -48,21 +47,12 @@ ramp_listed p d = do
   len ← get (codes "ramp") d >>= at_most GREATEST_LEN
   if is_int p then Some (ramp_records p len) else None
 
--- a column of these
-unfoldable pub primitive_by_ramp : PType → Option Valid → Data → Option Column
-primitive_by_ramp p stated d = do
-  records ← ramp_listed p d
-  primitive_made p records (validity_alone stated)
-
-unfoldable pub primitive_by_type : PType → Option Valid → Data → Option Column
-primitive_by_type p stated d =
-    if is_closed (codes "layout" ∷ codes "type" ∷ codes "values" ∷ codes "validity" ∷ []) d
-    then get (codes "values") d >>= as_array >>= primitive_by_items p stated
-    else if is_closed (codes "layout" ∷ codes "type" ∷ codes "ramp" ∷ codes "validity" ∷ []) d
-    then primitive_by_ramp p stated d
-    else None
-
+-- a list of values and nulls, or so many numbers from 0 on
 unfoldable pub primitive_by : Data → Option Valid → Option Column
 primitive_by d stated = do
-  ptype ← get (codes "type") d >>= as_str >>= ptype_named
-  primitive_by_type ptype stated d
+  p ← get (codes "type") d >>= as_str >>= ptype_named
+  if is_closed (codes "layout" ∷ codes "type" ∷ codes "values" ∷ codes "validity" ∷ []) d
+      then get (codes "values") d >>= as_array >>= primitive_by_items p stated
+      else if is_closed (codes "layout" ∷ codes "type" ∷ codes "ramp" ∷ codes "validity" ∷ []) d
+      then (ramp_listed p d >>= λ records. primitive_made p records (validity_alone stated))
+      else None

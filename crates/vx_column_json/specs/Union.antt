@@ -11,9 +11,10 @@ use Rattle.vx_model.specs.Records.{RecordParts}
 use Rattle.vx_model.specs.Union.{union_fault, union_column}
 use Rattle.vx_column.specs.UnionParts.{union_parts}
 use Rattle.vx_json.specs.Items.{each}
-use Rattle.vx_json.specs.Meaning.{◌>>=◌, unless_fault}
+use Rattle.vx_json.specs.Meaning.{◌>>=◌}
 use Rattle.vx_json.specs.Members.{closed, is_closed}
 use Rattle.vx_json.specs.Wholes.{at_most}
+use Rattle.vx_column_json.specs.Made.{made}
 use Rattle.vx_column_json.specs.Offsets.{offset_type_of, offsets_in}
 
 -- ---- its variants
@@ -32,10 +33,8 @@ abbrev pub variants_named : List ℕ → List (List ℕ) → List Column → Var
 variants_named ids names columns = record { ids = ids; names = names; types = types_in columns }
 
 -- the same, where there is one of each for a column, and no id occurs twice
-unfoldable pub variants_made : List ℕ → List (List ℕ) → List Column → Option VariantTypes
-variants_made ids names columns =
-    unless_fault (variants_fault (variants_named ids names columns))
-    (variants_named ids names columns)
+abbrev pub variants_made : List ℕ → List (List ℕ) → List Column → Option VariantTypes
+variants_made ids names columns = made variants_fault (λ v. v) (variants_named ids names columns)
 
 unfoldable pub variants_in : Data → List Column → Option VariantTypes
 variants_in d columns = do
@@ -62,10 +61,9 @@ offsets_stated d =
 -- ---- the column
 
 -- the union of these parts, dense where there are offsets, where they can make one
-unfoldable pub union_made : Column → Option RecordParts → VariantTypes → List Column → Option Column
+abbrev pub union_made : Column → Option RecordParts → VariantTypes → List Column → Option Column
 union_made ids offsets variants columns =
-    unless_fault (union_fault (union_parts ids offsets variants columns))
-    (union_column (union_parts ids offsets variants columns))
+    made union_fault union_column (union_parts ids offsets variants columns)
 
 unfoldable pub union_by : Data → Column → List Column → Option Column
 union_by d ids columns = do

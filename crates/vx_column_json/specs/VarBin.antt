@@ -1,6 +1,6 @@
 -- What a JSON value means as a column of layout `VarBin`.
 use Rattle.std.specs.Prelude.{ℕ, List, [], ◌∷◌, if◌then◌else◌, Option, None, codes}
-use Rattle.serde_json.specs.Data.{Data}
+use Rattle.serde_json.specs.Data.{Data, Items}
 use Rattle.serde_json.specs.Find.{get, as_str, as_array}
 use Rattle.vx_types.specs.declared.ptype.PType.TheVariants.{I32}
 use Rattle.vx_types.specs.declared.text.TextKind.{TextKind}
@@ -8,10 +8,11 @@ use Rattle.vx_model.specs.Column.{Column}
 use Rattle.vx_model.specs.Records.{RecordParts}
 use Rattle.vx_model.specs.Valid.{Valid}
 use Rattle.vx_model.specs.VarBin.{VarBinParts, varbin_fault, varbin_column}
-use Rattle.vx_json.specs.Meaning.{◌>>=◌, unless_fault}
+use Rattle.vx_json.specs.Meaning.{◌>>=◌}
 use Rattle.vx_json.specs.Members.{is_closed}
 use Rattle.vx_json.specs.Items.{each}
 use Rattle.vx_json.specs.Texts.{text_kind_named, text_or_empty, bytes_of, strung}
+use Rattle.vx_column_json.specs.Made.{made}
 use Rattle.vx_column_json.specs.Offsets.{offsets_column, offset_type_of, offsets_in}
 use Rattle.vx_column_json.specs.Validity.{validity_alone, validity_beside}
 
@@ -20,15 +21,13 @@ varbin_parts kind offsets text valid =
     record { kind = kind; offsets = offsets; bytes = text; valid = valid }
 
 -- the column that the offsets cut, where they can, and where the validity can be its
-unfoldable pub varbin_made : TextKind → RecordParts → List ℕ → Valid → Option Column
+abbrev pub varbin_made : TextKind → RecordParts → List ℕ → Valid → Option Column
 varbin_made kind offsets text valid =
-    unless_fault (varbin_fault (varbin_parts kind offsets text valid))
-    (varbin_column (varbin_parts kind offsets text valid))
+    made varbin_fault varbin_column (varbin_parts kind offsets text valid)
 
 -- a list of texts and nulls
-unfoldable pub varbin_by_values : TextKind → Option Valid → Data → Option Column
-varbin_by_values kind stated d = do
-  items ← get (codes "values") d >>= as_array
+unfoldable pub varbin_by_items : TextKind → Option Valid → Items → Option Column
+varbin_by_items kind stated items = do
   valid ← validity_beside stated items
   texts ← each (text_or_empty kind) items >>= strung
   varbin_made kind (offsets_column I32 texts.0) texts.1 valid
@@ -41,16 +40,12 @@ varbin_by_offsets kind stated d = do
   text ← get (codes "bytes") d >>= bytes_of
   varbin_made kind offsets text (validity_alone stated)
 
-unfoldable pub varbin_by_kind : TextKind → Option Valid → Data → Option Column
-varbin_by_kind kind stated d =
-    if is_closed (codes "layout" ∷ codes "type" ∷ codes "values" ∷ codes "validity" ∷ []) d
-    then varbin_by_values kind stated d
-    else if is_closed (codes "layout" ∷ codes "type" ∷ codes "offsets" ∷ codes "offset_type"
-    ∷ codes "bytes" ∷ codes "validity" ∷ []) d
-    then varbin_by_offsets kind stated d
-    else None
-
 unfoldable pub varbin_by : Data → Option Valid → Option Column
 varbin_by d stated = do
   kind ← get (codes "type") d >>= as_str >>= text_kind_named
-  varbin_by_kind kind stated d
+  if is_closed (codes "layout" ∷ codes "type" ∷ codes "values" ∷ codes "validity" ∷ []) d
+      then get (codes "values") d >>= as_array >>= varbin_by_items kind stated
+      else if is_closed (codes "layout" ∷ codes "type" ∷ codes "offsets" ∷ codes "offset_type"
+      ∷ codes "bytes" ∷ codes "validity" ∷ []) d
+      then varbin_by_offsets kind stated d
+      else None

@@ -1,17 +1,18 @@
 -- What a JSON value means as a column of layout `VarBinView`.
 use Rattle.std.specs.Prelude.{ℕ, List, [], ◌∷◌, if◌then◌else◌, Option, None, codes}
-use Rattle.serde_json.specs.Data.{Data}
+use Rattle.serde_json.specs.Data.{Data, Items}
 use Rattle.serde_json.specs.Find.{get, as_str, as_array}
 use Rattle.vx_types.specs.declared.text.BinaryView.{BinaryView}
 use Rattle.vx_types.specs.declared.text.TextKind.{TextKind}
 use Rattle.vx_model.specs.Column.{Column}
 use Rattle.vx_model.specs.Valid.{Valid}
 use Rattle.vx_model.specs.VarBinView.{ViewParts, views_fault, views_column}
-use Rattle.vx_json.specs.Meaning.{◌>>=◌, unless_fault}
+use Rattle.vx_json.specs.Meaning.{◌>>=◌}
 use Rattle.vx_json.specs.Members.{is_closed}
 use Rattle.vx_json.specs.Items.{each}
 use Rattle.vx_json.specs.Texts.{text_kind_named, text_or_empty, bytes_of}
 use Rattle.vx_json.specs.Views.{view_in, placed}
+use Rattle.vx_column_json.specs.Made.{made}
 use Rattle.vx_column_json.specs.Validity.{validity_alone, validity_beside}
 
 abbrev pub view_parts : TextKind → List BinaryView → List (List ℕ) → Valid → ViewParts
@@ -19,15 +20,13 @@ view_parts kind views buffers valid =
     record { kind = kind; views = views; buffers = buffers; valid = valid }
 
 -- the column of these views, where each is one of a text, and the validity can be theirs
-unfoldable pub views_made : TextKind → List BinaryView → List (List ℕ) → Valid → Option Column
+abbrev pub views_made : TextKind → List BinaryView → List (List ℕ) → Valid → Option Column
 views_made kind views buffers valid =
-    unless_fault (views_fault (view_parts kind views buffers valid))
-    (views_column (view_parts kind views buffers valid))
+    made views_fault views_column (view_parts kind views buffers valid)
 
 -- a list of texts and nulls
-unfoldable pub views_by_values : TextKind → Option Valid → Data → Option Column
-views_by_values kind stated d = do
-  items ← get (codes "values") d >>= as_array
+unfoldable pub views_by_items : TextKind → Option Valid → Items → Option Column
+views_by_items kind stated items = do
   valid ← validity_beside stated items
   texts ← each (text_or_empty kind) items >>= placed
   views_made kind texts.0 (texts.1 ∷ []) valid
@@ -39,16 +38,12 @@ views_by_buffers kind stated d = do
   buffers ← get (codes "buffers") d >>= as_array >>= each bytes_of
   views_made kind views buffers (validity_alone stated)
 
-unfoldable pub views_by_kind : TextKind → Option Valid → Data → Option Column
-views_by_kind kind stated d =
-    if is_closed (codes "layout" ∷ codes "type" ∷ codes "values" ∷ codes "validity" ∷ []) d
-    then views_by_values kind stated d
-    else if is_closed (codes "layout" ∷ codes "type" ∷ codes "views" ∷ codes "buffers"
-    ∷ codes "validity" ∷ []) d
-    then views_by_buffers kind stated d
-    else None
-
 unfoldable pub views_by : Data → Option Valid → Option Column
 views_by d stated = do
   kind ← get (codes "type") d >>= as_str >>= text_kind_named
-  views_by_kind kind stated d
+  if is_closed (codes "layout" ∷ codes "type" ∷ codes "values" ∷ codes "validity" ∷ []) d
+      then get (codes "values") d >>= as_array >>= views_by_items kind stated
+      else if is_closed (codes "layout" ∷ codes "type" ∷ codes "views" ∷ codes "buffers"
+      ∷ codes "validity" ∷ []) d
+      then views_by_buffers kind stated d
+      else None

@@ -6,6 +6,7 @@ ghost use Rattle.vx_column.specs.Validity.{valid_of};
 ghost use Rattle.vx_json.specs.Meaning.{Gives};
 ghost use Rattle.vx_column_json.specs.Boolean.{bool_made, offset_of, bool_by_items, bool_by_text, bool_by};
 
+use crate::made::made;
 use crate::validity::{validity_alone, validity_beside};
 use serde_json::Value;
 use std::alloc::Global;
@@ -14,13 +15,11 @@ use vx_column::{Array, BoolArray, Validity};
 use vx_json::{DocError, at_most, bits_in, bools_or_nulls_of, closed, items_in, member};
 
 /// The column of these bits. `Malformed` where the validity can't be theirs.
+#[tactic(auto, unfolding(crate::specs::Made::made))]
 fn bool_made(bits: BitBuffer, validity: Validity) -> Result<Array, DocError>
     ensures { Gives (λ c. c) result (bool_made bits.bits (valid_of validity)) }
 {
-    match BoolArray::try_new(bits, validity) {
-        Ok(column) => Ok(column.into_array()),
-        Err(_) => Err(DocError::Malformed),
-    }
+    Ok(made(BoolArray::try_new(bits, validity))?.into_array())
 }
 
 #[tactic(auto, unfolding(crate::specs::Boolean::bool_by_items))]

@@ -126,25 +126,25 @@ fn constant_by_type(alloc: Global, dtype: DType, value: &Value) -> Result<Array,
     constant_made(dtype, row, len)
 }
 
+/// The members of an object with a decimal type.
+const DECIMAL_MEMBERS: [&str; 8] = [
+    "layout",
+    "type",
+    "precision",
+    "scale",
+    "width",
+    "nullable",
+    "value",
+    "len",
+];
+
 /// Whether it has no other members than an object with a type of this name may have.
 #[tactic(auto, unfolding(crate::specs::Constant::is_constant_closed))]
 fn is_constant_closed(name: &str, value: &Value) -> bool
     ensures { result ≡ is_constant_closed name.now (view value.now) }
 {
     match name {
-        "decimal" => is_closed(
-            value,
-            &[
-                "layout",
-                "type",
-                "precision",
-                "scale",
-                "width",
-                "nullable",
-                "value",
-                "len",
-            ],
-        ),
+        "decimal" => is_closed(value, &DECIMAL_MEMBERS),
         _ => is_closed(value, &["layout", "type", "nullable", "value", "len"]),
     }
 }

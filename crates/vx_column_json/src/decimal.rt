@@ -7,6 +7,7 @@ ghost use Rattle.vx_column.specs.Validity.{valid_of};
 ghost use Rattle.vx_json.specs.Meaning.{Gives};
 ghost use Rattle.vx_column_json.specs.Decimal.{decimal_made, decimal_by_values, decimal_by};
 
+use crate::made::made;
 use crate::validity::validity_beside;
 use serde_json::Value;
 use std::alloc::Global;
@@ -15,6 +16,7 @@ use vx_column::{Array, DecimalArray, DecimalDType, Validity};
 use vx_json::{DocError, decimal_of, hex_values_of, is_closed, list_member};
 
 /// The column of these records. `Malformed` where the validity can't be theirs.
+#[tactic(auto, unfolding(crate::specs::Made::made))]
 fn decimal_made(
     decimal: DecimalDType,
     values: Records,
@@ -24,10 +26,7 @@ fn decimal_made(
     ensures { Gives (λ c. c) result
         (decimal_made decimal (records_of values) (valid_of validity)) }
 {
-    match DecimalArray::try_new(decimal, values, validity) {
-        Ok(column) => Ok(column.into_array()),
-        Err(_) => Err(DocError::Malformed),
-    }
+    Ok(made(DecimalArray::try_new(decimal, values, validity))?.into_array())
 }
 
 /// The column of the records and nulls that the object lists.
@@ -47,6 +46,16 @@ fn decimal_by_values(
     decimal_made(decimal, values, validity)
 }
 
+/// The members that an object of this layout may have.
+const MEMBERS: [&str; 6] = [
+    "layout",
+    "precision",
+    "scale",
+    "width",
+    "values",
+    "validity",
+];
+
 /// The column of layout `Decimal` that the value means, by the validity that it states. `Malformed`
 /// where there is no such type, an item is no record of its width or null, the validity can't be
 /// the column's, or there is another member.
@@ -54,17 +63,7 @@ fn decimal_by_values(
 pub fn decimal_by(alloc: Global, value: &Value, stated: Option<Validity>) -> Result<Array, DocError>
     ensures { Gives (λ c. c) result (decimal_by (view value.now) (option_map valid_of stated)) }
 {
-    if is_closed(
-        value,
-        &[
-            "layout",
-            "precision",
-            "scale",
-            "width",
-            "values",
-            "validity",
-        ],
-    ) {
+    if is_closed(value, &MEMBERS) {
         decimal_by_values(alloc, stated, value)
     } else {
         Err(DocError::Malformed)

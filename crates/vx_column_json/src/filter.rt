@@ -5,6 +5,7 @@ ghost use Rattle.vx_mask.specs.Mask.{mask_bits};
 ghost use Rattle.vx_json.specs.Meaning.{Gives};
 ghost use Rattle.vx_column_json.specs.Filter.{filter_made, filter_by};
 
+use crate::made::made;
 use serde_json::Value;
 use std::alloc::Global;
 use vx_bits::NoMemory;
@@ -25,13 +26,11 @@ fn with_ranks(alloc: Global, mask: Mask) -> Result<Mask, NoMemory>
 }
 
 /// The column of the rows of the child that the mask keeps. `Malformed` where it isn't as long.
+#[tactic(auto, unfolding(crate::specs::Made::made))]
 fn filter_made(alloc: Global, child: Array, mask: Mask) -> Result<Array, DocError>
     ensures { Gives (λ c. c) result (filter_made child (mask_bits mask)) }
 {
-    match FilterArray::try_new(child.into_ref(alloc)?, mask) {
-        Ok(column) => Ok(column.into_array()),
-        Err(_) => Err(DocError::Malformed),
-    }
+    Ok(made(FilterArray::try_new(child.into_ref(alloc)?, mask))?.into_array())
 }
 
 /// The column of layout `Filter` that the value means, by the column that its member `child` means.

@@ -4,7 +4,7 @@ ghost use Rattle.vx_column.specs.Validity.{valid_of};
 ghost use Rattle.vx_json.specs.Meaning.{Gives};
 ghost use Rattle.vx_column_json.specs.FixedSizeList.{fixed_made, fixed_by};
 
-use crate::lists::refusal;
+use crate::made::refusal;
 use serde_json::Value;
 use std::alloc::Global;
 use vx_column::{Array, FixedSizeListArray, Validity};

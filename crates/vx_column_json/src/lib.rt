@@ -12,6 +12,7 @@ mod fixed_size_list;
 mod list;
 mod lists;
 mod listview;
+mod made;
 mod map;
 mod null;
 mod offsets;

@@ -4,7 +4,7 @@ ghost use Rattle.vx_column.specs.Validity.{valid_of};
 ghost use Rattle.vx_json.specs.Meaning.{Gives};
 ghost use Rattle.vx_column_json.specs.List.{list_made, list_by_offsets, list_by};
 
-use crate::lists::refusal;
+use crate::made::refusal;
 use crate::offsets::{offset_type_of, offsets_member};
 use serde_json::Value;
 use std::alloc::Global;
@@ -42,6 +42,9 @@ fn list_by_offsets(
     list_made(alloc, elements, offsets, validity)
 }
 
+/// The members that an object of this layout may have.
+const MEMBERS: [&str; 5] = ["layout", "offsets", "offset_type", "elements", "validity"];
+
 /// The column of that layout that the value means, by the column that its member `elements` means
 /// and the validity that it states.
 #[tactic(auto, unfolding(crate::specs::List::list_by))]
@@ -53,10 +56,7 @@ pub(crate) fn list_by(
 ) -> Result<Array, DocError>
     ensures { Gives (λ c. c) result (list_by (view value.now) elements (valid_of validity)) }
 {
-    if is_closed(
-        value,
-        &["layout", "offsets", "offset_type", "elements", "validity"],
-    ) {
+    if is_closed(value, &MEMBERS) {
         list_by_offsets(alloc, elements, validity, value)
     } else {
         Err(DocError::Malformed)

@@ -1,28 +1,16 @@
-//! What the layouts of lists have in common.
-ghost use Rattle.std.specs.Prelude.{◌≡◌};
+//! The layouts of lists, by their names.
 ghost use Rattle.serde_json.specs.View.{view};
 ghost use Rattle.vx_column.specs.Validity.{valid_of};
 ghost use Rattle.vx_json.specs.Meaning.{Gives};
-ghost use Rattle.vx_column_json.specs.Lists.{lists_by, refusal};
+ghost use Rattle.vx_column_json.specs.Lists.{lists_by};
 
 use crate::fixed_size_list::fixed_by;
 use crate::list::list_by;
 use crate::listview::listview_by;
 use serde_json::Value;
 use std::alloc::Global;
-use vx_column::{Array, ColumnError, Validity};
+use vx_column::{Array, Validity};
 use vx_json::DocError;
-
-/// What a constructor's refusal says of the document: want of memory stays that, and all else is
-/// `Malformed`.
-pub(crate) fn refusal(fault: ColumnError) -> DocError
-    ensures { result ≡ refusal fault }
-{
-    match fault {
-        ColumnError::NoMemory => DocError::NoMemory,
-        _ => DocError::Malformed,
-    }
-}
 
 /// The column of the layout of lists of this name that the value means, by the column that its
 /// member `elements` means and the validity that it states. `Malformed` where there is no such

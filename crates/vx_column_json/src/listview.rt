@@ -4,7 +4,7 @@ ghost use Rattle.vx_column.specs.Validity.{valid_of};
 ghost use Rattle.vx_json.specs.Meaning.{Gives};
 ghost use Rattle.vx_column_json.specs.ListView.{listview_made, listview_by_offsets, listview_by};
 
-use crate::lists::refusal;
+use crate::made::refusal;
 use crate::offsets::{offset_type_of, offsets_member};
 use serde_json::Value;
 use std::alloc::Global;
@@ -45,6 +45,16 @@ fn listview_by_offsets(
     listview_made(alloc, elements, offsets, sizes, validity)
 }
 
+/// The members that an object of this layout may have.
+const MEMBERS: [&str; 6] = [
+    "layout",
+    "offsets",
+    "sizes",
+    "offset_type",
+    "elements",
+    "validity",
+];
+
 /// The column of that layout that the value means, by the column that its member `elements` means
 /// and the validity that it states.
 #[tactic(auto, unfolding(crate::specs::ListView::listview_by))]
@@ -57,17 +67,7 @@ pub(crate) fn listview_by(
     ensures { Gives (λ c. c) result
         (listview_by (view value.now) elements (valid_of validity)) }
 {
-    if is_closed(
-        value,
-        &[
-            "layout",
-            "offsets",
-            "sizes",
-            "offset_type",
-            "elements",
-            "validity",
-        ],
-    ) {
+    if is_closed(value, &MEMBERS) {
         listview_by_offsets(alloc, elements, validity, value)
     } else {
         Err(DocError::Malformed)

@@ -6,8 +6,9 @@ ghost use Rattle.vx_bits.specs.Records.{records_of, width_of};
 ghost use Rattle.vx_types.specs.PType.{width};
 ghost use Rattle.vx_column.specs.Validity.{valid_of};
 ghost use Rattle.vx_json.specs.Meaning.{Gives};
-ghost use Rattle.vx_column_json.specs.Primitive.{primitive_made, values_there, primitive_by_items, ramp_listed, primitive_by_ramp, primitive_by_type, primitive_by};
+ghost use Rattle.vx_column_json.specs.Primitive.{primitive_made, values_there, primitive_by_items, ramp_listed, primitive_by};
 
+use crate::made::made;
 use crate::validity::{validity_alone, validity_beside};
 use serde_json::Value;
 use std::alloc::Global;
@@ -19,15 +20,13 @@ use vx_json::{
 };
 
 /// The column of these records. `Malformed` where the validity can't be theirs.
+#[tactic(auto, unfolding(crate::specs::Made::made))]
 fn primitive_made(ptype: PType, values: Records, validity: Validity) -> Result<Array, DocError>
     requires { width_of values ≡ width ptype }
     ensures { Gives (λ c. c) result
         (primitive_made ptype (records_of values) (valid_of validity)) }
 {
-    match PrimitiveArray::try_new(ptype, values, validity) {
-        Ok(column) => Ok(column.into_array()),
-        Err(_) => Err(DocError::Malformed),
-    }
+    Ok(made(PrimitiveArray::try_new(ptype, values, validity))?.into_array())
 }
 
 /// The column of a list of values of that type and nulls, by the validity that is stated beside
@@ -81,42 +80,6 @@ pub fn ramp_listed(alloc: Global, ptype: PType, value: &Value) -> Result<Records
     }
 }
 
-#[tactic(auto, unfolding(crate::specs::Primitive::primitive_by_ramp))]
-fn primitive_by_ramp(
-    alloc: Global,
-    ptype: PType,
-    stated: Option<Validity>,
-    value: &Value,
-) -> Result<Array, DocError>
-    ensures { Gives (λ c. c) result
-        (primitive_by_ramp ptype (option_map valid_of stated) (view value.now)) }
-{
-    primitive_made(
-        ptype,
-        ramp_listed(alloc, ptype, value)?,
-        validity_alone(stated),
-    )
-}
-
-#[tactic(auto, unfolding(crate::specs::Primitive::primitive_by_type))]
-fn primitive_by_type(
-    alloc: Global,
-    ptype: PType,
-    stated: Option<Validity>,
-    value: &Value,
-) -> Result<Array, DocError>
-    ensures { Gives (λ c. c) result
-        (primitive_by_type ptype (option_map valid_of stated) (view value.now)) }
-{
-    if is_closed(value, &["layout", "type", "values", "validity"]) {
-        primitive_by_items(alloc, ptype, stated, list_member(value, "values")?)
-    } else if is_closed(value, &["layout", "type", "ramp", "validity"]) {
-        primitive_by_ramp(alloc, ptype, stated, value)
-    } else {
-        Err(DocError::Malformed)
-    }
-}
-
 /// The column of layout `Primitive` that the value means, by the validity that it states.
 /// `Malformed` where there is no such type, an item is none of its values or null, the validity
 /// can't be the column's, or there is another member.
@@ -129,5 +92,12 @@ pub fn primitive_by(
     ensures { Gives (λ c. c) result (primitive_by (view value.now) (option_map valid_of stated)) }
 {
     let ptype = ptype_named(text_member(value, "type")?)?;
-    primitive_by_type(alloc, ptype, stated, value)
+    if is_closed(value, &["layout", "type", "values", "validity"]) {
+        primitive_by_items(alloc, ptype, stated, list_member(value, "values")?)
+    } else if is_closed(value, &["layout", "type", "ramp", "validity"]) {
+        let values = ramp_listed(alloc, ptype, value)?;
+        primitive_made(ptype, values, validity_alone(stated))
+    } else {
+        Err(DocError::Malformed)
+    }
 }

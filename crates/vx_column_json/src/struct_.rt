@@ -8,7 +8,7 @@ ghost use Rattle.vx_column.specs.Validity.{valid_of};
 ghost use Rattle.vx_json.specs.Meaning.{Gives};
 ghost use Rattle.vx_column_json.specs.Struct.{fields_made, struct_made, struct_by};
 
-use crate::lists::refusal;
+use crate::made::{made, refusal};
 use serde_json::Value;
 use std::alloc::Global;
 use std::rc::RcStr;
@@ -45,6 +45,7 @@ fn fields_made(
 
 /// The column of `len` rows of these fields. `Malformed` where a field hasn't as many, or the
 /// validity can't be its.
+#[tactic(auto, unfolding(crate::specs::Made::made))]
 fn struct_made(
     alloc: Global,
     fields: Shared<StructFields>,
@@ -55,10 +56,7 @@ fn struct_made(
     ensures { Gives (λ c. c) result (struct_made fields columns.items len (valid_of validity)) }
 {
     let columns = Columns::new(alloc, columns)?;
-    match StructArray::try_new_with_dtype(columns, fields, len, validity) {
-        Ok(column) => Ok(column.into_array()),
-        Err(_) => Err(DocError::Malformed),
-    }
+    Ok(made(StructArray::try_new_with_dtype(columns, fields, len, validity))?.into_array())
 }
 
 /// The column of layout `Struct` that the value means, by the columns that the items of its member

@@ -9,7 +9,7 @@ ghost use Rattle.vx_json.specs.Items.{each};
 ghost use Rattle.vx_json.specs.Meaning.{Gives};
 ghost use Rattle.vx_column_json.specs.Union.{variant_id, variant_name, variants_made, variants_in, offsets_of_rows, offsets_stated, union_made, union_by};
 
-use crate::lists::refusal;
+use crate::made::{made, refusal};
 use crate::offsets::{offset_type_of, offsets_member};
 use crate::struct_::types_of;
 use serde_json::Value;
@@ -111,6 +111,16 @@ fn offsets_of_rows(alloc: Global, value: &Value) -> Result<PrimitiveArray, DocEr
     offsets_member(alloc, ptype, value, "offsets")
 }
 
+/// The members of an object that states offsets.
+const DENSE_MEMBERS: [&str; 6] = [
+    "layout",
+    "type_ids",
+    "variants",
+    "children",
+    "offsets",
+    "offset_type",
+];
+
 /// The offsets, where the value has some. `Malformed` where it has other members than those of a
 /// union, or a type of offsets alone.
 #[tactic(auto, unfolding(crate::specs::Union::offsets_stated))]
@@ -119,17 +129,7 @@ fn offsets_stated(alloc: Global, value: &Value) -> Result<Option<PrimitiveArray>
 {
     if is_closed(value, &["layout", "type_ids", "variants", "children"]) {
         Ok(None)
-    } else if is_closed(
-        value,
-        &[
-            "layout",
-            "type_ids",
-            "variants",
-            "children",
-            "offsets",
-            "offset_type",
-        ],
-    ) {
+    } else if is_closed(value, &DENSE_MEMBERS) {
         Ok(Some(offsets_of_rows(alloc, value)?))
     } else {
         Err(DocError::Malformed)
@@ -153,6 +153,7 @@ fn union_with(
 }
 
 /// The column of that union. `Malformed` where the parts can't make one.
+#[tactic(auto, unfolding(crate::specs::Made::made))]
 fn union_made(
     alloc: Global,
     type_ids: Array,
@@ -164,10 +165,7 @@ fn union_made(
 {
     let type_ids = type_ids.into_ref(alloc)?;
     let children = Columns::new(alloc, children)?;
-    match union_with(type_ids, offsets, variants, children) {
-        Ok(column) => Ok(column.into_array()),
-        Err(_) => Err(DocError::Malformed),
-    }
+    Ok(made(union_with(type_ids, offsets, variants, children))?.into_array())
 }
 
 /// The column of layout `Union` that the value means, by the column that its member `type_ids`

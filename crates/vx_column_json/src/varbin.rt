@@ -1,10 +1,11 @@
 //! Columns of layout `VarBin`.
 ghost use Rattle.std.specs.Option.{option_map};
-ghost use Rattle.serde_json.specs.View.{view};
+ghost use Rattle.serde_json.specs.View.{view, items_view};
 ghost use Rattle.vx_column.specs.Validity.{valid_of};
 ghost use Rattle.vx_json.specs.Meaning.{Gives};
-ghost use Rattle.vx_column_json.specs.VarBin.{varbin_made, varbin_by_values, varbin_by_offsets, varbin_by_kind, varbin_by};
+ghost use Rattle.vx_column_json.specs.VarBin.{varbin_made, varbin_by_items, varbin_by_offsets, varbin_by};
 
+use crate::made::made;
 use crate::offsets::{offset_type_of, offsets_column, offsets_member};
 use crate::validity::{validity_alone, validity_beside};
 use serde_json::Value;
@@ -15,8 +16,19 @@ use vx_json::{
     DocError, bytes_of, is_closed, list_member, member, strung_texts, text_kind_named, text_member,
 };
 
+/// The members of an object that states offsets and bytes.
+const OFFSETS_MEMBERS: [&str; 6] = [
+    "layout",
+    "type",
+    "offsets",
+    "offset_type",
+    "bytes",
+    "validity",
+];
+
 /// The column that these offsets cut the bytes into. `Malformed` where they can't, or the validity
 /// can't be its.
+#[tactic(auto, unfolding(crate::specs::Made::made))]
 fn varbin_made(
     kind: TextKind,
     offsets: PrimitiveArray,
@@ -25,24 +37,20 @@ fn varbin_made(
 ) -> Result<Array, DocError>
     ensures { Gives (λ c. c) result (varbin_made kind offsets bytes (valid_of validity)) }
 {
-    match VarBinArray::try_new(kind, offsets, bytes, validity) {
-        Ok(column) => Ok(column.into_array()),
-        Err(_) => Err(DocError::Malformed),
-    }
+    Ok(made(VarBinArray::try_new(kind, offsets, bytes, validity))?.into_array())
 }
 
-/// The column of the texts and nulls that the object lists.
-#[tactic(auto, unfolding(crate::specs::VarBin::varbin_by_values))]
-fn varbin_by_values(
+/// The column of these texts and nulls.
+#[tactic(auto, unfolding(crate::specs::VarBin::varbin_by_items))]
+fn varbin_by_items(
     alloc: Global,
     kind: TextKind,
     stated: Option<Validity>,
-    value: &Value,
+    items: &Vec<Value>,
 ) -> Result<Array, DocError>
     ensures { Gives (λ c. c) result
-        (varbin_by_values kind (option_map valid_of stated) (view value.now)) }
+        (varbin_by_items kind (option_map valid_of stated) (items_view items.now.items)) }
 {
-    let items = list_member(value, "values")?;
     let validity = validity_beside(alloc, stated, items)?;
     let texts = strung_texts(alloc, kind, items)?;
     let offsets = offsets_column(PType::I32, Records::W4(texts.offsets));
@@ -65,35 +73,6 @@ fn varbin_by_offsets(
     varbin_made(kind, offsets, bytes, validity_alone(stated))
 }
 
-#[tactic(auto, unfolding(crate::specs::VarBin::varbin_by_kind))]
-fn varbin_by_kind(
-    alloc: Global,
-    kind: TextKind,
-    stated: Option<Validity>,
-    value: &Value,
-) -> Result<Array, DocError>
-    ensures { Gives (λ c. c) result
-        (varbin_by_kind kind (option_map valid_of stated) (view value.now)) }
-{
-    if is_closed(value, &["layout", "type", "values", "validity"]) {
-        varbin_by_values(alloc, kind, stated, value)
-    } else if is_closed(
-        value,
-        &[
-            "layout",
-            "type",
-            "offsets",
-            "offset_type",
-            "bytes",
-            "validity",
-        ],
-    ) {
-        varbin_by_offsets(alloc, kind, stated, value)
-    } else {
-        Err(DocError::Malformed)
-    }
-}
-
 /// The column of layout `VarBin` that the value means, by the validity that it states. `Malformed`
 /// where there is no such kind of text, an item is none of it or null, the offsets can't cut the
 /// bytes, the validity can't be the column's, or there is another member.
@@ -102,5 +81,11 @@ pub fn varbin_by(alloc: Global, value: &Value, stated: Option<Validity>) -> Resu
     ensures { Gives (λ c. c) result (varbin_by (view value.now) (option_map valid_of stated)) }
 {
     let kind = text_kind_named(text_member(value, "type")?)?;
-    varbin_by_kind(alloc, kind, stated, value)
+    if is_closed(value, &["layout", "type", "values", "validity"]) {
+        varbin_by_items(alloc, kind, stated, list_member(value, "values")?)
+    } else if is_closed(value, &OFFSETS_MEMBERS) {
+        varbin_by_offsets(alloc, kind, stated, value)
+    } else {
+        Err(DocError::Malformed)
+    }
 }

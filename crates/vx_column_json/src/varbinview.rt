@@ -1,10 +1,11 @@
 //! Columns of layout `VarBinView`.
 ghost use Rattle.std.specs.Option.{option_map};
-ghost use Rattle.serde_json.specs.View.{view};
+ghost use Rattle.serde_json.specs.View.{view, items_view};
 ghost use Rattle.vx_column.specs.Validity.{valid_of};
 ghost use Rattle.vx_json.specs.Meaning.{Gives};
-ghost use Rattle.vx_column_json.specs.VarBinView.{views_made, views_by_values, views_by_buffers, views_by_kind, views_by};
+ghost use Rattle.vx_column_json.specs.VarBinView.{views_made, views_by_items, views_by_buffers, views_by};
 
+use crate::made::made;
 use crate::validity::{validity_alone, validity_beside};
 use serde_json::Value;
 use std::alloc::Global;
@@ -18,6 +19,7 @@ use vx_shared::Shared;
 
 /// The column of these views. `Malformed` where one is none of a text, or the validity can't be
 /// theirs.
+#[tactic(auto, unfolding(crate::specs::Made::made))]
 fn views_made(
     alloc: Global,
     kind: TextKind,
@@ -29,24 +31,20 @@ fn views_made(
         (views_made kind views buffers.items (valid_of validity)) }
 {
     let shared = Shared::new(alloc, buffers)?;
-    match VarBinViewArray::try_new(kind, views, shared, validity) {
-        Ok(column) => Ok(column.into_array()),
-        Err(_) => Err(DocError::Malformed),
-    }
+    Ok(made(VarBinViewArray::try_new(kind, views, shared, validity))?.into_array())
 }
 
-/// The column of the texts and nulls that the object lists.
-#[tactic(auto, unfolding(crate::specs::VarBinView::views_by_values))]
-fn views_by_values(
+/// The column of these texts and nulls.
+#[tactic(auto, unfolding(crate::specs::VarBinView::views_by_items))]
+fn views_by_items(
     alloc: Global,
     kind: TextKind,
     stated: Option<Validity>,
-    value: &Value,
+    items: &Vec<Value>,
 ) -> Result<Array, DocError>
     ensures { Gives (λ c. c) result
-        (views_by_values kind (option_map valid_of stated) (view value.now)) }
+        (views_by_items kind (option_map valid_of stated) (items_view items.now.items)) }
 {
-    let items = list_member(value, "values")?;
     let validity = validity_beside(alloc, stated, items)?;
     let texts = placed_texts(alloc, kind, items)?;
     let mut buffers = Vec::with_capacity(alloc, 1)?;
@@ -70,25 +68,6 @@ fn views_by_buffers(
     views_made(alloc, kind, views, buffers, validity_alone(stated))
 }
 
-#[tactic(auto, unfolding(crate::specs::VarBinView::views_by_kind))]
-fn views_by_kind(
-    alloc: Global,
-    kind: TextKind,
-    stated: Option<Validity>,
-    value: &Value,
-) -> Result<Array, DocError>
-    ensures { Gives (λ c. c) result
-        (views_by_kind kind (option_map valid_of stated) (view value.now)) }
-{
-    if is_closed(value, &["layout", "type", "values", "validity"]) {
-        views_by_values(alloc, kind, stated, value)
-    } else if is_closed(value, &["layout", "type", "views", "buffers", "validity"]) {
-        views_by_buffers(alloc, kind, stated, value)
-    } else {
-        Err(DocError::Malformed)
-    }
-}
-
 /// The column of layout `VarBinView` that the value means, by the validity that it states.
 /// `Malformed` where there is no such kind of text, an item is none of it or null, a view is none
 /// of a text, the validity can't be the column's, or there is another member.
@@ -97,5 +76,11 @@ pub fn views_by(alloc: Global, value: &Value, stated: Option<Validity>) -> Resul
     ensures { Gives (λ c. c) result (views_by (view value.now) (option_map valid_of stated)) }
 {
     let kind = text_kind_named(text_member(value, "type")?)?;
-    views_by_kind(alloc, kind, stated, value)
+    if is_closed(value, &["layout", "type", "values", "validity"]) {
+        views_by_items(alloc, kind, stated, list_member(value, "values")?)
+    } else if is_closed(value, &["layout", "type", "views", "buffers", "validity"]) {
+        views_by_buffers(alloc, kind, stated, value)
+    } else {
+        Err(DocError::Malformed)
+    }
 }

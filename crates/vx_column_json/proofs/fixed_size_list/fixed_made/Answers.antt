@@ -1,16 +1,13 @@
 -- The constructor's answer.
 use Rattle.std.proofs.Common.{sym}
-use Rattle.vx_model.specs.FixedSizeList.{fixed_column}
-use Rattle.vx_column_json.specs.FixedSizeList.{fixed_made}
+use Rattle.vx_model.specs.FixedSizeList.{fixed_fault, fixed_column}
 use Rattle.vx_column_json.proofs.Refusals.{made_by, refused_by}
 use Rattle.vx_column_json.proofs.fixed_size_list.fixed_made.Goals as goal
 
 pub returns-in-Ok : goal.returns-in-Ok
-unfolding fixed_made
 returns-in-Ok c =
-    rw (sym c.in_ok-into_ref.ensures) (made_by fixed_column _ _ _ _ c.in-Ok.ensures.refusal c.in-Ok.ensures.made c.into_array.ensures)
+    rw (sym c.in_ok-into_ref.ensures) (made_by fixed_fault fixed_column _ _ _ c.in-Ok.ensures.refusal c.in-Ok.ensures.made c.into_array.ensures)
 
 pub returns-in-Err : goal.returns-in-Err
-unfolding fixed_made
 returns-in-Err c =
-    rw (sym c.in_ok-into_ref.ensures, c.refusal.ensures) (refused_by _ _ _ c.in-Err.ensures.refusal)
+    rw (sym c.in_ok-into_ref.ensures, c.refusal.ensures) (refused_by fixed_fault fixed_column _ _ c.in-Err.ensures.refusal)
