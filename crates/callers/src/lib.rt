@@ -1,13 +1,17 @@
 //! What the programs of calls have in common: values behind a decoder, a decoder that counts its
-//! calls, masks, and the texts of calls and bits.
+//! calls, masks and picks, whether they fit a column, and the texts of calls and bits.
 #![tactic(auto)]
 
 mod counted;
+mod fitting;
 mod masks;
+mod picks;
 mod text;
 mod values;
 
 pub use counted::Counted;
+pub use fitting::{check_mask, check_slice, some_of};
 pub use masks::{mask_of, mask_of_run};
+pub use picks::picks_of;
 pub use text::{print_calls, text_of};
 pub use values::{numbers, remainders, sevens};

@@ -8,7 +8,7 @@ use std::alloc::Global;
 use std::test::Fail;
 use vx_column::{Array, PType};
 use vx_mask::Policy;
-use vx_select::{SelectError, select_fused, selections_alike};
+use vx_select::{SelectError, Step, select_fused, selections_alike};
 
 /// What a line says first, a column, and steps over it.
 type Line = (&'static str, Column, &'static [Written]);
@@ -134,20 +134,18 @@ fn print_answer(
     }
 }
 
-/// The type, the layout and the numbers that steps pick of a column, or why they pick none.
-fn print_fused(
-    rt: &impl Print,
+/// The rows that steps pick of a column, or why they pick none.
+fn fused(
     alloc: Global,
-    name: &str,
     column: &Array,
-    written: &[Written],
+    steps: &[Step],
     policy: &Policy,
-) -> Result<(), Fail> {
-    let steps = steps_of(alloc, written)?;
-    selections_alike(column, &steps);
-    print_answer(rt, name, select_fused(alloc, column, &steps, policy))
+) -> Result<Array, SelectError> {
+    selections_alike(column, steps);
+    select_fused(alloc, column, steps, policy)
 }
 
+/// The type, the layout and the numbers of the rows, or the error.
 fn print_line(
     rt: &impl Print,
     alloc: Global,
@@ -155,7 +153,8 @@ fn print_line(
     policy: &Policy,
 ) -> Result<(), Fail> {
     let column = column_of(alloc, column)?;
-    print_fused(rt, alloc, name, &column, written, policy)
+    let steps = steps_of(alloc, written)?;
+    print_answer(rt, name, fused(alloc, &column, &steps, policy))
 }
 
 /// A line for each list of steps.

@@ -13,23 +13,19 @@ mod widths;
 use std::alloc::Global;
 use std::test::Fail;
 
-fn add_rows(alloc: Global, family: usize, rows: &mut Vec<String>) -> Result<(), Fail> {
-    match family {
-        0 => filters::add_rows(alloc, rows),
-        1 => compact::add_rows(alloc, rows),
-        2 => widths::add_rows(alloc, rows),
-        3 => bytes::add_rows(alloc, rows),
-        4 => packed::add_rows(alloc, rows),
-        5 => bits::add_rows(alloc, rows),
-        _ => readers::add_rows(alloc, rows),
-    }
+fn add_rows(alloc: Global, rows: &mut Vec<String>) -> Result<(), Fail> {
+    filters::add_rows(alloc, rows)?;
+    compact::add_rows(alloc, rows)?;
+    widths::add_rows(alloc, rows)?;
+    bytes::add_rows(alloc, rows)?;
+    packed::add_rows(alloc, rows)?;
+    bits::add_rows(alloc, rows)?;
+    readers::add_rows(alloc, rows)
 }
 
 fn main(rt: HostRuntime) -> Result<(), Fail> {
     let mut rows = Vec::new(rt.alloc());
-    for family in 0..7 {
-        add_rows(rt.alloc(), family, &mut rows)?;
-    }
+    add_rows(rt.alloc(), &mut rows)?;
     for row in rows {
         println!(rt; "{row}")?;
     }

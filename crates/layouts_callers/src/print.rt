@@ -3,6 +3,7 @@ use std::alloc::Global;
 use std::io;
 use std::test::Fail;
 use vx_column::{Array, ListArray, Row};
+use vx_layouts::TakeError;
 
 fn print_element(rt: &impl Print, row: &Row) -> io::Result<()> {
     match row {
@@ -68,15 +69,24 @@ pub(crate) fn print_rows(rt: &impl Print, alloc: Global, array: &Array) -> Resul
     Ok(())
 }
 
-/// The rows, or that there are none since the step is left to the caller.
-pub(crate) fn print_answer(
-    rt: &impl Print,
-    alloc: Global,
-    answer: &Option<Array>,
-) -> Result<(), Fail> {
+/// What a step gives: nothing where it is left to the caller.
+pub(crate) type Answer = Option<Array>;
+
+/// The same of a take, which may be refused.
+pub(crate) type Taken = Result<Answer, TakeError>;
+
+/// The rows, or that the step is left to the caller.
+pub(crate) fn print_answer(rt: &impl Print, alloc: Global, answer: &Answer) -> Result<(), Fail> {
     match answer {
-        Some(array) => print_rows(rt, alloc, array)?,
-        None => println!(rt; " None")?,
+        Some(array) => print_rows(rt, alloc, array),
+        None => Ok(println!(rt; " None")?),
     }
-    Ok(())
+}
+
+/// The rows of a take, or why there are none.
+pub(crate) fn print_taken(rt: &impl Print, alloc: Global, taken: &Taken) -> Result<(), Fail> {
+    match taken {
+        Ok(answer) => print_answer(rt, alloc, answer),
+        Err(error) => Ok(println!(rt; " {error:?}")?),
+    }
 }

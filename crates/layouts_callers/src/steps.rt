@@ -1,7 +1,7 @@
 //! Steps through the traits of layouts.
 use crate::columns::{bools, bytes, decimals, dict, filtered, filtered_sevens, indices, zeros};
-use crate::print::print_answer;
-use callers::mask_of;
+use crate::print::{Answer, Taken, print_answer, print_taken};
+use callers::{check_mask, check_slice, mask_of};
 use std::alloc::Global;
 use std::test::Fail;
 use vx_column::vtables::{Bool, Decimal, Dict, Filter, Null, Primitive};
@@ -26,39 +26,29 @@ fn rows_as<V: VTable>(array: &Array) -> Option<usize> {
     Some(view.array().len())
 }
 
-pub(crate) fn taken<V: TakeExecute>(
-    alloc: Global,
-    view: ArrayView<'_, V>,
-    indices: &Indices,
-) -> Result<Option<Array>, TakeError> {
-    V::take(alloc, view, indices)
+fn taken<V: TakeExecute>(alloc: Global, array: &Array, indices: &Indices) -> Result<Taken, Fail> {
+    Ok(V::take(alloc, view_of::<V>(array)?, indices))
 }
 
 fn taken_by_any(alloc: Global, array: &Array, indices: &Indices) -> Result<Array, TakeError> {
     take(alloc, array, indices, &Policy::vortex())
 }
 
-fn filtered_by<V: FilterReduce>(
-    alloc: Global,
-    view: ArrayView<'_, V>,
-    mask: &Mask,
-) -> Result<Option<Array>, Fail> {
-    if mask.len() != view.array().len() {
-        return Err("not a bit for each row".into());
-    }
+fn kept<V: FilterReduce>(alloc: Global, array: &Array, mask: &Mask) -> Result<Answer, Fail> {
+    let view = view_of::<V>(array)?;
+    check_mask(mask, view.array().len())?;
     Ok(V::filter(alloc, view, mask)?)
 }
 
-fn sliced<V: SliceReduce>(
+fn cut<V: SliceReduce>(
     alloc: Global,
-    view: ArrayView<'_, V>,
-    start: usize,
-    end: usize,
-) -> Result<Option<Array>, Fail> {
-    if start > end || end > view.array().len() {
-        return Err("a slice past the rows".into());
-    }
-    Ok(V::slice(alloc, view, start, end)?)
+    array: &Array,
+    from: usize,
+    to: usize,
+) -> Result<Answer, Fail> {
+    let view = view_of::<V>(array)?;
+    check_slice(from, to, view.array().len())?;
+    Ok(V::slice(alloc, view, from, to)?)
 }
 
 /// Whether a column is of the layout, and of which it is.
@@ -68,25 +58,15 @@ fn print_view<V: VTable>(rt: &impl Print, array: &Array) -> Result<(), Fail> {
     Ok(())
 }
 
-pub(crate) fn print_error(rt: &impl Print, error: TakeError) -> Result<(), Fail> {
-    println!(rt; " {error:?}")?;
-    Ok(())
-}
-
 /// A take by the layout, or its error.
 pub(crate) fn print_take<V: TakeExecute>(
     rt: &impl Print,
     alloc: Global,
     array: &Array,
-    picks: &[[u8; 1]],
+    indices: &Indices,
 ) -> Result<(), Fail> {
     print!(rt; "take of {:?}:", V::NAME)?;
-    let view = view_of::<V>(array)?;
-    let indices = indices(alloc, picks)?;
-    match taken(alloc, view, &indices) {
-        Ok(answer) => print_answer(rt, alloc, &answer),
-        Err(error) => print_error(rt, error),
-    }
+    print_taken(rt, alloc, &taken::<V>(alloc, array, indices)?)
 }
 
 /// A filter by the layout.
@@ -97,8 +77,7 @@ fn print_filter<V: FilterReduce>(
     mask: &Mask,
 ) -> Result<(), Fail> {
     print!(rt; "filter of {:?}:", V::NAME)?;
-    let answer = filtered_by(alloc, view_of::<V>(array)?, mask)?;
-    print_answer(rt, alloc, &answer)
+    print_answer(rt, alloc, &kept::<V>(alloc, array, mask)?)
 }
 
 /// A slice by the layout.
@@ -110,70 +89,69 @@ pub(crate) fn print_slice<V: SliceReduce>(
     end: usize,
 ) -> Result<(), Fail> {
     print!(rt; "slice {start}..{end} of {:?}:", V::NAME)?;
-    let answer = sliced(alloc, view_of::<V>(array)?, start, end)?;
-    print_answer(rt, alloc, &answer)
+    print_answer(rt, alloc, &cut::<V>(alloc, array, start, end)?)
 }
 
 /// A column is one of its own layout, and of no other.
-pub(crate) fn print_views(rt: &impl Print, alloc: Global) -> Result<(), Fail> {
+fn print_views(rt: &impl Print, alloc: Global) -> Result<(), Fail> {
     let column = bools(alloc, &[true, false])?;
     print_view::<Bool>(rt, &column)?;
     print_view::<Primitive>(rt, &column)
 }
 
 /// Filter and slice of a column of bits.
-pub(crate) fn print_bools(rt: &impl Print, alloc: Global) -> Result<(), Fail> {
+fn print_bools(rt: &impl Print, alloc: Global) -> Result<(), Fail> {
     let column = bools(alloc, &[true, false])?;
     print_filter::<Bool>(rt, alloc, &column, &mask_of(alloc, &[false, true])?)?;
     print_slice::<Bool>(rt, alloc, &column, 1, 2)
 }
 
 /// A slice of a dictionary: of its codes.
-pub(crate) fn print_dict(rt: &impl Print, alloc: Global) -> Result<(), Fail> {
+fn print_dict(rt: &impl Print, alloc: Global) -> Result<(), Fail> {
     let codes = bytes(alloc, &[[1], [0], [1]])?;
     let column = dict(alloc, codes, bytes(alloc, &[[10], [20]])?)?;
     print_slice::<Dict>(rt, alloc, &column, 1, 3)
 }
 
 /// A take of each flat layout.
-pub(crate) fn print_takes(rt: &impl Print, alloc: Global) -> Result<(), Fail> {
-    print_take::<Null>(rt, alloc, &NullArray::new(2).into_array(), &[[1], [0]])?;
-    print_take::<Bool>(rt, alloc, &bools(alloc, &[true, false])?, &[[1], [0]])?;
-    print_take::<Primitive>(rt, alloc, &bytes(alloc, &[[10], [20]])?, &[[1], [0]])?;
-    print_take::<Decimal>(rt, alloc, &decimals(alloc, &[[10], [20]])?, &[[1], [0]])
+fn print_takes(rt: &impl Print, alloc: Global) -> Result<(), Fail> {
+    let indices = &indices(alloc, &[[1], [0]])?;
+    print_take::<Null>(rt, alloc, &NullArray::new(2).into_array(), indices)?;
+    print_take::<Bool>(rt, alloc, &bools(alloc, &[true, false])?, indices)?;
+    print_take::<Primitive>(rt, alloc, &bytes(alloc, &[[10], [20]])?, indices)?;
+    print_take::<Decimal>(rt, alloc, &decimals(alloc, &[[10], [20]])?, indices)
 }
 
 /// A take of any layout, and bad indices.
-pub(crate) fn print_any_take(rt: &impl Print, alloc: Global) -> Result<(), Fail> {
+fn print_any_take(rt: &impl Print, alloc: Global) -> Result<(), Fail> {
     let column = bytes(alloc, &[[10], [20]])?;
-    print_take::<Primitive>(rt, alloc, &column, &[[0], [2]])?;
+    print_take::<Primitive>(rt, alloc, &column, &indices(alloc, &[[0], [2]])?)?;
     let rows = taken_by_any(alloc, &column, &indices(alloc, &[[1], [0]])?)?;
     print!(rt; "take:")?;
     print_answer(rt, alloc, &Some(rows))
 }
 
 /// Takes of filtered columns: bools are left to the caller, where the indices are right.
-pub(crate) fn print_lazy_takes(rt: &impl Print, alloc: Global) -> Result<(), Fail> {
+fn print_lazy_takes(rt: &impl Print, alloc: Global) -> Result<(), Fail> {
     let column = filtered(alloc, bools(alloc, &[true, false])?, &[true, true])?;
-    print_take::<Filter>(rt, alloc, &column, &[[1]])?;
-    print_take::<Filter>(rt, alloc, &column, &[[2]])?;
+    print_take::<Filter>(rt, alloc, &column, &indices(alloc, &[[1]])?)?;
+    print_take::<Filter>(rt, alloc, &column, &indices(alloc, &[[2]])?)?;
     print_lazy_bytes(rt, alloc)
 }
 
 fn print_lazy_bytes(rt: &impl Print, alloc: Global) -> Result<(), Fail> {
     let child = bytes(alloc, &[[10], [20], [30]])?;
     let column = filtered(alloc, child, &[true, false, true])?;
-    print_take::<Filter>(rt, alloc, &column, &[[1]])
+    print_take::<Filter>(rt, alloc, &column, &indices(alloc, &[[1]])?)
 }
 
 /// How many rows a long take of a filtered column gives, if it isn't left to the caller.
 fn long_take(alloc: Global, rows: usize, len: usize) -> Result<Option<usize>, Fail> {
     let column = filtered_sevens(alloc, rows)?;
-    let view = view_of::<Filter>(&column)?;
-    Ok(rows_of(&taken(alloc, view, &zeros(alloc, len)?)?))
+    Ok(rows_of(&taken::<Filter>(alloc, &column, &zeros(alloc, len)?)??))
 }
 
-fn rows_of(answer: &Option<Array>) -> Option<usize> {
+fn rows_of(answer: &Answer) -> Option<usize> {
     match answer {
         Some(array) => Some(array.len()),
         None => None,
@@ -181,7 +159,7 @@ fn rows_of(answer: &Option<Array>) -> Option<usize> {
 }
 
 /// Takes at both sides of each limit.
-pub(crate) fn print_long_takes(rt: &impl Print, alloc: Global) -> Result<(), Fail> {
+fn print_long_takes(rt: &impl Print, alloc: Global) -> Result<(), Fail> {
     let limits = [
         (4096, 4096),
         (4096, 4095),
@@ -195,4 +173,15 @@ pub(crate) fn print_long_takes(rt: &impl Print, alloc: Global) -> Result<(), Fai
         println!(rt; "{len} of {rows} rows: {taken:?}")?;
     }
     Ok(())
+}
+
+/// What columns are seen as, and steps of each layout that isn't one of lists.
+pub(crate) fn print_steps(rt: &impl Print, alloc: Global) -> Result<(), Fail> {
+    print_views(rt, alloc)?;
+    print_bools(rt, alloc)?;
+    print_dict(rt, alloc)?;
+    print_takes(rt, alloc)?;
+    print_any_take(rt, alloc)?;
+    print_lazy_takes(rt, alloc)?;
+    print_long_takes(rt, alloc)
 }

@@ -1,11 +1,10 @@
-//! Columns of numbers, picks, and policies.
+//! Columns of numbers, and policies.
 
 use std::alloc::Global;
 use std::test::Fail;
 use vx_bits::{Buffer, NoMemory, Records};
 use vx_column::{Array, ArrayRef, PType, PrimitiveArray, Validity};
 use vx_mask::{Policy, PolicyFields};
-use vx_take::Picks;
 
 fn records_of(alloc: Global, numbers: &[u32]) -> Result<Records, NoMemory> {
     let mut records = Vec::new(alloc);
@@ -29,26 +28,6 @@ pub(crate) fn elements(alloc: Global, count: u32) -> Result<ArrayRef, Fail> {
     }
     let column: Array = numbers(alloc, list.as_slice())?.into_array();
     Ok(column.into_ref(alloc)?)
-}
-
-/// The picks of a list, each of which is below the bound.
-pub(crate) fn picks_of(alloc: Global, bound: usize, list: &[Option<usize>]) -> Result<Picks, Fail> {
-    let mut picks = Picks::with_capacity(alloc, bound, list.len())?;
-    for pick in list {
-        match pick {
-            None => picks.push(None)?,
-            Some(place) => push_place(&mut picks, *place)?,
-        }
-    }
-    Ok(picks)
-}
-
-fn push_place(picks: &mut Picks, place: usize) -> Result<(), Fail> {
-    if place >= picks.bound() {
-        return Err("a pick past the bound".into());
-    }
-    picks.push(Some(place))?;
-    Ok(())
 }
 
 /// The numbers of Vortex, changed.

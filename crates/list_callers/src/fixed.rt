@@ -1,7 +1,7 @@
 //! Plans over columns of layout `FixedSizeList`.
-use crate::columns::{elements, keeping, picks_of};
+use crate::columns::{elements, keeping};
 use crate::text::print_bits;
-use callers::mask_of;
+use callers::{mask_of, picks_of};
 use std::alloc::Global;
 use std::test::Fail;
 use vx_column::{FixedSizeListArray, Validity};

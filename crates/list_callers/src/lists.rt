@@ -4,10 +4,10 @@
 ghost use Rattle.std.specs.Prelude.{◌≡◌, length};
 ghost use Rattle.vx_model.specs.List.{list_spans};
 
-use crate::columns::{elements, numbers, picks_of, policy_of};
+use crate::columns::{elements, numbers, policy_of};
 use crate::presence::{Presence, validity_of};
 use crate::text::{print_bits, print_numbers};
-use callers::mask_of;
+use callers::{mask_of, picks_of};
 use std::alloc::Global;
 use std::test::Fail;
 use vx_column::{ArrayRef, ListArray, Validity};

@@ -1,7 +1,6 @@
 //! Masks of elements, and plans over plain offsets.
-use crate::columns::picks_of;
 use crate::text::print_bits;
-use callers::mask_of;
+use callers::{mask_of, picks_of};
 use std::alloc::Global;
 use std::test::Fail;
 use vx_lists::{element_mask_from_offsets, filter_lists, take_lists};

@@ -2,9 +2,9 @@
 ghost use Rattle.std.specs.Prelude.{◌≡◌, length};
 ghost use Rattle.vx_model.specs.ListView.{listview_spans};
 
-use crate::columns::{elements, numbers, picks_of};
+use crate::columns::{elements, numbers};
 use crate::text::print_numbers;
-use callers::mask_of;
+use callers::{mask_of, picks_of};
 use std::alloc::Global;
 use std::test::Fail;
 use vx_column::{ListViewArray, PrimitiveArray, Validity};

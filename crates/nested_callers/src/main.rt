@@ -16,9 +16,7 @@ use std::test::Fail;
 fn main(rt: HostRuntime) -> Result<(), Fail> {
     readers::print_readers(&rt, rt.alloc())?;
     refusals::print_refusals(&rt, rt.alloc())?;
-    steps::print_structs(&rt, rt.alloc())?;
-    steps::print_maps(&rt, rt.alloc())?;
-    steps::print_extensions(&rt, rt.alloc())?;
+    steps::print_steps(&rt, rt.alloc())?;
     fillers::print_fillers(&rt, rt.alloc())?;
     unions::print_unions(&rt, rt.alloc())?;
     packing::print_packing(&rt, rt.alloc())

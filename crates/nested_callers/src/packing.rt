@@ -1,6 +1,7 @@
 //! Unions packed, each column with just the rows of its id.
 use crate::columns::{byte_array, bytes, bytes_where, indices, names_of, two_columns};
 use crate::print::print_rows;
+use callers::check_slice;
 use std::alloc::Global;
 use std::test::Fail;
 use vx_bits::BitBuffer;
@@ -103,9 +104,7 @@ fn print_slice(
     start: usize,
     end: usize,
 ) -> Result<(), Fail> {
-    if start > end || end > column.len() {
-        return Err("a slice past the rows".into());
-    }
+    check_slice(start, end, column.len())?;
     print_packed(rt, alloc, &slice(alloc, column, start, end)?)
 }
 

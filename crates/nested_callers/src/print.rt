@@ -3,6 +3,7 @@ use std::alloc::Global;
 use std::io;
 use std::test::Fail;
 use vx_column::{Array, ColumnError};
+use vx_layouts::TakeError;
 use vx_print::text_of;
 
 /// Prints the type and the rows, a blank before each.
@@ -18,17 +19,18 @@ pub(crate) fn print_rows(rt: &impl Print, alloc: Global, column: &Array) -> Resu
     Ok(())
 }
 
+/// What a step gives: nothing where it is left to the caller.
+pub(crate) type Answer = Option<Array>;
+
+/// The same of a take, which may be refused.
+pub(crate) type Taken = Result<Answer, TakeError>;
+
 /// The same, or that the step is left to the caller.
-pub(crate) fn print_answer(
-    rt: &impl Print,
-    alloc: Global,
-    answer: &Option<Array>,
-) -> Result<(), Fail> {
-    match answer {
-        Some(column) => print_rows(rt, alloc, column)?,
-        None => println!(rt; " None")?,
-    }
-    Ok(())
+pub(crate) fn print_answer(rt: &impl Print, alloc: Global, answer: &Answer) -> Result<(), Fail> {
+    let Some(column) = answer else {
+        return Ok(println!(rt; " None")?);
+    };
+    print_rows(rt, alloc, column)
 }
 
 /// That a constructor makes a column, or why it doesn't.

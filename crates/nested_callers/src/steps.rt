@@ -1,17 +1,40 @@
 //! Steps through the traits of layouts.
 use crate::columns::{days, indices, maps, points};
-use crate::print::{print_answer, print_rows};
-use callers::mask_of;
+use crate::print::{Answer, Taken, print_answer, print_rows};
+use callers::{check_mask, check_slice, mask_of, some_of};
 use std::alloc::Global;
 use std::test::Fail;
 use vx_column::vtables::{Extension, Map, Struct};
 use vx_column::{Array, ArrayView, StructArray, VTable};
 use vx_layouts::{
-    FilterKernel, FilterReduce, SliceKernel, SliceReduce, TakeError, TakeExecute, TakeReduce,
-    filter_struct,
+    FilterKernel, FilterReduce, SliceKernel, SliceReduce, TakeExecute, TakeReduce, filter_struct,
 };
 use vx_mask::Mask;
-use vx_pieces::Indices;
+
+/// Rows to take, and a bit for each: a null takes the place of those whose bit is clear.
+pub(crate) type Picks = ([[u8; 1]; 2], [bool; 2]);
+
+const OF_STRUCTS: [Picks; 3] = [
+    ([[2], [0]], [true, true]),
+    ([[0], [9]], [true, false]),
+    ([[0], [3]], [true, true]),
+];
+
+/// What is taken of a layout while columns are put together, and while they are executed.
+struct Takes {
+    reduced: Picks,
+    executed: [Picks; 2],
+}
+
+const OF_MAPS: Takes = Takes {
+    reduced: ([[1], [0]], [true, true]),
+    executed: [([[1], [9]], [true, false]), ([[0], [2]], [true, true])],
+};
+
+const OF_EXTENSIONS: Takes = Takes {
+    reduced: ([[2], [1]], [true, true]),
+    executed: [([[2], [9]], [true, false]), ([[9], [3]], [false, true])],
+};
 
 // Each call stands in a function that says nothing of it, so that few facts pile up.
 
@@ -24,208 +47,166 @@ fn view_of<V: VTable>(array: &Array) -> Result<ArrayView<'_, V>, Fail> {
 
 fn reduced_take<V: TakeReduce>(
     alloc: Global,
-    view: ArrayView<'_, V>,
-    indices: &Indices,
-) -> Result<Option<Array>, TakeError> {
-    V::take(alloc, view, indices)
+    array: &Array,
+    (picks, bits): &Picks,
+) -> Result<Taken, Fail> {
+    let indices = indices(alloc, picks, bits)?;
+    Ok(V::take(alloc, view_of::<V>(array)?, &indices))
 }
 
 fn executed_take<V: TakeExecute>(
     alloc: Global,
-    view: ArrayView<'_, V>,
-    indices: &Indices,
-) -> Result<Option<Array>, TakeError> {
-    V::take(alloc, view, indices)
+    array: &Array,
+    (picks, bits): &Picks,
+) -> Result<Taken, Fail> {
+    let indices = indices(alloc, picks, bits)?;
+    Ok(V::take(alloc, view_of::<V>(array)?, &indices))
 }
 
-fn reduced_filter<V: FilterReduce>(
-    alloc: Global,
-    view: ArrayView<'_, V>,
-    mask: &Mask,
-) -> Result<Option<Array>, Fail> {
-    if mask.len() != view.array().len() {
-        return Err("not a bit for each row".into());
-    }
+/// The rows at the set positions of a mask.
+fn reduced_by<V: FilterReduce>(alloc: Global, array: &Array, mask: &Mask) -> Result<Answer, Fail> {
+    let view = view_of::<V>(array)?;
+    check_mask(mask, view.array().len())?;
     Ok(V::filter(alloc, view, mask)?)
 }
 
-fn executed_filter<V: FilterKernel>(
-    alloc: Global,
-    view: ArrayView<'_, V>,
-    mask: &Mask,
-) -> Result<Option<Array>, Fail> {
-    if mask.len() != view.array().len() {
-        return Err("not a bit for each row".into());
-    }
+fn executed_by<V: FilterKernel>(alloc: Global, array: &Array, mask: &Mask) -> Result<Answer, Fail> {
+    let view = view_of::<V>(array)?;
+    check_mask(mask, view.array().len())?;
     Ok(V::filter(alloc, view, mask)?)
 }
 
-fn reduced_slice<V: SliceReduce>(
-    alloc: Global,
-    view: ArrayView<'_, V>,
-    start: usize,
-    end: usize,
-) -> Result<Option<Array>, Fail> {
-    if start > end || end > view.array().len() {
-        return Err("a slice past the rows".into());
-    }
-    Ok(V::slice(alloc, view, start, end)?)
+/// The second row.
+fn reduced_slice<V: SliceReduce>(alloc: Global, array: &Array) -> Result<Answer, Fail> {
+    let view = view_of::<V>(array)?;
+    check_slice(1, 2, view.array().len())?;
+    Ok(V::slice(alloc, view, 1, 2)?)
 }
 
-fn executed_slice<V: SliceKernel>(
-    alloc: Global,
-    view: ArrayView<'_, V>,
-    start: usize,
-    end: usize,
-) -> Result<Option<Array>, Fail> {
-    if start > end || end > view.array().len() {
-        return Err("a slice past the rows".into());
-    }
-    Ok(V::slice(alloc, view, start, end)?)
+fn executed_slice<V: SliceKernel>(alloc: Global, array: &Array) -> Result<Answer, Fail> {
+    let view = view_of::<V>(array)?;
+    check_slice(1, 2, view.array().len())?;
+    Ok(V::slice(alloc, view, 1, 2)?)
 }
 
-fn print_taken(
+/// What a take gave, behind when it was called and the layout, or its error.
+fn print_taken<V: VTable>(
     rt: &impl Print,
     alloc: Global,
-    answer: &Result<Option<Array>, TakeError>,
+    time: &str,
+    taken: &Taken,
 ) -> Result<(), Fail> {
-    match answer {
+    print!(rt; "{time} take of {:?}:", V::NAME)?;
+    match taken {
         Ok(answer) => print_answer(rt, alloc, answer),
         Err(error) => Ok(println!(rt; " {error:?}")?),
     }
 }
 
-/// A take of two rows, the second by a null where its bit is clear.
-pub(crate) fn print_reduced_take<V: TakeReduce>(
+/// What another step gave, behind its name and the layout.
+fn print_step<V: VTable>(
     rt: &impl Print,
     alloc: Global,
-    array: &Array,
-    picks: &[[u8; 1]],
-    bits: &[bool],
+    step: &str,
+    answer: &Answer,
 ) -> Result<(), Fail> {
-    print!(rt; "reduced take of {:?}:", V::NAME)?;
-    let view = view_of::<V>(array)?;
-    let indices = indices(alloc, picks, bits)?;
-    print_taken(rt, alloc, &reduced_take(alloc, view, &indices))
+    print!(rt; "{step} of {:?}:", V::NAME)?;
+    print_answer(rt, alloc, answer)
 }
 
-fn print_executed_take<V: TakeExecute>(
+/// Takes of two rows.
+pub(crate) fn print_reduced_takes<V: TakeReduce>(
     rt: &impl Print,
     alloc: Global,
-    array: &Array,
-    picks: &[[u8; 1]],
-    bits: &[bool],
+    column: &Array,
+    takes: &[Picks],
 ) -> Result<(), Fail> {
-    print!(rt; "executed take of {:?}:", V::NAME)?;
-    let view = view_of::<V>(array)?;
-    let indices = indices(alloc, picks, bits)?;
-    print_taken(rt, alloc, &executed_take(alloc, view, &indices))
+    for picks in takes {
+        let taken = reduced_take::<V>(alloc, column, picks)?;
+        print_taken::<V>(rt, alloc, "reduced", &taken)?;
+    }
+    Ok(())
+}
+
+fn print_takes<V: TakeReduce + TakeExecute>(
+    rt: &impl Print,
+    alloc: Global,
+    column: &Array,
+    takes: &Takes,
+) -> Result<(), Fail> {
+    print_reduced_takes::<V>(rt, alloc, column, &[takes.reduced])?;
+    for picks in &takes.executed {
+        let taken = executed_take::<V>(alloc, column, picks)?;
+        print_taken::<V>(rt, alloc, "executed", &taken)?;
+    }
+    Ok(())
 }
 
 /// The second row, by a slice.
 pub(crate) fn print_reduced_slice<V: SliceReduce>(
     rt: &impl Print,
     alloc: Global,
-    array: &Array,
+    column: &Array,
 ) -> Result<(), Fail> {
-    print!(rt; "reduced slice 1..2 of {:?}:", V::NAME)?;
-    let answer = reduced_slice(alloc, view_of::<V>(array)?, 1, 2)?;
-    print_answer(rt, alloc, &answer)
+    let answer = reduced_slice::<V>(alloc, column)?;
+    print_step::<V>(rt, alloc, "reduced slice 1..2", &answer)
 }
 
 fn print_reduced_filter<V: FilterReduce>(
     rt: &impl Print,
     alloc: Global,
-    array: &Array,
+    column: &Array,
     bits: &[bool],
 ) -> Result<(), Fail> {
-    print!(rt; "reduced filter of {:?}:", V::NAME)?;
-    let view = view_of::<V>(array)?;
-    let mask = mask_of(alloc, bits)?;
-    let answer = reduced_filter(alloc, view, &mask)?;
-    print_answer(rt, alloc, &answer)
+    let answer = reduced_by::<V>(alloc, column, &mask_of(alloc, bits)?)?;
+    print_step::<V>(rt, alloc, "reduced filter", &answer)
 }
 
 fn kept_structs(alloc: Global, array: &StructArray, mask: &Mask) -> Result<Array, Fail> {
-    let Some(mask) = mask.values() else {
-        return Err("no row, or each".into());
-    };
-    if mask.len() != array.share().into_array().len() {
-        return Err("another number of rows".into());
-    }
+    let mask = some_of(mask, array.share().into_array().len())?;
     Ok(filter_struct(alloc, array, mask)?.into_array())
 }
 
 fn print_struct_filter(rt: &impl Print, alloc: Global, array: &StructArray) -> Result<(), Fail> {
-    let mask = mask_of(alloc, &[false, true, true])?;
-    let kept = kept_structs(alloc, array, &mask)?;
+    let kept = kept_structs(alloc, array, &mask_of(alloc, &[false, true, true])?)?;
     print!(rt; "filter_struct:")?;
     print_rows(rt, alloc, &kept)
 }
 
-/// Steps of structs.
-pub(crate) fn print_structs(rt: &impl Print, alloc: Global) -> Result<(), Fail> {
-    print_steps_of_structs(rt, alloc, &points(alloc)?)
-}
-
-fn print_steps_of_structs(
-    rt: &impl Print,
-    alloc: Global,
-    points: &StructArray,
-) -> Result<(), Fail> {
-    print_struct_steps(rt, alloc, &points.share().into_array())?;
-    print_struct_filter(rt, alloc, points)
-}
-
-fn print_struct_steps(rt: &impl Print, alloc: Global, column: &Array) -> Result<(), Fail> {
-    let takes = [
-        ([[2], [0]], [true, true]),
-        ([[0], [9]], [true, false]),
-        ([[0], [3]], [true, true]),
-    ];
-    for (picks, bits) in takes {
-        print_reduced_take::<Struct>(rt, alloc, column, &picks, &bits)?;
-    }
-    print_reduced_slice::<Struct>(rt, alloc, column)
+fn print_struct_steps(rt: &impl Print, alloc: Global, structs: &StructArray) -> Result<(), Fail> {
+    let column = structs.share().into_array();
+    print_reduced_takes::<Struct>(rt, alloc, &column, &OF_STRUCTS)?;
+    print_reduced_slice::<Struct>(rt, alloc, &column)?;
+    print_struct_filter(rt, alloc, structs)
 }
 
 fn print_executed_slice(rt: &impl Print, alloc: Global, column: &Array) -> Result<(), Fail> {
-    print!(rt; "executed slice 1..2 of Map:")?;
-    let sliced = executed_slice(alloc, view_of::<Map>(column)?, 1, 2)?;
-    print_answer(rt, alloc, &sliced)
+    let answer = executed_slice::<Map>(alloc, column)?;
+    print_step::<Map>(rt, alloc, "executed slice 1..2", &answer)
 }
 
 fn print_executed_filter(rt: &impl Print, alloc: Global, column: &Array) -> Result<(), Fail> {
-    print!(rt; "executed filter of Map:")?;
-    let mask = mask_of(alloc, &[false, true])?;
-    let kept = executed_filter(alloc, view_of::<Map>(column)?, &mask)?;
-    print_answer(rt, alloc, &kept)
+    let answer = executed_by::<Map>(alloc, column, &mask_of(alloc, &[false, true])?)?;
+    print_step::<Map>(rt, alloc, "executed filter", &answer)
 }
 
 fn print_map_steps(rt: &impl Print, alloc: Global, column: &Array) -> Result<(), Fail> {
-    print_reduced_take::<Map>(rt, alloc, column, &[[1], [0]], &[true, true])?;
-    print_executed_take::<Map>(rt, alloc, column, &[[1], [9]], &[true, false])?;
-    print_executed_take::<Map>(rt, alloc, column, &[[0], [2]], &[true, true])?;
+    print_takes::<Map>(rt, alloc, column, &OF_MAPS)?;
     print_reduced_slice::<Map>(rt, alloc, column)?;
     print_executed_slice(rt, alloc, column)?;
     print_reduced_filter::<Map>(rt, alloc, column, &[false, true])?;
     print_executed_filter(rt, alloc, column)
 }
 
-/// Steps of maps, at both times.
-pub(crate) fn print_maps(rt: &impl Print, alloc: Global) -> Result<(), Fail> {
-    print_map_steps(rt, alloc, &maps(alloc)?.into_array())
-}
-
-/// Steps of extensions.
-pub(crate) fn print_extensions(rt: &impl Print, alloc: Global) -> Result<(), Fail> {
-    print_extension_steps(rt, alloc, &days(alloc)?.into_array())
-}
-
 fn print_extension_steps(rt: &impl Print, alloc: Global, column: &Array) -> Result<(), Fail> {
-    print_reduced_take::<Extension>(rt, alloc, column, &[[2], [1]], &[true, true])?;
-    print_executed_take::<Extension>(rt, alloc, column, &[[2], [9]], &[true, false])?;
-    print_executed_take::<Extension>(rt, alloc, column, &[[9], [3]], &[false, true])?;
+    print_takes::<Extension>(rt, alloc, column, &OF_EXTENSIONS)?;
     print_reduced_slice::<Extension>(rt, alloc, column)?;
     print_reduced_filter::<Extension>(rt, alloc, column, &[true, false, true])
+}
+
+/// Steps of structs, and of maps and extensions at both times.
+pub(crate) fn print_steps(rt: &impl Print, alloc: Global) -> Result<(), Fail> {
+    print_struct_steps(rt, alloc, &points(alloc)?)?;
+    print_map_steps(rt, alloc, &maps(alloc)?.into_array())?;
+    print_extension_steps(rt, alloc, &days(alloc)?.into_array())
 }

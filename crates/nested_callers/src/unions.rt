@@ -1,8 +1,8 @@
 //! Unions, sparse and dense.
 use crate::columns::{byte_array, byte_columns, bytes, bytes_where, bytes_with, names_of};
 use crate::print::{print_fault, print_rows};
-use crate::steps::{print_reduced_slice, print_reduced_take};
-use callers::mask_of;
+use crate::steps::{Picks, print_reduced_slice, print_reduced_takes};
+use callers::{mask_of, some_of};
 use std::alloc::Global;
 use std::test::Fail;
 use vx_column::vtables::Union;
@@ -12,6 +12,12 @@ use vx_column::{
 use vx_layouts::filter_union;
 use vx_mask::Mask;
 use vx_shared::Shared;
+
+const TAKES: [Picks; 3] = [
+    ([[2], [0]], [true, true]),
+    ([[1], [9]], [true, false]),
+    ([[0], [3]], [true, true]),
+];
 
 /// The variants `a` of id 0 and `b` of id 5, both of bytes.
 fn variants(alloc: Global) -> Result<Shared<UnionVariants>, Fail> {
@@ -87,37 +93,21 @@ fn print_parts(rt: &impl Print, alloc: Global, union: &UnionArray) -> Result<(),
 }
 
 fn kept(alloc: Global, union: &UnionArray, mask: &Mask) -> Result<UnionArray, Fail> {
-    let Some(mask) = mask.values() else {
-        return Err("no row, or each".into());
-    };
-    if mask.len() != union.share().into_array().len() {
-        return Err("another number of rows".into());
-    }
+    let mask = some_of(mask, union.share().into_array().len())?;
     Ok(filter_union(alloc, union, mask)?)
 }
 
 fn print_filter(rt: &impl Print, alloc: Global, union: &UnionArray) -> Result<(), Fail> {
-    let mask = mask_of(alloc, &[false, true, true])?;
-    let kept = kept(alloc, union, &mask)?;
+    let kept = kept(alloc, union, &mask_of(alloc, &[false, true, true])?)?;
     print!(rt; "filter_union, offsets {}:", kept.offsets().is_some())?;
     print_rows(rt, alloc, &kept.into_array())
 }
 
 fn print_steps(rt: &impl Print, alloc: Global, union: &UnionArray) -> Result<(), Fail> {
-    print_reduced_steps(rt, alloc, &union.share().into_array())?;
+    let column = union.share().into_array();
+    print_reduced_takes::<Union>(rt, alloc, &column, &TAKES)?;
+    print_reduced_slice::<Union>(rt, alloc, &column)?;
     print_filter(rt, alloc, union)
-}
-
-fn print_reduced_steps(rt: &impl Print, alloc: Global, column: &Array) -> Result<(), Fail> {
-    let takes = [
-        ([[2], [0]], [true, true]),
-        ([[1], [9]], [true, false]),
-        ([[0], [3]], [true, true]),
-    ];
-    for (picks, bits) in takes {
-        print_reduced_take::<Union>(rt, alloc, column, &picks, &bits)?;
-    }
-    print_reduced_slice::<Union>(rt, alloc, column)
 }
 
 fn print_union(

@@ -19,6 +19,8 @@ pub(crate) type Rows = &'static [Option<i128>];
 pub(crate) enum Column {
     /// Numbers of a type; of a float by its bits.
     Numbers(PType, Rows),
+    /// Numbers of a type, none of them null.
+    Whole(PType, &'static [u8]),
     /// Decimals of 30 digits, so many of them behind the point, whose records have sixteen bytes.
     Decimals(i8, Rows),
     /// Bools.
@@ -34,21 +36,25 @@ pub(crate) enum Column {
     /// Numbers of a type at the set bits, which are looked up when they are read.
     Filtered(PType, Rows, &'static [bool]),
     /// The numbers of a type that codes name, at the set bits of a lazy filter.
-    Lazy(Rows, PType, Rows, &'static [bool]),
+    Lazy(&'static [u8], PType, Rows, &'static [bool]),
 }
 
 /// The column that a line writes.
 pub(crate) fn column_of(alloc: Global, column: Column) -> Result<Array, Fail> {
     match column {
         Column::Numbers(ptype, rows) => numbers(alloc, ptype, rows),
+        Column::Whole(ptype, list) => whole(alloc, ptype, list),
         Column::Decimals(scale, rows) => decimals(alloc, scale, rows),
         Column::Bools(rows) => bools(alloc, rows),
         Column::Texts(rows) => texts(alloc, rows),
         Column::Nulls(len) => Ok(NullArray::new(len).into_array()),
         Column::Constant(number, len) => constant(alloc, number, len),
-        Column::Dictionary(codes, ptype, values) => dictionary(alloc, codes, ptype, values),
+        Column::Dictionary(codes, ptype, values) => {
+            dictionary(alloc, numbers(alloc, PType::U32, codes)?, ptype, values)
+        }
         Column::Filtered(ptype, rows, bits) => filtered(alloc, numbers(alloc, ptype, rows)?, bits),
         Column::Lazy(codes, ptype, values, bits) => {
+            let codes = whole(alloc, PType::U32, codes)?;
             filtered(alloc, dictionary(alloc, codes, ptype, values)?, bits)
         }
     }
@@ -105,6 +111,20 @@ pub(crate) fn numbers(alloc: Global, ptype: PType, rows: &[Option<i128>]) -> Res
     Ok(PrimitiveArray::try_new(ptype, values, validity_by(alloc, rows)?)?.into_array())
 }
 
+// Rows that are all there.
+fn present(alloc: Global, list: &[u8]) -> Result<Vec<Option<i128>>, NoMemory> {
+    let mut rows = Vec::new(alloc);
+    for number in list {
+        rows.push(Some(i128::from(*number)))?;
+    }
+    Ok(rows)
+}
+
+/// A column of numbers, none of which is null.
+pub(crate) fn whole(alloc: Global, ptype: PType, list: &[u8]) -> Result<Array, Fail> {
+    numbers(alloc, ptype, &present(alloc, list)?)
+}
+
 fn decimals(alloc: Global, scale: i8, rows: &[Option<i128>]) -> Result<Array, Fail> {
     let dtype = DecimalDType::try_new(30, scale, 16)?;
     let values = Records::W16(records(alloc, rows, 0)?);
@@ -156,14 +176,14 @@ fn constant(alloc: Global, number: u8, len: usize) -> Result<Array, Fail> {
     Ok(ConstantArray::new(scalar, len).into_array())
 }
 
-// The values that codes of type `u32` name.
+// The values that codes name.
 fn dictionary(
     alloc: Global,
-    codes: &[Option<i128>],
+    codes: Array,
     ptype: PType,
     values: &[Option<i128>],
 ) -> Result<Array, Fail> {
-    let codes = numbers(alloc, PType::U32, codes)?.into_ref(alloc)?;
+    let codes = codes.into_ref(alloc)?;
     let values = numbers(alloc, ptype, values)?.into_ref(alloc)?;
     Ok(DictArray::try_new(codes, values)?.into_array())
 }

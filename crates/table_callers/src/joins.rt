@@ -1,14 +1,16 @@
 //! Joins of two tables.
-use crate::columns::{Column, Rows};
+use crate::columns::{Column, Rows, whole};
 use crate::made::{Made, names_of, shared_columns, table_of};
 use crate::shown::print_table;
+use Right::{Other, Same, Shared};
+use Shows::{Joined, Pairs};
 use std::alloc::Global;
 use std::io;
 use std::test::Fail;
 use vx_column::PType;
 use vx_join::{JoinIndices, join, join_indices};
 use vx_mask::Policy;
-use vx_table::{Table, page};
+use vx_table::{Columns, Table, page};
 use vx_take::Picks;
 
 const LEFT_KEYS: Rows = &[Some(1), Some(2), None, Some(2)];
@@ -63,7 +65,7 @@ const SMALL: Made = Made {
     len: 3,
 };
 
-const SMALL_BACK: Made = Made {
+const SWAPPED: Made = Made {
     names: &["k"],
     columns: &[Column::Decimals(2, &[Some(300), Some(5)])],
     len: 2,
@@ -146,43 +148,41 @@ const WIDE: Made = Made {
 
 const TEN_NAMES: [&str; 10] = ["a", "b", "c", "d", "e", "f", "g", "h", "i", "j"];
 
-const TEN_LEFT: Made = Made {
-    names: &TEN_NAMES,
-    columns: &[
-        Column::Numbers(PType::U32, &[Some(0), Some(1), Some(2)]),
-        Column::Numbers(PType::U32, &[Some(10), Some(11), Some(12)]),
-        Column::Numbers(PType::U32, &[Some(20), Some(21), Some(22)]),
-        Column::Numbers(PType::U32, &[Some(30), Some(31), Some(32)]),
-        Column::Numbers(PType::U32, &[Some(40), Some(41), Some(42)]),
-        Column::Numbers(PType::U32, &[Some(50), Some(51), Some(52)]),
-        Column::Numbers(PType::U32, &[Some(60), Some(61), Some(62)]),
-        Column::Numbers(PType::U32, &[Some(70), Some(71), Some(72)]),
-        Column::Numbers(PType::U32, &[Some(80), Some(81), Some(82)]),
-        Column::Numbers(PType::U32, &[Some(90), Some(91), Some(92)]),
-    ],
-    len: 3,
-};
+// Three rows of ten columns.
+type Grid = [[u8; 10]; 3];
+
+const TEN_LEFT: Grid = [
+    [0, 10, 20, 30, 40, 50, 60, 70, 80, 90],
+    [1, 11, 21, 31, 41, 51, 61, 71, 81, 91],
+    [2, 12, 22, 32, 42, 52, 62, 72, 82, 92],
+];
 
 // Columns d and f have the left one's rows from behind, and all others other numbers.
-const TEN_RIGHT: Made = Made {
-    names: &TEN_NAMES,
-    columns: &[
-        Column::Numbers(PType::U32, &[Some(100), Some(101), Some(102)]),
-        Column::Numbers(PType::U32, &[Some(110), Some(111), Some(112)]),
-        Column::Numbers(PType::U32, &[Some(120), Some(121), Some(122)]),
-        Column::Numbers(PType::U32, &[Some(32), Some(31), Some(30)]),
-        Column::Numbers(PType::U32, &[Some(140), Some(141), Some(142)]),
-        Column::Numbers(PType::U32, &[Some(52), Some(51), Some(50)]),
-        Column::Numbers(PType::U32, &[Some(160), Some(161), Some(162)]),
-        Column::Numbers(PType::U32, &[Some(170), Some(171), Some(172)]),
-        Column::Numbers(PType::U32, &[Some(180), Some(181), Some(182)]),
-        Column::Numbers(PType::U32, &[Some(190), Some(191), Some(192)]),
-    ],
-    len: 3,
-};
+const TEN_RIGHT: Grid = [
+    [100, 110, 120, 32, 140, 52, 160, 170, 180, 190],
+    [101, 111, 121, 31, 141, 51, 161, 171, 181, 191],
+    [102, 112, 122, 30, 142, 50, 162, 172, 182, 192],
+];
+
+// Key columns, each of the left table and of the right one.
+type Keys = &'static [(usize, usize)];
 
 // The keys of the tables of ten columns.
-const TEN_KEYS: [(usize, usize); 2] = [(5, 5), (3, 3)];
+const TEN_KEYS: Keys = &[(5, 5), (3, 3)];
+
+// The first column of either table.
+const FIRST: Keys = &[(0, 0)];
+
+// The left table's first column and the right one's second, and the other way round.
+const CROSSED: Keys = &[(0, 1), (1, 0)];
+
+const TWICE: Keys = &[(0, 1), (0, 1)];
+
+// Of two types, of one, of no column on the right, and of none on the left.
+const PAST_BOTH: Keys = &[(1, 1), (0, 0), (0, 2), (2, 0)];
+
+// Of one type, and of two.
+const TWO_TYPES: Keys = &[(0, 0), (0, 1)];
 
 /// What a line shows.
 #[derive(Clone, Copy)]
@@ -190,7 +190,7 @@ enum Shows {
     /// The rows of the pairs.
     Pairs,
     /// The joined table.
-    Table,
+    Joined,
 }
 
 /// The table on the right.
@@ -199,158 +199,42 @@ enum Right {
     /// One of its own.
     Other(Made),
     /// The one on the left.
-    Left,
+    Same,
     /// One of the left one's columns, which are shared.
     Shared,
 }
 
 // What a line says first, what it shows, the tables, and the key columns.
-type Line = (&'static str, Shows, Made, Right, &'static [(usize, usize)]);
+type Line = (&'static str, Shows, Made, Right, Keys);
 
 const LINES: [Line; 17] = [
-    (
-        "one key",
-        Shows::Pairs,
-        LEFT,
-        Right::Other(RIGHT),
-        &[(0, 0)],
-    ),
-    ("joined", Shows::Table, LEFT, Right::Other(RIGHT), &[(0, 0)]),
-    (
-        "no rows on the right",
-        Shows::Pairs,
-        LEFT,
-        Right::Other(NONE),
-        &[(0, 0)],
-    ),
-    (
-        "joined with none",
-        Shows::Table,
-        LEFT,
-        Right::Other(NONE),
-        &[(0, 0)],
-    ),
-    (
-        "no rows on the left",
-        Shows::Pairs,
-        NONE,
-        Right::Other(LEFT),
-        &[(0, 0)],
-    ),
-    (
-        "both zeros",
-        Shows::Pairs,
-        ZEROS,
-        Right::Other(ZEROS_BACK),
-        &[(0, 0)],
-    ),
-    ("two NaNs", Shows::Pairs, NANS, Right::Shared, &[(0, 0)]),
-    (
-        "decimals of 16 bytes",
-        Shows::Pairs,
-        SMALL,
-        Right::Other(SMALL_BACK),
-        &[(0, 0)],
-    ),
-    (
-        "eight bytes alike",
-        Shows::Pairs,
-        BEHIND,
-        Right::Other(BEHIND_TWO),
-        &[(0, 0)],
-    ),
-    (
-        "another scale",
-        Shows::Pairs,
-        BEHIND,
-        Right::Other(SCALED),
-        &[(0, 0)],
-    ),
-    ("nulls alone", Shows::Pairs, NULLS, Right::Left, &[(0, 0)]),
-    (
-        "a constant",
-        Shows::Pairs,
-        TWOS,
-        Right::Other(RIGHT),
-        &[(0, 0)],
-    ),
-    (
-        "a dictionary",
-        Shows::Pairs,
-        CODED,
-        Right::Other(RIGHT),
-        &[(0, 0)],
-    ),
-    (
-        "a lazy filter",
-        Shows::Pairs,
-        LAZY,
-        Right::Other(RIGHT),
-        &[(0, 0)],
-    ),
+    ("one key", Pairs, LEFT, Other(RIGHT), FIRST),
+    ("joined", Joined, LEFT, Other(RIGHT), FIRST),
+    ("no rows on the right", Pairs, LEFT, Other(NONE), FIRST),
+    ("joined with none", Joined, LEFT, Other(NONE), FIRST),
+    ("no rows on the left", Pairs, NONE, Other(LEFT), FIRST),
+    ("both zeros", Pairs, ZEROS, Other(ZEROS_BACK), FIRST),
+    ("two NaNs", Pairs, NANS, Shared, FIRST),
+    ("decimals of 16 bytes", Pairs, SMALL, Other(SWAPPED), FIRST),
+    ("eight bytes alike", Pairs, BEHIND, Other(BEHIND_TWO), FIRST),
+    ("another scale", Pairs, BEHIND, Other(SCALED), FIRST),
+    ("nulls alone", Pairs, NULLS, Same, FIRST),
+    ("a constant", Pairs, TWOS, Other(RIGHT), FIRST),
+    ("a dictionary", Pairs, CODED, Other(RIGHT), FIRST),
+    ("a lazy filter", Pairs, LAZY, Other(RIGHT), FIRST),
     // both keys have to match, and neither may be null
-    (
-        "two keys",
-        Shows::Pairs,
-        NUMBERED,
-        Right::Other(BY_BOOLS),
-        &[(0, 1), (1, 0)],
-    ),
-    (
-        "one of them",
-        Shows::Pairs,
-        NUMBERED,
-        Right::Other(BY_BOOLS),
-        &[(0, 1)],
-    ),
-    (
-        "one key twice",
-        Shows::Pairs,
-        NUMBERED,
-        Right::Other(BY_BOOLS),
-        &[(0, 1), (0, 1)],
-    ),
+    ("two keys", Pairs, NUMBERED, Other(BY_BOOLS), CROSSED),
+    ("one of them", Pairs, NUMBERED, Other(BY_BOOLS), &[(0, 1)]),
+    ("one key twice", Pairs, NUMBERED, Other(BY_BOOLS), TWICE),
 ];
 
-const TEN: Line = (
-    "ten columns",
-    Shows::Pairs,
-    TEN_LEFT,
-    Right::Other(TEN_RIGHT),
-    &TEN_KEYS,
-);
-
 const REFUSED: [Line; 6] = [
-    ("no keys", Shows::Pairs, LEFT, Right::Other(RIGHT), &[]),
-    (
-        "no right column 2",
-        Shows::Pairs,
-        LEFT,
-        Right::Other(RIGHT),
-        &[(1, 1), (0, 0), (0, 2), (2, 0)],
-    ),
-    (
-        "no left column 2",
-        Shows::Pairs,
-        LEFT,
-        Right::Other(RIGHT),
-        &[(2, 0)],
-    ),
-    (
-        "u8 and bool",
-        Shows::Table,
-        LEFT,
-        Right::Other(RIGHT),
-        &[(0, 0), (0, 1)],
-    ),
-    (
-        "u8 and u16",
-        Shows::Pairs,
-        LEFT,
-        Right::Other(WIDE),
-        &[(0, 0)],
-    ),
-    ("texts", Shows::Pairs, LEFT, Right::Left, &[(0, 0), (1, 1)]),
+    ("no keys", Pairs, LEFT, Other(RIGHT), &[]),
+    ("no right column 2", Pairs, LEFT, Other(RIGHT), PAST_BOTH),
+    ("no left column 2", Pairs, LEFT, Other(RIGHT), &[(2, 0)]),
+    ("u8 and bool", Joined, LEFT, Other(RIGHT), TWO_TYPES),
+    ("u8 and u16", Pairs, LEFT, Other(WIDE), FIRST),
+    ("texts", Pairs, LEFT, Same, &[(0, 0), (1, 1)]),
 ];
 
 fn print_picks(rt: &impl Print, picks: &Picks) -> io::Result<()> {
@@ -411,7 +295,7 @@ fn print_shown(
             print!(rt; "{name}:")?;
             Ok(print_pairs(rt, alloc, left, right, keys)?)
         }
-        Shows::Table => print_joined(rt, alloc, name, left, right, keys),
+        Shows::Joined => print_joined(rt, alloc, name, left, right, keys),
     }
 }
 
@@ -427,7 +311,7 @@ fn print_line(rt: &impl Print, alloc: Global, line: Line) -> Result<(), Fail> {
 
 fn print_right(rt: &impl Print, alloc: Global, line: Line, left: &Table) -> Result<(), Fail> {
     match line.3 {
-        Right::Left => print_shown(rt, alloc, line, left, left),
+        Right::Same => print_shown(rt, alloc, line, left, left),
         Right::Shared => print_shown(rt, alloc, line, left, &shared(alloc, line.2.names, left)?),
         Right::Other(made) => print_shown(rt, alloc, line, left, &table_of(alloc, made)?),
     }
@@ -440,10 +324,23 @@ fn print_lines(rt: &impl Print, alloc: Global, lines: &[Line]) -> Result<(), Fai
     Ok(())
 }
 
-fn joined(alloc: Global) -> Result<Table, Fail> {
-    let left = table_of(alloc, TEN_LEFT)?;
-    let right = table_of(alloc, TEN_RIGHT)?;
-    Ok(join(alloc, &left, &right, &TEN_KEYS, &Policy::vortex())?)
+// The columns of a grid, of type `u32`.
+fn grid_columns(alloc: Global, grid: &Grid) -> Result<Columns, Fail> {
+    let mut columns = Vec::new(alloc);
+    for i in 0..10 {
+        let column = whole(alloc, PType::U32, &[grid[0][i], grid[1][i], grid[2][i]])?;
+        columns.push(column.into_ref(alloc)?)?;
+    }
+    Ok(Columns::new(alloc, columns)?)
+}
+
+fn grid_table(alloc: Global, grid: &Grid) -> Result<Table, Fail> {
+    let names = names_of(alloc, &TEN_NAMES)?;
+    Ok(Table::try_new(names, grid_columns(alloc, grid)?, 3)?)
+}
+
+fn joined(alloc: Global, left: &Table, right: &Table) -> Result<Table, Fail> {
+    Ok(join(alloc, left, right, TEN_KEYS, &Policy::vortex())?)
 }
 
 // The second page of two rows.
@@ -457,11 +354,19 @@ fn print_twenty(rt: &impl Print, alloc: Global, joined: &Table) -> Result<(), Fa
     print_table(rt, "page 1 of them", &cut(alloc, joined)?)
 }
 
+// The pairs of tables of ten columns, and what they join to.
+fn print_ten(rt: &impl Print, alloc: Global) -> Result<(), Fail> {
+    let left = grid_table(alloc, &TEN_LEFT)?;
+    let right = grid_table(alloc, &TEN_RIGHT)?;
+    print!(rt; "ten columns:")?;
+    print_pairs(rt, alloc, &left, &right, TEN_KEYS)?;
+    print_twenty(rt, alloc, &joined(alloc, &left, &right)?)
+}
+
 /// Pairs by one key column and by several, the joined tables, a page of one, and each refusal, in
 /// order.
 pub(crate) fn print_joins(rt: &impl Print, alloc: Global) -> Result<(), Fail> {
     print_lines(rt, alloc, &LINES)?;
-    print_line(rt, alloc, TEN)?;
-    print_twenty(rt, alloc, &joined(alloc)?)?;
+    print_ten(rt, alloc)?;
     print_lines(rt, alloc, &REFUSED)
 }

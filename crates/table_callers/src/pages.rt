@@ -1,5 +1,5 @@
 //! Pages of a table.
-use crate::columns::{Column, Rows};
+use crate::columns::Column;
 use crate::made::{Made, Written, steps_of, table_of};
 use crate::shown::print_table;
 use std::alloc::Global;
@@ -12,20 +12,7 @@ const KEPT: [bool; 12] = [
     true, false, true, true, false, true, true, true, false, false, true, false,
 ];
 
-const IDS: Rows = &[
-    Some(0),
-    Some(1),
-    Some(2),
-    Some(3),
-    Some(4),
-    Some(5),
-    Some(6),
-    Some(7),
-    Some(8),
-    Some(9),
-    Some(10),
-    Some(11),
-];
+const IDS: Column = Column::Whole(PType::U32, &[0, 1, 2, 3, 4, 5, 6, 7, 8, 9, 10, 11]);
 
 const NOTES: Column = Column::Texts(&[
     Some("ann"),
@@ -44,21 +31,7 @@ const NOTES: Column = Column::Texts(&[
 
 // The rows 1, null, 0 four times, of a dictionary behind a lazy filter of 13 rows.
 const THIRDS: Column = Column::Lazy(
-    &[
-        Some(0),
-        Some(1),
-        Some(2),
-        Some(0),
-        Some(1),
-        Some(2),
-        Some(0),
-        Some(1),
-        Some(2),
-        Some(0),
-        Some(1),
-        Some(2),
-        Some(0),
-    ],
+    &[0, 1, 2, 0, 1, 2, 0, 1, 2, 0, 1, 2, 0],
     PType::U32,
     &[Some(1), None, Some(0)],
     &[
@@ -70,7 +43,7 @@ const THIRDS: Column = Column::Lazy(
 const TABLE: Made = Made {
     names: &["id", "note", "kept", "nine", "third"],
     columns: &[
-        Column::Numbers(PType::U32, IDS),
+        IDS,
         NOTES,
         Column::Bools(&KEPT),
         Column::Constant(9, 12),

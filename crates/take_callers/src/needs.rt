@@ -1,5 +1,6 @@
 //! The positions that picks need, and the picks among just these.
-use crate::picks::{list_of, picks_of};
+use crate::picks::list_of;
+use callers::picks_of;
 use std::alloc::Global;
 use std::test::Fail;
 use vx_bits::NoMemory;

@@ -1,6 +1,6 @@
 //! Takes at picks and in runs.
 
-use callers::text_of;
+use callers::{picks_of, text_of};
 use std::alloc::Global;
 use std::test::Fail;
 use vx_bits::{BitBuffer, NoMemory};
@@ -36,26 +36,6 @@ fn print_listed(rt: &impl Print, alloc: Global) -> Result<(), Fail> {
 fn print_runs(rt: &impl Print, alloc: Global) -> Result<(), Fail> {
     let items = gather_runs(alloc, &[7u8, 8, 9], &[(1, 2), (0, 1)])?;
     println!(rt; "7 8 9, two from 1 on and one from 0 on: {items:?}")?;
-    Ok(())
-}
-
-/// The picks of a list, each of which is below the bound.
-pub(crate) fn picks_of(alloc: Global, bound: usize, list: &[Option<usize>]) -> Result<Picks, Fail> {
-    let mut picks = Picks::with_capacity(alloc, bound, list.len())?;
-    for pick in list {
-        match pick {
-            None => picks.push(None)?,
-            Some(place) => push_place(&mut picks, *place)?,
-        }
-    }
-    Ok(picks)
-}
-
-fn push_place(picks: &mut Picks, place: usize) -> Result<(), Fail> {
-    if place >= picks.bound() {
-        return Err("a pick past the bound".into());
-    }
-    picks.push(Some(place))?;
     Ok(())
 }
 

@@ -1,5 +1,6 @@
 //! The set positions that ranks name.
-use crate::picks::{list_of, picks_of};
+use crate::picks::list_of;
+use callers::picks_of;
 use std::alloc::Global;
 use std::test::Fail;
 use vx_bits::BitBuffer;

@@ -5,7 +5,7 @@ ghost use Rattle.vx_column.specs.Validity.{valid_of};
 
 use crate::columns::texts;
 use crate::print::print_rows;
-use callers::mask_of;
+use callers::{mask_of, some_of};
 use std::alloc::Global;
 use std::test::Fail;
 use vx_column::{PType, Validity, VarBinArray};
@@ -32,12 +32,7 @@ fn kept_texts(
     there: bool,
 ) -> Result<VarBinArray, Fail> {
     let _ = texts.offsets();
-    let Some(mask) = mask.values() else {
-        return Err("no such mask".into());
-    };
-    if mask.len() != texts.share().into_array().len() {
-        return Err("another length".into());
-    }
+    let mask = some_of(mask, texts.share().into_array().len())?;
     Ok(filter_varbin(alloc, texts, mask, &Policy::vortex(), validity_of(there))?)
 }
 

@@ -1,7 +1,7 @@
 //! Steps over columns of text whose layout is known.
 use crate::columns::{ann_and_bo, indices, views};
 use crate::print::print_rows;
-use callers::mask_of;
+use callers::{check_mask, check_slice, mask_of, some_of};
 use std::alloc::Global;
 use std::test::Fail;
 use vx_column::vtables::{VarBin, VarBinView};
@@ -21,12 +21,10 @@ fn three_views(alloc: Global) -> Result<VarBinViewArray, Fail> {
     Ok(views(alloc, &rows, Validity::NonNullable)??)
 }
 
-fn print_some(
-    rt: &impl Print,
-    alloc: Global,
-    name: &str,
-    answer: &Option<Array>,
-) -> Result<(), Fail> {
+/// What a step gives: nothing where it is left to the caller.
+type Answer = Option<Array>;
+
+fn print_some(rt: &impl Print, alloc: Global, name: &str, answer: &Answer) -> Result<(), Fail> {
     match answer {
         Some(column) => print_rows(rt, alloc, name, column),
         None => Err("left to the caller".into()),
@@ -90,31 +88,20 @@ pub(crate) fn print_takes(rt: &impl Print, alloc: Global) -> Result<(), Fail> {
     print_take::<VarBinView>(rt, alloc, "take of VarBinView", &column, &[[1], [2]])
 }
 
-fn filtered<V: FilterKernel>(
-    alloc: Global,
-    view: ArrayView<'_, V>,
-    mask: &Mask,
-) -> Result<Option<Array>, Fail> {
-    if mask.len() != view.array().len() {
-        return Err("another length".into());
-    }
+fn kept<V: FilterKernel>(alloc: Global, column: &Array, mask: &Mask) -> Result<Answer, Fail> {
+    let view = view_of::<V>(column)?;
+    check_mask(mask, view.array().len())?;
     Ok(V::filter(alloc, view, mask)?)
 }
 
 fn print_filter(rt: &impl Print, alloc: Global, column: &Array) -> Result<(), Fail> {
-    let mask = mask_of(alloc, &[false, true])?;
-    let kept = filtered(alloc, view_of::<VarBin>(column)?, &mask)?;
+    let kept = kept::<VarBin>(alloc, column, &mask_of(alloc, &[false, true])?)?;
     print_some(rt, alloc, "filter of VarBin", &kept)
 }
 
 // The views at the set positions of a mask, where it is as long.
 fn kept_views(alloc: Global, texts: &VarBinViewArray, mask: &Mask) -> Result<Array, Fail> {
-    let Some(mask) = mask.values() else {
-        return Err("no such mask".into());
-    };
-    if mask.len() != texts.share().into_array().len() {
-        return Err("another length".into());
-    }
+    let mask = some_of(mask, texts.share().into_array().len())?;
     Ok(filter_varbinview(alloc, texts, mask)?.into_array())
 }
 
@@ -132,26 +119,13 @@ pub(crate) fn print_filters(rt: &impl Print, alloc: Global) -> Result<(), Fail> 
 
 fn sliced<V: SliceReduce>(
     alloc: Global,
-    view: ArrayView<'_, V>,
-    start: usize,
-    end: usize,
-) -> Result<Option<Array>, Fail> {
-    if start > end || end > view.array().len() {
-        return Err("a slice past the rows".into());
-    }
-    Ok(V::slice(alloc, view, start, end)?)
-}
-
-fn print_slice<V: SliceReduce>(
-    rt: &impl Print,
-    alloc: Global,
-    name: &str,
     column: &Array,
     start: usize,
     end: usize,
-) -> Result<(), Fail> {
-    let cut = sliced(alloc, view_of::<V>(column)?, start, end)?;
-    print_some(rt, alloc, name, &cut)
+) -> Result<Answer, Fail> {
+    let view = view_of::<V>(column)?;
+    check_slice(start, end, view.array().len())?;
+    Ok(V::slice(alloc, view, start, end)?)
 }
 
 fn print_varbin_slice(rt: &impl Print, alloc: Global, column: &Array) -> Result<(), Fail> {
@@ -164,12 +138,13 @@ fn print_varbin_slice(rt: &impl Print, alloc: Global, column: &Array) -> Result<
 
 fn print_text_slices(rt: &impl Print, alloc: Global, column: &Array) -> Result<(), Fail> {
     print_varbin_slice(rt, alloc, column)?;
-    print_slice::<VarBin>(rt, alloc, "slice of VarBin", column, 0, 1)
+    let cut = sliced::<VarBin>(alloc, column, 0, 1)?;
+    print_some(rt, alloc, "slice of VarBin", &cut)
 }
 
 /// Prints slices of either layout.
 pub(crate) fn print_slices(rt: &impl Print, alloc: Global) -> Result<(), Fail> {
     print_text_slices(rt, alloc, &ann_and_bo(alloc)?.into_array())?;
-    let column = three_views(alloc)?.into_array();
-    print_slice::<VarBinView>(rt, alloc, "slice of VarBinView", &column, 1, 3)
+    let cut = sliced::<VarBinView>(alloc, &three_views(alloc)?.into_array(), 1, 3)?;
+    print_some(rt, alloc, "slice of VarBinView", &cut)
 }

@@ -1,10 +1,9 @@
 -- A validity that is a constant form, at the numbers of a sequence.
-use Rattle.std.proofs.Common.{◌≡◌, ℕ, zero, suc, ◌<◌, Bool, true, false, cond, List, [], ◌∷◌, ◌++◌, ◌+◌, ◌≤◌, map, length, take, get_or, Option, None, Some, refl, sym, ap, ◌∙◌, arith, add-one}
-use Rattle.std.specs.Prelude.{All, IfSome, nat_le}
+use Rattle.std.proofs.Common.{◌≡◌, ℕ, zero, suc, ◌<◌, true, false, List, [], ◌∷◌, ◌++◌, ◌+◌, ◌≤◌, map, length, take, get_or, Option, None, Some, refl, sym, ap, ◌∙◌, arith, add-one}
+use Rattle.std.specs.Prelude.{All, IfSome}
 use Rattle.std.specs.List.{range_with_len}
 use Rattle.std.proofs.lemmas.List.{flat_map_more, map-append, take_more}
 use Rattle.vx_pieces.specs.Runs.{run_numbers}
-use Rattle.std.proofs.lemmas.Bool.Decides.{nat_tests}
 use Rattle.vx_types.specs.Nullability.{either_nullable}
 use Rattle.vx_types.specs.RowValue.{null}
 use Rattle.vx_types.specs.TypeTree.{TypeTree, also_nullable}
@@ -16,22 +15,8 @@ use Rattle.vx_take.specs.Picks.{AreBelow, at, in_runs}
 use Rattle.vx_model.specs.Valid.{Valid, non_nullable, all_valid, all_invalid, by_column, cover_by, is_constant_form, nullability_by, present_bits, IsLeft}
 use Rattle.vx_model.proofs.Takes.{is_left-take-none, left_the_same}
 use Rattle.vx_model.proofs.Validities.{constant-by_column}
-use Rattle.vx_pieces.specs.Pieces.{first_from}
 use Rattle.vx_pieces.proofs.RunLists.{in_runs-within}
 use Rattle.vx_pieces.proofs.PieceLists.{all_there-numbers}
-
--- where no number is at least n, each is below it
-pub below_all : (n : ℕ) (numbers : List ℕ) → first_from n numbers ≡ None → AreBelow (map (λ x. Some x) numbers) n
-below_all n [] none = λ k d h. absurd (omega arith)
-below_all n (x ∷ numbers) none = by (nat_le n x) (below_all n numbers) refl none
-  where
-    before : x < n → AreBelow (map (λ x. Some x) numbers) n → AreBelow (map (λ x. Some x) (x ∷ numbers)) n
-    before h behind zero d l = h
-    before h behind (suc k) d l = behind k d (omega arith)
-
-    by : (b : Bool) → (first_from n numbers ≡ None → AreBelow (map (λ x. Some x) numbers) n) → nat_le n x ≡ b → cond b (Some x) (first_from n numbers) ≡ None → AreBelow (map (λ x. Some x) (x ∷ numbers)) n
-    by true behind t e = cc
-    by false behind t e = before (grind (arith, nat_tests)) (behind e)
 
 -- the numbers in runs within n items are below n
 pub below_runs : (n : ℕ) (runs : List (ℕ × ℕ)) → All (λ run. run.0 + run.1 ≤ n) runs → AreBelow (map (λ x. Some x) (run_numbers runs)) n

@@ -8,8 +8,8 @@ use crate::parts::{Parts, Step};
 use std::alloc::Global;
 use vx_bits::NoMemory;
 use vx_column::{Array, Layout, Lists, Stored};
-use vx_stored::execute_constant;
 use vx_mask::Policy;
+use vx_stored::execute_constant;
 
 // A layout whose rows the recursion unwraps.
 pub(crate) trait ExecuteRows: Parts {

@@ -10,8 +10,8 @@ use crate::slicing::slice;
 use std::alloc::Global;
 use vx_bits::NoMemory;
 use vx_column::{Array, Layout, Stored};
-use vx_stored::{filter_constant, filter_nulls};
 use vx_mask::{Mask, MaskValues, Policy};
+use vx_stored::{filter_constant, filter_nulls};
 
 // A layout whose rows the recursion filters.
 pub(crate) trait FilterRows: Parts {

@@ -17,8 +17,8 @@ use crate::validity::{execute_validity, filter_validity, slice_validity, take_va
 use std::alloc::Global;
 use vx_bits::NoMemory;
 use vx_column::{Array, Nullability, RecordArray, Runs, Stored};
-use vx_stored::{filter_stored, slice_stored, take_array_runs, take_stored, with_validity};
 use vx_mask::{MaskValues, Policy};
+use vx_stored::{filter_stored, slice_stored, take_array_runs, take_stored, with_validity};
 use vx_take::Picks;
 
 impl Parts for Stored<'_> {

@@ -13,9 +13,9 @@ use crate::runs::take_by_runs;
 use std::alloc::Global;
 use vx_bits::NoMemory;
 use vx_column::{Array, Layout, NullArray, Nullability, Stored};
-use vx_stored::{take_constant, take_nulls};
 use vx_mask::Policy;
 use vx_pieces::{Indices, column_picks};
+use vx_stored::{take_constant, take_nulls};
 use vx_take::Picks;
 
 // A layout whose rows the recursion takes.

@@ -16,8 +16,8 @@ use crate::slicing::slice;
 use std::alloc::Global;
 use vx_bits::{BitBuffer, NoMemory};
 use vx_column::{Array, Layout, Nullability, Validity};
-use vx_stored::{by_picks, constant_bits};
 use vx_mask::{MaskValues, Policy};
+use vx_stored::{by_picks, constant_bits};
 use vx_take::{Picks, gather_bits};
 
 // The validity that is a column.
