@@ -1,5 +1,5 @@
 //! A take of lists: new offsets, and the runs of the elements that they cut.
-ghost use Rattle.std.specs.Prelude.{◌≡◌, ℕ, ◌+◌, ◌^◌, ◌<◌, ◌≤◌, ◌++◌, [], ◌∷◌, IfOk, IfSome, None, length, map, replicate, slice_index_or, vec_len, vec_capacity};
+ghost use Rattle.std.specs.Prelude.{◌≡◌, ℕ, ◌+◌, ◌^◌, ◌<◌, ◌≤◌, ◌++◌, [], ◌∷◌, IfOk, IfSome, None, length, map, replicate, slice_index_or, vec_len, vec_capacity, if◌then◌else◌};
 ghost use Rattle.std.specs.List.{All, range_with_len, sum_by};
 ghost use Rattle.std.specs.Option.{option_copied};
 ghost use Rattle.vx_mask.specs.Mask.{mask_bits};
@@ -195,16 +195,28 @@ pub(crate) fn push_run(
     ensures count { vec_len runs.new ≤ vec_len runs.old + 1 }
     ensures capacity { vec_capacity runs.new ≡ vec_capacity runs.old }
 {
-    if run.1 == 0 {
-        return last;
-    }
     if may_join {
         if last.0 + last.1 == run.0 {
             return (last.0, last.1 + run.1);
         }
     }
-    push_last(runs, last);
-    run
+    put_if(runs, last, run.1 != 0 && last.1 != 0);
+    if run.1 == 0 { last } else { run }
+}
+
+// Puts a run behind others, or not. It is written in any case and then cut off, since which lists
+// are empty is nothing that a processor foretells.
+#[inline(always)]
+fn put_if(runs: &mut Vec<(usize, usize)>, run: (usize, usize), stays: bool)
+    requires { vec_len runs.old < vec_capacity runs.old }
+    ensures items { runs.new.items
+        ≡ (if stays then runs.old.items ++ run ∷ [] else runs.old.items) }
+    ensures count { vec_len runs.new ≤ vec_len runs.old + 1 }
+    ensures capacity { vec_capacity runs.new ≡ vec_capacity runs.old }
+{
+    let count = runs.len();
+    runs.push_reserved(run);
+    runs.truncate(count + usize::from(stays));
 }
 
 // Puts the last run behind the runs before it, where it has elements.

@@ -1,16 +1,11 @@
 -- A run is joined with the last one, or put behind it.
 use Rattle.std.proofs.Common.{◌+◌, ◌≤◌, ℕ, arith}
-use Rattle.vx_lists.proofs.TakenLists.{All-changed, All-more, places_joined}
+use Rattle.vx_lists.proofs.TakenLists.{All-changed, places_joined}
 use Rattle.vx_lists.proofs.take.push_run.Goals as goal
 
 pub returns-then-last-run-clause-places : goal.returns-then-last-run-clause-places
 returns-then-last-run-clause-places c =
     places_joined c.args.runs.now.items c.args.last.0 c.args.last.1 c.args.run.0 c.args.run.1 c.if-last-run.true
-
-pub returns-clause-inside : goal.returns-clause-inside
-returns-clause-inside c n next h =
-    let inside : ℕ × ℕ → Type 0 = λ r. r.0 + r.1 ≤ n in
-    All-more inside c.push_last.new.runs.items c.args.run (c.push_last.ensures.inside n h) next
 
 pub returns-then-last-run-clause-inside : goal.returns-then-last-run-clause-inside
 returns-then-last-run-clause-inside c n next h =
