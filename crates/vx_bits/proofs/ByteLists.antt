@@ -77,36 +77,44 @@ eight a b c d e f g h pa pb pc pd pe pf pg ph =
     cat8 16 f _ pf ∙ ap (λ l. word_bits f 8 ++ l) (
     cat8 8 g h pg))))))
 
+-- what holds of any eight items holds of a list of eight
+pub by_eight : (P : List ℕ → Type 0) → ((a b c d e f g h : ℕ) → P (a ∷ b ∷ c ∷ d ∷ e ∷ f ∷ g ∷ h ∷ [])) → (bs : List ℕ) → length bs ≡ 8 → P bs
+by_eight P one (a ∷ b ∷ c ∷ d ∷ e ∷ f ∷ g ∷ h ∷ []) n = one a b c d e f g h
+by_eight P one [] n = let no : ⊥ = omega arith in absurd no
+by_eight P one (a ∷ []) n = let no : ⊥ = omega arith in absurd no
+by_eight P one (a ∷ b ∷ []) n = let no : ⊥ = omega arith in absurd no
+by_eight P one (a ∷ b ∷ c ∷ []) n = let no : ⊥ = omega arith in absurd no
+by_eight P one (a ∷ b ∷ c ∷ d ∷ []) n = let no : ⊥ = omega arith in absurd no
+by_eight P one (a ∷ b ∷ c ∷ d ∷ e ∷ []) n = let no : ⊥ = omega arith in absurd no
+by_eight P one (a ∷ b ∷ c ∷ d ∷ e ∷ f ∷ []) n = let no : ⊥ = omega arith in absurd no
+by_eight P one (a ∷ b ∷ c ∷ d ∷ e ∷ f ∷ g ∷ []) n = let no : ⊥ = omega arith in absurd no
+by_eight P one (a ∷ b ∷ c ∷ d ∷ e ∷ f ∷ g ∷ h ∷ i ∷ bs) n = let no : ⊥ = omega arith in absurd no
+
 -- the bits of the word that eight bytes spell, the lowest first, are theirs
 pub bits_of_eight : (bs : List ℕ) → length bs ≡ 8 → ((i : ℕ) → get_or bs i 0 < 256) → word_bits (from_le_bytes w64 bs) 64 ≡ bits_of bs 0 64
-bits_of_eight (a ∷ b ∷ c ∷ d ∷ e ∷ f ∷ g ∷ h ∷ []) n s =
-    let value : from_le_bytes w64 (a ∷ b ∷ c ∷ d ∷ e ∷ f ∷ g ∷ h ∷ []) ≡ a + 256 * (b + 256 * (c + 256 * (d + 256 * (e + 256 * (f + 256 * (g + 256 * h)))))) = omega arith in
-    ap (λ x. word_bits x 64) value ∙ eight a b c d e f g h (s 0) (s 1) (s 2) (s 3) (s 4) (s 5) (s 6) (s 7)
-    ∙ ap (λ l. word_bits a 8 ++ (word_bits b 8 ++ (word_bits c 8 ++ (word_bits d 8 ++ (word_bits e 8 ++ (word_bits f 8 ++ (word_bits g 8 ++ l))))))) (sym (append-nil (word_bits h 8)))
-    ∙ sym (all_bits (a ∷ b ∷ c ∷ d ∷ e ∷ f ∷ g ∷ h ∷ []))
-bits_of_eight [] n s = let no : ⊥ = omega arith in absurd no
-bits_of_eight (a ∷ []) n s = let no : ⊥ = omega arith in absurd no
-bits_of_eight (a ∷ b ∷ []) n s = let no : ⊥ = omega arith in absurd no
-bits_of_eight (a ∷ b ∷ c ∷ []) n s = let no : ⊥ = omega arith in absurd no
-bits_of_eight (a ∷ b ∷ c ∷ d ∷ []) n s = let no : ⊥ = omega arith in absurd no
-bits_of_eight (a ∷ b ∷ c ∷ d ∷ e ∷ []) n s = let no : ⊥ = omega arith in absurd no
-bits_of_eight (a ∷ b ∷ c ∷ d ∷ e ∷ f ∷ []) n s = let no : ⊥ = omega arith in absurd no
-bits_of_eight (a ∷ b ∷ c ∷ d ∷ e ∷ f ∷ g ∷ []) n s = let no : ⊥ = omega arith in absurd no
-bits_of_eight (a ∷ b ∷ c ∷ d ∷ e ∷ f ∷ g ∷ h ∷ i ∷ bs) n s = let no : ⊥ = omega arith in absurd no
+bits_of_eight bs n s = by_eight (λ l. ((i : ℕ) → get_or l i 0 < 256) → word_bits (from_le_bytes w64 l) 64 ≡ bits_of l 0 64) of bs n s
+  where
+    of : (a b c d e f g h : ℕ) → ((i : ℕ) → get_or (a ∷ b ∷ c ∷ d ∷ e ∷ f ∷ g ∷ h ∷ []) i 0 < 256) → word_bits (from_le_bytes w64 (a ∷ b ∷ c ∷ d ∷ e ∷ f ∷ g ∷ h ∷ [])) 64 ≡ bits_of (a ∷ b ∷ c ∷ d ∷ e ∷ f ∷ g ∷ h ∷ []) 0 64
+    of a b c d e f g h s =
+        let value : from_le_bytes w64 (a ∷ b ∷ c ∷ d ∷ e ∷ f ∷ g ∷ h ∷ []) ≡ a + 256 * (b + 256 * (c + 256 * (d + 256 * (e + 256 * (f + 256 * (g + 256 * h)))))) = omega arith in
+        ap (λ x. word_bits x 64) value ∙ eight a b c d e f g h (s 0) (s 1) (s 2) (s 3) (s 4) (s 5) (s 6) (s 7)
+        ∙ ap (λ l. word_bits a 8 ++ (word_bits b 8 ++ (word_bits c 8 ++ (word_bits d 8 ++ (word_bits e 8 ++ (word_bits f 8 ++ (word_bits g 8 ++ l))))))) (sym (append-nil (word_bits h 8)))
+        ∙ sym (all_bits (a ∷ b ∷ c ∷ d ∷ e ∷ f ∷ g ∷ h ∷ []))
+
+-- the bytes of a word are bytes
+pub le_below : (x i : ℕ) → get_or (to_le_bytes w64 x) i 0 < 256
+le_below x zero = omega arith
+le_below x (suc zero) = omega arith
+le_below x (suc (suc zero)) = omega arith
+le_below x (suc (suc (suc zero))) = omega arith
+le_below x (suc (suc (suc (suc zero)))) = omega arith
+le_below x (suc (suc (suc (suc (suc zero))))) = omega arith
+le_below x (suc (suc (suc (suc (suc (suc zero)))))) = omega arith
+le_below x (suc (suc (suc (suc (suc (suc (suc zero))))))) = omega arith
+le_below x (suc (suc (suc (suc (suc (suc (suc (suc i)))))))) = omega arith
 
 -- the same of a word and the bytes that spell it
 pub bits_of_word : (x : ℕ) → x < 2 ^ 64 → bits_of (to_le_bytes w64 x) 0 64 ≡ word_bits x 64
 bits_of_word x h =
     let bs = to_le_bytes w64 x in
-    sym (bits_of_eight bs refl (bytes_below x)) ∙ ap (λ y. word_bits y 64) (from_le_bytes-to_le_bytes_8 x h)
-  where
-    bytes_below : (x i : ℕ) → get_or (to_le_bytes w64 x) i 0 < 256
-    bytes_below x zero = omega arith
-    bytes_below x (suc zero) = omega arith
-    bytes_below x (suc (suc zero)) = omega arith
-    bytes_below x (suc (suc (suc zero))) = omega arith
-    bytes_below x (suc (suc (suc (suc zero)))) = omega arith
-    bytes_below x (suc (suc (suc (suc (suc zero))))) = omega arith
-    bytes_below x (suc (suc (suc (suc (suc (suc zero)))))) = omega arith
-    bytes_below x (suc (suc (suc (suc (suc (suc (suc zero))))))) = omega arith
-    bytes_below x (suc (suc (suc (suc (suc (suc (suc (suc i)))))))) = omega arith
+    sym (bits_of_eight bs refl (le_below x)) ∙ ap (λ y. word_bits y 64) (from_le_bytes-to_le_bytes_8 x h)

@@ -58,13 +58,13 @@ module _ {X : Type 0} (xs : List X) (start : ℕ) (d : X) where
       next_item 7 0 (omega arith)))))))))
 
 -- a word's lowest bits, and those above them
-word_split : (x s k : ℕ) → word_bits x (s + k) ≡ word_bits x s ++ word_bits (x / 2 ^ s) k
+pub word_split : (x s k : ℕ) → word_bits x (s + k) ≡ word_bits x s ++ word_bits (x / 2 ^ s) k
 word_split x s k =
     ap (λ y. word_bits y (s + k)) (sym (div-add-mod' x (2 ^ s)))
     ∙ word_bits-append (x % 2 ^ s) s (x / 2 ^ s) k (mod_below x (2 ^ s) (pow_pos s))
     ∙ ap (λ l. l ++ word_bits (x / 2 ^ s) k) (word_bits_low x s)
 
-same_tail : (a b c d : List Bool) (n : ℕ) → length a ≡ n → length b ≡ n → a ++ c ≡ b ++ d → c ≡ d
+pub same_tail : (a b c d : List Bool) (n : ℕ) → length a ≡ n → length b ≡ n → a ++ c ≡ b ++ d → c ≡ d
 same_tail a b c d n p q e = sym (drop_at a c n p) ∙ ap (drop n) e ∙ drop_at b d n q
 
 -- the bits of a byte's front
@@ -75,18 +75,18 @@ byte_front bytes k s h =
     ∙ ap (take s) (sym (bits_split bytes (8 * k) s (8 - s)) ∙ ap (bits_of bytes (8 * k)) whole ∙ bits_of_byte bytes k)
     ∙ take-word_bits (get_or bytes k 0) s 8 h
 
--- what the code computes of a word and the byte behind it
-pub shifted_is : (low byte s : ℕ) → low < 2 ^ 64 → 0 < s → s < 8 → bit_or (low / 2 ^ s) (byte * 2 ^ (64 - s) % 2 ^ 64) ≡ byte % 2 ^ s * 2 ^ (64 - s) + low / 2 ^ s
-shifted_is low byte s fits p q =
+-- what the code computes of a word and what stands behind it
+pub shifted_is : (low high s : ℕ) → low < 2 ^ 64 → 0 < s → s < 64 → bit_or (low / 2 ^ s) (high * 2 ^ (64 - s) % 2 ^ 64) ≡ high % 2 ^ s * 2 ^ (64 - s) + low / 2 ^ s
+shifted_is low high s fits p q =
     let k = 64 - s in
     let whole : k + s ≡ 64 = omega arith in
     let small : low / 2 ^ s < 2 ^ k = shr_below low k s (subst (λ (n : ℕ). low < 2 ^ n) (sym whole) fits) in
-    let n = byte * 2 ^ k + 0 in
+    let n = high * 2 ^ k + 0 in
     let turned : s + k ≡ 64 = omega arith in
-    let same : byte * 2 ^ k ≡ n = omega arith in
-    let parts = ap₂ (λ x e. x % 2 ^ e) same (sym turned) ∙ mod-pow-add n s k ∙ ap₂ (λ a b. a % 2 ^ s * 2 ^ k + b) (shr_high byte k 0 (pow_pos k)) (mod_low byte k 0 (pow_pos k)) in
-    let high : byte * 2 ^ k % 2 ^ 64 ≡ byte % 2 ^ s * 2 ^ k = omega (arith, parts) in
-    ap (bit_or (low / 2 ^ s)) high ∙ or_comm (low / 2 ^ s) (byte % 2 ^ s * 2 ^ k) ∙ or_shifted (byte % 2 ^ s) k (low / 2 ^ s) small
+    let same : high * 2 ^ k ≡ n = omega arith in
+    let parts = ap₂ (λ x e. x % 2 ^ e) same (sym turned) ∙ mod-pow-add n s k ∙ ap₂ (λ a b. a % 2 ^ s * 2 ^ k + b) (shr_high high k 0 (pow_pos k)) (mod_low high k 0 (pow_pos k)) in
+    let top : high * 2 ^ k % 2 ^ 64 ≡ high % 2 ^ s * 2 ^ k = omega (arith, parts) in
+    ap (bit_or (low / 2 ^ s)) top ∙ or_comm (low / 2 ^ s) (high % 2 ^ s * 2 ^ k) ∙ or_shifted (high % 2 ^ s) k (low / 2 ^ s) small
 
 pub shifted_bits : (bytes : List ℕ) (start s low word : ℕ) → 0 < s → s < 8 → low < 2 ^ 64 → word_bits low 64 ≡ bits_of bytes (8 * start) 64 → word ≡ bit_or (low / 2 ^ s) (get_or bytes (start + 8) 0 * 2 ^ (64 - s) % 2 ^ 64) → word_bits word 64 ≡ bits_of bytes (8 * start + s) 64
 shifted_bits bytes start s low word p q fits eight e =
@@ -96,7 +96,7 @@ shifted_bits bytes start s low word p q fits eight e =
     let turned : s + k ≡ 64 = omega arith in
     let there : 8 * (start + 8) ≡ 8 * start + s + k = omega arith in
     let small : low / 2 ^ s < 2 ^ k = shr_below low k s (subst (λ (n : ℕ). low < 2 ^ n) (sym whole) fits) in
-    let is = e ∙ shifted_is low byte s fits p q in
+    let is = e ∙ shifted_is low byte s fits p (omega arith) in
     let joined = word_bits-append (low / 2 ^ s) k (byte % 2 ^ s) s small ∙ ap (λ l. word_bits (low / 2 ^ s) k ++ l) (word_bits_low byte s) in
     let front : bits_of bytes (8 * start + s) k ≡ word_bits (low / 2 ^ s) k =
     same_tail (bits_of bytes (8 * start) s) (word_bits low s) (bits_of bytes (8 * start + s) k) (word_bits (low / 2 ^ s) k) s (length_bits bytes (8 * start) s) (length-word_bits low s)

@@ -6,6 +6,7 @@ ghost use Rattle.vx_bits.specs.Words.{word_bits};
 use crate::bit_buffer::BitBuffer;
 use crate::buffer::Buffer;
 use crate::error::NoMemory;
+use crate::words::{lowest_bits, put_eight};
 use std::alloc::Global;
 use std::marker::Model;
 
@@ -163,15 +164,6 @@ fn byte_alike(bit: bool) -> u8
     if bit { 0xff } else { 0 }
 }
 
-// The lowest `n` bits of a word, and zero above them.
-#[inline(always)]
-fn lowest_bits(word: u64, n: u32) -> u64
-    requires { n ≤ 64 }
-    ensures { result ≡ word % 2 ^ n }
-{
-    if n == 64 { word } else { word & ((1 << n) - 1) }
-}
-
 // A word with `held` bits, and behind them the bits of another.
 #[inline(always)]
 fn joined(next: u64, held: u32, more: u64) -> u128
@@ -196,26 +188,7 @@ fn high_half(x: u128) -> u64
     (x >> 64) as u64
 }
 
-// Appends the eight bytes of a word, the lowest first.
-#[inline(always)]
-fn put_eight(bytes: &mut Vec<u8>, word: u64)
-    requires { vec_len bytes.old + 8 ≤ vec_capacity bytes.old }
-    ensures items { bytes.new.items ≡ bytes.old.items ++ to_le_bytes w64 word }
-    ensures len { vec_len bytes.new ≡ vec_len bytes.old + 8 }
-    ensures capacity { vec_capacity bytes.new ≡ vec_capacity bytes.old }
-{
-    let eight = word.to_le_bytes();
-    bytes.push_reserved(eight[0]);
-    bytes.push_reserved(eight[1]);
-    bytes.push_reserved(eight[2]);
-    bytes.push_reserved(eight[3]);
-    bytes.push_reserved(eight[4]);
-    bytes.push_reserved(eight[5]);
-    bytes.push_reserved(eight[6]);
-    bytes.push_reserved(eight[7]);
-}
-
-// The same, as long as the bits are not too many.
+// Appends the eight bytes of a word, the lowest first, as long as the bits are not too many.
 #[inline(always)]
 fn push_word(bytes: &mut Vec<u8>, word: u64) -> Result<(), NoMemory>
     ensures ok { OnOk result (bytes.new.items ≡ bytes.old.items ++ to_le_bytes w64 word) }

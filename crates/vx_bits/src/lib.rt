@@ -18,4 +18,4 @@ pub use error::{Failed, NoMemory};
 pub use record::Record;
 pub use records::Records;
 pub use word_reader::{CountedWords, PlainWords, WordReader};
-pub use words::Words;
+pub use words::{Words, eight_bytes, lowest_bits, put_eight};

@@ -1,5 +1,6 @@
 //! The words of bits that bytes hold.
-ghost use Rattle.std.specs.Prelude.{◌≡◌, ◌+◌, ◌*◌, ◌/◌, ◌^◌, ◌<◌, ◌≤◌, None, length};
+ghost use Rattle.std.specs.Prelude.{◌≡◌, ◌+◌, ◌*◌, ◌/◌, ◌%◌, ◌^◌, ◌<◌, ◌≤◌, ◌++◌, None, drop, length, take, vec_capacity, vec_len};
+ghost use Rattle.std.specs.Int.{from_le_bytes, to_le_bytes, w64};
 ghost use Rattle.vx_bits.specs.BitBuffer.{bit_fault, bits_of, number_of};
 ghost use Rattle.vx_bits.specs.Words.{word_at, word_bits};
 
@@ -49,11 +50,12 @@ impl<'a> Words<'a> {
     }
 }
 
-// The word that eight bytes from `start` on spell.
+/// The word that eight bytes from `start` on spell, the lowest first.
 #[inline(always)]
-pub(crate) fn eight_bytes(bytes: &[u8], start: usize) -> u64
+pub fn eight_bytes(bytes: &[u8], start: usize) -> u64
     requires { start + 8 ≤ length bytes.now }
-    ensures { word_bits result 64 ≡ bits_of bytes.now (8 * start) 64 }
+    ensures value { result ≡ from_le_bytes w64 (take 8 (drop start bytes.now)) }
+    ensures bits { word_bits result 64 ≡ bits_of bytes.now (8 * start) 64 }
 {
     u64::from_le_bytes([
         bytes[start],
@@ -65,6 +67,34 @@ pub(crate) fn eight_bytes(bytes: &[u8], start: usize) -> u64
         bytes[start + 6],
         bytes[start + 7],
     ])
+}
+
+/// Appends the eight bytes of a word, the lowest first. There is room for them.
+#[inline(always)]
+pub fn put_eight(bytes: &mut Vec<u8>, word: u64)
+    requires { vec_len bytes.old + 8 ≤ vec_capacity bytes.old }
+    ensures items { bytes.new.items ≡ bytes.old.items ++ to_le_bytes w64 word }
+    ensures len { vec_len bytes.new ≡ vec_len bytes.old + 8 }
+    ensures capacity { vec_capacity bytes.new ≡ vec_capacity bytes.old }
+{
+    let eight = word.to_le_bytes();
+    bytes.push_reserved(eight[0]);
+    bytes.push_reserved(eight[1]);
+    bytes.push_reserved(eight[2]);
+    bytes.push_reserved(eight[3]);
+    bytes.push_reserved(eight[4]);
+    bytes.push_reserved(eight[5]);
+    bytes.push_reserved(eight[6]);
+    bytes.push_reserved(eight[7]);
+}
+
+/// The lowest `n` bits of a word, and zero above them.
+#[inline(always)]
+pub fn lowest_bits(word: u64, n: u32) -> u64
+    requires { n ≤ 64 }
+    ensures { result ≡ word % 2 ^ n }
+{
+    if n == 64 { word } else { word & ((1 << n) - 1) }
 }
 
 // The 64 bits from bit `shift` of byte `start` on.
