@@ -2,7 +2,7 @@
 use Rattle.std.proofs.Common.{◌≡◌, ◌-◌, ◌+◌, ◌^◌, ◌*◌, ◌/◌, ◌%◌, bit_and, ℕ, zero, suc, ◌<◌, ◌≤◌, Bool, true, false, cond, List, [], ◌∷◌, length, get_or, map, take, None, Some, refl, sym, ap, ap₂, subst, ◌∙◌, arith}
 use Rattle.std.specs.Prelude.{IfSome, Option, ◌==◌}
 use Rattle.std.specs.Int.RustNames.{count_ones}
-use Rattle.std.specs.List.{slice_get}
+use Rattle.std.specs.List.{All, slice_get}
 use Rattle.std.specs.Option.{option_map}
 use Rattle.std.proofs.lemmas.Bool.{eqb-false}
 use Rattle.std.proofs.lemmas.List.{get_or_default, get_or-map, length-map}
@@ -74,12 +74,13 @@ within_bits : (bits : List Bool) (pick : Option ℕ) → IfSome pick (λ p. slic
 within_bits bits None h = tt
 within_bits bits (Some p) h = slice_get_within bits p true h
 
-pub place_within : (bits : List Bool) (places : List ℕ) (k : ℕ) (picks : List (Option ℕ)) → AreSet bits picks → picks_of places ≡ picks → k < length places → IfSome (pick_of (get_or places k 0)) (λ p. p < length bits)
-place_within bits places k picks set e h =
+-- places that stand for set positions are within the bits
+pub places_within : (bits : List Bool) (places : List ℕ) (picks : List (Option ℕ)) → AreSet bits picks → picks_of places ≡ picks → All (λ place. IfSome (pick_of place) (λ p. p < length bits)) places
+places_within bits places picks set e k d h =
     let P : List (Option ℕ) → Type 0 = λ l. AreSet bits l in
     let own = subst P (sym e) set k None (omega (arith, h, length-map places pick_of)) in
     let Q : Option ℕ → Type 0 = λ o. IfSome o (λ p. slice_get bits p ≡ Some true) in
-    within_bits bits (pick_of (get_or places k 0)) (subst Q (get_or-map pick_of places k 0 None h) own)
+    within_bits bits (pick_of (get_or places k d)) (subst Q (get_or-map pick_of places k d None h) own)
 
 -- a pick among the set positions: its rank, as a place and as a pick
 record IsRanked (bits : List Bool) (pick : Option ℕ) : Type 0 where

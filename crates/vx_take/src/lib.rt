@@ -3,6 +3,7 @@
 
 mod bits;
 mod laws;
+mod listed;
 mod needs;
 mod picks;
 mod ranks;

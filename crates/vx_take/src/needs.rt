@@ -5,6 +5,7 @@ ghost use Rattle.vx_mask.specs.Mask.{mask_bits};
 ghost use Rattle.vx_take.specs.Picks.{AreBelow, IsPlace, null_place, pick_of};
 ghost use Rattle.vx_take.specs.Ranks.{AreJustSet, AreSet, place_before, ranked, translated, word_counts};
 
+use crate::listed::{ItemOf, listed};
 use crate::picks::{NULL_PLACE, Picks};
 use std::alloc::Global;
 use vx_bits::{BitBuffer, BitBuilder, NoMemory, Words};
@@ -71,24 +72,32 @@ fn one_by_one(alloc: Global, picks: &Picks, mask: &Mask) -> Result<Vec<usize>, N
     ensures { IfOk result (λ places. places.items
         ≡ map (place_before (mask_bits mask.now)) picks.now.picks) }
 {
-    let from = picks.places();
-    let mut places = Vec::with_capacity(alloc, from.len())?;
-    for place in from {
-        places.push_reserved(rank_at(mask, *place));
-    }
-    Ok(places)
+    listed(alloc, &RankIn { mask }, picks.places())
 }
 
-// The rank of a place.
-#[inline(always)]
-fn rank_at(mask: &Mask, place: usize) -> usize
-    requires { IfSome (pick_of place) (λ p. p < length (mask_bits mask.now)) }
-    ensures { result ≡ place_before (mask_bits mask.now) (pick_of place) }
-{
-    if place == NULL_PLACE {
-        NULL_PLACE
-    } else {
-        mask.true_before(place)
+// The rank of a place among the set positions of a mask.
+#[derive(Clone, Copy)]
+struct RankIn<'a> {
+    mask: &'a Mask,
+}
+
+impl ItemOf<usize> for RankIn<'_> {
+    ghost use Rattle.std.specs.Prelude.{◌<◌, IfSome, length};
+    ghost use Rattle.vx_mask.specs.Mask.{mask_bits};
+    ghost use Rattle.vx_take.specs.Picks.{pick_of};
+    ghost use Rattle.vx_take.specs.Ranks.{place_before};
+
+    ghost item = { λ r. place_before (mask_bits r.mask.now) };
+
+    ghost has = { λ r place. IfSome (pick_of place) (λ p. p < length (mask_bits r.mask.now)) };
+
+    #[inline(always)]
+    fn item_of(&self, place: usize) -> usize {
+        if place == NULL_PLACE {
+            NULL_PLACE
+        } else {
+            self.mask.true_before(place)
+        }
     }
 }
 
@@ -99,13 +108,11 @@ fn by_counts(alloc: Global, picks: &Picks, bits: &BitBuffer) -> Result<Vec<usize
         ≡ map (place_before bits.now.bits) picks.now.picks) }
 {
     let counts = counts_before(alloc, bits)?;
-    let words = bits.words();
-    let from = picks.places();
-    let mut places = Vec::with_capacity(alloc, from.len())?;
-    for place in from {
-        places.push_reserved(rank_by_counts(&words, counts.as_slice(), *place));
-    }
-    Ok(places)
+    let ranks = CountedRank {
+        words: bits.words(),
+        counts: counts.as_slice(),
+    };
+    listed(alloc, &ranks, picks.places())
 }
 
 // For each word the number of set bits before it.
@@ -124,16 +131,29 @@ fn counts_before(alloc: Global, bits: &BitBuffer) -> Result<Vec<usize>, NoMemory
 }
 
 // The rank of a place: the set bits before its word, and those of its word before it.
-#[inline(always)]
-fn rank_by_counts(words: &Words, counts: &[usize], place: usize) -> usize
-    requires within { IfSome (pick_of place) (λ p. p < length words.now) }
-    requires counted { counts.now ≡ word_counts words.now }
-    ensures { result ≡ place_before words.now (pick_of place) }
-{
-    if place == NULL_PLACE {
-        NULL_PLACE
-    } else {
-        let before = words.word(place / 64) & ((1 << (place % 64)) - 1);
-        counts[place / 64] + before.count_ones() as usize
+#[derive(Drop)]
+struct CountedRank<'a> {
+    words: Words<'a>,
+    counts: &'a [usize],
+    ghost counted: { counts.now ≡ word_counts words },
+}
+
+impl ItemOf<usize> for CountedRank<'_> {
+    ghost use Rattle.std.specs.Prelude.{◌<◌, IfSome, length};
+    ghost use Rattle.vx_take.specs.Picks.{pick_of};
+    ghost use Rattle.vx_take.specs.Ranks.{place_before};
+
+    ghost item = { λ r. place_before r.words };
+
+    ghost has = { λ r place. IfSome (pick_of place) (λ p. p < length r.words) };
+
+    #[inline(always)]
+    fn item_of(&self, place: usize) -> usize {
+        if place == NULL_PLACE {
+            NULL_PLACE
+        } else {
+            let before = self.words.word(place / 64) & ((1 << (place % 64)) - 1);
+            self.counts[place / 64] + before.count_ones() as usize
+        }
     }
 }

@@ -4,9 +4,10 @@ ghost use Rattle.std.specs.List.{range_with_len};
 ghost use Rattle.vx_bits.specs.BitBuffer.{true_count_of};
 ghost use Rattle.vx_mask.specs.Mask.{mask_bits};
 ghost use Rattle.vx_mask.specs.Positions.{set_of};
-ghost use Rattle.vx_take.specs.Picks.{IsPlace, at, item_at, null_place, pick_of};
+ghost use Rattle.vx_take.specs.Picks.{at, null_place};
 ghost use Rattle.vx_take.specs.Ranks.{translated};
 
+use crate::listed::{ItemOf, listed};
 use crate::picks::{NULL_PLACE, Picks};
 use crate::slices::gather;
 use std::alloc::Global;
@@ -71,25 +72,34 @@ fn in_one_run(alloc: Global, run: (usize, usize), ranks: &Picks) -> Result<Vec<u
     ensures { IfOk result (λ places. places.items
         ≡ at null_place (range_with_len run.0 (run.1 - run.0)) ranks.now.picks) }
 {
-    let from = ranks.places();
-    let mut places = Vec::with_capacity(alloc, from.len())?;
-    for rank in from {
-        places.push_reserved(behind(run, *rank));
-    }
-    Ok(places)
+    let (start, end) = run;
+    listed(alloc, &BehindStart { start, end }, ranks.places())
 }
 
-// The place of one rank in a run.
-#[inline(always)]
-fn behind(run: (usize, usize), rank: usize) -> usize
-    requires ordered { run.0 < run.1 }
-    requires within { IsPlace rank (run.1 - run.0) }
-    ensures { result ≡ item_at null_place (range_with_len run.0 (run.1 - run.0)) (pick_of rank) }
-{
-    if rank == NULL_PLACE {
-        NULL_PLACE
-    } else {
-        run.0 + rank
+// The place of a rank in a run from its start up to its end.
+#[derive(Clone, Copy)]
+struct BehindStart {
+    start: usize,
+    end: usize,
+    ghost ordered: { start < end },
+}
+
+impl ItemOf<usize> for BehindStart {
+    ghost use Rattle.std.specs.Prelude.{◌-◌};
+    ghost use Rattle.std.specs.List.{range_with_len};
+    ghost use Rattle.vx_take.specs.Picks.{IsPlace, item_at, null_place};
+
+    ghost item = { λ r. item_at null_place (range_with_len r.start (r.end - r.start)) };
+
+    ghost has = { λ r rank. IsPlace rank (r.end - r.start) };
+
+    #[inline(always)]
+    fn item_of(&self, rank: usize) -> usize {
+        if rank == NULL_PLACE {
+            NULL_PLACE
+        } else {
+            self.start + rank
+        }
     }
 }
 
@@ -101,18 +111,8 @@ fn one_by_one(alloc: Global, filter: &Mask, ranks: &Picks) -> Result<Vec<usize>,
         ≡ at null_place (set_of (mask_bits filter.now)) ranks.now.picks) }
 {
     if filter.cached_indices().is_some() {
-        by_rank(alloc, filter, ranks)
-    } else {
-        by_blocks(alloc, filter, ranks)
+        return by_rank(alloc, filter, ranks);
     }
-}
-
-// The places of ranks by block counts.
-fn by_blocks(alloc: Global, filter: &Mask, ranks: &Picks) -> Result<Vec<usize>, NoMemory>
-    requires { ranks.now.bound ≤ true_count_of (mask_bits filter.now) }
-    ensures { IfOk result (λ places. places.items
-        ≡ at null_place (set_of (mask_bits filter.now)) ranks.now.picks) }
-{
     let counted = filter.with_blocks(alloc)?;
     by_rank(alloc, &counted, ranks)
 }
@@ -123,45 +123,44 @@ fn by_rank(alloc: Global, filter: &Mask, ranks: &Picks) -> Result<Vec<usize>, No
     ensures { IfOk result (λ places. places.items
         ≡ at null_place (set_of (mask_bits filter.now)) ranks.now.picks) }
 {
-    let from = ranks.places();
-    let mut places = Vec::with_capacity(alloc, from.len())?;
-    for rank in from {
-        places.push_reserved(looked_up(filter, *rank));
-    }
-    Ok(places)
+    listed(alloc, &SetPosition { filter }, ranks.places())
 }
 
-// The place of one rank.
-fn looked_up(filter: &Mask, rank: usize) -> usize
-    requires { IsPlace rank (true_count_of (mask_bits filter.now)) }
-    ensures { result ≡ item_at null_place (set_of (mask_bits filter.now)) (pick_of rank) }
-{
-    if rank == NULL_PLACE {
-        NULL_PLACE
-    } else {
-        filter.rank(rank)
+// The set position of a mask that a rank names.
+#[derive(Clone, Copy)]
+struct SetPosition<'a> {
+    filter: &'a Mask,
+}
+
+impl ItemOf<usize> for SetPosition<'_> {
+    ghost use Rattle.vx_bits.specs.BitBuffer.{true_count_of};
+    ghost use Rattle.vx_mask.specs.Mask.{mask_bits};
+    ghost use Rattle.vx_mask.specs.Positions.{set_of};
+    ghost use Rattle.vx_take.specs.Picks.{IsPlace, item_at, null_place};
+
+    ghost item = { λ s. item_at null_place (set_of (mask_bits s.filter.now)) };
+
+    ghost has = { λ s rank. IsPlace rank (true_count_of (mask_bits s.filter.now)) };
+
+    fn item_of(&self, rank: usize) -> usize {
+        if rank == NULL_PLACE {
+            NULL_PLACE
+        } else {
+            self.filter.rank(rank)
+        }
     }
 }
 
-// The places of ranks by the list of all set positions.
+// The places of ranks by the list of all set positions. A mask that keeps none selects all rows,
+// which are one run, or none.
 fn by_list(alloc: Global, filter: &Mask, ranks: &Picks) -> Result<Vec<usize>, NoMemory>
     requires { ranks.now.bound ≤ true_count_of (mask_bits filter.now) }
     ensures { IfOk result (λ places. places.items
         ≡ at null_place (set_of (mask_bits filter.now)) ranks.now.picks) }
 {
-    let listed = filter.with_indices(alloc)?;
-    by_listed(alloc, &listed, ranks)
-}
-
-// The same by the list that a mask keeps. One that keeps none selects all rows, which are one run,
-// or none.
-fn by_listed(alloc: Global, listed: &Mask, ranks: &Picks) -> Result<Vec<usize>, NoMemory>
-    requires { ranks.now.bound ≤ true_count_of (mask_bits listed.now) }
-    ensures { IfOk result (λ places. places.items
-        ≡ at null_place (set_of (mask_bits listed.now)) ranks.now.picks) }
-{
-    match listed.cached_indices() {
+    let kept = filter.with_indices(alloc)?;
+    match kept.cached_indices() {
         Some(indices) => gather(alloc, indices, ranks, NULL_PLACE),
-        None => by_rank(alloc, listed, ranks),
+        None => by_rank(alloc, &kept, ranks),
     }
 }

@@ -3,6 +3,7 @@ ghost use Rattle.std.specs.Prelude.{◌≡◌, ◌≢◌, ◌+◌, ◌-◌, ◌^
 ghost use Rattle.std.specs.List.{All};
 ghost use Rattle.vx_take.specs.Picks.{IsPlace, at, in_runs, item_at, pick_of};
 
+use crate::listed::{ItemOf, listed};
 use crate::picks::{NULL_PLACE, Picks};
 use std::alloc::Global;
 use vx_bits::NoMemory;
@@ -12,24 +13,30 @@ pub fn gather<T: Copy>(alloc: Global, src: &[T], picks: &Picks, fill: T) -> Resu
     requires { picks.now.bound ≤ length src.now }
     ensures { IfOk result (λ items. items.items ≡ at fill src.now picks.now.picks) }
 {
-    let places = picks.places();
-    let mut items = Vec::with_capacity(alloc, places.len())?;
-    for place in places {
-        items.push_reserved(item_or(src, *place, fill));
-    }
-    Ok(items)
+    listed(alloc, &ItemOrFill { src, fill }, picks.places())
 }
 
-// The item at a place, or `fill` where it stands for a null.
-#[inline(always)]
-fn item_or<T: Copy>(src: &[T], place: usize, fill: T) -> T
-    requires { IsPlace place (length src.now) }
-    ensures { result ≡ item_at fill src.now (pick_of place) }
-{
-    if place == NULL_PLACE {
-        fill
-    } else {
-        src[place]
+// The item of a list, or at a null the other one.
+#[derive(Clone, Copy)]
+struct ItemOrFill<'a, T> {
+    src: &'a [T],
+    fill: T,
+}
+
+impl<T: Copy> ItemOf<T> for ItemOrFill<'_, T> {
+    ghost use Rattle.vx_take.specs.Picks.{IsPlace, item_at};
+
+    ghost item = { λ s. item_at s.fill s.src.now };
+
+    ghost has = { λ s place. IsPlace place (length s.src.now) };
+
+    #[inline(always)]
+    fn item_of(&self, place: usize) -> T {
+        if place == NULL_PLACE {
+            self.fill
+        } else {
+            self.src[place]
+        }
     }
 }
 
