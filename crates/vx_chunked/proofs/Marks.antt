@@ -3,6 +3,7 @@ use Rattle.std.proofs.Common.{◌≡◌, refl, ℕ, zero, suc, ◌+◌, ◌*◌,
 use Rattle.std.specs.Prelude.{slice_get}
 use Rattle.std.specs.List.{All, items_where_true, range_with_len}
 use Rattle.std.specs.Int.RustNames.{count_ones}
+use Rattle.vx_bits.specs.BitBuffer.{true_count_of}
 use Rattle.vx_bits.specs.Words.{word_count}
 use Rattle.vx_bits.proofs.WordBits.{length-word_bits, true_count_of-word_bits}
 use Rattle.vx_bits.proofs.WordsJoined.{all_words_joined, bits_of_words_more}
@@ -203,6 +204,12 @@ marked_read values dst words from len fits enough clear e =
     ap (map Some) e ∙ picked_places bits src (omega (arith, long, wide)) clear_here ∙ ap (map (slice_get src)) (sym same)
     ∙ part_at values from len (set_of (take len bits)) below ∙ ap (map (λ p. slice_get values (from + p))) same ∙ sym (map-map (slice_get values) (λ p. from + p) (set_of bits))
     ∙ ap (map (slice_get values)) (sym (positions-shift from 0 bits) ∙ ap (λ k. positions k bits) at)
+
+-- the same of values that were compacted, where there are as many as places
+pub compacted_read : {X : Type 0} (values dst : List X) (words : List ℕ) (from len used : ℕ) → from + len ≤ length values → len ≤ 64 * length words → AllBits (bits_of_words words) len (64 * length words) false → length dst ≡ length (positions from (bits_of_words words)) → used ≡ true_count_of (bits_of_words words) → take used dst ≡ items_where_true (bits_of_words words) (take len (drop from values)) → map Some dst ≡ map (slice_get values) (positions from (bits_of_words words))
+compacted_read values dst words from len used fits enough clear room count front =
+    let whole = take_all used dst (omega (arith, count, room, length-positions from (bits_of_words words))) in
+    marked_read values dst words from len fits enough clear (sym whole ∙ front)
 
 pub none_read : {X : Type 0} (f : ℕ → Option X) (dst : List X) (places : List ℕ) → length dst ≡ 0 → length places ≡ 0 → map Some dst ≡ map f places
 none_read f [] [] p q = refl

@@ -8,7 +8,7 @@ use Rattle.vx_mask.proofs.PositionLists.{get_or-range}
 use Rattle.std.proofs.lemmas.List.{drop-drop, length-drop, length-take-le, get_or-drop, get_or-take, get_or_append_left, get_or_default, drop_more, drop_all, append_assoc, map-append, take_more, take_more_set, append-nil, length-append, length-map}
 use Rattle.std.proofs.lemmas.List.Concat.{flat_map-append}
 use Rattle.std.proofs.lemmas.List.FromFn.{length-range_with_len}
-use Rattle.std.proofs.lemmas.List.Elements.{All-same}
+use Rattle.std.proofs.lemmas.List.Elements.{All-append, All-same}
 use Rattle.vx_mask.specs.Positions.{run_positions, runs_ascend}
 use Rattle.vx_mask.proofs.AscendingLists.{run_parts}
 use Rattle.vx_chunked.specs.Positions.{AscendFrom, IsInChunk, places_of, with_runs}
@@ -195,3 +195,47 @@ more_runs all count start end used later h left done = elim (cases_lt used (leng
 -- the next run
 pub next_left : (all : List ℕ) (count start end used : ℕ) (later : List (ℕ × ℕ)) → end ≤ start → used < length later → drop count all ≡ with_runs start end (drop used later) → drop count all ≡ with_runs (get_or later used (0, 0)).0 (get_or later used (0, 0)).1 (drop (used + 1) later)
 next_left all count start end used later done here left = left ∙ runs_next start end later used (get_or later used (0, 0)) done here (get_or_default later used (0, 0) (get_or later used (0, 0)) here)
+
+-- ---- what one part of a run makes of a walk
+
+-- a part was taken, no further than the run and its chunk, behind the first `count` of all
+pub record PartTaken (all : List ℕ) (offset base count start end more : ℕ) (runs : List (ℕ × ℕ)) : Type 0 where
+  pub few : count + more ≤ 1024
+  pub enough : count + more ≤ length all
+  pub left : drop (count + more) all ≡ with_runs (start + more) end runs
+  pub inside : All (λ i. IsInChunk base (offset + i)) (take (count + more) all)
+  pub ahead : AscendFrom (base + count + more) (2 ^ 64) (map (λ i. offset + i) (with_runs (start + more) end runs))
+
+pub part_is_taken : (all : List ℕ) (offset base count start end more beyond : ℕ) (runs : List (ℕ × ℕ)) → count ≤ 1024 → count ≤ length all → drop count all ≡ with_runs start end runs → All (λ i. IsInChunk base (offset + i)) (take count all) → AscendFrom (base + count) (2 ^ 64) (map (λ i. offset + i) (with_runs start end runs)) → beyond ≡ base + 1024 - offset → more ≡ min end beyond - start → PartTaken all offset base count start end more runs
+part_is_taken all offset base count start end more beyond runs few enough behind inside ahead b m =
+    let P : ℕ → Type 0 = λ i. IsInChunk base (offset + i) in
+    let fits : more ≤ end - start = omega (arith, m) in
+    let here : 0 < more → (base + count ≤ offset + start) × (offset + start + more ≤ base + 1024) = chunk_part offset base count start end more beyond runs ahead b m in
+    let within : 0 < more → (base ≤ offset + start) × (offset + start + more ≤ base + 1024) = λ some. (omega (arith, (here some).0), (here some).1) in
+    record {
+      few = few_more count more few (λ some. omega (arith, (here some).0, (here some).1));
+      enough = omega (arith, enough, part_enough all count start end more runs behind fits);
+      left = part_left all count start end more runs behind fits;
+      inside = All-same P _ _ (part_taken all count start end more runs behind fits) (All-append P (take count all) (range_with_len start more) inside (part_here offset base start more within));
+      ahead = ahead_run base offset 0 start end more runs fits (base + count) (2 ^ 64) ahead;
+    }
+
+-- a part that is put where the positions of a chunk are wanted: the first `count` of all
+pub record PartPlaced (all : List ℕ) (offset base filled start end more : ℕ) (runs : List (ℕ × ℕ)) : Type 0 where
+  pub low : base ≤ offset + start
+  pub high : offset + start + more ≤ base + 1024
+  pub left : drop (filled + more) all ≡ with_runs (start + more) end runs
+  pub placed : places_of offset base (take (filled + more) all) ≡ places_of offset base (take filled all) ++ range_with_len (offset + start - base) more
+
+pub part_is_placed : (all : List ℕ) (offset base filled start end more count : ℕ) (runs : List (ℕ × ℕ)) → drop filled all ≡ with_runs start end runs → All (λ i. IsInChunk base (offset + i)) (take count all) → count ≤ length all → start < end → filled < count → more ≡ min (end - start) (count - filled) → PartPlaced all offset base filled start end more runs
+part_is_placed all offset base filled start end more count runs behind inside enough some open_ m =
+    let fits : more ≤ end - start = omega (arith, m) in
+    let in_chunk = part_inside all filled start end more runs behind fits offset base count inside (omega (arith, m, some, open_)) (omega (arith, m, open_)) enough in
+    record {
+      low = in_chunk.0;
+      high = in_chunk.1;
+      left = part_left all filled start end more runs behind fits;
+      placed = ap (places_of offset base) (part_taken all filled start end more runs behind fits)
+          ∙ map-append (λ i. offset + i - base) (take filled all) (range_with_len start more)
+          ∙ ap (λ l. places_of offset base (take filled all) ++ l) (range_placed offset base start more in_chunk.0);
+    }

@@ -70,26 +70,21 @@ struct Walked<'a> {
 
 // Goes over the positions that lie in the chunk, of what is left of a run, and of the runs after
 // it.
-fn walk<'a>(
-    first: usize,
-    last: usize,
-    later: &'a [(usize, usize)],
-    offset: usize,
-    chunk: usize,
-) -> Walked<'a>
+fn walk<'a>(runs: &Runs<'a>, offset: usize, chunk: usize) -> Walked<'a>
     requires fits { 1024 * (chunk + 1) < 2 ^ 64 }
     requires ahead { AscendFrom (1024 * chunk) (2 ^ 64)
-        (map (λ i. offset + i) (with_runs first last later.now)) }
-    ensures enough { result.count ≤ length (with_runs first last later.now) }
-    ensures taken { drop result.count (with_runs first last later.now)
+        (map (λ i. offset + i) (with_runs runs.now.start runs.now.end runs.now.later.now)) }
+    ensures enough { result.count ≤ length (with_runs runs.now.start runs.now.end runs.now.later.now) }
+    ensures taken { drop result.count (with_runs runs.now.start runs.now.end runs.now.later.now)
         ≡ with_runs result.left.start result.left.end result.left.later.now }
     ensures inside { All (λ i. IsInChunk (1024 * chunk) (offset + i))
-        (take result.count (with_runs first last later.now)) }
+        (take result.count (with_runs runs.now.start runs.now.end runs.now.later.now)) }
     ensures beyond { All (λ p. 1024 * (chunk + 1) ≤ p) (map (λ i. offset + i)
         (with_runs result.left.start result.left.end result.left.later.now)) }
 {
     let beyond = (FILTER_CHUNK_LEN * (chunk + 1)).saturating_sub(offset);
-    let (mut start, mut end) = (first, last);
+    let later = runs.later;
+    let (mut start, mut end) = (runs.start, runs.end);
     let mut used = 0;
     let mut count = 0;
     'run: loop {
@@ -120,17 +115,11 @@ struct Passed<'a> {
 }
 
 // The positions of the runs that lie in the chunk.
-fn front_of_runs<'a>(
-    start: usize,
-    end: usize,
-    later: &'a [(usize, usize)],
-    offset: usize,
-    chunk: usize,
-) -> Passed<'a>
+fn front_of_runs<'a>(runs: &Runs<'a>, offset: usize, chunk: usize) -> Passed<'a>
     requires fits { 1024 * (chunk + 1) < 2 ^ 64 }
     requires ahead { AscendFrom (1024 * chunk) (2 ^ 64)
-        (map (λ i. offset + i) (with_runs start end later.now)) }
-    ensures taken { map (λ i. offset + i) (with_runs start end later.now)
+        (map (λ i. offset + i) (with_runs runs.now.start runs.now.end runs.now.later.now)) }
+    ensures taken { map (λ i. offset + i) (with_runs runs.now.start runs.now.end runs.now.later.now)
         ≡ map (λ p. 1024 * chunk + p) (places_of result.front.offset result.front.base
         (take result.front.count (with_runs result.front.runs.start result.front.runs.end
         result.front.runs.later.now)))
@@ -145,9 +134,9 @@ fn front_of_runs<'a>(
     ensures beyond { All (λ p. 1024 * (chunk + 1) ≤ p) (map (λ i. offset + i)
         (with_runs result.left.start result.left.end result.left.later.now)) }
 {
-    let Walked { count, left } = walk(start, end, later, offset, chunk);
+    let Walked { count, left } = walk(runs, offset, chunk);
     let front = RunFront {
-        runs: Runs { start, end, later },
+        runs: *runs,
         count,
         offset,
         base: FILTER_CHUNK_LEN * chunk,
@@ -268,8 +257,7 @@ impl<T: Copy> Cursor<T> for RunCursor<'_> {
         (with_runs s.front.runs.start s.front.runs.end s.front.runs.later.now)) };
 
     fn take_places(&mut self, chunk: usize) -> usize {
-        let Runs { start, end, later } = self.runs;
-        let Passed { front, left } = front_of_runs(start, end, later, self.offset, chunk);
+        let Passed { front, left } = front_of_runs(&self.runs, self.offset, chunk);
         self.runs = left;
         self.front = front;
         front.count

@@ -1,4 +1,4 @@
-use Rattle.std.proofs.Common.{◌≡◌, ◌+◌, ◌≤◌, true, ℕ, List, Some, IfOk, length, map, subst, sym, ap, ap₂, ◌∙◌}
+use Rattle.std.proofs.Common.{◌≡◌, ◌+◌, ◌≤◌, true, ℕ, List, Option, Some, IfOk, length, map, subst, sym, ap, ap₂, ◌∙◌, arith}
 use Rattle.std.specs.Prelude.{slice_get, false}
 use Rattle.std.specs.List.{range_with_len}
 use Rattle.std.proofs.lemmas.List.{length-replicate}
@@ -6,10 +6,10 @@ use Rattle.vx_bits.specs.WordReader.{then_told}
 use Rattle.vx_mask.specs.declared.mask.Mask.{Mask}
 use Rattle.vx_mask.specs.declared.mask.Mask.TheVariants.{AllTrue, AllFalse}
 use Rattle.vx_mask.specs.Mask.{mask_bits}
-use Rattle.vx_mask.specs.Policy.{sparse_limit_of}
 use Rattle.vx_mask.specs.Positions.{set_of}
 use Rattle.vx_mask.proofs.PositionLists.{positions_false, positions_true}
 use Rattle.vx_chunked.specs.Asked.{asked, touched}
+use Rattle.vx_chunked.specs.declared.call.Call.{Call}
 use Rattle.vx_chunked.proofs.Handed.{on_ok_same}
 use Rattle.vx_chunked.proofs.filter.filter_chunked_mask.Goals as goal
 
@@ -26,31 +26,25 @@ module _ (mask : Mask) (len : ℕ) where
   all_len : mask ≡ AllTrue len → len ≡ length (mask_bits mask)
   all_len is = sym (ap (λ m. length (mask_bits m)) is ∙ length-replicate len true)
 
+-- the calls that the same positions ask for
+told : (old : Option (List Call)) (offset limit : ℕ) (xs ys : List ℕ) (n m : ℕ) → xs ≡ ys → n ≡ m → then_told old (asked offset xs limit (touched offset n)) ≡ then_told old (asked offset ys limit (touched offset m))
+told old offset limit xs ys n m set len = ap₂ (λ l k. then_told old (asked offset l limit (touched offset k))) set len
+
 pub returns-in-AllFalse-clause-value : goal.returns-in-AllFalse-clause-value
 returns-in-AllFalse-clause-value g c =
-    let values = g.D.ChunkDecoder.values c.args.decoder.now in
-    subst (λ (l : List ℕ). IfOk c.filter_front.result (λ kept. map Some kept.items ≡ map (λ p. slice_get values (c.args.offset + p)) l))
+    subst (λ (l : List ℕ). IfOk c.filter_front.result (λ kept. map Some kept.items ≡ map (λ p. slice_get (g.D.ChunkDecoder.values c.args.decoder.now) (c.args.offset + p)) l))
     (none c.args.mask.now _ c.in-AllFalse.is) c.filter_front.ensures.value
 
 pub returns-in-AllFalse-clause-told : goal.returns-in-AllFalse-clause-told
-returns-in-AllFalse-clause-told g c =
-    let old = g.D.ChunkDecoder.calls c.args.decoder.now in
-    let limit = sparse_limit_of c.args.policy.now g.T.Record.WIDTH in
-    on_ok_same c.filter_front.result _ _ _ c.filter_front.ensures.told
-    (ap₂ (λ set n. then_told old (asked c.args.offset set limit (touched c.args.offset n))) (none c.args.mask.now _ c.in-AllFalse.is) (none_len c.args.mask.now _ c.in-AllFalse.is))
+returns-in-AllFalse-clause-told g c = on_ok_same c.filter_front.result _ _ _ c.filter_front.ensures.told (told _ _ _ _ _ _ _ (none c.args.mask.now _ c.in-AllFalse.is) (none_len c.args.mask.now _ c.in-AllFalse.is))
 
 pub returns-in-AllTrue-clause-value : goal.returns-in-AllTrue-clause-value
 returns-in-AllTrue-clause-value g c =
-    let values = g.D.ChunkDecoder.values c.args.decoder.now in
-    subst (λ (l : List ℕ). IfOk c.filter_front-in-AllTrue.result (λ kept. map Some kept.items ≡ map (λ p. slice_get values (c.args.offset + p)) l))
+    subst (λ (l : List ℕ). IfOk c.filter_front-in-AllTrue.result (λ kept. map Some kept.items ≡ map (λ p. slice_get (g.D.ChunkDecoder.values c.args.decoder.now) (c.args.offset + p)) l))
     (all c.args.mask.now _ c.in-AllTrue.is) c.filter_front-in-AllTrue.ensures.value
 
 pub returns-in-AllTrue-clause-told : goal.returns-in-AllTrue-clause-told
-returns-in-AllTrue-clause-told g c =
-    let old = g.D.ChunkDecoder.calls c.args.decoder.now in
-    let limit = sparse_limit_of c.args.policy.now g.T.Record.WIDTH in
-    on_ok_same c.filter_front-in-AllTrue.result _ _ _ c.filter_front-in-AllTrue.ensures.told
-    (ap₂ (λ set n. then_told old (asked c.args.offset set limit (touched c.args.offset n))) (all c.args.mask.now _ c.in-AllTrue.is) (all_len c.args.mask.now _ c.in-AllTrue.is))
+returns-in-AllTrue-clause-told g c = on_ok_same c.filter_front-in-AllTrue.result _ _ _ c.filter_front-in-AllTrue.ensures.told (told _ _ _ _ _ _ _ (all c.args.mask.now _ c.in-AllTrue.is) (all_len c.args.mask.now _ c.in-AllTrue.is))
 
 pub filter_chunked-requires-clause-within : goal.filter_chunked-requires-clause-within
 filter_chunked-requires-clause-within g c =
@@ -61,25 +55,19 @@ filter_chunked-requires-clause-spare g c =
     subst (λ (m : Mask). touched c.args.offset (length (mask_bits m)) ≤ g.D.ChunkDecoder.spare c.args.decoder.now) c.in-Values.is c.requires.spare
 
 pub filter_front-requires-clause-within : goal.filter_front-requires-clause-within
-filter_front-requires-clause-within g c =
-    subst (λ (n : ℕ). c.args.offset + n ≤ length (g.D.ChunkDecoder.values c.args.decoder.now)) (sym (none_len c.args.mask.now _ c.in-AllFalse.is)) c.requires.within
+filter_front-requires-clause-within g c = omega (arith, none_len c.args.mask.now _ c.in-AllFalse.is, c.requires.within)
 
 pub filter_front-requires-clause-spare : goal.filter_front-requires-clause-spare
-filter_front-requires-clause-spare g c =
-    subst (λ (n : ℕ). touched c.args.offset n ≤ g.D.ChunkDecoder.spare c.args.decoder.now) (sym (none_len c.args.mask.now _ c.in-AllFalse.is)) c.requires.spare
+filter_front-requires-clause-spare g c = omega (arith, ap (touched c.args.offset) (none_len c.args.mask.now _ c.in-AllFalse.is), c.requires.spare)
 
 pub returns-in-AllFalse-clause-cost : goal.returns-in-AllFalse-clause-cost
-returns-in-AllFalse-clause-cost g c =
-    subst (λ (n : ℕ). g.D.ChunkDecoder.spare c.args.decoder.now ≤ g.D.ChunkDecoder.spare c.filter_front.new.decoder + touched c.args.offset n) (none_len c.args.mask.now _ c.in-AllFalse.is) c.filter_front.ensures.cost
+returns-in-AllFalse-clause-cost g c = omega (arith, ap (touched c.args.offset) (none_len c.args.mask.now _ c.in-AllFalse.is), c.filter_front.ensures.cost)
 
 pub filter_front-requires-in-AllTrue-clause-within : goal.filter_front-requires-in-AllTrue-clause-within
-filter_front-requires-in-AllTrue-clause-within g c =
-    subst (λ (n : ℕ). c.args.offset + n ≤ length (g.D.ChunkDecoder.values c.args.decoder.now)) (sym (all_len c.args.mask.now _ c.in-AllTrue.is)) c.requires.within
+filter_front-requires-in-AllTrue-clause-within g c = omega (arith, all_len c.args.mask.now _ c.in-AllTrue.is, c.requires.within)
 
 pub filter_front-requires-in-AllTrue-clause-spare : goal.filter_front-requires-in-AllTrue-clause-spare
-filter_front-requires-in-AllTrue-clause-spare g c =
-    subst (λ (n : ℕ). touched c.args.offset n ≤ g.D.ChunkDecoder.spare c.args.decoder.now) (sym (all_len c.args.mask.now _ c.in-AllTrue.is)) c.requires.spare
+filter_front-requires-in-AllTrue-clause-spare g c = omega (arith, ap (touched c.args.offset) (all_len c.args.mask.now _ c.in-AllTrue.is), c.requires.spare)
 
 pub returns-in-AllTrue-clause-cost : goal.returns-in-AllTrue-clause-cost
-returns-in-AllTrue-clause-cost g c =
-    subst (λ (n : ℕ). g.D.ChunkDecoder.spare c.args.decoder.now ≤ g.D.ChunkDecoder.spare c.filter_front-in-AllTrue.new.decoder + touched c.args.offset n) (all_len c.args.mask.now _ c.in-AllTrue.is) c.filter_front-in-AllTrue.ensures.cost
+returns-in-AllTrue-clause-cost g c = omega (arith, ap (touched c.args.offset) (all_len c.args.mask.now _ c.in-AllTrue.is), c.filter_front-in-AllTrue.ensures.cost)

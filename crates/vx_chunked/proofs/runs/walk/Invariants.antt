@@ -5,7 +5,7 @@ use Rattle.vx_chunked.proofs.runs.walk.Given as goal
 
 abbrev pub invariant-run : goal.invariant-run
 invariant-run l =
-    let all = with_runs l.first l.last l.later in
+    let all = with_runs l.runs.start l.runs.end l.runs.later.now in
     let left = with_runs l.start l.end (drop l.used l.later) in
     record {
       within : l.used ≤ length l.later;
