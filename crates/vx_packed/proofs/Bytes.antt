@@ -1,6 +1,6 @@
 -- Bits as bytes and back.
-use Rattle.std.proofs.Common.{◌≡◌, ℕ, zero, suc, ◌+◌, ◌-◌, ◌*◌, ◌/◌, ◌%◌, ◌<◌, Bool, false, eqb, List, length, get_or, take, drop, sym, ap, ap₂, ◌∙◌, arith}
-use Rattle.std.specs.Int.{bit_at, to_le_bytes, w64}
+use Rattle.std.proofs.Common.{◌≡◌, ℕ, ◌+◌, ◌-◌, ◌*◌, ◌/◌, ◌%◌, ◌<◌, Bool, false, eqb, List, length, get_or, take, drop, sym, ap, ap₂, ◌∙◌, arith}
+use Rattle.std.specs.Int.{bit_at}
 use Rattle.std.proofs.lemmas.List.{get_or-drop, get_or-take, get_or_default, same_lists}
 use Rattle.std.proofs.lemmas.List.FromFn.{get_or-map-range_with_len, length-map-range_with_len}
 use Rattle.std.proofs.Math.Nat.{mod-eq_of_lt}
@@ -53,17 +53,3 @@ bytes_of-bits_of bytes fits =
     ∙ number_of-word_bits (get_or bytes k 0) 8
     ∙ mod-eq_of_lt (fits k)
     ∙ get_or_default bytes k 0 d below)
-
--- ---- bytes that are joined
-
--- the bytes of a word are bytes
-pub le_below : (x i : ℕ) → get_or (to_le_bytes w64 x) i 0 < 256
-le_below x zero = omega arith
-le_below x (suc zero) = omega arith
-le_below x (suc (suc zero)) = omega arith
-le_below x (suc (suc (suc zero))) = omega arith
-le_below x (suc (suc (suc (suc zero)))) = omega arith
-le_below x (suc (suc (suc (suc (suc zero))))) = omega arith
-le_below x (suc (suc (suc (suc (suc (suc zero)))))) = omega arith
-le_below x (suc (suc (suc (suc (suc (suc (suc zero))))))) = omega arith
-le_below x (suc (suc (suc (suc (suc (suc (suc (suc i)))))))) = omega arith

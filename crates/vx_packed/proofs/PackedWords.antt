@@ -9,10 +9,11 @@ use Rattle.std.proofs.Math.Pow.{pow_mono}
 use Rattle.vx_bits.specs.BitBuffer.{bits_of}
 use Rattle.vx_bits.specs.BitBuilder.{built}
 use Rattle.vx_bits.specs.Words.{word_bits}
+use Rattle.vx_bits.proofs.ByteLists.{le_below}
 use Rattle.vx_bits.proofs.BuiltLists.{built_more, built_none, built_word, joined_below, length-built}
 use Rattle.vx_bits.proofs.WordBits.{word_bits-none}
 use Rattle.vx_packed.specs.Chunk.{bytes_of, field_bits}
-use Rattle.vx_packed.proofs.Bytes.{bytes_of-bits_of, le_below}
+use Rattle.vx_packed.proofs.Bytes.{bytes_of-bits_of}
 use Rattle.vx_packed.proofs.Fields.{field_bits_more, field_bits_none, length-field_bits}
 
 -- the bytes that are put out behind others, and the open word, hold the bits

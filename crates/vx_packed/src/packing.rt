@@ -1,13 +1,12 @@
 //! Packing numbers.
 ghost use Rattle.std.specs.Prelude.{◌≡◌, ◌+◌, ◌-◌, ◌*◌, ◌/◌, ◌%◌, ◌^◌, ◌<◌, ◌≤◌, ◌++◌, true, IfOk, OnOk, length, vec_len, vec_capacity};
-ghost use Rattle.std.specs.Int.{to_le_bytes, w64};
 ghost use Rattle.std.specs.List.{All};
 ghost use Rattle.vx_packed.specs.Chunk.{IsChunk, bytes_of, digits, field_bits, greatest, least, spell, spell_list};
 ghost use Rattle.vx_packed.specs.Faults.{is_width};
 
 use crate::extremes::{digits_of, greatest_of, least_of};
 use std::alloc::Global;
-use vx_bits::NoMemory;
+use vx_bits::{NoMemory, put_eight};
 
 /// The spelling of the values, chunk by chunk. `NoMemory` alone.
 ///
@@ -34,7 +33,7 @@ fn put_chunk(out: &mut Vec<u8>, numbers: &[u64]) -> Result<(), NoMemory>
     let digits = digits_of(greatest_of(numbers) - base);
     out.reserve(9 + 128 * digits as usize)?;
     out.push_reserved(digits as u8);
-    put_word(out, base);
+    put_eight(out, base);
     put_offsets(out, numbers, base, digits);
     Ok(())
 }
@@ -55,7 +54,7 @@ fn put_offsets(out: &mut Vec<u8>, numbers: &[u64], base: u64, digits: u32)
         next |= offset << held;
         held += digits;
         if held >= 64 {
-            put_word(out, next);
+            put_eight(out, next);
             held -= 64;
             next = rest_of(offset, digits - held);
         }
@@ -70,23 +69,4 @@ fn rest_of(n: u64, bits: u32) -> u64
     ensures { result ≡ n / 2 ^ bits }
 {
     (n >> 1) >> (bits - 1)
-}
-
-// Appends the eight bytes of a word, the lowest first.
-#[inline(always)]
-fn put_word(out: &mut Vec<u8>, word: u64)
-    requires { vec_len out.old + 8 ≤ vec_capacity out.old }
-    ensures items { out.new.items ≡ out.old.items ++ to_le_bytes w64 word }
-    ensures len { vec_len out.new ≡ vec_len out.old + 8 }
-    ensures capacity { vec_capacity out.new ≡ vec_capacity out.old }
-{
-    let eight = word.to_le_bytes();
-    out.push_reserved(eight[0]);
-    out.push_reserved(eight[1]);
-    out.push_reserved(eight[2]);
-    out.push_reserved(eight[3]);
-    out.push_reserved(eight[4]);
-    out.push_reserved(eight[5]);
-    out.push_reserved(eight[6]);
-    out.push_reserved(eight[7]);
 }

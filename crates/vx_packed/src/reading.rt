@@ -5,7 +5,8 @@ ghost use Rattle.vx_packed.specs.Faults.{base_in, chunk_fault, digits_in, field,
 
 use crate::extremes::{digits_of, greatest_of, least_of, put_added};
 use crate::fault::PackedFault;
-use crate::words::{field_from, unpack, word_at};
+use crate::words::{field_from, unpack};
+use vx_bits::eight_bytes;
 
 // The bytes before the offsets: how many digits, and the base.
 const HEAD: usize = 9;
@@ -66,10 +67,7 @@ pub(crate) fn offsets_of(
         return Err(PackedFault::Slack);
     }
     let most = u64::MAX >> (64 - 8 * width);
-    if base > most {
-        return Err(PackedFault::TooBig);
-    }
-    if high > most - base {
+    if base > most || high > most - base {
         return Err(PackedFault::TooBig);
     }
     Ok(base)
@@ -80,7 +78,7 @@ fn base_of(bytes: &[u8]) -> u64
     requires { 9 ≤ length bytes.now }
     ensures { result ≡ base_in bytes.now }
 {
-    word_at(bytes, 1)
+    eight_bytes(bytes, 1)
 }
 
 // The base, and offset `j` added to it.

@@ -36,5 +36,5 @@ returns c =
     let width_is : w ≡ digits (greatest xs - base) = c.digits_of-digits.ensures ∙ ap (λ g. digits (g - base)) c.greatest_of.ensures in
     c.put_offsets.ensures
     ∙ ap (λ l. l ++ bytes_of (field_bits base w xs))
-    (c.put_word.ensures.items ∙ ap (λ l. l ++ to_le_bytes w64 base) (c.push_reserved.ensures.items ∙ ap (λ l. l ++ w ∷ []) c.reserve.ensures.items))
+    (c.put_eight.ensures.items ∙ ap (λ l. l ++ to_le_bytes w64 base) (c.push_reserved.ensures.items ∙ ap (λ l. l ++ w ∷ []) c.reserve.ensures.items))
     ∙ spell_joined c.args.out.now.items xs base w c.least_of-base.ensures width_is

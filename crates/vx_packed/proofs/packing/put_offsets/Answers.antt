@@ -13,8 +13,8 @@ loop-n-init c = record { put = put_none c.args.out.now.items c.args.base c.args.
 pub overflow_sub-offset : goal.overflow_sub-offset
 overflow_sub-offset c = omega (arith, least_below c.args.numbers.now c.loop-n.n-index (omega arith), c.requires.base)
 
-pub put_word-requires : goal.put_word-requires
-put_word-requires c =
+pub put_eight-requires : goal.put_eight-requires
+put_eight-requires c =
     let xs = c.args.numbers.now in
     let i = c.loop-n.n-index in
     let w = c.args.digits in
@@ -40,11 +40,11 @@ loop-n-preserved c =
     let before = c.loop-n.invariant.put in
     elim c.if-held-ge64.branch [
       | then-held-ge64 w ↦
-          let out = ap (λ (v : Vec ℕ Global). v.items) w.out-is ∙ w.put_word.ensures.items in
+          let out = ap (λ (v : Vec ℕ Global). v.items) w.out-is ∙ w.put_eight.ensures.items in
           let put = put_over front c.loop-n.out.items base digits k xs next held offset c.if-held-ge64.out.items c.if-held-ge64.next before inside refl below c.requires.most w.if-held-ge64.true out (w.next-is ∙ w.rest_of-next.ensures) in
           record {
             put = subst (λ (h : ℕ). Put front c.if-held-ge64.out.items bits c.if-held-ge64.next h) (sym w.held-is) put;
-            room = ap vec_capacity w.out-is ∙ w.put_word.ensures.capacity ∙ c.loop-n.invariant.room;
+            room = ap vec_capacity w.out-is ∙ w.put_eight.ensures.capacity ∙ c.loop-n.invariant.room;
           }
       | else-held-ge64 w ↦
           let put = put_within front c.loop-n.out.items base digits k xs next held offset before inside refl below w.if-held-ge64.false in
