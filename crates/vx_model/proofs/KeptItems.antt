@@ -76,7 +76,8 @@ count-at-rank mask k h =
 
 -- ---- masks of what is kept
 
-same_items : {X : Type 0} (xs ys : List X) → map Some xs ≡ map Some ys → xs ≡ ys
+-- items are the same where they are as options
+pub same_items : {X : Type 0} (xs ys : List X) → map Some xs ≡ map Some ys → xs ≡ ys
 same_items [] [] h = refl
 same_items [] (y ∷ ys) h = cc
 same_items (x ∷ xs) [] h = cc

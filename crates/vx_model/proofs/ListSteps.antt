@@ -11,33 +11,8 @@ use Rattle.vx_model.specs.Lists.{ListsParts, kept_lists, list_row, lists_column,
 use Rattle.vx_model.specs.Step.{IsStep, IsCut, IsSlice}
 use Rattle.vx_model.proofs.Steps.{slice-stored, filter-stored}
 use Rattle.vx_model.proofs.Takes.{take-stored}
-use Rattle.vx_model.proofs.ShownRows.{length-present_bits}
+use Rattle.vx_model.proofs.ShownRows.{length-present_bits, rows-kept}
 use Rattle.vx_model.proofs.NestedSteps.{is_cut-nested, is_step-nested}
-
--- ---- lists of the rows that are there
-
-length-kept_lists : {X : Type 0} (bits : List Bool) (lists : List (List X)) → length bits ≡ length lists → length (kept_lists bits lists) ≡ length lists
-length-kept_lists [] [] h = refl
-length-kept_lists [] (x ∷ lists) h = absurd (omega arith)
-length-kept_lists (b ∷ bits) [] h = absurd (omega arith)
-length-kept_lists (b ∷ bits) (x ∷ lists) h = omega (arith, length-kept_lists bits lists (omega arith))
-
-shown-kept_lists : (bits : List Bool) (lists : List (List RowValue)) → shown_rows bits (map list_row (kept_lists bits lists)) ≡ shown_rows bits (map list_row lists)
-shown-kept_lists [] lists = refl
-shown-kept_lists (b ∷ bits) [] = refl
-shown-kept_lists (true ∷ bits) (x ∷ lists) = ap (λ l. list_row x ∷ l) (shown-kept_lists bits lists)
-shown-kept_lists (false ∷ bits) (x ∷ lists) = ap (λ l. null ∷ l) (shown-kept_lists bits lists)
-
--- the list behind a null doesn't show
-pub rows-kept_lists : (v : Valid) (lists : List (List RowValue)) → length (present_bits v (length lists)) ≡ length lists → stored_rows v (map list_row (kept_lists (present_bits v (length lists)) lists)) ≡ stored_rows v (map list_row lists)
-rows-kept_lists v lists h =
-    let bits = present_bits v (length lists) in
-    let kept = kept_lists bits lists in
-    let long : length (map list_row kept) ≡ length lists = length-map kept list_row ∙ length-kept_lists bits lists h in
-    let same : length (map list_row lists) ≡ length lists = length-map lists list_row in
-    ap (λ n. shown_rows (present_bits v n) (map list_row kept)) long
-    ∙ shown-kept_lists bits lists
-    ∙ ap (λ n. shown_rows (present_bits v n) (map list_row lists)) (sym same)
 
 -- ---- steps
 
@@ -85,6 +60,6 @@ module _ (p q : ListsParts) (from : is_in_place p.layout ≡ false) (to : is_laz
         let xs = at missing (lists_of p) picks in
         is_step-lists _ n _
         (ap (λ ys. stored_rows q.valid (map list_row ys)) lists
-        ∙ rows-kept_lists q.valid xs (length-present_bits q.valid (length xs) fitting)
+        ∙ rows-kept list_row q.valid xs (length-present_bits q.valid (length xs) fitting)
         ∙ take-stored list_row missing (lists_of p) p.valid q.valid n fit picks left)
         left

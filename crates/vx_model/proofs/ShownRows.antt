@@ -1,12 +1,13 @@
 -- Rows of which some are null.
-use Rattle.std.proofs.Common.{◌≡◌, ℕ, zero, suc, ◌-◌, ◌≤◌, ◌<◌, Bool, true, false, List, [], ◌∷◌, length, get_or, take, drop, slice_range, refl, sym, ap, ◌∙◌, arith}
+use Rattle.std.proofs.Common.{◌≡◌, ℕ, zero, suc, ◌-◌, ◌≤◌, ◌<◌, Bool, true, false, List, [], ◌∷◌, length, map, get_or, take, drop, slice_range, refl, sym, ap, ◌∙◌, arith}
 use Rattle.std.specs.Prelude.{if◌then◌else◌, replicate}
 use Rattle.std.specs.List.{items_where_true}
 use Rattle.std.proofs.lemmas.List.{length-replicate, length-map, get_or-replicate, get_or-map}
 use Rattle.std.proofs.lemmas.Bool.Decides.{nat_tests}
 use Rattle.vx_types.specs.RowValue.{RowValue, null}
 use Rattle.vx_bits.specs.BitBuffer.{true_count_of}
-use Rattle.vx_model.specs.Valid.{Valid, non_nullable, all_valid, all_invalid, by_column, is_yes, is_fitting, is_constant_form, cover_by, is_present, present_bits, nullability_by, shown_rows, IsAsPlain, IsLeft}
+use Rattle.vx_model.specs.Lists.{kept_lists}
+use Rattle.vx_model.specs.Valid.{Valid, non_nullable, all_valid, all_invalid, by_column, is_yes, is_fitting, is_constant_form, cover_by, is_present, present_bits, nullability_by, shown_rows, stored_rows, IsAsPlain, IsLeft}
 use Rattle.vx_model.proofs.Items.{items_where_true-replicate, slice_range-replicate, length-slice_range, length-items_where_true}
 
 pub length-shown_rows : (bits : List Bool) (rows : List RowValue) → length bits ≡ length rows → length (shown_rows bits rows) ≡ length rows
@@ -121,3 +122,29 @@ is_left-filter v mask k f =
 
 pub is_as_plain : (v : Valid) → IsAsPlain v v
 is_as_plain v = record { constant = λ h. h; depth = omega arith }
+
+-- ---- rows made of lists, of which those behind a null are empty
+
+module _ {X : Type 0} (f : List X → RowValue) where
+  length-kept : (bits : List Bool) (lists : List (List X)) → length bits ≡ length lists → length (kept_lists bits lists) ≡ length lists
+  length-kept [] [] h = refl
+  length-kept [] (x ∷ lists) h = absurd (omega arith)
+  length-kept (b ∷ bits) [] h = absurd (omega arith)
+  length-kept (b ∷ bits) (x ∷ lists) h = omega (arith, length-kept bits lists (omega arith))
+
+  shown-kept : (bits : List Bool) (lists : List (List X)) → shown_rows bits (map f (kept_lists bits lists)) ≡ shown_rows bits (map f lists)
+  shown-kept [] lists = refl
+  shown-kept (b ∷ bits) [] = refl
+  shown-kept (true ∷ bits) (x ∷ lists) = ap (λ l. f x ∷ l) (shown-kept bits lists)
+  shown-kept (false ∷ bits) (x ∷ lists) = ap (λ l. null ∷ l) (shown-kept bits lists)
+
+  -- the list behind a null doesn't show
+  pub rows-kept : (v : Valid) (lists : List (List X)) → length (present_bits v (length lists)) ≡ length lists → stored_rows v (map f (kept_lists (present_bits v (length lists)) lists)) ≡ stored_rows v (map f lists)
+  rows-kept v lists h =
+      let bits = present_bits v (length lists) in
+      let kept = kept_lists bits lists in
+      let long : length (map f kept) ≡ length lists = length-map kept f ∙ length-kept bits lists h in
+      let same : length (map f lists) ≡ length lists = length-map lists f in
+      ap (λ n. shown_rows (present_bits v n) (map f kept)) long
+      ∙ shown-kept bits lists
+      ∙ ap (λ n. shown_rows (present_bits v n) (map f lists)) (sym same)

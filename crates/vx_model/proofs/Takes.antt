@@ -68,19 +68,20 @@ module _ {X : Type 0} (f : X → RowValue) (missing : X) (items : List X) (v w :
 
 -- ---- each layout
 
-at-replicate : (m : ℕ) (picks : List (Option ℕ)) → at null (replicate m null) picks ≡ replicate (length picks) null
-at-replicate m [] = refl
-at-replicate m (None ∷ picks) = ap (λ l. null ∷ l) (at-replicate m picks)
-at-replicate m (Some p ∷ picks) = ap₂ ◌∷◌ (of_nulls m p) (at-replicate m picks)
+-- what is missing where all items are, however many there are
+at-missing : {X : Type 0} (missing : X) (m : ℕ) (picks : List (Option ℕ)) → at missing (replicate m missing) picks ≡ replicate (length picks) missing
+at-missing missing m [] = refl
+at-missing missing m (None ∷ picks) = ap (λ l. missing ∷ l) (at-missing missing m picks)
+at-missing missing m (Some p ∷ picks) = ap₂ ◌∷◌ (any m p) (at-missing missing m picks)
   where
-    of_nulls : (m p : ℕ) → get_or (replicate m null) p null ≡ null
-    of_nulls zero p = refl
-    of_nulls (suc m) zero = refl
-    of_nulls (suc m) (suc p) = of_nulls m p
+    any : (m p : ℕ) → get_or (replicate m missing) p missing ≡ missing
+    any zero p = refl
+    any (suc m) zero = refl
+    any (suc m) (suc p) = any m p
 
 pub is_take-null : (m : ℕ) (picks : List (Option ℕ)) (n : Nullability) → IsTake (null_column m) picks n (null_column (length picks))
 is_take-null m picks n =
-    record { rows = sym (at-replicate m picks); dtype = refl; layout = λ _. refl; unwrapped = λ h. h; direct = λ h. h }
+    record { rows = sym (at-missing null m picks); dtype = refl; layout = λ _. refl; unwrapped = λ h. h; direct = λ h. h }
 
 module _ (w : Valid) (picks : List (Option ℕ)) (n : Nullability) where
   pub is_take-bool : (p : BoolParts) (offset : ℕ) → bool_fault p ≡ None → IsLeft p.valid n (at false (present_bits p.valid (length (stored_bits p).items)) picks) w → IsStep (bool_column p) (at null (bool_column p).rows picks) (record { kind = bool_kind; nullability = n }) (bool_column (bool_with (at false p.bits.bits picks) offset w))
@@ -136,14 +137,7 @@ all_there m (Some p ∷ picks) h =
     ap₂ ◌∷◌ (sym (get_or-replicate m p true false (h zero None (omega arith)))) (all_there m picks (λ k d l. h (suc k) d (omega arith)))
 
 pub none_there : (m : ℕ) (picks : List (Option ℕ)) → at false (replicate m false) picks ≡ replicate (length picks) false
-none_there m [] = refl
-none_there m (None ∷ picks) = ap (λ l. false ∷ l) (none_there m picks)
-none_there m (Some p ∷ picks) = ap₂ ◌∷◌ (no_bit m p) (none_there m picks)
-  where
-    no_bit : (m p : ℕ) → get_or (replicate m false) p false ≡ false
-    no_bit zero p = refl
-    no_bit (suc m) zero = refl
-    no_bit (suc m) (suc p) = no_bit m p
+none_there m picks = at-missing false m picks
 
 -- where the picks are all there
 each_there : (m : ℕ) (picks : List (Option ℕ)) → AreBelow picks m → list_all is_some picks ≡ true → at false (replicate m true) picks ≡ replicate (length picks) true

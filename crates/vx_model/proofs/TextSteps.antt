@@ -1,6 +1,6 @@
 -- What a step leaves of texts makes what it leaves of their column.
 use Rattle.std.proofs.Common.{◌≡◌, ℕ, ◌≤◌, Bool, true, false, List, [], ◌∷◌, map, length, slice_range, Option, refl, sym, ap, ap₂, ◌∙◌, subst, arith}
-use Rattle.std.specs.Prelude.{◌&&◌, ◌||◌}
+use Rattle.std.specs.Prelude.{◌&&◌, ◌||◌, if◌then◌else◌}
 use Rattle.std.specs.List.{items_where_true}
 use Rattle.std.proofs.lemmas.List.{length-map}
 use Rattle.vx_types.specs.TypeTree.{TypeTree}
@@ -11,11 +11,12 @@ use Rattle.vx_types.specs.declared.text.TextKind.{TextKind}
 use Rattle.vx_take.specs.Picks.{at}
 use Rattle.vx_model.specs.Valid.{Valid, is_constant_form, is_fitting, is_flat_cover, nullability_by, present_bits, shown_rows, stored_rows, IsLeft, IsAsPlain}
 use Rattle.vx_model.specs.Plain.{is_in_place, is_lazy_layout, is_null_layout, is_plain, is_row_layout, is_unwrapped}
+use Rattle.vx_model.specs.Lists.{kept_lists}
 use Rattle.vx_model.specs.Text.{TextParts, kept_texts, stored_texts, text_column}
 use Rattle.vx_model.specs.Step.{IsStep, IsCut, IsSlice}
 use Rattle.vx_model.proofs.Steps.{slice-stored, filter-stored}
 use Rattle.vx_model.proofs.Takes.{take-stored}
-use Rattle.vx_model.proofs.ShownRows.{length-present_bits}
+use Rattle.vx_model.proofs.ShownRows.{length-present_bits, rows-kept}
 
 -- such a column is neither unwrapped nor plain
 neither : (a b c : Bool) → (a || b) ≡ false → (a || (b && c)) ≡ false
@@ -31,28 +32,15 @@ not_plain p h = neither (is_null_layout p.layout) (is_row_layout p.layout) (is_c
 
 -- ---- texts of the rows that are there
 
-length-kept_texts : (bits : List Bool) (texts : List (List ℕ)) → length bits ≡ length texts → length (kept_texts bits texts) ≡ length texts
-length-kept_texts [] [] h = refl
-length-kept_texts [] (x ∷ texts) h = absurd (omega arith)
-length-kept_texts (b ∷ bits) [] h = absurd (omega arith)
-length-kept_texts (b ∷ bits) (x ∷ texts) h = omega (arith, length-kept_texts bits texts (omega arith))
-
-shown-kept_texts : (bits : List Bool) (texts : List (List ℕ)) → shown_rows bits (map bytes (kept_texts bits texts)) ≡ shown_rows bits (map bytes texts)
-shown-kept_texts [] texts = refl
-shown-kept_texts (b ∷ bits) [] = refl
-shown-kept_texts (true ∷ bits) (x ∷ texts) = ap (λ l. bytes x ∷ l) (shown-kept_texts bits texts)
-shown-kept_texts (false ∷ bits) (x ∷ texts) = ap (λ l. null ∷ l) (shown-kept_texts bits texts)
+same-kept : (bits : List Bool) (texts : List (List ℕ)) → kept_texts bits texts ≡ kept_lists bits texts
+same-kept [] texts = refl
+same-kept (b ∷ bits) [] = refl
+same-kept (b ∷ bits) (x ∷ texts) = ap (λ l. (if b then x else []) ∷ l) (same-kept bits texts)
 
 -- the text behind a null doesn't show
 pub rows-kept_texts : (v : Valid) (texts : List (List ℕ)) → length (present_bits v (length texts)) ≡ length texts → stored_rows v (map bytes (kept_texts (present_bits v (length texts)) texts)) ≡ stored_rows v (map bytes texts)
 rows-kept_texts v texts h =
-    let bits = present_bits v (length texts) in
-    let kept = kept_texts bits texts in
-    let long : length (map bytes kept) ≡ length texts = length-map kept bytes ∙ length-kept_texts bits texts h in
-    let same : length (map bytes texts) ≡ length texts = length-map texts bytes in
-    ap (λ n. shown_rows (present_bits v n) (map bytes kept)) long
-    ∙ shown-kept_texts bits texts
-    ∙ ap (λ n. shown_rows (present_bits v n) (map bytes texts)) (sym same)
+    ap (λ l. stored_rows v (map bytes l)) (same-kept (present_bits v (length texts)) texts) ∙ rows-kept bytes v texts h
 
 -- ---- steps
 

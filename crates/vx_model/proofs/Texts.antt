@@ -20,30 +20,18 @@ use Rattle.vx_model.specs.Numbers.{integer_by, integers_of}
 use Rattle.vx_model.specs.Text.{TextParts, stored_texts, text_column}
 use Rattle.vx_model.specs.VarBin.{VarBinParts, are_integers, row_count, varbin_fault, varbin_texts, varbin_column}
 use Rattle.vx_model.specs.VarBinView.{ViewParts, views_fault, view_texts, views_column}
+use Rattle.vx_model.proofs.Spans.{length-spans, get_or-spans}
 use Rattle.vx_model.proofs.StoredRows.{length-stored_rows, get_or-stored_rows}
 
 -- ---- lists that offsets cut
-
-pub length-spans : (offsets : List ℕ) → length (spans offsets) ≡ length offsets - 1
-length-spans [] = refl
-length-spans (a ∷ []) = refl
-length-spans (a ∷ b ∷ offsets) = omega (arith, length-spans (b ∷ offsets))
-
-get_or-spans : (offsets : List ℕ) (i : ℕ) → suc i < length offsets → get_or (spans offsets) i (0, 0) ≡ (get_or offsets i 0, get_or offsets (suc i) 0)
-get_or-spans [] i h = absurd (omega arith)
-get_or-spans (a ∷ []) i h = absurd (omega arith)
-get_or-spans (a ∷ b ∷ offsets) zero h = refl
-get_or-spans (a ∷ b ∷ offsets) (suc i) h = get_or-spans (b ∷ offsets) i (omega arith)
 
 pub length-lists_at : {X : Type 0} (offsets : List ℕ) (items : List X) → length (lists_at offsets items) ≡ length offsets - 1
 length-lists_at offsets items = length-map (spans offsets) (items_in items) ∙ length-spans offsets
 
 pub get_or-lists_at : {X : Type 0} (offsets : List ℕ) (items : List X) (i : ℕ) → i + 1 < length offsets → get_or (lists_at offsets items) i [] ≡ slice_range items (get_or offsets i 0) (get_or offsets (i + 1) 0)
 get_or-lists_at offsets items i h =
-    let next : suc i ≡ i + 1 = omega arith in
     get_or-map (items_in items) (spans offsets) i (0, 0) [] (omega (arith, h, length-spans offsets))
-    ∙ ap (items_in items) (get_or-spans offsets i (omega (arith, h)))
-    ∙ ap (λ k. slice_range items (get_or offsets i 0) (get_or offsets k 0)) next
+    ∙ ap (items_in items) (get_or-spans offsets i h)
 
 -- ---- either layout
 

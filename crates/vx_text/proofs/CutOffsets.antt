@@ -12,6 +12,7 @@ use Rattle.vx_model.specs.Numbers.{integer_by, integers_of}
 use Rattle.vx_model.specs.Records.{RecordParts, records_with}
 use Rattle.vx_model.specs.VarBin.{VarBinParts, are_integers, is_never_null, row_count, varbin_fault, varbin_texts}
 use Rattle.vx_model.proofs.Items.{map-slice_range, length-slice_range}
+use Rattle.vx_model.proofs.Spans.{spans-slice}
 use Rattle.vx_text.proofs.Both.{first, rest, join}
 use Rattle.vx_model.proofs.Texts.{integers-varbin, offsets-varbin, texts-varbin}
 
@@ -53,32 +54,7 @@ module _ (n : ℕ) where
       ascending-are (slice_range zs s e) (omega (arith, h, l, length-slice_range zs s e (omega (arith, h)) l))
       (ascend-take (pos 0) (drop s zs) (e - s) (ascend-drop (pos 0) zs s (are-ascending zs k)))
 
--- ---- the spans between them
-
-drop-spans : (offsets : List ℕ) (s : ℕ) → spans (drop s offsets) ≡ drop s (spans offsets)
-drop-spans offsets zero = refl
-drop-spans [] (suc s) = refl
-drop-spans (a ∷ []) (suc s) = none s
-  where
-    none : (s : ℕ) → spans (drop s []) ≡ []
-    none zero = refl
-    none (suc s) = refl
-drop-spans (a ∷ b ∷ offsets) (suc s) = drop-spans (b ∷ offsets) s
-
-take-spans : (offsets : List ℕ) (k : ℕ) → spans (take (suc k) offsets) ≡ take k (spans offsets)
-take-spans [] zero = refl
-take-spans [] (suc k) = refl
-take-spans (a ∷ []) zero = refl
-take-spans (a ∷ []) (suc k) = refl
-take-spans (a ∷ b ∷ offsets) zero = refl
-take-spans (a ∷ b ∷ offsets) (suc k) = ap (λ l. (a, b) ∷ l) (take-spans (b ∷ offsets) k)
-
-spans-slice : (offsets : List ℕ) (s e : ℕ) → s ≤ e → spans (slice_range offsets s (e + 1)) ≡ slice_range (spans offsets) s e
-spans-slice offsets s e h =
-    let many : e + 1 - s ≡ suc (e - s) = omega (arith, h) in
-    ap (λ k. spans (take k (drop s offsets))) many
-    ∙ take-spans (drop s offsets) (e - s)
-    ∙ ap (take (e - s)) (drop-spans offsets s)
+-- ---- the lists between them
 
 pub lists_at-slice : {X : Type 0} (offsets : List ℕ) (items : List X) (s e : ℕ) → s ≤ e → lists_at (slice_range offsets s (e + 1)) items ≡ slice_range (lists_at offsets items) s e
 lists_at-slice offsets items s e h =
