@@ -6,6 +6,7 @@ use Rattle.std.proofs.lemmas.Bool.Decides.{nat_tests}
 use Rattle.std.proofs.lemmas.Nat.{and_le_l, and_mask}
 use Rattle.std.proofs.lemmas.Nat.Bits.{same_from_bits, bit_at_and, bit_at_cat_low, bit_at_cat_high, and_high_mask}
 use Rattle.vx_bits.specs.Words.{word_bits}
+use Rattle.vx_bits.proofs.ByteLists.{by_eight}
 use Rattle.vx_json.specs.BitText.{bit_named, bits_in}
 
 -- the number that bytes spell, the lowest first
@@ -150,23 +151,17 @@ record IsWord (bs : List ℕ) : Type 0 where
   bits : word_bits (gathered_of bs) 8 ≡ map is_odd bs
 
 word_is : (bs : List ℕ) → length bs ≡ 8 → ((i : ℕ) → Fits w8 (get_or bs i 0)) → IsWord bs
-word_is (a ∷ b ∷ c ∷ d ∷ e ∷ f ∷ g ∷ h ∷ []) n s =
-    let below : (x : ℕ) → odd x < 2 = λ x. omega arith in
-    let byte : (k : ℕ) → get_or (a ∷ b ∷ c ∷ d ∷ e ∷ f ∷ g ∷ h ∷ []) k 0 < 256 = λ k. omega (arith, s k) in
-    record {
-      bytes = (byte 0, (byte 1, (byte 2, (byte 3, (byte 4, (byte 5, (byte 6, (byte 7, tt))))))));
-      word = omega arith;
-      bits = ap (λ (w : ℕ). word_bits w 8) (moved (odd a) (odd b) (odd c) (odd d) (odd e) (odd f) (odd g) (odd h) (below a) (below b) (below c) (below d) (below e) (below f) (below g) (below h)) ∙ gathered (odd a) (odd b) (odd c) (odd d) (odd e) (odd f) (odd g) (odd h) (below a) (below b) (below c) (below d) (below e) (below f) (below g) (below h);
-    }
-word_is ([]) n s = let no : ⊥ = omega arith in absurd no
-word_is (a ∷ []) n s = let no : ⊥ = omega arith in absurd no
-word_is (a ∷ b ∷ []) n s = let no : ⊥ = omega arith in absurd no
-word_is (a ∷ b ∷ c ∷ []) n s = let no : ⊥ = omega arith in absurd no
-word_is (a ∷ b ∷ c ∷ d ∷ []) n s = let no : ⊥ = omega arith in absurd no
-word_is (a ∷ b ∷ c ∷ d ∷ e ∷ []) n s = let no : ⊥ = omega arith in absurd no
-word_is (a ∷ b ∷ c ∷ d ∷ e ∷ f ∷ []) n s = let no : ⊥ = omega arith in absurd no
-word_is (a ∷ b ∷ c ∷ d ∷ e ∷ f ∷ g ∷ []) n s = let no : ⊥ = omega arith in absurd no
-word_is (a ∷ b ∷ c ∷ d ∷ e ∷ f ∷ g ∷ h ∷ i ∷ bs) n s = let no : ⊥ = omega arith in absurd no
+word_is bs n s = by_eight (λ l. ((i : ℕ) → Fits w8 (get_or l i 0)) → IsWord l) of bs n s
+  where
+    of : (a b c d e f g h : ℕ) → ((i : ℕ) → Fits w8 (get_or (a ∷ b ∷ c ∷ d ∷ e ∷ f ∷ g ∷ h ∷ []) i 0)) → IsWord (a ∷ b ∷ c ∷ d ∷ e ∷ f ∷ g ∷ h ∷ [])
+    of a b c d e f g h s =
+        let below : (x : ℕ) → odd x < 2 = λ x. omega arith in
+        let byte : (k : ℕ) → get_or (a ∷ b ∷ c ∷ d ∷ e ∷ f ∷ g ∷ h ∷ []) k 0 < 256 = λ k. omega (arith, s k) in
+        record {
+          bytes = (byte 0, (byte 1, (byte 2, (byte 3, (byte 4, (byte 5, (byte 6, (byte 7, tt))))))));
+          word = omega arith;
+          bits = ap (λ (w : ℕ). word_bits w 8) (moved (odd a) (odd b) (odd c) (odd d) (odd e) (odd f) (odd g) (odd h) (below a) (below b) (below c) (below d) (below e) (below f) (below g) (below h)) ∙ gathered (odd a) (odd b) (odd c) (odd d) (odd e) (odd f) (odd g) (odd h) (below a) (below b) (below c) (below d) (below e) (below f) (below g) (below h);
+        }
 
 module _ (bs : List ℕ) (word : ℕ) (n : length bs ≡ 8) (s : (i : ℕ) → Fits w8 (get_or bs i 0)) (is : word ≡ from_le_bytes w64 bs) where
   evens_of : bit_and word 18374403900871474942 ≡ le (map even bs)
