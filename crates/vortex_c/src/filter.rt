@@ -1,9 +1,8 @@
 //! Filters of records.
-ghost use Rattle.std.specs.Prelude.{◌≡◌, ◌*◌, ◌≤◌, false, length, take, drop};
-ghost use Rattle.std.specs.List.{items_where_true};
+ghost use Rattle.std.specs.Prelude.{◌≡◌, ◌*◌, ◌≤◌, false, length};
 ghost use Rattle.vx_bits.specs.BitBuffer.{true_count_of};
 ghost use Rattle.vx_bits.specs.Words.{word_count};
-ghost use Rattle.vx_filter.specs.Compact.{bits_of_words};
+ghost use Rattle.vx_filter.specs.Compact.{AreCompacted, bits_of_words};
 ghost use Rattle.vx_mask.specs.Positions.{AllBits};
 ghost use Rattle.vortex_c.specs.Filters.{IsFiltered};
 
@@ -40,9 +39,7 @@ fn compact<T: Copy>(src: &[T], words: &[u64], count: usize, dst: &mut [T]) -> us
     requires clear { AllBits (bits_of_words words.now) (length src.now) (64 * length words.now)
         false }
     requires room { true_count_of (bits_of_words words.now) ≤ length dst.old }
-    ensures count { result ≡ true_count_of (bits_of_words words.now) }
-    ensures front { take result dst.new ≡ items_where_true (bits_of_words words.now) src.now }
-    ensures rest { drop result dst.new ≡ drop result dst.old }
+    ensures { AreCompacted src.now words.now dst.old dst.new result }
 {
     if has_long_runs(words, count) {
         compact_runs(src, words, dst)
@@ -58,9 +55,7 @@ fn keep<T: Copy>(src: &[T], words: &[u64], count: usize, dst: &mut [T], size: us
         false }
     requires counted { count ≡ true_count_of (bits_of_words words.now) }
     requires room { count ≤ length dst.old }
-    ensures count { result ≡ true_count_of (bits_of_words words.now) }
-    ensures front { take result dst.new ≡ items_where_true (bits_of_words words.now) src.now }
-    ensures rest { drop result dst.new ≡ drop result dst.old }
+    ensures { AreCompacted src.now words.now dst.old dst.new result }
 {
     if size <= 16 && has_many_rows(words, count) {
         compact_rows(src, words, count, dst)

@@ -1,10 +1,10 @@
 //! Filters of records in which many rows are selected, in short runs.
 ghost use Rattle.std.specs.Prelude.{◌≡◌, ◌+◌, ◌*◌, ◌<◌, ◌≤◌, ◌++◌, Some, false, length, take, drop, map, slice_get, slice_index_or, slice_set};
-ghost use Rattle.std.specs.List.{All, items_where_true};
+ghost use Rattle.std.specs.List.{All};
 ghost use Rattle.std.specs.Int.RustNames.{count_ones};
 ghost use Rattle.vx_bits.specs.BitBuffer.{true_count_of};
 ghost use Rattle.vx_bits.specs.Words.{word_bits, word_count};
-ghost use Rattle.vx_filter.specs.Compact.{bits_of_words};
+ghost use Rattle.vx_filter.specs.Compact.{AreCompacted, bits_of_words};
 ghost use Rattle.vx_mask.specs.Positions.{AllBits, positions};
 ghost use Rattle.vortex_c.specs.Filters.{AreRowsPut};
 
@@ -115,9 +115,7 @@ pub(crate) fn compact_rows<T: Copy>(src: &[T], words: &[u64], count: usize, dst:
         false }
     requires counted { count ≡ true_count_of (bits_of_words words.now) }
     requires room { count ≤ length dst.old }
-    ensures count { result ≡ true_count_of (bits_of_words words.now) }
-    ensures front { take result dst.new ≡ items_where_true (bits_of_words words.now) src.now }
-    ensures rest { drop result dst.new ≡ drop result dst.old }
+    ensures { AreCompacted src.now words.now dst.old dst.new result }
 {
     let mut kept = 0;
     for (w, word) in words.iter().enumerate() {

@@ -2,3 +2,4 @@ pub mod Choice
 pub mod Compact
 pub mod Compress
 pub mod Kept
+pub mod Words

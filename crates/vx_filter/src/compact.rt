@@ -4,7 +4,8 @@ ghost use Rattle.std.specs.List.{All, items_where_true};
 ghost use Rattle.std.specs.Int.RustNames.{count_ones};
 ghost use Rattle.vx_bits.specs.BitBuffer.{true_count_of};
 ghost use Rattle.vx_bits.specs.Words.{word_bits, word_count};
-ghost use Rattle.vx_filter.specs.Compact.{IsLowestRun, bits_of_words};
+ghost use Rattle.vx_filter.specs.Compact.{AreCompacted, IsLowestRun, bits_of_words};
+ghost use Rattle.vx_filter.specs.Words.{IsWordCopied};
 ghost use Rattle.vx_mask.specs.Positions.{AllBits, positions};
 
 /// Copies the items of `src` where the bits of the words are set to the front of `dst`, in order,
@@ -16,16 +17,9 @@ pub fn compact_words<T: Copy>(src: &[T], words: &[u64], dst: &mut [T]) -> usize
     requires clear { AllBits (bits_of_words words.now) (length src.now) (64 * length words.now)
         false }
     requires room { true_count_of (bits_of_words words.now) ≤ length dst.old }
-    ensures count { result ≡ true_count_of (bits_of_words words.now) }
-    ensures front { take result dst.new
-        ≡ items_where_true (bits_of_words words.now) src.now }
-    ensures rest { drop result dst.new ≡ drop result dst.old }
+    ensures { AreCompacted src.now words.now dst.old dst.new result }
 {
-    let mut kept = 0;
-    for (w, word) in words.iter().enumerate() {
-        kept = copy_picked(dst, kept, src, 64 * w, *word);
-    }
-    kept
+    compact::<ByItems, T>(src, words, dst)
 }
 
 /// The same, run after run where the runs of a word are long: the carry of a sum clears the lowest.
@@ -34,16 +28,67 @@ pub fn compact_runs<T: Copy>(src: &[T], words: &[u64], dst: &mut [T]) -> usize
     requires clear { AllBits (bits_of_words words.now) (length src.now) (64 * length words.now)
         false }
     requires room { true_count_of (bits_of_words words.now) ≤ length dst.old }
-    ensures count { result ≡ true_count_of (bits_of_words words.now) }
-    ensures front { take result dst.new
-        ≡ items_where_true (bits_of_words words.now) src.now }
-    ensures rest { drop result dst.new ≡ drop result dst.old }
+    ensures { AreCompacted src.now words.now dst.old dst.new result }
+{
+    compact::<ByRuns, T>(src, words, dst)
+}
+
+// The same, word after word.
+#[inline(always)]
+fn compact<C: CopyWord, T: Copy>(src: &[T], words: &[u64], dst: &mut [T]) -> usize
+    requires words { length words.now ≡ word_count (length src.now) }
+    requires clear { AllBits (bits_of_words words.now) (length src.now) (64 * length words.now)
+        false }
+    requires room { true_count_of (bits_of_words words.now) ≤ length dst.old }
+    ensures { AreCompacted src.now words.now dst.old dst.new result }
 {
     let mut kept = 0;
     for (w, word) in words.iter().enumerate() {
-        kept = copy_runs(dst, kept, src, 64 * w, *word);
+        kept = C::copy(dst, kept, src, 64 * w, *word);
     }
     kept
+}
+
+// Copies the items of one word.
+trait CopyWord {
+    // Copies the items that a word picks behind those that are kept, and answers how many are kept
+    // then. The word's first bit has position `base`.
+    fn copy<T: Copy>(dst: &mut [T], kept: usize, src: &[T], base: usize, word: u64) -> usize
+        requires within { All (λ p. p < length src.now) (positions base (word_bits word 64)) }
+        requires room { kept + count_ones word ≤ length dst.old }
+        ensures { IsWordCopied src.now dst.old dst.new kept base word result };
+}
+
+// One item after another.
+struct ByItems;
+
+impl CopyWord for ByItems {
+    #[inline(always)]
+    fn copy<T: Copy>(dst: &mut [T], kept: usize, src: &[T], base: usize, word: u64) -> usize {
+        copy_picked(dst, kept, src, base, word)
+    }
+}
+
+// Run after run where they are long.
+struct ByRuns;
+
+impl CopyWord for ByRuns {
+    #[inline(always)]
+    fn copy<T: Copy>(dst: &mut [T], kept: usize, src: &[T], base: usize, word: u64) -> usize {
+        if !has_long_runs(word) {
+            return copy_picked(dst, kept, src, base, word);
+        }
+        let end = kept + word.count_ones() as usize;
+        let mut next = kept;
+        let mut left = word;
+        'run: while left != 0 {
+            let run = lowest_run(left);
+            copy_run(dst, next, end, src, base + run.low, run.count);
+            next += run.count;
+            left = run.rest;
+        }
+        next
+    }
 }
 
 /// Copies the items that a word picks behind those that are kept, and answers how many are kept
@@ -52,10 +97,7 @@ pub fn compact_runs<T: Copy>(src: &[T], words: &[u64], dst: &mut [T]) -> usize
 pub fn copy_picked<T: Copy>(dst: &mut [T], kept: usize, src: &[T], base: usize, word: u64) -> usize
     requires within { All (λ p. p < length src.now) (positions base (word_bits word 64)) }
     requires room { kept + count_ones word ≤ length dst.old }
-    ensures count { result ≡ kept + count_ones word }
-    ensures front { map Some (take result dst.new) ≡ map Some (take kept dst.old)
-        ++ map (slice_get src.now) (positions base (word_bits word 64)) }
-    ensures rest { drop result dst.new ≡ drop result dst.old }
+    ensures { IsWordCopied src.now dst.old dst.new kept base word result }
 {
     if word == u64::MAX {
         dst[kept..kept + 64].copy_from_slice(&src[base..base + 64]);
@@ -72,10 +114,7 @@ pub fn copy_picked<T: Copy>(dst: &mut [T], kept: usize, src: &[T], base: usize, 
 fn copy_word<T: Copy>(dst: &mut [T], kept: usize, src: &[T], base: usize, word: u64) -> usize
     requires within { All (λ p. p < length src.now) (positions base (word_bits word 64)) }
     requires room { kept + count_ones word ≤ length dst.old }
-    ensures count { result ≡ kept + count_ones word }
-    ensures front { map Some (take result dst.new) ≡ map Some (take kept dst.old)
-        ++ map (slice_get src.now) (positions base (word_bits word 64)) }
-    ensures rest { drop result dst.new ≡ drop result dst.old }
+    ensures { IsWordCopied src.now dst.old dst.new kept base word result }
 {
     let mut next = kept;
     let mut left = word;
@@ -98,32 +137,6 @@ fn copy_one<T: Copy>(dst: &mut [T], to: usize, src: &[T], from: usize)
     dst[to] = src[from];
 }
 
-// Copies the items that a word picks behind those that are kept, run after run where they are long,
-// and answers how many are kept then. The word's first bit has position `base`.
-#[inline(always)]
-fn copy_runs<T: Copy>(dst: &mut [T], kept: usize, src: &[T], base: usize, word: u64) -> usize
-    requires within { All (λ p. p < length src.now) (positions base (word_bits word 64)) }
-    requires room { kept + count_ones word ≤ length dst.old }
-    ensures count { result ≡ kept + count_ones word }
-    ensures front { map Some (take result dst.new) ≡ map Some (take kept dst.old)
-        ++ map (slice_get src.now) (positions base (word_bits word 64)) }
-    ensures rest { drop result dst.new ≡ drop result dst.old }
-{
-    if !has_long_runs(word) {
-        return copy_picked(dst, kept, src, base, word);
-    }
-    let end = kept + word.count_ones() as usize;
-    let mut next = kept;
-    let mut left = word;
-    'run: while left != 0 {
-        let run = lowest_run(left);
-        copy_run(dst, next, end, src, base + run.low, run.count);
-        next += run.count;
-        left = run.rest;
-    }
-    next
-}
-
 // Whether the runs of a word have four bits on average: else a run is more work than a turn for
 // each item. A full word is copied whole.
 #[inline(always)]
@@ -132,20 +145,23 @@ fn has_long_runs(word: u64) -> bool {
     4 * runs <= word.count_ones() && word != u64::MAX
 }
 
-// The lowest run of set bits of a word, and the word without it.
+/// The lowest run of set bits of a word, and the word without it.
 #[derive(Clone, Copy)]
-struct LowestRun {
-    low: usize,
-    count: usize,
-    rest: u64,
+pub struct LowestRun {
+    /// The run's lowest bit.
+    pub low: usize,
+    /// How many bits it has.
+    pub count: usize,
+    /// The word without them.
+    pub rest: u64,
 }
 
-// The lowest run of a word that is not 0.
-//
-// The run's lowest bit is added to the word, so that the carry clears the run, and only bits that
-// the word had are kept. The sum wraps where the run ends at bit 63.
+/// The lowest run of a word that is not 0.
+///
+/// The run's lowest bit is added to the word, so that the carry clears the run, and only bits that
+/// the word had are kept. The sum wraps where the run ends at bit 63.
 #[inline(always)]
-fn lowest_run(word: u64) -> LowestRun
+pub fn lowest_run(word: u64) -> LowestRun
     requires { 0 < word }
     ensures { IsLowestRun word result.low result.count result.rest }
 {

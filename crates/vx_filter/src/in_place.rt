@@ -1,10 +1,10 @@
 //! Filtering in place.
 ghost use Rattle.std.specs.Prelude.{◌≡◌, ◌+◌, ◌<◌, ◌≤◌, ◌++◌, IfOk, IsOk, Some, true, length, take, drop, map, slice_get, slice_index_or, slice_set};
 ghost use Rattle.std.specs.List.{All, items_where_true};
-ghost use Rattle.std.specs.Int.RustNames.{count_ones};
 ghost use Rattle.vx_bits.specs.BitBuffer.{true_count_of};
 ghost use Rattle.vx_bits.specs.Words.{word_bits};
 ghost use Rattle.vx_filter.specs.Choice.{IsDense};
+ghost use Rattle.vx_filter.specs.Words.{IsWordKept};
 ghost use Rattle.vx_mask.specs.Positions.{ascending, run_positions, positions, set_of};
 
 use crate::choice::{is_dense, useful_indices, useful_slices};
@@ -102,17 +102,16 @@ fn keep_set<T: Copy>(values: &mut [T], bits: &BitBuffer) -> usize
     kept
 }
 
-// Moves the values that a word picks to those that are kept, and answers how many are kept then.
-// The word's first bit has position `base`.
+/// Moves the values that a word picks to those that are kept, and answers how many are kept then.
+/// The word's first bit has position `base`. The values behind the word's stay.
+///
+/// The values of a full word are moved whole, those of any other word one after another.
 #[inline(always)]
-fn keep_picked<T: Copy>(values: &mut [T], kept: usize, base: usize, word: u64) -> usize
+pub fn keep_picked<T: Copy>(values: &mut [T], kept: usize, base: usize, word: u64) -> usize
     requires behind { kept ≤ base }
     requires within { ascending base (length values.old) (positions base (word_bits word 64))
         ≡ true }
-    ensures count { result ≡ kept + count_ones word }
-    ensures front { map Some (take result values.new) ≡ map Some (take kept values.old)
-        ++ map (slice_get values.old) (positions base (word_bits word 64)) }
-    ensures after { drop (base + 64) values.new ≡ drop (base + 64) values.old }
+    ensures { IsWordKept values.old values.new kept base word result }
 {
     if word == u64::MAX {
         move_64(values, base, kept);
@@ -130,10 +129,7 @@ fn keep_word<T: Copy>(values: &mut [T], kept: usize, base: usize, word: u64) -> 
     requires behind { kept ≤ base }
     requires within { ascending base (length values.old) (positions base (word_bits word 64))
         ≡ true }
-    ensures count { result ≡ kept + count_ones word }
-    ensures front { map Some (take result values.new) ≡ map Some (take kept values.old)
-        ++ map (slice_get values.old) (positions base (word_bits word 64)) }
-    ensures after { drop (base + 64) values.new ≡ drop (base + 64) values.old }
+    ensures { IsWordKept values.old values.new kept base word result }
 {
     let mut next = kept;
     let mut left = word;

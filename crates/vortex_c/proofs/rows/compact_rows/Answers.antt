@@ -23,14 +23,15 @@ loop-w-preserved g c =
     let step = c.copy_rows-kept.ensures in
     put_more c.args.src.now c.args.dst.now c.loop-w.dst _ c.args.words.now c.loop-w.kept _ c.args.count c.loop-w.w (omega arith) (omega arith) step.count step.front step.rest c.loop-w.invariant
 
-pub returns-clause-count : goal.returns-clause-count
-returns-clause-count g c = c.loop-w.invariant.count ∙ ap count_of (take_all c.loop-w.w c.args.words.now (omega arith))
-
-pub returns-clause-front : goal.returns-clause-front
-returns-clause-front g c =
-    compacted_all c.args.src.now c.loop-w.dst c.loop-w.dst c.args.words.now _ c.loop-w.w (omega arith) (omega (arith, c.requires.words)) c.requires.clear (put_compacted c.args.src.now c.args.dst.now c.loop-w.dst c.args.words.now _ c.args.count c.loop-w.w c.loop-w.invariant)
-
-pub returns-clause-rest : goal.returns-clause-rest
-returns-clause-rest g c =
-    let all = c.loop-w.invariant.count ∙ ap count_of (take_all c.loop-w.w c.args.words.now (omega arith)) in
-    same_further c.args.dst.now c.loop-w.dst c.args.count c.loop-w.kept (omega (arith, all, c.requires.counted)) c.loop-w.invariant.rest
+pub returns : goal.returns
+returns g c =
+    let v = c.loop-w.invariant in
+    let src = c.args.src.now in
+    let old = c.args.dst.now in
+    let words = c.args.words.now in
+    let all = v.count ∙ ap count_of (take_all c.loop-w.w words (omega arith)) in
+    record {
+      count = all;
+      front = compacted_all src c.loop-w.dst c.loop-w.dst words _ c.loop-w.w (omega arith) (omega (arith, c.requires.words)) c.requires.clear (put_compacted src old c.loop-w.dst words _ c.args.count c.loop-w.w v);
+      rest = same_further old c.loop-w.dst c.args.count c.loop-w.kept (omega (arith, all, c.requires.counted)) v.rest;
+    }

@@ -30,7 +30,11 @@ loop-k-preserved g c =
       ones = omega (arith, one_less 64 left some fits, v.ones);
     }
 
-pub returns-clause-front : goal.returns-clause-front
-returns-clause-front g c =
+pub returns : goal.returns
+returns g c =
     let v = c.loop-k.invariant in
-    word_all_copied _ _ _ _ _ c.loop-k.left (omega (arith, v.ones)) v.copying.whole
+    record {
+      count = omega (arith, v.count, v.ones);
+      front = word_all_copied _ _ _ _ _ c.loop-k.left (omega (arith, v.ones)) v.copying.whole;
+      rest = v.copying.after;
+    }

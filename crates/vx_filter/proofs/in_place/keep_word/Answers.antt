@@ -47,7 +47,11 @@ loop-k-preserved g c =
       ones = omega (arith, one_less 64 left some fits, v.ones);
     }
 
-pub returns-clause-front : goal.returns-clause-front
-returns-clause-front g c =
+pub returns : goal.returns
+returns g c =
     let v = c.loop-k.invariant in
-    word_all_moved _ _ _ _ c.loop-k.left _ (omega (arith, v.ones)) v.word
+    record {
+      count = omega (arith, v.count, v.ones);
+      front = word_all_moved _ _ _ _ c.loop-k.left _ (omega (arith, v.ones)) v.word;
+      after = v.word.after;
+    }

@@ -4,7 +4,7 @@ use Rattle.std.specs.List.{slice_get}
 use Rattle.vx_bits.specs.Words.{word_bits}
 use Rattle.vx_mask.specs.Positions.{positions}
 use Rattle.vx_filter.proofs.Copies.{IsCopyingRuns}
-use Rattle.vx_filter.proofs.compact.copy_runs.Given as goal
+use Rattle.vx_filter.proofs.compact.ByRunsCopyWord.copy.Given as goal
 
 abbrev pub invariant-run : goal.invariant-run
 invariant-run g l = record {

@@ -1,7 +1,9 @@
-use Rattle.std.proofs.Common.{arith}
+use Rattle.std.proofs.Common.{◌+◌, arith}
+use Rattle.std.specs.Int.RustNames.{count_ones}
 use Rattle.std.proofs.lemmas.Nat.{ones_le_self}
 use Rattle.vx_filter.proofs.Copies.{run_copied, run_within, word_all_copied}
-use Rattle.vx_filter.proofs.compact.copy_runs.Goals as goal
+use Rattle.vx_filter.proofs.Moves.{same_further}
+use Rattle.vx_filter.proofs.compact.ByRunsCopyWord.copy.Goals as goal
 
 pub overflow_add-base : goal.overflow_add-base
 overflow_add-base g c =
@@ -17,5 +19,11 @@ run-preserved g c = record {
   ones = omega (arith, c.run.invariant.ones, c.lowest_run-run.ensures.ones);
 }
 
-pub returns-clause-front : goal.returns-clause-front
-returns-clause-front g c = word_all_copied _ _ _ _ c.args.base c.run.left (omega (arith, ones_le_self c.run.left)) c.run.invariant.copying.whole
+pub returns : goal.returns
+returns g c =
+    let v = c.run.invariant in
+    record {
+      count = omega (arith, v.ones, ones_le_self c.run.left);
+      front = word_all_copied _ _ _ _ c.args.base c.run.left (omega (arith, ones_le_self c.run.left)) v.copying.whole;
+      rest = same_further c.args.dst.now c.run.dst (c.args.kept + count_ones c.args.word) c.run.next (omega (arith, v.ones, ones_le_self c.run.left)) v.copying.after;
+    }

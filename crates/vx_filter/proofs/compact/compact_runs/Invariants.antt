@@ -1,5 +1,0 @@
-use Rattle.vx_filter.proofs.Copies.{IsCompacted}
-use Rattle.vx_filter.proofs.compact.compact_runs.Given as goal
-
-abbrev pub invariant-loop-w : goal.invariant-loop-w
-invariant-loop-w g l = IsCompacted l.src l.initial.dst l.dst l.words l.kept l.w
