@@ -145,6 +145,10 @@ is_mask rows words h =
       none = eqb-true past 0 tests.1;
     }
 
+-- the same of words that passed the test
+pub passed_mask : (rows : ℕ) (words : List ℕ) (fault : ℕ) → fault ≡ mask_fault rows words → fault ≡ 0 → IsMask rows words
+passed_mask rows words fault e none = is_mask rows words (sym e ∙ none)
+
 -- no bit of the last word is set past the rows
 pub last_word_below : (rows : ℕ) (words : List ℕ) (w : ℕ) → mask_fault rows words ≡ 0 → w < length words → get_or words w 0 < 2 ^ 64 → rows < 64 * w + 64 → get_or words w 0 < 2 ^ (rows - 64 * w)
 last_word_below rows words w e h fits short =

@@ -5,7 +5,7 @@ use Rattle.vx_bits.specs.BitBuffer.{true_count_of}
 use Rattle.vx_bits.specs.Words.{word_at, word_count}
 use Rattle.vx_filter.specs.Compact.{bits_of_words}
 use Rattle.vx_take.specs.Picks.{at}
-use Rattle.vortex_c.specs.Takes.{IsFirstPast, picks_at, valid_fault}
+use Rattle.vortex_c.specs.Takes.{IsFirstPast, pick_at, picks_at, valid_fault}
 
 -- so many bits of the words from bit `offset` on
 abbrev pub bits_at : List ℕ → ℕ → ℕ → List Bool
@@ -18,6 +18,18 @@ words_of bits = map (word_at bits) (range_with_len 0 (word_count (length bits)))
 -- whether the words hold so many bits from bit `offset` on
 abbrev pub are_held : List ℕ → ℕ → ℕ → Bool
 are_held words offset len = nat_le (offset + len) (64 * length words)
+
+-- the bits at so many picks from pick `from` on, a clear one at each null
+abbrev pub bits_taken : List Bool → List ℕ → List ℕ → ℕ → ℕ → List Bool
+bits_taken bits indices valid from n =
+    at false bits (map (pick_at indices valid) (range_with_len from n))
+
+-- the bits at the mask's set bits, so many, are the first ones of the output, clear bits fill the
+-- last word, and the words behind it are as they were
+pub record AreKeptBits (src mask : List Bool) (old new : List ℕ) (kept : ℕ) : Type 0 where
+  pub bits : new
+      ≡ words_of (items_where_true mask src) ++ drop (word_count (true_count_of mask)) old
+  pub count : kept ≡ true_count_of mask
 
 -- the full words of the bits stand at the front, and the next one is the word of the bits behind
 -- them

@@ -1,8 +1,10 @@
 //! Bits that words of the caller's hold, read from any of them on and written from the first one.
-ghost use Rattle.std.specs.Prelude.{◌≡◌, ℕ, ◌+◌, ◌-◌, ◌*◌, ◌/◌, ◌%◌, ◌^◌, ◌<◌, ◌≤◌, ◌==◌, Bool, List, ◌++◌, false, length, drop, nat_le, slice_index_or};
+ghost use Rattle.std.specs.Prelude.{◌≡◌, ℕ, ◌+◌, ◌-◌, ◌*◌, ◌/◌, ◌%◌, ◌^◌, ◌<◌, ◌≤◌, ◌==◌, Bool, List, ◌++◌, false, length, drop, nat_le, slice_index_or, IfSome};
 ghost use Rattle.vx_bits.specs.BitBuffer.{number_of};
 ghost use Rattle.vx_bits.specs.Words.{word_at, word_count};
 ghost use Rattle.vortex_c.specs.Bits.{IsPacked, bits_at, words_of};
+
+use std::marker::Model;
 
 // Whether the words hold so many bits from bit `offset` on.
 pub(crate) fn hold(words: &[u64], offset: usize, len: usize) -> bool
@@ -11,22 +13,84 @@ pub(crate) fn hold(words: &[u64], offset: usize, len: usize) -> bool
     offset as u128 + len as u128 <= 64 * words.len() as u128
 }
 
-// Word `i` of the `len` bits from bit `offset` of the words on, and zeros past their end.
-#[inline(always)]
-pub(crate) fn word_of(words: &[u64], offset: usize, len: usize, i: usize) -> u64
-    requires held { offset + len ≤ 64 * length words.now }
-    requires some { 64 * i < len }
-    ensures { result ≡ word_at (bits_at words.now offset len) i }
-{
-    let first = offset / 64 + i;
-    let low = words[first];
-    let high = if first + 1 < words.len() {
-        words[first + 1]
-    } else {
-        0
-    };
-    let count = (len - 64 * i).min(64);
-    cut(low, high, (offset % 64) as u32, count as u32)
+// The `len` bits from bit `offset` of the words on.
+//
+// Clauses see the bits.
+#[derive(Drop)]
+pub(crate) struct Bits<'a> {
+    words: &'a [u64],
+    offset: usize,
+    len: usize,
+}
+
+impl<'a> Model for Bits<'a> {
+    ghost use Rattle.std.specs.Prelude.{◌+◌, ◌*◌, ◌≤◌, Bool, List, length};
+    ghost use Rattle.vortex_c.specs.Bits.{bits_at};
+
+    ghost Value = { List Bool };
+
+    ghost view = { λ b. bits_at b.words.now b.offset b.len };
+
+    ghost invariant = { λ b. b.offset + b.len ≤ 64 * length b.words.now };
+}
+
+impl<'a> Bits<'a> {
+    pub(crate) fn new(words: &'a [u64], offset: usize, len: usize) -> Bits<'a>
+        requires { offset + len ≤ 64 * length words.now }
+        ensures bits { result ≡ bits_at words.now offset len }
+        ensures len { length result ≡ len }
+    {
+        Bits { words, offset, len }
+    }
+
+    // The same bits, where they begin with the words: then their offset is known to be 0.
+    #[inline(always)]
+    pub(crate) fn from_first(&self) -> Option<Bits<'a>>
+        ensures { IfSome result (λ bits. bits ≡ self.now) }
+    {
+        if self.offset != 0 {
+            return None;
+        }
+        Some(Bits {
+            words: self.words,
+            offset: 0,
+            len: self.len,
+        })
+    }
+
+    #[inline(always)]
+    pub(crate) fn len(&self) -> usize
+        ensures { result ≡ length self.now }
+    {
+        self.len
+    }
+
+    // Word `i` of the bits, and zeros past their end.
+    #[inline(always)]
+    pub(crate) fn word(&self, i: usize) -> u64
+        requires { 64 * i < length self.now }
+        ensures { result ≡ word_at self.now i }
+    {
+        let first = self.offset / 64 + i;
+        let low = self.words[first];
+        let high = if first + 1 < self.words.len() {
+            self.words[first + 1]
+        } else {
+            0
+        };
+        let count = (self.len - 64 * i).min(64);
+        cut(low, high, (self.offset % 64) as u32, count as u32)
+    }
+
+    // Bit `index`, lowest, and what stands above it in its word.
+    #[inline(always)]
+    pub(crate) fn from_bit(&self, index: u64) -> u64
+        requires { index < length self.now }
+        ensures { (result % 2 == 1) ≡ slice_index_or self.now index false }
+    {
+        let place = self.offset as u128 + u128::from(index);
+        self.words[(place / 64) as usize] >> (place % 64) as u32
+    }
 }
 
 // The word of `count` bits of two words from bit `shift` on, and zeros.
@@ -60,18 +124,6 @@ fn front(word: u64, count: u32) -> u64
     ensures { result ≡ word % 2 ^ count }
 {
     word & ((1 << count) - 1)
-}
-
-// Bit `index` of the `len` bits from bit `offset` of the words on, lowest, and what stands above it
-// in its word.
-#[inline(always)]
-pub(crate) fn from_bit(words: &[u64], offset: usize, len: usize, index: u64) -> u64
-    requires held { offset + len ≤ 64 * length words.now }
-    requires within { index < len }
-    ensures { (result % 2 == 1) ≡ slice_index_or (bits_at words.now offset len) index false }
-{
-    let place = offset as u128 + u128::from(index);
-    words[(place / 64) as usize] >> (place % 64) as u32
 }
 
 // How many words are full, and the bits behind them, fewer than 64.

@@ -1,23 +1,21 @@
 //! A filter of bits.
-ghost use Rattle.std.specs.Prelude.{◌≡◌, ◌+◌, ◌*◌, ◌<◌, ◌≤◌, ◌++◌, None, Some, if◌then◌else◌, length, drop, nat_lt};
+ghost use Rattle.std.specs.Prelude.{◌≡◌, ◌+◌, ◌*◌, ◌<◌, ◌≤◌, None, Some, if◌then◌else◌, length, nat_lt};
 ghost use Rattle.std.specs.Int.RustNames.{count_ones};
-ghost use Rattle.std.specs.List.{items_where_true};
 ghost use Rattle.vx_bitfilter.specs.Pext.{pext};
 ghost use Rattle.vx_bits.specs.BitBuffer.{true_count_of};
 ghost use Rattle.vx_bits.specs.Words.{word_count};
-ghost use Rattle.vortex_c.specs.Bits.{AreBitsFiltered, bits_at, words_of};
+ghost use Rattle.vortex_c.specs.Bits.{AreBitsFiltered, AreKeptBits};
 
 use crate::answer::{Answer, DONE, LENGTHS, ROOM};
-use crate::bits::{Packed, hold, word_of};
+use crate::bits::{Bits, Packed, hold};
 
-// How many of the `len` bits from bit `offset` of the words on are set.
-fn count_bits(words: &[u64], offset: usize, len: usize) -> usize
-    requires { offset + len ≤ 64 * length words.now }
-    ensures { result ≡ true_count_of (bits_at words.now offset len) }
+// How many bits are set.
+fn count_bits(bits: &Bits) -> usize
+    ensures { result ≡ true_count_of bits.now }
 {
     let mut count = 0;
-    for i in 0..len.div_ceil(64) {
-        count += word_of(words, offset, len, i).count_ones() as usize;
+    for i in 0..bits.len().div_ceil(64) {
+        count += bits.word(i).count_ones() as usize;
     }
     count
 }
@@ -70,26 +68,15 @@ fn picked_by_ranks(word: u64, picks: u64) -> Kept
 
 // Writes the bits at the mask's set bits to the front, and answers how many they are.
 #[inline(always)]
-fn put_words(
-    src: &[u64],
-    src_at: usize,
-    mask: &[u64],
-    mask_at: usize,
-    rows: usize,
-    dst: &mut [u64],
-) -> usize
-    requires src { src_at + rows ≤ 64 * length src.now }
-    requires mask { mask_at + rows ≤ 64 * length mask.now }
-    requires room { true_count_of (bits_at mask.now mask_at rows) ≤ 64 * length dst.old }
-    ensures bits { dst.new
-        ≡ words_of (items_where_true (bits_at mask.now mask_at rows) (bits_at src.now src_at rows))
-        ++ drop (word_count (true_count_of (bits_at mask.now mask_at rows))) dst.old }
-    ensures count { result ≡ true_count_of (bits_at mask.now mask_at rows) }
+fn put_words(src: &Bits, mask: &Bits, dst: &mut [u64]) -> usize
+    requires same { length src.now ≡ length mask.now }
+    requires room { true_count_of mask.now ≤ 64 * length dst.old }
+    ensures { AreKeptBits src.now mask.now dst.old dst.new result }
 {
     let mut kept = Packed::new();
-    for i in 0..rows.div_ceil(64) {
-        let picks = word_of(mask, mask_at, rows, i);
-        let word = word_of(src, src_at, rows, i);
+    for i in 0..mask.len().div_ceil(64) {
+        let picks = mask.word(i);
+        let word = src.word(i);
         let found = picked(word, picks);
         kept = kept.append(dst, found.bits, found.count);
     }
@@ -98,40 +85,29 @@ fn put_words(
 }
 
 // The same. Bits and masks from their first word on are the most common.
-fn put_kept(
-    src: &[u64],
-    src_at: usize,
-    mask: &[u64],
-    mask_at: usize,
-    rows: usize,
-    dst: &mut [u64],
-) -> usize
-    requires src { src_at + rows ≤ 64 * length src.now }
-    requires mask { mask_at + rows ≤ 64 * length mask.now }
-    requires room { true_count_of (bits_at mask.now mask_at rows) ≤ 64 * length dst.old }
-    ensures bits { dst.new
-        ≡ words_of (items_where_true (bits_at mask.now mask_at rows) (bits_at src.now src_at rows))
-        ++ drop (word_count (true_count_of (bits_at mask.now mask_at rows))) dst.old }
-    ensures count { result ≡ true_count_of (bits_at mask.now mask_at rows) }
+fn put_kept(src: &Bits, mask: &Bits, dst: &mut [u64]) -> usize
+    requires same { length src.now ≡ length mask.now }
+    requires room { true_count_of mask.now ≤ 64 * length dst.old }
+    ensures { AreKeptBits src.now mask.now dst.old dst.new result }
 {
-    if src_at == 0 && mask_at == 0 {
-        put_words(src, 0, mask, 0, rows, dst)
-    } else {
-        put_words(src, src_at, mask, mask_at, rows, dst)
+    if let Some(src) = src.from_first() {
+        if let Some(mask) = mask.from_first() {
+            return put_words(&src, &mask, dst);
+        }
     }
+    put_words(src, mask, dst)
 }
 
 // How many bits of the mask are set, if so many words have no room for as many. Where they have
 // room for a bit of each row, nothing is counted.
-fn too_many(mask: &[u64], mask_at: usize, rows: usize, room: usize) -> Option<usize>
-    requires { mask_at + rows ≤ 64 * length mask.now }
-    ensures { result ≡ (if nat_lt room (word_count (true_count_of (bits_at mask.now mask_at rows)))
-        then Some (true_count_of (bits_at mask.now mask_at rows)) else None) }
+fn too_many(mask: &Bits, room: usize) -> Option<usize>
+    ensures { result ≡ (if nat_lt room (word_count (true_count_of mask.now))
+        then Some (true_count_of mask.now) else None) }
 {
-    if rows.div_ceil(64) <= room {
+    if mask.len().div_ceil(64) <= room {
         return None;
     }
-    let count = count_bits(mask, mask_at, rows);
+    let count = count_bits(mask);
     if count.div_ceil(64) > room {
         Some(count)
     } else {
@@ -160,13 +136,15 @@ pub extern "C" fn vortex_filter_bits(
     if !(hold(src, src_at, rows) && hold(mask, mask_at, rows)) {
         return Answer::refused(LENGTHS);
     }
-    if let Some(count) = too_many(mask, mask_at, rows, dst.len()) {
+    let src = Bits::new(src, src_at, rows);
+    let mask = Bits::new(mask, mask_at, rows);
+    if let Some(count) = too_many(&mask, dst.len()) {
         return Answer {
             status: ROOM,
             value: count as u64,
         };
     }
-    let count = put_kept(src, src_at, mask, mask_at, rows, dst);
+    let count = put_kept(&src, &mask, dst);
     Answer {
         status: DONE,
         value: count as u64,

@@ -8,6 +8,11 @@ pub struct Record16 {
     pub high: u64,
 }
 
+impl Record16 {
+    // Of which each byte is zero.
+    pub(crate) const ZERO: Record16 = Record16 { low: 0, high: 0 };
+}
+
 /// A record of 32 bytes.
 #[repr(C)]
 #[derive(Clone, Copy)]
@@ -16,4 +21,14 @@ pub struct Record32 {
     pub b: u64,
     pub c: u64,
     pub d: u64,
+}
+
+impl Record32 {
+    // Of which each byte is zero.
+    pub(crate) const ZERO: Record32 = Record32 {
+        a: 0,
+        b: 0,
+        c: 0,
+        d: 0,
+    };
 }

@@ -222,7 +222,7 @@ pub extern "C" fn vortex_take_16(
     ensures { IsTaken (record { low = 0; high = 0 }) src.now indices.now valid.now dst.old dst.new
         result.status result.value }
 {
-    take(src, indices, valid, Record16 { low: 0, high: 0 }, dst)
+    take(src, indices, valid, Record16::ZERO, dst)
 }
 
 /// Writes the records of 32 bytes at the indices to the front of `dst`, in order, and zeros at each
@@ -242,16 +242,5 @@ pub extern "C" fn vortex_take_32(
     ensures { IsTaken (record { a = 0; b = 0; c = 0; d = 0 }) src.now indices.now valid.now dst.old
         dst.new result.status result.value }
 {
-    take(
-        src,
-        indices,
-        valid,
-        Record32 {
-            a: 0,
-            b: 0,
-            c: 0,
-            d: 0,
-        },
-        dst,
-    )
+    take(src, indices, valid, Record32::ZERO, dst)
 }

@@ -1,29 +1,22 @@
 //! A take of bits.
-ghost use Rattle.std.specs.Prelude.{◌≡◌, ◌+◌, ◌*◌, ◌%◌, ◌<◌, ◌≤◌, ◌==◌, ◌++◌, ℕ, None, Some, if◌then◌else◌, false, true, length, map, drop};
-ghost use Rattle.std.specs.List.{range_with_len};
+ghost use Rattle.std.specs.Prelude.{◌≡◌, ◌+◌, ◌*◌, ◌%◌, ◌<◌, ◌≤◌, ◌==◌, ◌++◌, ℕ, None, Some, if◌then◌else◌, false, true, length, drop};
 ghost use Rattle.vx_bits.specs.BitBuffer.{number_of};
 ghost use Rattle.vx_bits.specs.Words.{word_count};
 ghost use Rattle.vx_take.specs.Picks.{at, item_at};
-ghost use Rattle.vortex_c.specs.Bits.{AreBitsTaken, bit_take_fault, bits_at, words_of};
+ghost use Rattle.vortex_c.specs.Bits.{AreBitsTaken, bit_take_fault, bits_taken, words_of};
 ghost use Rattle.vortex_c.specs.Takes.{IsPast, pick_at, picks_at, valid_fault};
 
 use crate::answer::{Answer, DONE, INDEX, LENGTHS, ROOM};
-use crate::bits::{Packed, from_bit, hold};
+use crate::bits::{Bits, Packed, hold};
 use crate::take::{fault_of_valid, first_past, there};
 
 // The bit at an index, or a clear one where it is not there, lowest, and what stands above it.
 #[inline(always)]
-fn from_bit_or_clear(src: &[u64], src_at: usize, len: usize, there: bool, index: u64) -> u64
-    requires held { src_at + len ≤ 64 * length src.now }
-    requires within { there ≡ true → index < len }
-    ensures { (result % 2 == 1)
-        ≡ item_at false (bits_at src.now src_at len) (if there then Some index else None) }
+fn from_bit_or_clear(src: &Bits, there: bool, index: u64) -> u64
+    requires { there ≡ true → index < length src.now }
+    ensures { (result % 2 == 1) ≡ item_at false src.now (if there then Some index else None) }
 {
-    if there {
-        from_bit(src, src_at, len, index)
-    } else {
-        0
-    }
+    if there { src.from_bit(index) } else { 0 }
 }
 
 // Why so many picks of bits do not fit into so many words, or `DONE`.
@@ -41,180 +34,135 @@ fn fault_of(src: &[u64], src_at: usize, len: usize, picks: usize, valid: &[u64],
     }
 }
 
-// The bit at pick `k`, or a clear one where it is null.
-#[inline(always)]
-fn bit_taken(
-    src: &[u64],
-    src_at: usize,
-    len: usize,
-    indices: &[u64],
-    valid: &[u64],
-    k: usize,
-) -> u64
-    requires held { src_at + len ≤ 64 * length src.now }
-    requires valid { valid_fault (length indices.now) valid.now ≡ 0 }
-    requires within { (k : ℕ) → IsPast len indices.now valid.now k → ⊥ }
-    requires place { k < length indices.now }
-    ensures bit { result < 2 }
-    ensures value { (result == 1)
-        ≡ item_at false (bits_at src.now src_at len) (pick_at indices.now valid.now k) }
-{
-    from_bit_or_clear(src, src_at, len, there(valid, k), indices[k]) & 1
+// Picks of bits, no index of which is out of bounds.
+#[derive(Drop)]
+struct BitPicks<'a> {
+    src: Bits<'a>,
+    indices: &'a [u64],
+    valid: &'a [u64],
+    ghost told: { valid_fault (length indices.now) valid.now ≡ 0 },
+    ghost within: { (k : ℕ) → IsPast (length src) indices.now valid.now k → ⊥ },
 }
 
-// The bits at four picks from `k` on, the first one lowest.
-#[inline(always)]
-fn four_taken(
-    src: &[u64],
-    src_at: usize,
-    len: usize,
-    indices: &[u64],
-    valid: &[u64],
-    k: usize,
-) -> u64
-    requires held { src_at + len ≤ 64 * length src.now }
-    requires valid { valid_fault (length indices.now) valid.now ≡ 0 }
-    requires within { (k : ℕ) → IsPast len indices.now valid.now k → ⊥ }
-    requires place { k + 4 ≤ length indices.now }
-    ensures { result ≡ number_of (at false (bits_at src.now src_at len)
-        (map (pick_at indices.now valid.now) (range_with_len k 4))) }
-{
-    let first = bit_taken(src, src_at, len, indices, valid, k);
-    let second = bit_taken(src, src_at, len, indices, valid, k + 1);
-    let third = bit_taken(src, src_at, len, indices, valid, k + 2);
-    let fourth = bit_taken(src, src_at, len, indices, valid, k + 3);
-    first + 2 * second + 4 * third + 8 * fourth
-}
-
-// The bits at 64 picks from `start` on: four at a time come in from above.
-#[inline(always)]
-fn full_word_taken(
-    src: &[u64],
-    src_at: usize,
-    len: usize,
-    indices: &[u64],
-    valid: &[u64],
-    start: usize,
-) -> u64
-    requires held { src_at + len ≤ 64 * length src.now }
-    requires valid { valid_fault (length indices.now) valid.now ≡ 0 }
-    requires within { (k : ℕ) → IsPast len indices.now valid.now k → ⊥ }
-    requires place { start + 64 ≤ length indices.now }
-    ensures { result ≡ number_of (at false (bits_at src.now src_at len)
-        (map (pick_at indices.now valid.now) (range_with_len start 64))) }
-{
-    let mut top: u64 = 0;
-    for j in 0..16 {
-        let four = four_taken(src, src_at, len, indices, valid, start + 4 * j);
-        top = (top >> 4) | (four << 60);
+impl BitPicks<'_> {
+    // The bit at pick `k`, or a clear one where it is null, lowest, and what stands above it.
+    #[inline(always)]
+    fn from_bit(&self, k: usize) -> u64
+        requires { k < length self.now.indices.now }
+        ensures { (result % 2 == 1)
+            ≡ item_at false self.now.src (pick_at self.now.indices.now self.now.valid.now k) }
+    {
+        from_bit_or_clear(&self.src, there(self.valid, k), self.indices[k])
     }
-    top
-}
 
-// The bits at so many picks from `start` on: each comes in from above.
-#[inline(always)]
-fn part_taken(
-    src: &[u64],
-    src_at: usize,
-    len: usize,
-    indices: &[u64],
-    valid: &[u64],
-    start: usize,
-    count: usize,
-) -> u64
-    requires held { src_at + len ≤ 64 * length src.now }
-    requires valid { valid_fault (length indices.now) valid.now ≡ 0 }
-    requires within { (k : ℕ) → IsPast len indices.now valid.now k → ⊥ }
-    requires place { start + count ≤ length indices.now }
-    requires some { 0 < count }
-    requires few { count ≤ 64 }
-    ensures { result ≡ number_of (at false (bits_at src.now src_at len)
-        (map (pick_at indices.now valid.now) (range_with_len start count))) }
-{
-    let mut top: u64 = 0;
-    for j in 0..count {
-        let k = start + j;
-        let from_there = from_bit_or_clear(src, src_at, len, there(valid, k), indices[k]);
-        top = (top >> 1) | (from_there << 63);
+    // The bit at pick `k`, or a clear one where it is null.
+    #[inline(always)]
+    fn bit(&self, k: usize) -> u64
+        requires { k < length self.now.indices.now }
+        ensures bit { result < 2 }
+        ensures value { (result == 1)
+            ≡ item_at false self.now.src (pick_at self.now.indices.now self.now.valid.now k) }
+    {
+        self.from_bit(k) & 1
     }
-    top >> (64 - count)
-}
 
-// The bits at so many picks from `start` on, the first one lowest, and a clear one at each null.
-#[inline(always)]
-fn word_taken(
-    src: &[u64],
-    src_at: usize,
-    len: usize,
-    indices: &[u64],
-    valid: &[u64],
-    start: usize,
-    count: usize,
-) -> u64
-    requires held { src_at + len ≤ 64 * length src.now }
-    requires valid { valid_fault (length indices.now) valid.now ≡ 0 }
-    requires within { (k : ℕ) → IsPast len indices.now valid.now k → ⊥ }
-    requires place { start + count ≤ length indices.now }
-    requires some { 0 < count }
-    requires few { count ≤ 64 }
-    ensures { result ≡ number_of (at false (bits_at src.now src_at len)
-        (map (pick_at indices.now valid.now) (range_with_len start count))) }
-{
-    if count == 64 {
-        full_word_taken(src, src_at, len, indices, valid, start)
-    } else {
-        part_taken(src, src_at, len, indices, valid, start, count)
+    // The bits at four picks from `k` on, the first one lowest.
+    #[inline(always)]
+    fn four(&self, k: usize) -> u64
+        requires { k + 4 ≤ length self.now.indices.now }
+        ensures { result ≡ number_of
+            (bits_taken self.now.src self.now.indices.now self.now.valid.now k 4) }
+    {
+        let first = self.bit(k);
+        let second = self.bit(k + 1);
+        let third = self.bit(k + 2);
+        let fourth = self.bit(k + 3);
+        first + 2 * second + 4 * third + 8 * fourth
     }
-}
 
-// Writes the bits at the picks, and a clear one at each null.
-#[inline(always)]
-fn put_words(
-    src: &[u64],
-    src_at: usize,
-    len: usize,
-    indices: &[u64],
-    valid: &[u64],
-    dst: &mut [u64],
-)
-    requires held { src_at + len ≤ 64 * length src.now }
-    requires valid { valid_fault (length indices.now) valid.now ≡ 0 }
-    requires within { (k : ℕ) → IsPast len indices.now valid.now k → ⊥ }
-    requires room { length indices.now ≤ 64 * length dst.old }
-    ensures { dst.new
-        ≡ words_of (at false (bits_at src.now src_at len) (picks_at indices.now valid.now))
-        ++ drop (word_count (length indices.now)) dst.old }
-{
-    let mut taken = Packed::new();
-    for i in 0..indices.len().div_ceil(64) {
-        let count = (indices.len() - 64 * i).min(64);
-        let word = word_taken(src, src_at, len, indices, valid, 64 * i, count);
-        taken = taken.append(dst, word, count as u32);
+    // The bits at 64 picks from `start` on: four at a time come in from above.
+    #[inline(always)]
+    fn full_word(&self, start: usize) -> u64
+        requires { start + 64 ≤ length self.now.indices.now }
+        ensures { result ≡ number_of
+            (bits_taken self.now.src self.now.indices.now self.now.valid.now start 64) }
+    {
+        let mut top: u64 = 0;
+        for j in 0..16 {
+            let four = self.four(start + 4 * j);
+            top = (top >> 4) | (four << 60);
+        }
+        top
     }
-    taken.close(dst);
-}
 
-// The same. Whole words of bits, none of them null, are the most common.
-fn put_taken(
-    src: &[u64],
-    src_at: usize,
-    len: usize,
-    indices: &[u64],
-    valid: &[u64],
-    dst: &mut [u64],
-)
-    requires held { src_at + len ≤ 64 * length src.now }
-    requires valid { valid_fault (length indices.now) valid.now ≡ 0 }
-    requires within { (k : ℕ) → IsPast len indices.now valid.now k → ⊥ }
-    requires room { length indices.now ≤ 64 * length dst.old }
-    ensures { dst.new
-        ≡ words_of (at false (bits_at src.now src_at len) (picks_at indices.now valid.now))
-        ++ drop (word_count (length indices.now)) dst.old }
-{
-    if src_at == 0 && valid.is_empty() {
-        put_words(src, 0, len, indices, &[], dst);
-    } else {
-        put_words(src, src_at, len, indices, valid, dst);
+    // The bits at so many picks from `start` on: each comes in from above.
+    #[inline(always)]
+    fn part(&self, start: usize, count: usize) -> u64
+        requires place { start + count ≤ length self.now.indices.now }
+        requires some { 0 < count }
+        requires few { count ≤ 64 }
+        ensures { result ≡ number_of
+            (bits_taken self.now.src self.now.indices.now self.now.valid.now start count) }
+    {
+        let mut top: u64 = 0;
+        for j in 0..count {
+            top = (top >> 1) | (self.from_bit(start + j) << 63);
+        }
+        top >> (64 - count)
+    }
+
+    // The bits at so many picks from `start` on, the first one lowest, and a clear one at each
+    // null.
+    #[inline(always)]
+    fn word(&self, start: usize, count: usize) -> u64
+        requires place { start + count ≤ length self.now.indices.now }
+        requires some { 0 < count }
+        requires few { count ≤ 64 }
+        ensures { result ≡ number_of
+            (bits_taken self.now.src self.now.indices.now self.now.valid.now start count) }
+    {
+        if count == 64 {
+            self.full_word(start)
+        } else {
+            self.part(start, count)
+        }
+    }
+
+    // Writes the bits at the picks, and a clear one at each null.
+    #[inline(always)]
+    fn put_words(&self, dst: &mut [u64])
+        requires { length self.now.indices.now ≤ 64 * length dst.old }
+        ensures { dst.new
+            ≡ words_of (at false self.now.src (picks_at self.now.indices.now self.now.valid.now))
+            ++ drop (word_count (length self.now.indices.now)) dst.old }
+    {
+        let mut taken = Packed::new();
+        for i in 0..self.indices.len().div_ceil(64) {
+            let count = (self.indices.len() - 64 * i).min(64);
+            taken = taken.append(dst, self.word(64 * i, count), count as u32);
+        }
+        taken.close(dst);
+    }
+
+    // The same. Whole words of bits, none of them null, are the most common.
+    fn put(&self, dst: &mut [u64])
+        requires { length self.now.indices.now ≤ 64 * length dst.old }
+        ensures { dst.new
+            ≡ words_of (at false self.now.src (picks_at self.now.indices.now self.now.valid.now))
+            ++ drop (word_count (length self.now.indices.now)) dst.old }
+    {
+        if self.valid.is_empty() {
+            if let Some(src) = self.src.from_first() {
+                let all_there = BitPicks {
+                    src,
+                    indices: self.indices,
+                    valid: &[],
+                };
+                all_there.put_words(dst);
+                return;
+            }
+        }
+        self.put_words(dst);
     }
 }
 
@@ -253,7 +201,12 @@ pub extern "C" fn vortex_take_bits(
             value: k as u64,
         };
     }
-    put_taken(src, src_at, len, indices, valid, dst);
+    let picks = BitPicks {
+        src: Bits::new(src, src_at, len),
+        indices,
+        valid,
+    };
+    picks.put(dst);
     Answer {
         status: DONE,
         value,

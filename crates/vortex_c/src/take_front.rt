@@ -123,7 +123,7 @@ pub extern "C" fn vortex_take_front_16(
     ensures { IsFrontTaken (record { low = 0; high = 0 }) src.now indices.now valid.now dst.old
         dst.new result.status result.value }
 {
-    take_front(src, indices, valid, Record16 { low: 0, high: 0 }, dst)
+    take_front(src, indices, valid, Record16::ZERO, dst)
 }
 
 /// Writes the records of 32 bytes at the indices before the first that is out of bounds to the
@@ -143,16 +143,5 @@ pub extern "C" fn vortex_take_front_32(
     ensures { IsFrontTaken (record { a = 0; b = 0; c = 0; d = 0 }) src.now indices.now valid.now
         dst.old dst.new result.status result.value }
 {
-    take_front(
-        src,
-        indices,
-        valid,
-        Record32 {
-            a: 0,
-            b: 0,
-            c: 0,
-            d: 0,
-        },
-        dst,
-    )
+    take_front(src, indices, valid, Record32::ZERO, dst)
 }

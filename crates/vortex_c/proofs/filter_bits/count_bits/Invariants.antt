@@ -1,7 +1,6 @@
 use Rattle.std.proofs.Common.{◌≡◌, ◌*◌, take}
 use Rattle.vx_bits.specs.BitBuffer.{true_count_of}
-use Rattle.vortex_c.specs.Bits.{bits_at}
 use Rattle.vortex_c.proofs.filter_bits.count_bits.Given as goal
 
 abbrev pub invariant-loop-i : goal.invariant-loop-i
-invariant-loop-i l = l.count ≡ true_count_of (take (64 * l.i) (bits_at l.words l.offset l.len))
+invariant-loop-i l = l.count ≡ true_count_of (take (64 * l.i) l.bits)

@@ -1,14 +1,14 @@
 use Rattle.std.proofs.Common.{◌≡◌, ◌+◌, ◌*◌, ◌<◌, take, drop}
 use Rattle.std.specs.List.{items_where_true}
 use Rattle.vx_bits.specs.BitBuffer.{true_count_of}
-use Rattle.vortex_c.specs.Bits.{IsPacked, bits_at}
+use Rattle.vortex_c.specs.Bits.{IsPacked}
 use Rattle.vortex_c.proofs.filter_bits.put_words.Given as goal
 
 abbrev pub invariant-loop-i : goal.invariant-loop-i
 invariant-loop-i l =
-    let first = take (64 * l.i) (bits_at l.mask l.mask_at l.rows) in
+    let first = take (64 * l.i) l.mask in
     record {
-      packed : IsPacked (items_where_true first (bits_at l.src l.src_at l.rows)) l.dst l.kept.full l.kept.next l.kept.held;
+      packed : IsPacked (items_where_true first l.src) l.dst l.kept.full l.kept.next l.kept.held;
       open_word : l.kept.held < 64;
       count : 64 * l.kept.full + l.kept.held ≡ true_count_of first;
       rest : drop l.kept.full l.dst ≡ drop l.kept.full l.initial.dst;

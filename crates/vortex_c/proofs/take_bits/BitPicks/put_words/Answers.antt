@@ -5,18 +5,18 @@ use Rattle.std.proofs.lemmas.List.{length-map, map-append}
 use Rattle.vx_bits.specs.Words.{word_count}
 use Rattle.vx_filter.proofs.Moves.{same_further}
 use Rattle.vx_take.specs.Picks.{at, item_at}
-use Rattle.vortex_c.specs.Bits.{IsPacked, bits_at, words_of}
+use Rattle.vortex_c.specs.Bits.{IsPacked, words_of}
 use Rattle.vortex_c.specs.Takes.{pick_at}
 use Rattle.vortex_c.proofs.BitWords.{none_packed, places_behind}
-use Rattle.vortex_c.proofs.take_bits.put_words.Goals as goal
+use Rattle.vortex_c.proofs.take_bits.BitPicks.put_words.Goals as goal
 
 pub loop-i-init : goal.loop-i-init
 loop-i-init c =
     let new = c.new-taken.ensures in
-    let pick = pick_at c.args.indices.now c.args.valid.now in
-    let src = bits_at c.args.src.now c.args.src_at c.args.len in
+    let pick = pick_at c.args.self.now.indices.now c.args.self.now.valid.now in
+    let src = c.args.self.now.src in
     let start = c.new-taken.result in
-    let none : min 0 (length c.args.indices.now) ≡ 0 = omega arith in
+    let none : min 0 (length c.args.self.now.indices.now) ≡ 0 = omega arith in
     record {
       packed = subst (λ n. IsPacked (at false src (map pick (range_with_len 0 n))) c.args.dst.now start.full start.next start.held) (sym none) (none_packed c.args.dst.now start.full start.next start.held new.full new.next new.held);
       open_word = omega (arith, new.held);
@@ -28,9 +28,9 @@ pub loop-i-preserved : goal.loop-i-preserved
 loop-i-preserved c =
     let v = c.loop-i.invariant in
     let i = c.loop-i.i in
-    let indices = c.args.indices.now in
-    let pick = pick_at indices c.args.valid.now in
-    let src = bits_at c.args.src.now c.args.src_at c.args.len in
+    let indices = c.args.self.now.indices.now in
+    let pick = pick_at indices c.args.self.now.valid.now in
+    let src = c.args.self.now.src in
     let count = c.min-count.result in
     let taken = c.loop-i.taken in
     let after = c.append-taken.result in
@@ -44,7 +44,7 @@ loop-i-preserved c =
     let all : before ++ more ≡ at false src (map pick (range_with_len 0 (64 * i + count))) =
     sym (map-append (item_at false src) (map pick (range_with_len 0 (64 * i))) (map pick (range_with_len (64 * i) count)))
     ∙ ap (at false src) (places_behind pick (64 * i) count) in
-    let both : IsPacked (before ++ more) c.append-taken.new.dst after.full after.next after.held = step.packed before more packed c.word_taken-word.ensures (sym long) in
+    let both : IsPacked (before ++ more) c.append-taken.new.dst after.full after.next after.held = step.packed before more packed c.word.ensures (sym long) in
     record {
       packed = subst (λ n. IsPacked (at false src (map pick (range_with_len 0 n))) c.append-taken.new.dst after.full after.next after.held) (sym next) (subst (λ (l : List Bool). IsPacked l c.append-taken.new.dst after.full after.next after.held) all both);
       open_word = step.open;
@@ -55,9 +55,9 @@ loop-i-preserved c =
 pub returns : goal.returns
 returns c =
     let v = c.loop-i.invariant in
-    let indices = c.args.indices.now in
-    let pick = pick_at indices c.args.valid.now in
-    let src = bits_at c.args.src.now c.args.src_at c.args.len in
+    let indices = c.args.self.now.indices.now in
+    let pick = pick_at indices c.args.self.now.valid.now in
+    let src = c.args.self.now.src in
     let held = c.loop-i.taken in
     let last : min (64 * c.loop-i.i) (length indices) ≡ length indices = omega arith in
     let taken = at false src (map pick (range_with_len 0 (length indices))) in

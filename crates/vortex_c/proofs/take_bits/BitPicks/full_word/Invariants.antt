@@ -2,11 +2,10 @@ use Rattle.std.proofs.Common.{◌≡◌, ◌-◌, ◌*◌, ◌^◌, false, map}
 use Rattle.std.specs.List.{range_with_len}
 use Rattle.vx_bits.specs.BitBuffer.{number_of}
 use Rattle.vx_take.specs.Picks.{at}
-use Rattle.vortex_c.specs.Bits.{bits_at}
 use Rattle.vortex_c.specs.Takes.{pick_at}
-use Rattle.vortex_c.proofs.take_bits.part_taken.Given as goal
+use Rattle.vortex_c.proofs.take_bits.BitPicks.full_word.Given as goal
 
 abbrev pub invariant-loop-j : goal.invariant-loop-j
 invariant-loop-j l =
-    let picks = map (pick_at l.indices l.valid) (range_with_len l.start l.j) in
-    l.top ≡ number_of (at false (bits_at l.src l.src_at l.len) picks) * 2 ^ (64 - l.j)
+    let picks = map (pick_at l.self.indices.now l.self.valid.now) (range_with_len l.start (4 * l.j)) in
+    l.top ≡ number_of (at false l.self.src picks) * 2 ^ (64 - 4 * l.j)

@@ -1,0 +1,18 @@
+use Rattle.std.proofs.Common.{◌+◌, ◌/◌, get_or, length, refl, sym, ap, ◌∙◌, arith}
+use Rattle.vx_bits.specs.Words.{word_at}
+use Rattle.vortex_c.proofs.BitWords.{IsNext, cut_word, length-bits_at}
+use Rattle.vortex_c.proofs.bits.Bits.word.Goals.{then-first-self, else-first-self}
+use Rattle.vortex_c.proofs.bits.Bits.word.Goals as goal
+
+pub returns : goal.returns
+returns c =
+    let b = c.self.inside in
+    let words = b.words.now in
+    let q = b.offset / 64 + c.args.i in
+    let long = sym (ap length c.self.view_is) ∙ length-bits_at words b.offset b.len c.self.invariant in
+    let next : IsNext words q c.if-first-self.high = elim c.if-first-self.branch [
+      | then-first-self w ↦ record { there = λ h. w.high-is; none = λ h. absurd (omega (arith, w.if-first-self.true, h)) }
+      | else-first-self w ↦ record { there = λ h. absurd (omega (arith, w.if-first-self.false, h)); none = λ h. w.high-is }
+    ] in
+    cut_word words b.offset b.len c.args.i (get_or words q 0) c.if-first-self.high c.min-count.result c.cut.result c.self.invariant (omega (arith, c.requires, long)) (omega (arith, c.min-count.ensures)) (omega arith) refl next c.cut.ensures
+    ∙ ap (λ l. word_at l c.args.i) c.self.view_is
