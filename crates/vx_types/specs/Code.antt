@@ -1,6 +1,13 @@
 -- Parts of the codes by which a proof tells types and rows apart.
 use Rattle.std.specs.Prelude.{◌≡◌, ℕ, ℤ, pos, negsuc, refl, List, [], ◌∷◌}
-use base.Stored.{Gv, gnil, gnum, gcons, num}
+use Rattle.std.proofs.Common.{sym, ap, ◌∙◌}
+use base.Stored.{Gv, gnil, gnum, gcons, num, Coded}
+
+-- a code from which a value is had back tells its values apart
+abbrev pub coded_back :
+    {X : Type 0} (code : X → Gv) (back : Gv → X) → ((x : X) → back (code x) ≡ x) → Coded X
+coded_back code back undoes =
+    record { code = code; inj = λ x y p. sym (undoes x) ∙ ap back p ∙ undoes y }
 
 abbrev pub head : Gv → Gv
 head gnil = gnil

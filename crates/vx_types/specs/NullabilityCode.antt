@@ -1,7 +1,7 @@
 -- The code of a nullability.
 use Rattle.std.specs.Prelude.{◌≡◌, zero, suc, refl}
-use Rattle.std.proofs.Common.{sym, ap, ◌∙◌}
 use base.Stored.{Gv, gnil, gnum, gcons, Coded}
+use Rattle.vx_types.specs.Code.{coded_back}
 use Rattle.vx_types.specs.declared.nullability.Nullability.{Nullability}
 use Rattle.vx_types.specs.declared.nullability.Nullability.TheVariants.{NonNullable, Nullable}
 
@@ -20,9 +20,4 @@ nullability_back_code NonNullable = refl
 nullability_back_code Nullable = refl
 
 abbrev pub coded_nullability : Coded Nullability
-coded_nullability =
-    record {
-      code = nullability_code;
-      inj = λ x y p.
-          sym (nullability_back_code x) ∙ ap nullability_back p ∙ nullability_back_code y;
-    }
+coded_nullability = coded_back nullability_code nullability_back nullability_back_code

@@ -1,50 +1,24 @@
 -- The primitive types: their widths, and the numbers that their bytes spell.
 use Rattle.std.specs.Prelude.{ℕ, ◌^◌, ℤ, pos, neg_ℤ, int_le, Bool, true, false, ◌&&◌, List, take, if◌then◌else◌}
-use Rattle.std.specs.Int.{Width, w8, w16, w32, w64, w128, to_le_bytes, from_le_bytes, cast_signed, cast_unsigned}
+use Rattle.std.specs.Int.{Width, w8, w16, w32, w64, w128, byte_len, to_le_bytes, from_le_bytes, cast_signed, cast_unsigned}
 use Rattle.vx_types.specs.declared.ptype.PType.{PType}
 use Rattle.vx_types.specs.declared.ptype.PType.TheVariants.{U8, U16, U32, U64, I8, I16, I32, I64, F16, F32, F64}
 
--- bytes of a value
-abbrev pub width : PType → ℕ
-width U8 = 1
-width U16 = 2
-width U32 = 4
-width U64 = 8
-width I8 = 1
-width I16 = 2
-width I32 = 4
-width I64 = 8
-width F16 = 2
-width F32 = 4
-width F64 = 8
+abbrev pub is_same_ptype : PType → PType → Bool
+is_same_ptype U8 U8 = true
+is_same_ptype U16 U16 = true
+is_same_ptype U32 U32 = true
+is_same_ptype U64 U64 = true
+is_same_ptype I8 I8 = true
+is_same_ptype I16 I16 = true
+is_same_ptype I32 I32 = true
+is_same_ptype I64 I64 = true
+is_same_ptype F16 F16 = true
+is_same_ptype F32 F32 = true
+is_same_ptype F64 F64 = true
+is_same_ptype p q = false
 
-abbrev pub is_int : PType → Bool
-is_int U8 = true
-is_int U16 = true
-is_int U32 = true
-is_int U64 = true
-is_int I8 = true
-is_int I16 = true
-is_int I32 = true
-is_int I64 = true
-is_int F16 = false
-is_int F32 = false
-is_int F64 = false
-
-abbrev pub is_signed : PType → Bool
-is_signed U8 = false
-is_signed U16 = false
-is_signed U32 = false
-is_signed U64 = false
-is_signed I8 = true
-is_signed I16 = true
-is_signed I32 = true
-is_signed I64 = true
-is_signed F16 = false
-is_signed F32 = false
-is_signed F64 = false
-
--- the Rust type's width
+-- the width of the Rust type
 abbrev pub int_width : PType → Width
 int_width U8 = w8
 int_width U16 = w16
@@ -57,6 +31,23 @@ int_width I64 = w64
 int_width F16 = w16
 int_width F32 = w32
 int_width F64 = w64
+
+-- bytes of a value
+abbrev pub width : PType → ℕ
+width p = byte_len (int_width p)
+
+abbrev pub is_int : PType → Bool
+is_int F16 = false
+is_int F32 = false
+is_int F64 = false
+is_int p = true
+
+abbrev pub is_signed : PType → Bool
+is_signed I8 = true
+is_signed I16 = true
+is_signed I32 = true
+is_signed I64 = true
+is_signed p = false
 
 -- the number that a record's bytes spell, the lowest first, in two's complement where the type is
 -- signed

@@ -1,8 +1,7 @@
 -- The code of a row.
 use Rattle.std.specs.Prelude.{◌≡◌, ℕ, zero, suc, refl, true, false}
-use Rattle.std.proofs.Common.{sym, ap, ◌∙◌}
 use base.Stored.{Gv, gnil, gnum, gcons, num, Coded}
-use Rattle.vx_types.specs.Code.{head, bytes_code, bytes_back, bytes_back_code}
+use Rattle.vx_types.specs.Code.{head, bytes_code, bytes_back, bytes_back_code, coded_back}
 use Rattle.vx_types.specs.RowValue.{RowValue, RowValues, null, bit, bytes, list, fields, tagged, none, more}
 
 abbrev mutual
@@ -53,8 +52,4 @@ mutual
   back_codes (more x xs) = λ i. more (back_code x i) (back_codes xs i)
 
 abbrev pub coded_row : Coded RowValue
-coded_row =
-    record {
-      code = code;
-      inj = λ x y p. sym (back_code x) ∙ ap (λ g. (back g).0) p ∙ back_code y;
-    }
+coded_row = coded_back code (λ g. (back g).0) back_code

@@ -1,11 +1,10 @@
 -- When two types are one, as a test.
-use Rattle.std.specs.Prelude.{ℕ, ℤ, nat_eq, Bool, true, false, ◌&&◌, List}
+use Rattle.std.specs.Prelude.{ℕ, nat_eq, Bool, true, false, ◌&&◌, List}
 use Rattle.std.specs.Cmp.Lexicographic.{pointwise}
 use Rattle.std.specs.Ordering.{int_eq}
 use Rattle.vx_types.specs.FieldTypes.{FieldTypes, VariantTypes, ExtensionType}
+use Rattle.vx_types.specs.PType.{is_same_ptype}
 use Rattle.vx_types.specs.TypeTree.{TypeKind, TypeTree, TypeTrees, types_of, null_kind, bool_kind, primitive_kind, decimal_kind, utf8_kind, binary_kind, list_kind, fixed_kind, map_kind, struct_kind, union_kind, extension_kind, no_types, more_types}
-use Rattle.vx_types.specs.declared.ptype.PType.{PType}
-use Rattle.vx_types.specs.declared.ptype.PType.TheVariants.{U8, U16, U32, U64, I8, I16, I32, I64, F16, F32, F64}
 use Rattle.vx_types.specs.declared.nullability.Nullability.{Nullability}
 use Rattle.vx_types.specs.declared.nullability.Nullability.TheVariants.{NonNullable, Nullable}
 
@@ -13,20 +12,6 @@ abbrev pub is_same_nullability : Nullability → Nullability → Bool
 is_same_nullability NonNullable NonNullable = true
 is_same_nullability Nullable Nullable = true
 is_same_nullability n m = false
-
-abbrev pub is_same_ptype : PType → PType → Bool
-is_same_ptype U8 U8 = true
-is_same_ptype U16 U16 = true
-is_same_ptype U32 U32 = true
-is_same_ptype U64 U64 = true
-is_same_ptype I8 I8 = true
-is_same_ptype I16 I16 = true
-is_same_ptype I32 I32 = true
-is_same_ptype I64 I64 = true
-is_same_ptype F16 F16 = true
-is_same_ptype F32 F32 = true
-is_same_ptype F64 F64 = true
-is_same_ptype p q = false
 
 abbrev pub are_same_bytes : List ℕ → List ℕ → Bool
 are_same_bytes a b = pointwise nat_eq a b

@@ -4,7 +4,8 @@ use Rattle.std.specs.Bool.{Decides, one_answer}
 use Rattle.std.specs.Cmp.{first_so, second_so, signed_Decides, IsPartialEquivalence}
 use Rattle.std.specs.Cmp.Lexicographic.{pointwise_decides, bytes_decides}
 use Rattle.std.specs.Ordering.{int_eq}
-use Rattle.vx_types.specs.Same.{is_same_nullability, is_same_ptype, are_same_bytes, are_same_names, is_same_kind, are_same, is_same_type}
+use Rattle.vx_types.specs.PType.{is_same_ptype}
+use Rattle.vx_types.specs.Same.{is_same_nullability, are_same_bytes, are_same_names, is_same_kind, are_same, is_same_type}
 use Rattle.vx_types.specs.TypeTree.{TypeKind, TypeTree, TypeTrees, null_kind, bool_kind, primitive_kind, decimal_kind, utf8_kind, binary_kind, list_kind, fixed_kind, map_kind, struct_kind, union_kind, extension_kind, no_types, more_types}
 use Rattle.vx_types.specs.declared.ptype.PType.{PType}
 use Rattle.vx_types.specs.declared.ptype.PType.TheVariants.{U8, U16, U32, U64, I8, I16, I32, I64, F16, F32, F64}
@@ -36,16 +37,7 @@ ptype_one a b h = cc
 
 ptype_self : (a : PType) → is_same_ptype a a ≡ true
 ptype_self U8 = refl
-ptype_self U16 = refl
-ptype_self U32 = refl
-ptype_self U64 = refl
-ptype_self I8 = refl
-ptype_self I16 = refl
-ptype_self I32 = refl
-ptype_self I64 = refl
-ptype_self F16 = refl
-ptype_self F32 = refl
-ptype_self F64 = refl
+ptype_self p = refl
 
 bytes_one : (a b : List ℕ) → are_same_bytes a b ≡ true → a ≡ b
 bytes_one a b h = (bytes_decides a b).0 h

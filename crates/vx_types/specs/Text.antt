@@ -1,5 +1,5 @@
 -- Text: its kinds, and what a view of it stands for.
-use Rattle.std.specs.Prelude.{ℕ, ◌+◌, ◌-◌, ◌++◌, ◌&&◌, nat_le, nat_lt, Bool, false, List, [], length, take, replicate, slice_range, slice_index_or, if◌then◌else◌}
+use Rattle.std.specs.Prelude.{ℕ, ◌+◌, ◌-◌, ◌++◌, ◌&&◌, nat_le, nat_lt, Bool, List, [], length, take, replicate, slice_range, slice_index_or, if◌then◌else◌}
 use Rattle.std.specs.Str.{bytes_eq}
 use Rattle.vx_types.specs.TypeTree.{TypeKind, utf8_kind, binary_kind}
 use Rattle.vx_types.specs.declared.text.TextKind.{TextKind}

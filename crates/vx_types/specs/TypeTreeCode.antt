@@ -1,10 +1,9 @@
 -- The code of a type, by which proofs tell types apart: a kind is a number, the types inside, and
 -- the rest.
 use Rattle.std.specs.Prelude.{◌≡◌, ℕ, zero, suc, refl}
-use Rattle.std.proofs.Common.{sym, ap, ◌∙◌}
 use Rattle.std.specs.Coded.{code_by, coded×}
 use base.Stored.{Gv, gnil, gnum, gcons, num, Coded}
-use Rattle.vx_types.specs.Code.{head, tail, bytes_code, bytes_back, bytes_back_code, names_code, names_back, names_back_code, int_code, int_back, int_back_code}
+use Rattle.vx_types.specs.Code.{head, tail, bytes_code, bytes_back, bytes_back_code, names_code, names_back, names_back_code, int_code, int_back, int_back_code, coded_back}
 use Rattle.vx_types.specs.NullabilityCode.{coded_nullability, nullability_code, nullability_back, nullability_back_code}
 use Rattle.vx_types.specs.PTypeCode.{ptype_code, ptype_back, ptype_back_code}
 use Rattle.vx_types.specs.TypeTree.{TypeKind, TypeTree, TypeTrees, null_kind, bool_kind, primitive_kind, decimal_kind, utf8_kind, binary_kind, list_kind, fixed_kind, map_kind, struct_kind, union_kind, extension_kind, no_types, more_types}
@@ -110,11 +109,7 @@ mutual
       λ i. more_types (back_code k i) (nullability_back_code n i) (back_codes ts i)
 
 abbrev pub coded_kind : Coded TypeKind
-coded_kind =
-    record {
-      code = code;
-      inj = λ x y p. sym (back_code x) ∙ ap (λ g. (back g).one) p ∙ back_code y;
-    }
+coded_kind = coded_back code (λ g. (back g).one) back_code
 
 abbrev pub coded_type : Coded TypeTree
 coded_type =

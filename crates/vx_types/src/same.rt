@@ -4,7 +4,8 @@ ghost use Rattle.std.specs.Cmp.{on_per};
 ghost use Rattle.std.specs.Prelude.{◌≡◌, map};
 ghost use Rattle.vx_types.specs.DType.{type_of};
 ghost use Rattle.vx_types.specs.Fields.{names_of};
-ghost use Rattle.vx_types.specs.Same.{are_same_bytes, are_same_names, are_same_types, is_same_kind, is_same_nullability, is_same_ptype, is_same_type};
+ghost use Rattle.vx_types.specs.PType.{is_same_ptype};
+ghost use Rattle.vx_types.specs.Same.{are_same_bytes, are_same_names, are_same_types, is_same_kind, is_same_nullability, is_same_type};
 ghost use Rattle.vx_types.specs.SameLaws.{type_per};
 
 use crate::dtype::DType;
