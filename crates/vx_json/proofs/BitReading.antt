@@ -1,12 +1,12 @@
 -- A text of digits, read part by part.
-use Rattle.std.proofs.Common.{◌≡◌, ℕ, suc, ◌+◌, ◌*◌, ◌%◌, ◌^◌, ◌<◌, ◌≤◌, Bool, List, [], ◌∷◌, ◌++◌, length, get_or, take, drop, Option, Some, None, refl, sym, ap, ap₂, subst, ◌∙◌, append_assoc, take-append-drop, add-one, drop-cons, arith}
-use Rattle.std.proofs.lemmas.List.{append-nil, drop_all, drop-drop}
+use Rattle.std.proofs.Common.{◌≡◌, ℕ, suc, ◌+◌, ◌-◌, ◌*◌, ◌%◌, ◌^◌, ◌<◌, ◌≤◌, Bool, List, [], ◌∷◌, ◌++◌, length, get_or, take, drop, Option, Some, None, Result, refl, sym, ap, ap₂, subst, ◌∙◌, append_assoc, take-append-drop, add-one, drop-cons, arith}
+use Rattle.std.proofs.lemmas.List.{append-nil, drop_all, drop-drop, take_rest}
 use Rattle.std.proofs.lemmas.Nat.{pow-add}
 use Rattle.std.proofs.Math.Nat.{mul-le-mul_right}
 use Rattle.std.proofs.Math.Pow.{pow_mono}
 use Rattle.vx_bits.specs.Words.{word_bits}
 use Rattle.vx_bits.proofs.WordBits.{word_bits-append}
-use Rattle.vx_json.specs.Meaning.{◌>>=◌, Fails, with_read}
+use Rattle.vx_json.specs.Meaning.{◌>>=◌, Fails, Leaves, with_read}
 use Rattle.vx_json.specs.BitText.{bit_named, bits_in}
 use Rattle.vx_json.specs.declared.error.DocError.{DocError}
 use Rattle.vx_json.specs.declared.error.DocError.TheVariants.{Malformed, NoMemory}
@@ -48,6 +48,20 @@ module _ (old : List Bool) (front rest : List ℕ) where
       by None e = refl
       by (Some bits) e = cc
   part_fails NoMemory none = tt
+
+-- a text that is read in two parts, the first of which ends at n
+module _ (old : List Bool) (text : List ℕ) (n : ℕ) where
+  -- the first means nothing
+  pub front_fails : (e : DocError) → Fails e (with_read old (bits_in (take n text))) → Fails e (with_read old (bits_in text))
+  front_fails e none = subst (λ t. Fails e (with_read old (bits_in t))) (take-append-drop n text) (part_fails old (take n text) (drop n text) e none)
+
+  -- and what is left of the second is left of all
+  pub rest_leaves : {X : Type 0} (mid new : List Bool) (r : Result X DocError) → with_read old (bits_in (take n text)) ≡ Some mid → Leaves r new (with_read mid (bits_in (take (length text - n) (drop n text)))) → Leaves r new (with_read old (bits_in text))
+  rest_leaves mid new r is left =
+      let read = part_read old (take n text) (drop n text) mid is in
+      let Rest : List ℕ → Type 0 = λ t. Leaves r new (with_read mid (bits_in t)) in
+      let All : List ℕ → Type 0 = λ t. Leaves r new (with_read old (bits_in t)) in
+      subst All (take-append-drop n text) (rw read (subst Rest (take_rest text n) left))
 
 -- the text from k on, cut n further
 cut_at : (text : List ℕ) (k n : ℕ) → drop k text ≡ take n (drop k text) ++ drop (k + n) text

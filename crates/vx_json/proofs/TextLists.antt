@@ -37,6 +37,11 @@ nothing_then f Malformed None h = refl
 nothing_then f Malformed (Some a) h = absurd cc
 nothing_then f NoMemory o h = tt
 
+-- an item that is none of the texts of which f makes something
+pub text_fails : {A : Type 0} (f : List (List ℕ) → Option A) (kind : TextKind) (vs : List Value) (k : ℕ) (texts : List (List ℕ)) {whole : Option (List (List ℕ))} → IsReading (text_or_empty kind) vs k texts whole → (bytes : List ℕ) (e : DocError) (v : Value) → k < length vs → v ≡ get_or vs k v → Fails e (with_read bytes (text_or_empty kind (view v))) → Fails e (option_and_then f whole)
+text_fails f kind vs k texts {whole} reading bytes e v h is none =
+    nothing_then f e whole (reading_fails (text_or_empty kind) vs k texts {whole = whole} reading e v h is (not_behind bytes e (text_or_empty kind (view v)) none))
+
 -- one text more
 concat-one : (xs : List (List ℕ)) (x : List ℕ) → concat (xs ++ x ∷ []) ≡ concat xs ++ x
 concat-one xs x = concat-append xs (x ∷ []) ∙ ap (λ l. concat xs ++ l) (append-nil x)
@@ -80,11 +85,6 @@ module _ (kind : TextKind) (vs : List Value) (k : ℕ) (offsets : List (List ℕ
         together = all ∙ sym (concat-one s.texts x);
         cut = ap₂ (λ (l : List (List ℕ)) (m : List ℕ). l ++ offset_record (length m) ∷ []) s.cut all ∙ sym (offsets-one s.texts x);
       }
-
-  -- an item that is none
-  pub strung_fails : (e : DocError) (v : Value) → k < length vs → v ≡ get_or vs k v → Fails e (with_read bytes (text_or_empty kind (view v))) → Fails e (option_and_then strung whole)
-  strung_fails e v h is none =
-      nothing_then strung e whole (reading_fails (text_or_empty kind) vs k s.texts {whole = whole} s.reading e v h is (not_behind bytes e (text_or_empty kind (view v)) none))
 
   -- all are read
   pub strung_ends : length vs ≤ k → length bytes ≤ 2147483647 → option_and_then strung whole ≡ Some (offsets, bytes)

@@ -13,8 +13,8 @@ use Rattle.vx_json.specs.declared.error.DocError.TheVariants.{Malformed, NoMemor
 use Rattle.vx_json.specs.Items.{each}
 use Rattle.vx_json.specs.Texts.{text_or_empty}
 use Rattle.vx_json.specs.Views.{outside, all_outside, views_from, placed}
-use Rattle.vx_json.proofs.Reading.{IsReading, reading_starts, reading_goes_on, reading_fails, reading_ends}
-use Rattle.vx_json.proofs.TextLists.{behind, grown, not_behind, nothing_then}
+use Rattle.vx_json.proofs.Reading.{IsReading, reading_goes_on, reading_ends}
+use Rattle.vx_json.proofs.TextLists.{behind, grown}
 
 outside-append : (xs ys : List (List ℕ)) → all_outside (xs ++ ys) ≡ all_outside xs ++ all_outside ys
 outside-append [] ys = refl
@@ -44,14 +44,6 @@ pub record IsPlaced (kind : TextKind) (vs : List Value) (k : ℕ) (views : List 
   pub together : bytes ≡ all_outside texts
   pub cut : views ≡ views_from 0 texts
 
-pub placed_starts : (kind : TextKind) (vs : List Value) → IsPlaced kind vs 0 [] [] (each (text_or_empty kind) (items_view vs))
-placed_starts kind vs = record {
-  texts = [];
-  reading = reading_starts (text_or_empty kind) vs;
-  together = refl;
-  cut = refl;
-}
-
 module _ (kind : TextKind) (vs : List Value) (k : ℕ) (views : List BinaryView) (bytes : List ℕ) {whole : Option (List (List ℕ))} (s : IsPlaced kind vs k views bytes whole) where
   -- one text more
   pub placed_goes_on : (v : Value) (new : List ℕ) → k < length vs → v ≡ get_or vs k v → with_read bytes (text_or_empty kind (view v)) ≡ Some new → IsPlaced kind vs (k + 1) (views ++ view_of (drop (length bytes) new) 0 (length bytes) ∷ []) (bytes ++ outside (drop (length bytes) new)) whole
@@ -64,11 +56,6 @@ module _ (kind : TextKind) (vs : List Value) (k : ℕ) (views : List BinaryView)
         together = ap (λ l. l ++ outside x) s.together ∙ sym (outside-one s.texts x);
         cut = ap₂ (λ (l : List BinaryView) (m : List ℕ). l ++ view_of x 0 (length m) ∷ []) s.cut s.together ∙ ap (λ (m : ℕ). views_from 0 s.texts ++ view_of x 0 m ∷ []) zero ∙ sym (views-one 0 s.texts x);
       }
-
-  -- an item that is none
-  pub placed_fails : (e : DocError) (v : Value) → k < length vs → v ≡ get_or vs k v → Fails e (with_read bytes (text_or_empty kind (view v))) → Fails e (option_and_then placed whole)
-  placed_fails e v h is none =
-      nothing_then placed e whole (reading_fails (text_or_empty kind) vs k s.texts {whole = whole} s.reading e v h is (not_behind bytes e (text_or_empty kind (view v)) none))
 
   -- all are read
   pub placed_ends : length vs ≤ k → length bytes ≤ 4294967295 → option_and_then placed whole ≡ Some (views, bytes)

@@ -1,6 +1,8 @@
 -- Reading a JSON value by a definition that gives what it means, or none.
 use Rattle.std.specs.Prelude.{◌≡◌, List, ◌++◌, Option, Some, None, option_and_then, Result, Ok, Err}
 use Rattle.serde_json.specs.Data.{Data}
+use Rattle.vx_mask.specs.declared.error.MaskError.{MaskError}
+use Rattle.vx_mask.specs.declared.error.MaskError.TheVariants.{NoMemory as OutOfMemory}
 use Rattle.vx_json.specs.declared.error.DocError.{DocError}
 use Rattle.vx_json.specs.declared.error.DocError.TheVariants.{Malformed, NoMemory}
 
@@ -36,3 +38,8 @@ with_read read rest = rest >>= λ xs. Some (read ++ xs)
 abbrev pub unless_fault : {A E : Type 0} → Option E → A → Option A
 unless_fault None a = Some a
 unless_fault (Some e) a = None
+
+-- how a mask's refusal is told
+abbrev pub mask_refusal : MaskError → DocError
+mask_refusal OutOfMemory = NoMemory
+mask_refusal e = Malformed

@@ -4,6 +4,7 @@ ghost use Rattle.vx_json.specs.declared.error.DocError.TheVariants.{NoMemory as 
 
 use std::alloc::{AllocError, AllocFailed};
 use vx_bits::NoMemory;
+use vx_mask::MaskError;
 
 /// Why a JSON value gives no document, or no part of one.
 #[derive(Clone, Copy, Debug, PartialEq, Eq)]
@@ -27,6 +28,20 @@ impl From<AllocError> for DocError {
 
     fn from(_: AllocError) -> Self {
         DocError::NoMemory
+    }
+}
+
+/// What is no mask is malformed.
+impl From<MaskError> for DocError {
+    ghost use Rattle.vx_json.specs.Meaning.{mask_refusal};
+
+    ghost from_gives = { λ x e. e ≡ mask_refusal x };
+
+    fn from(error: MaskError) -> Self {
+        match error {
+            MaskError::NoMemory => DocError::NoMemory,
+            _ => DocError::Malformed,
+        }
     }
 }
 

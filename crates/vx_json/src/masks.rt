@@ -10,7 +10,7 @@ use crate::members::{bool_in, is_closed, list_member, member, text_member};
 use crate::wholes::{GREATEST_LEN, number_member, pairs_in, wholes_in};
 use serde_json::Value;
 use std::alloc::Global;
-use vx_mask::{Mask, MaskError};
+use vx_mask::Mask;
 
 #[tactic(auto, unfolding(crate::specs::Masks::placed_bits))]
 fn placed_mask(alloc: Global, value: &Value) -> Result<Mask, DocError>
@@ -27,11 +27,7 @@ fn mask_by_set(alloc: Global, value: &Value) -> Result<Mask, DocError>
 {
     let len = number_member(GREATEST_LEN, value, "len")?;
     let indices = wholes_in(alloc, list_member(value, "set")?)?;
-    match Mask::from_indices(alloc, len, indices) {
-        Ok(mask) => Ok(mask),
-        Err(MaskError::NoMemory) => Err(DocError::NoMemory),
-        Err(_) => Err(DocError::Malformed),
-    }
+    Ok(Mask::from_indices(alloc, len, indices)?)
 }
 
 #[tactic(auto, unfolding(crate::specs::Masks::bits_by_runs))]
@@ -40,11 +36,7 @@ fn mask_by_runs(alloc: Global, value: &Value) -> Result<Mask, DocError>
 {
     let len = number_member(GREATEST_LEN, value, "len")?;
     let runs = pairs_in(alloc, list_member(value, "runs")?)?;
-    match Mask::from_slices(alloc, len, runs) {
-        Ok(mask) => Ok(mask),
-        Err(MaskError::NoMemory) => Err(DocError::NoMemory),
-        Err(_) => Err(DocError::Malformed),
-    }
+    Ok(Mask::from_slices(alloc, len, runs)?)
 }
 
 #[tactic(auto, unfolding(crate::specs::Masks::bits_by_every))]

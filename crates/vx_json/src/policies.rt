@@ -21,28 +21,31 @@ fn ratio_of(value: &Value) -> Result<Ratio, DocError>
     })
 }
 
+/// `with_field!(fields, name, value, a, b, _ => other)` is these fields with this value in the
+/// place of that name, and `other` where the name is none of those listed.
+macro_rules! with_field {
+    ($fields:expr, $name:expr, $value:expr, $($field:ident,)+ _ => $other:expr) => {{
+        let mut fields = $fields;
+        match $name {
+            $(stringify!($field) => fields.$field = $value,)+
+            _ => return $other,
+        }
+        Some(fields)
+    }};
+}
+
 /// These fields with this ratio in the place of that name.
 #[tactic(auto, unfolding(crate::specs::Policies::with_ratio))]
 fn with_ratio(f: PolicyFields, name: &str, ratio: Ratio) -> Option<PolicyFields>
     ensures { result ≡ with_ratio f name.now ratio }
 {
-    let mut fields = f;
-    match name {
-        "dense_w1" => fields.dense_w1 = ratio,
-        "dense_w2" => fields.dense_w2 = ratio,
-        "dense_w4" => fields.dense_w4 = ratio,
-        "dense_w8" => fields.dense_w8 = ratio,
-        "dense_other" => fields.dense_other = ratio,
-        "cached_indices_max" => fields.cached_indices_max = ratio,
-        "in_place_min" => fields.in_place_min = ratio,
-        "bool_sparse_below" => fields.bool_sparse_below = ratio,
-        "reuse_two_max" => fields.reuse_two_max = ratio,
-        "reuse_more_max" => fields.reuse_more_max = ratio,
-        "text_indices_below" => fields.text_indices_below = ratio,
-        "list_indices_below" => fields.list_indices_below = ratio,
-        _ => return None,
-    }
-    Some(fields)
+    with_field!(
+        f, name, ratio,
+        dense_w1, dense_w2, dense_w4, dense_w8, dense_other,
+        cached_indices_max, in_place_min, bool_sparse_below, reuse_two_max, reuse_more_max,
+        text_indices_below, list_indices_below,
+        _ => None
+    )
 }
 
 /// These fields with this number in the place of that name, of lists and takes.
@@ -50,17 +53,11 @@ fn with_ratio(f: PolicyFields, name: &str, ratio: Ratio) -> Option<PolicyFields>
 fn with_size(f: PolicyFields, name: &str, number: usize) -> Option<PolicyFields>
     ensures { result ≡ with_size f name.now number }
 {
-    let mut fields = f;
-    match name {
-        "crop_min" => fields.crop_min = number,
-        "crop_factor" => fields.crop_factor = number,
-        "cached_list_size" => fields.cached_list_size = number,
-        "big_filtered_len" => fields.big_filtered_len = number,
-        "big_take_len" => fields.big_take_len = number,
-        "big_take_ratio" => fields.big_take_ratio = number,
-        _ => return None,
-    }
-    Some(fields)
+    with_field!(
+        f, name, number,
+        crop_min, crop_factor, cached_list_size, big_filtered_len, big_take_len, big_take_ratio,
+        _ => None
+    )
 }
 
 /// These fields with this number in the place of that name.
@@ -68,19 +65,13 @@ fn with_size(f: PolicyFields, name: &str, number: usize) -> Option<PolicyFields>
 fn with_number(f: PolicyFields, name: &str, number: usize) -> Option<PolicyFields>
     ensures { result ≡ with_number f name.now number }
 {
-    let mut fields = f;
-    match name {
-        "min_average_run" => fields.min_average_run = number,
-        "min_run_bytes" => fields.min_run_bytes = number,
-        "sparse_w1" => fields.sparse_w1 = number,
-        "sparse_w2" => fields.sparse_w2 = number,
-        "sparse_w4" => fields.sparse_w4 = number,
-        "sparse_other" => fields.sparse_other = number,
-        "rank_lookup_divisor" => fields.rank_lookup_divisor = number,
-        "rank_lookup_cap" => fields.rank_lookup_cap = number,
-        _ => return with_size(f, name, number),
-    }
-    Some(fields)
+    with_field!(
+        f, name, number,
+        min_average_run, min_run_bytes,
+        sparse_w1, sparse_w2, sparse_w4, sparse_other,
+        rank_lookup_divisor, rank_lookup_cap,
+        _ => with_size(f, name, number)
+    )
 }
 
 /// These fields with what a member says: a list is a ratio, and all else a number.

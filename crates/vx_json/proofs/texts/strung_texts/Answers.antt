@@ -5,8 +5,8 @@ use Rattle.std.specs.Int.{w128}
 use Rattle.std.proofs.lemmas.Int.{to_z_pos}
 use Rattle.vx_types.specs.PType as ptypes
 use Rattle.vx_types.specs.PType.{record_of}
-use Rattle.vx_json.specs.Texts.{text_or_empty, offset_record}
-use Rattle.vx_json.proofs.TextLists.{IsStrung, strung_starts, strung_goes_on, strung_fails, strung_ends, strung_past}
+use Rattle.vx_json.specs.Texts.{text_or_empty, offset_record, strung}
+use Rattle.vx_json.proofs.TextLists.{text_fails, IsStrung, strung_starts, strung_goes_on, strung_ends, strung_past}
 use Rattle.serde_json.specs.View.{items_view}
 use Rattle.vx_json.specs.Items.{each}
 use Rattle.vx_json.proofs.texts.strung_texts.Goals as goal
@@ -25,11 +25,8 @@ loop-item-init c =
 
 pub returns-in_err-append_text : goal.returns-in_err-append_text
 returns-in_err-append_text c =
-    let r = c.from_residual-in_err-append_text in
-    let p = err_from_is_err_and r.result r.ensures.1 in
-    let vs = c.args.items.now.items in let kind = c.args.kind in
-    let whole = each (text_or_empty kind) (items_view vs) in
-    rw (p.1, p.2) (strung_fails kind vs c.loop-item.item-index c.loop-item.offsets.items c.loop-item.bytes.items {whole = whole} c.loop-item.invariant.strung c.in_err-append_text.field-0.0 c.item-item.result (rw (← c.deref-item-items.ensures.value) c.loop-item-test.true) (rw (← c.deref-item-items.ensures.value) c.item-item.is) c.in_err-append_text.ensures)
+    let p = err_from_is_err_and c.from_residual-in_err-append_text.result c.from_residual-in_err-append_text.ensures.1 in
+    rw (p.1, p.2) (text_fails strung c.args.kind c.args.items.now.items c.loop-item.item-index c.loop-item.invariant.strung.texts {whole = each (text_or_empty c.args.kind) (items_view c.args.items.now.items)} c.loop-item.invariant.strung.reading c.loop-item.bytes.items c.in_err-append_text.field-0.0 c.item-item.result (rw (← c.deref-item-items.ensures.value) c.loop-item-test.true) (rw (← c.deref-item-items.ensures.value) c.item-item.is) c.in_err-append_text.ensures)
 
 pub loop-item-preserved : goal.loop-item-preserved
 loop-item-preserved c =

@@ -5,16 +5,15 @@ use Rattle.serde_json.specs.View.{items_view}
 use Rattle.vx_types.specs.declared.text.BinaryView.{BinaryView}
 use Rattle.vx_json.specs.Items.{each}
 use Rattle.vx_json.specs.Texts.{text_or_empty}
-use Rattle.vx_json.proofs.ViewLists.{IsPlaced, placed_fails, placed_ends, placed_next, placed_no_more}
+use Rattle.vx_json.specs.Views.{placed}
+use Rattle.vx_json.proofs.TextLists.{text_fails}
+use Rattle.vx_json.proofs.ViewLists.{IsPlaced, placed_ends, placed_next, placed_no_more}
 use Rattle.vx_json.proofs.views.placed_texts.Goals as goal
 
 pub returns-in_err-append_text : goal.returns-in_err-append_text
 returns-in_err-append_text c =
-    let r = c.from_residual-in_err-append_text in
-    let p = err_from_is_err_and r.result r.ensures.1 in
-    let vs = c.args.items.now.items in let kind = c.args.kind in
-    let whole = each (text_or_empty kind) (items_view vs) in
-    rw (p.1, p.2) (placed_fails kind vs c.loop-item.item-index c.loop-item.views.items c.loop-item.bytes.items {whole = whole} c.loop-item.invariant.placed c.in_err-append_text.field-0.0 c.item-item.result (rw (← c.deref-item-items.ensures.value) c.loop-item-test.true) (rw (← c.deref-item-items.ensures.value) c.item-item.is) c.in_err-append_text.ensures)
+    let p = err_from_is_err_and c.from_residual-in_err-append_text.result c.from_residual-in_err-append_text.ensures.1 in
+    rw (p.1, p.2) (text_fails placed c.args.kind c.args.items.now.items c.loop-item.item-index c.loop-item.invariant.placed.texts {whole = each (text_or_empty c.args.kind) (items_view c.args.items.now.items)} c.loop-item.invariant.placed.reading c.loop-item.bytes.items c.in_err-append_text.field-0.0 c.item-item.result (rw (← c.deref-item-items.ensures.value) c.loop-item-test.true) (rw (← c.deref-item-items.ensures.value) c.item-item.is) c.in_err-append_text.ensures)
 
 pub returns-in_err-place : goal.returns-in_err-place
 returns-in_err-place c =
