@@ -1,6 +1,7 @@
 //! What bytes come from and go to: sources, sinks, and a whole source or a whole text at once.
 #![tactic(auto)]
 
+mod calls;
 mod counting_sink;
 mod memory_sink;
 mod memory_source;

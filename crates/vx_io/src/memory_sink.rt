@@ -3,6 +3,7 @@ ghost use Rattle.std.specs.Prelude.{◌≡◌, ◌↔◌, ◌⊎◌, ◌+◌, �
 ghost use Rattle.vx_io.specs.Bytes.{Rose};
 ghost use Rattle.vx_io.specs.MemorySink.{new_sink, after_write, after_finish, after_failed_call};
 
+use crate::calls::Calls;
 use crate::sink::Sink;
 use std::alloc::Global;
 use std::marker::Model;
@@ -16,9 +17,7 @@ pub struct MemorySink {
     room: usize,
     pending: usize,
     piece: usize,
-    failing: Buffer<usize>,
-    call: usize,
-    faults: u64,
+    calls: Calls,
 }
 
 impl Model for MemorySink {
@@ -32,9 +31,9 @@ impl Model for MemorySink {
       room = s.room;
       pending = s.pending;
       piece = s.piece;
-      failing = s.failing;
-      call = s.call;
-      faults = s.faults;
+      failing = s.calls.failing;
+      call = s.calls.next;
+      faults = s.calls.faults;
     } };
 
     ghost invariant = { λ s. (vec_len s.bytes + s.room ≤ vec_capacity s.bytes)
@@ -60,9 +59,7 @@ impl MemorySink {
             room,
             pending: 0,
             piece,
-            failing,
-            call: 0,
-            faults: 0,
+            calls: Calls::new(failing),
         })
     }
 
@@ -102,11 +99,9 @@ impl Sink for MemorySink {
         ensures still { OnErr result (self.new.pending ≡ self.old.pending) }
         ensures never_falls { self.old.faults ≤ self.new.faults }
     {
-        let fails = self.failing.as_slice().contains(&self.call);
-        self.call = self.call.saturating_add(1);
+        let fails = self.calls.next_fails();
         if fails || (self.room == 0 && !piece.is_empty()) {
-            self.faults = self.faults.saturating_add(1);
-            return Err(Failed);
+            return Err(self.calls.fault());
         }
         let n = self.room.min(self.piece).min(piece.len());
         let Ok(()) = self.bytes.extend_from_slice(&piece[..n]) else {
@@ -129,11 +124,8 @@ impl Sink for MemorySink {
         ensures still { OnErr result (self.new.pending ≡ self.old.pending) }
         ensures never_falls { self.old.faults ≤ self.new.faults }
     {
-        let fails = self.failing.as_slice().contains(&self.call);
-        self.call = self.call.saturating_add(1);
-        if fails {
-            self.faults = self.faults.saturating_add(1);
-            return Err(Failed);
+        if self.calls.next_fails() {
+            return Err(self.calls.fault());
         }
         self.pending = 0;
         Ok(())

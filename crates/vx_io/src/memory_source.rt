@@ -3,6 +3,7 @@ ghost use Rattle.std.specs.Prelude.{◌≡◌, ◌↔◌, ◌<◌, ◌≤◌, �
 ghost use Rattle.vx_io.specs.Bytes.{Rose};
 ghost use Rattle.vx_io.specs.MemorySource.{new_source, after_read, after_failed_read};
 
+use crate::calls::Calls;
 use crate::source::Source;
 use crate::steady_source::SteadySource;
 use std::marker::Model;
@@ -12,9 +13,7 @@ use vx_bits::{Buffer, Failed};
 #[derive(Drop)]
 pub struct MemorySource {
     steady: SteadySource,
-    failing: Buffer<usize>,
-    call: usize,
-    faults: u64,
+    calls: Calls,
 }
 
 impl Model for MemorySource {
@@ -25,9 +24,9 @@ impl Model for MemorySource {
     ghost view = { λ s. record {
       bytes = s.steady.bytes;
       piece = s.steady.piece;
-      failing = s.failing;
-      call = s.call;
-      faults = s.faults;
+      failing = s.calls.failing;
+      call = s.calls.next;
+      faults = s.calls.faults;
     } };
 }
 
@@ -40,9 +39,7 @@ impl MemorySource {
     {
         MemorySource {
             steady: SteadySource::new(bytes, piece),
-            failing,
-            call: 0,
-            faults: 0,
+            calls: Calls::new(failing),
         }
     }
 }
@@ -71,11 +68,8 @@ impl Source for MemorySource {
         ensures unmoved { OnErr result (self.new.bytes ≡ self.old.bytes) }
         ensures never_falls { self.old.faults ≤ self.new.faults }
     {
-        let fails = self.failing.as_slice().contains(&self.call);
-        self.call = self.call.saturating_add(1);
-        if fails {
-            self.faults = self.faults.saturating_add(1);
-            return Err(Failed);
+        if self.calls.next_fails() {
+            return Err(self.calls.fault());
         }
         self.steady.read(dst)
     }
