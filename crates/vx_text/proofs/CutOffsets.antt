@@ -1,10 +1,12 @@
 -- Offsets from one to another cut the lists between them.
-use Rattle.std.proofs.Common.{◌≡◌, ℕ, zero, suc, ◌+◌, ◌-◌, ◌<◌, ◌≤◌, Bool, true, false, List, [], ◌∷◌, map, length, take, drop, slice_range, None, Some, refl, sym, ap, subst, ◌∙◌, arith}
-use Rattle.std.specs.Prelude.{ℤ, pos, int_le, ◌&&◌, if◌then◌else◌}
+use Rattle.std.proofs.Common.{◌≡◌, ℕ, zero, suc, ◌+◌, ◌-◌, ◌<◌, ◌≤◌, Bool, true, false, List, [], ◌∷◌, map, length, take, drop, slice_range, Option, None, Some, refl, sym, ap, subst, ◌∙◌, arith}
+use Rattle.std.specs.Prelude.{ℤ, pos, int_le, ◌&&◌, if◌then◌else◌, IfSome}
+use Rattle.std.specs.List.{All}
 use Rattle.std.proofs.lemmas.List.{length-map}
 use Rattle.vx_types.specs.TypeTree.{is_int_kind}
 use Rattle.vx_types.specs.declared.error.ColumnError.TheVariants.{WrongType, BadValidity, BadOffsets}
 use Rattle.vx_types.specs.declared.text.TextKind.{TextKind}
+use Rattle.vx_take.specs.Picks.{AreBelow}
 use Rattle.vx_positions.specs.Positions.{position_of}
 use Rattle.vx_positions.specs.Offsets.{ascend_within, are_offsets, offset_positions, spans, items_in, lists_at}
 use Rattle.vx_model.specs.Valid.{Valid, is_fitting, non_nullable}
@@ -14,6 +16,7 @@ use Rattle.vx_model.specs.VarBin.{VarBinParts, are_integers, is_never_null, row_
 use Rattle.vx_model.proofs.Items.{map-slice_range, length-slice_range}
 use Rattle.vx_model.proofs.Spans.{spans-slice}
 use Rattle.vx_text.proofs.Both.{first, rest, join}
+use Rattle.vx_text.proofs.PickedRows.{next_rows}
 use Rattle.vx_model.proofs.Texts.{integers-varbin, offsets-varbin, texts-varbin}
 
 -- ---- offsets that ascend
@@ -110,3 +113,9 @@ module _ (p : VarBinParts) (s e : ℕ) where
   sound-as_cut v k o b is same h q l f =
       subst (λ (x : RecordParts). varbin_fault (record { kind = k; offsets = x; bytes = b; valid = v }) ≡ None) (sym is)
       (subst (λ (y : List ℕ). varbin_fault (record { kind = k; offsets = offsets_cut; bytes = y; valid = v }) ≡ None) (sym same) (sound-cut v h q l f))
+
+-- each pick below the number of texts has an offset behind it
+pub picked_rows : (p : VarBinParts) (picks : List (Option ℕ)) (bound : ℕ) → varbin_fault p ≡ None → bound ≤ length (varbin_texts p).texts → AreBelow picks bound → All (λ pick. IfSome pick (λ row. row + 1 < length (integers_of p.offsets))) picks
+picked_rows p picks bound sound within below =
+    next_rows picks bound (length (integers_of p.offsets)) below
+    (omega (arith, end-within p 0 bound sound within, length-map p.offsets.records (integer_by p.offsets.kind)))

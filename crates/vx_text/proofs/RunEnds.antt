@@ -22,11 +22,11 @@ module _ (os : List ℕ) (base s : ℕ) where
       let many : i + 1 - s ≡ (i - s) + 1 = omega (arith, h) in
       ap (λ n. map f (range_with_len (s + 1) n)) many ∙ map-range_with_len_more f (s + 1) (i - s) (i + 1) (omega (arith, h))
 
-  module _ (read : List ℕ → ℕ) where
-    pub first_ends : (init old : List (List ℕ)) → old ≡ init → map read old ≡ map read init ++ run_ends os base s s
+  module _ {X : Type 0} (read : X → ℕ) where
+    pub first_ends : (init old : List X) → old ≡ init → map read old ≡ map read init ++ run_ends os base s s
     first_ends init old e = ap (map read) e ∙ sym (append-nil (map read init)) ∙ ap (λ l. map read init ++ l) (sym no_end)
 
-    pub more_ends : (i n : ℕ) (init old new : List (List ℕ)) (item : List ℕ) → s ≤ i → map read old ≡ map read init ++ run_ends os base s i → new ≡ old ++ item ∷ [] → read item ≡ n → n ≡ base + (get_or os (i + 1) 0 - get_or os s 0) → map read new ≡ map read init ++ run_ends os base s (i + 1)
+    pub more_ends : (i n : ℕ) (init old new : List X) (item : X) → s ≤ i → map read old ≡ map read init ++ run_ends os base s i → new ≡ old ++ item ∷ [] → read item ≡ n → n ≡ base + (get_or os (i + 1) 0 - get_or os s 0) → map read new ≡ map read init ++ run_ends os base s (i + 1)
     more_ends i n init old new item h is put spells end =
         ap (map read) put ∙ map-append read old (item ∷ [])
         ∙ ap₂ (λ l x. l ++ x ∷ []) is (spells ∙ end)

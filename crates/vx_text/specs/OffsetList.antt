@@ -5,6 +5,7 @@ use Rattle.std.specs.Int.{w32, w64, from_le_bytes}
 use Rattle.vx_types.specs.PType.{is_signed}
 use Rattle.vx_types.specs.declared.ptype.PType.{PType}
 use Rattle.vx_types.specs.declared.ptype.PType.TheVariants.{U32, U64, I32, I64}
+use Rattle.vx_positions.specs.Offsets.{offset_positions, record_numbers}
 use Rattle.vx_text.specs.declared.offsets.OffsetRecords.{OffsetRecords}
 use Rattle.vx_text.specs.declared.offsets.OffsetRecords.TheVariants.{Narrow, Wide}
 
@@ -65,6 +66,10 @@ stored_records (Wide records) = records.items
 abbrev pub stored_width : OffsetRecords → ℕ
 stored_width (Narrow records) = 4
 stored_width (Wide records) = 8
+
+-- the offsets that records of a type spell
+abbrev pub offsets_by : PType → List (List ℕ) → List ℕ
+offsets_by p records = offset_positions (record_numbers p records)
 
 -- where the rows of a run end, if their bytes stand behind `base` others
 abbrev pub run_ends : List ℕ → ℕ → ℕ → ℕ → List ℕ

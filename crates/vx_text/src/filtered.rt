@@ -70,27 +70,7 @@ fn texts_by_mask(alloc: Global, array: &VarBinArray, mask: &MaskValues) -> Resul
 }
 
 // The texts at the set positions of a mask that are there, and an empty one in place of each
-// other, by its set positions. `NoMemory` alone.
-fn texts_by_indices(
-    alloc: Global,
-    array: &VarBinArray,
-    mask: &MaskValues,
-    present: &Mask,
-) -> Result<Texts, NoMemory>
-    requires long { length mask.now.bits.bits ≡ length (varbin_texts array.now).texts }
-    requires fitting { length (mask_bits present.now) ≡ true_count_of mask.now.bits.bits }
-    ensures { IfOk result (λ t. AreTexts (type_of array.now.offsets.kind) t.offsets t.bytes.items
-        (kept_texts (mask_bits present.now)
-        (items_where_true mask.now.bits.bits (varbin_texts array.now).texts))) }
-{
-    let picks = set_picks(alloc, mask)?;
-    let offsets = array.offsets();
-    let bytes = array.bytes();
-    texts_in(alloc, offsets, bytes.as_slice(), &picks, present)
-}
-
-// The texts at the set positions of a mask that are there, and an empty one in place of each
-// other. `NoMemory` alone.
+// other: by its runs or by its set positions. `NoMemory` alone.
 fn texts_kept(
     alloc: Global,
     array: &VarBinArray,
@@ -105,10 +85,12 @@ fn texts_kept(
         (items_where_true mask.now.bits.bits (varbin_texts array.now).texts))) }
 {
     if goes_by_runs(mask, policy, present) {
-        texts_by_mask(alloc, array, mask)
-    } else {
-        texts_by_indices(alloc, array, mask, present)
+        return texts_by_mask(alloc, array, mask);
     }
+    let picks = set_picks(alloc, mask)?;
+    let offsets = array.offsets();
+    let bytes = array.bytes();
+    texts_in(alloc, offsets, bytes.as_slice(), &picks, present)
 }
 
 /// The rows at the set positions of `mask`, in order, with their validity; the text of a null row

@@ -4,12 +4,12 @@ ghost use Rattle.std.specs.Int.{w32, w64, from_le_bytes};
 ghost use Rattle.vx_bits.specs.Records.{records_of, width_of};
 ghost use Rattle.vx_types.specs.PType.{is_int, width};
 ghost use Rattle.vx_types.specs.TypeTree.{is_int_kind, primitive_kind};
-ghost use Rattle.vx_positions.specs.Offsets.{are_offsets, offset_positions, record_numbers};
 ghost use Rattle.vx_model.specs.Numbers.{integers_of};
 ghost use Rattle.vx_model.specs.Valid.{non_nullable};
-ghost use Rattle.vx_text.specs.OffsetList.{first_type, greatest_offset, is_wide, numbers_of, run_ends, stored_records, stored_width, type_by, with_offset};
+ghost use Rattle.vx_text.specs.OffsetList.{first_type, greatest_offset, is_wide, numbers_of, offsets_by, run_ends, stored_records, stored_width, type_by, with_offset};
 
-use crate::ends::{push_narrow, push_wide};
+use crate::ends::push_ends;
+use crate::text_run::TextRun;
 use std::alloc::Global;
 use std::marker::Model;
 use vx_bits::{Buffer, NoMemory, Records};
@@ -76,28 +76,20 @@ impl OffsetRecords {
         &mut self,
         signed: bool,
         base: usize,
-        ptype: PType,
-        records: &[[u8; W]],
-        len: usize,
-        run: (usize, usize),
+        run: TextRun<'_, W>,
     ) -> Result<(), NoMemory>
-        requires int { is_int ptype ≡ true }
-        requires width { W ≡ width ptype }
-        requires offsets { are_offsets (record_numbers ptype records.now) len ≡ true }
-        requires ordered { run.0 ≤ run.1 }
-        requires within { run.1 < length records.now }
-        requires fits { base
-            + (slice_index (offset_positions (record_numbers ptype records.now)) run.1
-            - slice_index (offset_positions (record_numbers ptype records.now)) run.0)
+        requires fits { base + (slice_index (offsets_by run.ptype run.records.now) run.rows.1
+            - slice_index (offsets_by run.ptype run.records.now) run.rows.0)
             ≤ greatest_offset (type_by signed self.old) }
         ensures numbers { OnOk result (numbers_of self.new ≡ numbers_of self.old
-            ++ run_ends (offset_positions (record_numbers ptype records.now)) base run.0 run.1) }
+            ++ run_ends (offsets_by run.entry.ptype run.entry.records.now) base
+            run.entry.rows.0 run.entry.rows.1) }
         ensures err { OnErr result (numbers_of self.new ≡ numbers_of self.old) }
         ensures kept { type_by signed self.new ≡ type_by signed self.old }
     {
         match self {
-            OffsetRecords::Narrow(ends) => push_narrow(ends, base, ptype, records, len, run),
-            OffsetRecords::Wide(ends) => push_wide(ends, base, ptype, records, len, run),
+            OffsetRecords::Narrow(ends) => push_ends(ends, base, run),
+            OffsetRecords::Wide(ends) => push_ends(ends, base, run),
         }
     }
 
@@ -145,9 +137,9 @@ fn widened(alloc: Global, records: &[[u8; 4]], room: usize) -> Result<Vec<[u8; 8
     Ok(wide)
 }
 
-// The column of these records, none of them null.
+/// The column of these records, none of them null. It takes no memory.
 #[tactic(auto, using(vx_model::proofs::Layouts::layout_rows))]
-fn column_of(ptype: PType, values: Records) -> PrimitiveArray
+pub fn number_column(ptype: PType, values: Records) -> PrimitiveArray
     requires { width_of values ≡ width ptype }
     ensures { result ≡ record {
       kind = primitive_kind ptype;
@@ -273,27 +265,18 @@ impl Offsets {
     pub(crate) fn push_run<const W: usize>(
         &mut self,
         base: usize,
-        ptype: PType,
-        records: &[[u8; W]],
-        len: usize,
-        run: (usize, usize),
+        run: TextRun<'_, W>,
     ) -> Result<(), NoMemory>
-        requires int { is_int ptype ≡ true }
-        requires width { W ≡ width ptype }
-        requires offsets { are_offsets (record_numbers ptype records.now) len ≡ true }
-        requires ordered { run.0 ≤ run.1 }
-        requires within { run.1 < length records.now }
-        requires fits { base
-            + (slice_index (offset_positions (record_numbers ptype records.now)) run.1
-            - slice_index (offset_positions (record_numbers ptype records.now)) run.0)
+        requires fits { base + (slice_index (offsets_by run.ptype run.records.now) run.rows.1
+            - slice_index (offsets_by run.ptype run.records.now) run.rows.0)
             ≤ greatest_offset self.old.ptype }
         ensures { OnOk result (self.new ≡ record self.old {
           numbers = self.old.numbers
-              ++ run_ends (offset_positions (record_numbers ptype records.now)) base run.0 run.1;
+              ++ run_ends (offsets_by run.entry.ptype run.entry.records.now) base
+              run.entry.rows.0 run.entry.rows.1;
         }) }
     {
-        self.records
-            .push_run(self.signed, base, ptype, records, len, run)
+        self.records.push_run(self.signed, base, run)
     }
 
     /// The column of these offsets. `NoMemory` alone.
@@ -310,6 +293,6 @@ impl Offsets {
             alloc,
         } = self;
         let values = records.into_values(alloc)?;
-        Ok(column_of(ptype, values))
+        Ok(number_column(ptype, values))
     }
 }

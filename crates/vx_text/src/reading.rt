@@ -44,28 +44,3 @@ pub(crate) fn span_at<const W: usize>(
     let end = offset_at(ptype, records, i + 1, len);
     (start, end)
 }
-
-// Where the bytes of a run of rows begin and end among `len` items.
-#[inline(always)]
-pub(crate) fn run_at<const W: usize>(
-    ptype: PType,
-    records: &[[u8; W]],
-    run: (usize, usize),
-    len: usize,
-) -> (usize, usize)
-    requires int { is_int ptype ≡ true }
-    requires width { W ≡ width ptype }
-    requires offsets { are_offsets (record_numbers ptype records.now) len ≡ true }
-    requires rows { run.0 ≤ run.1 }
-    requires row { run.1 < length records.now }
-    ensures start { result.0
-        ≡ slice_index (offset_positions (record_numbers ptype records.now)) run.0 }
-    ensures end { result.1
-        ≡ slice_index (offset_positions (record_numbers ptype records.now)) run.1 }
-    ensures ordered { result.0 ≤ result.1 }
-    ensures within { result.1 ≤ len }
-{
-    let start = offset_at(ptype, records, run.0, len);
-    let end = offset_at(ptype, records, run.1, len);
-    (start, end)
-}

@@ -7,133 +7,57 @@ ghost use Rattle.vx_positions.specs.Offsets.{are_offsets, lists_at, offset_posit
 ghost use Rattle.vx_model.specs.Numbers.{integers_of};
 ghost use Rattle.vx_model.specs.VarBin.{are_integers};
 ghost use Rattle.vx_text.specs.Building.{type_of, AddsTexts, AreTexts};
+ghost use Rattle.vx_text.specs.OffsetList.{offsets_by};
 
 use crate::offsets::Offsets;
-use crate::reading::{offset_at, run_at};
+use crate::text_run::TextRun;
 use crate::texts::Texts;
 use std::alloc::Global;
 use vx_bits::{NoMemory, Records};
 use vx_column::{PType, PrimitiveArray};
 use vx_positions::by_type;
 
-// The bytes of the rows of a run.
-#[inline(always)]
-fn bytes_of<'a, const W: usize>(
-    ptype: PType,
-    records: &[[u8; W]],
-    bytes: &'a [u8],
-    run: (usize, usize),
-) -> &'a [u8]
-    requires int { is_int ptype ≡ true }
-    requires width { W ≡ width ptype }
-    requires offsets { are_offsets (record_numbers ptype records.now) (length bytes.now) ≡ true }
-    requires ordered { run.0 ≤ run.1 }
-    requires within { run.1 < length records.now }
-    ensures value { result.now ≡ slice_range bytes.now
-        (slice_index (offset_positions (record_numbers ptype records.now)) run.0)
-        (slice_index (offset_positions (record_numbers ptype records.now)) run.1) }
-    ensures len { length result.now
-        ≡ slice_index (offset_positions (record_numbers ptype records.now)) run.1
-        - slice_index (offset_positions (record_numbers ptype records.now)) run.0 }
-{
-    let (start, end) = run_at(ptype, records, run, bytes.len());
-    &bytes[start..end]
-}
-
-// Appends where each row of a run ends, if its bytes stand behind `base` others, row by row.
-// `NoMemory` alone.
-#[inline(always)]
-fn push_each<const W: usize>(
-    ends: &mut Offsets,
-    base: usize,
-    ptype: PType,
-    records: &[[u8; W]],
-    bytes: &[u8],
-    run: (usize, usize),
-) -> Result<(), NoMemory>
-    requires int { is_int ptype ≡ true }
-    requires width { W ≡ width ptype }
-    requires offsets { are_offsets (record_numbers ptype records.now) (length bytes.now) ≡ true }
-    requires ordered { run.0 ≤ run.1 }
-    requires within { run.1 < length records.now }
-    requires short { base
-        + (slice_index (offset_positions (record_numbers ptype records.now)) run.1
-        - slice_index (offset_positions (record_numbers ptype records.now)) run.0) < 2 ^ 63 }
-    ensures { OnOk result ((front : List ℕ) → length front ≡ base
-        → AddsTexts ends.old front ends.new (front ++ slice_range bytes.now
-        (slice_index (offset_positions (record_numbers ptype records.now)) run.0)
-        (slice_index (offset_positions (record_numbers ptype records.now)) run.1))
-        (slice_range (lists_at (offset_positions (record_numbers ptype records.now)) bytes.now)
-        run.0 run.1)) }
-{
-    let first = offset_at(ptype, records, run.0, bytes.len());
-    for row in run.0..run.1 {
-        let end = offset_at(ptype, records, row + 1, bytes.len());
-        ends.push(base + (end - first))?;
-    }
-    Ok(())
-}
-
-// The same, all at once where the last of them fits the type.
+// Appends where each row of a run ends, if its bytes stand behind `base` others: all at once where
+// the last of them fits the type, else row by row. `NoMemory` alone.
 #[inline(always)]
 fn push_ends<const W: usize>(
     ends: &mut Offsets,
     base: usize,
-    ptype: PType,
-    records: &[[u8; W]],
-    bytes: &[u8],
-    run: (usize, usize),
+    run: TextRun<'_, W>,
 ) -> Result<(), NoMemory>
-    requires int { is_int ptype ≡ true }
-    requires width { W ≡ width ptype }
-    requires offsets { are_offsets (record_numbers ptype records.now) (length bytes.now) ≡ true }
-    requires ordered { run.0 ≤ run.1 }
-    requires within { run.1 < length records.now }
-    requires short { base
-        + (slice_index (offset_positions (record_numbers ptype records.now)) run.1
-        - slice_index (offset_positions (record_numbers ptype records.now)) run.0) < 2 ^ 63 }
+    requires short { base + (slice_index (offsets_by run.ptype run.records.now) run.rows.1
+        - slice_index (offsets_by run.ptype run.records.now) run.rows.0) < 2 ^ 63 }
     ensures { OnOk result ((front : List ℕ) → length front ≡ base
-        → AddsTexts ends.old front ends.new (front ++ slice_range bytes.now
-        (slice_index (offset_positions (record_numbers ptype records.now)) run.0)
-        (slice_index (offset_positions (record_numbers ptype records.now)) run.1))
-        (slice_range (lists_at (offset_positions (record_numbers ptype records.now)) bytes.now)
-        run.0 run.1)) }
+        → AddsTexts ends.old front ends.new (front ++ slice_range run.entry.bytes.now
+        (slice_index (offsets_by run.entry.ptype run.entry.records.now) run.entry.rows.0)
+        (slice_index (offsets_by run.entry.ptype run.entry.records.now) run.entry.rows.1))
+        (slice_range (lists_at (offsets_by run.entry.ptype run.entry.records.now)
+        run.entry.bytes.now) run.entry.rows.0 run.entry.rows.1)) }
 {
-    let (first, last) = run_at(ptype, records, run, bytes.len());
+    let (first, last) = run.bounds();
     if base + (last - first) <= ends.greatest() {
-        ends.push_run(base, ptype, records, bytes.len(), run)
-    } else {
-        push_each(ends, base, ptype, records, bytes, run)
+        return ends.push_run(base, run);
     }
+    for row in run.rows.0..run.rows.1 {
+        ends.push(base + run.end_behind(first, row))?;
+    }
+    Ok(())
 }
 
 // Appends the texts of a run. `NoMemory` alone.
 #[inline(always)]
-fn push_run<const W: usize>(
-    texts: &mut Texts,
-    ptype: PType,
-    records: &[[u8; W]],
-    bytes: &[u8],
-    run: (usize, usize),
-) -> Result<(), NoMemory>
-    requires int { is_int ptype ≡ true }
-    requires width { W ≡ width ptype }
-    requires offsets { are_offsets (record_numbers ptype records.now) (length bytes.now) ≡ true }
-    requires ordered { run.0 ≤ run.1 }
-    requires within { run.1 < length records.now }
+fn push_run<const W: usize>(texts: &mut Texts, run: TextRun<'_, W>) -> Result<(), NoMemory>
     ensures { OnOk result (AddsTexts texts.old.offsets texts.old.bytes.items
         texts.new.offsets texts.new.bytes.items
-        (slice_range (lists_at (offset_positions (record_numbers ptype records.now)) bytes.now)
-        run.0 run.1)) }
+        (slice_range (lists_at (offsets_by run.entry.ptype run.entry.records.now)
+        run.entry.bytes.now) run.entry.rows.0 run.entry.rows.1)) }
 {
     let base = texts.bytes.len();
-    texts
-        .bytes
-        .extend_from_slice(bytes_of(ptype, records, bytes, run))?;
+    texts.bytes.extend_from_slice(run.bytes())?;
     if texts.bytes.len() > isize::MAX as usize {
         return Err(NoMemory);
     }
-    push_ends(&mut texts.offsets, base, ptype, records, bytes, run)
+    push_ends(&mut texts.offsets, base, run)
 }
 
 // How many bytes the runs have, or the greatest number where they are more.
@@ -152,8 +76,14 @@ fn bytes_in<const W: usize>(
     requires within { All (λ run. run.1 < length records.now) runs.now }
 {
     let mut total: usize = 0;
-    for run in runs {
-        total = total.saturating_add(bytes_of(ptype, records, bytes, *run).len());
+    for rows in runs {
+        let run = TextRun {
+            ptype,
+            records,
+            bytes,
+            rows: *rows,
+        };
+        total = total.saturating_add(run.bytes().len());
     }
     total
 }
@@ -180,8 +110,14 @@ fn texts_by_runs<const W: usize>(
 {
     let room = bytes_in(ptype, records, bytes, runs);
     let mut texts = Texts::with_room(alloc, ptype, rows, room)?;
-    for run in runs {
-        push_run(&mut texts, ptype, records, bytes, *run)?;
+    for rows in runs {
+        let run = TextRun {
+            ptype,
+            records,
+            bytes,
+            rows: *rows,
+        };
+        push_run(&mut texts, run)?;
     }
     Ok(texts)
 }

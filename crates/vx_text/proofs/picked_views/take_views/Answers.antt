@@ -12,9 +12,8 @@ use Rattle.vx_model.specs.VarBinView.{ViewParts}
 use Rattle.vx_model.proofs.Texts.{integers-varbin, offsets-varbin}
 use Rattle.vx_column.specs.Validity.{valid_of}
 use Rattle.vx_text.specs.Views.{text_view}
-use Rattle.vx_text.proofs.CutOffsets.{end-within}
+use Rattle.vx_text.proofs.CutOffsets.{end-within, picked_rows}
 use Rattle.vx_text.proofs.KeptViews.{sound-as}
-use Rattle.vx_text.proofs.PickedRows.{next_rows}
 use Rattle.vx_text.proofs.TextViews.{sound-picks, texts-picks}
 use Rattle.vx_text.proofs.picked_views.take_views.Goals as goal
 
@@ -39,9 +38,7 @@ pub of-requires : goal.of-requires
 of-requires c =
     let p = c.args.array.now in let picks = c.args.picks.now.picks in let zs = integers_of p.offsets in let b = p.bytes in
     let sound = c.offsets-offsets.ensures.valid in
-    let more : c.bound.result < length zs =
-    omega (arith, c.bound.ensures.value, end-within p 0 c.args.picks.now.bound sound c.requires.bound, length-map p.offsets.records (integer_by p.offsets.kind)) in
-    let rows = next_rows picks c.bound.result (length zs) c.bound.ensures.below more in
+    let rows = picked_rows p picks c.bound.result sound (omega (arith, c.bound.ensures.value, c.requires.bound)) c.bound.ensures.below in
     let text = c.as_slice.ensures ∙ c.bytes-bytes.ensures.value in
     let views = c.in_ok-views.ensures ∙ c.in_ok-taken.ensures ∙ ap₂ (λ (o : RecordParts) (t : List ℕ). map (text_view (offset_positions (integers_of o)) t) picks) c.offsets-offsets.ensures.value text in
     let buffers = c.in_ok-buffers.ensures ∙ ap (λ t. t ∷ []) c.bytes-bytes.ensures.value in
@@ -60,9 +57,7 @@ pub returns-clause-texts : goal.returns-clause-texts
 returns-clause-texts c =
     let p = c.args.array.now in let picks = c.args.picks.now.picks in let zs = integers_of p.offsets in let b = p.bytes in
     let sound = c.offsets-offsets.ensures.valid in
-    let more : c.bound.result < length zs =
-    omega (arith, c.bound.ensures.value, end-within p 0 c.args.picks.now.bound sound c.requires.bound, length-map p.offsets.records (integer_by p.offsets.kind)) in
-    let rows = next_rows picks c.bound.result (length zs) c.bound.ensures.below more in
+    let rows = picked_rows p picks c.bound.result sound (omega (arith, c.bound.ensures.value, c.requires.bound)) c.bound.ensures.below in
     let text = c.as_slice.ensures ∙ c.bytes-bytes.ensures.value in
     let views = c.in_ok-views.ensures ∙ c.in_ok-taken.ensures ∙ ap₂ (λ (o : RecordParts) (t : List ℕ). map (text_view (offset_positions (integers_of o)) t) picks) c.offsets-offsets.ensures.value text in
     let buffers = c.in_ok-buffers.ensures ∙ ap (λ t. t ∷ []) c.bytes-bytes.ensures.value in

@@ -7,9 +7,10 @@ use Rattle.vx_text.proofs.run_texts.push_run.Goals as goal
 
 pub returns : goal.returns
 returns g c =
-    let os = offset_positions (record_numbers c.args.ptype c.args.records.now) in let b = c.args.bytes.now in
-    let old = c.args.texts.now in let from = c.args.run.0 in let to = c.args.run.1 in
+    let run = c.args.run in
+    let os = offset_positions (record_numbers run.ptype run.records.now) in let b = run.bytes.now in
+    let old = c.args.texts.now in let from = run.rows.0 in let to = run.rows.1 in
     add_run c.push_ends.result old.offsets old.bytes.items c.len-base.result c.push_ends.new.ends c.extend_from_slice.new.self.items (slice_range b (slice_index os from) (slice_index os to)) (slice_range (lists_at os b) from to)
     (omega (arith, c.len-base.ensures, old.bytes.ok.0))
-    (c.in_ok-extend_from_slice.ensures.items ∙ ap (λ l. old.bytes.items ++ l) c.bytes_of.ensures.value)
+    (c.in_ok-extend_from_slice.ensures.items ∙ ap (λ l. old.bytes.items ++ l) c.bytes.ensures.value)
     c.push_ends.ensures

@@ -12,13 +12,13 @@ use Rattle.vx_text.proofs.offsets.Offsets.into_primitive.Goals as goal
 
 pub returns-clause-int : goal.returns-clause-int
 returns-clause-int c =
-    ap (λ (q : RecordParts). is_int_kind q.kind) c.column_of.ensures
+    ap (λ (q : RecordParts). is_int_kind q.kind) c.number_column.ensures
     ∙ ap is_int (c.ptype-ptype.ensures ∙ ap (λ (o : OffsetList). o.ptype) (sym c.self.view_is))
     ∙ int_type c.self.inside.signed c.self.inside.records
 
 pub returns-clause-numbers : goal.returns-clause-numbers
 returns-clause-numbers c =
-    ap (λ (q : RecordParts). integers_of q) c.column_of.ensures
+    ap (λ (q : RecordParts). integers_of q) c.number_column.ensures
     ∙ ap₂ (λ (t : PType) (rs : List (List ℕ)). map (integer_by (primitive_kind t)) rs)
     (c.ptype-ptype.ensures ∙ ap (λ (o : OffsetList). o.ptype) (sym c.self.view_is)) c.in_ok-values.ensures.records
     ∙ read_back c.self.inside.signed c.self.inside.records c.self.invariant
