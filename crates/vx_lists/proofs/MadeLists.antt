@@ -167,6 +167,11 @@ fits_kept v lists picks fits =
     let long = length-present_bits v (length picks) fits ∙ sym (length-at [] lists picks) in
     ap (is_fitting v) (length-kept (present_bits v (length picks)) (at [] lists picks) long ∙ length-at [] lists picks) ∙ fits
 
+-- where some row may be there, no list is emptied
+pub some_stay : (v : Valid) (os : List ℕ) (left : List RowValue) (lists : List (List RowValue)) → is_all_invalid v ≡ false → LeavesLists os left lists → LeavesLists os left (lists_left v lists)
+some_stay v os left lists some leaves =
+    subst (λ (b : Bool). LeavesLists os left (if b then replicate (length lists) [] else lists)) (sym some) leaves
+
 -- an empty selection of no elements
 pub empty_leaves : (v : Valid) (mask : List Bool) (lists : List (List RowValue)) (n : ℕ) (os : List ℕ) (bits : List Bool) (left : List RowValue) → is_all_invalid v ≡ true → length mask ≡ length lists → n ≡ true_count_of mask → os ≡ replicate (n + 1) 0 → bits ≡ [] → LeavesLists os (items_where_true bits left) (lists_left v (items_where_true mask lists))
 empty_leaves v mask lists n os bits left gone h count zeros none =

@@ -36,8 +36,8 @@ pub fn element_mask_from_offsets(
     Ok(Mask::from_buffer(bits))
 }
 
-// Its bits, for a mask that selects some lists and not all, by the set positions where the
-// density of the mask is below the threshold.
+// Its bits, for a mask that selects some lists and not all: by the set positions where the density
+// of the mask is below the threshold, else by runs of them.
 fn element_bits(
     alloc: Global,
     offsets: &[u64],
@@ -54,48 +54,11 @@ fn element_bits(
         (λ b. AreElementBits offsets.now (mask_bits mask.now) range b.bits) }
 {
     if mask.density_at_least(threshold.num, threshold.den) {
-        by_runs(alloc, offsets, mask, range)
-    } else {
-        by_indices(alloc, offsets, mask, range)
+        let runs = set_runs(alloc, mask)?;
+        return marked_by_runs(alloc, offsets, runs.as_slice(), range);
     }
-}
-
-// The same by the set positions.
-fn by_indices(
-    alloc: Global,
-    offsets: &[u64],
-    mask: &Mask,
-    range: (usize, usize),
-) -> Result<BitBuffer, NoMemory>
-    requires partial { IsSome (partial_of mask.now) }
-    requires offsets { AreOffsets offsets.now }
-    requires counted { length offsets.now ≡ length (mask_bits mask.now) + 1 }
-    requires ordered { range.0 ≤ range.1 }
-    requires covered { Covers range offsets.now (mask_bits mask.now) }
-    ensures { IfOk result
-        (λ b. AreElementBits offsets.now (mask_bits mask.now) range b.bits) }
-{
     let kept = mask.with_indices(alloc)?;
     marked_by_indices(alloc, offsets, indices_of(&kept), range)
-}
-
-// The same by runs of set positions.
-fn by_runs(
-    alloc: Global,
-    offsets: &[u64],
-    mask: &Mask,
-    range: (usize, usize),
-) -> Result<BitBuffer, NoMemory>
-    requires partial { IsSome (partial_of mask.now) }
-    requires offsets { AreOffsets offsets.now }
-    requires counted { length offsets.now ≡ length (mask_bits mask.now) + 1 }
-    requires ordered { range.0 ≤ range.1 }
-    requires covered { Covers range offsets.now (mask_bits mask.now) }
-    ensures { IfOk result
-        (λ b. AreElementBits offsets.now (mask_bits mask.now) range b.bits) }
-{
-    let runs = set_runs(alloc, mask)?;
-    marked_by_runs(alloc, offsets, runs.as_slice(), range)
 }
 
 // The set positions that a mask keeps.

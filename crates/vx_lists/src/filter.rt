@@ -111,8 +111,8 @@ fn leaves_out(fields: &PolicyFields, range: (usize, usize), part: (usize, usize)
     outside >= fields.crop_min && outside as u128 * fields.crop_factor as u128 >= all as u128
 }
 
-// The new offsets and the bits of the elements that stay, by the set positions where the density
-// of the mask is below the threshold.
+// The new offsets and the bits of the elements that stay: by the set positions where the density
+// of the mask is below the threshold, else by runs of them.
 fn parts_of(
     alloc: Global,
     offsets: &[u64],
@@ -130,54 +130,15 @@ fn parts_of(
         (λ parts. AreElementBits offsets.now (mask_bits mask.now) range parts.1.bits) }
 {
     if mask.density_at_least(threshold.num, threshold.den) {
-        parts_by_runs(alloc, offsets, mask, range)
-    } else {
-        parts_by_indices(alloc, offsets, mask, range)
+        let runs = set_runs(alloc, mask)?;
+        let sums = sums_by_runs(alloc, offsets, runs.as_slice(), mask.true_count())?;
+        let bits = marked_by_runs(alloc, offsets, runs.as_slice(), range)?;
+        return Ok((sums, bits));
     }
-}
-
-// The same by the set positions.
-fn parts_by_indices(
-    alloc: Global,
-    offsets: &[u64],
-    mask: &Mask,
-    range: (usize, usize),
-) -> Result<(Vec<u64>, BitBuffer), NoMemory>
-    requires partial { IsSome (partial_of mask.now) }
-    requires offsets { AreOffsets offsets.now }
-    requires counted { length offsets.now ≡ length (mask_bits mask.now) + 1 }
-    requires range { IsElementRange offsets.now (mask_bits mask.now) range }
-    ensures sums { IfOk result (λ parts. parts.0.items
-        ≡ offsets_of (map (length_at offsets.now) (set_of (mask_bits mask.now)))) }
-    ensures bits { IfOk result
-        (λ parts. AreElementBits offsets.now (mask_bits mask.now) range parts.1.bits) }
-{
     let kept = mask.with_indices(alloc)?;
     let indices = indices_of(&kept);
     let sums = sums_by_indices(alloc, offsets, indices)?;
     let bits = marked_by_indices(alloc, offsets, indices, range)?;
-    Ok((sums, bits))
-}
-
-// The same by runs of set positions.
-fn parts_by_runs(
-    alloc: Global,
-    offsets: &[u64],
-    mask: &Mask,
-    range: (usize, usize),
-) -> Result<(Vec<u64>, BitBuffer), NoMemory>
-    requires partial { IsSome (partial_of mask.now) }
-    requires offsets { AreOffsets offsets.now }
-    requires counted { length offsets.now ≡ length (mask_bits mask.now) + 1 }
-    requires range { IsElementRange offsets.now (mask_bits mask.now) range }
-    ensures sums { IfOk result (λ parts. parts.0.items
-        ≡ offsets_of (map (length_at offsets.now) (set_of (mask_bits mask.now)))) }
-    ensures bits { IfOk result
-        (λ parts. AreElementBits offsets.now (mask_bits mask.now) range parts.1.bits) }
-{
-    let runs = set_runs(alloc, mask)?;
-    let sums = sums_by_runs(alloc, offsets, runs.as_slice(), mask.true_count())?;
-    let bits = marked_by_runs(alloc, offsets, runs.as_slice(), range)?;
     Ok((sums, bits))
 }
 

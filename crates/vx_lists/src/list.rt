@@ -92,30 +92,6 @@ fn all_empty(alloc: Global, len: usize) -> Result<ListFilter, NoMemory>
     })
 }
 
-// What a filter leaves where some row may be there.
-fn some_left(
-    alloc: Global,
-    array: &ListArray,
-    mask: &MaskValues,
-    policy: &Policy,
-) -> Result<ListFilter, NoMemory>
-    requires { length mask.now.bits.bits ≡ length (list_spans array.now).spans }
-    ensures left { IfOk result (λ filter. LeavesLists filter.offsets.items
-        (items_where_true (mask_bits filter.mask)
-        (slice_range array.now.elements.rows filter.range.0 filter.range.1))
-        (items_where_true mask.now.bits.bits (lists_of (list_spans array.now)))) }
-    ensures small { IfOk result
-        (λ filter. AreInType (type_of array.now.offsets.kind) filter.offsets.items) }
-    ensures inside { IfOk result (λ filter. IsRangeOf (length array.now.elements.rows)
-        filter.range (length (mask_bits filter.mask))) }
-{
-    // Where the elements end.
-    let _ = array.elements().len();
-    let offsets = list_offsets(alloc, array)?;
-    let filter = filter_lists(alloc, offsets.as_slice(), mask, policy)?;
-    Ok(filter)
-}
-
 // What a filter leaves: no element where no row is there.
 fn left_by(
     alloc: Global,
@@ -137,10 +113,13 @@ fn left_by(
 {
     if is_all_invalid(validity) {
         let filter = all_empty(alloc, mask.true_count())?;
-        Ok(filter)
-    } else {
-        some_left(alloc, array, mask, policy)
+        return Ok(filter);
     }
+    // Where the elements end.
+    let _ = array.elements().len();
+    let offsets = list_offsets(alloc, array)?;
+    let filter = filter_lists(alloc, offsets.as_slice(), mask, policy)?;
+    Ok(filter)
 }
 
 /// The plan of the lists at the set positions of `mask`, in order, with their validity.

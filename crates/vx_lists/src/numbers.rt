@@ -3,7 +3,6 @@ ghost use Rattle.std.specs.Prelude.{◌≡◌, ◌<◌, ◌≤◌, IfOk, int_le,
 ghost use Rattle.std.specs.List.{All};
 ghost use Rattle.vx_bits.specs.Records.{records_of, width_of};
 ghost use Rattle.vx_model.specs.Numbers.{integers_of};
-ghost use Rattle.vx_model.specs.Valid.{non_nullable};
 ghost use Rattle.vx_model.specs.VarBin.{are_integers};
 ghost use Rattle.vx_positions.specs.Offsets.{are_offsets, offset_positions, record_numbers};
 ghost use Rattle.vx_text.specs.Building.{type_of};
@@ -15,9 +14,9 @@ ghost use Rattle.vx_lists.specs.Numbers.{AreInType, record_by};
 
 use std::alloc::Global;
 use vx_bits::{Buffer, NoMemory, Records};
-use vx_column::{PType, PrimitiveArray, Validity};
+use vx_column::{PType, PrimitiveArray};
 use vx_positions::by_type;
-use vx_text::offset_at;
+use vx_text::{OffsetRecord, number_column, offset_at};
 
 // What bytes spell is at most the greatest number of their type.
 #[inline(always)]
@@ -99,77 +98,6 @@ pub(crate) fn offset_numbers(
     numbers_of(offsets.ptype(), offsets.values(), alloc, len)
 }
 
-// A record of some width that an offset is written in.
-trait OffsetRecord: Copy {
-    ghost use Rattle.std.specs.Prelude.{ℕ};
-
-    // the record of an offset
-    ghost spelled: { ℕ → Self };
-
-    // what each offset is below
-    ghost limit: { ℕ };
-
-    fn written(offset: u64) -> Self
-        requires { offset < limit }
-        ensures { result ≡ spelled offset };
-}
-
-impl OffsetRecord for [u8; 1] {
-    ghost use Rattle.std.specs.Int.{to_le_bytes, w8};
-    ghost use Rattle.std.specs.Prelude.{◌^◌};
-
-    ghost spelled = { to_le_bytes w8 };
-
-    ghost limit = { 2 ^ 8 };
-
-    #[inline(always)]
-    fn written(offset: u64) -> [u8; 1] {
-        (offset as u8).to_le_bytes()
-    }
-}
-
-impl OffsetRecord for [u8; 2] {
-    ghost use Rattle.std.specs.Int.{to_le_bytes, w16};
-    ghost use Rattle.std.specs.Prelude.{◌^◌};
-
-    ghost spelled = { to_le_bytes w16 };
-
-    ghost limit = { 2 ^ 16 };
-
-    #[inline(always)]
-    fn written(offset: u64) -> [u8; 2] {
-        (offset as u16).to_le_bytes()
-    }
-}
-
-impl OffsetRecord for [u8; 4] {
-    ghost use Rattle.std.specs.Int.{to_le_bytes, w32};
-    ghost use Rattle.std.specs.Prelude.{◌^◌};
-
-    ghost spelled = { to_le_bytes w32 };
-
-    ghost limit = { 2 ^ 32 };
-
-    #[inline(always)]
-    fn written(offset: u64) -> [u8; 4] {
-        (offset as u32).to_le_bytes()
-    }
-}
-
-impl OffsetRecord for [u8; 8] {
-    ghost use Rattle.std.specs.Int.{to_le_bytes, w64};
-    ghost use Rattle.std.specs.Prelude.{◌^◌};
-
-    ghost spelled = { to_le_bytes w64 };
-
-    ghost limit = { 2 ^ 64 };
-
-    #[inline(always)]
-    fn written(offset: u64) -> [u8; 8] {
-        offset.to_le_bytes()
-    }
-}
-
 // The records of offsets.
 #[inline(always)]
 fn written<T: OffsetRecord>(alloc: Global, offsets: &[u64]) -> Result<Buffer<T>, NoMemory>
@@ -226,21 +154,4 @@ pub(crate) fn u64_column(alloc: Global, offsets: &[u64]) -> Result<PrimitiveArra
     ensures numbers { IfOk result (λ a. integers_of a ≡ map pos offsets.now) }
 {
     offset_column(alloc, PType::U64, offsets)
-}
-
-/// The column of these records, none of them null.
-#[tactic(auto, using(vx_model::proofs::Layouts::layout_rows))]
-pub(crate) fn number_column(ptype: PType, values: Records) -> PrimitiveArray
-    requires { width_of values ≡ width ptype }
-    ensures { result ≡ record {
-      kind = primitive_kind ptype;
-      width = width_of values;
-      records = records_of values;
-      valid = non_nullable;
-    } }
-{
-    match PrimitiveArray::try_new(ptype, values, Validity::NonNullable) {
-        Ok(column) => column,
-        Err(_) => unreachable!(),
-    }
 }

@@ -4,12 +4,12 @@ ghost use Rattle.std.specs.Int.RustNames.{count_ones};
 ghost use Rattle.std.specs.List.{All};
 ghost use Rattle.vx_bits.specs.BitBuffer.{true_count_of};
 ghost use Rattle.vx_bits.specs.Words.{word_bits};
-ghost use Rattle.vx_filter.specs.Compact.{IsLowestRun};
 ghost use Rattle.vx_mask.specs.Mask.{mask_bits, partial_of};
 ghost use Rattle.vx_mask.specs.Positions.{positions, run_positions, set_of};
 
 use std::alloc::Global;
 use vx_bits::{BitBuffer, NoMemory};
+use vx_filter::lowest_run;
 use vx_mask::Mask;
 
 /// Runs that cover the set positions, each from its start up to its end, ascending: those that the
@@ -92,29 +92,4 @@ fn lengthen_last(runs: &mut Vec<(usize, usize)>, len: usize, base: usize, word: 
     }
     runs[count - 1] = (last.0, last.1 + run.count);
     run.rest
-}
-
-// The lowest run of set bits of a word, and the word without it.
-#[derive(Clone, Copy)]
-struct LowestRun {
-    low: usize,
-    count: usize,
-    rest: u64,
-}
-
-// The lowest run of a word that is not 0: its lowest bit is added to the word, so that the carry
-// clears the run.
-#[inline(always)]
-fn lowest_run(word: u64) -> LowestRun
-    requires { 0 < word }
-    ensures { IsLowestRun word result.low result.count result.rest }
-{
-    let low = word.trailing_zeros();
-    let count = (word >> low).trailing_ones();
-    let rest = word & word.wrapping_add(1 << low);
-    LowestRun {
-        low: low as usize,
-        count: count as usize,
-        rest,
-    }
 }
