@@ -1,5 +1,5 @@
 -- What a layout answers to a dictionary of its columns: a take at the dictionary's codes.
-use Rattle.std.specs.Prelude.{◌≡◌, ℕ, Bool, List, length, Option, Result, true}
+use Rattle.std.specs.Prelude.{◌≡◌, ℕ, Bool, length, Option, Result, true}
 use Rattle.vx_types.specs.TypeTree.{is_int_type}
 use Rattle.vx_model.specs.Column.{Codes, Column}
 use Rattle.vx_model.specs.Numbers.{numbers_of}

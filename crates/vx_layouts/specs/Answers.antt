@@ -13,6 +13,10 @@ use Rattle.vx_layouts.specs.Taking.{IsTakeBy, take_fault}
 use Rattle.vx_layouts.specs.declared.taking.TakeError.{TakeError}
 use Rattle.vx_layouts.specs.declared.taking.TakeError.TheVariants.{NoMemory as OutOfMemory}
 
+-- a has the rows of p at the set bits, of parts whose column is this
+abbrev pub IsFilterOf : {P : Type 0} → (P → Column) → P → List Bool → P → Type 0
+IsFilterOf column p bits a = IsCut (column p) (items_where_true bits (column p).rows) (column a)
+
 -- no bit is set, or each is
 abbrev pub are_alike : List Bool → Bool
 are_alike bits = (true_count_of bits == 0) || (true_count_of bits == length bits)

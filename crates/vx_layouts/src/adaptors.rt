@@ -5,6 +5,7 @@ ghost use Rattle.vx_model.specs.Column.{Codes};
 ghost use Rattle.vx_pieces.specs.Indices.{by_column, index_value};
 ghost use Rattle.vx_layouts.specs.Adaptors.{codes_of, AnswersCodes};
 
+use crate::answer::Answer;
 use crate::taking::{TakeError, TakeExecute, TakeReduce};
 use std::alloc::Global;
 use vx_column::vtables::Dict;
@@ -56,7 +57,7 @@ impl<V: TakeReduce> TakeReduceAdaptor<V> {
         array: ArrayView<'_, V>,
         parent: ArrayView<'_, Dict>,
         child_idx: usize,
-    ) -> Result<Option<Array>, TakeError>
+    ) -> Answer<TakeError>
         ensures others { child_idx ≢ 1 → result ≡ Ok None }
         ensures values { child_idx ≡ 1 → (codes : Codes)
             → parent.entry.array.now.codes ≡ Some codes
@@ -83,7 +84,7 @@ impl<V: TakeExecute> TakeExecuteAdaptor<V> {
         array: ArrayView<'_, V>,
         parent: ArrayView<'_, Dict>,
         child_idx: usize,
-    ) -> Result<Option<Array>, TakeError>
+    ) -> Answer<TakeError>
         ensures others { child_idx ≢ 1 → result ≡ Ok None }
         ensures values { child_idx ≡ 1 → (codes : Codes)
             → parent.entry.array.now.codes ≡ Some codes

@@ -1,10 +1,10 @@
 //! Layout `Filter`.
-ghost use Rattle.std.specs.Prelude.{◌≡◌};
 ghost use Rattle.vx_mask.specs.Policy.{vortex_fields};
 ghost use Rattle.vx_pieces.specs.Indices.{index_len, index_value};
 ghost use Rattle.vx_layouts.specs.Answers.{AnswersTake};
 ghost use Rattle.vx_dispatch.specs.Materialized.{is_materialized};
 
+use crate::answer::Answer;
 use crate::taking::{TakeError, TakeExecute, take_fault};
 use std::alloc::Global;
 use vx_column::vtables::Filter;
@@ -16,11 +16,7 @@ use vx_pieces::Indices;
 impl TakeExecute for Filter {
     ghost declines = { is_materialized vortex_fields };
 
-    fn take(
-        alloc: Global,
-        array: ArrayView<'_, Filter>,
-        indices: &Indices,
-    ) -> Result<Option<Array>, TakeError>
+    fn take(alloc: Global, array: ArrayView<'_, Filter>, indices: &Indices) -> Answer<TakeError>
         ensures { AnswersTake array.entry.array.now (index_value indices.now)
             (is_materialized vortex_fields array.entry.array.now
             (index_len (index_value indices.now))) result }

@@ -8,8 +8,9 @@ ghost use Rattle.vx_mask.specs.Mask.{mask_bits};
 ghost use Rattle.vx_model.specs.Column.{Column};
 ghost use Rattle.vx_layouts.specs.Answers.{AnswersFilter};
 
+use crate::always::{FilterKernelAlways, FilterReduceAlways};
+use crate::answer::Answer;
 use std::alloc::Global;
-use vx_bits::NoMemory;
 use vx_column::{Array, ArrayView, VTable};
 use vx_dispatch::filter;
 use vx_mask::{Mask, Policy};
@@ -21,11 +22,7 @@ pub trait FilterReduce: VTable {
 
     /// The rows at the set positions of a mask that is as long, as [`crate::filter`] gives them by
     /// the policy of Vortex; none where the filter is left to the caller.
-    fn filter(
-        alloc: Global,
-        array: ArrayView<'_, Self>,
-        mask: &Mask,
-    ) -> Result<Option<Array>, NoMemory>
+    fn filter(alloc: Global, array: ArrayView<'_, Self>, mask: &Mask) -> Answer
         requires { length (mask_bits mask.now) ≡ length array.array.now.rows }
         ensures { AnswersFilter array.entry.array.now (mask_bits mask.now)
             (declines array.entry.array.now (mask_bits mask.now)) result };
@@ -38,23 +35,13 @@ pub trait FilterKernel: VTable {
 
     /// The rows at the set positions of a mask that is as long, as [`crate::filter`] gives them by
     /// the policy of Vortex; none where the filter is left to the caller.
-    fn filter(
-        alloc: Global,
-        array: ArrayView<'_, Self>,
-        mask: &Mask,
-    ) -> Result<Option<Array>, NoMemory>
+    fn filter(alloc: Global, array: ArrayView<'_, Self>, mask: &Mask) -> Answer
         requires { length (mask_bits mask.now) ≡ length array.array.now.rows }
         ensures { AnswersFilter array.entry.array.now (mask_bits mask.now)
             (declines array.entry.array.now (mask_bits mask.now)) result };
 }
 
-/// A layout that answers every filter while columns are put together.
-pub trait FilterReduceAlways: VTable {}
-
-/// A layout that answers every filter while columns are executed.
-pub trait FilterKernelAlways: VTable {}
-
-fn kept(alloc: Global, array: &Array, mask: &Mask) -> Result<Option<Array>, NoMemory>
+fn kept(alloc: Global, array: &Array, mask: &Mask) -> Answer
     requires { length (mask_bits mask.now) ≡ length array.now.rows }
     ensures { AnswersFilter array.now (mask_bits mask.now) false result }
 {
@@ -64,11 +51,7 @@ fn kept(alloc: Global, array: &Array, mask: &Mask) -> Result<Option<Array>, NoMe
 impl<V: FilterReduceAlways> FilterReduce for V {
     ghost declines = { λ _ _. false };
 
-    fn filter(
-        alloc: Global,
-        array: ArrayView<'_, V>,
-        mask: &Mask,
-    ) -> Result<Option<Array>, NoMemory>
+    fn filter(alloc: Global, array: ArrayView<'_, V>, mask: &Mask) -> Answer
         requires { length (mask_bits mask.now) ≡ length array.array.now.rows }
         ensures { AnswersFilter array.entry.array.now (mask_bits mask.now) false result }
     {
@@ -79,11 +62,7 @@ impl<V: FilterReduceAlways> FilterReduce for V {
 impl<V: FilterKernelAlways> FilterKernel for V {
     ghost declines = { λ _ _. false };
 
-    fn filter(
-        alloc: Global,
-        array: ArrayView<'_, V>,
-        mask: &Mask,
-    ) -> Result<Option<Array>, NoMemory>
+    fn filter(alloc: Global, array: ArrayView<'_, V>, mask: &Mask) -> Answer
         requires { length (mask_bits mask.now) ≡ length array.array.now.rows }
         ensures { AnswersFilter array.entry.array.now (mask_bits mask.now) false result }
     {

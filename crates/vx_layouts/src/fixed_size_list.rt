@@ -1,22 +1,14 @@
 //! Layout `FixedSizeList`.
 ghost use Rattle.std.specs.Prelude.{◌≡◌, length, IfOk};
-ghost use Rattle.std.specs.List.{items_where_true};
 ghost use Rattle.vx_model.specs.FixedSizeList.{fixed_column};
-ghost use Rattle.vx_model.specs.Step.{IsCut};
+ghost use Rattle.vx_layouts.specs.Answers.{IsFilterOf};
 
-use crate::slicing::SliceReduceAlways;
-use crate::taking::TakeExecuteAlways;
 use std::alloc::Global;
 use vx_bits::NoMemory;
 use vx_column::FixedSizeListArray;
-use vx_column::vtables::FixedSizeList;
 use vx_dispatch::{filter, filter_validity};
 use vx_lists::plan_fixed_filter;
 use vx_mask::{MaskValues, Policy};
-
-impl TakeExecuteAlways for FixedSizeList {}
-
-impl SliceReduceAlways for FixedSizeList {}
 
 /// The lists at the set positions of a mask that is as long, of the elements that are theirs:
 /// Vortex's `filter_fixed_size_list`. `NoMemory` alone.
@@ -27,9 +19,7 @@ pub fn filter_fixed_size_list(
     selection_mask: &MaskValues,
 ) -> Result<FixedSizeListArray, NoMemory>
     requires { length selection_mask.now.bits.bits ≡ length (fixed_column array.now).rows }
-    ensures { IfOk result (λ a. IsCut (fixed_column array.now)
-        (items_where_true selection_mask.now.bits.bits (fixed_column array.now).rows)
-        (fixed_column a)) }
+    ensures { IfOk result (IsFilterOf fixed_column array.now selection_mask.now.bits.bits) }
 {
     let policy = Policy::vortex();
     let validity = filter_validity(alloc, array.validity(), selection_mask, &policy)?;

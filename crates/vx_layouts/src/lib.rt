@@ -6,19 +6,14 @@
 #![tactic(auto)]
 
 mod adaptors;
-mod boolean;
-mod decimal;
-mod dict;
-mod extension;
+mod always;
+mod answer;
 mod filter_layout;
 mod filtering;
 mod fixed_size_list;
 mod list;
 mod listview;
-mod map;
-mod null;
 mod pack;
-mod primitive;
 mod slicing;
 mod struct_;
 mod taking;

@@ -3,26 +3,18 @@ ghost use Rattle.std.specs.Prelude.{◌≡◌, length};
 ghost use Rattle.vx_mask.specs.Mask.{mask_bits};
 ghost use Rattle.vx_layouts.specs.Answers.{are_alike, AnswersFilter};
 
+use crate::answer::Answer;
 use crate::filtering::FilterKernel;
-use crate::slicing::SliceReduceAlways;
-use crate::taking::TakeExecuteAlways;
 use std::alloc::Global;
-use vx_bits::NoMemory;
 use vx_column::vtables::List;
 use vx_column::{Array, ArrayView};
 use vx_dispatch::filter;
 use vx_mask::{Mask, Policy};
 
-impl TakeExecuteAlways for List {}
-
 impl FilterKernel for List {
     ghost declines = { λ _ bits. are_alike bits };
 
-    fn filter(
-        alloc: Global,
-        array: ArrayView<'_, List>,
-        mask: &Mask,
-    ) -> Result<Option<Array>, NoMemory>
+    fn filter(alloc: Global, array: ArrayView<'_, List>, mask: &Mask) -> Answer
         requires { length (mask_bits mask.now) ≡ length array.array.now.rows }
         ensures { AnswersFilter array.entry.array.now (mask_bits mask.now)
             (are_alike (mask_bits mask.now)) result }
@@ -34,5 +26,3 @@ impl FilterKernel for List {
         Ok(Some(filter(alloc, array.array(), mask, &Policy::vortex())?))
     }
 }
-
-impl SliceReduceAlways for List {}

@@ -7,8 +7,9 @@ ghost use Rattle.std.specs.Prelude.{◌≤◌, ℕ, Bool, false, length};
 ghost use Rattle.vx_model.specs.Column.{Column};
 ghost use Rattle.vx_layouts.specs.Answers.{AnswersSlice};
 
+use crate::always::{SliceKernelAlways, SliceReduceAlways};
+use crate::answer::Answer;
 use std::alloc::Global;
-use vx_bits::NoMemory;
 use vx_column::{Array, ArrayView, VTable};
 use vx_dispatch::slice;
 
@@ -19,12 +20,7 @@ pub trait SliceReduce: VTable {
 
     /// The rows from `start` up to `end`, as [`crate::slice`] gives them; none where the slice is
     /// left to the caller.
-    fn slice(
-        alloc: Global,
-        array: ArrayView<'_, Self>,
-        start: usize,
-        end: usize,
-    ) -> Result<Option<Array>, NoMemory>
+    fn slice(alloc: Global, array: ArrayView<'_, Self>, start: usize, end: usize) -> Answer
         requires ordered { start ≤ end }
         requires within { end ≤ length array.array.now.rows }
         ensures { AnswersSlice array.entry.array.now start end
@@ -38,25 +34,14 @@ pub trait SliceKernel: VTable {
 
     /// The rows from `start` up to `end`, as [`crate::slice`] gives them; none where the slice is
     /// left to the caller.
-    fn slice(
-        alloc: Global,
-        array: ArrayView<'_, Self>,
-        start: usize,
-        end: usize,
-    ) -> Result<Option<Array>, NoMemory>
+    fn slice(alloc: Global, array: ArrayView<'_, Self>, start: usize, end: usize) -> Answer
         requires ordered { start ≤ end }
         requires within { end ≤ length array.array.now.rows }
         ensures { AnswersSlice array.entry.array.now start end
             (declines array.entry.array.now start end) result };
 }
 
-/// A layout that answers every slice while columns are put together.
-pub trait SliceReduceAlways: VTable {}
-
-/// A layout that answers every slice while columns are executed.
-pub trait SliceKernelAlways: VTable {}
-
-fn cut(alloc: Global, array: &Array, start: usize, end: usize) -> Result<Option<Array>, NoMemory>
+fn cut(alloc: Global, array: &Array, start: usize, end: usize) -> Answer
     requires ordered { start ≤ end }
     requires within { end ≤ length array.now.rows }
     ensures { AnswersSlice array.now start end false result }
@@ -67,12 +52,7 @@ fn cut(alloc: Global, array: &Array, start: usize, end: usize) -> Result<Option<
 impl<V: SliceReduceAlways> SliceReduce for V {
     ghost declines = { λ _ _ _. false };
 
-    fn slice(
-        alloc: Global,
-        array: ArrayView<'_, V>,
-        start: usize,
-        end: usize,
-    ) -> Result<Option<Array>, NoMemory>
+    fn slice(alloc: Global, array: ArrayView<'_, V>, start: usize, end: usize) -> Answer
         requires ordered { start ≤ end }
         requires within { end ≤ length array.array.now.rows }
         ensures { AnswersSlice array.entry.array.now start end false result }
@@ -84,12 +64,7 @@ impl<V: SliceReduceAlways> SliceReduce for V {
 impl<V: SliceKernelAlways> SliceKernel for V {
     ghost declines = { λ _ _ _. false };
 
-    fn slice(
-        alloc: Global,
-        array: ArrayView<'_, V>,
-        start: usize,
-        end: usize,
-    ) -> Result<Option<Array>, NoMemory>
+    fn slice(alloc: Global, array: ArrayView<'_, V>, start: usize, end: usize) -> Answer
         requires ordered { start ≤ end }
         requires within { end ≤ length array.array.now.rows }
         ensures { AnswersSlice array.entry.array.now start end false result }

@@ -11,6 +11,8 @@ ghost use Rattle.vx_pieces.specs.Indices.{index_len, index_value};
 ghost use Rattle.vx_layouts.specs.Answers.{AnswersTake};
 ghost use Rattle.vx_layouts.specs.Taking.{IsTakeBy, take_fault};
 
+use crate::always::{TakeExecuteAlways, TakeReduceAlways};
+use crate::answer::Answer;
 use std::alloc::Global;
 use vx_bits::NoMemory;
 use vx_column::{Array, ArrayView, VTable};
@@ -89,11 +91,7 @@ pub trait TakeReduce: VTable {
 
     /// The rows that indices name, as [`crate::take`] gives them by the policy of Vortex; none
     /// where the take is left to the caller. The errors of the indices come before either.
-    fn take(
-        alloc: Global,
-        array: ArrayView<'_, Self>,
-        indices: &Indices,
-    ) -> Result<Option<Array>, TakeError>
+    fn take(alloc: Global, array: ArrayView<'_, Self>, indices: &Indices) -> Answer<TakeError>
         ensures { AnswersTake array.entry.array.now (index_value indices.now)
             (declines array.entry.array.now (index_len (index_value indices.now))) result };
 }
@@ -105,22 +103,12 @@ pub trait TakeExecute: VTable {
 
     /// The rows that indices name, as [`crate::take`] gives them by the policy of Vortex; none
     /// where the take is left to the caller. The errors of the indices come before either.
-    fn take(
-        alloc: Global,
-        array: ArrayView<'_, Self>,
-        indices: &Indices,
-    ) -> Result<Option<Array>, TakeError>
+    fn take(alloc: Global, array: ArrayView<'_, Self>, indices: &Indices) -> Answer<TakeError>
         ensures { AnswersTake array.entry.array.now (index_value indices.now)
             (declines array.entry.array.now (index_len (index_value indices.now))) result };
 }
 
-/// A layout that answers every take while columns are put together.
-pub trait TakeReduceAlways: VTable {}
-
-/// A layout that answers every take while columns are executed.
-pub trait TakeExecuteAlways: VTable {}
-
-fn taken(alloc: Global, array: &Array, indices: &Indices) -> Result<Option<Array>, TakeError>
+fn taken(alloc: Global, array: &Array, indices: &Indices) -> Answer<TakeError>
     ensures { AnswersTake array.now (index_value indices.now) false result }
 {
     Ok(Some(take(alloc, array, indices, &Policy::vortex())?))
@@ -129,11 +117,7 @@ fn taken(alloc: Global, array: &Array, indices: &Indices) -> Result<Option<Array
 impl<V: TakeReduceAlways> TakeReduce for V {
     ghost declines = { λ _ _. false };
 
-    fn take(
-        alloc: Global,
-        array: ArrayView<'_, V>,
-        indices: &Indices,
-    ) -> Result<Option<Array>, TakeError>
+    fn take(alloc: Global, array: ArrayView<'_, V>, indices: &Indices) -> Answer<TakeError>
         ensures { AnswersTake array.entry.array.now (index_value indices.now) false result }
     {
         taken(alloc, array.array(), indices)
@@ -143,11 +127,7 @@ impl<V: TakeReduceAlways> TakeReduce for V {
 impl<V: TakeExecuteAlways> TakeExecute for V {
     ghost declines = { λ _ _. false };
 
-    fn take(
-        alloc: Global,
-        array: ArrayView<'_, V>,
-        indices: &Indices,
-    ) -> Result<Option<Array>, TakeError>
+    fn take(alloc: Global, array: ArrayView<'_, V>, indices: &Indices) -> Answer<TakeError>
         ensures { AnswersTake array.entry.array.now (index_value indices.now) false result }
     {
         taken(alloc, array.array(), indices)

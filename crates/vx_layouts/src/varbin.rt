@@ -6,9 +6,7 @@ ghost use Rattle.vx_model.specs.VarBin.{varbin_column};
 ghost use Rattle.vx_pieces.specs.Indices.{index_value};
 ghost use Rattle.vx_layouts.specs.Taking.{IsTakeBy, take_fault};
 
-use crate::filtering::FilterKernelAlways;
-use crate::slicing::SliceReduceAlways;
-use crate::taking::{TakeError, TakeExecuteAlways, take_fault};
+use crate::taking::{TakeError, take_fault};
 use std::alloc::Global;
 use vx_bits::NoMemory;
 use vx_column::vtables::VarBin;
@@ -17,12 +15,6 @@ use vx_dispatch::{slice, take_validity};
 use vx_mask::Policy;
 use vx_pieces::Indices;
 use vx_text::take_varbin_picks;
-
-impl TakeExecuteAlways for VarBin {}
-
-impl FilterKernelAlways for VarBin {}
-
-impl SliceReduceAlways for VarBin {}
 
 /// A slice of a column of layout `VarBin`, by the name that Vortex gives it.
 pub trait VarBinSlice: VTable {

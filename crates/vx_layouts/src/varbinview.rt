@@ -1,22 +1,14 @@
 //! Layout `VarBinView`.
 ghost use Rattle.std.specs.Prelude.{◌≡◌, length, IfOk};
-ghost use Rattle.std.specs.List.{items_where_true};
-ghost use Rattle.vx_model.specs.Step.{IsCut};
 ghost use Rattle.vx_model.specs.VarBinView.{views_column};
+ghost use Rattle.vx_layouts.specs.Answers.{IsFilterOf};
 
-use crate::slicing::SliceReduceAlways;
-use crate::taking::TakeExecuteAlways;
 use std::alloc::Global;
 use vx_bits::NoMemory;
 use vx_column::VarBinViewArray;
-use vx_column::vtables::VarBinView;
 use vx_dispatch::filter_validity;
 use vx_mask::{MaskValues, Policy};
 use vx_text::filter_views;
-
-impl TakeExecuteAlways for VarBinView {}
-
-impl SliceReduceAlways for VarBinView {}
 
 /// The rows at the set positions of a mask that is as long: Vortex's `filter_varbinview`.
 /// `NoMemory` alone.
@@ -26,9 +18,7 @@ pub fn filter_varbinview(
     selection_mask: &MaskValues,
 ) -> Result<VarBinViewArray, NoMemory>
     requires { length selection_mask.now.bits.bits ≡ length (views_column array.now).rows }
-    ensures { IfOk result (λ a. IsCut (views_column array.now)
-        (items_where_true selection_mask.now.bits.bits (views_column array.now).rows)
-        (views_column a)) }
+    ensures { IfOk result (IsFilterOf views_column array.now selection_mask.now.bits.bits) }
 {
     let policy = Policy::vortex();
     let validity = filter_validity(alloc, array.validity(), selection_mask, &policy)?;

@@ -9,18 +9,16 @@ use Rattle.vx_model.specs.Column.{Column}
 use Rattle.vx_model.specs.FixedSizeList.{FixedParts, fixed_of, fixed_spans}
 use Rattle.vx_model.specs.Lists.{lists_of}
 use Rattle.vx_model.specs.Step.{IsCut}
-use Rattle.vx_model.specs.Valid.{Valid, nullability_by, present_bits, IsAsPlain, IsLeft}
+use Rattle.vx_model.specs.Valid.{Valid, IsAsPlain}
 use Rattle.vx_model.proofs.ListRows.{elements-fixed, fit-fixed, rows-fixed, spans-fixed}
 use Rattle.vx_column.specs.Validity.{valid_of}
-use Rattle.vx_dispatch.proofs.ListSteps.{filter_step, fits_filter, swapped}
+use Rattle.vx_dispatch.proofs.ListSteps.{filter_step, swapped}
+use Rattle.vx_layouts.proofs.KeptLists.{fits_kept, left_kept}
 use Rattle.vx_layouts.proofs.fixed_size_list.filter_fixed_size_list.Goals as goal
 
 pub plan_fixed_filter-requires-clause-fitting : goal.plan_fixed_filter-requires-clause-fitting
 plan_fixed_filter-requires-clause-fitting c =
-    let p = c.args.array.now in let h = c.validity.ensures.valid in let mask = c.args.selection_mask.now.bits.bits in
-    let w = valid_of c.in_ok-validity.validity in let n = length (fixed_spans p).spans in let long = c.requires ∙ rows-fixed p h in
-    let left : IsLeft p.valid (nullability_by p.valid) (items_where_true mask (present_bits p.valid n)) w = rw (c.validity.ensures.value, long) at c.in_ok-validity.ensures.left in
-    fits_filter p.valid w (nullability_by p.valid) n (fit-fixed p h) mask long left
+    fits_kept c.args.selection_mask.now.bits.bits c.validity.ensures.value (c.requires ∙ rows-fixed c.args.array.now c.validity.ensures.valid) c.in_ok-validity.ensures.left (fit-fixed c.args.array.now c.validity.ensures.valid)
 
 pub filter-requires : goal.filter-requires
 filter-requires c =
@@ -37,7 +35,7 @@ returns c =
     let p = c.args.array.now in let h = c.validity.ensures.valid in let mask = c.args.selection_mask.now.bits.bits in
     let w = valid_of c.in_ok-validity.validity in let plan = c.in_ok-plan.plan in let x = c.in_ok-elements.elements in
     let q : FixedParts = record { elements = x; size = p.size; len = true_count_of mask; valid = w } in
-    let left : IsLeft p.valid (nullability_by p.valid) (items_where_true mask (present_bits p.valid (length (fixed_spans p).spans))) w = rw (c.validity.ensures.value, c.requires ∙ rows-fixed p h) at c.in_ok-validity.ensures.left in
+    let left = left_kept mask c.validity.ensures.value (c.requires ∙ rows-fixed p h) c.in_ok-validity.ensures.left in
     let plain : IsAsPlain p.valid w = rw c.validity.ensures.value at c.in_ok-validity.ensures.plain in
     let kept : IsCut p.elements (items_where_true (mask_bits plan.mask) p.elements.rows) x = rw (c.deref.ensures ∙ c.elements.ensures.value) at c.in_ok-elements.ensures.cut in
     let makes : MakesFixed p.size (true_count_of mask) w (items_where_true (mask_bits plan.mask) p.elements.rows) (items_where_true mask (lists_of (fixed_spans p))) = c.in_ok-plan.ensures.lists in
