@@ -1,4 +1,5 @@
 //! Calls of a decoder and bits, in the rest of a line.
+ghost use Rattle.std.specs.Prelude.{◌≡◌, if◌then◌else◌, IfOk, map, string_bytes};
 
 use std::alloc::Global;
 use std::test::Fail;
@@ -19,7 +20,9 @@ pub fn print_calls(rt: &impl Print, calls: &[Call]) -> Result<(), Fail> {
 }
 
 /// The bits, as a text of `0` and `1`.
-pub fn text_of(alloc: Global, bits: &BitBuffer) -> Result<String, NoMemory> {
+pub fn text_of(alloc: Global, bits: &BitBuffer) -> Result<String, NoMemory>
+    ensures { IfOk result (λ t. string_bytes t ≡ map (λ b. if b then 49 else 48) bits.now.bits) }
+{
     let mut text = String::new(alloc);
     for i in 0..bits.len() {
         text.push(if bits.value(i) { '1' } else { '0' })?;
