@@ -1,5 +1,5 @@
 -- The rows at picks of a column behind a decoder.
-use Rattle.std.proofs.Common.{◌≡◌, ℕ, ◌+◌, ◌<◌, ◌≤◌, Bool, true, false, List, [], ◌∷◌, length, map, take, drop, Option, Some, refl, sym, ap, ap₂, ◌∙◌, subst, arith}
+use Rattle.std.proofs.Common.{◌≡◌, ℕ, ◌+◌, ◌<◌, ◌≤◌, Bool, true, false, List, [], ◌∷◌, length, map, take, drop, Option, Some, sym, ap, ap₂, ◌∙◌, subst, arith}
 use Rattle.std.specs.Prelude.{slice_get, IsErrAnd, OnErr, OnOk, Result, Ok, Err}
 use Rattle.std.proofs.lemmas.Bool.Decides.{nat_tests}
 use Rattle.vx_types.specs.Decimal.{is_width}
@@ -15,6 +15,7 @@ use Rattle.vx_mask.proofs.RankedItems.{items_at_the_set}
 use Rattle.vx_take.specs.Picks.{at}
 use Rattle.vx_model.specs.Column.{Column}
 use Rattle.vx_model.specs.Valid.{Valid, is_fitting, present_bits, stored_rows, IsLeft}
+use Rattle.vx_model.proofs.KeptItems.{same_items}
 use Rattle.vx_model.proofs.StoredRows.{length-stored_rows}
 use Rattle.vx_model.proofs.Nullabilities.{also_nullable-none, also_nullable-either}
 use Rattle.vx_model.proofs.Takes.{take-stored}
@@ -32,15 +33,6 @@ use Rattle.vx_steps.specs.Shape.{ShapeValue}
 use Rattle.vx_select.specs.Chunks.{chunk_rows, chunk_values}
 
 -- ---- the values that are kept
-
-same_items : {X : Type 0} (xs ys : List X) → map Some xs ≡ map Some ys → xs ≡ ys
-same_items [] [] h = refl
-same_items [] (y ∷ ys) h = cc
-same_items (x ∷ xs) [] h = cc
-same_items (x ∷ xs) (y ∷ ys) h =
-    let here : x ≡ y = cc in
-    let later : map Some xs ≡ map Some ys = cc in
-    ap₂ ◌∷◌ here (same_items xs ys later)
 
 set_below : (bits : List Bool) (n : ℕ) → length bits ≡ n → All (λ p. p < n) (set_of bits)
 set_below bits n h k d l =
