@@ -1,11 +1,10 @@
 -- What a step leaves of lists makes what it leaves of their column.
-use Rattle.std.proofs.Common.{◌≡◌, ℕ, ◌≤◌, Bool, true, false, List, [], ◌∷◌, map, length, slice_range, Option, refl, sym, ap, ◌∙◌, arith}
+use Rattle.std.proofs.Common.{◌≡◌, ℕ, ◌≤◌, Bool, true, false, List, map, length, slice_range, Option, ap, ◌∙◌}
 use Rattle.std.specs.List.{items_where_true}
-use Rattle.std.proofs.lemmas.List.{length-map}
 use Rattle.vx_types.specs.RowValue.{RowValue, null}
 use Rattle.vx_types.specs.declared.nullability.Nullability.{Nullability}
 use Rattle.vx_take.specs.Picks.{at}
-use Rattle.vx_model.specs.Valid.{Valid, is_fitting, nullability_by, present_bits, shown_rows, stored_rows, IsLeft, IsAsPlain}
+use Rattle.vx_model.specs.Valid.{is_fitting, nullability_by, present_bits, stored_rows, IsLeft, IsAsPlain}
 use Rattle.vx_model.specs.Plain.{is_in_place, is_lazy_layout}
 use Rattle.vx_model.specs.Lists.{ListsParts, kept_lists, list_row, lists_column, lists_of, stored_lists}
 use Rattle.vx_model.specs.Step.{IsStep, IsCut, IsSlice}

@@ -2,14 +2,13 @@
 use Rattle.std.proofs.Common.{◌≡◌, ℕ, ◌≤◌, Bool, true, false, List, [], ◌∷◌, map, length, slice_range, Option, refl, sym, ap, ap₂, ◌∙◌, subst, arith}
 use Rattle.std.specs.Prelude.{◌&&◌, ◌||◌, if◌then◌else◌}
 use Rattle.std.specs.List.{items_where_true}
-use Rattle.std.proofs.lemmas.List.{length-map}
 use Rattle.vx_types.specs.TypeTree.{TypeTree}
 use Rattle.vx_types.specs.RowValue.{RowValue, null, bytes}
 use Rattle.vx_types.specs.Text.{text_kind}
 use Rattle.vx_types.specs.declared.nullability.Nullability.{Nullability}
 use Rattle.vx_types.specs.declared.text.TextKind.{TextKind}
 use Rattle.vx_take.specs.Picks.{at}
-use Rattle.vx_model.specs.Valid.{Valid, is_constant_form, is_fitting, is_flat_cover, nullability_by, present_bits, shown_rows, stored_rows, IsLeft, IsAsPlain}
+use Rattle.vx_model.specs.Valid.{Valid, is_constant_form, is_fitting, is_flat_cover, nullability_by, present_bits, stored_rows, IsLeft, IsAsPlain}
 use Rattle.vx_model.specs.Plain.{is_in_place, is_lazy_layout, is_null_layout, is_plain, is_row_layout, is_unwrapped}
 use Rattle.vx_model.specs.Lists.{kept_lists}
 use Rattle.vx_model.specs.Text.{TextParts, kept_texts, stored_texts, text_column}
