@@ -81,34 +81,6 @@ fn put_fours<T: Copy>(src: &[T], indices: &[u64], valid: &[u64], fill: T, dst: &
     indices.len() / 4 * 4
 }
 
-// Writes the items from pick `from` on, up to the first whose index is out of bounds, and answers
-// the place of that one.
-#[inline(always)]
-fn put_rest<T: Copy>(
-    src: &[T],
-    indices: &[u64],
-    valid: &[u64],
-    fill: T,
-    from: usize,
-    dst: &mut [T],
-) -> usize
-    requires valid { valid_fault (length indices.now) valid.now ≡ 0 }
-    requires room { length indices.now ≤ length dst.old }
-    requires front { IsFront fill src.now indices.now valid.now dst.old dst.old from }
-    ensures front { IsFront fill src.now indices.now valid.now dst.old dst.new result }
-    ensures further { from ≤ result }
-    ensures past { result < length indices.now
-        → IsPast (length src.now) indices.now valid.now result }
-{
-    for k in from..indices.len() {
-        let Some(item) = item_inside(src, indices, valid, fill, k) else {
-            return k;
-        };
-        dst[k] = item;
-    }
-    indices.len()
-}
-
 // Writes the items at the picks, up to the first whose index is out of bounds, and answers the
 // place of that one.
 #[inline(always)]
@@ -120,7 +92,13 @@ fn put_front<T: Copy>(src: &[T], indices: &[u64], valid: &[u64], fill: T, dst: &
         → IsPast (length src.now) indices.now valid.now result }
 {
     let from = put_fours(src, indices, valid, fill, dst);
-    put_rest(src, indices, valid, fill, from, dst)
+    for k in from..indices.len() {
+        let Some(item) = item_inside(src, indices, valid, fill, k) else {
+            return k;
+        };
+        dst[k] = item;
+    }
+    indices.len()
 }
 
 // Writes the items at the picks, and `fill` at each null, up to the first pick whose index is out

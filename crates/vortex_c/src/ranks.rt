@@ -9,21 +9,7 @@ ghost use Rattle.vortex_c.specs.Positions.{IsCounted, IsRanked};
 
 use crate::answer::{Answer, DONE, INDEX};
 use crate::masks::{count_set, fault_of};
-
-// The place of the `k`-th set bit of the word, from 0: the lowest, once k lower ones are cleared.
-fn place_with(word: u64, k: usize) -> usize
-    requires { k < count_ones word }
-    ensures within { result < 64 }
-    ensures before { count_ones (word % 2 ^ result) ≤ k }
-    ensures next { k < count_ones (word % 2 ^ (result + 1)) }
-{
-    let mut left = word;
-    for i in 0..k {
-        let _ = i;
-        left &= left - 1;
-    }
-    left.trailing_zeros() as usize
-}
+use vx_mask::place_with;
 
 // The `k`-th set position, from 0.
 fn position_of(words: &[u64], k: usize) -> usize

@@ -4,3 +4,4 @@ pub mod PackedLaws
 pub mod FilteredWords
 pub mod SparseBits
 pub mod PackedBytes
+mod WordParts

@@ -4,6 +4,7 @@
 mod closing;
 mod laws;
 mod nibbles;
+mod parts;
 mod pext;
 mod sparse;
 mod table;

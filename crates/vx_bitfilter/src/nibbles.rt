@@ -1,8 +1,8 @@
 //! A table of what four bits pack of four bits.
 ghost use Rattle.std.specs.Prelude.{◌≡◌, ◌<◌, length};
-ghost use Rattle.vx_bitfilter.specs.Pext.{pext};
 ghost use Rattle.vx_bitfilter.specs.Table.{IsNibbles};
 
+use crate::parts::PartTable;
 use crate::table::below;
 
 // What each nibble packs of each nibble, by the mask's nibble.
@@ -22,30 +22,19 @@ impl NibbleTable {
         }
         NibbleTable { entries }
     }
+}
 
-    // The bits of `src` at the set positions of `mask`, packed from bit 0, and zero above them: as
-    // `pext_fallback`, a nibble at a time.
-    #[inline(always)]
-    pub(crate) fn pext(&self, src: u64, mask: u64) -> u64
-        ensures { result ≡ pext src mask }
-    {
-        let mut packed: u64 = 0;
-        let mut held: u32 = 0;
-        for k in 0..16u32 {
-            let picks = (mask >> (4 * k)) & 0xf;
-            packed |= self.entry((src >> (4 * k)) & 0xf, picks) << held;
-            held += picks.count_ones();
-        }
-        packed
-    }
+impl PartTable for NibbleTable {
+    ghost use Rattle.std.proofs.Common.{inl, refl};
 
-    // What a nibble packs of a nibble.
+    const WIDTH: u32 = 4;
+
+    ghost WIDTH = { 4 };
+
+    ghost whole = { inl refl };
+
     #[inline(always)]
-    fn entry(&self, src: u64, mask: u64) -> u64
-        requires src_nibble { src < 16 }
-        requires mask_nibble { mask < 16 }
-        ensures { result ≡ pext src mask }
-    {
+    fn entry(&self, src: u64, mask: u64) -> u64 {
         u64::from(self.entries[(16 * mask + src) as usize])
     }
 }

@@ -3,6 +3,7 @@ ghost use Rattle.std.specs.Prelude.{◌≡◌, ◌+◌, ◌*◌, ◌<◌, ◌≤
 ghost use Rattle.vx_bitfilter.specs.Pext.{pext};
 ghost use Rattle.vx_bitfilter.specs.Table.{first_entries, pext_entries};
 
+use crate::parts::{PartTable, pext_by_parts};
 use std::alloc::Global;
 use std::marker::Model;
 use vx_bits::NoMemory;
@@ -46,23 +47,21 @@ impl PextTable {
     pub fn pext(&self, src: u64, mask: u64) -> u64
         ensures { result ≡ pext src mask }
     {
-        let mut packed: u64 = 0;
-        let mut held: u32 = 0;
-        for k in 0..8u32 {
-            let picks = (mask >> (8 * k)) & 0xff;
-            packed |= self.entry((src >> (8 * k)) & 0xff, picks) << held;
-            held += picks.count_ones();
-        }
-        packed
+        pext_by_parts(self, src, mask)
     }
+}
 
-    // What a byte packs of a byte.
+impl PartTable for PextTable {
+    ghost use Rattle.std.proofs.Common.{inr, refl};
+
+    const WIDTH: u32 = 8;
+
+    ghost WIDTH = { 8 };
+
+    ghost whole = { inr refl };
+
     #[inline(always)]
-    fn entry(&self, src: u64, mask: u64) -> u64
-        requires src_byte { src < 256 }
-        requires mask_byte { mask < 256 }
-        ensures { result ≡ pext src mask }
-    {
+    fn entry(&self, src: u64, mask: u64) -> u64 {
         u64::from(self.entries[(256 * mask + src) as usize])
     }
 }

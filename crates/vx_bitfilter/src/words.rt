@@ -10,6 +10,7 @@ ghost use Rattle.vx_mask.specs.Mask.{at_front};
 
 use crate::closing::closed_up;
 use crate::nibbles::NibbleTable;
+use crate::parts::pext_by_parts;
 use crate::pext::pext_fallback;
 use crate::table::PextTable;
 use std::alloc::Global;
@@ -173,7 +174,7 @@ fn packed(packing: &Packing, word: u64, picks: u64) -> u64
     }
     match packing {
         Packing::ByBits => pext_fallback(word, picks),
-        Packing::ByNibbles(table) => table.pext(word, picks),
+        Packing::ByNibbles(table) => pext_by_parts(table, word, picks),
         Packing::ByBytes(table) => table.pext(word, picks),
     }
 }

@@ -1,6 +1,6 @@
 //! Copying the selected items to the front of another list.
-ghost use Rattle.std.specs.Prelude.{◌≡◌, ◌+◌, ◌*◌, ◌^◌, ◌<◌, ◌≤◌, ◌++◌, Some, true, false, length, take, drop, map, slice_get, slice_index_or, slice_set};
-ghost use Rattle.std.specs.List.{All, items_where_true};
+ghost use Rattle.std.specs.Prelude.{◌≡◌, ◌+◌, ◌*◌, ◌^◌, ◌<◌, ◌≤◌, ◌++◌, true, false, length, take, drop, slice_index_or, slice_set};
+ghost use Rattle.std.specs.List.{All};
 ghost use Rattle.std.specs.Int.RustNames.{count_ones};
 ghost use Rattle.vx_bits.specs.BitBuffer.{true_count_of};
 ghost use Rattle.vx_bits.specs.Words.{word_bits, word_count};
@@ -145,23 +145,20 @@ fn has_long_runs(word: u64) -> bool {
     4 * runs <= word.count_ones() && word != u64::MAX
 }
 
-/// The lowest run of set bits of a word, and the word without it.
+// The lowest run of set bits of a word, and the word without it.
 #[derive(Clone, Copy)]
-pub struct LowestRun {
-    /// The run's lowest bit.
-    pub low: usize,
-    /// How many bits it has.
-    pub count: usize,
-    /// The word without them.
-    pub rest: u64,
+struct LowestRun {
+    low: usize,
+    count: usize,
+    rest: u64,
 }
 
-/// The lowest run of a word that is not 0.
-///
-/// The run's lowest bit is added to the word, so that the carry clears the run, and only bits that
-/// the word had are kept. The sum wraps where the run ends at bit 63.
+// The lowest run of a word that is not 0.
+//
+// The run's lowest bit is added to the word, so that the carry clears the run, and only bits that
+// the word had are kept. The sum wraps where the run ends at bit 63.
 #[inline(always)]
-pub fn lowest_run(word: u64) -> LowestRun
+fn lowest_run(word: u64) -> LowestRun
     requires { 0 < word }
     ensures { IsLowestRun word result.low result.count result.rest }
 {

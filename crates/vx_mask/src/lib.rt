@@ -19,5 +19,5 @@ pub use laws::{filters_law, indices_law, rank_law, slices_law};
 pub use mask::Mask;
 pub use mask_values::MaskValues;
 pub use policy::{Policy, PolicyError, PolicyFields, Ratio};
-pub use ranks::{rank_words, words_before};
+pub use ranks::{place_with, rank_words, words_before};
 pub use reuse::prepare_mask_for_reuse;

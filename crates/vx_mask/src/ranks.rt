@@ -109,8 +109,8 @@ fn block_with(blocks: &[usize], k: usize) -> usize
     low
 }
 
-// The place of the `k`-th set bit of the word, from 0: the lowest, once k lower ones are cleared.
-fn place_with(word: u64, k: usize) -> usize
+/// The place of the `k`-th set bit of the word, from 0: the lowest, once k lower ones are cleared.
+pub fn place_with(word: u64, k: usize) -> usize
     requires { k < count_ones word }
     ensures within { result < 64 }
     ensures before { count_ones (word % 2 ^ result) ≤ k }

@@ -21,7 +21,7 @@ pub returns-in-ByBits : goal.returns-in-ByBits
 returns-in-ByBits c = pext-word_bits c.args.word c.args.picks _ c.ranges.picks.fits c.pext_fallback-in-ByBits.ensures
 
 pub returns-in-ByNibbles : goal.returns-in-ByNibbles
-returns-in-ByNibbles c = pext-word_bits c.args.word c.args.picks _ c.ranges.picks.fits c.pext.ensures
+returns-in-ByNibbles c = pext-word_bits c.args.word c.args.picks _ c.ranges.picks.fits c.pext_by_parts.ensures
 
 pub returns-in-ByBytes : goal.returns-in-ByBytes
-returns-in-ByBytes c = pext-word_bits c.args.word c.args.picks _ c.ranges.picks.fits c.pext-in-ByBytes.ensures
+returns-in-ByBytes c = pext-word_bits c.args.word c.args.picks _ c.ranges.picks.fits c.pext.ensures

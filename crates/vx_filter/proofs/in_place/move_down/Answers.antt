@@ -1,7 +1,6 @@
-use Rattle.std.proofs.Common.{◌≡◌, ◌+◌, ◌-◌, ◌++◌, length, take, drop, ap, ◌∙◌, arith}
-use Rattle.std.proofs.lemmas.List.{length-drop, length-take-le}
-use Rattle.std.proofs.lemmas.Slice.{drop-put_mid, take-put_mid}
-use Rattle.vx_filter.proofs.Blocks.{block_front, drop_pasted}
+use Rattle.std.proofs.Common.{◌+◌, ◌-◌, length, take, drop, ap, ◌∙◌, arith}
+use Rattle.std.proofs.lemmas.List.{length-drop}
+use Rattle.vx_filter.proofs.Blocks.{block_put, drop_pasted}
 use Rattle.vx_filter.proofs.Moves.{same_further}
 use Rattle.vx_filter.proofs.WordItems.{items_behind}
 use Rattle.vx_filter.proofs.in_place.move_down.Goals as goal
@@ -15,22 +14,16 @@ copy_within-requires-clause-not_exhausted g c = tt
 pub returns-in-Some-clause-front : goal.returns-in-Some-clause-front
 returns-in-Some-clause-front g c =
     let values = c.args.values.now in
-    let from = c.args.from in
-    let to = c.args.to in
-    let block : c.copy_from_slice.new.self ≡ take 16 (drop from values) = c.copy_from_slice.ensures.after ∙ c.in-Some.ensures.cases.same ∙ ap (take 16) (items_behind values from) in
-    let enough = c.in-Some.ensures.cases.enough in
-    let long = length-take-le 16 (drop from values) (omega (arith, enough, ap length (items_behind values from))) in
-    block_front values _ (drop from values) to c.args.count c.if-count-le16.true (omega arith) (take-put_mid to (to + 16 - to) values _ (to + 16) (omega (arith, ap length block, long)) (omega arith) ∙ ap (λ l. take to values ++ l) block)
+    let behind = items_behind values c.args.from in
+    let block = c.copy_from_slice.ensures.after ∙ c.in-Some.ensures.cases.same ∙ ap (take 16) behind in
+    (block_put values _ (drop c.args.from values) c.args.to c.args.count (c.args.from + c.args.count) block (omega (arith, c.in-Some.ensures.cases.enough, ap length behind)) c.if-count-le16.true (omega arith) (omega arith)).front
 
 pub returns-in-Some-clause-after : goal.returns-in-Some-clause-after
 returns-in-Some-clause-after g c =
     let values = c.args.values.now in
-    let from = c.args.from in
-    let to = c.args.to in
-    let block : c.copy_from_slice.new.self ≡ take 16 (drop from values) = c.copy_from_slice.ensures.after ∙ c.in-Some.ensures.cases.same ∙ ap (take 16) (items_behind values from) in
-    let enough = c.in-Some.ensures.cases.enough in
-    let long = length-take-le 16 (drop from values) (omega (arith, enough, ap length (items_behind values from))) in
-    drop-put_mid to (to + 16 - to) values _ (from + c.args.count) (omega arith) (omega arith) (omega (arith, ap length block, long))
+    let behind = items_behind values c.args.from in
+    let block = c.copy_from_slice.ensures.after ∙ c.in-Some.ensures.cases.same ∙ ap (take 16) behind in
+    (block_put values _ (drop c.args.from values) c.args.to c.args.count (c.args.from + c.args.count) block (omega (arith, c.in-Some.ensures.cases.enough, ap length behind)) c.if-count-le16.true (omega arith) (omega arith)).after
 
 pub returns-clause-after : goal.returns-clause-after
 returns-clause-after g c =
