@@ -1,5 +1,4 @@
 //! A table of what four bits pack of four bits.
-ghost use Rattle.std.specs.Prelude.{◌≡◌, ◌<◌, length};
 ghost use Rattle.vx_bitfilter.specs.Table.{IsNibbles};
 
 use crate::parts::PartTable;
