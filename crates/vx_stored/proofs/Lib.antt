@@ -1,1 +1,2 @@
 pub mod StoredScalars
+pub mod TextRows

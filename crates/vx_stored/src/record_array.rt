@@ -1,78 +1,38 @@
 //! Layouts that store records: the records, with the new validity handed in.
-ghost use Rattle.std.specs.Prelude.{◌≡◌, ◌+◌, ◌≤◌, All, length, true, false, slice_range, IfOk};
-ghost use Rattle.std.specs.List.{items_where_true};
-ghost use Rattle.vx_types.specs.RowValue.{null};
-ghost use Rattle.vx_take.specs.Picks.{at, in_runs};
-ghost use Rattle.vx_model.specs.Valid.{is_fitting, nullability_by, present_bits, IsAsPlain, IsLeft};
-ghost use Rattle.vx_model.specs.Records.{records_column, records_with, stored_records};
-ghost use Rattle.vx_model.specs.Step.{IsCut, IsSlice, IsStep};
+ghost use Rattle.std.specs.Prelude.{◌≡◌, ◌+◌, ◌≤◌, All, length, true, IfOk};
+ghost use Rattle.vx_take.specs.Picks.{in_runs};
+ghost use Rattle.vx_model.specs.Valid.{is_fitting};
+ghost use Rattle.vx_model.specs.Records.{records_with};
 ghost use Rattle.vx_column.specs.Validity.{valid_of};
-ghost use Rattle.vx_stored.specs.Left.{left_type};
 
-use crate::records::{filter_records, take_records, take_runs};
+use crate::records::take_runs;
+use crate::rows::{Step, StoredRows};
 use std::alloc::Global;
 use vx_bits::NoMemory;
 use vx_column::{Array, RecordArray, Validity};
 use vx_mask::{MaskValues, Policy};
 use vx_take::Picks;
+use vx_text::{filter_records, take_records};
 
-// The rows from `start` up to `end`.
-pub(crate) fn slice_array(
-    array: &RecordArray,
-    start: usize,
-    end: usize,
-    validity: Validity,
-) -> Array
-    requires ordered { start ≤ end }
-    requires within { end ≤ length (stored_records array.now).items }
-    requires left { IsLeft array.now.valid (nullability_by array.now.valid)
-        (slice_range (present_bits array.now.valid (length (stored_records array.now).items))
-        start end) (valid_of validity) }
-    requires plain { IsAsPlain array.now.valid (valid_of validity) }
-    ensures { IsSlice (records_column array.now) start end result }
-{
-    let values = array.values().slice(start, end);
-    array.with_rows(values, validity).into_array()
-}
+impl StoredRows for RecordArray {
+    ghost use Rattle.vx_model.specs.Records.{stored_records};
 
-// The rows at the set positions of `mask`.
-pub(crate) fn filter_array(
-    alloc: Global,
-    array: &RecordArray,
-    mask: &MaskValues,
-    policy: &Policy,
-    validity: Validity,
-) -> Result<Array, NoMemory>
-    requires long { length mask.now.bits.bits ≡ length (stored_records array.now).items }
-    requires left { IsLeft array.now.valid (nullability_by array.now.valid)
-        (items_where_true mask.now.bits.bits
-        (present_bits array.now.valid (length (stored_records array.now).items)))
-        (valid_of validity) }
-    requires plain { IsAsPlain array.now.valid (valid_of validity) }
-    ensures { IfOk result (IsCut (records_column array.now)
-        (items_where_true mask.now.bits.bits (records_column array.now).rows)) }
-{
-    let values = filter_records(alloc, array.values(), mask, policy)?;
-    Ok(array.with_rows(values, validity).into_array())
-}
+    ghost parts = { stored_records };
 
-// The rows at the picks.
-pub(crate) fn take_array(
-    alloc: Global,
-    array: &RecordArray,
-    picks: &Picks,
-    validity: Validity,
-) -> Result<Array, NoMemory>
-    requires bound { picks.now.bound ≡ length (stored_records array.now).items }
-    requires left { IsLeft array.now.valid (nullability_by (valid_of validity))
-        (at false (present_bits array.now.valid (length (stored_records array.now).items))
-        picks.now.picks) (valid_of validity) }
-    ensures { IfOk result (IsStep (records_column array.now)
-        (at null (records_column array.now).rows picks.now.picks)
-        (left_type (records_column array.now).dtype (valid_of validity))) }
-{
-    let values = take_records(alloc, array.values(), picks)?;
-    Ok(array.with_rows(values, validity).into_array())
+    fn slice(&self, start: usize, end: usize, valid: Validity) -> Array {
+        let values = self.values().slice(start, end);
+        self.with_rows(values, valid).into_array()
+    }
+
+    fn filter(&self, alloc: Global, mask: &MaskValues, policy: &Policy, valid: Validity) -> Step {
+        let values = filter_records(alloc, self.values(), mask, policy)?;
+        Ok(self.with_rows(values, valid).into_array())
+    }
+
+    fn take(&self, alloc: Global, picks: &Picks, valid: Validity) -> Step {
+        let values = take_records(alloc, self.values(), picks)?;
+        Ok(self.with_rows(values, valid).into_array())
+    }
 }
 
 /// The records in the runs, each its start and its length, one run after another, with this

@@ -11,10 +11,7 @@ ghost use Rattle.vx_column.specs.Stored.{parts_of};
 ghost use Rattle.vx_column.specs.Validity.{valid_of};
 ghost use Rattle.vx_stored.specs.Left.{left_type};
 
-use crate::boolean::{filter_bool, slice_bool, take_bool};
-use crate::record_array::{filter_array, slice_array, take_array};
-use crate::varbin::{filter_texts, slice_texts, take_texts};
-use crate::varbinview::{filter_view_rows, slice_view_rows, take_view_rows};
+use crate::rows::StoredRows;
 use std::alloc::Global;
 use vx_bits::NoMemory;
 use vx_column::{Array, BoolArray, Stored, Validity};
@@ -32,10 +29,10 @@ pub fn slice_stored(stored: Stored<'_>, start: usize, end: usize, validity: Vali
     ensures { IsSlice (stored_column (parts_of stored.entry)) start end result }
 {
     match stored {
-        Stored::Bits(array) => slice_bool(array, start, end, validity),
-        Stored::Records(array) => slice_array(array, start, end, validity),
-        Stored::Texts(array) => slice_texts(array, start, end, validity),
-        Stored::Views(array) => slice_view_rows(array, start, end, validity),
+        Stored::Bits(array) => array.slice(start, end, validity),
+        Stored::Records(array) => array.slice(start, end, validity),
+        Stored::Texts(array) => array.slice(start, end, validity),
+        Stored::Views(array) => array.slice(start, end, validity),
     }
 }
 
@@ -57,10 +54,10 @@ pub fn filter_stored(
         (items_where_true mask.now.bits.bits (stored_column (parts_of stored.entry)).rows)) }
 {
     match stored {
-        Stored::Bits(array) => filter_bool(alloc, array, mask, policy, validity),
-        Stored::Records(array) => filter_array(alloc, array, mask, policy, validity),
-        Stored::Texts(array) => filter_texts(alloc, array, mask, policy, validity),
-        Stored::Views(array) => filter_view_rows(alloc, array, mask, policy, validity),
+        Stored::Bits(array) => array.filter(alloc, mask, policy, validity),
+        Stored::Records(array) => array.filter(alloc, mask, policy, validity),
+        Stored::Texts(array) => array.filter(alloc, mask, policy, validity),
+        Stored::Views(array) => array.filter(alloc, mask, policy, validity),
     }
 }
 
@@ -81,10 +78,10 @@ pub fn take_stored(
         (left_type (stored_column (parts_of stored.entry)).dtype (valid_of validity))) }
 {
     match stored {
-        Stored::Bits(array) => take_bool(alloc, array, picks, validity),
-        Stored::Records(array) => take_array(alloc, array, picks, validity),
-        Stored::Texts(array) => take_texts(alloc, array, picks, validity),
-        Stored::Views(array) => take_view_rows(alloc, array, picks, validity),
+        Stored::Bits(array) => array.take(alloc, picks, validity),
+        Stored::Records(array) => array.take(alloc, picks, validity),
+        Stored::Texts(array) => array.take(alloc, picks, validity),
+        Stored::Views(array) => array.take(alloc, picks, validity),
     }
 }
 

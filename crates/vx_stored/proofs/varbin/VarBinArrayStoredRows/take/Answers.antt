@@ -8,33 +8,17 @@ use Rattle.vx_model.proofs.Takes.{length-at}
 use Rattle.vx_model.proofs.Texts.{fits-varbin, items-varbin}
 use Rattle.vx_model.proofs.TextSteps.{is_take-kept, is_take-texts}
 use Rattle.vx_column.specs.Validity.{valid_of}
-use Rattle.vx_stored.proofs.varbin.take_texts.Goals as goal
-
-pub take_views-requires-clause-bound : goal.take_views-requires-clause-bound
-take_views-requires-clause-bound c = omega (arith, c.requires.bound, items-varbin c.args.array.now)
-
-pub take_views-requires-clause-fitting : goal.take_views-requires-clause-fitting
-take_views-requires-clause-fitting c =
-    let p = c.args.array.now in let w = valid_of c.args.validity in
-    fitting-take p.valid w (nullability_by w) _ c.args.picks.now.picks c.requires.left
+use Rattle.vx_stored.proofs.varbin.VarBinArrayStoredRows.take.Goals as goal
 
 pub returns-then-last_offset-le-MAX_BUFFER_LEN : goal.returns-then-last_offset-le-MAX_BUFFER_LEN
 returns-then-last_offset-le-MAX_BUFFER_LEN c =
-    let p = c.args.array.now in let w = valid_of c.args.validity in let made = c.in_ok-views.ensures in
+    let p = c.args.self.now in let w = valid_of c.args.valid in let made = c.in_ok-views.ensures in
     rw c.into_array.ensures
     (is_take-texts (varbin_texts p) (view_texts c.in_ok-views.views) w refl refl made.kind made.valid (fits-varbin p c.bytes.ensures.valid) c.args.picks.now.picks (nullability_by w) made.texts c.requires.left)
 
-pub take_varbin_picks-requires-clause-bound : goal.take_varbin_picks-requires-clause-bound
-take_varbin_picks-requires-clause-bound c = omega (arith, c.requires.bound, items-varbin c.args.array.now)
-
-pub take_varbin_picks-requires-clause-fitting : goal.take_varbin_picks-requires-clause-fitting
-take_varbin_picks-requires-clause-fitting c =
-    let p = c.args.array.now in let w = valid_of c.args.validity in
-    fitting-take p.valid w (nullability_by w) _ c.args.picks.now.picks c.requires.left
-
 pub returns : goal.returns
 returns c =
-    let p = c.args.array.now in let w = valid_of c.args.validity in let made = c.in_ok-texts.ensures in
+    let p = c.args.self.now in let w = valid_of c.args.valid in let made = c.in_ok-texts.ensures in
     let picks = c.args.picks.now.picks in
     let fits = fitting-take p.valid w (nullability_by w) _ picks c.requires.left in
     rw c.into_array-2.ensures

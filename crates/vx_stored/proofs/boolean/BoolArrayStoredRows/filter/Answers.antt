@@ -8,11 +8,11 @@ use Rattle.vx_model.proofs.Items.{length-items_where_true}
 use Rattle.vx_model.proofs.Layouts.{fits-bits, items-bits}
 use Rattle.vx_model.proofs.Steps.{fitting-filter, is_filter-bool}
 use Rattle.vx_column.specs.Validity.{valid_of}
-use Rattle.vx_stored.proofs.boolean.filter_bool.Goals as goal
+use Rattle.vx_stored.proofs.boolean.BoolArrayStoredRows.filter.Goals as goal
 
 pub of-requires : goal.of-requires
 of-requires c =
-    let p = c.args.array.now in let v = valid_of c.args.validity in let mask = c.args.mask.now.bits.bits in
+    let p = c.args.self.now in let v = valid_of c.args.valid in let mask = c.args.mask.now.bits.bits in
     let source = c.bits.result.now in
     let long : length mask ≡ length source.bits =
     c.requires.long ∙ items-bits p ∙ ap (λ (b : PlacedBits). length b.bits) (sym c.bits.ensures.bits) in
@@ -22,7 +22,7 @@ of-requires c =
 
 pub returns : goal.returns
 returns c =
-    let p = c.args.array.now in let v = valid_of c.args.validity in let mask = c.args.mask.now.bits.bits in
+    let p = c.args.self.now in let v = valid_of c.args.valid in let mask = c.args.mask.now.bits.bits in
     let kept : c.in_ok-bits.bits ≡ record { bits = items_where_true mask p.bits.bits; offset = 0 } =
     c.in_ok-bits.ensures ∙ ap (λ (b : PlacedBits). let k : PlacedBits = record { bits = items_where_true mask b.bits; offset = 0 } in k) c.bits.ensures.bits in
     rw (c.into_array.ensures ∙ ap bool_column (c.of.ensures ∙ ap (λ (b : PlacedBits). bool_with b.bits b.offset v) kept))

@@ -9,19 +9,19 @@ use Rattle.vx_model.proofs.Steps.{fitting-filter}
 use Rattle.vx_model.proofs.Texts.{fits-varbin, items-varbin}
 use Rattle.vx_model.proofs.TextSteps.{is_filter-kept}
 use Rattle.vx_column.specs.Validity.{valid_of}
-use Rattle.vx_stored.proofs.varbin.filter_texts.Goals as goal
+use Rattle.vx_stored.proofs.varbin.VarBinArrayStoredRows.filter.Goals as goal
 
 pub filter_varbin-requires-clause-long : goal.filter_varbin-requires-clause-long
-filter_varbin-requires-clause-long c = c.requires.long ∙ items-varbin c.args.array.now
+filter_varbin-requires-clause-long c = c.requires.long ∙ items-varbin c.args.self.now
 
 pub filter_varbin-requires-clause-fitting : goal.filter_varbin-requires-clause-fitting
 filter_varbin-requires-clause-fitting c =
-    let p = c.args.array.now in let items = (stored_texts (varbin_texts p)).items in let w = valid_of c.args.validity in
+    let p = c.args.self.now in let items = (stored_texts (varbin_texts p)).items in let w = valid_of c.args.valid in
     fitting-filter items p.valid w (nullability_by p.valid) _ refl (fits-varbin p c.bytes.ensures.valid) c.args.mask.now.bits.bits c.requires.long c.requires.left
 
 pub returns : goal.returns
 returns c =
-    let p = c.args.array.now in let w = valid_of c.args.validity in let made = c.in_ok-kept.ensures in
+    let p = c.args.self.now in let w = valid_of c.args.valid in let made = c.in_ok-kept.ensures in
     let mask = c.args.mask.now.bits.bits in let items = (stored_texts (varbin_texts p)).items in
     let fits : is_fitting w (true_count_of mask) ≡ true =
     fitting-filter items p.valid w (nullability_by p.valid) _ refl (fits-varbin p c.bytes.ensures.valid) mask c.requires.long c.requires.left in
