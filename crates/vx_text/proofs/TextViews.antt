@@ -8,16 +8,23 @@ use Rattle.std.proofs.lemmas.List.{length-map, take_all, take-take, take-append-
 use Rattle.std.proofs.lemmas.Slice.Eq.{bytes_eq-Decides}
 use Rattle.std.proofs.lemmas.List.Elements.{All-tail}
 use Rattle.vx_types.specs.Text.{inlined, is_view, view_of, view_text}
+use Rattle.vx_types.specs.declared.text.BinaryView.{BinaryView}
 use Rattle.vx_types.specs.declared.text.BinaryView.TheVariants.{Inlined, Ref}
+use Rattle.vx_types.specs.declared.text.TextKind.{TextKind}
 use Rattle.vx_types.specs.declared.ptype.PType.{PType}
 use Rattle.vx_take.specs.Picks.{at, item_at}
 use Rattle.vx_positions.specs.Offsets.{are_offsets, lists_at, offset_positions, record_numbers}
 use Rattle.vx_positions.specs.Positions.{position_of}
 use Rattle.vx_positions.proofs.Ascending.{length-numbers, offset_ascends, offset_within}
+use Rattle.vx_model.specs.Numbers.{integers_of}
+use Rattle.vx_model.specs.Valid.{Valid, is_fitting}
+use Rattle.vx_model.specs.VarBin.{VarBinParts, varbin_fault, varbin_texts}
+use Rattle.vx_model.specs.VarBinView.{views_fault}
 use Rattle.vx_model.proofs.Items.{length-slice_range}
-use Rattle.vx_model.proofs.Texts.{get_or-lists_at}
+use Rattle.vx_model.proofs.Texts.{get_or-lists_at, offsets-varbin}
 use Rattle.vx_text.specs.Views.{text_view}
 use Rattle.vx_text.proofs.Both.{join}
+use Rattle.vx_text.proofs.KeptViews.{sound-as}
 use Rattle.vx_text.proofs.ReadOffsets.{climb}
 
 same_bytes : (xs ys : List ℕ) → xs ≡ ys → bytes_eq xs ys ≡ true
@@ -112,6 +119,20 @@ module _ (bytes : List ℕ) (zs : List ℤ) (are : are_offsets zs (length bytes)
   texts-picks [] h = refl
   texts-picks (pick ∷ picks) h =
       ap₂ ◌∷◌ (text-pick pick (h 0 None (omega arith))) (texts-picks picks (All-tail (λ (x : Option ℕ). IfSome x (λ row. row + 1 < length zs)) pick picks h))
+
+-- views of a column's texts at picks, and its bytes as their one buffer
+module _ (p : VarBinParts) (picks : List (Option ℕ)) (views : List BinaryView) (buffers : List (List ℕ)) (sound : varbin_fault p ≡ None) (rows : All (λ pick. IfSome pick (λ row. row + 1 < length (integers_of p.offsets))) picks) (is : views ≡ map (text_view (offset_positions (integers_of p.offsets)) p.bytes) picks) (same : buffers ≡ p.bytes ∷ []) where
+  pub sound-taken : (k : TextKind) (v : Valid) → is_fitting v (length picks) ≡ true → views_fault (record { kind = k; views = views; buffers = buffers; valid = v }) ≡ None
+  sound-taken k v fits =
+      let zs = integers_of p.offsets in
+      sound-as k views (map (text_view (offset_positions zs) p.bytes) picks) buffers (p.bytes ∷ []) v is same
+      (ap (is_fitting v) (length-map picks (text_view (offset_positions zs) p.bytes)) ∙ fits)
+      (sound-picks p.bytes zs (offsets-varbin p sound) picks rows)
+
+  pub texts-taken : map (view_text buffers) views ≡ at [] (varbin_texts p).texts picks
+  texts-taken =
+      ap₂ (λ (x : List (List ℕ)) (l : List BinaryView). map (view_text x) l) same is
+      ∙ texts-picks p.bytes (integers_of p.offsets) (offsets-varbin p sound) picks rows
 
 -- no text ends past the last offset
 pub ends_near : (bytes : List ℕ) (p : PType) (xs : List (List ℕ)) (row k : ℕ) → are_offsets (record_numbers p xs) (length bytes) ≡ true → get_or (offset_positions (record_numbers p xs)) (length xs - 1) 0 ≤ k → row + 1 < length xs → get_or (offset_positions (record_numbers p xs)) (row + 1) 0 ≤ k

@@ -1,20 +1,16 @@
 -- Views between the column's own offsets stand for its texts.
-use Rattle.std.proofs.Common.{ℕ, ◌<◌, [], ◌∷◌, List, length, ap, ap₂, ◌∙◌, arith}
+use Rattle.std.proofs.Common.{ℕ, [], ◌∷◌, List, length, ap, ap₂, ◌∙◌, arith}
 use Rattle.std.specs.Prelude.{map}
-use Rattle.std.proofs.lemmas.List.{length-map}
 use Rattle.vx_types.specs.Text.{view_text}
-use Rattle.vx_types.specs.declared.text.BinaryView.{BinaryView}
 use Rattle.vx_positions.specs.Offsets.{offset_positions}
-use Rattle.vx_model.specs.Numbers.{integer_by, integers_of}
+use Rattle.vx_model.specs.Numbers.{integers_of}
 use Rattle.vx_model.specs.Records.{RecordParts}
-use Rattle.vx_model.specs.Valid.{is_fitting}
 use Rattle.vx_model.specs.VarBinView.{ViewParts}
 use Rattle.vx_model.proofs.Texts.{integers-varbin, offsets-varbin}
 use Rattle.vx_column.specs.Validity.{valid_of}
 use Rattle.vx_text.specs.Views.{text_view}
 use Rattle.vx_text.proofs.CutOffsets.{end-within, picked_rows}
-use Rattle.vx_text.proofs.KeptViews.{sound-as}
-use Rattle.vx_text.proofs.TextViews.{sound-picks, texts-picks}
+use Rattle.vx_text.proofs.TextViews.{sound-taken, texts-taken}
 use Rattle.vx_text.proofs.picked_views.take_views.Goals as goal
 
 pub views_in-requires-clause-integers : goal.views_in-requires-clause-integers
@@ -36,15 +32,12 @@ views_in-requires-clause-bound c =
 
 pub of-requires : goal.of-requires
 of-requires c =
-    let p = c.args.array.now in let picks = c.args.picks.now.picks in let zs = integers_of p.offsets in let b = p.bytes in
+    let p = c.args.array.now in let picks = c.args.picks.now.picks in
     let sound = c.offsets-offsets.ensures.valid in
     let rows = picked_rows p picks c.bound.result sound (omega (arith, c.bound.ensures.value, c.requires.bound)) c.bound.ensures.below in
     let text = c.as_slice.ensures ∙ c.bytes-bytes.ensures.value in
     let views = c.in_ok-views.ensures ∙ c.in_ok-taken.ensures ∙ ap₂ (λ (o : RecordParts) (t : List ℕ). map (text_view (offset_positions (integers_of o)) t) picks) c.offsets-offsets.ensures.value text in
-    let buffers = c.in_ok-buffers.ensures ∙ ap (λ t. t ∷ []) c.bytes-bytes.ensures.value in
-    sound-as c.kind.result c.in_ok-views.views (map (text_view (offset_positions zs) b) picks) c.in_ok-buffers.buffers.items (b ∷ []) (valid_of c.args.validity) views buffers
-    (ap (is_fitting (valid_of c.args.validity)) (length-map picks (text_view (offset_positions zs) b)) ∙ c.requires.fitting)
-    (sound-picks b zs (offsets-varbin p sound) picks rows)
+    sound-taken p picks c.in_ok-views.views c.in_ok-buffers.buffers.items sound rows views (c.in_ok-buffers.ensures ∙ ap (λ t. t ∷ []) c.bytes-bytes.ensures.value) c.kind.result (valid_of c.args.validity) c.requires.fitting
 
 pub returns-clause-kind : goal.returns-clause-kind
 returns-clause-kind c = ap (λ (q : ViewParts). q.kind) c.of.ensures ∙ c.kind.ensures
@@ -55,15 +48,13 @@ returns-clause-buffers c =
 
 pub returns-clause-texts : goal.returns-clause-texts
 returns-clause-texts c =
-    let p = c.args.array.now in let picks = c.args.picks.now.picks in let zs = integers_of p.offsets in let b = p.bytes in
+    let p = c.args.array.now in let picks = c.args.picks.now.picks in
     let sound = c.offsets-offsets.ensures.valid in
     let rows = picked_rows p picks c.bound.result sound (omega (arith, c.bound.ensures.value, c.requires.bound)) c.bound.ensures.below in
     let text = c.as_slice.ensures ∙ c.bytes-bytes.ensures.value in
     let views = c.in_ok-views.ensures ∙ c.in_ok-taken.ensures ∙ ap₂ (λ (o : RecordParts) (t : List ℕ). map (text_view (offset_positions (integers_of o)) t) picks) c.offsets-offsets.ensures.value text in
-    let buffers = c.in_ok-buffers.ensures ∙ ap (λ t. t ∷ []) c.bytes-bytes.ensures.value in
     ap (λ (q : ViewParts). map (view_text q.buffers) q.views) c.of.ensures
-    ∙ ap₂ (λ (x : List (List ℕ)) (l : List BinaryView). map (view_text x) l) buffers views
-    ∙ texts-picks b zs (offsets-varbin p sound) picks rows
+    ∙ texts-taken p picks c.in_ok-views.views c.in_ok-buffers.buffers.items sound rows views (c.in_ok-buffers.ensures ∙ ap (λ t. t ∷ []) c.bytes-bytes.ensures.value)
 
 pub returns-clause-valid : goal.returns-clause-valid
 returns-clause-valid c = ap (λ (q : ViewParts). q.valid) c.of.ensures
