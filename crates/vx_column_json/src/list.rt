@@ -2,7 +2,7 @@
 ghost use Rattle.serde_json.specs.View.{view};
 ghost use Rattle.vx_column.specs.Validity.{valid_of};
 ghost use Rattle.vx_json.specs.Meaning.{Gives};
-ghost use Rattle.vx_column_json.specs.List.{list_made, list_by_offsets, list_by};
+ghost use Rattle.vx_column_json.specs.List.{list_made, list_by};
 
 use crate::made::refusal;
 use crate::offsets::{offset_type_of, offsets_member};
@@ -27,27 +27,12 @@ fn list_made(
     }
 }
 
-#[tactic(auto, unfolding(crate::specs::List::list_by_offsets))]
-fn list_by_offsets(
-    alloc: Global,
-    elements: Array,
-    validity: Validity,
-    value: &Value,
-) -> Result<Array, DocError>
-    ensures { Gives (λ c. c) result
-        (list_by_offsets elements (valid_of validity) (view value.now)) }
-{
-    let ptype = offset_type_of(PType::I64, value)?;
-    let offsets = offsets_member(alloc, ptype, value, "offsets")?;
-    list_made(alloc, elements, offsets, validity)
-}
-
 /// The members that an object of this layout may have.
 const MEMBERS: [&str; 5] = ["layout", "offsets", "offset_type", "elements", "validity"];
 
 /// The column of that layout that the value means, by the column that its member `elements` means
 /// and the validity that it states.
-#[tactic(auto, unfolding(crate::specs::List::list_by))]
+#[tactic(auto, unfolding(crate::specs::List::list_by, crate::specs::List::list_by_offsets))]
 pub(crate) fn list_by(
     alloc: Global,
     value: &Value,
@@ -56,9 +41,10 @@ pub(crate) fn list_by(
 ) -> Result<Array, DocError>
     ensures { Gives (λ c. c) result (list_by (view value.now) elements (valid_of validity)) }
 {
-    if is_closed(value, &MEMBERS) {
-        list_by_offsets(alloc, elements, validity, value)
-    } else {
-        Err(DocError::Malformed)
+    if !is_closed(value, &MEMBERS) {
+        return Err(DocError::Malformed);
     }
+    let ptype = offset_type_of(PType::I64, value)?;
+    let offsets = offsets_member(alloc, ptype, value, "offsets")?;
+    list_made(alloc, elements, offsets, validity)
 }

@@ -1,9 +1,9 @@
 //! Columns of layout `VarBin`.
 ghost use Rattle.std.specs.Option.{option_map};
-ghost use Rattle.serde_json.specs.View.{view, items_view};
+ghost use Rattle.serde_json.specs.View.{view};
 ghost use Rattle.vx_column.specs.Validity.{valid_of};
 ghost use Rattle.vx_json.specs.Meaning.{Gives};
-ghost use Rattle.vx_column_json.specs.VarBin.{varbin_made, varbin_by_items, varbin_by_offsets, varbin_by};
+ghost use Rattle.vx_column_json.specs.VarBin.{varbin_made, varbin_by_offsets, varbin_by};
 
 use crate::made::made;
 use crate::offsets::{offset_type_of, offsets_column, offsets_member};
@@ -40,23 +40,6 @@ fn varbin_made(
     Ok(made(VarBinArray::try_new(kind, offsets, bytes, validity))?.into_array())
 }
 
-/// The column of these texts and nulls.
-#[tactic(auto, unfolding(crate::specs::VarBin::varbin_by_items))]
-fn varbin_by_items(
-    alloc: Global,
-    kind: TextKind,
-    stated: Option<Validity>,
-    items: &Vec<Value>,
-) -> Result<Array, DocError>
-    ensures { Gives (λ c. c) result
-        (varbin_by_items kind (option_map valid_of stated) (items_view items.now.items)) }
-{
-    let validity = validity_beside(alloc, stated, items)?;
-    let texts = strung_texts(alloc, kind, items)?;
-    let offsets = offsets_column(PType::I32, Records::W4(texts.offsets));
-    varbin_made(kind, offsets, texts.bytes, validity)
-}
-
 #[tactic(auto, unfolding(crate::specs::VarBin::varbin_by_offsets))]
 fn varbin_by_offsets(
     alloc: Global,
@@ -76,13 +59,17 @@ fn varbin_by_offsets(
 /// The column of layout `VarBin` that the value means, by the validity that it states. `Malformed`
 /// where there is no such kind of text, an item is none of it or null, the offsets can't cut the
 /// bytes, the validity can't be the column's, or there is another member.
-#[tactic(auto, unfolding(crate::specs::VarBin::varbin_by))]
+#[tactic(auto, unfolding(crate::specs::VarBin::varbin_by, crate::specs::VarBin::varbin_by_items))]
 pub fn varbin_by(alloc: Global, value: &Value, stated: Option<Validity>) -> Result<Array, DocError>
     ensures { Gives (λ c. c) result (varbin_by (view value.now) (option_map valid_of stated)) }
 {
     let kind = text_kind_named(text_member(value, "type")?)?;
     if is_closed(value, &["layout", "type", "values", "validity"]) {
-        varbin_by_items(alloc, kind, stated, list_member(value, "values")?)
+        let items = list_member(value, "values")?;
+        let validity = validity_beside(alloc, stated, items)?;
+        let texts = strung_texts(alloc, kind, items)?;
+        let offsets = offsets_column(PType::I32, Records::W4(texts.offsets));
+        varbin_made(kind, offsets, texts.bytes, validity)
     } else if is_closed(value, &OFFSETS_MEMBERS) {
         varbin_by_offsets(alloc, kind, stated, value)
     } else {

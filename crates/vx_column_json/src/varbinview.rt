@@ -1,9 +1,9 @@
 //! Columns of layout `VarBinView`.
 ghost use Rattle.std.specs.Option.{option_map};
-ghost use Rattle.serde_json.specs.View.{view, items_view};
+ghost use Rattle.serde_json.specs.View.{view};
 ghost use Rattle.vx_column.specs.Validity.{valid_of};
 ghost use Rattle.vx_json.specs.Meaning.{Gives};
-ghost use Rattle.vx_column_json.specs.VarBinView.{views_made, views_by_items, views_by_buffers, views_by};
+ghost use Rattle.vx_column_json.specs.VarBinView.{views_made, views_by_buffers, views_by};
 
 use crate::made::made;
 use crate::validity::{validity_alone, validity_beside};
@@ -34,24 +34,6 @@ fn views_made(
     Ok(made(VarBinViewArray::try_new(kind, views, shared, validity))?.into_array())
 }
 
-/// The column of these texts and nulls.
-#[tactic(auto, unfolding(crate::specs::VarBinView::views_by_items))]
-fn views_by_items(
-    alloc: Global,
-    kind: TextKind,
-    stated: Option<Validity>,
-    items: &Vec<Value>,
-) -> Result<Array, DocError>
-    ensures { Gives (λ c. c) result
-        (views_by_items kind (option_map valid_of stated) (items_view items.now.items)) }
-{
-    let validity = validity_beside(alloc, stated, items)?;
-    let texts = placed_texts(alloc, kind, items)?;
-    let mut buffers = Vec::with_capacity(alloc, 1)?;
-    buffers.push_reserved(texts.bytes);
-    views_made(alloc, kind, texts.views, buffers, validity)
-}
-
 #[tactic(auto, unfolding(crate::specs::VarBinView::views_by_buffers))]
 fn views_by_buffers(
     alloc: Global,
@@ -71,13 +53,18 @@ fn views_by_buffers(
 /// The column of layout `VarBinView` that the value means, by the validity that it states.
 /// `Malformed` where there is no such kind of text, an item is none of it or null, a view is none
 /// of a text, the validity can't be the column's, or there is another member.
-#[tactic(auto, unfolding(crate::specs::VarBinView::views_by))]
+#[tactic(auto, unfolding(crate::specs::VarBinView::views_by, crate::specs::VarBinView::views_by_items))]
 pub fn views_by(alloc: Global, value: &Value, stated: Option<Validity>) -> Result<Array, DocError>
     ensures { Gives (λ c. c) result (views_by (view value.now) (option_map valid_of stated)) }
 {
     let kind = text_kind_named(text_member(value, "type")?)?;
     if is_closed(value, &["layout", "type", "values", "validity"]) {
-        views_by_items(alloc, kind, stated, list_member(value, "values")?)
+        let items = list_member(value, "values")?;
+        let validity = validity_beside(alloc, stated, items)?;
+        let texts = placed_texts(alloc, kind, items)?;
+        let mut buffers = Vec::with_capacity(alloc, 1)?;
+        buffers.push_reserved(texts.bytes);
+        views_made(alloc, kind, texts.views, buffers, validity)
     } else if is_closed(value, &["layout", "type", "views", "buffers", "validity"]) {
         views_by_buffers(alloc, kind, stated, value)
     } else {
