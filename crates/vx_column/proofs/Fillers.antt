@@ -1,6 +1,7 @@
 -- One row that stands where none is shown, and the same row many times.
 use Rattle.std.proofs.Common.{◌≡◌, ℕ, zero, suc, ◌+◌, ◌-◌, ◌*◌, ◌<◌, ◌≤◌, true, false, List, [], ◌∷◌, ◌++◌, map, length, get_or, take, slice_range, None, Some, refl, sym, ap, ap₂, ◌∙◌, arith}
-use Rattle.std.specs.Prelude.{◌==◌, nat_lt, not, pos, replicate, Bool, Option, if◌then◌else◌}
+use Rattle.std.specs.Prelude.{◌==◌, nat_lt, not, pos, replicate, Bool, Option, Result, Ok, if◌then◌else◌}
+use Rattle.vx_bits.specs.Results.{ok_unless}
 use Rattle.std.specs.Int.{w8, from_le_bytes}
 use Rattle.std.specs.List.{list_all}
 use Rattle.std.specs.Cmp.{first_so, second_so}
@@ -13,6 +14,7 @@ use Rattle.vx_types.specs.RowValue.{RowValue, null, bytes, list, fields, tagged,
 use Rattle.vx_types.specs.Same.{are_same_types, is_same_kind}
 use Rattle.vx_types.specs.Scalar.{scalar_fault}
 use Rattle.vx_types.specs.Variants.{are_alike, are_distinct, variants_fault}
+use Rattle.vx_types.specs.declared.error.ColumnError.{ColumnError}
 use Rattle.vx_types.specs.declared.error.ColumnError.TheVariants.{BadTypeId, WrongLength}
 use Rattle.vx_types.specs.SameLaws.{kind_decides}
 use Rattle.vx_types.specs.TypeTree.{TypeKind, TypeTree, also_nullable, are_carried, are_entries, fixed_type, is_carried, is_carried_as, list_type, map_type, null_kind, nullability_as, primitive_kind, primitive_type, struct_kind, struct_type, type_size, types_of, types_size, union_type, with_nullability}
@@ -37,6 +39,9 @@ use Rattle.vx_model.specs.Valid.{Valid, is_fitting, nullability_by, shown_rows, 
 use Rattle.vx_model.proofs.ConstantRows.{all_shown}
 use Rattle.vx_model.proofs.Nullabilities.{also_nullable-none}
 use Rattle.vx_model.proofs.StructSteps.{fault-made}
+use Rattle.vx_column.specs.StructParts.{struct_parts}
+use Rattle.vx_column.specs.Validity.{valid_of}
+use Rattle.vx_column.specs.declared.validity.Validity.{Validity}
 use Rattle.vx_column.specs.Fillers.{empty_views, id_row, valid_by, zero_numbers}
 
 -- ---- a list of no elements
@@ -183,6 +188,13 @@ rows-structs cs t len v n e rows =
     ∙ ap (stored_rows (valid_by n)) (map-replicate fields_row len (map filler_row t.types))
     ∙ stored_by n len (fields_row (map filler_row t.types))
     ∙ ap (λ l. replicate len (if is_nullable n then null else fields l)) (sym (values-fields t.types))
+
+-- they are taken, with fields that are shared
+pub made-structs : {r : Result StructParts ColumnError} (cs : List Column) (f t : FieldTypes) (len : ℕ) (v : Validity) (n : Nullability) → valid_of v ≡ valid_by n → types_in cs ≡ f.types → are_long len cs ≡ true → t ≡ f → r ≡ ok_unless (struct_fault (struct_parts cs t len v)) (struct_parts cs t len v) → r ≡ Ok (struct_parts cs f len v)
+made-structs cs f t len v n e same long shared told =
+    told
+    ∙ ap (λ (x : FieldTypes). let q : StructParts = struct_parts cs x len v in ok_unless (struct_fault q) q) shared
+    ∙ ap (λ fault. ok_unless fault (struct_parts cs f len v)) (sound-structs cs f len (valid_of v) n e same long)
 
 pub ruleset structs = (sound-structs, dtype-structs, rows-structs)
 

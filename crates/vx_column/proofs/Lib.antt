@@ -8,3 +8,4 @@ pub mod ShownBits
 pub mod Stretches
 pub mod Tags
 pub mod TruthBits
+pub mod UnionCells

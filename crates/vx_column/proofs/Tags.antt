@@ -13,7 +13,8 @@ use Rattle.vx_types.specs.TypeTree.{TypeTree, is_int_type, primitive_kind}
 use Rattle.vx_types.specs.declared.ptype.PType.TheVariants.{U8}
 use Rattle.vx_positions.specs.Positions.{is_position, position_of, positions_of}
 use Rattle.vx_model.specs.Column.{Column}
-use Rattle.vx_model.specs.Numbers.{number_in, numbers_of}
+use Rattle.vx_model.specs.Numbers.{integers_of, number_in, numbers_of}
+use Rattle.vx_model.specs.Records.{RecordParts}
 use Rattle.vx_types.specs.FieldTypes.{VariantTypes}
 use Rattle.vx_types.specs.Same.{are_same_types}
 use Rattle.vx_types.specs.TypeTree.{types_of}
@@ -23,6 +24,7 @@ use Rattle.vx_model.specs.Union.{UnionParts, has_place, has_row, have_rows, inde
 use Rattle.vx_model.proofs.StructSteps.{same_trees}
 use Rattle.vx_column.specs.Cell.{type_by_id}
 use Rattle.vx_column.proofs.Fillers.{many-variants}
+use Rattle.vx_column.proofs.Naturals.{integers_long}
 use Rattle.vx_model.proofs.UnionSteps.{alike-union, index-below, known-index, place-index, same-many}
 
 -- ---- the place of a variant
@@ -63,10 +65,21 @@ known-some (v ∷ ids) id = by (v == id) (index_of ids id) (known-some ids id)
 
 -- ---- rows one by one
 
+pub long-tags : (c : Column) → length (positions_of (numbers_of c)) ≡ length c.rows
+long-tags c = length-map (numbers_of c) (option_map position_of) ∙ length-map c.rows (number_in c.dtype.kind)
+
 pub rows-more : (ids : List ℕ) (cs : List Column) (tags : List (Option ℕ)) (zs : List ℤ) (i : ℕ) (t : Option ℕ) (z : ℤ) → i < length tags → i < length zs → have_rows ids cs (drop i tags) (drop i zs) ≡ (has_row ids cs (get_or tags i t) (get_or zs i z) && have_rows ids cs (drop (i + 1) tags) (drop (i + 1) zs))
 rows-more ids cs tags zs i t z h l =
     at_drop_more (λ k. have_rows ids cs k (drop i zs)) tags i t h
     ∙ at_drop_more (λ k. have_rows ids cs (get_or tags i t ∷ drop (i + 1) tags) k) zs i z l
+
+-- the same, where row i is known to be sound or not
+pub rows-by : {b d : Bool} {t : Option ℕ} (ids : List ℕ) (cs : List Column) (c : Column) (o : RecordParts) (i : ℕ) → i < length c.rows → length o.records ≡ length c.rows → t ≡ get_or (positions_of (numbers_of c)) i None → b ≡ has_row ids cs t (get_or (integers_of o) i (pos 0)) → b ≡ d → have_rows ids cs (drop i (positions_of (numbers_of c))) (drop i (integers_of o)) ≡ (d && have_rows ids cs (drop (i + 1) (positions_of (numbers_of c))) (drop (i + 1) (integers_of o)))
+rows-by ids cs c o i h long told judged is =
+    let tags = positions_of (numbers_of c) in let zs = integers_of o in
+    rows-more ids cs tags zs i None (pos 0) (omega (arith, h, long-tags c)) (omega (arith, h, integers_long o, long))
+    ∙ ap (λ x. x && have_rows ids cs (drop (i + 1) tags) (drop (i + 1) zs))
+    (ap (λ u. has_row ids cs u (get_or zs i (pos 0))) (sym told) ∙ sym judged ∙ is)
 
 pub rows-end : (ids : List ℕ) (cs : List Column) (tags : List (Option ℕ)) (zs : List ℤ) (i : ℕ) → length tags ≤ i → have_rows ids cs (drop i tags) (drop i zs) ≡ true
 rows-end ids cs tags zs i h = at_drop_all (λ k. have_rows ids cs k (drop i zs)) tags i h
@@ -78,9 +91,6 @@ known-more ids tags i t h = at_drop_more (list_all (is_known ids)) tags i t h
 
 pub known-end : (ids : List ℕ) (tags : List (Option ℕ)) (i : ℕ) → length tags ≤ i → list_all (is_known ids) (drop i tags) ≡ true
 known-end ids tags i h = at_drop_all (list_all (is_known ids)) tags i h
-
-pub long-tags : (c : Column) → length (positions_of (numbers_of c)) ≡ length c.rows
-long-tags c = length-map (numbers_of c) (option_map position_of) ∙ length-map c.rows (number_in c.dtype.kind)
 
 kind-ids : (t : TypeTree) → is_id_type t ≡ true → t.kind ≡ primitive_kind U8
 kind-ids t h = (kind_decides t.kind (primitive_kind U8)).0 h

@@ -1,6 +1,6 @@
 -- Which rows of bools are true, by their words.
-use Rattle.std.proofs.Common.{◌≡◌, ℕ, zero, suc, ◌+◌, ◌*◌, ◌/◌, ◌≤◌, Bool, true, false, cond, List, [], ◌∷◌, length, map, take, drop, replicate, bit_and, None, Ok, Err, Result, IfOk, refl, sym, ap, ap₂, ◌∙◌, arith}
-use Rattle.std.specs.Prelude.{◌&&◌}
+use Rattle.std.proofs.Common.{◌≡◌, ℕ, zero, suc, ◌+◌, ◌*◌, ◌/◌, ◌%◌, ◌<◌, ◌≤◌, Bool, true, false, cond, List, [], ◌∷◌, length, map, take, drop, replicate, bit_and, None, Ok, Err, Result, IfOk, refl, sym, ap, ap₂, ◌∙◌, arith}
+use Rattle.std.specs.Prelude.{◌&&◌, min}
 use Rattle.std.specs.List.{items_where_true}
 use Rattle.std.proofs.lemmas.List.{length-map, length-replicate}
 use Rattle.std.proofs.lemmas.List.Sums.{sum_by-cons}
@@ -45,25 +45,21 @@ length-both [] (b ∷ ys) h = absurd (omega arith)
 length-both (a ∷ xs) [] h = absurd (omega arith)
 length-both (a ∷ xs) (b ∷ ys) h = ap suc (length-both xs ys (omega arith))
 
+-- numbers with one more bit below
+and_more : (a b x y : ℕ) → a < 2 → b < 2 → bit_and (a + 2 * x) (b + 2 * y) ≡ min a b + 2 * bit_and x y
+and_more a b x y h k =
+    let e : bit_and ((a + 2 * x) / 2) ((b + 2 * y) / 2) ≡ bit_and x y = ap₂ bit_and (omega arith) (omega arith) in
+    let first : (a + 2 * x) % 2 ≡ a = omega arith in
+    let second : (b + 2 * y) % 2 ≡ b = omega arith in
+    omega (arith, and_step (a + 2 * x) (b + 2 * y), e, ap₂ min first second)
+
 pub number-both : (xs ys : List Bool) → number_of (both xs ys) ≡ bit_and (number_of xs) (number_of ys)
 number-both [] ys = refl
 number-both (a ∷ xs) [] = sym (and_zero_r (number_of (a ∷ xs)))
-number-both (true ∷ xs) (true ∷ ys) =
-    let x = number_of xs in let y = number_of ys in
-    let e : bit_and ((1 + 2 * x) / 2) ((1 + 2 * y) / 2) ≡ bit_and x y = ap₂ bit_and (omega arith) (omega arith) in
-    omega (arith, and_step (1 + 2 * x) (1 + 2 * y), e, number-both xs ys)
-number-both (true ∷ xs) (false ∷ ys) =
-    let x = number_of xs in let y = number_of ys in
-    let e : bit_and ((1 + 2 * x) / 2) ((0 + 2 * y) / 2) ≡ bit_and x y = ap₂ bit_and (omega arith) (omega arith) in
-    omega (arith, and_step (1 + 2 * x) (0 + 2 * y), e, number-both xs ys)
-number-both (false ∷ xs) (true ∷ ys) =
-    let x = number_of xs in let y = number_of ys in
-    let e : bit_and ((0 + 2 * x) / 2) ((1 + 2 * y) / 2) ≡ bit_and x y = ap₂ bit_and (omega arith) (omega arith) in
-    omega (arith, and_step (0 + 2 * x) (1 + 2 * y), e, number-both xs ys)
-number-both (false ∷ xs) (false ∷ ys) =
-    let x = number_of xs in let y = number_of ys in
-    let e : bit_and ((0 + 2 * x) / 2) ((0 + 2 * y) / 2) ≡ bit_and x y = ap₂ bit_and (omega arith) (omega arith) in
-    omega (arith, and_step (0 + 2 * x) (0 + 2 * y), e, number-both xs ys)
+number-both (true ∷ xs) (true ∷ ys) = omega (arith, and_more 1 1 (number_of xs) (number_of ys) (omega arith) (omega arith), number-both xs ys)
+number-both (true ∷ xs) (false ∷ ys) = omega (arith, and_more 1 0 (number_of xs) (number_of ys) (omega arith) (omega arith), number-both xs ys)
+number-both (false ∷ xs) (true ∷ ys) = omega (arith, and_more 0 1 (number_of xs) (number_of ys) (omega arith) (omega arith), number-both xs ys)
+number-both (false ∷ xs) (false ∷ ys) = omega (arith, and_more 0 0 (number_of xs) (number_of ys) (omega arith) (omega arith), number-both xs ys)
 
 -- as many as there are set bits at the set positions
 pub count-both : (mask bits : List Bool) → true_count_of (items_where_true mask bits) ≡ true_count_of (both mask bits)

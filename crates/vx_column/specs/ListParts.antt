@@ -1,10 +1,9 @@
--- What the structs of the layouts of lists stand for, and what holds of them.
-use Rattle.std.specs.Prelude.{◌≡◌, ℕ, None}
-use Rattle.vx_types.specs.TypeTree.{TypeTree}
+-- What the structs of the layouts of lists stand for.
+use Rattle.std.specs.Prelude.{ℕ}
 use Rattle.vx_model.specs.Column.{Column}
-use Rattle.vx_model.specs.FixedSizeList.{FixedParts, fixed_fault}
-use Rattle.vx_model.specs.List.{ListParts, list_fault}
-use Rattle.vx_model.specs.ListView.{ListViewParts, listview_fault}
+use Rattle.vx_model.specs.FixedSizeList.{FixedParts}
+use Rattle.vx_model.specs.List.{ListParts}
+use Rattle.vx_model.specs.ListView.{ListViewParts}
 use Rattle.vx_model.specs.Records.{RecordParts}
 use Rattle.vx_column.specs.Validity.{valid_of}
 use Rattle.vx_column.specs.declared.validity.Validity.{Validity}
@@ -20,16 +19,3 @@ listview_parts elements offsets sizes validity =
 abbrev pub fixed_parts : Column → ℕ → ℕ → Validity → FixedParts
 fixed_parts elements size len validity =
     record { elements = elements; size = size; len = len; valid = valid_of validity }
-
--- the parts make a column, and the type that is kept is the elements'
-pub record IsList (t : TypeTree) (p : ListParts) : Type 0 where
-  pub valid : list_fault p ≡ None
-  pub element : t ≡ p.elements.dtype
-
-pub record IsListView (t : TypeTree) (p : ListViewParts) : Type 0 where
-  pub valid : listview_fault p ≡ None
-  pub element : t ≡ p.elements.dtype
-
-pub record IsFixed (t : TypeTree) (p : FixedParts) : Type 0 where
-  pub valid : fixed_fault p ≡ None
-  pub element : t ≡ p.elements.dtype

@@ -12,7 +12,7 @@ ghost use Rattle.std.specs.Prelude.{◌≤◌};
 ghost use Rattle.vx_model.specs.Step.{IsPlainSlice};
 
 use crate::array::{Array, Layout};
-use crate::cell::Cell;
+use crate::cell::{Cell, ReadRow};
 use crate::validity::Validity;
 use std::marker::Model;
 use vx_bits::BitBuffer;
@@ -106,23 +106,6 @@ impl BoolArray {
         Array::new(dtype, len, Layout::Bool(self))
     }
 
-    // Row `i`.
-    #[cycle(cell)]
-    #[tactic(auto, using(vx_model::proofs::Layouts::layout_rows))]
-    pub(crate) fn cell_at(&self, i: usize) -> Cell<'_>
-        requires { i < length (bool_column self.now).rows }
-        ensures row { row_of result ≡ slice_index_or (bool_column self.now).rows i null }
-        ensures of_type { IsOfType result (bool_column self.now).dtype }
-        ensures nested { cell_depth result < (bool_column self.now).depth }
-    {
-        let bits = self.bits();
-        if self.validity().is_valid_at(i) {
-            Cell::Bit(bits.value(i))
-        } else {
-            Cell::Null
-        }
-    }
-
     // The rows from `start` up to `end`, where the validity is a constant form.
     #[tactic(auto, using(vx_model::proofs::Layouts::layout_rows))]
     pub(crate) fn slice_plain(&self, start: usize, end: usize) -> Option<Array>
@@ -135,5 +118,20 @@ impl BoolArray {
         }
         let bits = self.bits().slice(start, end);
         Some(BoolArray::of(bits, self.validity().share()).into_array())
+    }
+}
+
+// Row `i`.
+impl ReadRow for BoolArray {
+    ghost column = { bool_column };
+
+    #[cycle(cell)]
+    #[tactic(auto, using(vx_model::proofs::Layouts::layout_rows))]
+    fn cell_at(&self, i: usize) -> Cell<'_> {
+        if self.validity().is_valid_at(i) {
+            Cell::Bit(self.bits().value(i))
+        } else {
+            Cell::Null
+        }
     }
 }

@@ -1,6 +1,7 @@
 //! One row as it is stored: the one walk that every reader of a row takes.
 ghost use Rattle.std.specs.Prelude.{◌≡◌, ◌↔◌, ◌<◌, None, true, length, slice_index_or};
 ghost use Rattle.vx_types.specs.RowValue.{null};
+ghost use Rattle.vx_model.specs.Column.{Column};
 ghost use Rattle.vx_model.specs.Numbers.{number_in};
 ghost use Rattle.vx_types.specs.DType.{type_of};
 ghost use Rattle.vx_types.specs.TypeTree.{is_int_type};
@@ -79,6 +80,19 @@ impl Cell<'_> {
             Cell::Bit(_) | Cell::List(_) | Cell::Fields(_) | Cell::Tagged(_) => unreachable!(),
         }
     }
+}
+
+// A layout that reads a row of its own.
+pub(crate) trait ReadRow {
+    // the column of the layout
+    ghost column: { Self → Column };
+
+    // Row `i`. It takes no memory.
+    fn cell_at(&self, i: usize) -> Cell<'_>
+        requires { i < length (column self.now).rows }
+        ensures row { row_of result ≡ slice_index_or (column self.now).rows i null }
+        ensures of_type { IsOfType result (column self.now).dtype }
+        ensures nested { cell_depth result < (column self.now).depth };
 }
 
 impl Array {

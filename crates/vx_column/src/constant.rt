@@ -6,7 +6,7 @@ ghost use Rattle.vx_types.specs.RowValue.{null};
 ghost use Rattle.vx_column.specs.Cell.{cell_depth, row_of, IsOfType};
 
 use crate::array::{Array, Layout};
-use crate::cell::Cell;
+use crate::cell::{Cell, ReadRow};
 use std::marker::Model;
 use vx_types::{Scalar, ScalarValue};
 
@@ -68,15 +68,14 @@ impl ConstantArray {
         let len = self.len;
         Array::new(dtype, len, Layout::Constant(self))
     }
+}
 
-    // Each row.
+// Each row.
+impl ReadRow for ConstantArray {
+    ghost column = { constant_column };
+
     #[tactic(auto, using(vx_model::proofs::LazyRows::lazy_rows, vx_model::proofs::Scalars::scalars))]
-    pub(crate) fn cell_at(&self, i: usize) -> Cell<'_>
-        requires { i < length (constant_column self.now).rows }
-        ensures row { row_of result ≡ slice_index_or (constant_column self.now).rows i null }
-        ensures of_type { IsOfType result (constant_column self.now).dtype }
-        ensures nested { cell_depth result < (constant_column self.now).depth }
-    {
+    fn cell_at(&self, i: usize) -> Cell<'_> {
         let _ = i;
         let scalar = self.scalar();
         let _ = scalar.dtype();

@@ -11,7 +11,7 @@ ghost use Rattle.vx_column.specs.Cell.{cell_depth, row_of, IsOfType};
 ghost use Rattle.vx_types.specs.declared.layout_name.LayoutName.TheVariants.{Dict as DictLayout};
 
 use crate::array::{Array, ArrayRef, Layout};
-use crate::cell::Cell;
+use crate::cell::{Cell, ReadRow};
 use std::marker::Model;
 use vx_positions::position;
 use vx_types::{ColumnError, PType};
@@ -126,23 +126,6 @@ impl DictArray {
         Array::new(dtype, len, Layout::Dict(self))
     }
 
-    // Row `i`: the value that its code names.
-    #[cycle(cell)]
-    #[tactic(auto, using(vx_model::proofs::LazyRows::lazy_rows, crate::proofs::Cells::dict_cells))]
-    pub(crate) fn cell_at(&self, i: usize) -> Cell<'_>
-        requires { i < length (dict_column self.now).rows }
-        ensures row { row_of result ≡ slice_index_or (dict_column self.now).rows i null }
-        ensures of_type { IsOfType result (dict_column self.now).dtype }
-        ensures nested { cell_depth result < (dict_column self.now).depth }
-    {
-        let codes = self.codes();
-        let values = self.values();
-        match codes.cell_at(i).number(codes.dtype()) {
-            Some(code) => values.cell_at(position(code, values.len())),
-            None => Cell::Null,
-        }
-    }
-
     // Whether each of the values is one of `len` positions, as far as that is told at once.
     #[cycle(told)]
     #[tactic(auto, using(vx_model::proofs::LazyNumbers::lazy_numbers))]
@@ -151,6 +134,22 @@ impl DictArray {
         ensures { result ≡ true → first_bad len (numbers_of (dict_column self.now)) ≡ None }
     {
         self.values().tells_positions(ptype, len)
+    }
+}
+
+// Row `i`: the value that its code names.
+impl ReadRow for DictArray {
+    ghost column = { dict_column };
+
+    #[cycle(cell)]
+    #[tactic(auto, using(vx_model::proofs::LazyRows::lazy_rows, crate::proofs::Cells::dict_cells))]
+    fn cell_at(&self, i: usize) -> Cell<'_> {
+        let codes = self.codes();
+        let values = self.values();
+        match codes.cell_at(i).number(codes.dtype()) {
+            Some(code) => values.cell_at(position(code, values.len())),
+            None => Cell::Null,
+        }
     }
 }
 

@@ -7,7 +7,7 @@ ghost use Rattle.vx_column.specs.Cell.{cell_depth, row_of, IsOfType};
 ghost use Rattle.vx_types.specs.declared.layout_name.LayoutName.TheVariants.{Extension as ExtensionLayout};
 
 use crate::array::{Array, ArrayRef, Layout};
-use crate::cell::Cell;
+use crate::cell::{Cell, ReadRow};
 use std::marker::Model;
 use vx_shared::Shared;
 use vx_types::{ColumnError, DType, ExtDType};
@@ -103,16 +103,15 @@ impl ExtensionArray {
         let len = self.storage.len();
         Array::new(dtype, len, Layout::Extension(self))
     }
+}
 
-    // Row `i`: the storage's.
+// Row `i`: the storage's.
+impl ReadRow for ExtensionArray {
+    ghost column = { extension_column };
+
     #[cycle(cell)]
     #[tactic(auto, using(vx_model::proofs::ExtensionSteps::extension_rows, crate::proofs::Cells::stored))]
-    pub(crate) fn cell_at(&self, i: usize) -> Cell<'_>
-        requires { i < length (extension_column self.now).rows }
-        ensures row { row_of result ≡ slice_index_or (extension_column self.now).rows i null }
-        ensures of_type { IsOfType result (extension_column self.now).dtype }
-        ensures nested { cell_depth result < (extension_column self.now).depth }
-    {
+    fn cell_at(&self, i: usize) -> Cell<'_> {
         let storage = self.storage();
         storage.cell_at(i)
     }

@@ -11,7 +11,7 @@ ghost use Rattle.vx_types.specs.RowValue.{null};
 ghost use Rattle.vx_column.specs.Cell.{cell_depth, row_of, IsOfType};
 
 use crate::array::{Array, ArrayRef, Layout};
-use crate::cell::Cell;
+use crate::cell::{Cell, ReadRow};
 use std::marker::Model;
 use vx_mask::Mask;
 use vx_types::{ColumnError, PType};
@@ -107,19 +107,6 @@ impl FilterArray {
         Array::new(dtype, len, Layout::Filter(self))
     }
 
-    // Row `i`: the child's row at the mask's set position of that rank.
-    #[cycle(cell)]
-    #[tactic(auto, using(vx_model::proofs::LazyRows::lazy_rows))]
-    pub(crate) fn cell_at(&self, i: usize) -> Cell<'_>
-        requires { i < length (filter_column self.now).rows }
-        ensures row { row_of result ≡ slice_index_or (filter_column self.now).rows i null }
-        ensures of_type { IsOfType result (filter_column self.now).dtype }
-        ensures nested { cell_depth result < (filter_column self.now).depth }
-    {
-        let mask = self.mask();
-        self.child().cell_at(mask.rank(i))
-    }
-
     // Whether each of the child's numbers is one of `len` positions, as far as that is told at
     // once.
     #[cycle(told)]
@@ -129,5 +116,17 @@ impl FilterArray {
         ensures { result ≡ true → first_bad len (numbers_of (filter_column self.now)) ≡ None }
     {
         self.child().tells_positions(ptype, len)
+    }
+}
+
+// Row `i`: the child's row at the mask's set position of that rank.
+impl ReadRow for FilterArray {
+    ghost column = { filter_column };
+
+    #[cycle(cell)]
+    #[tactic(auto, using(vx_model::proofs::LazyRows::lazy_rows))]
+    fn cell_at(&self, i: usize) -> Cell<'_> {
+        let mask = self.mask();
+        self.child().cell_at(mask.rank(i))
     }
 }

@@ -6,18 +6,18 @@ ghost use Rattle.vx_column.specs.ListParts.{fixed_parts};
 ghost use Rattle.vx_column.specs.Validity.{valid_of};
 
 use crate::array::{Array, ArrayRef, Layout};
+use crate::elements::Elements;
 use crate::validity::Validity;
 use std::alloc::Global;
 use std::marker::Model;
-use vx_types::{ColumnError, DType, ElementType};
+use vx_types::{ColumnError, DType};
 
 /// A column of lists that each have as many of one column's elements, one list after another:
 /// Vortex's `FixedSizeListArray`.
 #[cycle(array)]
 #[derive(Drop)]
 pub struct FixedSizeListArray {
-    elements: ArrayRef,
-    element: ElementType,
+    elements: Elements,
     list_size: u32,
     len: usize,
     validity: Validity,
@@ -30,15 +30,16 @@ impl Model for FixedSizeListArray {
 
     ghost coded = { coded_fixed };
 
-    ghost use Rattle.std.specs.Prelude.{◌+◌, max};
+    ghost use Rattle.std.specs.Prelude.{◌≡◌, ◌+◌, None, max};
     ghost use Rattle.std.proofs.Common.{arith};
+    ghost use Rattle.vx_model.specs.FixedSizeList.{fixed_fault};
     ghost use Rattle.vx_model.specs.Valid.{valid_size};
-    ghost use Rattle.vx_column.specs.ListParts.{fixed_parts, IsFixed};
+    ghost use Rattle.vx_column.specs.ListParts.{fixed_parts};
 
     ghost view = { λ a. fixed_parts a.elements a.list_size a.len a.validity };
 
     ghost invariant = { λ a.
-        IsFixed a.element (fixed_parts a.elements a.list_size a.len a.validity) };
+        fixed_fault (fixed_parts a.elements a.list_size a.len a.validity) ≡ None };
 
     ghost size = { λ p. max p.elements.depth (valid_size p.valid) + 2 };
 
@@ -67,16 +68,12 @@ impl FixedSizeListArray {
         if !validity.is_fitting(len) {
             return Err(ColumnError::BadValidity);
         }
-        match ElementType::new(alloc, elements.dtype().share()) {
-            Ok(element) => Ok(FixedSizeListArray {
-                elements,
-                element,
-                list_size,
-                len,
-                validity,
-            }),
-            Err(_) => Err(ColumnError::NoMemory),
-        }
+        Ok(FixedSizeListArray {
+            elements: Elements::new(alloc, elements)?,
+            list_size,
+            len,
+            validity,
+        })
     }
 
     /// Other sound parts, of which the elements have the same type: what a step leaves. It takes
@@ -92,8 +89,7 @@ impl FixedSizeListArray {
         ensures { result ≡ fixed_parts elements self.now.size len validity }
     {
         FixedSizeListArray {
-            elements,
-            element: self.element.share(),
+            elements: self.elements.with_column(elements),
             list_size: self.list_size,
             len,
             validity,
@@ -105,7 +101,7 @@ impl FixedSizeListArray {
         ensures value { result.now ≡ self.now.elements }
         ensures valid { fixed_fault self.now ≡ None }
     {
-        &self.elements
+        self.elements.column()
     }
 
     /// How many elements each row has.
@@ -154,7 +150,6 @@ impl FixedSizeListArray {
     {
         FixedSizeListArray {
             elements: self.elements.share(),
-            element: self.element.share(),
             list_size: self.list_size,
             len: self.len,
             validity: self.validity.share(),
@@ -166,10 +161,8 @@ impl FixedSizeListArray {
     pub fn into_array(self) -> Array
         ensures { result ≡ fixed_column self }
     {
-        // its elements' type is one that a column may have
-        let _ = self.elements.dtype();
         let nullability = self.validity.nullability();
-        let dtype = DType::FixedSizeList(self.element.share(), self.list_size, nullability);
+        let dtype = DType::FixedSizeList(self.elements.element(), self.list_size, nullability);
         let len = self.len;
         Array::new(dtype, len, Layout::FixedSizeList(self))
     }

@@ -11,6 +11,7 @@ mod columns;
 mod constant;
 mod decimal;
 mod dict;
+mod elements;
 mod extension;
 mod filler;
 mod filter;

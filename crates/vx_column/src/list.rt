@@ -9,20 +9,20 @@ ghost use Rattle.vx_column.specs.Validity.{valid_of};
 ghost use Rattle.vx_types.specs.declared.layout_name.LayoutName.TheVariants.{List as ListLayout};
 
 use crate::array::{Array, ArrayRef, Layout};
-use crate::offsets::{are_integers, cut, integer_at, row_count};
+use crate::elements::Elements;
+use crate::offsets::{are_integers, cut, position_at, row_count};
 use crate::primitive::PrimitiveArray;
 use crate::validity::Validity;
 use std::alloc::Global;
 use std::marker::Model;
-use vx_types::{ColumnError, DType, ElementType};
+use vx_types::{ColumnError, DType};
 
 /// A column of lists of one column's elements, each from its offset up to the next: Vortex's
 /// `ListArray`.
 #[cycle(array)]
 #[derive(Drop)]
 pub struct ListArray {
-    elements: ArrayRef,
-    element: ElementType,
+    elements: Elements,
     offsets: PrimitiveArray,
     validity: Validity,
 }
@@ -34,14 +34,15 @@ impl Model for ListArray {
 
     ghost coded = { coded_list_parts };
 
-    ghost use Rattle.std.specs.Prelude.{◌+◌, max};
+    ghost use Rattle.std.specs.Prelude.{◌≡◌, ◌+◌, None, max};
     ghost use Rattle.std.proofs.Common.{arith};
+    ghost use Rattle.vx_model.specs.List.{list_fault};
     ghost use Rattle.vx_model.specs.Valid.{valid_size};
-    ghost use Rattle.vx_column.specs.ListParts.{list_parts, IsList};
+    ghost use Rattle.vx_column.specs.ListParts.{list_parts};
 
     ghost view = { λ a. list_parts a.elements a.offsets a.validity };
 
-    ghost invariant = { λ a. IsList a.element (list_parts a.elements a.offsets a.validity) };
+    ghost invariant = { λ a. list_fault (list_parts a.elements a.offsets a.validity) ≡ None };
 
     ghost size = { λ p. max p.elements.depth (valid_size p.valid) + 2 };
 
@@ -74,15 +75,11 @@ impl ListArray {
         if !cut(&offsets, elements.len()) {
             return Err(ColumnError::BadOffsets);
         }
-        match ElementType::new(alloc, elements.dtype().share()) {
-            Ok(element) => Ok(ListArray {
-                elements,
-                element,
-                offsets,
-                validity,
-            }),
-            Err(_) => Err(ColumnError::NoMemory),
-        }
+        Ok(ListArray {
+            elements: Elements::new(alloc, elements)?,
+            offsets,
+            validity,
+        })
     }
 
     /// Other sound parts, of which the elements have the same type: what a step leaves. It takes
@@ -98,8 +95,7 @@ impl ListArray {
         ensures { result ≡ list_parts elements offsets validity }
     {
         ListArray {
-            elements,
-            element: self.element.share(),
+            elements: self.elements.with_column(elements),
             offsets,
             validity,
         }
@@ -110,7 +106,7 @@ impl ListArray {
         ensures value { result.now ≡ self.now.elements }
         ensures valid { list_fault self.now ≡ None }
     {
-        &self.elements
+        self.elements.column()
     }
 
     /// Where the elements of each row begin, and where those of the last end.
@@ -143,9 +139,7 @@ impl ListArray {
         requires { i < length self.now.offsets.records }
         ensures { result ≡ slice_index_or (offset_positions (integers_of self.now.offsets)) i 0 }
     {
-        // its offsets are integers, none of them negative or past the elements
-        let _ = self.elements().len();
-        integer_at(&self.offsets, i) as usize
+        position_at(&self.offsets, i, self.elements().len())
     }
 
     /// Where the elements of row `i` begin and end, of a null row too. It takes no memory.
@@ -168,7 +162,6 @@ impl ListArray {
     {
         ListArray {
             elements: self.elements.share(),
-            element: self.element.share(),
             offsets: self.offsets.share(),
             validity: self.validity.share(),
         }
@@ -179,9 +172,7 @@ impl ListArray {
     pub fn into_array(self) -> Array
         ensures { result ≡ list_column self }
     {
-        // its elements' type is one that a column may have
-        let _ = self.elements.dtype();
-        let dtype = DType::List(self.element.share(), self.validity.nullability());
+        let dtype = DType::List(self.elements.element(), self.validity.nullability());
         let len = row_count(&self.offsets);
         Array::new(dtype, len, Layout::List(self))
     }

@@ -8,20 +8,20 @@ ghost use Rattle.vx_column.specs.ListParts.{listview_parts};
 ghost use Rattle.vx_column.specs.Validity.{valid_of};
 
 use crate::array::{Array, ArrayRef, Layout};
-use crate::offsets::{are_integers, are_natural, are_views, integer_at};
+use crate::elements::Elements;
+use crate::offsets::{are_integers, are_natural, are_views, integer_at, position_at};
 use crate::primitive::PrimitiveArray;
 use crate::validity::Validity;
 use std::alloc::Global;
 use std::marker::Model;
-use vx_types::{ColumnError, DType, ElementType};
+use vx_types::{ColumnError, DType};
 
 /// A column of lists of one column's elements, each as many as its size from its offset on:
 /// Vortex's `ListViewArray`.
 #[cycle(array)]
 #[derive(Drop)]
 pub struct ListViewArray {
-    elements: ArrayRef,
-    element: ElementType,
+    elements: Elements,
     offsets: PrimitiveArray,
     sizes: PrimitiveArray,
     validity: Validity,
@@ -34,15 +34,16 @@ impl Model for ListViewArray {
 
     ghost coded = { coded_listview };
 
-    ghost use Rattle.std.specs.Prelude.{◌+◌, max};
+    ghost use Rattle.std.specs.Prelude.{◌≡◌, ◌+◌, None, max};
     ghost use Rattle.std.proofs.Common.{arith};
+    ghost use Rattle.vx_model.specs.ListView.{listview_fault};
     ghost use Rattle.vx_model.specs.Valid.{valid_size};
-    ghost use Rattle.vx_column.specs.ListParts.{listview_parts, IsListView};
+    ghost use Rattle.vx_column.specs.ListParts.{listview_parts};
 
     ghost view = { λ a. listview_parts a.elements a.offsets a.sizes a.validity };
 
     ghost invariant = { λ a.
-        IsListView a.element (listview_parts a.elements a.offsets a.sizes a.validity) };
+        listview_fault (listview_parts a.elements a.offsets a.sizes a.validity) ≡ None };
 
     ghost size = { λ p. max p.elements.depth (valid_size p.valid) + 2 };
 
@@ -72,16 +73,12 @@ impl ListViewArray {
         if let Some(fault) = fault_of(&elements, &offsets, &sizes, &validity) {
             return Err(fault);
         }
-        match ElementType::new(alloc, elements.dtype().share()) {
-            Ok(element) => Ok(ListViewArray {
-                elements,
-                element,
-                offsets,
-                sizes,
-                validity,
-            }),
-            Err(_) => Err(ColumnError::NoMemory),
-        }
+        Ok(ListViewArray {
+            elements: Elements::new(alloc, elements)?,
+            offsets,
+            sizes,
+            validity,
+        })
     }
 
     /// Other sound parts, of which the elements have the same type: what a step leaves. It takes
@@ -98,8 +95,7 @@ impl ListViewArray {
         ensures { result ≡ listview_parts elements offsets sizes validity }
     {
         ListViewArray {
-            elements,
-            element: self.element.share(),
+            elements: self.elements.with_column(elements),
             offsets,
             sizes,
             validity,
@@ -111,7 +107,7 @@ impl ListViewArray {
         ensures value { result.now ≡ self.now.elements }
         ensures valid { listview_fault self.now ≡ None }
     {
-        &self.elements
+        self.elements.column()
     }
 
     /// Where the elements of each row begin.
@@ -154,9 +150,7 @@ impl ListViewArray {
         requires { i < length (listview_spans self.now).spans }
         ensures { result ≡ slice_index_or (offset_positions (integers_of self.now.offsets)) i 0 }
     {
-        // its offsets are integers, none of them negative or past the elements
-        let _ = self.elements().len();
-        integer_at(&self.offsets, i) as usize
+        position_at(&self.offsets, i, self.elements().len())
     }
 
     // How many elements row `i` has.
@@ -191,7 +185,6 @@ impl ListViewArray {
     {
         ListViewArray {
             elements: self.elements.share(),
-            element: self.element.share(),
             offsets: self.offsets.share(),
             sizes: self.sizes.share(),
             validity: self.validity.share(),
@@ -203,9 +196,7 @@ impl ListViewArray {
     pub fn into_array(self) -> Array
         ensures { result ≡ listview_column self }
     {
-        // its elements' type is one that a column may have
-        let _ = self.elements.dtype();
-        let dtype = DType::List(self.element.share(), self.validity.nullability());
+        let dtype = DType::List(self.elements.element(), self.validity.nullability());
         let len = self.len();
         Array::new(dtype, len, Layout::ListView(self))
     }

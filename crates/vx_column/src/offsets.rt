@@ -1,5 +1,5 @@
 //! Offsets and sizes: columns of integers that have no null.
-ghost use Rattle.std.specs.Prelude.{◌≡◌, ◌+◌, ◌<◌, [], length, nat_le, slice_index_or, true};
+ghost use Rattle.std.specs.Prelude.{◌≡◌, ◌+◌, ◌<◌, ◌≤◌, [], length, nat_le, pos, slice_index_or, true};
 ghost use Rattle.std.specs.List.{list_all};
 ghost use Rattle.vx_types.specs.TypeTree.{is_int_kind};
 ghost use Rattle.vx_positions.specs.Offsets.{are_offsets, offset_positions};
@@ -46,6 +46,19 @@ pub(crate) fn integer_at(offsets: &PrimitiveArray, i: usize) -> i128
 {
     let values = offsets.values();
     offsets.ptype().number(values.record_bytes(i))
+}
+
+/// Number `i`, which isn't negative and isn't past `len`.
+pub(crate) fn position_at(numbers: &PrimitiveArray, i: usize, len: usize) -> usize
+    requires int { is_int_kind numbers.now.kind ≡ true }
+    requires row { i < length numbers.now.records }
+    requires natural { pos (slice_index_or (offset_positions (integers_of numbers.now)) i 0)
+        ≡ integer_by numbers.now.kind (slice_index_or numbers.now.records i []) }
+    requires within { slice_index_or (offset_positions (integers_of numbers.now)) i 0 ≤ len }
+    ensures { result ≡ slice_index_or (offset_positions (integers_of numbers.now)) i 0 }
+{
+    let _ = len;
+    integer_at(numbers, i) as usize
 }
 
 // Whether number `i` isn't negative.

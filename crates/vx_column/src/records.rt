@@ -16,7 +16,7 @@ ghost use Rattle.vx_column.specs.Shown.{AreShownRowsOf};
 ghost use Rattle.vx_column.specs.Validity.{valid_of};
 
 use crate::array::{Array, Layout};
-use crate::cell::Cell;
+use crate::cell::{Cell, ReadRow};
 use crate::decimal::DecimalArray;
 use crate::primitive::PrimitiveArray;
 use crate::validity::Validity;
@@ -197,23 +197,6 @@ impl RecordArray {
         }
     }
 
-    // Row `i`.
-    #[cycle(cell)]
-    #[tactic(auto, using(vx_model::proofs::Layouts::layout_rows))]
-    pub(crate) fn cell_at(&self, i: usize) -> Cell<'_>
-        requires { i < length (records_column self.now).rows }
-        ensures row { row_of result ≡ slice_index_or (records_column self.now).rows i null }
-        ensures of_type { IsOfType result (records_column self.now).dtype }
-        ensures nested { cell_depth result < (records_column self.now).depth }
-    {
-        let values = self.values();
-        if self.validity().is_valid_at(i) {
-            Cell::Bytes(values.record_bytes(i))
-        } else {
-            Cell::Null
-        }
-    }
-
     // The rows from `start` up to `end`, where the validity is a constant form.
     #[tactic(auto, using(vx_model::proofs::Layouts::layout_rows))]
     pub(crate) fn slice_plain(&self, start: usize, end: usize) -> Option<Array>
@@ -250,6 +233,21 @@ impl RecordArray {
         match self.validity().bits() {
             Some(bits) => Some((self.values(), bits)),
             None => None,
+        }
+    }
+}
+
+// Row `i`.
+impl ReadRow for RecordArray {
+    ghost column = { records_column };
+
+    #[cycle(cell)]
+    #[tactic(auto, using(vx_model::proofs::Layouts::layout_rows))]
+    fn cell_at(&self, i: usize) -> Cell<'_> {
+        if self.validity().is_valid_at(i) {
+            Cell::Bytes(self.values().record_bytes(i))
+        } else {
+            Cell::Null
         }
     }
 }

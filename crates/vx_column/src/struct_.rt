@@ -14,7 +14,7 @@ ghost use Rattle.vx_column.specs.Validity.{valid_of};
 ghost use Rattle.vx_types.specs.declared.layout_name.LayoutName.TheVariants.{Struct as StructLayout};
 
 use crate::array::{Array, ArrayRef, Layout};
-use crate::cell::{Cell, FieldsCell};
+use crate::cell::{Cell, FieldsCell, ReadRow};
 use crate::columns::Columns;
 use crate::validity::Validity;
 use std::marker::Model;
@@ -200,16 +200,15 @@ impl StructArray {
         let len = self.len;
         Array::new(dtype, len, Layout::Struct(self))
     }
+}
 
-    // Row `i`: that row of each field.
+// Row `i`: that row of each field.
+impl ReadRow for StructArray {
+    ghost column = { struct_column };
+
     #[cycle(cell)]
     #[tactic(auto, using(vx_model::proofs::StructSteps::struct_rows, vx_model::proofs::Layouts::absent_nullable, crate::proofs::Cells::there, crate::proofs::Fields::past))]
-    pub(crate) fn cell_at(&self, i: usize) -> Cell<'_>
-        requires { i < length (struct_column self.now).rows }
-        ensures row { row_of result ≡ slice_index_or (struct_column self.now).rows i null }
-        ensures of_type { IsOfType result (struct_column self.now).dtype }
-        ensures nested { cell_depth result < (struct_column self.now).depth }
-    {
+    fn cell_at(&self, i: usize) -> Cell<'_> {
         let validity = self.validity();
         if validity.is_valid_at(i) {
             let columns = self.fields();

@@ -14,7 +14,7 @@ ghost use Rattle.vx_column.specs.UnionParts.{union_parts};
 ghost use Rattle.vx_types.specs.declared.layout_name.LayoutName.TheVariants.{Union as UnionLayout};
 
 use crate::array::{Array, ArrayRef, Layout};
-use crate::cell::{Cell, TaggedCell};
+use crate::cell::{Cell, ReadRow, TaggedCell};
 use crate::columns::Columns;
 use crate::offsets::{are_integers, integer_at};
 use crate::primitive::PrimitiveArray;
@@ -397,16 +397,15 @@ impl UnionArray {
         let len = self.len();
         Array::new(dtype, len, Layout::Union(self))
     }
+}
 
-    // Row `i`: that of its variant's column.
+// Row `i`: that of its variant's column.
+impl ReadRow for UnionArray {
+    ghost column = { union_column };
+
     #[cycle(cell)]
     #[tactic(auto, using(vx_model::proofs::UnionSteps::rows_of_unions))]
-    pub(crate) fn cell_at(&self, i: usize) -> Cell<'_>
-        requires { i < length (union_column self.now).rows }
-        ensures row { row_of result ≡ slice_index_or (union_column self.now).rows i null }
-        ensures of_type { IsOfType result (union_column self.now).dtype }
-        ensures nested { cell_depth result < (union_column self.now).depth }
-    {
+    fn cell_at(&self, i: usize) -> Cell<'_> {
         let Some(id) = tag_at(self.type_ids(), i) else {
             return Cell::Null;
         };

@@ -11,8 +11,8 @@ ghost use Rattle.vx_column.specs.Text.{varbin_parts};
 ghost use Rattle.vx_column.specs.Validity.{valid_of};
 
 use crate::array::{Array, Layout};
-use crate::cell::Cell;
-use crate::offsets::{are_integers, cut, integer_at, row_count};
+use crate::cell::{Cell, ReadRow};
+use crate::offsets::{are_integers, cut, position_at, row_count};
 use crate::primitive::PrimitiveArray;
 use crate::validity::Validity;
 use std::marker::Model;
@@ -150,9 +150,7 @@ impl VarBinArray {
         requires { i < length self.now.offsets.records }
         ensures { result ≡ slice_index_or (offset_positions (integers_of self.now.offsets)) i 0 }
     {
-        // its offsets are integers, none of them negative or past the bytes
-        let _ = self.bytes().len();
-        integer_at(&self.offsets, i) as usize
+        position_at(&self.offsets, i, self.bytes().len())
     }
 
     /// Where the last text ends. It takes no memory.
@@ -215,16 +213,15 @@ impl VarBinArray {
         let len = row_count(&self.offsets);
         Array::new(dtype, len, Layout::VarBin(self))
     }
+}
 
-    // Row `i`.
+// Row `i`.
+impl ReadRow for VarBinArray {
+    ghost column = { varbin_column };
+
     #[cycle(cell)]
     #[tactic(auto, using(vx_model::proofs::Texts::varbin_rows, vx_model::proofs::Layouts::absent_nullable, crate::proofs::Cells::there))]
-    pub(crate) fn cell_at(&self, i: usize) -> Cell<'_>
-        requires { i < length (varbin_column self.now).rows }
-        ensures row { row_of result ≡ slice_index_or (varbin_column self.now).rows i null }
-        ensures of_type { IsOfType result (varbin_column self.now).dtype }
-        ensures nested { cell_depth result < (varbin_column self.now).depth }
-    {
+    fn cell_at(&self, i: usize) -> Cell<'_> {
         // the validity fits the rows
         let _ = self.bytes();
         if self.validity().is_valid_at(i) {

@@ -11,7 +11,7 @@ ghost use Rattle.vx_column.specs.Text.{view_parts};
 ghost use Rattle.vx_column.specs.Validity.{valid_of};
 
 use crate::array::{Array, Layout};
-use crate::cell::Cell;
+use crate::cell::{Cell, ReadRow};
 use crate::validity::Validity;
 use std::marker::Model;
 use vx_bits::Buffer;
@@ -183,16 +183,15 @@ impl VarBinViewArray {
         let len = self.views().len();
         Array::new(dtype, len, Layout::VarBinView(self))
     }
+}
 
-    // Row `i`.
+// Row `i`.
+impl ReadRow for VarBinViewArray {
+    ghost column = { views_column };
+
     #[cycle(cell)]
     #[tactic(auto, using(vx_model::proofs::Texts::view_rows, vx_model::proofs::Layouts::absent_nullable, crate::proofs::Cells::there))]
-    pub(crate) fn cell_at(&self, i: usize) -> Cell<'_>
-        requires { i < length (views_column self.now).rows }
-        ensures row { row_of result ≡ slice_index_or (views_column self.now).rows i null }
-        ensures of_type { IsOfType result (views_column self.now).dtype }
-        ensures nested { cell_depth result < (views_column self.now).depth }
-    {
+    fn cell_at(&self, i: usize) -> Cell<'_> {
         // the validity fits the rows
         let _ = self.views();
         if self.validity().is_valid_at(i) {

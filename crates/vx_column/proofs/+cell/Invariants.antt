@@ -14,43 +14,43 @@ use Rattle.vx_column.proofs.+cell.Given as goal
 abbrev pub decreases-array::Array::cell_at : goal.decreases-array::Array::cell_at
 decreases-array::Array::cell_at l = l.self.now.depth
 
-abbrev pub decreases-boolean::BoolArray::cell_at : goal.decreases-boolean::BoolArray::cell_at
-decreases-boolean::BoolArray::cell_at l = valid_size l.self.now.valid + 1
+abbrev pub decreases-boolean::BoolArrayReadRow::cell_at : goal.decreases-boolean::BoolArrayReadRow::cell_at
+decreases-boolean::BoolArrayReadRow::cell_at l = valid_size l.self.now.valid + 1
 
-abbrev pub decreases-dict::DictArray::cell_at : goal.decreases-dict::DictArray::cell_at
-decreases-dict::DictArray::cell_at l = dict_size l.self.now
+abbrev pub decreases-dict::DictArrayReadRow::cell_at : goal.decreases-dict::DictArrayReadRow::cell_at
+decreases-dict::DictArrayReadRow::cell_at l = dict_size l.self.now
 
-abbrev pub decreases-filter::FilterArray::cell_at : goal.decreases-filter::FilterArray::cell_at
-decreases-filter::FilterArray::cell_at l = filter_size l.self.now
+abbrev pub decreases-filter::FilterArrayReadRow::cell_at : goal.decreases-filter::FilterArrayReadRow::cell_at
+decreases-filter::FilterArrayReadRow::cell_at l = filter_size l.self.now
 
 abbrev pub decreases-lists::Lists::cell_at : goal.decreases-lists::Lists::cell_at
 decreases-lists::Lists::cell_at l =
     max (spans_of l.self).elements.depth (valid_size (spans_of l.self).valid) + 2
 
-abbrev pub decreases-records::RecordArray::cell_at : goal.decreases-records::RecordArray::cell_at
-decreases-records::RecordArray::cell_at l = valid_size l.self.now.valid + 1
+abbrev pub decreases-records::RecordArrayReadRow::cell_at : goal.decreases-records::RecordArrayReadRow::cell_at
+decreases-records::RecordArrayReadRow::cell_at l = valid_size l.self.now.valid + 1
 
 abbrev pub decreases-validity::Validity::is_valid_at :
     goal.decreases-validity::Validity::is_valid_at
 decreases-validity::Validity::is_valid_at l = valid_size (valid_of l.self.now)
 
-abbrev pub decreases-varbin::VarBinArray::cell_at : goal.decreases-varbin::VarBinArray::cell_at
-decreases-varbin::VarBinArray::cell_at l = valid_size l.self.now.valid + 1
+abbrev pub decreases-varbin::VarBinArrayReadRow::cell_at : goal.decreases-varbin::VarBinArrayReadRow::cell_at
+decreases-varbin::VarBinArrayReadRow::cell_at l = valid_size l.self.now.valid + 1
 
-abbrev pub decreases-varbinview::VarBinViewArray::cell_at :
-    goal.decreases-varbinview::VarBinViewArray::cell_at
-decreases-varbinview::VarBinViewArray::cell_at l = valid_size l.self.now.valid + 1
+abbrev pub decreases-varbinview::VarBinViewArrayReadRow::cell_at :
+    goal.decreases-varbinview::VarBinViewArrayReadRow::cell_at
+decreases-varbinview::VarBinViewArrayReadRow::cell_at l = valid_size l.self.now.valid + 1
 
-abbrev pub decreases-struct_::StructArray::cell_at : goal.decreases-struct_::StructArray::cell_at
-decreases-struct_::StructArray::cell_at l =
+abbrev pub decreases-struct_::StructArrayReadRow::cell_at : goal.decreases-struct_::StructArrayReadRow::cell_at
+decreases-struct_::StructArrayReadRow::cell_at l =
     max (columns_depth l.self.now.columns) (valid_size l.self.now.valid) + 2
 
-abbrev pub decreases-extension::ExtensionArray::cell_at :
-    goal.decreases-extension::ExtensionArray::cell_at
-decreases-extension::ExtensionArray::cell_at l = extension_size l.self.now
+abbrev pub decreases-extension::ExtensionArrayReadRow::cell_at :
+    goal.decreases-extension::ExtensionArrayReadRow::cell_at
+decreases-extension::ExtensionArrayReadRow::cell_at l = extension_size l.self.now
 
-abbrev pub decreases-union_::UnionArray::cell_at : goal.decreases-union_::UnionArray::cell_at
-decreases-union_::UnionArray::cell_at l = union_size l.self.now
+abbrev pub decreases-union_::UnionArrayReadRow::cell_at : goal.decreases-union_::UnionArrayReadRow::cell_at
+decreases-union_::UnionArrayReadRow::cell_at l = union_size l.self.now
 
 abbrev pub decreases-union_::tag_at : goal.decreases-union_::tag_at
 decreases-union_::tag_at l = l.type_ids.now.depth + 1
