@@ -1,4 +1,4 @@
-use Rattle.std.proofs.Common.{◌*◌, ◌∙◌, ap, arith, vec_len}
+use Rattle.std.proofs.Common.{◌*◌, ◌∙◌, arith, vec_len}
 use Rattle.vx_bits.proofs.WordLists.{is_word}
 use Rattle.vx_mask.proofs.RunLists.{all_positions}
 use Rattle.vx_mask.specs.Positions.{run_positions}
