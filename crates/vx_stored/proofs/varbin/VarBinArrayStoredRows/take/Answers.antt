@@ -1,11 +1,11 @@
 -- The texts at the picks make the column at the picks.
-use Rattle.std.proofs.Common.{[], length, refl, sym, arith}
+use Rattle.std.proofs.Common.{[], length, refl, sym}
 use Rattle.vx_model.specs.Valid.{nullability_by}
 use Rattle.vx_model.specs.VarBin.{varbin_texts}
 use Rattle.vx_model.specs.VarBinView.{view_texts}
 use Rattle.vx_model.proofs.Steps.{fitting-take}
 use Rattle.vx_model.proofs.Takes.{length-at}
-use Rattle.vx_model.proofs.Texts.{fits-varbin, items-varbin}
+use Rattle.vx_model.proofs.Texts.{fits-varbin}
 use Rattle.vx_model.proofs.TextSteps.{is_take-kept, is_take-texts}
 use Rattle.vx_column.specs.Validity.{valid_of}
 use Rattle.vx_stored.proofs.varbin.VarBinArrayStoredRows.take.Goals as goal

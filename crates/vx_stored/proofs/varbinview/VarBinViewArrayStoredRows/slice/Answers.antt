@@ -1,11 +1,7 @@
 -- The sliced texts make the sliced column.
-use Rattle.std.proofs.Common.{refl, sym, ap, ◌∙◌, arith}
-use Rattle.vx_model.specs.Valid.{is_fitting, nullability_by}
-use Rattle.vx_model.specs.Text.{stored_texts}
+use Rattle.std.proofs.Common.{refl}
 use Rattle.vx_model.specs.VarBinView.{view_texts}
-use Rattle.vx_model.proofs.Items.{length-slice_range}
-use Rattle.vx_model.proofs.Steps.{fitting-slice}
-use Rattle.vx_model.proofs.Texts.{fits-views, items-texts}
+use Rattle.vx_model.proofs.Texts.{fits-views}
 use Rattle.vx_model.proofs.TextSteps.{is_slice-texts}
 use Rattle.vx_column.specs.Validity.{valid_of}
 use Rattle.vx_stored.proofs.varbinview.VarBinViewArrayStoredRows.slice.Goals as goal

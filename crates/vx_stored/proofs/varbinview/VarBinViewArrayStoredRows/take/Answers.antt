@@ -1,9 +1,8 @@
 -- The views at the picks make the column at the picks.
-use Rattle.std.proofs.Common.{refl, arith}
+use Rattle.std.proofs.Common.{refl}
 use Rattle.vx_model.specs.Valid.{nullability_by}
 use Rattle.vx_model.specs.VarBinView.{view_texts}
-use Rattle.vx_model.proofs.Steps.{fitting-take}
-use Rattle.vx_model.proofs.Texts.{fits-views, items-texts}
+use Rattle.vx_model.proofs.Texts.{fits-views}
 use Rattle.vx_model.proofs.TextSteps.{is_take-texts}
 use Rattle.vx_column.specs.Validity.{valid_of}
 use Rattle.vx_stored.proofs.varbinview.VarBinViewArrayStoredRows.take.Goals as goal
