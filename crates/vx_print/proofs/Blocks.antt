@@ -1,7 +1,7 @@
 -- Lines behind lines.
 use Rattle.std.proofs.Common.{◌≡◌, ℕ, zero, suc, ◌+◌, ◌-◌, ◌<◌, ◌≤◌, List, [], ◌∷◌, ◌++◌, length, take, drop, get_or, slice_range, min, refl, sym, ap, ◌∙◌, append_assoc, drop-cons, length-drop, arith}
 use Rattle.std.proofs.Math.Seq.{take-add}
-use Rattle.std.proofs.lemmas.List.{drop-drop, drop-take, get_or-take, get_or_default, length-take-le}
+use Rattle.std.proofs.lemmas.List.{drop_all, drop-drop, drop-take, get_or-take, get_or_default, length-take-le}
 use Rattle.std.proofs.lemmas.List.Concat.{flat_map-append}
 use Rattle.vx_print.specs.Text.{line, lines}
 
@@ -59,3 +59,14 @@ slices_meet xs s m e h k =
     sym (ap (λ (n : ℕ). take n (drop s xs)) whole
     ∙ take-add (m - s) (e - m) (drop s xs)
     ∙ ap (λ l. slice_range xs s m ++ take (e - m) l) (drop-drop (m - s) s xs ∙ ap (λ (n : ℕ). drop n xs) at))
+
+-- nothing is written before the first of the rows before `end`
+pub none_put : {X : Type 0} (texts : List X → List ℕ) (dst : List ℕ) (xs : List X) (n end : ℕ) → texts [] ≡ [] → length dst ≤ n → end ≤ length xs → drop n dst ≡ texts (drop (end - 0) (take end xs))
+none_put texts dst xs n end none short within =
+    let long = length-take-le end xs within in
+    drop_all n dst short ∙ sym (ap texts (drop_all (end - 0) (take end xs) (omega (arith, long))) ∙ none)
+
+-- the last k of those before `end` are those from `start` on
+pub all_put : {X : Type 0} (texts : List X → List ℕ) (xs : List X) (start end k : ℕ) → end - k ≡ start → start ≤ end → texts (drop (end - k) (take end xs)) ≡ texts (take (end - start) (drop start xs))
+all_put texts xs start end k is h =
+    ap (λ (n : ℕ). texts (drop n (take end xs))) is ∙ ap texts (rows_between xs start end h)

@@ -1,12 +1,15 @@
 -- Texts with `, ` between them.
-use Rattle.std.proofs.Common.{◌≡◌, ℕ, ◌+◌, ◌-◌, ◌<◌, ◌≤◌, Bool, true, false, List, [], ◌∷◌, ◌++◌, ◌∙◌, length, map, take, drop, get_or, slice_range, eqb, refl, sym, ap, append_assoc, append-nil, length-drop, arith}
+use Rattle.std.proofs.Common.{◌≡◌, ℕ, ◌+◌, ◌-◌, ◌<◌, ◌≤◌, Bool, true, false, List, [], ◌∷◌, ◌++◌, ◌∙◌, length, map, take, drop, get_or, slice_range, eqb, refl, sym, ap, ap₂, append_assoc, append-nil, length-drop, arith}
 use Rattle.std.specs.Prelude.{codes, flat_map}
 use Rattle.std.proofs.lemmas.Bool.Decides.{nat_tests}
 use Rattle.std.proofs.lemmas.List.{flat_map_more, map_push, map-append, take_more, length-map, length-take-le}
 use Rattle.std.proofs.lemmas.List.Concat.{flat_map-append}
+use Rattle.vx_types.specs.RowValue.{RowValue, null}
+use Rattle.vx_types.specs.TypeTree.{TypeTree}
+use Rattle.vx_model.specs.Column.{Column}
 use Rattle.vx_model.proofs.Items.{length-slice_range}
 use Rattle.vx_column.proofs.RowLists.{slice-more}
-use Rattle.vx_print.specs.Text.{joined, gap}
+use Rattle.vx_print.specs.Text.{joined, gap, row_text}
 use Rattle.vx_print.proofs.Blocks.{drop_before, slices_meet}
 
 -- it is the first one exactly where none stands there
@@ -45,6 +48,15 @@ element_more f bs xs s i d h l =
     let long : length (map f part) ≡ i - s = length-map part f ∙ length-slice_range xs s i h (omega arith) in
     joined_behind bs (map f part) (f (get_or xs i d)) (eqb i s) (first_by i s (length (map f part)) long h)
     ∙ sym (ap (λ l. bs ++ joined l) (ap (map f) (slice-more xs s i d h l) ∙ map_push f part (get_or xs i d)))
+
+-- the same of a column's row, by what was appended: a gap, and then the text of a row
+pub row_behind : (k : Column) (bs : List ℕ) (s i : ℕ) (before text new : List ℕ) (t : TypeTree) (x : RowValue) → s ≤ i → i < length k.rows → before ≡ bs ++ joined (map (row_text k.dtype) (slice_range k.rows s i)) → text ≡ before ++ gap (eqb i s) → t ≡ k.dtype → x ≡ get_or k.rows i null → new ≡ text ++ row_text t x → new ≡ bs ++ joined (map (row_text k.dtype) (slice_range k.rows s (i + 1)))
+row_behind k bs s i before text new t x h l so_far next type row more =
+    let f = row_text k.dtype in
+    more
+    ∙ ap₂ (λ (u : TypeTree) (y : RowValue). text ++ row_text u y) type row
+    ∙ ap (λ l. l ++ f (get_or k.rows i null)) (next ∙ ap (λ l. l ++ gap (eqb i s)) so_far)
+    ∙ element_more f bs k.rows s i null h l
 
 -- a text in front of those that are there
 joined-front : (t : List ℕ) (ts : List (List ℕ)) (b : Bool) → IsFirst b (length ts) → t ++ (gap b ++ joined ts) ≡ joined (t ∷ ts)

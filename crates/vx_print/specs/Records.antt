@@ -1,14 +1,12 @@
 -- Rows that are stored as records, and the text of a record.
-use Rattle.std.specs.Prelude.{◌≡◌, ◌≤◌, ◌==◌, ℕ, ◌-◌, ◌^◌, List, Bool, true, length, map, Option}
-use Rattle.std.specs.Prelude.{Some, None, option_map, if◌then◌else◌}
+use Rattle.std.specs.Prelude.{◌≡◌, ◌≤◌, ℕ, ◌-◌, ◌^◌, List, Bool, true, length, map, Option}
+use Rattle.std.specs.Prelude.{Some, None, option_map}
 use Rattle.std.specs.Borrow.{Bor}
 use Rattle.std.specs.Fmt.{signed_decimal}
 use Rattle.vx_bits.specs.BitBuffer.{PlacedBits}
 use Rattle.vx_bits.specs.Words.{word_at}
 use Rattle.vx_types.specs.PType.{width, is_int, number}
 use Rattle.vx_types.specs.RowValue.{RowValue, bytes}
-use Rattle.vx_types.specs.declared.ptype.PType.{PType}
-use Rattle.vx_types.specs.declared.ptype.PType.TheVariants.{U8, U16, U32, U64, I8, I16, I32, I64}
 use Rattle.vx_model.specs.Valid.{shown_rows}
 use Rattle.vx_print.specs.Text.{hex_text}
 use Rattle.vx_print.specs.declared.records.Form.{Form}
@@ -42,10 +40,3 @@ block_word (Some bits) k = word_at bits k
 abbrev pub IsLong : Option (List Bool) → ℕ → Type 0
 IsLong None n = Unit {0}
 IsLong (Some bits) n = length bits ≡ n
-
--- the type of numbers from 0 on, and of those with a sign, that is so many bytes wide, up to 8
-abbrev pub unsigned_of : ℕ → PType
-unsigned_of w = if w == 1 then U8 else if w == 2 then U16 else if w == 4 then U32 else U64
-
-abbrev pub signed_of : ℕ → PType
-signed_of w = if w == 1 then I8 else if w == 2 then I16 else if w == 4 then I32 else I64

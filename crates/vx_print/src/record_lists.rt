@@ -6,13 +6,15 @@ ghost use Rattle.vx_types.specs.DType.{type_of};
 ghost use Rattle.vx_types.specs.PType.{width};
 ghost use Rattle.vx_types.specs.TypeTree.{type_width};
 ghost use Rattle.vx_print.specs.Text.{bytes_text, hex_text, joined, primitive_text};
-ghost use Rattle.vx_print.specs.Records.{record_text, signed_of, unsigned_of, IsWide};
+ghost use Rattle.vx_print.specs.Records.{record_text, IsWide};
+ghost use Rattle.vx_print.specs.declared.records.Form.TheVariants.{Number};
 
 use crate::joined::put_gap;
 use crate::records::{Form, put_record};
 use crate::row::{BLOCK, ROOM};
 use vx_bits::{Records, match_each_record_width};
 use vx_column::{DType, PType};
+use vx_positions::by_type;
 
 // Writes records with `, ` between them so that they end where `dst` does, and answers where they
 // begin. It is a loop of its own at each form, known where it is called.
@@ -46,44 +48,24 @@ fn put_hex(values: &Records, start: usize, end: usize, dst: &mut [u8; ROOM]) -> 
     })
 }
 
-// Writes the numbers from 0 on that the records from `start` up to `end` spell.
-fn put_unsigned(values: &Records, start: usize, end: usize, dst: &mut [u8; ROOM]) -> usize
-    requires width { width_of values.now ≤ 8 }
+// Writes the numbers that the records of this type from `start` up to `end` spell.
+#[inline(always)]
+fn put_numbers<const W: usize>(
+    ptype: PType,
+    records: &[[u8; W]],
+    start: usize,
+    end: usize,
+    dst: &mut [u8; ROOM],
+) -> usize
+    requires width { IsWide (Number ptype) W }
     requires ordered { start ≤ end }
     requires block { end ≤ start + BLOCK }
-    requires within { end ≤ length (records_of values.now) }
+    requires within { end ≤ length records.now }
     ensures within { result ≤ ROOM }
-    ensures put { drop result dst.new ≡ joined (map
-        (primitive_text (unsigned_of (width_of values.now)))
-        (slice_range (records_of values.now) start end)) }
+    ensures put { drop result dst.new
+        ≡ joined (map (record_text (Number ptype)) (slice_range records.now start end)) }
 {
-    match values {
-        Records::W1(b) => put_each(Form::Number(PType::U8), &b.as_slice()[start..end], dst),
-        Records::W2(b) => put_each(Form::Number(PType::U16), &b.as_slice()[start..end], dst),
-        Records::W4(b) => put_each(Form::Number(PType::U32), &b.as_slice()[start..end], dst),
-        Records::W8(b) => put_each(Form::Number(PType::U64), &b.as_slice()[start..end], dst),
-        Records::W16(_) | Records::W32(_) => unreachable!(),
-    }
-}
-
-// The same of numbers with a sign.
-fn put_signed(values: &Records, start: usize, end: usize, dst: &mut [u8; ROOM]) -> usize
-    requires width { width_of values.now ≤ 8 }
-    requires ordered { start ≤ end }
-    requires block { end ≤ start + BLOCK }
-    requires within { end ≤ length (records_of values.now) }
-    ensures within { result ≤ ROOM }
-    ensures put { drop result dst.new ≡ joined (map
-        (primitive_text (signed_of (width_of values.now)))
-        (slice_range (records_of values.now) start end)) }
-{
-    match values {
-        Records::W1(b) => put_each(Form::Number(PType::I8), &b.as_slice()[start..end], dst),
-        Records::W2(b) => put_each(Form::Number(PType::I16), &b.as_slice()[start..end], dst),
-        Records::W4(b) => put_each(Form::Number(PType::I32), &b.as_slice()[start..end], dst),
-        Records::W8(b) => put_each(Form::Number(PType::I64), &b.as_slice()[start..end], dst),
-        Records::W16(_) | Records::W32(_) => unreachable!(),
-    }
+    put_each(Form::Number(ptype), &records[start..end], dst)
 }
 
 // The same of records of a primitive type.
@@ -104,9 +86,8 @@ fn put_primitive(
         (slice_range (records_of values.now) start end)) }
 {
     match ptype {
-        PType::U8 | PType::U16 | PType::U32 | PType::U64 => put_unsigned(values, start, end, dst),
-        PType::I8 | PType::I16 | PType::I32 | PType::I64 => put_signed(values, start, end, dst),
         PType::F16 | PType::F32 | PType::F64 => put_hex(values, start, end, dst),
+        _ => by_type!(ptype, values, put_numbers, start, end, dst),
     }
 }
 

@@ -6,12 +6,14 @@ ghost use Rattle.vx_bits.specs.Records.{records_of, width_of};
 ghost use Rattle.vx_types.specs.PType.{width};
 ghost use Rattle.vx_types.specs.RowValue.{null, bytes};
 ghost use Rattle.vx_print.specs.Text.{lines, hex_text, primitive_text, row_text_by};
-ghost use Rattle.vx_print.specs.Records.{record_text, record_rows, block_word, bits_in, signed_of};
-ghost use Rattle.vx_print.specs.Records.{unsigned_of, IsWide, IsLong};
+ghost use Rattle.vx_print.specs.Records.{record_text, record_rows, block_word, bits_in};
+ghost use Rattle.vx_print.specs.Records.{IsWide, IsLong};
+ghost use Rattle.vx_print.specs.declared.records.Form.TheVariants.{Number};
 
 use crate::row::{BLOCK, ROOM, ROW, put_hex, put_number, put_word};
-use vx_bits::{BitBuffer, Buffer, NoMemory, Records, match_each_record_width};
+use vx_bits::{BitBuffer, NoMemory, Records, match_each_record_width};
 use vx_column::PType;
+use vx_positions::by_type;
 
 /// How a record is printed.
 #[derive(Clone, Copy)]
@@ -126,21 +128,20 @@ fn push_blocks<const W: usize>(
     Ok(())
 }
 
-// The same of the records of a buffer. Where there are no bits, the loop tests none.
+// The same. Where there are no bits, the loop tests none.
 #[inline(always)]
-fn push_buffer<const W: usize>(
-    text: &mut Vec<u8>,
+fn push_each<const W: usize>(
     form: Form,
-    buffer: &Buffer<[u8; W]>,
+    records: &[[u8; W]],
+    text: &mut Vec<u8>,
     bits: Option<&BitBuffer>,
 ) -> Result<(), NoMemory>
     requires width { IsWide form W }
-    requires long { IsLong (bits_in bits) (length buffer.now) }
+    requires long { IsLong (bits_in bits) (length records.now) }
     ensures { IsOk result → text.new.items ≡ text.old.items
         ++ lines (row_text_by (record_text form))
-        (record_rows (bits_in bits.entry) buffer.now) }
+        (record_rows (bits_in bits.entry) records.now) }
 {
-    let records = buffer.as_slice();
     match bits {
         None => push_blocks(text, form, records, None),
         Some(_) => push_blocks(text, form, records, bits),
@@ -158,49 +159,26 @@ pub(crate) fn push_hex(
     ensures { IsOk result → text.new.items ≡ text.old.items ++ lines (row_text_by hex_text)
         (record_rows (bits_in bits.entry) (records_of values.now)) }
 {
-    match_each_record_width!(values, buffer => push_buffer(text, Form::Hex, buffer, bits))
+    match_each_record_width!(values, buffer => {
+        push_each(Form::Hex, buffer.as_slice(), text, bits)
+    })
 }
 
-// Appends a line for each row, a number from 0 on.
-fn push_unsigned(
+// Appends a line for each row, the number that its record of this type spells, or null.
+#[inline(always)]
+fn push_numbers<const W: usize>(
+    ptype: PType,
+    records: &[[u8; W]],
     text: &mut Vec<u8>,
-    values: &Records,
     bits: Option<&BitBuffer>,
 ) -> Result<(), NoMemory>
-    requires width { width_of values.now ≤ 8 }
-    requires long { IsLong (bits_in bits) (length (records_of values.now)) }
+    requires width { IsWide (Number ptype) W }
+    requires long { IsLong (bits_in bits) (length records.now) }
     ensures { IsOk result → text.new.items ≡ text.old.items
-        ++ lines (row_text_by (primitive_text (unsigned_of (width_of values.now))))
-        (record_rows (bits_in bits.entry) (records_of values.now)) }
+        ++ lines (row_text_by (record_text (Number ptype)))
+        (record_rows (bits_in bits.entry) records.now) }
 {
-    match values {
-        Records::W1(buffer) => push_buffer(text, Form::Number(PType::U8), buffer, bits),
-        Records::W2(buffer) => push_buffer(text, Form::Number(PType::U16), buffer, bits),
-        Records::W4(buffer) => push_buffer(text, Form::Number(PType::U32), buffer, bits),
-        Records::W8(buffer) => push_buffer(text, Form::Number(PType::U64), buffer, bits),
-        Records::W16(_) | Records::W32(_) => unreachable!(),
-    }
-}
-
-// The same of numbers with a sign.
-fn push_signed(
-    text: &mut Vec<u8>,
-    values: &Records,
-    bits: Option<&BitBuffer>,
-) -> Result<(), NoMemory>
-    requires width { width_of values.now ≤ 8 }
-    requires long { IsLong (bits_in bits) (length (records_of values.now)) }
-    ensures { IsOk result → text.new.items ≡ text.old.items
-        ++ lines (row_text_by (primitive_text (signed_of (width_of values.now))))
-        (record_rows (bits_in bits.entry) (records_of values.now)) }
-{
-    match values {
-        Records::W1(buffer) => push_buffer(text, Form::Number(PType::I8), buffer, bits),
-        Records::W2(buffer) => push_buffer(text, Form::Number(PType::I16), buffer, bits),
-        Records::W4(buffer) => push_buffer(text, Form::Number(PType::I32), buffer, bits),
-        Records::W8(buffer) => push_buffer(text, Form::Number(PType::I64), buffer, bits),
-        Records::W16(_) | Records::W32(_) => unreachable!(),
-    }
+    push_each(Form::Number(ptype), records, text, bits)
 }
 
 /// The same of records of a primitive type.
@@ -217,8 +195,7 @@ pub(crate) fn push_primitive(
         (record_rows (bits_in bits.entry) (records_of values.now)) }
 {
     match ptype {
-        PType::U8 | PType::U16 | PType::U32 | PType::U64 => push_unsigned(text, values, bits),
-        PType::I8 | PType::I16 | PType::I32 | PType::I64 => push_signed(text, values, bits),
         PType::F16 | PType::F32 | PType::F64 => push_hex(text, values, bits),
+        _ => by_type!(ptype, values, push_numbers, text, bits),
     }
 }

@@ -71,17 +71,7 @@ fn push_mark_of(text: &mut Vec<u8>, dtype: &DType) -> Result<(), NoMemory>
 {
     match dtype {
         DType::Null => Ok(()),
-        DType::Bool(nullability)
-        | DType::Primitive(_, nullability)
-        | DType::Decimal(_, nullability)
-        | DType::Utf8(nullability)
-        | DType::Binary(nullability)
-        | DType::List(_, nullability)
-        | DType::FixedSizeList(_, _, nullability)
-        | DType::Map(_, nullability)
-        | DType::Struct(_, nullability)
-        | DType::Union(_, nullability)
-        | DType::Extension(_, nullability) => push_mark(text, *nullability),
+        _ => push_mark(text, dtype.nullability()),
     }
 }
 

@@ -1,33 +1,29 @@
-use Rattle.std.proofs.Common.{◌≡◌, ◌+◌, ◌-◌, ◌++◌, ◌∷◌, ◌∙◌, ◌<◌, ℕ, ap, sym, take, drop, length, set, arith}
-use Rattle.std.proofs.lemmas.List.{drop-set, drop_all, length-take-le}
+use Rattle.std.proofs.Common.{◌≡◌, ◌+◌, ◌-◌, ◌++◌, ◌∷◌, ◌∙◌, ◌<◌, ℕ, ap, take, drop, length, set, refl, arith}
+use Rattle.std.proofs.lemmas.List.{drop-set}
 use Rattle.vx_types.specs.RowValue.{null}
 use Rattle.vx_column.specs.Cell.{row_of}
 use Rattle.vx_print.specs.Text.{lines, row_text}
-use Rattle.vx_print.proofs.Blocks.{row_more, rows_between}
+use Rattle.vx_print.proofs.Blocks.{none_put, row_more, all_put}
 use Rattle.vx_print.proofs.cells.put_rows.Goals as goal
 
 pub loop-k-init : goal.loop-k-init
 loop-k-init c =
-    let rows = c.args.column.now.rows in
-    let end = c.args.end in
-    let long : length (take end rows) ≡ end = length-take-le end rows (omega arith) in
     record {
       room = omega arith;
       within = omega arith;
-      put = drop_all 4352 c.args.dst.now (omega arith) ∙ sym (ap (lines (row_text c.args.column.now.dtype)) (drop_all (end - 0) (take end rows) (omega arith)));
+      put = none_put (lines (row_text c.args.column.now.dtype)) c.args.dst.now c.args.column.now.rows 4352 c.args.end refl (omega arith) (omega arith);
     }
 
 pub loop-k-preserved : goal.loop-k-preserved
 loop-k-preserved c =
     let s = c.loop-k in
-    let v = s.invariant in
     let f = row_text c.args.column.now.dtype in
     let rows = c.args.column.now.rows in
     let end = c.args.end in
     let x = row_of c.cell_at.result in
     let there : s.at - 1 + 1 ≡ s.at = omega arith in
     let below : s.at - 1 < length s.dst = omega arith in
-    let feed : drop (s.at - 1) (set s.dst (s.at - 1) 10) ≡ 10 ∷ lines f (drop (end - s.k) (take end rows)) = drop-set s.dst (s.at - 1) 10 below ∙ ap (λ (n : ℕ). 10 ∷ drop n s.dst) there ∙ ap (λ l. 10 ∷ l) v.put in
+    let feed : drop (s.at - 1) (set s.dst (s.at - 1) 10) ≡ 10 ∷ lines f (drop (end - s.k) (take end rows)) = drop-set s.dst (s.at - 1) 10 below ∙ ap (λ (n : ℕ). 10 ∷ drop n s.dst) there ∙ ap (λ l. 10 ∷ l) s.invariant.put in
     record {
       room = omega arith;
       within = omega arith;
@@ -36,10 +32,5 @@ loop-k-preserved c =
 
 pub returns-clause-put : goal.returns-clause-put
 returns-clause-put c =
-    let s = c.loop-k in
-    let f = row_text c.args.column.now.dtype in
-    let rows = c.args.column.now.rows in
-    let start = c.args.start in
-    let end = c.args.end in
-    let first : end - s.k ≡ start = omega arith in
-    s.invariant.put ∙ ap (λ (n : ℕ). lines f (drop n (take end rows))) first ∙ ap (lines f) (rows_between rows start end (omega arith))
+    c.loop-k.invariant.put
+    ∙ all_put (lines (row_text c.args.column.now.dtype)) c.args.column.now.rows c.args.start c.args.end c.loop-k.k (omega arith) (omega arith)

@@ -11,22 +11,14 @@ use Rattle.vx_column.specs.declared.cell.Cell.{Cell}
 use Rattle.vx_print.specs.Fields.{texts_at}
 use Rattle.vx_print.specs.Text.{gap, joined, labelled, name_label, row_text}
 use Rattle.vx_print.proofs.Elements.{fields_text}
-use Rattle.vx_print.proofs.Gaps.{element_more}
+use Rattle.vx_print.proofs.Gaps.{row_behind}
 use Rattle.vx_print.proofs.Labels.{field_more, length-fields}
 use Rattle.vx_print.proofs.nested.+nested.Goals as goal
 
 pub push_elements-loop-i-preserved : goal.push_elements-loop-i-preserved
 push_elements-loop-i-preserved t c =
     let s = c.loop-i in
-    let k = c.args.column.now in
-    let f = row_text k.dtype in
-    let text = c.push_next.new.text.items in
-    let row = get_or k.rows s.i null in
-    c.in_ok-push_row.ensures refl
-    ∙ ap (λ t. text ++ row_text t (row_of c.cell_at.result)) c.dtype-in-loop-i.ensures.value
-    ∙ ap (λ x. text ++ f x) c.cell_at.ensures.row
-    ∙ ap (λ l. l ++ f row) (c.in_ok-push_next.ensures refl ∙ ap (λ l. l ++ gap (eqb s.i c.args.start)) s.invariant)
-    ∙ element_more f c.args.text.now.items k.rows c.args.start s.i null (omega arith) (omega arith)
+    row_behind c.args.column.now c.args.text.now.items c.args.start s.i s.text.items c.push_next.new.text.items c.push_row.new.text.items _ (row_of c.cell_at.result) (omega arith) (omega arith) s.invariant (c.in_ok-push_next.ensures refl) c.dtype-in-loop-i.ensures.value c.cell_at.ensures.row (c.in_ok-push_row.ensures refl)
 
 pub push_fields-loop-k-preserved : goal.push_fields-loop-k-preserved
 push_fields-loop-k-preserved t c =
