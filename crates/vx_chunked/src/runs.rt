@@ -74,7 +74,8 @@ fn walk<'a>(runs: &Runs<'a>, offset: usize, chunk: usize) -> Walked<'a>
     requires fits { 1024 * (chunk + 1) < 2 ^ 64 }
     requires ahead { AscendFrom (1024 * chunk) (2 ^ 64)
         (map (λ i. offset + i) (with_runs runs.now.start runs.now.end runs.now.later.now)) }
-    ensures enough { result.count ≤ length (with_runs runs.now.start runs.now.end runs.now.later.now) }
+    ensures enough { result.count
+        ≤ length (with_runs runs.now.start runs.now.end runs.now.later.now) }
     ensures taken { drop result.count (with_runs runs.now.start runs.now.end runs.now.later.now)
         ≡ with_runs result.left.start result.left.end result.left.later.now }
     ensures inside { All (λ i. IsInChunk (1024 * chunk) (offset + i))
@@ -119,7 +120,8 @@ fn front_of_runs<'a>(runs: &Runs<'a>, offset: usize, chunk: usize) -> Passed<'a>
     requires fits { 1024 * (chunk + 1) < 2 ^ 64 }
     requires ahead { AscendFrom (1024 * chunk) (2 ^ 64)
         (map (λ i. offset + i) (with_runs runs.now.start runs.now.end runs.now.later.now)) }
-    ensures taken { map (λ i. offset + i) (with_runs runs.now.start runs.now.end runs.now.later.now)
+    ensures taken { map (λ i. offset + i)
+        (with_runs runs.now.start runs.now.end runs.now.later.now)
         ≡ map (λ p. 1024 * chunk + p) (places_of result.front.offset result.front.base
         (take result.front.count (with_runs result.front.runs.start result.front.runs.end
         result.front.runs.later.now)))

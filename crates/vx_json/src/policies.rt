@@ -3,7 +3,7 @@ ghost use Rattle.std.specs.Prelude.{◌≡◌, option_map, Some};
 ghost use Rattle.serde_json.specs.View.{view, members_view};
 ghost use Rattle.vx_mask.specs.Policy.{policy_fault, vortex_fields};
 ghost use Rattle.vx_json.specs.Meaning.{Gives, found_or, unless_fault};
-ghost use Rattle.vx_json.specs.Policies.{ratio_of, with_ratio, with_size, with_number, with_member, with_members, policy_by_members, policy_of};
+ghost use Rattle.vx_json.specs.Policies.{ratio_of, with_ratio, with_size, with_number, with_member, with_members, policy_of};
 
 use crate::error::DocError;
 use crate::wholes::{pair_of, whole_of};
@@ -109,24 +109,17 @@ fn policy_with(fields: PolicyFields) -> Result<Policy, DocError>
     }
 }
 
-#[tactic(auto, unfolding(crate::specs::Policies::policy_by_members))]
-fn policy_by_members(value: &Value) -> Result<Policy, DocError>
-    ensures { Gives (λ p. p) result (policy_by_members (view value.now)) }
-{
-    match value.as_object() {
-        Some(members) => policy_with(with_members(*Policy::vortex().fields(), members)?),
-        None => Err(DocError::Malformed),
-    }
-}
-
-#[tactic(auto, unfolding(crate::specs::Policies::policy_of))]
+#[tactic(auto, unfolding(crate::specs::Policies::policy_by_members, crate::specs::Policies::policy_of))]
 fn policy_of(value: &Value) -> Result<Policy, DocError>
     ensures { Gives (λ p. p) result (policy_of (view value.now)) }
 {
     match value.as_str() {
         Some("vortex") => Ok(Policy::vortex()),
         Some(_) => Err(DocError::Malformed),
-        None => policy_by_members(value),
+        None => match value.as_object() {
+            Some(members) => policy_with(with_members(*Policy::vortex().fields(), members)?),
+            None => Err(DocError::Malformed),
+        },
     }
 }
 
