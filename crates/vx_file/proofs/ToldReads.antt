@@ -1,5 +1,5 @@
 -- The reads that are told, and what comes of an error.
-use Rattle.std.proofs.Common.{◌≡◌, ℕ, ◌+◌, ◌-◌, ◌<◌, ◌≤◌, Bool, true, List, [], ◌∷◌, ◌++◌, Option, length, sym, ap, subst, ◌∙◌, arith}
+use Rattle.std.proofs.Common.{◌≡◌, ℕ, ◌+◌, ◌-◌, ◌<◌, ◌≤◌, Bool, true, false, List, [], ◌∷◌, ◌++◌, Option, length, get_or, sym, ap, subst, ◌∙◌, arith}
 use Rattle.std.specs.Prelude.{IfSome}
 use Rattle.std.specs.List.{list_any}
 use Rattle.std.proofs.lemmas.List.{length-append}
@@ -10,10 +10,10 @@ use Rattle.vx_take.specs.Picks.{BoundedPicks}
 use Rattle.vx_file.specs.Blocks.{block_at}
 use Rattle.vx_file.specs.Errors.{MatchReading}
 use Rattle.vx_file.specs.Reading.{AreTold, IsNoSpelling, NamesTouched, ReadLast, ReadUpTo}
-use Rattle.vx_file.specs.Touched.{block_of_rows, blocks_for, lies_in, touched}
+use Rattle.vx_file.specs.Touched.{AreMarked, block_of_rows, blocks_for, lies_in, touched}
 use Rattle.vx_file.specs.declared.error.FileError.{FileError}
 use Rattle.vx_file.specs.declared.error.FileError.TheVariants.{ReadFault, BadHeader, Damaged, Broken, NoMemory}
-use Rattle.vx_file.proofs.TouchedLists.{touched_more, touched_none}
+use Rattle.vx_file.proofs.TouchedLists.{touched_longer, touched_more, touched_none}
 
 pub told_nothing : (picks : List (Option ℕ)) (r : Option (List ℕ)) → r ≡ then_told r (touched picks 0)
 told_nothing picks r = told_none r ∙ ap (then_told r) (sym (touched_none picks))
@@ -30,6 +30,30 @@ told_step picks k picked before now after here e f =
 pub count_step : (picks : List (Option ℕ)) (k : ℕ) (picked : Bool) → picked ≡ list_any (lies_in k) picks → length (touched picks (k + 1)) ≡ length (touched picks k) + length (block_of_rows picked k)
 count_step picks k picked here =
     ap length (touched_more picks k ∙ ap (λ b. touched picks k ++ block_of_rows b k) (sym here)) ∙ length-append (touched picks k) (block_of_rows picked k)
+
+-- what the flag of block k + 1 says
+pub record IsFlag (flags : List Bool) (picks : BoundedPicks) (k : ℕ) : Type 0 where
+  pub long : length flags ≡ blocks_for picks.bound
+  pub here : get_or flags k false ≡ list_any (lies_in k) picks.picks
+  pub count : length (touched picks.picks (k + 1)) ≡ length (touched picks.picks k) + length (block_of_rows (get_or flags k false) k)
+  pub most : length (touched picks.picks (k + 1)) ≤ length (touched picks.picks (blocks_for picks.bound))
+
+pub flag_of : (flags marks : List Bool) (picks : BoundedPicks) (k : ℕ) → flags ≡ marks → AreMarked marks picks.picks (blocks_for picks.bound) → k < length flags → IsFlag flags picks k
+flag_of flags marks picks k same marked h =
+    let many : length flags ≡ blocks_for picks.bound = ap length same ∙ marked.long in
+    let here : get_or flags k false ≡ list_any (lies_in k) picks.picks = ap (λ l. get_or l k false) same ∙ marked.each k (omega (arith, many)) in
+    record {
+      long = many;
+      here = here;
+      count = count_step picks.picks k (get_or flags k false) here;
+      most = touched_longer picks.picks (k + 1) (blocks_for picks.bound) (omega (arith, many));
+    }
+
+pub told_after : (flags : List Bool) (picks : BoundedPicks) (k spare left : ℕ) (before now after : Option (List ℕ)) → IsFlag flags picks k → spare ≤ left + length (touched picks.picks k)
+    → AreTold spare picks (now ≡ then_told before (touched picks.picks k)) → (length (block_of_rows (get_or flags k false) k) ≤ left → after ≡ then_told now (block_of_rows (get_or flags k false) k))
+    → AreTold spare picks (after ≡ then_told before (touched picks.picks (k + 1)))
+told_after flags picks k spare left before now after flag cost told step = λ t.
+    told_step picks.picks k (get_or flags k false) before now after flag.here (told t) (step (omega (arith, t, flag.most, flag.count, cost)))
 
 -- an error at block k + 1 names no other
 pub names_touched : (k : ℕ) (picks : BoundedPicks) (F N : Type 0) (D : ℕ → Type 0) (e : FileError) → k < blocks_for picks.bound → list_any (lies_in k) picks.picks ≡ true

@@ -1,13 +1,12 @@
 use Rattle.std.proofs.Common.{◌≡◌, ◌+◌, ◌++◌, ◌∷◌, [], true, false, ℕ, List, get_or, length, refl, sym, ap, subst, ◌∙◌, arith}
 use Rattle.std.specs.Prelude.{IfSome}
-use Rattle.std.specs.List.{list_any}
 use Rattle.vx_file.specs.Blocks.{block_at}
 use Rattle.vx_file.specs.Reading.{AreHeld, HasRoom, IsHeld}
-use Rattle.vx_file.specs.Touched.{blocks_for, lies_in}
+use Rattle.vx_file.specs.Touched.{blocks_for}
 use Rattle.vx_file.specs.declared.error.FileError.TheVariants.{NoMemory}
 use Rattle.vx_file.proofs.Options.{err_is, for_all, if_both, under}
-use Rattle.vx_file.proofs.ToldReads.{count_step, names_touched, raised, read_nothing, told_nothing, told_step}
-use Rattle.vx_file.proofs.TouchedLists.{held_more, room_more, touched_longer}
+use Rattle.vx_file.proofs.ToldReads.{flag_of, names_touched, raised, read_nothing, told_after, told_nothing}
+use Rattle.vx_file.proofs.TouchedLists.{held_more, room_more}
 use Rattle.vx_file.proofs.reading.read_touched.Goals as goal
 
 pub returns-in_err-marks-clause-error : goal.returns-in_err-marks-clause-error
@@ -45,56 +44,40 @@ loop-k-preserved g c =
     let new = c.keep_block.new.numbers.items in
     let starts = c.loop-k.starts.items in
     let blocks = g.R.BlockReader.blocks c.args.reader.now in
-    let marked = c.in_ok-marks.ensures in
-    let many : length flags ≡ blocks_for p.bound = ap length c.as_slice-flags.ensures.value ∙ marked.long in
-    let here : picked ≡ list_any (lies_in k) p.picks = ap (λ l. get_or l k false) c.as_slice-flags.ensures.value ∙ marked.each k (omega (arith, many)) in
+    let flag = flag_of flags _ p k c.as_slice-flags.ensures.value c.in_ok-marks.ensures (omega arith) in
     let starts_is : c.push_reserved.new.self.items ≡ starts ++ length numbers ∷ [] =
     c.push_reserved.ensures.items ∙ ap (λ n. starts ++ n ∷ []) (omega (arith, c.len-in-loop-k.ensures, c.loop-k.numbers.ok.0)) in
-    let count = count_step p.picks k picked here in
-    let most = touched_longer p.picks (k + 1) (blocks_for p.bound) (omega (arith, many)) in
     let own = under picked (g.R.BlockReader.blocks c.loop-k.reader) (λ all. IsHeld c.args.width new (length numbers) (block_at all (k + 1))) e.held in
     let known = subst (λ o. IfSome o (λ all. picked ≡ true → IsHeld c.args.width new (length numbers) (block_at all (k + 1)))) v.same own in
     record {
       capacity = omega (arith, v.capacity, c.push_reserved.ensures.capacity);
-      room = subst (λ (l : List ℕ). HasRoom new l p.picks (k + 1)) (sym starts_is) (room_more numbers new starts p.picks k picked here e.grown v.room);
+      room = subst (λ (l : List ℕ). HasRoom new l p.picks (k + 1)) (sym starts_is) (room_more numbers new starts p.picks k picked flag.here e.grown v.room);
       held = subst (λ (l : List ℕ). IfSome blocks (AreHeld c.args.width new l p.picks (k + 1))) (sym starts_is)
           (if_both blocks (AreHeld c.args.width numbers starts p.picks k) (λ all. picked ≡ true → IsHeld c.args.width new (length numbers) (block_at all (k + 1))) (AreHeld c.args.width new (starts ++ length numbers ∷ []) p.picks (k + 1)) v.held known
-          (λ all held last. held_more numbers new starts p.picks k picked c.args.width all here e.front v.room held last));
-      told = λ t. told_step p.picks k picked (g.R.BlockReader.reads c.args.reader.now) (g.R.BlockReader.reads c.loop-k.reader) (g.R.BlockReader.reads c.keep_block.new.reader) here (v.told t) (e.told (omega (arith, t, most, count, v.cost)));
+          (λ all held last. held_more numbers new starts p.picks k picked c.args.width all flag.here e.front v.room held last));
+      told = told_after flags p k (g.R.BlockReader.spare c.args.reader.now) (g.R.BlockReader.spare c.loop-k.reader) (g.R.BlockReader.reads c.args.reader.now) (g.R.BlockReader.reads c.loop-k.reader) (g.R.BlockReader.reads c.keep_block.new.reader) flag v.cost v.told e.told;
       same = e.same ∙ v.same;
-      cost = omega (arith, v.cost, e.cost, count);
+      cost = omega (arith, v.cost, e.cost, flag.count);
       never_falls = omega (arith, v.never_falls, e.never_falls);
     }
 
 pub returns-in-Err-clause-error : goal.returns-in-Err-clause-error
 returns-in-Err-clause-error g c =
     let p = c.args.picks.now in
-    let k = c.loop-k.k in
     let v = c.loop-k.invariant in
     let e = c.in-Err.ensures in
     let flags = c.as_slice-flags.result.now in
-    let picked = get_or flags k false in
-    let marked = c.in_ok-marks.ensures in
-    let many : length flags ≡ blocks_for p.bound = ap length c.as_slice-flags.ensures.value ∙ marked.long in
-    let here : picked ≡ list_any (lies_in k) p.picks = ap (λ l. get_or l k false) c.as_slice-flags.ensures.value ∙ marked.each k (omega (arith, many)) in
-    let count = count_step p.picks k picked here in
-    let most = touched_longer p.picks (k + 1) (blocks_for p.bound) (omega (arith, many)) in
-    raised c.args.width k p (g.R.BlockReader.spare c.args.reader.now) (g.R.BlockReader.faults c.args.reader.now) (g.R.BlockReader.faults c.loop-k.reader) (g.R.BlockReader.faults c.keep_block.new.reader)
+    let flag = flag_of flags _ p c.loop-k.k c.as_slice-flags.ensures.value c.in_ok-marks.ensures (omega arith) in
+    raised c.args.width c.loop-k.k p (g.R.BlockReader.spare c.args.reader.now) (g.R.BlockReader.faults c.args.reader.now) (g.R.BlockReader.faults c.loop-k.reader) (g.R.BlockReader.faults c.keep_block.new.reader)
     (g.R.BlockReader.reads c.args.reader.now) (g.R.BlockReader.reads c.keep_block.new.reader) (g.R.BlockReader.blocks c.args.reader.now) (g.R.BlockReader.blocks c.loop-k.reader) c.in-Err.error
-    v.never_falls (omega (arith, many)) (sym here ∙ e.asked) v.same
-    (λ t. told_step p.picks k picked (g.R.BlockReader.reads c.args.reader.now) (g.R.BlockReader.reads c.loop-k.reader) (g.R.BlockReader.reads c.keep_block.new.reader) here (v.told t) (e.told (omega (arith, t, most, count, v.cost))))
+    v.never_falls (omega (arith, flag.long)) (sym flag.here ∙ e.asked) v.same
+    (told_after flags p c.loop-k.k (g.R.BlockReader.spare c.args.reader.now) (g.R.BlockReader.spare c.loop-k.reader) (g.R.BlockReader.reads c.args.reader.now) (g.R.BlockReader.reads c.loop-k.reader) (g.R.BlockReader.reads c.keep_block.new.reader) flag v.cost v.told e.told)
     e.error
 
 pub returns-in-Err-clause-cost : goal.returns-in-Err-clause-cost
 returns-in-Err-clause-cost g c =
-    let p = c.args.picks.now in
-    let k = c.loop-k.k in
-    let flags = c.as_slice-flags.result.now in
-    let picked = get_or flags k false in
-    let marked = c.in_ok-marks.ensures in
-    let many : length flags ≡ blocks_for p.bound = ap length c.as_slice-flags.ensures.value ∙ marked.long in
-    let here : picked ≡ list_any (lies_in k) p.picks = ap (λ l. get_or l k false) c.as_slice-flags.ensures.value ∙ marked.each k (omega (arith, many)) in
-    omega (arith, count_step p.picks k picked here, touched_longer p.picks (k + 1) (blocks_for p.bound) (omega (arith, many)), c.loop-k.invariant.cost, c.in-Err.ensures.cost)
+    let flag = flag_of c.as_slice-flags.result.now _ c.args.picks.now c.loop-k.k c.as_slice-flags.ensures.value c.in_ok-marks.ensures (omega arith) in
+    omega (arith, flag.count, flag.most, c.loop-k.invariant.cost, c.in-Err.ensures.cost)
 
 pub returns-in_err-marks-clause-touched : goal.returns-in_err-marks-clause-touched
 returns-in_err-marks-clause-touched g c = err_is c.from_residual.result NoMemory _ c.from_residual.ensures.1 tt
@@ -105,10 +88,5 @@ returns-in_err-starts-clause-touched g c = err_is c.from_residual-in_err-starts.
 pub returns-in-Err-clause-touched : goal.returns-in-Err-clause-touched
 returns-in-Err-clause-touched g c =
     let p = c.args.picks.now in
-    let k = c.loop-k.k in
-    let flags = c.as_slice-flags.result.now in
-    let picked = get_or flags k false in
-    let marked = c.in_ok-marks.ensures in
-    let many : length flags ≡ blocks_for p.bound = ap length c.as_slice-flags.ensures.value ∙ marked.long in
-    let here : picked ≡ list_any (lies_in k) p.picks = ap (λ l. get_or l k false) c.as_slice-flags.ensures.value ∙ marked.each k (omega (arith, many)) in
-    names_touched k p _ _ _ c.in-Err.error (omega (arith, many)) (sym here ∙ c.in-Err.ensures.asked) c.in-Err.ensures.error
+    let flag = flag_of c.as_slice-flags.result.now _ p c.loop-k.k c.as_slice-flags.ensures.value c.in_ok-marks.ensures (omega arith) in
+    names_touched c.loop-k.k p _ _ _ c.in-Err.error (omega (arith, flag.long)) (sym flag.here ∙ c.in-Err.ensures.asked) c.in-Err.ensures.error
