@@ -78,20 +78,24 @@ prefixed_match (Some xs) (Some ys) =
 abbrev parts_of : List KeyCell → Option (ℕ × List KeyCell)
 parts_of row = prefixed (key_cells row)
 
+-- the cells of a table, one row after another, and the keys of its rows
+pub record AreKeys (columns : List (List RowValue)) (width n : ℕ) (cells : List KeyCell) (keys : List (Option RowKey)) : Type 0 where
+  pub long : width ≡ length columns
+  pub values : map value_of cells ≡ flat_map (λ row. row) (rows_from columns 0 n)
+  pub parts : map key_parts keys ≡ map (λ row. prefixed (key_cells row)) (pieces width n cells)
+
 pub pairs_of_prefixed : (left right : List (List RowValue)) (left_width right_width n m : ℕ) (left_cells right_cells : List KeyCell) (left_keys right_keys : List (Option RowKey))
-    → left_width ≡ length left → right_width ≡ length right
-    → map value_of left_cells ≡ flat_map (λ row. row) (rows_from left 0 n) → map value_of right_cells ≡ flat_map (λ row. row) (rows_from right 0 m)
-    → map key_parts left_keys ≡ map (λ row. prefixed (key_cells row)) (pieces left_width n left_cells) → map key_parts right_keys ≡ map (λ row. prefixed (key_cells row)) (pieces right_width m right_cells)
+    → AreKeys left left_width n left_cells left_keys → AreKeys right right_width m right_cells right_keys
     → pairs (keys_match (eq_by_cmp key_cmp)) left_keys right_keys ≡ pairs rows_match (rows_from left 0 n) (rows_from right 0 m)
-pairs_of_prefixed left right left_width right_width n m left_cells right_cells left_keys right_keys lw rw_ le re lk rk =
+pairs_of_prefixed left right left_width right_width n m left_cells right_cells left_keys right_keys l r =
     let lp = pieces left_width n left_cells in
     let rp = pieces right_width m right_cells in
     pairs_alike (keys_match (eq_by_cmp key_cmp)) (keys_match parts_same) key_parts key_parts parts_match left_keys right_keys
-    ∙ (λ i. pairs (keys_match parts_same) (lk i) (rk i))
+    ∙ (λ i. pairs (keys_match parts_same) (l.parts i) (r.parts i))
     ∙ sym (pairs_alike (λ xs ys. keys_match parts_same (parts_of xs) (parts_of ys)) (keys_match parts_same) parts_of parts_of (λ x y. refl) lp rp)
     ∙ pairs_alike (λ xs ys. keys_match parts_same (parts_of xs) (parts_of ys)) rows_match (map value_of) (map value_of) (λ xs ys. prefixed_match (key_cells xs) (key_cells ys) ∙ cells_match xs ys) lp rp
-    ∙ (λ i. pairs rows_match (map (map value_of) (pieces (lw i) n left_cells)) (map (map value_of) (pieces (rw_ i) m right_cells)))
-    ∙ (λ i. pairs rows_match (pieces_rows left n left_cells le i) (pieces_rows right m right_cells re i))
+    ∙ (λ i. pairs rows_match (map (map value_of) (pieces (l.long i) n left_cells)) (map (map value_of) (pieces (r.long i) m right_cells)))
+    ∙ (λ i. pairs rows_match (pieces_rows left n left_cells l.values i) (pieces_rows right m right_cells r.values i))
 
 -- one more key
 pub parts_more : {K P X : Type 0} (f : K → P) (g : List X → P) (width start n m : ℕ) (cells row : List X) (out : List K) (key : K) (all : List P)

@@ -22,21 +22,13 @@ returns-clause-left c =
     subst (λ ps. IfOk c.join_keys.result (λ found. found.left.items ≡ lefts ps))
     (pairs_of_prefixed (rows_of c.args.left.now) (rows_of c.args.right.now) (length c.args.left.now) (length c.args.right.now) c.args.left_len c.args.right_len
     c.deref.result.now c.deref-2.result.now c.deref-3.result.now c.deref-4.result.now
-    (sym (length-map c.args.left.now _)) (sym (length-map c.args.right.now _))
-    (ap (map value_of) c.deref.ensures.value ∙ c.in_ok-left_cells.ensures)
-    (ap (map value_of) c.deref-2.ensures.value ∙ c.in_ok-right_cells.ensures)
-    (ap (map key_parts) c.deref-3.ensures.value ∙ c.in_ok-left_keys.ensures)
-    (ap (map key_parts) c.deref-4.ensures.value ∙ c.in_ok-right_keys.ensures))
-    c.join_keys.ensures.left
+    (record { long = sym (length-map c.args.left.now _); values = ap (map value_of) c.deref.ensures.value ∙ c.in_ok-left_cells.ensures; parts = ap (map key_parts) c.deref-3.ensures.value ∙ c.in_ok-left_keys.ensures })
+    (record { long = sym (length-map c.args.right.now _); values = ap (map value_of) c.deref-2.ensures.value ∙ c.in_ok-right_cells.ensures; parts = ap (map key_parts) c.deref-4.ensures.value ∙ c.in_ok-right_keys.ensures })) c.join_keys.ensures.left
 
 pub returns-clause-right : goal.returns-clause-right
 returns-clause-right c =
     subst (λ ps. IfOk c.join_keys.result (λ found. found.right.items ≡ rights ps))
     (pairs_of_prefixed (rows_of c.args.left.now) (rows_of c.args.right.now) (length c.args.left.now) (length c.args.right.now) c.args.left_len c.args.right_len
     c.deref.result.now c.deref-2.result.now c.deref-3.result.now c.deref-4.result.now
-    (sym (length-map c.args.left.now _)) (sym (length-map c.args.right.now _))
-    (ap (map value_of) c.deref.ensures.value ∙ c.in_ok-left_cells.ensures)
-    (ap (map value_of) c.deref-2.ensures.value ∙ c.in_ok-right_cells.ensures)
-    (ap (map key_parts) c.deref-3.ensures.value ∙ c.in_ok-left_keys.ensures)
-    (ap (map key_parts) c.deref-4.ensures.value ∙ c.in_ok-right_keys.ensures))
-    c.join_keys.ensures.right
+    (record { long = sym (length-map c.args.left.now _); values = ap (map value_of) c.deref.ensures.value ∙ c.in_ok-left_cells.ensures; parts = ap (map key_parts) c.deref-3.ensures.value ∙ c.in_ok-left_keys.ensures })
+    (record { long = sym (length-map c.args.right.now _); values = ap (map value_of) c.deref-2.ensures.value ∙ c.in_ok-right_cells.ensures; parts = ap (map key_parts) c.deref-4.ensures.value ∙ c.in_ok-right_keys.ensures })) c.join_keys.ensures.right
