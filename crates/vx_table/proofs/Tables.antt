@@ -196,6 +196,17 @@ taken_sound t after picks names taken n valid same h count =
     let long : AreLong n taken = subst (λ m. AreLong m taken) count (taken_long t.columns after picks taken h) in
     no_fault (table_with names taken n) (ap length same ∙ same_count t valid ∙ sym (length-taken t.columns after picks taken h)) long
 
+-- the names once more and the rows at the picks are the table that a take wants
+pub taken_table : (t : TableValue) (v : IndexValue) (names front last : List (List ℕ)) (from columns : List Column) (n : ℕ) → table_fault t ≡ None
+    → names ≡ front ++ last → front ≡ [] → last ≡ t.names → from ≡ t.columns → AreTaken from (λ u. also_nullable u (index_nullability v)) (index_picks v) columns → length (index_picks v) ≡ n
+    → (table_fault (table_with names columns n) ≡ None) × IsTaken t (λ u. also_nullable u (index_nullability v)) (index_picks v) (table_with names columns n)
+taken_table t v names front last from columns n valid both none names_is from_is h count =
+    let after : TypeTree → TypeTree = λ u. also_nullable u (index_nullability v) in
+    let named : names ≡ t.names = both ∙ ap₂ ◌++◌ none names_is in
+    let P : List Column → Type 0 = λ cs. AreTaken cs after (index_picks v) columns in
+    let taken = subst P from_is h in
+    (taken_sound t after (index_picks v) names columns n valid named taken count, record { len = sym count; names = named; columns = taken })
+
 -- ---- the page
 
 same_types : (f g : TypeTree → TypeTree) → ((u : TypeTree) → f u ≡ g u) → (columns : List Column) → map (λ (c : Column). f c.dtype) columns ≡ map (λ (c : Column). g c.dtype) columns
