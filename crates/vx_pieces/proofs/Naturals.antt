@@ -101,6 +101,18 @@ module _ (p : PiecesParts) (sound : pieces_fault p ≡ None) where
       (length-naturals_of p.multipliers ∙ a.long_multipliers ∙ sym (length-naturals_of p.starts))
       (omega (arith, length-naturals_of p.starts))
 
+-- a number of a piece is one of a row of each column
+pub record HasRow (i : ℕ) (p : PiecesParts) : Type 0 where
+  pub starts : i < length p.starts.rows
+  pub lengths : i < length p.lengths.rows
+  pub multipliers : i < length p.multipliers.rows
+
+pub row_of_piece : (s p : PiecesParts) (i : ℕ) → s ≡ p → pieces_fault s ≡ None → i < length (pieces_of p) → HasRow i s
+row_of_piece s p i is sound h =
+    let a = aligned s sound in
+    let within : i < length s.starts.rows = omega (arith, length-pieces_of s sound, ap (λ (q : PiecesParts). length (pieces_of q)) is) in
+    record { starts = within; lengths = omega (arith, within, a.long_lengths); multipliers = omega (arith, within, a.long_multipliers) }
+
 pub ruleset naturals = (length-naturals_of, natural_of_row, length-pieces_of)
 
 pub ruleset spelled = (number_fits)
