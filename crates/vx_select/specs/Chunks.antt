@@ -1,5 +1,5 @@
 -- Rows behind a decoder, and the calls that lists of steps ask for.
-use Rattle.std.specs.Prelude.{◌≡◌, ◌⊎◌, ℕ, Bool, List, [], length, map, take, drop, Option}
+use Rattle.std.specs.Prelude.{◌≡◌, ◌⊎◌, ℕ, Bool, List, [], length, map, take, drop, Option, OnErr, OnOk, Result}
 use Rattle.vx_bits.specs.WordReader.{then_told}
 use Rattle.vx_types.specs.RowValue.{RowValue, bytes}
 use Rattle.vx_model.specs.Valid.{stored_rows}
@@ -33,3 +33,9 @@ asked_by_walk s limit (walk_picks picks) = asked_for s limit picks
 -- there was no call, or just these
 abbrev pub AreNoneOrAll : Option (List Call) → Option (List Call) → List Call → Type 0
 AreNoneOrAll old new calls = (new ≡ old) ⊎ (new ≡ then_told old calls)
+
+-- an Ok tells just these calls, and an Err none or just these
+abbrev pub IsTold : {T E : Type 0} → Result T E → Option (List Call) → Option (List Call) → List Call
+    → Type 0
+IsTold result old new calls =
+    OnOk result (new ≡ then_told old calls) × OnErr result (AreNoneOrAll old new calls)

@@ -1,5 +1,5 @@
 //! The answer to a list of steps over values behind a decoder.
-ghost use Rattle.std.specs.Prelude.{◌≡◌, ◌+◌, ◌<◌, ◌≤◌, IfErr, IfOk, IfSome, OnErr, OnOk, Some, length, map, replicate, true};
+ghost use Rattle.std.specs.Prelude.{◌≡◌, ◌+◌, ◌<◌, ◌≤◌, IfErr, IfOk, IfSome, OnOk, Some, length, map, replicate, true};
 ghost use Rattle.std.specs.List.{items_where_true};
 ghost use Rattle.vx_bits.specs.BitBuffer.{true_count_of};
 ghost use Rattle.vx_bits.specs.Records.{records_of, width_of};
@@ -22,7 +22,7 @@ ghost use Rattle.vx_steps.specs.Walk.{walk};
 ghost use Rattle.vx_steps.specs.Answer.{answer_of};
 ghost use Rattle.vx_steps.specs.Cause.{MatchError};
 ghost use Rattle.vx_select.specs.Select.{IsAnswer};
-ghost use Rattle.vx_select.specs.Chunks.{AreNoneOrAll, asked_at, asked_by_walk, asked_for, chunk_rows, chunk_values};
+ghost use Rattle.vx_select.specs.Chunks.{AreNoneOrAll, IsTold, asked_at, asked_by_walk, asked_for, chunk_rows, chunk_values};
 
 use std::alloc::Global;
 use vx_bits::{Buffer, NoMemory, Records};
@@ -125,10 +125,8 @@ fn ranked_records<const W: usize, D: ChunkDecoder<[u8; W]>>(
     ensures records { IfOk result (λ r. records_of r ≡ at (replicate W 0) (items_where_true
         (mask_bits mask.now) (chunk_values shape.now (D.values decoder.old))) ranks.now.picks) }
     ensures width { IfOk result (λ r. width_of r ≡ W) }
-    ensures told { OnOk result (D.calls decoder.new ≡ then_told (D.calls decoder.old)
-        (asked_at shape.now (sparse_limit_of policy.now W) (mask_bits mask.now))) }
-    ensures untold { OnErr result (AreNoneOrAll (D.calls decoder.old) (D.calls decoder.new)
-        (asked_at shape.now (sparse_limit_of policy.now W) (mask_bits mask.now))) }
+    ensures told { IsTold result (D.calls decoder.old) (D.calls decoder.new)
+        (asked_at shape.now (sparse_limit_of policy.now W) (mask_bits mask.now)) }
     ensures same { D.values decoder.new ≡ D.values decoder.old }
     ensures cost { D.spare decoder.old
         ≤ D.spare decoder.new + touched shape.now.offset shape.now.len }
@@ -152,10 +150,8 @@ fn picked_records<const W: usize, D: ChunkDecoder<[u8; W]>>(
     ensures records { IfOk result (λ r. records_of r
         ≡ at (replicate W 0) (chunk_values shape.now (D.values decoder.old)) picks.now.picks) }
     ensures width { IfOk result (λ r. width_of r ≡ W) }
-    ensures told { OnOk result (D.calls decoder.new ≡ then_told (D.calls decoder.old)
-        (asked_for shape.now (sparse_limit_of policy.now W) picks.now.picks)) }
-    ensures untold { OnErr result (AreNoneOrAll (D.calls decoder.old) (D.calls decoder.new)
-        (asked_for shape.now (sparse_limit_of policy.now W) picks.now.picks)) }
+    ensures told { IsTold result (D.calls decoder.old) (D.calls decoder.new)
+        (asked_for shape.now (sparse_limit_of policy.now W) picks.now.picks) }
     ensures same { D.values decoder.new ≡ D.values decoder.old }
     ensures cost { D.spare decoder.old
         ≤ D.spare decoder.new + touched shape.now.offset shape.now.len }
@@ -184,10 +180,8 @@ fn take_chunked<const W: usize, D: ChunkDecoder<[u8; W]>>(
         ≡ at null (chunk_rows shape.now (D.values decoder.old)) picks.now.picks) }
     ensures dtype { IfOk result (λ a. a.dtype ≡ also_nullable shape.now.dtype nullability) }
     ensures unwrapped { IfOk result (λ a. is_unwrapped a ≡ true) }
-    ensures told { OnOk result (D.calls decoder.new ≡ then_told (D.calls decoder.old)
-        (asked_for shape.now (sparse_limit_of policy.now W) picks.now.picks)) }
-    ensures untold { OnErr result (AreNoneOrAll (D.calls decoder.old) (D.calls decoder.new)
-        (asked_for shape.now (sparse_limit_of policy.now W) picks.now.picks)) }
+    ensures told { IsTold result (D.calls decoder.old) (D.calls decoder.new)
+        (asked_for shape.now (sparse_limit_of policy.now W) picks.now.picks) }
     ensures same { D.values decoder.new ≡ D.values decoder.old }
     ensures cost { D.spare decoder.old
         ≤ D.spare decoder.new + touched shape.now.offset shape.now.len }

@@ -1,10 +1,9 @@
 -- The records at the picks are those at their ranks, and the calls for the set positions are those
 -- for the picks.
 use Rattle.std.proofs.Common.{◌≡◌, ◌∙◌, ℕ, Bool, List, Option, length, ap, sym, subst}
-use Rattle.std.specs.Prelude.{replicate, IfOk, OnErr, OnOk}
+use Rattle.std.specs.Prelude.{replicate, IfOk}
 use Rattle.std.specs.List.{items_where_true}
 use Rattle.vx_bits.specs.Records.{records_of}
-use Rattle.vx_bits.specs.WordReader.{then_told}
 use Rattle.vx_mask.specs.Mask.{mask_bits}
 use Rattle.vx_mask.specs.Policy.{sparse_limit_of}
 use Rattle.vx_mask.specs.Positions.{set_of}
@@ -14,7 +13,7 @@ use Rattle.vx_take.proofs.TakenLists.{looked_up}
 use Rattle.vx_chunked.specs.Asked.{asked, touched}
 use Rattle.vx_chunked.specs.declared.call.Call.{Call}
 use Rattle.vx_steps.specs.Shape.{ShapeValue}
-use Rattle.vx_select.specs.Chunks.{AreNoneOrAll, asked_at, asked_for, chunk_values}
+use Rattle.vx_select.specs.Chunks.{IsTold, asked_at, asked_for, chunk_values}
 use Rattle.vx_select.proofs.ChunkRows.{length-part}
 use Rattle.vx_select.proofs.PickedCalls.{asked_alike}
 use Rattle.vx_select.proofs.chunked.picked_records.Goals as goal
@@ -39,10 +38,4 @@ pub returns-clause-told : goal.returns-clause-told
 returns-clause-told g c =
     let s = c.args.shape.now in let p = c.args.picks.now in let calls = g.D.ChunkDecoder.calls in
     let same = same_calls s p.bound (sparse_limit_of c.args.policy.now g.row.W) (mask_bits c.in_ok-mask.mask) p.picks c.in_ok-mask.ensures.len c.requires.bound c.in_ok-mask.ensures.set in
-    subst (λ (l : List Call). OnOk c.ranked_records.result (calls c.ranked_records.new.decoder ≡ then_told (calls c.args.decoder.now) l)) same c.ranked_records.ensures.told
-
-pub returns-clause-untold : goal.returns-clause-untold
-returns-clause-untold g c =
-    let s = c.args.shape.now in let p = c.args.picks.now in let calls = g.D.ChunkDecoder.calls in
-    let same = same_calls s p.bound (sparse_limit_of c.args.policy.now g.row.W) (mask_bits c.in_ok-mask.mask) p.picks c.in_ok-mask.ensures.len c.requires.bound c.in_ok-mask.ensures.set in
-    subst (λ (l : List Call). OnErr c.ranked_records.result (AreNoneOrAll (calls c.args.decoder.now) (calls c.ranked_records.new.decoder) l)) same c.ranked_records.ensures.untold
+    subst (λ (l : List Call). IsTold c.ranked_records.result (calls c.args.decoder.now) (calls c.ranked_records.new.decoder) l) same c.ranked_records.ensures.told

@@ -32,11 +32,5 @@ returns-clause-records g c =
 pub returns-clause-told : goal.returns-clause-told
 returns-clause-told g c =
     let bits = mask_bits c.args.mask.now in let limit = sparse_limit_of c.args.policy.now g.row.W in
-    on_ok c.taken_records.result
-    (c.in_ok-kept.ensures.told ∙ ap (λ o. then_told (g.D.ChunkDecoder.calls c.args.decoder.now) (asked o (set_of bits) limit (touched o (length bits)))) c.offset.ensures.value)
-
-pub returns-clause-untold : goal.returns-clause-untold
-returns-clause-untold g c =
-    let bits = mask_bits c.args.mask.now in let limit = sparse_limit_of c.args.policy.now g.row.W in
-    on_err c.taken_records.result
-    (inr (c.in_ok-kept.ensures.told ∙ ap (λ o. then_told (g.D.ChunkDecoder.calls c.args.decoder.now) (asked o (set_of bits) limit (touched o (length bits)))) c.offset.ensures.value))
+    let told = c.in_ok-kept.ensures.told ∙ ap (λ o. then_told (g.D.ChunkDecoder.calls c.args.decoder.now) (asked o (set_of bits) limit (touched o (length bits)))) c.offset.ensures.value in
+    (on_ok c.taken_records.result told, on_err c.taken_records.result (inr told))
