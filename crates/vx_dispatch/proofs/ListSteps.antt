@@ -4,6 +4,7 @@ use Rattle.std.specs.Prelude.{replicate}
 use Rattle.std.specs.List.{items_where_true}
 use Rattle.std.proofs.lemmas.List.{length-map, length-replicate}
 use Rattle.vx_types.specs.RowValue.{RowValue, null}
+use Rattle.vx_types.specs.Nullability.{either_nullable}
 use Rattle.vx_types.specs.declared.nullability.Nullability.{Nullability}
 use Rattle.vx_take.specs.Picks.{at, item_at}
 use Rattle.vx_bits.specs.BitBuffer.{true_count_of}
@@ -39,6 +40,22 @@ module _ (v w : Valid) (n : Nullability) (m : ℕ) (fit : is_fitting v m ≡ tru
 
   pub fits_take : (picks : List (Option ℕ)) → IsLeft v n (at false (present_bits v m) picks) w → is_fitting w (length picks) ≡ true
   fits_take picks left = ap (is_fitting w) (sym (length-map picks (item_at false (present_bits v m)))) ∙ left.fitting
+
+-- by the validity that is known to be this, and a mask of so many bits
+module _ {v w given : Valid} {m : ℕ} (mask : List Bool) (same : given ≡ v) (long : length mask ≡ m) (left : IsLeft given (nullability_by given) (items_where_true mask (present_bits given (length mask))) w) where
+  pub left_kept : IsLeft v (nullability_by v) (items_where_true mask (present_bits v m)) w
+  left_kept =
+      subst (λ k. IsLeft v (nullability_by v) (items_where_true mask (present_bits v k)) w) long
+      (subst (λ x. IsLeft x (nullability_by x) (items_where_true mask (present_bits x (length mask))) w) same left)
+
+  pub fits_kept : is_fitting v m ≡ true → is_fitting w (true_count_of mask) ≡ true
+  fits_kept fit = fits_filter v w (nullability_by v) m fit mask long left_kept
+
+-- and so for picks of so many rows
+pub left_taken : {v w given : Valid} {m bound : ℕ} (picks : List (Option ℕ)) (n : Nullability) → given ≡ v → bound ≡ m → IsLeft given (either_nullable (nullability_by given) n) (at false (present_bits given bound) picks) w → IsLeft v (either_nullable (nullability_by v) n) (at false (present_bits v m) picks) w
+left_taken {v} {w} {given} {m} {bound} picks n same long left =
+    subst (λ k. IsLeft v (either_nullable (nullability_by v) n) (at false (present_bits v k) picks) w) long
+    (subst (λ x. IsLeft x (either_nullable (nullability_by x) n) (at false (present_bits x bound) picks) w) same left)
 
 -- ---- where no row is there, the lists don't show
 

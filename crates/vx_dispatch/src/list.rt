@@ -12,7 +12,7 @@ use crate::validity::{filter_validity, slice_validity, take_validity};
 use std::alloc::Global;
 use vx_bits::NoMemory;
 use vx_column::{Array, ListArray, Nullability, PrimitiveArray, Validity};
-use vx_lists::{ListFilterPlan, ListTakePlan, plan_list_filter, plan_list_take, slice_list};
+use vx_lists::{plan_list_filter, plan_list_take, slice_list};
 use vx_mask::{MaskValues, Policy};
 use vx_take::Picks;
 
@@ -50,15 +50,10 @@ impl FilterRows for ListArray {
     #[tactic(auto, using(vx_model::proofs::ListRows::list_rows))]
     fn filter(&self, alloc: Global, mask: &MaskValues, policy: &Policy) -> Step {
         let validity = filter_validity(alloc, self.validity(), mask, policy)?;
-        let ListFilterPlan {
-            offsets,
-            validity,
-            range,
-            mask: kept,
-        } = plan_list_filter(alloc, self, mask, policy, validity)?;
-        let part = slice(alloc, self.elements(), range.0, range.1)?;
-        let elements = filter(alloc, &part, &kept, policy)?;
-        relisted(alloc, self, elements, offsets, validity)
+        let plan = plan_list_filter(alloc, self, mask, policy, validity)?;
+        let part = slice(alloc, self.elements(), plan.range.0, plan.range.1)?;
+        let elements = filter(alloc, &part, &plan.mask, policy)?;
+        relisted(alloc, self, elements, plan.offsets, plan.validity)
     }
 }
 
@@ -67,13 +62,9 @@ impl TakeRows for ListArray {
     #[tactic(auto, using(vx_model::proofs::ListRows::list_rows))]
     fn take(&self, alloc: Global, picks: Picks, nullability: Nullability, policy: &Policy) -> Step {
         let validity = take_validity(alloc, self.validity(), &picks, nullability, policy)?;
-        let ListTakePlan {
-            offsets,
-            validity,
-            runs,
-        } = plan_list_take(alloc, self, &picks, validity)?;
+        let plan = plan_list_take(alloc, self, &picks, validity)?;
         drop(picks);
-        let elements = take_runs(alloc, self.elements(), runs, policy)?;
-        relisted(alloc, self, elements, offsets, validity)
+        let elements = take_runs(alloc, self.elements(), plan.runs, policy)?;
+        relisted(alloc, self, elements, plan.offsets, plan.validity)
     }
 }

@@ -20,6 +20,16 @@ use vx_mask::{MaskValues, Policy};
 use vx_stored::{by_picks, constant_bits};
 use vx_take::{Picks, gather_bits};
 
+// A layout whose bools the recursion looks up.
+pub(crate) trait TakeBits: Parts {
+    // The bits of the rows at the picks, as `taken_bits` gives them.
+    fn bits(&self, alloc: Global, picks: &Picks, policy: &Policy) -> Result<BitBuffer, NoMemory>
+        requires bools { is_non_null_bool (Self.column self.now).dtype ≡ true }
+        requires bound { picks.now.bound ≡ length (Self.column self.now).rows }
+        ensures { IfOk result
+            (λ b. b.bits ≡ at false (map is_yes (Self.column self.now).rows) picks.now.picks) };
+}
+
 // The validity that is a column.
 fn of_column(alloc: Global, column: Array) -> Result<Validity, NoMemory>
     ensures { IfOk result (λ v. valid_of v ≡ by_column column) }
@@ -75,16 +85,6 @@ pub fn filter_validity(
         Validity::AllInvalid => Ok(Validity::AllInvalid),
         Validity::Array(array) => of_column(alloc, filter_values(alloc, array, mask, policy)?),
     }
-}
-
-// A layout whose bools the recursion looks up.
-pub(crate) trait TakeBits: Parts {
-    // The bits of the rows at the picks, as `taken_bits` gives them.
-    fn bits(&self, alloc: Global, picks: &Picks, policy: &Policy) -> Result<BitBuffer, NoMemory>
-        requires bools { is_non_null_bool (Self.column self.now).dtype ≡ true }
-        requires bound { picks.now.bound ≡ length (Self.column self.now).rows }
-        ensures { IfOk result
-            (λ b. b.bits ≡ at false (map is_yes (Self.column self.now).rows) picks.now.picks) };
 }
 
 // The bits of a non-nullable column of bools at the picks, and false at a null.

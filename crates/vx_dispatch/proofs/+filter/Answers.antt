@@ -29,7 +29,7 @@ use Rattle.vx_model.specs.Lists.{lists_of}
 use Rattle.vx_model.specs.Step.{IsSlice}
 use Rattle.vx_model.specs.Valid.{Valid, nullability_by, present_bits, IsAsPlain, IsLeft}
 use Rattle.vx_model.proofs.ListRows.{elements-fixed, fit-fixed, fit-list, fit-listview, rows-fixed, rows-list, rows-listview, spans-fixed}
-use Rattle.vx_dispatch.proofs.ListSteps.{filter_left_step, filter_step, fits_filter, swapped}
+use Rattle.vx_dispatch.proofs.ListSteps.{filter_left_step, filter_step, fits_filter, fits_kept, left_kept, swapped}
 use Rattle.vx_bits.specs.BitBuffer.{true_count_of}
 use Rattle.vx_mask.specs.Mask.{mask_bits}
 use Rattle.vx_model.specs.Columns.{AreCuts}
@@ -38,10 +38,9 @@ use Rattle.vx_model.proofs.Across.{long-filter, steps-cuts, types-steps}
 use Rattle.vx_model.proofs.ExtensionSteps.{fault-extension, is_cut-extension}
 use Rattle.vx_model.proofs.MapSteps.{elements-step, fault-map, is_cut-map}
 use Rattle.vx_model.proofs.StructSteps.{fault-struct, fitting-struct, is_filter-struct, long-struct, rows-struct}
-use Rattle.vx_dispatch.proofs.EachColumn.{bits-prepared, filters_more}
+use Rattle.vx_dispatch.proofs.EachColumn.{cuts_ready, filters_more}
 use Rattle.vx_model.specs.ListView.{listview_column}
 use Rattle.vx_types.specs.TypeTree.{TypeTree}
-use Rattle.vx_mask.specs.MaskValues.{PartialMask}
 use Rattle.std.proofs.Common.{◌+◌, ◌<◌, List, take, get_or, subst}
 use Rattle.std.proofs.Common.{Option, Some, None}
 use Rattle.std.specs.Prelude.{is_some}
@@ -135,57 +134,48 @@ stored::StoredFilterRows::filter-filter_stored-requires-clause-left t c =
 
 pub list::ListArrayFilterRows::filter-plan_list_filter-requires-clause-fitting : goal.list::ListArrayFilterRows::filter-plan_list_filter-requires-clause-fitting
 list::ListArrayFilterRows::filter-plan_list_filter-requires-clause-fitting t c =
-    let p = c.args.self.now in let h = c.validity.ensures.valid in let mask = c.args.mask.now.bits.bits in
-    let w = valid_of c.in_ok-validity.validity in let n = length (list_spans p).spans in let long = c.requires ∙ rows-list p h in
-    let left : IsLeft p.valid (nullability_by p.valid) (items_where_true mask (present_bits p.valid n)) w = rw (c.validity.ensures.value, long) at c.in_ok-validity.ensures.left in
-    fits_filter p.valid w (nullability_by p.valid) n (fit-list p h) mask long left
+    fits_kept c.args.mask.now.bits.bits c.validity.ensures.value (c.requires ∙ rows-list c.args.self.now c.validity.ensures.valid) c.in_ok-validity.ensures.left (fit-list c.args.self.now c.validity.ensures.valid)
 
 pub list::ListArrayFilterRows::filter-returns : goal.list::ListArrayFilterRows::filter-returns
 list::ListArrayFilterRows::filter-returns t c =
     let p = c.args.self.now in let h = c.validity.ensures.valid in let mask = c.args.mask.now.bits.bits in
-    let w = valid_of c.in_ok-validity.validity in let plan = c.in_ok-offsets.field-0 in let x = c.in_ok-elements.elements in
+    let w = valid_of c.in_ok-validity.validity in let plan = c.in_ok-plan.plan in let x = c.in_ok-elements.elements in
     let q : ListParts = record { elements = x; offsets = plan.offsets; valid = w } in
-    let left : IsLeft p.valid (nullability_by p.valid) (items_where_true mask (present_bits p.valid (length (list_spans p).spans))) w = rw (c.validity.ensures.value, c.requires ∙ rows-list p h) at c.in_ok-validity.ensures.left in
+    let left = left_kept mask c.validity.ensures.value (c.requires ∙ rows-list p h) c.in_ok-validity.ensures.left in
     let plain : IsAsPlain p.valid w = rw c.validity.ensures.value at c.in_ok-validity.ensures.plain in
-    let same = c.in_ok-offsets.ensures.valid in
+    let same = c.in_ok-plan.ensures.valid in
     let part : IsSlice p.elements plan.range.0 plan.range.1 c.in_ok-part.part = rw (c.deref.ensures ∙ c.elements.ensures.value) at c.in_ok-part.ensures.cut in
     let kept = c.in_ok-elements.ensures.cut in
     let rows = kept.step.rows ∙ ap (items_where_true (mask_bits plan.mask)) part.step.rows in
-    let makes : MakesLists plan.offsets w (items_where_true (mask_bits plan.mask) (slice_range p.elements.rows plan.range.0 plan.range.1)) (lists_left w (items_where_true mask (lists_of (list_spans p)))) = c.in_ok-offsets.ensures.lists in
+    let makes : MakesLists plan.offsets w (items_where_true (mask_bits plan.mask) (slice_range p.elements.rows plan.range.0 plan.range.1)) (lists_left w (items_where_true mask (lists_of (list_spans p)))) = c.in_ok-plan.ensures.lists in
     weaker c.relisted.result c.relisted.ensures (λ a is. rw (is, same)
     (filter_left_step (list_spans p) (list_spans q) refl refl (ap list_of (kept.step.dtype ∙ part.step.dtype)) (fit-list p h) mask c.requires (makes x rows).1 left plain
     (omega (arith, kept.depth, part.depth))))
 
 pub listview::filter_views-plan_view_filter-requires-clause-fitting : goal.listview::filter_views-plan_view_filter-requires-clause-fitting
 listview::filter_views-plan_view_filter-requires-clause-fitting t c =
-    let p = c.args.array.now in let h = c.validity.ensures.valid in let mask = c.args.mask.now.bits.bits in
-    let w = valid_of c.in_ok-validity.validity in let n = length (listview_spans p).spans in let long = c.requires ∙ rows-listview p h in
-    let left : IsLeft p.valid (nullability_by p.valid) (items_where_true mask (present_bits p.valid n)) w = rw (c.validity.ensures.value, long) at c.in_ok-validity.ensures.left in
-    fits_filter p.valid w (nullability_by p.valid) n (fit-listview p h) mask long left
+    fits_kept c.args.mask.now.bits.bits c.validity.ensures.value (c.requires ∙ rows-listview c.args.array.now c.validity.ensures.valid) c.in_ok-validity.ensures.left (fit-listview c.args.array.now c.validity.ensures.valid)
 
 pub listview::filter_views-returns : goal.listview::filter_views-returns
 listview::filter_views-returns t c =
     let p = c.args.array.now in let h = c.validity.ensures.valid in let mask = c.args.mask.now.bits.bits in
     let w = valid_of c.in_ok-validity.validity in let plan = c.in_ok-plan.plan in
     let q : ListViewParts = record { elements = p.elements; offsets = plan.offsets; sizes = plan.sizes; valid = w } in
-    let left : IsLeft p.valid (nullability_by p.valid) (items_where_true mask (present_bits p.valid (length (listview_spans p).spans))) w = rw (c.validity.ensures.value, c.requires ∙ rows-listview p h) at c.in_ok-validity.ensures.left in
+    let left = left_kept mask c.validity.ensures.value (c.requires ∙ rows-listview p h) c.in_ok-validity.ensures.left in
     let plain : IsAsPlain p.valid w = rw c.validity.ensures.value at c.in_ok-validity.ensures.plain in
     rw (c.relisted.ensures, c.in_ok-plan.ensures.valid)
     (filter_step (listview_spans p) (listview_spans q) refl refl refl (fit-listview p h) mask c.requires c.in_ok-plan.ensures.lists.1 left plain (omega arith))
 
 pub fixed_size_list::FixedSizeListArrayFilterRows::filter-plan_fixed_filter-requires-clause-fitting : goal.fixed_size_list::FixedSizeListArrayFilterRows::filter-plan_fixed_filter-requires-clause-fitting
 fixed_size_list::FixedSizeListArrayFilterRows::filter-plan_fixed_filter-requires-clause-fitting t c =
-    let p = c.args.self.now in let h = c.validity.ensures.valid in let mask = c.args.mask.now.bits.bits in
-    let w = valid_of c.in_ok-validity.validity in let n = length (fixed_spans p).spans in let long = c.requires ∙ rows-fixed p h in
-    let left : IsLeft p.valid (nullability_by p.valid) (items_where_true mask (present_bits p.valid n)) w = rw (c.validity.ensures.value, long) at c.in_ok-validity.ensures.left in
-    fits_filter p.valid w (nullability_by p.valid) n (fit-fixed p h) mask long left
+    fits_kept c.args.mask.now.bits.bits c.validity.ensures.value (c.requires ∙ rows-fixed c.args.self.now c.validity.ensures.valid) c.in_ok-validity.ensures.left (fit-fixed c.args.self.now c.validity.ensures.valid)
 
 pub fixed_size_list::FixedSizeListArrayFilterRows::filter-returns : goal.fixed_size_list::FixedSizeListArrayFilterRows::filter-returns
 fixed_size_list::FixedSizeListArrayFilterRows::filter-returns t c =
     let p = c.args.self.now in let h = c.validity.ensures.valid in let mask = c.args.mask.now.bits.bits in
     let w = valid_of c.in_ok-validity.validity in let plan = c.in_ok-validity-2.field-0 in let x = c.in_ok-elements.elements in
     let q : FixedParts = record { elements = x; size = p.size; len = true_count_of mask; valid = w } in
-    let left : IsLeft p.valid (nullability_by p.valid) (items_where_true mask (present_bits p.valid (length (fixed_spans p).spans))) w = rw (c.validity.ensures.value, c.requires ∙ rows-fixed p h) at c.in_ok-validity.ensures.left in
+    let left = left_kept mask c.validity.ensures.value (c.requires ∙ rows-fixed p h) c.in_ok-validity.ensures.left in
     let plain : IsAsPlain p.valid w = rw c.validity.ensures.value at c.in_ok-validity.ensures.plain in
     let same = c.in_ok-validity-2.ensures.valid in
     let kept : IsCut p.elements (items_where_true (mask_bits plan.mask) p.elements.rows) x = rw (c.deref.ensures ∙ c.elements.ensures.value) at c.in_ok-elements.ensures.cut in
@@ -250,10 +240,9 @@ struct_::filter_fields-with_parts-requires t c =
     let w = valid_of c.in_ok-validity.validity in let fields = c.in_ok-fields.fields in
     let q : StructParts = record p { columns = fields; len = c.true_count.result; valid = w } in
     let long : length mask ≡ p.len = c.requires ∙ rows-struct p h in
-    let bits : mask_bits c.in_ok-ready.ready ≡ mask = ap mask_bits c.in_ok-ready.ensures ∙ bits-prepared c.share.result c.len.result c.args.policy.now ∙ ap (λ (m : PartialMask). m.bits.bits) c.share.ensures in
-    let cuts : AreCuts (items_where_true mask) p.columns fields = rw (bits, c.fields-columns.ensures.value) at c.in_ok-fields.ensures in
+    let cuts = cuts_ready c.share.result c.len.result c.args.policy.now _ c.in_ok-ready.ensures c.share.ensures c.fields-columns.ensures.value c.in_ok-fields.ensures in
     let steps = steps-cuts _ p.columns fields cuts in
-    let left : IsLeft p.valid (nullability_by p.valid) (items_where_true mask (present_bits p.valid p.len)) w = rw (c.validity.ensures.value, long) at c.in_ok-validity.ensures.left in
+    let left = left_kept mask c.validity.ensures.value long c.in_ok-validity.ensures.left in
     fault-struct p q h refl (types-steps _ p.columns fields steps)
     (rw c.true_count.ensures.count (long-filter p.len p.columns fields (long-struct p h) mask long steps))
     (rw c.true_count.ensures.count (fits_filter p.valid w (nullability_by p.valid) p.len (fitting-struct p h) mask long left))
@@ -264,9 +253,8 @@ struct_::filter_fields-returns t c =
     let w = valid_of c.in_ok-validity.validity in let fields = c.in_ok-fields.fields in
     let q : StructParts = record p { columns = fields; len = c.true_count.result; valid = w } in
     let long : length mask ≡ p.len = c.requires ∙ rows-struct p h in
-    let bits : mask_bits c.in_ok-ready.ready ≡ mask = ap mask_bits c.in_ok-ready.ensures ∙ bits-prepared c.share.result c.len.result c.args.policy.now ∙ ap (λ (m : PartialMask). m.bits.bits) c.share.ensures in
-    let cuts : AreCuts (items_where_true mask) p.columns fields = rw (bits, c.fields-columns.ensures.value) at c.in_ok-fields.ensures in
-    let left : IsLeft p.valid (nullability_by p.valid) (items_where_true mask (present_bits p.valid p.len)) w = rw (c.validity.ensures.value, long) at c.in_ok-validity.ensures.left in
+    let cuts = cuts_ready c.share.result c.len.result c.args.policy.now _ c.in_ok-ready.ensures c.share.ensures c.fields-columns.ensures.value c.in_ok-fields.ensures in
+    let left = left_kept mask c.validity.ensures.value long c.in_ok-validity.ensures.left in
     let plain : IsAsPlain p.valid w = rw c.validity.ensures.value at c.in_ok-validity.ensures.plain in
     rw c.with_parts.ensures (is_filter-struct p q h refl mask long c.true_count.ensures.count cuts left plain)
 
@@ -277,8 +265,7 @@ pub union_::filter_sparse-with_parts-requires :
 union_::filter_sparse-with_parts-requires t c =
     let p = c.args.array.now in let h = c.children-columns.ensures.valid in let mask = c.args.mask.now.bits.bits in
     let a = c.args.ids in let cs = c.in_ok-cut.cut in
-    let bits : mask_bits c.in_ok-ready.ready ≡ mask = ap mask_bits c.in_ok-ready.ensures ∙ bits-prepared c.share.result c.len.result c.args.policy.now ∙ ap (λ (m : PartialMask). m.bits.bits) c.share.ensures in
-    let cuts : AreCuts (items_where_true mask) p.columns cs = rw (bits, c.children-columns.ensures.value) at c.in_ok-cut.ensures in
+    let cuts = cuts_ready c.share.result c.len.result c.args.policy.now _ c.in_ok-ready.ensures c.share.ensures c.children-columns.ensures.value c.in_ok-cut.ensures in
     fault-sparse-filter p h c.requires.sparse a cs mask c.requires.rows c.requires.ids cuts
 
 pub union_::filter_sparse-returns-clause-cut :
@@ -286,8 +273,7 @@ pub union_::filter_sparse-returns-clause-cut :
 union_::filter_sparse-returns-clause-cut t c =
     let p = c.args.array.now in let h = c.children-columns.ensures.valid in let mask = c.args.mask.now.bits.bits in
     let a = c.args.ids in let cs = c.in_ok-cut.cut in
-    let bits : mask_bits c.in_ok-ready.ready ≡ mask = ap mask_bits c.in_ok-ready.ensures ∙ bits-prepared c.share.result c.len.result c.args.policy.now ∙ ap (λ (m : PartialMask). m.bits.bits) c.share.ensures in
-    let cuts : AreCuts (items_where_true mask) p.columns cs = rw (bits, c.children-columns.ensures.value) at c.in_ok-cut.ensures in
+    let cuts = cuts_ready c.share.result c.len.result c.args.policy.now _ c.in_ok-ready.ensures c.share.ensures c.children-columns.ensures.value c.in_ok-cut.ensures in
     rw c.with_parts.ensures (is_filter-sparse p h c.requires.sparse a cs mask c.requires.rows c.requires.ids cuts)
 
 pub union_::filter_variants-with_parts-requires :

@@ -41,7 +41,7 @@ use Rattle.vx_positions.specs.Positions.{AllThere}
 use Rattle.vx_pieces.specs.Runs.{run_numbers}
 use Rattle.vx_pieces.proofs.PieceLists.{all_there-numbers}
 use Rattle.vx_dispatch.proofs.RunTakes.{runs_step}
-use Rattle.vx_dispatch.proofs.ListSteps.{fits_take, take_kept_step, take_step}
+use Rattle.vx_dispatch.proofs.ListSteps.{fits_take, left_taken, take_kept_step, take_step}
 use Rattle.std.proofs.Common.{◌<◌, slice_range}
 use Rattle.std.proofs.lemmas.Bool.Decides.{nat_tests}
 use Rattle.std.specs.Prelude.{replicate}
@@ -65,7 +65,7 @@ use Rattle.vx_model.specs.Records.{RecordParts, records_with}
 use Rattle.vx_model.specs.Union.{UnionParts, union_column, union_fault}
 use Rattle.vx_types.specs.FieldTypes.{VariantTypes}
 use Rattle.vx_model.proofs.UnionFaults.{fault-dense-take, fault-sparse-any, fault-sparse-take, is_take-dense, is_take-sparse, is_take-sparse-none, sparse-long}
-use Rattle.vx_dispatch.proofs.Unions.{types-variants}
+use Rattle.vx_dispatch.proofs.Unions.{ids_taken, types-variants}
 use Rattle.vx_dispatch.proofs.+take.Goals as goal
 
 pub validity::take_validity-returns-in-AllInvalid-default-clause-left : goal.validity::take_validity-returns-in-AllInvalid-default-clause-left
@@ -205,13 +205,13 @@ stored::StoredTakeRows::take-returns t c =
 pub list::ListArrayTakeRows::take-returns : goal.list::ListArrayTakeRows::take-returns
 list::ListArrayTakeRows::take-returns t c =
     let p = c.args.self.now in let h = c.validity.ensures.valid in let picks = c.args.picks.picks in
-    let w = valid_of c.in_ok-validity.validity in let plan = c.in_ok-offsets.field-0 in let x = c.in_ok-elements.elements in
+    let w = valid_of c.in_ok-validity.validity in let plan = c.in_ok-plan.plan in let x = c.in_ok-elements.elements in
     let n = either_nullable (nullability_by p.valid) c.args.nullability in
     let q : ListParts = record { elements = x; offsets = plan.offsets; valid = w } in
-    let left : IsLeft p.valid n (at false (present_bits p.valid (length (list_spans p).spans)) picks) w = rw (c.validity.ensures.value, c.requires.bound ∙ rows-list p h) at c.in_ok-validity.ensures.left in
-    let same = c.in_ok-offsets.ensures.valid in
+    let left = left_taken picks c.args.nullability c.validity.ensures.value (c.requires.bound ∙ rows-list p h) c.in_ok-validity.ensures.left in
+    let same = c.in_ok-plan.ensures.valid in
     let taken : IsStep p.elements (in_runs p.elements.rows plan.runs) p.elements.dtype x = rw (c.deref.ensures ∙ c.elements.ensures.value) at c.in_ok-elements.ensures in
-    let makes : MakesLists plan.offsets w (in_runs p.elements.rows plan.runs) (kept_lists (present_bits w (length picks)) (at [] (lists_of (list_spans p)) picks)) = c.in_ok-offsets.ensures.lists in
+    let makes : MakesLists plan.offsets w (in_runs p.elements.rows plan.runs) (kept_lists (present_bits w (length picks)) (at [] (lists_of (list_spans p)) picks)) = c.in_ok-plan.ensures.lists in
     weaker c.relisted.result c.relisted.ensures (λ a is. rw (is, same)
     (take_kept_step (list_spans p) (list_spans q) refl refl (ap list_of taken.dtype) (fit-list p h) picks n (makes x taken.rows).1 left))
 
@@ -221,7 +221,7 @@ listview::take_views-returns t c =
     let w = valid_of c.in_ok-validity.validity in let plan = c.in_ok-plan.plan in
     let n = either_nullable (nullability_by p.valid) c.args.nullability in
     let q : ListViewParts = record { elements = p.elements; offsets = plan.offsets; sizes = plan.sizes; valid = w } in
-    let left : IsLeft p.valid n (at false (present_bits p.valid (length (listview_spans p).spans)) picks) w = rw (c.validity.ensures.value, c.requires.bound ∙ rows-listview p h) at c.in_ok-validity.ensures.left in
+    let left = left_taken picks c.args.nullability c.validity.ensures.value (c.requires.bound ∙ rows-listview p h) c.in_ok-validity.ensures.left in
     rw (c.relisted.ensures, c.in_ok-plan.ensures.valid)
     (take_step (listview_spans p) (listview_spans q) refl refl refl (fit-listview p h) [] picks n c.in_ok-plan.ensures.lists.1 left)
 
@@ -251,7 +251,7 @@ fixed_size_list::FixedSizeListArrayTakeRows::take-returns-then-len-eq0 t c =
     let w = valid_of c.in_ok-validity.validity in let plan = c.in_ok-validity-2.field-0 in let x = c.in_ok-elements.elements in
     let n = either_nullable (nullability_by p.valid) c.args.nullability in let fill = filler_row p.elements.dtype in
     let q : FixedParts = record { elements = x; size = p.size; len = length picks; valid = w } in
-    let left : IsLeft p.valid n (at false (present_bits p.valid (length (fixed_spans p).spans)) picks) w = rw (c.validity.ensures.value, c.requires.bound ∙ rows-fixed p h) at c.in_ok-validity.ensures.left in
+    let left = left_taken picks c.args.nullability c.validity.ensures.value (c.requires.bound ∙ rows-fixed p h) c.in_ok-validity.ensures.left in
     let none : p.len ≡ 0 = grind (arith, nat_tests, c.len.ensures.value, c.if-len-eq0.true) in
     let typed = c.dtype.ensures.value ∙ ap (λ (k : Column). k.dtype) (c.deref.ensures ∙ c.elements.ensures.value) in
     let rows = c.in_ok-elements.ensures.rows ∙ ap (λ (k : TypeTree). replicate plan.filler (filler_row k)) typed in
@@ -265,7 +265,7 @@ fixed_size_list::FixedSizeListArrayTakeRows::take-returns t c =
     let w = valid_of c.in_ok-validity.validity in let plan = c.in_ok-validity-2.field-0 in let x = c.in_ok-elements-2.elements in
     let n = either_nullable (nullability_by p.valid) c.args.nullability in
     let q : FixedParts = record { elements = x; size = p.size; len = length picks; valid = w } in
-    let left : IsLeft p.valid n (at false (present_bits p.valid (length (fixed_spans p).spans)) picks) w = rw (c.validity.ensures.value, c.requires.bound ∙ rows-fixed p h) at c.in_ok-validity.ensures.left in
+    let left = left_taken picks c.args.nullability c.validity.ensures.value (c.requires.bound ∙ rows-fixed p h) c.in_ok-validity.ensures.left in
     let some : 0 < p.len = grind (arith, nat_tests, c.len.ensures.value, c.if-len-eq0.false) in
     let taken : IsStep p.elements (in_runs p.elements.rows plan.runs) p.elements.dtype x = rw (c.deref-2.ensures ∙ c.elements-2.ensures.value) at c.in_ok-elements-2.ensures in
     let makes = c.in_ok-validity-2.ensures.lists some in
@@ -317,7 +317,7 @@ struct_::StructArrayTakeRows::take-with_parts-requires t c =
     let w = valid_of c.in_ok-validity.validity in let fields = c.in_ok-fields.fields in
     let n = either_nullable (nullability_by p.valid) c.args.nullability in
     let q : StructParts = record p { columns = fields; len = length picks; valid = w } in
-    let left : IsLeft p.valid n (at false (present_bits p.valid p.len) picks) w = rw (c.validity.ensures.value, c.requires.bound ∙ rows-struct p h) at c.in_ok-validity.ensures.left in
+    let left = left_taken picks c.args.nullability c.validity.ensures.value (c.requires.bound ∙ rows-struct p h) c.in_ok-validity.ensures.left in
     let types : types_in fields ≡ p.types.types = c.in_ok-fields.ensures.types ∙ c.types-types.ensures.value ∙ ap (λ (f : FieldTypes). f.types) (c.deref.ensures ∙ c.struct_fields.ensures.value) in
     rw c.len-len.ensures
     (fault-made q types (rw c.len-len.ensures at c.in_ok-fields.ensures.long) (fits_take p.valid w n p.len (fitting-struct p h) picks left))
@@ -326,14 +326,13 @@ pub struct_::StructArrayTakeRows::take-returns-then-bound-eq0 : goal.struct_::St
 struct_::StructArrayTakeRows::take-returns-then-bound-eq0 t c =
     let p = c.args.self.now in let h = c.validity.ensures.valid in let picks = c.args.picks.picks in
     let w = valid_of c.in_ok-validity.validity in let fields = c.in_ok-fields.fields in
-    let n = either_nullable (nullability_by p.valid) c.args.nullability in
     let q : StructParts = record p { columns = fields; len = length picks; valid = w } in
     let rows : c.args.picks.bound ≡ p.len = c.requires.bound ∙ rows-struct p h in
-    let left : IsLeft p.valid n (at false (present_bits p.valid p.len) picks) w = rw (c.validity.ensures.value, rows) at c.in_ok-validity.ensures.left in
+    let left = left_taken picks c.args.nullability c.validity.ensures.value rows c.in_ok-validity.ensures.left in
     let none : p.len ≡ 0 = grind (arith, nat_tests, rows, c.bound.ensures.value, c.if-bound-eq0.true) in
     let below : AreBelow picks p.len = subst (AreBelow picks) (c.bound.ensures.value ∙ rows) c.bound.ensures.below in
     rw (c.into_array.ensures, c.with_parts.ensures, c.len-len.ensures)
-    (is_take-none p q h refl _ picks n none below (rw c.len-len.ensures at c.in_ok-fields.ensures.rows) left)
+    (is_take-none p q h refl _ picks _ none below (rw c.len-len.ensures at c.in_ok-fields.ensures.rows) left)
 
 pub struct_::StructArrayTakeRows::take-take_each-requires : goal.struct_::StructArrayTakeRows::take-take_each-requires
 struct_::StructArrayTakeRows::take-take_each-requires t c =
@@ -352,7 +351,7 @@ struct_::StructArrayTakeRows::take-with_parts-requires-2 t c =
     let w = valid_of c.in_ok-validity.validity in let fields = c.in_ok-fields-2.fields in
     let n = either_nullable (nullability_by p.valid) c.args.nullability in
     let q : StructParts = record p { columns = fields; len = length picks; valid = w } in
-    let left : IsLeft p.valid n (at false (present_bits p.valid p.len) picks) w = rw (c.validity.ensures.value, c.requires.bound ∙ rows-struct p h) at c.in_ok-validity.ensures.left in
+    let left = left_taken picks c.args.nullability c.validity.ensures.value (c.requires.bound ∙ rows-struct p h) c.in_ok-validity.ensures.left in
     let steps : AreSteps (λ rows. at null rows (firsts_for_nulls picks)) p.columns fields =
     rw (ap (λ (b : BoundedPicks). b.picks) c.in_ok-firsts.ensures, c.fields.ensures.value) at c.in_ok-fields-2.ensures in
     let many : length (firsts_for_nulls picks) ≡ length picks = length-map picks _ in
@@ -365,16 +364,15 @@ pub struct_::StructArrayTakeRows::take-returns : goal.struct_::StructArrayTakeRo
 struct_::StructArrayTakeRows::take-returns t c =
     let p = c.args.self.now in let h = c.validity.ensures.valid in let picks = c.args.picks.picks in
     let w = valid_of c.in_ok-validity.validity in let fields = c.in_ok-fields-2.fields in
-    let n = either_nullable (nullability_by p.valid) c.args.nullability in
     let q : StructParts = record p { columns = fields; len = length picks; valid = w } in
     let rows : c.args.picks.bound ≡ p.len = c.requires.bound ∙ rows-struct p h in
-    let left : IsLeft p.valid n (at false (present_bits p.valid p.len) picks) w = rw (c.validity.ensures.value, rows) at c.in_ok-validity.ensures.left in
+    let left = left_taken picks c.args.nullability c.validity.ensures.value rows c.in_ok-validity.ensures.left in
     let some : 0 < p.len = grind (arith, nat_tests, rows, c.bound.ensures.value, c.if-bound-eq0.false) in
     let below : AreBelow picks p.len = subst (AreBelow picks) (c.bound.ensures.value ∙ rows) c.bound.ensures.below in
     let steps : AreSteps (λ rows. at null rows (firsts_for_nulls picks)) p.columns fields =
     rw (ap (λ (b : BoundedPicks). b.picks) c.in_ok-firsts.ensures, c.fields.ensures.value) at c.in_ok-fields-2.ensures in
     rw (c.into_array-2.ensures, c.with_parts-2.ensures, c.len-len.ensures)
-    (is_take-struct p q h refl picks n below (below-firsts picks p.len some below) refl steps left)
+    (is_take-struct p q h refl picks _ below (below-firsts picks p.len some below) refl steps left)
 
 -- ---- unions
 
@@ -384,8 +382,7 @@ union_::UnionArrayTakeRows::take-with_parts-requires t c =
     let p = c.args.self.now in let h = c.type_ids.ensures.valid in let picks = c.args.picks.picks in let n = c.args.nullability in
     let a = c.in_ok-ids.ids in let o = c.in-Some.offsets.now in
     let some : p.offsets ≡ Some o = sym c.in-Some.ensures.value in
-    let same : c.in_ok-copy.copy.picks ≡ picks = ap (λ (b : BoundedPicks). b.picks) c.in_ok-copy.ensures in
-    let step : IsTake p.ids picks n a = subst (λ (x : Column). IsTake x picks n a) (c.deref.ensures ∙ c.type_ids.ensures.value) (rw (c.in_ok-ids.ensures, ← same) c.in_ok-taken.ensures) in
+    let step = ids_taken n (c.deref.ensures ∙ c.type_ids.ensures.value) c.in_ok-copy.ensures c.in_ok-ids.ensures c.in_ok-taken.ensures in
     ap₂ (λ (r : RecordParts) (cs : List Column). union_fault (record p { ids = a; offsets = Some r; columns = cs })) c.in_ok-places-in-Some.ensures (c.share-columns.ensures ∙ c.children.ensures.value)
     ∙ fault-dense-take p o h some a (replicate o.width 0) picks n step
 
@@ -395,8 +392,7 @@ union_::UnionArrayTakeRows::take-returns-in-Some t c =
     let p = c.args.self.now in let h = c.type_ids.ensures.valid in let picks = c.args.picks.picks in let n = c.args.nullability in
     let a = c.in_ok-ids.ids in let o = c.in-Some.offsets.now in
     let some : p.offsets ≡ Some o = sym c.in-Some.ensures.value in
-    let same : c.in_ok-copy.copy.picks ≡ picks = ap (λ (b : BoundedPicks). b.picks) c.in_ok-copy.ensures in
-    let step : IsTake p.ids picks n a = subst (λ (x : Column). IsTake x picks n a) (c.deref.ensures ∙ c.type_ids.ensures.value) (rw (c.in_ok-ids.ensures, ← same) c.in_ok-taken.ensures) in
+    let step = ids_taken n (c.deref.ensures ∙ c.type_ids.ensures.value) c.in_ok-copy.ensures c.in_ok-ids.ensures c.in_ok-taken.ensures in
     let q : c.into_array.result ≡ union_column (record p { ids = a; offsets = Some (records_with o (at (replicate o.width 0) o.records picks) non_nullable) }) =
     c.into_array.ensures ∙ ap union_column (c.with_parts.ensures
     ∙ ap₂ (λ (r : RecordParts) (cs : List Column). let u : UnionParts = record p { ids = a; offsets = Some r; columns = cs } in u) c.in_ok-places-in-Some.ensures (c.share-columns.ensures ∙ c.children.ensures.value)) in
