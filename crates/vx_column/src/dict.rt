@@ -107,10 +107,7 @@ impl DictArray {
     pub fn share(&self) -> DictArray
         ensures { result ≡ self.now }
     {
-        DictArray {
-            codes: self.codes.share(),
-            values: self.values.share(),
-        }
+        self.with_codes(self.codes.share())
     }
 
     /// The column of this layout. It takes no memory.

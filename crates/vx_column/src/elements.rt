@@ -74,11 +74,4 @@ impl Elements {
         let _ = self.column.dtype();
         self.element.share()
     }
-
-    /// The same elements once more. It takes no memory.
-    pub(crate) fn share(&self) -> Elements
-        ensures { result ≡ self.now }
-    {
-        self.with_column(self.column.share())
-    }
 }

@@ -88,10 +88,7 @@ impl ExtensionArray {
     pub fn share(&self) -> ExtensionArray
         ensures { result ≡ self.now }
     {
-        ExtensionArray {
-            ext: self.ext.share(),
-            storage: self.storage.share(),
-        }
+        self.with_storage(self.storage.share())
     }
 
     /// The column of this layout. It takes no memory.

@@ -60,7 +60,7 @@ impl FilterArray {
         if mask.len() != child.len() {
             return Err(ColumnError::WrongLength);
         }
-        Ok(FilterArray { child, mask })
+        Ok(FilterArray::of(child, mask))
     }
 
     /// The column whose rows are kept.
@@ -91,10 +91,7 @@ impl FilterArray {
     pub fn share(&self) -> FilterArray
         ensures { result ≡ self.now }
     {
-        FilterArray {
-            child: self.child.share(),
-            mask: self.mask.share(),
-        }
+        FilterArray::of(self.child.share(), self.mask.share())
     }
 
     /// The column of this layout. It takes no memory.

@@ -148,12 +148,7 @@ impl FixedSizeListArray {
     pub fn share(&self) -> FixedSizeListArray
         ensures { result ≡ self.now }
     {
-        FixedSizeListArray {
-            elements: self.elements.share(),
-            list_size: self.list_size,
-            len: self.len,
-            validity: self.validity.share(),
-        }
+        self.with_parts(self.elements().share(), self.validity.share(), self.len)
     }
 
     /// The column of this layout. It takes no memory.

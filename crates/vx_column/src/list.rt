@@ -160,11 +160,11 @@ impl ListArray {
     pub fn share(&self) -> ListArray
         ensures { result ≡ self.now }
     {
-        ListArray {
-            elements: self.elements.share(),
-            offsets: self.offsets.share(),
-            validity: self.validity.share(),
-        }
+        self.with_parts(
+            self.elements().share(),
+            self.offsets.share(),
+            self.validity.share(),
+        )
     }
 
     /// The column of this layout. It takes no memory.

@@ -183,12 +183,12 @@ impl ListViewArray {
     pub fn share(&self) -> ListViewArray
         ensures { result ≡ self.now }
     {
-        ListViewArray {
-            elements: self.elements.share(),
-            offsets: self.offsets.share(),
-            sizes: self.sizes.share(),
-            validity: self.validity.share(),
-        }
+        self.with_parts(
+            self.elements().share(),
+            self.offsets.share(),
+            self.sizes.share(),
+            self.validity.share(),
+        )
     }
 
     /// The column of this layout. It takes no memory.

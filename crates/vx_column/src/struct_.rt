@@ -183,12 +183,7 @@ impl StructArray {
     pub fn share(&self) -> StructArray
         ensures { result ≡ self.now }
     {
-        StructArray {
-            fields: self.fields.share(),
-            struct_fields: self.struct_fields.share(),
-            len: self.len,
-            validity: self.validity.share(),
-        }
+        self.with_parts(self.fields.share(), self.len, self.validity.share())
     }
 
     /// The column of this layout. It takes no memory.

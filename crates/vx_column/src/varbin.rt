@@ -79,12 +79,7 @@ impl VarBinArray {
         if !cut(&offsets, bytes.len()) {
             return Err(ColumnError::BadOffsets);
         }
-        Ok(VarBinArray {
-            kind,
-            offsets,
-            bytes,
-            validity,
-        })
+        Ok(VarBinArray::of(kind, offsets, bytes, validity))
     }
 
     /// A column of sound parts. It takes no memory, and tests nothing.
@@ -196,12 +191,12 @@ impl VarBinArray {
     pub fn share(&self) -> VarBinArray
         ensures { result ≡ self.now }
     {
-        VarBinArray {
-            kind: self.kind,
-            offsets: self.offsets.share(),
-            bytes: self.bytes.share(),
-            validity: self.validity.share(),
-        }
+        VarBinArray::of(
+            self.kind,
+            self.offsets.share(),
+            self.bytes.share(),
+            self.validity.share(),
+        )
     }
 
     /// The column of this layout. It takes no memory.

@@ -81,12 +81,7 @@ impl VarBinViewArray {
         if !are_views(views.as_slice(), buffers.as_slice()) {
             return Err(ColumnError::BadViews);
         }
-        Ok(VarBinViewArray {
-            kind,
-            views,
-            buffers,
-            validity,
-        })
+        Ok(VarBinViewArray::of(kind, views, buffers, validity))
     }
 
     /// A column of sound parts. It takes no memory, and tests no view.
@@ -166,12 +161,7 @@ impl VarBinViewArray {
     pub fn share(&self) -> VarBinViewArray
         ensures { result ≡ self.now }
     {
-        VarBinViewArray {
-            kind: self.kind,
-            views: self.views.share(),
-            buffers: self.buffers.share(),
-            validity: self.validity.share(),
-        }
+        self.with_views(self.views.share(), self.validity.share())
     }
 
     /// The column of this layout. It takes no memory.
