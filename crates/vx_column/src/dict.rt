@@ -2,10 +2,7 @@
 ghost use Rattle.std.specs.Prelude.{◌≡◌, ◌↔◌, None, IfSome, IsSome, option_map};
 ghost use Rattle.vx_bits.specs.Results.{ok_unless};
 ghost use Rattle.vx_model.specs.Dict.{dict_codes, dict_column, dict_fault, dict_with};
-ghost use Rattle.std.specs.Prelude.{◌<◌, Some, length, slice_index_or, true};
-ghost use Rattle.vx_types.specs.TypeTree.{int_type_of};
-ghost use Rattle.vx_positions.specs.Positions.{first_bad};
-ghost use Rattle.vx_model.specs.Numbers.{numbers_of};
+ghost use Rattle.std.specs.Prelude.{◌<◌, length, slice_index_or};
 ghost use Rattle.vx_types.specs.RowValue.{null};
 ghost use Rattle.vx_column.specs.Cell.{cell_depth, row_of, IsOfType};
 ghost use Rattle.vx_types.specs.declared.layout_name.LayoutName.TheVariants.{Dict as DictLayout};
@@ -14,7 +11,7 @@ use crate::array::{Array, ArrayRef, Layout};
 use crate::cell::{Cell, ReadRow};
 use std::marker::Model;
 use vx_positions::position;
-use vx_types::{ColumnError, PType};
+use vx_types::ColumnError;
 
 /// A column of values that codes name: Vortex's `DictArray`.
 #[cycle(array)]
@@ -121,16 +118,6 @@ impl DictArray {
             .also_nullable(self.codes.dtype().nullability());
         let len = self.codes.len();
         Array::new(dtype, len, Layout::Dict(self))
-    }
-
-    // Whether each of the values is one of `len` positions, as far as that is told at once.
-    #[cycle(told)]
-    #[tactic(auto, using(vx_model::proofs::LazyNumbers::lazy_numbers))]
-    pub(crate) fn tells_positions(&self, ptype: PType, len: usize) -> bool
-        requires { int_type_of (dict_column self.now).dtype ≡ Some ptype }
-        ensures { result ≡ true → first_bad len (numbers_of (dict_column self.now)) ≡ None }
-    {
-        self.values().tells_positions(ptype, len)
     }
 }
 

@@ -3,10 +3,7 @@ ghost use Rattle.std.specs.Prelude.{◌≡◌, None};
 ghost use Rattle.vx_bits.specs.Results.{ok_unless};
 ghost use Rattle.vx_mask.specs.Mask.{mask_bits};
 ghost use Rattle.vx_model.specs.Filter.{filter_fault, filter_column};
-ghost use Rattle.std.specs.Prelude.{◌<◌, Some, length, slice_index_or, true};
-ghost use Rattle.vx_types.specs.TypeTree.{int_type_of};
-ghost use Rattle.vx_positions.specs.Positions.{first_bad};
-ghost use Rattle.vx_model.specs.Numbers.{numbers_of};
+ghost use Rattle.std.specs.Prelude.{◌<◌, length, slice_index_or};
 ghost use Rattle.vx_types.specs.RowValue.{null};
 ghost use Rattle.vx_column.specs.Cell.{cell_depth, row_of, IsOfType};
 
@@ -14,7 +11,7 @@ use crate::array::{Array, ArrayRef, Layout};
 use crate::cell::{Cell, ReadRow};
 use std::marker::Model;
 use vx_mask::Mask;
-use vx_types::{ColumnError, PType};
+use vx_types::ColumnError;
 
 /// A column of the rows that a mask keeps of a child: Vortex's `FilterArray`.
 #[cycle(array)]
@@ -102,17 +99,6 @@ impl FilterArray {
         let dtype = self.child.dtype().share();
         let len = self.mask.true_count();
         Array::new(dtype, len, Layout::Filter(self))
-    }
-
-    // Whether each of the child's numbers is one of `len` positions, as far as that is told at
-    // once.
-    #[cycle(told)]
-    #[tactic(auto, using(vx_model::proofs::LazyNumbers::lazy_numbers))]
-    pub(crate) fn tells_positions(&self, ptype: PType, len: usize) -> bool
-        requires { int_type_of (filter_column self.now).dtype ≡ Some ptype }
-        ensures { result ≡ true → first_bad len (numbers_of (filter_column self.now)) ≡ None }
-    {
-        self.child().tells_positions(ptype, len)
     }
 }
 

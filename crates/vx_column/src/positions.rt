@@ -61,14 +61,13 @@ impl Array {
     // Whether each number is one of `len` positions, as far as stored records tell it: those of the
     // column, or those that its rows are of. So no row of a lazy column is looked up by its rank
     // where all rows that it is made of are positions.
-    #[cycle(told)]
-    pub(crate) fn tells_positions(&self, ptype: PType, len: usize) -> bool
+    fn tells_positions(&self, ptype: PType, len: usize) -> bool
         requires { int_type_of self.now.dtype ≡ Some ptype }
         ensures { result ≡ true → first_bad len (numbers_of self.now) ≡ None }
     {
         match self.layout() {
-            Layout::Dict(a) => a.tells_positions(ptype, len),
-            Layout::Filter(a) => a.tells_positions(ptype, len),
+            Layout::Dict(a) => a.values().tells_positions(ptype, len),
+            Layout::Filter(a) => a.child().tells_positions(ptype, len),
             _ => match self.bad_record(ptype, len) {
                 Some(bad) => bad.is_none(),
                 None => false,
