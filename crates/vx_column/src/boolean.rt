@@ -5,9 +5,6 @@ ghost use Rattle.vx_model.specs.Valid.{is_fitting};
 ghost use Rattle.vx_model.specs.Bool.{bool_fault, bool_column, bool_with};
 ghost use Rattle.vx_column.specs.Validity.{valid_of};
 ghost use Rattle.vx_column.specs.Bool.{bool_parts};
-ghost use Rattle.std.specs.Prelude.{◌<◌, slice_index_or};
-ghost use Rattle.vx_types.specs.RowValue.{null};
-ghost use Rattle.vx_column.specs.Cell.{cell_depth, row_of, IsOfType};
 ghost use Rattle.std.specs.Prelude.{◌≤◌};
 ghost use Rattle.vx_model.specs.Step.{IsPlainSlice};
 

@@ -1,9 +1,6 @@
 //! Layout `Constant`: one value for every row.
 ghost use Rattle.std.specs.Prelude.{◌≡◌};
 ghost use Rattle.vx_model.specs.Constant.{constant_column};
-ghost use Rattle.std.specs.Prelude.{◌<◌, length, slice_index_or};
-ghost use Rattle.vx_types.specs.RowValue.{null};
-ghost use Rattle.vx_column.specs.Cell.{cell_depth, row_of, IsOfType};
 
 use crate::array::{Array, Layout};
 use crate::cell::{Cell, ReadRow};

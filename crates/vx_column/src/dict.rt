@@ -2,9 +2,6 @@
 ghost use Rattle.std.specs.Prelude.{◌≡◌, ◌↔◌, None, IfSome, IsSome, option_map};
 ghost use Rattle.vx_bits.specs.Results.{ok_unless};
 ghost use Rattle.vx_model.specs.Dict.{dict_codes, dict_column, dict_fault, dict_with};
-ghost use Rattle.std.specs.Prelude.{◌<◌, length, slice_index_or};
-ghost use Rattle.vx_types.specs.RowValue.{null};
-ghost use Rattle.vx_column.specs.Cell.{cell_depth, row_of, IsOfType};
 ghost use Rattle.vx_types.specs.declared.layout_name.LayoutName.TheVariants.{Dict as DictLayout};
 
 use crate::array::{Array, ArrayRef, Layout};

@@ -1,9 +1,7 @@
 //! Layout `Extension`: a storage column under a name.
-ghost use Rattle.std.specs.Prelude.{◌≡◌, ◌<◌, ◌↔◌, None, IfSome, IsSome, length, slice_index_or};
+ghost use Rattle.std.specs.Prelude.{◌≡◌, ◌↔◌, None, IfSome, IsSome};
 ghost use Rattle.vx_bits.specs.Results.{ok_unless};
-ghost use Rattle.vx_types.specs.RowValue.{null};
 ghost use Rattle.vx_model.specs.Extension.{extension_column, extension_fault, extension_with};
-ghost use Rattle.vx_column.specs.Cell.{cell_depth, row_of, IsOfType};
 ghost use Rattle.vx_types.specs.declared.layout_name.LayoutName.TheVariants.{Extension as ExtensionLayout};
 
 use crate::array::{Array, ArrayRef, Layout};

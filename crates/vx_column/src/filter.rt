@@ -3,9 +3,6 @@ ghost use Rattle.std.specs.Prelude.{◌≡◌, None};
 ghost use Rattle.vx_bits.specs.Results.{ok_unless};
 ghost use Rattle.vx_mask.specs.Mask.{mask_bits};
 ghost use Rattle.vx_model.specs.Filter.{filter_fault, filter_column};
-ghost use Rattle.std.specs.Prelude.{◌<◌, length, slice_index_or};
-ghost use Rattle.vx_types.specs.RowValue.{null};
-ghost use Rattle.vx_column.specs.Cell.{cell_depth, row_of, IsOfType};
 
 use crate::array::{Array, ArrayRef, Layout};
 use crate::cell::{Cell, ReadRow};

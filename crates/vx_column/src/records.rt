@@ -1,15 +1,13 @@
 //! Layouts `Primitive` and `Decimal`, which store a record a row: Vortex's `FixedWidthArray`.
-ghost use Rattle.std.specs.Prelude.{◌≡◌, ◌≤◌, ◌<◌, length, true, false, None, Some, is_some, slice_index_or, option_map, IfSome};
+ghost use Rattle.std.specs.Prelude.{◌≡◌, ◌≤◌, length, true, false, None, Some, is_some, option_map, IfSome};
 ghost use Rattle.vx_bits.specs.Results.{ok_unless};
 ghost use Rattle.vx_bits.specs.Records.{records_of, width_of};
 ghost use Rattle.vx_types.specs.DType.{type_of};
 ghost use Rattle.vx_types.specs.Decimal.{is_width};
-ghost use Rattle.vx_types.specs.RowValue.{null};
 ghost use Rattle.vx_types.specs.TypeTree.{is_bool_kind, kind_width, type_width};
 ghost use Rattle.vx_model.specs.Valid.{is_bools, is_fitting};
 ghost use Rattle.vx_model.specs.Records.{records_fault, records_column, records_with};
 ghost use Rattle.vx_model.specs.Step.{IsPlainSlice};
-ghost use Rattle.vx_column.specs.Cell.{cell_depth, row_of, IsOfType};
 ghost use Rattle.vx_column.specs.Plain.{HasRecords};
 ghost use Rattle.vx_column.specs.Records.{kind_of, record_parts};
 ghost use Rattle.vx_column.specs.Shown.{AreShownRowsOf};

@@ -1,14 +1,12 @@
 //! Layout `Struct`: columns side by side, each a field.
-ghost use Rattle.std.specs.Prelude.{◌≡◌, ◌<◌, ◌↔◌, None, IfSome, IsSome, length, map, slice_index_or, true};
+ghost use Rattle.std.specs.Prelude.{◌≡◌, ◌↔◌, None, IfSome, IsSome, map, true};
 ghost use Rattle.vx_bits.specs.Results.{ok_unless};
 ghost use Rattle.vx_types.specs.DType.{type_of};
-ghost use Rattle.vx_types.specs.RowValue.{null};
 ghost use Rattle.vx_types.specs.Same.{are_same_types, is_same_type};
 ghost use Rattle.vx_types.specs.TypeTree.{are_carried, is_carried, types_of};
 ghost use Rattle.vx_model.specs.Columns.{are_long, types_in};
 ghost use Rattle.vx_model.specs.Struct.{struct_column, struct_fault};
 ghost use Rattle.vx_model.specs.Valid.{is_fitting};
-ghost use Rattle.vx_column.specs.Cell.{cell_depth, row_of, IsOfType};
 ghost use Rattle.vx_column.specs.StructParts.{struct_parts};
 ghost use Rattle.vx_column.specs.Validity.{valid_of};
 ghost use Rattle.vx_types.specs.declared.layout_name.LayoutName.TheVariants.{Struct as StructLayout};

@@ -4,12 +4,10 @@ ghost use Rattle.std.specs.List.{list_all};
 ghost use Rattle.vx_bits.specs.Results.{ok_unless};
 ghost use Rattle.vx_types.specs.DType.{type_of};
 ghost use Rattle.vx_types.specs.Nullability.{is_nullable};
-ghost use Rattle.vx_types.specs.RowValue.{null};
 ghost use Rattle.vx_types.specs.TypeTree.{are_carried, is_int_kind, types_of};
 ghost use Rattle.vx_positions.specs.Positions.{is_position, positions_of};
 ghost use Rattle.vx_model.specs.Numbers.{integers_of, numbers_of};
 ghost use Rattle.vx_model.specs.Union.{are_places, are_union_types, has_row, have_rows, index_of, is_id_type, is_known, is_union_long, place_at, union_column, union_fault, IsPlace};
-ghost use Rattle.vx_column.specs.Cell.{cell_depth, row_of, IsOfType};
 ghost use Rattle.vx_column.specs.UnionParts.{union_parts};
 ghost use Rattle.vx_types.specs.declared.layout_name.LayoutName.TheVariants.{Union as UnionLayout};
 

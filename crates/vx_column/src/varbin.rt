@@ -1,12 +1,10 @@
 //! Layout `VarBin`: texts that stand one after another, cut by offsets.
 ghost use Rattle.std.specs.Prelude.{◌≡◌, ◌<◌, None, [], length, slice_index_or, true};
 ghost use Rattle.vx_bits.specs.Results.{ok_unless};
-ghost use Rattle.vx_types.specs.RowValue.{null};
 ghost use Rattle.vx_positions.specs.Offsets.{are_offsets, offset_positions};
 ghost use Rattle.vx_model.specs.Numbers.{integer_by, integers_of};
 ghost use Rattle.vx_model.specs.Valid.{is_fitting};
 ghost use Rattle.vx_model.specs.VarBin.{are_integers, row_count, varbin_column, varbin_fault, varbin_texts};
-ghost use Rattle.vx_column.specs.Cell.{cell_depth, row_of, IsOfType};
 ghost use Rattle.vx_column.specs.Text.{varbin_parts};
 ghost use Rattle.vx_column.specs.Validity.{valid_of};
 

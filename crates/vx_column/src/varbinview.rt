@@ -2,11 +2,9 @@
 ghost use Rattle.std.specs.Prelude.{◌≡◌, ◌<◌, None, [], length, slice_index_or, true};
 ghost use Rattle.std.specs.List.{list_all};
 ghost use Rattle.vx_bits.specs.Results.{ok_unless};
-ghost use Rattle.vx_types.specs.RowValue.{null};
 ghost use Rattle.vx_types.specs.Text.{is_view};
 ghost use Rattle.vx_model.specs.Valid.{is_fitting};
 ghost use Rattle.vx_model.specs.VarBinView.{view_texts, views_column, views_fault, views_with};
-ghost use Rattle.vx_column.specs.Cell.{cell_depth, row_of, IsOfType};
 ghost use Rattle.vx_column.specs.Text.{view_parts};
 ghost use Rattle.vx_column.specs.Validity.{valid_of};
 
