@@ -1,16 +1,16 @@
 //! Layout `FixedSizeList`: what its filters and takes leave.
-ghost use Rattle.std.specs.Prelude.{◌≡◌, ◌+◌, ◌<◌, ◌≤◌, [], IfOk, IfSome, IsSome, length, replicate, slice_range, true};
+ghost use Rattle.std.specs.Prelude.{◌≡◌, ◌+◌, ◌<◌, ◌≤◌, [], IfOk, IfSome, IsSome, length, replicate, slice_range};
 ghost use Rattle.std.specs.List.{All, items_where_true};
 ghost use Rattle.vx_bits.specs.BitBuffer.{true_count_of};
 ghost use Rattle.vx_column.specs.Validity.{valid_of};
 ghost use Rattle.vx_mask.specs.Mask.{mask_bits, partial_of};
 ghost use Rattle.vx_model.specs.FixedSizeList.{fixed_spans};
 ghost use Rattle.vx_model.specs.Lists.{lists_of};
-ghost use Rattle.vx_model.specs.Valid.{is_fitting};
 ghost use Rattle.vx_take.specs.Picks.{at, in_runs};
 ghost use Rattle.vx_types.specs.RowValue.{RowValue};
 ghost use Rattle.vx_lists.specs.Fixed.{repeated};
 ghost use Rattle.vx_lists.specs.Plans.{MakesFixed};
+ghost use Rattle.vx_text.specs.Fits.{FitsFilter, FitsTake};
 
 use crate::fixed::{FixedTake, repeated_mask, take_fixed};
 use std::alloc::Global;
@@ -52,8 +52,7 @@ pub fn plan_fixed_filter(
     policy: &Policy,
     validity: Validity,
 ) -> Result<FixedFilterPlan, NoMemory>
-    requires long { length mask.now.bits.bits ≡ array.now.len }
-    requires fitting { is_fitting (valid_of validity) (true_count_of mask.now.bits.bits) ≡ true }
+    requires { FitsFilter array.now.len mask.now (valid_of validity) }
     ensures lists { IfOk result (λ plan.
         MakesFixed array.now.size (true_count_of mask.now.bits.bits) (valid_of validity)
         (items_where_true (mask_bits plan.mask) array.now.elements.rows)
@@ -78,8 +77,7 @@ pub fn plan_fixed_take(
     picks: &Picks,
     validity: Validity,
 ) -> Result<FixedTakePlan, NoMemory>
-    requires bound { picks.now.bound ≤ array.now.len }
-    requires fitting { is_fitting (valid_of validity) (length picks.now.picks) ≡ true }
+    requires { FitsTake array.now.len picks.now (valid_of validity) }
     ensures lists { 0 < array.now.len → IfOk result (λ plan.
         MakesFixed array.now.size (length picks.now.picks) (valid_of validity)
         (in_runs array.now.elements.rows plan.runs)

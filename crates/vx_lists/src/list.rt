@@ -1,13 +1,12 @@
 //! Layout `List`: what its filters and takes leave.
-ghost use Rattle.std.specs.Prelude.{◌≡◌, ◌+◌, ◌-◌, ◌≤◌, [], IfOk, length, map, pos, replicate, slice_range, true};
+ghost use Rattle.std.specs.Prelude.{◌≡◌, ◌+◌, ◌≤◌, [], IfOk, length, map, pos, replicate, slice_range, true};
 ghost use Rattle.std.specs.List.{All, items_where_true};
-ghost use Rattle.vx_bits.specs.BitBuffer.{true_count_of};
 ghost use Rattle.vx_mask.specs.Mask.{mask_bits};
 ghost use Rattle.vx_model.specs.List.{list_spans};
 ghost use Rattle.vx_model.specs.Lists.{kept_lists, lists_of};
 ghost use Rattle.vx_model.specs.Numbers.{integers_of};
 ghost use Rattle.vx_model.specs.Records.{records_with};
-ghost use Rattle.vx_model.specs.Valid.{is_fitting, non_nullable, present_bits};
+ghost use Rattle.vx_model.specs.Valid.{non_nullable, present_bits};
 ghost use Rattle.vx_positions.specs.Offsets.{offset_positions};
 ghost use Rattle.vx_column.specs.Validity.{valid_of};
 ghost use Rattle.vx_take.specs.Picks.{at, in_runs};
@@ -18,6 +17,7 @@ ghost use Rattle.vx_lists.specs.Lists.{AreOffsets, last_offset};
 ghost use Rattle.vx_lists.specs.Numbers.{AreInType};
 ghost use Rattle.vx_lists.specs.Sums.{offsets_of};
 ghost use Rattle.vx_lists.specs.Plans.{IsRangeOf, LeavesLists, MakesLists, is_all_invalid, lists_left};
+ghost use Rattle.vx_text.specs.Fits.{FitsFilter, FitsSlice, FitsTake};
 
 use crate::filter::{ListFilter, filter_lists};
 use crate::numbers::{offset_column, offset_numbers, u64_column};
@@ -133,8 +133,7 @@ pub fn plan_list_filter(
     policy: &Policy,
     validity: Validity,
 ) -> Result<ListFilterPlan, NoMemory>
-    requires long { length mask.now.bits.bits ≡ length (list_spans array.now).spans }
-    requires fitting { is_fitting (valid_of validity) (true_count_of mask.now.bits.bits) ≡ true }
+    requires { FitsFilter (length (list_spans array.now).spans) mask.now (valid_of validity) }
     ensures lists { IfOk result (λ plan. MakesLists plan.offsets (valid_of validity)
         (items_where_true (mask_bits plan.mask)
         (slice_range array.now.elements.rows plan.range.0 plan.range.1))
@@ -167,8 +166,7 @@ fn taken_by(
     picks: &Picks,
     validity: &Validity,
 ) -> Result<ListTake, NoMemory>
-    requires bound { picks.now.bound ≤ length (list_spans array.now).spans }
-    requires fitting { is_fitting (valid_of validity.now) (length picks.now.picks) ≡ true }
+    requires { FitsTake (length (list_spans array.now).spans) picks.now (valid_of validity.now) }
     ensures left { IfOk result (λ take. LeavesLists take.offsets.items
         (in_runs array.now.elements.rows take.runs)
         (kept_lists (present_bits (valid_of validity.now) (length picks.now.picks))
@@ -195,8 +193,7 @@ pub fn plan_list_take(
     picks: &Picks,
     validity: Validity,
 ) -> Result<ListTakePlan, NoMemory>
-    requires bound { picks.now.bound ≤ length (list_spans array.now).spans }
-    requires fitting { is_fitting (valid_of validity) (length picks.now.picks) ≡ true }
+    requires { FitsTake (length (list_spans array.now).spans) picks.now (valid_of validity) }
     ensures lists { IfOk result (λ plan. MakesLists plan.offsets (valid_of validity)
         (in_runs array.now.elements.rows plan.runs)
         (kept_lists (present_bits (valid_of validity) (length picks.now.picks))
@@ -222,9 +219,7 @@ pub fn plan_list_take(
 /// The rows from `start` up to `end`, with their validity: other offsets into the same elements.
 /// It takes no memory.
 pub fn slice_list(array: &ListArray, start: usize, end: usize, validity: Validity) -> ListArray
-    requires ordered { start ≤ end }
-    requires within { end ≤ length (list_spans array.now).spans }
-    requires fitting { is_fitting (valid_of validity) (end - start) ≡ true }
+    requires { FitsSlice (length (list_spans array.now).spans) start end (valid_of validity) }
     ensures parts { result ≡ record array.now {
       offsets = records_with array.now.offsets
           (slice_range array.now.offsets.records start (end + 1)) non_nullable;

@@ -1,14 +1,14 @@
 //! Layout `ListView`: what its filters, takes and slices leave.
-ghost use Rattle.std.specs.Prelude.{◌≡◌, ◌-◌, ◌≤◌, [], IfOk, length, replicate, slice_range, true};
+ghost use Rattle.std.specs.Prelude.{◌≡◌, [], IfOk, length, replicate, slice_range};
 ghost use Rattle.std.specs.List.{items_where_true};
-ghost use Rattle.vx_bits.specs.BitBuffer.{true_count_of};
 ghost use Rattle.vx_column.specs.Validity.{valid_of};
 ghost use Rattle.vx_model.specs.ListView.{listview_spans};
 ghost use Rattle.vx_model.specs.Lists.{lists_of};
 ghost use Rattle.vx_model.specs.Records.{records_with};
-ghost use Rattle.vx_model.specs.Valid.{is_fitting, non_nullable};
+ghost use Rattle.vx_model.specs.Valid.{non_nullable};
 ghost use Rattle.vx_take.specs.Picks.{at};
 ghost use Rattle.vx_lists.specs.Plans.{MakesViews};
+ghost use Rattle.vx_text.specs.Fits.{FitsFilter, FitsSlice, FitsTake};
 
 use crate::view::{filter_numbers, slice_numbers, take_numbers};
 use std::alloc::Global;
@@ -38,8 +38,7 @@ pub fn plan_view_filter(
     policy: &Policy,
     validity: Validity,
 ) -> Result<ViewPlan, NoMemory>
-    requires long { length mask.now.bits.bits ≡ length (listview_spans array.now).spans }
-    requires fitting { is_fitting (valid_of validity) (true_count_of mask.now.bits.bits) ≡ true }
+    requires { FitsFilter (length (listview_spans array.now).spans) mask.now (valid_of validity) }
     ensures offsets { IfOk result (λ plan. plan.offsets ≡ records_with array.now.offsets
         (items_where_true mask.now.bits.bits array.now.offsets.records) non_nullable) }
     ensures sizes { IfOk result (λ plan. plan.sizes ≡ records_with array.now.sizes
@@ -69,8 +68,7 @@ pub fn plan_view_take(
     picks: &Picks,
     validity: Validity,
 ) -> Result<ViewPlan, NoMemory>
-    requires bound { picks.now.bound ≤ length (listview_spans array.now).spans }
-    requires fitting { is_fitting (valid_of validity) (length picks.now.picks) ≡ true }
+    requires { FitsTake (length (listview_spans array.now).spans) picks.now (valid_of validity) }
     ensures offsets { IfOk result (λ plan. plan.offsets ≡ records_with array.now.offsets
         (at (replicate array.now.offsets.width 0) array.now.offsets.records picks.now.picks)
         non_nullable) }
@@ -104,9 +102,7 @@ pub fn slice_view(
     end: usize,
     validity: Validity,
 ) -> ListViewArray
-    requires ordered { start ≤ end }
-    requires within { end ≤ length (listview_spans array.now).spans }
-    requires fitting { is_fitting (valid_of validity) (end - start) ≡ true }
+    requires { FitsSlice (length (listview_spans array.now).spans) start end (valid_of validity) }
     ensures parts { result ≡ record array.now {
       offsets = records_with array.now.offsets
           (slice_range array.now.offsets.records start end) non_nullable;

@@ -1,4 +1,5 @@
 pub mod Building
+pub mod Fits
 pub mod LastOffset
 pub mod OffsetList
 pub mod Views

@@ -6,10 +6,11 @@ ghost use Rattle.vx_types.specs.TypeTree.{primitive_kind};
 ghost use Rattle.vx_mask.specs.Mask.{mask_bits};
 ghost use Rattle.vx_mask.specs.Positions.{set_of};
 ghost use Rattle.vx_model.specs.Text.{kept_texts};
-ghost use Rattle.vx_model.specs.Valid.{is_fitting, present_bits};
+ghost use Rattle.vx_model.specs.Valid.{present_bits};
 ghost use Rattle.vx_model.specs.VarBin.{varbin_texts};
 ghost use Rattle.vx_column.specs.Validity.{valid_of};
 ghost use Rattle.vx_text.specs.Building.{type_for, type_of, AreTexts};
+ghost use Rattle.vx_text.specs.Fits.{FitsFilter};
 
 use crate::picked_texts::{present_mask, texts_in};
 use crate::run_texts::texts_in_runs;
@@ -106,8 +107,7 @@ pub fn filter_varbin(
     policy: &Policy,
     validity: Validity,
 ) -> Result<VarBinArray, NoMemory>
-    requires long { length mask.now.bits.bits ≡ length (varbin_texts array.now).texts }
-    requires fitting { is_fitting (valid_of validity) (true_count_of mask.now.bits.bits) ≡ true }
+    requires { FitsFilter (length (varbin_texts array.now).texts) mask.now (valid_of validity) }
     ensures kind { IfOk result (λ a. a.kind ≡ array.now.kind) }
     ensures offsets { IfOk result (λ a. a.offsets.kind
         ≡ primitive_kind (type_for (type_of array.now.offsets.kind) (length a.bytes))) }

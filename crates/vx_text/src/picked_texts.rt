@@ -1,5 +1,5 @@
 //! Texts of a `VarBin` at picks, one after another.
-ghost use Rattle.std.specs.Prelude.{◌≡◌, ◌+◌, ◌<◌, ◌≤◌, [], length, false, slice_index_or, true, if◌then◌else◌, IfOk, IfSome, None};
+ghost use Rattle.std.specs.Prelude.{◌≡◌, ◌+◌, ◌<◌, [], length, false, slice_index_or, true, if◌then◌else◌, IfOk, IfSome, None};
 ghost use Rattle.vx_bits.specs.Records.{records_of, width_of};
 ghost use Rattle.vx_types.specs.PType.{is_int, width};
 ghost use Rattle.vx_types.specs.TypeTree.{primitive_kind};
@@ -12,6 +12,7 @@ ghost use Rattle.vx_model.specs.Valid.{is_fitting, present_bits};
 ghost use Rattle.vx_model.specs.VarBin.{are_integers, varbin_texts};
 ghost use Rattle.vx_column.specs.Validity.{valid_of};
 ghost use Rattle.vx_text.specs.Building.{type_for, type_of, AreTexts};
+ghost use Rattle.vx_text.specs.Fits.{FitsTake};
 
 use crate::reading::span_at;
 use crate::texts::Texts;
@@ -180,8 +181,7 @@ pub fn take_varbin_picks(
     picks: &Picks,
     validity: Validity,
 ) -> Result<VarBinArray, NoMemory>
-    requires bound { picks.now.bound ≤ length (varbin_texts array.now).texts }
-    requires fitting { is_fitting (valid_of validity) (length picks.now.picks) ≡ true }
+    requires { FitsTake (length (varbin_texts array.now).texts) picks.now (valid_of validity) }
     ensures kind { IfOk result (λ a. a.kind ≡ array.now.kind) }
     ensures offsets { IfOk result (λ a. a.offsets.kind
         ≡ primitive_kind (type_for (type_of array.now.offsets.kind) (length a.bytes))) }

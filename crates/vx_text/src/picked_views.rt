@@ -4,13 +4,13 @@ ghost use Rattle.vx_bits.specs.Records.{records_of, width_of};
 ghost use Rattle.vx_types.specs.PType.{is_int, width};
 ghost use Rattle.vx_take.specs.Picks.{at};
 ghost use Rattle.vx_positions.specs.Offsets.{are_offsets, offset_positions, record_numbers};
-ghost use Rattle.vx_model.specs.Valid.{is_fitting};
 ghost use Rattle.vx_model.specs.Numbers.{integers_of};
 ghost use Rattle.vx_model.specs.VarBin.{are_integers, row_count, varbin_texts};
 ghost use Rattle.vx_model.specs.VarBinView.{view_texts};
 ghost use Rattle.vx_column.specs.Validity.{valid_of};
 ghost use Rattle.vx_text.specs.LastOffset.{last_offset};
 ghost use Rattle.vx_text.specs.Views.{text_view};
+ghost use Rattle.vx_text.specs.Fits.{FitsTake};
 
 use crate::alike::one_buffer;
 use crate::reading::span_at;
@@ -122,8 +122,7 @@ pub fn take_views(
     validity: Validity,
 ) -> Result<VarBinViewArray, NoMemory>
     requires near { last_offset array.now ≤ 2147483647 }
-    requires bound { picks.now.bound ≤ length (varbin_texts array.now).texts }
-    requires fitting { is_fitting (valid_of validity) (length picks.now.picks) ≡ true }
+    requires fits { FitsTake (length (varbin_texts array.now).texts) picks.now (valid_of validity) }
     ensures kind { IfOk result (λ a. a.kind ≡ array.now.kind) }
     ensures buffers { IfOk result (λ a. a.buffers ≡ array.now.bytes ∷ []) }
     ensures texts { IfOk result (λ a. (view_texts a).texts

@@ -1,9 +1,10 @@
 //! Layout `VarBin`: texts that stand one after another, cut by offsets.
-ghost use Rattle.std.specs.Prelude.{◌≡◌, ◌+◌, ◌-◌, ◌<◌, ◌≤◌, length, true, slice_range};
-ghost use Rattle.vx_model.specs.Valid.{is_fitting, non_nullable};
+ghost use Rattle.std.specs.Prelude.{◌≡◌, ◌+◌, ◌<◌, ◌≤◌, length, slice_range};
+ghost use Rattle.vx_model.specs.Valid.{non_nullable};
 ghost use Rattle.vx_model.specs.VarBin.{varbin_texts};
 ghost use Rattle.vx_model.specs.Records.{records_with};
 ghost use Rattle.vx_column.specs.Validity.{valid_of};
+ghost use Rattle.vx_text.specs.Fits.{FitsSlice};
 
 use vx_column::{PrimitiveArray, Validity, VarBinArray};
 
@@ -33,9 +34,7 @@ pub fn slice_varbin(
     end: usize,
     validity: Validity,
 ) -> VarBinArray
-    requires ordered { start ≤ end }
-    requires within { end ≤ length (varbin_texts array.now).texts }
-    requires fitting { is_fitting (valid_of validity) (end - start) ≡ true }
+    requires { FitsSlice (length (varbin_texts array.now).texts) start end (valid_of validity) }
     ensures kind { result.kind ≡ array.now.kind }
     ensures offsets { result.offsets ≡ records_with array.now.offsets
         (slice_range array.now.offsets.records start (end + 1)) non_nullable }

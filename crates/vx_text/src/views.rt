@@ -1,11 +1,10 @@
 //! Layout `VarBinView`: other views of the same shared buffers.
-ghost use Rattle.std.specs.Prelude.{◌≡◌, ◌-◌, ◌≤◌, [], length, true, slice_range, IfOk};
+ghost use Rattle.std.specs.Prelude.{◌≡◌, [], length, slice_range, IfOk};
 ghost use Rattle.std.specs.List.{items_where_true};
-ghost use Rattle.vx_bits.specs.BitBuffer.{true_count_of};
 ghost use Rattle.vx_take.specs.Picks.{at};
-ghost use Rattle.vx_model.specs.Valid.{is_fitting};
 ghost use Rattle.vx_model.specs.VarBinView.{view_texts};
 ghost use Rattle.vx_column.specs.Validity.{valid_of};
+ghost use Rattle.vx_text.specs.Fits.{FitsFilter, FitsSlice, FitsTake};
 
 use std::alloc::Global;
 use vx_bits::{Buffer, NoMemory};
@@ -21,9 +20,7 @@ pub fn slice_views(
     end: usize,
     validity: Validity,
 ) -> VarBinViewArray
-    requires ordered { start ≤ end }
-    requires within { end ≤ length (view_texts array.now).texts }
-    requires fitting { is_fitting (valid_of validity) (end - start) ≡ true }
+    requires { FitsSlice (length (view_texts array.now).texts) start end (valid_of validity) }
     ensures kind { result.kind ≡ array.now.kind }
     ensures buffers { result.buffers ≡ array.now.buffers }
     ensures texts { (view_texts result).texts
@@ -41,8 +38,7 @@ pub fn filter_views(
     policy: &Policy,
     validity: Validity,
 ) -> Result<VarBinViewArray, NoMemory>
-    requires long { length mask.now.bits.bits ≡ length (view_texts array.now).texts }
-    requires fitting { is_fitting (valid_of validity) (true_count_of mask.now.bits.bits) ≡ true }
+    requires { FitsFilter (length (view_texts array.now).texts) mask.now (valid_of validity) }
     ensures kind { IfOk result (λ a. a.kind ≡ array.now.kind) }
     ensures buffers { IfOk result (λ a. a.buffers ≡ array.now.buffers) }
     ensures texts { IfOk result (λ a. (view_texts a).texts
@@ -62,8 +58,7 @@ pub fn gather_views(
     picks: &Picks,
     validity: Validity,
 ) -> Result<VarBinViewArray, NoMemory>
-    requires bound { picks.now.bound ≤ length (view_texts array.now).texts }
-    requires fitting { is_fitting (valid_of validity) (length picks.now.picks) ≡ true }
+    requires { FitsTake (length (view_texts array.now).texts) picks.now (valid_of validity) }
     ensures kind { IfOk result (λ a. a.kind ≡ array.now.kind) }
     ensures buffers { IfOk result (λ a. a.buffers ≡ array.now.buffers) }
     ensures texts { IfOk result (λ a. (view_texts a).texts

@@ -28,16 +28,16 @@ views_in-requires-clause-near c = rw c.offsets-offsets.ensures.value c.requires.
 pub views_in-requires-clause-bound : goal.views_in-requires-clause-bound
 views_in-requires-clause-bound c =
     let p = c.args.array.now in
-    omega (arith, end-within p 0 c.args.picks.now.bound c.offsets-offsets.ensures.valid c.requires.bound, ap (λ (q : RecordParts). length q.records) c.offsets-offsets.ensures.value)
+    omega (arith, end-within p 0 c.args.picks.now.bound c.offsets-offsets.ensures.valid c.requires.fits.bound, ap (λ (q : RecordParts). length q.records) c.offsets-offsets.ensures.value)
 
 pub of-requires : goal.of-requires
 of-requires c =
     let p = c.args.array.now in let picks = c.args.picks.now.picks in
     let sound = c.offsets-offsets.ensures.valid in
-    let rows = picked_rows p picks c.bound.result sound (omega (arith, c.bound.ensures.value, c.requires.bound)) c.bound.ensures.below in
+    let rows = picked_rows p picks c.bound.result sound (omega (arith, c.bound.ensures.value, c.requires.fits.bound)) c.bound.ensures.below in
     let text = c.as_slice.ensures ∙ c.bytes-bytes.ensures.value in
     let views = c.in_ok-views.ensures ∙ c.in_ok-taken.ensures ∙ ap₂ (λ (o : RecordParts) (t : List ℕ). map (text_view (offset_positions (integers_of o)) t) picks) c.offsets-offsets.ensures.value text in
-    sound-taken p picks c.in_ok-views.views c.in_ok-buffers.buffers.items sound rows views (c.in_ok-buffers.ensures ∙ ap (λ t. t ∷ []) c.bytes-bytes.ensures.value) c.kind.result (valid_of c.args.validity) c.requires.fitting
+    sound-taken p picks c.in_ok-views.views c.in_ok-buffers.buffers.items sound rows views (c.in_ok-buffers.ensures ∙ ap (λ t. t ∷ []) c.bytes-bytes.ensures.value) c.kind.result (valid_of c.args.validity) c.requires.fits.fitting
 
 pub returns-clause-kind : goal.returns-clause-kind
 returns-clause-kind c = ap (λ (q : ViewParts). q.kind) c.of.ensures ∙ c.kind.ensures
@@ -50,7 +50,7 @@ pub returns-clause-texts : goal.returns-clause-texts
 returns-clause-texts c =
     let p = c.args.array.now in let picks = c.args.picks.now.picks in
     let sound = c.offsets-offsets.ensures.valid in
-    let rows = picked_rows p picks c.bound.result sound (omega (arith, c.bound.ensures.value, c.requires.bound)) c.bound.ensures.below in
+    let rows = picked_rows p picks c.bound.result sound (omega (arith, c.bound.ensures.value, c.requires.fits.bound)) c.bound.ensures.below in
     let text = c.as_slice.ensures ∙ c.bytes-bytes.ensures.value in
     let views = c.in_ok-views.ensures ∙ c.in_ok-taken.ensures ∙ ap₂ (λ (o : RecordParts) (t : List ℕ). map (text_view (offset_positions (integers_of o)) t) picks) c.offsets-offsets.ensures.value text in
     ap (λ (q : ViewParts). map (view_text q.buffers) q.views) c.of.ensures

@@ -11,13 +11,13 @@ use Rattle.vx_model.proofs.TextSteps.{is_filter-kept}
 use Rattle.vx_column.specs.Validity.{valid_of}
 use Rattle.vx_stored.proofs.varbin.VarBinArrayStoredRows.filter.Goals as goal
 
-pub filter_varbin-requires-clause-long : goal.filter_varbin-requires-clause-long
-filter_varbin-requires-clause-long c = c.requires.long ∙ items-varbin c.args.self.now
-
-pub filter_varbin-requires-clause-fitting : goal.filter_varbin-requires-clause-fitting
-filter_varbin-requires-clause-fitting c =
+pub filter_varbin-requires : goal.filter_varbin-requires
+filter_varbin-requires c =
     let p = c.args.self.now in let items = (stored_texts (varbin_texts p)).items in let w = valid_of c.args.valid in
-    fitting-filter items p.valid w (nullability_by p.valid) _ refl (fits-varbin p c.bytes.ensures.valid) c.args.mask.now.bits.bits c.requires.long c.requires.left
+    record {
+      long = c.requires.long ∙ items-varbin p;
+      fitting = fitting-filter items p.valid w (nullability_by p.valid) _ refl (fits-varbin p c.bytes.ensures.valid) c.args.mask.now.bits.bits c.requires.long c.requires.left;
+    }
 
 pub returns : goal.returns
 returns c =

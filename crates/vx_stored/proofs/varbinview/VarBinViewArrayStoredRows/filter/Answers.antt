@@ -9,13 +9,13 @@ use Rattle.vx_model.proofs.TextSteps.{is_filter-texts}
 use Rattle.vx_column.specs.Validity.{valid_of}
 use Rattle.vx_stored.proofs.varbinview.VarBinViewArrayStoredRows.filter.Goals as goal
 
-pub filter_views-requires-clause-long : goal.filter_views-requires-clause-long
-filter_views-requires-clause-long c = c.requires.long ∙ items-texts (view_texts c.args.self.now)
-
-pub filter_views-requires-clause-fitting : goal.filter_views-requires-clause-fitting
-filter_views-requires-clause-fitting c =
+pub filter_views-requires : goal.filter_views-requires
+filter_views-requires c =
     let p = c.args.self.now in let items = (stored_texts (view_texts p)).items in let w = valid_of c.args.valid in
-    fitting-filter items p.valid w (nullability_by p.valid) _ refl (fits-views p c.views.ensures.valid) c.args.mask.now.bits.bits c.requires.long c.requires.left
+    record {
+      long = c.requires.long ∙ items-texts (view_texts p);
+      fitting = fitting-filter items p.valid w (nullability_by p.valid) _ refl (fits-views p c.views.ensures.valid) c.args.mask.now.bits.bits c.requires.long c.requires.left;
+    }
 
 pub returns : goal.returns
 returns c =
