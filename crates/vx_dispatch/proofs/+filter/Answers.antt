@@ -132,9 +132,13 @@ stored::StoredFilterRows::filter-filter_stored-requires-clause-left t c =
 
 -- ---- lists
 
-pub list::ListArrayFilterRows::filter-plan_list_filter-requires-clause-fitting : goal.list::ListArrayFilterRows::filter-plan_list_filter-requires-clause-fitting
-list::ListArrayFilterRows::filter-plan_list_filter-requires-clause-fitting t c =
-    fits_kept c.args.mask.now.bits.bits c.validity.ensures.value (c.requires ∙ rows-list c.args.self.now c.validity.ensures.valid) c.in_ok-validity.ensures.left (fit-list c.args.self.now c.validity.ensures.valid)
+pub list::ListArrayFilterRows::filter-plan_list_filter-requires : goal.list::ListArrayFilterRows::filter-plan_list_filter-requires
+list::ListArrayFilterRows::filter-plan_list_filter-requires t c =
+    let p = c.args.self.now in let h = c.validity.ensures.valid in let long = c.requires ∙ rows-list p h in
+    record {
+      long = long;
+      fitting = fits_kept c.args.mask.now.bits.bits c.validity.ensures.value long c.in_ok-validity.ensures.left (fit-list p h);
+    }
 
 pub list::ListArrayFilterRows::filter-returns : goal.list::ListArrayFilterRows::filter-returns
 list::ListArrayFilterRows::filter-returns t c =
@@ -152,9 +156,13 @@ list::ListArrayFilterRows::filter-returns t c =
     (filter_left_step (list_spans p) (list_spans q) refl refl (ap list_of (kept.step.dtype ∙ part.step.dtype)) (fit-list p h) mask c.requires (makes x rows).1 left plain
     (omega (arith, kept.depth, part.depth))))
 
-pub listview::filter_views-plan_view_filter-requires-clause-fitting : goal.listview::filter_views-plan_view_filter-requires-clause-fitting
-listview::filter_views-plan_view_filter-requires-clause-fitting t c =
-    fits_kept c.args.mask.now.bits.bits c.validity.ensures.value (c.requires ∙ rows-listview c.args.array.now c.validity.ensures.valid) c.in_ok-validity.ensures.left (fit-listview c.args.array.now c.validity.ensures.valid)
+pub listview::filter_views-plan_view_filter-requires : goal.listview::filter_views-plan_view_filter-requires
+listview::filter_views-plan_view_filter-requires t c =
+    let p = c.args.array.now in let h = c.validity.ensures.valid in let long = c.requires ∙ rows-listview p h in
+    record {
+      long = long;
+      fitting = fits_kept c.args.mask.now.bits.bits c.validity.ensures.value long c.in_ok-validity.ensures.left (fit-listview p h);
+    }
 
 pub listview::filter_views-returns : goal.listview::filter_views-returns
 listview::filter_views-returns t c =
@@ -166,9 +174,13 @@ listview::filter_views-returns t c =
     rw (c.relisted.ensures, c.in_ok-plan.ensures.valid)
     (filter_step (listview_spans p) (listview_spans q) refl refl refl (fit-listview p h) mask c.requires c.in_ok-plan.ensures.lists.1 left plain (omega arith))
 
-pub fixed_size_list::FixedSizeListArrayFilterRows::filter-plan_fixed_filter-requires-clause-fitting : goal.fixed_size_list::FixedSizeListArrayFilterRows::filter-plan_fixed_filter-requires-clause-fitting
-fixed_size_list::FixedSizeListArrayFilterRows::filter-plan_fixed_filter-requires-clause-fitting t c =
-    fits_kept c.args.mask.now.bits.bits c.validity.ensures.value (c.requires ∙ rows-fixed c.args.self.now c.validity.ensures.valid) c.in_ok-validity.ensures.left (fit-fixed c.args.self.now c.validity.ensures.valid)
+pub fixed_size_list::FixedSizeListArrayFilterRows::filter-plan_fixed_filter-requires : goal.fixed_size_list::FixedSizeListArrayFilterRows::filter-plan_fixed_filter-requires
+fixed_size_list::FixedSizeListArrayFilterRows::filter-plan_fixed_filter-requires t c =
+    let p = c.args.self.now in let h = c.validity.ensures.valid in let long = c.requires ∙ rows-fixed p h in
+    record {
+      long = long ∙ spans-fixed p;
+      fitting = fits_kept c.args.mask.now.bits.bits c.validity.ensures.value long c.in_ok-validity.ensures.left (fit-fixed p h);
+    }
 
 pub fixed_size_list::FixedSizeListArrayFilterRows::filter-returns : goal.fixed_size_list::FixedSizeListArrayFilterRows::filter-returns
 fixed_size_list::FixedSizeListArrayFilterRows::filter-returns t c =

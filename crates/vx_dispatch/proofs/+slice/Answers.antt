@@ -98,12 +98,13 @@ stored::StoredSliceRows::slice-slice_stored-requires-clause-within t c =
 
 -- ---- lists
 
-pub list::ListArraySliceRows::slice-slice_list-requires-clause-fitting : goal.list::ListArraySliceRows::slice-slice_list-requires-clause-fitting
-list::ListArraySliceRows::slice-slice_list-requires-clause-fitting t c =
+pub list::ListArraySliceRows::slice-slice_list-requires : goal.list::ListArraySliceRows::slice-slice_list-requires
+list::ListArraySliceRows::slice-slice_list-requires t c =
     let p = c.args.self.now in let h = c.validity.ensures.valid in let s = c.args.start in let e = c.args.end in
     let w = valid_of c.in_ok-validity.validity in let n = length (list_spans p).spans in
     let left : IsLeft p.valid (nullability_by p.valid) (slice_range (present_bits p.valid n) s e) w = rw (c.validity.ensures.value, c.len.ensures) at c.in_ok-validity.ensures.left in
-    fits_slice p.valid w (nullability_by p.valid) n (fit-list p h) s e c.requires.ordered (omega (arith, c.requires.within, rows-list p h)) left
+    let within : e ≤ n = omega (arith, c.requires.within, rows-list p h) in
+    record { ordered = c.requires.ordered; within = within; fitting = fits_slice p.valid w (nullability_by p.valid) n (fit-list p h) s e c.requires.ordered within left; }
 
 pub list::ListArraySliceRows::slice-returns-clause-cut : goal.list::ListArraySliceRows::slice-returns-clause-cut
 list::ListArraySliceRows::slice-returns-clause-cut t c =
@@ -115,12 +116,13 @@ list::ListArraySliceRows::slice-returns-clause-cut t c =
     (slice_step (list_spans p) (list_spans q) refl refl (ap (λ (x : ListParts). list_of x.elements.dtype) cut.parts) (fit-list p h) s e c.requires.ordered c.requires.within cut.lists
     (rw (ap (λ (x : ListParts). x.valid) cut.parts) left) (rw (ap (λ (x : ListParts). x.valid) cut.parts) plain) (omega (arith, ap (λ (x : ListParts). x.elements.depth) cut.parts)))
 
-pub listview::slice_views-slice_view-requires-clause-fitting : goal.listview::slice_views-slice_view-requires-clause-fitting
-listview::slice_views-slice_view-requires-clause-fitting t c =
+pub listview::slice_views-slice_view-requires : goal.listview::slice_views-slice_view-requires
+listview::slice_views-slice_view-requires t c =
     let p = c.args.array.now in let h = c.validity.ensures.valid in let s = c.args.start in let e = c.args.end in
     let w = valid_of c.in_ok-validity.validity in let n = length (listview_spans p).spans in
     let left : IsLeft p.valid (nullability_by p.valid) (slice_range (present_bits p.valid n) s e) w = rw (c.validity.ensures.value, c.len.ensures) at c.in_ok-validity.ensures.left in
-    fits_slice p.valid w (nullability_by p.valid) n (fit-listview p h) s e c.requires.ordered (omega (arith, c.requires.within, rows-listview p h)) left
+    let within : e ≤ n = omega (arith, c.requires.within, rows-listview p h) in
+    record { ordered = c.requires.ordered; within = within; fitting = fits_slice p.valid w (nullability_by p.valid) n (fit-listview p h) s e c.requires.ordered within left; }
 
 pub listview::slice_views-returns : goal.listview::slice_views-returns
 listview::slice_views-returns t c =

@@ -47,7 +47,7 @@ use Rattle.std.proofs.lemmas.Bool.Decides.{nat_tests}
 use Rattle.std.specs.Prelude.{replicate}
 use Rattle.vx_model.specs.Filler.{filler_row}
 use Rattle.vx_model.specs.FixedSizeList.{FixedParts, fixed_of, fixed_spans}
-use Rattle.vx_model.proofs.ListRows.{fit-fixed, rows-fixed}
+use Rattle.vx_model.proofs.ListRows.{fit-fixed, rows-fixed, spans-fixed}
 use Rattle.vx_model.specs.Columns.{AreSteps, are_long, columns_depth, firsts_for_nulls, types_in}
 use Rattle.vx_model.specs.ListView.{listview_column}
 use Rattle.vx_model.specs.Struct.{StructParts}
@@ -202,6 +202,14 @@ stored::StoredTakeRows::take-returns t c =
 
 -- ---- lists
 
+pub list::ListArrayTakeRows::take-plan_list_take-requires : goal.list::ListArrayTakeRows::take-plan_list_take-requires
+list::ListArrayTakeRows::take-plan_list_take-requires t c =
+    let p = c.args.self.now in let h = c.validity.ensures.valid in let picks = c.args.picks.picks in
+    let w = valid_of c.in_ok-validity.validity in let n = either_nullable (nullability_by p.valid) c.args.nullability in
+    let m = length (list_spans p).spans in let bound = c.requires.bound ∙ rows-list p h in
+    let left : IsLeft p.valid n (at false (present_bits p.valid m) picks) w = rw (c.validity.ensures.value, bound) at c.in_ok-validity.ensures.left in
+    record { bound = omega (arith, bound); fitting = fits_take p.valid w n m (fit-list p h) picks left; }
+
 pub list::ListArrayTakeRows::take-returns : goal.list::ListArrayTakeRows::take-returns
 list::ListArrayTakeRows::take-returns t c =
     let p = c.args.self.now in let h = c.validity.ensures.valid in let picks = c.args.picks.picks in
@@ -214,6 +222,14 @@ list::ListArrayTakeRows::take-returns t c =
     let makes : MakesLists plan.offsets w (in_runs p.elements.rows plan.runs) (kept_lists (present_bits w (length picks)) (at [] (lists_of (list_spans p)) picks)) = c.in_ok-plan.ensures.lists in
     weaker c.relisted.result c.relisted.ensures (λ a is. rw (is, same)
     (take_kept_step (list_spans p) (list_spans q) refl refl (ap list_of taken.dtype) (fit-list p h) picks n (makes x taken.rows).1 left))
+
+pub listview::take_views-plan_view_take-requires : goal.listview::take_views-plan_view_take-requires
+listview::take_views-plan_view_take-requires t c =
+    let p = c.args.array.now in let h = c.validity.ensures.valid in let picks = c.args.picks.now.picks in
+    let w = valid_of c.in_ok-validity.validity in let n = either_nullable (nullability_by p.valid) c.args.nullability in
+    let m = length (listview_spans p).spans in let bound = c.requires.bound ∙ rows-listview p h in
+    let left : IsLeft p.valid n (at false (present_bits p.valid m) picks) w = rw (c.validity.ensures.value, bound) at c.in_ok-validity.ensures.left in
+    record { bound = omega (arith, bound); fitting = fits_take p.valid w n m (fit-listview p h) picks left; }
 
 pub listview::take_views-returns : goal.listview::take_views-returns
 listview::take_views-returns t c =
@@ -244,6 +260,14 @@ runs::take_runs-returns-in_ok-picks-in-None t c =
     weaker c.take_picks.result c.take_picks.ensures (λ a take. runs_step c.args.array.now c.args.runs a c.requires (rw made at take))
 
 -- ---- lists of one size
+
+pub fixed_size_list::FixedSizeListArrayTakeRows::take-plan_fixed_take-requires : goal.fixed_size_list::FixedSizeListArrayTakeRows::take-plan_fixed_take-requires
+fixed_size_list::FixedSizeListArrayTakeRows::take-plan_fixed_take-requires t c =
+    let p = c.args.self.now in let h = c.validity.ensures.valid in let picks = c.args.picks.picks in
+    let w = valid_of c.in_ok-validity.validity in let n = either_nullable (nullability_by p.valid) c.args.nullability in
+    let m = length (fixed_spans p).spans in let bound = c.requires.bound ∙ rows-fixed p h in
+    let left : IsLeft p.valid n (at false (present_bits p.valid m) picks) w = rw (c.validity.ensures.value, bound) at c.in_ok-validity.ensures.left in
+    record { bound = omega (arith, bound, spans-fixed p); fitting = fits_take p.valid w n m (fit-fixed p h) picks left; }
 
 pub fixed_size_list::FixedSizeListArrayTakeRows::take-returns-then-len-eq0 : goal.fixed_size_list::FixedSizeListArrayTakeRows::take-returns-then-len-eq0
 fixed_size_list::FixedSizeListArrayTakeRows::take-returns-then-len-eq0 t c =

@@ -12,13 +12,16 @@ use Rattle.vx_model.specs.Step.{IsCut}
 use Rattle.vx_model.specs.Valid.{Valid, IsAsPlain}
 use Rattle.vx_model.proofs.ListRows.{elements-fixed, fit-fixed, rows-fixed, spans-fixed}
 use Rattle.vx_column.specs.Validity.{valid_of}
-use Rattle.vx_dispatch.proofs.ListSteps.{filter_step, swapped}
-use Rattle.vx_layouts.proofs.KeptLists.{fits_kept, left_kept}
+use Rattle.vx_dispatch.proofs.ListSteps.{filter_step, fits_kept, left_kept, swapped}
 use Rattle.vx_layouts.proofs.fixed_size_list.filter_fixed_size_list.Goals as goal
 
-pub plan_fixed_filter-requires-clause-fitting : goal.plan_fixed_filter-requires-clause-fitting
-plan_fixed_filter-requires-clause-fitting c =
-    fits_kept c.args.selection_mask.now.bits.bits c.validity.ensures.value (c.requires ∙ rows-fixed c.args.array.now c.validity.ensures.valid) c.in_ok-validity.ensures.left (fit-fixed c.args.array.now c.validity.ensures.valid)
+pub plan_fixed_filter-requires : goal.plan_fixed_filter-requires
+plan_fixed_filter-requires c =
+    let p = c.args.array.now in let h = c.validity.ensures.valid in let long = c.requires ∙ rows-fixed p h in
+    record {
+      long = long ∙ spans-fixed p;
+      fitting = fits_kept c.args.selection_mask.now.bits.bits c.validity.ensures.value long c.in_ok-validity.ensures.left (fit-fixed p h);
+    }
 
 pub filter-requires : goal.filter-requires
 filter-requires c =

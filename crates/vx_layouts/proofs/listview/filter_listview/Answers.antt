@@ -4,13 +4,16 @@ use Rattle.vx_model.specs.ListView.{ListViewParts, listview_spans}
 use Rattle.vx_model.specs.Valid.{IsAsPlain}
 use Rattle.vx_model.proofs.ListRows.{fit-listview, rows-listview}
 use Rattle.vx_column.specs.Validity.{valid_of}
-use Rattle.vx_dispatch.proofs.ListSteps.{filter_step}
-use Rattle.vx_layouts.proofs.KeptLists.{fits_kept, left_kept}
+use Rattle.vx_dispatch.proofs.ListSteps.{filter_step, fits_kept, left_kept}
 use Rattle.vx_layouts.proofs.listview.filter_listview.Goals as goal
 
-pub plan_view_filter-requires-clause-fitting : goal.plan_view_filter-requires-clause-fitting
-plan_view_filter-requires-clause-fitting c =
-    fits_kept c.args.selection_mask.now.bits.bits c.validity.ensures.value (c.requires ∙ rows-listview c.args.array.now c.validity.ensures.valid) c.in_ok-validity.ensures.left (fit-listview c.args.array.now c.validity.ensures.valid)
+pub plan_view_filter-requires : goal.plan_view_filter-requires
+plan_view_filter-requires c =
+    let p = c.args.array.now in let h = c.validity.ensures.valid in let long = c.requires ∙ rows-listview p h in
+    record {
+      long = long;
+      fitting = fits_kept c.args.selection_mask.now.bits.bits c.validity.ensures.value long c.in_ok-validity.ensures.left (fit-listview p h);
+    }
 
 pub returns : goal.returns
 returns c =

@@ -22,13 +22,15 @@ take_validity-requires-clause-fitting c =
     ∙ ap (λ (x : Column). length x.rows) (c.into_array-column.ensures ∙ ap varbin_column c.share.ensures) ∙ length-varbin p v.valid in
     ap₂ is_fitting v.value bound ∙ fitting-varbin p v.valid
 
-pub take_varbin_picks-requires-clause-bound : goal.take_varbin_picks-requires-clause-bound
-take_varbin_picks-requires-clause-bound c =
-    let p = c.args.array.now in let v = c.validity.ensures in
+pub take_varbin_picks-requires : goal.take_varbin_picks-requires
+take_varbin_picks-requires c =
+    let p = c.args.array.now in let v = c.validity.ensures in let w = valid_of c.in_ok-validity.validity in
+    let n = either_nullable (nullability_by p.valid) c.nullability-nullability.result in
     let bound : c.in_ok-picks.picks.bound ≡ row_count p.offsets =
     ap (λ (x : BoundedPicks). x.bound) c.in_ok-picks.ensures.picks ∙ c.len.ensures
     ∙ ap (λ (x : Column). length x.rows) (c.into_array-column.ensures ∙ ap varbin_column c.share.ensures) ∙ length-varbin p v.valid in
-    omega (arith, bound, texts-varbin p)
+    let left = rw (v.value, bound) at c.in_ok-validity.ensures.left in
+    record { bound = omega (arith, bound, texts-varbin p); fitting = fitting-take p.valid w n _ c.in_ok-picks.picks.picks left; }
 
 pub returns-clause-taken : goal.returns-clause-taken
 returns-clause-taken c =

@@ -15,16 +15,15 @@ filter_validity-requires c =
     let p = c.args.array.now in let v = c.validity.ensures in
     ap₂ is_fitting v.value (c.requires ∙ length-views p v.valid) ∙ fitting-views p v.valid
 
-pub filter_views-requires-clause-long : goal.filter_views-requires-clause-long
-filter_views-requires-clause-long c =
-    let p = c.args.array.now in c.requires ∙ rows-views p c.validity.ensures.valid
-
-pub filter_views-requires-clause-fitting : goal.filter_views-requires-clause-fitting
-filter_views-requires-clause-fitting c =
+pub filter_views-requires : goal.filter_views-requires
+filter_views-requires c =
     let p = c.args.array.now in let v = c.validity.ensures in let items = (stored_texts (view_texts p)).items in let mask = c.args.selection_mask.now.bits.bits in
     let long : length mask ≡ length items = c.requires ∙ rows-views p v.valid ∙ sym (items-texts (view_texts p)) in
     let left = rw (v.value, long) at c.in_ok-validity.ensures.left in
-    fitting-filter items p.valid (valid_of c.in_ok-validity.validity) (nullability_by p.valid) _ refl (fits-views p v.valid) mask long left
+    record {
+      long = c.requires ∙ rows-views p v.valid;
+      fitting = fitting-filter items p.valid (valid_of c.in_ok-validity.validity) (nullability_by p.valid) _ refl (fits-views p v.valid) mask long left;
+    }
 
 pub returns : goal.returns
 returns c =
