@@ -104,7 +104,7 @@ list::ListArraySliceRows::slice-slice_list-requires t c =
     let w = valid_of c.in_ok-validity.validity in let n = length (list_spans p).spans in
     let left : IsLeft p.valid (nullability_by p.valid) (slice_range (present_bits p.valid n) s e) w = rw (c.validity.ensures.value, c.len.ensures) at c.in_ok-validity.ensures.left in
     let within : e ≤ n = omega (arith, c.requires.within, rows-list p h) in
-    record { ordered = c.requires.ordered; within = within; fitting = fits_slice p.valid w (nullability_by p.valid) n (fit-list p h) s e c.requires.ordered within left; }
+    record { ordered = c.requires.ordered; within = within; fitting = fits_slice p.valid w (nullability_by p.valid) n (fit-list p h) s e c.requires.ordered within left }
 
 pub list::ListArraySliceRows::slice-returns-clause-cut : goal.list::ListArraySliceRows::slice-returns-clause-cut
 list::ListArraySliceRows::slice-returns-clause-cut t c =
@@ -122,7 +122,7 @@ listview::slice_views-slice_view-requires t c =
     let w = valid_of c.in_ok-validity.validity in let n = length (listview_spans p).spans in
     let left : IsLeft p.valid (nullability_by p.valid) (slice_range (present_bits p.valid n) s e) w = rw (c.validity.ensures.value, c.len.ensures) at c.in_ok-validity.ensures.left in
     let within : e ≤ n = omega (arith, c.requires.within, rows-listview p h) in
-    record { ordered = c.requires.ordered; within = within; fitting = fits_slice p.valid w (nullability_by p.valid) n (fit-listview p h) s e c.requires.ordered within left; }
+    record { ordered = c.requires.ordered; within = within; fitting = fits_slice p.valid w (nullability_by p.valid) n (fit-listview p h) s e c.requires.ordered within left }
 
 pub listview::slice_views-returns : goal.listview::slice_views-returns
 listview::slice_views-returns t c =

@@ -208,7 +208,7 @@ list::ListArrayTakeRows::take-plan_list_take-requires t c =
     let w = valid_of c.in_ok-validity.validity in let n = either_nullable (nullability_by p.valid) c.args.nullability in
     let m = length (list_spans p).spans in let bound = c.requires.bound ∙ rows-list p h in
     let left : IsLeft p.valid n (at false (present_bits p.valid m) picks) w = rw (c.validity.ensures.value, bound) at c.in_ok-validity.ensures.left in
-    record { bound = omega (arith, bound); fitting = fits_take p.valid w n m (fit-list p h) picks left; }
+    record { bound = omega (arith, bound); fitting = fits_take p.valid w n m (fit-list p h) picks left }
 
 pub list::ListArrayTakeRows::take-returns : goal.list::ListArrayTakeRows::take-returns
 list::ListArrayTakeRows::take-returns t c =
@@ -229,7 +229,7 @@ listview::take_views-plan_view_take-requires t c =
     let w = valid_of c.in_ok-validity.validity in let n = either_nullable (nullability_by p.valid) c.args.nullability in
     let m = length (listview_spans p).spans in let bound = c.requires.bound ∙ rows-listview p h in
     let left : IsLeft p.valid n (at false (present_bits p.valid m) picks) w = rw (c.validity.ensures.value, bound) at c.in_ok-validity.ensures.left in
-    record { bound = omega (arith, bound); fitting = fits_take p.valid w n m (fit-listview p h) picks left; }
+    record { bound = omega (arith, bound); fitting = fits_take p.valid w n m (fit-listview p h) picks left }
 
 pub listview::take_views-returns : goal.listview::take_views-returns
 listview::take_views-returns t c =
@@ -267,7 +267,7 @@ fixed_size_list::FixedSizeListArrayTakeRows::take-plan_fixed_take-requires t c =
     let w = valid_of c.in_ok-validity.validity in let n = either_nullable (nullability_by p.valid) c.args.nullability in
     let m = length (fixed_spans p).spans in let bound = c.requires.bound ∙ rows-fixed p h in
     let left : IsLeft p.valid n (at false (present_bits p.valid m) picks) w = rw (c.validity.ensures.value, bound) at c.in_ok-validity.ensures.left in
-    record { bound = omega (arith, bound, spans-fixed p); fitting = fits_take p.valid w n m (fit-fixed p h) picks left; }
+    record { bound = omega (arith, bound, spans-fixed p); fitting = fits_take p.valid w n m (fit-fixed p h) picks left }
 
 pub fixed_size_list::FixedSizeListArrayTakeRows::take-returns-then-len-eq0 : goal.fixed_size_list::FixedSizeListArrayTakeRows::take-returns-then-len-eq0
 fixed_size_list::FixedSizeListArrayTakeRows::take-returns-then-len-eq0 t c =

@@ -30,7 +30,7 @@ take_varbin_picks-requires c =
     ap (λ (x : BoundedPicks). x.bound) c.in_ok-picks.ensures.picks ∙ c.len.ensures
     ∙ ap (λ (x : Column). length x.rows) (c.into_array-column.ensures ∙ ap varbin_column c.share.ensures) ∙ length-varbin p v.valid in
     let left = rw (v.value, bound) at c.in_ok-validity.ensures.left in
-    record { bound = omega (arith, bound, texts-varbin p); fitting = fitting-take p.valid w n _ c.in_ok-picks.picks.picks left; }
+    record { bound = omega (arith, bound, texts-varbin p); fitting = fitting-take p.valid w n _ c.in_ok-picks.picks.picks left }
 
 pub returns-clause-taken : goal.returns-clause-taken
 returns-clause-taken c =
