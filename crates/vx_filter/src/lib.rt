@@ -12,7 +12,7 @@ mod lists;
 
 pub use bitmap::filter_slice_by_bitmap;
 pub use choice::{useful_indices, useful_slices};
-pub use compact::{compact_runs, compact_words, copy_picked};
+pub use compact::{LowestRun, compact_runs, compact_words, copy_picked, lowest_run};
 pub use compress::{CompressTable, byte_compress};
 pub use in_place::{filter_slice_in_place, filter_vec, keep_picked};
 pub use ladder::filter_slice;
