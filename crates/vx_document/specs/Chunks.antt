@@ -2,11 +2,13 @@
 use Rattle.std.specs.Prelude.{ℕ, ◌+◌, ◌-◌, ◌%◌, List, [], ◌∷◌, ◌++◌, length, replicate, nat_le, if◌then◌else◌, Option, Some, None, codes, bytes_eq}
 use Rattle.serde_json.specs.Data.{Data, Items}
 use Rattle.serde_json.specs.Find.{get, as_str, as_array}
-use Rattle.vx_types.specs.Decimal.{DecimalValue}
 use Rattle.vx_types.specs.PType.{width}
-use Rattle.vx_types.specs.TypeTree.{TypeTree, primitive_type, decimal_type}
+use Rattle.vx_types.specs.TypeTree.{TypeTree}
 use Rattle.vx_types.specs.declared.ptype.PType.{PType}
 use Rattle.vx_model.specs.Valid.{Valid, nullability_by}
+use Rattle.vx_column.specs.Records.{kind_of}
+use Rattle.vx_column.specs.declared.records.RecordType.{RecordType}
+use Rattle.vx_column.specs.declared.records.RecordType.TheVariants.{Primitive, Decimal}
 use Rattle.vx_steps.specs.Shape.{ShapeValue, shape_fault}
 use Rattle.vx_json.specs.Meaning.{◌>>=◌, unless_fault}
 use Rattle.vx_json.specs.Members.{is_closed}
@@ -83,24 +85,28 @@ chunks_made s w records =
     then Some (chunks_source s (filled w records))
     else None
 
-unfoldable pub primitive_chunks : PType → Valid → Data → Option SourceValue
-primitive_chunks p valid d = do
-  s ← shape_by (primitive_type p (nullability_by valid)) valid d
-  records ← values_by p d
-  chunks_made s (width p) records
+-- how many bytes a record of the type has
+unfoldable pub record_width : RecordType → ℕ
+record_width (Primitive p) = width p
+record_width (Decimal t) = t.width
 
-unfoldable pub decimal_chunks : DecimalValue → Valid → Data → Option SourceValue
-decimal_chunks t valid d = do
-  s ← shape_by (decimal_type t.precision t.scale t.width (nullability_by valid)) valid d
-  records ← decimals_by t.width d
-  chunks_made s t.width records
+-- the records of the type that an object lists
+unfoldable pub records_by : RecordType → Data → Option (List (List ℕ))
+records_by (Primitive p) d = values_by p d
+records_by (Decimal t) d = decimals_by t.width d
+
+unfoldable pub chunks_by : RecordType → Valid → Data → Option SourceValue
+chunks_by t valid d = do
+  s ← shape_by (record { kind = kind_of t; nullability = nullability_by valid }) valid d
+  records ← records_by t d
+  chunks_made s (record_width t) records
 
 -- by the name of the type
 unfoldable pub chunks_named : Valid → Data → List ℕ → Option SourceValue
 chunks_named valid d name =
     if bytes_eq name (codes "decimal")
-    then (decimal_of d >>= λ t. decimal_chunks t valid d)
-    else (ptype_named name >>= λ p. primitive_chunks p valid d)
+    then (decimal_of d >>= λ t. chunks_by (Decimal t) valid d)
+    else (ptype_named name >>= λ p. chunks_by (Primitive p) valid d)
 
 -- an object of a type, an offset, a length, values and perhaps a validity
 unfoldable pub chunks_of : Data → Option SourceValue

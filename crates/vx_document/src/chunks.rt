@@ -9,14 +9,14 @@ ghost use Rattle.vx_types.specs.Decimal.{is_width};
 ghost use Rattle.vx_column.specs.Validity.{valid_of};
 ghost use Rattle.vx_json.specs.Meaning.{Gives};
 ghost use Rattle.vx_document.specs.Documents.{IsWhole, source_value};
-ghost use Rattle.vx_document.specs.Chunks.{values_by, decimals_listed, decimals_by, filled, filled_from, missing, shape_made, shape_by, chunks_made, primitive_chunks, decimal_chunks, chunks_named, chunks_of};
+ghost use Rattle.vx_document.specs.Chunks.{values_by, decimals_listed, decimals_by, filled, filled_from, missing, shape_made, shape_by, chunks_made, record_width, records_by, chunks_by, chunks_named, chunks_of};
 
 use crate::columns::validity_stated;
 use crate::documents::DocumentSource;
 use serde_json::Value;
 use std::alloc::Global;
 use vx_bits::{Buffer, NoMemory, Records, map_each_record_width};
-use vx_column::{DType, DecimalDType, PType, Validity};
+use vx_column::{DType, PType, RecordType, Validity};
 use vx_column_json::{ramp_listed, validity_alone, values_there};
 use vx_json::{
     DocError, GREATEST_LEN, decimal_of, has_null, hex_values_of, is_closed, list_member,
@@ -176,37 +176,33 @@ fn chunks_made(
     Ok(DocumentSource::Chunks(shape, whole))
 }
 
-#[tactic(auto, unfolding(crate::specs::Chunks::primitive_chunks))]
-fn primitive_chunks(
-    alloc: Global,
-    ptype: PType,
-    validity: Validity,
-    value: &Value,
-) -> Result<DocumentSource, DocError>
-    ensures source { Gives source_value result
-        (primitive_chunks ptype (valid_of validity) (view value.now)) }
-    ensures whole { IfOk result IsWhole }
+/// The records of this type that the object lists.
+#[tactic(auto, unfolding(crate::specs::Chunks::records_by, crate::specs::Chunks::record_width))]
+fn records_by(alloc: Global, record_type: RecordType, value: &Value) -> Result<Records, DocError>
+    ensures value { Gives records_of result (records_by record_type (view value.now)) }
+    ensures width { IfOk result (λ r. width_of r ≡ record_width record_type) }
 {
-    let dtype = DType::Primitive(ptype, validity.nullability());
-    let shape = shape_by(dtype, validity, value)?;
-    let records = values_by(alloc, ptype, value)?;
-    chunks_made(alloc, shape, records)
+    match record_type {
+        RecordType::Primitive(ptype) => values_by(alloc, ptype, value),
+        RecordType::Decimal(decimal) => decimals_by(alloc, decimal.width() as usize, value),
+    }
 }
 
-#[tactic(auto, unfolding(crate::specs::Chunks::decimal_chunks))]
-fn decimal_chunks(
+/// The column of records of this type that the value means.
+#[tactic(auto, unfolding(crate::specs::Chunks::chunks_by))]
+fn chunks_by(
     alloc: Global,
-    decimal: DecimalDType,
+    record_type: RecordType,
     validity: Validity,
     value: &Value,
 ) -> Result<DocumentSource, DocError>
     ensures source { Gives source_value result
-        (decimal_chunks decimal (valid_of validity) (view value.now)) }
+        (chunks_by record_type (valid_of validity) (view value.now)) }
     ensures whole { IfOk result IsWhole }
 {
-    let dtype = DType::Decimal(decimal, validity.nullability());
+    let dtype = record_type.dtype(validity.nullability());
     let shape = shape_by(dtype, validity, value)?;
-    let records = decimals_by(alloc, decimal.width() as usize, value)?;
+    let records = records_by(alloc, record_type, value)?;
     chunks_made(alloc, shape, records)
 }
 
@@ -223,8 +219,18 @@ fn chunks_named(
     ensures whole { IfOk result IsWhole }
 {
     match name {
-        "decimal" => decimal_chunks(alloc, decimal_of(value)?, validity, value),
-        _ => primitive_chunks(alloc, ptype_named(name)?, validity, value),
+        "decimal" => chunks_by(
+            alloc,
+            RecordType::Decimal(decimal_of(value)?),
+            validity,
+            value,
+        ),
+        _ => chunks_by(
+            alloc,
+            RecordType::Primitive(ptype_named(name)?),
+            validity,
+            value,
+        ),
     }
 }
 
