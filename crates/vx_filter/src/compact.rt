@@ -145,20 +145,23 @@ fn has_long_runs(word: u64) -> bool {
     4 * runs <= word.count_ones() && word != u64::MAX
 }
 
-// The lowest run of set bits of a word, and the word without it.
+/// The lowest run of set bits of a word, and the word without it.
 #[derive(Clone, Copy)]
-struct LowestRun {
-    low: usize,
-    count: usize,
-    rest: u64,
+pub struct LowestRun {
+    /// Its lowest bit.
+    pub low: usize,
+    /// How many bits it has.
+    pub count: usize,
+    /// The word without it.
+    pub rest: u64,
 }
 
-// The lowest run of a word that is not 0.
-//
-// The run's lowest bit is added to the word, so that the carry clears the run, and only bits that
-// the word had are kept. The sum wraps where the run ends at bit 63.
+/// The lowest run of a word that is not 0.
+///
+/// The run's lowest bit is added to the word, so that the carry clears the run, and only bits that
+/// the word had are kept. The sum wraps where the run ends at bit 63.
 #[inline(always)]
-fn lowest_run(word: u64) -> LowestRun
+pub fn lowest_run(word: u64) -> LowestRun
     requires { 0 < word }
     ensures { IsLowestRun word result.low result.count result.rest }
 {
