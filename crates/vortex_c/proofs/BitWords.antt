@@ -3,8 +3,8 @@ use Rattle.std.proofs.Common.{◌≡◌, ℕ, zero, suc, ◌+◌, ◌-◌, ◌*�
 use Rattle.std.specs.Int.{bit_at}
 use Rattle.std.specs.List.{range_with_len}
 use Rattle.std.proofs.lemmas.Bool.{cases_lt}
-use Rattle.std.proofs.lemmas.List.FromFn.{map-range_with_len_more}
-use Rattle.std.proofs.lemmas.List.{append-nil, append_assoc, drop-append-le, drop-drop, drop-set-lt, drop-take, drop_more, get_or-drop, get_or-take, get_or_default, length-append, length-drop, length-take, length-take-le, take-append-drop, take-append-le, take-take, take_all, take_more_set}
+use Rattle.std.proofs.lemmas.List.FromFn.{length-map-range_with_len, map-range_with_len_more, take-map-range_with_len}
+use Rattle.std.proofs.lemmas.List.{append-nil, append_assoc, drop-append-le, drop-drop, drop-set-lt, drop-take, drop_at, drop_more, get_or-drop, get_or-take, get_or_default, length-append, length-drop, length-take, length-take-le, take-append-drop, take-append-le, take-take, take_all, take_more_set}
 use Rattle.std.proofs.lemmas.Nat.{mod_below, mod_low, mod-pow-add, or_shifted, pow-add, pow_pos, shr_below, shr_high, shr-shr}
 use Rattle.std.proofs.Math.Nat.{mod-eq_of_lt, mul-add-div_right, mul_assoc, mul_comm, pow-suc}
 use Rattle.std.proofs.Math.Pow.{pow_mono}
@@ -284,3 +284,30 @@ places_joined f a n (suc m) =
 pub places_behind : {X : Type 0} (f : ℕ → X) (n m : ℕ) → map f (range_with_len 0 n) ++ map f (range_with_len n m) ≡ map f (range_with_len 0 (n + m))
 places_behind f n m =
     ap (λ k. map f (range_with_len 0 n) ++ map f (range_with_len k m)) (sym (zero-add n)) ∙ sym (places_joined f 0 n m)
+
+-- ---- words of a list that a function of the place makes
+
+-- as many as 64 places of the first so many
+first_places : {X : Type 0} (f : ℕ → X) (s m c : ℕ) → c ≡ min m 64 → take 64 (map f (range_with_len s m)) ≡ map f (range_with_len s c)
+first_places f s m c e = elim (cases_lt m 64) [
+  | inl short ↦
+      let is : m ≡ c = omega arith in
+      take_all 64 (map f (range_with_len s m)) (omega (arith, length-map-range_with_len f s m)) ∙ ap (λ n. map f (range_with_len s n)) is
+  | inr long ↦
+      let is : 64 ≡ c = omega arith in
+      take-map-range_with_len f s m 64 (omega arith) ∙ ap (λ n. map f (range_with_len s n)) is
+]
+
+-- word i of the list
+pub word_of_places : (f : ℕ → Bool) (n i c : ℕ) → 64 * i ≤ n → c ≡ min (n - 64 * i) 64 → word_at (map f (range_with_len 0 n)) i ≡ number_of (map f (range_with_len (64 * i) c))
+unfolding word_at
+word_of_places f n i c h e =
+    let m = n - 64 * i in
+    let all : n ≡ 64 * i + m = omega arith in
+    let front = map f (range_with_len 0 (64 * i)) in
+    let rest = map f (range_with_len (64 * i) m) in
+    let cut : drop (64 * i) (map f (range_with_len 0 n)) ≡ rest =
+    ap (λ k. drop (64 * i) (map f (range_with_len 0 k))) all
+    ∙ ap (drop (64 * i)) (sym (places_behind f (64 * i) m))
+    ∙ drop_at front rest (64 * i) (length-map-range_with_len f 0 (64 * i)) in
+    ap (λ l. number_of (take 64 l)) cut ∙ ap number_of (first_places f (64 * i) m c e)

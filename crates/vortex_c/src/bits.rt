@@ -58,6 +58,18 @@ impl<'a> Bits<'a> {
         })
     }
 
+    // The same bits once more.
+    #[inline(always)]
+    pub(crate) fn share(&self) -> Bits<'a>
+        ensures { result ≡ self.now }
+    {
+        Bits {
+            words: self.words,
+            offset: self.offset,
+            len: self.len,
+        }
+    }
+
     #[inline(always)]
     pub(crate) fn len(&self) -> usize
         ensures { result ≡ length self.now }
@@ -78,7 +90,7 @@ impl<'a> Bits<'a> {
         } else {
             0
         };
-        let count = (self.len - 64 * i).min(64);
+        let count = if i < self.len / 64 { 64 } else { self.len % 64 };
         cut(low, high, (self.offset % 64) as u32, count as u32)
     }
 

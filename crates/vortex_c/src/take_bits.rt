@@ -7,7 +7,7 @@ ghost use Rattle.vortex_c.specs.Bits.{AreBitsTaken, bit_take_fault, bits_taken, 
 ghost use Rattle.vortex_c.specs.Takes.{IsPast, pick_at, picks_at, valid_fault};
 
 use crate::answer::{Answer, DONE, INDEX, LENGTHS, ROOM};
-use crate::bits::{Bits, Packed, hold};
+use crate::bits::{Bits, hold};
 use crate::take::{fault_of_valid, first_past, there};
 
 // The bit at an index, or a clear one where it is not there, lowest, and what stands above it.
@@ -44,7 +44,7 @@ struct BitPicks<'a> {
     ghost within: { (k : ℕ) → IsPast (length src) indices.now valid.now k → ⊥ },
 }
 
-impl BitPicks<'_> {
+impl<'a> BitPicks<'a> {
     // The bit at pick `k`, or a clear one where it is null, lowest, and what stands above it.
     #[inline(always)]
     fn from_bit(&self, k: usize) -> u64
@@ -128,7 +128,8 @@ impl BitPicks<'_> {
         }
     }
 
-    // Writes the bits at the picks, and a clear one at each null.
+    // Writes the bits at the picks, and a clear one at each null: 64 fill a word, but for the last
+    // one.
     #[inline(always)]
     fn put_words(&self, dst: &mut [u64])
         requires { length self.now.indices.now ≤ 64 * length dst.old }
@@ -136,33 +137,44 @@ impl BitPicks<'_> {
             ≡ words_of (at false self.now.src (picks_at self.now.indices.now self.now.valid.now))
             ++ drop (word_count (length self.now.indices.now)) dst.old }
     {
-        let mut taken = Packed::new();
         for i in 0..self.indices.len().div_ceil(64) {
             let count = (self.indices.len() - 64 * i).min(64);
-            taken = taken.append(dst, self.word(64 * i, count), count as u32);
+            dst[i] = self.word(64 * i, count);
         }
-        taken.close(dst);
     }
 
-    // The same. Whole words of bits, none of them null, are the most common.
+    // The same picks, where none is null.
+    #[inline(always)]
+    fn all_there(&self, src: Bits<'a>) -> BitPicks<'a>
+        requires same { src ≡ self.now.src }
+        requires none { length self.now.valid.now ≡ 0 }
+        ensures bits { result.src ≡ self.now.src }
+        ensures indices { result.indices.now ≡ self.now.indices.now }
+        ensures valid { result.valid.now ≡ self.now.valid.now }
+    {
+        BitPicks {
+            src,
+            indices: self.indices,
+            valid: &[],
+        }
+    }
+
+    // The same as `put_words`, by a loop of its own for picks that are all there, and for those of
+    // bits that begin with their words.
+    #[inline(always)]
     fn put(&self, dst: &mut [u64])
         requires { length self.now.indices.now ≤ 64 * length dst.old }
         ensures { dst.new
             ≡ words_of (at false self.now.src (picks_at self.now.indices.now self.now.valid.now))
             ++ drop (word_count (length self.now.indices.now)) dst.old }
     {
-        if self.valid.is_empty() {
-            if let Some(src) = self.src.from_first() {
-                let all_there = BitPicks {
-                    src,
-                    indices: self.indices,
-                    valid: &[],
-                };
-                all_there.put_words(dst);
-                return;
-            }
+        if !self.valid.is_empty() {
+            self.put_words(dst);
+        } else if let Some(src) = self.src.from_first() {
+            self.all_there(src).put_words(dst);
+        } else {
+            self.all_there(self.src.share()).put_words(dst);
         }
-        self.put_words(dst);
     }
 }
 

@@ -1,7 +1,7 @@
-use Rattle.std.proofs.Common.{◌+◌, ◌/◌, get_or, length, refl, sym, ap, ◌∙◌, arith}
+use Rattle.std.proofs.Common.{◌≡◌, ◌+◌, ◌-◌, ◌*◌, ◌/◌, ◌<◌, min, get_or, length, refl, sym, ap, ◌∙◌, arith}
 use Rattle.vx_bits.specs.Words.{word_at}
 use Rattle.vortex_c.proofs.BitWords.{IsNext, cut_word, length-bits_at}
-use Rattle.vortex_c.proofs.bits.Bits.word.Goals.{then-first-self, else-first-self}
+use Rattle.vortex_c.proofs.bits.Bits.word.Goals.{then-first-self, else-first-self, then-i-self, else-i-self}
 use Rattle.vortex_c.proofs.bits.Bits.word.Goals as goal
 
 pub returns : goal.returns
@@ -14,5 +14,11 @@ returns c =
       | then-first-self w ↦ record { there = λ h. w.high-is; none = λ h. absurd (omega (arith, w.if-first-self.true, h)) }
       | else-first-self w ↦ record { there = λ h. absurd (omega (arith, w.if-first-self.false, h)); none = λ h. w.high-is }
     ] in
-    cut_word words b.offset b.len c.args.i (get_or words q 0) c.if-first-self.high c.min-count.result c.cut.result c.self.invariant (omega (arith, c.requires, long)) (omega (arith, c.min-count.ensures)) (omega arith) refl next c.cut.ensures
+    let count = c.if-i-self.count in
+    let some : 64 * c.args.i < b.len = omega (arith, c.requires, long) in
+    let is_count : count ≡ min (b.len - 64 * c.args.i) 64 = elim c.if-i-self.branch [
+      | then-i-self w ↦ omega (arith, w.count-is, w.if-i-self.true)
+      | else-i-self w ↦ omega (arith, w.count-is, w.if-i-self.false, some)
+    ] in
+    cut_word words b.offset b.len c.args.i (get_or words q 0) c.if-first-self.high count c.cut.result c.self.invariant some is_count (omega arith) refl next c.cut.ensures
     ∙ ap (λ l. word_at l c.args.i) c.self.view_is

@@ -1,69 +1,46 @@
-use Rattle.std.proofs.Common.{◌≡◌, ◌+◌, ◌*◌, ◌≤◌, ◌++◌, List, Bool, false, length, map, min, drop, subst, refl, sym, ap, ◌∙◌, arith}
+use Rattle.std.proofs.Common.{◌≡◌, ◌+◌, ◌*◌, ◌<◌, ◌++◌, [], ◌∷◌, false, length, map, drop, sym, ap, ap₂, ◌∙◌, arith}
 use Rattle.std.specs.List.{range_with_len}
 use Rattle.std.proofs.lemmas.List.FromFn.{length-map-range_with_len}
-use Rattle.std.proofs.lemmas.List.{length-map, map-append}
-use Rattle.vx_bits.specs.Words.{word_count}
+use Rattle.std.proofs.lemmas.List.{drop-set-lt, length-map, take_more_set}
+use Rattle.std.proofs.lemmas.Simd.{map-map}
+use Rattle.vx_bits.specs.BitBuffer.{number_of}
+use Rattle.vx_bits.specs.Words.{word_at, word_count}
+use Rattle.vx_bits.proofs.WordsJoined.{words_to_more}
 use Rattle.vx_filter.proofs.Moves.{same_further}
 use Rattle.vx_take.specs.Picks.{at, item_at}
-use Rattle.vortex_c.specs.Bits.{IsPacked, words_of}
-use Rattle.vortex_c.specs.Takes.{pick_at}
-use Rattle.vortex_c.proofs.BitWords.{none_packed, places_behind}
+use Rattle.vortex_c.specs.Takes.{pick_at, picks_at}
+use Rattle.vortex_c.proofs.BitWords.{word_of_places}
+use Rattle.vortex_c.proofs.FilterFaults.{front_and_rest}
 use Rattle.vortex_c.proofs.take_bits.BitPicks.put_words.Goals as goal
-
-pub loop-i-init : goal.loop-i-init
-loop-i-init c =
-    let new = c.new-taken.ensures in
-    let pick = pick_at c.args.self.now.indices.now c.args.self.now.valid.now in
-    let src = c.args.self.now.src in
-    let start = c.new-taken.result in
-    let none : min 0 (length c.args.self.now.indices.now) ≡ 0 = omega arith in
-    record {
-      packed = subst (λ n. IsPacked (at false src (map pick (range_with_len 0 n))) c.args.dst.now start.full start.next start.held) (sym none) (none_packed c.args.dst.now start.full start.next start.held new.full new.next new.held);
-      open_word = omega (arith, new.held);
-      count = omega (arith, new.full, new.held);
-      rest = refl;
-    }
 
 pub loop-i-preserved : goal.loop-i-preserved
 loop-i-preserved c =
     let v = c.loop-i.invariant in
     let i = c.loop-i.i in
+    let dst = c.loop-i.dst in
     let indices = c.args.self.now.indices.now in
     let pick = pick_at indices c.args.self.now.valid.now in
-    let src = c.args.self.now.src in
+    let item = item_at false c.args.self.now.src in
+    let bits = at false c.args.self.now.src (picks_at indices c.args.self.now.valid.now) in
     let count = c.min-count.result in
-    let taken = c.loop-i.taken in
-    let after = c.append-taken.result in
-    let step = c.append-taken.ensures in
-    let done : min (64 * i) (length indices) ≡ 64 * i = omega arith in
-    let next : min (64 * (i + 1)) (length indices) ≡ 64 * i + count = omega (arith, c.min-count.ensures) in
-    let before = at false src (map pick (range_with_len 0 (64 * i))) in
-    let more = at false src (map pick (range_with_len (64 * i) count)) in
-    let packed : IsPacked before c.loop-i.dst taken.full taken.next taken.held = subst (λ n. IsPacked (at false src (map pick (range_with_len 0 n))) c.loop-i.dst taken.full taken.next taken.held) done v.packed in
-    let long : length more ≡ count = length-map (map pick (range_with_len (64 * i) count)) (item_at false src) ∙ length-map-range_with_len pick (64 * i) count in
-    let all : before ++ more ≡ at false src (map pick (range_with_len 0 (64 * i + count))) =
-    sym (map-append (item_at false src) (map pick (range_with_len 0 (64 * i))) (map pick (range_with_len (64 * i) count)))
-    ∙ ap (at false src) (places_behind pick (64 * i) count) in
-    let both : IsPacked (before ++ more) c.append-taken.new.dst after.full after.next after.held = step.packed before more packed c.word.ensures (sym long) in
+    let room : i < length dst = omega (arith, c.requires) in
+    let word : c.word.result ≡ word_at bits i =
+    c.word.ensures
+    ∙ ap number_of (map-map item pick (range_with_len (64 * i) count))
+    ∙ sym (ap (λ l. word_at l i) (map-map item pick (range_with_len 0 (length indices))) ∙ word_of_places (λ k. item (pick k)) (length indices) i count (omega arith) c.min-count.ensures) in
     record {
-      packed = subst (λ n. IsPacked (at false src (map pick (range_with_len 0 n))) c.append-taken.new.dst after.full after.next after.held) (sym next) (subst (λ (l : List Bool). IsPacked l c.append-taken.new.dst after.full after.next after.held) all both);
-      open_word = step.open;
-      count = omega (arith, step.count, v.count, next, done);
-      rest = step.rest ∙ same_further c.args.dst.now c.loop-i.dst taken.full after.full (omega (arith, step.count, step.open, v.open_word)) v.rest;
+      words = take_more_set dst i _ room ∙ ap₂ (λ l x. l ++ x ∷ []) v.words word ∙ sym (words_to_more bits i);
+      rest = drop-set-lt (i + 1) dst i _ (omega arith) ∙ same_further c.args.dst.now dst i (i + 1) (omega arith) v.rest;
     }
 
 pub returns : goal.returns
 returns c =
     let v = c.loop-i.invariant in
+    let i = c.loop-i.i in
     let indices = c.args.self.now.indices.now in
-    let pick = pick_at indices c.args.self.now.valid.now in
-    let src = c.args.self.now.src in
-    let held = c.loop-i.taken in
-    let last : min (64 * c.loop-i.i) (length indices) ≡ length indices = omega arith in
-    let taken = at false src (map pick (range_with_len 0 (length indices))) in
-    let packed : IsPacked taken c.loop-i.dst held.full held.next held.held = subst (λ n. IsPacked (at false src (map pick (range_with_len 0 n))) c.loop-i.dst held.full held.next held.held) last v.packed in
-    let count : length taken ≡ length indices = packed.count ∙ v.count ∙ last in
-    let further : held.full ≤ word_count (length taken) = omega (arith, packed.count) in
-    c.close.ensures taken packed
-    ∙ ap (λ l. words_of taken ++ l) (same_further c.args.dst.now c.loop-i.dst held.full (word_count (length taken)) further v.rest)
-    ∙ ap (λ n. words_of taken ++ drop (word_count n) c.args.dst.now) count
+    let picks = picks_at indices c.args.self.now.valid.now in
+    let bits = at false c.args.self.now.src picks in
+    let long : length bits ≡ length indices = length-map picks (item_at false c.args.self.now.src) ∙ length-map-range_with_len (pick_at indices c.args.self.now.valid.now) 0 (length indices) in
+    let last : i ≡ word_count (length indices) = omega arith in
+    let all : i ≡ word_count (length bits) = last ∙ ap word_count (sym long) in
+    front_and_rest i c.loop-i.dst _ _ (v.words ∙ ap (λ n. map (word_at bits) (range_with_len 0 n)) all) (v.rest ∙ ap (λ n. drop n c.args.dst.now) last)
