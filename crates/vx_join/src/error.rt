@@ -1,6 +1,5 @@
 //! Why there is no join.
 
-use std::alloc::AllocError;
 use vx_bits::NoMemory;
 
 /// Why two tables can't be joined. Pairs of keys count from 0.
@@ -29,17 +28,6 @@ impl From<NoMemory> for JoinError {
     ghost from_gives = { λ _ e. e ≡ OutOfMemory };
 
     fn from(_: NoMemory) -> JoinError {
-        JoinError::NoMemory
-    }
-}
-
-impl From<AllocError> for JoinError {
-    ghost use Rattle.std.specs.Prelude.{◌≡◌};
-    ghost use Rattle.vx_join.specs.declared.error.JoinError.TheVariants.{NoMemory as OutOfMemory};
-
-    ghost from_gives = { λ _ e. e ≡ OutOfMemory };
-
-    fn from(_: AllocError) -> JoinError {
         JoinError::NoMemory
     }
 }

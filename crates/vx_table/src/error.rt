@@ -1,6 +1,5 @@
 //! Why there is no table, and why there is no page.
 
-use std::alloc::AllocError;
 use vx_bits::NoMemory;
 use vx_select::{Cause, SelectError};
 
@@ -44,17 +43,6 @@ impl From<NoMemory> for PageError {
     ghost from_gives = { λ _ e. e ≡ OutOfMemory };
 
     fn from(_: NoMemory) -> PageError {
-        PageError::NoMemory
-    }
-}
-
-impl From<AllocError> for PageError {
-    ghost use Rattle.std.specs.Prelude.{◌≡◌};
-    ghost use Rattle.vx_table.specs.declared.error.PageError.TheVariants.{NoMemory as OutOfMemory};
-
-    ghost from_gives = { λ _ e. e ≡ OutOfMemory };
-
-    fn from(_: AllocError) -> PageError {
         PageError::NoMemory
     }
 }
