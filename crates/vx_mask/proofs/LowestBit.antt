@@ -56,6 +56,11 @@ positions_done base indices all left none e =
 pub some_left : (left k all : ℕ) → count_ones left + k ≡ all → k < all → 0 < left
 some_left left k all e h = omega (arith, ones_le_self left)
 
+-- the place of the lowest bit that is left is below what a word fits in front of
+pub place_fits : (base left k all limit : ℕ) → count_ones left + k ≡ all → k < all → left < 2 ^ 64 → base + 64 ≤ limit → base + count_trailing_zeros 64 left < limit
+place_fits base left k all limit e h fits room =
+    omega (arith, (bit_at-trailing_zeros w64 left (some_left left k all e h) fits).0)
+
 -- a place of a word before which at most k bits are set, and up to which more are
 pub record IsKth (word k place : ℕ) : Type 0 where
   pub within : place < 64

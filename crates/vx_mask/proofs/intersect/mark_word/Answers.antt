@@ -8,7 +8,7 @@ use lib.Count.{count_trailing_zeros}
 use Rattle.vx_bits.proofs.WordLists.{one_less}
 use Rattle.vx_bits.specs.Words.{word_bits}
 use Rattle.vx_mask.specs.Positions.{positions, set_of}
-use Rattle.vx_mask.proofs.LowestBit.{some_left}
+use Rattle.vx_mask.proofs.LowestBit.{place_fits, some_left}
 use Rattle.vx_mask.proofs.MarkedBits.{bit_marked, next_mark, word_marked, place_within}
 use Rattle.vx_mask.proofs.intersect.mark_word.Goals as goal
 
@@ -23,12 +23,7 @@ loop-k-init c =
     }
 
 pub overflow_add-place : goal.overflow_add-place
-overflow_add-place c =
-    let left = c.loop-k.left in
-    let some : 0 < left = some_left left c.loop-k.k _ c.loop-k.invariant.count (omega arith) in
-    let fits : left < 2 ^ 64 = omega arith in
-    let within = (bit_at-trailing_zeros w64 left some fits).0 in
-    omega (arith, within, c.requires.places)
+overflow_add-place c = omega (arith, place_fits _ c.loop-k.left c.loop-k.k _ _ c.loop-k.invariant.count (omega arith) (omega arith) c.requires.places)
 
 pub set_where-requires : goal.set_where-requires
 set_where-requires c =
