@@ -13,7 +13,7 @@ use lib.Bits.{bit_and}
 use lib.Count.{count_trailing_zeros}
 use Rattle.vx_bits.specs.Words.{word_bits}
 use Rattle.vx_bits.proofs.WordBits.{length-word_bits, zero-word_bits, get_or-word_bits, take-word_bits, true_count_of-word_bits, word_bits_low}
-use Rattle.vx_bits.proofs.WordLists.{picked_lowest}
+use Rattle.vx_bits.proofs.WordLists.{one_less, picked_lowest}
 use Rattle.vx_mask.specs.Positions.{positions}
 use Rattle.vx_mask.proofs.PositionLists.{length-positions, place_of, positions_false, get_or-range}
 use Rattle.vx_mask.proofs.WordCounts.{ones_more}
@@ -55,6 +55,15 @@ positions_done base indices all left none e =
 
 pub some_left : (left k all : ℕ) → count_ones left + k ≡ all → k < all → 0 < left
 some_left left k all e h = omega (arith, ones_le_self left)
+
+-- without it, one bit fewer is left
+pub counted_on : (left k all : ℕ) → count_ones left + k ≡ all → k < all → left < 2 ^ 64 → count_ones (bit_and left (left - 1)) + (k + 1) ≡ all
+counted_on left k all e h fits = omega (arith, one_less 64 left (some_left left k all e h) fits, e)
+
+-- the place of the lowest bit that is left is below what a word fits in front of
+pub place_fits : (base left k all limit : ℕ) → count_ones left + k ≡ all → k < all → left < 2 ^ 64 → base + 64 ≤ limit → base + count_trailing_zeros 64 left < limit
+place_fits base left k all limit e h fits room =
+    omega (arith, (bit_at-trailing_zeros w64 left (some_left left k all e h) fits).0)
 
 -- a place of a word before which at most k bits are set, and up to which more are
 pub record IsKth (word k place : ℕ) : Type 0 where

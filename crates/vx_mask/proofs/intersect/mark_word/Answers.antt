@@ -5,10 +5,9 @@ use Rattle.std.proofs.lemmas.Nat.Bits.{bit_at-trailing_zeros}
 use Rattle.std.specs.List.{items_where_true}
 use lib.Bits.{bit_and}
 use lib.Count.{count_trailing_zeros}
-use Rattle.vx_bits.proofs.WordLists.{one_less}
 use Rattle.vx_bits.specs.Words.{word_bits}
 use Rattle.vx_mask.specs.Positions.{positions, set_of}
-use Rattle.vx_mask.proofs.LowestBit.{some_left}
+use Rattle.vx_mask.proofs.LowestBit.{counted_on, place_fits, some_left}
 use Rattle.vx_mask.proofs.MarkedBits.{bit_marked, next_mark, word_marked, place_within}
 use Rattle.vx_mask.proofs.intersect.mark_word.Goals as goal
 
@@ -23,12 +22,7 @@ loop-k-init c =
     }
 
 pub overflow_add-place : goal.overflow_add-place
-overflow_add-place c =
-    let left = c.loop-k.left in
-    let some : 0 < left = some_left left c.loop-k.k _ c.loop-k.invariant.count (omega arith) in
-    let fits : left < 2 ^ 64 = omega arith in
-    let within = (bit_at-trailing_zeros w64 left some fits).0 in
-    omega (arith, within, c.requires.places)
+overflow_add-place c = omega (arith, place_fits _ c.loop-k.left c.loop-k.k _ _ c.loop-k.invariant.count (omega arith) (omega arith) c.requires.places)
 
 pub set_where-requires : goal.set_where-requires
 set_where-requires c =
@@ -46,7 +40,6 @@ loop-k-preserved c =
     let rank = c.args.from + c.loop-k.k in
     let some : 0 < left = some_left left c.loop-k.k _ v.count (omega arith) in
     let fits : left < 2 ^ 64 = omega arith in
-    let less = one_less 64 left some fits in
     let within = (bit_at-trailing_zeros w64 left some fits).0 in
     let enough : rank < length by = omega (arith, c.requires.enough, c.loop-k-test.true) in
     let place = c.args.base + count_trailing_zeros 64 left in
@@ -55,7 +48,7 @@ loop-k-preserved c =
     record {
       set = sym (ap (λ n. set_of c.set_where.new.kept ++ items_where_true (drop n by) (positions c.args.base (word_bits (bit_and left (left - 1)) 64))) next)
           ∙ next_mark c.loop-k.kept c.set_where.new.kept by _ c.args.base left rank _ _ some fits enough refl mark v.set;
-      count = omega (arith, less, v.count);
+      count = counted_on left c.loop-k.k _ v.count (omega arith) fits;
       long = mark.long;
       still = mark.still;
     }

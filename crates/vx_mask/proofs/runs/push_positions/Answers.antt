@@ -1,28 +1,18 @@
-use Rattle.std.proofs.Common.{◌^◌, ◌<◌, arith, ◌∙◌}
-use Rattle.std.specs.Int.{w64}
-use Rattle.std.proofs.lemmas.Nat.Bits.{bit_at-trailing_zeros}
-use Rattle.vx_bits.proofs.WordLists.{one_less}
-use Rattle.vx_mask.proofs.LowestBit.{position_pushed, positions_done, some_left}
+use Rattle.std.proofs.Common.{arith, ◌∙◌}
+use Rattle.vx_mask.proofs.LowestBit.{counted_on, place_fits, position_pushed, positions_done, some_left}
 use Rattle.vx_mask.proofs.runs.push_positions.Goals as goal
 
 pub overflow_add-base : goal.overflow_add-base
-overflow_add-base c =
-    let left = c.loop-k.left in
-    let some : 0 < left = some_left left c.loop-k.k _ c.loop-k.invariant.count (omega arith) in
-    let fits : left < 2 ^ 64 = omega arith in
-    let within = (bit_at-trailing_zeros w64 left some fits).0 in
-    omega (arith, within, c.requires.counted)
+overflow_add-base c = omega (arith, place_fits _ c.loop-k.left c.loop-k.k _ _ c.loop-k.invariant.count (omega arith) (omega arith) c.requires.counted)
 
 pub loop-k-preserved : goal.loop-k-preserved
 loop-k-preserved c =
     let v = c.loop-k.invariant in
     let left = c.loop-k.left in
-    let some : 0 < left = some_left left c.loop-k.k _ v.count (omega arith) in
-    let fits : left < 2 ^ 64 = omega arith in
-    let less = one_less 64 left some fits in
+    let some = some_left left c.loop-k.k _ v.count (omega arith) in
     record {
-      items = position_pushed c.args.base c.loop-k.indices.items _ left _ some fits (omega arith) c.push_reserved.ensures.items ∙ v.items;
-      count = omega (arith, less, v.count);
+      items = position_pushed c.args.base c.loop-k.indices.items _ left _ some (omega arith) (omega arith) c.push_reserved.ensures.items ∙ v.items;
+      count = counted_on left c.loop-k.k _ v.count (omega arith) (omega arith);
       len = omega (arith, c.push_reserved.ensures.len, v.len);
       room = c.push_reserved.ensures.capacity ∙ v.room;
     }
