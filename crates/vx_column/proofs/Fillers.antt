@@ -35,7 +35,7 @@ use Rattle.vx_model.specs.Map.{is_entry_kind, is_entry_type, map_column, map_of}
 use Rattle.vx_model.specs.Numbers.{number_in, numbers_of}
 use Rattle.vx_model.specs.Struct.{StructParts, fields_row, struct_column, struct_fault}
 use Rattle.vx_model.specs.Union.{UnionParts, is_known, tagged_rows, union_column, union_fault}
-use Rattle.vx_model.specs.Valid.{Valid, is_fitting, nullability_by, shown_rows, stored_rows}
+use Rattle.vx_model.specs.Valid.{Valid, is_fitting, shown_rows, stored_rows}
 use Rattle.vx_model.proofs.ConstantRows.{all_shown}
 use Rattle.vx_model.proofs.Nullabilities.{also_nullable-none}
 use Rattle.vx_model.proofs.StructSteps.{fault-made}

@@ -6,6 +6,7 @@ pub mod Layout
 pub mod ListParts
 pub mod Lists
 pub mod Naturals
+pub mod Part
 pub mod Plain
 pub mod Records
 pub mod Shown

@@ -5,6 +5,7 @@ ghost use Rattle.vx_model.specs.Valid.{is_fitting};
 ghost use Rattle.vx_model.specs.Bool.{bool_fault, bool_column, bool_with};
 ghost use Rattle.vx_column.specs.Validity.{valid_of};
 ghost use Rattle.vx_column.specs.Bool.{bool_parts};
+ghost use Rattle.vx_column.specs.Part.{IsPart};
 ghost use Rattle.std.specs.Prelude.{◌≤◌};
 ghost use Rattle.vx_model.specs.Step.{IsPlainSlice};
 
@@ -69,8 +70,7 @@ impl BoolArray {
 
     /// Which rows are there.
     pub fn validity(&self) -> &Validity
-        ensures value { valid_of result.now ≡ self.now.valid }
-        ensures valid { bool_fault self.now ≡ None }
+        ensures { IsPart (bool_fault self.now) (valid_of result.now) self.now.valid }
     {
         &self.validity
     }

@@ -6,6 +6,7 @@ ghost use Rattle.vx_types.specs.TypeTree.{decimal_kind, is_decimal_kind};
 ghost use Rattle.vx_model.specs.Records.{records_fault, records_column};
 ghost use Rattle.vx_column.specs.Records.{record_parts};
 ghost use Rattle.vx_column.specs.Validity.{valid_of};
+ghost use Rattle.vx_column.specs.Part.{IsPart};
 ghost use Rattle.vx_column.specs.declared.records.RecordType.TheVariants.{Decimal};
 
 use crate::array::Array;
@@ -98,8 +99,7 @@ impl DecimalArray {
 
     /// Which rows are there.
     pub fn validity(&self) -> &Validity
-        ensures value { valid_of result.now ≡ self.now.valid }
-        ensures valid { records_fault self.now ≡ None }
+        ensures { IsPart (records_fault self.now) (valid_of result.now) self.now.valid }
     {
         self.rows.validity()
     }

@@ -2,6 +2,7 @@
 ghost use Rattle.std.specs.Prelude.{◌≡◌, ◌↔◌, None, IfSome, IsSome, option_map};
 ghost use Rattle.vx_bits.specs.Results.{ok_unless};
 ghost use Rattle.vx_model.specs.Dict.{dict_codes, dict_column, dict_fault, dict_with};
+ghost use Rattle.vx_column.specs.Part.{IsPart};
 ghost use Rattle.vx_types.specs.declared.layout_name.LayoutName.TheVariants.{Dict as DictLayout};
 
 use crate::array::{Array, ArrayRef, Layout};
@@ -60,16 +61,14 @@ impl DictArray {
 
     /// The codes, one a row.
     pub fn codes(&self) -> &ArrayRef
-        ensures value { result.now ≡ self.now.codes }
-        ensures valid { dict_fault self.now ≡ None }
+        ensures { IsPart (dict_fault self.now) result.now self.now.codes }
     {
         &self.codes
     }
 
     /// The values that the codes name.
     pub fn values(&self) -> &ArrayRef
-        ensures value { result.now ≡ self.now.values }
-        ensures valid { dict_fault self.now ≡ None }
+        ensures { IsPart (dict_fault self.now) result.now self.now.values }
     {
         &self.values
     }

@@ -2,6 +2,7 @@
 ghost use Rattle.std.specs.Prelude.{◌≡◌, ◌↔◌, None, IfSome, IsSome};
 ghost use Rattle.vx_bits.specs.Results.{ok_unless};
 ghost use Rattle.vx_model.specs.Extension.{extension_column, extension_fault, extension_with};
+ghost use Rattle.vx_column.specs.Part.{IsPart};
 ghost use Rattle.vx_types.specs.declared.layout_name.LayoutName.TheVariants.{Extension as ExtensionLayout};
 
 use crate::array::{Array, ArrayRef, Layout};
@@ -68,16 +69,14 @@ impl ExtensionArray {
 
     /// The type's name, and the type that stores it.
     pub fn ext(&self) -> &Shared<ExtDType>
-        ensures value { result.now ≡ self.now.ext }
-        ensures valid { extension_fault self.now ≡ None }
+        ensures { IsPart (extension_fault self.now) result.now self.now.ext }
     {
         &self.ext
     }
 
     /// The column that stores the rows.
     pub fn storage(&self) -> &ArrayRef
-        ensures value { result.now ≡ self.now.storage }
-        ensures valid { extension_fault self.now ≡ None }
+        ensures { IsPart (extension_fault self.now) result.now self.now.storage }
     {
         &self.storage
     }

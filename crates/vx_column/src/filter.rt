@@ -3,6 +3,7 @@ ghost use Rattle.std.specs.Prelude.{◌≡◌, None};
 ghost use Rattle.vx_bits.specs.Results.{ok_unless};
 ghost use Rattle.vx_mask.specs.Mask.{mask_bits};
 ghost use Rattle.vx_model.specs.Filter.{filter_fault, filter_column};
+ghost use Rattle.vx_column.specs.Part.{IsPart};
 
 use crate::array::{Array, ArrayRef, Layout};
 use crate::cell::{Cell, ReadRow};
@@ -59,16 +60,14 @@ impl FilterArray {
 
     /// The column whose rows are kept.
     pub fn child(&self) -> &ArrayRef
-        ensures value { result.now ≡ self.now.child }
-        ensures valid { filter_fault self.now ≡ None }
+        ensures { IsPart (filter_fault self.now) result.now self.now.child }
     {
         &self.child
     }
 
     /// Which of them.
     pub fn mask(&self) -> &Mask
-        ensures value { mask_bits result.now ≡ self.now.mask }
-        ensures valid { filter_fault self.now ≡ None }
+        ensures { IsPart (filter_fault self.now) (mask_bits result.now) self.now.mask }
     {
         &self.mask
     }

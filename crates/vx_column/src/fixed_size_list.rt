@@ -3,6 +3,7 @@ ghost use Rattle.std.specs.Prelude.{◌≡◌, ◌≤◌, ◌<◌, None, length,
 ghost use Rattle.vx_bits.specs.Results.{FailsBy};
 ghost use Rattle.vx_model.specs.FixedSizeList.{fixed_column, fixed_fault, fixed_spans};
 ghost use Rattle.vx_column.specs.ListParts.{fixed_parts};
+ghost use Rattle.vx_column.specs.Part.{IsPart};
 ghost use Rattle.vx_column.specs.Validity.{valid_of};
 
 use crate::array::{Array, ArrayRef, Layout};
@@ -98,24 +99,21 @@ impl FixedSizeListArray {
 
     /// The column that has the elements of all rows.
     pub fn elements(&self) -> &ArrayRef
-        ensures value { result.now ≡ self.now.elements }
-        ensures valid { fixed_fault self.now ≡ None }
+        ensures { IsPart (fixed_fault self.now) result.now self.now.elements }
     {
         self.elements.column()
     }
 
     /// How many elements each row has.
     pub fn list_size(&self) -> u32
-        ensures value { result ≡ self.now.size }
-        ensures valid { fixed_fault self.now ≡ None }
+        ensures { IsPart (fixed_fault self.now) result self.now.size }
     {
         self.list_size
     }
 
     /// Which rows are there.
     pub fn validity(&self) -> &Validity
-        ensures value { valid_of result.now ≡ self.now.valid }
-        ensures valid { fixed_fault self.now ≡ None }
+        ensures { IsPart (fixed_fault self.now) (valid_of result.now) self.now.valid }
     {
         &self.validity
     }

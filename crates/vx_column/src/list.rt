@@ -5,6 +5,7 @@ ghost use Rattle.vx_positions.specs.Offsets.{offset_positions};
 ghost use Rattle.vx_model.specs.List.{list_column, list_fault, list_spans};
 ghost use Rattle.vx_model.specs.Numbers.{integers_of};
 ghost use Rattle.vx_column.specs.ListParts.{list_parts};
+ghost use Rattle.vx_column.specs.Part.{IsPart};
 ghost use Rattle.vx_column.specs.Validity.{valid_of};
 ghost use Rattle.vx_types.specs.declared.layout_name.LayoutName.TheVariants.{List as ListLayout};
 
@@ -103,24 +104,21 @@ impl ListArray {
 
     /// The column that has the elements of all rows.
     pub fn elements(&self) -> &ArrayRef
-        ensures value { result.now ≡ self.now.elements }
-        ensures valid { list_fault self.now ≡ None }
+        ensures { IsPart (list_fault self.now) result.now self.now.elements }
     {
         self.elements.column()
     }
 
     /// Where the elements of each row begin, and where those of the last end.
     pub fn offsets(&self) -> &PrimitiveArray
-        ensures value { result.now ≡ self.now.offsets }
-        ensures valid { list_fault self.now ≡ None }
+        ensures { IsPart (list_fault self.now) result.now self.now.offsets }
     {
         &self.offsets
     }
 
     /// Which rows are there.
     pub fn validity(&self) -> &Validity
-        ensures value { valid_of result.now ≡ self.now.valid }
-        ensures valid { list_fault self.now ≡ None }
+        ensures { IsPart (list_fault self.now) (valid_of result.now) self.now.valid }
     {
         &self.validity
     }

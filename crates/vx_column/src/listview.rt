@@ -5,6 +5,7 @@ ghost use Rattle.vx_positions.specs.Offsets.{offset_positions};
 ghost use Rattle.vx_model.specs.ListView.{listview_column, listview_fault, listview_spans};
 ghost use Rattle.vx_model.specs.Numbers.{integers_of};
 ghost use Rattle.vx_column.specs.ListParts.{listview_parts};
+ghost use Rattle.vx_column.specs.Part.{IsPart};
 ghost use Rattle.vx_column.specs.Validity.{valid_of};
 
 use crate::array::{Array, ArrayRef, Layout};
@@ -104,32 +105,28 @@ impl ListViewArray {
 
     /// The column that has the elements of all rows.
     pub fn elements(&self) -> &ArrayRef
-        ensures value { result.now ≡ self.now.elements }
-        ensures valid { listview_fault self.now ≡ None }
+        ensures { IsPart (listview_fault self.now) result.now self.now.elements }
     {
         self.elements.column()
     }
 
     /// Where the elements of each row begin.
     pub fn offsets(&self) -> &PrimitiveArray
-        ensures value { result.now ≡ self.now.offsets }
-        ensures valid { listview_fault self.now ≡ None }
+        ensures { IsPart (listview_fault self.now) result.now self.now.offsets }
     {
         &self.offsets
     }
 
     /// How many elements each row has.
     pub fn sizes(&self) -> &PrimitiveArray
-        ensures value { result.now ≡ self.now.sizes }
-        ensures valid { listview_fault self.now ≡ None }
+        ensures { IsPart (listview_fault self.now) result.now self.now.sizes }
     {
         &self.sizes
     }
 
     /// Which rows are there.
     pub fn validity(&self) -> &Validity
-        ensures value { valid_of result.now ≡ self.now.valid }
-        ensures valid { listview_fault self.now ≡ None }
+        ensures { IsPart (listview_fault self.now) (valid_of result.now) self.now.valid }
     {
         &self.validity
     }

@@ -4,6 +4,7 @@ ghost use Rattle.vx_bits.specs.Results.{ok_unless};
 ghost use Rattle.vx_types.specs.DType.{type_of};
 ghost use Rattle.vx_types.specs.TypeTree.{are_entries, types_of};
 ghost use Rattle.vx_model.specs.Map.{is_entry_type, map_column, map_fault};
+ghost use Rattle.vx_column.specs.Part.{IsPart};
 
 use crate::array::{Array, Layout};
 use crate::listview::ListViewArray;
@@ -79,8 +80,7 @@ impl MapArray {
 
     /// The list views of entries.
     pub fn entries(&self) -> &ListViewArray
-        ensures value { result.now ≡ self.now }
-        ensures valid { map_fault self.now ≡ None }
+        ensures { IsPart (map_fault self.now) result.now self.now }
     {
         &self.entries
     }

@@ -12,6 +12,7 @@ ghost use Rattle.vx_column.specs.Plain.{HasRecords};
 ghost use Rattle.vx_column.specs.Records.{kind_of, record_parts};
 ghost use Rattle.vx_column.specs.Shown.{AreShownRowsOf};
 ghost use Rattle.vx_column.specs.Validity.{valid_of};
+ghost use Rattle.vx_column.specs.Part.{IsPart};
 
 use crate::array::{Array, Layout};
 use crate::cell::{Cell, ReadRow};
@@ -148,8 +149,7 @@ impl RecordArray {
 
     /// Which rows are there.
     pub fn validity(&self) -> &Validity
-        ensures value { valid_of result.now ≡ self.now.valid }
-        ensures valid { records_fault self.now ≡ None }
+        ensures { IsPart (records_fault self.now) (valid_of result.now) self.now.valid }
     {
         &self.validity
     }

@@ -9,6 +9,7 @@ ghost use Rattle.vx_model.specs.Struct.{struct_column, struct_fault};
 ghost use Rattle.vx_model.specs.Valid.{is_fitting};
 ghost use Rattle.vx_column.specs.StructParts.{struct_parts};
 ghost use Rattle.vx_column.specs.Validity.{valid_of};
+ghost use Rattle.vx_column.specs.Part.{IsPart};
 ghost use Rattle.vx_types.specs.declared.layout_name.LayoutName.TheVariants.{Struct as StructLayout};
 
 use crate::array::{Array, ArrayRef, Layout};
@@ -145,8 +146,7 @@ impl StructArray {
 
     /// The columns, one a field.
     pub fn fields(&self) -> &Columns
-        ensures value { result.now ≡ self.now.columns }
-        ensures valid { struct_fault self.now ≡ None }
+        ensures { IsPart (struct_fault self.now) result.now self.now.columns }
     {
         &self.fields
     }

@@ -9,6 +9,7 @@ ghost use Rattle.vx_positions.specs.Positions.{is_position, positions_of};
 ghost use Rattle.vx_model.specs.Numbers.{integers_of, numbers_of};
 ghost use Rattle.vx_model.specs.Union.{are_places, are_union_types, has_row, have_rows, index_of, is_id_type, is_known, is_union_long, place_at, union_column, union_fault, IsPlace};
 ghost use Rattle.vx_column.specs.UnionParts.{union_parts};
+ghost use Rattle.vx_column.specs.Part.{IsPart};
 ghost use Rattle.vx_types.specs.declared.layout_name.LayoutName.TheVariants.{Union as UnionLayout};
 
 use crate::array::{Array, ArrayRef, Layout};
@@ -336,16 +337,14 @@ impl UnionArray {
 
     /// For each row the id of its variant.
     pub fn type_ids(&self) -> &ArrayRef
-        ensures value { result.now ≡ self.now.ids }
-        ensures valid { union_fault self.now ≡ None }
+        ensures { IsPart (union_fault self.now) result.now self.now.ids }
     {
         &self.type_ids
     }
 
     /// For each row its place in its variant's column; some exactly for a dense union.
     pub fn offsets(&self) -> Option<&PrimitiveArray>
-        ensures value { option_map (λ o. o.now) result ≡ self.now.offsets }
-        ensures valid { union_fault self.now ≡ None }
+        ensures { IsPart (union_fault self.now) (option_map (λ o. o.now) result) self.now.offsets }
     {
         self.offsets.as_ref()
     }
@@ -361,8 +360,7 @@ impl UnionArray {
 
     /// The columns, one a variant.
     pub fn children(&self) -> &Columns
-        ensures value { result.now ≡ self.now.columns }
-        ensures valid { union_fault self.now ≡ None }
+        ensures { IsPart (union_fault self.now) result.now self.now.columns }
     {
         &self.children
     }

@@ -7,6 +7,7 @@ ghost use Rattle.vx_model.specs.Valid.{is_fitting};
 ghost use Rattle.vx_model.specs.VarBin.{are_integers, row_count, varbin_column, varbin_fault, varbin_texts};
 ghost use Rattle.vx_column.specs.Text.{varbin_parts};
 ghost use Rattle.vx_column.specs.Validity.{valid_of};
+ghost use Rattle.vx_column.specs.Part.{IsPart};
 
 use crate::array::{Array, Layout};
 use crate::cell::{Cell, ReadRow};
@@ -107,24 +108,21 @@ impl VarBinArray {
 
     /// Where each text begins, and where the last ends.
     pub fn offsets(&self) -> &PrimitiveArray
-        ensures value { result.now ≡ self.now.offsets }
-        ensures valid { varbin_fault self.now ≡ None }
+        ensures { IsPart (varbin_fault self.now) result.now self.now.offsets }
     {
         &self.offsets
     }
 
     /// The bytes of all texts.
     pub fn bytes(&self) -> &Buffer<u8>
-        ensures value { result.now ≡ self.now.bytes }
-        ensures valid { varbin_fault self.now ≡ None }
+        ensures { IsPart (varbin_fault self.now) result.now self.now.bytes }
     {
         &self.bytes
     }
 
     /// Which rows are there.
     pub fn validity(&self) -> &Validity
-        ensures value { valid_of result.now ≡ self.now.valid }
-        ensures valid { varbin_fault self.now ≡ None }
+        ensures { IsPart (varbin_fault self.now) (valid_of result.now) self.now.valid }
     {
         &self.validity
     }

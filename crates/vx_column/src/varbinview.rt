@@ -7,6 +7,7 @@ ghost use Rattle.vx_model.specs.Valid.{is_fitting};
 ghost use Rattle.vx_model.specs.VarBinView.{view_texts, views_column, views_fault, views_with};
 ghost use Rattle.vx_column.specs.Text.{view_parts};
 ghost use Rattle.vx_column.specs.Validity.{valid_of};
+ghost use Rattle.vx_column.specs.Part.{IsPart};
 
 use crate::array::{Array, Layout};
 use crate::cell::{Cell, ReadRow};
@@ -109,24 +110,21 @@ impl VarBinViewArray {
 
     /// Its views, one a row, null rows too.
     pub fn views(&self) -> &Buffer<BinaryView>
-        ensures value { result.now ≡ self.now.views }
-        ensures valid { views_fault self.now ≡ None }
+        ensures { IsPart (views_fault self.now) result.now self.now.views }
     {
         &self.views
     }
 
     /// The buffers that hold the texts of more than twelve bytes.
     pub fn buffers(&self) -> &Shared<Vec<Buffer<u8>>>
-        ensures value { result.now.items ≡ self.now.buffers }
-        ensures valid { views_fault self.now ≡ None }
+        ensures { IsPart (views_fault self.now) result.now.items self.now.buffers }
     {
         &self.buffers
     }
 
     /// Which rows are there.
     pub fn validity(&self) -> &Validity
-        ensures value { valid_of result.now ≡ self.now.valid }
-        ensures valid { views_fault self.now ≡ None }
+        ensures { IsPart (views_fault self.now) (valid_of result.now) self.now.valid }
     {
         &self.validity
     }

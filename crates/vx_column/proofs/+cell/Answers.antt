@@ -10,7 +10,7 @@ use Rattle.vx_column.specs.declared.validity.Validity.{Validity}
 use Rattle.vx_column.proofs.Cells.{has_row}
 use Rattle.vx_model.proofs.Texts.{rows-views, shown-views}
 use Rattle.vx_model.proofs.StructSteps.{rows-struct, shown-struct}
-use Rattle.std.proofs.Common.{◌≡◌, ◌+◌, Some, None, get_or, ap₂}
+use Rattle.std.proofs.Common.{◌≡◌, Some, None, get_or, ap₂}
 use Rattle.vx_types.specs.RowValue.{null, tagged}
 use Rattle.vx_types.specs.Nullability.{is_nullable}
 use Rattle.vx_model.specs.Union.{UnionParts, IsPlace, place_at}

@@ -1,5 +1,5 @@
 -- A row lies between two offsets that ascend.
-use Rattle.std.proofs.Common.{◌≡◌, ◌+◌, ◌≤◌, arith, ap, ap₂, sym, ◌∙◌}
+use Rattle.std.proofs.Common.{◌+◌, arith, ap₂, sym, ◌∙◌}
 use Rattle.vx_model.proofs.ListRows.{ends-list, ascends-list, within-list, span-list}
 use Rattle.vx_column.proofs.list.ListArray.span_at.Goals as goal
 

@@ -1,6 +1,6 @@
 -- A row ends within the elements.
-use Rattle.std.proofs.Common.{◌≡◌, ◌+◌, ◌≤◌, arith, ap₂, sym, ◌∙◌}
-use Rattle.vx_model.proofs.ListRows.{within-listview, span-listview}
+use Rattle.std.proofs.Common.{◌+◌, ap₂, sym, ◌∙◌}
+use Rattle.vx_model.proofs.ListRows.{span-listview}
 use Rattle.vx_column.proofs.listview.ListViewArray.span_at.Goals as goal
 
 pub returns-clause-span : goal.returns-clause-span
