@@ -3,10 +3,16 @@ use Rattle.std.specs.Prelude.{◌≡◌, ℕ, ◌+◌, ◌≤◌, Bool, List, []
 use Rattle.std.specs.List.{All, flat_map, range_with_len}
 use Rattle.vx_bits.specs.BitBuffer.{PlacedBits}
 use Rattle.vx_types.specs.RowValue.{RowValue}
-use Rattle.vx_take.specs.Picks.{at, in_runs}
+use Rattle.vx_take.specs.Picks.{BoundedPicks, at, in_runs}
 use Rattle.vx_positions.specs.Offsets.{lists_at}
-use Rattle.vx_lists.specs.Lists.{last_offset}
+use Rattle.vx_lists.specs.Lists.{AreOffsets, last_offset, row_count}
 use Rattle.vx_lists.specs.Sums.{length_at, offsets_of}
+
+-- picks name lists that offsets cut, and there is a bit for each pick
+pub record FitsOffsets (cuts : List ℕ) (picks : BoundedPicks) (present : List Bool) : Type 0 where
+  pub offsets : AreOffsets cuts
+  pub bound : picks.bound ≤ row_count cuts
+  pub long : length present ≡ length picks.picks
 
 -- the picks whose rows are there, and a null in place of each other one
 abbrev pub shown_picks : List Bool → List (Option ℕ) → List (Option ℕ)

@@ -10,48 +10,39 @@ ghost use Rattle.vx_take.specs.Picks.{at};
 ghost use Rattle.vx_lists.specs.Plans.{MakesViews};
 ghost use Rattle.vx_text.specs.Fits.{FitsFilter, FitsSlice, FitsTake};
 
+use crate::plans::ViewPlan;
 use crate::view::{filter_numbers, slice_numbers, take_numbers};
 use std::alloc::Global;
 use vx_bits::NoMemory;
-use vx_column::{ListViewArray, PrimitiveArray, Validity};
-use vx_mask::{MaskValues, Policy};
+use vx_column::{ListViewArray, Validity};
 use vx_take::Picks;
+use vx_text::KeptRows;
 
-/// What a filter or a take of list views leaves: offsets and sizes into the same elements.
-#[derive(Drop)]
-pub struct ViewPlan {
-    /// The new offsets, of the type of the old ones.
-    pub offsets: PrimitiveArray,
-    /// The new sizes, of the type of the old ones.
-    pub sizes: PrimitiveArray,
-    /// Which rows are there.
-    pub validity: Validity,
-}
-
-/// The plan of the list views at the set positions of `mask`, in order, with their validity.
-/// `NoMemory` alone.
+/// The plan of the kept list views, in order, with their validity. `NoMemory` alone.
 #[tactic(auto, using(vx_model::proofs::ListRows::listview_rows))]
 pub fn plan_view_filter(
     alloc: Global,
     array: &ListViewArray,
-    mask: &MaskValues,
-    policy: &Policy,
+    by: KeptRows<'_>,
     validity: Validity,
 ) -> Result<ViewPlan, NoMemory>
-    requires { FitsFilter (length (listview_spans array.now).spans) mask.now (valid_of validity) }
+    requires { FitsFilter (length (listview_spans array.now).spans)
+        by.mask.now (valid_of validity) }
     ensures offsets { IfOk result (λ plan. plan.offsets ≡ records_with array.now.offsets
-        (items_where_true mask.now.bits.bits array.now.offsets.records) non_nullable) }
+        (items_where_true by.entry.mask.now.bits.bits array.now.offsets.records)
+        non_nullable) }
     ensures sizes { IfOk result (λ plan. plan.sizes ≡ records_with array.now.sizes
-        (items_where_true mask.now.bits.bits array.now.sizes.records) non_nullable) }
+        (items_where_true by.entry.mask.now.bits.bits array.now.sizes.records)
+        non_nullable) }
     ensures lists { IfOk result (λ plan. MakesViews (record array.now {
       offsets = plan.offsets;
       sizes = plan.sizes;
       valid = valid_of validity;
-    }) (items_where_true mask.now.bits.bits (lists_of (listview_spans array.now)))) }
+    }) (items_where_true by.entry.mask.now.bits.bits (lists_of (listview_spans array.now)))) }
     ensures valid { IfOk result (λ plan. valid_of plan.validity ≡ valid_of validity) }
 {
-    let offsets = filter_numbers(alloc, array.offsets(), mask, policy)?;
-    let sizes = filter_numbers(alloc, array.sizes(), mask, policy)?;
+    let offsets = filter_numbers(alloc, array.offsets(), by.mask, by.policy)?;
+    let sizes = filter_numbers(alloc, array.sizes(), by.mask, by.policy)?;
     Ok(ViewPlan {
         offsets,
         sizes,

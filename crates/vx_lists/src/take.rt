@@ -5,7 +5,7 @@ ghost use Rattle.std.specs.Option.{option_copied};
 ghost use Rattle.vx_mask.specs.Mask.{mask_bits};
 ghost use Rattle.vx_lists.specs.Lists.{AreOffsets, last_offset, row_count};
 ghost use Rattle.vx_lists.specs.Sums.{offsets_of};
-ghost use Rattle.vx_lists.specs.Takes.{IsTake, TakesLists, picked_length, picked_run, run_places, shown_by, shown_picks};
+ghost use Rattle.vx_lists.specs.Takes.{FitsOffsets, IsTake, TakesLists, picked_length, picked_run, run_places, shown_by, shown_picks};
 
 use std::alloc::Global;
 use vx_bits::{BitBuffer, NoMemory};
@@ -34,9 +34,7 @@ pub fn take_lists(
     picks: &Picks,
     present: &Mask,
 ) -> Result<ListTake, NoMemory>
-    requires offsets { AreOffsets offsets.now }
-    requires bound { picks.now.bound ≤ row_count offsets.now }
-    requires long { length (mask_bits present.now) ≡ length picks.now.picks }
+    requires { FitsOffsets offsets.now picks.now (mask_bits present.now) }
     ensures lists { IfOk result (λ take. TakesLists offsets.now
         (shown_picks (mask_bits present.now) picks.now.picks) take.offsets.items take.runs) }
     ensures sums { IfOk result (λ take. take.offsets.items ≡ offsets_of
@@ -58,9 +56,7 @@ pub(crate) fn taken_where(
     picks: &Picks,
     present: &Mask,
 ) -> Result<ListTake, NoMemory>
-    requires offsets { AreOffsets offsets.now }
-    requires bound { picks.now.bound ≤ row_count offsets.now }
-    requires long { length (mask_bits present.now) ≡ length picks.now.picks }
+    requires { FitsOffsets offsets.now picks.now (mask_bits present.now) }
     ensures { IfOk result (λ take. IsTake offsets.now
         (shown_picks (mask_bits present.now) picks.now.picks) take.offsets.items take.runs) }
 {

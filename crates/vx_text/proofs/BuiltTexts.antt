@@ -1,24 +1,25 @@
 -- One text more, and the column of those that are put out.
 use Rattle.std.proofs.Common.{◌≡◌, ℕ, zero, suc, ◌+◌, ◌-◌, ◌^◌, ◌<◌, ◌≤◌, Bool, true, false, List, [], ◌∷◌, ◌++◌, map, length, get_or, take, drop, slice_range, Option, None, refl, sym, ap, ap₂, subst, ◌∙◌, arith, length-append, length-drop}
-use Rattle.std.specs.Prelude.{pos, int_le, ◌==◌, nat_le, if◌then◌else◌, replicate}
+use Rattle.std.specs.Prelude.{IfOk, Result, Ok, Err, pos, int_le, ◌==◌, nat_le, if◌then◌else◌, replicate}
 use Rattle.std.proofs.lemmas.Bool.Decides.{nat_tests}
 use Rattle.std.proofs.lemmas.Int.{ints}
 use Rattle.std.proofs.lemmas.List.{length-map, drop_all, drop-append-le, take-append-le, take_all}
 use Rattle.vx_types.specs.PType.{is_signed}
 use Rattle.vx_types.specs.declared.ptype.PType.{PType}
 use Rattle.vx_take.specs.Picks.{at, item_at}
-use Rattle.vx_types.specs.TypeTree.{is_int_kind}
+use Rattle.vx_types.specs.TypeTree.{is_int_kind, primitive_kind}
 use Rattle.vx_types.specs.declared.text.TextKind.{TextKind}
 use Rattle.vx_model.specs.Numbers.{integer_by, integers_of}
 use Rattle.vx_model.specs.Records.{RecordParts}
 use Rattle.vx_model.specs.Valid.{Valid, non_nullable, is_fitting}
-use Rattle.vx_model.specs.VarBin.{is_never_null, row_count, varbin_fault}
+use Rattle.vx_model.specs.VarBin.{VarBinParts, is_never_null, row_count, varbin_fault, varbin_texts}
 use Rattle.vx_model.proofs.Texts.{length-lists_at}
 use Rattle.vx_model.specs.Text.{kept_texts}
 use Rattle.vx_text.proofs.CutOffsets.{sound-varbin}
 use Rattle.vx_positions.specs.Offsets.{ascend_within, are_offsets, offset_positions, lists_at}
 use Rattle.vx_text.specs.OffsetList.{OffsetList, first_type, greatest_offset, wide_type, with_offset}
-use Rattle.vx_text.specs.Building.{is_cut, type_for, AreTexts}
+use Rattle.vx_text.specs.Building.{is_cut, type_for, type_of, AreTexts}
+use Rattle.vx_text.specs.Left.{LeavesTexts}
 use Rattle.vx_text.proofs.Both.{first, rest, join}
 
 -- ---- offsets that cut so many bytes
@@ -195,3 +196,14 @@ pub alike_more : {X : Type 0} (i : ℕ) (x : X) → replicate (i + 1) x ≡ repl
 alike_more i x =
     let next : i + 1 ≡ suc i = omega arith in
     ap (λ k. replicate k x) next ∙ alike_suc i x
+
+-- ---- the column of texts that were put out
+
+pub texts_left : {E : Type 0} (r : Result VarBinParts E) (p : VarBinParts) (k : TextKind) (o : OffsetList) (bytes : List ℕ) (left : List (List ℕ)) (w : Valid) → k ≡ p.kind → AreTexts (type_of p.offsets.kind) o bytes left → IfOk r (λ a. a.kind ≡ k) → IfOk r (λ a. a.offsets.kind ≡ primitive_kind o.ptype) → IfOk r (λ a. a.bytes ≡ bytes) → IfOk r (λ a. (varbin_texts a).texts ≡ lists_at o.numbers bytes) → IfOk r (λ a. a.valid ≡ w) → IfOk r (LeavesTexts p left w)
+texts_left (Ok a) p k o bytes left w same put kind offsets stored texts valid = record {
+  kind = kind ∙ same;
+  offsets = offsets ∙ ap primitive_kind (put.ptype ∙ ap (λ (b : List ℕ). type_for (type_of p.offsets.kind) (length b)) (sym stored));
+  texts = texts ∙ put.texts;
+  valid = valid;
+}
+texts_left (Err e) p k o bytes left w same put kind offsets stored texts valid = tt

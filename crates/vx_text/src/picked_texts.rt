@@ -2,7 +2,6 @@
 ghost use Rattle.std.specs.Prelude.{◌≡◌, ◌+◌, ◌<◌, [], length, false, slice_index_or, true, if◌then◌else◌, IfOk, IfSome, None};
 ghost use Rattle.vx_bits.specs.Records.{records_of, width_of};
 ghost use Rattle.vx_types.specs.PType.{is_int, width};
-ghost use Rattle.vx_types.specs.TypeTree.{primitive_kind};
 ghost use Rattle.vx_mask.specs.Mask.{mask_bits};
 ghost use Rattle.vx_take.specs.Picks.{at, item_at};
 ghost use Rattle.vx_positions.specs.Offsets.{are_offsets, lists_at, offset_positions, record_numbers};
@@ -11,8 +10,9 @@ ghost use Rattle.vx_model.specs.Text.{kept_texts};
 ghost use Rattle.vx_model.specs.Valid.{is_fitting, present_bits};
 ghost use Rattle.vx_model.specs.VarBin.{are_integers, varbin_texts};
 ghost use Rattle.vx_column.specs.Validity.{valid_of};
-ghost use Rattle.vx_text.specs.Building.{type_for, type_of, AreTexts};
+ghost use Rattle.vx_text.specs.Building.{type_of, AreTexts};
 ghost use Rattle.vx_text.specs.Fits.{FitsTake};
+ghost use Rattle.vx_text.specs.Left.{LeavesTexts};
 
 use crate::reading::span_at;
 use crate::texts::Texts;
@@ -163,14 +163,8 @@ pub(crate) fn texts_in(
         (at [] (lists_at (offset_positions (integers_of offsets.now)) bytes.now)
         picks.now.picks))) }
 {
-    texts_of(
-        offsets.ptype(),
-        offsets.values(),
-        alloc,
-        bytes,
-        picks,
-        present,
-    )
+    let values = offsets.values();
+    texts_of(offsets.ptype(), values, alloc, bytes, picks, present)
 }
 
 /// The rows at the picks, in order, with their validity; the text of a null row is empty. Their
@@ -182,13 +176,9 @@ pub fn take_varbin_picks(
     validity: Validity,
 ) -> Result<VarBinArray, NoMemory>
     requires { FitsTake (length (varbin_texts array.now).texts) picks.now (valid_of validity) }
-    ensures kind { IfOk result (λ a. a.kind ≡ array.now.kind) }
-    ensures offsets { IfOk result (λ a. a.offsets.kind
-        ≡ primitive_kind (type_for (type_of array.now.offsets.kind) (length a.bytes))) }
-    ensures texts { IfOk result (λ a. (varbin_texts a).texts
-        ≡ kept_texts (present_bits (valid_of validity) (length picks.now.picks))
-        (at [] (varbin_texts array.now).texts picks.now.picks)) }
-    ensures valid { IfOk result (λ a. a.valid ≡ valid_of validity) }
+    ensures { IfOk result (LeavesTexts array.now
+        (kept_texts (present_bits (valid_of validity) (length picks.now.picks))
+        (at [] (varbin_texts array.now).texts picks.now.picks)) (valid_of validity)) }
 {
     let present = present_mask(alloc, &validity, picks.len())?;
     let offsets = array.offsets();

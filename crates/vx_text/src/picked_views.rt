@@ -6,11 +6,11 @@ ghost use Rattle.vx_take.specs.Picks.{at};
 ghost use Rattle.vx_positions.specs.Offsets.{are_offsets, offset_positions, record_numbers};
 ghost use Rattle.vx_model.specs.Numbers.{integers_of};
 ghost use Rattle.vx_model.specs.VarBin.{are_integers, row_count, varbin_texts};
-ghost use Rattle.vx_model.specs.VarBinView.{view_texts};
 ghost use Rattle.vx_column.specs.Validity.{valid_of};
 ghost use Rattle.vx_text.specs.LastOffset.{last_offset};
 ghost use Rattle.vx_text.specs.Views.{text_view};
 ghost use Rattle.vx_text.specs.Fits.{FitsTake};
+ghost use Rattle.vx_text.specs.Left.{LeavesViews};
 
 use crate::alike::one_buffer;
 use crate::reading::span_at;
@@ -123,11 +123,8 @@ pub fn take_views(
 ) -> Result<VarBinViewArray, NoMemory>
     requires near { last_offset array.now ≤ 2147483647 }
     requires fits { FitsTake (length (varbin_texts array.now).texts) picks.now (valid_of validity) }
-    ensures kind { IfOk result (λ a. a.kind ≡ array.now.kind) }
-    ensures buffers { IfOk result (λ a. a.buffers ≡ array.now.bytes ∷ []) }
-    ensures texts { IfOk result (λ a. (view_texts a).texts
-        ≡ at [] (varbin_texts array.now).texts picks.now.picks) }
-    ensures valid { IfOk result (λ a. a.valid ≡ valid_of validity) }
+    ensures { IfOk result (LeavesViews array.now.kind (array.now.bytes ∷ [])
+        (at [] (varbin_texts array.now).texts picks.now.picks) (valid_of validity)) }
 {
     // no pick is at or past the bound
     let _ = picks.bound();

@@ -1,16 +1,17 @@
 //! Layout `VarBinView`: other views of the same shared buffers.
-ghost use Rattle.std.specs.Prelude.{◌≡◌, [], length, slice_range, IfOk};
+ghost use Rattle.std.specs.Prelude.{[], length, slice_range, IfOk};
 ghost use Rattle.std.specs.List.{items_where_true};
 ghost use Rattle.vx_take.specs.Picks.{at};
 ghost use Rattle.vx_model.specs.VarBinView.{view_texts};
 ghost use Rattle.vx_column.specs.Validity.{valid_of};
 ghost use Rattle.vx_text.specs.Fits.{FitsFilter, FitsSlice, FitsTake};
+ghost use Rattle.vx_text.specs.Left.{LeavesViews};
 
+use crate::kept::KeptRows;
 use std::alloc::Global;
 use vx_bits::{Buffer, NoMemory};
 use vx_column::{BinaryView, Validity, VarBinViewArray};
 use vx_filter::filter_slice;
-use vx_mask::{MaskValues, Policy};
 use vx_take::{Picks, gather};
 
 /// The rows from `start` up to `end`, with their validity. It takes no memory.
@@ -21,31 +22,25 @@ pub fn slice_views(
     validity: Validity,
 ) -> VarBinViewArray
     requires { FitsSlice (length (view_texts array.now).texts) start end (valid_of validity) }
-    ensures kind { result.kind ≡ array.now.kind }
-    ensures buffers { result.buffers ≡ array.now.buffers }
-    ensures texts { (view_texts result).texts
-        ≡ slice_range (view_texts array.now).texts start end }
-    ensures valid { result.valid ≡ valid_of validity }
+    ensures { LeavesViews array.now.kind array.now.buffers
+        (slice_range (view_texts array.now).texts start end) (valid_of validity) result }
 {
     array.with_views(array.views().slice(start, end), validity)
 }
 
-/// The rows at the set positions of `mask`, in order, with their validity. `NoMemory` alone.
+/// The kept rows, in order, with their validity. `NoMemory` alone.
 pub fn filter_views(
     alloc: Global,
     array: &VarBinViewArray,
-    mask: &MaskValues,
-    policy: &Policy,
+    by: KeptRows<'_>,
     validity: Validity,
 ) -> Result<VarBinViewArray, NoMemory>
-    requires { FitsFilter (length (view_texts array.now).texts) mask.now (valid_of validity) }
-    ensures kind { IfOk result (λ a. a.kind ≡ array.now.kind) }
-    ensures buffers { IfOk result (λ a. a.buffers ≡ array.now.buffers) }
-    ensures texts { IfOk result (λ a. (view_texts a).texts
-        ≡ items_where_true mask.now.bits.bits (view_texts array.now).texts) }
-    ensures valid { IfOk result (λ a. a.valid ≡ valid_of validity) }
+    requires { FitsFilter (length (view_texts array.now).texts) by.mask.now (valid_of validity) }
+    ensures { IfOk result (LeavesViews array.now.kind array.now.buffers
+        (items_where_true by.entry.mask.now.bits.bits (view_texts array.now).texts)
+        (valid_of validity)) }
 {
-    let kept = filter_slice(alloc, array.views().as_slice(), mask, policy)?;
+    let kept = filter_slice(alloc, array.views().as_slice(), by.mask, by.policy)?;
     let views = Buffer::from_vec(alloc, kept)?;
     Ok(array.with_views(views, validity))
 }
@@ -59,11 +54,8 @@ pub fn gather_views(
     validity: Validity,
 ) -> Result<VarBinViewArray, NoMemory>
     requires { FitsTake (length (view_texts array.now).texts) picks.now (valid_of validity) }
-    ensures kind { IfOk result (λ a. a.kind ≡ array.now.kind) }
-    ensures buffers { IfOk result (λ a. a.buffers ≡ array.now.buffers) }
-    ensures texts { IfOk result (λ a. (view_texts a).texts
-        ≡ at [] (view_texts array.now).texts picks.now.picks) }
-    ensures valid { IfOk result (λ a. a.valid ≡ valid_of validity) }
+    ensures { IfOk result (LeavesViews array.now.kind array.now.buffers
+        (at [] (view_texts array.now).texts picks.now.picks) (valid_of validity)) }
 {
     let empty = BinaryView::make_view(&[], 0, 0);
     let taken = gather(alloc, array.views().as_slice(), picks, empty)?;

@@ -2,7 +2,8 @@
 use Rattle.std.proofs.Common.{◌≤◌, ◌∙◌, Bool, List, length, ap, subst, arith}
 use Rattle.vx_positions.specs.Offsets.{offset_positions}
 use Rattle.vx_model.specs.Numbers.{integers_of}
-use Rattle.vx_model.specs.Valid.{present_bits}
+use Rattle.vx_model.specs.Valid.{is_fitting, present_bits}
+use Rattle.vx_model.proofs.ShownRows.{length-present_bits}
 use Rattle.vx_model.proofs.Spans.{length-spans}
 use Rattle.vx_column.specs.Validity.{valid_of}
 use Rattle.vx_lists.specs.Lists.{last_offset, row_count}
@@ -11,10 +12,15 @@ use Rattle.vx_lists.proofs.MadeLists.{take_leaves}
 use Rattle.vx_lists.proofs.TakenLists.{rows_shown}
 use Rattle.vx_lists.proofs.list.taken_by.Goals as goal
 
-pub taken_where-requires-clause-bound : goal.taken_where-requires-clause-bound
-taken_where-requires-clause-bound c =
+pub taken_where-requires : goal.taken_where-requires
+taken_where-requires c =
     let positions = offset_positions (integers_of c.args.array.now.offsets) in
-    omega (arith, c.requires.bound, length-spans positions, ap length (c.as_slice.ensures.value ∙ c.in_ok-offsets.ensures.value))
+    let v = valid_of c.args.validity.now in
+    record {
+      offsets = rw c.as_slice.ensures.value c.in_ok-offsets.ensures.offsets;
+      bound = omega (arith, c.requires.bound, length-spans positions, ap length (c.as_slice.ensures.value ∙ c.in_ok-offsets.ensures.value));
+      long = ap length c.in_ok-present.ensures ∙ length-present_bits v c.len.result (ap (is_fitting v) c.len.ensures ∙ c.requires.fitting) ∙ c.len.ensures;
+    }
 
 pub returns-clause-left : goal.returns-clause-left
 returns-clause-left c =

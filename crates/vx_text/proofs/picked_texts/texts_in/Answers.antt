@@ -14,4 +14,4 @@ pub returns : goal.returns
 returns c =
     let b = c.args.bytes.now in let picks = c.args.picks.now.picks in let bits = mask_bits c.args.present.now in
     subst (λ (k : TypeKind). IfOk c.texts_of.result (λ t. AreTexts (type_of k) t.offsets t.bytes.items (kept_texts bits (at [] (lists_at (offset_positions (map (integer_by k) c.args.offsets.now.records)) b) picks)))) c.ptype.ensures
-    (subst (λ (rs : List (List ℕ)). IfOk c.texts_of.result (λ t. AreTexts c.ptype.result t.offsets t.bytes.items (kept_texts bits (at [] (lists_at (offset_positions (record_numbers c.ptype.result rs)) b) picks)))) c.values.ensures.records c.texts_of.ensures)
+    (subst (λ (rs : List (List ℕ)). IfOk c.texts_of.result (λ t. AreTexts c.ptype.result t.offsets t.bytes.items (kept_texts bits (at [] (lists_at (offset_positions (record_numbers c.ptype.result rs)) b) picks)))) c.values-values.ensures.records c.texts_of.ensures)

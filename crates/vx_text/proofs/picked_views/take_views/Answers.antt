@@ -39,22 +39,17 @@ of-requires c =
     let views = c.in_ok-views.ensures ∙ c.in_ok-taken.ensures ∙ ap₂ (λ (o : RecordParts) (t : List ℕ). map (text_view (offset_positions (integers_of o)) t) picks) c.offsets-offsets.ensures.value text in
     sound-taken p picks c.in_ok-views.views c.in_ok-buffers.buffers.items sound rows views (c.in_ok-buffers.ensures ∙ ap (λ t. t ∷ []) c.bytes-bytes.ensures.value) c.kind.result (valid_of c.args.validity) c.requires.fits.fitting
 
-pub returns-clause-kind : goal.returns-clause-kind
-returns-clause-kind c = ap (λ (q : ViewParts). q.kind) c.of.ensures ∙ c.kind.ensures
-
-pub returns-clause-buffers : goal.returns-clause-buffers
-returns-clause-buffers c =
-    ap (λ (q : ViewParts). q.buffers) c.of.ensures ∙ c.in_ok-buffers.ensures ∙ ap (λ t. t ∷ []) c.bytes-bytes.ensures.value
-
-pub returns-clause-texts : goal.returns-clause-texts
-returns-clause-texts c =
+pub returns : goal.returns
+returns c =
     let p = c.args.array.now in let picks = c.args.picks.now.picks in
     let sound = c.offsets-offsets.ensures.valid in
     let rows = picked_rows p picks c.bound.result sound (omega (arith, c.bound.ensures.value, c.requires.fits.bound)) c.bound.ensures.below in
     let text = c.as_slice.ensures ∙ c.bytes-bytes.ensures.value in
     let views = c.in_ok-views.ensures ∙ c.in_ok-taken.ensures ∙ ap₂ (λ (o : RecordParts) (t : List ℕ). map (text_view (offset_positions (integers_of o)) t) picks) c.offsets-offsets.ensures.value text in
-    ap (λ (q : ViewParts). map (view_text q.buffers) q.views) c.of.ensures
-    ∙ texts-taken p picks c.in_ok-views.views c.in_ok-buffers.buffers.items sound rows views (c.in_ok-buffers.ensures ∙ ap (λ t. t ∷ []) c.bytes-bytes.ensures.value)
-
-pub returns-clause-valid : goal.returns-clause-valid
-returns-clause-valid c = ap (λ (q : ViewParts). q.valid) c.of.ensures
+    record {
+      kind = ap (λ (q : ViewParts). q.kind) c.of.ensures ∙ c.kind.ensures;
+      buffers = ap (λ (q : ViewParts). q.buffers) c.of.ensures ∙ c.in_ok-buffers.ensures ∙ ap (λ t. t ∷ []) c.bytes-bytes.ensures.value;
+      texts = ap (λ (q : ViewParts). map (view_text q.buffers) q.views) c.of.ensures
+          ∙ texts-taken p picks c.in_ok-views.views c.in_ok-buffers.buffers.items sound rows views (c.in_ok-buffers.ensures ∙ ap (λ t. t ∷ []) c.bytes-bytes.ensures.value);
+      valid = ap (λ (q : ViewParts). q.valid) c.of.ensures;
+    }

@@ -16,31 +16,27 @@ filter_slice-requires c =
 
 pub with_views-requires-clause-sound : goal.with_views-requires-clause-sound
 with_views-requires-clause-sound c =
-    let p = c.args.array.now in let mask = c.args.mask.now.bits.bits in
+    let p = c.args.array.now in let mask = c.args.by.mask.now.bits.bits in
     rw (c.in_ok-views.ensures ∙ c.in_ok-kept.ensures ∙ ap (items_where_true mask) (c.as_slice.ensures ∙ c.views.ensures.value))
     (all-kept (is_view p.buffers) mask p.views (sound-views p c.views.ensures.valid))
 
 pub with_views-requires-clause-fitting : goal.with_views-requires-clause-fitting
 with_views-requires-clause-fitting c =
-    let p = c.args.array.now in let mask = c.args.mask.now.bits.bits in
+    let p = c.args.array.now in let mask = c.args.by.mask.now.bits.bits in
     let long : length mask ≡ length p.views = c.requires.long ∙ texts-views p in
     rw (c.in_ok-views.ensures ∙ c.in_ok-kept.ensures ∙ ap (items_where_true mask) (c.as_slice.ensures ∙ c.views.ensures.value))
     (ap (is_fitting (valid_of c.args.validity)) (length-items_where_true mask p.views long) ∙ c.requires.fitting)
 
-pub returns-clause-kind : goal.returns-clause-kind
-returns-clause-kind c = ap (λ (q : ViewParts). q.kind) c.with_views.ensures
-
-pub returns-clause-buffers : goal.returns-clause-buffers
-returns-clause-buffers c = ap (λ (q : ViewParts). q.buffers) c.with_views.ensures
-
-pub returns-clause-texts : goal.returns-clause-texts
-returns-clause-texts c =
-    let p = c.args.array.now in let mask = c.args.mask.now.bits.bits in
-    ap (λ (q : ViewParts). (view_texts q).texts)
-    (c.with_views.ensures
-    ∙ ap (λ l. views_with p l (valid_of c.args.validity))
-    (c.in_ok-views.ensures ∙ c.in_ok-kept.ensures ∙ ap (items_where_true mask) (c.as_slice.ensures ∙ c.views.ensures.value)))
-    ∙ texts-kept p.buffers mask p.views
-
-pub returns-clause-valid : goal.returns-clause-valid
-returns-clause-valid c = ap (λ (q : ViewParts). q.valid) c.with_views.ensures
+pub returns : goal.returns
+returns c =
+    let p = c.args.array.now in let mask = c.args.by.mask.now.bits.bits in
+    record {
+      kind = ap (λ (q : ViewParts). q.kind) c.with_views.ensures;
+      buffers = ap (λ (q : ViewParts). q.buffers) c.with_views.ensures;
+      texts = ap (λ (q : ViewParts). (view_texts q).texts)
+          (c.with_views.ensures
+          ∙ ap (λ l. views_with p l (valid_of c.args.validity))
+          (c.in_ok-views.ensures ∙ c.in_ok-kept.ensures ∙ ap (items_where_true mask) (c.as_slice.ensures ∙ c.views.ensures.value)))
+          ∙ texts-kept p.buffers mask p.views;
+      valid = ap (λ (q : ViewParts). q.valid) c.with_views.ensures;
+    }

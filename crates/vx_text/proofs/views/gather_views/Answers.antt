@@ -27,20 +27,16 @@ with_views-requires-clause-fitting c =
     rw (c.in_ok-views.ensures ∙ c.in_ok-taken.ensures ∙ ap₂ (λ (x : BinaryView) (l : List BinaryView). at x l picks) c.make_view-empty.ensures (c.as_slice.ensures ∙ c.views.ensures.value))
     (ap (is_fitting (valid_of c.args.validity)) (length-at empty_view p.views picks) ∙ c.requires.fitting)
 
-pub returns-clause-kind : goal.returns-clause-kind
-returns-clause-kind c = ap (λ (q : ViewParts). q.kind) c.with_views.ensures
-
-pub returns-clause-buffers : goal.returns-clause-buffers
-returns-clause-buffers c = ap (λ (q : ViewParts). q.buffers) c.with_views.ensures
-
-pub returns-clause-texts : goal.returns-clause-texts
-returns-clause-texts c =
+pub returns : goal.returns
+returns c =
     let p = c.args.array.now in let picks = c.args.picks.now.picks in
-    ap (λ (q : ViewParts). (view_texts q).texts)
-    (c.with_views.ensures
-    ∙ ap (λ l. views_with p l (valid_of c.args.validity))
-    (c.in_ok-views.ensures ∙ c.in_ok-taken.ensures ∙ ap₂ (λ (x : BinaryView) (l : List BinaryView). at x l picks) c.make_view-empty.ensures (c.as_slice.ensures ∙ c.views.ensures.value)))
-    ∙ texts-at p.buffers p.views picks
-
-pub returns-clause-valid : goal.returns-clause-valid
-returns-clause-valid c = ap (λ (q : ViewParts). q.valid) c.with_views.ensures
+    record {
+      kind = ap (λ (q : ViewParts). q.kind) c.with_views.ensures;
+      buffers = ap (λ (q : ViewParts). q.buffers) c.with_views.ensures;
+      texts = ap (λ (q : ViewParts). (view_texts q).texts)
+          (c.with_views.ensures
+          ∙ ap (λ l. views_with p l (valid_of c.args.validity))
+          (c.in_ok-views.ensures ∙ c.in_ok-taken.ensures ∙ ap₂ (λ (x : BinaryView) (l : List BinaryView). at x l picks) c.make_view-empty.ensures (c.as_slice.ensures ∙ c.views.ensures.value)))
+          ∙ texts-at p.buffers p.views picks;
+      valid = ap (λ (q : ViewParts). q.valid) c.with_views.ensures;
+    }

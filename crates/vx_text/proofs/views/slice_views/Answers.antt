@@ -26,19 +26,15 @@ with_views-requires-clause-fitting c =
     rw (c.slice.ensures ∙ ap (λ l. slice_range l s e) c.views.ensures.value)
     (ap (is_fitting (valid_of c.args.validity)) (length-slice_range p.views s e c.requires.ordered within) ∙ c.requires.fitting)
 
-pub returns-clause-kind : goal.returns-clause-kind
-returns-clause-kind c = ap (λ (q : ViewParts). q.kind) c.with_views.ensures
-
-pub returns-clause-buffers : goal.returns-clause-buffers
-returns-clause-buffers c = ap (λ (q : ViewParts). q.buffers) c.with_views.ensures
-
-pub returns-clause-texts : goal.returns-clause-texts
-returns-clause-texts c =
+pub returns : goal.returns
+returns c =
     let p = c.args.array.now in let s = c.args.start in let e = c.args.end in
-    ap (λ (q : ViewParts). (view_texts q).texts)
-    (c.with_views.ensures
-    ∙ ap (λ l. views_with p l (valid_of c.args.validity)) (c.slice.ensures ∙ ap (λ l. slice_range l s e) c.views.ensures.value))
-    ∙ texts-slice p.buffers p.views s e
-
-pub returns-clause-valid : goal.returns-clause-valid
-returns-clause-valid c = ap (λ (q : ViewParts). q.valid) c.with_views.ensures
+    record {
+      kind = ap (λ (q : ViewParts). q.kind) c.with_views.ensures;
+      buffers = ap (λ (q : ViewParts). q.buffers) c.with_views.ensures;
+      texts = ap (λ (q : ViewParts). (view_texts q).texts)
+          (c.with_views.ensures
+          ∙ ap (λ l. views_with p l (valid_of c.args.validity)) (c.slice.ensures ∙ ap (λ l. slice_range l s e) c.views.ensures.value))
+          ∙ texts-slice p.buffers p.views s e;
+      valid = ap (λ (q : ViewParts). q.valid) c.with_views.ensures;
+    }
