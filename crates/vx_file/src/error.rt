@@ -1,5 +1,6 @@
 //! Why a file or its rows can't be had.
 
+use std::alloc::AllocError;
 use vx_bits::NoMemory;
 use vx_select::{Cause, SelectError};
 
@@ -33,6 +34,17 @@ impl From<NoMemory> for FileError {
     ghost from_gives = { λ _ e. e ≡ OutOfMemory };
 
     fn from(_: NoMemory) -> FileError {
+        FileError::NoMemory
+    }
+}
+
+impl From<AllocError> for FileError {
+    ghost use Rattle.std.specs.Prelude.{◌≡◌};
+    ghost use Rattle.vx_file.specs.declared.error.FileError.TheVariants.{NoMemory as OutOfMemory};
+
+    ghost from_gives = { λ _ e. e ≡ OutOfMemory };
+
+    fn from(_: AllocError) -> FileError {
         FileError::NoMemory
     }
 }

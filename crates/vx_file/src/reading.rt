@@ -14,7 +14,6 @@ use crate::error::FileError;
 use crate::held::Held;
 use crate::touching::touched_blocks;
 use std::alloc::Global;
-use vx_bits::NoMemory;
 use vx_packed::read_chunk;
 use vx_take::Picks;
 
@@ -97,7 +96,7 @@ pub(crate) fn read_touched<R: BlockReader>(
 {
     let marks = touched_blocks(alloc, picks)?;
     let mut numbers = Vec::new(alloc);
-    let mut starts = Vec::with_capacity(alloc, marks.len()).map_err(|_| NoMemory)?;
+    let mut starts = Vec::with_capacity(alloc, marks.len())?;
     let mut buffer = [0; BLOCK_LEN];
     let flags = marks.as_slice();
     for k in 0..flags.len() {
