@@ -6,12 +6,11 @@ use Rattle.vx_steps.specs.Answer.{answer_rows}
 use Rattle.vx_steps.specs.Compose.{IsUnbroken}
 use Rattle.vx_steps.specs.Step.{step_value}
 use Rattle.vx_steps.specs.Walk.{walk}
-use Rattle.vx_steps.specs.declared.cause.SelectError.TheVariants.{NoMemory}
 use Rattle.vx_table.specs.Page.{IsPage}
 use Rattle.vx_table.specs.Table.{TableValue, table_fault}
 use Rattle.vx_table.proofs.Tables.{same_count}
 use Rattle.vx_rows.specs.Tables.{fields_table}
-use Rattle.vx_rows.proofs.Paged.{answer_err, checked, page_broken, page_sound, paged}
+use Rattle.vx_rows.proofs.Paged.{answer_err, checked, page_broken, page_sound, paged, wants_memory}
 use Rattle.vx_rows.proofs.pages.page_answer.Goals as goal
 
 pub returns-in_err-rows : goal.returns-in_err-rows
@@ -28,24 +27,18 @@ returns-then-not-is_printable c =
 
 pub returns-in_err-table : goal.returns-in_err-table
 returns-in_err-table c =
-    let s = c.args.structs.now in let steps = map step_value c.args.steps.now in
-    let fine : IsUnbroken (walk s.len steps) = checked (walk s.len steps) c.in_ok-rows.rows (rw c.len.ensures at c.in_ok-rows.ensures) in
-    answer_err c.from_residual-in_err-table.result _ NoMemory c.from_residual-in_err-table.ensures.1
-    (page_sound s c.requires.table.sound c.requires.table.valid steps c.args.number c.args.len fine)
+    wants_memory c.args.structs.now c.requires.table.sound c.requires.table.valid (map step_value c.args.steps.now) c.args.number c.args.len c.in_ok-rows.rows
+    (rw c.len.ensures at c.in_ok-rows.ensures) c.from_residual-in_err-table.result c.from_residual-in_err-table.ensures.1
 
 pub returns-in_err-rows-2 : goal.returns-in_err-rows-2
 returns-in_err-rows-2 c =
-    let s = c.args.structs.now in let steps = map step_value c.args.steps.now in
-    let fine : IsUnbroken (walk s.len steps) = checked (walk s.len steps) c.in_ok-rows.rows (rw c.len.ensures at c.in_ok-rows.ensures) in
-    answer_err c.from_residual-in_err-rows-2.result _ NoMemory c.from_residual-in_err-rows-2.ensures.1
-    (page_sound s c.requires.table.sound c.requires.table.valid steps c.args.number c.args.len fine)
+    wants_memory c.args.structs.now c.requires.table.sound c.requires.table.valid (map step_value c.args.steps.now) c.args.number c.args.len c.in_ok-rows.rows
+    (rw c.len.ensures at c.in_ok-rows.ensures) c.from_residual-in_err-rows-2.result c.from_residual-in_err-rows-2.ensures.1
 
 pub returns-in_err-structs_of : goal.returns-in_err-structs_of
 returns-in_err-structs_of c =
-    let s = c.args.structs.now in let steps = map step_value c.args.steps.now in
-    let fine : IsUnbroken (walk s.len steps) = checked (walk s.len steps) c.in_ok-rows.rows (rw c.len.ensures at c.in_ok-rows.ensures) in
-    answer_err c.from_residual-in_err-structs_of.result _ NoMemory c.from_residual-in_err-structs_of.ensures.1
-    (page_sound s c.requires.table.sound c.requires.table.valid steps c.args.number c.args.len fine)
+    wants_memory c.args.structs.now c.requires.table.sound c.requires.table.valid (map step_value c.args.steps.now) c.args.number c.args.len c.in_ok-rows.rows
+    (rw c.len.ensures at c.in_ok-rows.ensures) c.from_residual-in_err-structs_of.result c.from_residual-in_err-structs_of.ensures.1
 
 pub returns : goal.returns
 returns c =
