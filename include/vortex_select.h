@@ -2,7 +2,8 @@
  * vortex_program with libvortex_rows_c.a and bindings/c/memory.c.
  *
  * Each call answers a status and a number. A call whose status is not VORTEX_DONE is refused and
- * writes nothing; the number is 0 where a function does not say what it is.
+ * writes nothing; its number means nothing but where VORTEX_ROOM or VORTEX_INDEX says what it is.
+ * vortex_program has statuses of its own, and says what each means.
  *
  * Each list is handed in as a pointer and its number of items. The caller owes, and nothing tests:
  * the pointer is aligned for the items and leads to so many of them, written ones where the list
