@@ -5,7 +5,7 @@ use Rattle.vx_bits.specs.BitBuffer.{true_count_of}
 use Rattle.vx_bits.specs.Words.{word_at, word_count}
 use Rattle.vx_filter.specs.Compact.{bits_of_words}
 use Rattle.vx_take.specs.Picks.{at}
-use Rattle.vortex_c.specs.Takes.{IsFirstPast, pick_at, picks_at, valid_fault}
+use Rattle.vortex_c.specs.Takes.{IsFirstPast, IsPast, pick_at, picks_at, valid_fault}
 
 -- so many bits of the words from bit `offset` on
 abbrev pub bits_at : List ℕ → ℕ → ℕ → List Bool
@@ -76,6 +76,7 @@ pub record AreBitsTaken (src : List ℕ) (src_at len : ℕ) (indices valid old n
       → status ≡ bit_take_fault src src_at len (length indices) valid (length old)
   pub fits : bit_take_fault src src_at len (length indices) valid (length old) ≡ 0
       → (status ≡ 0) ⊎ (status ≡ 4)
+  pub inside : status ≡ 0 → (k : ℕ) → IsPast len indices valid k → ⊥
   pub past : status ≡ 4 → IsFirstPast len indices valid value
   pub count : (status ≡ 0) ⊎ (status ≡ 3) → value ≡ length indices
   pub bits : status ≡ 0 → new

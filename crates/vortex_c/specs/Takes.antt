@@ -46,6 +46,7 @@ pub record IsTaken {X : Type 0} (fill : X) (src : List X) (indices valid : List 
   pub fault : take_fault (length indices) valid (length old) ≢ 0
       → status ≡ take_fault (length indices) valid (length old)
   pub fits : take_fault (length indices) valid (length old) ≡ 0 → (status ≡ 0) ⊎ (status ≡ 4)
+  pub inside : status ≡ 0 → (k : ℕ) → IsPast (length src) indices valid k → ⊥
   pub past : status ≡ 4 → IsFirstPast (length src) indices valid value
   pub count : (status ≡ 0) ⊎ (status ≡ 3) → value ≡ length indices
   pub items : status ≡ 0 → new ≡ at fill src (picks_at indices valid) ++ drop value old

@@ -21,6 +21,7 @@ returns-in-None g c =
     record {
       fault = λ some. absurd (some (sym c.fault_of_take-fault.ensures ∙ c.if-fault-ne-DONE.false));
       fits = λ _. inl refl;
+      inside = λ _. c.in-None.ensures;
       past = λ e. absurd (omega (arith, e));
       count = λ _. refl;
       items = λ _. subst (λ n. new ≡ front_at fill src indices valid n ++ drop n old) all (front_whole fill src indices valid old new count front);
