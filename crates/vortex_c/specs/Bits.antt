@@ -52,6 +52,7 @@ pub record AreBitsFiltered (src : List ℕ) (src_at : ℕ) (mask : List ℕ) (ma
     (old new : List ℕ) (status value : ℕ) : Type 0 where
   pub fault : status ≡ bit_filter_fault src src_at mask mask_at rows (length old)
   pub count : (status ≡ 0) ⊎ (status ≡ 3) → value ≡ true_count_of (bits_at mask mask_at rows)
+  pub untold : status ≡ 1 → value ≡ 0
   pub bits : status ≡ 0 → new
       ≡ words_of (items_where_true (bits_at mask mask_at rows) (bits_at src src_at rows))
       ++ drop (word_count value) old
@@ -79,6 +80,7 @@ pub record AreBitsTaken (src : List ℕ) (src_at len : ℕ) (indices valid old n
   pub inside : status ≡ 0 → (k : ℕ) → IsPast len indices valid k → ⊥
   pub past : status ≡ 4 → IsFirstPast len indices valid value
   pub count : (status ≡ 0) ⊎ (status ≡ 3) → value ≡ length indices
+  pub untold : (status ≡ 1) ⊎ (status ≡ 2) → value ≡ 0
   pub bits : status ≡ 0 → new
       ≡ words_of (at false (bits_at src src_at len) (picks_at indices valid))
       ++ drop (word_count value) old

@@ -1,5 +1,5 @@
 -- What a filter from outside answers, and what it leaves.
-use Rattle.std.specs.Prelude.{◌≡◌, ◌≢◌, ℕ, ◌+◌, ◌==◌, List, ◌++◌, Some, length, map, take, drop, if◌then◌else◌, nat_lt, slice_get}
+use Rattle.std.specs.Prelude.{◌≡◌, ◌≢◌, ◌⊎◌, ℕ, ◌+◌, ◌==◌, List, ◌++◌, Some, length, map, take, drop, if◌then◌else◌, nat_lt, slice_get}
 use Rattle.std.specs.List.{items_where_true}
 use Rattle.vx_bits.specs.BitBuffer.{true_count_of}
 use Rattle.vx_bits.specs.Words.{word_bits}
@@ -21,6 +21,7 @@ pub record IsFiltered {X : Type 0} (src : List X) (words : List ℕ) (old new : 
     (status value : ℕ) : Type 0 where
   pub fault : status ≡ filter_fault (length src) words (length old)
   pub count : mask_fault (length src) words ≡ 0 → value ≡ count_of words
+  pub untold : (status ≡ 1) ⊎ (status ≡ 2) → value ≡ 0
   pub items : status ≡ 0 → new ≡ items_where_true (bits_of_words words) src ++ drop value old
   pub refused : status ≢ 0 → new ≡ old
 
@@ -28,6 +29,7 @@ pub record IsFiltered {X : Type 0} (src : List X) (words : List ℕ) (old new : 
 pub record IsKept {X : Type 0} (words : List ℕ) (old new : List X) (status value : ℕ) : Type 0 where
   pub fault : status ≡ mask_fault (length old) words
   pub count : status ≡ 0 → value ≡ count_of words
+  pub untold : status ≢ 0 → value ≡ 0
   pub items : status ≡ 0 → take value new ≡ items_where_true (bits_of_words words) old
   pub refused : status ≢ 0 → new ≡ old
 

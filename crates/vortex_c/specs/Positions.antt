@@ -1,5 +1,5 @@
 -- What is told of a mask from outside.
-use Rattle.std.specs.Prelude.{◌≡◌, ◌≢◌, ℕ, ◌==◌, List, ◌++◌, take, drop, length, if◌then◌else◌, nat_lt, nat_le}
+use Rattle.std.specs.Prelude.{◌≡◌, ◌≢◌, ◌⊎◌, ℕ, ◌==◌, List, ◌++◌, take, drop, length, if◌then◌else◌, nat_lt, nat_le}
 use Rattle.vx_bits.specs.BitBuffer.{true_count_of}
 use Rattle.vx_filter.specs.Compact.{bits_of_words}
 use Rattle.vx_mask.specs.Positions.{rank_of, set_of}
@@ -11,6 +11,7 @@ use Rattle.vortex_c.specs.Masks.{count_of, mask_fault}
 pub record AreListed (rows : ℕ) (words old new : List ℕ) (status value : ℕ) : Type 0 where
   pub fault : status ≡ filter_fault rows words (length old)
   pub count : mask_fault rows words ≡ 0 → value ≡ count_of words
+  pub untold : (status ≡ 1) ⊎ (status ≡ 2) → value ≡ 0
   pub positions : status ≡ 0 → new ≡ set_of (bits_of_words words) ++ drop value old
   pub refused : status ≢ 0 → new ≡ old
 
@@ -26,6 +27,7 @@ pub record IsRanked (rows : ℕ) (words : List ℕ) (k status value : ℕ) : Typ
   pub fault : status ≡ rank_fault rows words k
   pub position : status ≡ 0 → value ≡ rank_of (bits_of_words words) k
   pub count : status ≡ 4 → value ≡ count_of words
+  pub untold : (status ≡ 1) ⊎ (status ≡ 2) → value ≡ 0
 
 -- why no row is at p: the mask's fault, else 4 where p is past the rows, else 0
 abbrev pub place_fault : ℕ → List ℕ → ℕ → ℕ
@@ -38,3 +40,4 @@ place_fault rows words p =
 pub record IsCounted (rows : ℕ) (words : List ℕ) (p status value : ℕ) : Type 0 where
   pub fault : status ≡ place_fault rows words p
   pub count : status ≡ 0 → value ≡ true_count_of (take p (bits_of_words words))
+  pub untold : status ≢ 0 → value ≡ 0

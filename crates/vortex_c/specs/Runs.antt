@@ -1,5 +1,5 @@
 -- The runs of a mask, told from outside.
-use Rattle.std.specs.Prelude.{◌≡◌, ◌≢◌, ℕ, ◌==◌, ◌&&◌, Bool, not, Option, None, Some, List, [], ◌∷◌, ◌++◌, length, map, take, drop, if◌then◌else◌, nat_lt}
+use Rattle.std.specs.Prelude.{◌≡◌, ◌≢◌, ◌⊎◌, ℕ, ◌==◌, ◌&&◌, Bool, not, Option, None, Some, List, [], ◌∷◌, ◌++◌, length, map, take, drop, if◌then◌else◌, nat_lt}
 use Rattle.vx_filter.specs.Compact.{bits_of_words}
 use Rattle.vx_mask.specs.Positions.{maximal_runs}
 use Rattle.vortex_c.specs.declared.runs.Run.{Run}
@@ -27,6 +27,7 @@ pub record AreRunsListed (rows : ℕ) (words : List ℕ) (old new : List Run) (s
     : Type 0 where
   pub fault : status ≡ run_fault rows words (length old)
   pub count : mask_fault rows words ≡ 0 → value ≡ length (maximal_runs (rows_of words rows))
+  pub untold : (status ≡ 1) ⊎ (status ≡ 2) → value ≡ 0
   pub runs : status ≡ 0 → new
       ≡ map run_of (maximal_runs (rows_of words rows)) ++ drop value old
   pub refused : status ≢ 0 → new ≡ old

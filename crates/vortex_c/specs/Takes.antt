@@ -49,6 +49,7 @@ pub record IsTaken {X : Type 0} (fill : X) (src : List X) (indices valid : List 
   pub inside : status ≡ 0 → (k : ℕ) → IsPast (length src) indices valid k → ⊥
   pub past : status ≡ 4 → IsFirstPast (length src) indices valid value
   pub count : (status ≡ 0) ⊎ (status ≡ 3) → value ≡ length indices
+  pub untold : (status ≡ 1) ⊎ (status ≡ 2) → value ≡ 0
   pub items : status ≡ 0 → new ≡ at fill src (picks_at indices valid) ++ drop value old
   pub refused : status ≢ 0 → new ≡ old
 
@@ -72,6 +73,7 @@ pub record IsFrontTaken {X : Type 0} (fill : X) (src : List X) (indices valid : 
     (old new : List X) (status value : ℕ) : Type 0 where
   pub fault : status ≡ take_fault (length indices) valid (length old)
   pub room : status ≡ 3 → value ≡ length indices
+  pub untold : (status ≡ 1) ⊎ (status ≡ 2) → value ≡ 0
   pub within : status ≡ 0 → value ≤ length indices
   pub inside : status ≡ 0 → (k : ℕ) → k < value → IsPast (length src) indices valid k → ⊥
   pub past : status ≡ 0 → value < length indices → IsPast (length src) indices valid value

@@ -1,5 +1,5 @@
 //! What each call answers.
-ghost use Rattle.std.specs.Prelude.{◌≡◌};
+ghost use Rattle.std.specs.Prelude.{◌≡◌, ◌≢◌};
 
 /// The call was done.
 pub(crate) const DONE: u64 = 0;
@@ -28,7 +28,18 @@ impl Answer {
     // A refusal that tells no number.
     pub(crate) fn refused(status: u64) -> Answer
         ensures status { result.status ≡ status }
+        ensures value { result.value ≡ 0 }
     {
         Answer { status, value: 0 }
+    }
+
+    // A refusal that tells what the output has to hold, where it is too small, and else no number.
+    pub(crate) fn refused_for(status: u64, wanted: u64) -> Answer
+        ensures status { result.status ≡ status }
+        ensures room { status ≡ 3 → result.value ≡ wanted }
+        ensures untold { status ≢ 3 → result.value ≡ 0 }
+    {
+        let value = if status == ROOM { wanted } else { 0 };
+        Answer { status, value }
     }
 }

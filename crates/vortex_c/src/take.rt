@@ -105,10 +105,7 @@ fn take<T: Copy>(src: &[T], indices: &[u64], valid: &[u64], fill: T, dst: &mut [
     let value = indices.len() as u64;
     let fault = fault_of_take(indices.len(), valid, dst.len());
     if fault != DONE {
-        return Answer {
-            status: fault,
-            value,
-        };
+        return Answer::refused_for(fault, value);
     }
     match first_past(indices, valid, src.len()) {
         Some(k) => Answer {

@@ -202,10 +202,7 @@ pub extern "C" fn vortex_take_bits(
     let value = indices.len() as u64;
     let fault = fault_of(src, src_at, len, indices.len(), valid, dst.len());
     if fault != DONE {
-        return Answer {
-            status: fault,
-            value,
-        };
+        return Answer::refused_for(fault, value);
     }
     if let Some(k) = first_past(indices, valid, len) {
         return Answer {

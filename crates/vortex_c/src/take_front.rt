@@ -14,10 +14,7 @@ fn take_front<T: Copy>(src: &[T], indices: &[u64], valid: &[u64], fill: T, dst: 
 {
     let fault = fault_of_take(indices.len(), valid, dst.len());
     if fault != DONE {
-        return Answer {
-            status: fault,
-            value: indices.len() as u64,
-        };
+        return Answer::refused_for(fault, indices.len() as u64);
     }
     let count = gather(src, indices, valid, fill, dst);
     Answer {

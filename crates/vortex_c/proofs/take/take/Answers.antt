@@ -24,6 +24,7 @@ returns-in-None g c =
       inside = λ _. c.in-None.ensures;
       past = λ e. absurd (omega (arith, e));
       count = λ _. refl;
+      untold = λ is. absurd (elim is [ inl e ↦ omega (arith, e) | inr e ↦ omega (arith, e) ]);
       items = λ _. subst (λ n. new ≡ front_at fill src indices valid n ++ drop n old) all (front_whole fill src indices valid old new count front);
       refused = λ no. absurd (no refl);
     }
