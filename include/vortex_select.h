@@ -2,8 +2,8 @@
  * vortex_program with libvortex_rows_c.a and bindings/c/memory.c.
  *
  * Each call answers a status and a number. A call whose status is not VORTEX_DONE is refused and
- * writes nothing; its number means nothing but where VORTEX_ROOM or VORTEX_INDEX says what it is.
- * vortex_program has statuses of its own, and says what each means.
+ * writes nothing; its number is 0 but where VORTEX_ROOM or VORTEX_INDEX says what it is.
+ * vortex_program has statuses and numbers of its own, and says what each means.
  *
  * Each list is handed in as a pointer and its number of items. The caller owes, and nothing tests:
  * the pointer is aligned for the items and leads to so many of them, written ones where the list
@@ -197,7 +197,8 @@ enum {
  * with the bytes.
  *
  * At every other status nothing is written. VORTEX_PROGRAM_ROOM: the number is how many bytes the
- * text has. It takes memory, of the C library where memory.c is linked, and gives all of it back. */
+ * text has; at the others it means nothing. The call takes memory, of the C library where memory.c
+ * is linked, and gives all of it back. */
 vortex_answer vortex_program(const uint8_t *words, size_t words_len, const uint8_t *document,
     size_t document_len, uint8_t *dst, size_t dst_len);
 

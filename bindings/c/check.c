@@ -44,12 +44,12 @@ static void filters(void) {
     answer = vortex_filter_4(four, 4, odd, 1, NULL, 0);
     expect(is(answer, VORTEX_ROOM, 2), "a filter into no room");
     answer = vortex_filter_4(four, 3, odd, 1, dst, 4);
-    expect(answer.status == VORTEX_BITS_PAST && is_untouched(), "a bit past the items");
+    expect(is(answer, VORTEX_BITS_PAST, 0) && is_untouched(), "a bit past the items");
     const uint64_t two[2] = {10, 0};
     answer = vortex_filter_4(four, 4, two, 2, dst, 4);
-    expect(answer.status == VORTEX_LENGTHS && is_untouched(), "a mask with a word too many");
+    expect(is(answer, VORTEX_LENGTHS, 0) && is_untouched(), "a mask with a word too many");
     answer = vortex_filter_4(four, 4, NULL, 0, dst, 4);
-    expect(answer.status == VORTEX_LENGTHS && is_untouched(), "a mask of no words");
+    expect(is(answer, VORTEX_LENGTHS, 0) && is_untouched(), "a mask of no words");
     answer = vortex_filter_4(NULL, 0, NULL, 0, NULL, 0);
     expect(is(answer, VORTEX_DONE, 0), "a filter of nothing");
 }
@@ -57,7 +57,7 @@ static void filters(void) {
 static void filters_in_place(void) {
     uint32_t values[4] = {10, 20, 30, 40};
     vortex_answer answer = vortex_filter_in_place_4(values, 3, odd, 1);
-    expect(answer.status == VORTEX_BITS_PAST, "in place, a bit past the items");
+    expect(is(answer, VORTEX_BITS_PAST, 0), "in place, a bit past the items");
     expect(memcmp(values, four, sizeof four) == 0, "values that a refusal leaves");
     answer = vortex_filter_in_place_4(values, 4, odd, 1);
     expect(is(answer, VORTEX_DONE, 2) && values[0] == 20 && values[1] == 40, "in place");
@@ -77,10 +77,10 @@ static void takes(void) {
     answer = vortex_take_4(four, 4, indices, 3, valid, 1, dst, 2);
     expect(is(answer, VORTEX_ROOM, 3) && is_untouched(), "a take into too little room");
     answer = vortex_take_4(four, 4, indices, 3, odd, 1, dst, 4);
-    expect(answer.status == VORTEX_BITS_PAST && is_untouched(), "a bit past the indices");
+    expect(is(answer, VORTEX_BITS_PAST, 0) && is_untouched(), "a bit past the indices");
     const uint64_t two[2] = {5, 0};
     answer = vortex_take_4(four, 4, indices, 3, two, 2, dst, 4);
-    expect(answer.status == VORTEX_LENGTHS && is_untouched(), "validity with a word too many");
+    expect(is(answer, VORTEX_LENGTHS, 0) && is_untouched(), "validity with a word too many");
     answer = vortex_take_4(four, 4, indices, 3, valid, 1, dst, 4);
     expect(is(answer, VORTEX_DONE, 3), "a take with a null");
     expect(dst[0] == 40 && dst[1] == 0 && dst[2] == 10 && dst[3] == 0xabababab, "what it gives");
@@ -95,7 +95,7 @@ static void fronts(void) {
     vortex_answer answer = vortex_take_front_4(four, 4, indices, 6, NULL, 0, out, 5);
     expect(is(answer, VORTEX_ROOM, 6) && out[0] == 0xabababab, "a front into too little room");
     answer = vortex_take_front_4(four, 4, indices, 4, valid, 1, out, 6);
-    expect(answer.status == VORTEX_BITS_PAST && out[0] == 0xabababab, "a front, a bit past");
+    expect(is(answer, VORTEX_BITS_PAST, 0) && out[0] == 0xabababab, "a front, a bit past");
     answer = vortex_take_front_4(four, 4, most, 1, NULL, 0, out, 6);
     expect(is(answer, VORTEX_DONE, 0) && out[0] == 0xabababab, "a front of nothing");
     answer = vortex_take_front_4(four, 4, indices, 6, NULL, 0, out, 6);
@@ -114,11 +114,11 @@ static void bit_filters(void) {
     vortex_answer answer = vortex_filter_bits(ten_bits, 2, 60, odd, 1, 0, 4, bits, 0);
     expect(is(answer, VORTEX_ROOM, 2) && bits[0] == 7, "bits into no room");
     answer = vortex_filter_bits(ten_bits, 2, 60, odd, 1, 0, 69, bits, 2);
-    expect(answer.status == VORTEX_LENGTHS && bits[0] == 7, "more bits than there are");
+    expect(is(answer, VORTEX_LENGTHS, 0) && bits[0] == 7, "more bits than there are");
     answer = vortex_filter_bits(ten_bits, 2, SIZE_MAX, odd, 1, 0, 4, bits, 2);
-    expect(answer.status == VORTEX_LENGTHS && bits[0] == 7, "bits from far away");
+    expect(is(answer, VORTEX_LENGTHS, 0) && bits[0] == 7, "bits from far away");
     answer = vortex_filter_bits(ten_bits, 2, 60, odd, 1, 61, 4, bits, 2);
-    expect(answer.status == VORTEX_LENGTHS && bits[0] == 7, "a mask of too few bits");
+    expect(is(answer, VORTEX_LENGTHS, 0) && bits[0] == 7, "a mask of too few bits");
     answer = vortex_filter_bits(ten_bits, 2, 60, ten_bits, 2, 60, 8, bits, 2);
     expect(is(answer, VORTEX_DONE, 4) && bits[0] == 15 && bits[1] == 7, "bits by themselves");
     answer = vortex_filter_bits(ten_bits, 2, 62, odd, 1, 0, 4, bits, 2);
@@ -135,11 +135,11 @@ static void bit_takes(void) {
     answer = vortex_take_bits(ten_bits, 2, 60, 8, indices, 4, there, 1, bits, 0);
     expect(is(answer, VORTEX_ROOM, 4) && bits[0] == 7, "taken bits into no room");
     answer = vortex_take_bits(ten_bits, 2, 60, 69, indices, 4, there, 1, bits, 2);
-    expect(answer.status == VORTEX_LENGTHS && bits[0] == 7, "a source of too few bits");
+    expect(is(answer, VORTEX_LENGTHS, 0) && bits[0] == 7, "a source of too few bits");
     answer = vortex_take_bits(ten_bits, 2, 60, 8, indices, 3, there, 1, bits, 2);
-    expect(answer.status == VORTEX_BITS_PAST && bits[0] == 7, "a bit past the indices of bits");
+    expect(is(answer, VORTEX_BITS_PAST, 0) && bits[0] == 7, "a bit past the indices of bits");
     answer = vortex_take_bits(ten_bits, 2, 60, 8, indices, 4, ten_bits, 2, bits, 2);
-    expect(answer.status == VORTEX_LENGTHS && bits[0] == 7, "validity of bits, too long");
+    expect(is(answer, VORTEX_LENGTHS, 0) && bits[0] == 7, "validity of bits, too long");
     answer = vortex_take_bits(ten_bits, 2, 60, 8, indices, 4, there, 1, bits, 2);
     expect(is(answer, VORTEX_DONE, 4) && bits[0] == 3 && bits[1] == 7, "bits with a null");
     answer = vortex_take_bits(NULL, 0, 0, 0, NULL, 0, NULL, 0, NULL, 0);
@@ -151,9 +151,9 @@ static void positions(void) {
     vortex_answer answer = vortex_positions(odd, 1, 4, set, 1);
     expect(is(answer, VORTEX_ROOM, 2) && set[0] == 7, "positions into too little room");
     answer = vortex_positions(odd, 1, SIZE_MAX, set, 2);
-    expect(answer.status == VORTEX_LENGTHS && set[0] == 7, "as many rows as there are numbers");
+    expect(is(answer, VORTEX_LENGTHS, 0) && set[0] == 7, "as many rows as there are numbers");
     answer = vortex_positions(odd, 1, 3, set, 2);
-    expect(answer.status == VORTEX_BITS_PAST && set[0] == 7, "a bit past the rows");
+    expect(is(answer, VORTEX_BITS_PAST, 0) && set[0] == 7, "a bit past the rows");
     answer = vortex_positions(odd, 1, 4, set, 2);
     expect(is(answer, VORTEX_DONE, 2) && set[0] == 1 && set[1] == 3, "positions");
     answer = vortex_positions(NULL, 0, 0, NULL, 0);
@@ -166,9 +166,9 @@ static void runs(void) {
     vortex_answer answer = vortex_runs(mask, 2, 65, found, 1);
     expect(is(answer, VORTEX_ROOM, 2) && found[0].start == 7, "runs into too little room");
     answer = vortex_runs(mask, 2, 64, found, 3);
-    expect(answer.status == VORTEX_LENGTHS && found[0].start == 7, "runs of a word too many");
+    expect(is(answer, VORTEX_LENGTHS, 0) && found[0].start == 7, "runs of a word too many");
     answer = vortex_runs(odd, 1, 3, found, 3);
-    expect(answer.status == VORTEX_BITS_PAST && found[0].start == 7, "runs past the rows");
+    expect(is(answer, VORTEX_BITS_PAST, 0) && found[0].start == 7, "runs past the rows");
     answer = vortex_runs(mask, 2, 65, found, 3);
     expect(is(answer, VORTEX_DONE, 2) && found[0].start == 1 && found[0].end == 3, "runs");
     expect(found[1].start == 63 && found[1].end == 65 && found[2].start == 7, "across two words");
@@ -179,12 +179,12 @@ static void runs(void) {
 static void ranks(void) {
     expect(is(vortex_rank(odd, 1, 4, 1), VORTEX_DONE, 3), "a rank");
     expect(is(vortex_rank(odd, 1, 4, 2), VORTEX_INDEX, 2), "a rank past the set bits");
-    expect(vortex_rank(odd, 1, 3, 0).status == VORTEX_BITS_PAST, "a rank, a bit past the rows");
+    expect(is(vortex_rank(odd, 1, 3, 0), VORTEX_BITS_PAST, 0), "a rank, a bit past the rows");
     expect(is(vortex_rank(NULL, 0, 0, 0), VORTEX_INDEX, 0), "a rank in nothing");
     expect(is(vortex_count_before(odd, 1, 4, 2), VORTEX_DONE, 1), "a count");
     expect(is(vortex_count_before(odd, 1, 4, 4), VORTEX_DONE, 2), "a count of all");
-    expect(vortex_count_before(odd, 1, 4, 5).status == VORTEX_INDEX, "a count past the rows");
-    expect(vortex_count_before(odd, 1, SIZE_MAX, 0).status == VORTEX_LENGTHS, "too many rows");
+    expect(is(vortex_count_before(odd, 1, 4, 5), VORTEX_INDEX, 0), "a count past the rows");
+    expect(is(vortex_count_before(odd, 1, SIZE_MAX, 0), VORTEX_LENGTHS, 0), "too many rows");
     expect(is(vortex_count_before(NULL, 0, 0, 0), VORTEX_DONE, 0), "a count of nothing");
 }
 
