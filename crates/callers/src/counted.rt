@@ -1,5 +1,5 @@
 //! A decoder that counts its calls, which is not one of the library's.
-use vx_chunked::ChunkDecoder;
+use vx_decoder::ChunkDecoder;
 
 /// A decoder that hands its calls on, and counts those that are left.
 #[derive(Drop)]

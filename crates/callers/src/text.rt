@@ -4,7 +4,7 @@ ghost use Rattle.std.specs.Prelude.{◌≡◌, if◌then◌else◌, IfOk, map, s
 use std::alloc::Global;
 use std::test::Fail;
 use vx_bits::{BitBuffer, NoMemory};
-use vx_chunked::Call;
+use vx_decoder::Call;
 
 /// Prints the calls, and the end of the line.
 pub fn print_calls(rt: &impl Print, calls: &[Call]) -> Result<(), Fail> {

@@ -1,11 +1,11 @@
 //! Values in whole chunks, which a decoder hands out.
 ghost use Rattle.std.specs.Prelude.{◌≡◌, IfOk, length};
-ghost use Rattle.vx_chunked.specs.Told.{whole_chunks};
+ghost use Rattle.vx_decoder.specs.Told.{whole_chunks};
 
 use std::alloc::Global;
 use std::test::Fail;
 use vx_bits::{Buffer, NoMemory};
-use vx_chunked::StoredChunks;
+use vx_decoder::StoredChunks;
 
 /// So many values, in whole chunks.
 fn stored<const W: usize>(

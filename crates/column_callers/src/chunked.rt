@@ -7,8 +7,8 @@ use crate::steps::{Written, steps_of};
 use callers::{Counted, numbers, print_calls, sevens};
 use std::alloc::Global;
 use std::test::Fail;
-use vx_chunked::{CallLog, ChunkDecoder, Logged};
 use vx_column::{Array, ColumnError, DType, Nullability, PType, Validity};
+use vx_decoder::{CallLog, ChunkDecoder, Logged};
 use vx_mask::Policy;
 use vx_select::{ChunkShape, Step, select_chunked};
 

@@ -1,23 +1,15 @@
 -- The calls that ascending positions ask for, chunk by chunk.
-use Rattle.std.proofs.Common.{◌≡◌, refl, ℕ, zero, suc, ◌+◌, ◌*◌, ◌-◌, ◌/◌, ◌<◌, ◌≤◌, false, cond, eqb, leb, List, [], ◌∷◌, ◌++◌, length, map, Option, None, Some, sym, ap, ap₂, ◌∙◌, arith, eq-eqb, ne_eqb}
+use Rattle.std.proofs.Common.{◌≡◌, refl, ℕ, zero, suc, ◌+◌, ◌*◌, ◌-◌, ◌/◌, ◌<◌, ◌≤◌, false, cond, eqb, leb, List, [], ◌∷◌, ◌++◌, length, map, Option, sym, ap, ap₂, ◌∙◌, arith, eq-eqb, ne_eqb}
 use Rattle.vx_bits.specs.WordReader.{then_told}
 use Rattle.std.proofs.lemmas.Bool.{le-leb}
 use Rattle.std.proofs.lemmas.Bool.Decides.{nat_tests}
 use Rattle.std.specs.List.{All, range_with_len, flat_map}
-use Rattle.std.proofs.lemmas.List.{append_assoc, append-nil}
 use Rattle.std.proofs.lemmas.List.Elements.{All-head, All-tail}
 use Rattle.std.proofs.lemmas.List.Sums.{sum_by-cons, sum_by-append}
-use Rattle.vx_chunked.specs.declared.call.Call.{Call}
-use Rattle.vx_chunked.specs.declared.call.Call.TheVariants.{Whole, Only}
+use Rattle.vx_decoder.specs.declared.call.Call.{Call}
+use Rattle.vx_decoder.specs.declared.call.Call.TheVariants.{Whole, Only}
+use Rattle.vx_decoder.proofs.ToldCalls.{told_more, told_none}
 use Rattle.vx_chunked.specs.Asked.{call_for, count_in, calls_from}
-
-pub told_more : {X : Type 0} (r : Option (List X)) (xs ys : List X) → then_told (then_told r xs) ys ≡ then_told r (xs ++ ys)
-told_more None xs ys = refl
-told_more (Some before) xs ys = ap Some (append_assoc before xs ys)
-
-pub told_none : {X : Type 0} (r : Option (List X)) → r ≡ then_told r []
-told_none None = refl
-told_none (Some before) = ap Some (sym (append-nil before))
 
 -- all places lie in their chunk
 counts_here : (chunk : ℕ) (places : List ℕ) → All (λ p. p < 1024) places → count_in (map (λ p. 1024 * chunk + p) places) chunk ≡ length places

@@ -5,7 +5,7 @@ use Rattle.std.proofs.lemmas.List.{length-map}
 use Rattle.std.proofs.lemmas.Simd.{map-map}
 use Rattle.vx_bits.specs.WordReader.{then_told}
 use Rattle.vx_mask.specs.Positions.{positions, set_of}
-use Rattle.vx_chunked.specs.declared.call.Call.{Call}
+use Rattle.vx_decoder.specs.declared.call.Call.{Call}
 use Rattle.vx_chunked.specs.Asked.{asked, calls_from, chunks_for, end_of, touched}
 use Rattle.vx_chunked.specs.Positions.{AscendFrom, positions_from}
 use Rattle.vx_chunked.proofs.Ascends.{ascend_lower}

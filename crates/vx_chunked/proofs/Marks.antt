@@ -27,7 +27,7 @@ use Rattle.vx_chunked.proofs.WordPlaces.{positions-shift}
 use Rattle.vx_chunked.specs.Positions.{AscendFrom, marked, positions_from}
 use Rattle.vx_chunked.proofs.Ascends.{ascend_below}
 use Rattle.vx_chunked.proofs.Handed.{positions_ascend}
-use Rattle.vx_chunked.proofs.ValuesAt.{part_at}
+use Rattle.vx_decoder.proofs.ReadPlaces.{part_at}
 
 bits_at : (at : ℕ) (bits : List Bool) → at < length bits → positions_from at bits ≡ cond (get_or bits at false) (at ∷ positions_from (at + 1) bits) (positions_from (at + 1) bits)
 unfolding positions_from

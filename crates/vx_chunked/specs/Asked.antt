@@ -3,8 +3,8 @@ use Rattle.std.specs.Prelude.{◌≡◌, ℕ, ◌+◌, ◌*◌, ◌/◌, Bool, f
 use Rattle.std.specs.List.{range_with_len, flat_map}
 use Rattle.std.specs.Int.{div_ceil}
 use Rattle.vx_mask.specs.Positions.{ascending}
-use Rattle.vx_chunked.specs.declared.call.Call.{Call}
-use Rattle.vx_chunked.specs.declared.call.Call.TheVariants.{Whole, Only}
+use Rattle.vx_decoder.specs.declared.call.Call.{Call}
+use Rattle.vx_decoder.specs.declared.call.Call.TheVariants.{Whole, Only}
 
 -- how many chunks hold n values
 abbrev pub chunks_for : ℕ → ℕ

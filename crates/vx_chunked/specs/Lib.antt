@@ -1,4 +1,4 @@
 pub mod Asked
-pub mod Laws
 pub mod Positions
-pub mod Told
+pub use Rattle.vx_decoder.specs.Laws
+pub use Rattle.vx_decoder.specs.Told

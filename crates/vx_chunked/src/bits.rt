@@ -8,8 +8,8 @@ ghost use Rattle.vx_mask.specs.Positions.{AllBits, positions, set_of};
 ghost use Rattle.vx_chunked.specs.Positions.{AscendFrom, marked, positions_from};
 
 use crate::cursor::Cursor;
-use crate::decoder::FILTER_CHUNK_LEN;
 use vx_bits::BitBuffer;
+use vx_decoder::FILTER_CHUNK_LEN;
 use vx_filter::{compact_runs, compact_words};
 use vx_mask::MaskValues;
 

@@ -5,10 +5,10 @@ ghost use Rattle.vx_chunked.specs.Asked.{calls_from, chunks_for};
 ghost use Rattle.vx_chunked.specs.Positions.{AscendFrom};
 
 use crate::cursor::Cursor;
-use crate::decoder::{ChunkDecoder, FILTER_CHUNK_LEN};
 use crate::step::put_chunk;
 use std::alloc::Global;
 use vx_bits::{NoMemory, Record};
+use vx_decoder::{ChunkDecoder, FILTER_CHUNK_LEN};
 
 // Appends the values at the cursor's positions, all of which lie before `end`. There is room for
 // them. Chunks that hold none are passed over where the cursor knows them.

@@ -9,12 +9,12 @@ ghost use Rattle.vx_chunked.specs.Asked.{asked, end_of, touched};
 
 use crate::bits::BitCursor;
 use crate::cursor::Cursor;
-use crate::decoder::ChunkDecoder;
 use crate::driver::filter_at;
 use crate::indices::IndexCursor;
 use crate::runs::RunCursor;
 use std::alloc::Global;
 use vx_bits::{NoMemory, Record};
+use vx_decoder::ChunkDecoder;
 use vx_filter::{useful_indices, useful_slices};
 use vx_mask::{Mask, MaskValues, Policy};
 

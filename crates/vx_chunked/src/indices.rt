@@ -4,7 +4,7 @@ ghost use Rattle.std.specs.List.{All};
 ghost use Rattle.vx_chunked.specs.Positions.{AscendFrom, IsInChunk, places_of};
 
 use crate::cursor::Cursor;
-use crate::decoder::FILTER_CHUNK_LEN;
+use vx_decoder::FILTER_CHUNK_LEN;
 
 // Indices, each a position that counts from value `offset` on, in the chunk whose first value is
 // value `base`.

@@ -4,7 +4,7 @@ ghost use Rattle.std.specs.List.{All, range_with_len};
 ghost use Rattle.vx_chunked.specs.Positions.{AscendFrom, IsInChunk, places_of, with_runs};
 
 use crate::cursor::Cursor;
-use crate::decoder::FILTER_CHUNK_LEN;
+use vx_decoder::FILTER_CHUNK_LEN;
 
 // What is left of a run, and the runs after it, each a range of positions.
 #[derive(Clone, Copy)]

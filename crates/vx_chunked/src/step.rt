@@ -5,7 +5,7 @@ ghost use Rattle.vx_chunked.specs.Asked.{call_for};
 ghost use Rattle.vx_chunked.specs.Positions.{AscendFrom};
 
 use crate::cursor::Cursor;
-use crate::decoder::{ChunkDecoder, FILTER_CHUNK_LEN};
+use vx_decoder::{ChunkDecoder, FILTER_CHUNK_LEN};
 
 // Asks for one chunk, once and only where some of its values were taken, and appends these. There
 // is room for them.

@@ -4,7 +4,7 @@ use Rattle.std.specs.Prelude.{IfSome}
 use Rattle.std.specs.List.{list_any}
 use Rattle.std.proofs.lemmas.List.{length-append}
 use Rattle.vx_bits.specs.WordReader.{then_told}
-use Rattle.vx_chunked.proofs.Counts.{told_more, told_none}
+use Rattle.vx_decoder.proofs.ToldCalls.{told_more, told_none}
 use Rattle.vx_io.specs.Bytes.{Rose}
 use Rattle.vx_take.specs.Picks.{BoundedPicks}
 use Rattle.vx_file.specs.Blocks.{block_at}

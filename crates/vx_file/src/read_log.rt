@@ -14,7 +14,7 @@ pub struct ReadLog {
 
 impl Model for ReadLog {
     ghost use Rattle.std.specs.Prelude.{ℕ, List, option_map};
-    ghost use Rattle.vx_chunked.specs.Told.{items_in};
+    ghost use Rattle.vx_decoder.specs.Told.{items_in};
 
     ghost Value = { List ℕ };
 

@@ -1,11 +1,9 @@
 -- Numbers as records.
-use Rattle.std.proofs.Common.{◌≡◌, ℕ, ◌*◌, ◌^◌, ◌<◌, List, [], true, length, get_or, take, drop, sym, ap, ◌∙◌, arith}
+use Rattle.std.proofs.Common.{◌≡◌, ℕ, ◌*◌, ◌^◌, ◌<◌, List, [], length, get_or, take, drop, sym, ap, ◌∙◌, arith}
 use Rattle.std.specs.List.{drop-map, take-map}
 use Rattle.std.proofs.lemmas.List.{get_or-map, get_or_default, length-map, same_lists}
-use Rattle.vx_mask.specs.Positions.{ascending}
-use Rattle.vx_chunked.specs.Told.{whole_chunks}
-use Rattle.vx_chunked.specs.Laws.{whole_chunks_same}
-use Rattle.vx_chunked.proofs.Ascends.{ascend_of, ascend_below}
+use Rattle.vx_decoder.specs.Told.{whole_chunks}
+use Rattle.vx_decoder.specs.Laws.{whole_chunks_same}
 use Rattle.vx_packed.specs.Faults.{numbers_in}
 use Rattle.vx_packed.specs.Parts.{all_numbers, parts_of, record_of, records_of}
 use Rattle.vx_packed.proofs.CutParts.{length-all_numbers}
@@ -16,9 +14,6 @@ pub records_written : (width : ℕ) (numbers : List ℕ) (dst : List (List ℕ))
 records_written width numbers dst long h = same_lists _ _ (long ∙ sym (length-map numbers (record_of width))) (λ k d p.
     let inside : k < length numbers = omega arith in
     get_or_default dst k d [] p ∙ h k inside ∙ sym (get_or-map (record_of width) numbers k 0 d inside))
-
-pub place_below : (places : List ℕ) (k : ℕ) → ascending 0 1024 places ≡ true → k < length places → get_or places k 0 < 1024
-place_below places k h p = ascend_below 0 1024 1024 places (ascend_of 0 1024 places h) (omega arith) k 0 p
 
 -- one record of those of a chunk
 pub record_at : (width : ℕ) (bytes : List ℕ) (j : ℕ) (d : List ℕ) → j < 1024 → record_of width (get_or (numbers_in bytes) j 0) ≡ get_or (records_of width (numbers_in bytes)) j d

@@ -2,7 +2,7 @@
 ghost use Rattle.std.specs.Prelude.{◌≡◌, ◌↔◌, ℕ, ◌+◌, ◌*◌, ◌%◌, ◌^◌, ◌<◌, ◌≤◌, None, true, length, map, take, drop, slice_index, slice_get, unwrap_or, Some, IfErr, IfOk, IsOkUnless, IsTrue};
 ghost use Rattle.std.specs.Int.{to_le_bytes, w64};
 ghost use Rattle.vx_mask.specs.Positions.{ascending};
-ghost use Rattle.vx_chunked.specs.Told.{whole_chunks};
+ghost use Rattle.vx_decoder.specs.Told.{whole_chunks};
 ghost use Rattle.vx_packed.specs.Chunk.{ArePacked, IsPacked, IsSpelling, chunk_at};
 ghost use Rattle.vx_packed.specs.Faults.{is_width, numbers_in};
 ghost use Rattle.vx_packed.specs.Parts.{AreChunks, IsIndexed, all_numbers, first_bad, front_len, parts_of, record_of, records_of};
@@ -15,7 +15,7 @@ use crate::record::record_from;
 use std::alloc::Global;
 use std::marker::Model;
 use vx_bits::{Buffer, NoMemory};
-use vx_chunked::ChunkDecoder;
+use vx_decoder::ChunkDecoder;
 
 // As many chunks as a `usize` counts values of.
 const MOST_CHUNKS: usize = usize::MAX / 1024;
@@ -82,8 +82,8 @@ impl<const W: usize> PackedChunks<W> {
 
 impl<const W: usize> ChunkDecoder<[u8; W]> for PackedChunks<W> {
     ghost use Rattle.std.specs.Prelude.{◌-◌, ◌^◌, None};
-    ghost use Rattle.vx_chunked.specs.Told.{whole_chunks};
-    ghost use Rattle.vx_chunked.specs.Laws.{whole_chunks_are_whole, whole_chunks_are_bounded};
+    ghost use Rattle.vx_decoder.specs.Told.{whole_chunks};
+    ghost use Rattle.vx_decoder.specs.Laws.{whole_chunks_are_whole, whole_chunks_are_bounded};
     ghost use Rattle.vx_packed.specs.Parts.{records_of};
 
     // the records: all of them, as `try_new` says

@@ -1,7 +1,7 @@
 -- The line of the calls of a decoder.
 use Rattle.std.specs.Prelude.{ℕ, List, ◌++◌, codes, decimal, flat_map}
-use Rattle.vx_chunked.specs.declared.call.Call.{Call}
-use Rattle.vx_chunked.specs.declared.call.Call.TheVariants.{Whole, Only}
+use Rattle.vx_decoder.specs.declared.call.Call.{Call}
+use Rattle.vx_decoder.specs.declared.call.Call.TheVariants.{Whole, Only}
 use Rattle.vx_print.specs.Text.{line}
 
 -- a chunk of which all values were asked for, or so many of its values

@@ -5,7 +5,7 @@ ghost use Rattle.vx_print.specs.Calls.{call_text, calls_text};
 use crate::text::push_number;
 use std::alloc::Global;
 use vx_bits::NoMemory;
-use vx_chunked::Call;
+use vx_decoder::Call;
 
 // Appends a blank and a call.
 fn push_call(text: &mut Vec<u8>, call: Call) -> Result<(), NoMemory>

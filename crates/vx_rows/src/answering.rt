@@ -16,8 +16,8 @@ ghost use Rattle.vx_rows.specs.declared.asked.Asked.TheVariants.{Nothing, Calls}
 use crate::asked::Asked;
 use std::alloc::Global;
 use vx_bits::{Buffer, Records, match_each_record_width};
-use vx_chunked::{FILTER_CHUNK_LEN, Logged, StoredChunks};
 use vx_column::Array;
+use vx_decoder::{FILTER_CHUNK_LEN, Logged, StoredChunks};
 use vx_document::{Document, DocumentSource};
 use vx_mask::Policy;
 use vx_select::{ChunkShape, SelectError, Step, check_steps, select, select_chunked};

@@ -1,6 +1,6 @@
 //! What was asked for the rows of an answer.
 
-use vx_chunked::CallLog;
+use vx_decoder::CallLog;
 use vx_file::ReadLog;
 
 /// What was asked for rows.

@@ -16,7 +16,7 @@ mod trace;
 
 pub use program::run;
 pub use trace::Trace;
-pub use vx_chunked::{Call, CallLog};
+pub use vx_decoder::{Call, CallLog};
 pub use vx_document::{DocError, Document, DocumentSource, StepList, document};
 pub use vx_file::ReadLog;
 pub use vx_io::{

@@ -3,7 +3,7 @@ ghost use Rattle.std.specs.Prelude.{◌≡◌, []};
 ghost use Rattle.vx_rows.specs.Program.{kept};
 
 use crate::asked::Asked;
-use vx_chunked::CallLog;
+use vx_decoder::CallLog;
 use vx_file::ReadLog;
 
 /// What a run leaves beside its text and its status.

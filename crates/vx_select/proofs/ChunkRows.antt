@@ -19,7 +19,7 @@ use Rattle.vx_model.proofs.KeptItems.{same_items}
 use Rattle.vx_model.proofs.StoredRows.{length-stored_rows}
 use Rattle.vx_model.proofs.Nullabilities.{also_nullable-none, also_nullable-either}
 use Rattle.vx_model.proofs.Takes.{take-stored}
-use Rattle.vx_chunked.proofs.ValuesAt.{part_at}
+use Rattle.vx_decoder.proofs.ReadPlaces.{part_at}
 use Rattle.vx_steps.specs.Step.{StepValue, slice_step, filter_step, filter_by_step, take_step}
 use Rattle.vx_pieces.specs.Indices.{index_nullability}
 use Rattle.vx_steps.specs.Walk.{Walk, walk_fault, walk_picks, walk}

@@ -5,7 +5,7 @@ use Rattle.vx_types.specs.RowValue.{RowValue, bytes}
 use Rattle.vx_model.specs.Valid.{stored_rows}
 use Rattle.vx_mask.specs.Positions.{set_of}
 use Rattle.vx_chunked.specs.Asked.{asked, asked_by_picks, touched}
-use Rattle.vx_chunked.specs.declared.call.Call.{Call}
+use Rattle.vx_decoder.specs.declared.call.Call.{Call}
 use Rattle.vx_steps.specs.Walk.{Walk, walk_fault, walk_picks}
 use Rattle.vx_steps.specs.Shape.{ShapeValue}
 

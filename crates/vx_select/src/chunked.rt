@@ -26,8 +26,9 @@ ghost use Rattle.vx_select.specs.Chunks.{AreNoneOrAll, IsTold, asked_at, asked_b
 
 use std::alloc::Global;
 use vx_bits::{Buffer, NoMemory, Records};
-use vx_chunked::{ChunkDecoder, filter_chunked_mask};
+use vx_chunked::filter_chunked_mask;
 use vx_column::{Array, DType, Nullability, RecordArray, RecordType, Validity};
+use vx_decoder::ChunkDecoder;
 use vx_dispatch::take_validity;
 use vx_mask::{Mask, Policy};
 use vx_steps::{ChunkShape, SelectError, Step, compose, takes_nullability};

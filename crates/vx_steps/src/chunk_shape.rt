@@ -9,8 +9,8 @@ ghost use Rattle.vx_column.specs.Validity.{valid_of};
 ghost use Rattle.vx_steps.specs.Shape.{is_counted, is_stored_as, same_nullability, shape_fault, shape_of};
 
 use std::marker::Model;
-use vx_chunked::FILTER_CHUNK_LEN;
 use vx_column::{ColumnError, DType, Nullability, Validity};
+use vx_decoder::FILTER_CHUNK_LEN;
 
 /// A column of values that lie behind a decoder: row `i` is value `offset + i`, or null where the
 /// validity says no.

@@ -9,7 +9,7 @@ use Rattle.vx_mask.specs.Mask.{mask_bits}
 use Rattle.vx_mask.specs.Positions.{set_of}
 use Rattle.vx_mask.proofs.PositionLists.{positions_false, positions_true}
 use Rattle.vx_chunked.specs.Asked.{asked, touched}
-use Rattle.vx_chunked.specs.declared.call.Call.{Call}
+use Rattle.vx_decoder.specs.declared.call.Call.{Call}
 use Rattle.vx_chunked.proofs.Handed.{on_ok_same}
 use Rattle.vx_chunked.proofs.filter.filter_chunked_mask.Goals as goal
 

@@ -6,7 +6,8 @@ use Rattle.vx_chunked.proofs.Ascends.{ascend_below, ascend_few, ascend_full, asc
 use Rattle.std.proofs.lemmas.List.{length-take-le}
 use Rattle.vx_bits.specs.WordReader.{then_told}
 use Rattle.vx_chunked.proofs.Counts.{call_only, call_whole}
-use Rattle.vx_chunked.proofs.ValuesAt.{whole_part, part_at}
+use Rattle.vx_decoder.proofs.ReadPlaces.{part_at}
+use Rattle.vx_chunked.proofs.ValuesAt.{whole_part}
 use Rattle.vx_chunked.proofs.step.take_chunk.Goals as goal
 
 pub decode_indices-requires-clause-ascend : goal.decode_indices-requires-clause-ascend

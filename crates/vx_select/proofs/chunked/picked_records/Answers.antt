@@ -11,7 +11,7 @@ use Rattle.vx_take.specs.Picks.{at}
 use Rattle.vx_take.specs.Ranks.{AreJustSet}
 use Rattle.vx_take.proofs.TakenLists.{looked_up}
 use Rattle.vx_chunked.specs.Asked.{asked, touched}
-use Rattle.vx_chunked.specs.declared.call.Call.{Call}
+use Rattle.vx_decoder.specs.declared.call.Call.{Call}
 use Rattle.vx_steps.specs.Shape.{ShapeValue}
 use Rattle.vx_select.specs.Chunks.{IsTold, asked_at, asked_for, chunk_values}
 use Rattle.vx_select.proofs.ChunkRows.{length-part}

@@ -1,8 +1,7 @@
-use Rattle.std.proofs.Common.{◌*◌, map, ap, ◌∙◌, arith}
+use Rattle.std.proofs.Common.{◌*◌, map, ap, ◌∙◌}
 use Rattle.std.specs.Prelude.{slice_get}
-use Rattle.vx_chunked.specs.Told.{whole_chunks}
-use Rattle.vx_chunked.proofs.Ascends.{ascend_below, ascend_of}
-use Rattle.vx_chunked.proofs.ValuesAt.{part_at}
+use Rattle.vx_decoder.specs.Told.{whole_chunks}
+use Rattle.vx_decoder.proofs.ReadPlaces.{part_at, places_below}
 use Rattle.vx_packed.specs.Chunk.{chunk_at}
 use Rattle.vx_packed.specs.Parts.{all_numbers, parts_of, records_of}
 use Rattle.vx_packed.proofs.RecordLists.{chunk_records}
@@ -15,4 +14,4 @@ returns-clause-value g c =
     let records = chunk_records g.row.W c.self.inside.bytes c.part_of-part.result.now c.args.self.now c.args.chunk_idx c.self.invariant.bounded numbers c.self.view_is in
     c.put_records_at.ensures
     ∙ ap (λ l. map (slice_get l) indices) records
-    ∙ part_at (whole_chunks (records_of g.row.W c.args.self.now)) (1024 * c.args.chunk_idx) 1024 indices (ascend_below 0 1024 1024 indices (ascend_of 0 1024 indices c.requires.ascend) (omega arith))
+    ∙ part_at (whole_chunks (records_of g.row.W c.args.self.now)) (1024 * c.args.chunk_idx) 1024 indices (places_below indices c.requires.ascend)

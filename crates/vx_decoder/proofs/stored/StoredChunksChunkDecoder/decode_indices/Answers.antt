@@ -1,10 +1,9 @@
 use Rattle.std.proofs.Common.{◌≡◌, ◌+◌, ◌*◌, ◌-◌, take, drop, map, sym, ap, ◌∙◌, arith}
 use Rattle.std.specs.Prelude.{slice_get}
-use Rattle.vx_chunked.specs.Told.{whole_chunks}
-use Rattle.vx_chunked.specs.Laws.{whole_chunks_same}
-use Rattle.vx_chunked.proofs.Ascends.{ascend_of, ascend_below}
-use Rattle.vx_chunked.proofs.ValuesAt.{part_at}
-use Rattle.vx_chunked.proofs.stored.StoredChunksChunkDecoder.decode_indices.Goals as goal
+use Rattle.vx_decoder.specs.Told.{whole_chunks}
+use Rattle.vx_decoder.specs.Laws.{whole_chunks_same}
+use Rattle.vx_decoder.proofs.ReadPlaces.{part_at, places_below}
+use Rattle.vx_decoder.proofs.stored.StoredChunksChunkDecoder.decode_indices.Goals as goal
 
 pub returns-clause-value : goal.returns-clause-value
 returns-clause-value g c =
@@ -15,4 +14,4 @@ returns-clause-value g c =
     c.copy_places.ensures
     ∙ ap (λ l. map (slice_get (take (first + 1024 - first) (drop first l))) indices) held
     ∙ ap (λ n. map (slice_get (take n (drop first (whole_chunks c.args.self.now)))) indices) width
-    ∙ part_at (whole_chunks c.args.self.now) first 1024 indices (ascend_below 0 1024 1024 indices (ascend_of 0 1024 indices c.requires.ascend) (omega arith))
+    ∙ part_at (whole_chunks c.args.self.now) first 1024 indices (places_below indices c.requires.ascend)

@@ -20,7 +20,7 @@ pub struct Logged<T: Copy, D: ChunkDecoder<T> + Drop> {
 
 impl<T: Copy, D: ChunkDecoder<T> + Drop> Model for Logged<T, D> {
     ghost use Rattle.std.specs.Prelude.{ℕ, List, ◌+◌, ◌≤◌, vec_len, vec_capacity};
-    ghost use Rattle.vx_chunked.specs.declared.call.Call.{Call};
+    ghost use Rattle.vx_decoder.specs.declared.call.Call.{Call};
 
     ghost Value = { D × List Call × ℕ };
 

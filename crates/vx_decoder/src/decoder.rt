@@ -2,8 +2,8 @@
 ghost use Rattle.std.specs.Prelude.{◌≡◌, ℕ, ◌+◌, ◌*◌, ◌%◌, ◌^◌, ◌<◌, ◌≤◌, List, [], ◌∷◌, Option, Some, true, length, take, drop, map, slice_get};
 ghost use Rattle.vx_bits.specs.WordReader.{then_told};
 ghost use Rattle.vx_mask.specs.Positions.{ascending};
-ghost use Rattle.vx_chunked.specs.declared.call.Call.{Call};
-ghost use Rattle.vx_chunked.specs.declared.call.Call.TheVariants.{Whole, Only};
+ghost use Rattle.vx_decoder.specs.declared.call.Call.{Call};
+ghost use Rattle.vx_decoder.specs.declared.call.Call.TheVariants.{Whole, Only};
 
 /// The number of values of a chunk: Vortex's `FILTER_CHUNK_LEN`.
 pub const FILTER_CHUNK_LEN: usize = 1024;

@@ -1,6 +1,6 @@
 //! A decoder over values in memory.
 ghost use Rattle.std.specs.Prelude.{◌≡◌, ◌%◌, ◌^◌, length};
-ghost use Rattle.vx_chunked.specs.Told.{whole_chunks};
+ghost use Rattle.vx_decoder.specs.Told.{whole_chunks};
 
 use crate::decoder::{ChunkDecoder, FILTER_CHUNK_LEN};
 use crate::places::copy_places;
@@ -40,7 +40,7 @@ impl<T: Copy> StoredChunks<T> {
 
 impl<T: Copy> ChunkDecoder<T> for StoredChunks<T> {
     ghost use Rattle.std.specs.Prelude.{◌-◌, ◌^◌, None};
-    ghost use Rattle.vx_chunked.specs.Laws.{whole_chunks_are_whole, whole_chunks_are_bounded};
+    ghost use Rattle.vx_decoder.specs.Laws.{whole_chunks_are_whole, whole_chunks_are_bounded};
 
     ghost values = { λ s. whole_chunks s };
 

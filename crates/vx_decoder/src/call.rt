@@ -30,8 +30,8 @@ pub struct CallLog {
 
 impl Model for CallLog {
     ghost use Rattle.std.specs.Prelude.{List, option_map};
-    ghost use Rattle.vx_chunked.specs.Told.{items_in};
-    ghost use Rattle.vx_chunked.specs.declared.call.Call.{Call};
+    ghost use Rattle.vx_decoder.specs.Told.{items_in};
+    ghost use Rattle.vx_decoder.specs.declared.call.Call.{Call};
 
     ghost Value = { List Call };
 

@@ -1,7 +1,7 @@
 use Rattle.std.proofs.Common.{◌≡◌, ◌+◌, ◌*◌, ◌-◌, take, drop, sym, ap, ◌∙◌, arith}
-use Rattle.vx_chunked.specs.Told.{whole_chunks}
-use Rattle.vx_chunked.specs.Laws.{whole_chunks_same}
-use Rattle.vx_chunked.proofs.stored.StoredChunksChunkDecoder.decode_chunk.Goals as goal
+use Rattle.vx_decoder.specs.Told.{whole_chunks}
+use Rattle.vx_decoder.specs.Laws.{whole_chunks_same}
+use Rattle.vx_decoder.proofs.stored.StoredChunksChunkDecoder.decode_chunk.Goals as goal
 
 pub returns-clause-value : goal.returns-clause-value
 returns-clause-value g c =

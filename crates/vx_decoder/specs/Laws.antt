@@ -1,7 +1,7 @@
 -- What holds of whole chunks.
 use Rattle.std.proofs.Common.{◌≡◌, ◌*◌, ◌-◌, ◌/◌, ◌%◌, ◌^◌, ◌<◌, min, List, length, arith}
 use Rattle.std.proofs.lemmas.List.{length-take-le, take_all}
-use Rattle.vx_chunked.specs.Told.{whole_chunks}
+use Rattle.vx_decoder.specs.Told.{whole_chunks}
 
 pub whole_chunks_are_whole : {X : Type 0} (xs : List X) → length (whole_chunks xs) % 1024 ≡ 0
 whole_chunks_are_whole xs =

@@ -1,0 +1,2 @@
+pub mod ReadPlaces
+pub mod ToldCalls
