@@ -15,9 +15,9 @@ use Rattle.vx_model.specs.Constant.{ConstantParts, constant_column, constant_wit
 use Rattle.vx_model.specs.Step.{IsTake}
 use Rattle.vx_model.proofs.Nullabilities.{with_nullability-nullable}
 use Rattle.vx_model.proofs.Scalars.{scalar_null, scalar_carried}
-use Rattle.vx_model.proofs.ShownRows.{shown_rows-all}
+use Rattle.vx_model.proofs.Items.{map-replicate}
+use Rattle.vx_model.proofs.ShownRows.{none_shown, shown_rows-all}
 use Rattle.vx_model.proofs.Takes.{all_there, none_there}
-use Rattle.vx_model.proofs.UnwrappedForms.{map-replicate, none_shown}
 
 -- ---- the bits of a bool
 
@@ -58,17 +58,19 @@ is_take-null_constant p picks n h t =
       layout = λ e. let no : false ≡ true = e in cc;
       unwrapped = λ e. let no : false ≡ true = e in cc;
       direct = λ h. let no : true ≡ false = h in cc;
+      form = refl;
     }
 
 -- a take of a value that is stored for each pick
-pub is_take-stored_constant : (p : ConstantParts) (picks : List (Option ℕ)) (n : Nullability) (a : Column) → AreBelow picks p.len → a.rows ≡ shown_rows (map is_some picks) (replicate (length picks) p.scalar.row) → a.dtype ≡ also_nullable p.scalar.dtype n → IsTake (constant_column p) picks n a
-is_take-stored_constant p picks n a below rows t =
+pub is_take-stored_constant : (p : ConstantParts) (picks : List (Option ℕ)) (n : Nullability) (a : Column) → AreBelow picks p.len → a.rows ≡ shown_rows (map is_some picks) (replicate (length picks) p.scalar.row) → a.dtype ≡ also_nullable p.scalar.dtype n → a.dense ≡ false → IsTake (constant_column p) picks n a
+is_take-stored_constant p picks n a below rows t form =
     record {
       rows = rows ∙ shown_at-picks p.len p.scalar.row picks below;
       dtype = t;
       layout = λ e. let no : false ≡ true = e in cc;
       unwrapped = λ e. let no : false ≡ true = e in cc;
       direct = λ h. let no : true ≡ false = h in cc;
+      form = form;
     }
 
 -- ---- nulls

@@ -14,7 +14,8 @@ use Rattle.vx_mask.specs.Mask.{mask_bits}
 use Rattle.vx_mask.specs.Positions.{rank_of, set_of}
 use Rattle.vx_model.proofs.Items.{items_where_true-all, items_where_true-none}
 use Rattle.vx_model.proofs.LazyRows.{length-filter}
-use Rattle.vx_model.proofs.LazySteps.{dict_fault-filter, is_filter-dict, is_filter-filter}
+use Rattle.vx_model.proofs.DictSteps.{dict_fault-filter, is_filter-dict}
+use Rattle.vx_model.proofs.FilterSteps.{is_filter-filter}
 use Rattle.vx_dispatch.proofs.Results.{weaker}
 use Rattle.vx_model.specs.Valid.{valid_size}
 use Rattle.std.proofs.Common.{ℕ, ◌*◌, ap₂, slice_range}
@@ -86,9 +87,9 @@ dict::DictArrayFilterRows::filter-returns t c =
 pub filter_layout::FilterArrayFilterRows::filter-returns : goal.filter_layout::FilterArrayFilterRows::filter-returns
 filter_layout::FilterArrayFilterRows::filter-returns t c =
     let p = c.args.self.now in let other = c.args.mask.now.bits.bits in let both = mask_bits c.in_ok-both.both in
-    let sound = c.child-child.ensures.valid in let same = c.mask.ensures.value in
-    let set : set_of both ≡ map (rank_of p.mask) (set_of other) = rw same at c.in_ok-both.ensures.set in
-    let long : length both ≡ length p.mask = rw same at c.in_ok-both.ensures.len in
+    let sound = c.child-child.ensures.valid in let same = ap mask_bits c.mask.ensures.value in
+    let set : set_of both ≡ map (rank_of (mask_bits p.mask)) (set_of other) = rw same at c.in_ok-both.ensures.set in
+    let long : length both ≡ length (mask_bits p.mask) = rw same at c.in_ok-both.ensures.len in
     let child = c.deref.ensures ∙ c.child-child.ensures.value in
     weaker c.filter.result c.filter.ensures.cut (λ kept cut. is_filter-filter p other both kept sound (c.requires ∙ length-filter p sound) set long (rw child at cut))
 
@@ -103,6 +104,7 @@ filtering::filter-returns-in-AllTrue-clause-cut t c =
         layout = rw c.share.ensures (λ _. refl);
         unwrapped = rw c.share.ensures (λ h. h);
         direct = rw c.share.ensures (λ h. h);
+        form = rw c.share.ensures refl;
       };
       plain = rw c.share.ensures (λ h. h);
       depth = rw c.share.ensures (omega arith);

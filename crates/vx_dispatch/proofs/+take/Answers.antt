@@ -1,5 +1,6 @@
 -- A take of a layout's parts, with that of its validity, is the take of its column.
 use Rattle.std.proofs.Common.{arith, ◌≡◌, length, false, ap, ◌∙◌, refl, sym, subst, map, true}
+use Rattle.vx_mask.specs.Mask.{mask_bits}
 use Rattle.vx_types.specs.Nullability.{either_nullable}
 use Rattle.std.specs.List.{items_where_true}
 use Rattle.vx_types.specs.RowValue.{null}
@@ -22,8 +23,8 @@ use Rattle.vx_model.specs.Step.{IsCut, IsTake}
 use Rattle.vx_model.specs.Column.{Column}
 use Rattle.vx_model.specs.Numbers.{numbers_of}
 use Rattle.vx_positions.specs.Positions.{positions_of}
-use Rattle.vx_model.proofs.LazyBits.{bits-dict}
-use Rattle.vx_model.proofs.LazySteps.{dict_fault-take, is_step-filter, is_take-dict, is_take-filter}
+use Rattle.vx_model.proofs.DictSteps.{bits-dict, dict_fault-take, is_take-dict}
+use Rattle.vx_model.proofs.FilterSteps.{is_step-filter, is_take-filter}
 use Rattle.vx_dispatch.proofs.Codes.{codes-no_fault}
 use Rattle.vx_dispatch.proofs.Results.{weaker}
 use Rattle.vx_model.specs.Valid.{valid_size}
@@ -135,10 +136,11 @@ pub filter_layout::FilterArrayTakeRows::take-returns-then-is_materialized : goal
 filter_layout::FilterArrayTakeRows::take-returns-then-is_materialized t c =
     let p = c.args.self.now in let picks = c.args.picks.picks in let n = c.args.nullability in
     let child = c.deref-then-is_materialized.ensures ∙ c.child-child.ensures.value in
-    let cut : IsCut p.child (items_where_true p.mask p.child.rows) c.in_ok-kept.kept = rw (child, c.mask-mask.ensures.value) at c.in_ok-kept.ensures.cut in
+    let cut : IsCut p.child (items_where_true (mask_bits p.mask) p.child.rows) c.in_ok-kept.kept = rw (child, ap mask_bits c.mask-mask.ensures.value) at c.in_ok-kept.ensures.cut in
     weaker c.take_picks.result c.take_picks.ensures (λ a taken. is_step-filter p _ _ a
     (taken.rows ∙ ap (λ r. at null r picks) cut.step.rows)
-    (taken.dtype ∙ ap (λ d. also_nullable d n) cut.step.dtype))
+    (taken.dtype ∙ ap (λ d. also_nullable d n) cut.step.dtype)
+    (taken.form ∙ cut.step.form))
 
 pub filter_layout::FilterArrayTakeRows::take-returns : goal.filter_layout::FilterArrayTakeRows::take-returns
 filter_layout::FilterArrayTakeRows::take-returns t c =
@@ -167,7 +169,7 @@ pub filter_layout::FilterArrayTakeBits::bits-returns : goal.filter_layout::Filte
 filter_layout::FilterArrayTakeBits::bits-returns t c =
     let p = c.args.self.now in let picks = c.args.picks.now.picks in
     let kept : c.in_ok-kept.kept.rows ≡ (filter_column p).rows =
-    rw (c.deref.ensures ∙ c.child.ensures.value, c.mask.ensures.value) at c.in_ok-kept.ensures.cut.step.rows in
+    rw (c.deref.ensures ∙ c.child.ensures.value, ap mask_bits c.mask.ensures.value) at c.in_ok-kept.ensures.cut.step.rows in
     weaker c.taken_bits.result c.taken_bits.ensures (λ b h. h ∙ ap (λ r. at false (map is_yes r) picks) kept)
 
 pub stored::StoredTakeRows::take-take_validity-requires : goal.stored::StoredTakeRows::take-take_validity-requires
@@ -198,6 +200,7 @@ stored::StoredTakeRows::take-returns t c =
       layout = step.layout;
       unwrapped = step.unwrapped;
       direct = step.direct;
+      form = step.form;
     })
 
 -- ---- lists

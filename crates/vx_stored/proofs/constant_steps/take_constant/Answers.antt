@@ -11,7 +11,7 @@ use Rattle.vx_take.specs.Picks.{AreBelow}
 use Rattle.vx_model.specs.Constant.{constant_column}
 use Rattle.vx_model.specs.Valid.{non_nullable, nullability_by, present_bits, shown_rows}
 use Rattle.vx_model.proofs.LazyRows.{length-constant}
-use Rattle.vx_model.proofs.LazySteps.{is_take-constant}
+use Rattle.vx_model.proofs.ConstantSteps.{is_take-constant}
 use Rattle.vx_model.proofs.Takes.{is_left-bits_column}
 use Rattle.vx_model.proofs.Nullabilities.{also_nullable-own, also_nullable-nullable}
 use Rattle.vx_model.proofs.ConstantRows.{null_is, is_take-null_constant, is_take-stored_constant}
@@ -55,4 +55,5 @@ returns-in_ok-validity-in-Nullable c =
     if_ok _ _ (λ a e. is_take-stored_constant p picks c.args.nullability a below
     (IfOk-at_ok _ e stored.rows ∙ ap₂ shown_rows present values)
     (IfOk-at_ok _ e stored.dtype ∙ ap₂ with_nullability (ap (λ (s : TypedRow). s.dtype) same) (ap nullability_by validity)
-    ∙ sym (also_nullable-nullable p.scalar.dtype) ∙ ap (also_nullable p.scalar.dtype) (sym c.in-Nullable.is)))
+    ∙ sym (also_nullable-nullable p.scalar.dtype) ∙ ap (also_nullable p.scalar.dtype) (sym c.in-Nullable.is))
+    (IfOk-at_ok _ e stored.form))
