@@ -1,5 +1,5 @@
 //! Layout `Bool`: a bit a row.
-ghost use Rattle.std.specs.Prelude.{◌≡◌, length, true, None};
+ghost use Rattle.std.specs.Prelude.{◌≡◌, length, slice_range, true, IfSome, None};
 ghost use Rattle.vx_bits.specs.Results.{ok_unless};
 ghost use Rattle.vx_model.specs.Valid.{is_fitting};
 ghost use Rattle.vx_model.specs.Bool.{bool_fault, bool_column, bool_with};
@@ -108,7 +108,9 @@ impl BoolArray {
     pub(crate) fn slice_plain(&self, start: usize, end: usize) -> Option<Array>
         requires ordered { start ≤ end }
         requires within { end ≤ length (bool_column self.now).rows }
-        ensures { IsPlainSlice (bool_column self.now) start end result }
+        ensures slice { IsPlainSlice (bool_column self.now) start end result }
+        ensures stored { IfSome result
+            (λ a. a.stored ≡ slice_range (bool_column self.now).stored start end) }
     {
         if !self.validity().is_constant_form() {
             return None;

@@ -1,5 +1,5 @@
 //! What takes no memory: slices of plain columns, and the records of columns that store some.
-ghost use Rattle.std.specs.Prelude.{◌≡◌, ◌≤◌, ◌&&◌, length, option_map, is_some, IfSome};
+ghost use Rattle.std.specs.Prelude.{◌≡◌, ◌≤◌, ◌&&◌, length, option_map, is_some, slice_range, IfSome};
 ghost use Rattle.vx_model.specs.Constant.{constant_column};
 ghost use Rattle.vx_model.specs.ListView.{listview_column};
 ghost use Rattle.vx_model.specs.Plain.{is_constant_layout, is_listview_layout, stores_records};
@@ -34,7 +34,8 @@ impl Array {
     pub fn slice_plain(&self, start: usize, end: usize) -> Option<Array>
         requires ordered { start ≤ end }
         requires within { end ≤ length self.now.rows }
-        ensures { IsPlainSlice self.now start end result }
+        ensures slice { IsPlainSlice self.now start end result }
+        ensures stored { IfSome result (λ a. a.stored ≡ slice_range self.now.stored start end) }
     {
         match self.layout() {
             Layout::Null(a) => a.slice_plain(start, end),

@@ -1,5 +1,5 @@
 //! Layouts `Primitive` and `Decimal`, which store a record a row: Vortex's `FixedWidthArray`.
-ghost use Rattle.std.specs.Prelude.{◌≡◌, ◌≤◌, length, true, false, None, Some, is_some, option_map, IfSome};
+ghost use Rattle.std.specs.Prelude.{◌≡◌, ◌≤◌, length, true, false, None, Some, is_some, option_map, slice_range, IfSome};
 ghost use Rattle.vx_bits.specs.Results.{ok_unless};
 ghost use Rattle.vx_bits.specs.Records.{records_of, width_of};
 ghost use Rattle.vx_types.specs.DType.{type_of};
@@ -200,7 +200,9 @@ impl RecordArray {
     pub(crate) fn slice_plain(&self, start: usize, end: usize) -> Option<Array>
         requires ordered { start ≤ end }
         requires within { end ≤ length (records_column self.now).rows }
-        ensures { IsPlainSlice (records_column self.now) start end result }
+        ensures slice { IsPlainSlice (records_column self.now) start end result }
+        ensures stored { IfSome result
+            (λ a. a.stored ≡ slice_range (records_column self.now).stored start end) }
     {
         if !self.validity().is_constant_form() {
             return None;
