@@ -81,7 +81,10 @@ impl BoolArray {
         requires { is_fitting (valid_of validity) (length bits.bits) ≡ true }
         ensures { result ≡ bool_with bits.bits bits.offset (valid_of validity) }
     {
-        BoolArray { bits, validity }
+        match BoolArray::try_new(bits, validity) {
+            Ok(array) => array,
+            Err(_) => unreachable!(),
+        }
     }
 
     /// The same column once more. It takes no memory.
