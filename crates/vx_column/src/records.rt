@@ -67,6 +67,18 @@ impl RecordType {
             RecordType::Decimal(decimal) => DType::Decimal(*decimal, nullability),
         }
     }
+
+    /// The column of these records, as nullable as the validity. It takes no memory.
+    pub fn column(self, values: Records, validity: Validity) -> Array
+        requires width { kind_width (kind_of self) ≡ Some (width_of values) }
+        requires fitting { is_fitting (valid_of validity) (length (records_of values)) ≡ true }
+        ensures { result ≡ records_column (record_parts self values validity) }
+    {
+        match RecordArray::try_new(self, values, validity) {
+            Ok(array) => array.into_array(),
+            Err(_) => unreachable!(),
+        }
+    }
 }
 
 /// A column of records of a number: what a [`PrimitiveArray`] and a [`DecimalArray`] have in
