@@ -1,16 +1,17 @@
 //! Layout `Bool`: a bit a row.
-ghost use Rattle.std.specs.Prelude.{◌≡◌, length, true, None};
+ghost use Rattle.std.specs.Prelude.{◌≡◌, ◌<◌, ◌≤◌, length, slice_range, true, IfSome, None};
 ghost use Rattle.vx_bits.specs.Results.{ok_unless};
 ghost use Rattle.vx_model.specs.Valid.{is_fitting};
 ghost use Rattle.vx_model.specs.Bool.{bool_fault, bool_column, bool_with};
 ghost use Rattle.vx_column.specs.Validity.{valid_of};
 ghost use Rattle.vx_column.specs.Bool.{bool_parts};
 ghost use Rattle.vx_column.specs.Part.{IsPart};
-ghost use Rattle.std.specs.Prelude.{◌≤◌};
+ghost use Rattle.vx_column.specs.Truth.{IsStretch, true_bits};
 ghost use Rattle.vx_model.specs.Step.{IsPlainSlice};
 
 use crate::array::{Array, Layout};
 use crate::cell::{Cell, ReadRow};
+use crate::truth::{Stretch, word_from};
 use crate::validity::Validity;
 use std::marker::Model;
 use vx_bits::BitBuffer;
@@ -80,7 +81,10 @@ impl BoolArray {
         requires { is_fitting (valid_of validity) (length bits.bits) ≡ true }
         ensures { result ≡ bool_with bits.bits bits.offset (valid_of validity) }
     {
-        BoolArray { bits, validity }
+        match BoolArray::try_new(bits, validity) {
+            Ok(array) => array,
+            Err(_) => unreachable!(),
+        }
     }
 
     /// The same column once more. It takes no memory.
@@ -108,7 +112,9 @@ impl BoolArray {
     pub(crate) fn slice_plain(&self, start: usize, end: usize) -> Option<Array>
         requires ordered { start ≤ end }
         requires within { end ≤ length (bool_column self.now).rows }
-        ensures { IsPlainSlice (bool_column self.now) start end result }
+        ensures slice { IsPlainSlice (bool_column self.now) start end result }
+        ensures stored { IfSome result
+            (λ a. a.stored ≡ slice_range (bool_column self.now).stored start end) }
     {
         if !self.validity().is_constant_form() {
             return None;
@@ -129,6 +135,46 @@ impl ReadRow for BoolArray {
             Cell::Bit(self.bits().value(i))
         } else {
             Cell::Null
+        }
+    }
+}
+
+// Which rows are true.
+impl BoolArray {
+    // The rows from `start` on.
+    #[cycle(truth)]
+    #[tactic(auto, using(crate::proofs::TruthBits::truth))]
+    pub(crate) fn true_from(&self, start: usize) -> Stretch
+        requires { start < length (bool_column self.now).rows }
+        ensures { IsStretch (true_bits (bool_column self.now)) start result.word result.len }
+    {
+        let bits = self.bits();
+        let len = (bits.len() - start).min(64);
+        match self.validity() {
+            Validity::NonNullable | Validity::AllValid => Stretch {
+                word: word_from(bits, start, len),
+                len,
+            },
+            Validity::AllInvalid => Stretch { word: 0, len },
+            Validity::Array(there) => {
+                let there = there.true_from(start);
+                Stretch {
+                    word: there.word & word_from(bits, start, there.len),
+                    len: there.len,
+                }
+            }
+        }
+    }
+
+    // The bits that say which rows are true, where they are those that are stored.
+    #[tactic(auto, using(crate::proofs::TruthBits::truth))]
+    pub(crate) fn true_bits(&self) -> Option<&BitBuffer>
+        ensures { IfSome result (λ b. b.now.bits ≡ true_bits (bool_column self.now)) }
+    {
+        let bits = self.bits();
+        match self.validity() {
+            Validity::NonNullable | Validity::AllValid => Some(bits),
+            Validity::AllInvalid | Validity::Array(_) => None,
         }
     }
 }

@@ -3,7 +3,7 @@ ghost use Rattle.std.specs.Prelude.{◌≡◌, ◌<◌, [], ◌∷◌, length, m
 ghost use Rattle.vx_types.specs.DType.{type_of};
 ghost use Rattle.vx_types.specs.RowValue.{bytes, null};
 ghost use Rattle.vx_types.specs.Scalar.{has_scalars, scalar_row};
-ghost use Rattle.vx_types.specs.TypeTree.{are_carried, extension_type, fixed_type, is_carried, list_type, primitive_type, struct_type, types_of, union_type};
+ghost use Rattle.vx_types.specs.TypeTree.{extension_type, fixed_type, is_carried, list_type, primitive_type, struct_type, union_type};
 ghost use Rattle.vx_types.specs.declared.nullability.Nullability.TheVariants.{NonNullable};
 ghost use Rattle.vx_types.specs.declared.ptype.PType.TheVariants.{U8};
 ghost use Rattle.vx_model.specs.Columns.{are_long, rows_across, types_in};
@@ -296,26 +296,6 @@ fn filler_union(
     match UnionArray::try_new(ids.into_ref(alloc)?, variants.share(), columns) {
         Ok(union) => Ok(union.into_array()),
         Err(_) => unreachable!(),
-    }
-}
-
-impl Columns {
-    /// So many rows of each of these types, which are ones that columns may have; none of the rows
-    /// is to be shown. `NoMemory` alone.
-    #[cycle(filler)]
-    #[tactic(auto, using(crate::proofs::Fillers::each_filler))]
-    pub fn fillers(alloc: Global, types: &[DType], len: usize) -> Result<Columns, NoMemory>
-        requires { are_carried (types_of (map type_of types.now)) ≡ true }
-        ensures types { IfOk result (λ f. types_in f ≡ map type_of types.now) }
-        ensures long { IfOk result (λ f. are_long len f ≡ true) }
-        ensures rows { IfOk result (λ f. rows_across f len
-            ≡ replicate len (map filler_row (map type_of types.now))) }
-    {
-        let mut fillers = Vec::with_capacity(alloc, types.len())?;
-        for dtype in types {
-            fillers.push(Array::filler(alloc, dtype, len)?.into_ref(alloc)?)?;
-        }
-        Columns::new(alloc, fillers)
     }
 }
 

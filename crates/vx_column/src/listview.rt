@@ -1,9 +1,10 @@
 //! Layout `ListView`: lists that each have an offset and a size.
-ghost use Rattle.std.specs.Prelude.{◌≡◌, ◌≤◌, ◌<◌, None, length, slice_index_or, IfOk};
+ghost use Rattle.std.specs.Prelude.{◌≡◌, ◌≤◌, ◌<◌, None, is_some, length, slice_index_or, IfOk, IfSome};
 ghost use Rattle.vx_bits.specs.Results.{FailsBy};
 ghost use Rattle.vx_positions.specs.Offsets.{offset_positions};
 ghost use Rattle.vx_model.specs.ListView.{listview_column, listview_fault, listview_spans};
 ghost use Rattle.vx_model.specs.Numbers.{integers_of};
+ghost use Rattle.vx_model.specs.Plain.{is_listview_layout};
 ghost use Rattle.vx_column.specs.ListParts.{listview_parts};
 ghost use Rattle.vx_column.specs.Part.{IsPart};
 ghost use Rattle.vx_column.specs.Validity.{valid_of};
@@ -231,4 +232,17 @@ fn fault_of(
         return Some(ColumnError::BadSizes);
     }
     None
+}
+
+impl Array {
+    /// Its list views; some exactly where it is of layout `ListView`.
+    pub fn as_listview(&self) -> Option<&ListViewArray>
+        ensures value { IfSome result (λ v. listview_column v.now ≡ self.now) }
+        ensures told { is_some result ≡ is_listview_layout self.now.layout }
+    {
+        match self.layout() {
+            Layout::ListView(a) => Some(a),
+            _ => None,
+        }
+    }
 }

@@ -1,5 +1,5 @@
 //! Layout `Null`: rows that are all null.
-ghost use Rattle.std.specs.Prelude.{◌≡◌, ◌≤◌, IfSome, is_some, length};
+ghost use Rattle.std.specs.Prelude.{◌≡◌, ◌≤◌, IfSome, is_some, length, slice_range};
 ghost use Rattle.vx_model.specs.Null.{null_column};
 ghost use Rattle.vx_model.specs.Plain.{is_null_layout};
 ghost use Rattle.vx_model.specs.Step.{IsPlainSlice};
@@ -55,7 +55,9 @@ impl NullArray {
     pub(crate) fn slice_plain(&self, start: usize, end: usize) -> Option<Array>
         requires ordered { start ≤ end }
         requires within { end ≤ length (null_column self.now).rows }
-        ensures { IsPlainSlice (null_column self.now) start end result }
+        ensures slice { IsPlainSlice (null_column self.now) start end result }
+        ensures stored { IfSome result
+            (λ a. a.stored ≡ slice_range (null_column self.now).stored start end) }
     {
         Some(NullArray::new(end - start).into_array())
     }

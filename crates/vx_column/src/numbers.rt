@@ -1,6 +1,6 @@
 //! Reading one row as bytes or as a number.
-ghost use Rattle.std.specs.Prelude.{◌≡◌, ◌↔◌, ◌<◌, [], length, not, true, None, slice_index_or};
-ghost use Rattle.vx_types.specs.RowValue.{null, is_null};
+ghost use Rattle.std.specs.Prelude.{◌≡◌, ◌≢◌, ◌↔◌, ◌<◌, [], length, not, true, None, slice_index_or};
+ghost use Rattle.vx_types.specs.RowValue.{bytes, is_null, null};
 ghost use Rattle.vx_types.specs.Nullability.{is_nullable};
 ghost use Rattle.vx_types.specs.TypeTree.{is_int_type};
 ghost use Rattle.vx_model.specs.Numbers.{number_in};
@@ -27,7 +27,9 @@ impl Array {
     pub fn record_at(&self, i: usize) -> &[u8]
         requires records { stores_records self.now.layout ≡ true }
         requires row { i < length self.now.rows }
-        ensures { result.now ≡ slice_index_or self.now.stored i [] }
+        ensures stored { result.now ≡ slice_index_or self.now.stored i [] }
+        ensures row { slice_index_or self.now.rows i null ≢ null
+            → slice_index_or self.now.rows i null ≡ bytes result.now }
     {
         match self.records() {
             Some(records) => records.values().record_bytes(i),

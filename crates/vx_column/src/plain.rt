@@ -1,8 +1,6 @@
 //! What takes no memory: slices of plain columns, and the records of columns that store some.
-ghost use Rattle.std.specs.Prelude.{◌≡◌, ◌≤◌, ◌&&◌, length, option_map, is_some, IfSome};
-ghost use Rattle.vx_model.specs.Constant.{constant_column};
-ghost use Rattle.vx_model.specs.ListView.{listview_column};
-ghost use Rattle.vx_model.specs.Plain.{is_constant_layout, is_listview_layout, stores_records};
+ghost use Rattle.std.specs.Prelude.{◌≡◌, ◌≤◌, ◌&&◌, length, option_map, is_some, slice_range, IfSome};
+ghost use Rattle.vx_model.specs.Plain.{stores_records};
 ghost use Rattle.vx_model.specs.Records.{records_column};
 ghost use Rattle.vx_model.specs.Step.{IsPlainSlice};
 ghost use Rattle.vx_model.specs.Valid.{is_bools};
@@ -10,10 +8,8 @@ ghost use Rattle.vx_column.specs.Plain.{HasRecords};
 ghost use Rattle.vx_column.specs.Shown.{AreShownRowsOf};
 
 use crate::array::{Array, Layout};
-use crate::listview::ListViewArray;
 use crate::records::RecordArray;
 use vx_bits::{BitBuffer, Records};
-use vx_types::Scalar;
 
 impl Array {
     /// The records of its rows, one a row, where the layout stores records and no row is null by a
@@ -34,7 +30,8 @@ impl Array {
     pub fn slice_plain(&self, start: usize, end: usize) -> Option<Array>
         requires ordered { start ≤ end }
         requires within { end ≤ length self.now.rows }
-        ensures { IsPlainSlice self.now start end result }
+        ensures slice { IsPlainSlice self.now start end result }
+        ensures stored { IfSome result (λ a. a.stored ≡ slice_range self.now.stored start end) }
     {
         match self.layout() {
             Layout::Null(a) => a.slice_plain(start, end),
@@ -79,31 +76,6 @@ impl Array {
         match self.layout() {
             Layout::Primitive(a) => Some(a.rows()),
             Layout::Decimal(a) => Some(a.rows()),
-            _ => None,
-        }
-    }
-
-    /// The value that each row is; some exactly where it is of layout `Constant`: Vortex's
-    /// `as_constant`.
-    #[tactic(auto, using(vx_model::proofs::LazyRows::lazy_rows))]
-    pub fn as_constant(&self) -> Option<&Scalar>
-        ensures value { IfSome result (λ s. constant_column
-            (record { scalar = s.now; len = length self.now.rows }) ≡ self.now) }
-        ensures told { is_some result ≡ is_constant_layout self.now.layout }
-    {
-        match self.layout() {
-            Layout::Constant(a) => Some(a.scalar()),
-            _ => None,
-        }
-    }
-
-    /// Its list views; some exactly where it is of layout `ListView`.
-    pub fn as_listview(&self) -> Option<&ListViewArray>
-        ensures value { IfSome result (λ v. listview_column v.now ≡ self.now) }
-        ensures told { is_some result ≡ is_listview_layout self.now.layout }
-    {
-        match self.layout() {
-            Layout::ListView(a) => Some(a),
             _ => None,
         }
     }

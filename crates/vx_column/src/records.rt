@@ -1,5 +1,5 @@
 //! Layouts `Primitive` and `Decimal`, which store a record a row: Vortex's `FixedWidthArray`.
-ghost use Rattle.std.specs.Prelude.{◌≡◌, ◌≤◌, length, true, false, None, Some, is_some, option_map, IfSome};
+ghost use Rattle.std.specs.Prelude.{◌≡◌, ◌≤◌, length, true, false, None, Some, is_some, option_map, slice_range, IfSome};
 ghost use Rattle.vx_bits.specs.Results.{ok_unless};
 ghost use Rattle.vx_bits.specs.Records.{records_of, width_of};
 ghost use Rattle.vx_types.specs.DType.{type_of};
@@ -65,6 +65,18 @@ impl RecordType {
         match self {
             RecordType::Primitive(ptype) => DType::Primitive(*ptype, nullability),
             RecordType::Decimal(decimal) => DType::Decimal(*decimal, nullability),
+        }
+    }
+
+    /// The column of these records, as nullable as the validity. It takes no memory.
+    pub fn column(self, values: Records, validity: Validity) -> Array
+        requires width { kind_width (kind_of self) ≡ Some (width_of values) }
+        requires fitting { is_fitting (valid_of validity) (length (records_of values)) ≡ true }
+        ensures { result ≡ records_column (record_parts self values validity) }
+    {
+        match RecordArray::try_new(self, values, validity) {
+            Ok(array) => array.into_array(),
+            Err(_) => unreachable!(),
         }
     }
 }
@@ -200,7 +212,9 @@ impl RecordArray {
     pub(crate) fn slice_plain(&self, start: usize, end: usize) -> Option<Array>
         requires ordered { start ≤ end }
         requires within { end ≤ length (records_column self.now).rows }
-        ensures { IsPlainSlice (records_column self.now) start end result }
+        ensures slice { IsPlainSlice (records_column self.now) start end result }
+        ensures stored { IfSome result
+            (λ a. a.stored ≡ slice_range (records_column self.now).stored start end) }
     {
         if !self.validity().is_constant_form() {
             return None;

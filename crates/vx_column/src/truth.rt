@@ -6,30 +6,25 @@ ghost use Rattle.vx_bitfilter.specs.Pext.{pext};
 ghost use Rattle.vx_mask.specs.Mask.{mask_bits};
 ghost use Rattle.vx_types.specs.Nullability.{is_nullable};
 ghost use Rattle.vx_types.specs.RowValue.{null};
-ghost use Rattle.vx_model.specs.Bool.{bool_column};
-ghost use Rattle.vx_model.specs.Constant.{constant_column};
 ghost use Rattle.vx_model.specs.Filter.{filter_column};
 ghost use Rattle.vx_model.specs.Valid.{is_yes};
 ghost use Rattle.vx_column.specs.Truth.{IsStretch, bit_in, is_bool_type, true_bits};
 
 use crate::array::{Array, Layout};
-use crate::boolean::BoolArray;
 use crate::cell::Cell;
-use crate::constant::ConstantArray;
 use crate::filter::FilterArray;
-use crate::validity::Validity;
 use std::alloc::Global;
 use vx_bitfilter::pext_fallback;
 use vx_bits::{BitBuffer, BitBuilder, NoMemory};
 use vx_mask::Mask;
-use vx_types::{DType, ScalarValue};
+use vx_types::DType;
 
 // Of rows that follow one another, some and at most 64, which are true: a bit a row, the first one
 // lowest, and zeros above them.
 #[derive(Clone, Copy)]
-struct Stretch {
-    word: u64,
-    len: usize,
+pub(crate) struct Stretch {
+    pub(crate) word: u64,
+    pub(crate) len: usize,
 }
 
 impl Stretch {
@@ -55,7 +50,7 @@ impl Stretch {
 
 // `len` bits from bit `start` on, at most 64, the first one lowest, and zeros above them.
 #[inline(always)]
-fn word_from(bits: &BitBuffer, start: usize, len: usize) -> u64
+pub(crate) fn word_from(bits: &BitBuffer, start: usize, len: usize) -> u64
     requires few { len ≤ 64 }
     requires within { start + len ≤ length bits.now.bits }
     ensures { result ≡ number_of (take len (drop start bits.now.bits)) }
@@ -67,7 +62,7 @@ fn word_from(bits: &BitBuffer, start: usize, len: usize) -> u64
 
 // So many bits that are all this one, and zeros above them.
 #[tactic(auto, using(crate::proofs::Stretches::alike_bits))]
-fn alike(bit: bool, len: usize) -> u64
+pub(crate) fn alike(bit: bool, len: usize) -> u64
     requires { len ≤ 64 }
     ensures { result ≡ number_of (replicate len bit) }
 {
@@ -75,69 +70,6 @@ fn alike(bit: bool, len: usize) -> u64
         return 0;
     }
     if len == 64 { u64::MAX } else { (1 << len) - 1 }
-}
-
-impl ConstantArray {
-    // Whether each row is true.
-    #[tactic(auto, using(vx_model::proofs::Scalars::scalars))]
-    fn is_true(&self) -> bool
-        ensures { result ≡ is_yes self.now.scalar.row }
-    {
-        match self.scalar().value() {
-            ScalarValue::Bit(bit) => *bit,
-            ScalarValue::Null | ScalarValue::Bytes(_) => false,
-        }
-    }
-
-    // The rows from `start` on.
-    #[tactic(auto, using(vx_model::proofs::LazyRows::lazy_rows))]
-    fn true_from(&self, start: usize) -> Stretch
-        requires { start < length (constant_column self.now).rows }
-        ensures { IsStretch (true_bits (constant_column self.now)) start result.word result.len }
-    {
-        let len = (self.len() - start).min(64);
-        let word = alike(self.is_true(), len);
-        Stretch { word, len }
-    }
-}
-
-impl BoolArray {
-    // The rows from `start` on.
-    #[cycle(truth)]
-    #[tactic(auto, using(crate::proofs::TruthBits::truth))]
-    fn true_from(&self, start: usize) -> Stretch
-        requires { start < length (bool_column self.now).rows }
-        ensures { IsStretch (true_bits (bool_column self.now)) start result.word result.len }
-    {
-        let bits = self.bits();
-        let len = (bits.len() - start).min(64);
-        match self.validity() {
-            Validity::NonNullable | Validity::AllValid => Stretch {
-                word: word_from(bits, start, len),
-                len,
-            },
-            Validity::AllInvalid => Stretch { word: 0, len },
-            Validity::Array(there) => {
-                let there = there.true_from(start);
-                Stretch {
-                    word: there.word & word_from(bits, start, there.len),
-                    len: there.len,
-                }
-            }
-        }
-    }
-
-    // The bits that say which rows are true, where they are those that are stored.
-    #[tactic(auto, using(crate::proofs::TruthBits::truth))]
-    fn true_bits(&self) -> Option<&BitBuffer>
-        ensures { IfSome result (λ b. b.now.bits ≡ true_bits (bool_column self.now)) }
-    {
-        let bits = self.bits();
-        match self.validity() {
-            Validity::NonNullable | Validity::AllValid => Some(bits),
-            Validity::AllInvalid | Validity::Array(_) => None,
-        }
-    }
 }
 
 impl FilterArray {
@@ -230,7 +162,7 @@ impl Array {
     // The rows from `start` on, as many as are told at once.
     #[cycle(truth)]
     #[tactic(auto, using(vx_model::proofs::Layouts::layout_rows, vx_model::proofs::LazyRows::lazy_rows))]
-    fn true_from(&self, start: usize) -> Stretch
+    pub(crate) fn true_from(&self, start: usize) -> Stretch
         requires { start < length self.now.rows }
         ensures { IsStretch (true_bits self.now) start result.word result.len }
     {

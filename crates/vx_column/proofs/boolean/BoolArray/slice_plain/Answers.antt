@@ -9,8 +9,8 @@ use Rattle.vx_model.proofs.Steps.{is_slice-bool}
 use Rattle.vx_column.specs.Validity.{valid_of}
 use Rattle.vx_column.proofs.boolean.BoolArray.slice_plain.Goals as goal
 
-pub returns : goal.returns
-returns c =
+pub returns-clause-slice : goal.returns-clause-slice
+returns-clause-slice c =
     let p = c.args.self.now in let s = c.args.start in let e = c.args.end in
     let sound = c.validity.ensures.valid in
     let k : is_constant_form (cover_by p.valid) ≡ true = search rules in

@@ -5,8 +5,8 @@ use Rattle.vx_model.proofs.Layouts.{length-null}
 use Rattle.vx_model.proofs.Steps.{is_slice-null}
 use Rattle.vx_column.proofs.null.NullArray.slice_plain.Goals as goal
 
-pub returns : goal.returns
-returns c =
+pub returns-clause-slice : goal.returns-clause-slice
+returns-clause-slice c =
     let inside : c.args.end ≤ c.args.self.now = omega (arith, length-null c.args.self.now, c.requires.within) in
     rw (c.into_array.ensures ∙ ap null_column c.new.ensures)
     (refl, is_slice-null c.args.self.now c.args.start c.args.end c.requires.ordered inside)
