@@ -4,7 +4,7 @@ use Rattle.serde_json.specs.Data.{Data, Items}
 use Rattle.serde_json.specs.Find.{get, as_str, as_array}
 use Rattle.vx_model.specs.Column.{Column}
 use Rattle.vx_model.specs.Valid.{Valid}
-use Rattle.vx_model.specs.Bool.{bool_with, bool_fault, bool_column}
+use Rattle.vx_model.specs.Bool.{BoolParts, bool_with, bool_fault, bool_column}
 use Rattle.vx_json.specs.Meaning.{◌>>=◌, found_or}
 use Rattle.vx_json.specs.Members.{closed}
 use Rattle.vx_json.specs.Items.{each}
@@ -14,34 +14,39 @@ use Rattle.vx_json.specs.Bools.{bool_or_clear}
 use Rattle.vx_column_json.specs.Made.{made}
 use Rattle.vx_column_json.specs.Validity.{validity_alone, validity_beside}
 
--- the column of these bits, where the validity can be theirs
-abbrev pub bool_made : List Bool → Valid → Option Column
-bool_made bits valid = made bool_fault bool_column (bool_with bits 0 valid)
+-- these bits, from that bit of a byte on, where the validity can be theirs
+abbrev pub bools_made : List Bool → ℕ → Valid → Option BoolParts
+bools_made bits offset valid = made bool_fault (λ p. p) (bool_with bits offset valid)
 
 -- a list of bools and nulls
-unfoldable pub bool_by_items : Option Valid → Items → Option Column
-bool_by_items stated items = do
+unfoldable pub bools_by_items : Option Valid → ℕ → Items → Option BoolParts
+bools_by_items stated offset items = do
   valid ← validity_beside stated items
   bits ← each bool_or_clear items
-  bool_made bits valid
+  bools_made bits offset valid
 
 -- a text of `0` and `1`
-unfoldable pub bool_by_text : Option Valid → List ℕ → Option Column
-bool_by_text stated text = do
+unfoldable pub bools_by_text : Option Valid → ℕ → List ℕ → Option BoolParts
+bools_by_text stated offset text = do
   bits ← bits_in text
-  bool_made bits (validity_alone stated)
+  bools_made bits offset (validity_alone stated)
 
-abbrev pub bool_by_kind : Option Valid → Option (List ℕ) → Option Items → Option Column
-bool_by_kind stated (Some s) items = bool_by_text stated s
-bool_by_kind stated None items = items >>= bool_by_items stated
+abbrev pub bools_by_kind : Option Valid → ℕ → Option (List ℕ) → Option Items → Option BoolParts
+bools_by_kind stated offset (Some s) items = bools_by_text stated offset s
+bools_by_kind stated offset None items = items >>= bools_by_items stated offset
 
--- at which bit of a byte the first bit is stored, which no row shows
+-- at which bit of a byte the first bit is stored
 unfoldable pub offset_of : Data → Option ℕ
 offset_of d = found_or 0 (at_most 7) (get (codes "offset") d)
 
-unfoldable pub bool_by : Data → Option Valid → Option Column
-bool_by d stated = do
+-- the bits as they are stored, and which rows are there
+unfoldable pub bools_by : Data → Option Valid → Option BoolParts
+bools_by d stated = do
   o ← closed (codes "layout" ∷ codes "values" ∷ codes "validity" ∷ codes "offset" ∷ []) d
   offset ← offset_of o
   values ← get (codes "values") o
-  bool_by_kind stated (as_str values) (as_array values)
+  bools_by_kind stated offset (as_str values) (as_array values)
+
+-- the column of them; no row shows the offset
+unfoldable pub bool_by : Data → Option Valid → Option Column
+bool_by d stated = bools_by d stated >>= λ p. Some (bool_column p)

@@ -4,14 +4,14 @@ use Rattle.serde_json.specs.Data.{Data, Items}
 use Rattle.serde_json.specs.Find.{get, as_str, as_array, as_bool}
 use Rattle.vx_model.specs.Column.{Column}
 use Rattle.vx_model.specs.Valid.{Valid, non_nullable, all_valid, all_invalid, by_column}
-use Rattle.vx_model.specs.Bool.{bool_with, bool_column}
+use Rattle.vx_model.specs.Bool.{bits_column}
 use Rattle.vx_json.specs.Meaning.{◌>>=◌}
 use Rattle.vx_json.specs.Items.{each}
 use Rattle.vx_json.specs.Bools.{has_null, presence_of}
 
 -- a column of bools, none of them null
 abbrev pub by_bits : List Bool → Valid
-by_bits bits = by_column (bool_column (bool_with bits 0 non_nullable))
+by_bits bits = by_column (bits_column bits 0)
 
 -- the constant forms
 unfoldable pub validity_named : List ℕ → Option Valid

@@ -4,7 +4,7 @@ ghost use Rattle.std.specs.Option.{option_map};
 ghost use Rattle.serde_json.specs.View.{view, items_view};
 ghost use Rattle.vx_column.specs.Validity.{valid_of};
 ghost use Rattle.vx_json.specs.Meaning.{Gives};
-ghost use Rattle.vx_column_json.specs.Boolean.{bool_made, offset_of, bool_by_items, bool_by_text, bool_by};
+ghost use Rattle.vx_column_json.specs.Boolean.{bools_made, offset_of, bools_by_items, bools_by_text, bools_by, bool_by};
 
 use crate::made::made;
 use crate::validity::{validity_alone, validity_beside};
@@ -14,42 +14,42 @@ use vx_bits::BitBuffer;
 use vx_column::{Array, BoolArray, Validity};
 use vx_json::{DocError, at_most, bits_in, bools_or_nulls_of, closed, items_in, member};
 
-/// The column of these bits. `Malformed` where the validity can't be theirs.
+/// The column of these bits, stored as they are. `Malformed` where the validity can't be theirs.
 #[tactic(auto, unfolding(crate::specs::Made::made))]
-fn bool_made(bits: BitBuffer, validity: Validity) -> Result<Array, DocError>
-    ensures { Gives (λ c. c) result (bool_made bits.bits (valid_of validity)) }
+fn bools_made(bits: BitBuffer, validity: Validity) -> Result<BoolArray, DocError>
+    ensures { Gives (λ a. a) result (bools_made bits.bits bits.offset (valid_of validity)) }
 {
-    Ok(made(BoolArray::try_new(bits, validity))?.into_array())
+    made(BoolArray::try_new(bits, validity))
 }
 
-#[tactic(auto, unfolding(crate::specs::Boolean::bool_by_items))]
-fn bool_by_items(
+#[tactic(auto, unfolding(crate::specs::Boolean::bools_by_items))]
+fn bools_by_items(
     alloc: Global,
     stated: Option<Validity>,
-    items: &Vec<Value>,
     offset: usize,
-) -> Result<Array, DocError>
+    items: &Vec<Value>,
+) -> Result<BoolArray, DocError>
     requires { offset ≤ 7 }
-    ensures { Gives (λ c. c) result
-        (bool_by_items (option_map valid_of stated) (items_view items.now.items)) }
+    ensures { Gives (λ a. a) result
+        (bools_by_items (option_map valid_of stated) offset (items_view items.now.items)) }
 {
     let validity = validity_beside(alloc, stated, items)?;
     let bits = bools_or_nulls_of(alloc, items, offset)?;
-    bool_made(bits, validity)
+    bools_made(bits, validity)
 }
 
-#[tactic(auto, unfolding(crate::specs::Boolean::bool_by_text))]
-fn bool_by_text(
+#[tactic(auto, unfolding(crate::specs::Boolean::bools_by_text))]
+fn bools_by_text(
     alloc: Global,
     stated: Option<Validity>,
-    text: &str,
     offset: usize,
-) -> Result<Array, DocError>
+    text: &str,
+) -> Result<BoolArray, DocError>
     requires { offset ≤ 7 }
-    ensures { Gives (λ c. c) result (bool_by_text (option_map valid_of stated) text.now) }
+    ensures { Gives (λ a. a) result (bools_by_text (option_map valid_of stated) offset text.now) }
 {
     let bits = bits_in(alloc, text.as_bytes(), offset)?;
-    bool_made(bits, validity_alone(stated))
+    bools_made(bits, validity_alone(stated))
 }
 
 /// At which bit of a byte the first bit is to be stored.
@@ -64,6 +64,20 @@ fn offset_of(value: &Value) -> Result<usize, DocError>
     }
 }
 
+/// The bits at their offset, and the validity, of which the column is made.
+#[tactic(auto, unfolding(crate::specs::Boolean::bools_by))]
+fn bools_by(alloc: Global, value: &Value, stated: Option<Validity>) -> Result<BoolArray, DocError>
+    ensures { Gives (λ a. a) result (bools_by (view value.now) (option_map valid_of stated)) }
+{
+    let object = closed(value, &["layout", "values", "validity", "offset"])?;
+    let offset = offset_of(object)?;
+    let values = member(object, "values")?;
+    match values.as_str() {
+        Some(text) => bools_by_text(alloc, stated, offset, text),
+        None => bools_by_items(alloc, stated, offset, items_in(values)?),
+    }
+}
+
 /// The column of layout `Bool` that the value means, by the validity that it states. `Malformed`
 /// where an item is no bool or null, the offset is past 7, the validity can't be the column's, or
 /// there is another member.
@@ -71,11 +85,5 @@ fn offset_of(value: &Value) -> Result<usize, DocError>
 pub fn bool_by(alloc: Global, value: &Value, stated: Option<Validity>) -> Result<Array, DocError>
     ensures { Gives (λ c. c) result (bool_by (view value.now) (option_map valid_of stated)) }
 {
-    let object = closed(value, &["layout", "values", "validity", "offset"])?;
-    let offset = offset_of(object)?;
-    let values = member(object, "values")?;
-    match values.as_str() {
-        Some(text) => bool_by_text(alloc, stated, text, offset),
-        None => bool_by_items(alloc, stated, items_in(values)?, offset),
-    }
+    Ok(bools_by(alloc, value, stated)?.into_array())
 }

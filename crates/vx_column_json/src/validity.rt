@@ -1,15 +1,14 @@
 //! Validities, but for those that the document states as columns.
-ghost use Rattle.std.specs.Prelude.{◌≡◌, IfOk};
+ghost use Rattle.std.specs.Prelude.{◌≡◌};
 ghost use Rattle.std.specs.Option.{option_map};
 ghost use Rattle.serde_json.specs.View.{items_view};
 ghost use Rattle.vx_column.specs.Validity.{valid_of};
 ghost use Rattle.vx_json.specs.Meaning.{Gives};
-ghost use Rattle.vx_column_json.specs.Validity.{by_bits, validity_named, validity_listed, validity_alone, validity_beside};
+ghost use Rattle.vx_column_json.specs.Validity.{validity_named, validity_listed, validity_alone, validity_beside};
 
 use serde_json::Value;
 use std::alloc::Global;
-use vx_bits::{BitBuffer, NoMemory};
-use vx_column::{BoolArray, Validity};
+use vx_column::Validity;
 use vx_json::{DocError, bools_of, has_null, presence_of};
 
 /// The constant form of this name. `Malformed` where there is none.
@@ -25,19 +24,11 @@ pub fn validity_named(text: &str) -> Result<Validity, DocError>
     }
 }
 
-/// The validity that a column of these bits is.
-fn by_bits(alloc: Global, bits: BitBuffer) -> Result<Validity, NoMemory>
-    ensures { IfOk result (λ v. valid_of v ≡ by_bits bits.bits) }
-{
-    let column = BoolArray::of(bits, Validity::NonNullable).into_array();
-    Ok(Validity::Array(column.into_ref(alloc)?))
-}
-
 /// The validity that a list of bools means. `Malformed` where an item is none.
 pub fn validity_listed(alloc: Global, items: &Vec<Value>) -> Result<Validity, DocError>
     ensures { Gives valid_of result (validity_listed (items_view items.now.items)) }
 {
-    Ok(by_bits(alloc, bools_of(alloc, items)?)?)
+    Ok(Validity::from_bits(alloc, bools_of(alloc, items)?)?)
 }
 
 /// The one that the document states, if it states one.
@@ -68,7 +59,7 @@ pub(crate) fn validity_beside(
             Ok(validity)
         },
         None => match presence_of(alloc, items)? {
-            Some(bits) => Ok(by_bits(alloc, bits)?),
+            Some(bits) => Ok(Validity::from_bits(alloc, bits)?),
             None => Ok(Validity::NonNullable),
         },
     }
