@@ -107,13 +107,13 @@ pub(crate) fn stored(alloc: Global, parts: Parts, len: usize) -> Result<Piecewis
 /// The numbers of a sequence, or why it has none.
 fn print_expanded(rt: &impl Print, alloc: Global, pieces: &PiecewiseSequence) -> Result<(), Fail> {
     match pieces.execute(alloc) {
-        Ok(column) => print_line(rt, &column),
+        Ok(column) => print_line(rt, "numbers", &column),
         Err(error) => Ok(print_shown(rt, "no numbers", &error)?),
     }
 }
 
-fn print_line(rt: &impl Print, column: &Array) -> Result<(), Fail> {
-    rt.print("numbers:")?;
+fn print_line(rt: &impl Print, name: &str, column: &Array) -> Result<(), Fail> {
+    print!(rt; "{name}:")?;
     print_numbers(rt, column)?;
     rt.println("")?;
     Ok(())
@@ -135,9 +135,37 @@ fn first_at_least(pieces: &PiecewiseSequence, n: usize) -> Result<Option<usize>,
     Ok(pieces.first_at_least(n))
 }
 
-/// A sequence of as many numbers as its pieces have.
+/// The columns that a sequence is made of.
+fn print_slots(rt: &impl Print, pieces: &PiecewiseSequence) -> Result<(), Fail> {
+    print_line(rt, "starts", pieces.starts())?;
+    print_line(rt, "lengths", pieces.lengths())?;
+    print_line(rt, "multipliers", pieces.multipliers())
+}
+
+/// A sequence of as many numbers as its pieces have, by either constructor.
 pub(crate) fn print_sound(rt: &impl Print, alloc: Global) -> Result<(), Fail> {
-    print_five(rt, alloc, &stored(alloc, TWO, 5)?)
+    let five = stored(alloc, TWO, 5)?;
+    print_five(rt, alloc, &five)?;
+    print_five(rt, alloc, &unchecked(&five))
+}
+
+/// The sequence of the same columns, by the constructor that tests nothing.
+fn unchecked(pieces: &PiecewiseSequence) -> PiecewiseSequence {
+    PiecewiseSequence::new_unchecked(
+        pieces.starts().share(),
+        pieces.lengths().share(),
+        pieces.multipliers().share(),
+        pieces.len(),
+    )
+}
+
+/// Each number of a piece whose second one is past `usize::MAX`, and one behind its end.
+pub(crate) fn print_past(rt: &impl Print, alloc: Global) -> Result<(), Fail> {
+    let past = stored(alloc, PAST, 2)?;
+    for i in 0..3 {
+        println!(rt; "number {i} from MAX by 1: {:?}", past.scalar_at(i))?;
+    }
+    Ok(())
 }
 
 fn print_five(rt: &impl Print, alloc: Global, five: &PiecewiseSequence) -> Result<(), Fail> {
@@ -146,7 +174,7 @@ fn print_five(rt: &impl Print, alloc: Global, five: &PiecewiseSequence) -> Resul
     print_number(rt, "number 5", five, 5)?;
     print_shown(rt, "from 4 on", &first_at_least(five, 4)?)?;
     print_shown(rt, "from 5 on", &first_at_least(five, 5)?)?;
-    Ok(())
+    print_slots(rt, five)
 }
 
 /// A sequence that declares a number more, and one that is refused.
