@@ -1,8 +1,10 @@
 //! The unwrapped form of a column.
-ghost use Rattle.std.specs.Prelude.{◌≡◌, true, false, IfOk, IsOk};
+ghost use Rattle.std.specs.Prelude.{◌≡◌, true, false, IfOk, IfSome, IsOk};
+ghost use Rattle.vx_types.specs.Scalar.{is_text_kind};
 ghost use Rattle.vx_types.specs.TypeTree.{is_flat};
 ghost use Rattle.vx_model.specs.Plain.{is_lazy_layout, is_unwrapped};
 ghost use Rattle.vx_model.specs.Step.{IsStep};
+ghost use Rattle.vx_stored.specs.Scalars.{text_layout};
 
 use crate::parts::{Parts, Step};
 use std::alloc::Global;
@@ -25,6 +27,9 @@ pub(crate) trait ExecuteRows: Parts {
 
 /// The same rows and type, unwrapped where the type is flat, and of no lazy layout. `NoMemory`
 /// alone, and never where the column is unwrapped.
+///
+/// A `Constant` of texts becomes a `VarBinView`, or a `VarBin` where its value has 2^32 bytes or
+/// more.
 #[cycle(execute)]
 pub fn execute(alloc: Global, array: &Array, policy: &Policy) -> Result<Array, NoMemory>
     ensures same { IfOk result (IsStep array.now array.now.rows array.now.dtype) }
@@ -32,6 +37,8 @@ pub fn execute(alloc: Global, array: &Array, policy: &Policy) -> Result<Array, N
         → IfOk result (λ a. is_unwrapped a ≡ true) }
     ensures direct { IfOk result (λ a. is_lazy_layout a.layout ≡ false) }
     ensures kept { is_unwrapped array.now ≡ true → IsOk result }
+    ensures texts { IfSome array.now.constant (λ x. is_text_kind array.now.dtype.kind ≡ true
+        → IfOk result (λ a. a.layout ≡ text_layout x)) }
 {
     match array.layout() {
         Layout::Null(_) => Ok(array.share()),

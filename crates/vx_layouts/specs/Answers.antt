@@ -1,7 +1,7 @@
 -- What a layout answers to one step over a column of its own: the rows of the step, or none where
 -- it leaves the step to its caller.
-use Rattle.std.specs.Prelude.{◌≡◌, ℕ, ◌==◌, ◌||◌, Bool, List, length, Option, is_none, Result, IfOk}
-use Rattle.std.specs.Prelude.{IfSome}
+use Rattle.std.specs.Prelude.{◌≡◌, ℕ, ◌==◌, ◌||◌, Bool, false, List, length, Option, is_none, Result}
+use Rattle.std.specs.Prelude.{IfOk, IfSome}
 use Rattle.std.specs.List.{items_where_true}
 use Rattle.vx_bits.specs.BitBuffer.{true_count_of}
 use Rattle.vx_bits.specs.Results.{FailsBy}
@@ -36,8 +36,8 @@ pub record AnswersFilter (c : Column) (bits : List Bool) (declines : Bool)
   pub kept : IfOk result (λ r. IfSome r (IsCut c (items_where_true bits c.rows)))
   pub declined : IfOk result (λ r. is_none r ≡ declines)
 
--- the answer to a slice from one position up to another
-pub record AnswersSlice (c : Column) (start end : ℕ) (declines : Bool)
-    (result : Result (Option Column) NoMemory) : Type 0 where
+-- the answer to a slice from one position up to another, which no layout declines
+pub record AnswersSlice (c : Column) (start end : ℕ) (result : Result (Option Column) NoMemory)
+    : Type 0 where
   pub cut : IfOk result (λ r. IfSome r (IsSlice c start end))
-  pub declined : IfOk result (λ r. is_none r ≡ declines)
+  pub never_none : IfOk result (λ r. is_none r ≡ false)

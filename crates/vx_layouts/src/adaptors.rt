@@ -1,5 +1,5 @@
 //! Takes as a dictionary asks for them: of its values, at its codes.
-ghost use Rattle.std.specs.Prelude.{◌≡◌, ◌≢◌, true, None, Some, Ok, IfSome, option_map};
+ghost use Rattle.std.specs.Prelude.{◌≡◌, ◌≢◌, false, true, None, Some, Ok, IfSome, option_map};
 ghost use Rattle.vx_types.specs.TypeTree.{is_int_type};
 ghost use Rattle.vx_model.specs.Column.{Codes};
 ghost use Rattle.vx_pieces.specs.Indices.{by_column, index_value};
@@ -61,7 +61,7 @@ impl<V: TakeReduce> TakeReduceAdaptor<V> {
         ensures others { child_idx ≢ 1 → result ≡ Ok None }
         ensures values { child_idx ≡ 1 → (codes : Codes)
             → parent.entry.array.now.codes ≡ Some codes
-            → AnswersCodes array.entry.array.now codes V.declines result }
+            → AnswersCodes array.entry.array.now codes (λ _ _. false) result }
     {
         if child_idx != VALUES {
             return Ok(None);

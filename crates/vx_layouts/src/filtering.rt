@@ -1,5 +1,5 @@
 //! The filters that a layout answers itself: two traits, for two times. What they promise is the
-//! same.
+//! same, but that only a filter while columns are executed may be left to the caller.
 //!
 //! A layout that leaves no filter to its caller is marked, and a filter of it is the one over every
 //! layout.
@@ -17,15 +17,11 @@ use vx_mask::{Mask, Policy};
 
 /// A layout that answers a filter while columns are put together: Vortex's `FilterReduce`.
 pub trait FilterReduce: VTable {
-    // whether a filter of a column by these bits is left to the caller
-    ghost declines: { Column → List Bool → Bool };
-
     /// The rows at the set positions of a mask that is as long, as [`crate::filter`] gives them by
-    /// the policy of Vortex; none where the filter is left to the caller.
+    /// the policy of Vortex: never `None`.
     fn filter(alloc: Global, array: ArrayView<'_, Self>, mask: &Mask) -> Answer
         requires { length (mask_bits mask.now) ≡ length array.array.now.rows }
-        ensures { AnswersFilter array.entry.array.now (mask_bits mask.now)
-            (declines array.entry.array.now (mask_bits mask.now)) result };
+        ensures { AnswersFilter array.entry.array.now (mask_bits mask.now) false result };
 }
 
 /// A layout that answers a filter while columns are executed: Vortex's `FilterKernel`.
@@ -49,8 +45,6 @@ fn kept(alloc: Global, array: &Array, mask: &Mask) -> Answer
 }
 
 impl<V: FilterReduceAlways> FilterReduce for V {
-    ghost declines = { λ _ _. false };
-
     fn filter(alloc: Global, array: ArrayView<'_, V>, mask: &Mask) -> Answer
         requires { length (mask_bits mask.now) ≡ length array.array.now.rows }
         ensures { AnswersFilter array.entry.array.now (mask_bits mask.now) false result }

@@ -1,5 +1,6 @@
 //! Takes from a column of any layout, with the indices judged first, and the takes that a layout
-//! answers itself: two traits, for two times. What they promise is the same.
+//! answers itself: two traits, for two times. What they promise is the same, but that only a take
+//! while columns are executed may be left to the caller.
 //!
 //! A layout that leaves no take to its caller is marked, and a take of it is the one over every
 //! layout.
@@ -86,14 +87,10 @@ pub fn take(
 
 /// A layout that answers a take while columns are put together: Vortex's `TakeReduce`.
 pub trait TakeReduce: VTable {
-    // whether a take of so many indices from a column is left to the caller
-    ghost declines: { Column → ℕ → Bool };
-
-    /// The rows that indices name, as [`crate::take`] gives them by the policy of Vortex; none
-    /// where the take is left to the caller. The errors of the indices come before either.
+    /// The rows that indices name, as [`crate::take`] gives them by the policy of Vortex: never
+    /// `None`.
     fn take(alloc: Global, array: ArrayView<'_, Self>, indices: &Indices) -> Answer<TakeError>
-        ensures { AnswersTake array.entry.array.now (index_value indices.now)
-            (declines array.entry.array.now (index_len (index_value indices.now))) result };
+        ensures { AnswersTake array.entry.array.now (index_value indices.now) false result };
 }
 
 /// A layout that answers a take while columns are executed: Vortex's `TakeExecute`.
@@ -115,8 +112,6 @@ fn taken(alloc: Global, array: &Array, indices: &Indices) -> Answer<TakeError>
 }
 
 impl<V: TakeReduceAlways> TakeReduce for V {
-    ghost declines = { λ _ _. false };
-
     fn take(alloc: Global, array: ArrayView<'_, V>, indices: &Indices) -> Answer<TakeError>
         ensures { AnswersTake array.entry.array.now (index_value indices.now) false result }
     {

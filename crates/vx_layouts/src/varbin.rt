@@ -1,9 +1,11 @@
 //! Layout `VarBin`.
-ghost use Rattle.std.specs.Prelude.{◌≤◌, length, IfOk};
+ghost use Rattle.std.specs.Prelude.{◌≡◌, ◌≤◌, length, IfOk};
 ghost use Rattle.vx_bits.specs.Results.{FailsBy};
+ghost use Rattle.vx_types.specs.TypeTree.{primitive_kind};
 ghost use Rattle.vx_model.specs.Step.{IsSlice};
 ghost use Rattle.vx_model.specs.VarBin.{varbin_column};
 ghost use Rattle.vx_pieces.specs.Indices.{index_value};
+ghost use Rattle.vx_text.specs.Building.{type_for, type_of};
 ghost use Rattle.vx_layouts.specs.Taking.{IsTakeBy, take_fault};
 
 use crate::taking::{TakeError, take_fault};
@@ -57,6 +59,8 @@ pub fn take_varbin(
 ) -> Result<VarBinArray, TakeError>
     ensures taken { IfOk result (λ a. IsTakeBy (index_value indices.now)
         (varbin_column array.now) (varbin_column a)) }
+    ensures offsets { IfOk result (λ a. a.offsets.kind ≡ primitive_kind
+        (type_for (type_of array.now.offsets.kind) (length a.bytes))) }
     ensures fault { FailsBy result
         (take_fault (varbin_column array.now) (index_value indices.now)) TakeError.NoMemory }
 {

@@ -1,7 +1,9 @@
 -- The bit or the bytes that are stored for a value.
-use Rattle.std.specs.Prelude.{ℕ, Bool, false, List, Option, Some, None, replicate}
+use Rattle.std.specs.Prelude.{ℕ, ◌^◌, nat_lt, Bool, false, List, length, Option, Some, None, replicate, if◌then◌else◌}
 use Rattle.vx_types.specs.RowValue.{RowValue, bit, bytes}
 use Rattle.vx_types.specs.TypeTree.{TypeKind, kind_width}
+use Rattle.vx_types.specs.declared.layout_name.LayoutName.{LayoutName}
+use Rattle.vx_types.specs.declared.layout_name.LayoutName.TheVariants.{VarBin, VarBinView}
 use Rattle.vx_model.specs.Column.{Column}
 use Rattle.vx_model.specs.Valid.{Valid}
 use Rattle.vx_model.specs.Bool.{bool_column, bool_with}
@@ -17,6 +19,10 @@ bit_or_false x = false
 abbrev pub bytes_or_zeros : ℕ → RowValue → List ℕ
 bytes_or_zeros w (bytes b) = b
 bytes_or_zeros w x = zero_record w
+
+-- the layout of copies of a text: views of it, where its length fits a view
+abbrev pub text_layout : RowValue → LayoutName
+text_layout x = if nat_lt (length (bytes_or_zeros 0 x)) (2 ^ 32) then VarBinView else VarBin
 
 -- n copies of a value's bit or bytes, as a column of a type that has such
 abbrev pub copied_bits : RowValue → ℕ → Valid → Column

@@ -3,14 +3,14 @@ ghost use Rattle.std.specs.Prelude.{◌≡◌, length, map, replicate, true, fal
 ghost use Rattle.vx_bits.specs.Records.{records_of, width_of};
 ghost use Rattle.vx_types.specs.Decimal.{is_width};
 ghost use Rattle.vx_types.specs.RowValue.{null, bytes};
-ghost use Rattle.vx_types.specs.Scalar.{scalar_row};
+ghost use Rattle.vx_types.specs.Scalar.{is_text_kind, scalar_row};
 ghost use Rattle.vx_types.specs.Text.{text_kind};
 ghost use Rattle.vx_types.specs.TypeTree.{is_flat, kind_width, with_nullability};
 ghost use Rattle.vx_model.specs.Valid.{all_invalid, cover_by, is_fitting, is_flat_cover, nullability_by, present_bits, shown_rows, stored_rows};
 ghost use Rattle.vx_model.specs.Plain.{is_lazy_layout, is_unwrapped};
 ghost use Rattle.vx_column.specs.Records.{kind_of};
 ghost use Rattle.vx_column.specs.Validity.{valid_of};
-ghost use Rattle.vx_stored.specs.Scalars.{bit_or_false, bytes_or_zeros, copied_bits, copied_records};
+ghost use Rattle.vx_stored.specs.Scalars.{bit_or_false, bytes_or_zeros, copied_bits, copied_records, text_layout};
 
 use std::alloc::Global;
 use vx_bits::{BitBuffer, BitBuilder, Buffer, NoMemory, Records};
@@ -147,6 +147,7 @@ fn store_texts(
         ≡ record { kind = text_kind kind; nullability = nullability_by (valid_of validity) }) }
     ensures direct { IfOk result (λ a. is_lazy_layout a.layout ≡ false) }
     ensures form { IfOk result (λ a. a.dense ≡ false) }
+    ensures layout { IfOk result (λ a. a.layout ≡ text_layout (scalar_row value.now)) }
 {
     let text = text_or_none(alloc, value)?;
     if text.len() <= u32::MAX as usize {
@@ -175,6 +176,8 @@ pub fn store_scalar(
         → is_flat scalar.now.dtype ≡ true → IfOk result (λ a. is_unwrapped a ≡ true) }
     ensures direct { IfOk result (λ a. is_lazy_layout a.layout ≡ false) }
     ensures form { IfOk result (λ a. a.dense ≡ false) }
+    ensures texts { is_text_kind scalar.now.dtype.kind ≡ true
+        → IfOk result (λ a. a.layout ≡ text_layout scalar.now.row) }
 {
     let value = scalar.value();
     match scalar.dtype() {

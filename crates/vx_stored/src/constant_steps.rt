@@ -1,5 +1,5 @@
 //! Layout `Constant`: what a step leaves of one value for every row.
-ghost use Rattle.std.specs.Prelude.{◌≡◌, ◌≤◌, ℕ, length, map, replicate, true, false, IfOk};
+ghost use Rattle.std.specs.Prelude.{◌≡◌, ◌≤◌, ℕ, length, map, replicate, true, false, IfOk, IfSome};
 ghost use Rattle.std.specs.List.{items_where_true};
 ghost use Rattle.vx_positions.specs.Positions.{AllThere};
 ghost use Rattle.vx_types.specs.declared.nullability.Nullability.TheVariants.{NonNullable};
@@ -9,8 +9,10 @@ ghost use Rattle.vx_model.specs.Plain.{is_lazy_layout, is_unwrapped};
 ghost use Rattle.vx_model.specs.Valid.{is_yes, all_invalid, cover_by, is_fitting, is_flat_cover, nullability_by, present_bits, shown_rows};
 ghost use Rattle.vx_types.specs.RowValue.{null, is_null};
 ghost use Rattle.vx_types.specs.Nullability.{is_nullable};
+ghost use Rattle.vx_types.specs.Scalar.{is_text_kind};
 ghost use Rattle.vx_types.specs.TypeTree.{is_flat, with_nullability};
 ghost use Rattle.vx_column.specs.Validity.{valid_of};
+ghost use Rattle.vx_stored.specs.Scalars.{text_layout};
 ghost use Rattle.vx_model.specs.Step.{IsSlice, IsCut, IsStep, IsTake};
 
 use crate::constant::store_scalar;
@@ -142,6 +144,9 @@ pub fn execute_constant(alloc: Global, array: &ConstantArray) -> Result<Array, N
     ensures unwrapped { is_flat (constant_column array.now).dtype ≡ true
         → IfOk result (λ a. is_unwrapped a ≡ true) }
     ensures direct { IfOk result (λ a. is_lazy_layout a.layout ≡ false) }
+    ensures texts { IfSome (constant_column array.now).constant
+        (λ x. is_text_kind (constant_column array.now).dtype.kind ≡ true
+        → IfOk result (λ a. a.layout ≡ text_layout x)) }
 {
     let scalar = array.scalar();
     store_scalar(alloc, scalar, array.len(), validity_for(scalar))
