@@ -1,4 +1,3 @@
-pub mod Asks
 pub mod Checked
 pub mod Delivered
 pub mod Filed

@@ -7,7 +7,6 @@ ghost use Rattle.vx_types.specs.TypeTree.{primitive_type};
 ghost use Rattle.vx_types.specs.declared.nullability.Nullability.TheVariants.{NonNullable};
 ghost use Rattle.vx_types.specs.declared.nullability.Nullability.TheVariants.{Nullable};
 ghost use Rattle.vx_types.specs.declared.ptype.PType.TheVariants.{U32};
-ghost use Rattle.vx_model.specs.Bool.{bits_column};
 ghost use Rattle.vx_model.specs.Records.{records_column};
 ghost use Rattle.vx_pieces.specs.Indices.{by_column, index_value};
 ghost use Rattle.vx_steps.specs.Step.{step_value};
@@ -24,7 +23,7 @@ use crate::asked::Asked;
 use crate::reply::Reply;
 use std::alloc::Global;
 use vx_bits::{BitBuffer, BitBuilder, Buffer, NoMemory, Records};
-use vx_column::{Array, ArrayRef, BoolArray, Cell, FlatRef, PType, PrimitiveArray, Validity};
+use vx_column::{Array, ArrayRef, Cell, FlatRef, PType, PrimitiveArray, Validity};
 use vx_mask::{Mask, Policy};
 use vx_pieces::Indices;
 use vx_select::{SelectError, Step, select};
@@ -118,23 +117,13 @@ fn index_records(alloc: Global, kept: usize, draws: &[u32]) -> Result<Buffer<[u8
     Buffer::from_vec(alloc, records)
 }
 
-// The column that says which indices are there.
-fn presence_column(alloc: Global, draws: &[u32]) -> Result<ArrayRef, NoMemory>
-    ensures { IfOk result (λ c. c ≡ bits_column (map (λ d. not (d % 10 == 0)) draws.now) 0) }
-{
-    match BoolArray::try_new(presence(alloc, draws)?, Validity::NonNullable) {
-        Ok(column) => column.into_array().into_ref(alloc),
-        Err(_) => unreachable!(),
-    }
-}
-
 // The column of the indices.
 fn index_column(alloc: Global, kept: usize, draws: &[u32]) -> Result<ArrayRef, NoMemory>
     requires { 0 < kept }
     ensures { IfOk result (λ c. c ≡ records_column (drawn_indices kept draws.now)) }
 {
     let records = Records::W8(index_records(alloc, kept, draws)?);
-    let validity = Validity::Array(presence_column(alloc, draws)?);
+    let validity = Validity::from_bits(alloc, presence(alloc, draws)?)?;
     match PrimitiveArray::try_new(PType::I64, records, validity) {
         Ok(column) => column.into_array().into_ref(alloc),
         Err(_) => unreachable!(),

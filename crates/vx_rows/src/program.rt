@@ -96,13 +96,16 @@ fn run_made<K: Sink>(alloc: Global, seed: u32, sink: &mut K, trace: &mut Trace) 
 /// | 3 | the words are others; nothing was read or written |
 /// | 4 | the source failed; nothing was written |
 /// | 5 | the sink failed; what was written is a prefix of the text |
-/// | 6 | memory is wanting; nothing was written |
+/// | 6 | memory is wanting, or the text would be too long; nothing was written |
 /// | 7 | 16,777,217 bytes were taken; nothing was written |
+///
+/// The text would be too long where the rows of a column of text, of lists, of structs or of unions
+/// would be printed as more than 2 GiB.
 ///
 /// The whole text is made before the first write. Where the rows are behind a decoder, its calls
 /// are the text's last line, and are left in `trace`, also where the sink fails. So are the blocks
-/// that were read of a file; in `trace` the header's is the first. At every other status but 0, and
-/// for every other document, `trace` is as it was.
+/// that were read of a file; in `trace` the header's is the first. At every other status than 0 and
+/// 5, and for every other document, `trace` is as it was.
 pub fn run<S: Source, K: Sink>(
     alloc: Global,
     words: &[String],
