@@ -33,6 +33,7 @@ module _ (p : DictParts) (v : Column) (same : IsStep p.values p.values.rows p.va
         layout = λ e. let no : false ≡ true = e in cc;
         unwrapped = λ e. let no : false ≡ true = e in cc;
         direct = λ e. let no : true ≡ false = e in cc;
+        form = same.form;
       }
 
 pub ruleset other_values = (sound-other_values, step-other_values)

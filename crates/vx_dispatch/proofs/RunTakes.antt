@@ -91,4 +91,5 @@ runs_step c runs a within take =
       layout = take.layout;
       unwrapped = take.unwrapped;
       direct = take.direct;
+      form = take.form;
     }

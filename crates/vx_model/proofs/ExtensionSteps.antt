@@ -41,6 +41,7 @@ is_step-extension p a left t step =
       layout = λ _. refl;
       unwrapped = λ h. h;
       direct = λ h. h;
+      form = step.form;
     }
 
 pub is_cut-extension : (p : ExtensionParts) (a : Column) (left : List RowValue) → IsCut p.storage left a → IsCut (extension_column p) left (extension_column (extension_with p a))

@@ -39,7 +39,7 @@ at-replicate missing x m (Some p ∷ picks) there below =
 pub is_slice-constant : (p : ConstantParts) (s e : ℕ) → s ≤ e → e ≤ p.len → IsSlice (constant_column p) s e (constant_column (constant_with p (e - s)))
 is_slice-constant p s e h l =
     record {
-      step = record { rows = sym (slice_range-replicate p.len p.scalar.row s e h l); dtype = refl; layout = λ _. refl; unwrapped = λ h. h; direct = λ h. h };
+      step = record { rows = sym (slice_range-replicate p.len p.scalar.row s e h l); dtype = refl; layout = λ _. refl; unwrapped = λ h. h; direct = λ h. h; form = refl };
       plain = λ h. h;
       depth = omega arith;
     }
@@ -47,7 +47,7 @@ is_slice-constant p s e h l =
 pub is_filter-constant : (p : ConstantParts) (mask : List Bool) → length mask ≡ p.len → IsCut (constant_column p) (items_where_true mask (constant_column p).rows) (constant_column (constant_with p (true_count_of mask)))
 is_filter-constant p mask h =
     record {
-      step = record { rows = sym (items_where_true-replicate mask p.scalar.row) ∙ ap (λ k. items_where_true mask (replicate k p.scalar.row)) h; dtype = refl; layout = λ _. refl; unwrapped = λ h. h; direct = λ h. h };
+      step = record { rows = sym (items_where_true-replicate mask p.scalar.row) ∙ ap (λ k. items_where_true mask (replicate k p.scalar.row)) h; dtype = refl; layout = λ _. refl; unwrapped = λ h. h; direct = λ h. h; form = refl };
       plain = λ h. h;
       depth = omega arith;
     }
@@ -60,6 +60,7 @@ is_take-constant p picks there below =
       layout = λ _. refl;
       unwrapped = λ h. h;
       direct = λ h. h;
+      form = refl;
     }
 
 -- ---- dictionaries
@@ -94,6 +95,7 @@ is_slice-dict p codes s e h cut =
         layout = λ _. refl;
         unwrapped = λ h. h;
         direct = λ h. h;
+        form = refl;
       };
       plain = λ h. h;
       depth = omega (arith, cut.depth);
@@ -111,6 +113,7 @@ is_filter-dict p codes mask h cut =
         layout = λ _. refl;
         unwrapped = λ h. h;
         direct = λ h. h;
+        form = refl;
       };
       plain = λ h. h;
       depth = omega (arith, cut.depth);
@@ -127,6 +130,7 @@ is_take-dict p codes picks n h step =
       layout = λ _. refl;
       unwrapped = λ h. h;
       direct = λ h. h;
+      form = refl;
     }
 
 -- ---- lazy filters
@@ -141,27 +145,29 @@ is_slice-filter p child s e lo hi f h l at_lo at_hi cut =
         layout = λ _. refl;
         unwrapped = λ h. h;
         direct = λ h. h;
+        form = cut.step.form;
       };
       plain = λ h. h;
       depth = omega (arith, cut.depth);
     }
 
 -- a filter is no layout that stores its rows
-pub is_step-filter : (p : FilterParts) (left : List RowValue) (t : TypeTree) (a : Column) → a.rows ≡ left → a.dtype ≡ t → IsStep (filter_column p) left t a
-is_step-filter p left t a rows dtype =
+pub is_step-filter : (p : FilterParts) (left : List RowValue) (t : TypeTree) (a : Column) → a.rows ≡ left → a.dtype ≡ t → a.dense ≡ p.child.dense → IsStep (filter_column p) left t a
+is_step-filter p left t a rows dtype form =
     record {
       rows = rows;
       dtype = dtype;
       layout = λ h. let no : false ≡ true = h in cc;
       unwrapped = λ h. let no : false ≡ true = h in cc;
       direct = λ h. let no : true ≡ false = h in cc;
+      form = form;
     }
 
 -- the child's rows that both masks keep: the set positions whose ranks the other one selects
 pub is_filter-filter : (p : FilterParts) (other both : List Bool) (a : Column) → filter_fault p ≡ None → length other ≡ true_count_of p.mask → set_of both ≡ map (rank_of p.mask) (set_of other) → length both ≡ length p.mask → IsCut p.child (items_where_true both p.child.rows) a → IsCut (filter_column p) (items_where_true other (filter_column p).rows) a
 is_filter-filter p other both a f few set long cut =
     record {
-      step = is_step-filter p _ _ a (cut.step.rows ∙ kept-by-both p.mask other both p.child.rows (long-filter p f) few set long) cut.step.dtype;
+      step = is_step-filter p _ _ a (cut.step.rows ∙ kept-by-both p.mask other both p.child.rows (long-filter p f) few set long) cut.step.dtype cut.step.form;
       plain = λ h. let no : false ≡ true = h in cc;
       depth = omega (arith, cut.depth);
     }
@@ -169,4 +175,4 @@ is_filter-filter p other both a f few set long cut =
 -- the child's rows at the set positions that the ranks name
 pub is_take-filter : (p : FilterParts) (picks : List (Option ℕ)) (n : Nullability) (a : Column) → filter_fault p ≡ None → AreBelow picks (true_count_of p.mask) → IsTake p.child (translated p.mask picks) n a → IsTake (filter_column p) picks n a
 is_take-filter p picks n a f below step =
-    is_step-filter p _ _ a (step.rows ∙ sym (take_of_filter null p.mask p.child.rows picks (long-filter p f) below)) step.dtype
+    is_step-filter p _ _ a (step.rows ∙ sym (take_of_filter null p.mask p.child.rows picks (long-filter p f) below)) step.dtype step.form

@@ -59,6 +59,7 @@ is_step-map p q left n step =
       layout = λ h. cc;
       unwrapped = λ h. cc;
       direct = λ _. refl;
+      form = refl;
     }
 
 pub is_cut-map : (p q : ListViewParts) (left : List RowValue) → IsCut (listview_column p) left (listview_column q) → IsCut (map_column p) left (map_column q)

@@ -34,6 +34,7 @@ module _ (p q : StoredParts) (from : is_in_place p.layout ≡ false) (to : is_la
         layout = λ h. let no : true ≡ false = sym h ∙ from in cc;
         unwrapped = λ h. let no : true ≡ false = sym h ∙ not_unwrapped p from in cc;
         direct = λ _. to;
+        form = refl;
       }
 
   -- the same of a step that keeps the type

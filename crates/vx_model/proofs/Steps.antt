@@ -22,7 +22,7 @@ use Rattle.vx_model.proofs.Layouts.{fits-bits, fits-records}
 pub is_slice-null : (n s e : ℕ) → s ≤ e → e ≤ n → IsSlice (null_column n) s e (null_column (e - s))
 is_slice-null n s e h l =
     record {
-      step = record { rows = sym (slice_range-replicate n null s e h l); dtype = refl; layout = λ _. refl; unwrapped = λ h. h; direct = λ h. h };
+      step = record { rows = sym (slice_range-replicate n null s e h l); dtype = refl; layout = λ _. refl; unwrapped = λ h. h; direct = λ h. h; form = refl };
       plain = λ h. h;
       depth = omega arith;
     }
@@ -30,7 +30,7 @@ is_slice-null n s e h l =
 pub is_filter-null : (n : ℕ) (mask : List Bool) → length mask ≡ n → IsCut (null_column n) (items_where_true mask (null_column n).rows) (null_column (true_count_of mask))
 is_filter-null n mask h =
     record {
-      step = record { rows = sym (items_where_true-replicate mask null) ∙ ap (λ k. items_where_true mask (replicate k null)) h; dtype = refl; layout = λ _. refl; unwrapped = λ h. h; direct = λ h. h };
+      step = record { rows = sym (items_where_true-replicate mask null) ∙ ap (λ k. items_where_true mask (replicate k null)) h; dtype = refl; layout = λ _. refl; unwrapped = λ h. h; direct = λ h. h; form = refl };
       plain = λ h. h;
       depth = omega arith;
     }

@@ -55,6 +55,7 @@ module _ (p : StoredParts) (w : Valid) (n : Nullability) (items : List RowValue)
         layout = λ _. refl;
         unwrapped = stays (is_null_layout p.layout) (is_row_layout p.layout) (is_flat_cover (cover_by p.valid)) (is_flat_cover (cover_by w)) now.flat;
         direct = λ h. h;
+        form = refl;
       }
 
 module _ (p : StoredParts) (w : Valid) (items : List RowValue) (records : List (List ℕ)) (left : List RowValue) (bits : List Bool) where

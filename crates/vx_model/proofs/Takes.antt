@@ -81,7 +81,7 @@ at-missing missing m (Some p ∷ picks) = ap₂ ◌∷◌ (any m p) (at-missing 
 
 pub is_take-null : (m : ℕ) (picks : List (Option ℕ)) (n : Nullability) → IsTake (null_column m) picks n (null_column (length picks))
 is_take-null m picks n =
-    record { rows = sym (at-missing null m picks); dtype = refl; layout = λ _. refl; unwrapped = λ h. h; direct = λ h. h }
+    record { rows = sym (at-missing null m picks); dtype = refl; layout = λ _. refl; unwrapped = λ h. h; direct = λ h. h; form = refl }
 
 module _ (w : Valid) (picks : List (Option ℕ)) (n : Nullability) where
   pub is_take-bool : (p : BoolParts) (offset : ℕ) → bool_fault p ≡ None → IsLeft p.valid n (at false (present_bits p.valid (length (stored_bits p).items)) picks) w → IsStep (bool_column p) (at null (bool_column p).rows picks) (record { kind = bool_kind; nullability = n }) (bool_column (bool_with (at false p.bits.bits picks) offset w))

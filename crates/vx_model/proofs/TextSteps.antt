@@ -53,6 +53,7 @@ module _ (p q : TextParts) (left : List RowValue) (n : Nullability) (bits : List
         layout = λ h. let no : true ≡ false = sym h ∙ from in cc;
         unwrapped = λ h. let no : true ≡ false = sym h ∙ not_unwrapped p from in cc;
         direct = λ _. to;
+        form = refl;
       }
 
 module _ (p q : TextParts) (left : List RowValue) (bits : List Bool) (from : is_in_place p.layout ≡ false) (to : is_lazy_layout q.layout ≡ false) (kind : q.kind ≡ p.kind) (rows : stored_rows q.valid (map bytes q.texts) ≡ left) (now : IsLeft p.valid (nullability_by p.valid) bits q.valid) (plain : IsAsPlain p.valid q.valid) where

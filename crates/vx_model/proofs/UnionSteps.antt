@@ -1,6 +1,6 @@
 -- The rows of unions, and what a step over ids, offsets and columns leaves of them.
 use Rattle.std.proofs.Common.{◌≡◌, ℕ, ℤ, pos, negsuc, zero, suc, ◌+◌, ◌-◌, ◌<◌, ◌≤◌, Bool, true, false, List, [], ◌∷◌, map, length, take, drop, get_or, slice_range, Option, None, Some, refl, sym, ap, ap₂, ◌∙◌, subst, arith}
-use Rattle.std.specs.Prelude.{◌==◌, ◌&&◌, ◌||◌, if◌then◌else◌}
+use Rattle.std.specs.Prelude.{◌==◌, ◌&&◌, ◌||◌, if◌then◌else◌, is_some}
 use Rattle.std.specs.Option.{option_map}
 use Rattle.std.specs.Cmp.{first_so, second_so}
 use Rattle.std.specs.List.{items_where_true, list_all, list_any}
@@ -283,7 +283,7 @@ places-take cs places k picks = map-at (λ (j : ℕ). map (λ (c : Column). get_
 
 -- ---- steps
 
-module _ (p q : UnionParts) (h : union_fault p ≡ None) (variants : q.variants ≡ p.variants) where
+module _ (p q : UnionParts) (h : union_fault p ≡ None) (variants : q.variants ≡ p.variants) (form : is_some q.offsets ≡ is_some p.offsets) where
   -- of the rows that are left, the ids and the candidates
   pub rows-left : (tags : List (Option ℕ)) (rows : List (List RowValue)) → tags_of q ≡ tags → candidates_of q ≡ rows → union_rows q ≡ tagged_rows p.variants.ids tags rows
   rows-left tags rows t r =
@@ -305,6 +305,7 @@ module _ (p q : UnionParts) (h : union_fault p ≡ None) (variants : q.variants 
         layout = λ _. refl;
         unwrapped = λ h. h;
         direct = λ h. h;
+        form = form;
       }
 
   pub is_slice-union : (s e : ℕ) → IsSlice p.ids s e q.ids → candidates_of q ≡ slice_range (candidates_of p) s e → (union_column q).depth ≤ (union_column p).depth → IsSlice (union_column p) s e (union_column q)

@@ -37,13 +37,14 @@ execute-dict p codes values a coded valued taken =
       layout = λ h. let no : false ≡ true = h in cc;
       unwrapped = λ h. let no : false ≡ true = h in cc;
       direct = λ h. let no : true ≡ false = h in cc;
+      form = taken.form ∙ valued.form;
     }
 
 -- ---- lazy filters
 
 pub execute-filter : (p : FilterParts) (child a : Column) → IsStep p.child p.child.rows p.child.dtype child → IsCut child (items_where_true p.mask child.rows) a → IsStep (filter_column p) (filter_column p).rows (filter_column p).dtype a
 execute-filter p child a same cut =
-    is_step-filter p _ _ a (cut.step.rows ∙ ap (items_where_true p.mask) same.rows) (cut.step.dtype ∙ same.dtype)
+    is_step-filter p _ _ a (cut.step.rows ∙ ap (items_where_true p.mask) same.rows) (cut.step.dtype ∙ same.dtype) (cut.step.form ∙ same.form)
 
 -- ---- the layouts that store each row in its place, under a validity with the same bits
 

@@ -31,7 +31,7 @@ pub record Column : Type 0 where
   pub constant : Option RowValue
   -- of a `Dict`
   pub codes : Option Codes
-  -- a `Union` that has an offset for each row
+  -- a `Union` that has an offset for each row, or an `Extension`, `Dict` or `Filter` over one
   pub dense : Bool
   -- how deep its layouts nest: what a recursion over them counts down
   pub depth : ℕ

@@ -45,6 +45,7 @@ abbrev pub dict_column : DictParts → Column
 dict_column p =
     record (bare_column (dict_type p) (dict_rows p) Dict (dict_size p + 1)) {
       codes = Some (dict_codes p);
+      dense = p.values.dense;
     }
 
 -- the same values under other codes: what a step leaves

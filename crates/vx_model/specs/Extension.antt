@@ -36,7 +36,9 @@ extension_size p = p.storage.depth + 1
 -- a row is the storage's
 abbrev pub extension_column : ExtensionParts → Column
 extension_column p =
-    bare_column (extension_dtype p) p.storage.rows ExtensionLayout (extension_size p + 1)
+    record (bare_column (extension_dtype p) p.storage.rows ExtensionLayout (extension_size p + 1)) {
+      dense = p.storage.dense;
+    }
 
 -- the same extension over another storage: what a step leaves
 abbrev pub extension_with : ExtensionParts → Column → ExtensionParts

@@ -23,7 +23,10 @@ filter_size p = p.child.depth + 1
 
 abbrev pub filter_column : FilterParts → Column
 filter_column p =
-    bare_column p.child.dtype (items_where_true p.mask p.child.rows) Filter (filter_size p + 1)
+    record (bare_column p.child.dtype (items_where_true p.mask p.child.rows) Filter
+    (filter_size p + 1)) {
+      dense = p.child.dense;
+    }
 
 abbrev pub coded_filter : Coded FilterParts
 coded_filter =

@@ -8,13 +8,15 @@ use Rattle.vx_model.specs.Column.{Column}
 use Rattle.vx_model.specs.Plain.{is_in_place, is_lazy_layout, is_plain, is_unwrapped}
 
 -- a has the rows that are left and this type; a layout that stores its rows in their places stays;
--- what was unwrapped stays so, and what wasn't lazy
+-- what was unwrapped stays so, and what wasn't lazy; and so does the form of a union, sparse or
+-- dense, whatever is over it
 pub record IsStep (c : Column) (left : List RowValue) (t : TypeTree) (a : Column) : Type 0 where
   pub rows : a.rows ≡ left
   pub dtype : a.dtype ≡ t
   pub layout : is_in_place c.layout ≡ true → a.layout ≡ c.layout
   pub unwrapped : is_unwrapped c ≡ true → is_unwrapped a ≡ true
   pub direct : is_lazy_layout c.layout ≡ false → is_lazy_layout a.layout ≡ false
+  pub form : a.dense ≡ c.dense
 
 -- a has the rows of c at the picks, null at a null, and its type, nullable also where n is
 abbrev pub IsTake : Column → List (Option ℕ) → Nullability → Column → Type 0

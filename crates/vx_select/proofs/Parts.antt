@@ -39,6 +39,7 @@ same_step c a h =
       layout = λ _. ap (λ (x : Column). x.layout) h;
       unwrapped = λ u. ap is_unwrapped h ∙ u;
       direct = λ d. ap (λ (x : Column). is_lazy_layout x.layout) h ∙ d;
+      form = ap (λ (x : Column). x.dense) h;
     }
 
 -- and what a mask of all rows keeps of it
@@ -51,6 +52,7 @@ kept_whole c n bits h long =
       layout = λ _. refl;
       unwrapped = λ u. u;
       direct = λ d. d;
+      form = refl;
     }
 
 -- of nulls alone, those at the set bits are as many from the first on
@@ -75,6 +77,7 @@ null_step c a bits count e is nulls long =
       layout = λ _. refl;
       unwrapped = λ h. h;
       direct = λ h. h;
+      form = refl;
     })
 
 -- a part of layout `Null` has nulls alone

@@ -146,6 +146,7 @@ fn store_texts(
     ensures dtype { IfOk result (λ a. a.dtype
         ≡ record { kind = text_kind kind; nullability = nullability_by (valid_of validity) }) }
     ensures direct { IfOk result (λ a. is_lazy_layout a.layout ≡ false) }
+    ensures form { IfOk result (λ a. a.dense ≡ false) }
 {
     let text = text_or_none(alloc, value)?;
     if text.len() <= u32::MAX as usize {
@@ -173,6 +174,7 @@ pub fn store_scalar(
     ensures unwrapped { is_flat_cover (cover_by (valid_of validity)) ≡ true
         → is_flat scalar.now.dtype ≡ true → IfOk result (λ a. is_unwrapped a ≡ true) }
     ensures direct { IfOk result (λ a. is_lazy_layout a.layout ≡ false) }
+    ensures form { IfOk result (λ a. a.dense ≡ false) }
 {
     let value = scalar.value();
     match scalar.dtype() {

@@ -103,6 +103,7 @@ filtering::filter-returns-in-AllTrue-clause-cut t c =
         layout = rw c.share.ensures (λ _. refl);
         unwrapped = rw c.share.ensures (λ h. h);
         direct = rw c.share.ensures (λ h. h);
+        form = rw c.share.ensures refl;
       };
       plain = rw c.share.ensures (λ h. h);
       depth = rw c.share.ensures (omega arith);

@@ -138,7 +138,8 @@ filter_layout::FilterArrayTakeRows::take-returns-then-is_materialized t c =
     let cut : IsCut p.child (items_where_true p.mask p.child.rows) c.in_ok-kept.kept = rw (child, c.mask-mask.ensures.value) at c.in_ok-kept.ensures.cut in
     weaker c.take_picks.result c.take_picks.ensures (λ a taken. is_step-filter p _ _ a
     (taken.rows ∙ ap (λ r. at null r picks) cut.step.rows)
-    (taken.dtype ∙ ap (λ d. also_nullable d n) cut.step.dtype))
+    (taken.dtype ∙ ap (λ d. also_nullable d n) cut.step.dtype)
+    (taken.form ∙ cut.step.form))
 
 pub filter_layout::FilterArrayTakeRows::take-returns : goal.filter_layout::FilterArrayTakeRows::take-returns
 filter_layout::FilterArrayTakeRows::take-returns t c =
@@ -198,6 +199,7 @@ stored::StoredTakeRows::take-returns t c =
       layout = step.layout;
       unwrapped = step.unwrapped;
       direct = step.direct;
+      form = step.form;
     })
 
 -- ---- lists

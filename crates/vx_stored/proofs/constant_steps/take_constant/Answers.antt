@@ -55,4 +55,5 @@ returns-in_ok-validity-in-Nullable c =
     if_ok _ _ (λ a e. is_take-stored_constant p picks c.args.nullability a below
     (IfOk-at_ok _ e stored.rows ∙ ap₂ shown_rows present values)
     (IfOk-at_ok _ e stored.dtype ∙ ap₂ with_nullability (ap (λ (s : TypedRow). s.dtype) same) (ap nullability_by validity)
-    ∙ sym (also_nullable-nullable p.scalar.dtype) ∙ ap (also_nullable p.scalar.dtype) (sym c.in-Nullable.is)))
+    ∙ sym (also_nullable-nullable p.scalar.dtype) ∙ ap (also_nullable p.scalar.dtype) (sym c.in-Nullable.is))
+    (IfOk-at_ok _ e stored.form))
