@@ -14,6 +14,7 @@ use Rattle.vx_bits.proofs.BitLists.{number_below}
 use Rattle.vx_bits.proofs.WordBits.{length-word_bits, number_of-word_bits, true_count_of-word_bits, word_bits-number_of}
 use Rattle.vx_bits.proofs.WordLists.{picked-append, picked_clear, picked_short, take_both, true_count_of-bits_in, true_count_of-take}
 use Rattle.vx_bitfilter.specs.Pext.{pext}
+use Rattle.vx_mask.specs.Mask.{mask_bits}
 use Rattle.vx_mask.specs.Positions.{rank_of}
 use Rattle.vx_mask.proofs.PositionLists.{all_are_set, place_of, rank_true, true_count_before_set, true_count_of-cons}
 use Rattle.vx_mask.proofs.WordCounts.{counts_rise}
@@ -262,7 +263,7 @@ stretch-picked mask bits start at all n picks word len long below rank s e is co
     }
 
 -- a mask of all rows
-pub stretch-all : (p : FilterParts) (n start at word len : ℕ) → filter_fault p ≡ None → p.mask ≡ replicate n true → start < length (filter_column p).rows → at ≡ rank_of p.mask start → IsStretch (true_bits p.child) at word len → IsStretch (true_bits (filter_column p)) start word len
+pub stretch-all : (p : FilterParts) (n start at word len : ℕ) → filter_fault p ≡ None → (mask_bits p.mask) ≡ replicate n true → start < length (filter_column p).rows → at ≡ rank_of (mask_bits p.mask) start → IsStretch (true_bits p.child) at word len → IsStretch (true_bits (filter_column p)) start word len
 stretch-all p n start at word len fits e below rank s =
     let many : length (filter_column p).rows ≡ true_count_of (replicate n true) = length-filter p fits ∙ ap true_count_of e in
     let same : at ≡ start = rank ∙ ap (λ m. rank_of m start) e ∙ sym (rank_true n start (omega (arith, many))) in
@@ -274,14 +275,14 @@ stretch-all p n start at word len fits e below rank s =
     subst Q all (subst P same s)
 
 -- and of none, which has no row
-pub no-row : (p : FilterParts) (n start : ℕ) → p.mask ≡ replicate n false → start < length (filter_column p).rows → ⊥
+pub no-row : (p : FilterParts) (n start : ℕ) → (mask_bits p.mask) ≡ replicate n false → start < length (filter_column p).rows → ⊥
 no-row p n start e below =
-    let none : [] ≡ items_where_true p.mask p.child.rows = items_where_true-none n p.child.rows ∙ ap (λ m. items_where_true m p.child.rows) (sym e) in
+    let none : [] ≡ items_where_true (mask_bits p.mask) p.child.rows = items_where_true-none n p.child.rows ∙ ap (λ m. items_where_true m p.child.rows) (sym e) in
     omega (arith, ap length none)
 
-pub stretch-filter : (p : FilterParts) (start at all n picks word len : ℕ) → filter_fault p ≡ None → start < length (filter_column p).rows → at ≡ rank_of p.mask start → IsStretch (true_bits p.child) at all n → picks ≡ number_of (take n (drop at p.mask)) → word ≡ pext all picks → len ≡ count_ones picks → IsStretch (true_bits (filter_column p)) start word len
+pub stretch-filter : (p : FilterParts) (start at all n picks word len : ℕ) → filter_fault p ≡ None → start < length (filter_column p).rows → at ≡ rank_of (mask_bits p.mask) start → IsStretch (true_bits p.child) at all n → picks ≡ number_of (take n (drop at (mask_bits p.mask))) → word ≡ pext all picks → len ≡ count_ones picks → IsStretch (true_bits (filter_column p)) start word len
 stretch-filter p start at all n picks word len fits below rank s e is counted =
-    let long : length p.mask ≡ length (true_bits p.child) = long-filter p fits ∙ sym (length-true_bits p.child) in
-    let kept : length (filter_column p).rows ≡ true_count_of p.mask = length-items_where_true p.mask p.child.rows (long-filter p fits) in
+    let long : length (mask_bits p.mask) ≡ length (true_bits p.child) = long-filter p fits ∙ sym (length-true_bits p.child) in
+    let kept : length (filter_column p).rows ≡ true_count_of (mask_bits p.mask) = length-items_where_true (mask_bits p.mask) p.child.rows (long-filter p fits) in
     let P : List Bool → Type 0 = λ l. IsStretch l start word len in
-    subst P (sym (true-filter p)) (stretch-picked p.mask (true_bits p.child) start at all n picks word len long (omega (arith, kept)) rank s e is counted)
+    subst P (sym (true-filter p)) (stretch-picked (mask_bits p.mask) (true_bits p.child) start at all n picks word len long (omega (arith, kept)) rank s e is counted)

@@ -6,6 +6,7 @@ use Rattle.std.proofs.lemmas.List.{length-map, length-replicate}
 use Rattle.std.proofs.lemmas.List.Sums.{sum_by-cons}
 use lib.Bits.{and_step, and_zero_r}
 use Rattle.vx_bits.specs.BitBuffer.{PlacedBits, number_of, true_count_of}
+use Rattle.vx_mask.specs.Mask.{mask_bits}
 use Rattle.vx_types.specs.RowValue.{bit}
 use Rattle.vx_model.specs.Column.{Column}
 use Rattle.vx_model.specs.Valid.{non_nullable, all_valid, by_column, is_yes, present_bits, shown_rows}
@@ -103,21 +104,21 @@ length-true_bits c = length-map c.rows is_yes
 
 -- ---- layout `Filter`
 
-pub true-filter : (p : FilterParts) → true_bits (filter_column p) ≡ items_where_true p.mask (true_bits p.child)
-true-filter p = map-items_where_true is_yes p.mask p.child.rows
+pub true-filter : (p : FilterParts) → true_bits (filter_column p) ≡ items_where_true (mask_bits p.mask) (true_bits p.child)
+true-filter p = map-items_where_true is_yes (mask_bits p.mask) p.child.rows
 
 count-all-of : (n : ℕ) (mask bits : List Bool) → mask ≡ replicate n true → length mask ≡ length bits → true_count_of bits ≡ true_count_of (items_where_true mask bits)
 count-all-of n mask bits e long =
     let same : n ≡ length bits = sym (length-replicate n true) ∙ ap length (sym e) ∙ long in
     ap true_count_of (items_where_true-all n bits same ∙ ap (λ m. items_where_true m bits) (sym e))
 
-pub count-all : (p : FilterParts) (n : ℕ) (child : Column) → filter_fault p ≡ None → p.mask ≡ replicate n true → child ≡ p.child → true_count_of (true_bits child) ≡ true_count_of (true_bits (filter_column p))
+pub count-all : (p : FilterParts) (n : ℕ) (child : Column) → filter_fault p ≡ None → (mask_bits p.mask) ≡ replicate n true → child ≡ p.child → true_count_of (true_bits child) ≡ true_count_of (true_bits (filter_column p))
 count-all p n child h e same =
     ap (λ c. true_count_of (true_bits c)) same
-    ∙ count-all-of n p.mask (true_bits p.child) e (long-filter p h ∙ sym (length-true_bits p.child))
+    ∙ count-all-of n (mask_bits p.mask) (true_bits p.child) e (long-filter p h ∙ sym (length-true_bits p.child))
     ∙ ap true_count_of (sym (true-filter p))
 
-pub count-none : (p : FilterParts) (n : ℕ) → p.mask ≡ replicate n false → 0 ≡ true_count_of (true_bits (filter_column p))
+pub count-none : (p : FilterParts) (n : ℕ) → (mask_bits p.mask) ≡ replicate n false → 0 ≡ true_count_of (true_bits (filter_column p))
 count-none p n e =
     ap true_count_of (items_where_true-none n (true_bits p.child) ∙ ap (λ m. items_where_true m (true_bits p.child)) (sym e) ∙ sym (true-filter p))
 

@@ -1,7 +1,6 @@
 //! Layout `Filter`: the rows of a child at the set positions of a mask.
 ghost use Rattle.std.specs.Prelude.{◌≡◌, None};
 ghost use Rattle.vx_bits.specs.Results.{ok_unless};
-ghost use Rattle.vx_mask.specs.Mask.{mask_bits};
 ghost use Rattle.vx_model.specs.Filter.{filter_fault, filter_column};
 ghost use Rattle.vx_column.specs.Part.{IsPart};
 
@@ -12,6 +11,8 @@ use vx_mask::Mask;
 use vx_types::ColumnError;
 
 /// A column of the rows that a mask keeps of a child: Vortex's `FilterArray`.
+///
+/// Clauses see the child and the mask, with the indices, slices and block counts that it keeps.
 #[cycle(array)]
 #[derive(Drop)]
 pub struct FilterArray {
@@ -28,13 +29,11 @@ impl Model for FilterArray {
 
     ghost use Rattle.std.specs.Prelude.{◌≡◌, None};
     ghost use Rattle.std.proofs.Common.{arith};
-    ghost use Rattle.vx_mask.specs.Mask.{mask_bits};
     ghost use Rattle.vx_model.specs.Filter.{filter_fault, filter_size};
 
-    ghost view = { λ a. record { child = a.child; mask = mask_bits a.mask } };
+    ghost view = { λ a. record { child = a.child; mask = a.mask } };
 
-    ghost invariant = { λ a.
-        filter_fault (record { child = a.child; mask = mask_bits a.mask }) ≡ None };
+    ghost invariant = { λ a. filter_fault (record { child = a.child; mask = a.mask }) ≡ None };
 
     ghost size = { λ p. filter_size p };
 
@@ -49,8 +48,8 @@ impl FilterArray {
     /// `Mask::rank`, which is fast where the mask keeps its indices or its block counts.
     pub fn try_new(child: ArrayRef, mask: Mask) -> Result<FilterArray, ColumnError>
         ensures { result
-            ≡ ok_unless (filter_fault (record { child = child; mask = mask_bits mask }))
-            (record { child = child; mask = mask_bits mask }) }
+            ≡ ok_unless (filter_fault (record { child = child; mask = mask }))
+            (record { child = child; mask = mask }) }
     {
         if mask.len() != child.len() {
             return Err(ColumnError::WrongLength);
@@ -65,17 +64,17 @@ impl FilterArray {
         &self.child
     }
 
-    /// Which of them.
+    /// Which of them, with the lists that the mask was handed in with.
     pub fn mask(&self) -> &Mask
-        ensures { IsPart (filter_fault self.now) (mask_bits result.now) self.now.mask }
+        ensures { IsPart (filter_fault self.now) result.now self.now.mask }
     {
         &self.mask
     }
 
     /// The column of these parts, which fit: what a step leaves. It takes no memory.
     pub fn of(child: ArrayRef, mask: Mask) -> FilterArray
-        requires { filter_fault (record { child = child; mask = mask_bits mask }) ≡ None }
-        ensures { result ≡ record { child = child; mask = mask_bits mask } }
+        requires { filter_fault (record { child = child; mask = mask }) ≡ None }
+        ensures { result ≡ record { child = child; mask = mask } }
     {
         FilterArray { child, mask }
     }

@@ -1,3 +1,4 @@
 pub mod Extensions
+pub mod Filters
 pub mod Maps
 pub mod Refusals

@@ -2,6 +2,9 @@
 use Rattle.std.specs.Prelude.{[], ◌∷◌, List, Bool, Option, codes}
 use Rattle.serde_json.specs.Data.{Data}
 use Rattle.serde_json.specs.Find.{get}
+use Rattle.vx_mask.specs.Mask.{at_front}
+use Rattle.vx_mask.specs.MaskValues.{bits_alone}
+use Rattle.vx_mask.specs.declared.mask.Mask.TheVariants.{Values}
 use Rattle.vx_model.specs.Column.{Column}
 use Rattle.vx_model.specs.Filter.{FilterParts, filter_fault, filter_column}
 use Rattle.vx_json.specs.Meaning.{◌>>=◌}
@@ -9,8 +12,10 @@ use Rattle.vx_json.specs.Members.{closed}
 use Rattle.vx_json.specs.Masks.{mask_of}
 use Rattle.vx_column_json.specs.Made.{made}
 
+-- the rows at these bits
 abbrev pub filter_parts : Column → List Bool → FilterParts
-filter_parts child bits = record { child = child; mask = bits }
+filter_parts child bits =
+    record { child = child; mask = Values (bits_alone (at_front bits)) }
 
 -- the column of these rows of the child, where the mask is as long
 abbrev pub filter_made : Column → List Bool → Option Column

@@ -70,10 +70,11 @@ fn child_picks(
     policy: &Policy,
 ) -> Result<Picks, NoMemory>
     requires { picks.now.bound ≡ length (filter_column array.now).rows }
-    ensures picks { IfOk result (λ p. p.picks ≡ translated array.now.mask picks.now.picks) }
+    ensures picks { IfOk result
+        (λ p. p.picks ≡ translated (mask_bits array.now.mask) picks.now.picks) }
     ensures bound { IfOk result (λ p. p.bound ≡ length array.now.child.rows) }
     ensures there { AllThere picks.now.picks → IfOk result (λ p. AllThere p.picks) }
-    ensures below { AreBelow picks.now.picks (true_count_of array.now.mask) }
+    ensures below { AreBelow picks.now.picks (true_count_of (mask_bits array.now.mask)) }
 {
     // each pick is below the bound
     let _ = picks.bound();

@@ -1,5 +1,6 @@
 -- The numbers of the layouts that stand for rows of other columns.
 use Rattle.std.proofs.Common.{◌≡◌, ℕ, None, ap, ◌∙◌}
+use Rattle.vx_mask.specs.Mask.{mask_bits}
 use Rattle.vx_types.specs.RowValue.{null}
 use Rattle.vx_positions.specs.Positions.{first_bad, positions_of}
 use Rattle.vx_model.specs.Numbers.{number_in, numbers_of}
@@ -19,8 +20,8 @@ sound-values p n h =
 -- where each of the child's is, each row is
 pub sound-child : (p : FilterParts) (n : ℕ) → first_bad n (numbers_of p.child) ≡ None → first_bad n (numbers_of (filter_column p)) ≡ None
 sound-child p n h =
-    ap (first_bad n) (map-items_where_true (number_in p.child.dtype.kind) p.mask p.child.rows)
-    ∙ first_bad-filter n p.mask (numbers_of p.child) h
+    ap (first_bad n) (map-items_where_true (number_in p.child.dtype.kind) (mask_bits p.mask) p.child.rows)
+    ∙ first_bad-filter n (mask_bits p.mask) (numbers_of p.child) h
 
 -- what a proof about the numbers of such columns needs
 pub ruleset lazy_numbers = (sound-values, sound-child)

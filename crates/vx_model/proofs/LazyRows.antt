@@ -5,6 +5,7 @@ use Rattle.std.specs.Option.{option_map}
 use Rattle.std.proofs.lemmas.List.{length-map, get_or-map, length-replicate, get_or-replicate}
 use Rattle.std.proofs.lemmas.Bool.Decides.{nat_tests}
 use Rattle.vx_bits.specs.BitBuffer.{true_count_of}
+use Rattle.vx_mask.specs.Mask.{mask_bits}
 use Rattle.vx_mask.specs.Positions.{rank_of, set_of}
 use Rattle.vx_mask.proofs.PositionLists.{rank_within, length-positions}
 use Rattle.vx_types.specs.Nullability.{either_nullable}
@@ -33,11 +34,11 @@ length-dict p =
     length-at null p.values.rows (positions_of (numbers_of p.codes))
     ∙ length-map (numbers_of p.codes) (option_map position_of) ∙ length-map p.codes.rows (number_in p.codes.dtype.kind)
 
-pub long-filter : (p : FilterParts) → filter_fault p ≡ None → length p.mask ≡ length p.child.rows
+pub long-filter : (p : FilterParts) → filter_fault p ≡ None → length (mask_bits p.mask) ≡ length p.child.rows
 long-filter p h = grind (arith, nat_tests)
 
-pub length-filter : (p : FilterParts) → filter_fault p ≡ None → length (filter_column p).rows ≡ true_count_of p.mask
-length-filter p h = length-items_where_true p.mask p.child.rows (long-filter p h)
+pub length-filter : (p : FilterParts) → filter_fault p ≡ None → length (filter_column p).rows ≡ true_count_of (mask_bits p.mask)
+length-filter p h = length-items_where_true (mask_bits p.mask) p.child.rows (long-filter p h)
 
 -- ---- row i
 
@@ -78,17 +79,17 @@ code_names p i z h l is =
     each_is_position (length p.values.rows) xs i (sound-dict p h) (omega (arith, length-map p.codes.rows (number_in p.codes.dtype.kind))) in
     rw (number_at p i l ∙ is) at each
 
-pub row-filter : (p : FilterParts) (i : ℕ) → filter_fault p ≡ None → i < true_count_of p.mask → get_or (filter_column p).rows i null ≡ get_or p.child.rows (rank_of p.mask i) null
+pub row-filter : (p : FilterParts) (i : ℕ) → filter_fault p ≡ None → i < true_count_of (mask_bits p.mask) → get_or (filter_column p).rows i null ≡ get_or p.child.rows (rank_of (mask_bits p.mask) i) null
 row-filter p i h l =
-    let set = set_of p.mask in let rows = p.child.rows in
-    let long : i < length set = omega (arith, l, length-positions 0 p.mask) in
+    let set = set_of (mask_bits p.mask) in let rows = p.child.rows in
+    let long : i < length set = omega (arith, l, length-positions 0 (mask_bits p.mask)) in
     let longer : i < length (map (λ (k : ℕ). Some k) set) = omega (arith, long, length-map set (λ (k : ℕ). Some k)) in
-    ap (λ xs. get_or xs i null) (take_at_the_set null p.mask rows (long-filter p h))
+    ap (λ xs. get_or xs i null) (take_at_the_set null (mask_bits p.mask) rows (long-filter p h))
     ∙ get_or-map (item_at null rows) (map Some set) i None null longer
     ∙ ap (item_at null rows) (get_or-map (λ (k : ℕ). Some k) set i 0 None long)
 
-pub rank-filter : (p : FilterParts) (i : ℕ) → filter_fault p ≡ None → i < true_count_of p.mask → rank_of p.mask i < length p.child.rows
-rank-filter p i h l = omega (arith, rank_within p.mask i l, long-filter p h)
+pub rank-filter : (p : FilterParts) (i : ℕ) → filter_fault p ≡ None → i < true_count_of (mask_bits p.mask) → rank_of (mask_bits p.mask) i < length p.child.rows
+rank-filter p i h l = omega (arith, rank_within (mask_bits p.mask) i l, long-filter p h)
 
 -- ---- types that a column may have
 

@@ -9,7 +9,9 @@ use Rattle.vx_types.specs.TypeTree.{TypeTree, also_nullable, is_int_type}
 use Rattle.vx_types.specs.RowValue.{RowValue, null}
 use Rattle.vx_types.specs.declared.nullability.Nullability.{Nullability}
 use Rattle.vx_types.specs.declared.nullability.Nullability.TheVariants.{NonNullable}
+use Rattle.vx_mask.specs.Mask.{mask_bits}
 use Rattle.vx_mask.specs.Positions.{rank_of, set_of}
+use Rattle.vx_mask.specs.declared.mask.Mask.{Mask}
 use Rattle.vx_take.specs.Ranks.{translated}
 use Rattle.vx_take.specs.Picks.{AreBelow, at, item_at}
 use Rattle.vx_take.proofs.TakenLists.{take_of_filter, takes_join}
@@ -136,11 +138,11 @@ is_take-dict p codes picks n h step =
 -- ---- lazy filters
 
 -- from a place with so many kept rows before it up to such a place
-pub is_slice-filter : (p : FilterParts) (child : Column) (s e lo hi : ℕ) → filter_fault p ≡ None → lo ≤ hi → hi ≤ length p.mask → true_count_of (take lo p.mask) ≡ s → true_count_of (take hi p.mask) ≡ e → IsSlice p.child lo hi child → IsSlice (filter_column p) s e (filter_column (record { child = child; mask = slice_range p.mask lo hi }))
-is_slice-filter p child s e lo hi f h l at_lo at_hi cut =
+pub is_slice-filter : (p : FilterParts) (child : Column) (mask : Mask) (s e lo hi : ℕ) → filter_fault p ≡ None → lo ≤ hi → hi ≤ length (mask_bits p.mask) → true_count_of (take lo (mask_bits p.mask)) ≡ s → true_count_of (take hi (mask_bits p.mask)) ≡ e → mask_bits mask ≡ slice_range (mask_bits p.mask) lo hi → IsSlice p.child lo hi child → IsSlice (filter_column p) s e (filter_column (record { child = child; mask = mask }))
+is_slice-filter p child mask s e lo hi f h l at_lo at_hi same cut =
     record {
       step = record {
-        rows = ap (items_where_true (slice_range p.mask lo hi)) cut.step.rows ∙ sym (slice-items p.mask p.child.rows s e lo hi (long-filter p f) h l at_lo at_hi);
+        rows = ap₂ items_where_true same cut.step.rows ∙ sym (slice-items (mask_bits p.mask) p.child.rows s e lo hi (long-filter p f) h l at_lo at_hi);
         dtype = cut.step.dtype;
         layout = λ _. refl;
         unwrapped = λ h. h;
@@ -164,15 +166,15 @@ is_step-filter p left t a rows dtype form =
     }
 
 -- the child's rows that both masks keep: the set positions whose ranks the other one selects
-pub is_filter-filter : (p : FilterParts) (other both : List Bool) (a : Column) → filter_fault p ≡ None → length other ≡ true_count_of p.mask → set_of both ≡ map (rank_of p.mask) (set_of other) → length both ≡ length p.mask → IsCut p.child (items_where_true both p.child.rows) a → IsCut (filter_column p) (items_where_true other (filter_column p).rows) a
+pub is_filter-filter : (p : FilterParts) (other both : List Bool) (a : Column) → filter_fault p ≡ None → length other ≡ true_count_of (mask_bits p.mask) → set_of both ≡ map (rank_of (mask_bits p.mask)) (set_of other) → length both ≡ length (mask_bits p.mask) → IsCut p.child (items_where_true both p.child.rows) a → IsCut (filter_column p) (items_where_true other (filter_column p).rows) a
 is_filter-filter p other both a f few set long cut =
     record {
-      step = is_step-filter p _ _ a (cut.step.rows ∙ kept-by-both p.mask other both p.child.rows (long-filter p f) few set long) cut.step.dtype cut.step.form;
+      step = is_step-filter p _ _ a (cut.step.rows ∙ kept-by-both (mask_bits p.mask) other both p.child.rows (long-filter p f) few set long) cut.step.dtype cut.step.form;
       plain = λ h. let no : false ≡ true = h in cc;
       depth = omega (arith, cut.depth);
     }
 
 -- the child's rows at the set positions that the ranks name
-pub is_take-filter : (p : FilterParts) (picks : List (Option ℕ)) (n : Nullability) (a : Column) → filter_fault p ≡ None → AreBelow picks (true_count_of p.mask) → IsTake p.child (translated p.mask picks) n a → IsTake (filter_column p) picks n a
+pub is_take-filter : (p : FilterParts) (picks : List (Option ℕ)) (n : Nullability) (a : Column) → filter_fault p ≡ None → AreBelow picks (true_count_of (mask_bits p.mask)) → IsTake p.child (translated (mask_bits p.mask) picks) n a → IsTake (filter_column p) picks n a
 is_take-filter p picks n a f below step =
-    is_step-filter p _ _ a (step.rows ∙ sym (take_of_filter null p.mask p.child.rows picks (long-filter p f) below)) step.dtype step.form
+    is_step-filter p _ _ a (step.rows ∙ sym (take_of_filter null (mask_bits p.mask) p.child.rows picks (long-filter p f) below)) step.dtype step.form

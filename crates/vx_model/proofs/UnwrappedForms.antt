@@ -2,6 +2,7 @@
 use Rattle.std.proofs.Common.{◌≡◌, ℕ, zero, suc, true, false, List, [], ◌∷◌, map, length, None, refl, sym, ap, ap₂, ◌∙◌, arith}
 use Rattle.std.specs.Prelude.{replicate}
 use Rattle.std.specs.List.{items_where_true}
+use Rattle.vx_mask.specs.Mask.{mask_bits}
 use Rattle.vx_types.specs.TypeTree.{TypeTree, also_nullable}
 use Rattle.vx_types.specs.RowValue.{RowValue, null}
 use Rattle.vx_take.specs.Picks.{at}
@@ -42,9 +43,9 @@ execute-dict p codes values a coded valued taken =
 
 -- ---- lazy filters
 
-pub execute-filter : (p : FilterParts) (child a : Column) → IsStep p.child p.child.rows p.child.dtype child → IsCut child (items_where_true p.mask child.rows) a → IsStep (filter_column p) (filter_column p).rows (filter_column p).dtype a
+pub execute-filter : (p : FilterParts) (child a : Column) → IsStep p.child p.child.rows p.child.dtype child → IsCut child (items_where_true (mask_bits p.mask) child.rows) a → IsStep (filter_column p) (filter_column p).rows (filter_column p).dtype a
 execute-filter p child a same cut =
-    is_step-filter p _ _ a (cut.step.rows ∙ ap (items_where_true p.mask) same.rows) (cut.step.dtype ∙ same.dtype) (cut.step.form ∙ same.form)
+    is_step-filter p _ _ a (cut.step.rows ∙ ap (items_where_true (mask_bits p.mask)) same.rows) (cut.step.dtype ∙ same.dtype) (cut.step.form ∙ same.form)
 
 -- ---- the layouts that store each row in its place, under a validity with the same bits
 

@@ -8,9 +8,9 @@ pub filter::FilterArray::true_rows-returns-in-AllTrue :
     goal.filter::FilterArray::true_rows-returns-in-AllTrue
 filter::FilterArray::true_rows-returns-in-AllTrue t c =
     let p = c.args.self.now in
-    c.true_rows.ensures ∙ count-all p c.in-AllTrue.field-0 _ c.mask.ensures.valid (sym c.mask.ensures.value ∙ ap mask_bits c.in-AllTrue.is) (c.deref.ensures ∙ c.child-child.ensures.value)
+    c.true_rows.ensures ∙ count-all p c.in-AllTrue.field-0 _ c.mask.ensures.valid (sym (ap mask_bits c.mask.ensures.value) ∙ ap mask_bits c.in-AllTrue.is) (c.deref.ensures ∙ c.child-child.ensures.value)
 
 pub filter::FilterArray::true_rows-returns-in-AllFalse :
     goal.filter::FilterArray::true_rows-returns-in-AllFalse
 filter::FilterArray::true_rows-returns-in-AllFalse t c =
-    count-none c.args.self.now c.in-AllFalse.field-0 (sym c.mask.ensures.value ∙ ap mask_bits c.in-AllFalse.is)
+    count-none c.args.self.now c.in-AllFalse.field-0 (sym (ap mask_bits c.mask.ensures.value) ∙ ap mask_bits c.in-AllFalse.is)

@@ -34,15 +34,15 @@ boolean::BoolArray::true_from-returns-in-Array t c =
 pub filter::FilterArray::true_from-unreachable-requires :
     goal.filter::FilterArray::true_from-unreachable-requires
 filter::FilterArray::true_from-unreachable-requires t c =
-    no-row c.args.self.now c.in-AllFalse.field-0 c.args.start (sym c.mask-mask.ensures.value ∙ ap mask_bits c.in-AllFalse.is) c.requires
+    no-row c.args.self.now c.in-AllFalse.field-0 c.args.start (sym (ap mask_bits c.mask-mask.ensures.value) ∙ ap mask_bits c.in-AllFalse.is) c.requires
 
 pub filter::FilterArray::true_from-returns-in-AllTrue :
     goal.filter::FilterArray::true_from-returns-in-AllTrue
 filter::FilterArray::true_from-returns-in-AllTrue t c =
     let p = c.args.self.now in let start = c.args.start in
     let all = c.true_from-all.result in
-    let e = sym c.mask-mask.ensures.value ∙ ap mask_bits c.in-AllTrue.is in
-    let rank = c.rank-at.ensures.rank ∙ ap (λ m. rank_of m start) c.mask-mask.ensures.value in
+    let e = sym (ap mask_bits c.mask-mask.ensures.value) ∙ ap mask_bits c.in-AllTrue.is in
+    let rank = c.rank-at.ensures.rank ∙ ap (λ m. rank_of m start) (ap mask_bits c.mask-mask.ensures.value) in
     let P : Column → Type 0 = λ k. IsStretch (true_bits k) c.rank-at.result all.word all.len in
     let s = subst P (c.deref.ensures ∙ c.child.ensures.value) c.true_from-all.ensures in
     stretch-all p c.in-AllTrue.field-0 start c.rank-at.result all.word all.len c.mask-mask.ensures.valid e c.requires rank s
@@ -53,14 +53,14 @@ filter::FilterArray::true_from-picked-requires t c =
     let p = c.args.self.now in
     let at = c.rank-at.result in let all = c.true_from-all.result in
     let s = c.true_from-all.ensures in
-    let bits = ap (λ b. b.bits) c.bits.ensures ∙ sym (sym c.mask-mask.ensures.value ∙ ap mask_bits c.in-Values.is) in
+    let bits = ap (λ b. b.bits) c.bits.ensures ∙ sym (sym (ap mask_bits c.mask-mask.ensures.value) ∙ ap mask_bits c.in-Values.is) in
     let is = c.word_from.ensures ∙ ap (λ l. number_of (take all.len (drop at l))) bits in
     let child = ap (λ k. length k.rows) (c.deref.ensures ∙ c.child.ensures.value) in
-    let within : at + all.len ≤ length p.mask = omega (arith, s.within, length-true_bits c.deref.result.now, child, long-filter p c.mask-mask.ensures.valid) in
+    let within : at + all.len ≤ length (mask_bits p.mask) = omega (arith, s.within, length-true_bits c.deref.result.now, child, long-filter p c.mask-mask.ensures.valid) in
     record {
       few = s.few;
       word = part-below (true_bits c.deref.result.now) at all.word all.len s.within s.spelled;
-      picks = part-below p.mask at c.word_from.result all.len within is;
+      picks = part-below (mask_bits p.mask) at c.word_from.result all.len within is;
     }
 
 pub filter::FilterArray::true_from-returns-in-Values :
@@ -68,9 +68,9 @@ pub filter::FilterArray::true_from-returns-in-Values :
 filter::FilterArray::true_from-returns-in-Values t c =
     let p = c.args.self.now in let start = c.args.start in
     let at = c.rank-at.result in let all = c.true_from-all.result in let kept = c.picked.result in
-    let rank = c.rank-at.ensures.rank ∙ ap (λ m. rank_of m start) c.mask-mask.ensures.value in
+    let rank = c.rank-at.ensures.rank ∙ ap (λ m. rank_of m start) (ap mask_bits c.mask-mask.ensures.value) in
     let P : Column → Type 0 = λ k. IsStretch (true_bits k) at all.word all.len in
     let s = subst P (c.deref.ensures ∙ c.child.ensures.value) c.true_from-all.ensures in
-    let bits = ap (λ b. b.bits) c.bits.ensures ∙ sym (sym c.mask-mask.ensures.value ∙ ap mask_bits c.in-Values.is) in
+    let bits = ap (λ b. b.bits) c.bits.ensures ∙ sym (sym (ap mask_bits c.mask-mask.ensures.value) ∙ ap mask_bits c.in-Values.is) in
     let is = c.word_from.ensures ∙ ap (λ l. number_of (take all.len (drop at l))) bits in
     stretch-filter p start at all.word all.len c.word_from.result kept.word kept.len c.mask-mask.ensures.valid c.requires rank s is c.picked.ensures.word c.picked.ensures.len

@@ -1,5 +1,6 @@
 -- The unwrapped form of a column, from those of its parts.
 use Rattle.std.proofs.Common.{◌≡◌, length, true, ap, ◌∙◌, arith}
+use Rattle.vx_mask.specs.Mask.{mask_bits}
 use Rattle.vx_types.specs.TypeTree.{TypeTree, is_flat, is_int_type}
 use Rattle.vx_take.specs.Picks.{BoundedPicks}
 use Rattle.vx_positions.specs.Positions.{positions_of}
@@ -60,7 +61,7 @@ pub filter_layout::FilterArrayExecuteRows::execute-returns-clause-same : goal.fi
 filter_layout::FilterArrayExecuteRows::execute-returns-clause-same t c =
     let p = c.args.self.now in let child = c.in_ok-child.child in
     let same : IsStep p.child p.child.rows p.child.dtype child = rw (c.deref.ensures ∙ c.child.ensures.value) at c.in_ok-child.ensures.same in
-    weaker c.filter.result c.filter.ensures.cut (λ a cut. execute-filter p child a same (rw c.mask.ensures.value at cut))
+    weaker c.filter.result c.filter.ensures.cut (λ a cut. execute-filter p child a same (rw (ap mask_bits c.mask.ensures.value) at cut))
 
 pub filter_layout::FilterArrayExecuteRows::execute-returns-clause-unwrapped : goal.filter_layout::FilterArrayExecuteRows::execute-returns-clause-unwrapped
 filter_layout::FilterArrayExecuteRows::execute-returns-clause-unwrapped t c = λ flat.

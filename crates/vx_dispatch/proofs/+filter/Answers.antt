@@ -86,9 +86,9 @@ dict::DictArrayFilterRows::filter-returns t c =
 pub filter_layout::FilterArrayFilterRows::filter-returns : goal.filter_layout::FilterArrayFilterRows::filter-returns
 filter_layout::FilterArrayFilterRows::filter-returns t c =
     let p = c.args.self.now in let other = c.args.mask.now.bits.bits in let both = mask_bits c.in_ok-both.both in
-    let sound = c.child-child.ensures.valid in let same = c.mask.ensures.value in
-    let set : set_of both ≡ map (rank_of p.mask) (set_of other) = rw same at c.in_ok-both.ensures.set in
-    let long : length both ≡ length p.mask = rw same at c.in_ok-both.ensures.len in
+    let sound = c.child-child.ensures.valid in let same = ap mask_bits c.mask.ensures.value in
+    let set : set_of both ≡ map (rank_of (mask_bits p.mask)) (set_of other) = rw same at c.in_ok-both.ensures.set in
+    let long : length both ≡ length (mask_bits p.mask) = rw same at c.in_ok-both.ensures.len in
     let child = c.deref.ensures ∙ c.child-child.ensures.value in
     weaker c.filter.result c.filter.ensures.cut (λ kept cut. is_filter-filter p other both kept sound (c.requires ∙ length-filter p sound) set long (rw child at cut))
 

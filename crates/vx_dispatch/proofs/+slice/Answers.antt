@@ -1,5 +1,6 @@
 -- A step of a layout's parts, with that of its validity, is the step of its column: slices.
 use Rattle.std.proofs.Common.{◌≡◌, ◌≤◌, List, length, refl, ap, ap₂, ◌∙◌, slice_range, true, arith}
+use Rattle.vx_mask.specs.Mask.{mask_bits}
 use Rattle.vx_model.specs.Valid.{non_nullable, all_valid, all_invalid, by_column, is_fitting}
 use Rattle.vx_model.specs.Step.{IsSlice}
 use Rattle.vx_model.proofs.ShownRows.{is_left-slice}
@@ -76,13 +77,14 @@ pub filter_layout::FilterArraySliceRows::slice-returns-clause-cut : goal.filter_
 filter_layout::FilterArraySliceRows::slice-returns-clause-cut t c =
     let p = c.args.self.now in let child = c.in_ok-part.part in let range = c.mask_range-low in
     let low = range.result.0 in let high = range.result.1 in
-    let same = c.mask-mask.ensures.value in
+    let same = ap mask_bits c.mask-mask.ensures.value in
     let cut : IsSlice p.child low high child = rw (c.deref.ensures ∙ c.child-child.ensures.value) at c.in_ok-part.ensures.cut in
-    let start : true_count_of (take low p.mask) ≡ c.args.start = rw same at range.ensures.start in
-    let end : true_count_of (take high p.mask) ≡ c.args.end = rw same at range.ensures.end in
-    let within : high ≤ length p.mask = rw same at range.ensures.within in
-    rw (c.into_array.ensures ∙ ap filter_column (c.of.ensures ∙ ap₂ (λ (x : Column) (m : List Bool). record { child = x; mask = m }) c.in_ok-into_ref.ensures (c.slice_mask.ensures ∙ ap (λ (m : List Bool). slice_range m low high) same)))
-    (is_slice-filter p child c.args.start c.args.end low high c.mask-mask.ensures.valid range.ensures.ordered within start end cut)
+    let start : true_count_of (take low (mask_bits p.mask)) ≡ c.args.start = rw same at range.ensures.start in
+    let end : true_count_of (take high (mask_bits p.mask)) ≡ c.args.end = rw same at range.ensures.end in
+    let within : high ≤ length (mask_bits p.mask) = rw same at range.ensures.within in
+    rw (c.into_array.ensures ∙ ap filter_column (c.of.ensures ∙ ap (λ (x : Column). record { child = x; mask = c.slice_mask.result }) c.in_ok-into_ref.ensures))
+    (is_slice-filter p child c.slice_mask.result c.args.start c.args.end low high c.mask-mask.ensures.valid range.ensures.ordered within start end
+    (c.slice_mask.ensures ∙ ap (λ (m : List Bool). slice_range m low high) same) cut)
 
 pub stored::StoredSliceRows::slice-slice_validity-requires : goal.stored::StoredSliceRows::slice-slice_validity-requires
 stored::StoredSliceRows::slice-slice_validity-requires t c =

@@ -1,5 +1,6 @@
 -- A take of a layout's parts, with that of its validity, is the take of its column.
 use Rattle.std.proofs.Common.{arith, ◌≡◌, length, false, ap, ◌∙◌, refl, sym, subst, map, true}
+use Rattle.vx_mask.specs.Mask.{mask_bits}
 use Rattle.vx_types.specs.Nullability.{either_nullable}
 use Rattle.std.specs.List.{items_where_true}
 use Rattle.vx_types.specs.RowValue.{null}
@@ -135,7 +136,7 @@ pub filter_layout::FilterArrayTakeRows::take-returns-then-is_materialized : goal
 filter_layout::FilterArrayTakeRows::take-returns-then-is_materialized t c =
     let p = c.args.self.now in let picks = c.args.picks.picks in let n = c.args.nullability in
     let child = c.deref-then-is_materialized.ensures ∙ c.child-child.ensures.value in
-    let cut : IsCut p.child (items_where_true p.mask p.child.rows) c.in_ok-kept.kept = rw (child, c.mask-mask.ensures.value) at c.in_ok-kept.ensures.cut in
+    let cut : IsCut p.child (items_where_true (mask_bits p.mask) p.child.rows) c.in_ok-kept.kept = rw (child, ap mask_bits c.mask-mask.ensures.value) at c.in_ok-kept.ensures.cut in
     weaker c.take_picks.result c.take_picks.ensures (λ a taken. is_step-filter p _ _ a
     (taken.rows ∙ ap (λ r. at null r picks) cut.step.rows)
     (taken.dtype ∙ ap (λ d. also_nullable d n) cut.step.dtype)
@@ -168,7 +169,7 @@ pub filter_layout::FilterArrayTakeBits::bits-returns : goal.filter_layout::Filte
 filter_layout::FilterArrayTakeBits::bits-returns t c =
     let p = c.args.self.now in let picks = c.args.picks.now.picks in
     let kept : c.in_ok-kept.kept.rows ≡ (filter_column p).rows =
-    rw (c.deref.ensures ∙ c.child.ensures.value, c.mask.ensures.value) at c.in_ok-kept.ensures.cut.step.rows in
+    rw (c.deref.ensures ∙ c.child.ensures.value, ap mask_bits c.mask.ensures.value) at c.in_ok-kept.ensures.cut.step.rows in
     weaker c.taken_bits.result c.taken_bits.ensures (λ b h. h ∙ ap (λ r. at false (map is_yes r) picks) kept)
 
 pub stored::StoredTakeRows::take-take_validity-requires : goal.stored::StoredTakeRows::take-take_validity-requires
