@@ -24,9 +24,8 @@ use Rattle.vx_model.specs.Constant.{ConstantParts, constant_column}
 use Rattle.vx_model.specs.Valid.{is_yes, all_invalid, by_column, present_bits}
 use Rattle.vx_model.specs.Bool.{BoolParts, bool_fault, bool_column}
 use Rattle.vx_model.specs.Filter.{FilterParts, filter_fault, filter_column}
-use Rattle.vx_model.proofs.Items.{items_where_true-all, items_where_true-none, length-items_where_true}
+use Rattle.vx_model.proofs.Items.{items_where_true-all, items_where_true-none, length-items_where_true, map-replicate}
 use Rattle.vx_model.proofs.LazyRows.{length-filter, long-filter}
-use Rattle.vx_model.proofs.UnwrappedForms.{map-replicate}
 use Rattle.vx_column.specs.Truth.{IsStretch, true_bits}
 use Rattle.vx_column.proofs.TruthBits.{both, count-both, drop-both, length-both, length-true_bits, long-valid, number-both, take-both, true-bool, true-filter}
 

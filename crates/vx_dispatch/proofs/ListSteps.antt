@@ -17,9 +17,8 @@ use Rattle.vx_model.proofs.Items.{length-items_where_true, length-slice_range}
 use Rattle.vx_model.proofs.ListForms.{is_same-lists}
 use Rattle.vx_model.proofs.ListRows.{fits-lists, items-lists, length-lists}
 use Rattle.vx_model.proofs.ListSteps.{is_filter-hidden, is_filter-lists, is_slice-lists, is_take-kept_lists, is_take-lists}
-use Rattle.vx_model.proofs.ShownRows.{length-present_bits}
+use Rattle.vx_model.proofs.ShownRows.{length-present_bits, none_shown}
 use Rattle.vx_model.proofs.Takes.{length-at}
-use Rattle.vx_model.proofs.UnwrappedForms.{none_shown}
 
 pub swapped : (a b : ℕ) → a * b ≡ b * a
 swapped a b = grind arith

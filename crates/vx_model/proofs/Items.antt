@@ -12,6 +12,10 @@ map-items_where_true f (b ∷ bits) [] = refl
 map-items_where_true f (true ∷ bits) (x ∷ xs) = ap (λ l. f x ∷ l) (map-items_where_true f bits xs)
 map-items_where_true f (false ∷ bits) (x ∷ xs) = map-items_where_true f bits xs
 
+pub map-replicate : {X Y : Type 0} (f : X → Y) (n : ℕ) (x : X) → map f (replicate n x) ≡ replicate n (f x)
+map-replicate f zero x = refl
+map-replicate f (suc n) x = ap (λ l. f x ∷ l) (map-replicate f n x)
+
 pub map-slice_range : {X Y : Type 0} (f : X → Y) (xs : List X) (s e : ℕ) → map f (slice_range xs s e) ≡ slice_range (map f xs) s e
 map-slice_range f xs s e = sym (take-map f (e - s) (drop s xs)) ∙ ap (take (e - s)) (sym (drop-map f s xs))
 

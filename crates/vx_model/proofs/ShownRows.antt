@@ -51,6 +51,13 @@ shown_rows-all zero (x ∷ rows) h = absurd (omega arith)
 shown_rows-all (suc n) [] h = absurd (omega arith)
 shown_rows-all (suc n) (x ∷ rows) h = ap (λ l. x ∷ l) (shown_rows-all n rows (omega arith))
 
+-- and where none is, they are nulls
+pub none_shown : (n : ℕ) (rows : List RowValue) → length rows ≡ n → shown_rows (replicate n false) rows ≡ replicate n null
+none_shown zero [] h = refl
+none_shown zero (x ∷ rows) h = absurd (omega arith)
+none_shown (suc n) [] h = absurd (omega arith)
+none_shown (suc n) (x ∷ rows) h = ap (λ l. null ∷ l) (none_shown n rows (omega arith))
+
 -- row i
 pub get_or-shown_rows : (bits : List Bool) (rows : List RowValue) (i : ℕ) → length bits ≡ length rows → i < length rows → get_or (shown_rows bits rows) i null ≡ (if get_or bits i false then get_or rows i null else null)
 get_or-shown_rows [] [] i h l = absurd (omega arith)

@@ -1,6 +1,6 @@
 -- What a step leaves of a validity that is a column.
 use Rattle.std.proofs.Common.{◌≡◌, ℕ, ◌-◌, ◌≤◌, Bool, true, false, ◌&&◌, List, map, length, slice_range, refl, sym, ap, ◌∙◌, arith}
-use Rattle.std.specs.Prelude.{◌==◌, if◌then◌else◌}
+use Rattle.std.specs.Prelude.{◌==◌, if◌then◌else◌, ◌&&◌}
 use Rattle.std.specs.List.{items_where_true}
 use Rattle.std.proofs.lemmas.List.{length-map}
 use Rattle.std.proofs.lemmas.Bool.Decides.{nat_tests}
@@ -10,9 +10,10 @@ use Rattle.vx_types.specs.declared.layout_name.LayoutName.{LayoutName}
 use Rattle.vx_types.specs.declared.layout_name.LayoutName.TheVariants as layouts
 use Rattle.vx_model.specs.Column.{Column, by_bools, by_other}
 use Rattle.vx_model.specs.Plain.{is_in_place}
-use Rattle.vx_model.specs.Valid.{by_column, is_yes, is_fitting, is_non_null_bool, is_constant_form, is_flat_cover, is_bool_layout, cover_by, nullability_by, present_bits, IsLeft}
+use Rattle.vx_model.specs.Valid.{by_column, is_yes, is_fitting, is_non_null_bool, is_constant_form, is_flat_cover, is_bool_layout, cover_by, nullability_by, present_bits, IsLeft, Valid}
 use Rattle.vx_model.specs.Step.{IsStep, IsCut, IsSlice}
 use Rattle.vx_model.proofs.Items.{map-items_where_true, map-slice_range, length-items_where_true, length-slice_range}
+use Rattle.vx_model.proofs.ShownRows.{length-present_bits}
 
 -- a column is no constant form
 not_constant : (b : Bool) → is_constant_form (if b then by_bools else by_other) ≡ true → false ≡ true
@@ -92,3 +93,48 @@ is_left-filter-by_column c d mask f cut =
       nullability = refl;
       flat = flat-by_column c d _ _ cut.step;
     }
+
+-- ---- validities that are unwrapped
+
+-- a validity as it is
+pub is_left-same : (v : Valid) (n : ℕ) → is_fitting v n ≡ true → IsLeft v (nullability_by v) (present_bits v n) v
+is_left-same v n f =
+    let long = length-present_bits v n f in
+    record {
+      bits = ap (present_bits v) long;
+      fitting = ap (is_fitting v) long ∙ f;
+      nullability = refl;
+      flat = λ h. h;
+    }
+
+flat_bool : (c : Column) → is_bool_layout c.layout ≡ true → is_flat_cover (cover_by (by_column c)) ≡ true
+flat_bool c h = rw h refl
+
+pub flat-bools : (c : Column) → is_bool_layout c.layout ≡ true → is_flat_cover (cover_by (by_column c)) ≡ true
+flat-bools c h = flat_bool c h
+
+kind_of : (c : Column) (n : ℕ) → is_fitting (by_column c) n ≡ true → is_non_null_bool c.dtype ≡ true
+kind_of c n h = first (is_non_null_bool c.dtype) (length c.rows == n) h
+  where
+    first : (a b : Bool) → (a && b) ≡ true → a ≡ true
+    first true b h = refl
+    first false b h = cc
+
+-- a validity array is one of bools
+pub bools-fitting : (c : Column) (n : ℕ) → is_fitting (by_column c) n ≡ true → is_non_null_bool c.dtype ≡ true
+bools-fitting c n h = kind_of c n h
+
+-- a column of the same rows and type in its place
+pub is_left-execute : (c d : Column) (n : ℕ) → is_fitting (by_column c) n ≡ true → IsStep c c.rows c.dtype d → is_bool_layout d.layout ≡ true → IsLeft (by_column c) (nullability_by (by_column c)) (present_bits (by_column c) n) (by_column d)
+is_left-execute c d n f step bools =
+    let long = length-present_bits (by_column c) n f in
+    let count : length c.rows ≡ n = sym (length-map c.rows is_yes) ∙ long in
+    record {
+      bits = ap (map is_yes) step.rows;
+      fitting = is_fitting-step c d c.rows n _ step f (count ∙ sym long);
+      nullability = refl;
+      flat = λ _. flat_bool d bools;
+    }
+
+-- what a proof about an unwrapped validity needs
+pub ruleset executed = (is_left-same, is_left-execute, flat-bools, bools-fitting)

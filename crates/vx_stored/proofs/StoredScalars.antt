@@ -9,7 +9,8 @@ use Rattle.vx_types.specs.declared.error.ColumnError.TheVariants.{WrongType, Wro
 use Rattle.vx_model.specs.Column.{Column}
 use Rattle.vx_model.specs.Valid.{Valid, all_invalid, present_bits, shown_rows, stored_rows}
 use Rattle.vx_model.specs.Null.{null_column}
-use Rattle.vx_model.proofs.UnwrappedForms.{map-replicate, none_shown}
+use Rattle.vx_model.proofs.Items.{map-replicate}
+use Rattle.vx_model.proofs.ShownRows.{none_shown}
 use Rattle.vx_stored.specs.Scalars.{bit_or_false, bytes_or_zeros}
 
 -- what holds of a column holds of a result that is it

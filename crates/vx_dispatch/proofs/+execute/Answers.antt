@@ -8,7 +8,8 @@ use Rattle.vx_model.specs.Numbers.{numbers_of}
 use Rattle.std.specs.Prelude.{IfOk}
 use Rattle.vx_model.specs.Step.{IsStep, IsTake}
 use Rattle.vx_model.proofs.LazyRows.{int-dict}
-use Rattle.vx_model.proofs.UnwrappedForms.{execute-dict, execute-filter, first_bad-execute}
+use Rattle.vx_model.proofs.DictSteps.{execute-dict, first_bad-execute}
+use Rattle.vx_model.proofs.FilterSteps.{execute-filter}
 use Rattle.vx_column.specs.Validity.{valid_of}
 use Rattle.vx_model.specs.Valid.{is_fitting}
 use Rattle.vx_dispatch.proofs.Codes.{no_fault}

@@ -14,7 +14,8 @@ use Rattle.vx_mask.specs.Mask.{mask_bits}
 use Rattle.vx_mask.specs.Positions.{rank_of, set_of}
 use Rattle.vx_model.proofs.Items.{items_where_true-all, items_where_true-none}
 use Rattle.vx_model.proofs.LazyRows.{length-filter}
-use Rattle.vx_model.proofs.LazySteps.{dict_fault-filter, is_filter-dict, is_filter-filter}
+use Rattle.vx_model.proofs.DictSteps.{dict_fault-filter, is_filter-dict}
+use Rattle.vx_model.proofs.FilterSteps.{is_filter-filter}
 use Rattle.vx_dispatch.proofs.Results.{weaker}
 use Rattle.vx_model.specs.Valid.{valid_size}
 use Rattle.std.proofs.Common.{ℕ, ◌*◌, ap₂, slice_range}

@@ -12,7 +12,8 @@ use Rattle.std.proofs.Common.{take, Bool}
 use Rattle.vx_bits.specs.BitBuffer.{true_count_of}
 use Rattle.vx_model.specs.Column.{Column}
 use Rattle.vx_model.specs.Filter.{filter_column}
-use Rattle.vx_model.proofs.LazySteps.{dict_fault-slice, is_slice-dict, is_slice-filter}
+use Rattle.vx_model.proofs.DictSteps.{dict_fault-slice, is_slice-dict}
+use Rattle.vx_model.proofs.FilterSteps.{is_slice-filter}
 use Rattle.vx_dispatch.proofs.Results.{weaker}
 use Rattle.vx_model.specs.Valid.{valid_size}
 use Rattle.std.proofs.Common.{ℕ, ◌-◌, ◌*◌}

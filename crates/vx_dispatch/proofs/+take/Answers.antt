@@ -23,8 +23,8 @@ use Rattle.vx_model.specs.Step.{IsCut, IsTake}
 use Rattle.vx_model.specs.Column.{Column}
 use Rattle.vx_model.specs.Numbers.{numbers_of}
 use Rattle.vx_positions.specs.Positions.{positions_of}
-use Rattle.vx_model.proofs.LazyBits.{bits-dict}
-use Rattle.vx_model.proofs.LazySteps.{dict_fault-take, is_step-filter, is_take-dict, is_take-filter}
+use Rattle.vx_model.proofs.DictSteps.{bits-dict, dict_fault-take, is_take-dict}
+use Rattle.vx_model.proofs.FilterSteps.{is_step-filter, is_take-filter}
 use Rattle.vx_dispatch.proofs.Codes.{codes-no_fault}
 use Rattle.vx_dispatch.proofs.Results.{weaker}
 use Rattle.vx_model.specs.Valid.{valid_size}

@@ -1,6 +1,6 @@
 -- A rank that is there names a position.
 use Rattle.vx_mask.specs.Mask.{mask_bits}
-use Rattle.vx_model.proofs.LazyBits.{there-translated}
+use Rattle.vx_model.proofs.FilterSteps.{there-translated}
 use Rattle.vx_dispatch.proofs.Results.{weaker}
 use Rattle.vx_dispatch.proofs.filter_layout.child_picks.Goals as goal
 

@@ -2,7 +2,7 @@
 use Rattle.std.proofs.Common.{ℕ, ap, ap₂, ◌∙◌}
 use Rattle.vx_model.specs.Constant.{constant_column}
 use Rattle.vx_model.proofs.LazyRows.{length-constant}
-use Rattle.vx_model.proofs.LazySteps.{is_filter-constant}
+use Rattle.vx_model.proofs.ConstantSteps.{is_filter-constant}
 use Rattle.vx_types.specs.Scalar.{TypedRow}
 use Rattle.vx_stored.proofs.constant_steps.filter_constant.Goals as goal
 

@@ -11,7 +11,7 @@ use Rattle.vx_take.specs.Picks.{AreBelow}
 use Rattle.vx_model.specs.Constant.{constant_column}
 use Rattle.vx_model.specs.Valid.{non_nullable, nullability_by, present_bits, shown_rows}
 use Rattle.vx_model.proofs.LazyRows.{length-constant}
-use Rattle.vx_model.proofs.LazySteps.{is_take-constant}
+use Rattle.vx_model.proofs.ConstantSteps.{is_take-constant}
 use Rattle.vx_model.proofs.Takes.{is_left-bits_column}
 use Rattle.vx_model.proofs.Nullabilities.{also_nullable-own, also_nullable-nullable}
 use Rattle.vx_model.proofs.ConstantRows.{null_is, is_take-null_constant, is_take-stored_constant}

@@ -3,7 +3,8 @@ use Rattle.std.proofs.Common.{◌≡◌, None, ◌∙◌, sym, ap}
 use Rattle.vx_positions.specs.Positions.{first_bad}
 use Rattle.vx_model.specs.Column.{Column}
 use Rattle.vx_model.specs.Numbers.{numbers_of}
-use Rattle.vx_model.proofs.LazyNumbers.{sound-values, sound-child}
+use Rattle.vx_model.proofs.DictSteps.{sound-values}
+use Rattle.vx_model.proofs.FilterSteps.{sound-child}
 use Rattle.vx_column.specs.Layout.{column_of}
 use Rattle.vx_column.proofs.array.Array.+tells_positions.Goals as goal
 
