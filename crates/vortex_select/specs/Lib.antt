@@ -1,34 +1,68 @@
 pub use Rattle.vx_bits.specs.BitBuffer
+pub use Rattle.vx_bits.specs.BitBuilder
 pub use Rattle.vx_bits.specs.Records
 pub use Rattle.vx_bits.specs.Results
+pub use Rattle.vx_bits.specs.WordReader
+pub use Rattle.vx_bits.specs.Words
 pub use Rattle.vx_chunked.specs.Asked
+pub use Rattle.vx_column.specs.Bool as BoolBits
 pub use Rattle.vx_column.specs.Cell
 pub use Rattle.vx_column.specs.Flat
+pub use Rattle.vx_column.specs.Layout
+pub use Rattle.vx_column.specs.ListParts
+pub use Rattle.vx_column.specs.Lists
+pub use Rattle.vx_column.specs.Part
+pub use Rattle.vx_column.specs.Plain as PlainColumns
+pub use Rattle.vx_column.specs.Records as RecordParts
+pub use Rattle.vx_column.specs.Shown
+pub use Rattle.vx_column.specs.Stored
+pub use Rattle.vx_column.specs.StructParts
+pub use Rattle.vx_column.specs.Text as TextParts
+pub use Rattle.vx_column.specs.Truth
+pub use Rattle.vx_column.specs.UnionParts
+pub use Rattle.vx_column.specs.Validity
+pub use Rattle.vx_column.specs.declared.records.RecordType as RecordTypes
+pub use Rattle.vx_decoder.specs.Laws as DecoderLaws
+pub use Rattle.vx_decoder.specs.Told
+pub use Rattle.vx_decoder.specs.declared.call.Call as Calls
 pub use Rattle.vx_file.specs.Blocks
 pub use Rattle.vx_file.specs.Errors
 pub use Rattle.vx_file.specs.File
 pub use Rattle.vx_file.specs.Reading
+pub use Rattle.vx_file.specs.Shape as FileShapes
+pub use Rattle.vx_file.specs.Touched
+pub use Rattle.vx_file.specs.declared.error.FileError as FileErrors
+pub use Rattle.vx_io.specs.Bytes
 pub use Rattle.vx_join.specs.Join
 pub use Rattle.vx_join.specs.Keys
 pub use Rattle.vx_join.specs.Pairs
+pub use Rattle.vx_join.specs.declared.error.JoinError as JoinErrors
 pub use Rattle.vx_layouts.specs.Adaptors
 pub use Rattle.vx_layouts.specs.Answers as LayoutAnswers
 pub use Rattle.vx_layouts.specs.Pack
 pub use Rattle.vx_layouts.specs.Sorted
 pub use Rattle.vx_layouts.specs.Taking
+pub use Rattle.vx_layouts.specs.declared.taking.TakeError as TakeErrors
 pub use Rattle.vx_mask.specs.Mask
+pub use Rattle.vx_mask.specs.MaskValues
 pub use Rattle.vx_mask.specs.Policy
 pub use Rattle.vx_mask.specs.Positions as MaskPositions
+pub use Rattle.vx_mask.specs.Ranks
+pub use Rattle.vx_mask.specs.Reuse
+pub use Rattle.vx_mask.specs.declared.error.MaskError as MaskErrors
+pub use Rattle.vx_mask.specs.declared.policy.PolicyFields
 pub use Rattle.vx_model.specs.Bool
 pub use Rattle.vx_model.specs.Column
 pub use Rattle.vx_model.specs.Columns
 pub use Rattle.vx_model.specs.Constant
 pub use Rattle.vx_model.specs.Dict
 pub use Rattle.vx_model.specs.Extension as ExtensionLayout
+pub use Rattle.vx_model.specs.Filler
 pub use Rattle.vx_model.specs.Filter as FilterLayout
 pub use Rattle.vx_model.specs.FixedSizeList
 pub use Rattle.vx_model.specs.List
 pub use Rattle.vx_model.specs.ListView
+pub use Rattle.vx_model.specs.Lists as ListColumns
 pub use Rattle.vx_model.specs.Map
 pub use Rattle.vx_model.specs.Null
 pub use Rattle.vx_model.specs.Numbers
@@ -41,11 +75,16 @@ pub use Rattle.vx_model.specs.Union
 pub use Rattle.vx_model.specs.Valid
 pub use Rattle.vx_model.specs.VarBin
 pub use Rattle.vx_model.specs.VarBinView
-pub use Rattle.vx_positions.specs.Offsets
-pub use Rattle.vx_positions.specs.Positions
+pub use Rattle.vx_packed.specs.Chunk as PackedChunks
+pub use Rattle.vx_packed.specs.Faults as PackedFaults
 pub use Rattle.vx_pieces.specs.Indices
 pub use Rattle.vx_pieces.specs.Pieces
+pub use Rattle.vx_pieces.specs.Runs
+pub use Rattle.vx_pieces.specs.declared.error.PiecesError as PiecesErrors
+pub use Rattle.vx_positions.specs.Offsets
+pub use Rattle.vx_positions.specs.Positions
 pub use Rattle.vx_select.specs.Chunks
+pub use Rattle.vx_select.specs.Laws as SelectLaws
 pub use Rattle.vx_select.specs.Select
 pub use Rattle.vx_steps.specs.Answer
 pub use Rattle.vx_steps.specs.Cause
@@ -56,19 +95,24 @@ pub use Rattle.vx_steps.specs.Step
 pub use Rattle.vx_steps.specs.Walk
 pub use Rattle.vx_steps.specs.declared.cause.Cause as Causes
 pub use Rattle.vx_steps.specs.declared.cause.SelectError as SelectErrors
+pub use Rattle.vx_stored.specs.Scalars as StoredScalars
 pub use Rattle.vx_table.specs.Page
 pub use Rattle.vx_table.specs.Table
+pub use Rattle.vx_table.specs.Taken
+pub use Rattle.vx_table.specs.declared.error.PageError as PageErrors
 pub use Rattle.vx_take.specs.Picks
 pub use Rattle.vx_text.specs.Building
 pub use Rattle.vx_text.specs.OffsetList
 pub use Rattle.vx_types.specs.DType
 pub use Rattle.vx_types.specs.Decimal
 pub use Rattle.vx_types.specs.Extension as ExtensionType
+pub use Rattle.vx_types.specs.FieldTypes
 pub use Rattle.vx_types.specs.Fields
 pub use Rattle.vx_types.specs.Nullability
 pub use Rattle.vx_types.specs.PType
 pub use Rattle.vx_types.specs.Row
 pub use Rattle.vx_types.specs.RowValue
+pub use Rattle.vx_types.specs.Same
 pub use Rattle.vx_types.specs.Scalar
 pub use Rattle.vx_types.specs.Text as Texts
 pub use Rattle.vx_types.specs.TypeTree
