@@ -15,4 +15,4 @@ returns-clause-lists c =
     let long = c.requires.long ∙ sym (length-map p.spans (items_in p.elements.rows)) in
     let v = valid_of c.args.validity in
     made_lists c.in_ok-offsets.offsets v c.in_ok-filter.filter.offsets.items _ _ c.in_ok-offsets.ensures.integers
-    (c.in_ok-offsets.ensures.numbers ∙ ap (map pos) c.as_slice.ensures.value) c.in_ok-filter.ensures.left (fits_left v c.args.by.mask.now.bits.bits (lists_of p) long c.requires.fitting)
+    (c.in_ok-offsets.ensures.numbers ∙ ap (map pos) c.as_slice.ensures.value) c.in_ok-filter.ensures.left (fits_left v c.args.mask.now.bits.bits (lists_of p) long c.requires.fitting)
