@@ -1,5 +1,5 @@
 //! Layout `List`: what its filters and takes leave.
-ghost use Rattle.std.specs.Prelude.{◌≡◌, ◌+◌, ◌≤◌, [], IfOk, length, map, pos, replicate, slice_range, true};
+ghost use Rattle.std.specs.Prelude.{◌≡◌, ◌+◌, ◌≤◌, [], IfOk, length, replicate, slice_range, true};
 ghost use Rattle.std.specs.List.{All, items_where_true};
 ghost use Rattle.vx_mask.specs.Mask.{mask_bits};
 ghost use Rattle.vx_model.specs.List.{list_spans};
@@ -15,8 +15,7 @@ ghost use Rattle.vx_types.specs.TypeTree.{primitive_kind};
 ghost use Rattle.vx_types.specs.declared.ptype.PType.TheVariants.{U64};
 ghost use Rattle.vx_lists.specs.Lists.{AreOffsets, last_offset};
 ghost use Rattle.vx_lists.specs.Numbers.{AreInType};
-ghost use Rattle.vx_lists.specs.Sums.{offsets_of};
-ghost use Rattle.vx_lists.specs.Plans.{IsRangeOf, LeavesLists, MakesLists, is_all_invalid, lists_left};
+ghost use Rattle.vx_lists.specs.Plans.{IsRangeOf, LeavesLists, PlansLists, is_all_invalid, lists_left};
 ghost use Rattle.vx_text.specs.Fits.{FitsFilter, FitsSlice, FitsTake};
 
 use crate::filter::{ListFilter, filter_lists};
@@ -109,7 +108,7 @@ pub fn plan_list_filter(
     validity: Validity,
 ) -> Result<ListFilterPlan, NoMemory>
     requires { FitsFilter (length (list_spans array.now).spans) mask.now (valid_of validity) }
-    ensures lists { IfOk result (λ plan. MakesLists plan.offsets (valid_of validity)
+    ensures lists { IfOk result (λ plan. PlansLists plan.offsets (valid_of validity)
         (items_where_true (mask_bits plan.mask)
         (slice_range array.now.elements.rows plan.range.0 plan.range.1))
         (lists_left (valid_of validity)
@@ -169,13 +168,10 @@ pub fn plan_list_take(
     validity: Validity,
 ) -> Result<ListTakePlan, NoMemory>
     requires { FitsTake (length (list_spans array.now).spans) picks.now (valid_of validity) }
-    ensures lists { IfOk result (λ plan. MakesLists plan.offsets (valid_of validity)
+    ensures lists { IfOk result (λ plan. PlansLists plan.offsets (valid_of validity)
         (in_runs array.now.elements.rows plan.runs)
         (kept_lists (present_bits (valid_of validity) (length picks.now.picks))
         (at [] (lists_of (list_spans array.now)) picks.now.picks))) }
-    ensures sums { IfOk result (λ plan. integers_of plan.offsets ≡ map pos (offsets_of
-        (map length (kept_lists (present_bits (valid_of validity) (length picks.now.picks))
-        (at [] (lists_of (list_spans array.now)) picks.now.picks))))) }
     ensures kind { IfOk result (λ plan. plan.offsets.kind ≡ primitive_kind U64) }
     ensures valid { IfOk result (λ plan. valid_of plan.validity ≡ valid_of validity) }
     ensures inside { IfOk result
