@@ -5,7 +5,7 @@ use callers::{mask_of, picks_of};
 use std::alloc::Global;
 use std::test::Fail;
 use vx_column::{FixedSizeListArray, Validity};
-use vx_lists::{FixedFilterPlan, FixedTakePlan, KeptRows, plan_fixed_filter, plan_fixed_take};
+use vx_lists::{FixedFilterPlan, FixedTakePlan, plan_fixed_filter, plan_fixed_take};
 use vx_mask::{Mask, Policy};
 use vx_take::Picks;
 
@@ -71,12 +71,7 @@ fn filtered(
     if mask.len() != array.len() {
         return Err("another number of lists".into());
     }
-    Ok(plan_fixed_filter(
-        alloc,
-        array,
-        KeptRows { mask, policy },
-        Validity::NonNullable,
-    )?)
+    Ok(plan_fixed_filter(alloc, array, mask, policy, Validity::NonNullable)?)
 }
 
 fn print_filter(

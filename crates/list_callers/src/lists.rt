@@ -11,9 +11,7 @@ use callers::{mask_of, picks_of};
 use std::alloc::Global;
 use std::test::Fail;
 use vx_column::{ArrayRef, ListArray, Validity};
-use vx_lists::{
-    KeptRows, ListFilterPlan, ListTakePlan, plan_list_filter, plan_list_take, slice_list,
-};
+use vx_lists::{ListFilterPlan, ListTakePlan, plan_list_filter, plan_list_take, slice_list};
 use vx_mask::{Mask, Policy};
 use vx_take::Picks;
 
@@ -106,7 +104,7 @@ fn filtered(
     if !validity.is_fitting(mask.true_count()) {
         return Err("another number of rows".into());
     }
-    Ok(plan_list_filter(alloc, array, KeptRows { mask, policy }, validity.share())?)
+    Ok(plan_list_filter(alloc, array, mask, policy, validity.share())?)
 }
 
 fn print_filter_plan(rt: &impl Print, plan: &ListFilterPlan) -> Result<(), Fail> {

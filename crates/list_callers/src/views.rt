@@ -8,7 +8,7 @@ use callers::{mask_of, picks_of};
 use std::alloc::Global;
 use std::test::Fail;
 use vx_column::{ListViewArray, PrimitiveArray, Validity};
-use vx_lists::{KeptRows, ViewPlan, plan_view_filter, plan_view_take, slice_view};
+use vx_lists::{ViewPlan, plan_view_filter, plan_view_take, slice_view};
 use vx_mask::{Mask, Policy};
 use vx_take::Picks;
 
@@ -59,12 +59,7 @@ fn filtered(alloc: Global, array: &ListViewArray, mask: &Mask) -> Result<ViewPla
     if mask.len() != rows_of(array) {
         return Err("another number of lists".into());
     }
-    let policy = Policy::vortex();
-    let by = KeptRows {
-        mask,
-        policy: &policy,
-    };
-    Ok(plan_view_filter(alloc, array, by, Validity::NonNullable)?)
+    Ok(plan_view_filter(alloc, array, mask, &Policy::vortex(), Validity::NonNullable)?)
 }
 
 fn print_filter(rt: &impl Print, alloc: Global, array: &ListViewArray) -> Result<(), Fail> {

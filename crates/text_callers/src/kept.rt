@@ -10,7 +10,7 @@ use std::alloc::Global;
 use std::test::Fail;
 use vx_column::{PType, Validity, VarBinArray};
 use vx_mask::{Mask, Policy};
-use vx_text::{KeptRows, filter_varbin};
+use vx_text::filter_varbin;
 
 // No row is null, or each is.
 fn validity_of(there: bool) -> Validity
@@ -33,12 +33,7 @@ fn kept_texts(
 ) -> Result<VarBinArray, Fail> {
     let _ = texts.offsets();
     let mask = some_of(mask, texts.share().into_array().len())?;
-    let policy = Policy::vortex();
-    let by = KeptRows {
-        mask,
-        policy: &policy,
-    };
-    Ok(filter_varbin(alloc, texts, by, validity_of(there))?)
+    Ok(filter_varbin(alloc, texts, mask, &Policy::vortex(), validity_of(there))?)
 }
 
 // Prints what a mask keeps of texts, and how many bytes are stored.

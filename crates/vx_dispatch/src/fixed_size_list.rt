@@ -12,7 +12,7 @@ use crate::validity::{filter_validity, slice_validity, take_validity};
 use std::alloc::Global;
 use vx_bits::NoMemory;
 use vx_column::{Array, FixedSizeListArray, Nullability, Validity};
-use vx_lists::{FixedFilterPlan, FixedTakePlan, KeptRows, plan_fixed_filter, plan_fixed_take};
+use vx_lists::{FixedFilterPlan, FixedTakePlan, plan_fixed_filter, plan_fixed_take};
 use vx_mask::{MaskValues, Policy};
 use vx_take::Picks;
 
@@ -62,7 +62,7 @@ impl FilterRows for FixedSizeListArray {
         let FixedFilterPlan {
             validity,
             mask: kept,
-        } = plan_fixed_filter(alloc, self, KeptRows { mask, policy }, validity)?;
+        } = plan_fixed_filter(alloc, self, mask, policy, validity)?;
         let elements = filter(alloc, self.elements(), &kept, policy)?;
         let elements = elements.into_ref(alloc)?;
         Ok(

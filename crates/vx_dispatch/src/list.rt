@@ -12,7 +12,7 @@ use crate::validity::{filter_validity, slice_validity, take_validity};
 use std::alloc::Global;
 use vx_bits::NoMemory;
 use vx_column::{Array, ListArray, Nullability, PrimitiveArray, Validity};
-use vx_lists::{KeptRows, plan_list_filter, plan_list_take, slice_list};
+use vx_lists::{plan_list_filter, plan_list_take, slice_list};
 use vx_mask::{MaskValues, Policy};
 use vx_take::Picks;
 
@@ -50,7 +50,7 @@ impl FilterRows for ListArray {
     #[tactic(auto, using(vx_model::proofs::ListRows::list_rows))]
     fn filter(&self, alloc: Global, mask: &MaskValues, policy: &Policy) -> Step {
         let validity = filter_validity(alloc, self.validity(), mask, policy)?;
-        let plan = plan_list_filter(alloc, self, KeptRows { mask, policy }, validity)?;
+        let plan = plan_list_filter(alloc, self, mask, policy, validity)?;
         let part = slice(alloc, self.elements(), plan.range.0, plan.range.1)?;
         let elements = filter(alloc, &part, &plan.mask, policy)?;
         relisted(alloc, self, elements, plan.offsets, plan.validity)

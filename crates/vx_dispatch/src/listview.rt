@@ -15,7 +15,7 @@ use crate::validity::{filter_validity, slice_validity, take_validity};
 use std::alloc::Global;
 use vx_bits::NoMemory;
 use vx_column::{ListViewArray, Nullability};
-use vx_lists::{KeptRows, ViewPlan, plan_view_filter, plan_view_take, slice_view};
+use vx_lists::{ViewPlan, plan_view_filter, plan_view_take, slice_view};
 use vx_mask::{MaskValues, Policy};
 use vx_take::Picks;
 
@@ -82,7 +82,7 @@ pub(crate) fn filter_views(
         (listview_column a)) }
 {
     let validity = filter_validity(alloc, array.validity(), mask, policy)?;
-    let plan = plan_view_filter(alloc, array, KeptRows { mask, policy }, validity)?;
+    let plan = plan_view_filter(alloc, array, mask, policy, validity)?;
     Ok(relisted(array, plan))
 }
 

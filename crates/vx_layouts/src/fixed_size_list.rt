@@ -7,7 +7,7 @@ use std::alloc::Global;
 use vx_bits::NoMemory;
 use vx_column::FixedSizeListArray;
 use vx_dispatch::{filter, filter_validity};
-use vx_lists::{KeptRows, plan_fixed_filter};
+use vx_lists::plan_fixed_filter;
 use vx_mask::{MaskValues, Policy};
 
 /// The lists at the set positions of a mask that is as long, of the elements that are theirs:
@@ -23,11 +23,7 @@ pub fn filter_fixed_size_list(
 {
     let policy = Policy::vortex();
     let validity = filter_validity(alloc, array.validity(), selection_mask, &policy)?;
-    let by = KeptRows {
-        mask: selection_mask,
-        policy: &policy,
-    };
-    let plan = plan_fixed_filter(alloc, array, by, validity)?;
+    let plan = plan_fixed_filter(alloc, array, selection_mask, &policy, validity)?;
     let elements = filter(alloc, array.elements(), &plan.mask, &policy)?;
     let elements = elements.into_ref(alloc)?;
     Ok(array.with_parts(elements, plan.validity, selection_mask.true_count()))

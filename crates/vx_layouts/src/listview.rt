@@ -7,7 +7,7 @@ use std::alloc::Global;
 use vx_bits::NoMemory;
 use vx_column::ListViewArray;
 use vx_dispatch::filter_validity;
-use vx_lists::{KeptRows, plan_view_filter};
+use vx_lists::plan_view_filter;
 use vx_mask::{MaskValues, Policy};
 
 /// The lists at the set positions of a mask that is as long, of the same elements: Vortex's
@@ -23,11 +23,7 @@ pub fn filter_listview(
 {
     let policy = Policy::vortex();
     let validity = filter_validity(alloc, array.validity(), selection_mask, &policy)?;
-    let by = KeptRows {
-        mask: selection_mask,
-        policy: &policy,
-    };
-    let plan = plan_view_filter(alloc, array, by, validity)?;
+    let plan = plan_view_filter(alloc, array, selection_mask, &policy, validity)?;
     let elements = array.elements().share();
     Ok(array.with_parts(elements, plan.offsets, plan.sizes, plan.validity))
 }

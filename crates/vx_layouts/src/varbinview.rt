@@ -8,7 +8,7 @@ use vx_bits::NoMemory;
 use vx_column::VarBinViewArray;
 use vx_dispatch::filter_validity;
 use vx_mask::{MaskValues, Policy};
-use vx_text::{KeptRows, filter_views};
+use vx_text::filter_views;
 
 /// The rows at the set positions of a mask that is as long: Vortex's `filter_varbinview`.
 /// `NoMemory` alone.
@@ -22,9 +22,5 @@ pub fn filter_varbinview(
 {
     let policy = Policy::vortex();
     let validity = filter_validity(alloc, array.validity(), selection_mask, &policy)?;
-    let by = KeptRows {
-        mask: selection_mask,
-        policy: &policy,
-    };
-    filter_views(alloc, array, by, validity)
+    filter_views(alloc, array, selection_mask, &policy, validity)
 }

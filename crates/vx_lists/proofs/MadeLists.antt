@@ -35,7 +35,7 @@ use Rattle.vx_model.proofs.Takes.{length-at}
 use Rattle.vx_model.specs.VarBin.{are_integers, is_never_null, row_count}
 use Rattle.vx_text.specs.Building.{is_cut}
 use Rattle.vx_text.proofs.BuiltTexts.{cut_are, positions_back}
-use Rattle.vx_lists.specs.Plans.{LeavesLists, MakesLists, is_all_invalid, lists_left}
+use Rattle.vx_lists.specs.Plans.{LeavesLists, MakesLists, PlansLists, is_all_invalid, lists_left}
 use Rattle.vx_lists.specs.Sums.{joined, length_at, offsets_of, sums_from}
 use Rattle.vx_lists.specs.Takes.{IsTake, shown_picks}
 use Rattle.vx_lists.specs.Lists.{AreElementBits, AreOffsets, last_offset, row_count as rows_in}
@@ -71,7 +71,7 @@ no_fault true true false h k l = cc
 no_fault true false c h k l = cc
 no_fault false b c h k l = cc
 
-pub made_lists : (offsets : RecordParts) (valid : Valid) (os : List ℕ) (left : List RowValue) (lists : List (List RowValue)) → are_integers offsets ≡ true → integers_of offsets ≡ map pos os → LeavesLists os left lists → is_fitting valid (length lists) ≡ true → MakesLists offsets valid left lists
+made_lists : (offsets : RecordParts) (valid : Valid) (os : List ℕ) (left : List RowValue) (lists : List (List RowValue)) → are_integers offsets ≡ true → integers_of offsets ≡ map pos os → LeavesLists os left lists → is_fitting valid (length lists) ≡ true → MakesLists offsets valid left lists
 made_lists offsets valid os left lists int numbers leaves fits e rows =
     let positions : offset_positions (integers_of offsets) ≡ os = ap offset_positions numbers ∙ positions_back os in
     let count : row_count offsets ≡ length lists = omega (arith, length-map offsets.records (integer_by offsets.kind), ap length numbers, length-map os pos, ap length leaves.sums, length-offsets_of (map length lists), length-map lists (length {A = RowValue})) in
@@ -85,6 +85,13 @@ made_lists offsets valid os left lists int numbers leaves fits e rows =
   where
     cut_whole : (ls : List (List RowValue)) → is_cut (offsets_of (map length ls)) (sum_by length ls) ≡ true
     cut_whole ls = let none : sum_by length ls ≡ 0 + sum_by length ls = omega arith in ap (is_cut (offsets_of (map length ls))) none ∙ cut_sums 0 ls
+
+pub planned_lists : (offsets : RecordParts) (valid : Valid) (os : List ℕ) (left : List RowValue) (lists : List (List RowValue)) → are_integers offsets ≡ true → integers_of offsets ≡ map pos os → LeavesLists os left lists → is_fitting valid (length lists) ≡ true → PlansLists offsets valid left lists
+planned_lists offsets valid os left lists int numbers leaves fits = record {
+  sums = numbers ∙ ap (map pos) leaves.sums;
+  elements = leaves.elements;
+  makes = made_lists offsets valid os left lists int numbers leaves fits;
+}
 
 -- ---- lists that are all empty
 

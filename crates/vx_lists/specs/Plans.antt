@@ -1,11 +1,12 @@
 -- What plans promise of any column of the elements that are left.
-use Rattle.std.specs.Prelude.{◌≡◌, ℕ, ◌-◌, ◌≤◌, Bool, true, false, List, [], length, map, replicate, None, if◌then◌else◌}
+use Rattle.std.specs.Prelude.{◌≡◌, ℕ, pos, ◌-◌, ◌≤◌, Bool, true, false, List, [], length, map, replicate, None, if◌then◌else◌}
 use Rattle.vx_types.specs.RowValue.{RowValue}
 use Rattle.vx_model.specs.Column.{Column}
 use Rattle.vx_model.specs.FixedSizeList.{fixed_fault, fixed_spans}
 use Rattle.vx_model.specs.List.{list_fault, list_spans}
 use Rattle.vx_model.specs.ListView.{ListViewParts, listview_fault, listview_spans}
 use Rattle.vx_model.specs.Lists.{lists_of}
+use Rattle.vx_model.specs.Numbers.{integers_of}
 use Rattle.vx_model.specs.Records.{RecordParts}
 use Rattle.vx_model.specs.Valid.{Valid, non_nullable, all_valid, all_invalid, by_column}
 use Rattle.vx_lists.specs.Sums.{joined, offsets_of}
@@ -45,6 +46,13 @@ pub record LeavesLists (new_offsets : List ℕ) (left : List RowValue)
     (lists : List (List RowValue)) : Type 0 where
   pub sums : new_offsets ≡ offsets_of (map length lists)
   pub elements : left ≡ joined lists
+
+-- the same of a column of offsets, which with the validity makes a column of these lists
+pub record PlansLists (offsets : RecordParts) (valid : Valid) (left : List RowValue)
+    (lists : List (List RowValue)) : Type 0 where
+  pub sums : integers_of offsets ≡ map pos (offsets_of (map length lists))
+  pub elements : left ≡ joined lists
+  pub makes : MakesLists offsets valid left lists
 
 -- a range of so many elements, and bits for it
 pub record IsRangeOf (count : ℕ) (range : ℕ × ℕ) (bits : ℕ) : Type 0 where

@@ -17,31 +17,32 @@ use crate::plans::{FixedFilterPlan, FixedTakePlan};
 use std::alloc::Global;
 use vx_bits::NoMemory;
 use vx_column::{FixedSizeListArray, Validity};
+use vx_mask::{MaskValues, Policy};
 use vx_take::Picks;
-use vx_text::KeptRows;
 
-/// The plan of the kept lists, in order, with their validity.
+/// The plan of the lists at the set positions of `mask`, in order, with their validity.
 ///
 /// The mask of the elements has each bit `list_size` times, and keeps the runs of selected
 /// elements where `list_size` is at least `cached_list_size`. `NoMemory` alone.
 pub fn plan_fixed_filter(
     alloc: Global,
     array: &FixedSizeListArray,
-    by: KeptRows<'_>,
+    mask: &MaskValues,
+    policy: &Policy,
     validity: Validity,
 ) -> Result<FixedFilterPlan, NoMemory>
-    requires { FitsFilter array.now.len by.mask.now (valid_of validity) }
+    requires { FitsFilter array.now.len mask.now (valid_of validity) }
     ensures lists { IfOk result (λ plan.
-        MakesFixed array.now.size (true_count_of by.entry.mask.now.bits.bits) (valid_of validity)
+        MakesFixed array.now.size (true_count_of mask.now.bits.bits) (valid_of validity)
         (items_where_true (mask_bits plan.mask) array.now.elements.rows)
-        (items_where_true by.entry.mask.now.bits.bits (lists_of (fixed_spans array.now)))) }
+        (items_where_true mask.now.bits.bits (lists_of (fixed_spans array.now)))) }
     ensures mask { IfOk result
-        (λ plan. mask_bits plan.mask ≡ repeated array.now.size by.entry.mask.now.bits.bits) }
-    ensures slices { by.entry.policy.now.cached_list_size ≤ array.now.size
+        (λ plan. mask_bits plan.mask ≡ repeated array.now.size mask.now.bits.bits) }
+    ensures slices { policy.now.cached_list_size ≤ array.now.size
         → IfOk result (λ plan. IfSome (partial_of plan.mask) (λ p. IsSome p.slices)) }
     ensures valid { IfOk result (λ plan. valid_of plan.validity ≡ valid_of validity) }
 {
-    let mask = repeated_mask(alloc, by.mask, array.list_size() as usize, by.policy)?;
+    let mask = repeated_mask(alloc, mask, array.list_size() as usize, policy)?;
     Ok(FixedFilterPlan { validity, mask })
 }
 

@@ -22,4 +22,3 @@ pub use listview::{plan_view_filter, plan_view_take, slice_view};
 pub use plans::{FixedFilterPlan, FixedTakePlan, ListFilterPlan, ListTakePlan, ViewPlan};
 pub use take::{ListTake, take_lists};
 pub use view::{filter_numbers, slice_numbers, take_numbers};
-pub use vx_text::KeptRows;

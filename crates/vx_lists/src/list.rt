@@ -1,5 +1,5 @@
 //! Layout `List`: what its filters and takes leave.
-ghost use Rattle.std.specs.Prelude.{◌≡◌, ◌+◌, ◌≤◌, [], IfOk, length, map, pos, replicate, slice_range, true};
+ghost use Rattle.std.specs.Prelude.{◌≡◌, ◌+◌, ◌≤◌, [], IfOk, length, replicate, slice_range, true};
 ghost use Rattle.std.specs.List.{All, items_where_true};
 ghost use Rattle.vx_mask.specs.Mask.{mask_bits};
 ghost use Rattle.vx_model.specs.List.{list_spans};
@@ -15,8 +15,7 @@ ghost use Rattle.vx_types.specs.TypeTree.{primitive_kind};
 ghost use Rattle.vx_types.specs.declared.ptype.PType.TheVariants.{U64};
 ghost use Rattle.vx_lists.specs.Lists.{AreOffsets, last_offset};
 ghost use Rattle.vx_lists.specs.Numbers.{AreInType};
-ghost use Rattle.vx_lists.specs.Sums.{offsets_of};
-ghost use Rattle.vx_lists.specs.Plans.{IsRangeOf, LeavesLists, MakesLists, is_all_invalid, lists_left};
+ghost use Rattle.vx_lists.specs.Plans.{IsRangeOf, LeavesLists, PlansLists, is_all_invalid, lists_left};
 ghost use Rattle.vx_text.specs.Fits.{FitsFilter, FitsSlice, FitsTake};
 
 use crate::filter::{ListFilter, filter_lists};
@@ -26,9 +25,9 @@ use crate::take::{ListTake, taken_where};
 use std::alloc::Global;
 use vx_bits::NoMemory;
 use vx_column::{ListArray, Validity};
-use vx_mask::Mask;
+use vx_mask::{Mask, MaskValues, Policy};
 use vx_take::Picks;
-use vx_text::{KeptRows, present_mask, slice_offsets};
+use vx_text::{present_mask, slice_offsets};
 
 // Whether it says no at each row.
 fn is_all_invalid(validity: &Validity) -> bool
@@ -71,53 +70,55 @@ fn all_empty(alloc: Global, len: usize) -> Result<ListFilter, NoMemory>
 fn left_by(
     alloc: Global,
     array: &ListArray,
-    by: KeptRows<'_>,
+    mask: &MaskValues,
+    policy: &Policy,
     validity: &Validity,
 ) -> Result<ListFilter, NoMemory>
-    requires { length by.mask.now.bits.bits ≡ length (list_spans array.now).spans }
+    requires { length mask.now.bits.bits ≡ length (list_spans array.now).spans }
     ensures left { IfOk result (λ filter. LeavesLists filter.offsets.items
         (items_where_true (mask_bits filter.mask)
         (slice_range array.now.elements.rows filter.range.0 filter.range.1))
         (lists_left (valid_of validity.now)
-        (items_where_true by.entry.mask.now.bits.bits (lists_of (list_spans array.now))))) }
+        (items_where_true mask.now.bits.bits (lists_of (list_spans array.now))))) }
     ensures small { IfOk result
         (λ filter. AreInType (type_of array.now.offsets.kind) filter.offsets.items) }
     ensures inside { IfOk result (λ filter. IsRangeOf (length array.now.elements.rows)
         filter.range (length (mask_bits filter.mask))) }
 {
     if is_all_invalid(validity) {
-        let filter = all_empty(alloc, by.mask.true_count())?;
+        let filter = all_empty(alloc, mask.true_count())?;
         return Ok(filter);
     }
     // Where the elements end.
     let _ = array.elements().len();
     let offsets = list_offsets(alloc, array)?;
-    let filter = filter_lists(alloc, offsets.as_slice(), by.mask, by.policy)?;
+    let filter = filter_lists(alloc, offsets.as_slice(), mask, policy)?;
     Ok(filter)
 }
 
-/// The plan of the kept lists, in order, with their validity.
+/// The plan of the lists at the set positions of `mask`, in order, with their validity.
 ///
-/// The elements of a null row are kept, but where the validity is `AllInvalid` each list
-/// is empty. The range is that of [`filter_lists`], which the policy chooses. `NoMemory` alone.
+/// The elements of a selected null row are kept, but where the validity is `AllInvalid` each list
+/// is empty. The range is that of [`filter_lists`], which `policy` chooses. `NoMemory` alone.
 pub fn plan_list_filter(
     alloc: Global,
     array: &ListArray,
-    by: KeptRows<'_>,
+    mask: &MaskValues,
+    policy: &Policy,
     validity: Validity,
 ) -> Result<ListFilterPlan, NoMemory>
-    requires { FitsFilter (length (list_spans array.now).spans) by.mask.now (valid_of validity) }
-    ensures lists { IfOk result (λ plan. MakesLists plan.offsets (valid_of validity)
+    requires { FitsFilter (length (list_spans array.now).spans) mask.now (valid_of validity) }
+    ensures lists { IfOk result (λ plan. PlansLists plan.offsets (valid_of validity)
         (items_where_true (mask_bits plan.mask)
         (slice_range array.now.elements.rows plan.range.0 plan.range.1))
         (lists_left (valid_of validity)
-        (items_where_true by.entry.mask.now.bits.bits (lists_of (list_spans array.now))))) }
+        (items_where_true mask.now.bits.bits (lists_of (list_spans array.now))))) }
     ensures kind { IfOk result (λ plan. plan.offsets.kind ≡ array.now.offsets.kind) }
     ensures valid { IfOk result (λ plan. valid_of plan.validity ≡ valid_of validity) }
     ensures inside { IfOk result (λ plan. IsRangeOf (length array.now.elements.rows)
         plan.range (length (mask_bits plan.mask))) }
 {
-    let filter = left_by(alloc, array, by, &validity)?;
+    let filter = left_by(alloc, array, mask, policy, &validity)?;
     let offsets = offset_column(alloc, array.offsets().ptype(), filter.offsets.as_slice())?;
     let ListFilter {
         offsets: _,
@@ -167,13 +168,10 @@ pub fn plan_list_take(
     validity: Validity,
 ) -> Result<ListTakePlan, NoMemory>
     requires { FitsTake (length (list_spans array.now).spans) picks.now (valid_of validity) }
-    ensures lists { IfOk result (λ plan. MakesLists plan.offsets (valid_of validity)
+    ensures lists { IfOk result (λ plan. PlansLists plan.offsets (valid_of validity)
         (in_runs array.now.elements.rows plan.runs)
         (kept_lists (present_bits (valid_of validity) (length picks.now.picks))
         (at [] (lists_of (list_spans array.now)) picks.now.picks))) }
-    ensures sums { IfOk result (λ plan. integers_of plan.offsets ≡ map pos (offsets_of
-        (map length (kept_lists (present_bits (valid_of validity) (length picks.now.picks))
-        (at [] (lists_of (list_spans array.now)) picks.now.picks))))) }
     ensures kind { IfOk result (λ plan. plan.offsets.kind ≡ primitive_kind U64) }
     ensures valid { IfOk result (λ plan. valid_of plan.validity ≡ valid_of validity) }
     ensures inside { IfOk result

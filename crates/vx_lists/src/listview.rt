@@ -15,34 +15,34 @@ use crate::view::{filter_numbers, slice_numbers, take_numbers};
 use std::alloc::Global;
 use vx_bits::NoMemory;
 use vx_column::{ListViewArray, Validity};
+use vx_mask::{MaskValues, Policy};
 use vx_take::Picks;
-use vx_text::KeptRows;
 
-/// The plan of the kept list views, in order, with their validity. `NoMemory` alone.
+/// The plan of the list views at the set positions of `mask`, in order, with their validity.
+/// `NoMemory` alone.
 #[tactic(auto, using(vx_model::proofs::ListRows::listview_rows))]
 pub fn plan_view_filter(
     alloc: Global,
     array: &ListViewArray,
-    by: KeptRows<'_>,
+    mask: &MaskValues,
+    policy: &Policy,
     validity: Validity,
 ) -> Result<ViewPlan, NoMemory>
     requires { FitsFilter (length (listview_spans array.now).spans)
-        by.mask.now (valid_of validity) }
+        mask.now (valid_of validity) }
     ensures offsets { IfOk result (λ plan. plan.offsets ≡ records_with array.now.offsets
-        (items_where_true by.entry.mask.now.bits.bits array.now.offsets.records)
-        non_nullable) }
+        (items_where_true mask.now.bits.bits array.now.offsets.records) non_nullable) }
     ensures sizes { IfOk result (λ plan. plan.sizes ≡ records_with array.now.sizes
-        (items_where_true by.entry.mask.now.bits.bits array.now.sizes.records)
-        non_nullable) }
+        (items_where_true mask.now.bits.bits array.now.sizes.records) non_nullable) }
     ensures lists { IfOk result (λ plan. MakesViews (record array.now {
       offsets = plan.offsets;
       sizes = plan.sizes;
       valid = valid_of validity;
-    }) (items_where_true by.entry.mask.now.bits.bits (lists_of (listview_spans array.now)))) }
+    }) (items_where_true mask.now.bits.bits (lists_of (listview_spans array.now)))) }
     ensures valid { IfOk result (λ plan. valid_of plan.validity ≡ valid_of validity) }
 {
-    let offsets = filter_numbers(alloc, array.offsets(), by.mask, by.policy)?;
-    let sizes = filter_numbers(alloc, array.sizes(), by.mask, by.policy)?;
+    let offsets = filter_numbers(alloc, array.offsets(), mask, policy)?;
+    let sizes = filter_numbers(alloc, array.sizes(), mask, policy)?;
     Ok(ViewPlan {
         offsets,
         sizes,

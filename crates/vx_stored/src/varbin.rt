@@ -4,7 +4,7 @@ use std::alloc::Global;
 use vx_column::{Array, Validity, VarBinArray};
 use vx_mask::{MaskValues, Policy};
 use vx_take::Picks;
-use vx_text::{KeptRows, filter_varbin, slice_varbin, take_varbin_picks, take_views};
+use vx_text::{filter_varbin, slice_varbin, take_varbin_picks, take_views};
 
 /// The last offset of a column whose rows a take answers as views of its bytes: Vortex's
 /// `MAX_BUFFER_LEN`.
@@ -26,7 +26,7 @@ impl StoredRows for VarBinArray {
     fn filter(&self, alloc: Global, mask: &MaskValues, policy: &Policy, valid: Validity) -> Step {
         // the validity fits the rows
         let _ = self.bytes();
-        let kept = filter_varbin(alloc, self, KeptRows { mask, policy }, valid)?;
+        let kept = filter_varbin(alloc, self, mask, policy, valid)?;
         Ok(kept.into_array())
     }
 

@@ -4,7 +4,7 @@ use std::alloc::Global;
 use vx_column::{Array, Validity, VarBinViewArray};
 use vx_mask::{MaskValues, Policy};
 use vx_take::Picks;
-use vx_text::{KeptRows, filter_views, gather_views, slice_views};
+use vx_text::{filter_views, gather_views, slice_views};
 
 impl StoredRows for VarBinViewArray {
     ghost use Rattle.vx_model.specs.Text.{stored_texts};
@@ -22,7 +22,7 @@ impl StoredRows for VarBinViewArray {
     fn filter(&self, alloc: Global, mask: &MaskValues, policy: &Policy, valid: Validity) -> Step {
         // the validity fits the rows
         let _ = self.views();
-        let kept = filter_views(alloc, self, KeptRows { mask, policy }, valid)?;
+        let kept = filter_views(alloc, self, mask, policy, valid)?;
         Ok(kept.into_array())
     }
 

@@ -12,7 +12,6 @@ ghost use Rattle.vx_text.specs.Building.{type_of, AreTexts};
 ghost use Rattle.vx_text.specs.Fits.{FitsFilter};
 ghost use Rattle.vx_text.specs.Left.{LeavesTexts};
 
-use crate::kept::KeptRows;
 use crate::picked_texts::{present_mask, texts_in};
 use crate::run_texts::texts_in_runs;
 use crate::texts::Texts;
@@ -76,25 +75,26 @@ fn texts_by_mask(alloc: Global, array: &VarBinArray, mask: &MaskValues) -> Resul
 fn texts_kept(
     alloc: Global,
     array: &VarBinArray,
-    by: KeptRows<'_>,
+    mask: &MaskValues,
+    policy: &Policy,
     present: &Mask,
 ) -> Result<Texts, NoMemory>
-    requires long { length by.mask.now.bits.bits ≡ length (varbin_texts array.now).texts }
-    requires fitting { length (mask_bits present.now) ≡ true_count_of by.mask.now.bits.bits }
+    requires long { length mask.now.bits.bits ≡ length (varbin_texts array.now).texts }
+    requires fitting { length (mask_bits present.now) ≡ true_count_of mask.now.bits.bits }
     ensures { IfOk result (λ t. AreTexts (type_of array.now.offsets.kind) t.offsets t.bytes.items
         (kept_texts (mask_bits present.now)
-        (items_where_true by.entry.mask.now.bits.bits (varbin_texts array.now).texts))) }
+        (items_where_true mask.now.bits.bits (varbin_texts array.now).texts))) }
 {
-    if goes_by_runs(by.mask, by.policy, present) {
-        return texts_by_mask(alloc, array, by.mask);
+    if goes_by_runs(mask, policy, present) {
+        return texts_by_mask(alloc, array, mask);
     }
-    let picks = set_picks(alloc, by.mask)?;
+    let picks = set_picks(alloc, mask)?;
     let offsets = array.offsets();
     let bytes = array.bytes();
     texts_in(alloc, offsets, bytes.as_slice(), &picks, present)
 }
 
-/// The kept rows, in order, with their validity; the text of a null row
+/// The rows at the set positions of `mask`, in order, with their validity; the text of a null row
 /// is empty. Their offsets have at least 32 bits, and are as signed as those of the column.
 /// `NoMemory` alone.
 ///
@@ -103,16 +103,17 @@ fn texts_kept(
 pub fn filter_varbin(
     alloc: Global,
     array: &VarBinArray,
-    by: KeptRows<'_>,
+    mask: &MaskValues,
+    policy: &Policy,
     validity: Validity,
 ) -> Result<VarBinArray, NoMemory>
-    requires { FitsFilter (length (varbin_texts array.now).texts) by.mask.now (valid_of validity) }
-    ensures { let bits = by.entry.mask.now.bits.bits in
+    requires { FitsFilter (length (varbin_texts array.now).texts) mask.now (valid_of validity) }
+    ensures { let bits = mask.now.bits.bits in
         IfOk result (LeavesTexts array.now
         (kept_texts (present_bits (valid_of validity) (true_count_of bits))
         (items_where_true bits (varbin_texts array.now).texts)) (valid_of validity)) }
 {
-    let present = present_mask(alloc, &validity, by.mask.true_count())?;
-    let texts = texts_kept(alloc, array, by, &present)?;
+    let present = present_mask(alloc, &validity, mask.true_count())?;
+    let texts = texts_kept(alloc, array, mask, policy, &present)?;
     texts.finish(alloc, array.kind(), validity)
 }

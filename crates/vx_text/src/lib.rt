@@ -4,7 +4,6 @@
 mod alike;
 mod ends;
 mod filtered;
-mod kept;
 mod offset_record;
 mod offsets;
 mod picked_texts;
@@ -19,7 +18,6 @@ mod views;
 
 pub use alike::{texts_alike, views_alike};
 pub use filtered::filter_varbin;
-pub use kept::KeptRows;
 pub use offset_record::OffsetRecord;
 pub use offsets::{Offsets, number_column};
 pub use picked_texts::{present_mask, take_varbin_picks};

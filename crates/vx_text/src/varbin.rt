@@ -5,6 +5,7 @@ ghost use Rattle.vx_model.specs.VarBin.{varbin_texts};
 ghost use Rattle.vx_model.specs.Records.{records_with};
 ghost use Rattle.vx_column.specs.Validity.{valid_of};
 ghost use Rattle.vx_text.specs.Fits.{FitsSlice};
+ghost use Rattle.vx_text.specs.Left.{LeavesSlice};
 
 use vx_column::{PrimitiveArray, Validity, VarBinArray};
 
@@ -35,13 +36,7 @@ pub fn slice_varbin(
     validity: Validity,
 ) -> VarBinArray
     requires { FitsSlice (length (varbin_texts array.now).texts) start end (valid_of validity) }
-    ensures kind { result.kind ≡ array.now.kind }
-    ensures offsets { result.offsets ≡ records_with array.now.offsets
-        (slice_range array.now.offsets.records start (end + 1)) non_nullable }
-    ensures bytes { result.bytes ≡ array.now.bytes }
-    ensures texts { (varbin_texts result).texts
-        ≡ slice_range (varbin_texts array.now).texts start end }
-    ensures valid { result.valid ≡ valid_of validity }
+    ensures { LeavesSlice array.now start end (valid_of validity) result }
 {
     let cut = slice_offsets(array.offsets(), start, end);
     VarBinArray::of(array.kind(), cut, array.bytes().share(), validity)

@@ -7,11 +7,11 @@ ghost use Rattle.vx_column.specs.Validity.{valid_of};
 ghost use Rattle.vx_text.specs.Fits.{FitsFilter, FitsSlice, FitsTake};
 ghost use Rattle.vx_text.specs.Left.{LeavesViews};
 
-use crate::kept::KeptRows;
 use std::alloc::Global;
 use vx_bits::{Buffer, NoMemory};
 use vx_column::{BinaryView, Validity, VarBinViewArray};
 use vx_filter::filter_slice;
+use vx_mask::{MaskValues, Policy};
 use vx_take::{Picks, gather};
 
 /// The rows from `start` up to `end`, with their validity. It takes no memory.
@@ -28,19 +28,20 @@ pub fn slice_views(
     array.with_views(array.views().slice(start, end), validity)
 }
 
-/// The kept rows, in order, with their validity. `NoMemory` alone.
+/// The rows at the set positions of `mask`, in order, with their validity. `NoMemory` alone.
 pub fn filter_views(
     alloc: Global,
     array: &VarBinViewArray,
-    by: KeptRows<'_>,
+    mask: &MaskValues,
+    policy: &Policy,
     validity: Validity,
 ) -> Result<VarBinViewArray, NoMemory>
-    requires { FitsFilter (length (view_texts array.now).texts) by.mask.now (valid_of validity) }
+    requires { FitsFilter (length (view_texts array.now).texts) mask.now (valid_of validity) }
     ensures { IfOk result (LeavesViews array.now.kind array.now.buffers
-        (items_where_true by.entry.mask.now.bits.bits (view_texts array.now).texts)
+        (items_where_true mask.now.bits.bits (view_texts array.now).texts)
         (valid_of validity)) }
 {
-    let kept = filter_slice(alloc, array.views().as_slice(), by.mask, by.policy)?;
+    let kept = filter_slice(alloc, array.views().as_slice(), mask, policy)?;
     let views = Buffer::from_vec(alloc, kept)?;
     Ok(array.with_views(views, validity))
 }

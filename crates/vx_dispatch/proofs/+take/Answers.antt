@@ -222,7 +222,7 @@ list::ListArrayTakeRows::take-returns t c =
     let left = left_taken picks c.args.nullability c.validity.ensures.value (c.requires.bound ∙ rows-list p h) c.in_ok-validity.ensures.left in
     let same = c.in_ok-plan.ensures.valid in
     let taken : IsStep p.elements (in_runs p.elements.rows plan.runs) p.elements.dtype x = rw (c.deref.ensures ∙ c.elements.ensures.value) at c.in_ok-elements.ensures in
-    let makes : MakesLists plan.offsets w (in_runs p.elements.rows plan.runs) (kept_lists (present_bits w (length picks)) (at [] (lists_of (list_spans p)) picks)) = c.in_ok-plan.ensures.lists in
+    let makes : MakesLists plan.offsets w (in_runs p.elements.rows plan.runs) (kept_lists (present_bits w (length picks)) (at [] (lists_of (list_spans p)) picks)) = c.in_ok-plan.ensures.lists.makes in
     weaker c.relisted.result c.relisted.ensures (λ a is. rw (is, same)
     (take_kept_step (list_spans p) (list_spans q) refl refl (ap list_of taken.dtype) (fit-list p h) picks n (makes x taken.rows).1 left))
 

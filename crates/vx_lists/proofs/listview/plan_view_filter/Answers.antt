@@ -18,7 +18,7 @@ filter_numbers-requires-2 c =
 
 pub returns-clause-lists : goal.returns-clause-lists
 returns-clause-lists c =
-    let p = c.args.array.now in let v = valid_of c.args.validity in let bits = c.args.by.mask.now.bits.bits in
+    let p = c.args.array.now in let v = valid_of c.args.validity in let bits = c.args.mask.now.bits.bits in
     let kept : RecordParts → RecordParts = λ n. records_with n (items_where_true bits n.records) non_nullable in
     same_views p v _ c.in_ok-offsets.offsets c.in_ok-sizes.sizes _ _ (c.in_ok-offsets.ensures ∙ ap kept c.offsets.ensures.value) (c.in_ok-sizes.ensures ∙ ap kept c.sizes.ensures.value)
     (views_filtered p bits v c.offsets.ensures.valid c.requires.long c.requires.fitting)

@@ -14,7 +14,7 @@ use Rattle.vx_text.proofs.filtered.filter_varbin.Goals as goal
 
 pub finish-requires-clause-fitting : goal.finish-requires-clause-fitting
 finish-requires-clause-fitting c =
-    let v = valid_of c.args.validity in let bits = c.args.by.mask.now.bits.bits in
+    let v = valid_of c.args.validity in let bits = c.args.mask.now.bits.bits in
     let texts = items_where_true bits (varbin_texts c.args.array.now).texts in
     let many = length-items_where_true bits (varbin_texts c.args.array.now).texts c.requires.long in
     let there : length (mask_bits c.in_ok-present.present) ≡ c.true_count.result =
@@ -25,7 +25,7 @@ finish-requires-clause-fitting c =
 
 pub returns : goal.returns
 returns c =
-    let p = c.args.array.now in let v = valid_of c.args.validity in let bits = c.args.by.mask.now.bits.bits in
+    let p = c.args.array.now in let v = valid_of c.args.validity in let bits = c.args.mask.now.bits.bits in
     let texts = items_where_true bits (varbin_texts p).texts in let built = c.in_ok-texts.texts in let made = c.finish.ensures in
     let shown = c.in_ok-present.ensures ∙ ap (present_bits v) c.true_count.ensures.count in
     let put = subst (λ (b : List Bool). AreTexts (type_of p.offsets.kind) built.offsets built.bytes.items (kept_texts b texts)) shown c.in_ok-texts.ensures in

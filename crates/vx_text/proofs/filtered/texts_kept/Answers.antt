@@ -19,7 +19,7 @@ use Rattle.vx_text.proofs.filtered.texts_kept.Goals as goal
 
 pub returns-then-goes_by_runs : goal.returns-then-goes_by_runs
 returns-then-goes_by_runs c =
-    let a = c.args.array.now in let bits = c.args.by.mask.now.bits.bits in let there = mask_bits c.args.present.now in
+    let a = c.args.array.now in let bits = c.args.mask.now.bits.bits in let there = mask_bits c.args.present.now in
     let texts = items_where_true bits (varbin_texts a).texts in
     let many : length texts ≡ length there = length-items_where_true bits (varbin_texts a).texts c.requires.long ∙ sym c.requires.fitting in
     let all : there ≡ replicate (length there) true = c.if-goes_by_runs.ensures refl in
@@ -41,12 +41,12 @@ texts_in-requires-clause-bound c =
 pub texts_in-requires-clause-long : goal.texts_in-requires-clause-long
 texts_in-requires-clause-long c =
     c.requires.fitting
-    ∙ sym (set_count c.args.by.mask.now.bits.bits (varbin_texts c.args.array.now).texts c.requires.long)
+    ∙ sym (set_count c.args.mask.now.bits.bits (varbin_texts c.args.array.now).texts c.requires.long)
     ∙ sym (ap (λ (p : BoundedPicks). length p.picks) c.in_ok-picks.ensures)
 
 pub returns : goal.returns
 returns c =
-    let a = c.args.array.now in let bits = c.args.by.mask.now.bits.bits in let there = mask_bits c.args.present.now in
+    let a = c.args.array.now in let bits = c.args.mask.now.bits.bits in let there = mask_bits c.args.present.now in
     let texts = (varbin_texts a).texts in
     let same : at [] texts c.in_ok-picks.picks.picks ≡ items_where_true bits texts =
     ap (λ (p : BoundedPicks). at [] texts p.picks) c.in_ok-picks.ensures ∙ sym (take_at_the_set [] bits texts c.requires.long) in

@@ -20,27 +20,17 @@ of-requires c =
     let same = c.share.ensures ∙ c.bytes.ensures.value in
     sound-as_cut p s e (valid_of c.args.validity) c.kind.result c.slice_offsets-cut.result c.share.result cut same c.offsets.ensures.valid c.requires.ordered c.requires.within c.requires.fitting
 
-pub returns-clause-kind : goal.returns-clause-kind
-returns-clause-kind c = ap (λ (q : VarBinParts). q.kind) c.of.ensures ∙ c.kind.ensures
-
-pub returns-clause-offsets : goal.returns-clause-offsets
-returns-clause-offsets c =
-    let s = c.args.start in let e = c.args.end in
-    ap (λ (q : VarBinParts). q.offsets) c.of.ensures
-    ∙ c.slice_offsets-cut.ensures
-    ∙ ap (λ (q : RecordParts). records_with q (slice_range q.records s (e + 1)) non_nullable) c.offsets.ensures.value
-
-pub returns-clause-bytes : goal.returns-clause-bytes
-returns-clause-bytes c = ap (λ (q : VarBinParts). q.bytes) c.of.ensures ∙ c.share.ensures ∙ c.bytes.ensures.value
-
-pub returns-clause-texts : goal.returns-clause-texts
-returns-clause-texts c =
+pub returns : goal.returns
+returns c =
     let p = c.args.array.now in let s = c.args.start in let e = c.args.end in
     let cut = c.slice_offsets-cut.ensures ∙ ap (λ (q : RecordParts). records_with q (slice_range q.records s (e + 1)) non_nullable) c.offsets.ensures.value in
     let same = c.share.ensures ∙ c.bytes.ensures.value in
-    ap (λ (q : VarBinParts). lists_at (offset_positions (integers_of q.offsets)) q.bytes) c.of.ensures
-    ∙ ap₂ (λ (o : RecordParts) (b : List ℕ). lists_at (offset_positions (integers_of o)) b) cut same
-    ∙ texts-cut p s e c.requires.ordered
-
-pub returns-clause-valid : goal.returns-clause-valid
-returns-clause-valid c = ap (λ (q : VarBinParts). q.valid) c.of.ensures
+    record {
+      kind = ap (λ (q : VarBinParts). q.kind) c.of.ensures ∙ c.kind.ensures;
+      offsets = ap (λ (q : VarBinParts). q.offsets) c.of.ensures ∙ cut;
+      bytes = ap (λ (q : VarBinParts). q.bytes) c.of.ensures ∙ same;
+      texts = ap (λ (q : VarBinParts). lists_at (offset_positions (integers_of q.offsets)) q.bytes) c.of.ensures
+          ∙ ap₂ (λ (o : RecordParts) (b : List ℕ). lists_at (offset_positions (integers_of o)) b) cut same
+          ∙ texts-cut p s e c.requires.ordered;
+      valid = ap (λ (q : VarBinParts). q.valid) c.of.ensures;
+    }

@@ -16,20 +16,20 @@ filter_slice-requires c =
 
 pub with_views-requires-clause-sound : goal.with_views-requires-clause-sound
 with_views-requires-clause-sound c =
-    let p = c.args.array.now in let mask = c.args.by.mask.now.bits.bits in
+    let p = c.args.array.now in let mask = c.args.mask.now.bits.bits in
     rw (c.in_ok-views.ensures ∙ c.in_ok-kept.ensures ∙ ap (items_where_true mask) (c.as_slice.ensures ∙ c.views.ensures.value))
     (all-kept (is_view p.buffers) mask p.views (sound-views p c.views.ensures.valid))
 
 pub with_views-requires-clause-fitting : goal.with_views-requires-clause-fitting
 with_views-requires-clause-fitting c =
-    let p = c.args.array.now in let mask = c.args.by.mask.now.bits.bits in
+    let p = c.args.array.now in let mask = c.args.mask.now.bits.bits in
     let long : length mask ≡ length p.views = c.requires.long ∙ texts-views p in
     rw (c.in_ok-views.ensures ∙ c.in_ok-kept.ensures ∙ ap (items_where_true mask) (c.as_slice.ensures ∙ c.views.ensures.value))
     (ap (is_fitting (valid_of c.args.validity)) (length-items_where_true mask p.views long) ∙ c.requires.fitting)
 
 pub returns : goal.returns
 returns c =
-    let p = c.args.array.now in let mask = c.args.by.mask.now.bits.bits in
+    let p = c.args.array.now in let mask = c.args.mask.now.bits.bits in
     record {
       kind = ap (λ (q : ViewParts). q.kind) c.with_views.ensures;
       buffers = ap (λ (q : ViewParts). q.buffers) c.with_views.ensures;
