@@ -6,7 +6,9 @@ use crate::rows::{print_picks, print_shown};
 use std::alloc::Global;
 use std::test::Fail;
 use vx_bits::{BitBuffer, Buffer, NoMemory, Records};
-use vx_column::{Array, BoolArray, FlatRef, PType, PrimitiveArray, Row, Validity, record_of};
+use vx_column::{
+    Array, BoolArray, FlatRef, LayoutName, PType, PrimitiveArray, Row, Validity, record_of,
+};
 use vx_pieces::Indices;
 
 /// The records of these numbers, W bytes each.
@@ -30,6 +32,17 @@ fn records_of(alloc: Global, ptype: PType, numbers: &[i128]) -> Result<Records, 
     })
 }
 
+/// These integers, where the validity lets them be.
+pub(crate) fn primitive(
+    alloc: Global,
+    ptype: PType,
+    numbers: &[i128],
+    validity: Validity,
+) -> Result<PrimitiveArray, Fail> {
+    let values = records_of(alloc, ptype, numbers)?;
+    Ok(PrimitiveArray::try_new(ptype, values, validity)?)
+}
+
 /// A column of these integers, where the validity lets them be.
 pub(crate) fn integers(
     alloc: Global,
@@ -37,8 +50,7 @@ pub(crate) fn integers(
     numbers: &[i128],
     validity: Validity,
 ) -> Result<Array, Fail> {
-    let values = records_of(alloc, ptype, numbers)?;
-    Ok(PrimitiveArray::try_new(ptype, values, validity)?.into_array())
+    Ok(primitive(alloc, ptype, numbers, validity)?.into_array())
 }
 
 /// A column of these bools, where the validity lets them be.
@@ -121,6 +133,21 @@ fn is_valid_at(column: &Array, i: usize) -> Result<bool, Fail> {
     Ok(column.is_valid_at(i))
 }
 
+/// The stored bytes of row i, where there is one.
+fn record_at(column: &Array, i: usize) -> Result<&[u8], Fail> {
+    if i >= column.len() || column.layout_name() != LayoutName::Primitive {
+        return Err("no row of integers".into());
+    }
+    Ok(column.record_at(i))
+}
+
+/// The stored bytes of rows 0 and 1, which a null row has too.
+fn print_records(rt: &impl Print, column: &Array) -> Result<(), Fail> {
+    print_shown(rt, "record_at 0", &record_at(column, 0)?)?;
+    print_shown(rt, "record_at 1", &record_at(column, 1)?)?;
+    Ok(())
+}
+
 /// Each reader of a row of a column.
 pub(crate) fn print_readers(rt: &impl Print, alloc: Global) -> Result<(), Fail> {
     print_cells(rt, alloc, &nullable(alloc, &[1500, 7], &[true, false])?)
@@ -128,6 +155,7 @@ pub(crate) fn print_readers(rt: &impl Print, alloc: Global) -> Result<(), Fail> 
 
 fn print_cells(rt: &impl Print, alloc: Global, column: &Array) -> Result<(), Fail> {
     print_first(rt, alloc, "row_at 0", column)?;
+    print_records(rt, column)?;
     print_shown(rt, "row_at 1 is null", &is_null_at(alloc, column, 1)?)?;
     print_shown(rt, "is_valid_at 1", &is_valid_at(column, 1)?)?;
     print_shown(rt, "is flat", &column.is_flat())?;

@@ -4,7 +4,9 @@
 
 mod chunked;
 mod columns;
+mod extremes;
 mod fused;
+mod keeping;
 mod layouts;
 mod made;
 mod pieces;
@@ -23,6 +25,7 @@ fn print_rows(rt: &impl Print, alloc: Global) -> Result<(), Fail> {
     columns::print_slice(rt, alloc)?;
     columns::print_indices(rt, alloc)?;
     pieces::print_sound(rt, alloc)?;
+    pieces::print_past(rt, alloc)?;
     pieces::print_unsound(rt, alloc)?;
     pieces::print_takes(rt, alloc)?;
     pieces::print_runs(rt, alloc)?;
@@ -37,6 +40,8 @@ fn print_more(rt: &impl Print, alloc: Global) -> Result<(), Fail> {
     shapes::print_shape(rt)?;
     shapes::print_composed(rt, alloc)?;
     truth::print_true_rows(rt, alloc)?;
+    keeping::print_kept_lists(rt, alloc)?;
+    extremes::print_selections(rt, alloc)?;
     made::print_lines(rt, alloc)
 }
 

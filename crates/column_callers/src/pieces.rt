@@ -1,4 +1,7 @@
 //! Piecewise sequences, and takes by them.
+ghost use Rattle.std.specs.Prelude.{◌≡◌, true};
+ghost use Rattle.vx_pieces.specs.Pieces.{is_unsigned_type};
+
 use crate::columns::integers;
 use crate::layouts::constant;
 use crate::rows::{print_numbers, print_shown};
@@ -6,7 +9,7 @@ use crate::steps::{Rule, Written, print_left};
 use std::alloc::Global;
 use std::io;
 use std::test::Fail;
-use vx_column::{Array, ArrayRef, ColumnError, Nullability, PType, Validity};
+use vx_column::{Array, ArrayRef, ColumnError, DType, Nullability, PType, Validity};
 use vx_pieces::{PiecewiseSequence, PiecewiseSequenceArraySlotsExt};
 
 /// The numbers of pieces whose multipliers are stored.
@@ -107,13 +110,13 @@ pub(crate) fn stored(alloc: Global, parts: Parts, len: usize) -> Result<Piecewis
 /// The numbers of a sequence, or why it has none.
 fn print_expanded(rt: &impl Print, alloc: Global, pieces: &PiecewiseSequence) -> Result<(), Fail> {
     match pieces.execute(alloc) {
-        Ok(column) => print_line(rt, &column),
+        Ok(column) => print_line(rt, "numbers", &column),
         Err(error) => Ok(print_shown(rt, "no numbers", &error)?),
     }
 }
 
-fn print_line(rt: &impl Print, column: &Array) -> Result<(), Fail> {
-    rt.print("numbers:")?;
+fn print_line(rt: &impl Print, name: &str, column: &Array) -> Result<(), Fail> {
+    print!(rt; "{name}:")?;
     print_numbers(rt, column)?;
     rt.println("")?;
     Ok(())
@@ -135,9 +138,59 @@ fn first_at_least(pieces: &PiecewiseSequence, n: usize) -> Result<Option<usize>,
     Ok(pieces.first_at_least(n))
 }
 
-/// A sequence of as many numbers as its pieces have.
+/// The columns that a sequence is made of.
+fn print_slots(rt: &impl Print, pieces: &PiecewiseSequence) -> Result<(), Fail> {
+    print_line(rt, "starts", pieces.starts())?;
+    print_line(rt, "lengths", pieces.lengths())?;
+    print_line(rt, "multipliers", pieces.multipliers())
+}
+
+/// A sequence of as many numbers as its pieces have, by either constructor.
 pub(crate) fn print_sound(rt: &impl Print, alloc: Global) -> Result<(), Fail> {
-    print_five(rt, alloc, &stored(alloc, TWO, 5)?)
+    let five = stored(alloc, TWO, 5)?;
+    print_five(rt, alloc, &five)?;
+    print_five(rt, alloc, &made_again(&five)?)
+}
+
+// Whether a column is of type `u64`, and of no nulls by its type.
+fn is_of_u64(column: &Array) -> bool
+    ensures { result ≡ true → is_unsigned_type column.now.dtype ≡ true }
+{
+    match column.dtype() {
+        DType::Primitive(PType::U64, Nullability::NonNullable) => true,
+        _ => false,
+    }
+}
+
+// The sequence of these columns, by the constructor that tests nothing.
+fn unchecked(
+    starts: ArrayRef,
+    lengths: ArrayRef,
+    multipliers: ArrayRef,
+    len: usize,
+) -> Result<PiecewiseSequence, Fail> {
+    if !is_of_u64(&starts) || !is_of_u64(&lengths) || !is_of_u64(&multipliers) {
+        return Err("columns of another type".into());
+    }
+    if lengths.len() != starts.len() || multipliers.len() != starts.len() {
+        return Err("columns of other lengths".into());
+    }
+    Ok(PiecewiseSequence::new_unchecked(starts, lengths, multipliers, len))
+}
+
+/// A sequence once more, by that constructor.
+fn made_again(pieces: &PiecewiseSequence) -> Result<PiecewiseSequence, Fail> {
+    let (starts, lengths) = (pieces.starts().share(), pieces.lengths().share());
+    unchecked(starts, lengths, pieces.multipliers().share(), pieces.len())
+}
+
+/// Each number of a piece whose second one is past `usize::MAX`, and one behind its end.
+pub(crate) fn print_past(rt: &impl Print, alloc: Global) -> Result<(), Fail> {
+    let past = stored(alloc, PAST, 2)?;
+    for i in 0..3 {
+        println!(rt; "number {i} from MAX by 1: {:?}", past.scalar_at(i))?;
+    }
+    Ok(())
 }
 
 fn print_five(rt: &impl Print, alloc: Global, five: &PiecewiseSequence) -> Result<(), Fail> {
@@ -146,7 +199,7 @@ fn print_five(rt: &impl Print, alloc: Global, five: &PiecewiseSequence) -> Resul
     print_number(rt, "number 5", five, 5)?;
     print_shown(rt, "from 4 on", &first_at_least(five, 4)?)?;
     print_shown(rt, "from 5 on", &first_at_least(five, 5)?)?;
-    Ok(())
+    print_slots(rt, five)
 }
 
 /// A sequence that declares a number more, and one that is refused.
