@@ -1,6 +1,9 @@
 //! Reads documents, one a line, runs each through `select` and through `select_fused`, and says how
-//! many answers and faults are alike, and how many differ.
+//! many answers and faults are alike, and how many differ; then where the bits of documents of its
+//! own begin.
 #![tactic(auto)]
+
+mod offsets;
 
 use serde_json::Value;
 use std::alloc::Global;
@@ -110,5 +113,5 @@ fn main(rt: HostRuntime) -> Result<(), Fail> {
     println!(rt;
         "{documents} documents: {rows} answers alike, {faults} faults alike, {differing} differing"
     )?;
-    Ok(())
+    offsets::print_offsets(&rt, rt.alloc())
 }
