@@ -1,4 +1,7 @@
 //! Piecewise sequences, and takes by them.
+ghost use Rattle.std.specs.Prelude.{◌≡◌, true};
+ghost use Rattle.vx_pieces.specs.Pieces.{is_unsigned_type};
+
 use crate::columns::integers;
 use crate::layouts::constant;
 use crate::rows::{print_numbers, print_shown};
@@ -6,7 +9,7 @@ use crate::steps::{Rule, Written, print_left};
 use std::alloc::Global;
 use std::io;
 use std::test::Fail;
-use vx_column::{Array, ArrayRef, ColumnError, Nullability, PType, Validity};
+use vx_column::{Array, ArrayRef, ColumnError, DType, Nullability, PType, Validity};
 use vx_pieces::{PiecewiseSequence, PiecewiseSequenceArraySlotsExt};
 
 /// The numbers of pieces whose multipliers are stored.
@@ -146,17 +149,39 @@ fn print_slots(rt: &impl Print, pieces: &PiecewiseSequence) -> Result<(), Fail> 
 pub(crate) fn print_sound(rt: &impl Print, alloc: Global) -> Result<(), Fail> {
     let five = stored(alloc, TWO, 5)?;
     print_five(rt, alloc, &five)?;
-    print_five(rt, alloc, &unchecked(&five))
+    print_five(rt, alloc, &made_again(&five)?)
 }
 
-/// The sequence of the same columns, by the constructor that tests nothing.
-fn unchecked(pieces: &PiecewiseSequence) -> PiecewiseSequence {
-    PiecewiseSequence::new_unchecked(
-        pieces.starts().share(),
-        pieces.lengths().share(),
-        pieces.multipliers().share(),
-        pieces.len(),
-    )
+// Whether a column is of type `u64`, and of no nulls by its type.
+fn is_of_u64(column: &Array) -> bool
+    ensures { result ≡ true → is_unsigned_type column.now.dtype ≡ true }
+{
+    match column.dtype() {
+        DType::Primitive(PType::U64, Nullability::NonNullable) => true,
+        _ => false,
+    }
+}
+
+// The sequence of these columns, by the constructor that tests nothing.
+fn unchecked(
+    starts: ArrayRef,
+    lengths: ArrayRef,
+    multipliers: ArrayRef,
+    len: usize,
+) -> Result<PiecewiseSequence, Fail> {
+    if !is_of_u64(&starts) || !is_of_u64(&lengths) || !is_of_u64(&multipliers) {
+        return Err("columns of another type".into());
+    }
+    if lengths.len() != starts.len() || multipliers.len() != starts.len() {
+        return Err("columns of other lengths".into());
+    }
+    Ok(PiecewiseSequence::new_unchecked(starts, lengths, multipliers, len))
+}
+
+/// A sequence once more, by that constructor.
+fn made_again(pieces: &PiecewiseSequence) -> Result<PiecewiseSequence, Fail> {
+    let (starts, lengths) = (pieces.starts().share(), pieces.lengths().share());
+    unchecked(starts, lengths, pieces.multipliers().share(), pieces.len())
 }
 
 /// Each number of a piece whose second one is past `usize::MAX`, and one behind its end.

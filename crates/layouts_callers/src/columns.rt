@@ -137,7 +137,7 @@ fn scalar(alloc: Global, number: i128) -> Result<Scalar, Fail> {
 }
 
 /// So many rows of type `u64`, each this number.
-fn constant(alloc: Global, number: i128, len: usize) -> Result<ArrayRef, Fail> {
+pub(crate) fn constant(alloc: Global, number: i128, len: usize) -> Result<ArrayRef, Fail> {
     let column = ConstantArray::new(scalar(alloc, number)?, len).into_array();
     Ok(column.into_ref(alloc)?)
 }

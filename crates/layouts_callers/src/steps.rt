@@ -1,10 +1,12 @@
 //! Steps through the traits of layouts.
-use crate::columns::{bools, bytes, decimals, dict, filtered, filtered_sevens, indices, zeros};
+use crate::columns::{
+    bools, bytes, constant, decimals, dict, filtered, filtered_sevens, indices, zeros,
+};
 use crate::print::{Answer, Taken, print_answer, print_taken};
 use callers::{check_mask, check_slice, mask_of};
 use std::alloc::Global;
 use std::test::Fail;
-use vx_column::vtables::{Bool, Decimal, Dict, Filter, Null, Primitive};
+use vx_column::vtables::{Bool, Constant, Decimal, Dict, Filter, Null, Primitive};
 use vx_column::{Array, ArrayView, NullArray, VTable};
 use vx_layouts::{FilterReduce, SliceReduce, TakeError, TakeExecute, take};
 use vx_mask::{Mask, Policy};
@@ -96,7 +98,14 @@ pub(crate) fn print_slice<V: SliceReduce>(
 fn print_views(rt: &impl Print, alloc: Global) -> Result<(), Fail> {
     let column = bools(alloc, &[true, false])?;
     print_view::<Bool>(rt, &column)?;
-    print_view::<Primitive>(rt, &column)
+    print_view::<Primitive>(rt, &column)?;
+    print_view::<Constant>(rt, &column)?;
+    print_constant(rt, &*constant(alloc, 7, 3)?)
+}
+
+fn print_constant(rt: &impl Print, column: &Array) -> Result<(), Fail> {
+    print_view::<Constant>(rt, column)?;
+    print_view::<Primitive>(rt, column)
 }
 
 /// Filter and slice of a column of bits.

@@ -6,6 +6,7 @@ mod fixed;
 mod lists;
 mod masks;
 mod presence;
+mod refusals;
 mod text;
 mod views;
 
@@ -15,5 +16,6 @@ fn main(rt: HostRuntime) -> Result<(), Fail> {
     masks::print_rows(&rt, rt.alloc())?;
     lists::print_rows(&rt, rt.alloc())?;
     views::print_rows(&rt, rt.alloc())?;
-    fixed::print_rows(&rt, rt.alloc())
+    fixed::print_rows(&rt, rt.alloc())?;
+    refusals::print_rows(&rt, rt.alloc())
 }

@@ -2,6 +2,7 @@
 #![tactic(auto)]
 
 mod columns;
+mod direct;
 mod kept;
 mod offsets;
 mod print;
@@ -18,5 +19,6 @@ fn main(rt: HostRuntime) -> Result<(), Fail> {
     steps::print_takes(&rt, rt.alloc())?;
     steps::print_filters(&rt, rt.alloc())?;
     steps::print_slices(&rt, rt.alloc())?;
-    kept::print_kept(&rt, rt.alloc())
+    kept::print_kept(&rt, rt.alloc())?;
+    direct::print_direct(&rt, rt.alloc())
 }
