@@ -15,8 +15,7 @@ ghost use Rattle.vx_stored.specs.Scalars.{bit_or_false, bytes_or_zeros, copied_b
 use std::alloc::Global;
 use vx_bits::{BitBuffer, BitBuilder, Buffer, NoMemory, Records};
 use vx_column::{
-    Array, BoolArray, DType, NullArray, RecordArray, RecordType, Scalar, ScalarValue, TextKind,
-    Validity,
+    Array, BoolArray, DType, NullArray, RecordType, Scalar, ScalarValue, TextKind, Validity,
 };
 use vx_text::{texts_alike, views_alike};
 
@@ -115,10 +114,7 @@ fn store_records(
         ≡ copied_records (kind_of record_type) (scalar_row value.now) len (valid_of validity)) }
 {
     let values = value_records(alloc, value, record_type.width(), len)?;
-    match RecordArray::try_new(record_type, values, validity) {
-        Ok(array) => Ok(array.into_array()),
-        Err(_) => unreachable!(),
-    }
+    Ok(record_type.column(values, validity))
 }
 
 // The value's text; an empty one for a null.
