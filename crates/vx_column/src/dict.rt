@@ -73,7 +73,8 @@ impl DictArray {
         &self.values
     }
 
-    /// The same values under other codes that name them: what a step leaves. It takes no memory.
+    /// The same values under other codes that name them: what a step leaves. It takes no memory,
+    /// and doesn't test what it requires; `try_new` does.
     pub fn with_codes(&self, codes: ArrayRef) -> DictArray
         requires { dict_fault (dict_with self.now codes) ≡ None }
         ensures { result ≡ dict_with self.now codes }
@@ -85,7 +86,7 @@ impl DictArray {
     }
 
     /// The same codes of other values that they name: what is left where the values take another
-    /// form. It takes no memory.
+    /// form. It takes no memory, and doesn't test what it requires; `try_new` does.
     pub fn with_values(&self, values: ArrayRef) -> DictArray
         requires { dict_fault (record { codes = self.now.codes; values = values }) ≡ None }
         ensures { result ≡ record { codes = self.now.codes; values = values } }

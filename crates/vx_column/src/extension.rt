@@ -55,8 +55,8 @@ impl ExtensionArray {
         Ok(ExtensionArray { ext, storage })
     }
 
-    /// The same extension over another storage of its kind: what a step leaves. It takes no
-    /// memory, and tests nothing.
+    /// The same extension over another storage of its kind: what a step leaves. It takes no memory,
+    /// and doesn't test what it requires; `try_new` does.
     pub fn with_storage(&self, storage: ArrayRef) -> ExtensionArray
         requires { extension_fault (extension_with self.now storage) ≡ None }
         ensures { result ≡ extension_with self.now storage }

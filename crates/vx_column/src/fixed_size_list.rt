@@ -77,8 +77,8 @@ impl FixedSizeListArray {
         })
     }
 
-    /// Other sound parts, of which the elements have the same type: what a step leaves. It takes
-    /// no memory, and tests nothing.
+    /// Other sound parts, of which the elements have the same type: what a step leaves. It takes no
+    /// memory, and doesn't test what it requires; `try_new` does.
     pub fn with_parts(
         &self,
         elements: ArrayRef,

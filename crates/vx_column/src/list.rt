@@ -83,8 +83,8 @@ impl ListArray {
         })
     }
 
-    /// Other sound parts, of which the elements have the same type: what a step leaves. It takes
-    /// no memory, and tests nothing.
+    /// Other sound parts, of which the elements have the same type: what a step leaves. It takes no
+    /// memory, and doesn't test what it requires; `try_new` does.
     pub fn with_parts(
         &self,
         elements: ArrayRef,

@@ -10,8 +10,7 @@ use crate::array::{Array, Layout};
 use std::alloc::Global;
 use vx_bits::NoMemory;
 use vx_positions::{
-    Numbers, first_bad, first_bad_by_bits, first_bad_present, picks_by_bits, picks_of,
-    picks_present,
+    Numbers, first_bad, first_bad_present, first_bad_shown, picks_of, picks_present, picks_shown,
 };
 use vx_take::Picks;
 use vx_types::PType;
@@ -53,7 +52,7 @@ impl Array {
             return Some(first_bad_present(ptype, values, len));
         }
         match self.shown_records() {
-            Some((values, bits)) => Some(first_bad_by_bits(ptype, values, bits, len)),
+            Some((values, bits)) => Some(first_bad_shown(ptype, values, bits, len)),
             None => None,
         }
     }
@@ -105,7 +104,7 @@ impl Array {
             return picks_present(alloc, ptype, values, len);
         }
         match self.shown_records() {
-            Some((values, bits)) => picks_by_bits(alloc, ptype, values, bits, len),
+            Some((values, bits)) => picks_shown(alloc, ptype, values, bits, len),
             None => picks_of(alloc, &Rows { array: self }, len),
         }
     }

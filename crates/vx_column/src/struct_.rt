@@ -125,8 +125,8 @@ impl StructArray {
         })
     }
 
-    /// Other sound parts of the same type: what a step leaves. It takes no memory, and tests
-    /// nothing.
+    /// Other sound parts of the same type: what a step leaves. It takes no memory, and doesn't test
+    /// what it requires; `try_new_with_dtype` does.
     pub fn with_parts(&self, fields: Columns, len: usize, validity: Validity) -> StructArray
         requires { struct_fault (record self.now {
           columns = fields;

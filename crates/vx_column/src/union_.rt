@@ -311,8 +311,8 @@ impl UnionArray {
         made(type_ids, Some(offsets), variants, children)
     }
 
-    /// Other sound parts of the same type: what a step leaves. It takes no memory, and tests
-    /// nothing.
+    /// Other sound parts of the same type: what a step leaves. It takes no memory, and doesn't test
+    /// what it requires; `try_new` and `try_new_dense` do.
     pub fn with_parts(
         &self,
         type_ids: ArrayRef,

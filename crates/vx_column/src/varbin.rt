@@ -81,7 +81,8 @@ impl VarBinArray {
         Ok(VarBinArray::of(kind, offsets, bytes, validity))
     }
 
-    /// A column of sound parts. It takes no memory, and tests nothing.
+    /// A column of sound parts: what a step leaves. It takes no memory, and doesn't test what it
+    /// requires; `try_new` does.
     pub fn of(
         kind: TextKind,
         offsets: PrimitiveArray,

@@ -83,7 +83,8 @@ impl VarBinViewArray {
         Ok(VarBinViewArray::of(kind, views, buffers, validity))
     }
 
-    /// A column of sound parts. It takes no memory, and tests no view.
+    /// A column of sound parts: what a step leaves. It takes no memory, and doesn't test what it
+    /// requires; `try_new` does.
     pub fn of(
         kind: TextKind,
         views: Buffer<BinaryView>,
@@ -139,7 +140,7 @@ impl VarBinViewArray {
     }
 
     /// The same buffers under other views of them and another validity: what a step leaves. It
-    /// takes no memory, and tests no view.
+    /// takes no memory, and doesn't test what it requires; `try_new` does.
     pub fn with_views(&self, views: Buffer<BinaryView>, validity: Validity) -> VarBinViewArray
         requires sound { list_all (is_view self.now.buffers) views ≡ true }
         requires fitting { is_fitting (valid_of validity) (length views) ≡ true }

@@ -1,5 +1,7 @@
--- Codes that name values are numbers that name positions.
-use Rattle.std.proofs.Common.{◌≡◌, ℕ, true, false, List, length, None, refl, ap, ◌∙◌}
+-- Codes and indices are numbers that name positions.
+use Rattle.std.proofs.Common.{◌≡◌, ℕ, Bool, true, false, List, Option, None, Some, refl, ap, ◌∙◌, arith}
+use Rattle.std.specs.Prelude.{ℤ, if◌then◌else◌}
+use Rattle.std.specs.Option.{option_map}
 use Rattle.vx_types.specs.RowValue.{RowValue, null}
 use Rattle.vx_types.specs.TypeTree.{TypeTree, also_nullable}
 use Rattle.vx_take.specs.Picks.{at}
@@ -10,14 +12,29 @@ use Rattle.vx_positions.specs.Positions.{first_bad}
 use Rattle.vx_model.specs.Column.{Column}
 use Rattle.vx_model.specs.Numbers.{numbers_of}
 use Rattle.vx_model.specs.Dict.{DictParts, dict_column, dict_fault}
-use Rattle.vx_model.proofs.LazyRows.{int-dict, sound-dict}
+use Rattle.vx_model.proofs.DictSteps.{numbers_of-execute}
+use Rattle.vx_pieces.specs.declared.fault.IndexFault.TheVariants.{InvalidIndices, OutOfBounds}
 use Rattle.vx_pieces.specs.Indices.{column_fault}
 
-pub no_fault : (c : Column) (n : ℕ) → is_int_type c.dtype ≡ true → first_bad n (numbers_of c) ≡ None → column_fault c n ≡ None
-no_fault c n int none = rw (int, none) refl
+-- ---- a take's indices
 
-pub codes-no_fault : (p : DictParts) → dict_fault p ≡ None → column_fault p.codes (length p.values.rows) ≡ None
-codes-no_fault p h = no_fault p.codes (length p.values.rows) (int-dict p h) (sound-dict p h)
+none_bad : (int : Bool) (bad : Option ℤ) → (if int then option_map OutOfBounds bad else Some InvalidIndices) ≡ None → bad ≡ None
+none_bad true None h = refl
+none_bad true (Some z) h = cc
+none_bad false bad h = cc
+
+-- the same indices, unwrapped
+module _ (p c : Column) (n : ℕ) (same : IsStep p p.rows p.dtype c) where
+  pub int-indices : column_fault p n ≡ None → is_int_type c.dtype ≡ true
+  int-indices h =
+      let int : is_int_type p.dtype ≡ true = grind arith in
+      ap is_int_type same.dtype ∙ int
+
+  pub sound-indices : column_fault p n ≡ None → first_bad n (numbers_of c) ≡ None
+  sound-indices h =
+      ap (first_bad n) (numbers_of-execute p c same) ∙ none_bad (is_int_type p.dtype) (first_bad n (numbers_of p)) h
+
+pub ruleset indices = (int-indices, sound-indices)
 
 -- ---- the same codes, over values that say the same
 

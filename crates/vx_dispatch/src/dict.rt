@@ -7,13 +7,12 @@ use crate::executing::{ExecuteRows, execute};
 use crate::filtering::{FilterRows, filter_values};
 use crate::parts::{Parts, Step};
 use crate::slicing::{SliceRows, slice};
-use crate::taking::{TakeRows, take_picks};
+use crate::taking::{TakeRows, number_picks, take_picks};
 use crate::validity::{TakeBits, taken_bits};
 use std::alloc::Global;
 use vx_bits::{BitBuffer, NoMemory};
 use vx_column::{Array, DictArray, Nullability};
 use vx_mask::{MaskValues, Policy};
-use vx_pieces::column_picks;
 use vx_take::Picks;
 
 // The column with other codes for its rows.
@@ -74,7 +73,7 @@ impl TakeBits for DictArray {
         let values = self.values();
         let copy = copied(alloc, picks)?;
         let codes = take_picks(alloc, self.codes(), copy, Nullability::Nullable, policy)?;
-        let named = column_picks(alloc, &codes, values.len())?;
+        let named = number_picks(alloc, &codes, values.len())?;
         taken_bits(alloc, values, &named, policy)
     }
 }
@@ -86,7 +85,7 @@ impl ExecuteRows for DictArray {
     fn execute(&self, alloc: Global, policy: &Policy) -> Step {
         let codes = execute(alloc, self.codes(), policy)?;
         let values = execute(alloc, self.values(), policy)?;
-        let named = column_picks(alloc, &codes, values.len())?;
+        let named = number_picks(alloc, &codes, values.len())?;
         take_picks(alloc, &values, named, codes.dtype().nullability(), policy)
     }
 }

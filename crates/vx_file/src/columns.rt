@@ -15,7 +15,7 @@ ghost use Rattle.vx_file.specs.Touched.{blocks_for};
 use crate::held::Held;
 use std::alloc::Global;
 use vx_bits::{Buffer, NoMemory, Records};
-use vx_column::{Array, PType, PrimitiveArray, Validity};
+use vx_column::{Array, PType, RecordType, Validity};
 use vx_packed::record_from;
 use vx_take::Picks;
 
@@ -83,8 +83,5 @@ pub(crate) fn column_of(ptype: PType, values: Records, validity: Validity) -> Ar
     ensures dtype { result.dtype ≡ primitive_type ptype (nullability_by (valid_of validity)) }
     ensures unwrapped { is_unwrapped result ≡ true }
 {
-    match PrimitiveArray::try_new(ptype, values, validity) {
-        Ok(array) => array.into_array(),
-        Err(_) => unreachable!(),
-    }
+    RecordType::Primitive(ptype).column(values, validity)
 }

@@ -1,6 +1,6 @@
 //! Which kernel serves a mask, by a policy.
-ghost use Rattle.std.specs.Prelude.{◌≡◌, ◌*◌, ◌↔◌, IfSome, IsTrue};
-ghost use Rattle.vx_filter.specs.Choice.{IsDense};
+ghost use Rattle.std.specs.Prelude.{◌≡◌, ◌*◌, ◌↔◌, is_some, IfSome, IsTrue};
+ghost use Rattle.vx_filter.specs.Choice.{are_few, are_long, IsDense};
 ghost use Rattle.vx_mask.specs.MaskValues.{AreSlicesOf};
 ghost use Rattle.vx_mask.specs.Positions.{set_of};
 
@@ -11,7 +11,8 @@ pub fn useful_slices<'a>(
     mask: &'a MaskValues,
     fields: &PolicyFields,
 ) -> Option<&'a [(usize, usize)]>
-    ensures { IfSome result (λ slices. AreSlicesOf mask.now slices.now) }
+    ensures runs { IfSome result (λ slices. AreSlicesOf mask.now slices.now) }
+    ensures useful { is_some result ≡ are_long fields.now mask.now mask.now.slices }
 {
     let slices = mask.cached_slices()?;
     let least = product(slices.len() as u64, fields.min_average_run as u64);
@@ -24,7 +25,8 @@ pub fn useful_slices<'a>(
 
 /// The set positions that a mask keeps, where its density is at most what the policy says.
 pub fn useful_indices<'a>(mask: &'a MaskValues, fields: &PolicyFields) -> Option<&'a [usize]>
-    ensures { IfSome result (λ indices. indices.now ≡ set_of mask.now.bits.bits) }
+    ensures set { IfSome result (λ indices. indices.now ≡ set_of mask.now.bits.bits) }
+    ensures useful { is_some result ≡ are_few fields.now mask.now }
 {
     let indices = mask.cached_indices()?;
     let most = fields.cached_indices_max;

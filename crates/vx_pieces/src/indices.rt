@@ -83,8 +83,8 @@ impl Indices {
     }
 }
 
-/// The positions that the numbers of a column name. `NoMemory` alone.
-pub fn column_picks(alloc: Global, array: &Array, len: usize) -> Result<Picks, NoMemory>
+// The positions that the numbers of a column name. `NoMemory` alone.
+fn column_picks(alloc: Global, array: &Array, len: usize) -> Result<Picks, NoMemory>
     requires { column_fault array.now len ≡ None }
     ensures picks { IfOk result
         (λ p. p ≡ record { picks = positions_of (numbers_of array.now); bound = len }) }

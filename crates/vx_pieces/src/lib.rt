@@ -14,7 +14,7 @@ mod walks;
 
 pub use error::{BadPieces, PiecesError};
 pub use fault::IndexFault;
-pub use indices::{Indices, column_picks};
+pub use indices::Indices;
 pub use sequence::{PiecewiseSequence, PiecewiseSequenceArray};
 pub use slots::{
     PiecewiseSequenceArrayExt, PiecewiseSequenceArraySlotsExt, PiecewiseSequenceSlots,

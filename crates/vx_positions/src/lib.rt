@@ -11,4 +11,4 @@ mod stored;
 pub use numbers::Numbers;
 pub use offsets::are_offsets;
 pub use positions::{first_bad, is_position, picks_of, position};
-pub use stored::{first_bad_by_bits, first_bad_present, picks_by_bits, picks_present};
+pub use stored::{first_bad_present, first_bad_shown, picks_present, picks_shown};

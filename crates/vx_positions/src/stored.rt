@@ -14,7 +14,11 @@ use vx_take::Picks;
 use vx_types::PType;
 
 #[inline(always)]
-fn first_bad_there<const W: usize>(ptype: PType, records: &[[u8; W]], len: usize) -> Option<i128>
+fn first_bad_present_of_width<const W: usize>(
+    ptype: PType,
+    records: &[[u8; W]],
+    len: usize,
+) -> Option<i128>
     requires int { is_int ptype ≡ true }
     requires width { W ≡ width ptype }
     ensures { result ≡ first_bad len (present_numbers ptype records.now) }
@@ -23,7 +27,7 @@ fn first_bad_there<const W: usize>(ptype: PType, records: &[[u8; W]], len: usize
 }
 
 #[inline(always)]
-fn first_bad_shown<const W: usize>(
+fn first_bad_shown_of_width<const W: usize>(
     ptype: PType,
     records: &[[u8; W]],
     bits: &BitBuffer,
@@ -50,27 +54,22 @@ pub fn first_bad_present(ptype: PType, values: &Records, len: usize) -> Option<i
     requires width { width_of values.now ≡ width ptype }
     ensures { result ≡ first_bad len (present_numbers ptype (records_of values.now)) }
 {
-    by_type!(ptype, values, first_bad_there, len)
+    by_type!(ptype, values, first_bad_present_of_width, len)
 }
 
 /// The same of records that are there where a bit is set.
-pub fn first_bad_by_bits(
-    ptype: PType,
-    values: &Records,
-    bits: &BitBuffer,
-    len: usize,
-) -> Option<i128>
+pub fn first_bad_shown(ptype: PType, values: &Records, bits: &BitBuffer, len: usize) -> Option<i128>
     requires int { is_int ptype ≡ true }
     requires width { width_of values.now ≡ width ptype }
     requires long { length bits.now.bits ≡ length (records_of values.now) }
     ensures { result ≡ first_bad len
         (shown_numbers ptype bits.now.bits (records_of values.now)) }
 {
-    by_type!(ptype, values, first_bad_shown, bits, len)
+    by_type!(ptype, values, first_bad_shown_of_width, bits, len)
 }
 
 #[inline(always)]
-fn picks_there<const W: usize>(
+fn picks_present_of_width<const W: usize>(
     ptype: PType,
     records: &[[u8; W]],
     alloc: Global,
@@ -87,7 +86,7 @@ fn picks_there<const W: usize>(
 }
 
 #[inline(always)]
-fn picks_shown<const W: usize>(
+fn picks_shown_of_width<const W: usize>(
     ptype: PType,
     records: &[[u8; W]],
     alloc: Global,
@@ -130,11 +129,11 @@ pub fn picks_present(
     }) }
     ensures there { IfOk result (λ p. AllThere p.picks) }
 {
-    by_type!(ptype, values, picks_there, alloc, len)
+    by_type!(ptype, values, picks_present_of_width, alloc, len)
 }
 
 /// The same of records that are there where a bit is set. `NoMemory` alone.
-pub fn picks_by_bits(
+pub fn picks_shown(
     alloc: Global,
     ptype: PType,
     values: &Records,
@@ -151,5 +150,5 @@ pub fn picks_by_bits(
       bound = len;
     }) }
 {
-    by_type!(ptype, values, picks_shown, alloc, bits, len)
+    by_type!(ptype, values, picks_shown_of_width, alloc, bits, len)
 }

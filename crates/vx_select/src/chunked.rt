@@ -27,7 +27,7 @@ ghost use Rattle.vx_select.specs.Chunks.{AreNoneOrAll, IsTold, asked_at, asked_b
 use std::alloc::Global;
 use vx_bits::{Buffer, NoMemory, Records};
 use vx_chunked::filter_chunked_mask;
-use vx_column::{Array, DType, Nullability, RecordArray, RecordType, Validity};
+use vx_column::{Array, DType, Nullability, RecordType, Validity};
 use vx_decoder::ChunkDecoder;
 use vx_dispatch::take_validity;
 use vx_mask::{Mask, Policy};
@@ -101,10 +101,7 @@ fn column_of(dtype: &DType, values: Records, validity: Validity) -> Array
     ensures unwrapped { is_unwrapped result ≡ true }
 {
     match RecordType::of(dtype) {
-        Some(record_type) => match RecordArray::try_new(record_type, values, validity) {
-            Ok(array) => array.into_array(),
-            Err(_) => unreachable!(),
-        },
+        Some(record_type) => record_type.column(values, validity),
         None => unreachable!(),
     }
 }

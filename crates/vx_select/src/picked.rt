@@ -12,7 +12,7 @@ ghost use Rattle.vx_select.specs.IndexRecords.{index_record};
 
 use std::alloc::Global;
 use vx_bits::{BitBuffer, Buffer, NoMemory, Records};
-use vx_column::{Array, BoolArray, FlatRef, Nullability, PType, PrimitiveArray, Validity};
+use vx_column::{Array, BoolArray, FlatRef, Nullability, PType, RecordType, Validity};
 use vx_pieces::Indices;
 use vx_take::{Picks, valid_bits};
 
@@ -77,10 +77,7 @@ fn index_column(records: Buffer<[u8; 8]>, validity: Validity) -> Array
     ensures rows { result.rows ≡ stored_rows (valid_of validity) (map bytes records) }
     ensures dtype { result.dtype ≡ primitive_type U64 (nullability_by (valid_of validity)) }
 {
-    match PrimitiveArray::try_new(PType::U64, Records::W8(records), validity) {
-        Ok(array) => array.into_array(),
-        Err(_) => unreachable!(),
-    }
+    RecordType::Primitive(PType::U64).column(Records::W8(records), validity)
 }
 
 // The column as indices.

@@ -12,7 +12,6 @@ use Rattle.vx_model.proofs.DictSteps.{execute-dict, first_bad-execute}
 use Rattle.vx_model.proofs.FilterSteps.{execute-filter}
 use Rattle.vx_column.specs.Validity.{valid_of}
 use Rattle.vx_model.specs.Valid.{is_fitting}
-use Rattle.vx_dispatch.proofs.Codes.{no_fault}
 use Rattle.vx_dispatch.proofs.Results.{weaker}
 use Rattle.vx_model.specs.Valid.{valid_size}
 use Rattle.std.proofs.Common.{ℕ, ◌+◌, ◌<◌, List, take, get_or, refl, sym, subst}
@@ -30,13 +29,18 @@ use Rattle.vx_model.specs.Union.{UnionParts, union_column, union_fault}
 use Rattle.vx_model.proofs.UnionFaults.{fault-union-same, is_same-union}
 use Rattle.vx_dispatch.proofs.+execute.Goals as goal
 
-pub dict::DictArrayExecuteRows::execute-column_picks-requires : goal.dict::DictArrayExecuteRows::execute-column_picks-requires
-dict::DictArrayExecuteRows::execute-column_picks-requires t c =
+pub dict::DictArrayExecuteRows::execute-number_picks-requires-clause-int : goal.dict::DictArrayExecuteRows::execute-number_picks-requires-clause-int
+dict::DictArrayExecuteRows::execute-number_picks-requires-clause-int t c =
+    let p = c.args.self.now in let codes = c.in_ok-codes.codes in
+    let coded : IsStep p.codes p.codes.rows p.codes.dtype codes = rw (c.deref.ensures ∙ c.codes.ensures.value) at c.in_ok-codes.ensures.same in
+    ap is_int_type coded.dtype ∙ int-dict p c.codes.ensures.valid
+
+pub dict::DictArrayExecuteRows::execute-number_picks-requires-clause-sound : goal.dict::DictArrayExecuteRows::execute-number_picks-requires-clause-sound
+dict::DictArrayExecuteRows::execute-number_picks-requires-clause-sound t c =
     let p = c.args.self.now in let codes = c.in_ok-codes.codes in let values = c.in_ok-values.values in
-    let valid = c.codes.ensures.valid in
     let coded : IsStep p.codes p.codes.rows p.codes.dtype codes = rw (c.deref.ensures ∙ c.codes.ensures.value) at c.in_ok-codes.ensures.same in
     let valued : IsStep p.values p.values.rows p.values.dtype values = rw (c.deref-2.ensures ∙ c.values.ensures.value) at c.in_ok-values.ensures.same in
-    rw c.len.ensures (no_fault codes (length values.rows) (ap is_int_type coded.dtype ∙ int-dict p valid) (first_bad-execute p codes values coded valued valid))
+    rw c.len.ensures (first_bad-execute p codes values coded valued c.codes.ensures.valid)
 
 pub dict::DictArrayExecuteRows::execute-returns-clause-same : goal.dict::DictArrayExecuteRows::execute-returns-clause-same
 dict::DictArrayExecuteRows::execute-returns-clause-same t c =

@@ -25,7 +25,7 @@ use Rattle.vx_model.specs.Numbers.{numbers_of}
 use Rattle.vx_positions.specs.Positions.{positions_of}
 use Rattle.vx_model.proofs.DictSteps.{bits-dict, dict_fault-take, is_take-dict}
 use Rattle.vx_model.proofs.FilterSteps.{is_step-filter, is_take-filter}
-use Rattle.vx_dispatch.proofs.Codes.{codes-no_fault}
+use Rattle.vx_model.proofs.LazyRows.{int-dict, sound-dict}
 use Rattle.vx_dispatch.proofs.Results.{weaker}
 use Rattle.vx_model.specs.Valid.{valid_size}
 use Rattle.std.proofs.Common.{ℕ, []}
@@ -148,12 +148,18 @@ filter_layout::FilterArrayTakeRows::take-returns t c =
     let child = c.deref-2.ensures ∙ c.child-child.ensures.value in
     weaker c.take_picks-2.result c.take_picks-2.ensures (λ a taken. is_take-filter p picks n a c.child-child.ensures.valid c.child_picks.ensures.below (rw (child, c.in_ok-positions.ensures.picks) at taken))
 
-pub dict::DictArrayTakeBits::bits-column_picks-requires : goal.dict::DictArrayTakeBits::bits-column_picks-requires
-dict::DictArrayTakeBits::bits-column_picks-requires t c =
+pub dict::DictArrayTakeBits::bits-number_picks-requires-clause-int : goal.dict::DictArrayTakeBits::bits-number_picks-requires-clause-int
+dict::DictArrayTakeBits::bits-number_picks-requires-clause-int t c =
+    let p = c.args.self.now in let codes = c.in_ok-codes.codes in let picks = c.in_ok-copy.copy.picks in
+    let taken : IsTake p.codes picks Nullable codes = rw (c.deref.ensures ∙ c.codes.ensures.value) at c.in_ok-codes.ensures in
+    int-dict (dict_with p codes) (dict_fault-take p codes picks Nullable c.codes.ensures.valid taken)
+
+pub dict::DictArrayTakeBits::bits-number_picks-requires-clause-sound : goal.dict::DictArrayTakeBits::bits-number_picks-requires-clause-sound
+dict::DictArrayTakeBits::bits-number_picks-requires-clause-sound t c =
     let p = c.args.self.now in let codes = c.in_ok-codes.codes in let picks = c.in_ok-copy.copy.picks in
     let taken : IsTake p.codes picks Nullable codes = rw (c.deref.ensures ∙ c.codes.ensures.value) at c.in_ok-codes.ensures in
     rw (c.len.ensures ∙ ap (λ (x : Column). length x.rows) (c.deref-2.ensures ∙ c.values-values.ensures.value))
-    (codes-no_fault (dict_with p codes) (dict_fault-take p codes picks Nullable c.codes.ensures.valid taken))
+    (sound-dict (dict_with p codes) (dict_fault-take p codes picks Nullable c.codes.ensures.valid taken))
 
 pub dict::DictArrayTakeBits::bits-returns : goal.dict::DictArrayTakeBits::bits-returns
 dict::DictArrayTakeBits::bits-returns t c =

@@ -26,16 +26,16 @@ returns-in-Some-clause-picks c =
 pub returns-in-Some-clause-there : goal.returns-in-Some-clause-there
 returns-in-Some-clause-there c = IfOk-weaker c.picks_present.result _ _ (λ p there _. there) c.picks_present.ensures.there
 
-pub picks_by_bits-requires-clause-int : goal.picks_by_bits-requires-clause-int
-picks_by_bits-requires-clause-int c = is_int-typed c.args.self.now.dtype c.args.ptype c.requires.int
+pub picks_shown-requires-clause-int : goal.picks_shown-requires-clause-int
+picks_shown-requires-clause-int c = is_int-typed c.args.self.now.dtype c.args.ptype c.requires.int
 
-pub picks_by_bits-requires-clause-width : goal.picks_by_bits-requires-clause-width
-picks_by_bits-requires-clause-width c =
+pub picks_shown-requires-clause-width : goal.picks_shown-requires-clause-width
+picks_shown-requires-clause-width c =
     let shown = c.in-Some-shown_records in
     width-typed c.args.self.now.dtype c.args.ptype (width_of shown.values.now) c.requires.int shown.ensures.rows.width
 
-pub picks_by_bits-requires-clause-sound : goal.picks_by_bits-requires-clause-sound
-picks_by_bits-requires-clause-sound c =
+pub picks_shown-requires-clause-sound : goal.picks_shown-requires-clause-sound
+picks_shown-requires-clause-sound c =
     let shown = c.in-Some-shown_records in
     let numbers = numbers-shown c.args.self.now c.args.ptype shown.bits.now.bits (records_of shown.values.now) c.requires.int shown.ensures.rows.rows in
     ap (first_bad c.args.len) (sym numbers) ∙ c.requires.sound
@@ -44,4 +44,4 @@ pub returns-in-Some-shown_records-clause-picks : goal.returns-in-Some-shown_reco
 returns-in-Some-shown_records-clause-picks c =
     let shown = c.in-Some-shown_records in
     let numbers = numbers-shown c.args.self.now c.args.ptype shown.bits.now.bits (records_of shown.values.now) c.requires.int shown.ensures.rows.rows in
-    rw numbers c.picks_by_bits.ensures
+    rw numbers c.picks_shown.ensures
