@@ -2,7 +2,7 @@
 ghost use Rattle.std.specs.Prelude.{◌≡◌, ◌+◌, ◌*◌, ◌≤◌, IfOk, Some, map};
 ghost use Rattle.vortex_select.specs.TypeTree.{type_width};
 ghost use Rattle.vortex_select.specs.Policy.{sparse_limit_of};
-ghost use Rattle.vortex_select.specs.Asked.{touched};
+ghost use Rattle.vortex_select.specs.Asked.{chunks_touched};
 ghost use Rattle.vortex_select.specs.Step.{step_value};
 ghost use Rattle.vortex_select.specs.Walk.{walk};
 ghost use Rattle.vortex_select.specs.Chunks.{asked_by_walk};
@@ -50,7 +50,7 @@ pub(crate) fn squares_at(
     requires width { type_width shape.now.dtype ≡ Some 8 }
     requires within { shape.now.offset + shape.now.len ≤ 1024 * decoder.old.chunks }
     requires new { decoder.old.asked ≡ 0 }
-    ensures { decoder.new.asked ≤ touched shape.now.offset shape.now.len }
+    ensures { decoder.new.asked ≤ chunks_touched shape.now.offset shape.now.len }
 {
     select_chunked(alloc, decoder, shape, steps, policy)
 }

@@ -13,7 +13,7 @@ use Rattle.vx_mask.proofs.LowestBit.{lowest_position, no_positions}
 use Rattle.vx_mask.proofs.PositionLists.{length-positions, none_are_set, positions-append}
 use Rattle.vx_mask.proofs.RunLists.{runs_from-set}
 use Rattle.vortex_c.specs.declared.runs.Run.{Run}
-use Rattle.vortex_c.specs.Runs.{changes, opened, pairs, rows_of, run_of}
+use Rattle.vortex_c.specs.Runs.{changes, open_start, pairs, rows_of, run_of}
 use Rattle.vortex_c.proofs.MaskRows.{length-rows}
 use Rattle.vortex_c.proofs.MaskWords.{IsMask}
 use Rattle.vortex_c.proofs.RunStarts.{last_is, last_of, last_of_word, one_more}
@@ -168,6 +168,6 @@ marks_fit words w before marks h small fits is =
 pub none_ahead : (words : List ℕ) (w before : ℕ) → length words ≤ w → ahead words w before ≡ []
 none_ahead words w before h = ap (λ l. positions (64 * w) (changes (eqb (bit_at before 63) 1) (bits_of_words l))) (drop_all w words h)
 
-pub one_begun : (begun : Option ℕ) → length (opened begun) ≤ 1
+pub one_begun : (begun : Option ℕ) → length (open_start begun) ≤ 1
 one_begun None = omega arith
 one_begun (Some start) = omega arith

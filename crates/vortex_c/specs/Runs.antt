@@ -51,6 +51,6 @@ pairs end (start ∷ []) = (start, end) ∷ []
 pairs end (start ∷ stop ∷ places) = (start, stop) ∷ pairs end places
 
 -- the place at which a run starts that has no end yet
-abbrev pub opened : Option ℕ → List ℕ
-opened None = []
-opened (Some start) = start ∷ []
+abbrev pub open_start : Option ℕ → List ℕ
+open_start None = []
+open_start (Some start) = start ∷ []

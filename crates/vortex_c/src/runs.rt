@@ -5,7 +5,7 @@ ghost use Rattle.std.specs.Int.RustNames.{count_ones};
 ghost use Rattle.vx_bits.specs.Words.{word_bits, word_count};
 ghost use Rattle.vx_mask.specs.Positions.{maximal_runs, positions};
 ghost use Rattle.vortex_c.specs.Masks.{mask_fault};
-ghost use Rattle.vortex_c.specs.Runs.{AreRunsListed, opened, pairs, rows_of, run_of, starts};
+ghost use Rattle.vortex_c.specs.Runs.{AreRunsListed, open_start, pairs, rows_of, run_of, starts};
 
 use crate::answer::{Answer, DONE, ROOM};
 use crate::masks::fault_of;
@@ -64,10 +64,10 @@ fn put_pairs(dst: &mut [Run], count: usize, base: u64, marks: u64) -> Told
     requires counted { base + 64 ≤ 2 ^ 64 }
     requires room { 2 * count + count_ones marks ≤ 2 * length dst.old + 1 }
     ensures told { (end : ℕ) (more : List ℕ)
-        → take result.count dst.new ++ map run_of (pairs end (opened result.begun ++ more))
+        → take result.count dst.new ++ map run_of (pairs end (open_start result.begun ++ more))
         ≡ take count dst.old
         ++ map run_of (pairs end (positions base (word_bits marks 64) ++ more)) }
-    ensures count { 2 * result.count + length (opened result.begun)
+    ensures count { 2 * result.count + length (open_start result.begun)
         ≡ 2 * count + count_ones marks }
     ensures rest { drop result.count dst.new ≡ drop result.count dst.old }
 {
@@ -97,14 +97,14 @@ fn put_pairs(dst: &mut [Run], count: usize, base: u64, marks: u64) -> Told
 #[inline(always)]
 fn put_word(dst: &mut [Run], told: Told, base: u64, marks: u64) -> Told
     requires counted { base + 64 ≤ 2 ^ 64 }
-    requires room { 2 * told.count + length (opened told.begun) + count_ones marks
+    requires room { 2 * told.count + length (open_start told.begun) + count_ones marks
         ≤ 2 * length dst.old + 1 }
     ensures told { (end : ℕ) (more : List ℕ)
-        → take result.count dst.new ++ map run_of (pairs end (opened result.begun ++ more))
+        → take result.count dst.new ++ map run_of (pairs end (open_start result.begun ++ more))
         ≡ take told.count dst.old ++ map run_of (pairs end
-        (opened told.begun ++ (positions base (word_bits marks 64) ++ more))) }
-    ensures count { 2 * result.count + length (opened result.begun)
-        ≡ 2 * told.count + length (opened told.begun) + count_ones marks }
+        (open_start told.begun ++ (positions base (word_bits marks 64) ++ more))) }
+    ensures count { 2 * result.count + length (open_start result.begun)
+        ≡ 2 * told.count + length (open_start told.begun) + count_ones marks }
     ensures rest { drop result.count dst.new ≡ drop result.count dst.old }
 {
     let Some(start) = told.begun else {

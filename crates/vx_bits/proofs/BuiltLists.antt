@@ -7,7 +7,7 @@ use Rattle.std.proofs.lemmas.Nat.{and_mask, mod_below, mul-add-lt, one_shl, or_c
 use Rattle.std.proofs.lemmas.Nat.Bits.{bit_at_set_same, bit_at_set_other}
 use Rattle.std.proofs.Math.Pow.{pow_mono}
 use Rattle.vx_bits.specs.BitBuffer.{bit_of, bits_of}
-use Rattle.vx_bits.specs.BitBuilder.{built}
+use Rattle.vx_bits.specs.BitBuilder.{builder_bits}
 use Rattle.vx_bits.specs.Words.{word_bits}
 use Rattle.vx_bits.proofs.BitLists.{length_bits, bit_in, bits_split}
 use Rattle.vx_bits.proofs.ByteLists.{bits_joined, bits_of_ones, bits_of_word, bits_of_zeros}
@@ -40,10 +40,10 @@ bytes_alike false k = bits_of_zeros k
 
 -- ---- what is built
 
-pub built_none : (bytes : List ℕ) → bytes ≡ [] → built bytes 0 0 ≡ []
-built_none bytes e = ap (λ l. built l 0 0) e ∙ word_bits-none 0
+pub built_none : (bytes : List ℕ) → bytes ≡ [] → builder_bits bytes 0 0 ≡ []
+built_none bytes e = ap (λ l. builder_bits l 0 0) e ∙ word_bits-none 0
 
-pub length-built : (bytes : List ℕ) (next held : ℕ) → length (built bytes next held) ≡ 8 * length bytes + held
+pub length-built : (bytes : List ℕ) (next held : ℕ) → length (builder_bits bytes next held) ≡ 8 * length bytes + held
 length-built bytes next held = length-append (bits_of bytes 0 (8 * length bytes)) (word_bits next held) ∙ ap₂ (λ a b. a + b) (length_bits bytes 0 (8 * length bytes)) (length-word_bits next held)
 
 -- the bits of a word and of those behind it
@@ -51,7 +51,7 @@ word_joined : (next held word n all : ℕ) → next < 2 ^ held → all ≡ word 
 word_joined next held word n all h e = ap (λ x. word_bits x (held + n)) e ∙ word_bits-append next held (word % 2 ^ n) n h ∙ ap (λ l. word_bits next held ++ l) (word_bits_low word n)
 
 -- the bits of a word stay in the next word
-pub built_more : (bytes : List ℕ) (next held word n all : ℕ) → next < 2 ^ held → all ≡ word % 2 ^ n * 2 ^ held + next → built bytes all (held + n) ≡ built bytes next held ++ word_bits word n
+pub built_more : (bytes : List ℕ) (next held word n all : ℕ) → next < 2 ^ held → all ≡ word % 2 ^ n * 2 ^ held + next → builder_bits bytes all (held + n) ≡ builder_bits bytes next held ++ word_bits word n
 built_more bytes next held word n all h e =
     let front = bits_of bytes 0 (8 * length bytes) in
     ap (λ l. front ++ l) (word_joined next held word n all h e) ∙ sym (append_assoc front (word_bits next held) (word_bits word n))
@@ -60,7 +60,7 @@ built_more bytes next held word n all h e =
 bits_push : (bytes new : List ℕ) (x : ℕ) → x < 2 ^ 64 → new ≡ bytes ++ to_le_bytes w64 x → bits_of new 0 (8 * length new) ≡ bits_of bytes 0 (8 * length bytes) ++ word_bits x 64
 bits_push bytes new x h e = ap (λ l. bits_of l 0 (8 * length l)) e ∙ bits_joined bytes (to_le_bytes w64 x) ∙ ap (λ l. bits_of bytes 0 (8 * length bytes) ++ l) (bits_of_word x h)
 
-pub built_word : (bytes new : List ℕ) (next held word n all low high r : ℕ) → next < 2 ^ held → all ≡ word % 2 ^ n * 2 ^ held + next → low ≡ all % 2 ^ 64 → high ≡ all / 2 ^ 64 → 64 + r ≡ held + n → new ≡ bytes ++ to_le_bytes w64 low → built new high r ≡ built bytes next held ++ word_bits word n
+pub built_word : (bytes new : List ℕ) (next held word n all low high r : ℕ) → next < 2 ^ held → all ≡ word % 2 ^ n * 2 ^ held + next → low ≡ all % 2 ^ 64 → high ≡ all / 2 ^ 64 → 64 + r ≡ held + n → new ≡ bytes ++ to_le_bytes w64 low → builder_bits new high r ≡ builder_bits bytes next held ++ word_bits word n
 built_word bytes new next held word n all low high r h e is_low is_high sum pushed =
     let front = bits_of bytes 0 (8 * length bytes) in
     let below : low < 2 ^ 64 = omega arith in
@@ -75,7 +75,7 @@ take_past [] ys n = ap (λ k. take k ys) (zero-add n)
 take_past (x ∷ xs) ys n = let e : suc (length xs) + n ≡ suc (length xs + n) = omega arith in ap (λ k. take k (x ∷ (xs ++ ys))) e ∙ ap (λ l. x ∷ l) (take_past xs ys n)
 
 -- the bits at the end are all there is
-pub built_end : (bytes new : List ℕ) (next held : ℕ) → held ≤ 64 → next < 2 ^ 64 → new ≡ bytes ++ to_le_bytes w64 next → bits_of new 0 (8 * length bytes + held) ≡ built bytes next held
+pub built_end : (bytes new : List ℕ) (next held : ℕ) → held ≤ 64 → next < 2 ^ 64 → new ≡ bytes ++ to_le_bytes w64 next → bits_of new 0 (8 * length bytes + held) ≡ builder_bits bytes next held
 built_end bytes new next held short fits pushed =
     let n = 8 * length bytes in
     let front = bits_of bytes 0 n in
@@ -97,7 +97,7 @@ pub built_alike : (bytes new : List ℕ) (next held n words rest first low low_r
     → low ≡ cond bit (2 ^ 64 - 1) 0 % 2 ^ (64 - held) → first ≡ (low * 2 ^ held + next) % 2 ^ 64
     → low_rest ≡ cond bit (2 ^ 64 - 1) 0 % 2 ^ rest
     → new ≡ (bytes ++ to_le_bytes w64 first) ++ replicate (8 * words) (cond bit 255 0)
-    → built new low_rest rest ≡ built bytes next held ++ replicate n bit
+    → builder_bits new low_rest rest ≡ builder_bits bytes next held ++ replicate n bit
 built_alike bytes new next held n words rest first low low_rest bit open_word clean many e_words e_rest e_low e_first e_low_rest pushed =
     let room = 64 - held in
     let word = cond bit (2 ^ 64 - 1) 0 in
@@ -177,7 +177,7 @@ bytes_set bytes n i h fits =
     bit_in new 0 n j false low ∙ ap (bit_of new) (zero-add j) ∙ same ∙ sym (bit_in bytes 0 n j false low ∙ ap (bit_of bytes) (zero-add j)))
 
 -- in what is built
-pub built_set_byte : (bytes new : List ℕ) (next held i : ℕ) → i < 8 * length bytes → new ≡ set bytes (i / 8) (bit_or (get_or bytes (i / 8) 0) (1 * 2 ^ (i % 8) % 256)) → built new next held ≡ set (built bytes next held) i true
+pub built_set_byte : (bytes new : List ℕ) (next held i : ℕ) → i < 8 * length bytes → new ≡ set bytes (i / 8) (bit_or (get_or bytes (i / 8) 0) (1 * 2 ^ (i % 8) % 256)) → builder_bits new next held ≡ set (builder_bits bytes next held) i true
 built_set_byte bytes new next held i h e =
     let byte = bit_or (get_or bytes (i / 8) 0) (1 * 2 ^ (i % 8) % 256) in
     let n = 8 * length bytes in
@@ -186,7 +186,7 @@ built_set_byte bytes new next held i h e =
     ∙ ap (λ l. l ++ word_bits next held) (bytes_set bytes n i h (omega arith))
     ∙ sym (set-append_left (bits_of bytes 0 n) (word_bits next held) i true (omega (arith, length_bits bytes 0 n)))
 
-pub built_set_next : (bytes : List ℕ) (next held i k : ℕ) → 8 * length bytes + k ≡ i → k < held → held ≤ 64 → built bytes (bit_or next (1 * 2 ^ k % 2 ^ 64)) held ≡ set (built bytes next held) i true
+pub built_set_next : (bytes : List ℕ) (next held i k : ℕ) → 8 * length bytes + k ≡ i → k < held → held ≤ 64 → builder_bits bytes (bit_or next (1 * 2 ^ k % 2 ^ 64)) held ≡ set (builder_bits bytes next held) i true
 built_set_next bytes next held i k e h fits =
     let n = 8 * length bytes in
     let place : i - n ≡ k = omega arith in

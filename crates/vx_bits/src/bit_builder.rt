@@ -30,11 +30,11 @@ pub struct BitBuilder {
 
 impl Model for BitBuilder {
     ghost use Rattle.std.specs.Prelude.{Bool, List, vec_len};
-    ghost use Rattle.vx_bits.specs.BitBuilder.{IsBuilder, built};
+    ghost use Rattle.vx_bits.specs.BitBuilder.{IsBuilder, builder_bits};
 
     ghost Value = { List Bool };
 
-    ghost view = { λ b. built b.bytes.items b.next b.held };
+    ghost view = { λ b. builder_bits b.bytes.items b.next b.held };
 
     ghost invariant = { λ b. IsBuilder (vec_len b.bytes) b.next b.held };
 }

@@ -6,7 +6,7 @@ use Rattle.std.proofs.lemmas.Simd.{map-map}
 use Rattle.vx_bits.specs.WordReader.{then_told}
 use Rattle.vx_mask.specs.Positions.{positions, set_of}
 use Rattle.vx_decoder.specs.declared.call.Call.{Call}
-use Rattle.vx_chunked.specs.Asked.{asked, calls_from, chunks_for, end_of, touched}
+use Rattle.vx_chunked.specs.Asked.{asked, calls_from, chunks_for, end_of, chunks_touched}
 use Rattle.vx_chunked.specs.Positions.{AscendFrom, positions_from}
 use Rattle.vx_chunked.proofs.Ascends.{ascend_lower}
 
@@ -53,8 +53,8 @@ module _ (offset len end : ℕ) (set rest : List ℕ) (is : rest ≡ map (λ i. 
   pub handed_values : {X : Type 0} (values : List X) → map (slice_get values) rest ≡ map (λ p. slice_get values (offset + p)) set
   handed_values values = ap (map (slice_get values)) is ∙ map-map (slice_get values) (λ i. offset + i) set
 
-  pub handed_calls : (old : Option (List Call)) (limit sparse : ℕ) → limit ≡ sparse → then_told old (calls_from limit rest 0 (chunks_for end)) ≡ then_told old (asked offset set sparse (touched offset len))
+  pub handed_calls : (old : Option (List Call)) (limit sparse : ℕ) → limit ≡ sparse → then_told old (calls_from limit rest 0 (chunks_for end)) ≡ then_told old (asked offset set sparse (chunks_touched offset len))
   handed_calls old limit sparse same =
       ap (λ l. then_told old (calls_from limit l 0 (chunks_for end))) is
       ∙ ap (λ n. then_told old (calls_from limit (map (λ i. offset + i) set) 0 (chunks_for n))) end_is
-      ∙ ap (λ n. then_told old (asked offset set n (touched offset len))) same
+      ∙ ap (λ n. then_told old (asked offset set n (chunks_touched offset len))) same

@@ -24,7 +24,7 @@ use Rattle.vx_bits.specs.Words.{word_at, word_bits}
 use Rattle.vx_mask.specs.Positions.{positions, set_of}
 use Rattle.vx_mask.proofs.PositionLists.{positions-append, length-positions}
 use Rattle.vx_chunked.proofs.WordPlaces.{positions-shift}
-use Rattle.vx_chunked.specs.Positions.{AscendFrom, marked, positions_from}
+use Rattle.vx_chunked.specs.Positions.{AscendFrom, places_of_words, positions_from}
 use Rattle.vx_chunked.proofs.Ascends.{ascend_below}
 use Rattle.vx_chunked.proofs.Handed.{positions_ascend}
 use Rattle.vx_decoder.proofs.ReadPlaces.{part_at}
@@ -161,10 +161,10 @@ module _ (bits : List Bool) (words tail : List ℕ) (len : ℕ) (same : words �
       let wide : length words ≡ word_count (length bits) = ap length same ∙ simp (length-map, length-range_with_len) in
       ap (λ n. take n (words ++ tail)) (ap word_count long ∙ sym wide) ∙ take-append_seam words tail
 
-  pub front_marked : (from : ℕ) → marked from len (words ++ tail) ≡ positions from bits
+  pub front_marked : (from : ℕ) → places_of_words from len (words ++ tail) ≡ positions from bits
   front_marked from = ap (λ l. positions from (bits_of_words l)) front_is ∙ words_marked bits words same from
 
-  pub front_count : (from : ℕ) → length (positions 0 (bits_of_words words)) ≡ length (marked from len (words ++ tail))
+  pub front_count : (from : ℕ) → length (positions 0 (bits_of_words words)) ≡ length (places_of_words from len (words ++ tail))
   front_count from =
       length-positions 0 (bits_of_words words) ∙ sym (length-positions from (bits_of_words words))
       ∙ ap (λ l. length (positions from (bits_of_words l))) (sym front_is)

@@ -15,8 +15,8 @@ abbrev pub end_of : ℕ → ℕ → ℕ
 end_of offset len = if len == 0 then 0 else offset + len
 
 -- how many chunks the `len` values from `offset` on touch, where `offset` lies in the first chunk
-abbrev pub touched : ℕ → ℕ → ℕ
-touched offset len = chunks_for (end_of offset len)
+abbrev pub chunks_touched : ℕ → ℕ → ℕ
+chunks_touched offset len = chunks_for (end_of offset len)
 
 -- the call for a chunk of which `count` values are selected, if there is one
 abbrev pub call_for : ℕ → ℕ → ℕ → List Call

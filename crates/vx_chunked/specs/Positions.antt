@@ -28,5 +28,5 @@ places_of offset base positions = map (λ i. offset + i - base) positions
 
 -- the places of the set bits of words, of which the first bit has place `from`, and which hold
 -- `len` bits
-abbrev pub marked : ℕ → ℕ → List ℕ → List ℕ
-marked from len words = positions from (bits_of_words (take (word_count len) words))
+abbrev pub places_of_words : ℕ → ℕ → List ℕ → List ℕ
+places_of_words from len words = positions from (bits_of_words (take (word_count len) words))

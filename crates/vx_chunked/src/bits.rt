@@ -5,7 +5,7 @@ ghost use Rattle.std.specs.List.{All, range_with_len};
 ghost use Rattle.vx_bits.specs.Words.{word_at, word_bits, word_count};
 ghost use Rattle.vx_filter.specs.Compact.{bits_of_words};
 ghost use Rattle.vx_mask.specs.Positions.{AllBits, positions, set_of};
-ghost use Rattle.vx_chunked.specs.Positions.{AscendFrom, marked, positions_from};
+ghost use Rattle.vx_chunked.specs.Positions.{AscendFrom, places_of_words, positions_from};
 
 use crate::cursor::Cursor;
 use vx_bits::BitBuffer;
@@ -22,7 +22,7 @@ struct BitFront {
     len: usize,
     count: usize,
     ghost fits: { from + len ≤ 1024 },
-    ghost counted: { count ≡ length (marked from len words) },
+    ghost counted: { count ≡ length (places_of_words from len words) },
     ghost clear: { AllBits (bits_of_words (take (word_count len) words)) len (64 * word_count len)
         false },
 }
@@ -100,8 +100,9 @@ fn part_in(bits: &BitBuffer, first: usize, offset: usize, chunk: usize) -> Part
 #[inline(always)]
 fn front_of(bits: &BitBuffer, from: usize) -> BitFront
     requires { from + length bits.now.bits ≤ 1024 }
-    ensures places { marked result.from result.len result.words ≡ positions from bits.now.bits }
-    ensures inside { All (λ p. p < 1024) (marked result.from result.len result.words) }
+    ensures places { places_of_words result.from result.len result.words
+            ≡ positions from bits.now.bits }
+    ensures inside { All (λ p. p < 1024) (places_of_words result.from result.len result.words) }
 {
     let len = bits.len();
     let mut words = [0; 16];
@@ -172,9 +173,9 @@ fn has_long_runs(words: &[u64], long: usize) -> bool {
 fn copy_bits<T: Copy>(front: &BitFront, long: usize, values: &[T], dst: &mut [T])
     requires chunk { length values.now ≡ 1024 }
     requires room { length dst.old
-        ≡ length (marked front.now.from front.now.len front.now.words) }
+        ≡ length (places_of_words front.now.from front.now.len front.now.words) }
     ensures { map Some dst.new ≡ map (slice_get values.now)
-        (marked front.now.from front.now.len front.now.words) }
+        (places_of_words front.now.from front.now.len front.now.words) }
 {
     let words = &front.words[..front.len.div_ceil(64)];
     let values = &values[front.from..front.from + front.len];
@@ -186,11 +187,11 @@ fn copy_bits<T: Copy>(front: &BitFront, long: usize, values: &[T], dst: &mut [T]
 }
 
 impl<T: Copy> Cursor<T> for BitCursor<'_> {
-    ghost use Rattle.vx_chunked.specs.Positions.{marked, positions_from};
+    ghost use Rattle.vx_chunked.specs.Positions.{places_of_words, positions_from};
 
     ghost rest = { λ s. map (λ i. s.offset + i) (positions_from s.at s.bits.now.bits) };
 
-    ghost taken = { λ s. marked s.front.from s.front.len s.front.words };
+    ghost taken = { λ s. places_of_words s.front.from s.front.len s.front.words };
 
     fn take_places(&mut self, chunk: usize) -> usize {
         let Part { start, end, from } = part_in(self.bits, self.at, self.offset, chunk);

@@ -5,7 +5,7 @@ ghost use Rattle.vx_bits.specs.WordReader.{then_told};
 ghost use Rattle.vx_mask.specs.Mask.{mask_bits};
 ghost use Rattle.vx_mask.specs.Policy.{sparse_limit_of};
 ghost use Rattle.vx_mask.specs.Positions.{ascending, run_positions, runs_ascend, set_of};
-ghost use Rattle.vx_chunked.specs.Asked.{asked, end_of, touched};
+ghost use Rattle.vx_chunked.specs.Asked.{asked, end_of, chunks_touched};
 
 use crate::bits::BitCursor;
 use crate::cursor::Cursor;
@@ -44,16 +44,17 @@ pub fn filter_chunked_by_indices<T: Record, D: ChunkDecoder<T>>(
 ) -> Result<Vec<T>, NoMemory>
     requires offset { offset < 1024 }
     requires within { offset + len ≤ length (D.values decoder.old) }
-    requires spare { touched offset len ≤ D.spare decoder.old }
+    requires spare { chunks_touched offset len ≤ D.spare decoder.old }
     requires ascend { ascending 0 len indices.now ≡ true }
     ensures value { IfOk result (λ kept. map Some kept.items
         ≡ map (λ p. slice_get (D.values decoder.old) (offset + p)) indices.now) }
     ensures told { OnOk result (D.calls decoder.new
         ≡ then_told (D.calls decoder.old)
-        (asked offset indices.now (sparse_limit_of policy.now T.WIDTH) (touched offset len))) }
+        (asked offset indices.now (sparse_limit_of policy.now T.WIDTH)
+        (chunks_touched offset len))) }
     ensures untold { OnErr result (D.calls decoder.new ≡ D.calls decoder.old) }
     ensures same { D.values decoder.new ≡ D.values decoder.old }
-    ensures cost { D.spare decoder.old ≤ D.spare decoder.new + touched offset len }
+    ensures cost { D.spare decoder.old ≤ D.spare decoder.new + chunks_touched offset len }
 {
     let end = range_end(offset, len);
     let limit = policy.sparse_limit(T::WIDTH);
@@ -85,17 +86,17 @@ pub fn filter_chunked_by_slices<T: Record, D: ChunkDecoder<T>>(
 ) -> Result<Vec<T>, NoMemory>
     requires offset { offset < 1024 }
     requires within { offset + len ≤ length (D.values decoder.old) }
-    requires spare { touched offset len ≤ D.spare decoder.old }
+    requires spare { chunks_touched offset len ≤ D.spare decoder.old }
     requires runs { runs_ascend 0 len slices.now ≡ true }
     ensures value { IfOk result (λ kept. map Some kept.items
         ≡ map (λ p. slice_get (D.values decoder.old) (offset + p)) (run_positions slices.now)) }
     ensures told { OnOk result (D.calls decoder.new
         ≡ then_told (D.calls decoder.old)
         (asked offset (run_positions slices.now) (sparse_limit_of policy.now T.WIDTH)
-        (touched offset len))) }
+        (chunks_touched offset len))) }
     ensures untold { OnErr result (D.calls decoder.new ≡ D.calls decoder.old) }
     ensures same { D.values decoder.new ≡ D.values decoder.old }
-    ensures cost { D.spare decoder.old ≤ D.spare decoder.new + touched offset len }
+    ensures cost { D.spare decoder.old ≤ D.spare decoder.new + chunks_touched offset len }
 {
     let end = range_end(offset, len);
     let limit = policy.sparse_limit(T::WIDTH);
@@ -116,17 +117,17 @@ fn filter_by<T: Record, D: ChunkDecoder<T>, C: Cursor<T>>(
     requires rest { C.rest cursor.old ≡ map (λ p. offset + p) (set_of mask.now.bits.bits) }
     requires offset { offset < 1024 }
     requires within { offset + length mask.now.bits.bits ≤ length (D.values decoder.old) }
-    requires spare { touched offset (length mask.now.bits.bits) ≤ D.spare decoder.old }
+    requires spare { chunks_touched offset (length mask.now.bits.bits) ≤ D.spare decoder.old }
     ensures value { IfOk result (λ kept. map Some kept.items
         ≡ map (λ p. slice_get (D.values decoder.old) (offset + p)) (set_of mask.now.bits.bits)) }
     ensures told { OnOk result (D.calls decoder.new
         ≡ then_told (D.calls decoder.old)
         (asked offset (set_of mask.now.bits.bits) (sparse_limit_of policy.now T.WIDTH)
-        (touched offset (length mask.now.bits.bits)))) }
+        (chunks_touched offset (length mask.now.bits.bits)))) }
     ensures untold { OnErr result (D.calls decoder.new ≡ D.calls decoder.old) }
     ensures same { D.values decoder.new ≡ D.values decoder.old }
     ensures cost { D.spare decoder.old
-        ≤ D.spare decoder.new + touched offset (length mask.now.bits.bits) }
+        ≤ D.spare decoder.new + chunks_touched offset (length mask.now.bits.bits) }
 {
     let end = range_end(offset, mask.len());
     let limit = policy.sparse_limit(T::WIDTH);
@@ -147,17 +148,17 @@ pub fn filter_chunked<T: Record, D: ChunkDecoder<T>>(
 ) -> Result<Vec<T>, NoMemory>
     requires offset { offset < 1024 }
     requires within { offset + length mask.now.bits.bits ≤ length (D.values decoder.old) }
-    requires spare { touched offset (length mask.now.bits.bits) ≤ D.spare decoder.old }
+    requires spare { chunks_touched offset (length mask.now.bits.bits) ≤ D.spare decoder.old }
     ensures value { IfOk result (λ kept. map Some kept.items
         ≡ map (λ p. slice_get (D.values decoder.old) (offset + p)) (set_of mask.now.bits.bits)) }
     ensures told { OnOk result (D.calls decoder.new
         ≡ then_told (D.calls decoder.old)
         (asked offset (set_of mask.now.bits.bits) (sparse_limit_of policy.now T.WIDTH)
-        (touched offset (length mask.now.bits.bits)))) }
+        (chunks_touched offset (length mask.now.bits.bits)))) }
     ensures untold { OnErr result (D.calls decoder.new ≡ D.calls decoder.old) }
     ensures same { D.values decoder.new ≡ D.values decoder.old }
     ensures cost { D.spare decoder.old
-        ≤ D.spare decoder.new + touched offset (length mask.now.bits.bits) }
+        ≤ D.spare decoder.new + chunks_touched offset (length mask.now.bits.bits) }
 {
     let fields = policy.fields();
     if let Some(slices) = useful_slices(mask, fields) {
@@ -184,16 +185,16 @@ fn filter_front<T: Record, D: ChunkDecoder<T>>(
     requires offset { offset < 1024 }
     requires count { count ≤ len }
     requires within { offset + len ≤ length (D.values decoder.old) }
-    requires spare { touched offset len ≤ D.spare decoder.old }
+    requires spare { chunks_touched offset len ≤ D.spare decoder.old }
     ensures value { IfOk result (λ kept. map Some kept.items
         ≡ map (λ p. slice_get (D.values decoder.old) (offset + p)) (range_with_len 0 count)) }
     ensures told { OnOk result (D.calls decoder.new
         ≡ then_told (D.calls decoder.old)
         (asked offset (range_with_len 0 count) (sparse_limit_of policy.now T.WIDTH)
-        (touched offset len))) }
+        (chunks_touched offset len))) }
     ensures untold { OnErr result (D.calls decoder.new ≡ D.calls decoder.old) }
     ensures same { D.values decoder.new ≡ D.values decoder.old }
-    ensures cost { D.spare decoder.old ≤ D.spare decoder.new + touched offset len }
+    ensures cost { D.spare decoder.old ≤ D.spare decoder.new + chunks_touched offset len }
 {
     let end = range_end(offset, len);
     let limit = policy.sparse_limit(T::WIDTH);
@@ -211,18 +212,18 @@ pub fn filter_chunked_mask<T: Record, D: ChunkDecoder<T>>(
 ) -> Result<Vec<T>, NoMemory>
     requires offset { offset < 1024 }
     requires within { offset + length (mask_bits mask.now) ≤ length (D.values decoder.old) }
-    requires spare { touched offset (length (mask_bits mask.now)) ≤ D.spare decoder.old }
+    requires spare { chunks_touched offset (length (mask_bits mask.now)) ≤ D.spare decoder.old }
     ensures value { IfOk result (λ kept. map Some kept.items
         ≡ map (λ p. slice_get (D.values decoder.old) (offset + p))
         (set_of (mask_bits mask.now))) }
     ensures told { OnOk result (D.calls decoder.new
         ≡ then_told (D.calls decoder.old)
         (asked offset (set_of (mask_bits mask.now)) (sparse_limit_of policy.now T.WIDTH)
-        (touched offset (length (mask_bits mask.now))))) }
+        (chunks_touched offset (length (mask_bits mask.now))))) }
     ensures untold { OnErr result (D.calls decoder.new ≡ D.calls decoder.old) }
     ensures same { D.values decoder.new ≡ D.values decoder.old }
     ensures cost { D.spare decoder.old
-        ≤ D.spare decoder.new + touched offset (length (mask_bits mask.now)) }
+        ≤ D.spare decoder.new + chunks_touched offset (length (mask_bits mask.now)) }
 {
     match mask {
         Mask::Values(values) => filter_chunked(alloc, decoder, offset, values, policy),

@@ -55,7 +55,7 @@ impl Model for UnionArray {
     ghost size_decreases = { λ a h. Prim.grind arith };
 }
 
-// Whether it is the type of ids: numbers of one byte from 0 on.
+// Whether it is the type of ids: unsigned integers of one byte.
 fn is_id_type(dtype: &DType) -> bool
     ensures { result ≡ is_id_type (type_of dtype.now) }
 {

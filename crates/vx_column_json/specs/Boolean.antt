@@ -6,7 +6,7 @@ use Rattle.vx_model.specs.Column.{Column}
 use Rattle.vx_model.specs.Valid.{Valid}
 use Rattle.vx_model.specs.Bool.{BoolParts, bool_with, bool_fault, bool_column}
 use Rattle.vx_json.specs.Meaning.{◌>>=◌, found_or}
-use Rattle.vx_json.specs.Members.{closed}
+use Rattle.vx_json.specs.Members.{if_closed}
 use Rattle.vx_json.specs.Items.{each}
 use Rattle.vx_json.specs.Wholes.{at_most}
 use Rattle.vx_json.specs.BitText.{bits_in}
@@ -42,7 +42,7 @@ offset_of d = found_or 0 (at_most 7) (get (codes "offset") d)
 -- the bits as they are stored, and which rows are there
 unfoldable pub bools_by : Data → Option Valid → Option BoolParts
 bools_by d stated = do
-  o ← closed (codes "layout" ∷ codes "values" ∷ codes "validity" ∷ codes "offset" ∷ []) d
+  o ← if_closed (codes "layout" ∷ codes "values" ∷ codes "validity" ∷ codes "offset" ∷ []) d
   offset ← offset_of o
   values ← get (codes "values") o
   bools_by_kind stated offset (as_str values) (as_array values)

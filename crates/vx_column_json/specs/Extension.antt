@@ -7,7 +7,7 @@ use Rattle.vx_types.specs.declared.nullability.Nullability.TheVariants.{NonNulla
 use Rattle.vx_model.specs.Column.{Column}
 use Rattle.vx_model.specs.Extension.{ExtensionParts, extension_column}
 use Rattle.vx_json.specs.Meaning.{◌>>=◌}
-use Rattle.vx_json.specs.Members.{closed}
+use Rattle.vx_json.specs.Members.{if_closed}
 
 -- the storage under this name
 abbrev pub extension_parts : List ℕ → Column → ExtensionParts
@@ -19,6 +19,6 @@ extension_parts name storage =
 
 unfoldable pub extension_by : Data → Column → Option Column
 extension_by d storage = do
-  o ← closed (codes "layout" ∷ codes "name" ∷ codes "storage" ∷ []) d
+  o ← if_closed (codes "layout" ∷ codes "name" ∷ codes "storage" ∷ []) d
   name ← get (codes "name") o >>= as_str
   Some (extension_column (extension_parts name storage))

@@ -8,7 +8,7 @@ use Rattle.vx_mask.specs.declared.mask.Mask.TheVariants.{Values}
 use Rattle.vx_model.specs.Column.{Column}
 use Rattle.vx_model.specs.Filter.{FilterParts, filter_fault, filter_column}
 use Rattle.vx_json.specs.Meaning.{◌>>=◌}
-use Rattle.vx_json.specs.Members.{closed}
+use Rattle.vx_json.specs.Members.{if_closed}
 use Rattle.vx_json.specs.Masks.{mask_of}
 use Rattle.vx_column_json.specs.Made.{made}
 
@@ -23,6 +23,6 @@ filter_made child bits = made filter_fault filter_column (filter_parts child bit
 
 unfoldable pub filter_by : Data → Column → Option Column
 filter_by d child = do
-  o ← closed (codes "layout" ∷ codes "child" ∷ codes "mask" ∷ []) d
+  o ← if_closed (codes "layout" ∷ codes "child" ∷ codes "mask" ∷ []) d
   bits ← get (codes "mask") o >>= mask_of
   filter_made child bits

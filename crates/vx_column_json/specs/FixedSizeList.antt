@@ -6,7 +6,7 @@ use Rattle.vx_model.specs.Column.{Column}
 use Rattle.vx_model.specs.FixedSizeList.{FixedParts, fixed_fault, fixed_column}
 use Rattle.vx_model.specs.Valid.{Valid}
 use Rattle.vx_json.specs.Meaning.{◌>>=◌}
-use Rattle.vx_json.specs.Members.{closed}
+use Rattle.vx_json.specs.Members.{if_closed}
 use Rattle.vx_json.specs.Wholes.{at_most}
 use Rattle.vx_json.specs.declared.wholes.TheConstants.{GREATEST_LEN}
 use Rattle.vx_column_json.specs.Made.{made}
@@ -25,7 +25,7 @@ fixed_made elements size len valid =
 unfoldable pub fixed_by : Data → Column → Valid → Option Column
 fixed_by d elements valid = do
   o ←
-      closed (codes "layout" ∷ codes "size" ∷ codes "len" ∷ codes "elements"
+      if_closed (codes "layout" ∷ codes "size" ∷ codes "len" ∷ codes "elements"
       ∷ codes "validity" ∷ []) d
   size ← get (codes "size") o >>= at_most 4294967295
   len ← get (codes "len") o >>= at_most GREATEST_LEN

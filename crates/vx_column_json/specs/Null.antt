@@ -5,12 +5,12 @@ use Rattle.serde_json.specs.Find.{get}
 use Rattle.vx_model.specs.Column.{Column}
 use Rattle.vx_model.specs.Null.{null_column}
 use Rattle.vx_json.specs.Meaning.{◌>>=◌}
-use Rattle.vx_json.specs.Members.{closed}
+use Rattle.vx_json.specs.Members.{if_closed}
 use Rattle.vx_json.specs.Wholes.{at_most}
 use Rattle.vx_json.specs.declared.wholes.TheConstants.{GREATEST_LEN}
 
 unfoldable pub null_by : Data → Option Column
 null_by d = do
-  o ← closed (codes "layout" ∷ codes "len" ∷ []) d
+  o ← if_closed (codes "layout" ∷ codes "len" ∷ []) d
   len ← get (codes "len") o >>= at_most GREATEST_LEN
   Some (null_column len)

@@ -1,4 +1,4 @@
--- What a JSON value means as offsets or sizes: a column of whole numbers from 0 on.
+-- What a JSON value means as offsets or sizes: a column of non-negative integers.
 use Rattle.std.specs.Prelude.{ℕ, ◌&&◌, List, Bool, true, if◌then◌else◌, Option, Some, None, is_some, codes}
 use Rattle.serde_json.specs.Data.{Data, Items, no_items, item}
 use Rattle.serde_json.specs.Find.{get, as_str, as_array}
@@ -22,12 +22,12 @@ offset_type_of usual d = found_or usual type_named (get (codes "offset_type") d)
 abbrev pub offsets_column : PType → List (List ℕ) → RecordParts
 offsets_column p records = primitive_parts p records non_nullable
 
--- each is a whole number from 0 on
+-- each is a non-negative integer
 abbrev pub are_wholes : Items → Bool
 are_wholes no_items = true
 are_wholes (item d ds) = is_some (whole_of d) && are_wholes ds
 
--- the records of whole numbers from 0 on, each in the type's range
+-- the records of non-negative integers, each in the type's range
 abbrev pub whole_records : PType → Items → Option (List (List ℕ))
 whole_records p items = if are_wholes items then each (value_or_zero (width p) p) items else None
 

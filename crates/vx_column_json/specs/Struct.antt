@@ -9,7 +9,7 @@ use Rattle.vx_model.specs.Columns.{types_in}
 use Rattle.vx_model.specs.Struct.{StructParts, struct_fault, struct_column}
 use Rattle.vx_model.specs.Valid.{Valid}
 use Rattle.vx_json.specs.Meaning.{◌>>=◌}
-use Rattle.vx_json.specs.Members.{closed}
+use Rattle.vx_json.specs.Members.{if_closed}
 use Rattle.vx_json.specs.Texts.{names_of}
 use Rattle.vx_json.specs.Wholes.{at_most}
 use Rattle.vx_json.specs.declared.wholes.TheConstants.{GREATEST_LEN}
@@ -35,8 +35,8 @@ struct_made fields columns len valid =
 unfoldable pub struct_by : Data → List Column → Valid → Option Column
 struct_by d columns valid = do
   o ←
-      closed (codes "layout" ∷ codes "len" ∷ codes "names" ∷ codes "fields" ∷ codes "validity" ∷ [])
-      d
+      if_closed
+      (codes "layout" ∷ codes "len" ∷ codes "names" ∷ codes "fields" ∷ codes "validity" ∷ []) d
   len ← get (codes "len") o >>= at_most GREATEST_LEN
   names ← get (codes "names") o >>= names_of
   fields ← fields_made names columns

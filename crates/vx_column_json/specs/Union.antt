@@ -12,7 +12,7 @@ use Rattle.vx_model.specs.Union.{union_fault, union_column}
 use Rattle.vx_column.specs.UnionParts.{union_parts}
 use Rattle.vx_json.specs.Items.{each}
 use Rattle.vx_json.specs.Meaning.{◌>>=◌}
-use Rattle.vx_json.specs.Members.{closed, is_closed}
+use Rattle.vx_json.specs.Members.{if_closed, is_closed}
 use Rattle.vx_json.specs.Wholes.{at_most}
 use Rattle.vx_column_json.specs.Made.{made}
 use Rattle.vx_column_json.specs.Offsets.{offset_type_of, offsets_in}
@@ -22,7 +22,7 @@ use Rattle.vx_column_json.specs.Offsets.{offset_type_of, offsets_in}
 -- a variant is an object of an id and a name
 unfoldable pub variant_id : Data → Option ℕ
 variant_id d = do
-  o ← closed (codes "id" ∷ codes "name" ∷ []) d
+  o ← if_closed (codes "id" ∷ codes "name" ∷ []) d
   get (codes "id") o >>= at_most 255
 
 unfoldable pub variant_name : Data → Option (List ℕ)

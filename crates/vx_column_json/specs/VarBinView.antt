@@ -11,7 +11,7 @@ use Rattle.vx_json.specs.Meaning.{◌>>=◌}
 use Rattle.vx_json.specs.Members.{is_closed}
 use Rattle.vx_json.specs.Items.{each}
 use Rattle.vx_json.specs.Texts.{text_kind_named, text_or_empty, bytes_of}
-use Rattle.vx_json.specs.Views.{view_in, placed}
+use Rattle.vx_json.specs.Views.{view_in, views_and_buffer}
 use Rattle.vx_column_json.specs.Made.{made}
 use Rattle.vx_column_json.specs.Validity.{validity_alone, validity_beside}
 
@@ -28,7 +28,7 @@ views_made kind views buffers valid =
 unfoldable pub views_by_items : TextKind → Option Valid → Items → Option Column
 views_by_items kind stated items = do
   valid ← validity_beside stated items
-  texts ← each (text_or_empty kind) items >>= placed
+  texts ← each (text_or_empty kind) items >>= views_and_buffer
   views_made kind texts.0 (texts.1 ∷ []) valid
 
 -- views, and the buffers that they look into

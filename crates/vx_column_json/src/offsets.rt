@@ -34,7 +34,7 @@ pub(crate) fn offsets_column(ptype: PType, records: Records) -> PrimitiveArray
     }
 }
 
-/// Whether each is a whole number from 0 on.
+/// Whether each is a non-negative integer.
 #[tactic(auto, unfolding(vx_json::specs::Wholes::whole_of))]
 fn are_wholes(items: &Vec<Value>) -> bool
     ensures { result ≡ are_wholes (items_view items.now.items) }
@@ -47,7 +47,7 @@ fn are_wholes(items: &Vec<Value>) -> bool
     true
 }
 
-/// The column of the whole numbers of that type that the member of this name lists. `Malformed`
+/// The column of the integers of that type that the member of this name lists. `Malformed`
 /// where there is none, or an item is none, as a negative one.
 #[tactic(auto, unfolding(crate::specs::Offsets::offsets_in))]
 pub(crate) fn offsets_member(

@@ -6,7 +6,7 @@ use Rattle.std.proofs.lemmas.List.{map_more, take_all, take_more}
 use Rattle.std.proofs.lemmas.List.Elements.{All-cons, All-nil}
 use Rattle.vx_mask.specs.Mask.{mask_bits}
 use Rattle.vx_mask.specs.MaskValues.{PartialMask, keep_indices}
-use Rattle.vx_mask.specs.Reuse.{prepared, wants_indices}
+use Rattle.vx_mask.specs.Reuse.{mask_for_reuse, wants_indices}
 use Rattle.vx_mask.specs.declared.mask.Mask.{Mask}
 use Rattle.vx_mask.specs.declared.mask.Mask.TheVariants.{Values}
 use Rattle.vx_mask.specs.declared.policy.PolicyFields.{PolicyFields}
@@ -64,7 +64,7 @@ pub ruleset each_column = (columns_all, long-get, shallow-get)
 
 -- ---- a mask that is ready for many consumers selects the same
 
-pub bits-prepared : (m : PartialMask) (consumers : ℕ) (fields : PolicyFields) → mask_bits (prepared (Values m) consumers fields) ≡ m.bits.bits
+pub bits-prepared : (m : PartialMask) (consumers : ℕ) (fields : PolicyFields) → mask_bits (mask_for_reuse (Values m) consumers fields) ≡ m.bits.bits
 bits-prepared m consumers fields = by (wants_indices m consumers fields)
   where
     by : (wanted : Bool) → mask_bits (Values (if wanted then keep_indices m else m)) ≡ m.bits.bits
@@ -72,7 +72,7 @@ bits-prepared m consumers fields = by (wants_indices m consumers fields)
     by false = refl
 
 -- the cuts by one, of columns that are known to be these
-pub cuts_ready : (m : PartialMask) (consumers : ℕ) (fields : PolicyFields) {mask : PartialMask} {ready : Mask} {given cs : List Column} (xs : List Column) → ready ≡ prepared (Values m) consumers fields → m ≡ mask → given ≡ cs → AreCuts (items_where_true (mask_bits ready)) given xs → AreCuts (items_where_true mask.bits.bits) cs xs
+pub cuts_ready : (m : PartialMask) (consumers : ℕ) (fields : PolicyFields) {mask : PartialMask} {ready : Mask} {given cs : List Column} (xs : List Column) → ready ≡ mask_for_reuse (Values m) consumers fields → m ≡ mask → given ≡ cs → AreCuts (items_where_true (mask_bits ready)) given xs → AreCuts (items_where_true mask.bits.bits) cs xs
 cuts_ready m consumers fields {mask} {ready} {given} {cs} xs made is same cuts =
     let bits : mask_bits ready ≡ mask.bits.bits = ap mask_bits made ∙ bits-prepared m consumers fields ∙ ap (λ (k : PartialMask). k.bits.bits) is in
     subst (λ k. AreCuts (items_where_true k) cs xs) bits (subst (λ l. AreCuts (items_where_true (mask_bits ready)) l xs) same cuts)

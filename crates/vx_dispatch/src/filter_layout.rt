@@ -4,7 +4,7 @@ ghost use Rattle.vx_bits.specs.BitBuffer.{true_count_of};
 ghost use Rattle.vx_mask.specs.Mask.{mask_bits};
 ghost use Rattle.vx_mask.specs.Positions.{rank_of, set_of};
 ghost use Rattle.vx_take.specs.Picks.{AreBelow};
-ghost use Rattle.vx_take.specs.Ranks.{translated};
+ghost use Rattle.vx_take.specs.Ranks.{positions_by_rank};
 ghost use Rattle.vx_positions.specs.Positions.{AllThere};
 ghost use Rattle.vx_model.specs.Filter.{filter_column};
 
@@ -71,7 +71,7 @@ fn child_picks(
 ) -> Result<Picks, NoMemory>
     requires { picks.now.bound ≡ length (filter_column array.now).rows }
     ensures picks { IfOk result
-        (λ p. p.picks ≡ translated (mask_bits array.now.mask) picks.now.picks) }
+        (λ p. p.picks ≡ positions_by_rank (mask_bits array.now.mask) picks.now.picks) }
     ensures bound { IfOk result (λ p. p.bound ≡ length array.now.child.rows) }
     ensures there { AllThere picks.now.picks → IfOk result (λ p. AllThere p.picks) }
     ensures below { AreBelow picks.now.picks (true_count_of (mask_bits array.now.mask)) }

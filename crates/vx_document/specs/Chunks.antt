@@ -50,12 +50,12 @@ decimals_by w d =
     else None
 
 -- how many more fill up the last of the chunks of n values
-abbrev pub missing : ℕ → ℕ
-missing n = (1024 - n % 1024) % 1024
+abbrev pub fill_len : ℕ → ℕ
+fill_len n = (1024 - n % 1024) % 1024
 
 -- records of w bytes, and zeros behind them up to whole chunks
-abbrev pub filled : ℕ → List (List ℕ) → List (List ℕ)
-filled w records = records ++ replicate (missing (length records)) (replicate w 0)
+abbrev pub with_fill : ℕ → List (List ℕ) → List (List ℕ)
+with_fill w records = records ++ replicate (fill_len (length records)) (replicate w 0)
 
 -- ---- the column
 
@@ -76,13 +76,13 @@ shape_by t valid d = do
 -- the same, where there are at least so many
 abbrev pub filled_from : ℕ → ℕ → List (List ℕ) → Option (List (List ℕ))
 filled_from least w records =
-    if nat_le least (length records) then Some (filled w records) else None
+    if nat_le least (length records) then Some (with_fill w records) else None
 
 -- a shape over at least as many records of w bytes as it has
 unfoldable pub chunks_made : ShapeValue → ℕ → List (List ℕ) → Option SourceValue
 chunks_made s w records =
     if nat_le (s.offset + s.len) (length records)
-    then Some (chunks_source s (filled w records))
+    then Some (chunks_source s (with_fill w records))
     else None
 
 -- how many bytes a record of the type has

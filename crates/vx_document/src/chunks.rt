@@ -9,7 +9,7 @@ ghost use Rattle.vx_types.specs.Decimal.{is_width};
 ghost use Rattle.vx_column.specs.Validity.{valid_of};
 ghost use Rattle.vx_json.specs.Meaning.{Gives};
 ghost use Rattle.vx_document.specs.Documents.{IsWhole, source_value};
-ghost use Rattle.vx_document.specs.Chunks.{values_by, decimals_listed, decimals_by, filled, filled_from, missing, shape_made, shape_by, chunks_made, record_width, records_by, chunks_by, chunks_named, chunks_of};
+ghost use Rattle.vx_document.specs.Chunks.{values_by, decimals_listed, decimals_by, with_fill, filled_from, fill_len, shape_made, shape_by, chunks_made, record_width, records_by, chunks_by, chunks_named, chunks_of};
 
 use crate::columns::validity_stated;
 use crate::documents::DocumentSource;
@@ -83,7 +83,7 @@ fn decimals_by(alloc: Global, width: usize, value: &Value) -> Result<Records, Do
 
 /// How many values the last of the chunks of `len` values lacks.
 fn missing(len: usize) -> usize
-    ensures { result ≡ missing len }
+    ensures { result ≡ fill_len len }
 {
     (CHUNK_LEN - len % CHUNK_LEN) % CHUNK_LEN
 }
@@ -93,7 +93,7 @@ fn filled<const W: usize>(
     alloc: Global,
     records: &Buffer<[u8; W]>,
 ) -> Result<Buffer<[u8; W]>, NoMemory>
-    ensures { IfOk result (λ b. b ≡ filled W records.now) }
+    ensures { IfOk result (λ b. b ≡ with_fill W records.now) }
 {
     let missing = missing(records.len());
     if missing == 0 {
@@ -111,7 +111,7 @@ fn filled<const W: usize>(
 
 fn filled_records(alloc: Global, records: &Records) -> Result<Records, NoMemory>
     ensures records { IfOk result
-        (λ r. records_of r ≡ filled (width_of records.now) (records_of records.now)) }
+        (λ r. records_of r ≡ with_fill (width_of records.now) (records_of records.now)) }
     ensures width { IfOk result (λ r. width_of r ≡ width_of records.now) }
 {
     Ok(map_each_record_width!(records, buffer => filled(alloc, buffer)?))

@@ -13,7 +13,7 @@ use Rattle.vx_file.specs.Errors.{IfUnbroken, of_select}
 use Rattle.vx_file.specs.File.{file_rows, number_at}
 use Rattle.vx_file.specs.Reading.{IsReadError}
 use Rattle.vx_file.specs.Shape.{ShapeValue}
-use Rattle.vx_file.specs.Touched.{composed, picks_by}
+use Rattle.vx_file.specs.Touched.{picks_of_steps, picks_by}
 use Rattle.vx_file.specs.declared.error.FileError.{FileError}
 use Rattle.vx_file.specs.declared.error.FileError.TheVariants.{ReadFault, BadHeader, Damaged, Broken, NoMemory}
 
@@ -24,7 +24,7 @@ length-file_rows blocks s = length-map-range_with_len (λ p. bytes (record_of (w
 pub walk_same : (p : BoundedPicks) (n len : ℕ) (steps : List StepValue) → walk n steps ≡ walk_picks p.picks → n ≡ len → walk len steps ≡ walk_picks p.picks
 walk_same p n len steps e same = ap (λ m. walk m steps) (sym same) ∙ e
 
-pub same_picks : (p : BoundedPicks) (n len : ℕ) (steps : List StepValue) → walk n steps ≡ walk_picks p.picks → p.bound ≡ n → n ≡ len → p ≡ composed len steps
+pub same_picks : (p : BoundedPicks) (n len : ℕ) (steps : List StepValue) → walk n steps ≡ walk_picks p.picks → p.bound ≡ n → n ≡ len → p ≡ picks_of_steps len steps
 same_picks p n len steps e bound same =
     let f : List (Option ℕ) → ℕ → BoundedPicks = λ picks m. record { picks = picks; bound = m } in
     ap₂ f (sym (ap picks_by (walk_same p n len steps e same))) (bound ∙ same)

@@ -8,15 +8,15 @@ use Rattle.std.proofs.lemmas.List.FromFn.{map-range_with_len_more}
 use Rattle.vx_packed.specs.Chunk.{IsChunk, chunk_at, spell, spell_list}
 use Rattle.vx_packed.proofs.CutParts.{spell_list_cons, spell_list_none}
 use Rattle.vx_packed.proofs.Spellings.{chunk_spans, spell_states}
-use Rattle.vx_file.specs.File.{filled}
+use Rattle.vx_file.specs.File.{whole_block}
 use Rattle.vx_file.specs.Shape.{ShapeValue, header}
 
-pub length-filled : (numbers : List ℕ) → length numbers ≤ 1024 → length (filled numbers) ≡ 1024
+pub length-filled : (numbers : List ℕ) → length numbers ≤ 1024 → length (whole_block numbers) ≡ 1024
 length-filled numbers h =
     let last = get_or numbers (length numbers - 1) 0 in
     omega (arith, length-append numbers (replicate (1024 - length numbers) last), length-replicate (1024 - length numbers) last)
 
-pub chunk-filled : (width : ℕ) (numbers : List ℕ) → 0 < length numbers → length numbers ≤ 1024 → All (λ n. n < 2 ^ (8 * width)) numbers → IsChunk width (filled numbers)
+pub chunk-filled : (width : ℕ) (numbers : List ℕ) → 0 < length numbers → length numbers ≤ 1024 → All (λ n. n < 2 ^ (8 * width)) numbers → IsChunk width (whole_block numbers)
 chunk-filled width numbers some few below =
     let P : ℕ → Type 0 = λ n. n < 2 ^ (8 * width) in
     let last = get_or numbers (length numbers - 1) 0 in
@@ -48,8 +48,8 @@ rows_cut values k end e = elim (cases_lt (length values) (1024 * k + 1024)) [
 ]
 
 -- one block more
-pub block_more : (s : ShapeValue) (values : List ℕ) (k : ℕ) (blocks : List (List ℕ)) (bytes cut : List ℕ) → blocks ≡ header s ∷ map (λ j. spell (filled (chunk_at values j))) (range_with_len 0 k) → bytes ≡ spell (filled cut) → cut ≡ chunk_at values k → blocks ++ bytes ∷ [] ≡ header s ∷ map (λ j. spell (filled (chunk_at values j))) (range_with_len 0 (k + 1))
+pub block_more : (s : ShapeValue) (values : List ℕ) (k : ℕ) (blocks : List (List ℕ)) (bytes cut : List ℕ) → blocks ≡ header s ∷ map (λ j. spell (whole_block (chunk_at values j))) (range_with_len 0 k) → bytes ≡ spell (whole_block cut) → cut ≡ chunk_at values k → blocks ++ bytes ∷ [] ≡ header s ∷ map (λ j. spell (whole_block (chunk_at values j))) (range_with_len 0 (k + 1))
 block_more s values k blocks bytes cut e f g =
-    let block : ℕ → List ℕ = λ j. spell (filled (chunk_at values j)) in
-    ap₂ (λ l b. l ++ b ∷ []) e (f ∙ ap (λ l. spell (filled l)) g)
+    let block : ℕ → List ℕ = λ j. spell (whole_block (chunk_at values j)) in
+    ap₂ (λ l b. l ++ b ∷ []) e (f ∙ ap (λ l. spell (whole_block l)) g)
     ∙ ap (λ l. header s ∷ l) (sym (map-range_with_len_more block 0 k k (omega arith)))

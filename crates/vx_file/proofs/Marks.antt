@@ -4,7 +4,7 @@ use Rattle.std.specs.List.{list_any}
 use Rattle.std.proofs.lemmas.Bool.{cases_eq, ne_eqb}
 use Rattle.std.proofs.lemmas.List.{get_or-replicate, get_or-set_other, get_or-set_same, length-replicate, length-set, take_all}
 use Rattle.std.proofs.lemmas.List.Folds.{list_any_more}
-use Rattle.vx_file.specs.Touched.{AreMarked, lies_in, marked}
+use Rattle.vx_file.specs.Touched.{AreMarked, lies_in, with_mark}
 
 pub no_marks : (n : ℕ) (picks : List (Option ℕ)) → AreMarked (replicate n false) (take 0 picks) n
 no_marks n picks = record { long = length-replicate n false; each = λ k h. get_or-replicate n k false false h }
@@ -18,7 +18,7 @@ or_true true = refl
 or_true false = refl
 
 -- one more pick marks its block
-marked_at : (marks : List Bool) (pick : Option ℕ) (k : ℕ) (any : Bool) → k < length marks → get_or marks k false ≡ any → get_or (marked marks pick) k false ≡ (any || lies_in k pick)
+marked_at : (marks : List Bool) (pick : Option ℕ) (k : ℕ) (any : Bool) → k < length marks → get_or marks k false ≡ any → get_or (with_mark marks pick) k false ≡ (any || lies_in k pick)
 marked_at marks None k any h e = e ∙ or_false any
 marked_at marks (Some p) k any h e = elim (cases_eq (p / 1024) k) [
   | inl same ↦
@@ -29,11 +29,11 @@ marked_at marks (Some p) k any h e = elim (cases_eq (p / 1024) k) [
       ∙ sym (ap (λ b. any || b) (ne_eqb (p / 1024) k other))
 ]
 
-length-marked : (marks : List Bool) (pick : Option ℕ) → length (marked marks pick) ≡ length marks
+length-marked : (marks : List Bool) (pick : Option ℕ) → length (with_mark marks pick) ≡ length marks
 length-marked marks None = refl
 length-marked marks (Some p) = length-set marks (p / 1024) true
 
-pub marks_more : (marks new : List Bool) (picks : List (Option ℕ)) (i n : ℕ) → i < length picks → AreMarked marks (take i picks) n → new ≡ marked marks (get_or picks i None) → AreMarked new (take (i + 1) picks) n
+pub marks_more : (marks new : List Bool) (picks : List (Option ℕ)) (i n : ℕ) → i < length picks → AreMarked marks (take i picks) n → new ≡ with_mark marks (get_or picks i None) → AreMarked new (take (i + 1) picks) n
 marks_more marks new picks i n h m e =
     record {
       long = ap length e ∙ length-marked marks (get_or picks i None) ∙ m.long;

@@ -19,7 +19,7 @@ use Rattle.vx_file.specs.Blocks.{block_at}
 use Rattle.vx_file.specs.Reading.{AreSpellings, IsNoSpelling}
 use Rattle.vx_file.specs.Shape.{IsNoHeader, IsShape, ShapeValue, header, is_unsigned, type_byte}
 use Rattle.vx_file.specs.Stated.{are_spellings, is_header, is_spelling, shape_in, shape_stated, type_stated}
-use Rattle.vx_file.specs.Touched.{block_of_rows, blocks_for, lies_in, touched}
+use Rattle.vx_file.specs.Touched.{block_of_rows, blocks_for, lies_in, blocks_touched}
 use Rattle.vx_file.proofs.Headers.{header_len, header_type}
 use Rattle.vx_file.proofs.TouchedLists.{touched_more, touched_none}
 
@@ -119,21 +119,21 @@ module _ (width : ℕ) (picks : List (Option ℕ)) (blocks : List (List ℕ)) wh
   one_block true k h = from_both _ _ (h refl) refl
   one_block false k h = refl
 
-  first_blocks : (n : ℕ) → ((k : ℕ) → k < n → list_any (lies_in k) picks ≡ true → test (k + 1) ≡ true) → list_all test (touched picks n) ≡ true
+  first_blocks : (n : ℕ) → ((k : ℕ) → k < n → list_any (lies_in k) picks ≡ true → test (k + 1) ≡ true) → list_all test (blocks_touched picks n) ≡ true
   first_blocks zero h = ap (list_all test) (touched_none picks)
   first_blocks (suc n) h =
       let e : n + 1 ≡ suc n = omega arith in
       let last = block_of_rows (list_any (lies_in n) picks) n in
-      ap (λ m. list_all test (touched picks m)) (sym e) ∙ ap (list_all test) (touched_more picks n) ∙ list_all-append test (touched picks n) last
+      ap (λ m. list_all test (blocks_touched picks m)) (sym e) ∙ ap (list_all test) (touched_more picks n) ∙ list_all-append test (blocks_touched picks n) last
       ∙ from_both _ _ (first_blocks n (λ k l any. h k (omega arith) any)) (one_block (list_any (lies_in n) picks) n (h n (omega arith)))
 
   -- one that is no spelling is found, whatever comes behind it
-  still_bad : (k m : ℕ) → list_all test (touched picks k) ≡ false → list_all test (touched picks (k + m)) ≡ false
-  still_bad k zero h = let e : k ≡ k + 0 = omega arith in ap (λ j. list_all test (touched picks j)) (sym e) ∙ h
+  still_bad : (k m : ℕ) → list_all test (blocks_touched picks k) ≡ false → list_all test (blocks_touched picks (k + m)) ≡ false
+  still_bad k zero h = let e : k ≡ k + 0 = omega arith in ap (λ j. list_all test (blocks_touched picks j)) (sym e) ∙ h
   still_bad k (suc m) h =
       let e : k + m + 1 ≡ k + suc m = omega arith in
       let last = block_of_rows (list_any (lies_in (k + m)) picks) (k + m) in
-      ap (λ j. list_all test (touched picks j)) (sym e) ∙ ap (list_all test) (touched_more picks (k + m)) ∙ list_all-append test (touched picks (k + m)) last
+      ap (λ j. list_all test (blocks_touched picks j)) (sym e) ∙ ap (list_all test) (touched_more picks (k + m)) ∙ list_all-append test (blocks_touched picks (k + m)) last
       ∙ ap (λ b. b && list_all test last) (still_bad k m h)
 
   ends_badly : (front : List ℕ) (block : ℕ) → test block ≡ false → list_all test (front ++ block ∷ []) ≡ false
@@ -144,23 +144,23 @@ module _ (width : ℕ) (picks : List (Option ℕ)) (blocks : List (List ℕ)) wh
       never true = refl
       never false = refl
 
-  pub found_bad : (n block : ℕ) (front : List ℕ) → block ≤ n → touched picks block ≡ front ++ block ∷ [] → IsNoSpelling width (block_at blocks block) → list_all test (touched picks n) ≡ false
+  pub found_bad : (n block : ℕ) (front : List ℕ) → block ≤ n → blocks_touched picks block ≡ front ++ block ∷ [] → IsNoSpelling width (block_at blocks block) → list_all test (blocks_touched picks n) ≡ false
   found_bad n block front h last none =
       let e : block + (n - block) ≡ n = omega arith in
-      ap (λ j. list_all test (touched picks j)) (sym e)
+      ap (λ j. list_all test (blocks_touched picks j)) (sym e)
       ∙ still_bad block (n - block) (ap (list_all test) last ∙ ends_badly front block (is_unspelled width (block_at blocks block) none))
 
-pub all_spelled : (width : ℕ) (picks : BoundedPicks) (blocks : List (List ℕ)) → width ≤ 8 → AreSpellings width picks blocks → are_spellings width blocks (touched picks.picks (blocks_for picks.bound)) ≡ true
+pub all_spelled : (width : ℕ) (picks : BoundedPicks) (blocks : List (List ℕ)) → width ≤ 8 → AreSpellings width picks blocks → are_spellings width blocks (blocks_touched picks.picks (blocks_for picks.bound)) ≡ true
 all_spelled width picks blocks narrow h =
     first_blocks width picks.picks blocks (blocks_for picks.bound) (λ k l any. is_spelled width narrow (block_at blocks (k + 1)) (h k l any))
 
 -- no more blocks are touched than there are
-pub length-touched : (picks : List (Option ℕ)) (n : ℕ) → length (touched picks n) ≤ n
+pub length-touched : (picks : List (Option ℕ)) (n : ℕ) → length (blocks_touched picks n) ≤ n
 length-touched picks zero = omega (arith, ap length (touched_none picks))
 length-touched picks (suc n) =
     let e : n + 1 ≡ suc n = omega arith in
     let last = block_of_rows (list_any (lies_in n) picks) n in
-    omega (arith, length-touched picks n, ap (λ m. length (touched picks m)) e, ap length (touched_more picks n), length-append (touched picks n) last, at_most_one (list_any (lies_in n) picks) n)
+    omega (arith, length-touched picks n, ap (λ m. length (blocks_touched picks m)) e, ap length (touched_more picks n), length-append (blocks_touched picks n) last, at_most_one (list_any (lies_in n) picks) n)
   where
     at_most_one : (picked : Bool) (k : ℕ) → length (block_of_rows picked k) ≤ 1
     at_most_one true k = omega arith

@@ -10,33 +10,33 @@ use Rattle.vx_take.specs.Picks.{BoundedPicks}
 use Rattle.vx_file.specs.Blocks.{block_at}
 use Rattle.vx_file.specs.Errors.{MatchReading}
 use Rattle.vx_file.specs.Reading.{AreTold, IsNoSpelling, NamesTouched, ReadLast, ReadUpTo}
-use Rattle.vx_file.specs.Touched.{AreMarked, block_of_rows, blocks_for, lies_in, touched}
+use Rattle.vx_file.specs.Touched.{AreMarked, block_of_rows, blocks_for, lies_in, blocks_touched}
 use Rattle.vx_file.specs.declared.error.FileError.{FileError}
 use Rattle.vx_file.specs.declared.error.FileError.TheVariants.{ReadFault, BadHeader, Damaged, Broken, NoMemory}
 use Rattle.vx_file.proofs.TouchedLists.{touched_longer, touched_more, touched_none}
 
-pub told_nothing : (picks : List (Option ℕ)) (r : Option (List ℕ)) → r ≡ then_told r (touched picks 0)
+pub told_nothing : (picks : List (Option ℕ)) (r : Option (List ℕ)) → r ≡ then_told r (blocks_touched picks 0)
 told_nothing picks r = told_none r ∙ ap (then_told r) (sym (touched_none picks))
 
 pub read_nothing : (picks : List (Option ℕ)) (r : Option (List ℕ)) (n : ℕ) → ReadUpTo picks r r n
 read_nothing picks r n = record { count = 0; within = omega arith; told = told_nothing picks r }
 
-pub told_step : (picks : List (Option ℕ)) (k : ℕ) (picked : Bool) (before now after : Option (List ℕ)) → picked ≡ list_any (lies_in k) picks → now ≡ then_told before (touched picks k) → after ≡ then_told now (block_of_rows picked k) → after ≡ then_told before (touched picks (k + 1))
+pub told_step : (picks : List (Option ℕ)) (k : ℕ) (picked : Bool) (before now after : Option (List ℕ)) → picked ≡ list_any (lies_in k) picks → now ≡ then_told before (blocks_touched picks k) → after ≡ then_told now (block_of_rows picked k) → after ≡ then_told before (blocks_touched picks (k + 1))
 told_step picks k picked before now after here e f =
-    f ∙ ap (λ r. then_told r (block_of_rows picked k)) e ∙ told_more before (touched picks k) (block_of_rows picked k)
-    ∙ ap (then_told before) (ap (λ b. touched picks k ++ block_of_rows b k) here ∙ sym (touched_more picks k))
+    f ∙ ap (λ r. then_told r (block_of_rows picked k)) e ∙ told_more before (blocks_touched picks k) (block_of_rows picked k)
+    ∙ ap (then_told before) (ap (λ b. blocks_touched picks k ++ block_of_rows b k) here ∙ sym (touched_more picks k))
 
 -- how many blocks are touched with one more
-pub count_step : (picks : List (Option ℕ)) (k : ℕ) (picked : Bool) → picked ≡ list_any (lies_in k) picks → length (touched picks (k + 1)) ≡ length (touched picks k) + length (block_of_rows picked k)
+pub count_step : (picks : List (Option ℕ)) (k : ℕ) (picked : Bool) → picked ≡ list_any (lies_in k) picks → length (blocks_touched picks (k + 1)) ≡ length (blocks_touched picks k) + length (block_of_rows picked k)
 count_step picks k picked here =
-    ap length (touched_more picks k ∙ ap (λ b. touched picks k ++ block_of_rows b k) (sym here)) ∙ length-append (touched picks k) (block_of_rows picked k)
+    ap length (touched_more picks k ∙ ap (λ b. blocks_touched picks k ++ block_of_rows b k) (sym here)) ∙ length-append (blocks_touched picks k) (block_of_rows picked k)
 
 -- what the flag of block k + 1 says
 pub record IsFlag (flags : List Bool) (picks : BoundedPicks) (k : ℕ) : Type 0 where
   pub long : length flags ≡ blocks_for picks.bound
   pub here : get_or flags k false ≡ list_any (lies_in k) picks.picks
-  pub count : length (touched picks.picks (k + 1)) ≡ length (touched picks.picks k) + length (block_of_rows (get_or flags k false) k)
-  pub most : length (touched picks.picks (k + 1)) ≤ length (touched picks.picks (blocks_for picks.bound))
+  pub count : length (blocks_touched picks.picks (k + 1)) ≡ length (blocks_touched picks.picks k) + length (block_of_rows (get_or flags k false) k)
+  pub most : length (blocks_touched picks.picks (k + 1)) ≤ length (blocks_touched picks.picks (blocks_for picks.bound))
 
 pub flag_of : (flags marks : List Bool) (picks : BoundedPicks) (k : ℕ) → flags ≡ marks → AreMarked marks picks.picks (blocks_for picks.bound) → k < length flags → IsFlag flags picks k
 flag_of flags marks picks k same marked h =
@@ -49,9 +49,9 @@ flag_of flags marks picks k same marked h =
       most = touched_longer picks.picks (k + 1) (blocks_for picks.bound) (omega (arith, many));
     }
 
-pub told_after : (flags : List Bool) (picks : BoundedPicks) (k spare left : ℕ) (before now after : Option (List ℕ)) → IsFlag flags picks k → spare ≤ left + length (touched picks.picks k)
-    → AreTold spare picks (now ≡ then_told before (touched picks.picks k)) → (length (block_of_rows (get_or flags k false) k) ≤ left → after ≡ then_told now (block_of_rows (get_or flags k false) k))
-    → AreTold spare picks (after ≡ then_told before (touched picks.picks (k + 1)))
+pub told_after : (flags : List Bool) (picks : BoundedPicks) (k spare left : ℕ) (before now after : Option (List ℕ)) → IsFlag flags picks k → spare ≤ left + length (blocks_touched picks.picks k)
+    → AreTold spare picks (now ≡ then_told before (blocks_touched picks.picks k)) → (length (block_of_rows (get_or flags k false) k) ≤ left → after ≡ then_told now (block_of_rows (get_or flags k false) k))
+    → AreTold spare picks (after ≡ then_told before (blocks_touched picks.picks (k + 1)))
 told_after flags picks k spare left before now after flag cost told step = λ t.
     told_step picks.picks k (get_or flags k false) before now after flag.here (told t) (step (omega (arith, t, flag.most, flag.count, cost)))
 
@@ -67,7 +67,7 @@ names_touched k picks F N D NoMemory h any m = tt
 module _ (width k : ℕ) (picks : BoundedPicks) (spare f0 f1 f2 : ℕ) (before after : Option (List ℕ)) (blocks now : Option (List (List ℕ))) where
   -- what an error at block k + 1 says
   pub raised : (e : FileError) → f0 ≤ f1 → k < blocks_for picks.bound → list_any (lies_in k) picks.picks ≡ true → now ≡ blocks
-      → AreTold spare picks (after ≡ then_told before (touched picks.picks (k + 1)))
+      → AreTold spare picks (after ≡ then_told before (blocks_touched picks.picks (k + 1)))
       → MatchReading e (Rose f1 f2) (λ block. (block ≡ k + 1) × IfSome now (λ all. IsNoSpelling width (block_at all block))) (λ _ _. ⊥) (Unit {0})
       → MatchReading e (Rose f0 f2 × AreTold spare picks (ReadUpTo picks.picks before after (blocks_for picks.bound)))
       (λ block. IfSome blocks (λ all. IsNoSpelling width (block_at all block)) × AreTold spare picks (ReadLast picks.picks before after (blocks_for picks.bound) block))
@@ -78,9 +78,9 @@ module _ (width k : ℕ) (picks : BoundedPicks) (spare f0 f1 f2 : ℕ) (before a
     subst (λ (o : Option (List (List ℕ))). IfSome o (λ all. IsNoSpelling width (block_at all block))) same m.1,
     λ t. record {
       within = omega (arith, h, m.0);
-      front = touched picks.picks k;
-      last = ap (touched picks.picks) m.0 ∙ touched_more picks.picks k ∙ ap (λ b. touched picks.picks k ++ block_of_rows b k) any ∙ ap (λ n. touched picks.picks k ++ n ∷ []) (sym m.0);
-      told = told t ∙ ap (λ n. then_told before (touched picks.picks n)) (sym m.0);
+      front = blocks_touched picks.picks k;
+      last = ap (blocks_touched picks.picks) m.0 ∙ touched_more picks.picks k ∙ ap (λ b. blocks_touched picks.picks k ++ block_of_rows b k) any ∙ ap (λ n. blocks_touched picks.picks k ++ n ∷ []) (sym m.0);
+      told = told t ∙ ap (λ n. then_told before (blocks_touched picks.picks n)) (sym m.0);
     },
   )
   raised (Broken step cause) a h any same told m = m

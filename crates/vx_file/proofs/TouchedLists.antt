@@ -7,29 +7,29 @@ use Rattle.std.proofs.lemmas.List.{drop-append-le, flat_map_more, get_or_append_
 use Rattle.std.proofs.lemmas.List.FromFn.{map-range_with_len_more}
 use Rattle.vx_file.specs.Blocks.{block_at}
 use Rattle.vx_file.specs.Reading.{AreHeld, HasRoom, IsHeld}
-use Rattle.vx_file.specs.Touched.{block_of_rows, lies_in, touched}
+use Rattle.vx_file.specs.Touched.{block_of_rows, lies_in, blocks_touched}
 
-pub touched_none : (picks : List (Option ℕ)) → touched picks 0 ≡ []
-unfolding touched
+pub touched_none : (picks : List (Option ℕ)) → blocks_touched picks 0 ≡ []
+unfolding blocks_touched
 touched_none picks = refl
 
-pub touched_more : (picks : List (Option ℕ)) (k : ℕ) → touched picks (k + 1) ≡ touched picks k ++ block_of_rows (list_any (lies_in k) picks) k
-unfolding touched
+pub touched_more : (picks : List (Option ℕ)) (k : ℕ) → blocks_touched picks (k + 1) ≡ blocks_touched picks k ++ block_of_rows (list_any (lies_in k) picks) k
+unfolding blocks_touched
 touched_more picks k =
     let f : ℕ → List ℕ = λ j. block_of_rows (list_any (lies_in j) picks) j in
     let more = map-range_with_len_more (λ j. j) 0 k k (omega arith) in
     let range : range_with_len 0 (k + 1) ≡ range_with_len 0 k ++ k ∷ [] = sym (map-id (range_with_len 0 (k + 1))) ∙ more ∙ ap (λ l. l ++ k ∷ []) (map-id (range_with_len 0 k)) in
     ap (flat_map f) range ∙ sym (flat_map_more f [] (range_with_len 0 k) k)
 
-longer : (picks : List (Option ℕ)) (k m : ℕ) → length (touched picks k) ≤ length (touched picks (k + m))
-longer picks k zero = let e : k ≡ k + 0 = omega arith in omega (arith, ap (λ j. length (touched picks j)) e)
+longer : (picks : List (Option ℕ)) (k m : ℕ) → length (blocks_touched picks k) ≤ length (blocks_touched picks (k + m))
+longer picks k zero = let e : k ≡ k + 0 = omega arith in omega (arith, ap (λ j. length (blocks_touched picks j)) e)
 longer picks k (suc m) =
     let e : k + m + 1 ≡ k + suc m = omega arith in
     let last = block_of_rows (list_any (lies_in (k + m)) picks) (k + m) in
-    omega (arith, longer picks k m, ap length (touched_more picks (k + m)), length-append (touched picks (k + m)) last, ap (λ j. length (touched picks j)) e)
+    omega (arith, longer picks k m, ap length (touched_more picks (k + m)), length-append (blocks_touched picks (k + m)) last, ap (λ j. length (blocks_touched picks j)) e)
 
-pub touched_longer : (picks : List (Option ℕ)) (k n : ℕ) → k ≤ n → length (touched picks k) ≤ length (touched picks n)
-touched_longer picks k n h = let e : k + (n - k) ≡ n = omega arith in subst (λ (j : ℕ). length (touched picks k) ≤ length (touched picks j)) e (longer picks k (n - k))
+pub touched_longer : (picks : List (Option ℕ)) (k n : ℕ) → k ≤ n → length (blocks_touched picks k) ≤ length (blocks_touched picks n)
+touched_longer picks k n h = let e : k + (n - k) ≡ n = omega arith in subst (λ (j : ℕ). length (blocks_touched picks k) ≤ length (blocks_touched picks j)) e (longer picks k (n - k))
 
 -- ---- what is held
 

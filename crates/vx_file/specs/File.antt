@@ -11,15 +11,16 @@ use Rattle.vx_file.specs.Shape.{ShapeValue, header}
 use Rattle.vx_file.specs.Touched.{blocks_for}
 
 -- at most 1024 numbers, and behind them the last one again, up to 1024
-abbrev pub filled : List ℕ → List ℕ
-filled numbers =
+abbrev pub whole_block : List ℕ → List ℕ
+whole_block numbers =
     numbers ++ replicate (1024 - length numbers) (slice_index numbers (length numbers - 1))
 
 -- the blocks of a file: the header, and the spelling of each 1024 rows
 abbrev pub file_of : ShapeValue → List ℕ → List (List ℕ)
 file_of s values =
     header s
-    ∷ map (λ k. spell (filled (chunk_at values k))) (range_with_len 0 (blocks_for (length values)))
+    ∷ map (λ k. spell (whole_block (chunk_at values k)))
+      (range_with_len 0 (blocks_for (length values)))
 
 -- the number of row p, which is one of those that its block states
 abbrev pub number_at : List (List ℕ) → ℕ → ℕ

@@ -9,22 +9,22 @@ use Rattle.vx_packed.specs.Parts.{record_of}
 use Rattle.vx_file.specs.Blocks.{block_at}
 use Rattle.vx_file.specs.Errors.{MatchReading}
 use Rattle.vx_file.specs.declared.error.FileError.{FileError}
-use Rattle.vx_file.specs.Touched.{blocks_for, lies_in, touched}
+use Rattle.vx_file.specs.Touched.{blocks_for, lies_in, blocks_touched}
 
 -- the reads grew by the touched blocks of the first `1024 * n` rows, for some n
 pub record ReadUpTo (picks : List (Option ℕ)) (before after : Option (List ℕ)) (most : ℕ)
     : Type 0 where
   pub count : ℕ
   pub within : count ≤ most
-  pub told : after ≡ then_told before (touched picks count)
+  pub told : after ≡ then_told before (blocks_touched picks count)
 
 -- the reads grew by the touched blocks up to this one of them, which is no later than `most`
 pub record ReadLast (picks : List (Option ℕ)) (before after : Option (List ℕ)) (most block : ℕ)
     : Type 0 where
   pub within : block ≤ most
   pub front : List ℕ
-  pub last : touched picks block ≡ front ++ block ∷ []
-  pub told : after ≡ then_told before (touched picks block)
+  pub last : blocks_touched picks block ≡ front ++ block ∷ []
+  pub told : after ≡ then_told before (blocks_touched picks block)
 
 -- 1024 of the numbers are those that a spelling states
 pub record IsHeld (width : ℕ) (numbers : List ℕ) (start : ℕ) (bytes : List ℕ) : Type 0 where
@@ -54,7 +54,7 @@ IsNoSpelling width bytes = IsSpelling width bytes → ⊥
 
 -- what holds where as many reads are told as there are touched blocks
 abbrev pub AreTold : ℕ → BoundedPicks → Type 0 → Type 0
-AreTold spare picks P = length (touched picks.picks (blocks_for picks.bound)) ≤ spare → P
+AreTold spare picks P = length (blocks_touched picks.picks (blocks_for picks.bound)) ≤ spare → P
 
 -- the number of a pick is held
 abbrev pub IsThere : List ℕ → List ℕ → Option ℕ → Type 0
@@ -86,7 +86,8 @@ AreSpellings width picks blocks =
 
 -- the reads grew by all touched blocks
 abbrev pub AllRead : BoundedPicks → Option (List ℕ) → Option (List ℕ) → Type 0
-AllRead picks before after = after ≡ then_told before (touched picks.picks (blocks_for picks.bound))
+AllRead picks before after =
+    after ≡ then_told before (blocks_touched picks.picks (blocks_for picks.bound))
 
 -- what an error of reading says, where as many reads are told as there are touched blocks: a read
 -- failed; the last block that was read is no spelling; or memory was wanting

@@ -20,12 +20,13 @@ abbrev pub block_of_rows : Bool → ℕ → List ℕ
 block_of_rows picked k = if picked then (k + 1) ∷ [] else []
 
 -- the blocks of the first `1024 * n` rows that hold a picked row, each once, ascending
-unfoldable pub touched : List (Option ℕ) → ℕ → List ℕ
-touched picks n = flat_map (λ k. block_of_rows (list_any (lies_in k) picks) k) (range_with_len 0 n)
+unfoldable pub blocks_touched : List (Option ℕ) → ℕ → List ℕ
+blocks_touched picks n =
+    flat_map (λ k. block_of_rows (list_any (lies_in k) picks) k) (range_with_len 0 n)
 
 -- how many blocks picks touch
 abbrev pub touched_count : BoundedPicks → ℕ
-touched_count picks = length (touched picks.picks (blocks_for picks.bound))
+touched_count picks = length (blocks_touched picks.picks (blocks_for picks.bound))
 
 -- the composed picks; none where a step is broken
 abbrev pub picks_by : Walk → List (Option ℕ)
@@ -33,13 +34,13 @@ picks_by (walk_fault k cause) = []
 picks_by (walk_picks picks) = picks
 
 -- those of steps over so many rows
-abbrev pub composed : ℕ → List StepValue → BoundedPicks
-composed len steps = record { picks = picks_by (walk len steps); bound = len }
+abbrev pub picks_of_steps : ℕ → List StepValue → BoundedPicks
+picks_of_steps len steps = record { picks = picks_by (walk len steps); bound = len }
 
 -- the marks of blocks, and that of a picked row turned on
-abbrev pub marked : List Bool → Option ℕ → List Bool
-marked marks None = marks
-marked marks (Some p) = slice_set marks (p / 1024) true
+abbrev pub with_mark : List Bool → Option ℕ → List Bool
+with_mark marks None = marks
+with_mark marks (Some p) = slice_set marks (p / 1024) true
 
 -- there are n marks, and each says whether a row of its block is picked
 pub record AreMarked (marks : List Bool) (picks : List (Option ℕ)) (n : ℕ) : Type 0 where

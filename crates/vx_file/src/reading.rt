@@ -7,7 +7,7 @@ ghost use Rattle.vx_packed.specs.Faults.{is_width};
 ghost use Rattle.vx_file.specs.Blocks.{block_at};
 ghost use Rattle.vx_file.specs.Errors.{MatchReading};
 ghost use Rattle.vx_file.specs.Reading.{AreHeld, AreTold, HasRoom, IsHeld, IsNoSpelling, NamesTouched, ReadLast, ReadUpTo};
-ghost use Rattle.vx_file.specs.Touched.{block_of_rows, blocks_for, touched};
+ghost use Rattle.vx_file.specs.Touched.{block_of_rows, blocks_for, blocks_touched};
 
 use crate::block_reader::{BLOCK_LEN, BlockReader};
 use crate::error::FileError;
@@ -77,7 +77,8 @@ pub(crate) fn read_touched<R: BlockReader>(
         (AreHeld width h.numbers.items h.starts.items picks.now.picks
         (blocks_for picks.now.bound))) }
     ensures told { OnOk result (AreTold (R.spare reader.old) picks.now (R.reads reader.new
-        ≡ then_told (R.reads reader.old) (touched picks.now.picks (blocks_for picks.now.bound)))) }
+        ≡ then_told (R.reads reader.old)
+        (blocks_touched picks.now.picks (blocks_for picks.now.bound)))) }
     ensures error { IfErr result (λ e. MatchReading e
         (Rose (R.faults reader.old) (R.faults reader.new)
         × AreTold (R.spare reader.old) picks.now (ReadUpTo picks.now.picks
@@ -91,7 +92,7 @@ pub(crate) fn read_touched<R: BlockReader>(
     ensures touched { IfErr result (NamesTouched picks.now) }
     ensures same { R.blocks reader.new ≡ R.blocks reader.old }
     ensures cost { R.spare reader.old ≤ R.spare reader.new
-        + length (touched picks.now.picks (blocks_for picks.now.bound)) }
+        + length (blocks_touched picks.now.picks (blocks_for picks.now.bound)) }
     ensures never_falls { R.faults reader.old ≤ R.faults reader.new }
 {
     let marks = touched_blocks(alloc, picks)?;

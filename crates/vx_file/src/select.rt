@@ -16,7 +16,7 @@ ghost use Rattle.vx_file.specs.Errors.{IfUnbroken, IsBrokenBy};
 ghost use Rattle.vx_file.specs.File.{file_rows};
 ghost use Rattle.vx_file.specs.Reading.{AllRead, AreSpellings, AreTold, IsReadError, NamesTouched};
 ghost use Rattle.vx_file.specs.Shape.{row_type};
-ghost use Rattle.vx_file.specs.Touched.{composed, touched_count};
+ghost use Rattle.vx_file.specs.Touched.{picks_of_steps, touched_count};
 
 use crate::block_reader::BlockReader;
 use crate::columns::{column_of, taken_records};
@@ -98,24 +98,25 @@ pub fn select_file<R: BlockReader>(
         (λ _. IsUnbroken (walk shape.now.len (map step_value steps.now)))
         (IsBrokenBy (walk shape.now.len (map step_value steps.now))) }
     ensures spelled { OnOk result (IfSome (R.blocks reader.old) (AreSpellings
-        (width shape.now.ptype) (composed shape.now.len (map step_value steps.now)))) }
+        (width shape.now.ptype) (picks_of_steps shape.now.len (map step_value steps.now)))) }
 
     // The reads, where as many are told as there are touched blocks.
     ensures told { OnOk result (AreTold (R.spare reader.old)
-        (composed shape.now.len (map step_value steps.now))
-        (AllRead (composed shape.now.len (map step_value steps.now))
+        (picks_of_steps shape.now.len (map step_value steps.now))
+        (AllRead (picks_of_steps shape.now.len (map step_value steps.now))
         (R.reads reader.old) (R.reads reader.new))) }
     ensures error { IfErr result (IfUnbroken (reader.new ≡ reader.old)
-        (IsReadError (width shape.now.ptype) (composed shape.now.len (map step_value steps.now))
+        (IsReadError (width shape.now.ptype)
+        (picks_of_steps shape.now.len (map step_value steps.now))
         (R.spare reader.old) (Rose (R.faults reader.old) (R.faults reader.new))
         (R.reads reader.old) (R.reads reader.new) (R.blocks reader.old))) }
 
     // A block that is told as damaged holds a picked row, whatever is told of the reads.
     ensures touched { IfErr result (NamesTouched
-        (composed shape.now.len (map step_value steps.now))) }
+        (picks_of_steps shape.now.len (map step_value steps.now))) }
     ensures same { R.blocks reader.new ≡ R.blocks reader.old }
     ensures cost { R.spare reader.old ≤ R.spare reader.new
-        + touched_count (composed shape.now.len (map step_value steps.now)) }
+        + touched_count (picks_of_steps shape.now.len (map step_value steps.now)) }
     ensures never_falls { R.faults reader.old ≤ R.faults reader.new }
 {
     let picks = match compose(alloc, shape.len(), steps) {

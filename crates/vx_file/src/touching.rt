@@ -1,6 +1,6 @@
 //! Which blocks hold picked rows.
 ghost use Rattle.std.specs.Prelude.{◌≡◌, ◌/◌, ◌<◌, ◌≤◌, false, true, IfOk, IfSome, None, length, vec_len, slice_index_or, slice_set, replicate};
-ghost use Rattle.vx_file.specs.Touched.{AreMarked, blocks_for, marked};
+ghost use Rattle.vx_file.specs.Touched.{AreMarked, blocks_for, with_mark};
 
 use std::alloc::Global;
 use vx_bits::NoMemory;
@@ -34,7 +34,7 @@ fn mark_all(marks: &mut [bool], picks: &Picks)
 #[inline(always)]
 fn mark(marks: &mut [bool], pick: Option<usize>)
     requires { IfSome pick (λ p. p / 1024 < length marks.old) }
-    ensures { marks.new ≡ marked marks.old pick }
+    ensures { marks.new ≡ with_mark marks.old pick }
 {
     if let Some(p) = pick {
         marks[p / 1024] = true;

@@ -4,7 +4,7 @@ ghost use Rattle.std.specs.List.{All};
 ghost use Rattle.vx_types.specs.PType.{width};
 ghost use Rattle.vx_packed.specs.Chunk.{IsChunk, spell};
 ghost use Rattle.vx_packed.specs.Faults.{is_width};
-ghost use Rattle.vx_file.specs.File.{file_of, filled};
+ghost use Rattle.vx_file.specs.File.{file_of, whole_block};
 ghost use Rattle.vx_file.specs.Shape.{header, is_unsigned, type_byte};
 
 use crate::blocks::Blocks;
@@ -79,7 +79,7 @@ fn packed_block(alloc: Global, numbers: &[u64], width: usize) -> Result<Vec<u8>,
     requires some { 0 < length numbers.now }
     requires few { length numbers.now ≤ 1024 }
     requires below { All (λ n. n < 2 ^ (8 * width)) numbers.now }
-    ensures bytes { IfOk result (λ v. v.items ≡ spell (filled numbers.now)) }
+    ensures bytes { IfOk result (λ v. v.items ≡ spell (whole_block numbers.now)) }
     ensures short { IfOk result (λ v. length v.items ≤ 8201) }
 {
     let chunk = filled_up(alloc, numbers)?;
@@ -90,7 +90,7 @@ fn packed_block(alloc: Global, numbers: &[u64], width: usize) -> Result<Vec<u8>,
 fn filled_up(alloc: Global, numbers: &[u64]) -> Result<Vec<u64>, NoMemory>
     requires some { 0 < length numbers.now }
     requires few { length numbers.now ≤ 1024 }
-    ensures { IfOk result (λ v. v.items ≡ filled numbers.now) }
+    ensures { IfOk result (λ v. v.items ≡ whole_block numbers.now) }
 {
     let mut chunk = Vec::with_capacity(alloc, 1024)?;
     chunk.extend_from_slice(numbers)?;

@@ -14,7 +14,7 @@ use Rattle.vx_join.specs.Chains.{keys_match}
 use Rattle.vx_join.specs.Pairs.{pairs}
 use Rattle.vx_types.specs.RowValue.{RowValue, bytes}
 use Rattle.vx_join.specs.Keys.{rows_match, rows_from}
-use Rattle.vx_join.specs.Cells.{value_of, key_cells, key_parts, prefixed, row_prefix, value_prefix, pieces}
+use Rattle.vx_join.specs.Cells.{value_of, key_cells, key_parts, with_prefix, row_prefix, value_prefix, pieces}
 use Rattle.vx_join.proofs.CellRows.{cell_cmp, cells_match, pairs_alike, pieces_rows}
 
 -- cells that compare as equal have the same value
@@ -68,7 +68,7 @@ parts_match None y = refl
 parts_match (Some k) None = refl
 parts_match (Some k) (Some q) = refl
 
-prefixed_match : (x y : Option (List KeyCell)) → keys_match parts_same (prefixed x) (prefixed y) ≡ keys_match (eq_by_cmp (slice_cmp cell_cmp)) x y
+prefixed_match : (x y : Option (List KeyCell)) → keys_match parts_same (with_prefix x) (with_prefix y) ≡ keys_match (eq_by_cmp (slice_cmp cell_cmp)) x y
 prefixed_match None y = refl
 prefixed_match (Some xs) None = refl
 prefixed_match (Some xs) (Some ys) =
@@ -76,13 +76,13 @@ prefixed_match (Some xs) (Some ys) =
     ∙ and_so (is_eq (nat_cmp (row_prefix xs) (row_prefix ys))) (is_eq (slice_cmp cell_cmp xs ys)) (λ h. nat_same (row_prefix xs) (row_prefix ys) (same_prefix xs ys h))
 
 abbrev parts_of : List KeyCell → Option (ℕ × List KeyCell)
-parts_of row = prefixed (key_cells row)
+parts_of row = with_prefix (key_cells row)
 
 -- the cells of a table, one row after another, and the keys of its rows
 pub record AreKeys (columns : List (List RowValue)) (width n : ℕ) (cells : List KeyCell) (keys : List (Option RowKey)) : Type 0 where
   pub long : width ≡ length columns
   pub values : map value_of cells ≡ flat_map (λ row. row) (rows_from columns 0 n)
-  pub parts : map key_parts keys ≡ map (λ row. prefixed (key_cells row)) (pieces width n cells)
+  pub parts : map key_parts keys ≡ map (λ row. with_prefix (key_cells row)) (pieces width n cells)
 
 pub pairs_of_prefixed : (left right : List (List RowValue)) (left_width right_width n m : ℕ) (left_cells right_cells : List KeyCell) (left_keys right_keys : List (Option RowKey))
     → AreKeys left left_width n left_cells left_keys → AreKeys right right_width m right_cells right_keys

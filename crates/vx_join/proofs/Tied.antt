@@ -15,7 +15,7 @@ use Rattle.vx_model.proofs.Nullabilities.{also_nullable-none}
 use Rattle.vx_model.specs.Column.{Column}
 use Rattle.vx_positions.specs.Positions.{AllThere}
 use Rattle.vx_table.specs.Table.{AreLong, TableValue}
-use Rattle.vx_table.specs.Taken.{IsTaken, beside, chosen}
+use Rattle.vx_table.specs.Taken.{IsTaken, beside, items_by_number}
 use Rattle.vx_table.proofs.Lists.{All-chosen, All-rest, filter_map-more}
 use Rattle.vx_table.proofs.Tables.{retyped}
 use Rattle.vx_join.specs.Cells.{rows_of}
@@ -62,11 +62,11 @@ right_within left right keys h = All-map (λ i. i < length right.columns) (λ k.
 -- ---- their columns
 
 -- what is read of one chosen column more
-pub chosen_more : {B : Type 0} (f : Column → B) (columns : List Column) (numbers : List ℕ) (k : ℕ) (keys : List Column) (x a : Column) → map f keys ≡ map f (chosen (take k numbers) columns) → k < length numbers
-    → slice_get columns (slice_index numbers k) ≡ Some x → f a ≡ f x → map f (keys ++ a ∷ []) ≡ map f (chosen (take (k + 1) numbers) columns)
+pub chosen_more : {B : Type 0} (f : Column → B) (columns : List Column) (numbers : List ℕ) (k : ℕ) (keys : List Column) (x a : Column) → map f keys ≡ map f (items_by_number (take k numbers) columns) → k < length numbers
+    → slice_get columns (slice_index numbers k) ≡ Some x → f a ≡ f x → map f (keys ++ a ∷ []) ≡ map f (items_by_number (take (k + 1) numbers) columns)
 chosen_more f columns numbers k keys x a h within got same =
-    map-append f keys (a ∷ []) ∙ ap₂ (λ l y. l ++ y ∷ []) h same ∙ sym (map-append f (chosen (take k numbers) columns) (x ∷ []))
-    ∙ ap (map f) (sym (ap (λ ns. chosen ns columns) (take_more numbers k 0 within) ∙ filter_map-more (slice_get columns) (take k numbers) (slice_index numbers k) x got))
+    map-append f keys (a ∷ []) ∙ ap₂ (λ l y. l ++ y ∷ []) h same ∙ sym (map-append f (items_by_number (take k numbers) columns) (x ∷ []))
+    ∙ ap (map f) (sym (ap (λ ns. items_by_number ns columns) (take_more numbers k 0 within) ∙ filter_map-more (slice_get columns) (take k numbers) (slice_index numbers k) x got))
 
 -- one column of a list of one, which are so long
 pub one_long : (n : ℕ) (xs : List Column) (x : Column) → xs ≡ x ∷ [] → AreLong n xs → length x.rows ≡ n
@@ -77,10 +77,10 @@ alike_more None p ls rs h rest = absurd (cc)
 alike_more (Some a) None ls rs h rest = absurd (cc)
 alike_more (Some a) (Some b) ls rs h rest = (h, rest)
 
-pub are_alike : (left right : TableValue) (keys : List (ℕ × ℕ)) → AreOfKeyTypes left right keys → AreAlike (types_of (chosen (left_keys keys) left.columns)) (types_of (chosen (right_keys keys) right.columns))
+pub are_alike : (left right : TableValue) (keys : List (ℕ × ℕ)) → AreOfKeyTypes left right keys → AreAlike (types_of (items_by_number (left_keys keys) left.columns)) (types_of (items_by_number (right_keys keys) right.columns))
 are_alike left right [] h = tt
 are_alike left right (k ∷ keys) h =
-    alike_more (slice_get left.columns k.0) (slice_get right.columns k.1) (chosen (left_keys keys) left.columns) (chosen (right_keys keys) right.columns)
+    alike_more (slice_get left.columns k.0) (slice_get right.columns k.1) (items_by_number (left_keys keys) left.columns) (items_by_number (right_keys keys) right.columns)
     (h zero k (omega arith)) (are_alike left right keys (All-rest (λ p. has_key_types left right p ≡ true) k keys h))
 
 long_rows : (n : ℕ) (cs ds : List Column) → rows_of cs ≡ rows_of ds → AreLong n ds → AreLong n cs
@@ -91,9 +91,9 @@ long_rows n (c ∷ cs) (d ∷ ds) e h =
     let rest : rows_of cs ≡ rows_of ds = cc in
     All-cons (λ (x : Column). length x.rows ≡ n) c cs (ap length here ∙ h zero d (omega arith)) (long_rows n cs ds rest (All-rest (λ (x : Column). length x.rows ≡ n) d ds h))
 
-pub long_keys : (t : TableValue) (numbers : List ℕ) (columns : List Column) → AreLong t.len t.columns → rows_of columns ≡ rows_of (chosen numbers t.columns) → AreLong t.len columns
+pub long_keys : (t : TableValue) (numbers : List ℕ) (columns : List Column) → AreLong t.len t.columns → rows_of columns ≡ rows_of (items_by_number numbers t.columns) → AreLong t.len columns
 long_keys t numbers columns h e =
-    long_rows t.len columns (chosen numbers t.columns) e (All-chosen (λ (c : Column). length c.rows ≡ t.len) t.columns numbers h)
+    long_rows t.len columns (items_by_number numbers t.columns) e (All-chosen (λ (c : Column). length c.rows ≡ t.len) t.columns numbers h)
 
 -- ---- the positions are below the lengths
 

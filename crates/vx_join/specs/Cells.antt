@@ -52,6 +52,6 @@ abbrev pub key_parts : Option RowKey → Option (ℕ × List KeyCell)
 key_parts None = None
 key_parts (Some k) = Some (k.prefix, k.cells.now)
 
-abbrev pub prefixed : Option (List KeyCell) → Option (ℕ × List KeyCell)
-prefixed None = None
-prefixed (Some row) = Some (row_prefix row, row)
+abbrev pub with_prefix : Option (List KeyCell) → Option (ℕ × List KeyCell)
+with_prefix None = None
+with_prefix (Some row) = Some (row_prefix row, row)

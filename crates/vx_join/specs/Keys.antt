@@ -5,7 +5,7 @@ use Rattle.std.specs.List.{All}
 use Rattle.vx_types.specs.RowValue.{RowValue, null, bit, bytes}
 use Rattle.vx_model.specs.Column.{Column}
 use Rattle.vx_table.specs.Table.{TableValue}
-use Rattle.vx_table.specs.Taken.{chosen}
+use Rattle.vx_table.specs.Taken.{items_by_number}
 use Rattle.vx_join.specs.Join.{has_key_types}
 use Rattle.vx_join.specs.Pairs.{pairs}
 
@@ -35,7 +35,8 @@ rows_from columns at (suc n) = row_at columns at ∷ rows_from columns (at + 1) 
 
 -- the rows of the key columns of a table
 abbrev pub key_rows : TableValue → List ℕ → List (List RowValue)
-key_rows t numbers = rows_from (map (λ (c : Column). c.rows) (chosen numbers t.columns)) 0 t.len
+key_rows t numbers =
+    rows_from (map (λ (c : Column). c.rows) (items_by_number numbers t.columns)) 0 t.len
 
 -- the key columns of either side
 abbrev pub left_keys : List (ℕ × ℕ) → List ℕ

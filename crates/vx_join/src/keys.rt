@@ -2,7 +2,7 @@
 ghost use Rattle.std.specs.Prelude.{◌≡◌, ◌<◌, [], ◌∷◌, IfOk, IfSome, length};
 ghost use Rattle.std.specs.List.{All};
 ghost use Rattle.vx_table.specs.Table.{AreLong};
-ghost use Rattle.vx_table.specs.Taken.{chosen};
+ghost use Rattle.vx_table.specs.Taken.{items_by_number};
 ghost use Rattle.vx_join.specs.Cells.{rows_of};
 ghost use Rattle.vx_join.specs.Keys.{rows_from, rows_match};
 ghost use Rattle.vx_join.specs.Numbers.{AreAlike, types_of};
@@ -25,9 +25,9 @@ pub(crate) fn key_columns(
 ) -> Result<Vec<Array>, NoMemory>
     requires { All (λ i. i < length columns.now) numbers.now }
     ensures rows { IfOk result
-        (λ keys. rows_of keys.items ≡ rows_of (chosen numbers.now columns.now)) }
+        (λ keys. rows_of keys.items ≡ rows_of (items_by_number numbers.now columns.now)) }
     ensures types { IfOk result
-        (λ keys. types_of keys.items ≡ types_of (chosen numbers.now columns.now)) }
+        (λ keys. types_of keys.items ≡ types_of (items_by_number numbers.now columns.now)) }
 {
     let policy = Policy::vortex();
     let mut keys = Vec::with_capacity(alloc, numbers.len())?;

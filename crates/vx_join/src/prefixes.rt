@@ -1,7 +1,7 @@
 //! Keys of several columns, or of wide ones, with a number in front that decides most comparisons.
 ghost use Rattle.std.specs.Prelude.{◌≡◌, ◌+◌, ◌*◌, IfOk, length, map};
 ghost use Rattle.vx_table.specs.Table.{AreLong};
-ghost use Rattle.vx_join.specs.Cells.{key_cells, key_parts, pieces, prefixed, row_prefix, rows_of, AreFlat};
+ghost use Rattle.vx_join.specs.Cells.{key_cells, key_parts, pieces, with_prefix, row_prefix, rows_of, AreFlat};
 ghost use Rattle.vx_join.specs.Keys.{rows_from, rows_match};
 ghost use Rattle.vx_join.specs.Pairs.{lefts, pairs, rights};
 
@@ -34,7 +34,7 @@ fn row_prefix(row: &[KeyCell]) -> u64
 
 // The key of a row: none where one of its cells is null.
 fn row_key<'a, 'b>(row: &'b [KeyCell<'a>]) -> Option<RowKey<'a, 'b>>
-    ensures { key_parts result ≡ prefixed (key_cells row.now) }
+    ensures { key_parts result ≡ with_prefix (key_cells row.now) }
 {
     if has_null(row) {
         None
@@ -53,7 +53,7 @@ fn row_keys<'a, 'b>(
 ) -> Result<Vec<Option<RowKey<'a, 'b>>>, NoMemory>
     requires { length cells.now ≡ count * width }
     ensures { IfOk result (λ keys. map key_parts keys.items
-        ≡ map (λ row. prefixed (key_cells row)) (pieces width count cells.now)) }
+        ≡ map (λ row. with_prefix (key_cells row)) (pieces width count cells.now)) }
 {
     let mut keys = Vec::with_capacity(alloc, count)?;
     let mut start = 0;

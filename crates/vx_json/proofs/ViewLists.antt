@@ -12,7 +12,7 @@ use Rattle.vx_json.specs.declared.error.DocError.{DocError}
 use Rattle.vx_json.specs.declared.error.DocError.TheVariants.{Malformed, NoMemory}
 use Rattle.vx_json.specs.Items.{each}
 use Rattle.vx_json.specs.Texts.{text_or_empty}
-use Rattle.vx_json.specs.Views.{outside, all_outside, views_from, placed}
+use Rattle.vx_json.specs.Views.{outside, all_outside, views_from, views_and_buffer}
 use Rattle.vx_json.proofs.Reading.{IsReading, reading_goes_on, reading_ends}
 use Rattle.vx_json.proofs.TextLists.{behind, grown}
 
@@ -58,16 +58,16 @@ module _ (kind : TextKind) (vs : List Value) (k : ℕ) (views : List BinaryView)
       }
 
   -- all are read
-  pub placed_ends : length vs ≤ k → length bytes ≤ 4294967295 → option_and_then placed whole ≡ Some (views, bytes)
-  unfolding placed
+  pub placed_ends : length vs ≤ k → length bytes ≤ 4294967295 → option_and_then views_and_buffer whole ≡ Some (views, bytes)
+  unfolding views_and_buffer
   placed_ends h few =
       let all = reading_ends (text_or_empty kind) vs k s.texts {whole = whole} s.reading h in
       let fits : nat_le (length (all_outside s.texts)) 4294967295 ≡ true = rw (← s.together) (grind arith) in
       rw (all, fits) (ap₂ (λ (l : List BinaryView) (m : List ℕ). Some (l, m)) (sym s.cut) (sym s.together))
 
   -- a text that stands too far back, whatever follows
-  pub placed_past : (v : Value) (new : List ℕ) → k < length vs → v ≡ get_or vs k v → with_read bytes (text_or_empty kind (view v)) ≡ Some new → 4294967295 < length bytes + length (outside (drop (length bytes) new)) → option_and_then placed whole ≡ None
-  unfolding placed
+  pub placed_past : (v : Value) (new : List ℕ) → k < length vs → v ≡ get_or vs k v → with_read bytes (text_or_empty kind (view v)) ≡ Some new → 4294967295 < length bytes + length (outside (drop (length bytes) new)) → option_and_then views_and_buffer whole ≡ None
+  unfolding views_and_buffer
   placed_past v new h is gives past =
       by (each (text_or_empty kind) (items_view (drop (k + 1) vs))) next.so_far
     where
@@ -77,7 +77,7 @@ module _ (kind : TextKind) (vs : List Value) (k : ℕ) (views : List BinaryView)
       next : IsReading (text_or_empty kind) vs (k + 1) (s.texts ++ x ∷ []) whole
       next = reading_goes_on (text_or_empty kind) vs k s.texts {whole = whole} s.reading v x h is (behind bytes (text_or_empty kind (view v)) new gives)
 
-      by : (rest : Option (List (List ℕ))) → with_read (s.texts ++ x ∷ []) rest ≡ whole → option_and_then placed whole ≡ None
+      by : (rest : Option (List (List ℕ))) → with_read (s.texts ++ x ∷ []) rest ≡ whole → option_and_then views_and_buffer whole ≡ None
       by None e = rw (← e) refl
       by (Some xs) e =
           let cut : all_outside ((s.texts ++ x ∷ []) ++ xs) ≡ (bytes ++ outside x) ++ all_outside xs = outside-append (s.texts ++ x ∷ []) xs ∙ ap (λ l. l ++ all_outside xs) (outside-one s.texts x ∙ ap (λ l. l ++ outside x) (sym s.together)) in
@@ -99,7 +99,7 @@ module _ (kind : TextKind) (vs : List Value) (k : ℕ) (views : List BinaryView)
         let next = placed_goes_on v new h is gives in
         (subst (λ (l : List ℕ). IsPlaced kind vs (k + 1) (views ++ w ∷ []) l whole) (sym all) (subst (λ (u : BinaryView). IsPlaced kind vs (k + 1) (views ++ u ∷ []) (bytes ++ outside x) whole) told.1 next), omega (arith, few, ap length all, length-append bytes (outside x)))
 
-    pub placed_no_more : (start : ℕ) (e : DocError) → start ≡ length bytes → Fails e (if nat_le (start + length (outside (drop start new))) 4294967295 then Some (view_of (drop start new) 0 start) else None) → Fails e (option_and_then placed whole)
+    pub placed_no_more : (start : ℕ) (e : DocError) → start ≡ length bytes → Fails e (if nat_le (start + length (outside (drop start new))) 4294967295 then Some (view_of (drop start new) 0 start) else None) → Fails e (option_and_then views_and_buffer whole)
     placed_no_more start Malformed at none =
         let x = drop (length bytes) new in
         let over = missing (nat_le (length bytes + length (outside x)) 4294967295) (view_of x 0 (length bytes)) (rw at at none) in

@@ -21,5 +21,5 @@ unfoldable pub is_closed : List (List ℕ) → Data → Bool
 is_closed names d = is_object_of names (as_object d)
 
 -- such an object itself
-unfoldable pub closed : List (List ℕ) → Data → Option Data
-closed names d = if is_closed names d then Some d else None
+unfoldable pub if_closed : List (List ℕ) → Data → Option Data
+if_closed names d = if is_closed names d then Some d else None

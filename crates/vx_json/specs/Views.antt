@@ -58,8 +58,8 @@ views_from n [] = []
 views_from n (x ∷ xs) = view_of x 0 n ∷ views_from (n + length (outside x)) xs
 
 -- a view of each text and the bytes of buffer 0, where these are as few as a view can tell
-unfoldable pub placed : List (List ℕ) → Option (List BinaryView × List ℕ)
-placed texts =
+unfoldable pub views_and_buffer : List (List ℕ) → Option (List BinaryView × List ℕ)
+views_and_buffer texts =
     if nat_le (length (all_outside texts)) GREATEST_U32
     then Some (views_from 0 texts, all_outside texts)
     else None

@@ -3,7 +3,7 @@ ghost use Rattle.std.specs.Prelude.{◌≡◌, map, option_and_then};
 ghost use Rattle.serde_json.specs.Find.{as_array, as_str, as_bool, get};
 ghost use Rattle.serde_json.specs.View.{view, items_view, members_view};
 ghost use Rattle.vx_json.specs.Meaning.{Gives};
-ghost use Rattle.vx_json.specs.Members.{is_among, are_among, is_closed, closed};
+ghost use Rattle.vx_json.specs.Members.{is_among, are_among, is_closed, if_closed};
 
 use crate::error::DocError;
 use serde_json::{Map, Value};
@@ -101,10 +101,10 @@ pub fn is_closed(value: &Value, names: &[&str]) -> bool
 }
 
 /// The value, where it is an object with no other members than these. `Malformed` where it is none.
-#[tactic(auto, unfolding(crate::specs::Members::closed))]
+#[tactic(auto, unfolding(crate::specs::Members::if_closed))]
 pub fn closed<'v>(value: &'v Value, names: &[&str]) -> Result<&'v Value, DocError>
     ensures { Gives (λ v. view v.now) result
-        (closed (map (λ n. n.now) names.now) (view value.now)) }
+        (if_closed (map (λ n. n.now) names.now) (view value.now)) }
 {
     if is_closed(value, names) {
         Ok(value)

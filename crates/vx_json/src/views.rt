@@ -6,7 +6,7 @@ ghost use Rattle.vx_json.specs.Meaning.{Gives};
 ghost use Rattle.vx_json.specs.Items.{each};
 ghost use Rattle.vx_json.specs.Texts.{text_or_empty};
 ghost use Rattle.vx_json.specs.Values.{hex_record};
-ghost use Rattle.vx_json.specs.Views.{inlined_bytes, inline_view, ref_view, view_in, outside, placed};
+ghost use Rattle.vx_json.specs.Views.{inlined_bytes, inline_view, ref_view, view_in, outside, views_and_buffer};
 
 use crate::error::DocError;
 use crate::items::{ReadItem, read_each};
@@ -147,7 +147,8 @@ pub fn placed_texts(
     items: &Vec<Value>,
 ) -> Result<PlacedTexts, DocError>
     ensures { Gives (λ t. (t.views, t.bytes)) result
-        (option_and_then placed (each (text_or_empty kind) (items_view items.now.items))) }
+        (option_and_then views_and_buffer
+        (each (text_or_empty kind) (items_view items.now.items))) }
 {
     let mut bytes = Vec::new(alloc);
     let mut views = Vec::with_capacity(alloc, items.len())?;

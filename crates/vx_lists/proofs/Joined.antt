@@ -5,28 +5,28 @@ use Rattle.std.proofs.lemmas.List.{drop_at, take_at, length-append, length-drop,
 use Rattle.std.proofs.lemmas.List.Sums.{sum_by-cons}
 use Rattle.vx_positions.specs.Offsets.{items_in, lists_at, spans}
 use Rattle.vx_lists.specs.Lists.{AreOffsets, last_offset, row_count, span_at}
-use Rattle.vx_lists.specs.Sums.{joined, length_at, offsets_of, sums_from}
+use Rattle.vx_lists.specs.Sums.{concat_lists, length_at, offsets_of, sums_from}
 use Rattle.vx_lists.proofs.Spans.{offsets_ordered}
 
 -- ---- lists that are joined and cut again
 
 module _ {X : Type 0} where
   -- lists behind other items
-  cut_behind : (front : List X) (lists : List (List X)) → map (items_in (front ++ joined lists)) (spans (length front ∷ sums_from (length front) (map length lists))) ≡ lists
+  cut_behind : (front : List X) (lists : List (List X)) → map (items_in (front ++ concat_lists lists)) (spans (length front ∷ sums_from (length front) (map length lists))) ≡ lists
   cut_behind front [] = refl
   cut_behind front (l ∷ lists) =
       let low = length front in
       let high = low + length l in
-      let items = front ++ (l ++ joined lists) in
+      let items = front ++ (l ++ concat_lists lists) in
       let long : length (front ++ l) ≡ high = length-append front l in
       let size : high - low ≡ length l = omega arith in
-      let here : items_in items (low, high) ≡ l = ap₂ take size (drop_at front (l ++ joined lists) low refl) ∙ take_at l (joined lists) (length l) refl in
+      let here : items_in items (low, high) ≡ l = ap₂ take size (drop_at front (l ++ concat_lists lists) low refl) ∙ take_at l (concat_lists lists) (length l) refl in
       let rest : map (items_in items) (spans (high ∷ sums_from high (map length lists))) ≡ lists =
-      ap₂ (λ xs n. map (items_in xs) (spans (n ∷ sums_from n (map length lists)))) (sym (append_assoc front l (joined lists))) (sym long) ∙ cut_behind (front ++ l) lists in
+      ap₂ (λ xs n. map (items_in xs) (spans (n ∷ sums_from n (map length lists)))) (sym (append_assoc front l (concat_lists lists))) (sym long) ∙ cut_behind (front ++ l) lists in
       ap₂ ◌∷◌ here rest
 
   -- lists one after another, cut at their running sums, are the lists
-  pub cut_again : (lists : List (List X)) → lists_at (offsets_of (map length lists)) (joined lists) ≡ lists
+  pub cut_again : (lists : List (List X)) → lists_at (offsets_of (map length lists)) (concat_lists lists) ≡ lists
   cut_again lists = cut_behind [] lists
 
 -- ---- running sums, one more at a time

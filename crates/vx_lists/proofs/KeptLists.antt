@@ -14,7 +14,7 @@ use Rattle.vx_mask.proofs.PositionLists.{get_or_of_slice_get, length-positions, 
 use Rattle.vx_mask.proofs.RankedItems.{items_at_the_set}
 use Rattle.vx_positions.specs.Offsets.{items_in, lists_at}
 use Rattle.vx_lists.specs.Lists.{AreElementBits, AreOffsets, IsWithin, last_offset, row_count, span_at}
-use Rattle.vx_lists.specs.Sums.{joined, length_at, offsets_of, sums_from}
+use Rattle.vx_lists.specs.Sums.{concat_lists, length_at, offsets_of, sums_from}
 use Rattle.vx_lists.specs.Filters.{FiltersLists, IsElementRange, selected_range, whole_range}
 use Rattle.vx_lists.proofs.Joined.{cut_again, length_row, row_of}
 use Rattle.vx_filter.proofs.Picks.{ascending_below, runs_picked, same_items, set_ascends}
@@ -69,7 +69,7 @@ module _ {X : Type 0} where
       ∙ sym (map-map (items_in items) (span_at offsets) (set_of selection))
 
   -- the items of the range that stay are the selected lists, joined
-  pub kept_items : (offsets : List ℕ) (selection : List Bool) (range : ℕ × ℕ) (bits : List Bool) (items : List X) → AreOffsets offsets → length offsets ≡ length selection + 1 → range.0 ≤ range.1 → range.1 ≤ last_offset offsets → last_offset offsets ≤ length items → AreElementBits offsets selection range bits → items_where_true bits (slice_range items range.0 range.1) ≡ joined (row_lists offsets items (set_of selection))
+  pub kept_items : (offsets : List ℕ) (selection : List Bool) (range : ℕ × ℕ) (bits : List Bool) (items : List X) → AreOffsets offsets → length offsets ≡ length selection + 1 → range.0 ≤ range.1 → range.1 ≤ last_offset offsets → last_offset offsets ≤ length items → AreElementBits offsets selection range bits → items_where_true bits (slice_range items range.0 range.1) ≡ concat_lists (row_lists offsets items (set_of selection))
   kept_items offsets selection range bits items are h ordered within long v =
       let m = range.1 - range.0 in
       let cut = slice_range items range.0 range.1 in

@@ -30,7 +30,7 @@ use Rattle.vx_model.proofs.Items.{items_where_true-none, length-items_where_true
 use Rattle.vx_model.proofs.Spans.{get_or-runs_from, length-runs_from}
 use Rattle.vx_take.specs.Picks.{AreBelow, at, in_runs, item_at}
 use Rattle.vx_lists.specs.Takes.{run_places}
-use Rattle.vx_lists.specs.Fixed.{FiltersFixed, TakesFixed, fixed_lists, fixed_run, repeated, scaled_run}
+use Rattle.vx_lists.specs.Fixed.{FiltersFixed, TakesFixed, fixed_lists, fixed_run, repeat_bits, scaled_run}
 use Rattle.vx_lists.proofs.TakenLists.{length-places, same_places}
 use Rattle.vx_lists.proofs.Spans.{range_cut}
 
@@ -40,22 +40,22 @@ use Rattle.vx_lists.proofs.Spans.{range_cut}
 abbrev pub places_of : ℕ → ℕ → List ℕ
 places_of size i = range_with_len (i * size) size
 
-pub length-repeated : (size : ℕ) (bits : List Bool) → length (repeated size bits) ≡ length bits * size
+pub length-repeated : (size : ℕ) (bits : List Bool) → length (repeat_bits size bits) ≡ length bits * size
 length-repeated size [] = omega arith
 length-repeated size (b ∷ bits) =
-    length-append (replicate size b) (repeated size bits)
+    length-append (replicate size b) (repeat_bits size bits)
     ∙ ap₂ ◌+◌ (length-replicate size b) (length-repeated size bits)
     ∙ step (length bits)
   where
     step : (n : ℕ) → size + n * size ≡ suc n * size
     step n = omega arith
 
-positions_repeated : (size a : ℕ) (bits : List Bool) → positions (a * size) (repeated size bits) ≡ flat_map (places_of size) (positions a bits)
+positions_repeated : (size a : ℕ) (bits : List Bool) → positions (a * size) (repeat_bits size bits) ≡ flat_map (places_of size) (positions a bits)
 positions_repeated size a [] = refl
 positions_repeated size a (b ∷ bits) =
     let next : a * size + length (replicate size b) ≡ (a + 1) * size = ap (λ n. a * size + n) (length-replicate size b) ∙ step in
-    positions-append (a * size) (replicate size b) (repeated size bits)
-    ∙ ap (λ k. positions (a * size) (replicate size b) ++ positions k (repeated size bits)) next
+    positions-append (a * size) (replicate size b) (repeat_bits size bits)
+    ∙ ap (λ k. positions (a * size) (replicate size b) ++ positions k (repeat_bits size bits)) next
     ∙ ap (λ l. positions (a * size) (replicate size b) ++ l) (positions_repeated size (a + 1) bits)
     ∙ first b
   where
@@ -94,16 +94,16 @@ positions_scaled size (run ∷ runs) h =
     ∙ sym (flat_map-append (places_of size) rows (run_positions runs))
 
 -- bits that are set in the runs of the elements are the selection's, repeated
-repeated_bits : (size len : ℕ) (selection bits : List Bool) (runs : List (ℕ × ℕ)) → len ≡ length selection * size → All (λ run. run.0 < run.1) runs → run_positions runs ≡ set_of selection → length bits ≡ len → set_of bits ≡ run_positions (map (scaled_run size) runs) → bits ≡ repeated size selection
+repeated_bits : (size len : ℕ) (selection bits : List Bool) (runs : List (ℕ × ℕ)) → len ≡ length selection * size → All (λ run. run.0 < run.1) runs → run_positions runs ≡ set_of selection → length bits ≡ len → set_of bits ≡ run_positions (map (scaled_run size) runs) → bits ≡ repeat_bits size selection
 repeated_bits size len selection bits runs e some cover long set =
     let places = set ∙ positions_scaled size runs some ∙ ap (flat_map (places_of size)) cover in
     let first : 0 * size ≡ 0 = omega arith in
     bits_told bits len (flat_map (places_of size) (set_of selection)) long places
-    ∙ sym (bits_told (repeated size selection) len (flat_map (places_of size) (set_of selection)) (length-repeated size selection ∙ sym e)
-    (ap (λ k. positions k (repeated size selection)) (sym first) ∙ positions_repeated size 0 selection))
+    ∙ sym (bits_told (repeat_bits size selection) len (flat_map (places_of size) (set_of selection)) (length-repeated size selection ∙ sym e)
+    (ap (λ k. positions k (repeat_bits size selection)) (sym first) ∙ positions_repeated size 0 selection))
 
 -- the same of an answer
-pub repeated_told : {V E : Type 0} (r : Result V E) (bits : V → List Bool) (size len : ℕ) (selection : List Bool) (runs scaled : List (ℕ × ℕ)) → len ≡ length selection * size → All (λ run. run.0 < run.1) runs → run_positions runs ≡ set_of selection → scaled ≡ map (scaled_run size) runs → IfOk r (λ v. length (bits v) ≡ len) → IfOk r (λ v. set_of (bits v) ≡ run_positions scaled) → IfOk r (λ v. bits v ≡ repeated size selection)
+pub repeated_told : {V E : Type 0} (r : Result V E) (bits : V → List Bool) (size len : ℕ) (selection : List Bool) (runs scaled : List (ℕ × ℕ)) → len ≡ length selection * size → All (λ run. run.0 < run.1) runs → run_positions runs ≡ set_of selection → scaled ≡ map (scaled_run size) runs → IfOk r (λ v. length (bits v) ≡ len) → IfOk r (λ v. set_of (bits v) ≡ run_positions scaled) → IfOk r (λ v. bits v ≡ repeat_bits size selection)
 repeated_told (Ok v) bits size len selection runs scaled e some cover is long set = repeated_bits size len selection (bits v) runs e some cover long (set ∙ ap run_positions is)
 repeated_told (Err x) bits size len selection runs scaled e some cover is long set = long
 
@@ -142,11 +142,11 @@ scaled_ascend size low len (run ∷ runs) some h up =
     ∙ ap (λ b. b && runs_ascend end (len * size) rest) (le-leb end (len * size) (scaled_most size run.1 len (omega arith)))
     ∙ scaled_ascend size run.1 len runs some (All-tail (λ (r : ℕ × ℕ). r.0 < r.1) run runs h) (subst (λ (k : ℕ). ascending k len (run_positions runs) ≡ true) whole first.then)
 
-pub repeated_once : (bits : List Bool) → bits ≡ repeated 1 bits
+pub repeated_once : (bits : List Bool) → bits ≡ repeat_bits 1 bits
 repeated_once [] = refl
 repeated_once (b ∷ bits) = ap (λ l. b ∷ l) (repeated_once bits)
 
-pub repeated_never : (bits : List Bool) → [] ≡ repeated 0 bits
+pub repeated_never : (bits : List Bool) → [] ≡ repeat_bits 0 bits
 repeated_never [] = refl
 repeated_never (b ∷ bits) = repeated_never bits
 
@@ -186,7 +186,7 @@ cut_front size n front rest h = ap₂ (λ l r. l ∷ cut_lists size n r) (take_a
 
 -- ---- a filter
 
-kept_cut : {X : Type 0} (size : ℕ) (bits : List Bool) (elements : List X) → length bits * size ≡ length elements → cut_lists size (true_count_of bits) (items_where_true (repeated size bits) elements) ≡ items_where_true bits (cut_lists size (length bits) elements)
+kept_cut : {X : Type 0} (size : ℕ) (bits : List Bool) (elements : List X) → length bits * size ≡ length elements → cut_lists size (true_count_of bits) (items_where_true (repeat_bits size bits) elements) ≡ items_where_true bits (cut_lists size (length bits) elements)
 kept_cut size [] elements h = refl
 kept_cut {X = X} size (b ∷ bits) elements h =
     let rest = drop size elements in
@@ -194,29 +194,29 @@ kept_cut {X = X} size (b ∷ bits) elements h =
     let room : size ≤ length elements = omega (arith, more) in
     let left : length bits * size ≡ length rest = omega (arith, more, length-drop size elements) in
     let front : length (take size elements) ≡ size = length-take-le size elements room in
-    let cut : items_where_true (repeated size (b ∷ bits)) elements ≡ items_where_true (replicate size b) elements ++ items_where_true (repeated size bits) rest =
-    picked-append (replicate size b) (repeated size bits) elements ∙ ap (λ k. items_where_true (replicate size b) elements ++ items_where_true (repeated size bits) (drop k elements)) (length-replicate size b) in
+    let cut : items_where_true (repeat_bits size (b ∷ bits)) elements ≡ items_where_true (replicate size b) elements ++ items_where_true (repeat_bits size bits) rest =
+    picked-append (replicate size b) (repeat_bits size bits) elements ∙ ap (λ k. items_where_true (replicate size b) elements ++ items_where_true (repeat_bits size bits) (drop k elements)) (length-replicate size b) in
     ap (cut_lists size (true_count_of (b ∷ bits))) cut ∙ by_first b rest front (kept_cut size bits rest left)
   where
-    by_first : (b : Bool) (rest : List X) → length (take size elements) ≡ size → cut_lists size (true_count_of bits) (items_where_true (repeated size bits) rest) ≡ items_where_true bits (cut_lists size (length bits) rest) → cut_lists size (true_count_of (b ∷ bits)) (items_where_true (replicate size b) elements ++ items_where_true (repeated size bits) rest) ≡ items_where_true (b ∷ bits) (take size elements ∷ cut_lists size (length bits) rest)
+    by_first : (b : Bool) (rest : List X) → length (take size elements) ≡ size → cut_lists size (true_count_of bits) (items_where_true (repeat_bits size bits) rest) ≡ items_where_true bits (cut_lists size (length bits) rest) → cut_lists size (true_count_of (b ∷ bits)) (items_where_true (replicate size b) elements ++ items_where_true (repeat_bits size bits) rest) ≡ items_where_true (b ∷ bits) (take size elements ∷ cut_lists size (length bits) rest)
     by_first true rest front same =
-        let kept = items_where_true (repeated size bits) rest in
+        let kept = items_where_true (repeat_bits size bits) rest in
         let count : true_count_of (true ∷ bits) ≡ suc (true_count_of bits) = omega (arith, true_count_of-cons true bits) in
         ap₂ (λ n l. cut_lists size n (l ++ kept)) count (picked_set size elements)
         ∙ cut_front size (true_count_of bits) (take size elements) kept (sym front)
         ∙ ap (λ l. take size elements ∷ l) same
     by_first false rest front same =
-        let kept = items_where_true (repeated size bits) rest in
+        let kept = items_where_true (repeat_bits size bits) rest in
         let count : true_count_of (false ∷ bits) ≡ true_count_of bits = omega (arith, true_count_of-cons false bits) in
         ap₂ (λ n l. cut_lists size n (l ++ kept)) count (sym (items_where_true-none size elements)) ∙ same
 
-pub filters_fixed : {X : Type 0} (size : ℕ) (selection : List Bool) (elements : List X) → length selection * size ≡ length elements → fixed_lists size (true_count_of selection) (items_where_true (repeated size selection) elements) ≡ items_where_true selection (fixed_lists size (length selection) elements)
+pub filters_fixed : {X : Type 0} (size : ℕ) (selection : List Bool) (elements : List X) → length selection * size ≡ length elements → fixed_lists size (true_count_of selection) (items_where_true (repeat_bits size selection) elements) ≡ items_where_true selection (fixed_lists size (length selection) elements)
 filters_fixed size selection elements h =
-    fixed_cut size (true_count_of selection) (items_where_true (repeated size selection) elements)
+    fixed_cut size (true_count_of selection) (items_where_true (repeat_bits size selection) elements)
     ∙ kept_cut size selection elements h
     ∙ ap (items_where_true selection) (sym (fixed_cut size (length selection) elements))
 
-pub told_fixed : (size : ℕ) (selection bits : List Bool) → bits ≡ repeated size selection → FiltersFixed size selection bits
+pub told_fixed : (size : ℕ) (selection bits : List Bool) → bits ≡ repeat_bits size selection → FiltersFixed size selection bits
 told_fixed size selection bits e elements h =
     ap (λ l. fixed_lists size (true_count_of selection) (items_where_true l elements)) e ∙ filters_fixed size selection elements h
 
@@ -311,11 +311,11 @@ length-places_of size (i ∷ rows) =
     step : (n : ℕ) → size + n * size ≡ suc n * size
     step n = omega arith
 
-count-repeated : (size : ℕ) (bits : List Bool) → true_count_of (repeated size bits) ≡ true_count_of bits * size
+count-repeated : (size : ℕ) (bits : List Bool) → true_count_of (repeat_bits size bits) ≡ true_count_of bits * size
 count-repeated size bits =
     let first : 0 * size ≡ 0 = omega arith in
-    sym (length-positions 0 (repeated size bits))
-    ∙ ap (λ k. length (positions k (repeated size bits))) (sym first)
+    sym (length-positions 0 (repeat_bits size bits))
+    ∙ ap (λ k. length (positions k (repeat_bits size bits))) (sym first)
     ∙ ap length (positions_repeated size 0 bits)
     ∙ length-places_of size (set_of bits)
     ∙ ap (λ n. n * size) (length-positions 0 bits)
@@ -337,13 +337,13 @@ made_fixed size len v left lists long fits made e rows = (
     sound true false h k = cc
     sound false b h k = cc
 
-pub fixed_filtered : (p : FixedParts) (bits kept : List Bool) (v : Valid) → fixed_fault p ≡ None → length bits ≡ p.len → is_fitting v (true_count_of bits) ≡ true → kept ≡ repeated p.size bits → MakesFixed p.size (true_count_of bits) v (items_where_true kept p.elements.rows) (items_where_true bits (lists_of (fixed_spans p)))
+pub fixed_filtered : (p : FixedParts) (bits kept : List Bool) (v : Valid) → fixed_fault p ≡ None → length bits ≡ p.len → is_fitting v (true_count_of bits) ≡ true → kept ≡ repeat_bits p.size bits → MakesFixed p.size (true_count_of bits) v (items_where_true kept p.elements.rows) (items_where_true bits (lists_of (fixed_spans p)))
 fixed_filtered p bits kept v h long fits e =
     let rows = p.elements.rows in
     let count : length bits * p.size ≡ length rows = ap (λ n. n * p.size) long ∙ other_way p.len p.size ∙ sym (elements-fixed p h) in
-    let same : length (repeated p.size bits) ≡ length rows = length-repeated p.size bits ∙ count in
+    let same : length (repeat_bits p.size bits) ≡ length rows = length-repeated p.size bits ∙ count in
     made_fixed p.size (true_count_of bits) v (items_where_true kept rows) (items_where_true bits (lists_of (fixed_spans p)))
-    (ap (λ b. length (items_where_true b rows)) e ∙ length-items_where_true (repeated p.size bits) rows same ∙ count-repeated p.size bits)
+    (ap (λ b. length (items_where_true b rows)) e ∙ length-items_where_true (repeat_bits p.size bits) rows same ∙ count-repeated p.size bits)
     fits
     (told_fixed p.size bits kept e rows count ∙ ap (λ n. items_where_true bits (fixed_lists p.size n rows)) long)
 

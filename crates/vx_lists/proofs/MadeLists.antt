@@ -36,7 +36,7 @@ use Rattle.vx_model.specs.VarBin.{are_integers, is_never_null, row_count}
 use Rattle.vx_text.specs.Building.{is_cut}
 use Rattle.vx_text.proofs.BuiltTexts.{cut_are, positions_back}
 use Rattle.vx_lists.specs.Plans.{LeavesLists, MakesLists, PlansLists, is_all_invalid, lists_left}
-use Rattle.vx_lists.specs.Sums.{joined, length_at, offsets_of, sums_from}
+use Rattle.vx_lists.specs.Sums.{concat_lists, length_at, offsets_of, sums_from}
 use Rattle.vx_lists.specs.Takes.{IsTake, shown_picks}
 use Rattle.vx_lists.specs.Lists.{AreElementBits, AreOffsets, last_offset, row_count as rows_in}
 use Rattle.vx_lists.specs.Numbers.{AreInType}
@@ -105,7 +105,7 @@ none_left n = record { sums = ap (λ k. replicate k 0) (add-one n) ∙ ap (λ l.
     zeros zero = refl
     zeros (suc k) = ap (λ l. 0 ∷ l) (zeros k)
 
-    nothing : (k : ℕ) → [] ≡ joined (replicate k no_elements)
+    nothing : (k : ℕ) → [] ≡ concat_lists (replicate k no_elements)
     nothing zero = refl
     nothing (suc k) = nothing k
 
@@ -126,7 +126,7 @@ filter_leaves offsets seen selection range bits os items e are h ordered within 
     let lists = lists_at_the_set seen items selection h in
     let whole : LeavesLists os (items_where_true bits (slice_range items range.0 range.1)) (items_where_true selection (lists_at seen items)) = record {
       sums = sums ∙ ap offsets_of (sym (lengths_of_rows seen items rows are below long)) ∙ ap (λ (l : List (List RowValue)). offsets_of (map length l)) (sym lists);
-      elements = kept_items seen selection range bits items are h ordered within long v ∙ ap joined (sym lists);
+      elements = kept_items seen selection range bits items are h ordered within long v ∙ ap concat_lists (sym lists);
     } in
     subst (λ (o : List ℕ). LeavesLists os (items_where_true bits (slice_range items range.0 range.1)) (items_where_true selection (lists_at o items))) e whole
 
@@ -136,7 +136,7 @@ take_leaves offsets seen present picks os runs items e are below long v =
     let lists = picked_lists seen items shown below in
     let whole : LeavesLists os (in_runs items runs) (at [] (lists_at seen items) shown) = record {
       sums = v.sums ∙ ap offsets_of (sym (lengths_picked seen items shown are below long)) ∙ ap (λ (l : List (List RowValue)). offsets_of (map length l)) (sym lists);
-      elements = runs_joined seen items shown os runs are below long v ∙ ap joined (sym lists);
+      elements = runs_joined seen items shown os runs are below long v ∙ ap concat_lists (sym lists);
     } in
     subst (λ (l : List (List RowValue)). LeavesLists os (in_runs items runs) l) (sym (kept_at present (lists_at offsets items) picks))
     (subst (λ (o : List ℕ). LeavesLists os (in_runs items runs) (at [] (lists_at o items) shown)) e whole)
@@ -186,7 +186,7 @@ empty_leaves v mask lists n os bits left gone h count zeros none =
     let empty = none_left n in
     let whole : LeavesLists os (items_where_true bits left) (replicate (length (items_where_true mask lists)) []) = record {
       sums = zeros ∙ empty.sums ∙ ap (λ k. offsets_of (map length (replicate k no_elements))) many;
-      elements = ap (λ b. items_where_true b left) none ∙ empty.elements ∙ ap (λ k. joined (replicate k no_elements)) many;
+      elements = ap (λ b. items_where_true b left) none ∙ empty.elements ∙ ap (λ k. concat_lists (replicate k no_elements)) many;
     } in
     subst (λ (l : List (List RowValue)). LeavesLists os (items_where_true bits left) l) (ap (λ (b : Bool). if b then replicate (length (items_where_true mask lists)) [] else items_where_true mask lists) (sym gone)) whole
 

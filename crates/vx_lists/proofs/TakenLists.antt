@@ -12,7 +12,7 @@ use Rattle.vx_filter.proofs.Picks.{same_items}
 use Rattle.vx_take.specs.Picks.{AreBelow, at, in_runs, item_at}
 use Rattle.vx_positions.specs.Offsets.{items_in, lists_at}
 use Rattle.vx_lists.specs.Lists.{AreOffsets, last_offset, row_count, span_at}
-use Rattle.vx_lists.specs.Sums.{joined, offsets_of, sums_from}
+use Rattle.vx_lists.specs.Sums.{concat_lists, offsets_of, sums_from}
 use Rattle.vx_lists.specs.Takes.{IsTake, TakesLists, picked_length, picked_run, run_places, shown_by, shown_picks}
 use Rattle.vx_lists.proofs.Joined.{cut_again, length_row, row_of, sums_more}
 use Rattle.vx_lists.proofs.Spans.{range_cut, spans_of_rows}
@@ -151,7 +151,7 @@ module _ {X : Type 0} (offsets : List ℕ) (items : List X) where
   picked_lists (pick ∷ picks) h = ap₂ ◌∷◌ (picked pick (h 0 None (omega arith))) (picked_lists picks (All-tail (λ (o : Option ℕ). IfSome o (λ p. p < row_count offsets)) pick picks h))
 
   -- the items of the picked runs are the picked lists, joined
-  pub picked_joined : (picks : List (Option ℕ)) → in_runs items (map (picked_run offsets) picks) ≡ joined (map picked_items picks)
+  pub picked_joined : (picks : List (Option ℕ)) → in_runs items (map (picked_run offsets) picks) ≡ concat_lists (map picked_items picks)
   picked_joined [] = refl
   picked_joined (None ∷ picks) = picked_joined picks
   picked_joined (Some i ∷ picks) = ap (λ l. items_in items (span_at offsets i) ++ l) (picked_joined picks)
@@ -248,7 +248,7 @@ sum_picked offsets (pick ∷ picks) =
     long (Some i) = refl
 
 -- the elements of the runs are the picked lists, joined
-pub runs_joined : {X : Type 0} (offsets : List ℕ) (items : List X) (picks : List (Option ℕ)) (sums : List ℕ) (runs : List (ℕ × ℕ)) → AreOffsets offsets → AreBelow picks (row_count offsets) → last_offset offsets ≤ length items → IsTake offsets picks sums runs → in_runs items runs ≡ joined (map (picked_items offsets items) picks)
+pub runs_joined : {X : Type 0} (offsets : List ℕ) (items : List X) (picks : List (Option ℕ)) (sums : List ℕ) (runs : List (ℕ × ℕ)) → AreOffsets offsets → AreBelow picks (row_count offsets) → last_offset offsets ≤ length items → IsTake offsets picks sums runs → in_runs items runs ≡ concat_lists (map (picked_items offsets items) picks)
 runs_joined offsets items picks sums runs are below long v =
     let inside : All (λ run. run.0 + run.1 ≤ length items) runs = λ k d p. let one : (get_or runs k d).0 + (get_or runs k d).1 ≤ last_offset offsets = v.inside k d p in omega arith in
     let picked_in = picked_all_inside offsets picks are below in

@@ -30,8 +30,8 @@ leaves_out fields range part =
     && nat_le (range.1 - range.0) (outside range part * fields.crop_factor)
 
 -- the part, where enough elements lie outside it; else the range
-abbrev pub cropped : PolicyFields → ℕ × ℕ → ℕ × ℕ → ℕ × ℕ
-cropped fields range part = if leaves_out fields range part then part else range
+abbrev pub crop_range : PolicyFields → ℕ × ℕ → ℕ × ℕ → ℕ × ℕ
+crop_range fields range part = if leaves_out fields range part then part else range
 
 -- a range of elements that covers the selected lists and ends with the last offset or before it
 pub record IsElementRange (offsets : List ℕ) (selection : List Bool) (range : ℕ × ℕ) : Type 0 where

@@ -12,8 +12,8 @@ abbrev pub fixed_lists : {X : Type 0} → ℕ → ℕ → List X → List (List 
 fixed_lists size n elements = map (items_in elements) (runs_from 0 size n)
 
 -- each bit `size` times
-abbrev pub repeated : ℕ → List Bool → List Bool
-repeated size bits = flat_map (replicate size) bits
+abbrev pub repeat_bits : ℕ → List Bool → List Bool
+repeat_bits size bits = flat_map (replicate size) bits
 
 -- the elements of a run of lists
 abbrev pub scaled_run : ℕ → ℕ × ℕ → ℕ × ℕ

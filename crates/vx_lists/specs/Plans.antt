@@ -9,7 +9,7 @@ use Rattle.vx_model.specs.Lists.{lists_of}
 use Rattle.vx_model.specs.Numbers.{integers_of}
 use Rattle.vx_model.specs.Records.{RecordParts}
 use Rattle.vx_model.specs.Valid.{Valid, non_nullable, all_valid, all_invalid, by_column}
-use Rattle.vx_lists.specs.Sums.{joined, offsets_of}
+use Rattle.vx_lists.specs.Sums.{concat_lists, offsets_of}
 
 -- any column of the elements that are left makes a column of these lists
 abbrev pub MakesLists : RecordParts → Valid → List RowValue → List (List RowValue) → Type 0
@@ -45,13 +45,13 @@ lists_left v lists = if is_all_invalid v then replicate (length lists) [] else l
 pub record LeavesLists (new_offsets : List ℕ) (left : List RowValue)
     (lists : List (List RowValue)) : Type 0 where
   pub sums : new_offsets ≡ offsets_of (map length lists)
-  pub elements : left ≡ joined lists
+  pub elements : left ≡ concat_lists lists
 
 -- the same of a column of offsets, which with the validity makes a column of these lists
 pub record PlansLists (offsets : RecordParts) (valid : Valid) (left : List RowValue)
     (lists : List (List RowValue)) : Type 0 where
   pub sums : integers_of offsets ≡ map pos (offsets_of (map length lists))
-  pub elements : left ≡ joined lists
+  pub elements : left ≡ concat_lists lists
   pub makes : MakesLists offsets valid left lists
 
 -- a range of so many elements, and bits for it

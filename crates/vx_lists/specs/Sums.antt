@@ -16,5 +16,5 @@ abbrev pub length_at : List ℕ → ℕ → ℕ
 length_at offsets i = slice_index offsets (i + 1) - slice_index offsets i
 
 -- lists, one after another
-abbrev pub joined : {X : Type 0} → List (List X) → List X
-joined lists = flat_map (λ l. l) lists
+abbrev pub concat_lists : {X : Type 0} → List (List X) → List X
+concat_lists lists = flat_map (λ l. l) lists

@@ -5,7 +5,7 @@ ghost use Rattle.vx_bits.specs.BitBuffer.{true_count_of};
 ghost use Rattle.vx_mask.specs.Mask.{mask_bits, partial_of};
 ghost use Rattle.vx_mask.specs.Positions.{ascending, rank_of, run_positions, set_of};
 ghost use Rattle.vx_lists.specs.Lists.{AreElementBits, AreOffsets, last_offset, row_count};
-ghost use Rattle.vx_lists.specs.Filters.{FiltersLists, IsElementRange, cropped, leaves_out, selected_range, whole_range};
+ghost use Rattle.vx_lists.specs.Filters.{FiltersLists, IsElementRange, crop_range, leaves_out, selected_range, whole_range};
 ghost use Rattle.vx_lists.specs.Sums.{length_at, offsets_of, sums_from};
 
 use crate::element_mask::{indices_of, marked_by_indices, marked_by_runs};
@@ -50,7 +50,7 @@ pub fn filter_lists(
         filter.range (mask_bits filter.mask)) }
     ensures inside { IfOk result (λ filter. (filter.range.0 ≤ filter.range.1)
         × (filter.range.1 ≤ last_offset offsets.now)) }
-    ensures range { IfOk result (λ filter. filter.range ≡ cropped policy.now
+    ensures range { IfOk result (λ filter. filter.range ≡ crop_range policy.now
         (whole_range offsets.now) (selected_range offsets.now selection.now.bits.bits)) }
 {
     let fields = policy.fields();
@@ -68,7 +68,7 @@ pub fn filter_lists(
 fn crop(offsets: &[u64], selection: &MaskValues, fields: &PolicyFields) -> (usize, usize)
     requires offsets { AreOffsets offsets.now }
     requires counted { length offsets.now ≡ length selection.now.bits.bits + 1 }
-    ensures value { result ≡ cropped fields.now
+    ensures value { result ≡ crop_range fields.now
         (whole_range offsets.now) (selected_range offsets.now selection.now.bits.bits) }
     ensures range { IsElementRange offsets.now selection.now.bits.bits result }
 {

@@ -3,7 +3,7 @@ ghost use Rattle.std.specs.Prelude.{◌≡◌, ◌+◌, ◌*◌, ◌^◌, ◌<�
 ghost use Rattle.std.specs.List.{All, sum_by};
 ghost use Rattle.vx_mask.specs.Mask.{mask_bits, partial_of, slices_fault};
 ghost use Rattle.vx_mask.specs.Positions.{run_positions, set_of};
-ghost use Rattle.vx_lists.specs.Fixed.{FiltersFixed, TakesFixed, fixed_run, repeated, scaled_run};
+ghost use Rattle.vx_lists.specs.Fixed.{FiltersFixed, TakesFixed, fixed_run, repeat_bits, scaled_run};
 ghost use Rattle.vx_lists.specs.Takes.{run_places};
 
 use crate::element_mask::runs_of;
@@ -25,7 +25,7 @@ pub fn repeated_mask(
     size: usize,
     policy: &Policy,
 ) -> Result<Mask, NoMemory>
-    ensures bits { IfOk result (λ m. mask_bits m ≡ repeated size selection.now.bits.bits) }
+    ensures bits { IfOk result (λ m. mask_bits m ≡ repeat_bits size selection.now.bits.bits) }
     ensures lists { IfOk result
         (λ m. FiltersFixed size selection.now.bits.bits (mask_bits m)) }
     ensures slices { policy.now.cached_list_size ≤ size
@@ -45,7 +45,7 @@ fn element_mask(
     cached: usize,
 ) -> Result<Mask, NoMemory>
     requires { len ≡ length selection.now.bits.bits * size }
-    ensures bits { IfOk result (λ m. mask_bits m ≡ repeated size selection.now.bits.bits) }
+    ensures bits { IfOk result (λ m. mask_bits m ≡ repeat_bits size selection.now.bits.bits) }
     ensures slices { cached ≤ size
         → IfOk result (λ m. IfSome (partial_of m) (λ p. IsSome p.slices)) }
 {
@@ -66,7 +66,7 @@ fn element_mask(
 fn by_runs(alloc: Global, selection: &MaskValues, size: usize, len: usize) -> Result<Mask, NoMemory>
     requires some { 0 < size }
     requires len { len ≡ length selection.now.bits.bits * size }
-    ensures bits { IfOk result (λ m. mask_bits m ≡ repeated size selection.now.bits.bits) }
+    ensures bits { IfOk result (λ m. mask_bits m ≡ repeat_bits size selection.now.bits.bits) }
     ensures slices { IfOk result (λ m. IfSome (partial_of m) (λ p. IsSome p.slices)) }
 {
     let mask = Mask::Values(selection.share()).with_slices(alloc)?;

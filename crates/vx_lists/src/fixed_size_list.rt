@@ -8,7 +8,7 @@ ghost use Rattle.vx_model.specs.FixedSizeList.{fixed_spans};
 ghost use Rattle.vx_model.specs.Lists.{lists_of};
 ghost use Rattle.vx_take.specs.Picks.{at, in_runs};
 ghost use Rattle.vx_types.specs.RowValue.{RowValue};
-ghost use Rattle.vx_lists.specs.Fixed.{repeated};
+ghost use Rattle.vx_lists.specs.Fixed.{repeat_bits};
 ghost use Rattle.vx_lists.specs.Plans.{MakesFixed};
 ghost use Rattle.vx_text.specs.Fits.{FitsFilter, FitsTake};
 
@@ -37,7 +37,7 @@ pub fn plan_fixed_filter(
         (items_where_true (mask_bits plan.mask) array.now.elements.rows)
         (items_where_true mask.now.bits.bits (lists_of (fixed_spans array.now)))) }
     ensures mask { IfOk result
-        (λ plan. mask_bits plan.mask ≡ repeated array.now.size mask.now.bits.bits) }
+        (λ plan. mask_bits plan.mask ≡ repeat_bits array.now.size mask.now.bits.bits) }
     ensures slices { policy.now.cached_list_size ≤ array.now.size
         → IfOk result (λ plan. IfSome (partial_of plan.mask) (λ p. IsSome p.slices)) }
     ensures valid { IfOk result (λ plan. valid_of plan.validity ≡ valid_of validity) }

@@ -61,10 +61,10 @@ blocks_in (AllFalse len) = None
 blocks_in (Values mask) = mask.blocks
 
 -- the same mask, and what it keeps beside its bits where it selects some rows and not all
-abbrev pub keeping : (PartialMask → PartialMask) → Mask → Mask
-keeping more (AllTrue len) = AllTrue len
-keeping more (AllFalse len) = AllFalse len
-keeping more (Values mask) = Values (more mask)
+abbrev pub map_partial : (PartialMask → PartialMask) → Mask → Mask
+map_partial more (AllTrue len) = AllTrue len
+map_partial more (AllFalse len) = AllFalse len
+map_partial more (Values mask) = Values (more mask)
 
 -- why the indices are no mask of `len` rows, if they are none
 abbrev pub indices_fault : ℕ → List ℕ → Option MaskError

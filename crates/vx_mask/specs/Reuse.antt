@@ -26,8 +26,8 @@ wants_indices mask consumers fields =
     && is_at_most (reuse_limit fields consumers) (true_count_of bits) (length bits))))
 
 -- the same mask, with its set positions beside it where it wants them
-abbrev pub prepared : Mask → ℕ → PolicyFields → Mask
-prepared (AllTrue len) consumers fields = AllTrue len
-prepared (AllFalse len) consumers fields = AllFalse len
-prepared (Values mask) consumers fields =
+abbrev pub mask_for_reuse : Mask → ℕ → PolicyFields → Mask
+mask_for_reuse (AllTrue len) consumers fields = AllTrue len
+mask_for_reuse (AllFalse len) consumers fields = AllFalse len
+mask_for_reuse (Values mask) consumers fields =
     Values (if wants_indices mask consumers fields then keep_indices mask else mask)

@@ -4,7 +4,7 @@ ghost use Rattle.std.specs.Option.{option_copied};
 ghost use Rattle.vx_bits.specs.BitBuffer.{true_count_of};
 ghost use Rattle.vx_bits.specs.Results.{FailsBy};
 ghost use Rattle.vx_mask.specs.Positions.{AreMaximalRuns, IsSpan, ascending, set_of, rank_of, run_positions, runs_ascend, bits_with, span_of};
-ghost use Rattle.vx_mask.specs.Mask.{IsMadeFrom, mask_bits, partial_of, indices_fault, slices_fault, if_partial, mask_by_indices, mask_by_slices, indices_in, slices_in, blocks_in, keeping};
+ghost use Rattle.vx_mask.specs.Mask.{IsMadeFrom, mask_bits, partial_of, indices_fault, slices_fault, if_partial, mask_by_indices, mask_by_slices, indices_in, slices_in, blocks_in, map_partial};
 ghost use Rattle.vx_mask.specs.Ranks.{blocks_of};
 ghost use Rattle.vx_mask.specs.MaskValues.{bits_alone, keep_indices, keep_slices, keep_blocks};
 
@@ -227,7 +227,7 @@ impl Mask {
     /// The same mask, with its set positions beside it where it selects some rows and not all.
     /// What else it keeps stays. `NoMemory` alone.
     pub fn with_indices(&self, alloc: Global) -> Result<Mask, NoMemory>
-        ensures value { IfOk result (λ m. m ≡ keeping keep_indices self.now) }
+        ensures value { IfOk result (λ m. m ≡ map_partial keep_indices self.now) }
         ensures bits { IfOk result (λ m. mask_bits m ≡ mask_bits self.now) }
     {
         match self {
@@ -239,7 +239,7 @@ impl Mask {
     /// The same mask, with slices beside it where it selects some rows and not all: those that it
     /// keeps, or else its maximal runs. What else it keeps stays. `NoMemory` alone.
     pub fn with_slices(&self, alloc: Global) -> Result<Mask, NoMemory>
-        ensures value { IfOk result (λ m. m ≡ keeping keep_slices self.now) }
+        ensures value { IfOk result (λ m. m ≡ map_partial keep_slices self.now) }
         ensures maximal { slices_in self.now ≡ None → IfOk result
             (λ m. IfSome (slices_in m) (AreMaximalRuns (mask_bits self.now))) }
         ensures bits { IfOk result (λ m. mask_bits m ≡ mask_bits self.now) }
@@ -253,7 +253,7 @@ impl Mask {
     /// The same mask, with its block counts beside it where it selects some rows and not all. What
     /// else it keeps stays. `NoMemory` alone.
     pub fn with_blocks(&self, alloc: Global) -> Result<Mask, NoMemory>
-        ensures value { IfOk result (λ m. m ≡ keeping keep_blocks self.now) }
+        ensures value { IfOk result (λ m. m ≡ map_partial keep_blocks self.now) }
         ensures bits { IfOk result (λ m. mask_bits m ≡ mask_bits self.now) }
     {
         match self {

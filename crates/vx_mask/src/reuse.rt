@@ -1,7 +1,7 @@
 //! Masks that several consumers use.
 ghost use Rattle.std.specs.Prelude.{◌≡◌, ◌*◌, ◌≤◌, ◌^◌, ◌<◌, IfOk, length};
 ghost use Rattle.vx_bits.specs.BitBuffer.{true_count_of};
-ghost use Rattle.vx_mask.specs.Reuse.{is_at_most, prepared, reuse_limit, wants_indices};
+ghost use Rattle.vx_mask.specs.Reuse.{is_at_most, mask_for_reuse, reuse_limit, wants_indices};
 
 use crate::mask::Mask;
 use crate::mask_values::MaskValues;
@@ -20,7 +20,7 @@ pub fn prepare_mask_for_reuse(
     consumers: usize,
     policy: &Policy,
 ) -> Result<Mask, NoMemory>
-    ensures { IfOk result (λ m. m ≡ prepared mask.now consumers policy.now) }
+    ensures { IfOk result (λ m. m ≡ mask_for_reuse mask.now consumers policy.now) }
 {
     match mask {
         Mask::Values(values) if wants_indices(values, consumers, policy.fields()) => {

@@ -8,7 +8,7 @@ use Rattle.vx_mask.specs.declared.mask.Mask.{Mask}
 use Rattle.vx_types.specs.TypeTree.{TypeTree}
 use Rattle.vx_types.specs.RowValue.{RowValue, null}
 use Rattle.vx_types.specs.declared.nullability.Nullability.{Nullability}
-use Rattle.vx_take.specs.Ranks.{translated}
+use Rattle.vx_take.specs.Ranks.{positions_by_rank}
 use Rattle.vx_take.specs.Picks.{AreBelow}
 use Rattle.vx_take.proofs.TakenLists.{take_of_filter}
 use Rattle.vx_positions.specs.Positions.{AllThere, first_bad}
@@ -59,7 +59,7 @@ is_filter-filter p other both a f few set long cut =
     }
 
 -- the child's rows at the set positions that the ranks name
-pub is_take-filter : (p : FilterParts) (picks : List (Option ℕ)) (n : Nullability) (a : Column) → filter_fault p ≡ None → AreBelow picks (true_count_of (mask_bits p.mask)) → IsTake p.child (translated (mask_bits p.mask) picks) n a → IsTake (filter_column p) picks n a
+pub is_take-filter : (p : FilterParts) (picks : List (Option ℕ)) (n : Nullability) (a : Column) → filter_fault p ≡ None → AreBelow picks (true_count_of (mask_bits p.mask)) → IsTake p.child (positions_by_rank (mask_bits p.mask) picks) n a → IsTake (filter_column p) picks n a
 is_take-filter p picks n a f below step =
     is_step-filter p _ _ a (step.rows ∙ sym (take_of_filter null (mask_bits p.mask) p.child.rows picks (long-filter p f) below)) step.dtype step.form
 
@@ -71,7 +71,7 @@ execute-filter p child a same cut =
 -- ---- ranks and positions
 
 -- the position of a rank that is there
-pub there-translated : (bits : List Bool) (ranks : List (Option ℕ)) → AllThere ranks → AllThere (translated bits ranks)
+pub there-translated : (bits : List Bool) (ranks : List (Option ℕ)) → AllThere ranks → AllThere (positions_by_rank bits ranks)
 there-translated bits [] h = refl
 there-translated bits (None ∷ ranks) h = cc
 there-translated bits (Some k ∷ ranks) h = there-translated bits ranks h

@@ -22,7 +22,7 @@ use Rattle.vx_model.specs.Columns.{are_long, rows_across, types_in}
 use Rattle.vx_model.specs.Numbers.{integer_by, integers_of, numbers_of}
 use Rattle.vx_model.specs.Records.{RecordParts}
 use Rattle.vx_model.specs.Step.{IsCut, IsSlice, IsStep, IsTake}
-use Rattle.vx_model.specs.Union.{UnionParts, IsPlace, are_inside, are_known, are_places, are_union_types, candidates, candidates_of, chosen, has_place, has_row, have_rows, index_of, is_id_type, is_known, is_union_long, place_at, rows_at, tagged_rows, tags_of, union_column, union_fault, union_row, union_rows}
+use Rattle.vx_model.specs.Union.{UnionParts, IsPlace, are_inside, are_known, are_places, are_union_types, candidates, candidates_of, row_by_id, has_place, has_row, have_rows, index_of, is_id_type, is_known, is_union_long, place_at, rows_at, tagged_rows, tags_of, union_column, union_fault, union_row, union_rows}
 use Rattle.vx_model.proofs.Across.{length-rows_across, long-get, row-rows_across}
 use Rattle.vx_model.proofs.CodeNumbers.{numbers_of-filter, numbers_of-slice, numbers_of-take}
 use Rattle.vx_model.proofs.Items.{map-items_where_true, map-slice_range}
@@ -131,11 +131,11 @@ found false None k here more at e h f = absurd cc
 found false (Some j) k here more at e h f = let same : suc j ≡ k = cc in subst (λ n. more ≡ at n) same (f j refl)
 
 -- the row of the variant of this id is that of the column in its place
-pub chosen-index : (vs : List ℕ) (cs : List Column) (id place k : ℕ) (d : Column) → length vs ≡ length cs → index_of vs id ≡ Some k → chosen vs (map (λ (c : Column). get_or c.rows place null) cs) id ≡ get_or (get_or cs k d).rows place null
+pub chosen-index : (vs : List ℕ) (cs : List Column) (id place k : ℕ) (d : Column) → length vs ≡ length cs → index_of vs id ≡ Some k → row_by_id vs (map (λ (c : Column). get_or c.rows place null) cs) id ≡ get_or (get_or cs k d).rows place null
 chosen-index [] cs id place k d many e = absurd cc
 chosen-index (v ∷ vs) [] id place k d many e = absurd (omega arith)
 chosen-index (v ∷ vs) (c ∷ cs) id place k d many e =
-    found (v == id) (index_of vs id) k (get_or c.rows place null) (chosen vs (map (λ (c : Column). get_or c.rows place null) cs) id)
+    found (v == id) (index_of vs id) k (get_or c.rows place null) (row_by_id vs (map (λ (c : Column). get_or c.rows place null) cs) id)
     (λ j. get_or (get_or (c ∷ cs) j d).rows place null) e refl
     (λ j is. chosen-index vs cs id place j d (omega arith) is)
 
@@ -217,7 +217,7 @@ module _ (p : UnionParts) (h : union_fault p ≡ None) where
   pub shown-union : (i id k : ℕ) (d : Column) → i < length p.ids.rows → length p.variants.ids ≡ length p.columns → get_or (tags_of p) i None ≡ Some id → index_of p.variants.ids id ≡ Some k → tagged id (get_or (get_or p.columns k d).rows (place_at p.offsets i) null) ≡ get_or (union_column p).rows i null
   shown-union i id k d l many tag is =
       ap (tagged id) (sym (chosen-index p.variants.ids p.columns id (place_at p.offsets i) k d many is))
-      ∙ ap (λ rows. tagged id (chosen p.variants.ids rows id)) (sym (candidates-row i l))
+      ∙ ap (λ rows. tagged id (row_by_id p.variants.ids rows id)) (sym (candidates-row i l))
       ∙ ap (λ t. union_row p.variants.ids t (get_or (candidates_of p) i [])) (sym tag)
       ∙ sym (row-union p h i [])
 

@@ -47,14 +47,14 @@ candidates None cs n = rows_across cs n
 candidates (Some offsets) cs n = rows_at cs (offset_positions (integers_of offsets))
 
 -- the one of the variant of this id
-abbrev pub chosen : List ℕ → List RowValue → ℕ → RowValue
-chosen [] rows id = null
-chosen (v ∷ vs) [] id = null
-chosen (v ∷ vs) (x ∷ rows) id = if v == id then x else chosen vs rows id
+abbrev pub row_by_id : List ℕ → List RowValue → ℕ → RowValue
+row_by_id [] rows id = null
+row_by_id (v ∷ vs) [] id = null
+row_by_id (v ∷ vs) (x ∷ rows) id = if v == id then x else row_by_id vs rows id
 
 abbrev pub union_row : List ℕ → Option ℕ → List RowValue → RowValue
 union_row ids None rows = null
-union_row ids (Some id) rows = tagged id (chosen ids rows id)
+union_row ids (Some id) rows = tagged id (row_by_id ids rows id)
 
 abbrev pub tagged_rows : List ℕ → List (Option ℕ) → List (List RowValue) → List RowValue
 tagged_rows ids [] rows = []
@@ -89,7 +89,7 @@ IsPlace (Some offsets) i n =
 
 -- ---- faults
 
--- the ids are numbers of one byte from 0 on
+-- the ids are unsigned integers of one byte
 abbrev pub is_id_type : TypeTree → Bool
 is_id_type t = is_same_kind t.kind (primitive_kind U8)
 

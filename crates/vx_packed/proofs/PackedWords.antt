@@ -7,7 +7,7 @@ use Rattle.std.proofs.lemmas.Nat.{mod_low, mod-pow-add, or_comm, or_shifted, pow
 use Rattle.std.proofs.Math.Nat.{div-div-eq-div-mul, mod-eq_of_lt}
 use Rattle.std.proofs.Math.Pow.{pow_mono}
 use Rattle.vx_bits.specs.BitBuffer.{bits_of}
-use Rattle.vx_bits.specs.BitBuilder.{built}
+use Rattle.vx_bits.specs.BitBuilder.{builder_bits}
 use Rattle.vx_bits.specs.Words.{word_bits}
 use Rattle.vx_bits.proofs.ByteLists.{le_below}
 use Rattle.vx_bits.proofs.BuiltLists.{built_more, built_none, built_word, joined_below, length-built}
@@ -20,7 +20,7 @@ use Rattle.vx_packed.proofs.Fields.{field_bits_more, field_bits_none, length-fie
 pub record Put (front out : List ℕ) (bits : List Bool) (next held : ℕ) : Type 0 where
   pub put : List ℕ
   pub out_is : out ≡ front ++ put
-  pub bits_are : built put next held ≡ bits
+  pub bits_are : builder_bits put next held ≡ bits
   pub whole : length put % 8 ≡ 0
   pub open_word : held < 64
   pub clean : next < 2 ^ held
@@ -68,7 +68,7 @@ module _ (front out : List ℕ) (base w i : ℕ) (numbers : List ℕ) (next held
       record {
         put = p.put;
         out_is = p.out_is;
-        bits_are = ap (λ m. built p.put m (held + w)) is
+        bits_are = ap (λ m. builder_bits p.put m (held + w)) is
             ∙ built_more p.put next held offset w all p.clean all_is
             ∙ ap₂ (λ l m. l ++ word_bits m w) p.bits_are e
             ∙ sym (field_bits_more base w numbers i h);
@@ -119,5 +119,5 @@ put_all_bits front out base w numbers next held long p =
     let put = p.put in
     let count = ap length p.bits_are ∙ length-field_bits base w numbers ∙ ap (λ n. n * w) long in
     let none : held ≡ 0 = omega (arith, count, length-built put next held, p.whole, p.open_word) in
-    let bits = sym p.bits_are ∙ ap (built put next) none ∙ ap (λ l. bits_of put 0 (8 * length put) ++ l) (word_bits-none next) ∙ append-nil (bits_of put 0 (8 * length put)) in
+    let bits = sym p.bits_are ∙ ap (builder_bits put next) none ∙ ap (λ l. bits_of put 0 (8 * length put) ++ l) (word_bits-none next) ∙ append-nil (bits_of put 0 (8 * length put)) in
     p.out_is ∙ ap (λ l. front ++ l) (sym (ap bytes_of bits ∙ bytes_of-bits_of put p.fits))

@@ -1,4 +1,4 @@
--- Piecewise sequences: pieces of whole numbers, the numbers of a piece a fixed distance apart.
+-- Piecewise sequences: pieces of unsigned integers, the numbers of a piece a fixed distance apart.
 use Rattle.std.specs.Prelude.{ℕ, ◌+◌, ◌-◌, ◌*◌, ◌^◌, ◌==◌, ◌&&◌, ◌||◌, nat_le, ℤ, unsigned_abs, length, List, [], ◌∷◌, map, find, sum_by, Bool, false, not, Option, Some, None, Result, Ok, Err, if◌then◌else◌, refl}
 use Rattle.std.specs.List.{flat_map, list_all, range_with_len}
 use Rattle.std.specs.Int.{w64, to_le_bytes}
@@ -62,7 +62,7 @@ pieces_fault p =
 
 -- ---- the pieces
 
--- the whole number in a row of a column of such a type
+-- the integer in a row of a column of such a type
 abbrev pub natural_of : Option ℤ → ℕ
 natural_of None = 0
 natural_of (Some z) = unsigned_abs z

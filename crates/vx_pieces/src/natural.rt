@@ -1,11 +1,11 @@
-//! The numbers of columns of whole numbers from 0 on.
+//! The numbers of columns of unsigned integers.
 ghost use Rattle.std.specs.Prelude.{◌≡◌, ◌<◌, length, pos, true, slice_index};
 ghost use Rattle.vx_types.specs.PType.{number, width};
 ghost use Rattle.vx_pieces.specs.Pieces.{is_unsigned, is_unsigned_type, naturals_of};
 
 use vx_column::{Array, Cell, DType, Nullability, PType};
 
-// Whether a column's type is non-nullable, and of whole numbers from 0 on.
+// Whether a column's type is non-nullable and unsigned.
 pub(crate) fn is_unsigned_column(array: &Array) -> bool
     ensures { result ≡ is_unsigned_type array.now.dtype }
 {
@@ -18,7 +18,7 @@ pub(crate) fn is_unsigned_column(array: &Array) -> bool
     }
 }
 
-// Whether the type is one of whole numbers from 0 on.
+// Whether the type is unsigned.
 fn is_unsigned(ptype: PType) -> bool
     ensures { result ≡ is_unsigned ptype }
 {

@@ -45,7 +45,7 @@ impl PiecewiseSequence {
     /// The sequence of these columns, with this declared length. It takes no memory, and doesn't
     /// test whether the sequence is sound.
     ///
-    /// `WrongType` exactly where a column isn't of a non-nullable type of whole numbers from 0 on.
+    /// `WrongType` exactly where a column isn't of a non-nullable unsigned type.
     /// Else `WrongLength` exactly where the columns differ in their length.
     pub fn try_new(
         starts: ArrayRef,

@@ -10,7 +10,7 @@ use Rattle.vx_model.specs.Lists.{elements_type, list_row}
 use Rattle.vx_model.specs.Struct.{fields_row}
 use Rattle.vx_column.specs.Cell.{field_types as types_told, type_by_id, variant_type}
 use Rattle.vx_print.specs.Fields.{texts_at}
-use Rattle.vx_print.specs.Text.{joined, labelled, name_label, field_names, field_texts, field_types, item_kind, item_texts, kind_by_id, row_text, row_text_as, variant_kind}
+use Rattle.vx_print.specs.Text.{comma_list, with_labels, name_label, field_names, field_texts, field_types, item_kind, item_texts, kind_by_id, row_text, row_text_as, variant_kind}
 
 item_texts-map : (k : TypeKind) (xs : List RowValue) → item_texts k (row_values xs) ≡ map (row_text_as k) xs
 item_texts-map k [] = refl
@@ -25,10 +25,10 @@ item_kind-elements (extension_kind name k) t h = item_kind-elements k t h
 item_kind-elements k t h = cc
 
 -- the text of a list of these elements
-pub list_text : (t : TypeTree) (e : TypeTree) (xs : List RowValue) → elements_type (storage_kind t.kind) ≡ Some e → row_text t (list_row xs) ≡ codes "[" ++ joined (map (row_text e) xs) ++ codes "]"
+pub list_text : (t : TypeTree) (e : TypeTree) (xs : List RowValue) → elements_type (storage_kind t.kind) ≡ Some e → row_text t (list_row xs) ≡ codes "[" ++ comma_list (map (row_text e) xs) ++ codes "]"
 list_text t e xs h =
-    ap (λ k. codes "[" ++ joined (item_texts k (row_values xs)) ++ codes "]") (item_kind-elements t.kind e h)
-    ∙ ap (λ l. codes "[" ++ joined l ++ codes "]") (item_texts-map e.kind xs)
+    ap (λ k. codes "[" ++ comma_list (item_texts k (row_values xs)) ++ codes "]") (item_kind-elements t.kind e h)
+    ∙ ap (λ l. codes "[" ++ comma_list l ++ codes "]") (item_texts-map e.kind xs)
 
 field_texts-at : (cs : List Column) (i : ℕ) → field_texts (types_of (types_in cs)) (row_values (map (λ (c : Column). get_or c.rows i null) cs)) ≡ texts_at cs i
 field_texts-at [] i = refl
@@ -41,9 +41,9 @@ field_types-told (extension_kind name k) ts h = field_types-told k ts h
 field_types-told k ts h = cc
 
 -- the text of a struct of these fields
-pub fields_text : (t : TypeTree) (cs : List Column) (i : ℕ) → types_told (storage_kind t.kind) ≡ Some (types_of (types_in cs)) → row_text t (fields_row (map (λ (c : Column). get_or c.rows i null) cs)) ≡ codes "{" ++ joined (labelled (map name_label (field_names t.kind)) (texts_at cs i)) ++ codes "}"
+pub fields_text : (t : TypeTree) (cs : List Column) (i : ℕ) → types_told (storage_kind t.kind) ≡ Some (types_of (types_in cs)) → row_text t (fields_row (map (λ (c : Column). get_or c.rows i null) cs)) ≡ codes "{" ++ comma_list (with_labels (map name_label (field_names t.kind)) (texts_at cs i)) ++ codes "}"
 fields_text t cs i h =
-    ap (λ l. codes "{" ++ joined (labelled (map name_label (field_names t.kind)) l) ++ codes "}")
+    ap (λ l. codes "{" ++ comma_list (with_labels (map name_label (field_names t.kind)) l) ++ codes "}")
     (ap (λ ts. field_texts ts (row_values (map (λ (c : Column). get_or c.rows i null) cs))) (field_types-told t.kind (types_of (types_in cs)) h) ∙ field_texts-at cs i)
 
 kind_by_id-told : (ids : List ℕ) (ts : TypeTrees) (id : ℕ) (t : TypeTree) → type_by_id ids ts id ≡ Some t → kind_by_id ids ts id ≡ t.kind

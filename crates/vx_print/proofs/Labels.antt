@@ -8,7 +8,7 @@ use Rattle.vx_types.specs.Fields.{names_of}
 use Rattle.vx_types.specs.RowValue.{null}
 use Rattle.vx_model.specs.Column.{Column}
 use Rattle.vx_print.specs.Fields.{texts_at}
-use Rattle.vx_print.specs.Text.{joined, gap, labelled, name_label, row_text}
+use Rattle.vx_print.specs.Text.{comma_list, gap, with_labels, name_label, row_text}
 use Rattle.vx_print.proofs.Gaps.{text_more}
 
 -- none past the end
@@ -25,34 +25,34 @@ label_name (x ∷ xs) (suc i) d h = label_name xs i d (omega arith)
 
 -- ---- texts behind labels
 
-pub get_or-labelled : (ls ts : List (List ℕ)) (i : ℕ) → i < length ts → get_or (labelled ls ts) i [] ≡ get_or ls i [] ++ get_or ts i []
+pub get_or-labelled : (ls ts : List (List ℕ)) (i : ℕ) → i < length ts → get_or (with_labels ls ts) i [] ≡ get_or ls i [] ++ get_or ts i []
 get_or-labelled [] ts i h = refl
 get_or-labelled (l ∷ ls) [] i h = absurd (omega arith)
 get_or-labelled (l ∷ ls) (t ∷ ts) zero h = refl
 get_or-labelled (l ∷ ls) (t ∷ ts) (suc i) h = get_or-labelled ls ts i (omega arith)
 
-pub length-labelled : (ls ts : List (List ℕ)) → length (labelled ls ts) ≡ length ts
+pub length-labelled : (ls ts : List (List ℕ)) → length (with_labels ls ts) ≡ length ts
 length-labelled [] ts = refl
 length-labelled (l ∷ ls) [] = refl
 length-labelled (l ∷ ls) (t ∷ ts) = ap suc (length-labelled ls ts)
 
 -- text i behind its label, behind those before it
-pub label_more : (ls ts : List (List ℕ)) (bs : List ℕ) (i : ℕ) → i < length ts → (((bs ++ joined (take i (labelled ls ts))) ++ gap (eqb i 0)) ++ get_or ls i []) ++ get_or ts i [] ≡ bs ++ joined (take (i + 1) (labelled ls ts))
+pub label_more : (ls ts : List (List ℕ)) (bs : List ℕ) (i : ℕ) → i < length ts → (((bs ++ comma_list (take i (with_labels ls ts))) ++ gap (eqb i 0)) ++ get_or ls i []) ++ get_or ts i [] ≡ bs ++ comma_list (take (i + 1) (with_labels ls ts))
 label_more ls ts bs i h =
-    let front = (bs ++ joined (take i (labelled ls ts))) ++ gap (eqb i 0) in
+    let front = (bs ++ comma_list (take i (with_labels ls ts))) ++ gap (eqb i 0) in
     append_assoc front (get_or ls i []) (get_or ts i [])
     ∙ sym (ap (λ t. front ++ t) (get_or-labelled ls ts i h))
-    ∙ text_more bs (labelled ls ts) i (omega (arith, length-labelled ls ts))
+    ∙ text_more bs (with_labels ls ts) i (omega (arith, length-labelled ls ts))
 
 -- the same of a field
-pub field_more : (ls : List (List ℕ)) (cs : List Column) (row : ℕ) (bs : List ℕ) (i : ℕ) (d : Column) → i < length cs → (((bs ++ joined (take i (labelled ls (texts_at cs row)))) ++ gap (eqb i 0)) ++ get_or ls i []) ++ row_text (get_or cs i d).dtype (get_or (get_or cs i d).rows row null) ≡ bs ++ joined (take (i + 1) (labelled ls (texts_at cs row)))
+pub field_more : (ls : List (List ℕ)) (cs : List Column) (row : ℕ) (bs : List ℕ) (i : ℕ) (d : Column) → i < length cs → (((bs ++ comma_list (take i (with_labels ls (texts_at cs row)))) ++ gap (eqb i 0)) ++ get_or ls i []) ++ row_text (get_or cs i d).dtype (get_or (get_or cs i d).rows row null) ≡ bs ++ comma_list (take (i + 1) (with_labels ls (texts_at cs row)))
 field_more ls cs row bs i d h =
     let text : Column → List ℕ = λ c. row_text c.dtype (get_or c.rows row null) in
-    let front = ((bs ++ joined (take i (labelled ls (texts_at cs row)))) ++ gap (eqb i 0)) ++ get_or ls i [] in
+    let front = ((bs ++ comma_list (take i (with_labels ls (texts_at cs row)))) ++ gap (eqb i 0)) ++ get_or ls i [] in
     sym (ap (λ t. front ++ t) (get_or-map text cs i d [] h))
     ∙ label_more ls (texts_at cs row) bs i (omega (arith, length-map cs text))
 
-pub length-fields : (ls : List (List ℕ)) (cs : List Column) (row : ℕ) → length (labelled ls (texts_at cs row)) ≡ length cs
+pub length-fields : (ls : List (List ℕ)) (cs : List Column) (row : ℕ) → length (with_labels ls (texts_at cs row)) ≡ length cs
 length-fields ls cs row = length-labelled ls (texts_at cs row) ∙ length-map cs (λ (c : Column). row_text c.dtype (get_or c.rows row null))
 
 pub ruleset label_here = (label_past, get_or-map)

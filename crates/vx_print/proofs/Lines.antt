@@ -14,7 +14,7 @@ use Rattle.vx_model.specs.Valid.{shown_rows}
 use Rattle.vx_model.proofs.ShownRows.{length-shown_rows, get_or-shown_rows, take-shown_rows, drop-shown_rows, shown_rows-all}
 use Rattle.vx_column.specs.Plain.{AreRowsOf}
 use Rattle.vx_print.specs.Records.{record_rows, block_word, IsLong}
-use Rattle.vx_print.specs.Text.{bytes_text, joined, line, lines, row_text, row_text_as, row_text_by}
+use Rattle.vx_print.specs.Text.{bytes_text, comma_list, line, lines, row_text, row_text_as, row_text_by}
 
 -- there are as many rows as records
 pub length-record_rows : (bits : Option (List Bool)) (rs : List (List ℕ)) → IsLong bits (length rs) → length (record_rows bits rs) ≡ length rs
@@ -55,10 +55,10 @@ elements-bytes : (k : TypeKind) (rs : List (List ℕ)) → map (bytes_text k) rs
 elements-bytes k [] = refl
 elements-bytes k (r ∷ rs) = ap (λ l. bytes_text k r ∷ l) (elements-bytes k rs)
 
-pub record_elements : (c : Column) (r : Records) (s e : ℕ) → AreRowsOf c r → joined (map (bytes_text c.dtype.kind) (slice_range (records_of r) s e)) ≡ joined (map (row_text c.dtype) (slice_range c.rows s e))
+pub record_elements : (c : Column) (r : Records) (s e : ℕ) → AreRowsOf c r → comma_list (map (bytes_text c.dtype.kind) (slice_range (records_of r) s e)) ≡ comma_list (map (row_text c.dtype) (slice_range c.rows s e))
 record_elements c r s e are =
     let rs = records_of r in
-    ap joined (elements-bytes c.dtype.kind (slice_range rs s e)
+    ap comma_list (elements-bytes c.dtype.kind (slice_range rs s e)
     ∙ ap (map (row_text c.dtype)) (sym (part-map rs s (e - s)) ∙ ap (λ l. slice_range l s e) (sym are.rows)))
 
 -- as many as rows

@@ -35,9 +35,9 @@ abbrev pub quoted_text : List ℕ → List ℕ
 quoted_text b = codes "\"" ++ flat_map quoted_byte b ++ codes "\""
 
 -- texts with `, ` between them
-abbrev pub joined : List (List ℕ) → List ℕ
-joined [] = []
-joined (t ∷ ts) = t ++ flat_map (λ u. codes ", " ++ u) ts
+abbrev pub comma_list : List (List ℕ) → List ℕ
+comma_list [] = []
+comma_list (t ∷ ts) = t ++ flat_map (λ u. codes ", " ++ u) ts
 
 -- what stands in front of a text of such a list
 abbrev pub gap : Bool → List ℕ
@@ -45,10 +45,10 @@ gap true = []
 gap false = codes ", "
 
 -- each text behind its label, where there are labels
-abbrev pub labelled : List (List ℕ) → List (List ℕ) → List (List ℕ)
-labelled [] ts = ts
-labelled (l ∷ ls) [] = []
-labelled (l ∷ ls) (t ∷ ts) = (l ++ t) ∷ labelled ls ts
+abbrev pub with_labels : List (List ℕ) → List (List ℕ) → List (List ℕ)
+with_labels [] ts = ts
+with_labels (l ∷ ls) [] = []
+with_labels (l ∷ ls) (t ∷ ts) = (l ++ t) ∷ with_labels ls ts
 
 -- what stands in front of a field
 abbrev pub name_label : List ℕ → List ℕ
@@ -99,12 +99,14 @@ abbrev mutual
   kind_text (fixed_kind k n size) =
       codes "fixed(" ++ (kind_text k ++ mark_of k n) ++ (codes ", " ++ decimal size) ++ codes ")"
   -- of a key and a value, without their names
-  kind_text (map_kind names ts) = codes "map(" ++ joined (type_texts ts) ++ codes ")"
+  kind_text (map_kind names ts) = codes "map(" ++ comma_list (type_texts ts) ++ codes ")"
   kind_text (struct_kind names ts) =
-      codes "struct{" ++ joined (labelled (map name_label names) (type_texts ts)) ++ codes "}"
+      codes "struct{" ++ comma_list (with_labels (map name_label names) (type_texts ts))
+      ++ codes "}"
   kind_text (union_kind ids names ts) =
       codes "union{"
-      ++ joined (labelled (map id_label ids) (labelled (map name_label names) (type_texts ts)))
+      ++ comma_list (with_labels (map id_label ids)
+      (with_labels (map name_label names) (type_texts ts)))
       ++ codes "}"
   -- the storage has no mark of its own
   kind_text (extension_kind name k) =
@@ -174,10 +176,10 @@ abbrev mutual
   row_text_as k null = codes "null"
   row_text_as k (bit b) = bit_text b
   row_text_as k (bytes b) = bytes_text k b
-  row_text_as k (list xs) = codes "[" ++ joined (item_texts (item_kind k) xs) ++ codes "]"
+  row_text_as k (list xs) = codes "[" ++ comma_list (item_texts (item_kind k) xs) ++ codes "]"
   row_text_as k (fields xs) =
       codes "{"
-      ++ joined (labelled (map name_label (field_names k)) (field_texts (field_types k) xs))
+      ++ comma_list (with_labels (map name_label (field_names k)) (field_texts (field_types k) xs))
       ++ codes "}"
   row_text_as k (tagged id x) = decimal id ++ codes ":" ++ row_text_as (variant_kind k id) x
 

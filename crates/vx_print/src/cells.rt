@@ -6,7 +6,7 @@ ghost use Rattle.vx_types.specs.DType.{type_of};
 ghost use Rattle.vx_types.specs.PType.{width};
 ghost use Rattle.vx_types.specs.TypeTree.{is_flat};
 ghost use Rattle.vx_column.specs.Cell.{row_of, IsOfType};
-ghost use Rattle.vx_print.specs.Text.{joined, lines, primitive_text, row_text};
+ghost use Rattle.vx_print.specs.Text.{comma_list, lines, primitive_text, row_text};
 
 use crate::joined::{push_next, put_gap};
 use crate::record_lists::put_elements;
@@ -129,7 +129,7 @@ fn put_cells(column: &Array, start: usize, end: usize, dst: &mut [u8; ROOM]) -> 
     requires within { end ≤ length column.now.rows }
     ensures within { result ≤ ROOM }
     ensures put { drop result dst.new
-        ≡ joined (map (row_text column.now.dtype) (slice_range column.now.rows start end)) }
+        ≡ comma_list (map (row_text column.now.dtype) (slice_range column.now.rows start end)) }
 {
     let mut at = ROOM;
     for k in 0..end - start {
@@ -148,7 +148,7 @@ fn put_joined(column: &Array, start: usize, end: usize, dst: &mut [u8; ROOM]) ->
     requires within { end ≤ length column.now.rows }
     ensures within { result ≤ ROOM }
     ensures put { drop result dst.new
-        ≡ joined (map (row_text column.now.dtype) (slice_range column.now.rows start end)) }
+        ≡ comma_list (map (row_text column.now.dtype) (slice_range column.now.rows start end)) }
 {
     match column.present_records() {
         Some(records) => put_elements(column.dtype(), records, start, end, dst),
@@ -169,7 +169,7 @@ pub(crate) fn push_joined(
     requires ordered { start ≤ end }
     requires within { end ≤ length column.now.rows }
     ensures { IsOk result → text.new.items ≡ text.old.items
-        ++ joined (map (row_text column.now.dtype) (slice_range column.now.rows start end)) }
+        ++ comma_list (map (row_text column.now.dtype) (slice_range column.now.rows start end)) }
 {
     for k in 0..(end - start).div_ceil(BLOCK) {
         let from = start + BLOCK * k;

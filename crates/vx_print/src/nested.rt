@@ -8,7 +8,7 @@ ghost use Rattle.vx_types.specs.RowValue.{null};
 ghost use Rattle.vx_model.specs.Columns.{are_long_past};
 ghost use Rattle.vx_column.specs.Cell.{row_of, IsOfType};
 ghost use Rattle.vx_print.specs.Fields.{texts_at, AreLabels};
-ghost use Rattle.vx_print.specs.Text.{field_names, joined, labelled, lines, name_label, row_text};
+ghost use Rattle.vx_print.specs.Text.{field_names, comma_list, with_labels, lines, name_label, row_text};
 
 use crate::cells::{push_id, push_joined};
 use crate::joined::push_next;
@@ -86,7 +86,7 @@ fn push_elements(
     requires ordered { start ≤ end }
     requires within { end ≤ length column.now.rows }
     ensures { IsOk result → text.new.items ≡ text.old.items
-        ++ joined (map (row_text column.now.dtype) (slice_range column.now.rows start end)) }
+        ++ comma_list (map (row_text column.now.dtype) (slice_range column.now.rows start end)) }
 {
     if column.dtype().is_flat() {
         return push_joined(text, dst, column, start, end);
@@ -108,7 +108,7 @@ fn push_list(text: &mut Vec<u8>, dst: &mut [u8; ROOM], list: ListCell<'_>) -> Re
     requires ordered { list.start ≤ list.end }
     requires within { list.end ≤ length list.elements.now.rows }
     ensures { IsOk result → text.new.items ≡ text.old.items ++ (codes "["
-        ++ joined (map (row_text list.entry.elements.now.dtype)
+        ++ comma_list (map (row_text list.entry.elements.now.dtype)
         (slice_range list.entry.elements.now.rows list.entry.start list.entry.end))
         ++ codes "]") }
 {
@@ -132,7 +132,7 @@ fn push_fields(
     requires rows { are_long_past i columns.now ≡ true }
     requires labels { AreLabels (names_of names.now) (map (λ l. l.items) labels.now) }
     ensures { IsOk result → text.new.items ≡ text.old.items
-        ++ joined (labelled (map name_label (names_of names.now)) (texts_at columns.now i)) }
+        ++ comma_list (with_labels (map name_label (names_of names.now)) (texts_at columns.now i)) }
 {
     for k in 0..columns.len() {
         push_label(text, names, labels, k)?;
@@ -153,8 +153,8 @@ fn push_struct(
 ) -> Result<(), NoMemory>
     requires rows { are_long_past fields.row fields.columns.now ≡ true }
     requires labels { AreLabels (names_of names.now) (map (λ l. l.items) labels.now) }
-    ensures { IsOk result → text.new.items ≡ text.old.items ++ (codes "{" ++ joined
-        (labelled (map name_label (names_of names.now))
+    ensures { IsOk result → text.new.items ≡ text.old.items ++ (codes "{" ++ comma_list
+        (with_labels (map name_label (names_of names.now))
         (texts_at fields.entry.columns.now fields.entry.row)) ++ codes "}") }
 {
     text.push(b'{')?;

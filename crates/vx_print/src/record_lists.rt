@@ -5,7 +5,7 @@ ghost use Rattle.vx_bits.specs.Records.{records_of, width_of};
 ghost use Rattle.vx_types.specs.DType.{type_of};
 ghost use Rattle.vx_types.specs.PType.{width};
 ghost use Rattle.vx_types.specs.TypeTree.{type_width};
-ghost use Rattle.vx_print.specs.Text.{bytes_text, hex_text, joined, primitive_text};
+ghost use Rattle.vx_print.specs.Text.{bytes_text, hex_text, comma_list, primitive_text};
 ghost use Rattle.vx_print.specs.Records.{record_text, IsWide};
 ghost use Rattle.vx_print.specs.declared.records.Form.TheVariants.{Number};
 
@@ -23,7 +23,7 @@ fn put_each<const W: usize>(form: Form, records: &[[u8; W]], dst: &mut [u8; ROOM
     requires width { IsWide form W }
     requires block { length records.now ≤ BLOCK }
     ensures within { result ≤ ROOM }
-    ensures put { drop result dst.new ≡ joined (map (record_text form) records.now) }
+    ensures put { drop result dst.new ≡ comma_list (map (record_text form) records.now) }
 {
     let mut at = ROOM;
     for k in 0..records.len() {
@@ -41,7 +41,7 @@ fn put_hex(values: &Records, start: usize, end: usize, dst: &mut [u8; ROOM]) -> 
     requires within { end ≤ length (records_of values.now) }
     ensures within { result ≤ ROOM }
     ensures put { drop result dst.new
-        ≡ joined (map hex_text (slice_range (records_of values.now) start end)) }
+        ≡ comma_list (map hex_text (slice_range (records_of values.now) start end)) }
 {
     match_each_record_width!(values, buffer => {
         put_each(Form::Hex, &buffer.as_slice()[start..end], dst)
@@ -63,7 +63,7 @@ fn put_numbers<const W: usize>(
     requires within { end ≤ length records.now }
     ensures within { result ≤ ROOM }
     ensures put { drop result dst.new
-        ≡ joined (map (record_text (Number ptype)) (slice_range records.now start end)) }
+        ≡ comma_list (map (record_text (Number ptype)) (slice_range records.now start end)) }
 {
     put_each(Form::Number(ptype), &records[start..end], dst)
 }
@@ -82,7 +82,7 @@ fn put_primitive(
     requires block { end ≤ start + BLOCK }
     requires within { end ≤ length (records_of values.now) }
     ensures within { result ≤ ROOM }
-    ensures put { drop result dst.new ≡ joined (map (primitive_text ptype)
+    ensures put { drop result dst.new ≡ comma_list (map (primitive_text ptype)
         (slice_range (records_of values.now) start end)) }
 {
     match ptype {
@@ -106,7 +106,7 @@ pub(crate) fn put_elements(
     requires block { end ≤ start + BLOCK }
     requires within { end ≤ length (records_of values.now) }
     ensures within { result ≤ ROOM }
-    ensures put { drop result dst.new ≡ joined (map (bytes_text (type_of dtype.now).kind)
+    ensures put { drop result dst.new ≡ comma_list (map (bytes_text (type_of dtype.now).kind)
         (slice_range (records_of values.now) start end)) }
 {
     match dtype {

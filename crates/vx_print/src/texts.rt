@@ -5,7 +5,7 @@ ghost use Rattle.std.specs.List.{list_all};
 ghost use Rattle.vx_types.specs.DType.{type_of};
 ghost use Rattle.vx_types.specs.Scalar.{is_text_kind};
 ghost use Rattle.vx_column.specs.Cell.{row_of, IsOfType};
-ghost use Rattle.vx_print.specs.Text.{bytes_text, hex_text, is_plain, joined, lines, quoted_byte};
+ghost use Rattle.vx_print.specs.Text.{bytes_text, hex_text, is_plain, comma_list, lines, quoted_byte};
 ghost use Rattle.vx_print.specs.Text.{quoted_text, row_text};
 
 use crate::joined::push_next;
@@ -245,7 +245,7 @@ pub(crate) fn push_listed(
     requires ordered { start ≤ end }
     requires within { end ≤ length column.now.rows }
     ensures { IsOk result → text.new.items ≡ text.old.items
-        ++ joined (map (row_text column.now.dtype) (slice_range column.now.rows start end)) }
+        ++ comma_list (map (row_text column.now.dtype) (slice_range column.now.rows start end)) }
 {
     let dtype = column.dtype();
     for i in start..end {

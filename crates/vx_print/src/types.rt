@@ -4,7 +4,7 @@ ghost use Rattle.vx_types.specs.DType.{type_of};
 ghost use Rattle.vx_types.specs.Fields.{names_of};
 ghost use Rattle.vx_types.specs.TypeTree.{types_of};
 ghost use Rattle.vx_print.specs.Text.{ptype_text, decimal_text, mark, mark_of, kind_text};
-ghost use Rattle.vx_print.specs.Text.{type_text, type_texts, joined, labelled, name_label};
+ghost use Rattle.vx_print.specs.Text.{type_text, type_texts, comma_list, with_labels, name_label};
 ghost use Rattle.vx_print.specs.Text.{id_label, quoted_text};
 
 use crate::joined::push_gap;
@@ -113,8 +113,8 @@ fn push_types(
     names: &[RcStr],
     types: &[DType],
 ) -> Result<(), NoMemory>
-    ensures { IsOk result → text.new.items ≡ text.old.items ++ joined (labelled
-        (map id_label ids.now) (labelled (map name_label (names_of names.now))
+    ensures { IsOk result → text.new.items ≡ text.old.items ++ comma_list (with_labels
+        (map id_label ids.now) (with_labels (map name_label (names_of names.now))
         (type_texts (types_of (map type_of types.now))))) }
 {
     for i in 0..types.len() {
@@ -159,8 +159,8 @@ fn push_fixed(text: &mut Vec<u8>, element: &ElementType, size: u32) -> Result<()
 // Appends the type of a struct.
 #[cycle(types)]
 fn push_struct(text: &mut Vec<u8>, fields: &StructFields) -> Result<(), NoMemory>
-    ensures { IsOk result → text.new.items ≡ text.old.items ++ (codes "struct{" ++ joined
-        (labelled (map name_label fields.now.names) (type_texts (types_of fields.now.types)))
+    ensures { IsOk result → text.new.items ≡ text.old.items ++ (codes "struct{" ++ comma_list
+        (with_labels (map name_label fields.now.names) (type_texts (types_of fields.now.types)))
         ++ codes "}") }
 {
     push_word(text, b"struct{")?;
@@ -172,7 +172,7 @@ fn push_struct(text: &mut Vec<u8>, fields: &StructFields) -> Result<(), NoMemory
 #[cycle(types)]
 fn push_map(text: &mut Vec<u8>, fields: &StructFields) -> Result<(), NoMemory>
     ensures { IsOk result → text.new.items ≡ text.old.items
-        ++ (codes "map(" ++ joined (type_texts (types_of fields.now.types)) ++ codes ")") }
+        ++ (codes "map(" ++ comma_list (type_texts (types_of fields.now.types)) ++ codes ")") }
 {
     push_word(text, b"map(")?;
     push_types(text, &[], &[], fields.types())?;
@@ -182,8 +182,9 @@ fn push_map(text: &mut Vec<u8>, fields: &StructFields) -> Result<(), NoMemory>
 // Appends the type of a union.
 #[cycle(types)]
 fn push_union(text: &mut Vec<u8>, variants: &UnionVariants) -> Result<(), NoMemory>
-    ensures { IsOk result → text.new.items ≡ text.old.items ++ (codes "union{" ++ joined
-        (labelled (map id_label variants.now.ids) (labelled (map name_label variants.now.names)
+    ensures { IsOk result → text.new.items ≡ text.old.items ++ (codes "union{" ++ comma_list
+        (with_labels (map id_label variants.now.ids)
+        (with_labels (map name_label variants.now.names)
         (type_texts (types_of variants.now.types)))) ++ codes "}") }
 {
     push_word(text, b"union{")?;

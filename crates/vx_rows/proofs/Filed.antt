@@ -20,7 +20,7 @@ use Rattle.vx_file.specs.declared.error.FileError.{FileError}
 use Rattle.vx_file.specs.declared.error.FileError.TheVariants as errors
 use Rattle.vx_file.specs.Shape.{IsNoHeader, IsShape, ShapeValue, header, is_unsigned, row_type}
 use Rattle.vx_file.specs.Stated.{are_spellings, shape_in}
-use Rattle.vx_file.specs.Touched.{blocks_for, composed, touched}
+use Rattle.vx_file.specs.Touched.{blocks_for, picks_of_steps, blocks_touched}
 use Rattle.vx_file.proofs.FileAnswers.{length-file_rows}
 use Rattle.vx_file.proofs.StatedParts.{all_spelled, found_bad, length-touched, no_shape, shape_of_header}
 use Rattle.vx_print.specs.Fault.{fault_text}
@@ -46,7 +46,7 @@ narrow p q e h = subst (λ (x : PType). width x ≤ 8) e (small_width (width p) 
 
 -- the reads of a file have room
 pub fits : (s : ShapeValue) (steps : List StepValue) (spare : ℕ) → s.len ≤ 16777216 → 16384 ≤ spare → length (touched_by s steps) ≤ spare
-fits s steps spare few room = omega (arith, length-touched (composed s.len steps).picks (blocks_for s.len))
+fits s steps spare few room = omega (arith, length-touched (picks_of_steps s.len steps).picks (blocks_for s.len))
 
 module _ (blocks : List (List ℕ)) (steps : List StepValue) (s : ShapeValue) where
   abbrev spelled : Bool
@@ -55,13 +55,13 @@ module _ (blocks : List (List ℕ)) (steps : List StepValue) (s : ShapeValue) wh
   abbrev asked : Asked
   asked = Reads (0 ∷ touched_by s steps)
 
-  pub rows_found : (t : TypeTree) (rows : List RowValue) → file_answer blocks s steps ≡ answer_rows t rows → width s.ptype ≤ 8 → AreSpellings (width s.ptype) (composed s.len steps) blocks → of_shape blocks steps s ≡ Done (text_with t rows (Reads (0 ∷ touched_by s steps))) (Reads (0 ∷ touched_by s steps))
+  pub rows_found : (t : TypeTree) (rows : List RowValue) → file_answer blocks s steps ≡ answer_rows t rows → width s.ptype ≤ 8 → AreSpellings (width s.ptype) (picks_of_steps s.len steps) blocks → of_shape blocks steps s ≡ Done (text_with t rows (Reads (0 ∷ touched_by s steps))) (Reads (0 ∷ touched_by s steps))
   rows_found t rows is narrow good =
       ap (λ a. of_file_answer a spelled asked) is
-      ∙ ap (λ (b : Bool). if b then Done (text_with t rows asked) asked else Malformed) (all_spelled (width s.ptype) (composed s.len steps) blocks narrow good)
+      ∙ ap (λ (b : Bool). if b then Done (text_with t rows asked) asked else Malformed) (all_spelled (width s.ptype) (picks_of_steps s.len steps) blocks narrow good)
 
   -- the reply with the rows and the reads
-  pub replied : (r : Reply) (t : TypeTree) (rows : List RowValue) (log : List ℕ) → file_answer blocks s steps ≡ answer_rows t rows → width s.ptype ≤ 8 → AreSpellings (width s.ptype) (composed s.len steps) blocks → log ≡ 0 ∷ touched_by s steps → Replies r (Done (text_with t rows (Reads log)) (Reads log)) → Replies r (of_shape blocks steps s)
+  pub replied : (r : Reply) (t : TypeTree) (rows : List RowValue) (log : List ℕ) → file_answer blocks s steps ≡ answer_rows t rows → width s.ptype ≤ 8 → AreSpellings (width s.ptype) (picks_of_steps s.len steps) blocks → log ≡ 0 ∷ touched_by s steps → Replies r (Done (text_with t rows (Reads log)) (Reads log)) → Replies r (of_shape blocks steps s)
   replied r t rows log is narrow good same h =
       subst (Replies r) (sym (rows_found t rows is narrow good)) (subst (λ (l : List ℕ). Replies r (Done (text_with t rows (Reads l)) (Reads l))) same h)
 
@@ -73,11 +73,11 @@ module _ (blocks : List (List ℕ)) (steps : List StepValue) (s : ShapeValue) wh
   pub step_broken : (k : ℕ) (cause : Cause) → walk s.len steps ≡ walk_fault k cause → of_shape blocks steps s ≡ Broken (fault_text k cause)
   step_broken k cause e = ap (λ a. of_file_answer a spelled asked) (by_walk (walk_fault k cause) e)
 
-  pub block_damaged : (block : ℕ) (front : List ℕ) → IsUnbroken (walk s.len steps) → block ≤ blocks_for s.len → touched (composed s.len steps).picks block ≡ front ++ block ∷ [] → IsNoSpelling (width s.ptype) (block_at blocks block) → of_shape blocks steps s ≡ Malformed
+  pub block_damaged : (block : ℕ) (front : List ℕ) → IsUnbroken (walk s.len steps) → block ≤ blocks_for s.len → blocks_touched (picks_of_steps s.len steps).picks block ≡ front ++ block ∷ [] → IsNoSpelling (width s.ptype) (block_at blocks block) → of_shape blocks steps s ≡ Malformed
   block_damaged block front fine within last none = at_walk (walk s.len steps) refl fine
     where
       bad : spelled ≡ false
-      bad = found_bad (width s.ptype) (composed s.len steps).picks blocks (blocks_for s.len) block front within last none
+      bad = found_bad (width s.ptype) (picks_of_steps s.len steps).picks blocks (blocks_for s.len) block front within last none
 
       at_walk : (w : Walk) → walk s.len steps ≡ w → IsUnbroken w → of_shape blocks steps s ≡ Malformed
       at_walk (walk_fault k cause) e h = absurd h
@@ -107,7 +107,7 @@ module _ (blocks : List (List ℕ)) (steps : List StepValue) (s : ShapeValue) wh
   module _ (P Raised : Type 0) (spare : ℕ) (before after : Option (List ℕ)) where
     -- what an error says of the reads
     abbrev Says : FileError → Type 0
-    Says e = IfUnbroken P (IsReadError (width s.ptype) (composed s.len steps) spare Raised before after (Some blocks)) e
+    Says e = IfUnbroken P (IsReadError (width s.ptype) (picks_of_steps s.len steps) spare Raised before after (Some blocks)) e
 
     pub damaged_by : (e : FileError) (block : ℕ) → e ≡ errors.Damaged block → IsBrokenBy (walk s.len steps) e → Says e → length (touched_by s steps) ≤ spare → of_shape blocks steps s ≡ Malformed
     damaged_by e block is fine h room =

@@ -31,7 +31,7 @@ use Rattle.vx_steps.specs.declared.cause.SelectError.TheVariants.{Broken, NoMemo
 use Rattle.vx_select.specs.Select.{IsAnswer, IsRows}
 use Rattle.vx_table.specs.Page.{IsPage, cut}
 use Rattle.vx_table.specs.Table.{AreLong, TableValue, table_fault}
-use Rattle.vx_table.specs.Taken.{IsTaken, projected}
+use Rattle.vx_table.specs.Taken.{IsTaken, columns_at}
 use Rattle.vx_table.proofs.Lists.{All-rest, drop_get, got}
 use Rattle.vx_table.proofs.Tables.{no_fault}
 use Rattle.vx_rows.specs.Pages.{nulls_for, page_answer, page_by_walk, page_type, types_after}
@@ -103,7 +103,7 @@ chosen-rest xs a (suc n) h =
 chosen-all : {X : Type 0} (xs : List X) (n : ℕ) → n ≡ length xs → filter_map (slice_get xs) (range_with_len 0 n) ≡ xs
 chosen-all xs n h = chosen-rest xs 0 n (omega arith)
 
-projected-all : (t : TableValue) → length t.names ≡ length t.columns → projected t (range_with_len 0 (length t.columns)) ≡ t
+projected-all : (t : TableValue) → length t.names ≡ length t.columns → columns_at t (range_with_len 0 (length t.columns)) ≡ t
 projected-all t h =
     let names = chosen-all t.names (length t.columns) (sym h) in
     let columns = chosen-all t.columns (length t.columns) refl in

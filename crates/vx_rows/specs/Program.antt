@@ -17,7 +17,7 @@ use Rattle.vx_file.specs.Blocks.{block_at}
 use Rattle.vx_file.specs.File.{file_rows}
 use Rattle.vx_file.specs.Shape.{row_type, ShapeValue as FileShapeValue}
 use Rattle.vx_file.specs.Stated.{are_spellings, shape_in}
-use Rattle.vx_file.specs.Touched.{blocks_for, composed, touched}
+use Rattle.vx_file.specs.Touched.{blocks_for, picks_of_steps, blocks_touched}
 use Rattle.vx_rows.specs.Commands.{command_of, IfCommand}
 use Rattle.vx_rows.specs.FileDocument.{FileValue, file_document_of}
 use Rattle.vx_rows.specs.Made.{made_answer, made_text}
@@ -85,7 +85,7 @@ file_answer blocks s steps = answer_of (row_type s) (file_rows blocks s) steps
 
 -- the blocks that hold picked rows
 abbrev pub touched_by : FileShapeValue → List StepValue → List ℕ
-touched_by s steps = touched (composed s.len steps).picks (blocks_for s.len)
+touched_by s steps = blocks_touched (picks_of_steps s.len steps).picks (blocks_for s.len)
 
 -- a broken step comes first, then a block that is no spelling
 abbrev pub of_file_answer : Answer → Bool → Asked → Outcome
@@ -175,14 +175,14 @@ IsPrinted (Done text asked) P = P text
 IsPrinted o P = ⊥
 
 -- a trace with these calls or these reads in place of its own
-abbrev pub kept : Asked → Trace → Trace
-kept Nothing t = t
-kept (Calls calls) t = record t { calls = calls }
-kept (Reads reads) t = record t { reads = reads }
+abbrev pub with_asked : Asked → Trace → Trace
+with_asked Nothing t = t
+with_asked (Calls calls) t = record t { calls = calls }
+with_asked (Reads reads) t = record t { reads = reads }
 
 -- the trace that a run leaves that found this one
 abbrev pub traced_by : Outcome → Trace → Trace
-traced_by (Done text asked) t = kept asked t
+traced_by (Done text asked) t = with_asked asked t
 traced_by o t = t
 
 -- the program's status

@@ -2,7 +2,7 @@
 use Rattle.std.specs.Prelude.{◌≡◌, ℕ, List, Option, None, Some}
 use Rattle.vx_steps.specs.Answer.{Answer, answer_fault}
 use Rattle.vx_print.specs.Fault.{fault_text}
-use Rattle.vx_rows.specs.Program.{Outcome, Malformed, Broken, Done, kept}
+use Rattle.vx_rows.specs.Program.{Outcome, Malformed, Broken, Done, with_asked}
 use Rattle.vx_rows.specs.declared.reply.Reply.{Reply}
 use Rattle.vx_rows.specs.declared.reply.Reply.TheVariants as replies
 use Rattle.vx_rows.specs.declared.trace.Trace.{Trace}
@@ -27,7 +27,7 @@ text_of_reply r = None
 
 -- the trace that is left where this one was found
 abbrev pub traced_by_reply : Reply → Trace → Trace
-traced_by_reply (replies.Done text asked) t = kept asked t
+traced_by_reply (replies.Done text asked) t = with_asked asked t
 traced_by_reply r t = t
 
 -- the program's status, where no sink fails

@@ -3,7 +3,7 @@ ghost use Rattle.std.specs.Prelude.{◌≡◌, ◌+◌, ◌%◌, ◌≤◌, Some
 ghost use Rattle.vx_bits.specs.Records.{records_of, width_of};
 ghost use Rattle.vx_types.specs.TypeTree.{type_width};
 ghost use Rattle.vx_mask.specs.Policy.{sparse_limit_of};
-ghost use Rattle.vx_chunked.specs.Asked.{touched};
+ghost use Rattle.vx_chunked.specs.Asked.{chunks_touched};
 ghost use Rattle.vx_steps.specs.Step.{step_value};
 ghost use Rattle.vx_steps.specs.Walk.{walk};
 ghost use Rattle.vx_steps.specs.Answer.{answer, answer_of};
@@ -48,7 +48,7 @@ fn answer_by_column(
 
 /// How many chunks the rows of the shape lie in.
 fn touched(shape: &ChunkShape) -> usize
-    ensures { result ≡ touched shape.now.offset shape.now.len }
+    ensures { result ≡ chunks_touched shape.now.offset shape.now.len }
 {
     let len = shape.len();
     if len == 0 {

@@ -1,6 +1,6 @@
 //! What a run leaves beside its text.
 ghost use Rattle.std.specs.Prelude.{◌≡◌, []};
-ghost use Rattle.vx_rows.specs.Program.{kept};
+ghost use Rattle.vx_rows.specs.Program.{with_asked};
 
 use crate::asked::Asked;
 use vx_decoder::CallLog;
@@ -29,7 +29,7 @@ impl Trace {
 
     // Keeps the calls of a decoder, or the reads of a file, in place of those from before.
     pub(crate) fn keep(&mut self, asked: Asked)
-        ensures { self.new ≡ kept asked self.old }
+        ensures { self.new ≡ with_asked asked self.old }
     {
         match asked {
             Asked::Nothing => {}

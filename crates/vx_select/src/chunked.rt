@@ -16,7 +16,7 @@ ghost use Rattle.vx_column.specs.Validity.{valid_of};
 ghost use Rattle.vx_take.specs.Picks.{at, item_at};
 ghost use Rattle.vx_types.specs.declared.nullability.Nullability.TheVariants.{NonNullable};
 ghost use Rattle.vx_positions.specs.Positions.{AllThere};
-ghost use Rattle.vx_chunked.specs.Asked.{touched};
+ghost use Rattle.vx_chunked.specs.Asked.{chunks_touched};
 ghost use Rattle.vx_steps.specs.Step.{step_value};
 ghost use Rattle.vx_steps.specs.Walk.{walk};
 ghost use Rattle.vx_steps.specs.Answer.{answer_of};
@@ -117,7 +117,7 @@ fn ranked_records<const W: usize, D: ChunkDecoder<[u8; W]>>(
 ) -> Result<Records, NoMemory>
     requires width { is_width W ≡ true }
     requires values { shape.now.offset + shape.now.len ≤ length (D.values decoder.old) }
-    requires spare { touched shape.now.offset shape.now.len ≤ D.spare decoder.old }
+    requires spare { chunks_touched shape.now.offset shape.now.len ≤ D.spare decoder.old }
     requires long { length (mask_bits mask.now) ≡ shape.now.len }
     requires ranks { ranks.now.bound ≡ true_count_of (mask_bits mask.now) }
     ensures records { IfOk result (λ r. records_of r ≡ at (replicate W 0) (items_where_true
@@ -127,7 +127,7 @@ fn ranked_records<const W: usize, D: ChunkDecoder<[u8; W]>>(
         (asked_at shape.now (sparse_limit_of policy.now W) (mask_bits mask.now)) }
     ensures same { D.values decoder.new ≡ D.values decoder.old }
     ensures cost { D.spare decoder.old
-        ≤ D.spare decoder.new + touched shape.now.offset shape.now.len }
+        ≤ D.spare decoder.new + chunks_touched shape.now.offset shape.now.len }
 {
     let kept = filter_chunked_mask(alloc, decoder, shape.offset(), mask, policy)?;
     taken_records(alloc, kept.as_slice(), ranks)
@@ -143,7 +143,7 @@ fn picked_records<const W: usize, D: ChunkDecoder<[u8; W]>>(
 ) -> Result<Records, NoMemory>
     requires width { is_width W ≡ true }
     requires values { shape.now.offset + shape.now.len ≤ length (D.values decoder.old) }
-    requires spare { touched shape.now.offset shape.now.len ≤ D.spare decoder.old }
+    requires spare { chunks_touched shape.now.offset shape.now.len ≤ D.spare decoder.old }
     requires bound { picks.now.bound ≡ shape.now.len }
     ensures records { IfOk result (λ r. records_of r
         ≡ at (replicate W 0) (chunk_values shape.now (D.values decoder.old)) picks.now.picks) }
@@ -152,7 +152,7 @@ fn picked_records<const W: usize, D: ChunkDecoder<[u8; W]>>(
         (asked_for shape.now (sparse_limit_of policy.now W) picks.now.picks) }
     ensures same { D.values decoder.new ≡ D.values decoder.old }
     ensures cost { D.spare decoder.old
-        ≤ D.spare decoder.new + touched shape.now.offset shape.now.len }
+        ≤ D.spare decoder.new + chunks_touched shape.now.offset shape.now.len }
 {
     let mask = needed(alloc, picks)?;
     let ranks = ranks_in(alloc, picks, &mask)?;
@@ -171,7 +171,7 @@ fn take_chunked<const W: usize, D: ChunkDecoder<[u8; W]>>(
 ) -> Result<Array, NoMemory>
     requires width { type_width shape.now.dtype ≡ Some W }
     requires values { shape.now.offset + shape.now.len ≤ length (D.values decoder.old) }
-    requires spare { touched shape.now.offset shape.now.len ≤ D.spare decoder.old }
+    requires spare { chunks_touched shape.now.offset shape.now.len ≤ D.spare decoder.old }
     requires bound { picks.now.bound ≡ shape.now.len }
     requires there { nullability ≡ NonNullable → AllThere picks.now.picks }
     ensures rows { IfOk result (λ a. a.rows
@@ -182,7 +182,7 @@ fn take_chunked<const W: usize, D: ChunkDecoder<[u8; W]>>(
         (asked_for shape.now (sparse_limit_of policy.now W) picks.now.picks) }
     ensures same { D.values decoder.new ≡ D.values decoder.old }
     ensures cost { D.spare decoder.old
-        ≤ D.spare decoder.new + touched shape.now.offset shape.now.len }
+        ≤ D.spare decoder.new + chunks_touched shape.now.offset shape.now.len }
 {
     let validity = take_validity(alloc, shape.validity(), picks, nullability, policy)?;
     // records are of the type's width
@@ -210,7 +210,7 @@ pub fn select_chunked<const W: usize, D: ChunkDecoder<[u8; W]>>(
 ) -> Result<Array, SelectError>
     requires width { type_width shape.now.dtype ≡ Some W }
     requires values { shape.now.offset + shape.now.len ≤ length (D.values decoder.old) }
-    requires spare { touched shape.now.offset shape.now.len ≤ D.spare decoder.old }
+    requires spare { chunks_touched shape.now.offset shape.now.len ≤ D.spare decoder.old }
     ensures answer { IsAnswer result (answer_of shape.now.dtype
         (chunk_rows shape.now (D.values decoder.old)) (map step_value steps.now)) }
     ensures unwrapped { IfOk result (λ a. is_unwrapped a ≡ true) }
@@ -224,7 +224,7 @@ pub fn select_chunked<const W: usize, D: ChunkDecoder<[u8; W]>>(
         (walk shape.now.len (map step_value steps.now))))) }
     ensures same { D.values decoder.new ≡ D.values decoder.old }
     ensures cost { D.spare decoder.old
-        ≤ D.spare decoder.new + touched shape.now.offset shape.now.len }
+        ≤ D.spare decoder.new + chunks_touched shape.now.offset shape.now.len }
 {
     let picks = compose(alloc, shape.len(), steps)?;
     let nullability = takes_nullability(steps);

@@ -16,7 +16,7 @@ use Rattle.vx_take.proofs.TakenLists.{take_at_the_set}
 use Rattle.vx_positions.specs.Positions.{AllThere}
 use Rattle.vx_steps.specs.Step.{StepValue}
 use Rattle.vx_steps.specs.Walk.{all_positions}
-use Rattle.vx_steps.specs.Compose.{numbered, range_picks, step_nullability, takes_nullability}
+use Rattle.vx_steps.specs.Compose.{picks_by_number, range_picks, step_nullability, takes_nullability}
 
 -- ---- ranges
 
@@ -64,7 +64,7 @@ slice_range-more xs start i d h l =
 
 -- ---- set positions
 
-pub numbered-set : (picks : List (Option ℕ)) (bits : List Bool) → length bits ≡ length picks → numbered picks (set_of bits) ≡ items_where_true bits picks
+pub numbered-set : (picks : List (Option ℕ)) (bits : List Bool) → length bits ≡ length picks → picks_by_number picks (set_of bits) ≡ items_where_true bits picks
 numbered-set picks bits h =
     sym (map-map (item_at None picks) Some (set_of bits)) ∙ sym (take_at_the_set None bits picks h)
 

@@ -27,8 +27,8 @@ bound_of (Range span) = span.bound
 bound_of (Listed picks) = picks.bound
 
 -- the picks whose numbers these are
-abbrev pub numbered : List (Option ℕ) → List ℕ → List (Option ℕ)
-numbered picks numbers = map (λ i. slice_index_or picks i None) numbers
+abbrev pub picks_by_number : List (Option ℕ) → List ℕ → List (Option ℕ)
+picks_by_number picks numbers = map (λ i. slice_index_or picks i None) numbers
 
 -- whether a step may leave nulls where there were none
 abbrev pub step_nullability : StepValue → Nullability

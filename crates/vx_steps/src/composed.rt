@@ -9,7 +9,7 @@ ghost use Rattle.vx_pieces.specs.Indices.{index_fault, index_nullability, index_
 ghost use Rattle.vx_column.specs.Truth.{true_bits};
 ghost use Rattle.vx_steps.specs.Step.{step_value};
 ghost use Rattle.vx_steps.specs.Walk.{apply, broken};
-ghost use Rattle.vx_steps.specs.Compose.{bound_of, numbered, picks_in, step_nullability};
+ghost use Rattle.vx_steps.specs.Compose.{bound_of, picks_by_number, picks_in, step_nullability};
 
 use crate::span::Span;
 use crate::step::Step;
@@ -96,7 +96,7 @@ impl Composed {
     fn numbered(&self, alloc: Global, numbers: &[usize]) -> Result<Picks, NoMemory>
         requires { All (λ i. i < length (picks_in self.now)) numbers.now }
         ensures { IfOk result (λ p. p ≡ record {
-          picks = numbered (picks_in self.now) numbers.now;
+          picks = picks_by_number (picks_in self.now) numbers.now;
           bound = bound_of self.now;
         }) }
     {

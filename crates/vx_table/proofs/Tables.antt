@@ -30,7 +30,7 @@ use Rattle.vx_steps.proofs.Walks.{length-all_positions}
 use Rattle.vx_select.proofs.Selecting.{answered, at-all_positions, at-apply}
 use Rattle.vx_select.proofs.ChunkRows.{type_after-takes}
 use Rattle.vx_table.specs.Table.{AreLong, TableValue, names_of, table_fault}
-use Rattle.vx_table.specs.Taken.{AreTaken, IsTaken, beside, projected}
+use Rattle.vx_table.specs.Taken.{AreTaken, IsTaken, beside, columns_at}
 use Rattle.vx_table.specs.Page.{IsCutOf, IsPage, cut}
 use Rattle.vx_table.specs.declared.error.TableError.TheVariants.{WrongCount, WrongLength}
 use Rattle.vx_table.proofs.Lists.{All-chosen, All-rest, length-chosen, slice_get-map}
@@ -108,11 +108,11 @@ same_table names names' columns columns' len len' n c l = λ i. table_with (n i)
 -- ---- some columns, and the columns of two tables
 
 module _ (t : TableValue) (valid : table_fault t ≡ None) where
-  pub projected_sound : (projection : List ℕ) → All (λ i. i < length t.columns) projection → table_fault (projected t projection) ≡ None
+  pub projected_sound : (projection : List ℕ) → All (λ i. i < length t.columns) projection → table_fault (columns_at t projection) ≡ None
   projected_sound projection h =
       let count = same_count t valid in
       let named : All (λ i. i < length t.names) projection = λ k d l. let low : get_or projection k d < length t.columns = h k d l in omega (arith, low, count) in
-      no_fault (projected t projection) (length-chosen t.names projection named ∙ sym (length-chosen t.columns projection h))
+      no_fault (columns_at t projection) (length-chosen t.names projection named ∙ sym (length-chosen t.columns projection h))
       (All-chosen (λ (c : Column). length c.rows ≡ t.len) t.columns projection (long_columns t valid))
 
   pub beside_sound : (other : TableValue) → table_fault other ≡ None → other.len ≡ t.len → table_fault (beside t other) ≡ None
@@ -229,8 +229,8 @@ retyped t p f g picks qs same e h =
 
 -- the rows at the cut are the page
 pub is_page : (t p : TableValue) (projection : List ℕ) (steps : List StepValue) (page len : ℕ) (w : Walk) (n : Nullability) (part : List (Option ℕ)) → n ≡ takes_nullability steps
-    → IsCutOf w page len part → IsTaken (projected t projection) (λ u. also_nullable u n) part p → IsPage t projection steps page len w p
+    → IsCutOf w page len part → IsTaken (columns_at t projection) (λ u. also_nullable u n) part p → IsPage t projection steps page len w p
 is_page t p projection steps page len (walk_fault k cause) n part none h taken = absurd h
 is_page t p projection steps page len (walk_picks picks) n part none h taken =
-    retyped (projected t projection) p (λ u. also_nullable u n) (λ u. type_after u steps) part (cut page len picks)
+    retyped (columns_at t projection) p (λ u. also_nullable u n) (λ u. type_after u steps) part (cut page len picks)
     (λ u. ap (also_nullable u) none ∙ sym (type_after-takes u steps)) h taken

@@ -7,7 +7,7 @@ use Rattle.vx_steps.specs.Answer.{type_after}
 use Rattle.vx_steps.specs.declared.cause.SelectError.{SelectError}
 use Rattle.vx_steps.specs.declared.cause.SelectError.TheVariants as selects
 use Rattle.vx_table.specs.Table.{TableValue}
-use Rattle.vx_table.specs.Taken.{IsTaken, projected}
+use Rattle.vx_table.specs.Taken.{IsTaken, columns_at}
 use Rattle.vx_table.specs.declared.error.PageError.{PageError}
 use Rattle.vx_table.specs.declared.error.PageError.TheVariants.{NoColumn, EmptyPage, Broken, NoMemory}
 
@@ -37,7 +37,7 @@ IsCutOf (walk_picks picks) page page_len part = part ≡ cut page page_len picks
 abbrev pub IsPage : TableValue → List ℕ → List StepValue → ℕ → ℕ → Walk → TableValue → Type 0
 IsPage t projection steps page page_len (walk_fault k cause) p = ⊥
 IsPage t projection steps page page_len (walk_picks picks) p =
-    IsTaken (projected t projection) (λ u. type_after u steps) (cut page page_len picks) p
+    IsTaken (columns_at t projection) (λ u. type_after u steps) (cut page page_len picks) p
 
 -- the error that an error of the steps becomes
 abbrev pub page_error : SelectError → PageError

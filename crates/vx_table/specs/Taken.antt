@@ -9,15 +9,15 @@ use Rattle.vx_model.specs.Plain.{is_unwrapped}
 use Rattle.vx_table.specs.Table.{TableValue}
 
 -- the items of these numbers, in this order, as far as they are there
-abbrev pub chosen : {X : Type 0} → List ℕ → List X → List X
-chosen numbers items = filter_map (slice_get items) numbers
+abbrev pub items_by_number : {X : Type 0} → List ℕ → List X → List X
+items_by_number numbers items = filter_map (slice_get items) numbers
 
 -- the columns of these numbers, with their names
-abbrev pub projected : TableValue → List ℕ → TableValue
-projected t projection =
+abbrev pub columns_at : TableValue → List ℕ → TableValue
+columns_at t projection =
     record {
-      names = chosen projection t.names;
-      columns = chosen projection t.columns;
+      names = items_by_number projection t.names;
+      columns = items_by_number projection t.columns;
       len = t.len;
     }
 

@@ -2,7 +2,7 @@
 ghost use Rattle.std.specs.Prelude.{◌≡◌, ◌<◌, IfOk, find, length, nat_le};
 ghost use Rattle.std.specs.List.{All};
 ghost use Rattle.vx_table.specs.Table.{names_of};
-ghost use Rattle.vx_table.specs.Taken.{chosen, projected};
+ghost use Rattle.vx_table.specs.Taken.{items_by_number, columns_at};
 
 use crate::table::Table;
 use std::alloc::Global;
@@ -18,7 +18,7 @@ fn chosen_names(
 ) -> Result<Vec<RcStr>, NoMemory>
     requires { All (λ i. i < length names.now) projection.now }
     ensures { IfOk result
-        (λ copy. names_of copy.items ≡ chosen projection.now (names_of names.now)) }
+        (λ copy. names_of copy.items ≡ items_by_number projection.now (names_of names.now)) }
 {
     let mut copy = Vec::with_capacity(alloc, projection.len())?;
     for i in projection {
@@ -34,7 +34,7 @@ fn chosen_columns(
     projection: &[usize],
 ) -> Result<Columns, NoMemory>
     requires { All (λ i. i < length columns.now) projection.now }
-    ensures { IfOk result (λ copy. copy ≡ chosen projection.now columns.now) }
+    ensures { IfOk result (λ copy. copy ≡ items_by_number projection.now columns.now) }
 {
     let mut copy = Vec::with_capacity(alloc, projection.len())?;
     for i in projection {
@@ -55,7 +55,7 @@ impl Table {
     /// row is copied. `NoMemory` alone.
     pub fn project(&self, alloc: Global, projection: &[usize]) -> Result<Table, NoMemory>
         requires { All (λ i. i < length self.now.columns) projection.now }
-        ensures { IfOk result (λ t. t ≡ projected self.now projection.now) }
+        ensures { IfOk result (λ t. t ≡ columns_at self.now projection.now) }
     {
         let names = chosen_names(alloc, self.names(), projection)?;
         let columns = chosen_columns(alloc, self.columns(), projection)?;

@@ -15,7 +15,7 @@ use Rattle.vx_mask.proofs.BlockCounts.{count_fits}
 use Rattle.vx_mask.proofs.WordCounts.{count_before}
 use Rattle.vx_mask.proofs.PositionLists.{get_or_of_slice_get, position_at, true_count_before_set}
 use Rattle.vx_take.specs.Picks.{ArePlaces, IsPlace, null_place, pick_of, picks_of}
-use Rattle.vx_take.specs.Ranks.{AreJustSet, AreSet, place_before, ranked, translated, word_counts}
+use Rattle.vx_take.specs.Ranks.{AreJustSet, AreSet, place_before, ranks_of_picks, positions_by_rank, word_counts}
 use Rattle.vx_take.proofs.RankedPicks.{pick_there}
 
 -- ---- bits at places
@@ -101,7 +101,7 @@ is_ranked bits (Some p) fits h =
     }
 
 module _ (bits : List Bool) (fits : length bits ≤ null_place) where
-  pub ranked_picks : (picks : List (Option ℕ)) → AreSet bits picks → picks_of (map (place_before bits) picks) ≡ ranked bits picks
+  pub ranked_picks : (picks : List (Option ℕ)) → AreSet bits picks → picks_of (map (place_before bits) picks) ≡ ranks_of_picks bits picks
   ranked_picks [] set = refl
   ranked_picks (pick ∷ picks) set = ap₂ ◌∷◌ (is_ranked bits pick fits (set zero None (omega arith))).stands (ranked_picks picks (λ k d h. set (suc k) d (omega arith)))
 
@@ -113,7 +113,7 @@ module _ (bits : List Bool) (fits : length bits ≤ null_place) where
         subst P (sym (get_or-map (place_before bits) picks k None 0 inside)) (is_ranked bits (get_or picks k None) fits (set k None inside)).below;
   }
 
-  pub ranked_back : (picks : List (Option ℕ)) → AreSet bits picks → translated bits (ranked bits picks) ≡ picks
+  pub ranked_back : (picks : List (Option ℕ)) → AreSet bits picks → positions_by_rank bits (ranks_of_picks bits picks) ≡ picks
   ranked_back [] set = refl
   ranked_back (pick ∷ picks) set = ap₂ ◌∷◌ (is_ranked bits pick fits (set zero None (omega arith))).back (ranked_back picks (λ k d h. set (suc k) d (omega arith)))
 

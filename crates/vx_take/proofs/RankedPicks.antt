@@ -10,7 +10,7 @@ use Rattle.vx_bits.specs.BitBuffer.{true_count_of}
 use Rattle.vx_mask.specs.Positions.{set_of, rank_of}
 use Rattle.vx_mask.proofs.PositionLists.{length-positions, rank_within}
 use Rattle.vx_take.specs.Picks.{ArePlaces, AreBelow, IsPlace, item_at, at, null_place, pick_of, picks_of}
-use Rattle.vx_take.specs.Ranks.{translated}
+use Rattle.vx_take.specs.Ranks.{positions_by_rank}
 
 -- a place that stands for no null
 pub pick_there : (place : ℕ) → (place ≡ null_place → ⊥) → pick_of place ≡ Some place
@@ -47,7 +47,7 @@ set_place bits bound (Some k) few fits h =
     }
 
 -- the places of ranks stand for the set positions that the ranks name
-pub set_picks : (bits : List Bool) (bound : ℕ) (ranks : List (Option ℕ)) → bound ≤ true_count_of bits → length bits ≤ null_place → AreBelow ranks bound → picks_of (at null_place (set_of bits) ranks) ≡ translated bits ranks
+pub set_picks : (bits : List Bool) (bound : ℕ) (ranks : List (Option ℕ)) → bound ≤ true_count_of bits → length bits ≤ null_place → AreBelow ranks bound → picks_of (at null_place (set_of bits) ranks) ≡ positions_by_rank bits ranks
 set_picks bits bound [] few fits h = refl
 set_picks bits bound (rank ∷ ranks) few fits h =
     ap₂ ◌∷◌ (set_place bits bound rank few fits (h zero None (omega arith))).pick (set_picks bits bound ranks few fits (λ k d p. h (suc k) d (omega arith)))

@@ -13,7 +13,7 @@ use Rattle.vx_mask.proofs.PositionLists.{get_or_of_slice_get, length-positions, 
 use Rattle.vx_mask.proofs.RankedItems.{items_at_the_set}
 use Rattle.vx_take.specs.Laws.{EachIsOneRank, SetAscends}
 use Rattle.vx_take.specs.Picks.{AreBelow, at, item_at}
-use Rattle.vx_take.specs.Ranks.{AreSet, ranked, translated}
+use Rattle.vx_take.specs.Ranks.{AreSet, ranks_of_picks, positions_by_rank}
 
 pub set_ascends : (bits : List Bool) → SetAscends bits
 set_ascends bits k d h =
@@ -78,7 +78,7 @@ module _ {X : Type 0} (missing : X) where
   one_looked_up bits items None h set = refl
   one_looked_up bits items (Some p) h set = kept_at bits items p h set
 
-  pub looked_up : (bits : List Bool) (items : List X) (picks : List (Option ℕ)) → length bits ≡ length items → AreSet bits picks → at missing items picks ≡ at missing (items_where_true bits items) (ranked bits picks)
+  pub looked_up : (bits : List Bool) (items : List X) (picks : List (Option ℕ)) → length bits ≡ length items → AreSet bits picks → at missing items picks ≡ at missing (items_where_true bits items) (ranks_of_picks bits picks)
   looked_up bits items [] h set = refl
   looked_up bits items (pick ∷ picks) h set =
       ap₂ ◌∷◌ (one_looked_up bits items pick h (set zero None (omega arith))) (looked_up bits items picks h (λ k d p. set (suc k) d (omega arith)))
@@ -88,11 +88,11 @@ set_pick : (bits : List Bool) (rank : Option ℕ) → IfSome rank (λ k. k < tru
 set_pick bits None h = refl
 set_pick bits (Some k) h = get_or-map Some (set_of bits) k 0 None (omega (arith, h, length-positions 0 bits))
 
-set_picks : (bits : List Bool) (ranks : List (Option ℕ)) → AreBelow ranks (true_count_of bits) → at None (map Some (set_of bits)) ranks ≡ translated bits ranks
+set_picks : (bits : List Bool) (ranks : List (Option ℕ)) → AreBelow ranks (true_count_of bits) → at None (map Some (set_of bits)) ranks ≡ positions_by_rank bits ranks
 set_picks bits [] h = refl
 set_picks bits (rank ∷ ranks) h = ap₂ ◌∷◌ (set_pick bits rank (h zero None (omega arith))) (set_picks bits ranks (λ k d p. h (suc k) d (omega arith)))
 
-pub take_of_filter : {X : Type 0} (missing : X) (bits : List Bool) (items : List X) (ranks : List (Option ℕ)) → length bits ≡ length items → AreBelow ranks (true_count_of bits) → at missing (items_where_true bits items) ranks ≡ at missing items (translated bits ranks)
+pub take_of_filter : {X : Type 0} (missing : X) (bits : List Bool) (items : List X) (ranks : List (Option ℕ)) → length bits ≡ length items → AreBelow ranks (true_count_of bits) → at missing (items_where_true bits items) ranks ≡ at missing items (positions_by_rank bits ranks)
 take_of_filter missing bits items ranks h below =
     ap (λ l. at missing l ranks) (take_at_the_set missing bits items h)
     ∙ takes_join missing items (map Some (set_of bits)) ranks

@@ -4,7 +4,7 @@ use Rattle.std.specs.List.{AllAdjacentBelow, items_where_true}
 use Rattle.vx_bits.specs.BitBuffer.{true_count_of}
 use Rattle.vx_mask.specs.Positions.{rank_of, set_of}
 use Rattle.vx_take.specs.Picks.{AreBelow, at}
-use Rattle.vx_take.specs.Ranks.{AreJustSet, AreSet, ranked, translated}
+use Rattle.vx_take.specs.Ranks.{AreJustSet, AreSet, ranks_of_picks, positions_by_rank}
 
 -- each set position is below the next
 abbrev pub SetAscends : List Bool → Type 0
@@ -29,7 +29,8 @@ IsTakeOfFilter {X} bits items ranks =
     length bits ≡ length items
     → AreBelow ranks (true_count_of bits)
     → (missing : X)
-    → at missing (items_where_true bits items) ranks ≡ at missing items (translated bits ranks)
+    → at missing (items_where_true bits items) ranks
+    ≡ at missing items (positions_by_rank bits ranks)
 
 -- p is the position of exactly one rank
 pub record IsOneRank (bits : List Bool) (p : ℕ) : Type 0 where
@@ -49,7 +50,7 @@ IsLookedUp {X} bits items picks =
     length bits ≡ length items
     → AreSet bits picks
     → (missing : X)
-    → at missing items picks ≡ at missing (items_where_true bits items) (ranked bits picks)
+    → at missing items picks ≡ at missing (items_where_true bits items) (ranks_of_picks bits picks)
 
 -- where the set positions are just the picks, the picks are set positions
 abbrev pub JustSetAreSet : List Bool → List (Option ℕ) → Type 0

@@ -7,12 +7,12 @@ use Rattle.vx_mask.specs.Positions.{rank_of}
 use Rattle.vx_take.specs.Picks.{null_place}
 
 -- the set positions that ranks name; null stays null
-abbrev pub translated : List Bool → List (Option ℕ) → List (Option ℕ)
-translated bits ranks = map (option_map (rank_of bits)) ranks
+abbrev pub positions_by_rank : List Bool → List (Option ℕ) → List (Option ℕ)
+positions_by_rank bits ranks = map (option_map (rank_of bits)) ranks
 
 -- how many set positions stand before each pick; null stays null
-abbrev pub ranked : List Bool → List (Option ℕ) → List (Option ℕ)
-ranked bits picks = map (option_map (λ p. true_count_of (take p bits))) picks
+abbrev pub ranks_of_picks : List Bool → List (Option ℕ) → List (Option ℕ)
+ranks_of_picks bits picks = map (option_map (λ p. true_count_of (take p bits))) picks
 
 -- each non-null pick is a set position
 abbrev pub AreSet : List Bool → List (Option ℕ) → Type 0

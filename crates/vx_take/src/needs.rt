@@ -3,7 +3,7 @@ ghost use Rattle.std.specs.Prelude.{◌≡◌, ◌<◌, ◌≤◌, IfOk, IfSome,
 ghost use Rattle.vx_bits.specs.BitBuffer.{true_count_of};
 ghost use Rattle.vx_mask.specs.Mask.{mask_bits};
 ghost use Rattle.vx_take.specs.Picks.{AreBelow, IsPlace, null_place, pick_of};
-ghost use Rattle.vx_take.specs.Ranks.{AreJustSet, AreSet, place_before, ranked, translated, word_counts};
+ghost use Rattle.vx_take.specs.Ranks.{AreJustSet, AreSet, place_before, ranks_of_picks, positions_by_rank, word_counts};
 
 use crate::listed::{ItemOf, listed};
 use crate::picks::{NULL_PLACE, Picks};
@@ -43,8 +43,9 @@ fn set_there(bits: &mut BitBuilder, place: usize)
 /// number of set positions. `NoMemory` alone.
 pub fn ranks_in(alloc: Global, picks: &Picks, mask: &Mask) -> Result<Picks, NoMemory>
     requires { AreSet (mask_bits mask.now) picks.now.picks }
-    ensures ranks { IfOk result (λ r. r.picks ≡ ranked (mask_bits mask.now) picks.now.picks) }
-    ensures inverse { IfOk result (λ r. translated (mask_bits mask.now) r.picks
+    ensures ranks { IfOk result
+        (λ r. r.picks ≡ ranks_of_picks (mask_bits mask.now) picks.now.picks) }
+    ensures inverse { IfOk result (λ r. positions_by_rank (mask_bits mask.now) r.picks
         ≡ picks.now.picks) }
     ensures bound { IfOk result (λ r. r.bound ≡ true_count_of (mask_bits mask.now)) }
 {

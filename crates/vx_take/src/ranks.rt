@@ -5,7 +5,7 @@ ghost use Rattle.vx_bits.specs.BitBuffer.{true_count_of};
 ghost use Rattle.vx_mask.specs.Mask.{mask_bits};
 ghost use Rattle.vx_mask.specs.Positions.{set_of};
 ghost use Rattle.vx_take.specs.Picks.{at, null_place};
-ghost use Rattle.vx_take.specs.Ranks.{translated};
+ghost use Rattle.vx_take.specs.Ranks.{positions_by_rank};
 
 use crate::listed::{ItemOf, listed};
 use crate::picks::{NULL_PLACE, Picks};
@@ -27,7 +27,7 @@ pub fn translate_ranks(
 ) -> Result<Picks, NoMemory>
     requires { ranks.now.bound ≤ true_count_of (mask_bits filter.now) }
     ensures picks { IfOk result (λ p. p.picks
-        ≡ translated (mask_bits filter.now) ranks.now.picks) }
+        ≡ positions_by_rank (mask_bits filter.now) ranks.now.picks) }
     ensures bound { IfOk result (λ p. p.bound ≡ length (mask_bits filter.now)) }
 {
     // Each rank is below the bound.

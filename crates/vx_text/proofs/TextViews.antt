@@ -7,7 +7,7 @@ use Rattle.std.proofs.lemmas.Bool.Decides.{nat_tests}
 use Rattle.std.proofs.lemmas.List.{length-map, take_all, take-take, take-append-le}
 use Rattle.std.proofs.lemmas.Slice.Eq.{bytes_eq-Decides}
 use Rattle.std.proofs.lemmas.List.Elements.{All-tail}
-use Rattle.vx_types.specs.Text.{inlined, is_view, view_of, view_text}
+use Rattle.vx_types.specs.Text.{inline_text, is_view, view_of, view_text}
 use Rattle.vx_types.specs.declared.text.BinaryView.{BinaryView}
 use Rattle.vx_types.specs.declared.text.BinaryView.TheVariants.{Inlined, Ref}
 use Rattle.vx_types.specs.declared.text.TextKind.{TextKind}
@@ -45,7 +45,7 @@ module _ (bytes : List ℕ) (s e : ℕ) (o : s ≤ e) (l : e ≤ length bytes) w
       let four : s + 4 - s ≡ 4 = omega arith in
       ap (λ k. take k (drop s bytes)) four ∙ sym (take-take 4 (e - s) (drop s bytes) (omega (arith, many)))
 
-  sound_by : (t : Bool) → nat_le (length (slice_range bytes s e)) 12 ≡ t → is_view (bytes ∷ []) (if t then Inlined (inlined (slice_range bytes s e)) else Ref (length (slice_range bytes s e)) (take 4 (slice_range bytes s e)) 0 s) ≡ true
+  sound_by : (t : Bool) → nat_le (length (slice_range bytes s e)) 12 ≡ t → is_view (bytes ∷ []) (if t then Inlined (inline_text (slice_range bytes s e)) else Ref (length (slice_range bytes s e)) (take 4 (slice_range bytes s e)) 0 s) ≡ true
   sound_by true h = h
   sound_by false h =
       join _ _ (grind (arith, nat_tests, h))
@@ -54,7 +54,7 @@ module _ (bytes : List ℕ) (s e : ℕ) (o : s ≤ e) (l : e ≤ length bytes) w
   pub sound_view : is_view (bytes ∷ []) (view_of (slice_range bytes s e) 0 s) ≡ true
   sound_view = sound_by _ refl
 
-  stands_by : (t : Bool) → nat_le (length (slice_range bytes s e)) 12 ≡ t → view_text (bytes ∷ []) (if t then Inlined (inlined (slice_range bytes s e)) else Ref (length (slice_range bytes s e)) (take 4 (slice_range bytes s e)) 0 s) ≡ slice_range bytes s e
+  stands_by : (t : Bool) → nat_le (length (slice_range bytes s e)) 12 ≡ t → view_text (bytes ∷ []) (if t then Inlined (inline_text (slice_range bytes s e)) else Ref (length (slice_range bytes s e)) (take 4 (slice_range bytes s e)) 0 s) ≡ slice_range bytes s e
   stands_by true h =
       take-append-le (length (slice_range bytes s e)) (slice_range bytes s e) _ (omega arith) ∙ take_all (length (slice_range bytes s e)) (slice_range bytes s e) (omega arith)
   stands_by false h =

@@ -1,4 +1,5 @@
--- What a call asks of a mask, of picks or of a range, and of the validity of the rows that it leaves.
+-- What a call asks of a mask, of picks or of a range, and of the validity of the rows that it
+-- leaves.
 use Rattle.std.specs.Prelude.{◌≡◌, ℕ, ◌-◌, ◌≤◌, length, true}
 use Rattle.vx_bits.specs.BitBuffer.{true_count_of}
 use Rattle.vx_mask.specs.MaskValues.{PartialMask}

@@ -14,13 +14,14 @@ text_kind Utf8 = utf8_kind
 text_kind Binary = binary_kind
 
 -- a text of at most twelve bytes, and zeros past its end
-abbrev pub inlined : List ℕ → InlineBytes
-inlined b = record { len = length b; bytes = b ++ replicate (12 - length b) 0 }
+abbrev pub inline_text : List ℕ → InlineBytes
+inline_text b = record { len = length b; bytes = b ++ replicate (12 - length b) 0 }
 
 -- the view of a text that stands at an offset of a buffer
 abbrev pub view_of : List ℕ → ℕ → ℕ → BinaryView
 view_of b buffer offset =
-    if nat_le (length b) 12 then Inlined (inlined b) else Ref (length b) (take 4 b) buffer offset
+    if nat_le (length b) 12 then Inlined (inline_text b)
+    else Ref (length b) (take 4 b) buffer offset
 
 -- the text that a view stands for
 abbrev pub view_text : List (List ℕ) → BinaryView → List ℕ

@@ -144,7 +144,7 @@ impl DType {
         }
     }
 
-    /// The primitive type, where it is one of whole numbers.
+    /// The primitive type, where it is one of integers.
     pub fn int_type(&self) -> Option<PType>
         ensures { result ≡ int_type_of (type_of self.now) }
     {

@@ -5,27 +5,27 @@ ghost use Rattle.vx_types.specs.PType.{width, is_int, is_signed, number, record_
 /// A primitive type: Vortex's `PType`.
 #[derive(Debug, Clone, Copy, PartialEq, Eq)]
 pub enum PType {
-    /// Whole numbers of 8 bits, from 0 on.
+    /// Unsigned integers of 8 bits.
     U8,
-    /// Whole numbers of 16 bits, from 0 on.
+    /// Unsigned integers of 16 bits.
     U16,
-    /// Whole numbers of 32 bits, from 0 on.
+    /// Unsigned integers of 32 bits.
     U32,
-    /// Whole numbers of 64 bits, from 0 on.
+    /// Unsigned integers of 64 bits.
     U64,
-    /// Whole numbers of 8 bits, in two's complement.
+    /// Signed integers of 8 bits, in two's complement.
     I8,
-    /// Whole numbers of 16 bits, in two's complement.
+    /// Signed integers of 16 bits, in two's complement.
     I16,
-    /// Whole numbers of 32 bits, in two's complement.
+    /// Signed integers of 32 bits, in two's complement.
     I32,
-    /// Whole numbers of 64 bits, in two's complement.
+    /// Signed integers of 64 bits, in two's complement.
     I64,
-    /// Floating numbers of 16 bits, which are moved as bytes.
+    /// Floating-point numbers of 16 bits, which are moved as bytes.
     F16,
-    /// Floating numbers of 32 bits, likewise.
+    /// Floating-point numbers of 32 bits, likewise.
     F32,
-    /// Floating numbers of 64 bits, likewise.
+    /// Floating-point numbers of 64 bits, likewise.
     F64,
 }
 
@@ -68,14 +68,14 @@ impl PType {
         }
     }
 
-    /// Whether its values are whole numbers.
+    /// Whether its values are integers.
     pub fn is_int(self) -> bool
         ensures { result ≡ is_int self }
     {
         !matches!(self, PType::F16 | PType::F32 | PType::F64)
     }
 
-    /// Whether its values are whole numbers in two's complement.
+    /// Whether its values are signed integers.
     pub fn is_signed(self) -> bool
         ensures { result ≡ is_signed self }
     {

@@ -1,7 +1,7 @@
 //! Text: its kinds, and the views that a column keeps of it.
 ghost use Rattle.std.specs.Prelude.{◌≡◌, ◌+◌, ◌<◌, ◌≤◌, ◌^◌, length, take, true};
 ghost use Rattle.vx_types.specs.DType.{type_of};
-ghost use Rattle.vx_types.specs.Text.{inlined, is_text_at, is_view, text_kind, view_of, view_text};
+ghost use Rattle.vx_types.specs.Text.{inline_text, is_text_at, is_view, text_kind, view_of, view_text};
 
 use crate::dtype::DType;
 use crate::nullability::Nullability;
@@ -68,7 +68,7 @@ fn prefix_of(value: &[u8]) -> [u8; 4]
 // A text of at most twelve bytes, with zeros past its end.
 fn inline_bytes(value: &[u8]) -> InlineBytes
     requires { length value.now ≤ 12 }
-    ensures { result ≡ inlined value.now }
+    ensures { result ≡ inline_text value.now }
 {
     let mut bytes = [0; 12];
     bytes[..value.len()].copy_from_slice(value);

@@ -5,7 +5,7 @@ use Rattle.vx_bits.specs.Words.{word_count}
 use Rattle.vx_filter.specs.Compact.{bits_of_words}
 use Rattle.vx_mask.proofs.PositionLists.{length-positions}
 use Rattle.std.proofs.lemmas.List.{length-take-le}
-use Rattle.vx_chunked.specs.Positions.{marked}
+use Rattle.vx_chunked.specs.Positions.{places_of_words}
 use Rattle.vx_chunked.proofs.Marks.{compacted_read}
 use Rattle.vx_chunked.proofs.bits.copy_bits.Goals as goal
 use Rattle.vx_chunked.proofs.bits.copy_bits.Goals.{After-div_ceil}
@@ -18,7 +18,7 @@ room g c =
     ∙ omega (arith, length-positions front.from (bits_of_words (take (word_count front.len) front.words)), c.requires.room)
 
 -- what was compacted, by whichever way, is what stands at the places
-copied : (g : _) (c : After-div_ceil g) (used : ℕ) (dst : List g.row.T.Denot) → length dst ≡ length c.args.dst.now → used ≡ true_count_of (bits_of_words (take c.div_ceil.result c.args.front.now.words)) → take used dst ≡ items_where_true (bits_of_words (take c.div_ceil.result c.args.front.now.words)) (take (c.args.front.now.from + c.args.front.now.len - c.args.front.now.from) (drop c.args.front.now.from c.args.values.now)) → map Some dst ≡ map (slice_get c.args.values.now) (marked c.args.front.now.from c.args.front.now.len c.args.front.now.words)
+copied : (g : _) (c : After-div_ceil g) (used : ℕ) (dst : List g.row.T.Denot) → length dst ≡ length c.args.dst.now → used ≡ true_count_of (bits_of_words (take c.div_ceil.result c.args.front.now.words)) → take used dst ≡ items_where_true (bits_of_words (take c.div_ceil.result c.args.front.now.words)) (take (c.args.front.now.from + c.args.front.now.len - c.args.front.now.from) (drop c.args.front.now.from c.args.values.now)) → map Some dst ≡ map (slice_get c.args.values.now) (places_of_words c.args.front.now.from c.args.front.now.len c.args.front.now.words)
 copied g c used dst same count items =
     let front = c.args.front.now in
     let values = c.args.values.now in

@@ -8,7 +8,7 @@ use Rattle.vx_mask.specs.declared.mask.Mask.TheVariants.{AllTrue, AllFalse}
 use Rattle.vx_mask.specs.Mask.{mask_bits}
 use Rattle.vx_mask.specs.Positions.{set_of}
 use Rattle.vx_mask.proofs.PositionLists.{positions_false, positions_true}
-use Rattle.vx_chunked.specs.Asked.{asked, touched}
+use Rattle.vx_chunked.specs.Asked.{asked, chunks_touched}
 use Rattle.vx_decoder.specs.declared.call.Call.{Call}
 use Rattle.vx_chunked.proofs.Handed.{on_ok_same}
 use Rattle.vx_chunked.proofs.filter.filter_chunked_mask.Goals as goal
@@ -27,8 +27,8 @@ module _ (mask : Mask) (len : ℕ) where
   all_len is = sym (ap (λ m. length (mask_bits m)) is ∙ length-replicate len true)
 
 -- the calls that the same positions ask for
-told : (old : Option (List Call)) (offset limit : ℕ) (xs ys : List ℕ) (n m : ℕ) → xs ≡ ys → n ≡ m → then_told old (asked offset xs limit (touched offset n)) ≡ then_told old (asked offset ys limit (touched offset m))
-told old offset limit xs ys n m set len = ap₂ (λ l k. then_told old (asked offset l limit (touched offset k))) set len
+told : (old : Option (List Call)) (offset limit : ℕ) (xs ys : List ℕ) (n m : ℕ) → xs ≡ ys → n ≡ m → then_told old (asked offset xs limit (chunks_touched offset n)) ≡ then_told old (asked offset ys limit (chunks_touched offset m))
+told old offset limit xs ys n m set len = ap₂ (λ l k. then_told old (asked offset l limit (chunks_touched offset k))) set len
 
 pub returns-in-AllFalse-clause-value : goal.returns-in-AllFalse-clause-value
 returns-in-AllFalse-clause-value g c =
@@ -52,22 +52,22 @@ filter_chunked-requires-clause-within g c =
 
 pub filter_chunked-requires-clause-spare : goal.filter_chunked-requires-clause-spare
 filter_chunked-requires-clause-spare g c =
-    subst (λ (m : Mask). touched c.args.offset (length (mask_bits m)) ≤ g.D.ChunkDecoder.spare c.args.decoder.now) c.in-Values.is c.requires.spare
+    subst (λ (m : Mask). chunks_touched c.args.offset (length (mask_bits m)) ≤ g.D.ChunkDecoder.spare c.args.decoder.now) c.in-Values.is c.requires.spare
 
 pub filter_front-requires-clause-within : goal.filter_front-requires-clause-within
 filter_front-requires-clause-within g c = omega (arith, none_len c.args.mask.now _ c.in-AllFalse.is, c.requires.within)
 
 pub filter_front-requires-clause-spare : goal.filter_front-requires-clause-spare
-filter_front-requires-clause-spare g c = omega (arith, ap (touched c.args.offset) (none_len c.args.mask.now _ c.in-AllFalse.is), c.requires.spare)
+filter_front-requires-clause-spare g c = omega (arith, ap (chunks_touched c.args.offset) (none_len c.args.mask.now _ c.in-AllFalse.is), c.requires.spare)
 
 pub returns-in-AllFalse-clause-cost : goal.returns-in-AllFalse-clause-cost
-returns-in-AllFalse-clause-cost g c = omega (arith, ap (touched c.args.offset) (none_len c.args.mask.now _ c.in-AllFalse.is), c.filter_front.ensures.cost)
+returns-in-AllFalse-clause-cost g c = omega (arith, ap (chunks_touched c.args.offset) (none_len c.args.mask.now _ c.in-AllFalse.is), c.filter_front.ensures.cost)
 
 pub filter_front-requires-in-AllTrue-clause-within : goal.filter_front-requires-in-AllTrue-clause-within
 filter_front-requires-in-AllTrue-clause-within g c = omega (arith, all_len c.args.mask.now _ c.in-AllTrue.is, c.requires.within)
 
 pub filter_front-requires-in-AllTrue-clause-spare : goal.filter_front-requires-in-AllTrue-clause-spare
-filter_front-requires-in-AllTrue-clause-spare g c = omega (arith, ap (touched c.args.offset) (all_len c.args.mask.now _ c.in-AllTrue.is), c.requires.spare)
+filter_front-requires-in-AllTrue-clause-spare g c = omega (arith, ap (chunks_touched c.args.offset) (all_len c.args.mask.now _ c.in-AllTrue.is), c.requires.spare)
 
 pub returns-in-AllTrue-clause-cost : goal.returns-in-AllTrue-clause-cost
-returns-in-AllTrue-clause-cost g c = omega (arith, ap (touched c.args.offset) (all_len c.args.mask.now _ c.in-AllTrue.is), c.filter_front-in-AllTrue.ensures.cost)
+returns-in-AllTrue-clause-cost g c = omega (arith, ap (chunks_touched c.args.offset) (all_len c.args.mask.now _ c.in-AllTrue.is), c.filter_front-in-AllTrue.ensures.cost)

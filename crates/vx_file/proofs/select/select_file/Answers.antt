@@ -12,7 +12,7 @@ use Rattle.vx_select.proofs.ChunkRows.{answered_rows, type_after-takes}
 use Rattle.vx_file.specs.File.{file_rows}
 use Rattle.vx_file.specs.Reading.{IsReadError, NamesTouched}
 use Rattle.vx_file.specs.Shape.{row_type}
-use Rattle.vx_file.specs.Touched.{blocks_for, composed}
+use Rattle.vx_file.specs.Touched.{blocks_for, picks_of_steps}
 use Rattle.vx_file.proofs.FileAnswers.{length-file_rows, read_err, same_picks, select_err, walk_same}
 use Rattle.vx_file.proofs.Options.{if_err, if_ok, if_some, ok_both}
 use Rattle.vx_file.proofs.ToldReads.{read_nothing}
@@ -21,7 +21,7 @@ use Rattle.vx_file.proofs.select.select_file.Goals as goal
 pub returns-in-Err-clause-error : goal.returns-in-Err-clause-error
 returns-in-Err-clause-error g c =
     let s = c.args.shape.now in
-    let p = composed s.len (map step_value c.args.steps.now) in
+    let p = picks_of_steps s.len (map step_value c.args.steps.now) in
     let spare = g.R.BlockReader.spare c.args.reader.now in
     let faults = g.R.BlockReader.faults c.args.reader.now in
     let reads = g.R.BlockReader.reads c.args.reader.now in
@@ -60,7 +60,7 @@ returns-clause-error g c =
     let after = g.R.BlockReader.reads c.take_file.new.reader in
     let blocks = g.R.BlockReader.blocks c.args.reader.now in
     if_err c.take_file.result (IsReadError (width s.ptype) c.in-Ok.picks spare raised before after blocks) _ c.take_file.ensures.error
-    (λ e m. read_err _ (width s.ptype) (composed s.len steps) spare raised before after blocks e (subst (λ (q : BoundedPicks). IsReadError (width s.ptype) q spare raised before after blocks e) same m))
+    (λ e m. read_err _ (width s.ptype) (picks_of_steps s.len steps) spare raised before after blocks e (subst (λ (q : BoundedPicks). IsReadError (width s.ptype) q spare raised before after blocks e) same m))
 
 pub returns-clause-touched : goal.returns-clause-touched
 returns-clause-touched g c =

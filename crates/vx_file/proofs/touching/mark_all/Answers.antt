@@ -1,5 +1,5 @@
 use Rattle.std.proofs.Common.{List, Bool, sym, subst, take, ap, ◌∙◌, arith}
-use Rattle.vx_file.specs.Touched.{AreMarked, blocks_for, marked}
+use Rattle.vx_file.specs.Touched.{AreMarked, blocks_for, with_mark}
 use Rattle.vx_file.proofs.Marks.{marks_all, marks_more, no_marks}
 use Rattle.vx_file.proofs.touching.mark_all.Goals as goal
 
@@ -11,7 +11,7 @@ loop-i-init c =
 pub loop-i-preserved : goal.loop-i-preserved
 loop-i-preserved c =
     let p = c.args.picks.now in
-    marks_more c.loop-i.marks c.mark.new.marks p.picks c.loop-i.i (blocks_for p.bound) (omega arith) c.loop-i.invariant (c.mark.ensures ∙ ap (marked c.loop-i.marks) c.get.ensures.value)
+    marks_more c.loop-i.marks c.mark.new.marks p.picks c.loop-i.i (blocks_for p.bound) (omega arith) c.loop-i.invariant (c.mark.ensures ∙ ap (with_mark c.loop-i.marks) c.get.ensures.value)
 
 pub returns : goal.returns
 returns c =

@@ -3,7 +3,7 @@ use Rattle.std.proofs.Common.{◌≡◌, ◌∙◌, ◌<◌, ℕ, List, length, 
 use Rattle.std.specs.List.{All}
 use Rattle.vx_types.specs.TypeTree.{TypeTree}
 use Rattle.vx_table.specs.Table.{AreLong}
-use Rattle.vx_table.specs.Taken.{chosen}
+use Rattle.vx_table.specs.Taken.{items_by_number}
 use Rattle.vx_join.specs.Cells.{rows_of}
 use Rattle.vx_join.specs.Keys.{left_keys, right_keys, rows_from, rows_match}
 use Rattle.vx_join.specs.Numbers.{AreAlike, types_of}
@@ -27,26 +27,26 @@ key_columns-requires-2 c =
 pub join_columns-requires-clause-left : goal.join_columns-requires-clause-left
 join_columns-requires-clause-left c =
     let t = c.args.left.now in
-    let rows = ap rows_of c.deref-3.ensures.value ∙ c.in_ok-left_columns.ensures.rows ∙ ap (λ cs. rows_of (chosen c.deref.result.now cs)) c.columns.ensures.value in
+    let rows = ap rows_of c.deref-3.ensures.value ∙ c.in_ok-left_columns.ensures.rows ∙ ap (λ cs. rows_of (items_by_number c.deref.result.now cs)) c.columns.ensures.value in
     let P : ℕ → Type 0 = λ n. AreLong n c.deref-3.result.now in
     subst P (sym c.len.ensures) (long_keys t c.deref.result.now c.deref-3.result.now c.columns.ensures.long rows)
 
 pub join_columns-requires-clause-right : goal.join_columns-requires-clause-right
 join_columns-requires-clause-right c =
     let t = c.args.right.now in
-    let rows = ap rows_of c.deref-4.ensures.value ∙ c.in_ok-right_columns.ensures.rows ∙ ap (λ cs. rows_of (chosen c.deref-2.result.now cs)) c.columns-2.ensures.value in
+    let rows = ap rows_of c.deref-4.ensures.value ∙ c.in_ok-right_columns.ensures.rows ∙ ap (λ cs. rows_of (items_by_number c.deref-2.result.now cs)) c.columns-2.ensures.value in
     let P : ℕ → Type 0 = λ n. AreLong n c.deref-4.result.now in
     subst P (sym c.len-2.ensures) (long_keys t c.deref-2.result.now c.deref-4.result.now c.columns-2.ensures.long rows)
 
 pub join_columns-requires-clause-alike : goal.join_columns-requires-clause-alike
 join_columns-requires-clause-alike c =
     let left = c.args.left.now in let right = c.args.right.now in let keys = c.args.keys.now in
-    let l : types_of c.deref-3.result.now ≡ types_of (chosen (left_keys keys) left.columns) =
-    ap types_of c.deref-3.ensures.value ∙ c.in_ok-left_columns.ensures.types ∙ (λ i. types_of (chosen ((c.deref.ensures.value ∙ c.in_ok-left_keys.ensures) i) (c.columns.ensures.value i))) in
-    let r : types_of c.deref-4.result.now ≡ types_of (chosen (right_keys keys) right.columns) =
-    ap types_of c.deref-4.ensures.value ∙ c.in_ok-right_columns.ensures.types ∙ (λ i. types_of (chosen ((c.deref-2.ensures.value ∙ c.in_ok-right_keys.ensures) i) (c.columns-2.ensures.value i))) in
+    let l : types_of c.deref-3.result.now ≡ types_of (items_by_number (left_keys keys) left.columns) =
+    ap types_of c.deref-3.ensures.value ∙ c.in_ok-left_columns.ensures.types ∙ (λ i. types_of (items_by_number ((c.deref.ensures.value ∙ c.in_ok-left_keys.ensures) i) (c.columns.ensures.value i))) in
+    let r : types_of c.deref-4.result.now ≡ types_of (items_by_number (right_keys keys) right.columns) =
+    ap types_of c.deref-4.ensures.value ∙ c.in_ok-right_columns.ensures.types ∙ (λ i. types_of (items_by_number ((c.deref-2.ensures.value ∙ c.in_ok-right_keys.ensures) i) (c.columns-2.ensures.value i))) in
     let P : List TypeTree → Type 0 = λ t. AreAlike t (types_of c.deref-4.result.now) in
-    let Q : List TypeTree → Type 0 = λ u. AreAlike (types_of (chosen (left_keys keys) left.columns)) u in
+    let Q : List TypeTree → Type 0 = λ u. AreAlike (types_of (items_by_number (left_keys keys) left.columns)) u in
     subst P (sym l) (subst Q (sym r) (are_alike left right keys c.requires.types))
 
 pub of-requires-clause-left : goal.of-requires-clause-left

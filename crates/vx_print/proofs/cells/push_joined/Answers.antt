@@ -1,6 +1,6 @@
 use Rattle.std.proofs.Common.{◌≡◌, ◌+◌, ◌-◌, ◌*◌, ◌++◌, ◌∙◌, ◌≤◌, ℕ, refl, eqb, length, length-drop, ap, map, min, drop, slice_range, arith}
 use Rattle.std.proofs.lemmas.List.{take_all}
-use Rattle.vx_print.specs.Text.{gap, joined, row_text}
+use Rattle.vx_print.specs.Text.{gap, comma_list, row_text}
 use Rattle.vx_print.proofs.Gaps.{IsFirst, elements_more}
 use Rattle.std.proofs.lemmas.Bool.Decides.{nat_tests}
 use Rattle.vx_print.proofs.cells.push_joined.Goals as goal
@@ -19,10 +19,10 @@ loop-k-preserved c =
     let now : min from c.args.end ≡ from = omega arith in
     let next : to ≡ min (start + 64 * (s.k + 1)) c.args.end = omega arith in
     let short : length (drop at dst) ≤ 4352 - at = omega (arith, length-drop at dst) in
-    let block = joined (map f (slice_range rows from to)) in
+    let block = comma_list (map f (slice_range rows from to)) in
     let first : IsFirst (eqb s.k 0) (from - start) = record { yes = λ t. grind (arith, nat_tests); no = λ t. grind (arith, nat_tests) } in
     c.in_ok-extend_from_slice.ensures.items
     ∙ ap (λ l. c.push_next.new.text.items ++ l) (take_all (4352 - at) (drop at dst) short ∙ c.put_joined-at.ensures.put)
-    ∙ ap (λ l. l ++ block) (c.in_ok-push_next.ensures refl ∙ ap (λ l. l ++ gap (eqb s.k 0)) (s.invariant ∙ ap (λ (n : ℕ). init ++ joined (map f (slice_range rows start n))) now))
+    ∙ ap (λ l. l ++ block) (c.in_ok-push_next.ensures refl ∙ ap (λ l. l ++ gap (eqb s.k 0)) (s.invariant ∙ ap (λ (n : ℕ). init ++ comma_list (map f (slice_range rows start n))) now))
     ∙ elements_more f init rows start from to (eqb s.k 0) first (omega arith) (omega arith) (omega arith)
-    ∙ ap (λ (n : ℕ). init ++ joined (map f (slice_range rows start n))) next
+    ∙ ap (λ (n : ℕ). init ++ comma_list (map f (slice_range rows start n))) next

@@ -1,7 +1,7 @@
 use Rattle.std.proofs.Common.{◌++◌, ◌∙◌, ap, map, drop, eqb, refl, arith}
 use Rattle.vx_types.specs.RowValue.{null}
 use Rattle.vx_column.specs.Cell.{row_of}
-use Rattle.vx_print.specs.Text.{gap, joined, row_text}
+use Rattle.vx_print.specs.Text.{gap, comma_list, row_text}
 use Rattle.vx_print.proofs.Blocks.{none_put, all_put}
 use Rattle.vx_print.proofs.Gaps.{element_in_front}
 use Rattle.vx_print.proofs.cells.put_cells.Goals as goal
@@ -11,7 +11,7 @@ loop-k-init c =
     record {
       room = omega arith;
       within = omega arith;
-      put = none_put (λ l. joined (map (row_text c.args.column.now.dtype) l)) c.args.dst.now c.args.column.now.rows 4352 c.args.end refl (omega arith) (omega arith);
+      put = none_put (λ l. comma_list (map (row_text c.args.column.now.dtype) l)) c.args.dst.now c.args.column.now.rows 4352 c.args.end refl (omega arith) (omega arith);
     }
 
 pub loop-k-preserved : goal.loop-k-preserved
@@ -32,4 +32,4 @@ loop-k-preserved c =
 pub returns-clause-put : goal.returns-clause-put
 returns-clause-put c =
     c.loop-k.invariant.put
-    ∙ all_put (λ l. joined (map (row_text c.args.column.now.dtype) l)) c.args.column.now.rows c.args.start c.args.end c.loop-k.k (omega arith) (omega arith)
+    ∙ all_put (λ l. comma_list (map (row_text c.args.column.now.dtype) l)) c.args.column.now.rows c.args.start c.args.end c.loop-k.k (omega arith) (omega arith)

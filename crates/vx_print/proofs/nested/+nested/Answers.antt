@@ -9,7 +9,7 @@ use Rattle.vx_model.specs.Column.{Column}
 use Rattle.vx_column.specs.Cell.{row_of, IsOfType}
 use Rattle.vx_column.specs.declared.cell.Cell.{Cell}
 use Rattle.vx_print.specs.Fields.{texts_at}
-use Rattle.vx_print.specs.Text.{gap, joined, labelled, name_label, row_text}
+use Rattle.vx_print.specs.Text.{gap, comma_list, with_labels, name_label, row_text}
 use Rattle.vx_print.proofs.Elements.{fields_text}
 use Rattle.vx_print.proofs.Gaps.{row_behind}
 use Rattle.vx_print.proofs.Labels.{field_more, length-fields}
@@ -30,7 +30,7 @@ push_fields-loop-k-preserved t c =
     let lt : k < length cs = omega arith in
     let init = c.args.text.now.items in
     let text = c.push_label.new.text.items in
-    let before = init ++ joined (take k (labelled names (texts_at cs i))) in
+    let before = init ++ comma_list (take k (with_labels names (texts_at cs i))) in
     let front = (before ++ gap (eqb k 0)) ++ get_or names k [] in
     let label : text ≡ front =
     c.in_ok-push_label.ensures refl
@@ -47,8 +47,8 @@ pub push_fields-returns : goal.push_fields-returns
 push_fields-returns t c = λ _.
     let cs = c.args.columns.now in
     let names = map name_label (names_of c.args.names.now) in
-    let fields = labelled names (texts_at cs c.args.i) in
-    c.loop-k.invariant ∙ ap (λ l. c.args.text.now.items ++ joined l) (take_all c.loop-k.k fields (omega (arith, length-fields names cs c.args.i)))
+    let fields = with_labels names (texts_at cs c.args.i) in
+    c.loop-k.invariant ∙ ap (λ l. c.args.text.now.items ++ comma_list l) (take_all c.loop-k.k fields (omega (arith, length-fields names cs c.args.i)))
 
 pub push_row-returns-in-Fields : goal.push_row-returns-in-Fields
 push_row-returns-in-Fields t c = λ ok.
@@ -58,6 +58,6 @@ push_row-returns-in-Fields t c = λ ok.
     let text = c.args.text.now.items in
     let of_type = subst (λ (r : Cell). IsOfType r d) c.in-Fields.is c.requires.of_type in
     c.push_struct.ensures ok
-    ∙ ap (λ ns. text ++ (codes "{" ++ joined (labelled (map name_label ns) (texts_at cs i)) ++ codes "}")) c.names_in.ensures
+    ∙ ap (λ ns. text ++ (codes "{" ++ comma_list (with_labels (map name_label ns) (texts_at cs i)) ++ codes "}")) c.names_in.ensures
     ∙ sym (ap (λ l. text ++ l) (fields_text d cs i of_type.kind))
     ∙ sym (ap (λ (r : Cell). text ++ row_text d (row_of r)) c.in-Fields.is)

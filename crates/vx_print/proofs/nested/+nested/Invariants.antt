@@ -4,18 +4,18 @@ use Rattle.vx_types.specs.Fields.{names_of}
 use Rattle.vx_model.specs.Columns.{columns_depth}
 use Rattle.vx_column.specs.Cell.{cell_depth}
 use Rattle.vx_print.specs.Fields.{texts_at}
-use Rattle.vx_print.specs.Text.{joined, labelled, name_label, row_text}
+use Rattle.vx_print.specs.Text.{comma_list, with_labels, name_label, row_text}
 use Rattle.vx_print.proofs.nested.+nested.Given as goal
 
 -- the rows from the first one on stand behind what was there
 abbrev pub invariant-push_elements-loop-i : goal.invariant-push_elements-loop-i
 invariant-push_elements-loop-i l =
-    l.text.items ≡ l.initial.text.items ++ joined (map (row_text l.column.dtype) (slice_range l.column.rows l.start l.i))
+    l.text.items ≡ l.initial.text.items ++ comma_list (map (row_text l.column.dtype) (slice_range l.column.rows l.start l.i))
 
 -- the first k fields stand behind what was there
 abbrev pub invariant-push_fields-loop-k : goal.invariant-push_fields-loop-k
 invariant-push_fields-loop-k l =
-    l.text.items ≡ l.initial.text.items ++ joined (take l.k (labelled (map name_label (names_of l.names)) (texts_at l.columns l.i)))
+    l.text.items ≡ l.initial.text.items ++ comma_list (take l.k (with_labels (map name_label (names_of l.names)) (texts_at l.columns l.i)))
 
 abbrev pub decreases-push_elements : goal.decreases-push_elements
 decreases-push_elements l = 3 * l.column.now.depth

@@ -1,7 +1,7 @@
 use Rattle.std.proofs.Common.{◌≡◌, ◌-◌, ◌++◌, ◌∙◌, ℕ, ap, sym, map, take, drop, eqb, length, arith}
 use Rattle.std.proofs.lemmas.List.{drop_all, length-take-le, take_all}
 use Rattle.vx_print.specs.Records.{record_text}
-use Rattle.vx_print.specs.Text.{gap, joined}
+use Rattle.vx_print.specs.Text.{gap, comma_list}
 use Rattle.vx_print.proofs.Gaps.{element_in_front}
 use Rattle.vx_print.proofs.record_lists.put_each.Goals as goal
 
@@ -13,7 +13,7 @@ loop-k-init g c =
     record {
       room = omega arith;
       within = omega arith;
-      put = drop_all 4352 c.args.dst.now (omega arith) ∙ sym (ap (λ l. joined (map (record_text c.args.form) l)) (drop_all (n - 0) (take n rs) (omega arith)));
+      put = drop_all 4352 c.args.dst.now (omega arith) ∙ sym (ap (λ l. comma_list (map (record_text c.args.form) l)) (drop_all (n - 0) (take n rs) (omega arith)));
     }
 
 pub loop-k-preserved : goal.loop-k-preserved
@@ -39,5 +39,5 @@ returns-clause-put g c =
     let rs = c.args.records.now in
     let n = length rs in
     let first : n - s.k ≡ 0 = omega arith in
-    s.invariant.put ∙ ap (λ (m : ℕ). joined (map f (drop m (take n rs)))) first
-    ∙ ap (λ l. joined (map f l)) (take_all n rs (omega arith))
+    s.invariant.put ∙ ap (λ (m : ℕ). comma_list (map f (drop m (take n rs)))) first
+    ∙ ap (λ l. comma_list (map f l)) (take_all n rs (omega arith))

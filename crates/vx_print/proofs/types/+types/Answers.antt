@@ -5,7 +5,7 @@ use Rattle.vx_types.specs.DType.{type_of}
 use Rattle.vx_types.specs.Fields.{names_of}
 use Rattle.vx_types.specs.TypeTree.{type_size}
 use Rattle.vx_types.specs.declared.dtype.DType.{DType}
-use Rattle.vx_print.specs.Text.{gap, joined, id_label, name_label, type_text}
+use Rattle.vx_print.specs.Text.{gap, comma_list, id_label, name_label, type_text}
 use Rattle.vx_print.proofs.Entries.{entries, entry_more, length-entries, size_at}
 use Rattle.vx_print.proofs.types.+types.Goals as goal
 
@@ -26,7 +26,7 @@ push_types-loop-i-preserved t c =
     let u = c.index-types-i.result in
     let lt : i < length ts = omega arith in
     let init = c.args.text.now.items in
-    let front = (((init ++ joined (take i (entries ids names ts))) ++ gap (eqb i 0)) ++ get_or ids i []) ++ get_or names i [] in
+    let front = (((init ++ comma_list (take i (entries ids names ts))) ++ gap (eqb i 0)) ++ get_or ids i []) ++ get_or names i [] in
     c.in_ok-push_type.ensures refl
     ∙ ap (λ l. l ++ type_text (type_of u)) (c.in_ok-push_name.ensures refl
     ∙ ap (λ l. l ++ get_or names i []) (c.in_ok-push_id.ensures refl
@@ -40,4 +40,4 @@ push_types-returns t c = λ _.
     let ids = map id_label c.args.ids.now in
     let names = map name_label (names_of c.args.names.now) in
     let i = c.loop-i.i in
-    c.loop-i.invariant ∙ ap (λ l. c.args.text.now.items ++ joined l) (take_all i (entries ids names ts) (omega (arith, length-entries ids names ts)))
+    c.loop-i.invariant ∙ ap (λ l. c.args.text.now.items ++ comma_list l) (take_all i (entries ids names ts) (omega (arith, length-entries ids names ts)))

@@ -3,14 +3,14 @@ use Rattle.std.proofs.Common.{◌≡◌, ◌+◌, ◌*◌, ◌++◌, map, take}
 use Rattle.vx_types.specs.DType.{type_of}
 use Rattle.vx_types.specs.Fields.{names_of}
 use Rattle.vx_types.specs.TypeTree.{types_of, type_size, types_size}
-use Rattle.vx_print.specs.Text.{joined, name_label, id_label}
+use Rattle.vx_print.specs.Text.{comma_list, name_label, id_label}
 use Rattle.vx_print.proofs.Entries.{entries}
 use Rattle.vx_print.proofs.types.+types.Given as goal
 
 -- the first i types stand behind what was there
 abbrev pub invariant-push_types-loop-i : goal.invariant-push_types-loop-i
 invariant-push_types-loop-i l =
-    l.text.items ≡ l.initial.text.items ++ joined (take l.i (entries (map id_label l.ids) (map name_label (names_of l.names)) l.types))
+    l.text.items ≡ l.initial.text.items ++ comma_list (take l.i (entries (map id_label l.ids) (map name_label (names_of l.names)) l.types))
 
 abbrev pub decreases-push_types : goal.decreases-push_types
 decreases-push_types l = 4 * types_size (types_of (map type_of l.types.now)) + 2

@@ -10,7 +10,7 @@ use Rattle.vx_mask.specs.Positions.{set_of}
 use Rattle.vx_take.specs.Picks.{at}
 use Rattle.vx_take.specs.Ranks.{AreJustSet}
 use Rattle.vx_take.proofs.TakenLists.{looked_up}
-use Rattle.vx_chunked.specs.Asked.{asked, touched}
+use Rattle.vx_chunked.specs.Asked.{asked, chunks_touched}
 use Rattle.vx_decoder.specs.declared.call.Call.{Call}
 use Rattle.vx_steps.specs.Shape.{ShapeValue}
 use Rattle.vx_select.specs.Chunks.{IsTold, asked_at, asked_for, chunk_values}
@@ -20,8 +20,8 @@ use Rattle.vx_select.proofs.chunked.picked_records.Goals as goal
 
 same_calls : (s : ShapeValue) (bound limit : ℕ) (bits : List Bool) (picks : List (Option ℕ)) → length bits ≡ bound → bound ≡ s.len → AreJustSet bits picks → asked_at s limit bits ≡ asked_for s limit picks
 same_calls s bound limit bits picks long whole just =
-    ap (λ n. asked s.offset (set_of bits) limit (touched s.offset n)) (long ∙ whole)
-    ∙ asked_alike s.offset bits picks limit (touched s.offset s.len) just
+    ap (λ n. asked s.offset (set_of bits) limit (chunks_touched s.offset n)) (long ∙ whole)
+    ∙ asked_alike s.offset bits picks limit (chunks_touched s.offset s.len) just
 
 pub returns-clause-records : goal.returns-clause-records
 returns-clause-records g c =

@@ -8,7 +8,7 @@ use Rattle.vx_mask.specs.Mask.{mask_bits}
 use Rattle.vx_mask.specs.Policy.{sparse_limit_of}
 use Rattle.vx_mask.specs.Positions.{set_of}
 use Rattle.vx_take.specs.Picks.{at}
-use Rattle.vx_chunked.specs.Asked.{asked, touched}
+use Rattle.vx_chunked.specs.Asked.{asked, chunks_touched}
 use Rattle.vx_select.specs.Chunks.{chunk_values}
 use Rattle.vx_select.proofs.ChunkRows.{kept_count, kept_items, on_err, on_ok, width_small}
 use Rattle.vx_select.proofs.chunked.ranked_records.Goals as goal
@@ -32,5 +32,5 @@ returns-clause-records g c =
 pub returns-clause-told : goal.returns-clause-told
 returns-clause-told g c =
     let bits = mask_bits c.args.mask.now in let limit = sparse_limit_of c.args.policy.now g.row.W in
-    let told = c.in_ok-kept.ensures.told ∙ ap (λ o. then_told (g.D.ChunkDecoder.calls c.args.decoder.now) (asked o (set_of bits) limit (touched o (length bits)))) c.offset.ensures.value in
+    let told = c.in_ok-kept.ensures.told ∙ ap (λ o. then_told (g.D.ChunkDecoder.calls c.args.decoder.now) (asked o (set_of bits) limit (chunks_touched o (length bits)))) c.offset.ensures.value in
     (on_ok c.taken_records.result told, on_err c.taken_records.result (inr told))

@@ -1,8 +1,8 @@
 -- The names of the numbers before this one.
 use Rattle.std.proofs.Common.{◌≡◌, take}
 use Rattle.vx_table.specs.Table.{names_of}
-use Rattle.vx_table.specs.Taken.{chosen}
+use Rattle.vx_table.specs.Taken.{items_by_number}
 use Rattle.vx_table.proofs.projecting.chosen_names.Given as goal
 
 abbrev pub invariant-loop-i : goal.invariant-loop-i
-invariant-loop-i l = names_of l.copy.items ≡ chosen (take l.i-index l.projection) (names_of l.names)
+invariant-loop-i l = names_of l.copy.items ≡ items_by_number (take l.i-index l.projection) (names_of l.names)

@@ -1,7 +1,7 @@
 use Rattle.std.proofs.Common.{◌≤◌, ℕ, List, length, map, ap, sym, subst, ◌∙◌, arith}
 use Rattle.vx_mask.specs.Mask.{mask_bits}
 use Rattle.vx_take.specs.Picks.{ArePlaces, BoundedPicks, null_place, picks_of}
-use Rattle.vx_take.specs.Ranks.{place_before, translated}
+use Rattle.vx_take.specs.Ranks.{place_before, positions_by_rank}
 use Rattle.vx_take.proofs.NeededBits.{ranked_picks, ranked_places, ranked_back}
 use Rattle.vx_take.proofs.needs.ranks_in.Goals as goal
 
@@ -27,4 +27,4 @@ pub returns-clause-inverse : goal.returns-clause-inverse
 returns-clause-inverse c =
     let bits = mask_bits c.args.mask.now in
     let fits : length bits ≤ null_place = omega (arith, c.len.ensures) in
-    ap (translated bits) (returns-clause-ranks c) ∙ ranked_back bits fits c.args.picks.now.picks c.requires
+    ap (positions_by_rank bits) (returns-clause-ranks c) ∙ ranked_back bits fits c.args.picks.now.picks c.requires

@@ -4,7 +4,7 @@ use Rattle.std.specs.Prelude.{IfOk}
 use Rattle.std.specs.List.{items_where_true}
 use Rattle.vx_mask.specs.Mask.{mask_bits}
 use Rattle.vx_mask.specs.Positions.{set_of}
-use Rattle.vx_steps.specs.Compose.{picks_in, bound_of, numbered}
+use Rattle.vx_steps.specs.Compose.{picks_in, bound_of, picks_by_number}
 use Rattle.vx_steps.proofs.ComposedPicks.{numbered-set, numbers_within}
 use Rattle.vx_steps.proofs.composed.Composed.at_the_set.Goals as goal
 
@@ -18,6 +18,6 @@ pub returns : goal.returns
 returns c =
     let bits = mask_bits c.args.mask.now in let picks = picks_in c.args.self.now in
     let set : c.in-Some.indices.now ≡ set_of bits = c.in-Some.ensures.set ∙ ap set_of c.in_ok-listed.ensures.bits in
-    let same : numbered picks c.in-Some.indices.now ≡ items_where_true bits picks =
-    ap (numbered picks) set ∙ numbered-set picks bits c.requires.long in
+    let same : picks_by_number picks c.in-Some.indices.now ≡ items_where_true bits picks =
+    ap (picks_by_number picks) set ∙ numbered-set picks bits c.requires.long in
     subst (λ l. IfOk c.numbered.result (λ p. p ≡ record { picks = l; bound = bound_of c.args.self.now })) same c.numbered.ensures
