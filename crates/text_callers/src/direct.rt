@@ -1,7 +1,9 @@
 //! The steps over either layout, with the validity of what they leave handed in.
-ghost use Rattle.std.specs.Prelude.{◌≡◌, length};
+ghost use Rattle.std.specs.Prelude.{◌≡◌, length, IsOk};
+ghost use Rattle.vx_column.specs.Validity.{valid_of};
 ghost use Rattle.vx_model.specs.VarBin.{varbin_texts};
 ghost use Rattle.vx_model.specs.VarBinView.{view_texts};
+ghost use Rattle.vx_text.specs.Fits.{FitsTake};
 
 use crate::columns::{ann_and_bo, views};
 use crate::print::print_rows;
@@ -35,43 +37,50 @@ fn view_count(texts: &VarBinViewArray) -> usize
     texts.views().len()
 }
 
-fn taken_texts(
-    alloc: Global,
-    texts: &VarBinArray,
-    picks: &Picks,
-    validity: &Validity,
-) -> Result<VarBinArray, Fail> {
-    if picks.bound() > text_count(texts) || !validity.is_fitting(picks.len()) {
-        return Err(UNFIT.into());
+// What a take is by: picks, and which of the rows at them are there.
+#[derive(Clone, Copy)]
+struct TakeBy<'a> {
+    picks: &'a Picks,
+    validity: &'a Validity,
+}
+
+impl TakeBy<'_> {
+    // Whether they fit so many rows.
+    fn check(&self, len: usize) -> Result<(), Fail>
+        ensures { IsOk result
+            → FitsTake len self.picks.now (valid_of self.validity.now) }
+    {
+        if self.picks.bound() > len || !self.validity.is_fitting(self.picks.len()) {
+            return Err(UNFIT.into());
+        }
+        Ok(())
     }
-    Ok(take_varbin_picks(alloc, texts, picks, validity.share())?)
+}
+
+fn taken_texts(alloc: Global, texts: &VarBinArray, by: TakeBy<'_>) -> Result<VarBinArray, Fail> {
+    by.check(text_count(texts))?;
+    Ok(take_varbin_picks(alloc, texts, by.picks, by.validity.share())?)
 }
 
 fn taken_views(
     alloc: Global,
     texts: &VarBinArray,
-    picks: &Picks,
-    validity: &Validity,
+    by: TakeBy<'_>,
 ) -> Result<VarBinViewArray, Fail> {
-    if picks.bound() > text_count(texts) || !validity.is_fitting(picks.len()) {
-        return Err(UNFIT.into());
-    }
+    by.check(text_count(texts))?;
     if texts.last_offset() > 2147483647 {
         return Err("texts past what a view reaches".into());
     }
-    Ok(take_views(alloc, texts, picks, validity.share())?)
+    Ok(take_views(alloc, texts, by.picks, by.validity.share())?)
 }
 
 fn gathered(
     alloc: Global,
     texts: &VarBinViewArray,
-    picks: &Picks,
-    validity: &Validity,
+    by: TakeBy<'_>,
 ) -> Result<VarBinViewArray, Fail> {
-    if picks.bound() > view_count(texts) || !validity.is_fitting(picks.len()) {
-        return Err(UNFIT.into());
-    }
-    Ok(gather_views(alloc, texts, picks, validity.share())?)
+    by.check(view_count(texts))?;
+    Ok(gather_views(alloc, texts, by.picks, by.validity.share())?)
 }
 
 /// Picks of two rows, and which of the rows at them are there.
@@ -91,24 +100,12 @@ fn print_take(
     rt: &impl Print,
     alloc: Global,
     texts: &VarBinArray,
-    picks: &Picks,
-    validity: &Validity,
+    by: TakeBy<'_>,
 ) -> Result<(), Fail> {
-    let taken = taken_texts(alloc, texts, picks, validity)?;
+    let taken = taken_texts(alloc, texts, by)?;
     print_rows(rt, alloc, "take_varbin_picks", &taken.into_array())?;
-    let taken = taken_views(alloc, texts, picks, validity)?;
+    let taken = taken_views(alloc, texts, by)?;
     print_rows(rt, alloc, "take_views", &taken.into_array())
-}
-
-fn print_gather(
-    rt: &impl Print,
-    alloc: Global,
-    views: &VarBinViewArray,
-    picks: &Picks,
-    validity: &Validity,
-) -> Result<(), Fail> {
-    let taken = gathered(alloc, views, picks, validity)?;
-    print_rows(rt, alloc, "gather_views", &taken.into_array())
 }
 
 // Prints what takes leave of either layout.
@@ -121,8 +118,13 @@ fn print_takes(
     for (list, there) in &TAKES {
         let picks = picks_of(alloc, 2, list)?;
         let validity = validity_of(alloc, there)?;
-        print_take(rt, alloc, texts, &picks, &validity)?;
-        print_gather(rt, alloc, views, &picks, &validity)?;
+        let by = TakeBy {
+            picks: &picks,
+            validity: &validity,
+        };
+        print_take(rt, alloc, texts, by)?;
+        let taken = gathered(alloc, views, by)?;
+        print_rows(rt, alloc, "gather_views", &taken.into_array())?;
     }
     Ok(())
 }
