@@ -48,7 +48,7 @@ impl TakeBy<'_> {
     // Whether they fit so many rows.
     fn check(&self, len: usize) -> Result<(), Fail>
         ensures { IsOk result
-            → FitsTake len self.picks.now (valid_of self.validity.now) }
+            → FitsTake len self.now.picks.now (valid_of self.now.validity.now) }
     {
         if self.picks.bound() > len || !self.validity.is_fitting(self.picks.len()) {
             return Err(UNFIT.into());
