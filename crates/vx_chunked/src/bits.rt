@@ -101,7 +101,7 @@ fn part_in(bits: &BitBuffer, first: usize, offset: usize, chunk: usize) -> Part
 fn front_of(bits: &BitBuffer, from: usize) -> BitFront
     requires { from + length bits.now.bits ≤ 1024 }
     ensures places { places_of_words result.from result.len result.words
-            ≡ positions from bits.now.bits }
+        ≡ positions from bits.now.bits }
     ensures inside { All (λ p. p < 1024) (places_of_words result.from result.len result.words) }
 {
     let len = bits.len();

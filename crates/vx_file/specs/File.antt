@@ -20,7 +20,7 @@ abbrev pub file_of : ShapeValue → List ℕ → List (List ℕ)
 file_of s values =
     header s
     ∷ map (λ k. spell (whole_block (chunk_at values k)))
-      (range_with_len 0 (blocks_for (length values)))
+    (range_with_len 0 (blocks_for (length values)))
 
 -- the number of row p, which is one of those that its block states
 abbrev pub number_at : List (List ℕ) → ℕ → ℕ
