@@ -26,8 +26,8 @@ pub enum Stop {
 
 /// All bytes of a source, up to its end.
 ///
-/// No read comes after one that failed. Where there are more than `MAX_BYTES`, one byte past the
-/// bound is taken, and no more.
+/// It stops at the first read that fails: rows of `file_callers` show it, and no clause says so.
+/// Where there are more than `MAX_BYTES`, one byte past the bound is taken, and no more.
 pub fn read_all<S: Source>(alloc: Global, source: &mut S) -> Result<Vec<u8>, Stop>
     ensures taken { IfOk result (λ v. S.rest source.old ≡ with_front v.items (S.rest source.new)) }
     ensures end { OnOk result (IfSome (S.rest source.new) (λ left. left ≡ [])) }
@@ -84,7 +84,7 @@ fn make_room(buffer: &mut Vec<u8>, filled: usize) -> Result<(), AllocError>
 
 /// Delivers a text to a sink: writes all of it, and finishes.
 ///
-/// No call comes after one that failed. It takes no memory.
+/// It stops at the first call that fails, likewise. It takes no memory.
 pub fn deliver<K: Sink>(sink: &mut K, text: &[u8]) -> Result<(), Failed>
     ensures all { OnOk result (K.held sink.new ≡ with_back (K.held sink.old) text.now) }
     ensures finished { OnOk result (IfSome (K.held sink.old) (λ _. K.pending sink.new ≡ 0)) }

@@ -13,7 +13,7 @@ use Rattle.vx_json.proofs.views.placed_texts.Goals as goal
 pub returns-in_err-append_text : goal.returns-in_err-append_text
 returns-in_err-append_text c =
     let p = err_from_is_err_and c.from_residual-in_err-append_text.result c.from_residual-in_err-append_text.ensures.1 in
-    rw (p.1, p.2) (text_fails placed c.args.kind c.args.items.now.items c.loop-item.item-index c.loop-item.invariant.placed.texts {whole = each (text_or_empty c.args.kind) (items_view c.args.items.now.items)} c.loop-item.invariant.placed.reading c.loop-item.bytes.items c.in_err-append_text.field-0.0 c.item-item.result (rw (← c.deref-item-items.ensures.value) c.loop-item-test.true) (rw (← c.deref-item-items.ensures.value) c.item-item.is) c.in_err-append_text.ensures)
+    rw (p.1, p.2) (text_fails views_and_buffer c.args.kind c.args.items.now.items c.loop-item.item-index c.loop-item.invariant.placed.texts {whole = each (text_or_empty c.args.kind) (items_view c.args.items.now.items)} c.loop-item.invariant.placed.reading c.loop-item.bytes.items c.in_err-append_text.field-0.0 c.item-item.result (rw (← c.deref-item-items.ensures.value) c.loop-item-test.true) (rw (← c.deref-item-items.ensures.value) c.item-item.is) c.in_err-append_text.ensures)
 
 pub returns-in_err-place : goal.returns-in_err-place
 returns-in_err-place c =
