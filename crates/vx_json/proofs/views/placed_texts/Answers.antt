@@ -5,7 +5,7 @@ use Rattle.serde_json.specs.View.{items_view}
 use Rattle.vx_types.specs.declared.text.BinaryView.{BinaryView}
 use Rattle.vx_json.specs.Items.{each}
 use Rattle.vx_json.specs.Texts.{text_or_empty}
-use Rattle.vx_json.specs.Views.{placed}
+use Rattle.vx_json.specs.Views.{views_and_buffer}
 use Rattle.vx_json.proofs.TextLists.{text_fails}
 use Rattle.vx_json.proofs.ViewLists.{IsPlaced, placed_ends, placed_next, placed_no_more}
 use Rattle.vx_json.proofs.views.placed_texts.Goals as goal
