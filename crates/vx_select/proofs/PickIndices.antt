@@ -15,7 +15,6 @@ use Rattle.vx_model.specs.Bool.{BoolParts, bool_column}
 use Rattle.vx_model.specs.Column.{Column}
 use Rattle.vx_model.specs.Numbers.{number_in, numbers_of}
 use Rattle.vx_model.specs.Valid.{Valid, by_column, is_fitting, is_non_null_bool, present_bits, shown_rows, stored_rows}
-use Rattle.vx_dispatch.proofs.Codes.{no_fault}
 use Rattle.vx_pieces.specs.Indices.{column_fault}
 use Rattle.vx_select.specs.IndexRecords.{index_record}
 
@@ -53,6 +52,9 @@ module _ (m : Nullability) (n : ℕ) (small : n < 2 ^ 64) where
   sound [] below = refl
   sound (None ∷ picks) below = sound picks (behind None picks n below)
   sound (Some p ∷ picks) below = rw (here p (below zero None (omega arith))) (sound picks (behind (Some p) picks n below))
+
+no_fault : (c : Column) (n : ℕ) → is_int_type c.dtype ≡ true → first_bad n (numbers_of c) ≡ None → column_fault c n ≡ None
+no_fault c n int none = rw (int, none) refl
 
 -- a column of the records of picks
 module _ (c : Column) (v : Valid) (m : Nullability) (n : ℕ) (small : n < 2 ^ 64) (records : List (List ℕ)) (picks : List (Option ℕ)) (below : AreBelow picks n) (rows : c.rows ≡ stored_rows v (map bytes records)) (typed : c.dtype ≡ primitive_type U64 m) (same : records ≡ map index_record picks) (present : present_bits v (length picks) ≡ map is_some picks) where
