@@ -1,11 +1,14 @@
 //! Layout `Filter`: the rows of a child at the set positions of a mask.
-ghost use Rattle.std.specs.Prelude.{◌≡◌, None};
+ghost use Rattle.std.specs.Prelude.{◌≡◌, ◌<◌, None, length};
+ghost use Rattle.vx_bits.specs.BitBuffer.{true_count_of};
 ghost use Rattle.vx_bits.specs.Results.{ok_unless};
 ghost use Rattle.vx_model.specs.Filter.{filter_fault, filter_column};
 ghost use Rattle.vx_column.specs.Part.{IsPart};
+ghost use Rattle.vx_column.specs.Truth.{IsStretch, true_bits};
 
 use crate::array::{Array, ArrayRef, Layout};
 use crate::cell::{Cell, ReadRow};
+use crate::truth::{Stretch, word_from};
 use std::marker::Model;
 use vx_mask::Mask;
 use vx_types::ColumnError;
@@ -94,6 +97,41 @@ impl FilterArray {
         let dtype = self.child.dtype().share();
         let len = self.mask.true_count();
         Array::new(dtype, len, Layout::Filter(self))
+    }
+}
+
+// Which rows are true.
+impl FilterArray {
+    // The rows from `start` on: those that the mask keeps of a stretch of the child, which begins
+    // with the first of them.
+    #[cycle(truth)]
+    #[tactic(auto, using(vx_model::proofs::LazyRows::lazy_rows, crate::proofs::TruthBits::truth))]
+    pub(crate) fn true_from(&self, start: usize) -> Stretch
+        requires { start < length (filter_column self.now).rows }
+        ensures { IsStretch (true_bits (filter_column self.now)) start result.word result.len }
+    {
+        let mask = self.mask();
+        let at = mask.rank(start);
+        let all = self.child().true_from(at);
+        match mask {
+            Mask::AllTrue(_) => all,
+            Mask::AllFalse(_) => unreachable!(),
+            Mask::Values(values) => all.picked(word_from(values.bits(), at, all.len)),
+        }
+    }
+
+    // How many rows are true: the child's at the set positions, a stretch after another.
+    #[cycle(true_rows)]
+    #[tactic(auto, using(vx_model::proofs::LazyRows::lazy_rows, crate::proofs::TruthBits::truth))]
+    pub(crate) fn true_rows(&self) -> usize
+        ensures { result ≡ true_count_of (true_bits (filter_column self.now)) }
+    {
+        let child = self.child();
+        match self.mask() {
+            Mask::AllTrue(_) => child.true_rows(),
+            Mask::AllFalse(_) => 0,
+            Mask::Values(values) => child.true_rows_at(values.bits()),
+        }
     }
 }
 

@@ -6,13 +6,11 @@ ghost use Rattle.vx_bitfilter.specs.Pext.{pext};
 ghost use Rattle.vx_mask.specs.Mask.{mask_bits};
 ghost use Rattle.vx_types.specs.Nullability.{is_nullable};
 ghost use Rattle.vx_types.specs.RowValue.{null};
-ghost use Rattle.vx_model.specs.Filter.{filter_column};
 ghost use Rattle.vx_model.specs.Valid.{is_yes};
 ghost use Rattle.vx_column.specs.Truth.{IsStretch, bit_in, is_bool_type, true_bits};
 
 use crate::array::{Array, Layout};
 use crate::cell::Cell;
-use crate::filter::FilterArray;
 use std::alloc::Global;
 use vx_bitfilter::pext_fallback;
 use vx_bits::{BitBuffer, BitBuilder, NoMemory};
@@ -30,7 +28,7 @@ pub(crate) struct Stretch {
 impl Stretch {
     // The rows at the set bits.
     #[tactic(auto, using(crate::proofs::Stretches::full_picks))]
-    fn picked(self, picks: u64) -> Stretch
+    pub(crate) fn picked(self, picks: u64) -> Stretch
         requires few { self.len ≤ 64 }
         requires word { self.word < 2 ^ self.len }
         requires picks { picks < 2 ^ self.len }
@@ -70,40 +68,6 @@ pub(crate) fn alike(bit: bool, len: usize) -> u64
         return 0;
     }
     if len == 64 { u64::MAX } else { (1 << len) - 1 }
-}
-
-impl FilterArray {
-    // The rows from `start` on: those that the mask keeps of a stretch of the child, which begins
-    // with the first of them.
-    #[cycle(truth)]
-    #[tactic(auto, using(vx_model::proofs::LazyRows::lazy_rows, crate::proofs::TruthBits::truth))]
-    fn true_from(&self, start: usize) -> Stretch
-        requires { start < length (filter_column self.now).rows }
-        ensures { IsStretch (true_bits (filter_column self.now)) start result.word result.len }
-    {
-        let mask = self.mask();
-        let at = mask.rank(start);
-        let all = self.child().true_from(at);
-        match mask {
-            Mask::AllTrue(_) => all,
-            Mask::AllFalse(_) => unreachable!(),
-            Mask::Values(values) => all.picked(word_from(values.bits(), at, all.len)),
-        }
-    }
-
-    // How many rows are true: the child's at the set positions, a stretch after another.
-    #[cycle(true_rows)]
-    #[tactic(auto, using(vx_model::proofs::LazyRows::lazy_rows, crate::proofs::TruthBits::truth))]
-    fn true_rows(&self) -> usize
-        ensures { result ≡ true_count_of (true_bits (filter_column self.now)) }
-    {
-        let child = self.child();
-        match self.mask() {
-            Mask::AllTrue(_) => child.true_rows(),
-            Mask::AllFalse(_) => 0,
-            Mask::Values(values) => child.true_rows_at(values.bits()),
-        }
-    }
 }
 
 impl Array {
@@ -189,7 +153,7 @@ impl Array {
     }
 
     // How many of the rows at the set bits are true, a stretch after another.
-    fn true_rows_at(&self, bits: &BitBuffer) -> usize
+    pub(crate) fn true_rows_at(&self, bits: &BitBuffer) -> usize
         requires { length bits.now.bits ≡ length self.now.rows }
         ensures { result ≡ true_count_of (items_where_true bits.now.bits (true_bits self.now)) }
     {
