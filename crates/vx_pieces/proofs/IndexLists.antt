@@ -1,4 +1,4 @@
--- How many picks there are.
+-- How many picks there are, and columns whose numbers name some.
 use Rattle.std.proofs.Common.{◌≡◌, ℕ, ◌+◌, Bool, true, false, List, [], ◌∷◌, length, length-append, Option, None, Some, refl, sym, ap, ◌∙◌}
 use Rattle.std.specs.Prelude.{◌&&◌, ◌==◌, nat_le, if◌then◌else◌}
 use Rattle.std.specs.List.{flat_map, list_all}
@@ -6,9 +6,11 @@ use Rattle.std.specs.Option.{option_map}
 use Rattle.std.proofs.lemmas.List.{length-map}
 use Rattle.std.proofs.lemmas.List.Sums.{sum_by-cons}
 use Rattle.std.proofs.lemmas.Bool.Decides.{Decides-eqb}
+use Rattle.vx_types.specs.TypeTree.{is_int_type}
+use Rattle.vx_model.specs.Column.{Column}
 use Rattle.vx_model.specs.Numbers.{numbers_of}
-use Rattle.vx_positions.specs.Positions.{position_of}
-use Rattle.vx_pieces.specs.Indices.{IndexValue, by_column, by_pieces, index_fault, index_len, index_picks, sequence_fault}
+use Rattle.vx_positions.specs.Positions.{first_bad, position_of}
+use Rattle.vx_pieces.specs.Indices.{IndexValue, by_column, by_pieces, column_fault, index_fault, index_len, index_picks, sequence_fault}
 use Rattle.vx_pieces.specs.Pieces.{PiecesParts, expand, greatest_index, is_sound, is_sound_piece, piece_numbers, pieces_of, total_length}
 use Rattle.vx_pieces.specs.declared.fault.IndexFault.{IndexFault}
 use Rattle.vx_pieces.specs.declared.fault.IndexFault.TheVariants.{BadPieces}
@@ -36,6 +38,10 @@ sound_by p n h = by (is_sound p) _ h
     by : (b : Bool) (x : Option IndexFault) → (if b then x else Some BadPieces) ≡ None → b ≡ true
     by true x e = refl
     by false x e = cc
+
+-- a column of integers, none of which is past the rows
+pub no_column_fault : (c : Column) (n : ℕ) → is_int_type c.dtype ≡ true → first_bad n (numbers_of c) ≡ None → column_fault c n ≡ None
+no_column_fault c n int none = rw (int, none) refl
 
 -- where there is no fault, there are as many picks as indices
 pub length-index_picks : (v : IndexValue) (n : ℕ) → index_fault v n ≡ None → length (index_picks v) ≡ index_len v

@@ -1,6 +1,6 @@
 -- The numbers of a column of indices name the picks that it was made of.
-use Rattle.std.proofs.Common.{◌≡◌, ℕ, zero, suc, ◌<◌, ◌^◌, Bool, true, false, List, [], ◌∷◌, length, map, Option, Some, None, refl, ap, ap₂, ◌∙◌, arith}
-use Rattle.std.specs.Prelude.{ℤ, is_some, pos, replicate, ◌&&◌, ◌==◌}
+use Rattle.std.proofs.Common.{◌≡◌, ℕ, zero, suc, ◌<◌, ◌^◌, true, List, [], ◌∷◌, length, map, Option, Some, None, refl, ap, ap₂, ◌∙◌, arith}
+use Rattle.std.specs.Prelude.{ℤ, is_some, pos, replicate}
 use Rattle.std.specs.Int.{w64, from_le_bytes, to_le_bytes}
 use Rattle.std.proofs.lemmas.Bool.Decides.{nat_tests}
 use Rattle.std.proofs.lemmas.List.{length-map}
@@ -11,11 +11,11 @@ use Rattle.vx_types.specs.RowValue.{RowValue, bytes}
 use Rattle.vx_types.specs.TypeTree.{TypeTree, primitive_kind, primitive_type, is_int_type}
 use Rattle.vx_take.specs.Picks.{AreBelow}
 use Rattle.vx_positions.specs.Positions.{AllThere, first_bad, is_position, positions_of}
-use Rattle.vx_model.specs.Bool.{BoolParts, bool_column}
 use Rattle.vx_model.specs.Column.{Column}
 use Rattle.vx_model.specs.Numbers.{number_in, numbers_of}
-use Rattle.vx_model.specs.Valid.{Valid, by_column, is_fitting, is_non_null_bool, present_bits, shown_rows, stored_rows}
+use Rattle.vx_model.specs.Valid.{Valid, present_bits, shown_rows, stored_rows}
 use Rattle.vx_pieces.specs.Indices.{column_fault}
+use Rattle.vx_pieces.proofs.IndexLists.{no_column_fault}
 use Rattle.vx_select.specs.IndexRecords.{index_record}
 
 -- where no pick is a null, each is there
@@ -53,9 +53,6 @@ module _ (m : Nullability) (n : ℕ) (small : n < 2 ^ 64) where
   sound (None ∷ picks) below = sound picks (behind None picks n below)
   sound (Some p ∷ picks) below = rw (here p (below zero None (omega arith))) (sound picks (behind (Some p) picks n below))
 
-no_fault : (c : Column) (n : ℕ) → is_int_type c.dtype ≡ true → first_bad n (numbers_of c) ≡ None → column_fault c n ≡ None
-no_fault c n int none = rw (int, none) refl
-
 -- a column of the records of picks
 module _ (c : Column) (v : Valid) (m : Nullability) (n : ℕ) (small : n < 2 ^ 64) (records : List (List ℕ)) (picks : List (Option ℕ)) (below : AreBelow picks n) (rows : c.rows ≡ stored_rows v (map bytes records)) (typed : c.dtype ≡ primitive_type U64 m) (same : records ≡ map index_record picks) (present : present_bits v (length picks) ≡ map is_some picks) where
   are : c.rows ≡ pick_rows picks
@@ -72,12 +69,4 @@ module _ (c : Column) (v : Valid) (m : Nullability) (n : ℕ) (small : n < 2 ^ 6
   picks_named = ap positions_of numbers_are ∙ positions m n small picks below
 
   pub no_index_fault : column_fault c n ≡ None
-  no_index_fault = no_fault c n (ap is_int_type typed) (ap (first_bad n) numbers_are ∙ sound m n small picks below)
-
--- a validity that is a column of bits
-pub fitting_bits : (c : Column) (p : BoolParts) (n : ℕ) → c ≡ bool_column p → is_non_null_bool (bool_column p).dtype ≡ true → length (bool_column p).rows ≡ n → is_fitting (by_column c) n ≡ true
-fitting_bits c p n is bools long = ap (λ x. is_fitting (by_column x) n) is ∙ both (is_non_null_bool (bool_column p).dtype) (length (bool_column p).rows) n bools long
-  where
-    both : (a : Bool) (k n : ℕ) → a ≡ true → k ≡ n → (a && (k == n)) ≡ true
-    both true k n h e = grind (arith, nat_tests)
-    both false k n h e = cc
+  no_index_fault = no_column_fault c n (ap is_int_type typed) (ap (first_bad n) numbers_are ∙ sound m n small picks below)

@@ -12,7 +12,7 @@ ghost use Rattle.vx_select.specs.IndexRecords.{index_record};
 
 use std::alloc::Global;
 use vx_bits::{BitBuffer, Buffer, NoMemory, Records};
-use vx_column::{Array, BoolArray, FlatRef, Nullability, PType, RecordType, Validity};
+use vx_column::{Array, FlatRef, Nullability, PType, RecordType, Validity};
 use vx_pieces::Indices;
 use vx_take::{Picks, valid_bits};
 
@@ -48,8 +48,7 @@ fn shown_by(alloc: Global, bits: BitBuffer) -> Result<Validity, NoMemory>
     if bits.true_count() == bits.len() {
         return Ok(Validity::AllValid);
     }
-    let column = BoolArray::of(bits, Validity::NonNullable).into_array();
-    Ok(Validity::Array(column.into_ref(alloc)?))
+    Validity::from_bits(alloc, bits)
 }
 
 // Which picks are there: a constant form where each is.

@@ -1,12 +1,12 @@
 -- Bits that are all set, and a column of them.
-use Rattle.std.proofs.Common.{◌≡◌, ◌∙◌, sym, ap, map, length, refl, arith}
+use Rattle.std.proofs.Common.{◌≡◌, ◌∙◌, sym, ap, length, refl, arith, true}
+use Rattle.std.proofs.lemmas.Result.{IfOk-weaker}
 use Rattle.vx_bits.specs.BitBuffer.{true_count_of}
 use Rattle.vx_mask.proofs.PositionLists.{all_are_set}
-use Rattle.vx_model.specs.Bool.{bool_column, bool_with}
-use Rattle.vx_model.specs.Valid.{is_yes, non_nullable}
-use Rattle.vx_model.proofs.Takes.{yes-bool}
-use Rattle.std.proofs.lemmas.List.{length-map}
-use Rattle.vx_select.proofs.PickIndices.{fitting_bits}
+use Rattle.vx_types.specs.declared.nullability.Nullability.TheVariants.{Nullable}
+use Rattle.vx_column.specs.Validity.{valid_of}
+use Rattle.vx_model.specs.Valid.{is_fitting, non_nullable, nullability_by, present_bits}
+use Rattle.vx_model.proofs.Takes.{is_left-bits_column}
 use Rattle.vx_select.proofs.picked.shown_by.Goals as goal
 
 pub returns-then-true_count-len-clause-present : goal.returns-then-true_count-len-clause-present
@@ -17,12 +17,19 @@ returns-then-true_count-len-clause-present c =
 
 pub returns-clause-present : goal.returns-clause-present
 returns-clause-present c =
-    let p = bool_with c.args.bits.bits c.args.bits.offset non_nullable in
-    let is : c.in_ok-into_ref.field-0 ≡ bool_column p = c.in_ok-into_ref.ensures ∙ c.into_array-column.ensures ∙ ap bool_column c.of.ensures in
-    ap (λ x. map is_yes x.rows) is ∙ yes-bool p refl
+    let bits = c.args.bits.bits in
+    let left = is_left-bits_column non_nullable bits c.args.bits.offset Nullable refl in
+    IfOk-weaker c.from_bits.result _ (λ v. present_bits (valid_of v) (length bits) ≡ bits)
+    (λ v e. ap (λ w. present_bits w (length bits)) e ∙ left.bits) c.from_bits.ensures
 
 pub returns-clause-fitting : goal.returns-clause-fitting
 returns-clause-fitting c =
-    let p = bool_with c.args.bits.bits c.args.bits.offset non_nullable in
-    let is : c.in_ok-into_ref.field-0 ≡ bool_column p = c.in_ok-into_ref.ensures ∙ c.into_array-column.ensures ∙ ap bool_column c.of.ensures in
-    fitting_bits c.in_ok-into_ref.field-0 p (length c.args.bits.bits) is refl (sym (length-map (bool_column p).rows is_yes) ∙ ap length (yes-bool p refl))
+    let bits = c.args.bits.bits in
+    let left = is_left-bits_column non_nullable bits c.args.bits.offset Nullable refl in
+    IfOk-weaker c.from_bits.result _ (λ v. is_fitting (valid_of v) (length bits) ≡ true)
+    (λ v e. ap (λ w. is_fitting w (length bits)) e ∙ left.fitting) c.from_bits.ensures
+
+pub returns-clause-nullability : goal.returns-clause-nullability
+returns-clause-nullability c =
+    IfOk-weaker c.from_bits.result _ (λ v. nullability_by (valid_of v) ≡ Nullable)
+    (λ v e. ap nullability_by e) c.from_bits.ensures
