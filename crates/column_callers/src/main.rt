@@ -6,7 +6,6 @@ mod chunked;
 mod columns;
 mod extremes;
 mod fused;
-mod keeping;
 mod layouts;
 mod made;
 mod pieces;
@@ -14,7 +13,6 @@ mod rows;
 mod selecting;
 mod shapes;
 mod steps;
-mod truth;
 
 use std::alloc::Global;
 use std::test::Fail;
@@ -39,8 +37,6 @@ fn print_more(rt: &impl Print, alloc: Global) -> Result<(), Fail> {
     shapes::print_refusals(rt)?;
     shapes::print_shape(rt)?;
     shapes::print_composed(rt, alloc)?;
-    truth::print_true_rows(rt, alloc)?;
-    keeping::print_kept_lists(rt, alloc)?;
     extremes::print_selections(rt, alloc)?;
     made::print_lines(rt, alloc)
 }

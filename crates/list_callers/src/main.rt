@@ -1,13 +1,16 @@
-//! Calls the plans of lists as their users do, and prints what each gives.
+//! Calls the plans of lists as their users do, and what columns of bools and lazy filters tell, and
+//! prints what each gives.
 #![tactic(auto)]
 
 mod columns;
 mod fixed;
+mod keeping;
 mod lists;
 mod masks;
 mod presence;
 mod refusals;
 mod text;
+mod truth;
 mod views;
 
 use std::test::Fail;
@@ -17,5 +20,7 @@ fn main(rt: HostRuntime) -> Result<(), Fail> {
     lists::print_rows(&rt, rt.alloc())?;
     views::print_rows(&rt, rt.alloc())?;
     fixed::print_rows(&rt, rt.alloc())?;
-    refusals::print_rows(&rt, rt.alloc())
+    refusals::print_rows(&rt, rt.alloc())?;
+    truth::print_true_rows(&rt, rt.alloc())?;
+    keeping::print_kept_lists(&rt, rt.alloc())
 }

@@ -1,15 +1,16 @@
 //! Calls of columns of bools: the bit in a row, and the mask of the rows that are true.
-use crate::columns::{bools, by_bits};
 use std::alloc::Global;
 use std::io;
 use std::test::Fail;
-use vx_column::{Array, FilterArray, mask_of};
+use vx_bits::BitBuffer;
+use vx_column::{Array, BoolArray, FilterArray, Validity, mask_of};
 use vx_mask::Mask;
 
 /// True, null with a set bit behind it, false, true.
 fn some_true(alloc: Global) -> Result<Array, Fail> {
-    let there = by_bits(alloc, &[true, false, true, true])?;
-    bools(alloc, &[true, true, false, true], there)
+    let there = BitBuffer::from_bools(alloc, &[true, false, true, true])?;
+    let bits = BitBuffer::from_bools(alloc, &[true, true, false, true])?;
+    Ok(BoolArray::try_new(bits, Validity::from_bits(alloc, there)?)?.into_array())
 }
 
 /// The same from the second row on, by a lazy filter.
