@@ -12,7 +12,7 @@ use serde_json::Value;
 use std::alloc::Global;
 use vx_bits::BitBuffer;
 use vx_column::{Array, BoolArray, Validity};
-use vx_json::{DocError, at_most, bits_in, bools_or_nulls_of, closed, items_in, member};
+use vx_json::{DocError, at_most, bits_in, bools_or_nulls_of, if_closed, items_in, member};
 
 /// The column of these bits, stored as they are. `Malformed` where the validity can't be theirs.
 #[tactic(auto, unfolding(crate::specs::Made::made))]
@@ -69,7 +69,7 @@ fn offset_of(value: &Value) -> Result<usize, DocError>
 fn bools_by(alloc: Global, value: &Value, stated: Option<Validity>) -> Result<BoolArray, DocError>
     ensures { Gives (λ a. a) result (bools_by (view value.now) (option_map valid_of stated)) }
 {
-    let object = closed(value, &["layout", "values", "validity", "offset"])?;
+    let object = if_closed(value, &["layout", "values", "validity", "offset"])?;
     let offset = offset_of(object)?;
     let values = member(object, "values")?;
     match values.as_str() {

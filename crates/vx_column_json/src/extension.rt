@@ -10,7 +10,7 @@ use std::alloc::Global;
 use std::rc::RcStr;
 use vx_bits::NoMemory;
 use vx_column::{Array, ExtDType, ExtensionArray};
-use vx_json::{DocError, closed, text_member};
+use vx_json::{DocError, if_closed, text_member};
 
 /// The column of the storage's rows under this name.
 fn extension_made(alloc: Global, name: &str, storage: Array) -> Result<Array, NoMemory>
@@ -30,7 +30,7 @@ fn extension_made(alloc: Global, name: &str, storage: Array) -> Result<Array, No
 pub fn extension_by(alloc: Global, value: &Value, storage: Array) -> Result<Array, DocError>
     ensures { Gives (λ c. c) result (extension_by (view value.now) storage) }
 {
-    let object = closed(value, &["layout", "name", "storage"])?;
+    let object = if_closed(value, &["layout", "name", "storage"])?;
     let name = text_member(object, "name")?;
     Ok(extension_made(alloc, name, storage)?)
 }

@@ -10,7 +10,7 @@ use serde_json::Value;
 use std::alloc::Global;
 use vx_bits::NoMemory;
 use vx_column::{Array, FilterArray};
-use vx_json::{DocError, closed, mask_of, member};
+use vx_json::{DocError, if_closed, mask_of, member};
 use vx_mask::Mask;
 
 /// The same mask, with what finds its rows fast: their positions where it keeps at most a 64th,
@@ -39,7 +39,7 @@ fn filter_made(alloc: Global, child: Array, mask: Mask) -> Result<Array, DocErro
 pub fn filter_by(alloc: Global, value: &Value, child: Array) -> Result<Array, DocError>
     ensures { Gives (λ c. c) result (filter_by (view value.now) child) }
 {
-    let object = closed(value, &["layout", "child", "mask"])?;
+    let object = if_closed(value, &["layout", "child", "mask"])?;
     let mask = mask_of(alloc, member(object, "mask")?)?;
     filter_made(alloc, child, with_ranks(alloc, mask)?)
 }

@@ -8,7 +8,7 @@ use crate::made::refusal;
 use serde_json::Value;
 use std::alloc::Global;
 use vx_column::{Array, FixedSizeListArray, Validity};
-use vx_json::{DocError, GREATEST_LEN, closed, number_member};
+use vx_json::{DocError, GREATEST_LEN, if_closed, number_member};
 
 /// The greatest number of elements that each row may have.
 const GREATEST_SIZE: usize = 4_294_967_295;
@@ -41,7 +41,7 @@ pub(crate) fn fixed_by(
 ) -> Result<Array, DocError>
     ensures { Gives (λ c. c) result (fixed_by (view value.now) elements (valid_of validity)) }
 {
-    let object = closed(value, &["layout", "size", "len", "elements", "validity"])?;
+    let object = if_closed(value, &["layout", "size", "len", "elements", "validity"])?;
     let size = number_member(GREATEST_SIZE, object, "size")?;
     let len = number_member(GREATEST_LEN, object, "len")?;
     fixed_made(alloc, elements, size as u32, len, validity)

@@ -14,7 +14,7 @@ use std::alloc::Global;
 use std::rc::RcStr;
 use vx_bits::NoMemory;
 use vx_column::{Array, ArrayRef, Columns, DType, StructArray, StructFields, Validity};
-use vx_json::{DocError, GREATEST_LEN, closed, member, names_of, number_member};
+use vx_json::{DocError, GREATEST_LEN, if_closed, member, names_of, number_member};
 use vx_shared::Shared;
 
 /// The columns' types, in order.
@@ -73,7 +73,7 @@ pub fn struct_by(
     ensures { Gives (λ c. c) result
         (struct_by (view value.now) columns.items (valid_of validity)) }
 {
-    let object = closed(value, &["layout", "len", "names", "fields", "validity"])?;
+    let object = if_closed(value, &["layout", "len", "names", "fields", "validity"])?;
     let len = number_member(GREATEST_LEN, object, "len")?;
     let names = names_of(alloc, member(object, "names")?)?;
     let fields = fields_made(alloc, names, &columns)?;

@@ -19,7 +19,7 @@ use vx_column::{
     Array, ArrayRef, ColumnError, Columns, PType, PrimitiveArray, UnionArray, UnionVariants,
 };
 use vx_json::{
-    DocError, ReadItem, closed, is_closed, list_member, number_member, read_each, text_member,
+    DocError, ReadItem, if_closed, is_closed, list_member, number_member, read_each, text_member,
 };
 use vx_shared::Shared;
 
@@ -41,7 +41,7 @@ impl ReadItem for VariantIds {
 
     #[tactic(auto, unfolding(crate::specs::Union::variant_id))]
     fn read(&self, _alloc: Global, value: &Value) -> Result<u8, DocError> {
-        let object = closed(value, &["id", "name"])?;
+        let object = if_closed(value, &["id", "name"])?;
         let id = number_member(255, object, "id")?;
         Ok(id as u8)
     }

@@ -82,20 +82,20 @@ fn decimals_by(alloc: Global, width: usize, value: &Value) -> Result<Records, Do
 }
 
 /// How many values the last of the chunks of `len` values lacks.
-fn missing(len: usize) -> usize
+fn fill_len(len: usize) -> usize
     ensures { result ≡ fill_len len }
 {
     (CHUNK_LEN - len % CHUNK_LEN) % CHUNK_LEN
 }
 
 /// The records, and zeros behind them up to whole chunks.
-fn filled<const W: usize>(
+fn with_fill<const W: usize>(
     alloc: Global,
     records: &Buffer<[u8; W]>,
 ) -> Result<Buffer<[u8; W]>, NoMemory>
     ensures { IfOk result (λ b. b ≡ with_fill W records.now) }
 {
-    let missing = missing(records.len());
+    let missing = fill_len(records.len());
     if missing == 0 {
         return Ok(records.share());
     }
@@ -109,12 +109,12 @@ fn filled<const W: usize>(
     Buffer::from_vec(alloc, all)
 }
 
-fn filled_records(alloc: Global, records: &Records) -> Result<Records, NoMemory>
+fn records_with_fill(alloc: Global, records: &Records) -> Result<Records, NoMemory>
     ensures records { IfOk result
         (λ r. records_of r ≡ with_fill (width_of records.now) (records_of records.now)) }
     ensures width { IfOk result (λ r. width_of r ≡ width_of records.now) }
 {
-    Ok(map_each_record_width!(records, buffer => filled(alloc, buffer)?))
+    Ok(map_each_record_width!(records, buffer => with_fill(alloc, buffer)?))
 }
 
 /// The shape of these parts. `Malformed` where they can make none.
@@ -153,7 +153,7 @@ fn filled_from(alloc: Global, least: usize, records: &Records) -> Result<Records
     ensures width { IfOk result (λ r. width_of r ≡ width_of records.now) }
 {
     if least <= records.len() {
-        Ok(filled_records(alloc, records)?)
+        Ok(records_with_fill(alloc, records)?)
     } else {
         Err(DocError::Malformed)
     }

@@ -25,7 +25,7 @@ pub use items::{ReadItem, read_each};
 pub use letting_go::let_go;
 pub use masks::mask_of;
 pub use members::{
-    bool_in, closed, is_among, is_closed, items_in, list_member, member, text_in, text_member,
+    bool_in, if_closed, is_among, is_closed, items_in, list_member, member, text_in, text_member,
 };
 pub use policies::policy_found;
 pub use texts::{

@@ -102,7 +102,7 @@ pub fn is_closed(value: &Value, names: &[&str]) -> bool
 
 /// The value, where it is an object with no other members than these. `Malformed` where it is none.
 #[tactic(auto, unfolding(crate::specs::Members::if_closed))]
-pub fn closed<'v>(value: &'v Value, names: &[&str]) -> Result<&'v Value, DocError>
+pub fn if_closed<'v>(value: &'v Value, names: &[&str]) -> Result<&'v Value, DocError>
     ensures { Gives (λ v. view v.now) result
         (if_closed (map (λ n. n.now) names.now) (view value.now)) }
 {

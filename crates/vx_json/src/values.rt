@@ -183,13 +183,6 @@ pub fn hex_values_of(alloc: Global, width: usize, items: &Vec<Value>) -> Result<
     }
 }
 
-// The bytes of a record, as a list of their own.
-fn bytes_of(alloc: Global, bytes: &[u8]) -> Result<Buffer<u8>, NoMemory>
-    ensures { IfOk result (λ b. b ≡ bytes.now) }
-{
-    Buffer::from_vec(alloc, Vec::from_slice(alloc, bytes)?)
-}
-
 fn whole_value<const W: usize>(
     alloc: Global,
     ptype: PType,
@@ -199,7 +192,7 @@ fn whole_value<const W: usize>(
     ensures { Gives (λ b. b) result (or_zero W (whole_record W ptype) (view value.now)) }
 {
     let bytes = WholeItem::<W> { ptype }.read(alloc, value)?;
-    Ok(bytes_of(alloc, &bytes)?)
+    Ok(Buffer::from_vec(alloc, Vec::from_slice(alloc, &bytes)?)?)
 }
 
 fn hex_value<const W: usize>(alloc: Global, value: &Value) -> Result<Buffer<u8>, DocError>
@@ -207,7 +200,7 @@ fn hex_value<const W: usize>(alloc: Global, value: &Value) -> Result<Buffer<u8>,
     ensures { Gives (λ b. b) result (hex_or_zero W (view value.now)) }
 {
     let bytes = HexItem::<W>.read(alloc, value)?;
-    Ok(bytes_of(alloc, &bytes)?)
+    Ok(Buffer::from_vec(alloc, Vec::from_slice(alloc, &bytes)?)?)
 }
 
 /// The record of one value of the type, read as an item of `values_of` is.

@@ -47,7 +47,7 @@ fn answer_by_column(
 }
 
 /// How many chunks the rows of the shape lie in.
-fn touched(shape: &ChunkShape) -> usize
+fn chunk_count(shape: &ChunkShape) -> usize
     ensures { result ≡ chunks_touched shape.now.offset shape.now.len }
 {
     let len = shape.len();
@@ -76,7 +76,7 @@ fn answer_by_calls<const W: usize>(
         (walk shape.now.len (map step_value steps.now)))) }
 {
     check_steps(shape.len(), steps)?;
-    let mut decoder = Logged::new(alloc, StoredChunks::new(values.share()), touched(shape))?;
+    let mut decoder = Logged::new(alloc, StoredChunks::new(values.share()), chunk_count(shape))?;
     let rows = select_chunked(alloc, &mut decoder, shape, steps, policy)?;
     Ok(Answered {
         rows,

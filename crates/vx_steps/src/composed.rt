@@ -93,18 +93,18 @@ impl Composed {
     }
 
     // The picks whose numbers these are.
-    fn numbered(&self, alloc: Global, numbers: &[usize]) -> Result<Picks, NoMemory>
+    fn picks_by_number(&self, alloc: Global, numbers: &[usize]) -> Result<Picks, NoMemory>
         requires { All (λ i. i < length (picks_in self.now)) numbers.now }
         ensures { IfOk result (λ p. p ≡ record {
           picks = picks_by_number (picks_in self.now) numbers.now;
           bound = bound_of self.now;
         }) }
     {
-        let mut numbered = Picks::with_capacity(alloc, self.bound(), numbers.len())?;
+        let mut named = Picks::with_capacity(alloc, self.bound(), numbers.len())?;
         for i in numbers {
-            numbered.push(self.get(*i))?;
+            named.push(self.get(*i))?;
         }
-        Ok(numbered)
+        Ok(named)
     }
 
     // The picks that later picks name, and null at a null.
@@ -171,7 +171,7 @@ impl Composed {
     {
         let listed = mask.with_indices(alloc)?;
         match listed.cached_indices() {
-            Some(indices) => self.numbered(alloc, indices),
+            Some(indices) => self.picks_by_number(alloc, indices),
             None => unreachable!(),
         }
     }
