@@ -57,7 +57,7 @@ impl FilterArray {
         if mask.len() != child.len() {
             return Err(ColumnError::WrongLength);
         }
-        Ok(FilterArray::of(child, mask))
+        Ok(FilterArray { child, mask })
     }
 
     /// The column whose rows are kept.
@@ -79,14 +79,20 @@ impl FilterArray {
         requires { filter_fault (record { child = child; mask = mask }) ≡ None }
         ensures { result ≡ record { child = child; mask = mask } }
     {
-        FilterArray { child, mask }
+        match FilterArray::try_new(child, mask) {
+            Ok(array) => array,
+            Err(_) => unreachable!(),
+        }
     }
 
     /// The same column once more. It takes no memory.
     pub fn share(&self) -> FilterArray
         ensures { result ≡ self.now }
     {
-        FilterArray::of(self.child.share(), self.mask.share())
+        FilterArray {
+            child: self.child.share(),
+            mask: self.mask.share(),
+        }
     }
 
     /// The column of this layout. It takes no memory.

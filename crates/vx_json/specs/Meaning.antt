@@ -20,6 +20,11 @@ abbrev pub Gives : {X Y : Type 0} → (X → Y) → Result X DocError → Option
 Gives view (Ok x) meaning = meaning ≡ Some (view x)
 Gives view (Err e) meaning = Fails e meaning
 
+-- no memory is taken: the only error is that the value means nothing
+abbrev pub OnlyMalformed : {X : Type 0} → Result X DocError → Type 0
+OnlyMalformed (Ok x) = Unit {0}
+OnlyMalformed (Err e) = e ≡ Malformed
+
 -- what a reader left in what it changes is what the definition gives
 abbrev pub Leaves : {X Y : Type 0} → Result X DocError → Y → Option Y → Type 0
 Leaves (Ok x) left meaning = meaning ≡ Some left

@@ -1,7 +1,7 @@
 //! Decimal types.
 ghost use Rattle.std.specs.Prelude.{◌≡◌};
 ghost use Rattle.serde_json.specs.View.{view};
-ghost use Rattle.vx_json.specs.Meaning.{Gives};
+ghost use Rattle.vx_json.specs.Meaning.{Gives, OnlyMalformed};
 ghost use Rattle.vx_json.specs.Decimals.{signed_byte, decimal_with, decimal_of};
 
 use crate::error::DocError;
@@ -12,7 +12,8 @@ use vx_types::{DecimalDType, PType};
 
 #[tactic(auto, unfolding(crate::specs::Decimals::signed_byte))]
 fn signed_byte(value: &Value) -> Result<i8, DocError>
-    ensures { Gives (λ z. z) result (signed_byte (view value.now)) }
+    ensures value { Gives (λ z. z) result (signed_byte (view value.now)) }
+    ensures malformed { OnlyMalformed result }
 {
     let Some(number) = value.as_number() else {
         return Err(DocError::Malformed);
@@ -28,7 +29,8 @@ fn signed_byte(value: &Value) -> Result<i8, DocError>
 }
 
 fn decimal_with(precision: u8, scale: i8, width: u8) -> Result<DecimalDType, DocError>
-    ensures { Gives (λ d. d) result (decimal_with precision scale width) }
+    ensures value { Gives (λ d. d) result (decimal_with precision scale width) }
+    ensures malformed { OnlyMalformed result }
 {
     match DecimalDType::try_new(precision, scale, width) {
         Ok(decimal) => Ok(decimal),
@@ -40,7 +42,8 @@ fn decimal_with(precision: u8, scale: i8, width: u8) -> Result<DecimalDType, Doc
 /// missing or no whole number, or where there is no such type.
 #[tactic(auto, unfolding(crate::specs::Decimals::decimal_of))]
 pub fn decimal_of(value: &Value) -> Result<DecimalDType, DocError>
-    ensures { Gives (λ d. d) result (decimal_of (view value.now)) }
+    ensures value { Gives (λ d. d) result (decimal_of (view value.now)) }
+    ensures malformed { OnlyMalformed result }
 {
     let precision = number_member(255, value, "precision")?;
     let scale = signed_byte(member(value, "scale")?)?;

@@ -2,7 +2,7 @@
 ghost use Rattle.std.specs.Prelude.{◌≡◌, map, option_and_then};
 ghost use Rattle.serde_json.specs.Find.{as_array, as_str, as_bool, get};
 ghost use Rattle.serde_json.specs.View.{view, items_view, members_view};
-ghost use Rattle.vx_json.specs.Meaning.{Gives};
+ghost use Rattle.vx_json.specs.Meaning.{Gives, OnlyMalformed};
 ghost use Rattle.vx_json.specs.Members.{is_among, are_among, is_closed, if_closed};
 
 use crate::error::DocError;
@@ -10,7 +10,8 @@ use serde_json::{Map, Value};
 
 /// The member of this name. `Malformed` where there is none, or the value is no object.
 pub fn member<'v>(value: &'v Value, name: &str) -> Result<&'v Value, DocError>
-    ensures { Gives (λ v. view v.now) result (get name.now (view value.now)) }
+    ensures value { Gives (λ v. view v.now) result (get name.now (view value.now)) }
+    ensures malformed { OnlyMalformed result }
 {
     match value.get(name) {
         Some(found) => Ok(found),
@@ -20,7 +21,8 @@ pub fn member<'v>(value: &'v Value, name: &str) -> Result<&'v Value, DocError>
 
 /// The items of a list. `Malformed` where the value is none.
 pub fn items_in(value: &Value) -> Result<&Vec<Value>, DocError>
-    ensures { Gives (λ v. items_view v.now.items) result (as_array (view value.now)) }
+    ensures value { Gives (λ v. items_view v.now.items) result (as_array (view value.now)) }
+    ensures malformed { OnlyMalformed result }
 {
     match value.as_array() {
         Some(items) => Ok(items),
@@ -30,7 +32,8 @@ pub fn items_in(value: &Value) -> Result<&Vec<Value>, DocError>
 
 /// The text, as bytes of UTF-8. `Malformed` where the value is none.
 pub fn text_in(value: &Value) -> Result<&str, DocError>
-    ensures { Gives (λ s. s.now) result (as_str (view value.now)) }
+    ensures value { Gives (λ s. s.now) result (as_str (view value.now)) }
+    ensures malformed { OnlyMalformed result }
 {
     match value.as_str() {
         Some(text) => Ok(text),
@@ -40,22 +43,26 @@ pub fn text_in(value: &Value) -> Result<&str, DocError>
 
 /// The items of the member of this name. `Malformed` where there is none, or it is no list.
 pub fn list_member<'v>(value: &'v Value, name: &str) -> Result<&'v Vec<Value>, DocError>
-    ensures { Gives (λ v. items_view v.now.items) result
+    ensures value { Gives (λ v. items_view v.now.items) result
         (option_and_then as_array (get name.now (view value.now))) }
+    ensures malformed { OnlyMalformed result }
 {
     items_in(member(value, name)?)
 }
 
 /// The text of the member of this name. `Malformed` where there is none, or it is no text.
 pub fn text_member<'v>(value: &'v Value, name: &str) -> Result<&'v str, DocError>
-    ensures { Gives (λ s. s.now) result (option_and_then as_str (get name.now (view value.now))) }
+    ensures value { Gives (λ s. s.now) result
+        (option_and_then as_str (get name.now (view value.now))) }
+    ensures malformed { OnlyMalformed result }
 {
     text_in(member(value, name)?)
 }
 
 /// `true` or `false`. `Malformed` where the value is neither.
 pub fn bool_in(value: &Value) -> Result<bool, DocError>
-    ensures { Gives (λ b. b) result (as_bool (view value.now)) }
+    ensures value { Gives (λ b. b) result (as_bool (view value.now)) }
+    ensures malformed { OnlyMalformed result }
 {
     match value.as_bool() {
         Some(b) => Ok(b),
@@ -103,8 +110,9 @@ pub fn is_closed(value: &Value, names: &[&str]) -> bool
 /// The value, where it is an object with no other members than these. `Malformed` where it is none.
 #[tactic(auto, unfolding(crate::specs::Members::if_closed))]
 pub fn if_closed<'v>(value: &'v Value, names: &[&str]) -> Result<&'v Value, DocError>
-    ensures { Gives (λ v. view v.now) result
+    ensures value { Gives (λ v. view v.now) result
         (if_closed (map (λ n. n.now) names.now) (view value.now)) }
+    ensures malformed { OnlyMalformed result }
 {
     if is_closed(value, names) {
         Ok(value)

@@ -2,7 +2,7 @@
 ghost use Rattle.std.specs.Prelude.{◌≡◌, option_map, Some};
 ghost use Rattle.serde_json.specs.View.{view, members_view};
 ghost use Rattle.vx_mask.specs.Policy.{policy_fault, vortex_fields};
-ghost use Rattle.vx_json.specs.Meaning.{Gives, found_or, unless_fault};
+ghost use Rattle.vx_json.specs.Meaning.{Gives, OnlyMalformed, found_or, unless_fault};
 ghost use Rattle.vx_json.specs.Policies.{ratio_of, with_ratio, with_size, with_number, with_member, with_members, policy_of};
 
 use crate::error::DocError;
@@ -12,7 +12,8 @@ use vx_mask::{Policy, PolicyFields, Ratio};
 
 #[tactic(auto, unfolding(crate::specs::Policies::ratio_of))]
 fn ratio_of(value: &Value) -> Result<Ratio, DocError>
-    ensures { Gives (λ r. r) result (ratio_of (view value.now)) }
+    ensures value { Gives (λ r. r) result (ratio_of (view value.now)) }
+    ensures malformed { OnlyMalformed result }
 {
     let (num, den) = pair_of(value)?;
     Ok(Ratio {
@@ -77,7 +78,8 @@ fn with_number(f: PolicyFields, name: &str, number: usize) -> Option<PolicyField
 /// These fields with what a member says: a list is a ratio, and all else a number.
 #[tactic(auto, unfolding(crate::specs::Policies::with_member))]
 fn with_member(f: PolicyFields, name: &str, value: &Value) -> Result<PolicyFields, DocError>
-    ensures { Gives (λ p. p) result (with_member f name.now (view value.now)) }
+    ensures value { Gives (λ p. p) result (with_member f name.now (view value.now)) }
+    ensures malformed { OnlyMalformed result }
 {
     let changed = match value.as_array() {
         Some(_) => with_ratio(f, name, ratio_of(value)?),
@@ -90,7 +92,8 @@ fn with_member(f: PolicyFields, name: &str, value: &Value) -> Result<PolicyField
 }
 
 fn with_members(f: PolicyFields, members: &Map<String, Value>) -> Result<PolicyFields, DocError>
-    ensures { Gives (λ p. p) result (with_members f (members_view members.now.entries)) }
+    ensures value { Gives (λ p. p) result (with_members f (members_view members.now.entries)) }
+    ensures malformed { OnlyMalformed result }
 {
     let mut fields = f;
     for (name, value) in members {
@@ -101,7 +104,8 @@ fn with_members(f: PolicyFields, members: &Map<String, Value>) -> Result<PolicyF
 
 /// The policy of these fields. `Malformed` where they make none.
 fn policy_with(fields: PolicyFields) -> Result<Policy, DocError>
-    ensures { Gives (λ p. p) result (unless_fault (policy_fault fields) fields) }
+    ensures value { Gives (λ p. p) result (unless_fault (policy_fault fields) fields) }
+    ensures malformed { OnlyMalformed result }
 {
     match Policy::try_new(fields) {
         Ok(policy) => Ok(policy),
@@ -111,7 +115,8 @@ fn policy_with(fields: PolicyFields) -> Result<Policy, DocError>
 
 #[tactic(auto, unfolding(crate::specs::Policies::policy_by_members, crate::specs::Policies::policy_of))]
 fn policy_of(value: &Value) -> Result<Policy, DocError>
-    ensures { Gives (λ p. p) result (policy_of (view value.now)) }
+    ensures value { Gives (λ p. p) result (policy_of (view value.now)) }
+    ensures malformed { OnlyMalformed result }
 {
     match value.as_str() {
         Some("vortex") => Ok(Policy::vortex()),
@@ -126,8 +131,9 @@ fn policy_of(value: &Value) -> Result<Policy, DocError>
 /// The policy that a value means: `"vortex"`, or an object of some of its fields over the usual
 /// ones; the usual one where there is no value. `Malformed` where the value means none.
 pub fn policy_found(found: Option<&Value>) -> Result<Policy, DocError>
-    ensures { Gives (λ p. p) result
+    ensures value { Gives (λ p. p) result
         (found_or vortex_fields policy_of (option_map (λ v. view v.now) found.entry)) }
+    ensures malformed { OnlyMalformed result }
 {
     match found {
         Some(value) => policy_of(value),

@@ -4,7 +4,7 @@ ghost use Rattle.std.specs.Result.{result_ok};
 ghost use Rattle.serde_json.specs.View.{view, items_view};
 ghost use Rattle.hex.specs.Hex.{decode_of};
 ghost use Rattle.vx_types.specs.Fields.{names_of as names_seen};
-ghost use Rattle.vx_json.specs.Meaning.{Gives, Leaves, with_read};
+ghost use Rattle.vx_json.specs.Meaning.{Gives, Leaves, OnlyMalformed, with_read};
 ghost use Rattle.vx_json.specs.Items.{each};
 ghost use Rattle.vx_json.specs.Texts.{text_kind_named, text_spelled, bytes_of, text_or_empty, strung, names_of};
 
@@ -23,7 +23,8 @@ const GREATEST_OFFSET: usize = 2_147_483_647;
 /// The kind of text of this name. `Malformed` where there is none.
 #[tactic(auto, unfolding(crate::specs::Texts::text_kind_named))]
 pub fn text_kind_named(text: &str) -> Result<TextKind, DocError>
-    ensures { Gives (λ k. k) result (text_kind_named text.now) }
+    ensures value { Gives (λ k. k) result (text_kind_named text.now) }
+    ensures malformed { OnlyMalformed result }
 {
     match text {
         "utf8" => Ok(TextKind::Utf8),

@@ -4,7 +4,7 @@ ghost use Rattle.serde_json.specs.View.{view, items_view};
 ghost use Rattle.vx_bits.specs.Records.{records_of, width_of};
 ghost use Rattle.vx_types.specs.PType.{width, record_of};
 ghost use Rattle.vx_types.specs.Decimal.{is_width};
-ghost use Rattle.vx_json.specs.Meaning.{Gives};
+ghost use Rattle.vx_json.specs.Meaning.{Gives, OnlyMalformed};
 ghost use Rattle.vx_json.specs.Items.{each};
 ghost use Rattle.vx_json.specs.Values.{float_named, ptype_named, whole_record, or_zero, value_or_zero, hex_or_zero, ramp_records};
 
@@ -18,7 +18,8 @@ use vx_types::{PType, record_of};
 
 #[tactic(auto, unfolding(crate::specs::Values::float_named))]
 fn float_named(text: &str) -> Result<PType, DocError>
-    ensures { Gives (λ p. p) result (float_named text.now) }
+    ensures value { Gives (λ p. p) result (float_named text.now) }
+    ensures malformed { OnlyMalformed result }
 {
     match text {
         "f16" => Ok(PType::F16),
@@ -31,7 +32,8 @@ fn float_named(text: &str) -> Result<PType, DocError>
 /// The primitive type of this name. `Malformed` where there is none.
 #[tactic(auto, unfolding(crate::specs::Values::ptype_named))]
 pub fn ptype_named(text: &str) -> Result<PType, DocError>
-    ensures { Gives (λ p. p) result (ptype_named text.now) }
+    ensures value { Gives (λ p. p) result (ptype_named text.now) }
+    ensures malformed { OnlyMalformed result }
 {
     match text {
         "u8" => Ok(PType::U8),

@@ -2,7 +2,7 @@
 ghost use Rattle.std.specs.Prelude.{◌≡◌, ◌≤◌, IfOk, option_and_then};
 ghost use Rattle.serde_json.specs.Find.{get};
 ghost use Rattle.serde_json.specs.View.{view, items_view};
-ghost use Rattle.vx_json.specs.Meaning.{Gives};
+ghost use Rattle.vx_json.specs.Meaning.{Gives, OnlyMalformed};
 ghost use Rattle.vx_json.specs.Items.{each};
 ghost use Rattle.vx_json.specs.Wholes.{whole_of, at_most, pair_in, pair_of};
 
@@ -19,7 +19,8 @@ pub const GREATEST_LEN: usize = 16_777_216;
 #[inline(always)]
 #[tactic(auto, unfolding(crate::specs::Wholes::whole_of))]
 pub fn whole_of(value: &Value) -> Result<usize, DocError>
-    ensures { Gives (λ n. n) result (whole_of (view value.now)) }
+    ensures value { Gives (λ n. n) result (whole_of (view value.now)) }
+    ensures malformed { OnlyMalformed result }
 {
     match value.as_u64() {
         Some(n) => Ok(n as usize),
@@ -32,6 +33,7 @@ pub fn whole_of(value: &Value) -> Result<usize, DocError>
 pub fn at_most(bound: usize, value: &Value) -> Result<usize, DocError>
     ensures value { Gives (λ n. n) result (at_most bound (view value.now)) }
     ensures bound { IfOk result (λ n. n ≤ bound) }
+    ensures malformed { OnlyMalformed result }
 {
     let n = whole_of(value)?;
     if n <= bound {
@@ -47,6 +49,7 @@ pub fn number_member(bound: usize, value: &Value, name: &str) -> Result<usize, D
     ensures value { Gives (λ n. n) result
         (option_and_then (at_most bound) (get name.now (view value.now))) }
     ensures bound { IfOk result (λ n. n ≤ bound) }
+    ensures malformed { OnlyMalformed result }
 {
     at_most(bound, member(value, name)?)
 }
@@ -54,7 +57,8 @@ pub fn number_member(bound: usize, value: &Value, name: &str) -> Result<usize, D
 #[inline(always)]
 #[tactic(auto, unfolding(crate::specs::Wholes::pair_in))]
 fn pair_in(items: &Vec<Value>) -> Result<(usize, usize), DocError>
-    ensures { Gives (λ p. p) result (pair_in (items_view items.now.items)) }
+    ensures value { Gives (λ p. p) result (pair_in (items_view items.now.items)) }
+    ensures malformed { OnlyMalformed result }
 {
     match items.as_slice() {
         [a, b] => {
@@ -70,7 +74,8 @@ fn pair_in(items: &Vec<Value>) -> Result<(usize, usize), DocError>
 #[inline(always)]
 #[tactic(auto, unfolding(crate::specs::Wholes::pair_of))]
 pub fn pair_of(value: &Value) -> Result<(usize, usize), DocError>
-    ensures { Gives (λ p. p) result (pair_of (view value.now)) }
+    ensures value { Gives (λ p. p) result (pair_of (view value.now)) }
+    ensures malformed { OnlyMalformed result }
 {
     pair_in(items_in(value)?)
 }

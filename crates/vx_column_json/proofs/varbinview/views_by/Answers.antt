@@ -6,9 +6,9 @@ use Rattle.vx_column_json.proofs.varbinview.views_by.Goals as goal
 pub returns-then-is_closed-2 : goal.returns-then-is_closed-2
 unfolding views_by
 returns-then-is_closed-2 c =
-    rw (c.in_ok-text_member.ensures, c.in_ok-kind.ensures, sym c.is_closed.ensures ∙ c.if-is_closed.false, sym c.is_closed-else-is_closed.ensures ∙ c.if-is_closed-2.true) c.views_by_buffers.ensures
+    rw (c.in_ok-text_member.ensures.value, c.in_ok-kind.ensures.value, sym c.is_closed.ensures ∙ c.if-is_closed.false, sym c.is_closed-else-is_closed.ensures ∙ c.if-is_closed-2.true) c.views_by_buffers.ensures
 
 pub returns-else-is_closed-2 : goal.returns-else-is_closed-2
 unfolding views_by
 returns-else-is_closed-2 c =
-    rw (c.in_ok-text_member.ensures, c.in_ok-kind.ensures, sym c.is_closed.ensures ∙ c.if-is_closed.false, sym c.is_closed-else-is_closed.ensures ∙ c.if-is_closed-2.false) refl
+    rw (c.in_ok-text_member.ensures.value, c.in_ok-kind.ensures.value, sym c.is_closed.ensures ∙ c.if-is_closed.false, sym c.is_closed-else-is_closed.ensures ∙ c.if-is_closed-2.false) refl

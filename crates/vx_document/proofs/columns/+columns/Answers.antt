@@ -14,7 +14,7 @@ column_of-returns t c = rw (column_of-is (view c.args.value.now)) (search rules)
 
 pub column_member-column_of-requires : goal.column_member-column_of-requires
 column_member-column_of-requires t c =
-    let h = depth-get c.args.name.now (view c.args.value.now) (view c.in_ok-member.field-0.now) c.in_ok-member.ensures in
+    let h = depth-get c.args.name.now (view c.args.value.now) (view c.in_ok-member.field-0.now) c.in_ok-member.ensures.value in
     (omega (arith, h), tt)
 
 pub validity_stated-validity_from-requires : goal.validity_stated-validity_from-requires
@@ -24,7 +24,7 @@ validity_stated-validity_from-requires t c =
 
 pub columns_member-each_column-requires : goal.columns_member-each_column-requires
 columns_member-each_column-requires t c =
-    let h = depth-list c.args.name.now (view c.args.value.now) (items_view c.in_ok-list_member.field-0.now.items) c.in_ok-list_member.ensures in
+    let h = depth-list c.args.name.now (view c.args.value.now) (items_view c.in_ok-list_member.field-0.now.items) c.in_ok-list_member.ensures.value in
     (omega (arith, h), tt)
 
 -- ---- one item after another
