@@ -70,6 +70,17 @@ fn print_take<V: TakeExecute>(
     print_some(rt, alloc, name, &taken)
 }
 
+// A take of a `VarBin` of few bytes leaves views.
+fn print_views_left(rt: &impl Print, alloc: Global, column: &Array) -> Result<(), Fail> {
+    let view = view_of::<VarBin>(column)?;
+    let Some(taken) = VarBin::take(alloc, view, &indices(alloc, &[[1]])?)? else {
+        return Err("left to the caller".into());
+    };
+    let views = view_of::<VarBinView>(&taken)?;
+    println!(rt; "take of VarBin leaves views: {}", views.array().len())?;
+    Ok(())
+}
+
 fn print_text_takes(rt: &impl Print, alloc: Global) -> Result<(), Fail> {
     print_takes_of(rt, alloc, &ann_and_bo(alloc)?)
 }
@@ -78,7 +89,8 @@ fn print_takes_of(rt: &impl Print, alloc: Global, texts: &VarBinArray) -> Result
     print_varbin_take(rt, alloc, texts)?;
     print_refused_take(rt, alloc, texts)?;
     let column = texts.share().into_array();
-    print_take::<VarBin>(rt, alloc, "take of VarBin", &column, &[[1], [1]])
+    print_take::<VarBin>(rt, alloc, "take of VarBin", &column, &[[1], [1]])?;
+    print_views_left(rt, alloc, &column)
 }
 
 /// Prints takes of either layout, and one that is refused.
