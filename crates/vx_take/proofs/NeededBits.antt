@@ -86,18 +86,14 @@ places_within bits places picks set e k d h =
 record IsRanked (bits : List Bool) (pick : Option ℕ) : Type 0 where
   pub stands : pick_of (place_before bits pick) ≡ option_map (λ p. true_count_of (take p bits)) pick
   pub below : IsPlace (place_before bits pick) (true_count_of bits)
-  pub back : option_map (rank_of bits) (option_map (λ p. true_count_of (take p bits)) pick) ≡ pick
 
 is_ranked : (bits : List Bool) (pick : Option ℕ) → length bits ≤ null_place → IfSome pick (λ p. slice_get bits p ≡ Some true) → IsRanked bits pick
-is_ranked bits None fits h = record { stands = refl; below = λ there. absurd (there refl); back = refl }
+is_ranked bits None fits h = record { stands = refl; below = λ there. absurd (there refl) }
 is_ranked bits (Some p) fits h =
     let within = slice_get_within bits p true h in
-    let here = get_or_of_slice_get bits p h in
-    let k = true_count_of (take p bits) in
     record {
-      stands = pick_there k (λ null. omega (arith, null, within, count_fits bits p, fits));
-      below = λ there. true_count_before_set bits p within here;
-      back = ap Some (position_at 0 bits p 0 within here ∙ omega arith);
+      stands = pick_there (true_count_of (take p bits)) (λ null. omega (arith, null, within, count_fits bits p, fits));
+      below = λ there. true_count_before_set bits p within (get_or_of_slice_get bits p h);
     }
 
 module _ (bits : List Bool) (fits : length bits ≤ null_place) where
@@ -113,9 +109,15 @@ module _ (bits : List Bool) (fits : length bits ≤ null_place) where
         subst P (sym (get_or-map (place_before bits) picks k None 0 inside)) (is_ranked bits (get_or picks k None) fits (set k None inside)).below;
   }
 
-  pub ranked_back : (picks : List (Option ℕ)) → AreSet bits picks → positions_by_rank bits (ranks_of_picks bits picks) ≡ picks
-  ranked_back [] set = refl
-  ranked_back (pick ∷ picks) set = ap₂ ◌∷◌ (is_ranked bits pick fits (set zero None (omega arith))).back (ranked_back picks (λ k d h. set (suc k) d (omega arith)))
+-- the position of the rank of a set position is that position
+one_back : (bits : List Bool) (pick : Option ℕ) → IfSome pick (λ p. slice_get bits p ≡ Some true) → option_map (rank_of bits) (option_map (λ p. true_count_of (take p bits)) pick) ≡ pick
+one_back bits None h = refl
+one_back bits (Some p) h =
+    ap Some (position_at 0 bits p 0 (slice_get_within bits p true h) (get_or_of_slice_get bits p h) ∙ omega arith)
+
+pub ranked_back : (bits : List Bool) (picks : List (Option ℕ)) → AreSet bits picks → positions_by_rank bits (ranks_of_picks bits picks) ≡ picks
+ranked_back bits [] set = refl
+ranked_back bits (pick ∷ picks) set = ap₂ ◌∷◌ (one_back bits pick (set zero None (omega arith))) (ranked_back bits picks (λ k d h. set (suc k) d (omega arith)))
 
 -- ---- counts before words
 

@@ -52,6 +52,11 @@ IsLookedUp {X} bits items picks =
     → (missing : X)
     → at missing items picks ≡ at missing (items_where_true bits items) (ranks_of_picks bits picks)
 
+-- the ranks of picks that are set positions name these picks
+abbrev pub AreRankedBack : List Bool → List (Option ℕ) → Type 0
+AreRankedBack bits picks =
+    AreSet bits picks → positions_by_rank bits (ranks_of_picks bits picks) ≡ picks
+
 -- where the set positions are just the picks, the picks are set positions
 abbrev pub JustSetAreSet : List Bool → List (Option ℕ) → Type 0
 JustSetAreSet bits picks = AreJustSet bits picks → AreSet bits picks

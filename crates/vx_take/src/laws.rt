@@ -1,6 +1,6 @@
 //! What holds of all picks.
 ghost use Rattle.std.specs.Prelude.{ℕ, Bool, List, Option};
-ghost use Rattle.vx_take.specs.Laws.{EachIsOneRank, IsLookedUp, IsTakeAtTheSet, IsTakeOfFilter, JustSetAreSet, SetAscends, TakesJoin};
+ghost use Rattle.vx_take.specs.Laws.{AreRankedBack, EachIsOneRank, IsLookedUp, IsTakeAtTheSet, IsTakeOfFilter, JustSetAreSet, SetAscends, TakesJoin};
 
 /// A filter is a take at the set positions, which ascend and have no null.
 pub fn filter_take_law<T>()
@@ -20,10 +20,11 @@ pub fn translated_law<T>()
 {}
 
 /// Where the set positions are just the picks, each position among them is that of exactly one
-/// rank, and a take at the picks is a take of the filter at these ranks.
+/// rank, and a take at the picks is a take of the filter at these ranks, which name the picks.
 pub fn needed_law<T>()
     ensures each { (bits : List Bool) (picks : List (Option ℕ)) → JustSetAreSet bits picks }
     ensures one_rank { (bits : List Bool) (picks : List (Option ℕ)) → EachIsOneRank bits picks }
     ensures looked_up { (bits : List Bool) (items : List T) (picks : List (Option ℕ))
         → IsLookedUp bits items picks }
+    ensures ranked_back { (bits : List Bool) (picks : List (Option ℕ)) → AreRankedBack bits picks }
 {}

@@ -26,5 +26,4 @@ returns-clause-ranks c =
 pub returns-clause-inverse : goal.returns-clause-inverse
 returns-clause-inverse c =
     let bits = mask_bits c.args.mask.now in
-    let fits : length bits ≤ null_place = omega (arith, c.len.ensures) in
-    ap (positions_by_rank bits) (returns-clause-ranks c) ∙ ranked_back bits fits c.args.picks.now.picks c.requires
+    ap (positions_by_rank bits) (returns-clause-ranks c) ∙ ranked_back bits c.args.picks.now.picks c.requires
