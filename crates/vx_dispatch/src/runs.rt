@@ -68,6 +68,15 @@ fn take_stored_runs(alloc: Global, array: &Array, runs: &Runs) -> Result<Option<
     }
 }
 
+// How many positions the runs have, or more than memory holds.
+fn total_len(runs: &[(usize, usize)]) -> usize {
+    let mut total: usize = 0;
+    for run in runs {
+        total = total.saturating_add(run.1);
+    }
+    total
+}
+
 // Appends the positions in a run.
 #[tactic(auto, using(crate::proofs::RunTakes::run_places))]
 fn push_run(places: &mut Vec<usize>, start: usize, len: usize) -> Result<(), NoMemory>
@@ -88,7 +97,7 @@ fn places_in(alloc: Global, runs: &[(usize, usize)], len: usize) -> Result<Vec<u
     ensures { IfOk result (λ places. places.items ≡ run_numbers runs.now) }
 {
     let _ = len;
-    let mut places = Vec::new(alloc);
+    let mut places = Vec::with_capacity(alloc, total_len(runs))?;
     for run in runs {
         push_run(&mut places, run.0, run.1)?;
     }
@@ -126,11 +135,7 @@ fn most_elements(array: &Array) -> usize {
 
 // Refuses runs of more elements than a take makes.
 fn check_room(array: &Array, runs: &Runs) -> Result<(), NoMemory> {
-    let mut total: usize = 0;
-    for run in runs.as_slice() {
-        total = total.saturating_add(run.1);
-    }
-    if total > most_elements(array) {
+    if total_len(runs.as_slice()) > most_elements(array) {
         return Err(NoMemory);
     }
     Ok(())

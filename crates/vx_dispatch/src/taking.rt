@@ -65,6 +65,9 @@ pub(crate) fn take_picks(
 
 /// The rows that indices name, in order, and a null for each null. `NoMemory` alone, and never
 /// over layout `Null`. The type is nullable also where the indices' type is.
+///
+/// A take of lists that would make more than 4 GiB of elements that are records, or 33,554,432
+/// others, and more than twice those that are stored, is want of memory.
 pub fn take(
     alloc: Global,
     array: &Array,

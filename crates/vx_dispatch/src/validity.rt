@@ -173,7 +173,7 @@ pub fn take_validity(
     }
 }
 
-// An unwrapped column of bools is one of layout `Bool`.
+// An unwrapped column of bools is one of layout `Bool`. It does no work: its clause is for the check.
 fn see_bools(array: &Array)
     requires bools { is_non_null_bool array.now.dtype ≡ true }
     requires unwrapped { is_unwrapped array.now ≡ true }

@@ -99,7 +99,8 @@ fn left_by(
 /// The plan of the lists at the set positions of `mask`, in order, with their validity.
 ///
 /// The elements of a selected null row are kept, but where the validity is `AllInvalid` each list
-/// is empty. The range is that of [`filter_lists`], which `policy` chooses. `NoMemory` alone.
+/// is empty. Which range of the elements it is, `policy` chooses, and no clause says. `NoMemory`
+/// alone.
 pub fn plan_list_filter(
     alloc: Global,
     array: &ListArray,

@@ -1,9 +1,9 @@
 -- What `select` and `select_fused` answer.
-use Rattle.std.specs.Prelude.{◌≡◌, ◌≢◌, List, Bool, true, ◌&&◌, ◌||◌, Result, Err, MatchResult, IfOk}
+use Rattle.std.specs.Prelude.{◌≡◌, ◌≢◌, List, Bool, true, false, ◌&&◌, ◌||◌, Result, Err, MatchResult, IfOk}
 use Rattle.std.specs.List.{list_all}
 use Rattle.vx_types.specs.TypeTree.{is_flat}
 use Rattle.vx_model.specs.Column.{Column}
-use Rattle.vx_model.specs.Plain.{is_null_layout, is_plain, is_unwrapped}
+use Rattle.vx_model.specs.Plain.{is_lazy_layout, is_null_layout, is_plain, is_unwrapped}
 use Rattle.vx_steps.specs.Step.{StepValue, is_slice}
 use Rattle.vx_steps.specs.Cause.{MatchError}
 use Rattle.vx_steps.specs.Answer.{Answer, answer, answer_fault, answer_rows}
@@ -32,4 +32,5 @@ pub record IsSelection (c : Column) (steps : List StepValue) (r : Result Column 
     : Type 0 where
   pub answer : IsAnswer r (answer c steps)
   pub unwrapped : is_flat c.dtype ≡ true → IfOk r (λ a. is_unwrapped a ≡ true)
+  pub direct : IfOk r (λ a. is_lazy_layout a.layout ≡ false)
   pub no_memory_wanted : needs_no_memory c steps ≡ true → r ≢ Err NoMemory

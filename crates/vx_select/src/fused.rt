@@ -1,9 +1,9 @@
 //! The answer to a list of steps by one take.
-ghost use Rattle.std.specs.Prelude.{◌≡◌, IfErr, IfOk, None, length, map, true};
+ghost use Rattle.std.specs.Prelude.{◌≡◌, IfErr, IfOk, None, false, length, map, true};
 ghost use Rattle.std.specs.List.{list_all};
 ghost use Rattle.vx_types.specs.RowValue.{null};
 ghost use Rattle.vx_types.specs.TypeTree.{also_nullable, is_flat};
-ghost use Rattle.vx_model.specs.Plain.{is_plain, is_unwrapped};
+ghost use Rattle.vx_model.specs.Plain.{is_lazy_layout, is_plain, is_unwrapped};
 ghost use Rattle.vx_take.specs.Picks.{at};
 ghost use Rattle.vx_pieces.specs.Indices.{index_fault, index_nullability, index_picks, index_value};
 ghost use Rattle.vx_steps.specs.Step.{is_slice, step_value};
@@ -83,6 +83,7 @@ fn taken(
         ≡ also_nullable column.now.dtype (index_nullability (index_value indices))) }
     ensures unwrapped { is_flat column.now.dtype ≡ true
         → IfOk result (λ a. is_unwrapped a ≡ true) }
+    ensures direct { IfOk result (λ a. is_lazy_layout a.layout ≡ false) }
 {
     let rows = take(alloc, column, &indices, policy)?;
     drop(indices);

@@ -2,11 +2,10 @@
 use Rattle.std.specs.Prelude.{ℕ, ◌+◌, ◌^◌, ◌&&◌, nat_le, nat_lt, is_some, Bool, true, false, Option, Some, None, if◌then◌else◌, refl}
 use Rattle.std.specs.Coded.{Coded, code_by, coded×, coded_ℕ}
 use Rattle.vx_types.specs.DType.{type_of}
+use Rattle.vx_types.specs.Same.{is_same_nullability}
 use Rattle.vx_types.specs.TypeTree.{TypeTree, type_width}
 use Rattle.vx_types.specs.TypeTreeCode.{coded_type}
 use Rattle.vx_types.specs.declared.dtype.DType.{DType}
-use Rattle.vx_types.specs.declared.nullability.Nullability.{Nullability}
-use Rattle.vx_types.specs.declared.nullability.Nullability.TheVariants.{NonNullable, Nullable}
 use Rattle.vx_types.specs.declared.error.ColumnError.{ColumnError}
 use Rattle.vx_types.specs.declared.error.ColumnError.TheVariants.{WrongType, BadValidity, TooLong}
 use Rattle.vx_model.specs.Valid.{Valid, is_fitting, nullability_by}
@@ -25,16 +24,10 @@ abbrev pub shape_of : DType → ℕ → ℕ → Validity → ShapeValue
 shape_of dtype offset len validity =
     record { dtype = type_of dtype; offset = offset; len = len; valid = valid_of validity }
 
-abbrev pub same_nullability : Nullability → Nullability → Bool
-same_nullability NonNullable NonNullable = true
-same_nullability NonNullable Nullable = false
-same_nullability Nullable NonNullable = false
-same_nullability Nullable Nullable = true
-
 -- values have a width, and there may be nulls just where the validity may have some
 abbrev pub is_stored_as : TypeTree → Valid → Bool
 is_stored_as t v =
-    is_some (type_width t) && same_nullability t.nullability (nullability_by v)
+    is_some (type_width t) && is_same_nullability t.nullability (nullability_by v)
 
 -- the first value lies in the first chunk, and a `usize` counts the values up to the last
 abbrev pub is_counted : ℕ → ℕ → Bool

@@ -6,7 +6,7 @@ ghost use Rattle.vx_types.specs.DType.{type_of};
 ghost use Rattle.vx_types.specs.TypeTree.{type_width};
 ghost use Rattle.vx_model.specs.Valid.{is_fitting, nullability_by};
 ghost use Rattle.vx_column.specs.Validity.{valid_of};
-ghost use Rattle.vx_steps.specs.Shape.{is_counted, is_stored_as, same_nullability, shape_fault, shape_of};
+ghost use Rattle.vx_steps.specs.Shape.{is_counted, is_stored_as, shape_fault, shape_of};
 
 use std::marker::Model;
 use vx_column::{ColumnError, DType, Nullability, Validity};
@@ -38,21 +38,17 @@ impl Model for ChunkShape {
 }
 
 // Whether two types are alike in having nulls.
-fn same_nullability(a: Nullability, b: Nullability) -> bool
-    ensures { result ≡ same_nullability a b }
+fn is_same_nullability(a: Nullability, b: Nullability) -> bool
+    ensures { result ≡ is_same_nullability a b }
 {
-    match (a, b) {
-        (Nullability::NonNullable, Nullability::NonNullable) => true,
-        (Nullability::Nullable, Nullability::Nullable) => true,
-        _ => false,
-    }
+    a.is_nullable() == b.is_nullable()
 }
 
 // Whether values of the type have a width, and may be null just where the validity may say so.
 fn is_stored_as(dtype: &DType, validity: &Validity) -> bool
     ensures { result ≡ is_stored_as (type_of dtype.now) (valid_of validity.now) }
 {
-    dtype.width().is_some() && same_nullability(dtype.nullability(), validity.nullability())
+    dtype.width().is_some() && is_same_nullability(dtype.nullability(), validity.nullability())
 }
 
 // Whether the first value lies in the first chunk, and a `usize` counts the values up to the last.

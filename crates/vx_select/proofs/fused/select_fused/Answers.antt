@@ -13,5 +13,6 @@ returns c =
       answer = answered_rows column.dtype column.rows (map step_value c.args.steps.now) c.len.result (sym c.len.ensures)
           (index_picks (index_value c.in_ok-indices.indices)) a.dtype a.rows made.picks (now.dtype ∙ ap (also_nullable column.dtype) made.nullability) now.rows;
       unwrapped = λ flat. now.unwrapped flat;
+      direct = now.direct;
       no_memory_wanted = search rules;
     }

@@ -30,6 +30,7 @@ pub returns-in_err-current : goal.returns-in_err-current
 returns-in_err-current c = record {
   answer = search rules;
   unwrapped = search rules;
+  direct = search rules;
   no_memory_wanted = λ free e.
       let steps = c.args.steps.now in let k = c.loop-step.step-index in let x = c.step-item in
       let one = free_step c.args.column.now c.loop-step.current (map step_value steps) k (step_value x.result) free c.loop-step.invariant.left (step_within steps k c.loop-step-test.true) (step_at steps k x.result c.loop-step-test.true x.is) in
@@ -62,6 +63,7 @@ returns c =
           (reached_end (length rows) (map step_value steps) c.loop-step.step-index (λ picks. at null rows picks ≡ c.loop-step.current.rows) v.reached (steps_end steps c.loop-step.step-index c.loop-step-test.false))
           (sym v.left.dtype ∙ left_at_end c.loop-step.current.dtype (map step_value steps) c.loop-step.step-index (steps_end steps c.loop-step.step-index c.loop-step-test.false) ∙ sym (whole.dtype ∙ cut.dtype)) (v.reached.so ∙ sym (whole.rows ∙ cut.rows));
       unwrapped = λ flat. c.in_ok-answer.ensures.unwrapped (ap is_flat c.in_ok-rows.ensures.step.dtype ∙ c.loop-step.invariant.left.flat ∙ flat);
+      direct = c.in_ok-answer.ensures.direct;
       no_memory_wanted = search rules;
     }
 
@@ -70,6 +72,7 @@ pub returns-in_err-rows : goal.returns-in_err-rows
 returns-in_err-rows c = record {
   answer = search rules;
   unwrapped = search rules;
+  direct = search rules;
   no_memory_wanted = λ free e.
       let no : false ≡ true = c.in_err-rows.ensures.free (left_plain c.args.column.now c.loop-step.current (map step_value c.args.steps.now) c.loop-step.step-index free c.loop-step.invariant.left) in cc;
 }
@@ -78,6 +81,7 @@ pub returns-in_err-answer : goal.returns-in_err-answer
 returns-in_err-answer c = record {
   answer = search rules;
   unwrapped = search rules;
+  direct = search rules;
   no_memory_wanted = λ free e.
       let plain = left_plain c.args.column.now c.loop-step.current (map step_value c.args.steps.now) c.loop-step.step-index free c.loop-step.invariant.left in
       let no : false ≡ true = c.in_err-answer.ensures.kept (plain_unwrapped c.in_ok-rows.rows (c.in_ok-rows.ensures.plain plain)) in cc;
