@@ -38,7 +38,7 @@ pub fn filter_slice<T: Copy>(
     filter_slice_by_bitmap(alloc, src, mask)
 }
 
-// How many bytes an item takes. The size of a type parameter may only stand as a factor.
+// How many bytes an item takes.
 fn width_of<T>(src: &[T]) -> usize
     requires { 0 < length src.now }
 {
