@@ -44,9 +44,8 @@ use Rattle.vx_model.specs.ListView.{listview_column}
 use Rattle.vx_types.specs.TypeTree.{TypeTree}
 use Rattle.std.proofs.Common.{◌+◌, ◌<◌, List, take, get_or, subst}
 use Rattle.std.proofs.Common.{Option, Some, None}
-use Rattle.std.specs.Prelude.{is_some}
 use Rattle.vx_model.specs.Records.{RecordParts, records_with}
-use Rattle.vx_model.specs.Union.{UnionParts, union_column, union_fault}
+use Rattle.vx_model.specs.Union.{UnionParts, offsets_kind, union_column, union_fault}
 use Rattle.vx_model.proofs.UnionFaults.{fault-dense-filter, fault-sparse-filter, is_filter-dense, is_filter-sparse}
 use Rattle.vx_model.proofs.UnionSteps.{rows-union}
 use Rattle.vx_dispatch.proofs.+filter.Goals as goal
@@ -315,4 +314,4 @@ union_::filter_variants-returns-in_ok-places-in-Some-clause-cut t c =
 pub union_::filter_variants-returns-in-None-clause-form :
     goal.union_::filter_variants-returns-in-None-clause-form
 union_::filter_variants-returns-in-None-clause-form t c =
-    weaker c.filter_sparse.result c.filter_sparse.ensures.sparse (λ u is. ap is_some (is ∙ c.in-None.ensures.value))
+    weaker c.filter_sparse.result c.filter_sparse.ensures.sparse (λ u is. ap offsets_kind (is ∙ c.in-None.ensures.value))
