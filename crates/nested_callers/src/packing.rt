@@ -1,6 +1,6 @@
 //! Unions packed, each column with just the rows of its id.
 use crate::columns::{byte_array, bytes, bytes_where, indices, names_of, two_columns};
-use crate::print::print_rows;
+use crate::print::{print_rows, print_variants};
 use callers::check_slice;
 use std::alloc::Global;
 use std::test::Fail;
@@ -59,15 +59,7 @@ fn print_packed(rt: &impl Print, alloc: Global, column: &Array) -> Result<(), Fa
 fn print_parts(rt: &impl Print, alloc: Global, packed: &UnionArray) -> Result<(), Fail> {
     print!(rt; "pack_union:")?;
     print_rows(rt, alloc, &packed.share().into_array())?;
-    if let Some(offsets) = packed.offsets() {
-        print!(rt; "offsets:")?;
-        print_rows(rt, alloc, &offsets.share().into_array())?;
-    }
-    for column in packed.children().as_slice() {
-        print!(rt; "a column:")?;
-        print_rows(rt, alloc, column)?;
-    }
-    Ok(())
+    print_variants(rt, alloc, packed)
 }
 
 fn taken(alloc: Global, union: &Array) -> Result<Array, Fail> {

@@ -2,7 +2,7 @@
 use std::alloc::Global;
 use std::io;
 use std::test::Fail;
-use vx_column::{Array, ColumnError};
+use vx_column::{Array, ColumnError, UnionArray};
 use vx_layouts::TakeError;
 use vx_print::text_of;
 
@@ -16,6 +16,23 @@ pub(crate) fn print_rows(rt: &impl Print, alloc: Global, column: &Array) -> Resu
         }
     }
     println!(rt; "")?;
+    Ok(())
+}
+
+/// The offsets of a union, where it has some, and its columns.
+pub(crate) fn print_variants(
+    rt: &impl Print,
+    alloc: Global,
+    union: &UnionArray,
+) -> Result<(), Fail> {
+    if let Some(offsets) = union.offsets() {
+        print!(rt; "offsets:")?;
+        print_rows(rt, alloc, &offsets.share().into_array())?;
+    }
+    for column in union.children().as_slice() {
+        print!(rt; "a column:")?;
+        print_rows(rt, alloc, column)?;
+    }
     Ok(())
 }
 

@@ -1,6 +1,6 @@
 //! Unions, sparse and dense.
 use crate::columns::{byte_array, byte_columns, bytes, bytes_where, bytes_with, names_of};
-use crate::print::{print_fault, print_rows};
+use crate::print::{print_fault, print_rows, print_variants};
 use crate::steps::{Picks, print_reduced_slice, print_reduced_takes};
 use callers::{mask_of, some_of};
 use std::alloc::Global;
@@ -100,7 +100,8 @@ fn kept(alloc: Global, union: &UnionArray, mask: &Mask) -> Result<UnionArray, Fa
 fn print_filter(rt: &impl Print, alloc: Global, union: &UnionArray) -> Result<(), Fail> {
     let kept = kept(alloc, union, &mask_of(alloc, &[false, true, true])?)?;
     print!(rt; "filter_union, offsets {}:", kept.offsets().is_some())?;
-    print_rows(rt, alloc, &kept.into_array())
+    print_rows(rt, alloc, &kept.share().into_array())?;
+    print_variants(rt, alloc, &kept)
 }
 
 fn print_steps(rt: &impl Print, alloc: Global, union: &UnionArray) -> Result<(), Fail> {

@@ -1,12 +1,17 @@
--- The types of a union's columns are those of its variants.
-use Rattle.std.proofs.Common.{◌≡◌, true, List, [], ◌∷◌, None, refl, sym, ap₂, subst, ◌∙◌}
+-- The types of a union's columns are those of its variants; the parts that a filter leaves.
+use Rattle.std.proofs.Common.{◌≡◌, Bool, true, false, List, [], ◌∷◌, None, Some, refl, sym, ap, ap₂, subst, ◌∙◌}
+use Rattle.std.specs.Prelude.{is_some}
+use Rattle.std.specs.List.{items_where_true}
+use Rattle.std.specs.Option.{option_map}
 use Rattle.vx_types.specs.TypeTree.{TypeKind, TypeTree, types_of}
 use Rattle.vx_types.specs.declared.nullability.Nullability.{Nullability}
 use Rattle.vx_take.specs.Picks.{BoundedPicks}
 use Rattle.vx_model.specs.Column.{Column}
-use Rattle.vx_model.specs.Columns.{types_in}
-use Rattle.vx_model.specs.Step.{IsTake}
-use Rattle.vx_model.specs.Union.{UnionParts, union_fault}
+use Rattle.vx_model.specs.Columns.{AreCuts, types_in}
+use Rattle.vx_model.specs.Records.{RecordParts, records_with}
+use Rattle.vx_model.specs.Step.{IsCut, IsTake}
+use Rattle.vx_model.specs.Union.{UnionParts, IsUnionFilter, offsets_left, union_fault}
+use Rattle.vx_model.specs.Valid.{non_nullable}
 use Rattle.vx_model.proofs.StructSteps.{same_trees}
 use Rattle.vx_model.proofs.UnionSteps.{alike-union}
 
@@ -30,3 +35,24 @@ pub ids_taken : {given ids a x : Column} {copy picks : BoundedPicks} (n : Nullab
 ids_taken {given} {ids} {a} {x} {copy} {picks} n same copied is taken =
     subst (IsTake ids picks.picks n) (sym is)
     (subst (λ (b : BoundedPicks). IsTake ids b.picks n a) copied (subst (λ (c : Column). IsTake c copy.picks n a) same taken))
+
+-- ---- the parts that a filter leaves
+
+module _ (p : UnionParts) (mask : List Bool) (a : Column) (ids : IsCut p.ids (items_where_true mask p.ids.rows) a) where
+  pub parts-sparse : (cs : List Column) → p.offsets ≡ None → AreCuts (items_where_true mask) p.columns cs → IsUnionFilter p mask (record p { ids = a; offsets = None; columns = cs })
+  parts-sparse cs none cuts =
+      record {
+        ids = ids;
+        offsets = sym (ap (option_map (offsets_left mask)) none);
+        dense = λ some. absurd (let no : false ≡ true = ap is_some (sym none) ∙ some in cc);
+        sparse = λ _. cuts;
+      }
+
+  pub parts-dense : (o : RecordParts) → p.offsets ≡ Some o → IsUnionFilter p mask (record p { ids = a; offsets = Some (records_with o (items_where_true mask o.records) non_nullable) })
+  parts-dense o some =
+      record {
+        ids = ids;
+        offsets = sym (ap (option_map (offsets_left mask)) some);
+        dense = λ _. refl;
+        sparse = λ none. absurd (let no : true ≡ false = ap is_some (sym some) ∙ none in cc);
+      }

@@ -3,7 +3,7 @@
 ghost use Rattle.std.specs.Prelude.{◌≡◌, length, None, Some, IfOk};
 ghost use Rattle.std.specs.List.{items_where_true};
 ghost use Rattle.vx_model.specs.Step.{IsCut, IsTake};
-ghost use Rattle.vx_model.specs.Union.{union_column};
+ghost use Rattle.vx_model.specs.Union.{IsUnionFilter, union_column};
 
 use crate::columns::{execute_each, filter_each, firsts_for_nulls, slice_each, take_each};
 use crate::dict::copied;
@@ -61,6 +61,7 @@ fn filter_sparse(
     ensures cut { IfOk result (λ a. IsCut (union_column array.now)
         (items_where_true mask.now.bits.bits (union_column array.now).rows) (union_column a)) }
     ensures sparse { IfOk result (λ a. a.offsets ≡ None) }
+    ensures parts { IfOk result (IsUnionFilter array.now mask.now.bits.bits) }
 {
     let columns = array.children();
     let shared = Mask::Values(mask.share());
@@ -69,8 +70,8 @@ fn filter_sparse(
     Ok(array.with_parts(ids, None, cut))
 }
 
-/// The rows of a union at the set positions of a mask that is as long, in the union's form.
-/// `NoMemory` alone.
+/// The rows of a union at the set positions of a mask that is as long, in the union's form. A dense
+/// one keeps its columns, and the type of its offsets. `NoMemory` alone.
 #[cycle(filter)]
 #[tactic(auto, using(vx_model::proofs::UnionSteps::rows_of_unions))]
 pub fn filter_variants(
@@ -83,6 +84,7 @@ pub fn filter_variants(
     ensures cut { IfOk result (λ a. IsCut (union_column array.now)
         (items_where_true mask.now.bits.bits (union_column array.now).rows) (union_column a)) }
     ensures form { IfOk result (λ a. (union_column a).dense ≡ (union_column array.now).dense) }
+    ensures parts { IfOk result (IsUnionFilter array.now mask.now.bits.bits) }
 {
     let ids = filter_values(alloc, array.type_ids(), mask, policy)?.into_ref(alloc)?;
     match array.offsets() {

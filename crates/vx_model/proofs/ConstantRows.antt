@@ -62,7 +62,7 @@ is_take-null_constant p picks n h t =
     }
 
 -- a take of a value that is stored for each pick
-pub is_take-stored_constant : (p : ConstantParts) (picks : List (Option ℕ)) (n : Nullability) (a : Column) → AreBelow picks p.len → a.rows ≡ shown_rows (map is_some picks) (replicate (length picks) p.scalar.row) → a.dtype ≡ also_nullable p.scalar.dtype n → a.dense ≡ false → IsTake (constant_column p) picks n a
+pub is_take-stored_constant : (p : ConstantParts) (picks : List (Option ℕ)) (n : Nullability) (a : Column) → AreBelow picks p.len → a.rows ≡ shown_rows (map is_some picks) (replicate (length picks) p.scalar.row) → a.dtype ≡ also_nullable p.scalar.dtype n → a.dense ≡ None → IsTake (constant_column p) picks n a
 is_take-stored_constant p picks n a below rows t form =
     record {
       rows = rows ∙ shown_at-picks p.len p.scalar.row picks below;

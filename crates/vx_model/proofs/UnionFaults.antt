@@ -1,6 +1,6 @@
 -- What a step leaves of a union's sound parts is sound, and is that step over its rows.
-use Rattle.std.proofs.Common.{◌≡◌, ℕ, ℤ, pos, zero, suc, ◌+◌, ◌-◌, ◌<◌, ◌≤◌, Bool, true, false, List, [], ◌∷◌, map, length, take, drop, get_or, slice_range, Option, None, Some, refl, sym, ap, ap₂, ◌∙◌, subst, arith}
-use Rattle.std.specs.Prelude.{◌==◌, ◌&&◌, max, replicate, if◌then◌else◌, is_some}
+use Rattle.std.proofs.Common.{◌≡◌, ℕ, ℤ, zero, suc, ◌-◌, ◌<◌, ◌≤◌, Bool, true, false, List, [], ◌∷◌, map, length, take, drop, get_or, slice_range, Option, None, Some, refl, sym, ap, ap₂, ◌∙◌, subst, arith}
+use Rattle.std.specs.Prelude.{◌==◌, ◌&&◌, replicate, if◌then◌else◌}
 use Rattle.std.specs.Cmp.{first_so, second_so}
 use Rattle.std.specs.List.{items_where_true, list_all}
 use Rattle.std.proofs.lemmas.Bool.Decides.{nat_tests}
@@ -16,17 +16,17 @@ use Rattle.vx_take.specs.Picks.{AreBelow, at, item_at}
 use Rattle.vx_positions.specs.Offsets.{offset_positions}
 use Rattle.vx_positions.specs.Positions.{is_position, position_of, positions_of}
 use Rattle.vx_model.specs.Column.{Column}
-use Rattle.vx_model.specs.Columns.{AreCuts, AreSteps, are_long, columns_depth, firsts_for_nulls, rows_across, types_in}
+use Rattle.vx_model.specs.Columns.{AreCuts, AreSteps, are_long, firsts_for_nulls, rows_across, types_in}
 use Rattle.vx_model.specs.Numbers.{integer_by, integers_of, number_in, numbers_of}
 use Rattle.vx_model.specs.Records.{RecordParts, records_with}
 use Rattle.vx_model.specs.Step.{IsCut, IsSlice, IsStep, IsTake}
-use Rattle.vx_model.specs.Union.{UnionParts, are_inside, are_known, are_places, are_union_types, candidates, candidates_of, has_place, has_row, have_rows, is_id_type, is_known, is_union_long, rows_at, tags_of, union_column, union_fault}
+use Rattle.vx_model.specs.Union.{UnionParts, are_inside, are_places, candidates, candidates_of, has_place, has_row, have_rows, is_id_type, is_known, is_union_long, offsets_kind, rows_at, tags_of, union_column, union_fault}
 use Rattle.vx_model.specs.Valid.{non_nullable}
 use Rattle.vx_model.specs.VarBin.{are_integers, is_never_null}
 use Rattle.vx_model.proofs.Across.{across-filter, across-same, across-slice, across-take, at-firsts, depth-cuts, length-rows_across, long-filter, long-same, long-slice, long-take, steps-cuts, there-firsts, types-steps}
 use Rattle.vx_model.proofs.Items.{length-items_where_true, length-slice_range, map-items_where_true, map-slice_range}
 use Rattle.vx_model.proofs.Takes.{map-at}
-use Rattle.vx_model.proofs.UnionSteps.{alike-union, id_type-union, inside-union, is_filter-union, is_slice-union, is_step-union, is_take-union, known-union, length-tags, long-union, places-union, places-filter, places-slice, places-take, rows-left, tags-filter, tags-slice, tags-take, types-union}
+use Rattle.vx_model.proofs.UnionSteps.{alike-union, id_type-union, inside-union, is_filter-union, is_slice-union, is_step-union, is_take-union, known-union, length-tags, long-union, places-union, places-filter, places-slice, places-take, rows-left, tags-filter, tags-slice, tags-take}
 
 -- ---- what holds of all items holds of those that are left
 
@@ -210,7 +210,7 @@ module _ (p : UnionParts) (h : union_fault p ≡ None) (none : p.offsets ≡ Non
       ap (rows_across cs) (count-slice s e o l cut)
       ∙ across-slice (length p.ids.rows) p.columns cs long s e o l steps
       ∙ ap (λ r. slice_range r s e) (sym (sparse-rows p none)) in
-      is_slice-union p sparse h refl (sym (ap is_some none)) s e cut rows (omega (arith, cut.depth, depth-cuts _ p.columns cs cuts))
+      is_slice-union p sparse h refl (sym (ap offsets_kind none)) s e cut rows (omega (arith, cut.depth, depth-cuts _ p.columns cs cuts))
 
   count-filter : (mask : List Bool) → length mask ≡ length p.ids.rows → IsCut p.ids (items_where_true mask p.ids.rows) a → length a.rows ≡ true_count_of mask
   count-filter mask many cut = ap length cut.step.rows ∙ length-items_where_true mask p.ids.rows many
@@ -228,7 +228,7 @@ module _ (p : UnionParts) (h : union_fault p ≡ None) (none : p.offsets ≡ Non
       ap (rows_across cs) (count-filter mask many cut)
       ∙ across-filter (length p.ids.rows) p.columns cs long mask many steps
       ∙ ap (items_where_true mask) (sym (sparse-rows p none)) in
-      is_filter-union p sparse h refl (sym (ap is_some none)) mask cut rows (omega (arith, cut.depth, depth-cuts _ p.columns cs cuts))
+      is_filter-union p sparse h refl (sym (ap offsets_kind none)) mask cut rows (omega (arith, cut.depth, depth-cuts _ p.columns cs cuts))
 
   count-take : (picks : List (Option ℕ)) (n : Nullability) → IsTake p.ids picks n a → length a.rows ≡ length picks
   count-take picks n step = ap length step.rows ∙ length-map picks (item_at null p.ids.rows)
@@ -255,12 +255,12 @@ module _ (p : UnionParts) (h : union_fault p ≡ None) (none : p.offsets ≡ Non
       ∙ across-take len p.columns cs long (firsts_for_nulls picks) (there-firsts picks) firsts steps
       ∙ at-firsts [] (rows_across p.columns len) picks len below (length-rows_across p.columns len long)
       ∙ ap (λ r. at (get_or (rows_across p.columns len) 0 []) r picks) (sym (sparse-rows p none)) in
-      is_take-union p sparse h refl (sym (ap is_some none)) (get_or (rows_across p.columns len) 0 []) picks n step rows
+      is_take-union p sparse h refl (sym (ap offsets_kind none)) (get_or (rows_across p.columns len) 0 []) picks n step rows
 
   -- of no rows
   pub is_take-sparse-none : (row : List RowValue) (picks : List (Option ℕ)) (n : Nullability) → length p.ids.rows ≡ 0 → AreBelow picks (length p.ids.rows) → IsTake p.ids picks n a → rows_across cs (length picks) ≡ replicate (length picks) row → IsTake (union_column p) picks n (union_column (record p { ids = a; offsets = None; columns = cs }))
   is_take-sparse-none row picks n empty below step filled =
-      is_take-union p sparse h refl (sym (ap is_some none)) row picks n step
+      is_take-union p sparse h refl (sym (ap offsets_kind none)) row picks n step
       (ap (rows_across cs) (count-take picks n step) ∙ filled ∙ sym (all_null picks below))
     where
       all_null : (picks : List (Option ℕ)) → AreBelow picks (length p.ids.rows) → at row (candidates_of p) picks ≡ replicate (length picks) row
@@ -311,7 +311,7 @@ module _ (p : UnionParts) (o : RecordParts) (h : union_fault p ≡ None) (some :
       ∙ ap (rows_at p.columns) (map-slice_range position_of (integers_of o) s e)
       ∙ places-slice p.columns (offset_positions (integers_of o)) s e
       ∙ ap (λ r. slice_range r s e) (sym (dense-rows p o some)) in
-      is_slice-union p (dense (slice_range o.records s e)) h refl (sym (ap is_some some)) s e cut rows (omega (arith, cut.depth))
+      is_slice-union p (dense (slice_range o.records s e)) h refl (sym (ap offsets_kind some)) s e cut rows (omega (arith, cut.depth))
 
   pub fault-dense-filter : (mask : List Bool) → length mask ≡ length p.ids.rows → IsCut p.ids (items_where_true mask p.ids.rows) a → union_fault (record p { ids = a; offsets = Some (records_with o (items_where_true mask o.records) non_nullable) }) ≡ None
   fault-dense-filter mask count cut =
@@ -329,7 +329,7 @@ module _ (p : UnionParts) (o : RecordParts) (h : union_fault p ≡ None) (some :
       ∙ ap (rows_at p.columns) (map-items_where_true position_of mask (integers_of o))
       ∙ places-filter p.columns (offset_positions (integers_of o)) mask
       ∙ ap (items_where_true mask) (sym (dense-rows p o some)) in
-      is_filter-union p (dense (items_where_true mask o.records)) h refl (sym (ap is_some some)) mask cut rows (omega (arith, cut.depth))
+      is_filter-union p (dense (items_where_true mask o.records)) h refl (sym (ap offsets_kind some)) mask cut rows (omega (arith, cut.depth))
 
   -- whatever record is there at a null pick
   pub fault-dense-take : (filler : List ℕ) (picks : List (Option ℕ)) (n : Nullability) → IsTake p.ids picks n a → union_fault (record p { ids = a; offsets = Some (records_with o (at filler o.records picks) non_nullable) }) ≡ None
@@ -350,7 +350,7 @@ module _ (p : UnionParts) (o : RecordParts) (h : union_fault p ≡ None) (some :
       ∙ ap (rows_at p.columns) (map-at position_of z (integers_of o) picks)
       ∙ places-take p.columns (offset_positions (integers_of o)) k picks
       ∙ ap (λ r. at missing r picks) (sym (dense-rows p o some)) in
-      is_take-union p (dense (at filler o.records picks)) h refl (sym (ap is_some some)) missing picks n step rows
+      is_take-union p (dense (at filler o.records picks)) h refl (sym (ap offsets_kind some)) missing picks n step rows
 
 -- ---- the same rows of ids and columns that are stored otherwise
 

@@ -1,28 +1,26 @@
 -- The rows of unions, and what a step over ids, offsets and columns leaves of them.
-use Rattle.std.proofs.Common.{◌≡◌, ℕ, ℤ, pos, negsuc, zero, suc, ◌+◌, ◌-◌, ◌<◌, ◌≤◌, Bool, true, false, List, [], ◌∷◌, map, length, take, drop, get_or, slice_range, Option, None, Some, refl, sym, ap, ap₂, ◌∙◌, subst, arith}
-use Rattle.std.specs.Prelude.{◌==◌, ◌&&◌, ◌||◌, if◌then◌else◌, is_some}
+use Rattle.std.proofs.Common.{◌≡◌, ℕ, ℤ, pos, negsuc, zero, suc, ◌-◌, ◌<◌, ◌≤◌, Bool, true, false, List, [], ◌∷◌, map, length, take, drop, get_or, slice_range, Option, None, Some, refl, sym, ap, ap₂, ◌∙◌, subst, arith}
+use Rattle.std.specs.Prelude.{◌==◌, ◌&&◌, ◌||◌, if◌then◌else◌}
 use Rattle.std.specs.Option.{option_map}
 use Rattle.std.specs.Cmp.{first_so, second_so}
 use Rattle.std.specs.List.{items_where_true, list_all, list_any}
 use Rattle.std.proofs.lemmas.Bool.Decides.{nat_tests}
 use Rattle.std.proofs.lemmas.List.{length-map, get_or-map}
-use Rattle.vx_bits.specs.BitBuffer.{true_count_of}
 use Rattle.vx_types.specs.FieldTypes.{VariantTypes}
 use Rattle.vx_types.specs.Same.{are_same_types, is_same_type}
 use Rattle.vx_types.specs.TypeTree.{TypeTree, also_nullable}
 use Rattle.vx_types.specs.RowValue.{RowValue, null, tagged}
-use Rattle.vx_types.specs.declared.error.ColumnError.{ColumnError}
 use Rattle.vx_types.specs.declared.error.ColumnError.TheVariants.{WrongType, WrongLength, BadOffsets, BadTypeId}
 use Rattle.vx_types.specs.declared.nullability.Nullability.{Nullability}
 use Rattle.vx_take.specs.Picks.{at}
 use Rattle.vx_positions.specs.Offsets.{offset_positions}
 use Rattle.vx_positions.specs.Positions.{is_position, position_of, positions_of}
 use Rattle.vx_model.specs.Column.{Column}
-use Rattle.vx_model.specs.Columns.{are_long, rows_across, types_in}
+use Rattle.vx_model.specs.Columns.{types_in}
 use Rattle.vx_model.specs.Numbers.{integer_by, integers_of, numbers_of}
 use Rattle.vx_model.specs.Records.{RecordParts}
 use Rattle.vx_model.specs.Step.{IsCut, IsSlice, IsStep, IsTake}
-use Rattle.vx_model.specs.Union.{UnionParts, IsPlace, are_inside, are_known, are_places, are_union_types, candidates, candidates_of, row_by_id, has_place, has_row, have_rows, index_of, is_id_type, is_known, is_union_long, place_at, rows_at, tagged_rows, tags_of, union_column, union_fault, union_row, union_rows}
+use Rattle.vx_model.specs.Union.{UnionParts, IsPlace, are_inside, are_known, are_places, are_union_types, candidates, candidates_of, row_by_id, has_place, has_row, have_rows, index_of, is_id_type, is_known, is_union_long, offsets_kind, place_at, rows_at, tagged_rows, tags_of, union_column, union_fault, union_row, union_rows}
 use Rattle.vx_model.proofs.Across.{length-rows_across, long-get, row-rows_across}
 use Rattle.vx_model.proofs.CodeNumbers.{numbers_of-filter, numbers_of-slice, numbers_of-take}
 use Rattle.vx_model.proofs.Items.{map-items_where_true, map-slice_range}
@@ -283,7 +281,7 @@ places-take cs places k picks = map-at (λ (j : ℕ). map (λ (c : Column). get_
 
 -- ---- steps
 
-module _ (p q : UnionParts) (h : union_fault p ≡ None) (variants : q.variants ≡ p.variants) (form : is_some q.offsets ≡ is_some p.offsets) where
+module _ (p q : UnionParts) (h : union_fault p ≡ None) (variants : q.variants ≡ p.variants) (form : offsets_kind q.offsets ≡ offsets_kind p.offsets) where
   -- of the rows that are left, the ids and the candidates
   pub rows-left : (tags : List (Option ℕ)) (rows : List (List RowValue)) → tags_of q ≡ tags → candidates_of q ≡ rows → union_rows q ≡ tagged_rows p.variants.ids tags rows
   rows-left tags rows t r =

@@ -1,6 +1,6 @@
 -- What contracts see of an `Array`: its type, its rows, and how it stores them.
-use Rattle.std.specs.Prelude.{ℕ, ℤ, [], List, Option, None, Bool, false}
-use Rattle.vx_types.specs.TypeTree.{TypeTree}
+use Rattle.std.specs.Prelude.{ℕ, ℤ, [], List, Option, None}
+use Rattle.vx_types.specs.TypeTree.{TypeKind, TypeTree}
 use Rattle.vx_types.specs.RowValue.{RowValue}
 use Rattle.vx_types.specs.declared.layout_name.LayoutName.{LayoutName}
 use Rattle.vx_types.specs.declared.nullability.Nullability.{Nullability}
@@ -31,8 +31,8 @@ pub record Column : Type 0 where
   pub constant : Option RowValue
   -- of a `Dict`
   pub codes : Option Codes
-  -- a `Union` that has an offset for each row, or an `Extension`, `Dict` or `Filter` over one
-  pub dense : Bool
+  -- the kind of the offsets of a dense `Union`, or of an `Extension`, `Dict` or `Filter` over one
+  pub dense : Option TypeKind
   -- how deep its layouts nest: what a recursion over them counts down
   pub depth : ℕ
 
@@ -47,6 +47,6 @@ bare_column dtype rows layout depth =
       stored = [];
       constant = None;
       codes = None;
-      dense = false;
+      dense = None;
       depth = depth;
     }

@@ -1,9 +1,9 @@
 -- The code of a column, by which proofs tell columns apart.
-use Rattle.std.specs.Prelude.{◌≡◌, ℕ, ℤ, zero, suc, Bool, List, Option, refl}
-use Rattle.std.specs.Coded.{Coded, code_by, coded×, coded_ℕ, coded_ℤ, coded_bool, coded_list, coded_option}
+use Rattle.std.specs.Prelude.{◌≡◌, ℕ, ℤ, zero, suc, List, Option, refl}
+use Rattle.std.specs.Coded.{Coded, code_by, coded×, coded_ℕ, coded_ℤ, coded_list, coded_option}
 use Rattle.vx_types.specs.NullabilityCode.{coded_nullability}
-use Rattle.vx_types.specs.TypeTree.{TypeTree}
-use Rattle.vx_types.specs.TypeTreeCode.{coded_type}
+use Rattle.vx_types.specs.TypeTree.{TypeKind, TypeTree}
+use Rattle.vx_types.specs.TypeTreeCode.{coded_kind, coded_type}
 use Rattle.vx_types.specs.RowValue.{RowValue}
 use Rattle.vx_types.specs.RowValueCode.{coded_row}
 use Rattle.vx_types.specs.declared.layout_name.LayoutName.{LayoutName}
@@ -42,7 +42,7 @@ abbrev Shown : Type 0
 Shown = (TypeTree × List RowValue) × (LayoutName × Cover)
 
 abbrev Kept : Type 0
-Kept = (List (List ℕ) × Option RowValue) × (Option Codes × (Bool × ℕ))
+Kept = (List (List ℕ) × Option RowValue) × (Option Codes × (Option TypeKind × ℕ))
 
 abbrev coded_shown : Coded Shown
 coded_shown =
@@ -51,7 +51,7 @@ coded_shown =
 abbrev coded_kept : Coded Kept
 coded_kept =
     coded× (coded× (coded_list (coded_list coded_ℕ)) (coded_option coded_row))
-    (coded× (coded_option coded_codes) (coded× coded_bool coded_ℕ))
+    (coded× (coded_option coded_codes) (coded× (coded_option coded_kind) coded_ℕ))
 
 abbrev column_fields : Column → Shown × Kept
 column_fields c = (

@@ -9,7 +9,7 @@ use Rattle.vx_model.specs.Plain.{is_in_place, is_lazy_layout, is_plain, is_unwra
 
 -- a has the rows that are left and this type; a layout that stores its rows in their places stays;
 -- what was unwrapped stays so, and what wasn't lazy; and so does the form of a union, sparse or
--- dense, whatever is over it
+-- dense with offsets of this type, whatever is over it
 pub record IsStep (c : Column) (left : List RowValue) (t : TypeTree) (a : Column) : Type 0 where
   pub rows : a.rows ≡ left
   pub dtype : a.dtype ≡ t

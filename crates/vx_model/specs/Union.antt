@@ -1,12 +1,12 @@
 -- Layout `Union`: a row is one of its variants' rows, which an id tells.
-use Rattle.std.specs.Prelude.{◌≡◌, ◌<◌, ℕ, ℤ, pos, suc, ◌+◌, ◌==◌, ◌&&◌, max, Bool, true, false, List, [], ◌∷◌, length, map, Option, Some, None, is_some, slice_index_or, if◌then◌else◌, refl}
+use Rattle.std.specs.Prelude.{◌≡◌, ◌<◌, ℕ, ℤ, pos, suc, ◌+◌, ◌==◌, ◌&&◌, max, Bool, true, List, [], ◌∷◌, length, map, Option, Some, None, IsSome, IsNone, slice_index_or, if◌then◌else◌, refl}
 use Rattle.std.specs.Coded.{Coded, code_by, coded×, coded_list, coded_option}
-use Rattle.std.specs.List.{list_all, list_any}
+use Rattle.std.specs.List.{items_where_true, list_all, list_any}
 use Rattle.std.specs.Option.{option_map}
 use Rattle.vx_types.specs.FieldTypes.{VariantTypes, coded_variants}
 use Rattle.vx_types.specs.RowValue.{RowValue, null, tagged}
 use Rattle.vx_types.specs.Same.{are_same_types, is_same_kind}
-use Rattle.vx_types.specs.TypeTree.{TypeTree, primitive_kind, union_kind, types_of}
+use Rattle.vx_types.specs.TypeTree.{TypeKind, TypeTree, primitive_kind, union_kind, types_of}
 use Rattle.vx_types.specs.declared.layout_name.LayoutName.TheVariants.{Union as UnionLayout}
 use Rattle.vx_types.specs.declared.error.ColumnError.{ColumnError}
 use Rattle.vx_types.specs.declared.error.ColumnError.TheVariants.{WrongType, WrongLength, BadOffsets, BadTypeId}
@@ -15,9 +15,11 @@ use Rattle.vx_positions.specs.Offsets.{offset_positions}
 use Rattle.vx_positions.specs.Positions.{is_position, positions_of}
 use Rattle.vx_model.specs.Column.{Column, bare_column}
 use Rattle.vx_model.specs.ColumnCode.{coded_column}
-use Rattle.vx_model.specs.Columns.{are_long, columns_depth, rows_across, types_in}
+use Rattle.vx_model.specs.Columns.{AreCuts, are_long, columns_depth, rows_across, types_in}
 use Rattle.vx_model.specs.Numbers.{integers_of, numbers_of}
-use Rattle.vx_model.specs.Records.{RecordParts, coded_records}
+use Rattle.vx_model.specs.Records.{RecordParts, coded_records, records_with}
+use Rattle.vx_model.specs.Step.{IsCut}
+use Rattle.vx_model.specs.Valid.{non_nullable}
 use Rattle.vx_model.specs.VarBin.{are_integers}
 
 -- what a contract sees of a `UnionArray`
@@ -163,11 +165,31 @@ union_dtype p =
       nullability = p.ids.dtype.nullability;
     }
 
+-- of the offsets, where there are some
+abbrev pub offsets_kind : Option RecordParts → Option TypeKind
+offsets_kind None = None
+offsets_kind (Some offsets) = Some offsets.kind
+
 abbrev pub union_column : UnionParts → Column
 union_column p =
     record (bare_column (union_dtype p) (union_rows p) UnionLayout (union_size p + 1)) {
-      dense = is_some p.offsets;
+      dense = offsets_kind p.offsets;
     }
+
+-- ---- what a filter leaves
+
+-- the records at the set bits, of the same type
+abbrev pub offsets_left : List Bool → RecordParts → RecordParts
+offsets_left bits offsets =
+    records_with offsets (items_where_true bits offsets.records) non_nullable
+
+-- a has the ids and the offsets of p at the set bits; and its columns where it is dense, else
+-- their rows there
+pub record IsUnionFilter (p : UnionParts) (bits : List Bool) (a : UnionParts) : Type 0 where
+  pub ids : IsCut p.ids (items_where_true bits p.ids.rows) a.ids
+  pub offsets : a.offsets ≡ option_map (offsets_left bits) p.offsets
+  pub dense : IsSome p.offsets → a.columns ≡ p.columns
+  pub sparse : IsNone p.offsets → AreCuts (items_where_true bits) p.columns a.columns
 
 abbrev pub coded_union : Coded UnionParts
 coded_union =

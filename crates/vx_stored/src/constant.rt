@@ -142,7 +142,7 @@ fn store_texts(
     ensures dtype { IfOk result (λ a. a.dtype
         ≡ record { kind = text_kind kind; nullability = nullability_by (valid_of validity) }) }
     ensures direct { IfOk result (λ a. is_lazy_layout a.layout ≡ false) }
-    ensures form { IfOk result (λ a. a.dense ≡ false) }
+    ensures form { IfOk result (λ a. a.dense ≡ None) }
     ensures layout { IfOk result (λ a. a.layout ≡ text_layout (scalar_row value.now)) }
 {
     let text = text_or_none(alloc, value)?;
@@ -171,7 +171,7 @@ pub fn store_scalar(
     ensures unwrapped { is_flat_cover (cover_by (valid_of validity)) ≡ true
         → is_flat scalar.now.dtype ≡ true → IfOk result (λ a. is_unwrapped a ≡ true) }
     ensures direct { IfOk result (λ a. is_lazy_layout a.layout ≡ false) }
-    ensures form { IfOk result (λ a. a.dense ≡ false) }
+    ensures form { IfOk result (λ a. a.dense ≡ None) }
     ensures texts { is_text_kind scalar.now.dtype.kind ≡ true
         → IfOk result (λ a. a.layout ≡ text_layout scalar.now.row) }
 {

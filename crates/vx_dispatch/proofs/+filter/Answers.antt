@@ -17,6 +17,7 @@ use Rattle.vx_model.proofs.LazyRows.{length-filter}
 use Rattle.vx_model.proofs.DictSteps.{dict_fault-filter, is_filter-dict}
 use Rattle.vx_model.proofs.FilterSteps.{is_filter-filter}
 use Rattle.vx_dispatch.proofs.Results.{weaker}
+use Rattle.vx_dispatch.proofs.Unions.{parts-dense, parts-sparse}
 use Rattle.vx_model.specs.Valid.{valid_size}
 use Rattle.std.proofs.Common.{ℕ, ◌*◌, ap₂, slice_range}
 use Rattle.vx_lists.proofs.ListsOfOneSize.{length-repeated}
@@ -44,9 +45,8 @@ use Rattle.vx_model.specs.ListView.{listview_column}
 use Rattle.vx_types.specs.TypeTree.{TypeTree}
 use Rattle.std.proofs.Common.{◌+◌, ◌<◌, List, take, get_or, subst}
 use Rattle.std.proofs.Common.{Option, Some, None}
-use Rattle.std.specs.Prelude.{is_some}
 use Rattle.vx_model.specs.Records.{RecordParts, records_with}
-use Rattle.vx_model.specs.Union.{UnionParts, union_column, union_fault}
+use Rattle.vx_model.specs.Union.{UnionParts, IsUnionFilter, offsets_kind, union_column, union_fault}
 use Rattle.vx_model.proofs.UnionFaults.{fault-dense-filter, fault-sparse-filter, is_filter-dense, is_filter-sparse}
 use Rattle.vx_model.proofs.UnionSteps.{rows-union}
 use Rattle.vx_dispatch.proofs.+filter.Goals as goal
@@ -290,6 +290,13 @@ union_::filter_sparse-returns-clause-cut t c =
     let cuts = cuts_ready c.share.result c.len.result c.args.policy.now _ c.in_ok-ready.ensures c.share.ensures c.children-columns.ensures.value c.in_ok-cut.ensures in
     rw c.with_parts.ensures (is_filter-sparse p h c.requires.sparse a cs mask c.requires.rows c.requires.ids cuts)
 
+pub union_::filter_sparse-returns-clause-parts :
+    goal.union_::filter_sparse-returns-clause-parts
+union_::filter_sparse-returns-clause-parts t c =
+    let p = c.args.array.now in let mask = c.args.mask.now.bits.bits in let cs = c.in_ok-cut.cut in
+    let cuts = cuts_ready c.share.result c.len.result c.args.policy.now _ c.in_ok-ready.ensures c.share.ensures c.children-columns.ensures.value c.in_ok-cut.ensures in
+    rw c.with_parts.ensures (parts-sparse p mask c.args.ids c.requires.ids cs c.requires.sparse cuts)
+
 pub union_::filter_variants-with_parts-requires :
     goal.union_::filter_variants-with_parts-requires
 union_::filter_variants-with_parts-requires t c =
@@ -312,7 +319,19 @@ union_::filter_variants-returns-in_ok-places-in-Some-clause-cut t c =
     ∙ ap₂ (λ (r : RecordParts) (cs : List Column). let u : UnionParts = record p { ids = a; offsets = Some r; columns = cs } in u) c.in_ok-places-in-Some.ensures (c.share-columns.ensures ∙ c.children.ensures.value) in
     subst (λ (u : UnionParts). IsCut (union_column p) (items_where_true mask (union_column p).rows) (union_column u)) (sym q) (is_filter-dense p o h some a mask cut)
 
+pub union_::filter_variants-returns-in_ok-places-in-Some-clause-parts :
+    goal.union_::filter_variants-returns-in_ok-places-in-Some-clause-parts
+union_::filter_variants-returns-in_ok-places-in-Some-clause-parts t c =
+    let p = c.args.array.now in let mask = c.args.mask.now.bits.bits in
+    let a = c.in_ok-ids.ids in let o = c.in-Some.offsets.now in
+    let some : p.offsets ≡ Some o = sym c.in-Some.ensures.value in
+    let cut : IsCut p.ids (items_where_true mask p.ids.rows) a = subst (λ (x : Column). IsCut x (items_where_true mask x.rows) a) (c.deref.ensures ∙ c.type_ids.ensures.value) (rw c.in_ok-ids.ensures c.in_ok-filter_values.ensures.cut) in
+    let q : c.with_parts.result ≡ record p { ids = a; offsets = Some (records_with o (items_where_true mask o.records) non_nullable) } =
+    c.with_parts.ensures
+    ∙ ap₂ (λ (r : RecordParts) (cs : List Column). let u : UnionParts = record p { ids = a; offsets = Some r; columns = cs } in u) c.in_ok-places-in-Some.ensures (c.share-columns.ensures ∙ c.children.ensures.value) in
+    subst (IsUnionFilter p mask) (sym q) (parts-dense p mask a cut o some)
+
 pub union_::filter_variants-returns-in-None-clause-form :
     goal.union_::filter_variants-returns-in-None-clause-form
 union_::filter_variants-returns-in-None-clause-form t c =
-    weaker c.filter_sparse.result c.filter_sparse.ensures.sparse (λ u is. ap is_some (is ∙ c.in-None.ensures.value))
+    weaker c.filter_sparse.result c.filter_sparse.ensures.sparse (λ u is. ap offsets_kind (is ∙ c.in-None.ensures.value))
