@@ -6,5 +6,4 @@ pub mod BitWords
 pub mod TopBits
 pub mod RunStarts
 pub mod RunMarks
-pub mod PickRanks
 pub mod PutRows

@@ -8,6 +8,7 @@ ghost use Rattle.vortex_c.specs.Bits.{AreBitsFiltered, AreKeptBits};
 
 use crate::answer::{Answer, DONE, LENGTHS, ROOM};
 use crate::bits::{Bits, Packed, hold};
+use vx_bitfilter::pext_fallback;
 
 // How many bits are set.
 fn count_bits(bits: &Bits) -> usize
@@ -42,26 +43,8 @@ fn picked(word: u64, picks: u64) -> Kept
             count: 64,
         };
     }
-    picked_by_ranks(word, picks)
-}
-
-// A turn for each set bit that is picked, the lowest first: its place is the number of picks below
-// it. `left - 1` has the bits below the lowest one in place of it.
-#[inline(always)]
-fn picked_by_ranks(word: u64, picks: u64) -> Kept
-    ensures bits { result.bits ≡ pext word picks }
-    ensures count { result.count ≡ count_ones picks }
-{
-    let mut packed: u64 = 0;
-    let mut left = word & picks;
-    'bits: while left != 0 {
-        let rest = left & (left - 1);
-        let below = (left - 1) - rest;
-        packed |= 1 << (picks & below).count_ones();
-        left = rest;
-    }
     Kept {
-        bits: packed,
+        bits: pext_fallback(word, picks),
         count: picks.count_ones(),
     }
 }

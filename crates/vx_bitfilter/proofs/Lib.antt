@@ -1,7 +1,8 @@
 pub mod ClosedBits
 pub mod PackedBits
+pub mod PackedHalves
 pub mod PackedLaws
+pub mod PickRanks
 pub mod FilteredWords
 pub mod SparseBits
 pub mod PackedBytes
-mod WordParts

@@ -1,10 +1,8 @@
 -- What parts of a word pack of parts of another.
-use Rattle.std.proofs.Common.{◌≡◌, ℕ, zero, suc, ◌+◌, ◌-◌, ◌*◌, ◌/◌, ◌%◌, ◌^◌, ◌<◌, ◌≤◌, Bool, true, false, cond, eqb, List, [], ◌∷◌, ◌++◌, length, get_or, replicate, set, bit_or, inl, inr, refl, sym, ap, ap₂, subst, ◌∙◌, arith, append-nil}
+use Rattle.std.proofs.Common.{◌≡◌, ℕ, zero, suc, ◌+◌, ◌-◌, ◌*◌, ◌/◌, ◌%◌, ◌^◌, ◌<◌, ◌≤◌, Bool, true, false, cond, eqb, List, [], ◌∷◌, ◌++◌, length, get_or, replicate, bit_or, refl, sym, ap, ap₂, subst, ◌∙◌, arith, append-nil}
 use Rattle.std.specs.Int.RustNames.{count_ones}
 use Rattle.std.specs.List.{items_where_true}
-use Rattle.std.proofs.lemmas.Bool.{cases_lt}
-use Rattle.std.proofs.lemmas.Grind.{get_or-set_at}
-use Rattle.std.proofs.lemmas.List.{get_or-set_other, replicate-append-replicate}
+use Rattle.std.proofs.lemmas.List.{replicate-append-replicate}
 use Rattle.std.proofs.lemmas.List.FromFn.{get_or-map-range_with_len, length-map-range_with_len, map-range_with_len_more}
 use Rattle.std.proofs.lemmas.Nat.{div-add-mod', mod_below, or_comm, or_shifted, pow_pos, shl_whole}
 use Rattle.std.proofs.Math.Nat.{mod-eq_of_lt}
@@ -17,7 +15,7 @@ use Rattle.vx_bits.proofs.BuiltLists.{joined_below}
 use Rattle.vx_bits.proofs.WordBits.{length-word_bits, number_of-word_bits, word_bits-append, word_bits-none, word_bits_low, zero-word_bits}
 use Rattle.vx_bits.proofs.WordLists.{picked_clear, picked_no_word}
 use Rattle.vx_bitfilter.specs.Pext.{pext}
-use Rattle.vx_bitfilter.specs.Table.{IsNibbles, first_entries}
+use Rattle.vx_bitfilter.specs.Table.{first_entries}
 use Rattle.vx_bitfilter.proofs.PackedBits.{picked_bits}
 use Rattle.vx_bitfilter.proofs.PackedLaws.{count_picked, pext-word_bits}
 
@@ -67,7 +65,7 @@ pext_halves src mask h =
     let low = ap number_of (picked_low (src / 2) (mask / 2) 63 1 (omega arith)) in
     halves src mask 63 ∙ sym (ap (λ (n : ℕ). cond (eqb (mask % 2) 1) (cond (eqb (src % 2) 1) 1 0 + 2 * n) n) low)
 
-pext-none : (src mask : ℕ) → mask ≡ 0 → pext src mask ≡ 0
+pub pext-none : (src mask : ℕ) → mask ≡ 0 → pext src mask ≡ 0
 unfolding pext
 pext-none src mask e = ap number_of (picked_no_word mask (word_bits src 64) e)
 
@@ -202,34 +200,3 @@ unfolding pext
 all_packed src mask packed held at all v =
     sym (mod-eq_of_lt v.below) ∙ sym (number_of-word_bits packed held)
     ∙ ap number_of (v.value ∙ ap (λ n. items_where_true (word_bits mask n) (word_bits src n)) all)
-
--- ---- the entries of nibbles
-
--- the mask 0 packs nothing
-pub first_nibbles : (j : ℕ) → j < 16 → 0 ≡ pext (j % 16) (j / 16)
-first_nibbles j h = let none : j / 16 ≡ 0 = omega arith in sym (pext-none (j % 16) (j / 16) none)
-
--- one more entry, by that of the upper bits
-pub nibble_more : (entries : List ℕ) (i packed x : ℕ) → length entries ≡ 256 → 16 ≤ i → i < 256 → packed ≡ get_or entries (16 * (i / 32) + i % 16 / 2) 0 → x ≡ cond (eqb (i / 16 % 2) 1) (i % 2 + 2 * packed) packed → IsNibbles i entries → IsNibbles (i + 1) (set entries i x)
-nibble_more entries i packed x long low high e f h j below =
-    elim (cases_lt j i) [
-      | inl before ↦ get_or-set_other entries i j x 0 (omega arith) ∙ h j before
-      | inr past ↦
-          let at : j ≡ i = omega arith in
-          let mask = i / 16 in
-          let upper = i % 16 / 2 in
-          let half = 16 * (i / 32) + upper in
-          let low_half : half % 16 ≡ upper = omega arith in
-          let high_half : half / 16 ≡ mask / 2 = omega arith in
-          let is : packed ≡ pext upper (mask / 2) = e ∙ h half (omega arith) ∙ ap₂ pext low_half high_half in
-          let src : 2 * upper + i % 2 ≡ i % 16 = omega arith in
-          get_or-set_at entries i j x 0 at (omega (arith, long)) ∙ f
-          ∙ entry_by_half mask upper (i % 2) packed (omega arith) (omega arith) is
-          ∙ ap (λ s. pext s mask) src ∙ ap (λ k. pext (k % 16) (k / 16)) (sym at)
-    ]
-
-pub nibble_small : (entries : List ℕ) (i : ℕ) → 16 ≤ i → i < 256 → IsNibbles i entries → get_or entries (16 * (i / 32) + i % 16 / 2) 0 < 128
-nibble_small entries i low high h =
-    let half = 16 * (i / 32) + i % 16 / 2 in
-    let short : half / 16 < 2 ^ 4 = omega arith in
-    omega (arith, h half (omega arith), entry_small (half % 16) (half / 16) 4 short (omega arith))

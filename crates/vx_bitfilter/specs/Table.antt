@@ -1,5 +1,5 @@
 -- What each byte packs of each byte.
-use Rattle.std.specs.Prelude.{◌≡◌, ℕ, ◌/◌, ◌%◌, ◌<◌, List, map, get_or}
+use Rattle.std.specs.Prelude.{ℕ, ◌/◌, ◌%◌, List, map}
 use Rattle.std.specs.List.{range_with_len}
 use Rattle.vx_bitfilter.specs.Pext.{pext}
 
@@ -11,8 +11,3 @@ first_entries n = map (λ i. pext (i % 256) (i / 256)) (range_with_len 0 n)
 -- all of them
 abbrev pub pext_entries : List ℕ
 pext_entries = first_entries 65536
-
--- of the first n entries, entry `16 * mask + src` has the bits of the nibble `src` at the set
--- positions of the nibble `mask`, packed from bit 0
-abbrev pub IsNibbles : ℕ → List ℕ → Type 0
-IsNibbles n entries = (j : ℕ) → j < n → get_or entries j 0 ≡ pext (j % 16) (j / 16)

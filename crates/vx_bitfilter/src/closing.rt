@@ -1,32 +1,24 @@
 //! The bits of a word where few positions of a mask are clear.
-ghost use Rattle.std.specs.Prelude.{◌≡◌, ◌+◌, ◌*◌, ◌/◌, ◌%◌, ◌^◌, ◌<◌};
-ghost use Rattle.std.specs.List.{items_where_true};
-ghost use Rattle.std.specs.Int.RustNames.{count_ones};
-ghost use Rattle.vx_bits.specs.Words.{word_bits};
+ghost use Rattle.std.specs.Prelude.{◌≡◌};
+ghost use Rattle.vx_bitfilter.specs.Pext.{pext};
 
-// The bits of `src` at the set positions of `mask`, packed from bit 0: a turn for each clear
-// position, which is closed up in both words, the lowest first.
+// The bits of `src` at the set positions of `mask`, packed from bit 0, and zero above them: a turn
+// for each clear position, the lowest first, into which all bits below it move up by one. So they
+// come to stand at the word's upper end.
 #[inline(always)]
 pub(crate) fn closed_up(src: u64, mask: u64) -> u64
-    ensures { word_bits result (count_ones mask)
-        ≡ items_where_true (word_bits mask 64) (word_bits src 64) }
+    ensures { result ≡ pext src mask }
 {
-    let mut packed = src;
-    let mut clear = !mask;
-    for k in 0..clear.count_ones() {
-        let _ = k;
-        let place = clear.trailing_zeros();
-        packed = without_bit(packed, place);
-        clear = without_bit(clear, place);
+    if mask == 0 {
+        return 0;
     }
-    packed
-}
-
-// The word without its bit at a place: those above it move down by one.
-#[inline(always)]
-fn without_bit(word: u64, place: u32) -> u64
-    requires { place < 64 }
-    ensures { result ≡ word / 2 ^ place / 2 * 2 ^ place + word % 2 ^ place }
-{
-    (((word >> place) >> 1) << place) | (word & ((1 << place) - 1))
+    let mut packed = src & mask;
+    let mut clear = !mask;
+    'places: while clear != 0 {
+        let rest = clear & (clear - 1);
+        let below = (clear - 1) - rest;
+        packed += packed & below;
+        clear = rest;
+    }
+    packed >> (64 - mask.count_ones())
 }

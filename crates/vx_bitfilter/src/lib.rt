@@ -3,8 +3,6 @@
 
 mod closing;
 mod laws;
-mod nibbles;
-mod parts;
 mod pext;
 mod sparse;
 mod table;

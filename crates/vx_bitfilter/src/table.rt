@@ -3,7 +3,6 @@ ghost use Rattle.std.specs.Prelude.{◌≡◌, ◌+◌, ◌*◌, ◌<◌, ◌≤
 ghost use Rattle.vx_bitfilter.specs.Pext.{pext};
 ghost use Rattle.vx_bitfilter.specs.Table.{first_entries, pext_entries};
 
-use crate::parts::{PartTable, pext_by_parts};
 use std::alloc::Global;
 use std::marker::Model;
 use vx_bits::NoMemory;
@@ -47,21 +46,24 @@ impl PextTable {
     pub fn pext(&self, src: u64, mask: u64) -> u64
         ensures { result ≡ pext src mask }
     {
-        pext_by_parts(self, src, mask)
+        let mut packed: u64 = 0;
+        let mut held: u32 = 0;
+        for k in 0..8 {
+            let at: u32 = 8 * k;
+            let picks = (mask >> at) & 0xff;
+            packed |= self.entry((src >> at) & 0xff, picks) << held;
+            held += picks.count_ones();
+        }
+        packed
     }
-}
 
-impl PartTable for PextTable {
-    ghost use Rattle.std.proofs.Common.{inr, refl};
-
-    const WIDTH: u32 = 8;
-
-    ghost WIDTH = { 8 };
-
-    ghost whole = { inr refl };
-
+    // What a byte packs of a byte.
     #[inline(always)]
-    fn entry(&self, src: u64, mask: u64) -> u64 {
+    fn entry(&self, src: u64, mask: u64) -> u64
+        requires src_byte { src < 256 }
+        requires mask_byte { mask < 256 }
+        ensures { result ≡ pext src mask }
+    {
         u64::from(self.entries[(256 * mask + src) as usize])
     }
 }
@@ -87,7 +89,7 @@ fn push_row(entries: &mut Vec<u8>, mask: usize)
 
 // What is packed, with one more bit below it where that is wanted.
 #[inline(always)]
-pub(crate) fn below(packed: u8, wanted: bool, bit: u8) -> u8
+fn below(packed: u8, wanted: bool, bit: u8) -> u8
     requires small { packed < 128 }
     requires digit { bit < 2 }
     ensures { result ≡ (if wanted then bit + 2 * packed else packed) }

@@ -8,20 +8,10 @@ ghost use Rattle.vx_bits.specs.Words.{word_bits, word_count};
 ghost use Rattle.vx_bitfilter.specs.Words.{busy_words, first_words};
 ghost use Rattle.vx_mask.specs.Mask.{at_front};
 
-use crate::closing::closed_up;
-use crate::nibbles::NibbleTable;
-use crate::parts::pext_by_parts;
 use crate::pext::pext_fallback;
-use crate::table::PextTable;
 use std::alloc::Global;
 use std::marker::Model;
 use vx_bits::{BitBuffer, BitBuilder, NoMemory, WordReader, Words};
-
-// From so many set bits on a table of nibbles is worth making, and from so many set bits and so
-// many clear ones on a table of bytes.
-const NIBBLES_PAY_FROM_SET: usize = 1 << 11;
-
-const BYTES_PAY_FROM_SET_AND_CLEAR: usize = 45_000;
 
 /// The source's bits at the mask's set positions, from offset 0 on, wherever the bits of each lie
 /// in their bytes: Vortex's `filter_bitbuffer_by_mask`. `NoMemory` alone.
@@ -123,58 +113,26 @@ pub fn filter_words<S: WordReader, M: WordReader>(
     ensures mask_cost { M.spare mask.old
         ≤ M.spare mask.new + word_count (length (M.bits mask.old)) }
 {
-    let packing = packing_for(alloc, true_count, mask.len())?;
     let mut kept = BitBuilder::with_capacity(alloc, true_count)?;
     for i in 0..mask.len().div_ceil(64) {
         let picks = mask.word(i);
         if picks != 0 {
             let word = src.word(i);
-            let bits = packed(&packing, word, picks);
+            let bits = packed(word, picks);
             kept.append_word(bits, picks.count_ones() as usize)?;
         }
     }
     kept.finish()
 }
 
-// What packs the bits of a word: the more words are neither empty nor full, the greater a table
-// pays.
-#[derive(Drop)]
-enum Packing {
-    ByBits,
-    ByNibbles(NibbleTable),
-    ByBytes(PextTable),
-}
-
-fn packing_for(alloc: Global, true_count: usize, len: usize) -> Result<Packing, NoMemory> {
-    if true_count < NIBBLES_PAY_FROM_SET {
-        return Ok(Packing::ByBits);
-    }
-    if true_count.min(len.saturating_sub(true_count)) < BYTES_PAY_FROM_SET_AND_CLEAR {
-        return Ok(Packing::ByNibbles(NibbleTable::new()));
-    }
-    Ok(Packing::ByBytes(PextTable::new(alloc)?))
-}
-
-// The bits that a mask's word picks, packed from bit 0: by a table where there is one, and the
-// set bits, or the clear ones, are not so few that a turn for each is less work. A full mask takes
-// the word whole.
+// The bits that a mask's word picks, packed from bit 0. A full mask takes the word whole.
 #[inline(always)]
-fn packed(packing: &Packing, word: u64, picks: u64) -> u64
+fn packed(word: u64, picks: u64) -> u64
     ensures { word_bits result (count_ones picks)
         ≡ items_where_true (word_bits picks 64) (word_bits word 64) }
 {
     if picks == u64::MAX {
         return word;
     }
-    if picks.count_ones() <= 10 {
-        return pext_fallback(word, picks);
-    }
-    if picks.count_ones() >= 53 {
-        return closed_up(word, picks);
-    }
-    match packing {
-        Packing::ByBits => pext_fallback(word, picks),
-        Packing::ByNibbles(table) => pext_by_parts(table, word, picks),
-        Packing::ByBytes(table) => table.pext(word, picks),
-    }
+    pext_fallback(word, picks)
 }

@@ -14,14 +14,5 @@ returns-then-picks-eq18446744073709551615 c =
     ap (λ n. word_bits c.args.word n) (ap count_ones full ∙ ones-ones 64)
     ∙ sym (picked_full_word c.args.picks (word_bits c.args.word 64) full ∙ take_all 64 (word_bits c.args.word 64) (omega (arith, length-word_bits c.args.word 64)))
 
-pub returns-then-picks-le10 : goal.returns-then-picks-le10
-returns-then-picks-le10 c = pext-word_bits c.args.word c.args.picks _ c.ranges.picks.fits c.pext_fallback.ensures
-
-pub returns-in-ByBits : goal.returns-in-ByBits
-returns-in-ByBits c = pext-word_bits c.args.word c.args.picks _ c.ranges.picks.fits c.pext_fallback-in-ByBits.ensures
-
-pub returns-in-ByNibbles : goal.returns-in-ByNibbles
-returns-in-ByNibbles c = pext-word_bits c.args.word c.args.picks _ c.ranges.picks.fits c.pext_by_parts.ensures
-
-pub returns-in-ByBytes : goal.returns-in-ByBytes
-returns-in-ByBytes c = pext-word_bits c.args.word c.args.picks _ c.ranges.picks.fits c.pext.ensures
+pub returns : goal.returns
+returns c = pext-word_bits c.args.word c.args.picks _ c.ranges.picks.fits c.pext_fallback.ensures

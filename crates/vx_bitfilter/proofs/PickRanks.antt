@@ -1,9 +1,8 @@
 -- Bits that go to their ranks: each set bit that is picked stands where the number of picks below it
 -- says.
-use Rattle.std.proofs.Common.{◌≡◌, ℕ, zero, suc, ◌+◌, ◌-◌, ◌*◌, ◌/◌, ◌%◌, ◌^◌, ◌<◌, ◌≤◌, min, cond, eqb, ◌∷◌, bit_and, bit_or, inl, inr, refl, sym, ap, ap₂, ◌∙◌, zero-add, arith}
+use Rattle.std.proofs.Common.{◌≡◌, ℕ, zero, suc, ◌+◌, ◌-◌, ◌*◌, ◌/◌, ◌%◌, ◌^◌, ◌<◌, ◌≤◌, min, bit_and, bit_or, inl, inr, sym, ap, ap₂, ◌∙◌, zero-add, arith}
 use Rattle.std.specs.Int.{bit_at, w64}
 use Rattle.std.specs.Int.RustNames.{count_ones}
-use Rattle.std.specs.List.{items_where_true}
 use Rattle.std.proofs.lemmas.Bool.{cases_eq, cases_lt}
 use Rattle.std.proofs.lemmas.Nat.{and_mask, mod-pow-add, mod_below, one_shl, or_comm, or_shifted, pow_pos}
 use Rattle.std.proofs.lemmas.Nat.Bits.{bit_at_above, bit_at_and, bit_at-lt, bit_at_lowest, bit_at-suc, bit_at-trailing_zeros}
@@ -11,60 +10,9 @@ use Rattle.std.proofs.Math.Nat.{add-mul-div_right, pow-suc}
 use Rattle.std.proofs.Math.Pow.{pow_mono}
 use lib.Bits.{and_step, and_self}
 use lib.Count.{count_trailing_zeros, under, ones_step, ones-le}
-use Rattle.vx_bits.specs.BitBuffer.{number_of}
-use Rattle.vx_bits.specs.Words.{word_bits}
 use Rattle.vx_mask.proofs.WordCounts.{ones_more}
 use Rattle.vx_bitfilter.specs.Pext.{pext}
-
--- the number of the bits that the lowest n of `mask` pick
-abbrev packed_of : ℕ → ℕ → ℕ → ℕ
-packed_of n src mask = number_of (items_where_true (word_bits mask n) (word_bits src n))
-
--- a digit, by whether it is 1
-digit : (d : ℕ) → d < 2 → ◌≡◌ {A = ℕ} (cond (eqb d 1) 1 0) d
-digit zero h = refl
-digit (suc zero) h = refl
-digit (suc (suc d)) h = absurd (omega arith)
-
--- by its lowest bit and the others, where that is picked
-packed_odd : (n src mask : ℕ) → mask % 2 ≡ 1 → packed_of (suc n) src mask ≡ src % 2 + 2 * packed_of n (src / 2) (mask / 2)
-unfolding word_bits
-packed_odd n src mask e =
-    ap (λ r. number_of (items_where_true (eqb r 1 ∷ word_bits (mask / 2) n) (eqb (src % 2) 1 ∷ word_bits (src / 2) n))) e
-    ∙ ap (λ d. d + 2 * packed_of n (src / 2) (mask / 2)) (digit (src % 2) (omega arith))
-
--- where it isn't
-packed_even : (n src mask : ℕ) → mask % 2 ≡ 0 → packed_of (suc n) src mask ≡ packed_of n (src / 2) (mask / 2)
-unfolding word_bits
-packed_even n src mask e = ap (λ r. number_of (items_where_true (eqb r 1 ∷ word_bits (mask / 2) n) (eqb (src % 2) 1 ∷ word_bits (src / 2) n))) e
-
--- bits that aren't picked play no part
-only_picked : (n src mask : ℕ) → packed_of n (bit_and src mask) mask ≡ packed_of n src mask
-unfolding word_bits
-only_picked zero src mask = refl
-only_picked (suc n) src mask =
-    let both = bit_and src mask in
-    let step = and_step src mask in
-    let half : both / 2 ≡ bit_and (src / 2) (mask / 2) = omega (arith, step) in
-    let low : both % 2 ≡ min (src % 2) (mask % 2) = omega (arith, step) in
-    let smaller = ap (λ x. packed_of n x (mask / 2)) half ∙ only_picked n (src / 2) (mask / 2) in
-    elim (cases_eq (mask % 2) 1) [
-      | inl e ↦
-          let same : both % 2 ≡ src % 2 = omega (arith, low, e) in
-          packed_odd n both mask e ∙ ap₂ (λ u v. u + 2 * v) same smaller ∙ sym (packed_odd n src mask e)
-      | inr e ↦
-          let none : mask % 2 ≡ 0 = omega arith in
-          packed_even n both mask none ∙ smaller ∙ sym (packed_even n src mask none)
-    ]
-
--- no bit packs to 0
-packed_none : (n mask : ℕ) → packed_of n 0 mask ≡ 0
-unfolding word_bits
-packed_none zero mask = refl
-packed_none (suc n) mask = elim (cases_eq (mask % 2) 1) [
-  | inl e ↦ omega (arith, packed_odd n 0 mask e, packed_none n (mask / 2))
-  | inr e ↦ let none : mask % 2 ≡ 0 = omega arith in packed_even n 0 mask none ∙ packed_none n (mask / 2)
-]
+use Rattle.vx_bitfilter.proofs.PackedHalves.{packed_of, packed_odd, packed_even, packed_none, only_picked}
 
 -- a picked bit adds the power of its rank
 one_packed : (n p src mask : ℕ) → p < n → bit_at src p ≡ 1 → bit_at mask p ≡ 1 → packed_of n src mask ≡ 2 ^ count_ones (mask % 2 ^ p) + packed_of n (src - 2 ^ p) mask
@@ -155,13 +103,13 @@ pub all_by_ranks : (src mask packed left : ℕ) → left ≡ 0 → ByRanks src m
 all_by_ranks src mask packed left none v = omega (arith, v.value, ap (λ x. packed_of 64 x mask) none, packed_none 64 mask)
 
 -- the lowest set bit of what is left, and what is below it
-record Lowest (left t : ℕ) : Type 0 where
-  within : t < 64
-  set : bit_at left t ≡ 1
-  rest : bit_and left (left - 1) + 2 ^ t ≡ left
-  behind : (i : ℕ) → bit_at (bit_and left (left - 1)) i ≡ 1 → t < i
+pub record Lowest (left t : ℕ) : Type 0 where
+  pub within : t < 64
+  pub set : bit_at left t ≡ 1
+  pub rest : bit_and left (left - 1) + 2 ^ t ≡ left
+  pub behind : (i : ℕ) → bit_at (bit_and left (left - 1)) i ≡ 1 → t < i
 
-lowest : (left : ℕ) → 0 < left → left < 2 ^ 64 → Lowest left (count_trailing_zeros 64 left)
+pub lowest : (left : ℕ) → 0 < left → left < 2 ^ 64 → Lowest left (count_trailing_zeros 64 left)
 lowest left some fits =
     let t = count_trailing_zeros 64 left in
     let rest = bit_and left (left - 1) in

@@ -1,6 +1,6 @@
 use Rattle.std.proofs.Common.{◌+◌, ◌*◌, length, get_or, refl, ap, ◌∙◌, arith}
 use Rattle.vx_bitfilter.proofs.PackedBytes.{entry_at, length-first_entries}
-use Rattle.vx_bitfilter.proofs.table.PextTablePartTable.entry.Goals as goal
+use Rattle.vx_bitfilter.proofs.table.PextTable.entry.Goals as goal
 
 pub index-requires : goal.index-requires
 index-requires c = omega (arith, ap length c.self.invariant, length-first_entries 65536, c.self.inside.entries.ok.0)
