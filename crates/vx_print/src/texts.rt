@@ -70,6 +70,18 @@ fn are_plain(bytes: &[u8]) -> bool
     plain
 }
 
+// The same by the table, for few of them.
+#[inline(always)]
+fn are_listed(bytes: &[u8]) -> bool
+    ensures { result ≡ list_all is_plain bytes.now }
+{
+    let mut plain = true;
+    for byte in bytes {
+        plain &= is_listed(*byte);
+    }
+    plain
+}
+
 // Appends `\x` and the two digits of a byte that doesn't stand for itself.
 fn push_escape(text: &mut Vec<u8>, byte: u8) -> Result<(), NoMemory>
     requires { is_plain byte ≡ false }
@@ -127,7 +139,7 @@ fn put_quoted(text: &mut Vec<u8>, byte: u8)
     }
 }
 
-// Appends a few bytes between quotes, byte by byte.
+// Appends a few bytes between quotes: at once where all stand for themselves, else byte by byte.
 #[inline(always)]
 fn push_few(text: &mut Vec<u8>, bytes: &[u8]) -> Result<(), NoMemory>
     requires { length bytes.now < MANY }
@@ -135,8 +147,12 @@ fn push_few(text: &mut Vec<u8>, bytes: &[u8]) -> Result<(), NoMemory>
 {
     text.reserve(FEW)?;
     text.push_reserved(b'"');
-    for byte in bytes {
-        put_quoted(text, *byte);
+    if are_listed(bytes) {
+        text.extend_from_slice(bytes)?;
+    } else {
+        for byte in bytes {
+            put_quoted(text, *byte);
+        }
     }
     text.push_reserved(b'"');
     Ok(())
