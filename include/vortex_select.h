@@ -197,7 +197,7 @@ enum {
  * with the bytes.
  *
  * At every other status nothing is written. VORTEX_PROGRAM_ROOM: the number is how many bytes the
- * text has; at the others it means nothing. The call takes memory, of the C library where memory.c
+ * text has; at the others it is 0. The call takes memory, of the C library where memory.c
  * is linked, and gives all of it back. */
 vortex_answer vortex_program(const uint8_t *words, size_t words_len, const uint8_t *document,
     size_t document_len, uint8_t *dst, size_t dst_len);

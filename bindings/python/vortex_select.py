@@ -328,8 +328,8 @@ def run(words, document=b""):
     """What the program does by its words, with the document in place of its standard input.
 
     The status is 0 where no step is broken, 1 where one is, 2 where the document has no meaning, 3
-    where the words are others, 6 where memory is wanting, and 7 where the document has more than
-    16,777,216 bytes. The text is that of the rows at 0, the fault's line at 1, else nothing.
+    where the words are others, 6 where memory is wanting or the text would be too long, and 7 where
+    the document has more than 16,777,216 bytes. The text is that of the rows at 0, the fault's line at 1, else nothing.
 
     >>> run(["made", "7"]).text
     b'made 7 rows 500 nulls 45 sum 512344210835\\n'

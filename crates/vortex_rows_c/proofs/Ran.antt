@@ -48,6 +48,7 @@ broken_printed P TooLong h = h
 
 -- what is known of a run that leaves this text
 pub record Ran (said : List (List ℕ)) (document text : List ℕ) (s : ℕ) : Type 0 where
+  pub texts : AreTexts said
   pub words : s ≡ 3 → command_of said ≡ None
   pub done : s ≡ 0 → IfTold said (Some document) (λ o. IsDone o (λ t. text ≡ t))
   pub broken : s ≡ 1 → IfTold said (Some document) (λ o. IsBroken o (λ t. text ≡ t))
@@ -56,8 +57,8 @@ pub record Ran (said : List (List ℕ)) (document text : List ℕ) (s : ℕ) : T
   pub complete : s ≢ 5 → (s ≡ 3) ⊎ (s ≡ 6) ⊎ IfTold said (Some document) (λ o. s ≡ status_of o)
 
 -- a run answered with 6: memory is wanting
-pub no_memory : (said : List (List ℕ)) (document old new : List ℕ) (status value : ℕ) → status ≡ 6 → new ≡ old → IsRun said document old new status value
-no_memory said document old new status value e same = record {
+pub no_memory : (said : List (List ℕ)) (document old new : List ℕ) (status value : ℕ) → status ≡ 6 → value ≡ 0 → new ≡ old → IsRun said document old new status value
+no_memory said document old new status value e none same = record {
   done = λ z. absurd (omega (arith, e, z));
   broken = λ z. absurd (omega (arith, e, z));
   malformed = λ z. absurd (omega (arith, e, z));
@@ -67,11 +68,12 @@ no_memory said document old new status value e same = record {
   room = λ z. absurd (omega (arith, e, z));
   complete = inr (inl e);
   refused = λ _. same;
+  untold = λ _ _. none;
 }
 
 -- the words are no texts
-pub no_words : (said : List (List ℕ)) (document old new : List ℕ) (status value : ℕ) → status ≡ 9 → (AreTexts said → ⊥) → new ≡ old → IsRun said document old new status value
-no_words said document old new status value e bad same = record {
+pub no_words : (said : List (List ℕ)) (document old new : List ℕ) (status value : ℕ) → status ≡ 9 → value ≡ 0 → (AreTexts said → ⊥) → new ≡ old → IsRun said document old new status value
+no_words said document old new status value e none bad same = record {
   done = λ z. absurd (omega (arith, e, z));
   broken = λ z. absurd (omega (arith, e, z));
   malformed = λ z. absurd (omega (arith, e, z));
@@ -81,6 +83,7 @@ no_words said document old new status value e bad same = record {
   room = λ z. absurd (omega (arith, e, z));
   complete = inr (inr (inl e));
   refused = λ _. same;
+  untold = λ _ _. none;
 }
 
 module _ (said : List (List ℕ)) (document text old new : List ℕ) (s status value : ℕ) (ran : Ran said document text s) where
@@ -105,6 +108,7 @@ module _ (said : List (List ℕ)) (document text old new : List ℕ) (s status v
     room = λ z. absurd (omega (arith, e, z, few));
     complete = complete_as e (λ five. omega (arith, few, five));
     refused = λ z. absurd (omega (arith, e, z, few));
+    untold = λ z _. absurd (omega (arith, e, z, few));
   }
 
   done_long : (o : Outcome) → IsTooLong text old value → IsDone o (λ t. text ≡ t) → IsPrinted o (λ t. IsTooLong t old value)
@@ -131,30 +135,32 @@ module _ (said : List (List ℕ)) (document text old new : List ℕ) (s status v
     room = λ _. printed few long;
     complete = inr (inr (inr (inl e)));
     refused = λ _. same;
+    untold = λ _ other. absurd (other e);
   }
 
   -- the status is one of 2, 3 and 7
-  of_told : 1 < s → s ≤ 7 → s ≢ 5 → status ≡ s → new ≡ old → IsRun said document old new status value
-  of_told more known other e same = record {
+  of_told : 1 < s → s ≤ 7 → s ≢ 5 → status ≡ s → value ≡ 0 → new ≡ old → IsRun said document old new status value
+  of_told more known other e none same = record {
     done = λ z. absurd (omega (arith, e, z, more));
     broken = λ z. absurd (omega (arith, e, z, more));
     malformed = λ z. ran.malformed (sym e ∙ z);
-    words = λ z. ran.words (sym e ∙ z);
+    words = λ z. (ran.words (sym e ∙ z), ran.texts);
     too_long = λ z. ran.too_long (sym e ∙ z);
     not_text = λ z. absurd (omega (arith, e, z, known));
     room = λ z. absurd (omega (arith, e, z, known));
     complete = complete_as e other;
     refused = λ _. same;
+    untold = λ _ _. none;
   }
 
-  of_other : ((s ≡ 2) ⊎ (s ≡ 3) ⊎ (s ≡ 7) → status ≡ s) → (s ≢ 2 → s ≢ 3 → s ≢ 7 → status ≡ 6) → new ≡ old → IsRun said document old new status value
-  of_other told other same = elim (cases_eq s 2) [
-    | inl is ↦ of_told (omega arith) (omega arith) (λ five. omega arith) (told (inl is)) same
+  of_other : ((s ≡ 2) ⊎ (s ≡ 3) ⊎ (s ≡ 7) → status ≡ s) → (s ≢ 2 → s ≢ 3 → s ≢ 7 → status ≡ 6) → value ≡ 0 → new ≡ old → IsRun said document old new status value
+  of_other told other none same = elim (cases_eq s 2) [
+    | inl is ↦ of_told (omega arith) (omega arith) (λ five. omega arith) (told (inl is)) none same
     | inr two ↦ elim (cases_eq s 3) [
-      | inl is ↦ of_told (omega arith) (omega arith) (λ five. omega arith) (told (inr (inl is))) same
+      | inl is ↦ of_told (omega arith) (omega arith) (λ five. omega arith) (told (inr (inl is))) none same
       | inr three ↦ elim (cases_eq s 7) [
-        | inl is ↦ of_told (omega arith) (omega arith) (λ five. omega arith) (told (inr (inr is))) same
-        | inr seven ↦ no_memory said document old new status value (other two three seven) same
+        | inl is ↦ of_told (omega arith) (omega arith) (λ five. omega arith) (told (inr (inr is))) none same
+        | inr seven ↦ no_memory said document old new status value (other two three seven) none same
       ]
     ]
   ]
@@ -163,10 +169,10 @@ module _ (said : List (List ℕ)) (document text old new : List ℕ) (s status v
   pub of_answer : (s ≤ 1 → length text ≤ length old → status ≡ s) → (s ≤ 1 → length text ≤ length old → IsPut text old new value)
       → (s ≤ 1 → length old < length text → status ≡ 16) → (s ≤ 1 → length old < length text → IsTooLong text old value)
       → (s ≤ 1 → length old < length text → new ≡ old)
-      → ((s ≡ 2) ⊎ (s ≡ 3) ⊎ (s ≡ 7) → status ≡ s) → (1 < s → s ≢ 2 → s ≢ 3 → s ≢ 7 → status ≡ 6) → (1 < s → new ≡ old)
+      → ((s ≡ 2) ⊎ (s ≡ 3) ⊎ (s ≡ 7) → status ≡ s) → (1 < s → s ≢ 2 → s ≢ 3 → s ≢ 7 → status ≡ 6) → (1 < s → value ≡ 0) → (1 < s → new ≡ old)
       → IsRun said document old new status value
-  of_answer fits put small wanted too_small told other refused = elim (cases_lt 1 s) [
-    | inl more ↦ of_other told (other more) (refused more)
+  of_answer fits put small wanted too_small told other untold refused = elim (cases_lt 1 s) [
+    | inl more ↦ of_other told (other more) (untold more) (refused more)
     | inr few ↦ elim (cases_lt (length old) (length text)) [
       | inl lacks ↦ of_small few (small few lacks) (wanted few lacks) (too_small few lacks)
       | inr room ↦ of_put few (fits few room) (put few room)
@@ -190,8 +196,9 @@ pub ran_of : (said : List (List ℕ)) (document rest before text now : List ℕ)
     → (s ≡ 7 → IfTold said (Some rest) (λ o. o ≡ TooLong))
     → (s ≢ 5 → faults ≡ before_faults)
     → (¬ Rose 0 0 → ¬ Rose before_faults faults → (s ≡ 3) ⊎ (s ≡ 6) ⊎ IfTold said (Some rest) (λ o. s ≡ status_of o))
-    → Ran said document now s
-ran_of said document rest before text now s before_faults faults read none is no_faults words done broken malformed too_long sound complete = record {
+    → AreTexts said → Ran said document now s
+ran_of said document rest before text now s before_faults faults read none is no_faults words done broken malformed too_long sound complete texts = record {
+  texts = texts;
   words = words;
   done = λ z. let h = subst (λ r. IfTold said (Some r) (λ o. IsDone o (λ t. Some text ≡ with_back (Some before) t))) read (done z) in
       told_more said (Some document) (λ o. IsDone o (λ t. Some text ≡ with_back (Some before) t)) (λ o. IsDone o (λ t. now ≡ t)) (done_more (λ t. Some text ≡ with_back (Some before) t) (λ t. now ≡ t) (λ t e. is ∙ held_same before t text none e)) h;

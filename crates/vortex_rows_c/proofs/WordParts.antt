@@ -2,8 +2,9 @@
 use Rattle.std.proofs.Common.{◌≡◌, ◌≢◌, ℕ, ◌+◌, ◌<◌, ◌≤◌, false, true, cond, List, [], ◌∷◌, ◌++◌, length, get_or, drop, Err, Ok, eq-eqb, ne_eqb, sym, ap, subst, ◌∙◌}
 use Rattle.std.proofs.lemmas.Bool.{false≢true}
 use Rattle.std.proofs.lemmas.List.{append_assoc, append-nil, at_drop_all, at_drop_more}
-use Rattle.std.proofs.lemmas.List.Elements.{All-head, All-tail}
-use Rattle.std.specs.Prelude.{IsErrOf, Result}
+use Rattle.std.proofs.lemmas.List.Elements.{All-head, All-map, All-tail}
+use Rattle.std.proofs.lemmas.Str.{IsUtf8-string_bytes, is_utf8-from_IsUtf8}
+use Rattle.std.specs.Prelude.{IsErrOf, Result, String, map, string_bytes}
 use Rattle.std.specs.Str.{is_utf8}
 use Rattle.vortex_rows_c.specs.Running.{AreTexts, words_behind, words_in}
 
@@ -14,6 +15,11 @@ ended word rest byte e = ap (λ b. cond b (word ∷ words_behind [] rest) (words
 -- another one is behind the others of its word
 longer : (word rest : List ℕ) (byte : ℕ) → byte ≢ 0 → words_behind word (byte ∷ rest) ≡ words_behind (word ++ byte ∷ []) rest
 longer word rest byte e = ap (λ b. cond b (word ∷ words_behind [] rest) (words_behind (word ++ byte ∷ []) rest)) (ne_eqb byte 0 e)
+
+-- strings are text
+pub are_texts : {Z : Type 0} (words : List (String Z)) → AreTexts (map string_bytes words)
+are_texts words =
+    All-map (λ w. is_utf8 w ≡ true) string_bytes words (λ k d h. is_utf8-from_IsUtf8 _ (IsUtf8-string_bytes (get_or words k d)))
 
 -- a word that is no text is among the words
 no_texts : (words more : List (List ℕ)) (word : List ℕ) → is_utf8 word ≡ false → AreTexts (words ++ word ∷ more) → ⊥

@@ -1,5 +1,5 @@
 -- The program's words in bytes, and what a run over memory answers.
-use Rattle.std.specs.Prelude.{◌≡◌, ◌⊎◌, ℕ, ◌<◌, ◌==◌, true, List, [], ◌∷◌, ◌++◌, length, drop, None, Some, if◌then◌else◌}
+use Rattle.std.specs.Prelude.{◌≡◌, ◌≢◌, ◌⊎◌, ℕ, ◌<◌, ◌==◌, true, List, [], ◌∷◌, ◌++◌, length, drop, None, Some, if◌then◌else◌}
 use Rattle.std.specs.List.{All}
 use Rattle.std.specs.Str.{is_utf8}
 use Rattle.vx_rows.specs.Commands.{command_of}
@@ -47,7 +47,7 @@ pub record IsRun (said : List (List ℕ)) (document old new : List ℕ) (status 
   pub broken : status ≡ 1 → IfTold said (Some document)
       (λ o. IsBroken o (λ line. IsPut line old new value))
   pub malformed : status ≡ 2 → IfTold said (Some document) (λ o. o ≡ Malformed)
-  pub words : status ≡ 3 → command_of said ≡ None
+  pub words : status ≡ 3 → (command_of said ≡ None) × AreTexts said
   pub too_long : status ≡ 7 → IfTold said (Some document) (λ o. o ≡ TooLong)
   pub not_text : status ≡ 9 → AreTexts said → ⊥
   pub room : status ≡ 16 → IfTold said (Some document)
@@ -56,3 +56,5 @@ pub record IsRun (said : List (List ℕ)) (document old new : List ℕ) (status 
   pub complete : (status ≡ 3) ⊎ (status ≡ 6) ⊎ (status ≡ 9) ⊎ (status ≡ 16)
       ⊎ IfTold said (Some document) (λ o. status ≡ status_of o)
   pub refused : 1 < status → new ≡ old
+  -- no number is told but how long a text is
+  pub untold : 1 < status → status ≢ 16 → value ≡ 0

@@ -78,6 +78,7 @@ pub(crate) fn answer_to(status: u8, text: &[u8], dst: &mut [u8]) -> Answer
     ensures too_small { status ≤ 1 → length dst.old < length text.now → dst.new ≡ dst.old }
     ensures told { (status ≡ 2) ⊎ (status ≡ 3) ⊎ (status ≡ 7) → result.status ≡ status }
     ensures other { 1 < status → status ≢ 2 → status ≢ 3 → status ≢ 7 → result.status ≡ 6 }
+    ensures untold { 1 < status → result.value ≡ 0 }
     ensures refused { 1 < status → dst.new ≡ dst.old }
 {
     match status {

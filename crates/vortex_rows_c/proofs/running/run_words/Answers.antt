@@ -1,6 +1,7 @@
 -- The answer to a run, by what the run says.
 use Rattle.std.proofs.Common.{◌≡◌, map, string_bytes, ap, rules}
 use Rattle.vortex_rows_c.proofs.Ran.{of_answer, ran_of}
+use Rattle.vortex_rows_c.proofs.WordParts.{are_texts}
 use Rattle.vortex_rows_c.specs.Running.{TextState}
 use Rattle.vortex_rows_c.proofs.running.run_words.Goals as goal
 
@@ -16,6 +17,7 @@ returns c =
     let held : text ≡ run.new.sink.held = search (rules, c.text.ensures) in
     let ran = ran_of said c.args.document.now c.new-source.result sink.result.held run.new.sink.held text run.result sink.result.faults run.new.sink.faults
     c.new-source.ensures (ap (λ (s : TextState). s.held) sink.ensures) held (ap (λ (s : TextState). s.faults) sink.ensures)
-    is.words.0 is.done is.broken is.malformed is.too_long is.sink_fault_told is.complete in
+    is.words.0 is.done is.broken is.malformed is.too_long is.sink_fault_told is.complete
+    (are_texts c.args.words.now) in
     of_answer said c.args.document.now text c.args.dst.now answer.new.dst run.result answer.result.status answer.result.value ran
-    does.fits does.put does.small does.wanted does.too_small does.told does.other does.refused
+    does.fits does.put does.small does.wanted does.too_small does.told does.other does.untold does.refused
