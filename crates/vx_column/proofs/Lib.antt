@@ -1,3 +1,4 @@
+pub mod BitRows
 pub mod Cells
 pub mod Fields
 pub mod Fillers

@@ -9,12 +9,13 @@ use Rattle.vx_bits.specs.BitBuffer.{PlacedBits, number_of, true_count_of}
 use Rattle.vx_mask.specs.Mask.{mask_bits}
 use Rattle.vx_types.specs.RowValue.{bit}
 use Rattle.vx_model.specs.Column.{Column}
-use Rattle.vx_model.specs.Valid.{non_nullable, all_valid, by_column, is_yes, present_bits, shown_rows}
+use Rattle.vx_model.specs.Valid.{non_nullable, all_valid, by_column, is_yes, present_bits, shown_rows, stored_rows}
 use Rattle.vx_model.specs.Bool.{BoolParts, bool_fault, bool_column}
 use Rattle.vx_model.specs.Filter.{FilterParts, filter_fault, filter_column}
 use Rattle.vx_model.proofs.Items.{items_where_true-all, items_where_true-none, map-items_where_true}
 use Rattle.vx_model.proofs.LazyRows.{long-filter}
 use Rattle.vx_model.proofs.Layouts.{is_fitting-bool, length-bool}
+use Rattle.vx_model.proofs.ShownRows.{shown_rows-all}
 use Rattle.vx_column.specs.Truth.{true_bits}
 
 -- ---- bits that are set in both of two lists
@@ -95,6 +96,13 @@ true-non_nullable p e = true-bool p ∙ ap (λ v. both (present_bits v (length (
 pub true-all_valid : (p : BoolParts) → p.valid ≡ all_valid → true_bits (bool_column p) ≡ p.bits.bits
 true-all_valid p e = true-bool p ∙ ap (λ v. both (present_bits v (length (map bit p.bits.bits))) p.bits.bits) e ∙ all-there p.bits.bits
 
+-- its rows are its bits
+pub rows-non_nullable : (p : BoolParts) → p.valid ≡ non_nullable → (bool_column p).rows ≡ map bit p.bits.bits
+rows-non_nullable p e = ap (λ v. stored_rows v (map bit p.bits.bits)) e ∙ shown_rows-all _ (map bit p.bits.bits) refl
+
+pub rows-all_valid : (p : BoolParts) → p.valid ≡ all_valid → (bool_column p).rows ≡ map bit p.bits.bits
+rows-all_valid p e = ap (λ v. stored_rows v (map bit p.bits.bits)) e ∙ shown_rows-all _ (map bit p.bits.bits) refl
+
 -- a validity array is as long
 pub long-valid : (p : BoolParts) (c : Column) → bool_fault p ≡ None → p.valid ≡ by_column c → length c.rows ≡ length p.bits.bits
 long-valid p c h e = grind arith
@@ -127,4 +135,4 @@ pub finished : {E : Type 0} (r : Result PlacedBits E) (bits all : List Bool) →
 finished (Ok b) bits all h e = ap (λ p. p.bits) h ∙ e
 finished (Err x) bits all h e = tt
 
-pub ruleset truth = (true-non_nullable, true-all_valid, long-valid, is_fitting-bool, length-bool, length-true_bits, true-filter)
+pub ruleset truth = (true-non_nullable, true-all_valid, rows-non_nullable, rows-all_valid, long-valid, is_fitting-bool, length-bool, length-true_bits, true-filter)

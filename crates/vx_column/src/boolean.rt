@@ -1,6 +1,7 @@
 //! Layout `Bool`: a bit a row.
-ghost use Rattle.std.specs.Prelude.{◌≡◌, ◌<◌, ◌≤◌, length, slice_range, true, IfSome, None};
+ghost use Rattle.std.specs.Prelude.{◌≡◌, ◌<◌, ◌≤◌, length, map, slice_range, true, IfSome, None};
 ghost use Rattle.vx_bits.specs.Results.{ok_unless};
+ghost use Rattle.vx_types.specs.RowValue.{bit};
 ghost use Rattle.vx_model.specs.Valid.{is_fitting};
 ghost use Rattle.vx_model.specs.Bool.{bool_fault, bool_column, bool_with};
 ghost use Rattle.vx_column.specs.Validity.{valid_of};
@@ -166,10 +167,11 @@ impl BoolArray {
         }
     }
 
-    // The bits that say which rows are true, where they are those that are stored.
+    // The bits of its rows, where no row is null by a constant form.
     #[tactic(auto, using(crate::proofs::TruthBits::truth))]
-    pub(crate) fn true_bits(&self) -> Option<&BitBuffer>
-        ensures { IfSome result (λ b. b.now.bits ≡ true_bits (bool_column self.now)) }
+    pub(crate) fn present_bits(&self) -> Option<&BitBuffer>
+        ensures rows { IfSome result (λ b. (bool_column self.now).rows ≡ map bit b.now.bits) }
+        ensures yes { IfSome result (λ b. b.now.bits ≡ true_bits (bool_column self.now)) }
     {
         let bits = self.bits();
         match self.validity() {

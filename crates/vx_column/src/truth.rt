@@ -1,11 +1,11 @@
 //! Which rows of a column of bools are true.
-ghost use Rattle.std.specs.Prelude.{◌≡◌, ◌↔◌, ◌+◌, ◌^◌, ◌<◌, ◌≤◌, IfOk, IfSome, None, length, count_ones, drop, replicate, slice_index_or, take, true};
+ghost use Rattle.std.specs.Prelude.{◌≡◌, ◌↔◌, ◌+◌, ◌^◌, ◌<◌, ◌≤◌, IfOk, IfSome, None, length, count_ones, drop, map, replicate, slice_index_or, take, true};
 ghost use Rattle.std.specs.List.{items_where_true};
 ghost use Rattle.vx_bits.specs.BitBuffer.{number_of, true_count_of};
 ghost use Rattle.vx_bitfilter.specs.Pext.{pext};
 ghost use Rattle.vx_mask.specs.Mask.{mask_bits};
 ghost use Rattle.vx_types.specs.Nullability.{is_nullable};
-ghost use Rattle.vx_types.specs.RowValue.{null};
+ghost use Rattle.vx_types.specs.RowValue.{bit, null};
 ghost use Rattle.vx_model.specs.Valid.{is_yes};
 ghost use Rattle.vx_column.specs.Truth.{IsStretch, bit_in, is_bool_type, true_bits};
 
@@ -180,13 +180,15 @@ impl Array {
         }
     }
 
-    // The bits that say which rows are true, where they are those that are stored.
+    /// The bits of its rows, one a row, where the layout is `Bool` and no row is null by a constant
+    /// form. It takes no memory.
     #[tactic(auto, using(vx_model::proofs::Layouts::layout_rows))]
-    fn stored_true_bits(&self) -> Option<&BitBuffer>
-        ensures { IfSome result (λ b. b.now.bits ≡ true_bits self.now) }
+    pub fn present_bits(&self) -> Option<&BitBuffer>
+        ensures rows { IfSome result (λ b. self.now.rows ≡ map bit b.now.bits) }
+        ensures yes { IfSome result (λ b. b.now.bits ≡ true_bits self.now) }
     {
         match self.layout() {
-            Layout::Bool(a) => a.true_bits(),
+            Layout::Bool(a) => a.present_bits(),
             _ => None,
         }
     }
@@ -212,7 +214,7 @@ impl Array {
 pub fn mask_of(alloc: Global, column: &Array) -> Result<Mask, NoMemory>
     ensures { IfOk result (λ m. mask_bits m ≡ true_bits column.now) }
 {
-    if let Some(bits) = column.stored_true_bits() {
+    if let Some(bits) = column.present_bits() {
         return Ok(Mask::from_buffer(bits.share()));
     }
     Ok(Mask::from_buffer(column.true_bits(alloc)?))

@@ -76,6 +76,7 @@ impl Validity {
 
     /// Whether row `i` isn't null.
     #[cycle(cell)]
+    #[tactic(auto, using(crate::proofs::BitRows::bit_rows))]
     pub fn is_valid_at(&self, i: usize) -> bool
         requires { HasRow (valid_of self.now) i }
         ensures { result ≡ is_present (valid_of self.now) i }
@@ -83,9 +84,12 @@ impl Validity {
         match self {
             Validity::NonNullable | Validity::AllValid => true,
             Validity::AllInvalid => false,
-            Validity::Array(array) => match array.cell_at(i) {
-                Cell::Bit(bit) => bit,
-                _ => false,
+            Validity::Array(array) => match array.present_bits() {
+                Some(bits) => bits.value(i),
+                None => match array.cell_at(i) {
+                    Cell::Bit(bit) => bit,
+                    _ => false,
+                },
             },
         }
     }

@@ -7,14 +7,14 @@ use Rattle.vx_bits.specs.Words.{word_at, word_bits}
 use Rattle.vx_bits.specs.declared.records.Records.{Records}
 use Rattle.vx_bits.proofs.WordBits.{ones-word_bits}
 use Rattle.vx_bits.proofs.WordLists.{length-bits_in, word_bits_in}
-use Rattle.vx_types.specs.RowValue.{RowValue, null, bytes}
+use Rattle.vx_types.specs.RowValue.{RowValue, null, bit, bytes}
 use Rattle.vx_types.specs.TypeTree.{TypeKind}
 use Rattle.vx_model.specs.Column.{Column}
 use Rattle.vx_model.specs.Valid.{shown_rows}
 use Rattle.vx_model.proofs.ShownRows.{length-shown_rows, get_or-shown_rows, take-shown_rows, drop-shown_rows, shown_rows-all}
 use Rattle.vx_column.specs.Plain.{AreRowsOf}
 use Rattle.vx_print.specs.Records.{record_rows, block_word, IsLong}
-use Rattle.vx_print.specs.Text.{bytes_text, comma_list, line, lines, row_text, row_text_as, row_text_by}
+use Rattle.vx_print.specs.Text.{bit_text, bytes_text, comma_list, line, lines, row_text, row_text_as, row_text_by}
 
 -- there are as many rows as records
 pub length-record_rows : (bits : Option (List Bool)) (rs : List (List ℕ)) → IsLong bits (length rs) → length (record_rows bits rs) ≡ length rs
@@ -77,6 +77,15 @@ lines-shown k [] rs = refl
 lines-shown k (b ∷ bits) [] = refl
 lines-shown k (true ∷ bits) (r ∷ rs) = ap (λ l. line (bytes_text k r) ++ l) (lines-shown k bits rs)
 lines-shown k (false ∷ bits) (r ∷ rs) = ap (λ l. line (codes "null") ++ l) (lines-shown k bits rs)
+
+-- no bit holds other rows
+lines-bits : (k : TypeKind) (bits : List Bool) → lines bit_text bits ≡ lines (row_text_as k) (map bit bits)
+lines-bits k [] = refl
+lines-bits k (b ∷ bits) = ap (λ l. line (bit_text b) ++ l) (lines-bits k bits)
+
+-- rows that are bits
+pub bit_lines : (c : Column) (bits : List Bool) → c.rows ≡ map bit bits → lines bit_text bits ≡ lines (row_text c.dtype) c.rows
+bit_lines c bits are = lines-bits c.dtype.kind bits ∙ ap (lines (row_text c.dtype)) (sym are)
 
 pub record_lines : (k : TypeKind) (bits : Option (List Bool)) (rs : List (List ℕ)) → lines (row_text_by (bytes_text k)) (record_rows bits rs) ≡ lines (row_text_as k) (record_rows bits rs)
 record_lines k None rs = lines-bytes k rs

@@ -2,6 +2,7 @@
 //! decoder, and that of the blocks that were read of a file.
 #![tactic(auto)]
 
+mod bits;
 mod calls;
 mod cells;
 mod fault;

@@ -58,9 +58,9 @@ fn put_row(form: Form, value: &[u8], is_there: bool, dst: &mut [u8; ROOM], end: 
     }
 }
 
-// Whether row `k` of a block is there: bit k of the block's word.
+/// Whether row `k` of a block is there: bit k of the block's word.
 #[inline(always)]
-fn is_there(word: u64, k: usize) -> bool
+pub(crate) fn is_there(word: u64, k: usize) -> bool
     requires { k < BLOCK }
     ensures { result ≡ slice_index_or (word_bits word BLOCK) k false }
 {

@@ -6,6 +6,7 @@ ghost use Rattle.vx_types.specs.TypeTree.{type_width};
 ghost use Rattle.vx_print.specs.Text.{row_text, lines, text};
 ghost use Rattle.vx_print.specs.Records.{record_rows, bits_in, IsLong};
 
+use crate::bits::push_bits;
 use crate::cells::push_rows;
 use crate::nested::push_nested;
 use crate::records::{push_hex, push_primitive};
@@ -52,10 +53,14 @@ fn push_records(
 }
 
 // Appends a line for each row.
+#[tactic(auto, using(crate::proofs::Lines::bit_lines))]
 fn push_lines(alloc: Global, text: &mut Vec<u8>, column: &Array) -> Result<(), NoMemory>
     ensures { IsOk result → text.new.items
         ≡ text.old.items ++ lines (row_text column.now.dtype) column.now.rows }
 {
+    if let Some(bits) = column.present_bits() {
+        return push_bits(text, bits);
+    }
     if let Some(records) = column.present_records() {
         return push_records(text, column.dtype(), records, None);
     }

@@ -7,6 +7,7 @@ use Rattle.vx_model.specs.Column.{Column}
 use Rattle.vx_column.specs.Lists.{spans_of}
 use Rattle.vx_column.specs.Validity.{valid_of}
 use Rattle.vx_column.specs.declared.validity.Validity.{Validity}
+use Rattle.vx_column.proofs.BitRows.{bits_long}
 use Rattle.vx_column.proofs.Cells.{has_row}
 use Rattle.vx_model.proofs.Texts.{rows-views, shown-views}
 use Rattle.vx_model.proofs.StructSteps.{rows-struct, shown-struct}
@@ -35,10 +36,16 @@ lists::Lists::cell_at-is_valid_at-requires t c =
           (has_row p.valid (length p.spans) c.args.i v.fitting (omega (arith, c.requires, length-lists p v.fitting))),
     )
 
+pub validity::Validity::is_valid_at-value-requires :
+    goal.validity::Validity::is_valid_at-value-requires
+validity::Validity::is_valid_at-value-requires t c =
+    let row : c.args.i < length c.in-Array.array.rows = subst (λ (v : Validity). HasRow (valid_of v) c.args.i) c.in-Array.is c.requires in
+    omega (arith, row, ap (λ (k : Column). length k.rows) c.deref.ensures, bits_long _ _ c.in-Some.ensures.rows)
+
 pub validity::Validity::is_valid_at-cell_at-requires :
     goal.validity::Validity::is_valid_at-cell_at-requires
 validity::Validity::is_valid_at-cell_at-requires t c =
-    let same = c.deref.ensures in
+    let same = c.deref-in-None.ensures in
     let row : c.args.i < length c.in-Array.array.rows = subst (λ (v : Validity). HasRow (valid_of v) c.args.i) c.in-Array.is c.requires in (
       omega (arith, ap (λ (v : Validity). valid_size (valid_of v)) c.in-Array.is, ap (λ (k : Column). k.depth) same),
       omega (arith, row, ap (λ (k : Column). length k.rows) same),
