@@ -5,7 +5,7 @@ ghost use Rattle.vx_model.specs.Step.{IsStep};
 
 use crate::executing::{ExecuteRows, execute};
 use crate::filtering::{FilterRows, filter_values};
-use crate::parts::{Parts, Step};
+use crate::parts::{Parts, StepResult};
 use crate::slicing::{SliceRows, slice};
 use crate::taking::{TakeRows, number_picks, take_picks};
 use crate::validity::{TakeBits, taken_bits};
@@ -30,7 +30,7 @@ impl Parts for DictArray {
 impl SliceRows for DictArray {
     #[cycle(slice)]
     #[tactic(auto, using(vx_model::proofs::LazyRows::lazy_rows))]
-    fn slice(&self, alloc: Global, start: usize, end: usize) -> Step {
+    fn slice(&self, alloc: Global, start: usize, end: usize) -> StepResult {
         let codes = slice(alloc, self.codes(), start, end)?;
         recoded(alloc, self, codes)
     }
@@ -39,7 +39,7 @@ impl SliceRows for DictArray {
 impl FilterRows for DictArray {
     #[cycle(filter)]
     #[tactic(auto, using(vx_model::proofs::LazyRows::lazy_rows))]
-    fn filter(&self, alloc: Global, mask: &MaskValues, policy: &Policy) -> Step {
+    fn filter(&self, alloc: Global, mask: &MaskValues, policy: &Policy) -> StepResult {
         let codes = filter_values(alloc, self.codes(), mask, policy)?;
         recoded(alloc, self, codes)
     }
@@ -48,7 +48,13 @@ impl FilterRows for DictArray {
 impl TakeRows for DictArray {
     #[cycle(take)]
     #[tactic(auto, using(vx_model::proofs::LazyRows::lazy_rows))]
-    fn take(&self, alloc: Global, picks: Picks, nullability: Nullability, policy: &Policy) -> Step {
+    fn take(
+        &self,
+        alloc: Global,
+        picks: Picks,
+        nullability: Nullability,
+        policy: &Policy,
+    ) -> StepResult {
         let codes = take_picks(alloc, self.codes(), picks, nullability, policy)?;
         recoded(alloc, self, codes)
     }
@@ -82,7 +88,7 @@ impl TakeBits for DictArray {
 impl ExecuteRows for DictArray {
     #[cycle(execute)]
     #[tactic(auto, using(vx_model::proofs::LazyRows::lazy_rows))]
-    fn execute(&self, alloc: Global, policy: &Policy) -> Step {
+    fn execute(&self, alloc: Global, policy: &Policy) -> StepResult {
         let codes = execute(alloc, self.codes(), policy)?;
         let values = execute(alloc, self.values(), policy)?;
         let named = number_picks(alloc, &codes, values.len())?;

@@ -6,7 +6,7 @@ ghost use Rattle.vx_model.specs.Plain.{is_lazy_layout, is_unwrapped};
 ghost use Rattle.vx_model.specs.Step.{IsStep};
 ghost use Rattle.vx_stored.specs.Scalars.{text_layout};
 
-use crate::parts::{Parts, Step};
+use crate::parts::{Parts, StepResult};
 use std::alloc::Global;
 use vx_bits::NoMemory;
 use vx_column::{Array, Layout, Lists, Stored};
@@ -16,7 +16,7 @@ use vx_stored::execute_constant;
 // A layout whose rows the recursion unwraps.
 pub(crate) trait ExecuteRows: Parts {
     // The same rows, as `execute` gives them.
-    fn execute(&self, alloc: Global, policy: &Policy) -> Step
+    fn execute(&self, alloc: Global, policy: &Policy) -> StepResult
         ensures same { IfOk result (IsStep (Self.column self.now) (Self.column self.now).rows
             (Self.column self.now).dtype) }
         ensures unwrapped { is_flat (Self.column self.now).dtype ≡ true

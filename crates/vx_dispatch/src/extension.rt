@@ -4,7 +4,7 @@ ghost use Rattle.vx_model.specs.Extension.{extension_column, extension_fault, ex
 
 use crate::executing::{ExecuteRows, execute};
 use crate::filtering::{FilterRows, filter_values};
-use crate::parts::{Parts, Step};
+use crate::parts::{Parts, StepResult};
 use crate::slicing::{SliceRows, slice};
 use crate::taking::{TakeRows, take_picks};
 use std::alloc::Global;
@@ -27,7 +27,7 @@ impl Parts for ExtensionArray {
 
 impl SliceRows for ExtensionArray {
     #[cycle(slice)]
-    fn slice(&self, alloc: Global, start: usize, end: usize) -> Step {
+    fn slice(&self, alloc: Global, start: usize, end: usize) -> StepResult {
         let storage = slice(alloc, self.storage(), start, end)?;
         restored(alloc, self, storage)
     }
@@ -35,7 +35,7 @@ impl SliceRows for ExtensionArray {
 
 impl FilterRows for ExtensionArray {
     #[cycle(filter)]
-    fn filter(&self, alloc: Global, mask: &MaskValues, policy: &Policy) -> Step {
+    fn filter(&self, alloc: Global, mask: &MaskValues, policy: &Policy) -> StepResult {
         let storage = filter_values(alloc, self.storage(), mask, policy)?;
         restored(alloc, self, storage)
     }
@@ -43,7 +43,13 @@ impl FilterRows for ExtensionArray {
 
 impl TakeRows for ExtensionArray {
     #[cycle(take)]
-    fn take(&self, alloc: Global, picks: Picks, nullability: Nullability, policy: &Policy) -> Step {
+    fn take(
+        &self,
+        alloc: Global,
+        picks: Picks,
+        nullability: Nullability,
+        policy: &Policy,
+    ) -> StepResult {
         let storage = take_picks(alloc, self.storage(), picks, nullability, policy)?;
         restored(alloc, self, storage)
     }
@@ -52,7 +58,7 @@ impl TakeRows for ExtensionArray {
 // The same rows, with the storage executed.
 impl ExecuteRows for ExtensionArray {
     #[cycle(execute)]
-    fn execute(&self, alloc: Global, policy: &Policy) -> Step {
+    fn execute(&self, alloc: Global, policy: &Policy) -> StepResult {
         let storage = execute(alloc, self.storage(), policy)?;
         restored(alloc, self, storage)
     }

@@ -11,7 +11,7 @@ ghost use Rattle.vx_model.specs.Filter.{filter_column};
 use crate::executing::{ExecuteRows, execute};
 use crate::filtering::{FilterRows, filter};
 use crate::materialized::is_materialized;
-use crate::parts::{Parts, Step};
+use crate::parts::{Parts, StepResult};
 use crate::ranges::{mask_range, slice_mask};
 use crate::slicing::{SliceRows, slice};
 use crate::taking::{TakeRows, take_picks};
@@ -30,7 +30,7 @@ impl Parts for FilterArray {
 impl SliceRows for FilterArray {
     #[cycle(slice)]
     #[tactic(auto, using(vx_model::proofs::LazyRows::lazy_rows))]
-    fn slice(&self, alloc: Global, start: usize, end: usize) -> Step {
+    fn slice(&self, alloc: Global, start: usize, end: usize) -> StepResult {
         let child = self.child();
         let mask = self.mask();
         let (low, high) = mask_range(mask, start, end);
@@ -54,7 +54,7 @@ fn kept_by_both(alloc: Global, first: &Mask, then: &MaskValues) -> Result<Mask, 
 impl FilterRows for FilterArray {
     #[cycle(filter)]
     #[tactic(auto, using(vx_model::proofs::LazyRows::lazy_rows))]
-    fn filter(&self, alloc: Global, mask: &MaskValues, policy: &Policy) -> Step {
+    fn filter(&self, alloc: Global, mask: &MaskValues, policy: &Policy) -> StepResult {
         let child = self.child();
         let both = kept_by_both(alloc, self.mask(), mask)?;
         filter(alloc, child, &both, policy)
@@ -87,7 +87,13 @@ fn child_picks(
 impl TakeRows for FilterArray {
     #[cycle(take)]
     #[tactic(auto, using(vx_model::proofs::LazyRows::lazy_rows))]
-    fn take(&self, alloc: Global, picks: Picks, nullability: Nullability, policy: &Policy) -> Step {
+    fn take(
+        &self,
+        alloc: Global,
+        picks: Picks,
+        nullability: Nullability,
+        policy: &Policy,
+    ) -> StepResult {
         let child = self.child();
         let mask = self.mask();
         if is_materialized(
@@ -119,7 +125,7 @@ impl TakeBits for FilterArray {
 impl ExecuteRows for FilterArray {
     #[cycle(execute)]
     #[tactic(auto, using(vx_model::proofs::LazyRows::lazy_rows))]
-    fn execute(&self, alloc: Global, policy: &Policy) -> Step {
+    fn execute(&self, alloc: Global, policy: &Policy) -> StepResult {
         let child = execute(alloc, self.child(), policy)?;
         filter(alloc, &child, self.mask(), policy)
     }

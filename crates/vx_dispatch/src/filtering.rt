@@ -5,7 +5,7 @@ ghost use Rattle.vx_mask.specs.Mask.{mask_bits, partial_of};
 ghost use Rattle.vx_model.specs.Plain.{is_null_layout, is_plain};
 ghost use Rattle.vx_model.specs.Step.{IsCut};
 
-use crate::parts::{Parts, Step};
+use crate::parts::{Parts, StepResult};
 use crate::slicing::slice;
 use std::alloc::Global;
 use vx_bits::NoMemory;
@@ -16,7 +16,7 @@ use vx_stored::{filter_constant, filter_nulls};
 // A layout whose rows the recursion filters.
 pub(crate) trait FilterRows: Parts {
     // The rows at the set positions of a mask that selects some and not all.
-    fn filter(&self, alloc: Global, mask: &MaskValues, policy: &Policy) -> Step
+    fn filter(&self, alloc: Global, mask: &MaskValues, policy: &Policy) -> StepResult
         requires { length mask.now.bits.bits ≡ length (Self.column self.now).rows }
         ensures { IfOk result (IsCut (Self.column self.now)
             (items_where_true mask.now.bits.bits (Self.column self.now).rows)) };

@@ -4,7 +4,7 @@ ghost use Rattle.vx_model.specs.FixedSizeList.{fixed_column, fixed_fault};
 ghost use Rattle.vx_column.specs.ListParts.{fixed_parts};
 
 use crate::filtering::{FilterRows, filter};
-use crate::parts::{Parts, Step};
+use crate::parts::{Parts, StepResult};
 use crate::runs::take_runs;
 use crate::slicing::{SliceRows, slice};
 use crate::taking::TakeRows;
@@ -40,7 +40,7 @@ impl Parts for FixedSizeListArray {
 impl SliceRows for FixedSizeListArray {
     #[cycle(slice)]
     #[tactic(auto, using(vx_model::proofs::ListRows::fixed_rows))]
-    fn slice(&self, alloc: Global, start: usize, end: usize) -> Step {
+    fn slice(&self, alloc: Global, start: usize, end: usize) -> StepResult {
         let size = self.list_size() as usize;
         let len = self.len();
         // the elements of all rows are there
@@ -57,7 +57,7 @@ impl SliceRows for FixedSizeListArray {
 impl FilterRows for FixedSizeListArray {
     #[cycle(filter)]
     #[tactic(auto, using(vx_model::proofs::ListRows::fixed_rows))]
-    fn filter(&self, alloc: Global, mask: &MaskValues, policy: &Policy) -> Step {
+    fn filter(&self, alloc: Global, mask: &MaskValues, policy: &Policy) -> StepResult {
         let validity = filter_validity(alloc, self.validity(), mask, policy)?;
         let FixedFilterPlan {
             validity,
@@ -77,7 +77,13 @@ impl FilterRows for FixedSizeListArray {
 impl TakeRows for FixedSizeListArray {
     #[cycle(take)]
     #[tactic(auto, using(vx_model::proofs::ListRows::fixed_rows))]
-    fn take(&self, alloc: Global, picks: Picks, nullability: Nullability, policy: &Policy) -> Step {
+    fn take(
+        &self,
+        alloc: Global,
+        picks: Picks,
+        nullability: Nullability,
+        policy: &Policy,
+    ) -> StepResult {
         let validity = take_validity(alloc, self.validity(), &picks, nullability, policy)?;
         let FixedTakePlan {
             validity,

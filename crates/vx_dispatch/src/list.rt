@@ -4,7 +4,7 @@ ghost use Rattle.vx_model.specs.List.{list_column, list_fault};
 ghost use Rattle.vx_column.specs.ListParts.{list_parts};
 
 use crate::filtering::{FilterRows, filter};
-use crate::parts::{Parts, Step};
+use crate::parts::{Parts, StepResult};
 use crate::runs::take_runs;
 use crate::slicing::{SliceRows, slice};
 use crate::taking::TakeRows;
@@ -39,7 +39,7 @@ impl Parts for ListArray {
 impl SliceRows for ListArray {
     #[cycle(slice)]
     #[tactic(auto, using(vx_model::proofs::ListRows::list_rows))]
-    fn slice(&self, alloc: Global, start: usize, end: usize) -> Step {
+    fn slice(&self, alloc: Global, start: usize, end: usize) -> StepResult {
         let validity = slice_validity(alloc, self.validity(), self.len(), start, end)?;
         Ok(slice_list(self, start, end, validity).into_array())
     }
@@ -48,7 +48,7 @@ impl SliceRows for ListArray {
 impl FilterRows for ListArray {
     #[cycle(filter)]
     #[tactic(auto, using(vx_model::proofs::ListRows::list_rows))]
-    fn filter(&self, alloc: Global, mask: &MaskValues, policy: &Policy) -> Step {
+    fn filter(&self, alloc: Global, mask: &MaskValues, policy: &Policy) -> StepResult {
         let validity = filter_validity(alloc, self.validity(), mask, policy)?;
         let plan = plan_list_filter(alloc, self, mask, policy, validity)?;
         let part = slice(alloc, self.elements(), plan.range.0, plan.range.1)?;
@@ -60,7 +60,13 @@ impl FilterRows for ListArray {
 impl TakeRows for ListArray {
     #[cycle(take)]
     #[tactic(auto, using(vx_model::proofs::ListRows::list_rows))]
-    fn take(&self, alloc: Global, picks: Picks, nullability: Nullability, policy: &Policy) -> Step {
+    fn take(
+        &self,
+        alloc: Global,
+        picks: Picks,
+        nullability: Nullability,
+        policy: &Policy,
+    ) -> StepResult {
         let validity = take_validity(alloc, self.validity(), &picks, nullability, policy)?;
         let plan = plan_list_take(alloc, self, &picks, validity)?;
         drop(picks);

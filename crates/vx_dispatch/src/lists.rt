@@ -9,7 +9,7 @@ ghost use Rattle.vx_column.specs.Lists.{spans_of};
 ghost use Rattle.vx_column.specs.Validity.{valid_of};
 
 use crate::executing::{ExecuteRows, execute};
-use crate::parts::{Parts, Step};
+use crate::parts::{Parts, StepResult};
 use crate::validity::execute_validity;
 use crate::{dict, map};
 use std::alloc::Global;
@@ -92,7 +92,7 @@ impl Parts for Lists<'_> {
 impl ExecuteRows for Lists<'_> {
     #[cycle(execute)]
     #[tactic(auto, using(crate::proofs::Unflat::unflat))]
-    fn execute(&self, alloc: Global, policy: &Policy) -> Step {
+    fn execute(&self, alloc: Global, policy: &Policy) -> StepResult {
         let validity = execute_validity(alloc, self.validity(), self.len(), policy)?;
         let elements = execute_elements(alloc, self.elements(), policy)?;
         Ok(with_elements(*self, elements.into_ref(alloc)?, validity))

@@ -8,7 +8,7 @@ ghost use Rattle.vx_model.specs.Step.{IsCut, IsSlice, IsTake};
 ghost use Rattle.vx_column.specs.Validity.{valid_of};
 
 use crate::filtering::FilterRows;
-use crate::parts::{Parts, Step};
+use crate::parts::{Parts, StepResult};
 use crate::slicing::SliceRows;
 use crate::taking::TakeRows;
 use crate::validity::{filter_validity, slice_validity, take_validity};
@@ -63,7 +63,7 @@ impl Parts for ListViewArray {
 
 impl SliceRows for ListViewArray {
     #[cycle(slice)]
-    fn slice(&self, alloc: Global, start: usize, end: usize) -> Step {
+    fn slice(&self, alloc: Global, start: usize, end: usize) -> StepResult {
         Ok(slice_views(alloc, self, start, end)?.into_array())
     }
 }
@@ -88,7 +88,7 @@ pub(crate) fn filter_views(
 
 impl FilterRows for ListViewArray {
     #[cycle(filter)]
-    fn filter(&self, alloc: Global, mask: &MaskValues, policy: &Policy) -> Step {
+    fn filter(&self, alloc: Global, mask: &MaskValues, policy: &Policy) -> StepResult {
         Ok(filter_views(alloc, self, mask, policy)?.into_array())
     }
 }
@@ -114,7 +114,13 @@ pub(crate) fn take_views(
 
 impl TakeRows for ListViewArray {
     #[cycle(take)]
-    fn take(&self, alloc: Global, picks: Picks, nullability: Nullability, policy: &Policy) -> Step {
+    fn take(
+        &self,
+        alloc: Global,
+        picks: Picks,
+        nullability: Nullability,
+        policy: &Policy,
+    ) -> StepResult {
         Ok(take_views(alloc, self, &picks, nullability, policy)?.into_array())
     }
 }

@@ -4,7 +4,7 @@ ghost use Rattle.vx_model.specs.Map.{map_column, map_fault};
 
 use crate::filtering::FilterRows;
 use crate::listview;
-use crate::parts::{Parts, Step};
+use crate::parts::{Parts, StepResult};
 use crate::slicing::SliceRows;
 use crate::taking::TakeRows;
 use std::alloc::Global;
@@ -29,7 +29,7 @@ impl Parts for MapArray {
 
 impl SliceRows for MapArray {
     #[cycle(slice)]
-    fn slice(&self, alloc: Global, start: usize, end: usize) -> Step {
+    fn slice(&self, alloc: Global, start: usize, end: usize) -> StepResult {
         let entries = listview::slice_views(alloc, self.entries(), start, end)?;
         Ok(of_entries(entries))
     }
@@ -37,7 +37,7 @@ impl SliceRows for MapArray {
 
 impl FilterRows for MapArray {
     #[cycle(filter)]
-    fn filter(&self, alloc: Global, mask: &MaskValues, policy: &Policy) -> Step {
+    fn filter(&self, alloc: Global, mask: &MaskValues, policy: &Policy) -> StepResult {
         let entries = listview::filter_views(alloc, self.entries(), mask, policy)?;
         Ok(of_entries(entries))
     }
@@ -45,7 +45,13 @@ impl FilterRows for MapArray {
 
 impl TakeRows for MapArray {
     #[cycle(take)]
-    fn take(&self, alloc: Global, picks: Picks, nullability: Nullability, policy: &Policy) -> Step {
+    fn take(
+        &self,
+        alloc: Global,
+        picks: Picks,
+        nullability: Nullability,
+        policy: &Policy,
+    ) -> StepResult {
         let entries = listview::take_views(alloc, self.entries(), &picks, nullability, policy)?;
         Ok(of_entries(entries))
     }

@@ -5,7 +5,7 @@ use vx_bits::NoMemory;
 use vx_column::Array;
 
 // What a step gives: a column, or want of memory.
-pub(crate) type Step = Result<Array, NoMemory>;
+pub(crate) type StepResult = Result<Array, NoMemory>;
 
 // The parts of a layout that a step goes over, or of several layouts taken together.
 pub(crate) trait Parts {

@@ -3,7 +3,7 @@ ghost use Rattle.std.specs.Prelude.{◌≡◌, ◌≤◌, length, true, IfOk, Is
 ghost use Rattle.vx_model.specs.Plain.{is_plain};
 ghost use Rattle.vx_model.specs.Step.{IsSlice};
 
-use crate::parts::{Parts, Step};
+use crate::parts::{Parts, StepResult};
 use std::alloc::Global;
 use vx_bits::NoMemory;
 use vx_column::{Array, Layout, Stored};
@@ -12,7 +12,7 @@ use vx_stored::{slice_constant, slice_nulls};
 // A layout whose rows the recursion slices.
 pub(crate) trait SliceRows: Parts {
     // The rows from `start` up to `end`, as `slice` gives them.
-    fn slice(&self, alloc: Global, start: usize, end: usize) -> Step
+    fn slice(&self, alloc: Global, start: usize, end: usize) -> StepResult
         requires ordered { start ≤ end }
         requires within { end ≤ length (Self.column self.now).rows }
         ensures cut { IfOk result (IsSlice (Self.column self.now) start end) }

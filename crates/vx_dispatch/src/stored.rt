@@ -10,7 +10,7 @@ ghost use Rattle.vx_column.specs.Stored.{parts_of};
 
 use crate::executing::ExecuteRows;
 use crate::filtering::FilterRows;
-use crate::parts::{Parts, Step};
+use crate::parts::{Parts, StepResult};
 use crate::slicing::SliceRows;
 use crate::taking::TakeRows;
 use crate::validity::{execute_validity, filter_validity, slice_validity, take_validity};
@@ -27,7 +27,7 @@ impl Parts for Stored<'_> {
 
 impl SliceRows for Stored<'_> {
     #[cycle(slice)]
-    fn slice(&self, alloc: Global, start: usize, end: usize) -> Step {
+    fn slice(&self, alloc: Global, start: usize, end: usize) -> StepResult {
         let validity = slice_validity(alloc, self.validity(), self.len(), start, end)?;
         Ok(slice_stored(*self, start, end, validity))
     }
@@ -35,7 +35,7 @@ impl SliceRows for Stored<'_> {
 
 impl FilterRows for Stored<'_> {
     #[cycle(filter)]
-    fn filter(&self, alloc: Global, mask: &MaskValues, policy: &Policy) -> Step {
+    fn filter(&self, alloc: Global, mask: &MaskValues, policy: &Policy) -> StepResult {
         let validity = filter_validity(alloc, self.validity(), mask, policy)?;
         filter_stored(alloc, *self, mask, policy, validity)
     }
@@ -43,7 +43,13 @@ impl FilterRows for Stored<'_> {
 
 impl TakeRows for Stored<'_> {
     #[cycle(take)]
-    fn take(&self, alloc: Global, picks: Picks, nullability: Nullability, policy: &Policy) -> Step {
+    fn take(
+        &self,
+        alloc: Global,
+        picks: Picks,
+        nullability: Nullability,
+        policy: &Policy,
+    ) -> StepResult {
         let validity = take_validity(alloc, self.validity(), &picks, nullability, policy)?;
         take_stored(alloc, *self, &picks, validity)
     }
@@ -52,7 +58,7 @@ impl TakeRows for Stored<'_> {
 // The same rows, with the validity unwrapped.
 impl ExecuteRows for Stored<'_> {
     #[cycle(execute)]
-    fn execute(&self, alloc: Global, policy: &Policy) -> Step {
+    fn execute(&self, alloc: Global, policy: &Policy) -> StepResult {
         let validity = execute_validity(alloc, self.validity(), self.len(), policy)?;
         Ok(with_validity(*self, validity))
     }

@@ -7,7 +7,7 @@ ghost use Rattle.vx_model.specs.Struct.{struct_column};
 use crate::columns::{execute_each, filter_each, firsts_for_nulls, slice_each, take_each};
 use crate::executing::ExecuteRows;
 use crate::filtering::FilterRows;
-use crate::parts::{Parts, Step};
+use crate::parts::{Parts, StepResult};
 use crate::slicing::SliceRows;
 use crate::taking::TakeRows;
 use crate::validity::{execute_validity, filter_validity, slice_validity, take_validity};
@@ -24,7 +24,7 @@ impl Parts for StructArray {
 impl SliceRows for StructArray {
     #[cycle(slice)]
     #[tactic(auto, using(vx_model::proofs::StructSteps::struct_rows))]
-    fn slice(&self, alloc: Global, start: usize, end: usize) -> Step {
+    fn slice(&self, alloc: Global, start: usize, end: usize) -> StepResult {
         let len = self.len();
         let validity = slice_validity(alloc, self.validity(), len, start, end)?;
         let fields = slice_each(alloc, self.fields(), len, start, end)?;
@@ -56,7 +56,7 @@ pub fn filter_fields(
 
 impl FilterRows for StructArray {
     #[cycle(filter)]
-    fn filter(&self, alloc: Global, mask: &MaskValues, policy: &Policy) -> Step {
+    fn filter(&self, alloc: Global, mask: &MaskValues, policy: &Policy) -> StepResult {
         Ok(filter_fields(alloc, self, mask, policy)?.into_array())
     }
 }
@@ -65,7 +65,13 @@ impl FilterRows for StructArray {
 impl TakeRows for StructArray {
     #[cycle(take)]
     #[tactic(auto, using(vx_model::proofs::StructSteps::struct_rows))]
-    fn take(&self, alloc: Global, picks: Picks, nullability: Nullability, policy: &Policy) -> Step {
+    fn take(
+        &self,
+        alloc: Global,
+        picks: Picks,
+        nullability: Nullability,
+        policy: &Policy,
+    ) -> StepResult {
         let len = picks.len();
         let validity = take_validity(alloc, self.validity(), &picks, nullability, policy)?;
         if picks.bound() == 0 {
@@ -83,7 +89,7 @@ impl TakeRows for StructArray {
 impl ExecuteRows for StructArray {
     #[cycle(execute)]
     #[tactic(auto, using(vx_model::proofs::StructSteps::struct_rows))]
-    fn execute(&self, alloc: Global, policy: &Policy) -> Step {
+    fn execute(&self, alloc: Global, policy: &Policy) -> StepResult {
         let len = self.len();
         let validity = execute_validity(alloc, self.validity(), len, policy)?;
         let fields = execute_each(alloc, self.fields(), policy)?;

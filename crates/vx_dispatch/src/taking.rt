@@ -10,7 +10,7 @@ ghost use Rattle.vx_model.specs.Plain.{is_null_layout};
 ghost use Rattle.vx_model.specs.Step.{IsTake};
 
 use crate::executing::execute;
-use crate::parts::{Parts, Step};
+use crate::parts::{Parts, StepResult};
 use crate::runs::take_by_runs;
 use std::alloc::Global;
 use vx_bits::NoMemory;
@@ -23,7 +23,13 @@ use vx_take::Picks;
 // A layout whose rows the recursion takes.
 pub(crate) trait TakeRows: Parts {
     // The rows at the picks, as `take_picks` gives them.
-    fn take(&self, alloc: Global, picks: Picks, nullability: Nullability, policy: &Policy) -> Step
+    fn take(
+        &self,
+        alloc: Global,
+        picks: Picks,
+        nullability: Nullability,
+        policy: &Policy,
+    ) -> StepResult
         requires bound { picks.bound ≡ length (Self.column self.now).rows }
         requires there { nullability ≡ NonNullable → AllThere picks.picks }
         ensures { IfOk result (IsTake (Self.column self.now) picks.picks nullability) };

@@ -9,7 +9,7 @@ use crate::columns::{execute_each, filter_each, firsts_for_nulls, slice_each, ta
 use crate::dict::copied;
 use crate::executing::{ExecuteRows, execute};
 use crate::filtering::{FilterRows, filter_values};
-use crate::parts::{Parts, Step};
+use crate::parts::{Parts, StepResult};
 use crate::slicing::{SliceRows, slice};
 use crate::taking::{TakeRows, take_picks};
 use std::alloc::Global;
@@ -26,7 +26,7 @@ impl Parts for UnionArray {
 impl SliceRows for UnionArray {
     #[cycle(slice)]
     #[tactic(auto, using(vx_model::proofs::UnionSteps::rows_of_unions))]
-    fn slice(&self, alloc: Global, start: usize, end: usize) -> Step {
+    fn slice(&self, alloc: Global, start: usize, end: usize) -> StepResult {
         let ids = slice(alloc, self.type_ids(), start, end)?.into_ref(alloc)?;
         match self.offsets() {
             Some(offsets) => {
@@ -99,7 +99,7 @@ pub fn filter_variants(
 
 impl FilterRows for UnionArray {
     #[cycle(filter)]
-    fn filter(&self, alloc: Global, mask: &MaskValues, policy: &Policy) -> Step {
+    fn filter(&self, alloc: Global, mask: &MaskValues, policy: &Policy) -> StepResult {
         Ok(filter_variants(alloc, self, mask, policy)?.into_array())
     }
 }
@@ -136,7 +136,13 @@ fn take_sparse(
 impl TakeRows for UnionArray {
     #[cycle(take)]
     #[tactic(auto, using(vx_model::proofs::UnionSteps::rows_of_unions))]
-    fn take(&self, alloc: Global, picks: Picks, nullability: Nullability, policy: &Policy) -> Step {
+    fn take(
+        &self,
+        alloc: Global,
+        picks: Picks,
+        nullability: Nullability,
+        policy: &Policy,
+    ) -> StepResult {
         let copy = copied(alloc, &picks)?;
         let taken = take_picks(alloc, self.type_ids(), copy, nullability, policy)?;
         let ids = taken.into_ref(alloc)?;
@@ -165,7 +171,7 @@ fn shared_offsets(array: &UnionArray) -> Option<PrimitiveArray>
 impl ExecuteRows for UnionArray {
     #[cycle(execute)]
     #[tactic(auto, using(vx_model::proofs::UnionSteps::rows_of_unions))]
-    fn execute(&self, alloc: Global, policy: &Policy) -> Step {
+    fn execute(&self, alloc: Global, policy: &Policy) -> StepResult {
         let ids = execute(alloc, self.type_ids(), policy)?.into_ref(alloc)?;
         let columns = execute_each(alloc, self.children(), policy)?;
         let offsets = shared_offsets(self);

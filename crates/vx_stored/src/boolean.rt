@@ -2,7 +2,7 @@
 ghost use Rattle.std.specs.Prelude.{◌≡◌, length, IfOk};
 ghost use Rattle.std.specs.List.{items_where_true};
 
-use crate::rows::{Step, StoredRows};
+use crate::rows::{StepResult, StoredRows};
 use std::alloc::Global;
 use vx_bitfilter::{filter_bitbuffer_by_mask, filter_sparse};
 use vx_bits::{BitBuffer, NoMemory};
@@ -43,12 +43,18 @@ impl StoredRows for BoolArray {
         BoolArray::of(self.bits().slice(start, end), valid).into_array()
     }
 
-    fn filter(&self, alloc: Global, mask: &MaskValues, policy: &Policy, valid: Validity) -> Step {
+    fn filter(
+        &self,
+        alloc: Global,
+        mask: &MaskValues,
+        policy: &Policy,
+        valid: Validity,
+    ) -> StepResult {
         let bits = filter_bits(alloc, self.bits(), mask, policy)?;
         Ok(BoolArray::of(bits, valid).into_array())
     }
 
-    fn take(&self, alloc: Global, picks: &Picks, valid: Validity) -> Step {
+    fn take(&self, alloc: Global, picks: &Picks, valid: Validity) -> StepResult {
         let bits = gather_bits(alloc, self.bits(), picks, false)?;
         Ok(BoolArray::of(bits, valid).into_array())
     }

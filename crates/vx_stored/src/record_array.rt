@@ -6,7 +6,7 @@ ghost use Rattle.vx_model.specs.Records.{records_with};
 ghost use Rattle.vx_column.specs.Validity.{valid_of};
 
 use crate::records::take_runs;
-use crate::rows::{Step, StoredRows};
+use crate::rows::{StepResult, StoredRows};
 use std::alloc::Global;
 use vx_bits::NoMemory;
 use vx_column::{Array, RecordArray, Validity};
@@ -24,12 +24,18 @@ impl StoredRows for RecordArray {
         self.with_rows(values, valid).into_array()
     }
 
-    fn filter(&self, alloc: Global, mask: &MaskValues, policy: &Policy, valid: Validity) -> Step {
+    fn filter(
+        &self,
+        alloc: Global,
+        mask: &MaskValues,
+        policy: &Policy,
+        valid: Validity,
+    ) -> StepResult {
         let values = filter_records(alloc, self.values(), mask, policy)?;
         Ok(self.with_rows(values, valid).into_array())
     }
 
-    fn take(&self, alloc: Global, picks: &Picks, valid: Validity) -> Step {
+    fn take(&self, alloc: Global, picks: &Picks, valid: Validity) -> StepResult {
         let values = take_records(alloc, self.values(), picks)?;
         Ok(self.with_rows(values, valid).into_array())
     }

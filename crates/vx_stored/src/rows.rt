@@ -16,7 +16,7 @@ use vx_mask::{MaskValues, Policy};
 use vx_take::Picks;
 
 // What a filter or a take leaves.
-pub(crate) type Step = Result<Array, NoMemory>;
+pub(crate) type StepResult = Result<Array, NoMemory>;
 
 // A layout that stores its rows in their places, with the new validity handed in.
 pub(crate) trait StoredRows {
@@ -36,7 +36,13 @@ pub(crate) trait StoredRows {
         ensures { IsSlice (stored_column (parts self.now)) start end result };
 
     // The rows at the set positions of `mask`.
-    fn filter(&self, alloc: Global, mask: &MaskValues, policy: &Policy, valid: Validity) -> Step
+    fn filter(
+        &self,
+        alloc: Global,
+        mask: &MaskValues,
+        policy: &Policy,
+        valid: Validity,
+    ) -> StepResult
         requires long { length mask.now.bits.bits ≡ length (parts self.now).items }
         requires left { IsLeft (parts self.now).valid (nullability_by (parts self.now).valid)
             (items_where_true mask.now.bits.bits
@@ -47,7 +53,7 @@ pub(crate) trait StoredRows {
             (items_where_true mask.now.bits.bits (stored_column (parts self.now)).rows)) };
 
     // The rows at the picks, and null at a null pick.
-    fn take(&self, alloc: Global, picks: &Picks, valid: Validity) -> Step
+    fn take(&self, alloc: Global, picks: &Picks, valid: Validity) -> StepResult
         requires bound { picks.now.bound ≡ length (parts self.now).items }
         requires left { IsLeft (parts self.now).valid (nullability_by (valid_of valid))
             (at false (present_bits (parts self.now).valid (length (parts self.now).items))

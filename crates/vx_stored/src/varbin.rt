@@ -1,5 +1,5 @@
 //! Layout `VarBin`: the texts, with the new validity handed in.
-use crate::rows::{Step, StoredRows};
+use crate::rows::{StepResult, StoredRows};
 use std::alloc::Global;
 use vx_column::{Array, Validity, VarBinArray};
 use vx_mask::{MaskValues, Policy};
@@ -23,7 +23,13 @@ impl StoredRows for VarBinArray {
         slice_varbin(self, start, end, valid).into_array()
     }
 
-    fn filter(&self, alloc: Global, mask: &MaskValues, policy: &Policy, valid: Validity) -> Step {
+    fn filter(
+        &self,
+        alloc: Global,
+        mask: &MaskValues,
+        policy: &Policy,
+        valid: Validity,
+    ) -> StepResult {
         // the validity fits the rows
         let _ = self.bytes();
         let kept = filter_varbin(alloc, self, mask, policy, valid)?;
@@ -32,7 +38,7 @@ impl StoredRows for VarBinArray {
 
     // Views of the bytes, where these are few enough.
     #[tactic(auto, using(crate::proofs::TextRows::picked_texts))]
-    fn take(&self, alloc: Global, picks: &Picks, valid: Validity) -> Step {
+    fn take(&self, alloc: Global, picks: &Picks, valid: Validity) -> StepResult {
         // the validity fits the rows
         let _ = self.bytes();
         if self.last_offset() <= MAX_BUFFER_LEN {

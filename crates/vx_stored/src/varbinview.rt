@@ -1,5 +1,5 @@
 //! Layout `VarBinView`: the views, with the new validity handed in.
-use crate::rows::{Step, StoredRows};
+use crate::rows::{StepResult, StoredRows};
 use std::alloc::Global;
 use vx_column::{Array, Validity, VarBinViewArray};
 use vx_mask::{MaskValues, Policy};
@@ -19,7 +19,13 @@ impl StoredRows for VarBinViewArray {
         slice_views(self, start, end, valid).into_array()
     }
 
-    fn filter(&self, alloc: Global, mask: &MaskValues, policy: &Policy, valid: Validity) -> Step {
+    fn filter(
+        &self,
+        alloc: Global,
+        mask: &MaskValues,
+        policy: &Policy,
+        valid: Validity,
+    ) -> StepResult {
         // the validity fits the rows
         let _ = self.views();
         let kept = filter_views(alloc, self, mask, policy, valid)?;
@@ -27,7 +33,7 @@ impl StoredRows for VarBinViewArray {
     }
 
     #[tactic(auto, using(crate::proofs::TextRows::picked_texts))]
-    fn take(&self, alloc: Global, picks: &Picks, valid: Validity) -> Step {
+    fn take(&self, alloc: Global, picks: &Picks, valid: Validity) -> StepResult {
         // the validity fits the rows
         let _ = self.views();
         let taken = gather_views(alloc, self, picks, valid)?;
