@@ -3,6 +3,7 @@ ghost use Rattle.std.specs.Prelude.{◌≡◌, ◌+◌, ◌^◌, ◌<◌, Some, 
 ghost use Rattle.vx_bits.specs.Results.{ok_unless};
 ghost use Rattle.vx_types.specs.Decimal.{is_width};
 ghost use Rattle.vx_types.specs.DType.{type_of};
+ghost use Rattle.vx_types.specs.Same.{is_same_nullability};
 ghost use Rattle.vx_types.specs.TypeTree.{type_width};
 ghost use Rattle.vx_model.specs.Valid.{is_fitting, nullability_by};
 ghost use Rattle.vx_column.specs.Validity.{valid_of};
