@@ -62,11 +62,6 @@ fn with_elements(lists: Lists<'_>, elements: ArrayRef, validity: Validity) -> Ar
     }
 }
 
-// Whether it has one value for every row.
-fn is_constant(array: &Array) -> bool {
-    matches!(array.layout(), Layout::Constant(_))
-}
-
 /// The elements, executed, but where one value or one code stands for each of them: they may be
 /// more than any memory holds, as those behind null lists are.
 #[cycle(execute)]
@@ -79,7 +74,9 @@ pub(crate) fn execute_elements(
 {
     match elements.layout() {
         Layout::Constant(_) => Ok(elements.share()),
-        Layout::Dict(a) if is_constant(a.codes()) => dict::execute_values(alloc, a, policy),
+        Layout::Dict(a) if matches!(a.codes().layout(), Layout::Constant(_)) => {
+            dict::execute_values(alloc, a, policy)
+        }
         _ => execute(alloc, elements, policy),
     }
 }

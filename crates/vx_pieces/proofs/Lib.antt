@@ -3,3 +3,4 @@ pub mod Naturals
 pub mod PieceLists
 pub mod PieceNumbers
 pub mod RunLists
+pub mod RunPlaces

@@ -1,16 +1,19 @@
 //! Lists of indices.
-ghost use Rattle.std.specs.Prelude.{◌≡◌, ℕ, None, length, IfOk};
+ghost use Rattle.std.specs.Prelude.{◌≡◌, ◌+◌, ◌≤◌, ℕ, All, None, Some, length, map, true, IfOk, IfSome};
 ghost use Rattle.std.specs.Option.{option_map};
 ghost use Rattle.vx_types.specs.declared.nullability.Nullability.TheVariants.{NonNullable};
 ghost use Rattle.vx_positions.specs.Positions.{AllThere, positions_of};
 ghost use Rattle.vx_model.specs.Numbers.{numbers_of};
 ghost use Rattle.vx_pieces.specs.Indices.{column_fault, index_fault, index_len, index_nullability, index_picks, index_value, sequence_fault};
+ghost use Rattle.vx_pieces.specs.Pieces.{expand, first_from, is_sound};
+ghost use Rattle.vx_pieces.specs.Runs.{run_numbers};
 
+use crate::error::PiecesError;
 use crate::fault::IndexFault;
 use crate::sequence::PiecewiseSequence;
 use std::alloc::Global;
 use vx_bits::NoMemory;
-use vx_column::{Array, FlatRef, Nullability};
+use vx_column::{Array, FlatRef, Nullability, Runs};
 use vx_take::Picks;
 
 /// The indices of a take.
@@ -80,6 +83,38 @@ impl Indices {
             Indices::Array(flat) => column_picks(alloc, flat.array(), len),
             Indices::Pieces(pieces) => pieces.picks(alloc, len),
         }
+    }
+
+    /// The runs of `len` rows that they name, each its start and its length: of a sequence whose
+    /// multipliers are a constant 1. None of others. `NoMemory` alone.
+    pub fn runs(&self, alloc: Global, len: usize) -> Result<Option<Runs>, NoMemory>
+        requires { index_fault (index_value self.now) len ≡ None }
+        ensures picks { IfOk result (λ runs. IfSome runs
+            (λ runs. map Some (run_numbers runs) ≡ index_picks (index_value self.now))) }
+        ensures within { IfOk result
+            (λ runs. IfSome runs (λ runs. All (λ run. run.0 + run.1 ≤ len) runs)) }
+        ensures there { IfOk result
+            (λ runs. IfSome runs (λ _. index_nullability (index_value self.now) ≡ NonNullable)) }
+    {
+        match self {
+            Indices::Array(_) => Ok(None),
+            Indices::Pieces(pieces) => sequence_runs(alloc, pieces),
+        }
+    }
+}
+
+// The runs that the pieces of a sound sequence are; none where they aren't runs. `NoMemory` alone.
+fn sequence_runs(alloc: Global, pieces: &PiecewiseSequence) -> Result<Option<Runs>, NoMemory>
+    requires { is_sound pieces.now ≡ true }
+    ensures numbers { IfOk result
+        (λ runs. IfSome runs (λ runs. run_numbers runs ≡ expand pieces.now)) }
+    ensures within { IfOk result (λ runs. IfSome runs (λ runs. (n : ℕ)
+        → first_from n (expand pieces.now) ≡ None → All (λ run. run.0 + run.1 ≤ n) runs)) }
+{
+    match pieces.contiguous_runs(alloc) {
+        Ok(runs) => Ok(runs),
+        Err(PiecesError::NoMemory) => Err(NoMemory),
+        Err(_) => unreachable!(),
     }
 }
 

@@ -7,6 +7,7 @@ mod fault;
 mod indices;
 mod natural;
 mod piece;
+mod places;
 mod runs;
 mod sequence;
 mod slots;
@@ -15,6 +16,7 @@ mod walks;
 pub use error::{BadPieces, PiecesError};
 pub use fault::IndexFault;
 pub use indices::Indices;
+pub use places::{run_picks, total_len};
 pub use sequence::{PiecewiseSequence, PiecewiseSequenceArray};
 pub use slots::{
     PiecewiseSequenceArrayExt, PiecewiseSequenceArraySlotsExt, PiecewiseSequenceSlots,

@@ -3,7 +3,7 @@ ghost use Rattle.std.specs.Prelude.{◌≡◌, ◌++◌, ◌∷◌, [], codes, d
 ghost use Rattle.vx_types.specs.DType.{type_of};
 ghost use Rattle.vx_types.specs.Fields.{names_of};
 ghost use Rattle.vx_types.specs.TypeTree.{types_of};
-ghost use Rattle.vx_print.specs.Text.{ptype_text, decimal_text, mark, mark_of, kind_text};
+ghost use Rattle.vx_print.specs.Text.{ptype_text, decimal_text, mark_of, kind_text};
 ghost use Rattle.vx_print.specs.Text.{type_text, type_texts, comma_list, with_labels, name_label};
 ghost use Rattle.vx_print.specs.Text.{id_label, quoted_text};
 
@@ -12,9 +12,7 @@ use crate::text::push_number;
 use crate::texts::push_quoted;
 use std::rc::RcStr;
 use vx_bits::NoMemory;
-use vx_column::{
-    DType, DecimalDType, ElementType, ExtDType, Nullability, PType, StructFields, UnionVariants,
-};
+use vx_column::{DType, DecimalDType, ElementType, ExtDType, PType, StructFields, UnionVariants};
 
 fn ptype_text(ptype: PType) -> &'static str
     ensures { result.now ≡ ptype_text ptype }
@@ -54,24 +52,15 @@ pub(crate) fn push_word(text: &mut Vec<u8>, word: &[u8]) -> Result<(), NoMemory>
     Ok(())
 }
 
-// Appends the mark of a nullable type.
-fn push_mark(text: &mut Vec<u8>, nullability: Nullability) -> Result<(), NoMemory>
-    ensures { IsOk result → text.new.items ≡ text.old.items ++ mark nullability }
-{
-    if nullability.is_nullable() {
-        text.push(b'?')?;
-    }
-    Ok(())
-}
-
-// The same of a type, which null has none of.
-fn push_mark_of(text: &mut Vec<u8>, dtype: &DType) -> Result<(), NoMemory>
+// Appends the mark of a nullable type, which null has none of.
+fn push_mark(text: &mut Vec<u8>, dtype: &DType) -> Result<(), NoMemory>
     ensures { IsOk result → text.new.items ≡ text.old.items
         ++ mark_of (type_of dtype.now).kind (type_of dtype.now).nullability }
 {
     match dtype {
         DType::Null => Ok(()),
-        _ => push_mark(text, dtype.nullability()),
+        _ if dtype.is_nullable() => push_word(text, b"?"),
+        _ => Ok(()),
     }
 }
 
@@ -233,5 +222,5 @@ pub(crate) fn push_type(text: &mut Vec<u8>, dtype: &DType) -> Result<(), NoMemor
     ensures { IsOk result → text.new.items ≡ text.old.items ++ type_text (type_of dtype.now) }
 {
     push_kind(text, dtype)?;
-    push_mark_of(text, dtype)
+    push_mark(text, dtype)
 }

@@ -12,7 +12,8 @@ use Rattle.vx_column.specs.Validity.{valid_of}
 use Rattle.vx_stored.specs.Records.{zero_record}
 use Rattle.vx_pieces.specs.Runs.{run_numbers}
 use Rattle.vx_pieces.proofs.RunLists.{in_runs-within}
-use Rattle.vx_dispatch.proofs.RunTakes.{below_runs, left-constant}
+use Rattle.vx_pieces.proofs.RunPlaces.{below_runs}
+use Rattle.vx_dispatch.proofs.RunTakes.{left-constant}
 use Rattle.vx_dispatch.proofs.stored.take_record_runs.Goals as goal
 
 pub take_array_runs-requires-clause-within : goal.take_array_runs-requires-clause-within

@@ -1,8 +1,8 @@
 -- One position more of the run.
 use Rattle.std.proofs.Common.{◌+◌, ◌++◌, [], ◌∷◌, sym, ap, ◌∙◌}
 use Rattle.std.proofs.lemmas.List.{append_assoc}
-use Rattle.vx_dispatch.proofs.RunTakes.{range-more}
-use Rattle.vx_dispatch.proofs.runs.push_run.Goals as goal
+use Rattle.vx_pieces.proofs.RunPlaces.{range-more}
+use Rattle.vx_pieces.proofs.places.push_places.Goals as goal
 
 pub loop-k-preserved : goal.loop-k-preserved
 loop-k-preserved c =
