@@ -1,5 +1,5 @@
 -- Lists of indices: what a take by them picks, and why it can't.
-use Rattle.std.specs.Prelude.{ℕ, pos, length, List, map, Option, Some, if◌then◌else◌}
+use Rattle.std.specs.Prelude.{ℕ, pos, length, List, map, Option, None, Some, if◌then◌else◌}
 use Rattle.std.specs.Option.{option_map}
 use Rattle.vx_types.specs.TypeTree.{is_int_type}
 use Rattle.vx_types.specs.declared.nullability.Nullability.{Nullability}
@@ -8,6 +8,7 @@ use Rattle.vx_positions.specs.Positions.{first_bad, positions_of}
 use Rattle.vx_model.specs.Column.{Column}
 use Rattle.vx_model.specs.Numbers.{numbers_of}
 use Rattle.vx_pieces.specs.Pieces.{PiecesParts, is_sound, expand, first_from}
+use Rattle.vx_pieces.specs.Runs.{contiguous_runs}
 use Rattle.vx_pieces.specs.declared.fault.IndexFault.{IndexFault}
 use Rattle.vx_pieces.specs.declared.fault.IndexFault.TheVariants.{InvalidIndices, BadPieces, OutOfBounds}
 use Rattle.vx_pieces.specs.declared.indices.Indices.{Indices}
@@ -44,6 +45,11 @@ index_fault (by_pieces p) n = sequence_fault p n
 abbrev pub index_picks : IndexValue → List (Option ℕ)
 index_picks (by_column c) = positions_of (numbers_of c)
 index_picks (by_pieces p) = map (λ x. Some x) (expand p)
+
+-- the runs that they name, where they are runs: of a sequence whose multipliers are a constant 1
+abbrev pub index_runs : IndexValue → Option (List (ℕ × ℕ))
+index_runs (by_column c) = None
+index_runs (by_pieces p) = contiguous_runs p
 
 -- how many indices there are said to be: as many as picks, where there is no fault
 abbrev pub index_len : IndexValue → ℕ

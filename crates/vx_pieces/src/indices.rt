@@ -4,9 +4,9 @@ ghost use Rattle.std.specs.Option.{option_map};
 ghost use Rattle.vx_types.specs.declared.nullability.Nullability.TheVariants.{NonNullable};
 ghost use Rattle.vx_positions.specs.Positions.{AllThere, positions_of};
 ghost use Rattle.vx_model.specs.Numbers.{numbers_of};
-ghost use Rattle.vx_pieces.specs.Indices.{column_fault, index_fault, index_len, index_nullability, index_picks, index_value, sequence_fault};
+ghost use Rattle.vx_pieces.specs.Indices.{column_fault, index_fault, index_len, index_nullability, index_picks, index_runs, index_value, sequence_fault};
 ghost use Rattle.vx_pieces.specs.Pieces.{expand, first_from, is_sound};
-ghost use Rattle.vx_pieces.specs.Runs.{run_numbers};
+ghost use Rattle.vx_pieces.specs.Runs.{contiguous_runs, run_numbers};
 
 use crate::error::PiecesError;
 use crate::fault::IndexFault;
@@ -85,10 +85,11 @@ impl Indices {
         }
     }
 
-    /// The runs of `len` rows that they name, each its start and its length: of a sequence whose
-    /// multipliers are a constant 1. None of others. `NoMemory` alone.
+    /// The runs that they name among `len` rows, each its start and its length: of a sequence whose
+    /// multipliers are a constant 1. None exactly of others. `NoMemory` alone.
     pub fn runs(&self, alloc: Global, len: usize) -> Result<Option<Runs>, NoMemory>
         requires { index_fault (index_value self.now) len ≡ None }
+        ensures runs { IfOk result (λ runs. runs ≡ index_runs (index_value self.now)) }
         ensures picks { IfOk result (λ runs. IfSome runs
             (λ runs. map Some (run_numbers runs) ≡ index_picks (index_value self.now))) }
         ensures within { IfOk result
@@ -106,6 +107,7 @@ impl Indices {
 // The runs that the pieces of a sound sequence are; none where they aren't runs. `NoMemory` alone.
 fn sequence_runs(alloc: Global, pieces: &PiecewiseSequence) -> Result<Option<Runs>, NoMemory>
     requires { is_sound pieces.now ≡ true }
+    ensures runs { IfOk result (λ runs. runs ≡ contiguous_runs pieces.now) }
     ensures numbers { IfOk result
         (λ runs. IfSome runs (λ runs. run_numbers runs ≡ expand pieces.now)) }
     ensures within { IfOk result (λ runs. IfSome runs (λ runs. (n : ℕ)
