@@ -1,22 +1,22 @@
 -- Which rows of bools are true, by their words.
-use Rattle.std.proofs.Common.{◌≡◌, ℕ, zero, suc, ◌+◌, ◌*◌, ◌/◌, ◌%◌, ◌<◌, ◌≤◌, Bool, true, false, cond, List, [], ◌∷◌, length, map, take, drop, replicate, bit_and, None, Ok, Err, Result, IfOk, refl, sym, ap, ap₂, ◌∙◌, arith}
-use Rattle.std.specs.Prelude.{◌&&◌, min}
+use Rattle.std.proofs.Common.{◌≡◌, ℕ, zero, suc, ◌+◌, ◌*◌, ◌/◌, ◌%◌, ◌<◌, ◌≤◌, Bool, true, false, cond, List, [], ◌∷◌, length, map, take, drop, get_or, replicate, bit_and, None, Ok, Err, Result, IfOk, refl, sym, ap, ap₂, ◌∙◌, arith}
+use Rattle.std.specs.Prelude.{◌&&◌, if◌then◌else◌, min}
 use Rattle.std.specs.List.{items_where_true}
 use Rattle.std.proofs.lemmas.List.{length-map, length-replicate}
 use Rattle.std.proofs.lemmas.List.Sums.{sum_by-cons}
 use lib.Bits.{and_step, and_zero_r}
 use Rattle.vx_bits.specs.BitBuffer.{PlacedBits, number_of, true_count_of}
 use Rattle.vx_mask.specs.Mask.{mask_bits}
-use Rattle.vx_types.specs.RowValue.{bit}
-use Rattle.vx_model.specs.Column.{Column}
-use Rattle.vx_model.specs.Valid.{non_nullable, all_valid, by_column, is_yes, present_bits, shown_rows, stored_rows}
+use Rattle.vx_types.specs.RowValue.{bit, null}
+use Rattle.vx_model.specs.Column.{Column, by_bools, by_other}
+use Rattle.vx_model.specs.Valid.{non_nullable, all_invalid, all_valid, by_column, cover_by, is_bool_layout, is_constant_form, is_yes, present_bits, shown_rows, stored_rows}
 use Rattle.vx_model.specs.Bool.{BoolParts, bool_fault, bool_column}
 use Rattle.vx_model.specs.Filter.{FilterParts, filter_fault, filter_column}
 use Rattle.vx_model.proofs.Items.{items_where_true-all, items_where_true-none, map-items_where_true}
 use Rattle.vx_model.proofs.LazyRows.{long-filter}
 use Rattle.vx_model.proofs.Layouts.{is_fitting-bool, length-bool}
-use Rattle.vx_model.proofs.ShownRows.{shown_rows-all}
-use Rattle.vx_column.specs.Truth.{true_bits}
+use Rattle.vx_model.proofs.ShownRows.{none_shown, shown_rows-all}
+use Rattle.vx_column.specs.Truth.{is_plain_bools, true_bits}
 
 -- ---- bits that are set in both of two lists
 
@@ -103,6 +103,26 @@ rows-non_nullable p e = ap (λ v. stored_rows v (map bit p.bits.bits)) e ∙ sho
 pub rows-all_valid : (p : BoolParts) → p.valid ≡ all_valid → (bool_column p).rows ≡ map bit p.bits.bits
 rows-all_valid p e = ap (λ v. stored_rows v (map bit p.bits.bits)) e ∙ shown_rows-all _ (map bit p.bits.bits) refl
 
+-- an array isn't one answer for all rows, and where the one answer is no, each row is null
+array_form : (b : Bool) → is_constant_form (if b then by_bools else by_other) ≡ false
+array_form true = refl
+array_form false = refl
+
+pub plain-array : (p : BoolParts) (c : Column) → p.valid ≡ by_column c → is_plain_bools (bool_column p) ≡ false
+plain-array p c e = ap (λ v. is_constant_form (cover_by v)) e ∙ array_form (is_bool_layout c.layout)
+
+null_at : (n i : ℕ) → get_or (replicate n null) i null ≡ null
+null_at zero i = refl
+null_at (suc n) zero = refl
+null_at (suc n) (suc i) = null_at n i
+
+pub null-all_invalid : (p : BoolParts) (i : ℕ) → p.valid ≡ all_invalid → get_or (bool_column p).rows i null ≡ null
+null-all_invalid p i e =
+    let items = map bit p.bits.bits in
+    ap (λ v. get_or (stored_rows v items) i null) e
+    ∙ ap (λ l. get_or l i null) (none_shown _ items refl)
+    ∙ null_at (length items) i
+
 -- a validity array is as long
 pub long-valid : (p : BoolParts) (c : Column) → bool_fault p ≡ None → p.valid ≡ by_column c → length c.rows ≡ length p.bits.bits
 long-valid p c h e = grind arith
@@ -136,3 +156,6 @@ finished (Ok b) bits all h e = ap (λ p. p.bits) h ∙ e
 finished (Err x) bits all h e = tt
 
 pub ruleset truth = (true-non_nullable, true-all_valid, rows-non_nullable, rows-all_valid, long-valid, is_fitting-bool, length-bool, length-true_bits, true-filter)
+
+-- what a proof about bits with one answer for all rows needs
+pub ruleset plain = (plain-array, null-all_invalid)

@@ -1,13 +1,13 @@
 //! Layout `Bool`: a bit a row.
-ghost use Rattle.std.specs.Prelude.{◌≡◌, ◌<◌, ◌≤◌, length, map, slice_range, true, IfSome, None};
+ghost use Rattle.std.specs.Prelude.{◌≡◌, ◌≢◌, ℕ, ◌<◌, ◌≤◌, length, map, slice_index_or, slice_range, true, IfSome, IsSome, None};
 ghost use Rattle.vx_bits.specs.Results.{ok_unless};
-ghost use Rattle.vx_types.specs.RowValue.{bit};
+ghost use Rattle.vx_types.specs.RowValue.{bit, null};
 ghost use Rattle.vx_model.specs.Valid.{is_fitting};
 ghost use Rattle.vx_model.specs.Bool.{bool_fault, bool_column, bool_with};
 ghost use Rattle.vx_column.specs.Validity.{valid_of};
 ghost use Rattle.vx_column.specs.Bool.{bool_parts};
 ghost use Rattle.vx_column.specs.Part.{IsPart};
-ghost use Rattle.vx_column.specs.Truth.{IsStretch, true_bits};
+ghost use Rattle.vx_column.specs.Truth.{IsStretch, is_plain_bools, true_bits};
 ghost use Rattle.vx_model.specs.Step.{IsPlainSlice};
 
 use crate::array::{Array, Layout};
@@ -167,11 +167,15 @@ impl BoolArray {
         }
     }
 
-    // The bits of its rows, where no row is null by a constant form.
-    #[tactic(auto, using(crate::proofs::TruthBits::truth))]
+    // The bits of its rows, where the validity isn't an array; none where it is, and where all rows
+    // are null.
+    #[tactic(auto, using(crate::proofs::TruthBits::truth, crate::proofs::TruthBits::plain))]
     pub(crate) fn present_bits(&self) -> Option<&BitBuffer>
         ensures rows { IfSome result (λ b. (bool_column self.now).rows ≡ map bit b.now.bits) }
         ensures yes { IfSome result (λ b. b.now.bits ≡ true_bits (bool_column self.now)) }
+        ensures plain { IfSome result (λ _. is_plain_bools (bool_column self.now) ≡ true) }
+        ensures told { (i : ℕ) → is_plain_bools (bool_column self.now) ≡ true
+            → slice_index_or (bool_column self.now).rows i null ≢ null → IsSome result }
     {
         let bits = self.bits();
         match self.validity() {

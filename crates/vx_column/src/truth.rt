@@ -1,5 +1,5 @@
 //! Which rows of a column of bools are true.
-ghost use Rattle.std.specs.Prelude.{◌≡◌, ◌↔◌, ◌+◌, ◌^◌, ◌<◌, ◌≤◌, IfOk, IfSome, None, length, count_ones, drop, map, replicate, slice_index_or, take, true};
+ghost use Rattle.std.specs.Prelude.{◌≡◌, ◌≢◌, ℕ, ◌↔◌, ◌+◌, ◌^◌, ◌<◌, ◌≤◌, IfOk, IfSome, IsOk, IsSome, None, length, count_ones, drop, map, replicate, slice_index_or, take, true};
 ghost use Rattle.std.specs.List.{items_where_true};
 ghost use Rattle.vx_bits.specs.BitBuffer.{number_of, true_count_of};
 ghost use Rattle.vx_bitfilter.specs.Pext.{pext};
@@ -7,7 +7,7 @@ ghost use Rattle.vx_mask.specs.Mask.{mask_bits};
 ghost use Rattle.vx_types.specs.Nullability.{is_nullable};
 ghost use Rattle.vx_types.specs.RowValue.{bit, null};
 ghost use Rattle.vx_model.specs.Valid.{is_yes};
-ghost use Rattle.vx_column.specs.Truth.{IsStretch, bit_in, is_bool_type, true_bits};
+ghost use Rattle.vx_column.specs.Truth.{IsStretch, bit_in, is_bool_type, is_plain_bools, true_bits};
 
 use crate::array::{Array, Layout};
 use crate::cell::Cell;
@@ -180,12 +180,15 @@ impl Array {
         }
     }
 
-    /// The bits of its rows, one a row, where the layout is `Bool` and no row is null by a constant
-    /// form. It takes no memory.
+    /// The bits of its rows, one a row, where the layout is `Bool` and its validity isn't an array;
+    /// none where it is, and where all rows are null. It takes no memory.
     #[tactic(auto, using(vx_model::proofs::Layouts::layout_rows))]
     pub fn present_bits(&self) -> Option<&BitBuffer>
         ensures rows { IfSome result (λ b. self.now.rows ≡ map bit b.now.bits) }
         ensures yes { IfSome result (λ b. b.now.bits ≡ true_bits self.now) }
+        ensures plain { IfSome result (λ _. is_plain_bools self.now ≡ true) }
+        ensures told { (i : ℕ) → is_plain_bools self.now ≡ true
+            → slice_index_or self.now.rows i null ≢ null → IsSome result }
     {
         match self.layout() {
             Layout::Bool(a) => a.present_bits(),
@@ -210,9 +213,12 @@ impl Array {
 }
 
 /// The mask of the rows that are true, as long as the column; a null isn't. The bits of layout
-/// `Bool` without a null aren't copied. `NoMemory` alone.
+/// `Bool` whose validity isn't an array are shared, which takes no memory, but where all rows are
+/// null. `NoMemory` alone.
 pub fn mask_of(alloc: Global, column: &Array) -> Result<Mask, NoMemory>
-    ensures { IfOk result (λ m. mask_bits m ≡ true_bits column.now) }
+    ensures bits { IfOk result (λ m. mask_bits m ≡ true_bits column.now) }
+    ensures shared { (i : ℕ) → is_plain_bools column.now ≡ true
+        → slice_index_or column.now.rows i null ≢ null → IsOk result }
 {
     if let Some(bits) = column.present_bits() {
         return Ok(Mask::from_buffer(bits.share()));

@@ -1,5 +1,5 @@
 //! Lists of indices.
-ghost use Rattle.std.specs.Prelude.{◌≡◌, ◌+◌, ◌≤◌, ℕ, All, None, Some, length, map, true, IfOk, IfSome};
+ghost use Rattle.std.specs.Prelude.{◌≡◌, ◌+◌, ◌≤◌, ℕ, All, None, Ok, Some, length, map, true, IfOk, IfSome};
 ghost use Rattle.std.specs.Option.{option_map};
 ghost use Rattle.vx_types.specs.declared.nullability.Nullability.TheVariants.{NonNullable};
 ghost use Rattle.vx_positions.specs.Positions.{AllThere, positions_of};
@@ -86,7 +86,8 @@ impl Indices {
     }
 
     /// The runs that they name among `len` rows, each its start and its length: of a sequence whose
-    /// multipliers are a constant 1. None exactly of others. `NoMemory` alone.
+    /// multipliers are a constant 1. None exactly of others, which takes no memory. `NoMemory`
+    /// alone.
     pub fn runs(&self, alloc: Global, len: usize) -> Result<Option<Runs>, NoMemory>
         requires { index_fault (index_value self.now) len ≡ None }
         ensures runs { IfOk result (λ runs. runs ≡ index_runs (index_value self.now)) }
@@ -96,6 +97,7 @@ impl Indices {
             (λ runs. IfSome runs (λ runs. All (λ run. run.0 + run.1 ≤ len) runs)) }
         ensures there { IfOk result
             (λ runs. IfSome runs (λ _. index_nullability (index_value self.now) ≡ NonNullable)) }
+        ensures none { index_runs (index_value self.now) ≡ None → result ≡ Ok None }
     {
         match self {
             Indices::Array(_) => Ok(None),
@@ -112,6 +114,7 @@ fn sequence_runs(alloc: Global, pieces: &PiecewiseSequence) -> Result<Option<Run
         (λ runs. IfSome runs (λ runs. run_numbers runs ≡ expand pieces.now)) }
     ensures within { IfOk result (λ runs. IfSome runs (λ runs. (n : ℕ)
         → first_from n (expand pieces.now) ≡ None → All (λ run. run.0 + run.1 ≤ n) runs)) }
+    ensures none { contiguous_runs pieces.now ≡ None → result ≡ Ok None }
 {
     match pieces.contiguous_runs(alloc) {
         Ok(runs) => Ok(runs),
