@@ -1,4 +1,4 @@
-//! Calls shared values, bits and masks as their users do, and prints what each gives.
+//! Calls shared values, bits, masks and types as their users do, and prints what each gives.
 #![tactic(auto)]
 
 mod bits;
@@ -11,6 +11,7 @@ mod policies;
 mod ranks;
 mod recursion;
 mod text;
+mod types;
 
 use std::alloc::Global;
 use std::test::Fail;
@@ -40,5 +41,5 @@ fn main(rt: HostRuntime) -> Result<(), Fail> {
             println!(rt; "{row}")?;
         }
     }
-    Ok(())
+    types::print_rows(&rt)
 }

@@ -5,13 +5,22 @@ use vx_types::{
     ColumnError, DType, DecimalDType, Nullability, PType, match_each_integer_ptype, record_of,
 };
 
+/// The rows of types.
+pub(crate) fn print_rows(rt: &impl Print) -> Result<(), Fail> {
+    print_records(rt)?;
+    print_numbers(rt)?;
+    print_ranges(rt)?;
+    print_decimals(rt)?;
+    print_types(rt)
+}
+
 fn print_bytes(rt: &impl Print, number: i128, bytes: &[u8]) -> Result<(), Fail> {
     println!(rt; "record of {number}: {bytes:?}")?;
     Ok(())
 }
 
 /// Records are little-endian, in two's complement.
-pub(crate) fn print_records(rt: &impl Print) -> Result<(), Fail> {
+fn print_records(rt: &impl Print) -> Result<(), Fail> {
     print_bytes(rt, 1500, &record_of::<4>(1500))?;
     print_bytes(rt, -2, &record_of::<2>(-2))?;
     print_bytes(rt, 300, &record_of::<1>(300))?;
@@ -28,7 +37,7 @@ fn print_number(rt: &impl Print, name: &str, ptype: PType, record: &[u8]) -> Res
 }
 
 /// What records spell.
-pub(crate) fn print_numbers(rt: &impl Print) -> Result<(), Fail> {
+fn print_numbers(rt: &impl Print) -> Result<(), Fail> {
     print_number(rt, "u8 of c8", PType::U8, &[200])?;
     print_number(rt, "i8 of ff", PType::I8, &[255])?;
     print_number(rt, "u16 of 2c01", PType::U16, &[0x2c, 0x01])?;
@@ -75,7 +84,7 @@ fn has_its_range(ptype: PType) -> bool {
 }
 
 /// The ranges of types.
-pub(crate) fn print_ranges(rt: &impl Print) -> Result<(), Fail> {
+fn print_ranges(rt: &impl Print) -> Result<(), Fail> {
     for ptype in INTEGERS {
         println!(rt; "{ptype:?} has its range: {}", has_its_range(ptype))?;
     }
@@ -95,7 +104,7 @@ fn decimal_refusal(precision: u8, scale: i8, width: u8) -> Option<ColumnError> {
 }
 
 /// The widths of decimal types, and what they refuse.
-pub(crate) fn print_decimals(rt: &impl Print) -> Result<(), Fail> {
+fn print_decimals(rt: &impl Print) -> Result<(), Fail> {
     println!(rt; "decimal(4,2,16): {:?}", decimal_width(4, 2, 16))?;
     println!(rt; "decimal(77,0,32): {:?}", decimal_refusal(77, 0, 32))?;
     println!(rt; "decimal(3,0,1): {:?}", decimal_refusal(3, 0, 1))?;
@@ -109,7 +118,7 @@ fn print_nullable(rt: &impl Print, name: &str, dtype: &DType) -> Result<(), Fail
 }
 
 /// What a type keeps.
-pub(crate) fn print_types(rt: &impl Print) -> Result<(), Fail> {
+fn print_types(rt: &impl Print) -> Result<(), Fail> {
     let plain = DType::Primitive(PType::U32, Nullability::NonNullable);
     print_nullable(rt, "u32", &plain)?;
     println!(rt; "width of u32: {:?}", plain.share().width())?;
