@@ -1,7 +1,6 @@
 -- A validity that is a constant form, at the numbers of a sequence.
 use Rattle.std.proofs.Common.{◌≡◌, ℕ, true, false, List, ◌+◌, ◌≤◌, map, length, Some, refl, sym, ap, ◌∙◌}
 use Rattle.std.specs.Prelude.{All}
-use Rattle.vx_pieces.specs.Runs.{run_numbers}
 use Rattle.vx_types.specs.Nullability.{either_nullable}
 use Rattle.vx_types.specs.RowValue.{null}
 use Rattle.vx_types.specs.TypeTree.{TypeTree, also_nullable}
@@ -9,7 +8,7 @@ use Rattle.vx_types.specs.declared.nullability.Nullability.{Nullability}
 use Rattle.vx_model.specs.Column.{Column}
 use Rattle.vx_model.specs.Step.{IsStep, IsTake}
 use Rattle.vx_types.specs.declared.nullability.Nullability.TheVariants.{NonNullable, Nullable}
-use Rattle.vx_take.specs.Picks.{AreBelow, at, in_runs}
+use Rattle.vx_take.specs.Picks.{AreBelow, at, in_runs, run_places}
 use Rattle.vx_model.specs.Valid.{Valid, non_nullable, all_valid, all_invalid, by_column, cover_by, is_constant_form, nullability_by, present_bits, IsLeft}
 use Rattle.vx_model.proofs.Takes.{is_left-take-none, left_the_same}
 use Rattle.vx_model.proofs.Validities.{constant-by_column}
@@ -34,7 +33,7 @@ same_type t = by t.nullability refl
     by NonNullable e = ap (λ (m : Nullability). let u : TypeTree = record { kind = t.kind; nullability = m } in u) (ap (λ m. either_nullable m NonNullable) e ∙ sym e)
     by Nullable e = ap (λ (m : Nullability). let u : TypeTree = record { kind = t.kind; nullability = m } in u) (ap (λ m. either_nullable m NonNullable) e ∙ sym e)
 
-pub runs_step : (c : Column) (runs : List (ℕ × ℕ)) (a : Column) → All (λ run. run.0 + run.1 ≤ length c.rows) runs → IsTake c (map (λ x. Some x) (run_numbers runs)) NonNullable a → IsStep c (in_runs c.rows runs) c.dtype a
+pub runs_step : (c : Column) (runs : List (ℕ × ℕ)) (a : Column) → All (λ run. run.0 + run.1 ≤ length c.rows) runs → IsTake c (map (λ x. Some x) (run_places runs)) NonNullable a → IsStep c (in_runs c.rows runs) c.dtype a
 runs_step c runs a within take =
     record {
       rows = take.rows ∙ sym (in_runs-within null c.rows runs within);

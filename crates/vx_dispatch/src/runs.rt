@@ -1,9 +1,8 @@
 //! The rows at the numbers of a sequence whose pieces are runs.
 ghost use Rattle.std.specs.Prelude.{◌≡◌, ◌+◌, ◌≤◌, All, None, Some, length, map, IfOk, IfSome};
 ghost use Rattle.vx_types.specs.declared.nullability.Nullability.TheVariants.{NonNullable};
-ghost use Rattle.vx_take.specs.Picks.{in_runs};
+ghost use Rattle.vx_take.specs.Picks.{in_runs, run_places};
 ghost use Rattle.vx_pieces.specs.Indices.{index_fault, index_nullability, index_picks, index_value};
-ghost use Rattle.vx_pieces.specs.Runs.{run_numbers};
 ghost use Rattle.vx_model.specs.Step.{IsStep, IsTake};
 
 use crate::stored::take_record_runs;
@@ -39,7 +38,7 @@ pub(crate) fn take_by_runs(
 fn take_stored_runs(alloc: Global, array: &Array, runs: &Runs) -> Result<Option<Array>, NoMemory>
     requires { All (λ run. run.0 + run.1 ≤ length array.now.rows) runs.now }
     ensures { IfOk result (λ taken. IfSome taken
-        (IsTake array.now (map Some (run_numbers runs.now)) NonNullable)) }
+        (IsTake array.now (map Some (run_places runs.now)) NonNullable)) }
 {
     match array.records() {
         Some(records) => take_record_runs(alloc, records, runs),

@@ -2,10 +2,10 @@
 //! `vx_stored`.
 ghost use Rattle.std.specs.Prelude.{◌+◌, ◌≤◌, All, length, map, Some, IfOk, IfSome};
 ghost use Rattle.vx_types.specs.declared.nullability.Nullability.TheVariants.{NonNullable};
+ghost use Rattle.vx_take.specs.Picks.{run_places};
 ghost use Rattle.vx_model.specs.Records.{records_column};
 ghost use Rattle.vx_model.specs.Step.{IsTake};
 ghost use Rattle.vx_model.specs.Stored.{stored_column};
-ghost use Rattle.vx_pieces.specs.Runs.{run_numbers};
 ghost use Rattle.vx_column.specs.Stored.{parts_of};
 
 use crate::executing::ExecuteRows;
@@ -74,7 +74,7 @@ pub(crate) fn take_record_runs(
 ) -> Result<Option<Array>, NoMemory>
     requires { All (λ run. run.0 + run.1 ≤ length (records_column array.now).rows) runs.now }
     ensures { IfOk result (λ taken. IfSome taken (IsTake (records_column array.now)
-        (map Some (run_numbers runs.now)) NonNullable)) }
+        (map Some (run_places runs.now)) NonNullable)) }
 {
     let validity = array.validity();
     if !validity.is_constant_form() {

@@ -28,8 +28,7 @@ use Rattle.vx_model.proofs.ListRows.{elements-fixed}
 use Rattle.vx_lists.specs.Plans.{MakesFixed}
 use Rattle.vx_model.proofs.Items.{items_where_true-none, length-items_where_true}
 use Rattle.vx_model.proofs.Spans.{get_or-runs_from, length-runs_from}
-use Rattle.vx_take.specs.Picks.{AreBelow, at, in_runs, item_at}
-use Rattle.vx_lists.specs.Takes.{run_places}
+use Rattle.vx_take.specs.Picks.{AreBelow, at, in_runs, item_at, run_places}
 use Rattle.vx_lists.specs.Fixed.{FiltersFixed, TakesFixed, fixed_lists, fixed_run, repeat_bits, scaled_run}
 use Rattle.vx_lists.proofs.TakenLists.{length-places, same_places}
 use Rattle.vx_lists.proofs.Spans.{range_cut}

@@ -9,11 +9,11 @@ use Rattle.std.proofs.lemmas.List.Sums.{sum_by-cons, sum_by_push}
 use Rattle.vx_bits.specs.BitBuffer.{PlacedBits}
 use Rattle.vx_filter.proofs.Moves.{cut_picked}
 use Rattle.vx_filter.proofs.Picks.{same_items}
-use Rattle.vx_take.specs.Picks.{AreBelow, at, in_runs, item_at}
+use Rattle.vx_take.specs.Picks.{AreBelow, at, in_runs, item_at, run_places}
 use Rattle.vx_positions.specs.Offsets.{items_in, lists_at}
 use Rattle.vx_lists.specs.Lists.{AreOffsets, last_offset, row_count, span_at}
 use Rattle.vx_lists.specs.Sums.{concat_lists, offsets_of, sums_from}
-use Rattle.vx_lists.specs.Takes.{IsTake, TakesLists, picked_length, picked_run, run_places, shown_by, shown_picks}
+use Rattle.vx_lists.specs.Takes.{IsTake, TakesLists, picked_length, picked_run, shown_by, shown_picks}
 use Rattle.vx_lists.proofs.Joined.{cut_again, length_row, row_of, sums_more}
 use Rattle.vx_lists.proofs.Spans.{range_cut, spans_of_rows}
 

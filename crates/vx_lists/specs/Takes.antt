@@ -1,9 +1,9 @@
 -- What a take leaves of lists.
 use Rattle.std.specs.Prelude.{◌≡◌, ℕ, ◌+◌, ◌≤◌, Bool, List, [], ◌∷◌, length, map, slice_index, Option, None, Some, if◌then◌else◌}
-use Rattle.std.specs.List.{All, flat_map, range_with_len}
+use Rattle.std.specs.List.{All}
 use Rattle.vx_bits.specs.BitBuffer.{PlacedBits}
 use Rattle.vx_types.specs.RowValue.{RowValue}
-use Rattle.vx_take.specs.Picks.{BoundedPicks, at, in_runs}
+use Rattle.vx_take.specs.Picks.{BoundedPicks, at, in_runs, run_places}
 use Rattle.vx_positions.specs.Offsets.{lists_at}
 use Rattle.vx_lists.specs.Lists.{AreOffsets, last_offset, row_count}
 use Rattle.vx_lists.specs.Sums.{length_at, offsets_of}
@@ -34,10 +34,6 @@ picked_length offsets (Some i) = length_at offsets i
 abbrev pub picked_run : List ℕ → Option ℕ → ℕ × ℕ
 picked_run offsets None = (0, 0)
 picked_run offsets (Some i) = (slice_index offsets i, length_at offsets i)
-
--- the places in runs, each its start and its length, one run after another
-abbrev pub run_places : List (ℕ × ℕ) → List ℕ
-run_places runs = flat_map (λ run. range_with_len run.0 run.1) runs
 
 -- the picked lists, empty at a null, are what new offsets cut the elements of runs into
 abbrev pub TakesLists : List ℕ → List (Option ℕ) → List ℕ → List (ℕ × ℕ) → Type 0

@@ -3,8 +3,8 @@ ghost use Rattle.std.specs.Prelude.{◌≡◌, ◌+◌, ◌*◌, ◌^◌, ◌<�
 ghost use Rattle.std.specs.List.{All, sum_by};
 ghost use Rattle.vx_mask.specs.Mask.{mask_bits, partial_of, slices_fault};
 ghost use Rattle.vx_mask.specs.Positions.{run_positions, set_of};
+ghost use Rattle.vx_take.specs.Picks.{run_places};
 ghost use Rattle.vx_lists.specs.Fixed.{FiltersFixed, TakesFixed, fixed_run, repeat_bits, scaled_run};
-ghost use Rattle.vx_lists.specs.Takes.{run_places};
 
 use crate::element_mask::runs_of;
 use crate::take::{push_last, push_run};

@@ -3,9 +3,10 @@ ghost use Rattle.std.specs.Prelude.{◌≡◌, ℕ, ◌+◌, ◌^◌, ◌<◌, �
 ghost use Rattle.std.specs.List.{All, range_with_len, sum_by};
 ghost use Rattle.std.specs.Option.{option_copied};
 ghost use Rattle.vx_mask.specs.Mask.{mask_bits};
+ghost use Rattle.vx_take.specs.Picks.{run_places};
 ghost use Rattle.vx_lists.specs.Lists.{AreOffsets, last_offset, row_count};
 ghost use Rattle.vx_lists.specs.Sums.{offsets_of};
-ghost use Rattle.vx_lists.specs.Takes.{FitsOffsets, IsTake, TakesLists, picked_length, picked_run, run_places, shown_by, shown_picks};
+ghost use Rattle.vx_lists.specs.Takes.{FitsOffsets, IsTake, TakesLists, picked_length, picked_run, shown_by, shown_picks};
 
 use std::alloc::Global;
 use vx_bits::{BitBuffer, NoMemory};

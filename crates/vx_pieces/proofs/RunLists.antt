@@ -6,14 +6,14 @@ use Rattle.std.proofs.lemmas.Bool.Decides.{Decides-eqb, nat_tests}
 use Rattle.std.proofs.lemmas.List.{drop_more, get_or-replicate, length-replicate, map-append}
 use Rattle.std.proofs.lemmas.List.Elements.{filter_map-append}
 use Rattle.std.proofs.lemmas.List.Folds.{find-append}
-use Rattle.vx_take.specs.Picks.{at, in_runs, item_at}
+use Rattle.vx_take.specs.Picks.{at, in_runs, item_at, run_places}
 use Rattle.vx_types.specs.RowValue.{null}
 use Rattle.vx_model.specs.Column.{Column}
 use Rattle.vx_model.specs.Constant.{ConstantParts, constant_column}
 use Rattle.vx_model.specs.Numbers.{number_in}
 use Rattle.vx_pieces.specs.Indices.{by_pieces, index_picks}
 use Rattle.vx_pieces.specs.Pieces.{PiecesParts, expand, first_from, natural_of, naturals_of, piece_number, piece_numbers, pieces_fault, pieces_of}
-use Rattle.vx_pieces.specs.Runs.{is_one, run_of, runs_of, run_numbers}
+use Rattle.vx_pieces.specs.Runs.{is_one, run_of, runs_of}
 use Rattle.vx_pieces.specs.declared.piece.Piece.{Piece}
 use Rattle.vx_pieces.proofs.Naturals.{aligned, get_or-pieces_of, length-pieces_of, natural_of_row}
 use Rattle.vx_pieces.proofs.PieceLists.{front_more, none_of_two}
@@ -35,19 +35,19 @@ numbers_along p a (suc n) one =
 numbers_of_one : (p : Piece) → p.multiplier ≡ 1 → piece_numbers p ≡ range_with_len p.start p.length
 numbers_of_one p one = let e : p.start + 0 ≡ p.start = omega arith in numbers_along p 0 p.length one ∙ ap (λ a. range_with_len a p.length) e
 
-run_before : (p : Piece) (rest : List (ℕ × ℕ)) → p.multiplier ≡ 1 → run_numbers (cons_option (run_of p) rest) ≡ piece_numbers p ++ run_numbers rest
+run_before : (p : Piece) (rest : List (ℕ × ℕ)) → p.multiplier ≡ 1 → run_places (cons_option (run_of p) rest) ≡ piece_numbers p ++ run_places rest
 run_before p rest one = by (p.length == 0) refl
   where
-    by : (b : Bool) → (p.length == 0) ≡ b → run_numbers (cons_option (if b then None else Some (p.start, p.length)) rest) ≡ piece_numbers p ++ run_numbers rest
+    by : (b : Bool) → (p.length == 0) ≡ b → run_places (cons_option (if b then None else Some (p.start, p.length)) rest) ≡ piece_numbers p ++ run_places rest
     by true e =
         let empty : p.length ≡ 0 = (Decides-eqb p.length 0).0 e in
-        ap (λ n. map (piece_number p) (range_with_len 0 n) ++ run_numbers rest) (sym empty)
-    by false e = ap (λ l. l ++ run_numbers rest) (sym (numbers_of_one p one))
+        ap (λ n. map (piece_number p) (range_with_len 0 n) ++ run_places rest) (sym empty)
+    by false e = ap (λ l. l ++ run_places rest) (sym (numbers_of_one p one))
 
-pub run_numbers-runs_of : (ps : List Piece) → All (λ p. p.multiplier ≡ 1) ps → run_numbers (runs_of ps) ≡ flat_map piece_numbers ps
-run_numbers-runs_of [] ones = refl
-run_numbers-runs_of (p ∷ ps) ones =
-    run_before p (runs_of ps) (ones 0 p (omega arith)) ∙ ap (λ l. piece_numbers p ++ l) (run_numbers-runs_of ps (λ k d h. ones (suc k) d (omega arith)))
+pub run_places-runs_of : (ps : List Piece) → All (λ p. p.multiplier ≡ 1) ps → run_places (runs_of ps) ≡ flat_map piece_numbers ps
+run_places-runs_of [] ones = refl
+run_places-runs_of (p ∷ ps) ones =
+    run_before p (runs_of ps) (ones 0 p (omega arith)) ∙ ap (λ l. piece_numbers p ++ l) (run_places-runs_of ps (λ k d h. ones (suc k) d (omega arith)))
 
 -- where each number of a piece is below n, its run ends at or before it
 run_within : (n : ℕ) (p : Piece) (rest : List (ℕ × ℕ)) → p.multiplier ≡ 1 → first_from n (piece_numbers p) ≡ None → All (λ run. run.0 + run.1 ≤ n) rest → All (λ run. run.0 + run.1 ≤ n) (cons_option (run_of p) rest)
@@ -83,15 +83,15 @@ module _ {X : Type 0} (missing : X) (items : List X) where
       let e : s + 1 + n ≡ s + suc n = omega arith in
       ap (take (suc n)) (drop_more items s missing (omega arith)) ∙ ap (λ l. get_or items s missing ∷ l) (in_run (s + 1) n (omega arith))
 
-  pub in_runs-within : (runs : List (ℕ × ℕ)) → All (λ run. run.0 + run.1 ≤ length items) runs → in_runs items runs ≡ at missing items (map (λ x. Some x) (run_numbers runs))
+  pub in_runs-within : (runs : List (ℕ × ℕ)) → All (λ run. run.0 + run.1 ≤ length items) runs → in_runs items runs ≡ at missing items (map (λ x. Some x) (run_places runs))
   in_runs-within [] within = refl
   in_runs-within (run ∷ runs) within =
       ap₂ ◌++◌ (in_run run.0 run.1 (within 0 run (omega arith))) (in_runs-within runs (λ k d h. within (suc k) d (omega arith)))
-      ∙ sym (ap (map (item_at missing items)) (map-append (λ x. Some x) (range_with_len run.0 run.1) (run_numbers runs))
-      ∙ map-append (item_at missing items) (map (λ x. Some x) (range_with_len run.0 run.1)) (map (λ x. Some x) (run_numbers runs)))
+      ∙ sym (ap (map (item_at missing items)) (map-append (λ x. Some x) (range_with_len run.0 run.1) (run_places runs))
+      ∙ map-append (item_at missing items) (map (λ x. Some x) (range_with_len run.0 run.1)) (map (λ x. Some x) (run_places runs)))
 
   -- where runs have the numbers of a sequence, the items in them are the items at its picks
-  pub in_runs-picks : (p : PiecesParts) (runs : List (ℕ × ℕ)) → run_numbers runs ≡ expand p → All (λ run. run.0 + run.1 ≤ length items) runs → in_runs items runs ≡ at missing items (index_picks (by_pieces p))
+  pub in_runs-picks : (p : PiecesParts) (runs : List (ℕ × ℕ)) → run_places runs ≡ expand p → All (λ run. run.0 + run.1 ≤ length items) runs → in_runs items runs ≡ at missing items (index_picks (by_pieces p))
   in_runs-picks p runs numbers within = in_runs-within runs within ∙ ap (λ l. at missing items (map (λ x. Some x) l)) numbers
 
 -- ---- constants

@@ -3,18 +3,17 @@ use Rattle.std.proofs.Common.{◌≡◌, ℕ, zero, suc, ◌<◌, List, [], ◌�
 use Rattle.std.specs.Prelude.{All, IfSome}
 use Rattle.std.specs.List.{range_with_len}
 use Rattle.std.proofs.lemmas.List.{flat_map_more, map-append, take_more}
-use Rattle.vx_take.specs.Picks.{AreBelow}
-use Rattle.vx_pieces.specs.Runs.{run_numbers}
+use Rattle.vx_take.specs.Picks.{AreBelow, run_places}
 
 -- the numbers in runs within n items are below n
-pub below_runs : (n : ℕ) (runs : List (ℕ × ℕ)) → All (λ run. run.0 + run.1 ≤ n) runs → AreBelow (map (λ x. Some x) (run_numbers runs)) n
+pub below_runs : (n : ℕ) (runs : List (ℕ × ℕ)) → All (λ run. run.0 + run.1 ≤ n) runs → AreBelow (map (λ x. Some x) (run_places runs)) n
 below_runs n [] within = none
   where
-    none : AreBelow (map (λ x. Some x) (run_numbers [])) n
+    none : AreBelow (map (λ x. Some x) (run_places [])) n
     none k d h = absurd (omega arith)
 below_runs n (run ∷ runs) within =
-    rw (map-append (λ (x : ℕ). Some x) (range_with_len run.0 run.1) (run_numbers runs))
-    (both (map (λ x. Some x) (range_with_len run.0 run.1)) (map (λ x. Some x) (run_numbers runs)) (in_run run.0 run.1 (within 0 run (omega arith))) (below_runs n runs (λ k d h. within (suc k) d (omega arith))))
+    rw (map-append (λ (x : ℕ). Some x) (range_with_len run.0 run.1) (run_places runs))
+    (both (map (λ x. Some x) (range_with_len run.0 run.1)) (map (λ x. Some x) (run_places runs)) (in_run run.0 run.1 (within 0 run (omega arith))) (below_runs n runs (λ k d h. within (suc k) d (omega arith))))
   where
     front : (p : Option ℕ) (ps : List (Option ℕ)) → IfSome p (λ k. k < n) → AreBelow ps n → AreBelow (p ∷ ps) n
     front p ps h k zero d l = h
@@ -36,15 +35,15 @@ range-more start n = rw add-one (by start n)
     by start zero = ap (λ k. k ∷ []) (let e : start ≡ start + 0 = omega arith in e)
     by start (suc n) = ap (λ l. start ∷ l) (by (start + 1) n ∙ ap (λ k. range_with_len (start + 1) n ++ k ∷ []) (let e : start + 1 + n ≡ start + suc n = omega arith in e))
 
-pub run_numbers-more : (runs : List (ℕ × ℕ)) (i : ℕ) (d : ℕ × ℕ) → i < length runs → run_numbers (take (i + 1) runs) ≡ run_numbers (take i runs) ++ range_with_len (get_or runs i d).0 (get_or runs i d).1
-run_numbers-more runs i d h =
-    ap run_numbers (take_more runs i d h) ∙ sym (flat_map_more (λ (run : ℕ × ℕ). range_with_len run.0 run.1) [] (take i runs) (get_or runs i d))
+pub run_places-more : (runs : List (ℕ × ℕ)) (i : ℕ) (d : ℕ × ℕ) → i < length runs → run_places (take (i + 1) runs) ≡ run_places (take i runs) ++ range_with_len (get_or runs i d).0 (get_or runs i d).1
+run_places-more runs i d h =
+    ap run_places (take_more runs i d h) ∙ sym (flat_map_more (λ (run : ℕ × ℕ). range_with_len run.0 run.1) [] (take i runs) (get_or runs i d))
 
-pub ruleset run_places = (range-more, run_numbers-more)
+pub ruleset places_in_runs = (range-more, run_places-more)
 
 -- the numbers in runs are positions
-pub places_below : (n : ℕ) (runs : List (ℕ × ℕ)) → All (λ run. run.0 + run.1 ≤ n) runs → All (λ p. p < n) (run_numbers runs)
-places_below n runs within = each (run_numbers runs) (below_runs n runs within)
+pub places_below : (n : ℕ) (runs : List (ℕ × ℕ)) → All (λ run. run.0 + run.1 ≤ n) runs → All (λ p. p < n) (run_places runs)
+places_below n runs within = each (run_places runs) (below_runs n runs within)
   where
     each : (xs : List ℕ) → AreBelow (map (λ x. Some x) xs) n → All (λ p. p < n) xs
     each [] h k d l = absurd (omega arith)

@@ -1,6 +1,5 @@
 -- Piecewise sequences whose numbers follow each other without a gap in each piece.
-use Rattle.std.specs.Prelude.{ℕ, ◌==◌, ◌&&◌, List, flat_map, filter_map, Bool, false, Option, Some, None, if◌then◌else◌}
-use Rattle.std.specs.List.{range_with_len}
+use Rattle.std.specs.Prelude.{ℕ, ◌==◌, ◌&&◌, List, filter_map, Bool, false, Option, Some, None, if◌then◌else◌}
 use Rattle.vx_types.specs.RowValue.{RowValue}
 use Rattle.vx_types.specs.TypeTree.{TypeTree}
 use Rattle.vx_model.specs.Numbers.{number_in}
@@ -33,7 +32,3 @@ contiguous_runs p = if is_constant_one p then Some (runs_of (pieces_of p)) else 
 -- the one fault of runs
 abbrev pub runs_fault : PiecesParts → Option PiecesError
 runs_fault p = if is_constant_one p then sound_fault p else None
-
--- the numbers in runs, one run after another
-abbrev pub run_numbers : List (ℕ × ℕ) → List ℕ
-run_numbers runs = flat_map (λ run. range_with_len run.0 run.1) runs

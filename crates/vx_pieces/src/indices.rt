@@ -2,11 +2,12 @@
 ghost use Rattle.std.specs.Prelude.{◌≡◌, ◌+◌, ◌≤◌, ℕ, All, None, Ok, Some, length, map, true, IfOk, IfSome};
 ghost use Rattle.std.specs.Option.{option_map};
 ghost use Rattle.vx_types.specs.declared.nullability.Nullability.TheVariants.{NonNullable};
+ghost use Rattle.vx_take.specs.Picks.{run_places};
 ghost use Rattle.vx_positions.specs.Positions.{AllThere, positions_of};
 ghost use Rattle.vx_model.specs.Numbers.{numbers_of};
 ghost use Rattle.vx_pieces.specs.Indices.{column_fault, index_fault, index_len, index_nullability, index_picks, index_runs, index_value, sequence_fault};
 ghost use Rattle.vx_pieces.specs.Pieces.{expand, first_from, is_sound};
-ghost use Rattle.vx_pieces.specs.Runs.{contiguous_runs, run_numbers};
+ghost use Rattle.vx_pieces.specs.Runs.{contiguous_runs};
 
 use crate::error::PiecesError;
 use crate::fault::IndexFault;
@@ -92,7 +93,7 @@ impl Indices {
         requires { index_fault (index_value self.now) len ≡ None }
         ensures runs { IfOk result (λ runs. runs ≡ index_runs (index_value self.now)) }
         ensures picks { IfOk result (λ runs. IfSome runs
-            (λ runs. map Some (run_numbers runs) ≡ index_picks (index_value self.now))) }
+            (λ runs. map Some (run_places runs) ≡ index_picks (index_value self.now))) }
         ensures within { IfOk result
             (λ runs. IfSome runs (λ runs. All (λ run. run.0 + run.1 ≤ len) runs)) }
         ensures there { IfOk result
@@ -111,7 +112,7 @@ fn sequence_runs(alloc: Global, pieces: &PiecewiseSequence) -> Result<Option<Run
     requires { is_sound pieces.now ≡ true }
     ensures runs { IfOk result (λ runs. runs ≡ contiguous_runs pieces.now) }
     ensures numbers { IfOk result
-        (λ runs. IfSome runs (λ runs. run_numbers runs ≡ expand pieces.now)) }
+        (λ runs. IfSome runs (λ runs. run_places runs ≡ expand pieces.now)) }
     ensures within { IfOk result (λ runs. IfSome runs (λ runs. (n : ℕ)
         → first_from n (expand pieces.now) ≡ None → All (λ run. run.0 + run.1 ≤ n) runs)) }
     ensures none { contiguous_runs pieces.now ≡ None → result ≡ Ok None }

@@ -1,7 +1,7 @@
 //! The positions in runs.
 ghost use Rattle.std.specs.Prelude.{◌≡◌, ◌+◌, ◌-◌, ◌++◌, ◌<◌, ◌≤◌, ◌^◌, All, IfOk, OnOk, Some, map, min, sum_by};
 ghost use Rattle.std.specs.List.{range_with_len};
-ghost use Rattle.vx_pieces.specs.Runs.{run_numbers};
+ghost use Rattle.vx_take.specs.Picks.{run_places};
 
 use std::alloc::Global;
 use vx_bits::NoMemory;
@@ -21,7 +21,7 @@ pub fn total_len(runs: &[(usize, usize)]) -> usize
 }
 
 // Appends the positions in a run. `NoMemory` alone.
-#[tactic(auto, using(crate::proofs::RunPlaces::run_places))]
+#[tactic(auto, using(crate::proofs::RunPlaces::places_in_runs))]
 fn push_places(places: &mut Vec<usize>, start: usize, len: usize) -> Result<(), NoMemory>
     requires { start + len < 2 ^ 64 }
     ensures { OnOk result (places.new.items ≡ places.old.items ++ range_with_len start len) }
@@ -33,10 +33,10 @@ fn push_places(places: &mut Vec<usize>, start: usize, len: usize) -> Result<(), 
 }
 
 // The positions in the runs, one run after another, of `len` rows. `NoMemory` alone.
-#[tactic(auto, using(crate::proofs::RunPlaces::run_places))]
+#[tactic(auto, using(crate::proofs::RunPlaces::places_in_runs))]
 fn places_in(alloc: Global, runs: &[(usize, usize)], len: usize) -> Result<Vec<usize>, NoMemory>
     requires { All (λ run. run.0 + run.1 ≤ len) runs.now }
-    ensures { IfOk result (λ places. places.items ≡ run_numbers runs.now) }
+    ensures { IfOk result (λ places. places.items ≡ run_places runs.now) }
 {
     let _ = len;
     let mut places = Vec::with_capacity(alloc, total_len(runs))?;
@@ -51,7 +51,7 @@ fn places_in(alloc: Global, runs: &[(usize, usize)], len: usize) -> Result<Vec<u
 pub fn run_picks(alloc: Global, runs: &Runs, len: usize) -> Result<Picks, NoMemory>
     requires { All (λ run. run.0 + run.1 ≤ len) runs.now }
     ensures { IfOk result
-        (λ p. p ≡ record { picks = map Some (run_numbers runs.now); bound = len }) }
+        (λ p. p ≡ record { picks = map Some (run_places runs.now); bound = len }) }
 {
     let places = places_in(alloc, runs.as_slice(), len)?;
     Ok(Picks::from_vec(places, len))

@@ -1,8 +1,9 @@
 //! Sequences whose pieces are runs.
 ghost use Rattle.std.specs.Prelude.{◌≡◌, ℕ, ◌+◌, ◌≤◌, [], ◌∷◌, ◌++◌, All, IfOk, IfSome, None, Ok, OnOk, Some, true, false};
 ghost use Rattle.vx_bits.specs.Results.{FailsBy};
+ghost use Rattle.vx_take.specs.Picks.{run_places};
 ghost use Rattle.vx_pieces.specs.Pieces.{expand, first_from, is_unsigned_type, pieces_of};
-ghost use Rattle.vx_pieces.specs.Runs.{contiguous_runs, is_constant_one, is_one, run_numbers, runs_fault, runs_of};
+ghost use Rattle.vx_pieces.specs.Runs.{contiguous_runs, is_constant_one, is_one, runs_fault, runs_of};
 
 use crate::error::PiecesError;
 use crate::natural::natural;
@@ -31,7 +32,7 @@ impl PiecewiseSequence {
     pub fn contiguous_runs(&self, alloc: Global) -> Result<Option<Runs>, PiecesError>
         ensures runs { IfOk result (λ runs. runs ≡ contiguous_runs self.now) }
         ensures numbers { IfOk result
-            (λ runs. IfSome runs (λ runs. run_numbers runs ≡ expand self.now)) }
+            (λ runs. IfSome runs (λ runs. run_places runs ≡ expand self.now)) }
         ensures within { IfOk result (λ runs. IfSome runs (λ runs. (n : ℕ)
             → first_from n (expand self.now) ≡ None → All (λ run. run.0 + run.1 ≤ n) runs)) }
         ensures none { is_constant_one self.now ≡ false → result ≡ Ok None }
@@ -50,7 +51,7 @@ impl PiecewiseSequence {
     fn runs(&self, alloc: Global) -> Result<Runs, NoMemory>
         requires { All (λ p. p.multiplier ≡ 1) (pieces_of self.now) }
         ensures runs { IfOk result (λ runs. runs ≡ runs_of (pieces_of self.now)) }
-        ensures numbers { IfOk result (λ runs. run_numbers runs ≡ expand self.now) }
+        ensures numbers { IfOk result (λ runs. run_places runs ≡ expand self.now) }
         ensures within { IfOk result (λ runs. (n : ℕ) → first_from n (expand self.now) ≡ None
             → All (λ run. run.0 + run.1 ≤ n) runs) }
     {

@@ -1,6 +1,6 @@
 -- Lists of optional positions, and lists at them.
 use Rattle.std.specs.Prelude.{◌≢◌, ℕ, ◌-◌, ◌^◌, ◌<◌, ◌==◌, List, length, map, take, drop, Option, None, Some, IfSome, slice_index, slice_index_or, if◌then◌else◌}
-use Rattle.std.specs.List.{All, flat_map}
+use Rattle.std.specs.List.{All, flat_map, range_with_len}
 
 -- what a clause sees of a `Picks`: its picks, and what each position is below
 pub record BoundedPicks : Type 0 where
@@ -39,6 +39,10 @@ IsPlace place bound = place ≢ null_place → place < bound
 -- each place does
 pub record ArePlaces (places : List ℕ) (bound : ℕ) : Type 0 where
   pub each : (k : ℕ) → k < length places → IsPlace (slice_index places k) bound
+
+-- the places in runs, each its start and its length, one run after another
+abbrev pub run_places : List (ℕ × ℕ) → List ℕ
+run_places runs = flat_map (λ run. range_with_len run.0 run.1) runs
 
 -- the items in runs, each its start and its length, one run after another
 abbrev pub in_runs : {X : Type 0} → List X → List (ℕ × ℕ) → List X

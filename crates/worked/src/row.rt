@@ -7,24 +7,24 @@ use vx_bits::Buffer;
 
 /// The calls that fail, by their numbers from 0.
 #[derive(Drop)]
-pub struct Failing {
+pub(crate) struct Failing {
     /// The reads.
-    pub reads: Buffer<usize>,
+    pub(crate) reads: Buffer<usize>,
     /// The writes and finishes.
-    pub writes: Buffer<usize>,
+    pub(crate) writes: Buffer<usize>,
 }
 
 /// A run of the program: what it is given, and what of it fails.
 #[derive(Drop)]
-pub struct Row {
+pub(crate) struct Row {
     /// The program's words.
-    pub words: Vec<String>,
+    pub(crate) words: Vec<String>,
     /// How many bytes a read or a write takes at most, one at least.
-    pub piece: usize,
+    pub(crate) piece: usize,
     /// The calls that fail.
-    pub failing: Failing,
+    pub(crate) failing: Failing,
     /// The document.
-    pub document: String,
+    pub(crate) document: String,
     ghost some: { 0 < piece },
 }
 
@@ -70,7 +70,7 @@ fn failing_of(alloc: Global, reads: &str, writes: &str) -> Result<Failing, Fail>
 }
 
 /// The row that a line spells.
-pub fn row_of(alloc: Global, line: &str) -> Result<Row, Fail> {
+pub(crate) fn row_of(alloc: Global, line: &str) -> Result<Row, Fail> {
     let (words, line) = field_of(line)?;
     let (piece, line) = field_of(line)?;
     let (reads, line) = field_of(line)?;

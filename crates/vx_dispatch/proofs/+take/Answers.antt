@@ -5,7 +5,7 @@ use Rattle.vx_types.specs.Nullability.{either_nullable}
 use Rattle.std.specs.List.{items_where_true}
 use Rattle.vx_types.specs.RowValue.{null}
 use Rattle.vx_types.specs.TypeTree.{TypeTree, also_nullable}
-use Rattle.vx_take.specs.Picks.{at, AreBelow}
+use Rattle.vx_take.specs.Picks.{at, AreBelow, run_places}
 use Rattle.vx_model.specs.Valid.{is_fitting, nullability_by, present_bits, Valid, non_nullable, all_valid, by_column, is_yes, is_non_null_bool}
 use Rattle.vx_model.specs.Bool.{bool_column}
 use Rattle.vx_model.proofs.Takes.{is_left-take-none, left_by_bits, left_the_same, all_there, yes-bool}
@@ -39,7 +39,6 @@ use Rattle.vx_model.proofs.ListRows.{fit-list, fit-listview, rows-list, rows-lis
 use Rattle.std.proofs.Common.{List, Option}
 use Rattle.vx_take.specs.Picks.{BoundedPicks, in_runs}
 use Rattle.vx_positions.specs.Positions.{AllThere}
-use Rattle.vx_pieces.specs.Runs.{run_numbers}
 use Rattle.vx_pieces.proofs.PieceLists.{all_there-numbers}
 use Rattle.vx_dispatch.proofs.RunTakes.{runs_step}
 use Rattle.vx_dispatch.proofs.ListSteps.{fits_take, left_taken, take_kept_step, take_step}
@@ -256,7 +255,7 @@ pub runs::take_runs-take_picks-requires : goal.runs::take_runs-take_picks-requir
 runs::take_runs-take_picks-requires t c =
     let made = c.in_ok-picks-in-None.ensures in (
       omega arith,
-      (ap (λ (p : BoundedPicks). p.bound) made ∙ c.len.ensures, λ _. subst (λ (ps : List (Option ℕ)). AllThere ps) (sym (ap (λ (p : BoundedPicks). p.picks) made)) (all_there-numbers (run_numbers c.args.runs))),
+      (ap (λ (p : BoundedPicks). p.bound) made ∙ c.len.ensures, λ _. subst (λ (ps : List (Option ℕ)). AllThere ps) (sym (ap (λ (p : BoundedPicks). p.picks) made)) (all_there-numbers (run_places c.args.runs))),
     )
 
 pub runs::take_runs-returns-in-Some : goal.runs::take_runs-returns-in-Some

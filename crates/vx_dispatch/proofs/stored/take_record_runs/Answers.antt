@@ -3,14 +3,13 @@ use Rattle.std.proofs.Common.{◌≡◌, ◌+◌, ◌≤◌, length, map, Some, 
 use Rattle.std.specs.Prelude.{All}
 use Rattle.vx_types.specs.Nullability.{either_nullable}
 use Rattle.vx_types.specs.declared.nullability.Nullability.TheVariants.{NonNullable}
-use Rattle.vx_take.specs.Picks.{at, in_runs}
+use Rattle.vx_take.specs.Picks.{at, in_runs, run_places}
 use Rattle.vx_model.specs.Records.{records_column, records_with, stored_records}
 use Rattle.vx_model.specs.Valid.{cover_by, is_constant_form, nullability_by, present_bits, IsLeft}
 use Rattle.vx_model.proofs.Layouts.{items-records, length-records}
 use Rattle.vx_model.proofs.Takes.{is_take-records}
 use Rattle.vx_column.specs.Validity.{valid_of}
 use Rattle.vx_stored.specs.Records.{zero_record}
-use Rattle.vx_pieces.specs.Runs.{run_numbers}
 use Rattle.vx_pieces.proofs.RunLists.{in_runs-within}
 use Rattle.vx_pieces.proofs.RunPlaces.{below_runs}
 use Rattle.vx_dispatch.proofs.RunTakes.{left-constant}
@@ -28,9 +27,9 @@ returns c =
     let sound = c.validity-validity.ensures.valid in
     let within : All (λ run. run.0 + run.1 ≤ length p.records) runs = rw (← length-records p sound) c.requires in
     let constant : is_constant_form (cover_by p.valid) ≡ true = search rules in
-    let left : IsLeft p.valid (either_nullable (nullability_by p.valid) NonNullable) (at false (present_bits p.valid (length (stored_records p).items)) (map (λ x. Some x) (run_numbers runs))) p.valid =
-    rw (items-records p) (left-constant p.valid (length p.records) (run_numbers runs) constant (below_runs (length p.records) runs within)) in
+    let left : IsLeft p.valid (either_nullable (nullability_by p.valid) NonNullable) (at false (present_bits p.valid (length (stored_records p).items)) (map (λ x. Some x) (run_places runs))) p.valid =
+    rw (items-records p) (left-constant p.valid (length p.records) (run_places runs) constant (below_runs (length p.records) runs within)) in
     let records = ap (in_runs p.records) c.as_slice.ensures ∙ in_runs-within missing p.records runs within in
     let same = ap valid_of c.share.ensures ∙ c.validity-validity.ensures.value in
     rw (c.into_array.ensures ∙ ap records_column (c.in_ok-taken.ensures ∙ ap₂ (records_with p) records same))
-    (is_take-records p.valid (map (λ x. Some x) (run_numbers runs)) (either_nullable (nullability_by p.valid) NonNullable) p missing sound left)
+    (is_take-records p.valid (map (λ x. Some x) (run_places runs)) (either_nullable (nullability_by p.valid) NonNullable) p missing sound left)

@@ -2,8 +2,8 @@ use Rattle.std.proofs.Common.{◌≡◌, ◌+◌, ◌*◌, ◌≤◌, ◌++◌, 
 use Rattle.std.specs.List.{All}
 use Rattle.std.specs.Prelude.{vec_len}
 use Rattle.std.specs.Vec.{vec_capacity}
+use Rattle.vx_take.specs.Picks.{run_places}
 use Rattle.vx_lists.specs.Fixed.{fixed_run}
-use Rattle.vx_lists.specs.Takes.{run_places}
 use Rattle.vx_lists.proofs.fixed.fixed_runs.Given as goal
 
 abbrev pub invariant-loop-k : goal.invariant-loop-k
