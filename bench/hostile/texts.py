@@ -4,7 +4,7 @@ from documents import MOST_ROWS, Document
 from lists import constant, ramp
 
 LONG = 1_000_000
-WANTING = {'status': 6, 'seconds': 4, 'mib': 3072, 'printed': 0}
+WANTING = {'status': 6, 'seconds': 7, 'mib': 3072, 'printed': 0}
 
 
 def of_one(values):
