@@ -1,6 +1,6 @@
 """What the program answers: its words, the text that it prints, its statuses and its trace.
 
-Written from docs/PROGRAM.md and docs/DEFINITIONS.md, "The document and the program".
+Written from docs/PROGRAM.md and docs/DEFINITIONS.md, from "The document" on.
 """
 import re
 from typing import NamedTuple
