@@ -1,13 +1,18 @@
 //! Rows with their answers, as they are read.
 
 use crate::family::Family;
-use crate::running::given_by;
 use std::alloc::Global;
 use std::test::Fail;
 
+/// What is asked by rows.
+pub trait Ask {
+    /// The lines that tell what a row gives.
+    fn given_by(alloc: Global, row: &str) -> Result<String, Fail>;
+}
+
 /// What was read and isn't judged yet.
 #[derive(Drop)]
-pub(crate) struct Reading {
+pub struct Reading {
     /// The row that was read last, if any.
     row: Option<String>,
     /// The lines below it.
@@ -18,7 +23,7 @@ pub(crate) struct Reading {
 
 impl Reading {
     /// Nothing read.
-    pub(crate) fn new(alloc: Global) -> Reading {
+    pub fn new(alloc: Global) -> Reading {
         Reading {
             row: None,
             told: String::new(alloc),
@@ -27,7 +32,7 @@ impl Reading {
     }
 
     /// Takes a line: one of an answer, a heading or a row.
-    pub(crate) fn take_line(
+    pub fn take_line<A: Ask>(
         &mut self,
         rt: &impl Print,
         alloc: Global,
@@ -36,7 +41,7 @@ impl Reading {
         if line.as_str().starts_with('=') {
             return self.take_told(line.as_str());
         }
-        self.judge_row(rt, alloc)?;
+        self.judge_row::<A>(rt, alloc)?;
         if line.as_str().starts_with('#') {
             return self.take_heading(rt, line.as_str());
         }
@@ -45,8 +50,8 @@ impl Reading {
     }
 
     /// Judges the last row, and ends the last family.
-    pub(crate) fn end(&mut self, rt: &impl Print, alloc: Global) -> Result<(), Fail> {
-        self.judge_row(rt, alloc)?;
+    pub fn end<A: Ask>(&mut self, rt: &impl Print, alloc: Global) -> Result<(), Fail> {
+        self.judge_row::<A>(rt, alloc)?;
         self.end_family(rt)
     }
 
@@ -74,11 +79,11 @@ impl Reading {
     }
 
     /// Judges the last row, if any.
-    fn judge_row(&mut self, rt: &impl Print, alloc: Global) -> Result<(), Fail> {
+    fn judge_row<A: Ask>(&mut self, rt: &impl Print, alloc: Global) -> Result<(), Fail> {
         let Some(row) = self.row.take() else {
             return Ok(());
         };
-        let given = given_by(alloc, row.as_str())?;
+        let given = A::given_by(alloc, row.as_str())?;
         self.count_row(rt, row.as_str(), given.as_str())?;
         self.told.clear();
         Ok(())
