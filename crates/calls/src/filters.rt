@@ -1,9 +1,8 @@
 //! Filters: through the traits of layouts, and by functions.
 
-use crate::arguments::{mask_at, view_of};
+use crate::arguments::view_of;
 use crate::lines::Answer;
 use callers::{check_mask, some_of};
-use serde_json::Value;
 use std::alloc::Global;
 use std::test::Fail;
 use vx_column::vtables::{Bool, Extension, List, Map, VarBin};
@@ -28,8 +27,9 @@ fn executed<V: FilterKernel>(alloc: Global, column: &Array, mask: &Mask) -> Resu
     Ok(V::filter(alloc, view, mask)?)
 }
 
-/// A filter while columns are put together, or while they are executed.
-fn filtered(
+/// A filter through the trait and the layout that a row names: while columns are put together, or
+/// while they are executed.
+pub(crate) fn filtered_as(
     alloc: Global,
     column: &Array,
     mask: &Mask,
@@ -44,16 +44,6 @@ fn filtered(
         ("FilterKernel", "Map") => executed::<Map>(alloc, column, mask),
         _ => Err("no such filter".into()),
     }
-}
-
-/// A filter through the trait and the layout that a row names.
-pub(crate) fn filtered_as(
-    alloc: Global,
-    row: &Value,
-    column: &Array,
-    call: (&str, &str),
-) -> Result<Answer, Fail> {
-    filtered(alloc, column, &mask_at(alloc, row)?, call)
 }
 
 fn kept_texts(alloc: Global, array: &VarBinViewArray, mask: &Mask) -> Result<Array, Fail> {
@@ -82,23 +72,18 @@ fn kept_unions(alloc: Global, array: &UnionArray, mask: &Mask) -> Result<Array, 
 }
 
 /// A filter by the function that a row names, of a column of its layout.
-fn kept(alloc: Global, column: &Array, mask: &Mask, call: &str) -> Result<Array, Fail> {
+pub(crate) fn filtered_by(
+    alloc: Global,
+    column: &Array,
+    mask: &Mask,
+    call: &str,
+) -> Result<Array, Fail> {
     match (call, column.layout()) {
         ("filter_varbinview", Layout::VarBinView(array)) => kept_texts(alloc, array, mask),
         ("filter_listview", Layout::ListView(array)) => kept_views(alloc, array, mask),
         ("filter_fixed_size_list", Layout::FixedSizeList(array)) => kept_fixed(alloc, array, mask),
         ("filter_struct", Layout::Struct(array)) => kept_structs(alloc, array, mask),
         ("filter_union", Layout::Union(array)) => kept_unions(alloc, array, mask),
-        _ => Err("no such call".into()),
+        _ => Err("no such filter".into()),
     }
-}
-
-/// The same by the mask that the row states.
-pub(crate) fn filtered_by(
-    alloc: Global,
-    row: &Value,
-    column: &Array,
-    call: &str,
-) -> Result<Array, Fail> {
-    kept(alloc, column, &mask_at(alloc, row)?, call)
 }

@@ -1,6 +1,6 @@
 //! What a call gives, as the lines that tell it.
 
-use crate::parts::push_parts;
+use crate::parts::{push_parts, push_texts};
 use crate::slices::cut;
 use std::alloc::Global;
 use std::test::Fail;
@@ -30,7 +30,7 @@ fn push_last(lines: &mut String, alloc: Global, column: &Array) -> Result<(), Fa
     push_column(
         lines,
         alloc,
-        &cut(alloc, column, len.saturating_sub(1), len)?,
+        &cut(alloc, column, (len.saturating_sub(1), len))?,
     )
 }
 
@@ -43,6 +43,7 @@ fn push_shown(lines: &mut String, alloc: Global, column: &Array, show: &str) -> 
             Ok(writeln!(lines, "= {len} rows of {layout:?}")?)
         }
         "last" => push_last(lines, alloc, column),
+        "bytes" => push_texts(lines, alloc, column),
         "parts" => push_parts(lines, alloc, column),
         _ => push_column(lines, alloc, column),
     }

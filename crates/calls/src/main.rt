@@ -11,9 +11,11 @@ mod called;
 mod constructors;
 mod filters;
 mod lines;
+mod offsets;
 mod parts;
 mod slices;
 mod takes;
+mod texts;
 mod whole;
 
 fn main(rt: HostRuntime) -> Result<(), Fail> {

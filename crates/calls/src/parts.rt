@@ -65,6 +65,14 @@ fn push_union(lines: &mut String, alloc: Global, array: &UnionArray) -> Result<(
     push_each(lines, alloc, array.children())
 }
 
+/// Appends how many bytes texts by offsets are stored in, and the lines of the column.
+pub(crate) fn push_texts(lines: &mut String, alloc: Global, column: &Array) -> Result<(), Fail> {
+    if let Layout::VarBin(texts) = column.layout() {
+        writeln!(lines, "=: {} bytes", texts.bytes().len())?;
+    }
+    push_column(lines, alloc, column)
+}
+
 /// Appends the lines of a column, and of its parts.
 pub(crate) fn push_parts(lines: &mut String, alloc: Global, column: &Array) -> Result<(), Fail> {
     push_column(lines, alloc, column)?;

@@ -1,9 +1,8 @@
 //! Slices: through the traits of layouts, and of any layout.
 
-use crate::arguments::{range_at, view_of};
+use crate::arguments::view_of;
 use crate::lines::Answer;
 use callers::check_slice;
-use serde_json::Value;
 use std::alloc::Global;
 use std::test::Fail;
 use vx_column::Array;
@@ -13,7 +12,7 @@ use vx_column::vtables::{
 use vx_layouts::{SliceKernel, SliceReduce, VarBinSlice, slice};
 
 /// Where a slice begins and ends.
-type Range = (usize, usize);
+pub(crate) type Range = (usize, usize);
 
 fn reduced<V: SliceReduce>(alloc: Global, column: &Array, range: Range) -> Result<Answer, Fail> {
     let (view, (start, end)) = (view_of::<V>(column)?, range);
@@ -36,11 +35,10 @@ fn texts<V: VarBinSlice>(alloc: Global, column: &Array, range: Range) -> Result<
 /// A slice through the trait and the layout that a row names.
 pub(crate) fn sliced_as(
     alloc: Global,
-    row: &Value,
     column: &Array,
+    range: Range,
     call: (&str, &str),
 ) -> Result<Answer, Fail> {
-    let range = range_at(row)?;
     match call {
         ("SliceReduce", "Bool") => reduced::<Bool>(alloc, column, range),
         ("SliceReduce", "VarBin") => reduced::<VarBin>(alloc, column, range),
@@ -59,8 +57,8 @@ pub(crate) fn sliced_as(
     }
 }
 
-/// The rows from one up to another.
-pub(crate) fn cut(alloc: Global, column: &Array, start: usize, end: usize) -> Result<Array, Fail> {
+/// The rows between.
+pub(crate) fn cut(alloc: Global, column: &Array, (start, end): Range) -> Result<Array, Fail> {
     check_slice(start, end, column.len())?;
     Ok(slice(alloc, column, start, end)?)
 }

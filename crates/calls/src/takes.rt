@@ -1,6 +1,6 @@
 //! Takes: through the traits of layouts, as a dictionary asks for them, and by functions.
 
-use crate::arguments::{column_at, indices_at, number_at, view_of};
+use crate::arguments::{column_at, number_at, view_of};
 use crate::lines::Taken;
 use serde_json::Value;
 use std::alloc::Global;
@@ -28,8 +28,9 @@ fn executed<V: TakeExecute>(
     Ok(V::take(alloc, view_of::<V>(column)?, indices))
 }
 
-/// A take while columns are put together, or while they are executed.
-fn taken(
+/// A take through the trait and the layout that a row names: while columns are put together, or
+/// while they are executed.
+pub(crate) fn taken_as(
     alloc: Global,
     column: &Array,
     indices: &Indices,
@@ -57,16 +58,6 @@ fn taken(
     }
 }
 
-/// A take through the trait and the layout that a row names.
-pub(crate) fn taken_as(
-    alloc: Global,
-    row: &Value,
-    column: &Array,
-    call: (&str, &str),
-) -> Result<Taken, Fail> {
-    taken(alloc, column, &indices_at(alloc, row)?, call)
-}
-
 /// A take of a column of any layout.
 pub(crate) fn taken_rows(
     alloc: Global,
@@ -87,24 +78,19 @@ fn taken_texts(alloc: Global, column: &Array, indices: &Indices) -> Result<Taken
     }
 }
 
-fn some(rows: Result<Array, TakeError>) -> Taken {
-    match rows {
-        Ok(column) => Ok(Some(column)),
-        Err(error) => Err(error),
-    }
-}
-
 /// A take by the function that a row names.
 pub(crate) fn taken_by(
     alloc: Global,
-    row: &Value,
     column: &Array,
+    indices: &Indices,
     call: &str,
 ) -> Result<Taken, Fail> {
-    let indices = indices_at(alloc, row)?;
     match call {
-        "take_varbin" => taken_texts(alloc, column, &indices),
-        _ => Ok(some(taken_rows(alloc, column, &indices))),
+        "take_varbin" => taken_texts(alloc, column, indices),
+        _ => match taken_rows(alloc, column, indices) {
+            Ok(rows) => Ok(Ok(Some(rows))),
+            Err(error) => Ok(Err(error)),
+        },
     }
 }
 

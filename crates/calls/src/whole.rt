@@ -57,8 +57,7 @@ fn stepped(alloc: Global, row: &Value, column: &Array) -> Result<Array, Fail> {
         return Ok(taken_rows(alloc, column, &indices_at(alloc, row)?)?);
     }
     if row.get("slice").is_some() {
-        let (start, end) = range_at(row)?;
-        return cut(alloc, column, start, end);
+        return cut(alloc, column, range_at(row)?);
     }
     Ok(column.share())
 }
