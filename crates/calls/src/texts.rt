@@ -1,5 +1,5 @@
 //! Steps over texts, with the validity of what they leave handed in, and views of texts.
-ghost use Rattle.std.specs.Prelude.{◌≡◌, length, true, IfOk};
+ghost use Rattle.std.specs.Prelude.{◌≡◌, length, true, IfOk, IsOk};
 ghost use Rattle.vx_column.specs.Validity.{valid_of};
 ghost use Rattle.vx_model.specs.Valid.{is_fitting};
 ghost use Rattle.vx_model.specs.VarBin.{varbin_texts};
@@ -57,12 +57,12 @@ fn picks_at(alloc: Global, row: &Value, len: usize) -> Result<Picks, Fail> {
 
 /// That picks are of so many rows, and the validity fits those at them.
 fn check_picks(picks: &Picks, validity: &Validity, rows: usize) -> Result<(), Fail>
-    ensures { IfOk result (λ _. FitsTake rows picks.now (valid_of validity.now)) }
+    ensures { IsOk result → FitsTake rows picks.now (valid_of validity.now) }
 {
-    if picks.bound() > rows {
-        return Err("a pick past the rows".into());
+    if picks.bound() > rows || !validity.is_fitting(picks.len()) {
+        return Err("a pick past the rows, or a validity of another number of rows".into());
     }
-    check_fitting(validity, picks.len())
+    Ok(())
 }
 
 fn taken_texts(
