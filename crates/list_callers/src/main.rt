@@ -8,7 +8,6 @@ mod keeping;
 mod lists;
 mod masks;
 mod presence;
-mod refusals;
 mod text;
 mod truth;
 mod views;
@@ -20,7 +19,6 @@ fn main(rt: HostRuntime) -> Result<(), Fail> {
     lists::print_rows(&rt, rt.alloc())?;
     views::print_rows(&rt, rt.alloc())?;
     fixed::print_rows(&rt, rt.alloc())?;
-    refusals::print_rows(&rt, rt.alloc())?;
     truth::print_true_rows(&rt, rt.alloc())?;
     keeping::print_kept_lists(&rt, rt.alloc())
 }

@@ -16,10 +16,11 @@ use vx_column_json::{
 };
 use vx_json::{DocError, list_member, member, text_member};
 
-/// The column that the value means, by its layout.
+/// The column that the value means, by its layout. `Malformed` exactly where it means none, but
+/// that want of memory may come in place of any answer.
 #[cycle(columns)]
 #[tactic(auto, unfolding(crate::specs::Columns::column_by))]
-pub(crate) fn column_of(alloc: Global, value: &Value) -> Result<Array, DocError>
+pub fn column_of(alloc: Global, value: &Value) -> Result<Array, DocError>
     ensures { Gives (λ c. c) result (column_of (view value.now)) }
 {
     by_layout(alloc, value, text_member(value, "layout")?)
@@ -49,17 +50,19 @@ fn by_layout(alloc: Global, value: &Value, layout: &str) -> Result<Array, DocErr
     }
 }
 
-/// The column that the member of this name means.
+/// The column that the member of this name means. `Malformed` where there is no such member, or it
+/// means none.
 #[cycle(columns)]
-pub(crate) fn column_member(alloc: Global, value: &Value, name: &str) -> Result<Array, DocError>
+pub fn column_member(alloc: Global, value: &Value, name: &str) -> Result<Array, DocError>
     ensures { Gives (λ c. c) result (inner_of (view value.now) name.now) }
 {
     column_of(alloc, member(value, name)?)
 }
 
-/// The columns that the items of the member of this name mean.
+/// The columns that the items of the member of this name mean. `Malformed` where there is no such
+/// list, or one means none.
 #[cycle(columns)]
-fn columns_member(alloc: Global, value: &Value, name: &str) -> Result<Vec<ArrayRef>, DocError>
+pub fn columns_member(alloc: Global, value: &Value, name: &str) -> Result<Vec<ArrayRef>, DocError>
     ensures { Gives (λ v. v.items) result (inner_lists_of (view value.now) name.now) }
 {
     each_column(alloc, list_member(value, name)?)
@@ -155,10 +158,10 @@ fn lists_in(alloc: Global, value: &Value, layout: &str) -> Result<Array, DocErro
     lists_by(alloc, value, elements, validity_alone(stated), layout)
 }
 
-/// The validity that the value states, if it states one.
+/// The validity that the value states, if it states one. `Malformed` where what it states is none.
 #[cycle(columns)]
 #[tactic(auto, unfolding(vx_column_json::specs::Validity::validity_stated))]
-pub(crate) fn validity_stated(alloc: Global, value: &Value) -> Result<Option<Validity>, DocError>
+pub fn validity_stated(alloc: Global, value: &Value) -> Result<Option<Validity>, DocError>
     ensures { Gives (λ v. option_map valid_of v) result
         (validity_stated (view value.now) (inner_of (view value.now))) }
 {

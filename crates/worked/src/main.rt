@@ -10,12 +10,11 @@
 //! can say.
 #![tactic(auto)]
 
-use reading::Reading;
+use callers::Reading;
+use running::Runs;
 use std::test::Fail;
 
 mod answer;
-mod family;
-mod reading;
 mod row;
 mod running;
 mod unlisted;
@@ -23,8 +22,8 @@ mod unlisted;
 fn main(rt: HostRuntime) -> Result<(), Fail> {
     let mut reading = Reading::new(rt.alloc());
     for line in rt.lines(rt.alloc()) {
-        reading.take_line(&rt, rt.alloc(), line?)?;
+        reading.take_line::<Runs>(&rt, rt.alloc(), line?)?;
     }
-    reading.end(&rt, rt.alloc())?;
+    reading.end::<Runs>(&rt, rt.alloc())?;
     unlisted::print_families(&rt, rt.alloc())
 }

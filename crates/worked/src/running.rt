@@ -2,6 +2,7 @@
 
 use crate::answer::{answer_of, push_calls, push_reads};
 use crate::row::{Row, row_of};
+use callers::Ask;
 use std::alloc::Global;
 use std::test::Fail;
 use vx_bits::Buffer;
@@ -44,8 +45,12 @@ fn lines_of(alloc: Global, given: &Given) -> Result<String, Fail> {
     Ok(lines)
 }
 
-/// The lines that tell what a row gives.
-pub(crate) fn given_by(alloc: Global, line: &str) -> Result<String, Fail> {
-    let row = row_of(alloc, line)?;
-    lines_of(alloc, &run_of(alloc, &row)?)
+/// Rows that ask for runs.
+pub(crate) struct Runs;
+
+impl Ask for Runs {
+    fn given_by(alloc: Global, line: &str) -> Result<String, Fail> {
+        let row = row_of(alloc, line)?;
+        lines_of(alloc, &run_of(alloc, &row)?)
+    }
 }

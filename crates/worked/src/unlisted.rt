@@ -2,7 +2,7 @@
 //! a broken step. Each is judged as a row is.
 
 use crate::answer::{answer_of, push_text};
-use crate::family::Family;
+use callers::Family;
 use std::alloc::Global;
 use std::test::Fail;
 use vx_bits::Buffer;

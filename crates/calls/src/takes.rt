@@ -1,0 +1,143 @@
+//! Takes: through the traits of layouts, as a dictionary asks for them, and by functions.
+
+use crate::arguments::{column_at, number_at, view_of};
+use crate::lines::Taken;
+use serde_json::Value;
+use std::alloc::Global;
+use std::test::Fail;
+use vx_column::vtables::{
+    Bool, Decimal, Dict, Extension, Filter, FixedSizeList, List, ListView, Map, Null, Primitive,
+    Struct, Union, VarBin, VarBinView,
+};
+use vx_column::{Array, Layout};
+use vx_layouts::{
+    TakeError, TakeExecute, TakeExecuteAdaptor, TakeReduce, TakeReduceAdaptor, take, take_varbin,
+};
+use vx_mask::Policy;
+use vx_pieces::Indices;
+
+fn reduced<V: TakeReduce>(alloc: Global, column: &Array, indices: &Indices) -> Result<Taken, Fail> {
+    Ok(V::take(alloc, view_of::<V>(column)?, indices))
+}
+
+fn executed<V: TakeExecute>(
+    alloc: Global,
+    column: &Array,
+    indices: &Indices,
+) -> Result<Taken, Fail> {
+    Ok(V::take(alloc, view_of::<V>(column)?, indices))
+}
+
+/// A take through the trait and the layout that a row names: while columns are put together, or
+/// while they are executed.
+pub(crate) fn taken_as(
+    alloc: Global,
+    column: &Array,
+    indices: &Indices,
+    call: (&str, &str),
+) -> Result<Taken, Fail> {
+    match call {
+        ("TakeReduce", "ListView") => reduced::<ListView>(alloc, column, indices),
+        ("TakeReduce", "Map") => reduced::<Map>(alloc, column, indices),
+        ("TakeReduce", "Struct") => reduced::<Struct>(alloc, column, indices),
+        ("TakeReduce", "Union") => reduced::<Union>(alloc, column, indices),
+        ("TakeReduce", "Extension") => reduced::<Extension>(alloc, column, indices),
+        ("TakeExecute", "Null") => executed::<Null>(alloc, column, indices),
+        ("TakeExecute", "Bool") => executed::<Bool>(alloc, column, indices),
+        ("TakeExecute", "Primitive") => executed::<Primitive>(alloc, column, indices),
+        ("TakeExecute", "Decimal") => executed::<Decimal>(alloc, column, indices),
+        ("TakeExecute", "VarBin") => executed::<VarBin>(alloc, column, indices),
+        ("TakeExecute", "VarBinView") => executed::<VarBinView>(alloc, column, indices),
+        ("TakeExecute", "List") => executed::<List>(alloc, column, indices),
+        ("TakeExecute", "ListView") => executed::<ListView>(alloc, column, indices),
+        ("TakeExecute", "FixedSizeList") => executed::<FixedSizeList>(alloc, column, indices),
+        ("TakeExecute", "Map") => executed::<Map>(alloc, column, indices),
+        ("TakeExecute", "Extension") => executed::<Extension>(alloc, column, indices),
+        ("TakeExecute", "Filter") => executed::<Filter>(alloc, column, indices),
+        _ => Err("no such take".into()),
+    }
+}
+
+/// A take of a column of any layout.
+pub(crate) fn taken_rows(
+    alloc: Global,
+    column: &Array,
+    indices: &Indices,
+) -> Result<Array, TakeError> {
+    take(alloc, column, indices, &Policy::vortex())
+}
+
+/// A take of texts, by offsets.
+fn taken_texts(alloc: Global, column: &Array, indices: &Indices) -> Result<Taken, Fail> {
+    let Layout::VarBin(texts) = column.layout() else {
+        return Err("no texts by offsets".into());
+    };
+    match take_varbin(alloc, texts, indices) {
+        Ok(taken) => Ok(Ok(Some(taken.into_array()))),
+        Err(error) => Ok(Err(error)),
+    }
+}
+
+/// A take by the function that a row names.
+pub(crate) fn taken_by(
+    alloc: Global,
+    column: &Array,
+    indices: &Indices,
+    call: &str,
+) -> Result<Taken, Fail> {
+    match call {
+        "take_varbin" => taken_texts(alloc, column, indices),
+        _ => match taken_rows(alloc, column, indices) {
+            Ok(rows) => Ok(Ok(Some(rows))),
+            Err(error) => Ok(Err(error)),
+        },
+    }
+}
+
+/// A column as a child of a dictionary.
+#[derive(Clone, Copy)]
+struct Child<'a> {
+    column: &'a Array,
+    parent: &'a Array,
+    at: usize,
+}
+
+fn reduced_by<V: TakeReduce>(
+    alloc: Global,
+    adaptor: &TakeReduceAdaptor<V>,
+    child: Child<'_>,
+) -> Result<Taken, Fail> {
+    let (view, parent) = (view_of::<V>(child.column)?, view_of::<Dict>(child.parent)?);
+    Ok(adaptor.reduce_parent(alloc, view, parent, child.at))
+}
+
+fn executed_by<V: TakeExecute>(
+    alloc: Global,
+    adaptor: &TakeExecuteAdaptor<V>,
+    child: Child<'_>,
+) -> Result<Taken, Fail> {
+    let (view, parent) = (view_of::<V>(child.column)?, view_of::<Dict>(child.parent)?);
+    Ok(adaptor.execute_parent(alloc, view, parent, child.at))
+}
+
+fn adapted_to(alloc: Global, child: Child<'_>, call: (&str, &str)) -> Result<Taken, Fail> {
+    match call {
+        ("reduce_parent", "Struct") => reduced_by(alloc, &TakeReduceAdaptor(Struct), child),
+        ("execute_parent", "Primitive") => {
+            executed_by(alloc, &TakeExecuteAdaptor(Primitive), child)
+        }
+        _ => Err("no adaptor of this layout".into()),
+    }
+}
+
+/// A take as the dictionary `parent` asks for it of its child at the place `at`.
+pub(crate) fn adapted(
+    alloc: Global,
+    row: &Value,
+    column: &Array,
+    call: (&str, &str),
+) -> Result<Taken, Fail> {
+    let (parent, at) = (column_at(alloc, row, "parent")?, number_at(row, "at")?);
+    let parent = &parent;
+    adapted_to(alloc, Child { column, parent, at }, call)
+}

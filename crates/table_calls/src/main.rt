@@ -1,0 +1,20 @@
+//! Runs calls of tables, pages and joins that rows of JSON name, and judges what each gives by the
+//! lines below it.
+#![tactic(auto)]
+
+use called::Calls;
+use callers::Reading;
+use std::test::Fail;
+
+mod arguments;
+mod called;
+mod joins;
+mod lines;
+
+fn main(rt: HostRuntime) -> Result<(), Fail> {
+    let mut reading = Reading::new(rt.alloc());
+    for line in rt.lines(rt.alloc()) {
+        reading.take_line::<Calls>(&rt, rt.alloc(), line?)?;
+    }
+    reading.end::<Calls>(&rt, rt.alloc())
+}
