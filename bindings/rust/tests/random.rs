@@ -1,7 +1,7 @@
 //! Random calls, compared with plain loops. `VORTEX_CALLS` says how many of them are made.
 use std::fmt::Debug;
 use std::ops::Range;
-use vortex_select::{
+use vortex_select_sys::{
     filter, filter_bits, filter_in_place, take, take_bits, take_bits_valid, take_into, take_valid,
     Bits, Mask, OutOfBounds, Record,
 };
