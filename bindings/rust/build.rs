@@ -7,7 +7,6 @@ use std::process::{exit, Command};
 use std::time::SystemTime;
 
 fn fail(why: String) -> ! {
-    println!("cargo:warning={why}");
     eprintln!("vortex-select-sys: {why}");
     exit(1)
 }
@@ -39,7 +38,9 @@ fn written_at(path: &Path) -> Option<SystemTime> {
         return fs::metadata(path).and_then(|is| is.modified()).ok();
     }
     let entries = fs::read_dir(path).ok()?;
-    entries.filter_map(|entry| written_at(&entry.ok()?.path())).max()
+    entries
+        .filter_map(|entry| written_at(&entry.ok()?.path()))
+        .max()
 }
 
 /// What the library is made of.
@@ -102,7 +103,10 @@ fn built(root: &Path, name: &str) -> PathBuf {
 fn prebuilt(folder: PathBuf, name: &str) -> PathBuf {
     let library = folder.join(format!("lib{name}.a"));
     if !library.exists() {
-        fail(format!("VORTEX_SELECT_LIB_DIR has no {}", library.display()));
+        fail(format!(
+            "VORTEX_SELECT_LIB_DIR has no {}",
+            library.display()
+        ));
     }
     println!("cargo:rerun-if-changed={}", library.display());
     folder

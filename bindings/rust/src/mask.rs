@@ -2,7 +2,6 @@ use crate::calls::{self, Run, DONE};
 use std::mem::MaybeUninit;
 use std::ops::Range;
 
-
 /// Which rows are selected: as many bits as there are rows, in words of 64, the first row lowest.
 #[derive(Clone, Debug, PartialEq, Eq)]
 pub struct Mask {

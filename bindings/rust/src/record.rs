@@ -70,11 +70,7 @@ pub(crate) fn unwritten<T: Record>(values: &mut [T]) -> &mut [MaybeUninit<T>] {
     unsafe { std::slice::from_raw_parts_mut(place, len) }
 }
 
-pub(crate) fn filter<T: Record>(
-    src: &[T],
-    words: &[u64],
-    dst: &mut [MaybeUninit<T>],
-) -> Answer {
+pub(crate) fn filter<T: Record>(src: &[T], words: &[u64], dst: &mut [MaybeUninit<T>]) -> Answer {
     let (s, n, w, m) = (src.as_ptr(), src.len(), words.as_ptr(), words.len());
     let (d, room) = (dst.as_mut_ptr(), dst.len());
     // SAFETY: each pointer is that of a slice and leads to as many aligned items as is said, and the
@@ -86,7 +82,12 @@ pub(crate) fn filter<T: Record>(
 }
 
 pub(crate) fn filter_in_place<T: Record>(values: &mut [T], words: &[u64]) -> Answer {
-    let (v, n, w, m) = (values.as_mut_ptr(), values.len(), words.as_ptr(), words.len());
+    let (v, n, w, m) = (
+        values.as_mut_ptr(),
+        values.len(),
+        words.as_ptr(),
+        words.len(),
+    );
     // SAFETY: as in `filter`. The call only moves values, so each is one that was there.
     unsafe {
         by_size!(T: vortex_filter_in_place_1 vortex_filter_in_place_2 vortex_filter_in_place_4
