@@ -5,11 +5,34 @@
  * writes nothing; its number is 0 but where VORTEX_ROOM or VORTEX_INDEX says what it is.
  * vortex_program has statuses and numbers of its own, and says what each means.
  *
- * Each list is handed in as a pointer and its number of items. The caller owes, and nothing tests:
- * the pointer is aligned for the items and leads to so many of them, written ones where the list
- * is read; the list is below 2^63 bytes; a list that is written overlaps no other list of the call,
- * and no other thread touches it until the call is back. A list without items may have any pointer,
- * a null one too. No function keeps a pointer or calls back, and none but vortex_program takes memory.
+ * What is proved of the kernels is proved of calls that keep these duties. The caller owes them,
+ * and nothing tests them:
+ *
+ * - Lists. Each is handed in as a pointer and its number of items. The pointer is aligned for the
+ *   items and leads to so many of them, written ones where the list is read; the list is below 2^63
+ *   bytes. A list without items may have any pointer, a null one too.
+ * - Overlap. A list that is written overlaps no other list of the call. Lists that are only read
+ *   may overlap one another.
+ * - Threads. Until the call is back no other thread touches a list that the call writes, and none
+ *   writes to a list that it reads. A kernel tests a list in one pass and reads or writes by it in
+ *   another: vortex_take_* and vortex_take_bits their indices, all that take a mask the bits of it,
+ *   and vortex_program its document. A list that changes in between leads outside of the others. A
+ *   caller that can't keep writers off copies first what is tested. Calls with no list in common,
+ *   or with none in common that one of them writes, may run side by side: the kernels keep nothing
+ *   between calls and have no state.
+ * - Signals and forks. A signal handler that runs during a call touches none of its lists. As
+ *   vortex_program takes memory, it is called from no signal handler, nor in the child of a fork of
+ *   a process with threads. The kernels take none, and may be called from both.
+ * - Stack. No proof bounds how much of it a call needs. bindings/check runs the kernels on a stack
+ *   of 64 KiB.
+ * - Names. A link has each of the names below once, so one copy of the library, and of the three
+ *   functions of memory.c one each. The three are of one allocator, which aligns each block to the
+ *   powers of two up to 16 that divide its size.
+ * - Processor. The library is built for x86-64-v2 (SSE4.2 and POPCNT, so any since some 2011) and
+ *   Linux's calling convention. On one without POPCNT a call ends the process by SIGILL.
+ * - Floating point. No kernel computes with it: floats are moved as their bytes.
+ *
+ * No function keeps a pointer or calls back, and none but vortex_program takes memory.
  *
  * A mask of n rows is (n + 63) / 64 words: bit k % 64 of word k / 64, the lowest bit first, is set
  * where row k is selected, and the bits past the rows are clear. Other bits may begin at any bit of
@@ -23,6 +46,17 @@
 #ifdef __cplusplus
 extern "C" {
 #endif
+
+/* The version of this header, which is the library's where vortex_version() is VORTEX_VERSION. */
+#define VORTEX_VERSION_MAJOR 0
+#define VORTEX_VERSION_MINOR 1
+#define VORTEX_VERSION_PATCH 0
+#define VORTEX_VERSION                                                                             \
+    (VORTEX_VERSION_MAJOR * 1000000 + VORTEX_VERSION_MINOR * 1000 + VORTEX_VERSION_PATCH)
+
+/* The version of the library: a million times the major number, and a thousand times the minor one,
+ * and the patch number. */
+uint32_t vortex_version(void);
 
 typedef struct vortex_answer {
     uint64_t status;

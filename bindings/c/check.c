@@ -188,7 +188,13 @@ static void ranks(void) {
     expect(is(vortex_count_before(NULL, 0, 0, 0), VORTEX_DONE, 0), "a count of nothing");
 }
 
+static void version(void) {
+    expect(VORTEX_VERSION == 1000, "version 0.1.0");
+    expect(vortex_version() == VORTEX_VERSION, "the library's version is the header's");
+}
+
 int main(void) {
+    version();
     filters();
     filters_in_place();
     takes();

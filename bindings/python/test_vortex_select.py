@@ -1,9 +1,13 @@
 """Compares the module with plain loops on random input, and runs the examples of its docs."""
 
+import ctypes
 import doctest
 import os
 import pathlib
 import random
+import sys
+import threading
+import types
 import unittest
 from array import array
 
@@ -29,9 +33,28 @@ def random_input(dice, width):
     return given, items_of(data, width)
 
 
+def bools_of(rows):
+    return memoryview(bytes(rows)).cast("?")
+
+
 class Random(unittest.TestCase):
     def setUp(self):
         self.dice = random.Random(20)
+
+    def mask_of(self, rows):
+        """The mask of these rows, in one of the forms there are."""
+        at = self.dice.randrange(70)
+        placed = bits_of([True] * at + rows + [True] * self.dice.randrange(9))
+        forms = bits_of(rows), bools_of(rows), rows, vortex_select.Bits(placed, len(rows), at)
+        return self.dice.choice(forms)
+
+    def indices_of(self, indices):
+        """A list of these indices, in one of the forms there are."""
+        most = max([*indices, 0])
+        kinds = [kind for kind in "bBhHiIlLqQ" if most < 2 ** (8 * array(kind).itemsize - kind.islower())]
+        kind = self.dice.choice(kinds)
+        forms = indices, tuple(indices), iter(indices), array(kind, indices)
+        return self.dice.choice([*forms, memoryview(array(kind, indices))])
 
     def test_filter(self):
         for _ in range(CALLS):
@@ -39,10 +62,10 @@ class Random(unittest.TestCase):
             values, items = random_input(self.dice, width)
             rows = [self.dice.random() < 0.5 for _ in items]
             kept = [item for item, row in zip(items, rows) if row]
-            answer = vortex_select.filter(values, bits_of(rows), width)
+            answer = vortex_select.filter(values, self.mask_of(rows), width)
             self.assertEqual(items_of(answer, width), kept)
             values = bytearray(values)
-            count = vortex_select.filter_in_place(values, bits_of(rows), width)
+            count = vortex_select.filter_in_place(values, self.mask_of(rows), width)
             self.assertEqual(items_of(values, width)[:count], kept)
 
     def test_take(self):
@@ -54,11 +77,34 @@ class Random(unittest.TestCase):
             first = [k for k, i in enumerate(indices) if there[k] and i >= len(items)]
             if first:
                 with self.assertRaisesRegex(IndexError, f"index {first[0]} of"):
-                    vortex_select.take(values, indices, bits_of(there), width)
+                    vortex_select.take(values, self.indices_of(indices), self.mask_of(there), width)
                 continue
             taken = [items[i] if t else bytes(width) for i, t in zip(indices, there)]
-            answer = vortex_select.take(values, indices, bits_of(there), width)
+            listed, valid = self.indices_of(indices), self.mask_of(there)
+            answer = vortex_select.take(values, listed, valid, width)
             self.assertEqual(items_of(answer, width), taken)
+
+    def test_blocks(self):
+        of = vortex_select._Indices
+        whole, of.BLOCK = of.BLOCK, 64
+        self.addCleanup(setattr, of, "BLOCK", whole)
+        for _ in range(CALLS // 10):
+            values = array("I", range(self.dice.randrange(1, 300)))
+            indices = [self.dice.randrange(len(values)) for _ in range(self.dice.randrange(400))]
+            there = [self.dice.random() < 0.7 for _ in indices]
+            listed, valid = self.indices_of(indices), self.mask_of(there)
+            taken = vortex_select.take(values, listed, valid).tolist()
+            self.assertEqual(taken, [t * i for i, t in zip(indices, there)])
+            bits = [i % 3 == 0 for i in values]
+            taken = vortex_select.take_bits(bools_of(bits), len(bits), indices, there)
+            self.assertEqual(bytes(taken), bits_of([t and bits[i] for i, t in zip(indices, there)]))
+            if indices:
+                place = self.dice.randrange(len(indices))
+                indices[place] = len(values)
+                with self.assertRaisesRegex(IndexError, f"index {place} of"):
+                    vortex_select.take(values, indices)
+                with self.assertRaisesRegex(IndexError, f"index {place} of"):
+                    vortex_select.take_bits(bools_of(bits), len(bits), indices)
 
     def placed(self, rows):
         at = self.dice.randrange(130)
@@ -82,7 +128,7 @@ class Random(unittest.TestCase):
     def test_positions(self):
         for _ in range(CALLS):
             rows = [self.dice.random() < 0.3 for _ in range(self.dice.randrange(300))]
-            found = vortex_select.positions(bits_of(rows), len(rows))
+            found = vortex_select.positions(self.mask_of(rows), len(rows))
             selected = [k for k, row in enumerate(rows) if row]
             self.assertEqual(found.tolist(), selected)
             covered = [k for a, b in vortex_select.runs(bits_of(rows), len(rows)) for k in range(a, b)]
@@ -121,9 +167,181 @@ class Refused(unittest.TestCase):
         with self.assertRaises(ValueError):
             vortex_select.filter(b"abc", b"\x00", 2)
 
-    def test_arrays(self):
-        values = array("H", [1, 2, 3])
-        self.assertEqual(array("H", vortex_select.filter(values, b"\x06")), array("H", [2, 3]))
+    def test_answers_keep_the_type(self):
+        for kind in "bBhHiIlLqQfd":
+            answer = vortex_select.filter(array(kind, [1, 2, 3]), b"\x06")
+            self.assertEqual((answer.format, answer.tolist()), (kind, [2, 3]))
+            answer = vortex_select.take(array(kind, [1, 2, 3]), [2], [False])
+            self.assertEqual((answer.format, answer.tolist()), (kind, [0]))
+        longs = (ctypes.c_int * 3)(1, -2, 3)
+        self.assertEqual(vortex_select.filter(longs, b"\x06").tolist(), [-2, 3])
+        pairs = (Pair * 2)(Pair(1, 2), Pair(3, 4))
+        self.assertEqual(vortex_select.filter(pairs, b"\x02").cast("i").tolist(), [3, 4])
+
+
+class Pair(ctypes.Structure):
+    _fields_ = [("a", ctypes.c_int), ("b", ctypes.c_int)]
+
+
+class Swapped(ctypes.BigEndianStructure):
+    _fields_ = [("a", ctypes.c_uint64)]
+
+
+class Owning(ctypes.Structure):
+    _fields_ = [("a", ctypes.py_object), ("b", ctypes.c_uint64)]
+
+
+class Either(ctypes.Union):
+    _fields_ = [("a", ctypes.py_object), ("b", ctypes.c_uint64)]
+
+
+class MaskedArray(bytearray):
+    """A stand-in of numpy's, which hands out its data and leaves out its mask."""
+
+
+class Hostile(unittest.TestCase):
+    """What an answer in silence would be wrong of, or what would break memory."""
+
+    def refused(self, kind, call, *given):
+        with self.assertRaises(kind):
+            call(*given)
+
+    def test_items_with_references(self):
+        objects = [(t * 2)() for t in (ctypes.py_object, Owning, Either, ctypes.c_char_p)]
+        objects += [(ctypes.POINTER(ctypes.c_int) * 2)(), (ctypes.CFUNCTYPE(None) * 2)()]
+        objects += [(ctypes.c_void_p * 2)(), (ctypes.c_wchar_p * 2)()]
+        for values in objects:
+            for call in vortex_select.filter, vortex_select.filter_in_place:
+                self.refused(TypeError, call, values, b"\x01")
+            self.refused(TypeError, vortex_select.take, values, [0])
+            self.refused(TypeError, vortex_select.take, b"ab", values)
+
+    def test_indices_of_another_type(self):
+        values = array("Q", range(9))
+        eights = [array("d", [1.0]), (Pair * 1)(), (Swapped * 1)(), (ctypes.c_char * 8)()]
+        eights += [bools_of([True, False]), memoryview(bytes(16)).cast("B", (2, 8))]
+        eights += ["1", b"1".decode(), [1.0], ["1"], [None], [True], 1, None, vortex_select.Bits(b"a", 8)]
+        for indices in eights:
+            self.refused(TypeError, vortex_select.take, values, indices)
+            self.refused(TypeError, vortex_select.take_bits, b"\xff", 8, indices)
+
+    def test_bytes_are_indices_of_a_byte(self):
+        self.assertEqual(bytes(vortex_select.take(b"abcdefghi", bytes(8))), b"aaaaaaaa")
+        self.assertEqual(bytes(vortex_select.take(b"abcdefghi", bytearray([8, 0]))), b"ia")
+
+    def test_indices_out_of_bounds(self):
+        for index in -1, 3, 2**31, 2**32, 2**63, 2**64 - 1, 2**64, 2**64 + 1, -(2**64), 10**40:
+            with self.assertRaisesRegex(IndexError, "index 1 of"):
+                vortex_select.take(b"abc", [0, index])
+            with self.assertRaisesRegex(IndexError, "index 1 of"):
+                vortex_select.take_bits(b"\xff", 3, [0, index])
+            taken = vortex_select.take(b"abc", [2, index], valid=[True, False])
+            self.assertEqual(bytes(taken), b"c\0")
+        for kind in "bhilq":
+            with self.assertRaisesRegex(IndexError, "index 1 of"):
+                vortex_select.take(bytes(70000), array(kind, [0, -1]))
+
+    def test_numbers_past_64_bits(self):
+        for number in 2**64, 2**64 + 1, -1, 2**65 + 2:
+            self.refused(IndexError, vortex_select.rank, b"\x0f", 4, number)
+            self.refused(IndexError, vortex_select.count_before, b"\x0f", 4, number)
+            self.refused(ValueError, vortex_select.positions, b"\x0f", number + 4)
+            self.refused(ValueError, vortex_select.filter_bits, b"\x0f", b"\x0f", 4, number)
+            self.refused(ValueError, vortex_select.filter_bits, b"\x0f", b"\x0f", number)
+            self.refused(ValueError, vortex_select.take_bits, b"\x0f", number, [0])
+            self.refused(ValueError, vortex_select.Bits, b"a", number)
+            self.refused(ValueError, vortex_select.filter, b"abcd", b"\x0f", number)
+        for number in 1.0, "1", None:
+            self.refused(TypeError, vortex_select.rank, b"\x0f", 4, number)
+
+    def test_masks_of_another_type(self):
+        masks = [2, [1, 0, 1], [True, 0, True], ["a"], "abc", None, {True}, array("I", [1]), [2, 2, 2]]
+        masks += [array("b", [1]), array("d", [1.0]), iter([True, False, True])]
+        for mask in masks:
+            self.refused(TypeError, vortex_select.filter, b"abc", mask)
+            if mask is not None:
+                self.refused(TypeError, vortex_select.take, b"abc", [0, 1, 2], mask)
+            self.refused(TypeError, vortex_select.positions, mask, 3)
+        for mask in [True], bools_of([True] * 4), vortex_select.Bits(b"\xff", 4):
+            self.refused(ValueError, vortex_select.filter, b"abc", mask)
+        kept = vortex_select.filter(b"abc", [True, False, True])
+        self.assertEqual(bytes(kept), b"ac")
+
+    def test_masked_arrays(self):
+        module = types.ModuleType("numpy.ma")
+        module.MaskedArray = MaskedArray
+        sys.modules["numpy.ma"] = module
+        self.addCleanup(sys.modules.pop, "numpy.ma")
+        masked = MaskedArray(b"\1\0\1")
+        self.refused(TypeError, vortex_select.filter, masked, [True] * 3)
+        self.refused(TypeError, vortex_select.filter_in_place, masked, [True] * 3)
+        self.refused(TypeError, vortex_select.take, b"abc", masked)
+        self.refused(TypeError, vortex_select.filter, bytes(24), masked)
+
+    def test_memory_that_is_no_list(self):
+        self.refused(BufferError, vortex_select.filter_in_place, b"abc", [True] * 3)
+        self.refused(BufferError, vortex_select.filter_in_place, memoryview(b"abc"), [True] * 3)
+        self.refused(BufferError, vortex_select.filter, memoryview(b"abcdef")[::2], [True] * 3)
+        self.refused(BufferError, vortex_select.filter_in_place, memoryview(bytearray(6))[::2], [True] * 3)
+        self.refused(TypeError, vortex_select.filter, memoryview(bytes(4)).cast("B", (2, 2)), [True] * 4)
+        self.refused(ValueError, vortex_select.filter, array("I", [1, 2]), [True], 8)
+        odd = memoryview(bytearray(9))[1:]
+        self.refused(ValueError, vortex_select.filter_in_place, odd, [True], 8)
+        strided = memoryview(array("Q", [0, 1, 2, 3]))[::-2]
+        self.assertEqual(bytes(vortex_select.take(b"abcd", strided)), b"db")
+
+    def test_lists_that_overlap(self):
+        memory = bytearray(b"\x03abcdefg")
+        self.assertEqual(vortex_select.filter_in_place(memory, memoryview(memory)[:1]), 2)
+        self.assertEqual(memory[:2], b"\x03a")
+        memory = array("Q", [2, 0, 1])
+        self.assertEqual(vortex_select.take(memory, memory).tolist(), [1, 2, 0])
+
+    def test_lists_without_items(self):
+        self.assertEqual(bytes(vortex_select.filter(b"", b"")), b"")
+        self.assertEqual(bytes(vortex_select.filter(array("d"), [])), b"")
+        self.assertEqual(vortex_select.filter_in_place(bytearray(), b""), 0)
+        self.assertEqual(bytes(vortex_select.take(b"", [])), b"")
+        self.refused(IndexError, vortex_select.take, b"", [0])
+        self.assertEqual(vortex_select.positions(b"", 0).tolist(), [])
+        self.assertEqual(vortex_select.runs([], 0), [])
+        self.assertEqual(vortex_select.filter_bits(b"", b"", 0), (b"", 0))
+
+    def test_a_thread_that_writes_the_indices(self):
+        values, indices = bytes(1000), array("Q", bytes(8 * 100_000))
+        is_done = threading.Event()
+
+        def write():
+            while not is_done.is_set():
+                for index in 2**63, 0:
+                    indices[5000] = indices[99_999] = index
+
+        writer = threading.Thread(target=write)
+        writer.start()
+        try:
+            for _ in range(50):
+                for call in (vortex_select.take, values, indices), (vortex_select.take_bits, values, 8000, indices):
+                    try:
+                        call[0](*call[1:])
+                    except IndexError as fault:
+                        self.assertRegex(str(fault), "^index (5000|99999) of")
+        finally:
+            is_done.set()
+            writer.join()
+
+
+class Made(unittest.TestCase):
+    def test_names(self):
+        for name in vortex_select.__all__:
+            self.assertTrue(getattr(vortex_select, name).__doc__, name)
+
+    def test_version(self):
+        parts = vortex_select.__version__.split(".")
+        version = sum(int(part) * 1000 ** (2 - k) for k, part in enumerate(parts))
+        self.assertEqual(vortex_select._calls.vortex_version(), version)
+        root = pathlib.Path(__file__).resolve().parents[1]
+        for file in "python/pyproject.toml", "rust/Cargo.toml":
+            self.assertIn(f'\nversion = "{vortex_select.__version__}"\n', (root / file).read_text())
 
 
 EXAMPLES = pathlib.Path(__file__).resolve().parents[2] / "examples"

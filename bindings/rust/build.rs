@@ -1,30 +1,130 @@
-//! Has the static libraries built, if they aren't there, and links them.
-use std::path::Path;
-use std::process::Command;
+//! Links the static libraries: those in the folder that `VORTEX_SELECT_LIB_DIR` names, or else those of
+//! this repository, which `rt lib` builds where they are older than what they are made of.
+use std::env;
+use std::fs;
+use std::path::{Path, PathBuf};
+use std::process::{exit, Command};
+use std::time::SystemTime;
 
-fn link(crates: &Path, name: &str) {
-    let folder = crates.join(name);
+fn fail(why: String) -> ! {
+    eprintln!("vortex-select-sys: {why}");
+    exit(1)
+}
+
+/// The crate and those that it stands on, as `crates.txt` lists them.
+fn with_those_below(list: &str, name: &str) -> Vec<String> {
+    let line_of = |name: &str| {
+        let is_named = |line: &&str| line.split([':', ' ']).next() == Some(name);
+        list.lines().find(is_named)
+    };
+    let mut found = vec![name.to_string()];
+    let mut next = 0;
+    while next < found.len() {
+        let line = line_of(&found[next]).unwrap_or_default();
+        let below = line.split_once(':').map_or("", |(_, below)| below);
+        for other in below.split_whitespace() {
+            if line_of(other).is_some() && !found.iter().any(|name| name == other) {
+                found.push(other.to_string());
+            }
+        }
+        next += 1;
+    }
+    found
+}
+
+/// When a file, or the newest one below a folder, was written.
+fn written_at(path: &Path) -> Option<SystemTime> {
+    if !path.is_dir() {
+        return fs::metadata(path).and_then(|is| is.modified()).ok();
+    }
+    let entries = fs::read_dir(path).ok()?;
+    entries
+        .filter_map(|entry| written_at(&entry.ok()?.path()))
+        .max()
+}
+
+/// What the library is made of.
+fn sources(root: &Path, name: &str) -> Vec<PathBuf> {
+    let list = root.join("crates.txt");
+    let text = fs::read_to_string(&list).unwrap_or_default();
+    let folders = with_those_below(&text, name).into_iter().flat_map(|name| {
+        let parts = ["src", "specs", "proofs"].into_iter();
+        parts.map(move |part| root.join("crates").join(&name).join(part))
+    });
+    let mut found: Vec<PathBuf> = folders.filter(|folder| folder.exists()).collect();
+    found.push(list);
+    found
+}
+
+fn build(folder: &Path, library: &Path) {
+    let run = Command::new("rt").arg("lib").current_dir(folder).output();
+    match run {
+        Ok(run) if run.status.success() && library.exists() => (),
+        Ok(run) => {
+            eprint!("{}{}", String::from_utf8_lossy(&run.stdout), String::from_utf8_lossy(&run.stderr));
+            fail(format!("`rt lib` failed in {}", folder.display()))
+        }
+        Err(why) => fail(format!(
+            "{} is missing or old, and `rt lib`, which builds it, can't be run ({why}): put it right, \
+             or name the folder of a built one by VORTEX_SELECT_LIB_DIR",
+            library.display()
+        )),
+    }
+}
+
+/// The folder of the library, which is built there if it isn't newer than its sources.
+fn built(root: &Path, name: &str) -> PathBuf {
+    let folder = root.join("crates").join(name);
+    if !folder.exists() {
+        fail(format!(
+            "there is no crate {name} beside this one: name the folder of lib{name}.a by \
+             VORTEX_SELECT_LIB_DIR"
+        ));
+    }
+    let target = env::var("TARGET").unwrap_or_default();
+    if target != "x86_64-unknown-linux-gnu" && target != "x86_64-unknown-linux-musl" {
+        fail(format!(
+            "`rt lib` builds for x86-64 Linux and not for {target}: name the folder of a library for \
+             it by VORTEX_SELECT_LIB_DIR"
+        ));
+    }
     let library = folder.join("out").join(format!("lib{name}.a"));
+    let sources = sources(root, name);
+    let newest = sources.iter().filter_map(|path| written_at(path)).max();
+    if !library.exists() || written_at(&library) < newest {
+        build(&folder, &library);
+    }
+    for path in sources.iter().chain([&library]) {
+        println!("cargo:rerun-if-changed={}", path.display());
+    }
+    folder.join("out")
+}
+
+fn prebuilt(folder: PathBuf, name: &str) -> PathBuf {
+    let library = folder.join(format!("lib{name}.a"));
     if !library.exists() {
-        let run = Command::new("rt").arg("lib").current_dir(&folder).status();
-        assert!(
-            run.is_ok_and(|status| status.success()),
-            "`rt lib` failed in {folder:?}"
-        );
+        fail(format!(
+            "VORTEX_SELECT_LIB_DIR has no {}",
+            library.display()
+        ));
     }
     println!("cargo:rerun-if-changed={}", library.display());
-    println!(
-        "cargo:rustc-link-search=native={}",
-        folder.join("out").display()
-    );
-    println!("cargo:rustc-link-lib=static={name}");
+    folder
 }
 
 fn main() {
-    let here = std::env::var_os("CARGO_MANIFEST_DIR").expect("cargo sets it");
-    let crates = Path::new(&here).join("../../crates");
-    link(&crates, "vortex_c");
-    if std::env::var_os("CARGO_FEATURE_ROWS").is_some() {
-        link(&crates, "vortex_rows_c");
+    let here = env::var_os("CARGO_MANIFEST_DIR").expect("cargo sets it");
+    let root = Path::new(&here).join("../..");
+    println!("cargo:rerun-if-env-changed=VORTEX_SELECT_LIB_DIR");
+    println!("cargo:rerun-if-changed=build.rs");
+    let has_rows = env::var_os("CARGO_FEATURE_ROWS").is_some();
+    let names = ["vortex_rows_c", "vortex_c"];
+    for name in &names[if has_rows { 0 } else { 1 }..] {
+        let folder = match env::var_os("VORTEX_SELECT_LIB_DIR") {
+            Some(folder) => prebuilt(folder.into(), name),
+            None => built(&root, name),
+        };
+        println!("cargo:rustc-link-search=native={}", folder.display());
+        println!("cargo:rustc-link-lib=static={name}");
     }
 }

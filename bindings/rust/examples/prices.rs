@@ -1,4 +1,4 @@
-use vortex_select::{filter, take, Mask, OutOfBounds};
+use vortex_select_sys::{filter, take, Mask, OutOfBounds};
 
 fn main() -> Result<(), OutOfBounds> {
     let prices = [250u32, 90, 1200, 40];

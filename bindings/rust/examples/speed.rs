@@ -6,7 +6,7 @@
 use std::hint::black_box;
 use std::ops::Range;
 use std::time::Instant;
-use vortex_select::{filter, filter_bits, take, take_bits, take_into, Bits, Mask, Record};
+use vortex_select_sys::{filter, filter_bits, take, take_bits, take_into, Bits, Mask, Record};
 
 const ROWS: usize = 65_536 + 37;
 const BY_DENSITY: [&str; 5] = [

@@ -1,5 +1,6 @@
 use crate::calls::{self, DONE, INDEX};
 use crate::{Mask, OutOfBounds};
+use std::mem::MaybeUninit;
 
 /// Bits in words of the caller's, from any of them on, the first one lowest.
 #[derive(Clone, Copy, Debug)]
@@ -13,7 +14,7 @@ impl<'a> Bits<'a> {
     /// The `len` bits from bit `at` of the words on. `None` where the words don't hold so many.
     ///
     /// ```
-    /// use vortex_select::Bits;
+    /// use vortex_select_sys::Bits;
     ///
     /// let bits = Bits::new(&[0b1000], 3, 2).unwrap();
     /// assert_eq!((bits.get(0), bits.get(1), bits.get(2)), (Some(true), Some(false), None));
@@ -59,7 +60,7 @@ impl<'a> From<&'a Mask> for Bits<'a> {
 /// Where the mask isn't as long as the bits.
 ///
 /// ```
-/// use vortex_select::{filter_bits, Bits, Mask};
+/// use vortex_select_sys::{filter_bits, Bits, Mask};
 ///
 /// let src = Bits::new(&[0b1010_0000], 4, 4).unwrap();
 /// let mask = Mask::from_bools(&[false, true, true, true]);
@@ -71,24 +72,30 @@ pub fn filter_bits(src: Bits, mask: Bits) -> Mask {
     let (s, m) = (src.words, mask.words);
     // A bit of room for each row, so that none is counted before.
     let room = mask.len.div_ceil(64);
-    let mut kept = Vec::with_capacity(room);
-    let answer = unsafe {
-        calls::vortex_filter_bits(
-            s.as_ptr(),
-            s.len(),
-            src.at,
-            m.as_ptr(),
-            m.len(),
-            mask.at,
-            mask.len,
-            kept.as_mut_ptr(),
-            room,
-        )
+    let mut count = 0;
+    let call = |dst: &mut [_]| {
+        let dst: &mut [MaybeUninit<u64>] = dst;
+        // SAFETY: each pointer is that of a slice and leads to as many words as is said, and the one
+        // that is written is borrowed alone.
+        let answer = unsafe {
+            calls::vortex_filter_bits(
+                s.as_ptr(),
+                s.len(),
+                src.at,
+                m.as_ptr(),
+                m.len(),
+                mask.at,
+                mask.len,
+                dst.as_mut_ptr().cast(),
+                room,
+            )
+        };
+        count = crate::count_of(answer);
+        (answer, count.div_ceil(64))
     };
-    assert_eq!(answer.status, DONE);
-    let count = answer.value as usize;
     // SAFETY: the call wrote the words of as many bits as it answers.
-    unsafe { kept.set_len(count.div_ceil(64)) };
+    let (answer, mut kept) = unsafe { crate::written(room, call) };
+    assert_eq!(answer.status, DONE);
     kept.shrink_to_fit();
     Mask::of(kept, count)
 }
@@ -96,7 +103,7 @@ pub fn filter_bits(src: Bits, mask: Bits) -> Mask {
 /// The bits of `src` at the indices, in order, or the first index that is out of bounds.
 ///
 /// ```
-/// use vortex_select::{take_bits, Bits, Mask, OutOfBounds};
+/// use vortex_select_sys::{take_bits, Bits, Mask, OutOfBounds};
 ///
 /// let bits = Mask::from_bools(&[true, false, true]);
 /// let taken = take_bits(Bits::from(&bits), &[2, 1, 0, 0]);
@@ -114,7 +121,7 @@ pub fn take_bits(src: Bits, indices: &[u64]) -> Result<Mask, OutOfBounds> {
 /// Where the mask isn't as long as the list of indices.
 ///
 /// ```
-/// use vortex_select::{take_bits_valid, Bits, Mask};
+/// use vortex_select_sys::{take_bits_valid, Bits, Mask};
 ///
 /// let bits = Mask::from_bools(&[true, false, true]);
 /// let there = Mask::from_bools(&[true, false]);
@@ -134,11 +141,15 @@ fn take_words(src: Bits, indices: &[u64], valid: &[u64]) -> Result<Mask, OutOfBo
     let room = indices.len().div_ceil(64);
     let (s, n) = (src.words.as_ptr(), src.words.len());
     let (i, k, v, m) = (indices.as_ptr(), indices.len(), valid.as_ptr(), valid.len());
-    let (answer, words) = unsafe {
-        crate::written(room, |dst| {
-            calls::vortex_take_bits(s, n, src.at, src.len, i, k, v, m, dst, room)
-        })
+    let call = |dst: &mut [_]| {
+        let dst: &mut [MaybeUninit<u64>] = dst;
+        let d = dst.as_mut_ptr().cast();
+        // SAFETY: as in `filter_bits`.
+        let answer = unsafe { calls::vortex_take_bits(s, n, src.at, src.len, i, k, v, m, d, room) };
+        (answer, crate::count_of(answer).div_ceil(64))
     };
+    // SAFETY: a take that was done wrote the words of as many bits as it answers.
+    let (answer, words) = unsafe { crate::written(room, call) };
     match answer.status {
         DONE => Ok(Mask::of(words, k)),
         INDEX => Err(OutOfBounds {

@@ -70,6 +70,7 @@ of_width!(Record16: vortex_filter_16 vortex_filter_in_place_16 vortex_take_16 vo
 of_width!(Record32: vortex_filter_32 vortex_filter_in_place_32 vortex_take_32 vortex_take_front_32);
 
 extern "C" {
+    pub fn vortex_version() -> u32;
     pub fn vortex_filter_bits(
         src: *const u64,
         n: usize,

@@ -2,13 +2,21 @@
 //! set bits of a mask, and the values at a list of indices.
 //!
 //! ```
-//! use vortex_select::{filter, take, Mask};
+//! use vortex_select_sys::{filter, take, Mask};
 //!
 //! let values = [10u32, 20, 30, 40];
 //! let mask = Mask::from_bools(&[true, false, true, true]);
 //! assert_eq!(filter(&values, &mask), [10, 30, 40]);
 //! assert_eq!(take(&values, &[3, 0, 0]), Ok(vec![40, 10, 10]));
 //! ```
+//!
+//! Safe code can't make a call of the library read or write outside the memory that it was handed.
+#![deny(unsafe_op_in_unsafe_fn)]
+#![warn(missing_docs)]
+
+#[cfg(not(all(target_arch = "x86_64", target_pointer_width = "64")))]
+compile_error!("the library is built for x86-64 alone, where `usize` has eight bytes");
+
 mod bits;
 mod calls;
 mod mask;
@@ -24,7 +32,19 @@ pub use record::Record;
 #[cfg(feature = "rows")]
 pub use rows::{file, made, page, rows, run, Answer};
 
-use calls::{DONE, INDEX};
+use calls::{Answer as CallAnswer, DONE, INDEX};
+use std::mem::MaybeUninit;
+
+/// The version of the library that is linked: a million times the major number, and a thousand times
+/// the minor one, and the patch number. It is this crate's.
+///
+/// ```
+/// assert_eq!(vortex_select_sys::version(), 1_000); // 0.1.0
+/// ```
+pub fn version() -> u32 {
+    // SAFETY: the call takes nothing.
+    unsafe { calls::vortex_version() }
+}
 
 /// An index is out of bounds: the first one, by its place in the list of indices.
 #[derive(Clone, Copy, Debug, PartialEq, Eq)]
@@ -41,20 +61,29 @@ impl std::fmt::Display for OutOfBounds {
 
 impl std::error::Error for OutOfBounds {}
 
-/// Makes a list of `len` values by a call that writes them all.
+/// Makes a list by a call that writes to its room, which is for `len` values at least.
 ///
 /// # Safety
-/// Where `write` answers `DONE`, it wrote `len` values.
-unsafe fn written<T: Copy>(
+/// Where `write` answers a status and a number of values, it wrote as many values as that.
+unsafe fn written<T>(
     len: usize,
-    write: impl FnOnce(*mut T) -> calls::Answer,
-) -> (calls::Answer, Vec<T>) {
+    write: impl FnOnce(&mut [MaybeUninit<T>]) -> (CallAnswer, usize),
+) -> (CallAnswer, Vec<T>) {
     let mut list = Vec::with_capacity(len);
-    let answer = write(list.as_mut_ptr());
-    if answer.status == DONE {
-        list.set_len(len);
-    }
+    let (answer, count) = write(&mut list.spare_capacity_mut()[..len]);
+    assert!(count <= len);
+    // SAFETY: so many values were written, and the list has room for them.
+    unsafe { list.set_len(count) };
     (answer, list)
+}
+
+/// The number of a call that was done, and else none.
+fn count_of(answer: CallAnswer) -> usize {
+    if answer.status == DONE {
+        answer.value as usize
+    } else {
+        0
+    }
 }
 
 /// The values at the set bits of the mask, in order.
@@ -63,7 +92,7 @@ unsafe fn written<T: Copy>(
 /// Where the mask isn't as long as the values.
 ///
 /// ```
-/// use vortex_select::{filter, Mask};
+/// use vortex_select_sys::{filter, Mask};
 ///
 /// let mask = Mask::from_bools(&[false, true, true]);
 /// assert_eq!(filter(&[0.5f64, 1.5, 2.5], &mask), [1.5, 2.5]);
@@ -71,8 +100,12 @@ unsafe fn written<T: Copy>(
 pub fn filter<T: Record>(values: &[T], mask: &Mask) -> Vec<T> {
     assert_eq!(values.len(), mask.len(), "a mask is as long as its values");
     let count = mask.count();
-    let (answer, kept) =
-        unsafe { written(count, |dst| T::filter(values, mask.words(), dst, count)) };
+    let call = |dst: &mut [_]| {
+        let answer = record::filter(values, mask.words(), dst);
+        (answer, count_of(answer))
+    };
+    // SAFETY: a filter that was done wrote as many values as it answers.
+    let (answer, kept) = unsafe { written(count, call) };
     assert_eq!(answer.status, DONE);
     kept
 }
@@ -83,7 +116,7 @@ pub fn filter<T: Record>(values: &[T], mask: &Mask) -> Vec<T> {
 /// Where the mask isn't as long as the values.
 ///
 /// ```
-/// use vortex_select::{filter_in_place, Mask};
+/// use vortex_select_sys::{filter_in_place, Mask};
 ///
 /// let mut values = vec![1u8, 2, 3];
 /// filter_in_place(&mut values, &Mask::from_bools(&[true, false, true]));
@@ -91,7 +124,7 @@ pub fn filter<T: Record>(values: &[T], mask: &Mask) -> Vec<T> {
 /// ```
 pub fn filter_in_place<T: Record>(values: &mut Vec<T>, mask: &Mask) {
     assert_eq!(values.len(), mask.len(), "a mask is as long as its values");
-    let answer = T::filter_in_place(values, mask.words());
+    let answer = record::filter_in_place(values, mask.words());
     assert_eq!(answer.status, DONE);
     values.truncate(answer.value as usize);
 }
@@ -99,7 +132,7 @@ pub fn filter_in_place<T: Record>(values: &mut Vec<T>, mask: &Mask) {
 /// The values at the indices, in order, or the first index that is out of bounds.
 ///
 /// ```
-/// use vortex_select::{take, OutOfBounds};
+/// use vortex_select_sys::{take, OutOfBounds};
 ///
 /// assert_eq!(take(&[7u16, 8, 9], &[2, 2, 0]), Ok(vec![9, 9, 7]));
 /// assert_eq!(take(&[7u16, 8, 9], &[2, 3]), Err(OutOfBounds { place: 1 }));
@@ -115,7 +148,7 @@ pub fn take<T: Record>(values: &[T], indices: &[u64]) -> Result<Vec<T>, OutOfBou
 /// Where the mask isn't as long as the list of indices.
 ///
 /// ```
-/// use vortex_select::{take_valid, Mask};
+/// use vortex_select_sys::{take_valid, Mask};
 ///
 /// let there = Mask::from_bools(&[true, false, true]);
 /// assert_eq!(take_valid(&[7u16, 8, 9], &[2, 99, 0], &there), Ok(vec![9, 0, 7]));
@@ -139,15 +172,16 @@ fn take_words<T: Record>(
     valid: &[u64],
 ) -> Result<Vec<T>, OutOfBounds> {
     let count = indices.len();
-    let mut taken = Vec::with_capacity(count);
-    let answer = T::take_front(values, indices, valid, taken.as_mut_ptr(), count);
+    let call = |dst: &mut [_]| {
+        let answer = record::take_front(values, indices, valid, dst);
+        (answer, count_of(answer))
+    };
+    // SAFETY: a take of the front that was done wrote as many values as it answers.
+    let (answer, taken) = unsafe { written(count, call) };
     assert_eq!(answer.status, DONE);
-    let place = answer.value as usize;
-    if place < count {
-        return Err(OutOfBounds { place });
+    if taken.len() < count {
+        return Err(OutOfBounds { place: taken.len() });
     }
-    // SAFETY: the call wrote as many values as it answers.
-    unsafe { taken.set_len(count) };
     Ok(taken)
 }
 
@@ -158,7 +192,7 @@ fn take_words<T: Record>(
 /// Where `dst` isn't as long as the list of indices.
 ///
 /// ```
-/// use vortex_select::{take_into, OutOfBounds};
+/// use vortex_select_sys::{take_into, OutOfBounds};
 ///
 /// let mut taken = [1u16, 2];
 /// assert_eq!(take_into(&[7, 8, 9], &[2, 3], &mut taken), Err(OutOfBounds { place: 1 }));
@@ -172,8 +206,7 @@ pub fn take_into<T: Record>(
     dst: &mut [T],
 ) -> Result<(), OutOfBounds> {
     assert_eq!(indices.len(), dst.len(), "a list is as long as its indices");
-    let room = dst.len();
-    let answer = T::take(values, indices, &[], dst.as_mut_ptr(), room);
+    let answer = record::take(values, indices, &[], record::unwritten(dst));
     match answer.status {
         DONE => Ok(()),
         INDEX => Err(OutOfBounds {

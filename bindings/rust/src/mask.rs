@@ -1,6 +1,6 @@
 use crate::calls::{self, Run, DONE};
+use std::mem::MaybeUninit;
 use std::ops::Range;
-use std::ptr::NonNull;
 
 /// Which rows are selected: as many bits as there are rows, in words of 64, the first row lowest.
 #[derive(Clone, Debug, PartialEq, Eq)]
@@ -61,18 +61,24 @@ impl Mask {
     /// The rows that are selected, ascending.
     ///
     /// ```
-    /// use vortex_select::Mask;
+    /// use vortex_select_sys::Mask;
     ///
     /// assert_eq!(Mask::from_bools(&[true, false, true]).positions(), [0, 2]);
     /// ```
     pub fn positions(&self) -> Vec<u64> {
         let count = self.count();
         let (words, rows) = (self.words.as_ptr(), self.len);
-        let (answer, positions) = unsafe {
-            crate::written(count, |dst| {
-                calls::vortex_positions(words, self.words.len(), rows, dst, count)
-            })
+        let call = |dst: &mut [_]| {
+            let dst: &mut [MaybeUninit<u64>] = dst;
+            let d = dst.as_mut_ptr().cast();
+            // SAFETY: the words are a slice, and what is written is borrowed alone and as long as is
+            // said.
+            let answer =
+                unsafe { calls::vortex_positions(words, self.words.len(), rows, d, dst.len()) };
+            (answer, crate::count_of(answer))
         };
+        // SAFETY: a call that was done wrote as many positions as it answers.
+        let (answer, positions) = unsafe { crate::written(count, call) };
         assert_eq!(answer.status, DONE);
         positions
     }
@@ -80,15 +86,21 @@ impl Mask {
     /// The maximal runs of rows that are selected, each from its start up to its end, ascending.
     ///
     /// ```
-    /// use vortex_select::Mask;
+    /// use vortex_select_sys::Mask;
     ///
     /// assert_eq!(Mask::from_bools(&[true, false, true, true]).runs(), [0..1, 2..4]);
     /// ```
     pub fn runs(&self) -> Vec<Range<u64>> {
         let (words, m, rows) = (self.words.as_ptr(), self.words.len(), self.len);
-        let call = |dst: *mut Run, room| unsafe { calls::vortex_runs(words, m, rows, dst, room) };
-        let count = call(NonNull::dangling().as_ptr(), 0).value as usize;
-        let (answer, runs) = unsafe { crate::written(count, |dst| call(dst, count)) };
+        let call = |dst: &mut [MaybeUninit<Run>]| {
+            let d = dst.as_mut_ptr().cast();
+            // SAFETY: as in `positions`. A slice of no runs has an aligned pointer too.
+            let answer = unsafe { calls::vortex_runs(words, m, rows, d, dst.len()) };
+            (answer, crate::count_of(answer))
+        };
+        let (counted, _) = call(&mut []);
+        // SAFETY: a call that was done wrote as many runs as it answers.
+        let (answer, runs) = unsafe { crate::written(counted.value as usize, call) };
         assert_eq!(answer.status, DONE);
         runs.into_iter().map(|run| run.start..run.end).collect()
     }
@@ -96,13 +108,14 @@ impl Mask {
     /// The `k`-th row that is selected, from 0. `None` where not so many are.
     ///
     /// ```
-    /// use vortex_select::Mask;
+    /// use vortex_select_sys::Mask;
     ///
     /// let mask = Mask::from_bools(&[true, false, true]);
     /// assert_eq!((mask.rank(1), mask.rank(2)), (Some(2), None));
     /// ```
     pub fn rank(&self, k: usize) -> Option<usize> {
         let (words, m) = (self.words.as_ptr(), self.words.len());
+        // SAFETY: the words are a slice.
         let answer = unsafe { calls::vortex_rank(words, m, self.len, k) };
         (answer.status == DONE).then_some(answer.value as usize)
     }
@@ -110,13 +123,14 @@ impl Mask {
     /// How many rows before row `p` are selected. `None` where `p` is past the rows.
     ///
     /// ```
-    /// use vortex_select::Mask;
+    /// use vortex_select_sys::Mask;
     ///
     /// let mask = Mask::from_bools(&[true, false, true]);
     /// assert_eq!((mask.count_before(3), mask.count_before(4)), (Some(2), None));
     /// ```
     pub fn count_before(&self, p: usize) -> Option<usize> {
         let (words, m) = (self.words.as_ptr(), self.words.len());
+        // SAFETY: the words are a slice.
         let answer = unsafe { calls::vortex_count_before(words, m, self.len, p) };
         (answer.status == DONE).then_some(answer.value as usize)
     }

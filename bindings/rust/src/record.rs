@@ -1,69 +1,128 @@
 use crate::calls::{self, Answer};
+use std::mem::MaybeUninit;
 
-/// Values of 1, 2, 4, 8, 16 or 32 bytes.
-///
-/// # Safety
-/// The type has the size and at least the alignment of the record that its calls take.
-pub unsafe trait Record: Copy {
-    #[doc(hidden)]
-    fn filter(src: &[Self], words: &[u64], dst: *mut Self, room: usize) -> Answer;
-    #[doc(hidden)]
-    fn filter_in_place(values: &mut [Self], words: &[u64]) -> Answer;
-    #[doc(hidden)]
-    fn take(src: &[Self], indices: &[u64], valid: &[u64], dst: *mut Self, room: usize) -> Answer;
-    #[doc(hidden)]
-    fn take_front(
-        src: &[Self],
-        indices: &[u64],
-        valid: &[u64],
-        dst: *mut Self,
-        room: usize,
-    ) -> Answer;
+mod sealed {
+    pub trait Sealed {}
 }
 
+/// Values of 1, 2, 4, 8, 16 or 32 bytes: numbers, and arrays of them.
+///
+/// No other type can be one, and the trait has nothing that a caller could call:
+///
+/// ```compile_fail,E0576
+/// #![forbid(unsafe_code)]
+/// use vortex_select_sys::Record;
+///
+/// let place = 8 as *mut u64;
+/// <u64 as Record>::filter(&[0xdead], &[1], place, 1);
+/// ```
+///
+/// ```compile_fail,E0599
+/// #![forbid(unsafe_code)]
+/// use vortex_select_sys::Record;
+///
+/// fn write<T: Record>(values: &[T], place: *mut T) {
+///     T::filter(values, &[1], place, 1);
+/// }
+/// ```
+///
+/// ```compile_fail,E0277
+/// #[derive(Clone, Copy)]
+/// struct Mine(bool);
+///
+/// impl vortex_select_sys::Record for Mine {}
+/// ```
+pub trait Record: Copy + sealed::Sealed {}
+
+/// Each type has a size that the library has calls for, and at least the alignment of the record
+/// that they take. Any bytes are a value of it.
 macro_rules! records {
-    ($filter:ident $in_place:ident $take:ident $front:ident: $($item:ty)+) => {$(
-        unsafe impl Record for $item {
-            fn filter(src: &[Self], words: &[u64], dst: *mut Self, room: usize) -> Answer {
-                let (s, w) = (src.as_ptr().cast(), words.as_ptr());
-                unsafe { calls::$filter(s, src.len(), w, words.len(), dst.cast(), room) }
-            }
-
-            fn filter_in_place(values: &mut [Self], words: &[u64]) -> Answer {
-                let (v, w) = (values.as_mut_ptr().cast(), words.as_ptr());
-                unsafe { calls::$in_place(v, values.len(), w, words.len()) }
-            }
-
-            fn take(
-                src: &[Self],
-                indices: &[u64],
-                valid: &[u64],
-                dst: *mut Self,
-                room: usize,
-            ) -> Answer {
-                let (s, i, v) = (src.as_ptr().cast(), indices.as_ptr(), valid.as_ptr());
-                let (n, k, m) = (src.len(), indices.len(), valid.len());
-                unsafe { calls::$take(s, n, i, k, v, m, dst.cast(), room) }
-            }
-
-            fn take_front(
-                src: &[Self],
-                indices: &[u64],
-                valid: &[u64],
-                dst: *mut Self,
-                room: usize,
-            ) -> Answer {
-                let (s, i, v) = (src.as_ptr().cast(), indices.as_ptr(), valid.as_ptr());
-                let (n, k, m) = (src.len(), indices.len(), valid.len());
-                unsafe { calls::$front(s, n, i, k, v, m, dst.cast(), room) }
-            }
-        }
+    ($($item:ty)+) => {$(
+        const _: () = assert!(matches!(size_of::<$item>(), 1 | 2 | 4 | 8 | 16 | 32));
+        const _: () = assert!(align_of::<$item>() >= size_of::<$item>() || align_of::<$item>() >= 8);
+        impl sealed::Sealed for $item {}
+        impl Record for $item {}
     )+};
 }
 
-records!(vortex_filter_1 vortex_filter_in_place_1 vortex_take_1 vortex_take_front_1: u8 i8);
-records!(vortex_filter_2 vortex_filter_in_place_2 vortex_take_2 vortex_take_front_2: u16 i16);
-records!(vortex_filter_4 vortex_filter_in_place_4 vortex_take_4 vortex_take_front_4: u32 i32 f32);
-records!(vortex_filter_8 vortex_filter_in_place_8 vortex_take_8 vortex_take_front_8: u64 i64 f64 usize isize);
-records!(vortex_filter_16 vortex_filter_in_place_16 vortex_take_16 vortex_take_front_16: u128 i128 [u64; 2]);
-records!(vortex_filter_32 vortex_filter_in_place_32 vortex_take_32 vortex_take_front_32: [u64; 4]);
+records!(u8 i8 u16 i16 u32 i32 f32 u64 i64 f64 usize isize u128 i128 [u64; 2] [u64; 4]);
+
+/// The function of the type's size.
+macro_rules! by_size {
+    ($item:ty: $_1:ident $_2:ident $_4:ident $_8:ident $_16:ident $_32:ident $args:tt) => {
+        match size_of::<$item>() {
+            1 => calls::$_1 $args,
+            2 => calls::$_2 $args,
+            4 => calls::$_4 $args,
+            8 => calls::$_8 $args,
+            16 => calls::$_16 $args,
+            32 => calls::$_32 $args,
+            size => unreachable!("a record of {size} bytes"),
+        }
+    };
+}
+
+/// Memory of values as such that needn't be written yet.
+pub(crate) fn unwritten<T: Record>(values: &mut [T]) -> &mut [MaybeUninit<T>] {
+    let (place, len) = (values.as_mut_ptr().cast(), values.len());
+    // SAFETY: the same memory, borrowed for the same time. The calls of this file write whole values
+    // into it, and nothing else is done with it.
+    unsafe { std::slice::from_raw_parts_mut(place, len) }
+}
+
+pub(crate) fn filter<T: Record>(src: &[T], words: &[u64], dst: &mut [MaybeUninit<T>]) -> Answer {
+    let (s, n, w, m) = (src.as_ptr(), src.len(), words.as_ptr(), words.len());
+    let (d, room) = (dst.as_mut_ptr(), dst.len());
+    // SAFETY: each pointer is that of a slice and leads to as many aligned items as is said, and the
+    // slice that is written is borrowed alone, so that it overlaps no other one.
+    unsafe {
+        by_size!(T: vortex_filter_1 vortex_filter_2 vortex_filter_4 vortex_filter_8
+            vortex_filter_16 vortex_filter_32 (s.cast(), n, w, m, d.cast(), room))
+    }
+}
+
+pub(crate) fn filter_in_place<T: Record>(values: &mut [T], words: &[u64]) -> Answer {
+    let (v, n, w, m) = (
+        values.as_mut_ptr(),
+        values.len(),
+        words.as_ptr(),
+        words.len(),
+    );
+    // SAFETY: as in `filter`. The call only moves values, so each is one that was there.
+    unsafe {
+        by_size!(T: vortex_filter_in_place_1 vortex_filter_in_place_2 vortex_filter_in_place_4
+            vortex_filter_in_place_8 vortex_filter_in_place_16 vortex_filter_in_place_32
+            (v.cast(), n, w, m))
+    }
+}
+
+pub(crate) fn take<T: Record>(
+    src: &[T],
+    indices: &[u64],
+    valid: &[u64],
+    dst: &mut [MaybeUninit<T>],
+) -> Answer {
+    let (s, n, i, k) = (src.as_ptr(), src.len(), indices.as_ptr(), indices.len());
+    let (v, m, d, room) = (valid.as_ptr(), valid.len(), dst.as_mut_ptr(), dst.len());
+    // SAFETY: as in `filter`.
+    unsafe {
+        by_size!(T: vortex_take_1 vortex_take_2 vortex_take_4 vortex_take_8 vortex_take_16
+            vortex_take_32 (s.cast(), n, i, k, v, m, d.cast(), room))
+    }
+}
+
+pub(crate) fn take_front<T: Record>(
+    src: &[T],
+    indices: &[u64],
+    valid: &[u64],
+    dst: &mut [MaybeUninit<T>],
+) -> Answer {
+    let (s, n, i, k) = (src.as_ptr(), src.len(), indices.as_ptr(), indices.len());
+    let (v, m, d, room) = (valid.as_ptr(), valid.len(), dst.as_mut_ptr(), dst.len());
+    // SAFETY: as in `filter`.
+    unsafe {
+        by_size!(T: vortex_take_front_1 vortex_take_front_2 vortex_take_front_4
+            vortex_take_front_8 vortex_take_front_16 vortex_take_front_32
+            (s.cast(), n, i, k, v, m, d.cast(), room))
+    }
+}

@@ -21,7 +21,7 @@ pub struct Answer {
 /// hold a byte 0 are none of the program's.
 ///
 /// ```
-/// use vortex_select::run;
+/// use vortex_select_sys::run;
 ///
 /// let answer = run(&["made", "7"], b"");
 /// assert_eq!(answer.text, b"made 7 rows 500 nulls 45 sum 512344210835\n");
@@ -63,7 +63,7 @@ pub fn run(words: &[&str], document: &[u8]) -> Answer {
 /// The rows that a document asks for.
 ///
 /// ```
-/// use vortex_select::rows;
+/// use vortex_select_sys::rows;
 ///
 /// let column = r#"{"layout":"Primitive","type":"u8","values":[5,6,7]}"#;
 /// let document = format!(r#"{{"column":{column},"steps":[{{"slice":[1,3]}}]}}"#);

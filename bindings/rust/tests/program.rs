@@ -2,7 +2,7 @@
 #![cfg(feature = "rows")]
 use std::fs;
 use std::path::{Path, PathBuf};
-use vortex_select::{file, made, page, rows, run, Answer};
+use vortex_select_sys::{file, made, page, rows, run, Answer};
 
 fn examples() -> PathBuf {
     Path::new(env!("CARGO_MANIFEST_DIR")).join("../../examples")

@@ -1,7 +1,9 @@
-//! Random calls, compared with plain loops. `VORTEX_CALLS` says how many of them are made.
+//! Random calls of each function, compared with plain loops. `VORTEX_CALLS` says how many of them are
+//! made. All of it is safe code.
+#![forbid(unsafe_code)]
 use std::fmt::Debug;
 use std::ops::Range;
-use vortex_select::{
+use vortex_select_sys::{
     filter, filter_bits, filter_in_place, take, take_bits, take_bits_valid, take_into, take_valid,
     Bits, Mask, OutOfBounds, Record,
 };
@@ -188,20 +190,65 @@ fn one_call_of_bits(dice: &mut Dice) {
     }
 }
 
+/// A mask and its bits, made and read in each way there is.
+fn one_mask(dice: &mut Dice) {
+    let len = dice.len();
+    let rows = dice.bools(len);
+    let mask = Mask::from_bools(&rows);
+    assert_eq!((mask.len(), mask.is_empty()), (len, len == 0));
+    assert_eq!(mask.count(), rows.iter().filter(|row| **row).count());
+    let bit = |k: usize| mask.words()[k / 64] >> (k % 64) & 1 == 1;
+    assert!((0..64 * mask.words().len()).all(|k| bit(k) == (k < len && rows[k])));
+    let mut words = mask.words().to_vec();
+    assert_eq!(Mask::from_words(words.clone(), len).as_ref(), Some(&mask));
+    words.push(0);
+    assert_eq!(Mask::from_words(words.clone(), len), None);
+    words.pop();
+    if len % 64 > 0 {
+        words[len / 64] |= 1 << 63;
+        assert_eq!(Mask::from_words(words, len), None);
+    }
+    let (words, at) = placed(dice, &rows);
+    let bits = Bits::new(&words, at, len).unwrap();
+    assert_eq!((bits.len(), bits.is_empty()), (len, len == 0));
+    assert!((0..len + 70).all(|k| bits.get(k) == rows.get(k).copied()));
+    let of_mask = Bits::from(&mask);
+    assert!((0..len + 70).all(|k| of_mask.get(k) == rows.get(k).copied()));
+    let past = 64 * words.len() - at + 1;
+    assert!(Bits::new(&words, at, past).is_none() && Bits::new(&words, usize::MAX, len).is_none());
+}
+
 #[test]
 fn calls_agree_with_plain_loops() {
     let calls = std::env::var("VORTEX_CALLS").map_or(100_000, |n| n.parse().unwrap());
     let mut dice = Dice(88_172_645_463_325_252);
     for _ in 0..calls {
-        match dice.below(8) {
+        match dice.below(18) {
             0 => one_call::<u8>(&mut dice, 0, |n| n as u8),
-            1 => one_call::<i16>(&mut dice, 0, |n| n as i16),
-            2 => one_call::<u32>(&mut dice, 0, |n| n as u32),
-            3 => one_call::<f32>(&mut dice, 0.0, |n| (n % 1000) as f32),
-            4 => one_call::<u64>(&mut dice, 0, |n| n),
-            5 => one_call::<u128>(&mut dice, 0, |n| u128::from(n) << 40),
-            6 => one_call_of_bits(&mut dice),
-            _ => one_call::<[u64; 4]>(&mut dice, [0; 4], |n| [n, n / 2, n / 3, n / 5]),
+            1 => one_call::<i8>(&mut dice, 0, |n| n as i8),
+            2 => one_call::<u16>(&mut dice, 0, |n| n as u16),
+            3 => one_call::<i16>(&mut dice, 0, |n| n as i16),
+            4 => one_call::<u32>(&mut dice, 0, |n| n as u32),
+            5 => one_call::<i32>(&mut dice, 0, |n| n as i32),
+            6 => one_call::<f32>(&mut dice, 0.0, |n| (n % 1000) as f32),
+            7 => one_call::<u64>(&mut dice, 0, |n| n),
+            8 => one_call::<i64>(&mut dice, 0, |n| n as i64),
+            9 => one_call::<f64>(&mut dice, 0.0, |n| (n % 1000) as f64),
+            10 => one_call::<usize>(&mut dice, 0, |n| n as usize),
+            11 => one_call::<isize>(&mut dice, 0, |n| n as isize),
+            12 => one_call::<u128>(&mut dice, 0, |n| u128::from(n) << 40),
+            13 => one_call::<i128>(&mut dice, 0, |n| -i128::from(n) << 40),
+            14 => one_call::<[u64; 2]>(&mut dice, [0; 2], |n| [n, n / 2]),
+            15 => one_call::<[u64; 4]>(&mut dice, [0; 4], |n| [n, n / 2, n / 3, n / 5]),
+            16 => one_mask(&mut dice),
+            _ => one_call_of_bits(&mut dice),
         }
     }
+}
+
+#[test]
+fn the_crates_version_is_the_librarys() {
+    let parts = env!("CARGO_PKG_VERSION").split('.');
+    let version = parts.fold(0, |sum, part| 1000 * sum + part.parse::<u32>().unwrap());
+    assert_eq!(vortex_select_sys::version(), version);
 }

@@ -19,3 +19,4 @@ mod runs;
 mod take;
 mod take_bits;
 mod take_front;
+mod version;
