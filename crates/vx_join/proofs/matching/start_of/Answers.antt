@@ -1,5 +1,5 @@
 -- No row matches where there is no key.
-use Rattle.std.proofs.Common.{◌≡◌, sym, ap, ◌∙◌, length, arith, Option, None}
+use Rattle.std.proofs.Common.{sym, ap, ◌∙◌, arith}
 use Rattle.std.specs.Ordering.{eq_by_cmp}
 use Rattle.vx_join.specs.Chains.{first_match}
 use Rattle.vx_join.proofs.Links.{no_match}

@@ -1,4 +1,4 @@
-use Rattle.std.proofs.Common.{◌++◌, [], ◌∷◌, ℕ, List, sym, ap, ◌∙◌, arith}
+use Rattle.std.proofs.Common.{sym, ap, arith}
 use Rattle.std.specs.Ordering.{eq_by_cmp}
 use Rattle.vx_join.specs.Chains.{first_match}
 use Rattle.vx_join.proofs.Found.{map_all, map_more}
