@@ -82,21 +82,21 @@ fn start_of<K: Ord + Copy>(row: Option<K>, rows: &[Option<K>], chains: &Chains<K
     }
 }
 
-// Where the chain of each left row starts.
+// Where the chain of each key on the left starts.
 fn starts_of<K: Ord + Copy>(
     alloc: Global,
-    left: &[Option<K>],
+    keys: &[Option<K>],
     rows: &[Option<K>],
     chains: &Chains<K>,
 ) -> Result<Vec<usize>, NoMemory>
     requires { AreLinked (eq_by_cmp K.cmp) rows.now 0 (tree.get K.cmp chains.now.first)
         chains.now.next.items }
     ensures { IfOk result (λ starts. starts.items
-        ≡ map (λ row. first_match (eq_by_cmp K.cmp) rows.now row 0) left.now) }
+        ≡ map (λ row. first_match (eq_by_cmp K.cmp) rows.now row 0) keys.now) }
 {
-    let mut starts = Vec::with_capacity(alloc, left.len())?;
-    for i in 0..left.len() {
-        starts.push(start_of(left[i], rows, chains))?;
+    let mut starts = Vec::with_capacity(alloc, keys.len())?;
+    for i in 0..keys.len() {
+        starts.push(start_of(keys[i], rows, chains))?;
     }
     Ok(starts)
 }
