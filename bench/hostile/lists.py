@@ -93,6 +93,17 @@ def lazy_within(depth, rows):
     return column
 
 
+def wide(fields, rows):
+    """Structs of so many fields of bytes."""
+    return {'layout': 'Struct', 'len': rows, 'names': [f'f{k}' for k in range(fields)],
+            'fields': [ramp(rows)] * fields}
+
+
+def coded(rows):
+    """The numbers of a ramp of bytes, by a dictionary of as many codes."""
+    return {'layout': 'Dict', 'codes': ramp(rows), 'values': ramp(256)}
+
+
 def odd(rows):
     return {'filter': '01' * (rows // 2)}
 
@@ -145,6 +156,14 @@ DOCUMENTS = [
     # one list of 16,777,216 rows, 16,777,216 times
     *(too_long(f'16,777,216 times a list of 16,777,216 {kind}', lambda kind=kind: repeated(kind))
       for kind in ('null', 'u8', 'bool', 'utf8', 'list', 'dict')),
+
+    # more elements than were ever taken at once, and each of them held
+    right('4 times a list of 16,777,216 codes', lambda: text(lists([0, MOST_ROWS], coded(MOST_ROWS)), every(0, 4)),
+          seconds=20, mib=2048, printed=9 + 4 * (1 + (len(ramp_row(256)) - 1) * (MOST_ROWS // 256))),
+
+    # 10^12 cells of structs, by few picks of a short list
+    too_long('1,000,000 times a list of 10 structs of 100,000 fields',
+             lambda: text(lists([0, 10], wide(100_000, 10)), every(0, MILLION))),
 
     # deep
     *(right(f'{name} {depth} deep over {rows:,} rows{told}',

@@ -25,6 +25,7 @@ mod validity;
 
 pub use executing::execute;
 pub use filtering::filter;
+pub use list::take_lists;
 pub use materialized::is_materialized;
 pub use slicing::slice;
 pub use struct_::filter_fields;

@@ -1,6 +1,11 @@
 //! Layout `List`: the offsets are made by a plan, and the elements by a step over their column.
-ghost use Rattle.std.specs.Prelude.{◌≡◌, None, IfOk};
+ghost use Rattle.std.specs.Prelude.{◌≡◌, None, length, IfOk};
+ghost use Rattle.vx_types.specs.TypeTree.{primitive_kind};
+ghost use Rattle.vx_types.specs.declared.nullability.Nullability.TheVariants.{NonNullable};
+ghost use Rattle.vx_types.specs.declared.ptype.PType.TheVariants.{U64};
+ghost use Rattle.vx_positions.specs.Positions.{AllThere};
 ghost use Rattle.vx_model.specs.List.{list_column, list_fault};
+ghost use Rattle.vx_model.specs.Step.{IsTake};
 ghost use Rattle.vx_column.specs.ListParts.{list_parts};
 
 use crate::filtering::{FilterRows, filter};
@@ -23,13 +28,13 @@ fn relisted(
     elements: Array,
     offsets: PrimitiveArray,
     validity: Validity,
-) -> Result<Array, NoMemory>
+) -> Result<ListArray, NoMemory>
     requires valid { list_fault (list_parts elements offsets validity) ≡ None }
     requires dtype { elements.dtype ≡ array.now.elements.dtype }
-    ensures { IfOk result (λ a. a ≡ list_column (list_parts elements offsets validity)) }
+    ensures { IfOk result (λ a. a ≡ list_parts elements offsets validity) }
 {
     let elements = elements.into_ref(alloc)?;
-    Ok(array.with_parts(elements, offsets, validity).into_array())
+    Ok(array.with_parts(elements, offsets, validity))
 }
 
 impl Parts for ListArray {
@@ -53,13 +58,37 @@ impl FilterRows for ListArray {
         let plan = plan_list_filter(alloc, self, mask, policy, validity)?;
         let part = slice(alloc, self.elements(), plan.range.0, plan.range.1)?;
         let elements = filter(alloc, &part, &plan.mask, policy)?;
-        relisted(alloc, self, elements, plan.offsets, plan.validity)
+        let kept = relisted(alloc, self, elements, plan.offsets, plan.validity)?;
+        Ok(kept.into_array())
     }
+}
+
+/// The lists at the picks, in order, and a null at each null, with offsets of type `U64`. The type
+/// is nullable also where `nullability` is, and no pick is a null where it isn't. `NoMemory` alone.
+#[cycle(take)]
+#[tactic(auto, using(vx_model::proofs::ListRows::list_rows))]
+pub fn take_lists(
+    alloc: Global,
+    array: &ListArray,
+    picks: Picks,
+    nullability: Nullability,
+    policy: &Policy,
+) -> Result<ListArray, NoMemory>
+    requires bound { picks.bound ≡ length (list_column array.now).rows }
+    requires there { nullability ≡ NonNullable → AllThere picks.picks }
+    ensures taken { IfOk result (λ a.
+        IsTake (list_column array.now) picks.picks nullability (list_column a)) }
+    ensures offsets { IfOk result (λ a. a.offsets.kind ≡ primitive_kind U64) }
+{
+    let validity = take_validity(alloc, array.validity(), &picks, nullability, policy)?;
+    let plan = plan_list_take(alloc, array, &picks, validity)?;
+    drop(picks);
+    let elements = take_runs(alloc, array.elements(), plan.runs, policy)?;
+    relisted(alloc, array, elements, plan.offsets, plan.validity)
 }
 
 impl TakeRows for ListArray {
     #[cycle(take)]
-    #[tactic(auto, using(vx_model::proofs::ListRows::list_rows))]
     fn take(
         &self,
         alloc: Global,
@@ -67,10 +96,6 @@ impl TakeRows for ListArray {
         nullability: Nullability,
         policy: &Policy,
     ) -> StepResult {
-        let validity = take_validity(alloc, self.validity(), &picks, nullability, policy)?;
-        let plan = plan_list_take(alloc, self, &picks, validity)?;
-        drop(picks);
-        let elements = take_runs(alloc, self.elements(), plan.runs, policy)?;
-        relisted(alloc, self, elements, plan.offsets, plan.validity)
+        Ok(take_lists(alloc, self, picks, nullability, policy)?.into_array())
     }
 }

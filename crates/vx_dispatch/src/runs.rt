@@ -1,5 +1,5 @@
 //! The rows at the numbers of a sequence whose pieces are runs.
-ghost use Rattle.std.specs.Prelude.{◌≡◌, ◌+◌, ◌≤◌, All, None, Some, length, map, IfOk, IfSome};
+ghost use Rattle.std.specs.Prelude.{◌≡◌, ◌+◌, ◌*◌, ◌≤◌, All, None, Some, length, map, sum_by, IfOk, IfSome, IsOk};
 ghost use Rattle.vx_types.specs.declared.nullability.Nullability.TheVariants.{NonNullable};
 ghost use Rattle.vx_take.specs.Picks.{in_runs, run_places};
 ghost use Rattle.vx_pieces.specs.Indices.{index_fault, index_nullability, index_picks, index_value};
@@ -9,7 +9,7 @@ use crate::stored::take_record_runs;
 use crate::taking::take_picks;
 use std::alloc::Global;
 use vx_bits::NoMemory;
-use vx_column::{Array, Layout, Nullability, Runs};
+use vx_column::{Array, Columns, Layout, Nullability, Runs};
 use vx_mask::Policy;
 use vx_pieces::{Indices, run_picks, total_len};
 
@@ -46,33 +46,70 @@ fn take_stored_runs(alloc: Global, array: &Array, runs: &Runs) -> Result<Option<
     }
 }
 
-// A take of elements is begun where they are at most so many bytes or, where they aren't records,
-// so many, or at most twice as many as are stored. A short document can name a list that is longer
-// than any memory, by a few picks of one that is long: here it ends.
+// A take of elements is begun where it makes at most so many bytes of picks and rows, or at most
+// twice the elements that there are. A short document can name a list that is longer than any
+// memory, by a few picks of one that is long: here it ends.
 const MOST_BYTES: usize = 1 << 32;
 
-const MOST_ELEMENTS: usize = 1 << 25;
+const PICK_BYTES: usize = 8;
 
-// How many elements a take makes at most.
-fn most_elements(array: &Array) -> usize {
+// What a row that is no record takes at most: an offset and a run, or a view.
+const ROW_BYTES: usize = 24;
+
+// How many bytes a row of a column takes, without the columns below it.
+fn row_bytes(array: &Array) -> usize {
     if let Some(records) = array.records() {
-        return (MOST_BYTES / records.values().width().max(1)).max(array.len().saturating_mul(2));
+        return records.values().width();
     }
     match array.layout() {
-        Layout::Constant(_) | Layout::Dict(_) | Layout::Filter(_) => MOST_ELEMENTS,
-        _ => MOST_ELEMENTS.max(array.len().saturating_mul(2)),
+        Layout::Null(_) | Layout::Constant(_) => 0,
+        Layout::Bool(_) => 1,
+        _ => ROW_BYTES,
+    }
+}
+
+// The same of columns side by side.
+fn rows_bytes(columns: &Columns) -> usize {
+    let mut bytes: usize = 0;
+    for column in columns.as_slice() {
+        bytes = bytes.saturating_add(row_bytes(column));
+    }
+    bytes
+}
+
+// How many bytes a take makes for each element: its pick, and its row in each column that is taken
+// from. Records whose validity is a constant form are taken without picks.
+fn element_bytes(array: &Array) -> usize {
+    let row = match array.layout() {
+        Layout::Dict(a) => row_bytes(a.codes()),
+        Layout::Filter(a) => row_bytes(a.child()),
+        Layout::Extension(a) => row_bytes(a.storage()),
+        Layout::Struct(a) => rows_bytes(a.fields()),
+        Layout::Union(a) if a.offsets().is_none() => rows_bytes(a.children()),
+        _ => row_bytes(array),
+    };
+    match array.records() {
+        Some(records) if records.validity().is_constant_form() => row,
+        _ => row.saturating_add(PICK_BYTES),
     }
 }
 
 // Refuses runs of more elements than a take makes.
-fn check_room(array: &Array, runs: &Runs) -> Result<(), NoMemory> {
-    if total_len(runs.as_slice()) > most_elements(array) {
+fn check_room(array: &Array, runs: &Runs) -> Result<(), NoMemory>
+    ensures twice { sum_by (λ run. run.1) runs.now ≤ 2 * length array.now.rows → IsOk result }
+{
+    let total = total_len(runs.as_slice());
+    if total <= array.len().saturating_mul(2) {
+        return Ok(());
+    }
+    if total.saturating_mul(element_bytes(array)) > MOST_BYTES {
         return Err(NoMemory);
     }
     Ok(())
 }
 
 /// The rows in the runs, each its start and its length, one run after another. `NoMemory` alone.
+/// Room for all of them is asked for before the first is written.
 #[cycle(take)]
 pub(crate) fn take_runs(
     alloc: Global,

@@ -72,8 +72,9 @@ pub(crate) fn take_picks(
 /// The rows that indices name, in order, and a null for each null. `NoMemory` alone, and never
 /// over layout `Null`. The type is nullable also where the indices' type is.
 ///
-/// A take of lists that would make more than 4 GiB of elements that are records, or 33,554,432
-/// others, and more than twice those that are stored, is want of memory.
+/// A take of lists that would make more elements than twice those that there are, and more than 4
+/// GiB of picks of theirs and of rows, is want of memory: a pick is 8 bytes, a row a record, or 24
+/// bytes where it is none.
 pub fn take(
     alloc: Global,
     array: &Array,

@@ -1,8 +1,8 @@
 -- What is found along a chain, and row by row on the left.
-use Rattle.std.proofs.Common.{◌≡◌, ℕ, suc, ◌+◌, ◌-◌, ◌<◌, ◌≤◌, Bool, true, false, cond, List, [], ◌∷◌, ◌++◌, length, map, drop, get_or, Option, None, Some, refl, sym, ◌∙◌, ap, arith, append_assoc, length-drop}
+use Rattle.std.proofs.Common.{◌≡◌, ℕ, suc, ◌+◌, ◌-◌, ◌<◌, ◌≤◌, Bool, true, false, cond, List, [], ◌∷◌, ◌++◌, length, map, drop, get_or, Option, None, Some, take, refl, sym, ◌∙◌, ap, ap₂, arith, append_assoc, length-drop}
 use Rattle.std.specs.Prelude.{slice_index_or}
 use Rattle.std.specs.Cmp.{IsEquivalence}
-use Rattle.std.proofs.lemmas.List.{at_drop_more, get_or_default, get_or-drop, drop-drop, map-append, map-id}
+use Rattle.std.proofs.lemmas.List.{at_drop_more, get_or_default, get_or-drop, drop-drop, map-append, map-id, take_all, take_more}
 use Rattle.std.proofs.lemmas.Simd.{map-map}
 use Rattle.vx_join.specs.Chains.{keys_match, first_from, first_match, AreLinked}
 use Rattle.vx_join.specs.Pairs.{positions_from, pairs_from, lefts, rights}
@@ -110,6 +110,17 @@ module _ {K : Type 0} {same : K → K → Bool} (laws : IsEquivalence same) (key
     pub left_more : (i : ℕ) (out start : List ℕ) → out ++ map (λ _. i) (positions_from (keys_match same (Some key)) j (drop j rows)) ≡ start
         → (out ++ i ∷ []) ++ map (λ _. i) (positions_from (keys_match same (Some key)) (to) (drop (to) rows)) ≡ start
     left_more i out start h = rw append_assoc (ap (λ ps. out ++ map (λ _. i) ps) (sym link_positions) ∙ h)
+
+-- ---- a number a row
+
+module _ {X : Type 0} (f : X → ℕ) (xs : List X) (i : ℕ) where
+  pub map_more : (d : X) (ys now : List ℕ) (y : ℕ) → i < length xs → ys ≡ map f (take i xs) → {x : X} → f (get_or xs i d) ≡ f x → y ≡ f x → now ≡ ys ++ y ∷ [] → now ≡ map f (take (i + 1) xs)
+  map_more d ys now y inside before here is more =
+      more ∙ ap₂ (λ l n. l ++ n ∷ []) before (is ∙ sym here)
+      ∙ sym (ap (map f) (take_more xs i d inside) ∙ map-append f (take i xs) (get_or xs i d ∷ []))
+
+  pub map_all : (ys : List ℕ) → length xs ≤ i → ys ≡ map f (take i xs) → ys ≡ map f xs
+  map_all ys h e = e ∙ ap (map f) (take_all i xs h)
 
 -- ---- row by row on the left
 

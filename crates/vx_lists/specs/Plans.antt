@@ -1,5 +1,6 @@
 -- What plans promise of any column of the elements that are left.
 use Rattle.std.specs.Prelude.{◌≡◌, ℕ, pos, ◌-◌, ◌≤◌, Bool, true, false, List, [], length, map, replicate, None, if◌then◌else◌}
+use Rattle.vx_mask.specs.declared.policy.PolicyFields.{PolicyFields}
 use Rattle.vx_types.specs.RowValue.{RowValue}
 use Rattle.vx_model.specs.Column.{Column}
 use Rattle.vx_model.specs.FixedSizeList.{fixed_fault, fixed_spans}
@@ -9,6 +10,7 @@ use Rattle.vx_model.specs.Lists.{lists_of}
 use Rattle.vx_model.specs.Numbers.{integers_of}
 use Rattle.vx_model.specs.Records.{RecordParts}
 use Rattle.vx_model.specs.Valid.{Valid, non_nullable, all_valid, all_invalid, by_column}
+use Rattle.vx_lists.specs.Filters.{crop_range, selected_range, whole_range}
 use Rattle.vx_lists.specs.Sums.{concat_lists, offsets_of}
 
 -- any column of the elements that are left makes a column of these lists
@@ -40,6 +42,13 @@ is_all_invalid (by_column c) = false
 -- the lists that stay behind a validity: where no row is there, each is empty
 abbrev pub lists_left : Valid → List (List RowValue) → List (List RowValue)
 lists_left v lists = if is_all_invalid v then replicate (length lists) [] else lists
+
+-- the range of old elements that a filter's new ones are among: from the first offset to the last,
+-- or the part of it that the selected lists lie in; none where no row is there
+abbrev pub filter_range : PolicyFields → Valid → List ℕ → List Bool → ℕ × ℕ
+filter_range fields v offsets selection =
+    if is_all_invalid v then (0, 0) else
+    crop_range fields (whole_range offsets) (selected_range offsets selection)
 
 -- the elements that are left are these lists, one after another, and offsets are their sums
 pub record LeavesLists (new_offsets : List ℕ) (left : List RowValue)

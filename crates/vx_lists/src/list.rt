@@ -15,7 +15,7 @@ ghost use Rattle.vx_types.specs.TypeTree.{primitive_kind};
 ghost use Rattle.vx_types.specs.declared.ptype.PType.TheVariants.{U64};
 ghost use Rattle.vx_lists.specs.Lists.{AreOffsets, last_offset};
 ghost use Rattle.vx_lists.specs.Numbers.{AreInType};
-ghost use Rattle.vx_lists.specs.Plans.{IsRangeOf, LeavesLists, PlansLists, is_all_invalid, lists_left};
+ghost use Rattle.vx_lists.specs.Plans.{IsRangeOf, LeavesLists, PlansLists, filter_range, is_all_invalid, lists_left};
 ghost use Rattle.vx_text.specs.Fits.{FitsFilter, FitsSlice, FitsTake};
 
 use crate::filter::{ListFilter, filter_lists};
@@ -84,6 +84,9 @@ fn left_by(
         (λ filter. AreInType (type_of array.now.offsets.kind) filter.offsets.items) }
     ensures inside { IfOk result (λ filter. IsRangeOf (length array.now.elements.rows)
         filter.range (length (mask_bits filter.mask))) }
+    ensures range { IfOk result (λ filter. filter.range
+        ≡ filter_range policy.now (valid_of validity.now)
+        (offset_positions (integers_of array.now.offsets)) mask.now.bits.bits) }
 {
     if is_all_invalid(validity) {
         let filter = all_empty(alloc, mask.true_count())?;
@@ -99,7 +102,8 @@ fn left_by(
 /// The plan of the lists at the set positions of `mask`, in order, with their validity.
 ///
 /// The elements of a selected null row are kept, but where the validity is `AllInvalid` each list
-/// is empty. Which range of the elements it is, `policy` chooses, and no clause says. `NoMemory`
+/// is empty. The range of the elements goes from the first offset to the last, and is cut as
+/// [`crate::filter_lists`] cuts it; where the validity is `AllInvalid` it is empty. `NoMemory`
 /// alone.
 pub fn plan_list_filter(
     alloc: Global,
@@ -118,6 +122,9 @@ pub fn plan_list_filter(
     ensures valid { IfOk result (λ plan. valid_of plan.validity ≡ valid_of validity) }
     ensures inside { IfOk result (λ plan. IsRangeOf (length array.now.elements.rows)
         plan.range (length (mask_bits plan.mask))) }
+    ensures range { IfOk result (λ plan. plan.range
+        ≡ filter_range policy.now (valid_of validity)
+        (offset_positions (integers_of array.now.offsets)) mask.now.bits.bits) }
 {
     let filter = left_by(alloc, array, mask, policy, &validity)?;
     let offsets = offset_column(alloc, array.offsets().ptype(), filter.offsets.as_slice())?;

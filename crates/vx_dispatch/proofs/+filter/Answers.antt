@@ -154,9 +154,9 @@ list::ListArrayFilterRows::filter-returns t c =
     let kept = c.in_ok-elements.ensures.cut in
     let rows = kept.step.rows ∙ ap (items_where_true (mask_bits plan.mask)) part.step.rows in
     let makes : MakesLists plan.offsets w (items_where_true (mask_bits plan.mask) (slice_range p.elements.rows plan.range.0 plan.range.1)) (lists_left w (items_where_true mask (lists_of (list_spans p)))) = c.in_ok-plan.ensures.lists.makes in
-    weaker c.relisted.result c.relisted.ensures (λ a is. rw (is, same)
+    rw (c.into_array.ensures, c.in_ok-kept.ensures, same)
     (filter_left_step (list_spans p) (list_spans q) refl refl (ap list_of (kept.step.dtype ∙ part.step.dtype)) (fit-list p h) mask c.requires (makes x rows).1 left plain
-    (omega (arith, kept.depth, part.depth))))
+    (omega (arith, kept.depth, part.depth)))
 
 pub listview::filter_views-plan_view_filter-requires : goal.listview::filter_views-plan_view_filter-requires
 listview::filter_views-plan_view_filter-requires t c =

@@ -210,17 +210,17 @@ stored::StoredTakeRows::take-returns t c =
 
 -- ---- lists
 
-pub list::ListArrayTakeRows::take-plan_list_take-requires : goal.list::ListArrayTakeRows::take-plan_list_take-requires
-list::ListArrayTakeRows::take-plan_list_take-requires t c =
-    let p = c.args.self.now in let h = c.validity.ensures.valid in let picks = c.args.picks.picks in
+pub list::take_lists-plan_list_take-requires : goal.list::take_lists-plan_list_take-requires
+list::take_lists-plan_list_take-requires t c =
+    let p = c.args.array.now in let h = c.validity.ensures.valid in let picks = c.args.picks.picks in
     let w = valid_of c.in_ok-validity.validity in let n = either_nullable (nullability_by p.valid) c.args.nullability in
     let m = length (list_spans p).spans in let bound = c.requires.bound ∙ rows-list p h in
     let left : IsLeft p.valid n (at false (present_bits p.valid m) picks) w = rw (c.validity.ensures.value, bound) at c.in_ok-validity.ensures.left in
     record { bound = omega (arith, bound); fitting = fits_take p.valid w n m (fit-list p h) picks left }
 
-pub list::ListArrayTakeRows::take-returns : goal.list::ListArrayTakeRows::take-returns
-list::ListArrayTakeRows::take-returns t c =
-    let p = c.args.self.now in let h = c.validity.ensures.valid in let picks = c.args.picks.picks in
+pub list::take_lists-returns-clause-taken : goal.list::take_lists-returns-clause-taken
+list::take_lists-returns-clause-taken t c =
+    let p = c.args.array.now in let h = c.validity.ensures.valid in let picks = c.args.picks.picks in
     let w = valid_of c.in_ok-validity.validity in let plan = c.in_ok-plan.plan in let x = c.in_ok-elements.elements in
     let n = either_nullable (nullability_by p.valid) c.args.nullability in
     let q : ListParts = record { elements = x; offsets = plan.offsets; valid = w } in
@@ -230,6 +230,10 @@ list::ListArrayTakeRows::take-returns t c =
     let makes : MakesLists plan.offsets w (in_runs p.elements.rows plan.runs) (kept_lists (present_bits w (length picks)) (at [] (lists_of (list_spans p)) picks)) = c.in_ok-plan.ensures.lists.makes in
     weaker c.relisted.result c.relisted.ensures (λ a is. rw (is, same)
     (take_kept_step (list_spans p) (list_spans q) refl refl (ap list_of taken.dtype) (fit-list p h) picks n (makes x taken.rows).1 left))
+
+pub list::take_lists-returns-clause-offsets : goal.list::take_lists-returns-clause-offsets
+list::take_lists-returns-clause-offsets t c =
+    weaker c.relisted.result c.relisted.ensures (λ a is. ap (λ (l : ListParts). l.offsets.kind) is ∙ c.in_ok-plan.ensures.kind)
 
 pub listview::take_views-plan_view_take-requires : goal.listview::take_views-plan_view_take-requires
 listview::take_views-plan_view_take-requires t c =

@@ -1,4 +1,4 @@
-use Rattle.std.proofs.Common.{◌+◌, ◌++◌, ℕ, None, Some, map, sym, ap, ◌∙◌, List}
+use Rattle.std.proofs.Common.{◌++◌, ℕ, None, Some, map, sym, ap, ◌∙◌, List}
 use Rattle.std.specs.Ordering.{eq_by_cmp}
 use Rattle.std.proofs.lemmas.List.{append-nil}
 use Rattle.vx_join.proofs.Found.{none_matches, lefts_more, rights_more}

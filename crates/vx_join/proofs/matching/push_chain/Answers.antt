@@ -1,4 +1,4 @@
-use Rattle.std.proofs.Common.{◌+◌, ◌<◌, ◌++◌, ℕ, None, Some, drop, map, sym, ap, ◌∙◌, List, arith}
+use Rattle.std.proofs.Common.{◌<◌, ◌++◌, ℕ, None, Some, drop, map, sym, ap, ◌∙◌, List, arith}
 use Rattle.std.specs.Prelude.{slice_index_or}
 use Rattle.std.specs.Ordering.{eq_by_cmp}
 use Rattle.std.proofs.lemmas.Cmp.{eq_by_cmp_equiv}
