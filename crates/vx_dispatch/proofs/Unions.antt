@@ -1,19 +1,22 @@
--- The types of a union's columns are those of its variants; the parts that a filter leaves.
-use Rattle.std.proofs.Common.{◌≡◌, Bool, true, false, List, [], ◌∷◌, None, Some, refl, sym, ap, ap₂, subst, ◌∙◌}
+-- The types of a union's columns are those of its variants; the parts that a step leaves.
+use Rattle.std.proofs.Common.{◌≡◌, ◌<◌, ℕ, Bool, true, false, List, [], ◌∷◌, length, slice_range, Option, None, Some, refl, sym, ap, ap₂, subst, ◌∙◌}
 use Rattle.std.specs.Prelude.{is_some}
 use Rattle.std.specs.List.{items_where_true}
 use Rattle.std.specs.Option.{option_map}
 use Rattle.vx_types.specs.TypeTree.{TypeKind, TypeTree, types_of}
 use Rattle.vx_types.specs.declared.nullability.Nullability.{Nullability}
-use Rattle.vx_take.specs.Picks.{BoundedPicks}
+use Rattle.vx_types.specs.RowValue.{null}
+use Rattle.vx_take.specs.Picks.{at, BoundedPicks}
 use Rattle.vx_model.specs.Column.{Column}
-use Rattle.vx_model.specs.Columns.{AreCuts, types_in}
+use Rattle.vx_model.specs.Columns.{AreCuts, AreSteps, firsts_for_nulls, types_in}
 use Rattle.vx_model.specs.Records.{RecordParts, records_with}
-use Rattle.vx_model.specs.Step.{IsCut, IsTake}
+use Rattle.vx_model.specs.Step.{IsCut, IsSlice, IsTake}
 use Rattle.vx_model.specs.Union.{UnionParts, IsUnionFilter, offsets_left, union_fault}
 use Rattle.vx_model.specs.Valid.{non_nullable}
 use Rattle.vx_model.proofs.StructSteps.{same_trees}
 use Rattle.vx_model.proofs.UnionSteps.{alike-union}
+use Rattle.vx_stored.specs.Records.{zero_record}
+use Rattle.vx_dispatch.specs.Union.{IsUnionSlice, IsUnionTake, offsets_at, offsets_between}
 
 same_lists : (ts us : List TypeTree) → types_of ts ≡ types_of us → ts ≡ us
 same_lists [] [] h = refl
@@ -53,6 +56,48 @@ module _ (p : UnionParts) (mask : List Bool) (a : Column) (ids : IsCut p.ids (it
       record {
         ids = ids;
         offsets = sym (ap (option_map (offsets_left mask)) some);
+        dense = λ _. refl;
+        sparse = λ none. absurd (let no : true ≡ false = ap is_some (sym some) ∙ none in cc);
+      }
+
+-- ---- the parts that a slice leaves
+
+module _ (p : UnionParts) (s e : ℕ) (a : Column) (ids : IsSlice p.ids s e a) where
+  pub sliced-sparse : (cs : List Column) → p.offsets ≡ None → AreCuts (λ rows. slice_range rows s e) p.columns cs → IsUnionSlice p s e (record p { ids = a; offsets = None; columns = cs })
+  sliced-sparse cs none cuts =
+      record {
+        ids = ids;
+        offsets = sym (ap (option_map (offsets_between s e)) none);
+        dense = λ some. absurd (let no : false ≡ true = ap is_some (sym none) ∙ some in cc);
+        sparse = λ _. cuts;
+      }
+
+  pub sliced-dense : (o : RecordParts) → p.offsets ≡ Some o → IsUnionSlice p s e (record p { ids = a; offsets = Some (records_with o (slice_range o.records s e) non_nullable) })
+  sliced-dense o some =
+      record {
+        ids = ids;
+        offsets = sym (ap (option_map (offsets_between s e)) some);
+        dense = λ _. refl;
+        sparse = λ none. absurd (let no : true ≡ false = ap is_some (sym some) ∙ none in cc);
+      }
+
+-- ---- the parts that a take leaves
+
+module _ (p : UnionParts) (picks : List (Option ℕ)) (n : Nullability) (a : Column) (ids : IsTake p.ids picks n a) where
+  pub taken-sparse : (cs : List Column) → p.offsets ≡ None → (0 < length p.ids.rows → AreSteps (λ rows. at null rows (firsts_for_nulls picks)) p.columns cs) → IsUnionTake p picks n (record p { ids = a; offsets = None; columns = cs })
+  taken-sparse cs none steps =
+      record {
+        ids = ids;
+        offsets = sym (ap (option_map (offsets_at picks)) none);
+        dense = λ some. absurd (let no : false ≡ true = ap is_some (sym none) ∙ some in cc);
+        sparse = λ _. steps;
+      }
+
+  pub taken-dense : (o : RecordParts) → p.offsets ≡ Some o → IsUnionTake p picks n (record p { ids = a; offsets = Some (records_with o (at (zero_record o.width) o.records picks) non_nullable) })
+  taken-dense o some =
+      record {
+        ids = ids;
+        offsets = sym (ap (option_map (offsets_at picks)) some);
         dense = λ _. refl;
         sparse = λ none. absurd (let no : true ≡ false = ap is_some (sym some) ∙ none in cc);
       }

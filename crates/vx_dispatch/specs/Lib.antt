@@ -1,1 +1,2 @@
 pub mod Materialized
+pub mod Union

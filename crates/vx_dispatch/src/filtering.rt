@@ -7,6 +7,7 @@ ghost use Rattle.vx_model.specs.Step.{IsCut};
 
 use crate::parts::{Parts, StepResult};
 use crate::slicing::slice;
+use crate::union_::filter_variants;
 use std::alloc::Global;
 use vx_bits::NoMemory;
 use vx_column::{Array, Layout, Stored};
@@ -47,7 +48,7 @@ pub(crate) fn filter_values(
         Layout::FixedSizeList(a) => a.filter(alloc, mask, policy),
         Layout::Map(a) => a.filter(alloc, mask, policy),
         Layout::Struct(a) => a.filter(alloc, mask, policy),
-        Layout::Union(a) => a.filter(alloc, mask, policy),
+        Layout::Union(a) => Ok(filter_variants(alloc, a, mask, policy)?.into_array()),
         Layout::Extension(a) => a.filter(alloc, mask, policy),
         Layout::Constant(a) => Ok(filter_constant(a, mask)),
         Layout::Dict(a) => a.filter(alloc, mask, policy),

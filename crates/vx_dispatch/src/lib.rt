@@ -30,5 +30,6 @@ pub use materialized::is_materialized;
 pub use slicing::slice;
 pub use struct_::filter_fields;
 pub use taking::take;
-pub use union_::filter_variants;
+pub use union_::{filter_variants, slice_variants, take_variants};
 pub use validity::{filter_validity, take_validity};
+pub use vx_stored::{TextCopies, execute_texts};

@@ -4,6 +4,7 @@ ghost use Rattle.vx_model.specs.Plain.{is_plain};
 ghost use Rattle.vx_model.specs.Step.{IsSlice};
 
 use crate::parts::{Parts, StepResult};
+use crate::union_::slice_variants;
 use std::alloc::Global;
 use vx_bits::NoMemory;
 use vx_column::{Array, Layout, Stored};
@@ -39,7 +40,7 @@ pub fn slice(alloc: Global, array: &Array, start: usize, end: usize) -> Result<A
         Layout::FixedSizeList(a) => a.slice(alloc, start, end),
         Layout::Map(a) => a.slice(alloc, start, end),
         Layout::Struct(a) => a.slice(alloc, start, end),
-        Layout::Union(a) => a.slice(alloc, start, end),
+        Layout::Union(a) => Ok(slice_variants(alloc, a, start, end)?.into_array()),
         Layout::Extension(a) => a.slice(alloc, start, end),
         Layout::Constant(a) => Ok(slice_constant(a, start, end)),
         Layout::Dict(a) => a.slice(alloc, start, end),

@@ -12,6 +12,7 @@ ghost use Rattle.vx_model.specs.Step.{IsTake};
 use crate::executing::execute;
 use crate::parts::{Parts, StepResult};
 use crate::runs::take_by_runs;
+use crate::union_::take_variants;
 use std::alloc::Global;
 use vx_bits::NoMemory;
 use vx_column::{Array, Layout, NullArray, Nullability, Stored};
@@ -61,7 +62,9 @@ pub(crate) fn take_picks(
         Layout::FixedSizeList(a) => { a.take(alloc, picks, nullability, policy) }
         Layout::Map(a) => a.take(alloc, picks, nullability, policy),
         Layout::Struct(a) => a.take(alloc, picks, nullability, policy),
-        Layout::Union(a) => a.take(alloc, picks, nullability, policy),
+        Layout::Union(a) => {
+            Ok(take_variants(alloc, a, &picks, nullability, policy)?.into_array())
+        }
         Layout::Extension(a) => a.take(alloc, picks, nullability, policy),
         Layout::Constant(a) => take_constant(alloc, a, &picks, nullability),
         Layout::Dict(a) => a.take(alloc, picks, nullability, policy),

@@ -1,20 +1,23 @@
 //! Layout `Union`: a step over the rows is that step over the ids, and over each column where the
 //! union is sparse or over the offsets where it is dense.
-ghost use Rattle.std.specs.Prelude.{◌≡◌, length, None, Some, IfOk};
+ghost use Rattle.std.specs.Prelude.{◌≡◌, ◌≤◌, length, None, Some, IfOk};
 ghost use Rattle.std.specs.List.{items_where_true};
-ghost use Rattle.vx_model.specs.Step.{IsCut, IsTake};
+ghost use Rattle.vx_types.specs.declared.nullability.Nullability.TheVariants.{NonNullable};
+ghost use Rattle.vx_positions.specs.Positions.{AllThere};
+ghost use Rattle.vx_model.specs.Step.{IsCut, IsSlice, IsTake};
 ghost use Rattle.vx_model.specs.Union.{IsUnionFilter, union_column};
+ghost use Rattle.vx_dispatch.specs.Union.{IsUnionSlice, IsUnionTake};
 
 use crate::columns::{execute_each, filter_each, firsts_for_nulls, slice_each, take_each};
 use crate::dict::copied;
 use crate::executing::{ExecuteRows, execute};
-use crate::filtering::{FilterRows, filter_values};
+use crate::filtering::filter_values;
 use crate::parts::{Parts, StepResult};
-use crate::slicing::{SliceRows, slice};
-use crate::taking::{TakeRows, take_picks};
+use crate::slicing::slice;
+use crate::taking::take_picks;
 use std::alloc::Global;
 use vx_bits::NoMemory;
-use vx_column::{Array, ArrayRef, Columns, Nullability, PrimitiveArray, UnionArray};
+use vx_column::{ArrayRef, Columns, Nullability, PrimitiveArray, UnionArray};
 use vx_lists::{filter_numbers, slice_numbers, take_numbers};
 use vx_mask::{Mask, MaskValues, Policy, prepare_mask_for_reuse};
 use vx_take::Picks;
@@ -23,21 +26,32 @@ impl Parts for UnionArray {
     ghost column = { union_column };
 }
 
-impl SliceRows for UnionArray {
-    #[cycle(slice)]
-    #[tactic(auto, using(vx_model::proofs::UnionSteps::rows_of_unions))]
-    fn slice(&self, alloc: Global, start: usize, end: usize) -> StepResult {
-        let ids = slice(alloc, self.type_ids(), start, end)?.into_ref(alloc)?;
-        match self.offsets() {
-            Some(offsets) => {
-                let places = slice_numbers(offsets, start, end);
-                let columns = self.children().share();
-                Ok(self.with_parts(ids, Some(places), columns).into_array())
-            }
-            None => {
-                let columns = slice_each(alloc, self.children(), self.len(), start, end)?;
-                Ok(self.with_parts(ids, None, columns).into_array())
-            }
+/// The rows of a union from `start` up to `end`, in the union's form. A dense one keeps its columns,
+/// and the type of its offsets. `NoMemory` alone.
+#[cycle(slice)]
+#[tactic(auto, using(vx_model::proofs::UnionSteps::rows_of_unions))]
+pub fn slice_variants(
+    alloc: Global,
+    array: &UnionArray,
+    start: usize,
+    end: usize,
+) -> Result<UnionArray, NoMemory>
+    requires ordered { start ≤ end }
+    requires within { end ≤ length (union_column array.now).rows }
+    ensures cut { IfOk result
+        (λ a. IsSlice (union_column array.now) start end (union_column a)) }
+    ensures parts { IfOk result (IsUnionSlice array.now start end) }
+{
+    let ids = slice(alloc, array.type_ids(), start, end)?.into_ref(alloc)?;
+    match array.offsets() {
+        Some(offsets) => {
+            let places = slice_numbers(offsets, start, end);
+            let columns = array.children().share();
+            Ok(array.with_parts(ids, Some(places), columns))
+        }
+        None => {
+            let columns = slice_each(alloc, array.children(), array.len(), start, end)?;
+            Ok(array.with_parts(ids, None, columns))
         }
     }
 }
@@ -97,13 +111,6 @@ pub fn filter_variants(
     }
 }
 
-impl FilterRows for UnionArray {
-    #[cycle(filter)]
-    fn filter(&self, alloc: Global, mask: &MaskValues, policy: &Policy) -> StepResult {
-        Ok(filter_variants(alloc, self, mask, policy)?.into_array())
-    }
-}
-
 // The rows of a sparse union at the picks, whose ids these are. At a null pick the columns have row
 // 0, or fillers where there is no row; the ids hide them.
 #[cycle(take)]
@@ -115,45 +122,54 @@ fn take_sparse(
     picks: &Picks,
     nullability: Nullability,
     policy: &Policy,
-) -> Result<Array, NoMemory>
+) -> Result<UnionArray, NoMemory>
     requires sparse { array.now.offsets ≡ None }
     requires bound { picks.now.bound ≡ length array.now.ids.rows }
     requires ids { IsTake array.now.ids picks.now.picks nullability ids }
-    ensures { IfOk result (IsTake (union_column array.now) picks.now.picks nullability) }
+    ensures taken { IfOk result
+        (λ a. IsTake (union_column array.now) picks.now.picks nullability (union_column a)) }
+    ensures parts { IfOk result (IsUnionTake array.now picks.now.picks nullability) }
 {
     // the type of the ids is nullable where it is
     let _ = nullability;
     if picks.bound() == 0 {
         let types = array.variants().types();
         let columns = Columns::fillers(alloc, types, picks.len())?;
-        return Ok(array.with_parts(ids, None, columns).into_array());
+        return Ok(array.with_parts(ids, None, columns));
     }
     let firsts = firsts_for_nulls(alloc, picks)?;
     let columns = take_each(alloc, array.children(), &firsts, policy)?;
-    Ok(array.with_parts(ids, None, columns).into_array())
+    Ok(array.with_parts(ids, None, columns))
 }
 
-impl TakeRows for UnionArray {
-    #[cycle(take)]
-    #[tactic(auto, using(vx_model::proofs::UnionSteps::rows_of_unions))]
-    fn take(
-        &self,
-        alloc: Global,
-        picks: Picks,
-        nullability: Nullability,
-        policy: &Policy,
-    ) -> StepResult {
-        let copy = copied(alloc, &picks)?;
-        let taken = take_picks(alloc, self.type_ids(), copy, nullability, policy)?;
-        let ids = taken.into_ref(alloc)?;
-        match self.offsets() {
-            Some(offsets) => {
-                let places = take_numbers(alloc, offsets, &picks)?;
-                let columns = self.children().share();
-                Ok(self.with_parts(ids, Some(places), columns).into_array())
-            }
-            None => take_sparse(alloc, self, ids, &picks, nullability, policy),
+/// The rows of a union at the picks, in order, and a null at each null, in the union's form. A dense
+/// one keeps its columns, and the type of its offsets, of which one is 0 at a null. The type is
+/// nullable also where `nullability` is, and no pick is a null where it isn't. `NoMemory` alone.
+#[cycle(take)]
+#[tactic(auto, using(vx_model::proofs::UnionSteps::rows_of_unions))]
+pub fn take_variants(
+    alloc: Global,
+    array: &UnionArray,
+    picks: &Picks,
+    nullability: Nullability,
+    policy: &Policy,
+) -> Result<UnionArray, NoMemory>
+    requires bound { picks.now.bound ≡ length (union_column array.now).rows }
+    requires there { nullability ≡ NonNullable → AllThere picks.now.picks }
+    ensures taken { IfOk result
+        (λ a. IsTake (union_column array.now) picks.now.picks nullability (union_column a)) }
+    ensures parts { IfOk result (IsUnionTake array.now picks.now.picks nullability) }
+{
+    let copy = copied(alloc, picks)?;
+    let taken = take_picks(alloc, array.type_ids(), copy, nullability, policy)?;
+    let ids = taken.into_ref(alloc)?;
+    match array.offsets() {
+        Some(offsets) => {
+            let places = take_numbers(alloc, offsets, picks)?;
+            let columns = array.children().share();
+            Ok(array.with_parts(ids, Some(places), columns))
         }
+        None => take_sparse(alloc, array, ids, picks, nullability, policy),
     }
 }
 

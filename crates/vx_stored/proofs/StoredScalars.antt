@@ -18,11 +18,6 @@ pub of_column : {E : Type 0} (P : Column → Type 0) (r : Result Column E) (k : 
 of_column P (Ok a) k h p = subst P (sym h) p
 of_column P (Err e) k h p = h
 
--- rows that are others are these
-pub of_rows : {E : Type 0} (r : Result Column E) (xs ys : List RowValue) → IfOk r (λ a. a.rows ≡ xs) → xs ≡ ys → IfOk r (λ a. a.rows ≡ ys)
-of_rows (Ok a) xs ys h same = h ∙ same
-of_rows (Err e) xs ys h same = h
-
 -- a value is of its type's kind
 of_kind : (t : TypeTree) (x : RowValue) → scalar_fault t x ≡ None → is_of_kind t x ≡ true
 of_kind t x h = first (is_of_kind t x) (is_as_wide t x) h

@@ -1,6 +1,7 @@
 //! Layout `Bool`: the bits, with the new validity handed in.
 ghost use Rattle.std.specs.Prelude.{◌≡◌, length, IfOk};
 ghost use Rattle.std.specs.List.{items_where_true};
+ghost use Rattle.vx_stored.specs.Boolean.{is_below};
 
 use crate::rows::{StepResult, StoredRows};
 use std::alloc::Global;
@@ -29,7 +30,9 @@ fn filter_bits(
 }
 
 // Whether the density of a mask is below this ratio.
-fn is_sparse(mask: &MaskValues, below: Ratio) -> bool {
+fn is_sparse(mask: &MaskValues, below: Ratio) -> bool
+    ensures { result ≡ is_below below mask.now.bits.bits }
+{
     let set = mask.true_count() as u128 * u128::from(below.den);
     set < u128::from(below.num) * mask.len() as u128
 }

@@ -4,7 +4,6 @@ ghost use Rattle.vx_bits.specs.Records.{records_of, width_of};
 ghost use Rattle.vx_types.specs.Decimal.{is_width};
 ghost use Rattle.vx_types.specs.RowValue.{null, bytes};
 ghost use Rattle.vx_types.specs.Scalar.{is_text_kind, scalar_row};
-ghost use Rattle.vx_types.specs.Text.{text_kind};
 ghost use Rattle.vx_types.specs.TypeTree.{is_flat, kind_width, with_nullability};
 ghost use Rattle.vx_model.specs.Valid.{all_invalid, cover_by, is_fitting, is_flat_cover, nullability_by, present_bits, shown_rows, stored_rows};
 ghost use Rattle.vx_model.specs.Plain.{is_lazy_layout, is_unwrapped};
@@ -12,12 +11,10 @@ ghost use Rattle.vx_column.specs.Records.{kind_of};
 ghost use Rattle.vx_column.specs.Validity.{valid_of};
 ghost use Rattle.vx_stored.specs.Scalars.{bit_or_false, bytes_or_zeros, copied_bits, copied_records, text_layout};
 
+use crate::texts::store_texts;
 use std::alloc::Global;
 use vx_bits::{BitBuffer, BitBuilder, Buffer, NoMemory, Records};
-use vx_column::{
-    Array, BoolArray, DType, NullArray, RecordType, Scalar, ScalarValue, TextKind, Validity,
-};
-use vx_text::{texts_alike, views_alike};
+use vx_column::{Array, BoolArray, DType, NullArray, RecordType, Scalar, ScalarValue, Validity};
 
 // So many bits, each the value's; false for a null.
 fn bits_alike(alloc: Global, value: &ScalarValue, len: usize) -> Result<BitBuffer, NoMemory>
@@ -117,43 +114,6 @@ fn store_records(
     Ok(record_type.column(values, validity))
 }
 
-// The value's text; an empty one for a null.
-fn text_or_none(alloc: Global, value: &ScalarValue) -> Result<Buffer<u8>, NoMemory>
-    ensures { IfOk result (λ b. b ≡ bytes_or_zeros 0 (scalar_row value.now)) }
-{
-    match value {
-        ScalarValue::Bytes(bytes) => Ok(bytes.share()),
-        _ => Buffer::from_vec(alloc, Vec::new(alloc)),
-    }
-}
-
-// `len` copies of the value's text, as a column of this kind with this validity: views of one
-// text, where its length fits a view.
-fn store_texts(
-    alloc: Global,
-    kind: TextKind,
-    value: &ScalarValue,
-    len: usize,
-    validity: Validity,
-) -> Result<Array, NoMemory>
-    requires { is_fitting (valid_of validity) len ≡ true }
-    ensures rows { IfOk result (λ a. a.rows ≡ stored_rows (valid_of validity)
-        (map bytes (replicate len (bytes_or_zeros 0 (scalar_row value.now))))) }
-    ensures dtype { IfOk result (λ a. a.dtype
-        ≡ record { kind = text_kind kind; nullability = nullability_by (valid_of validity) }) }
-    ensures direct { IfOk result (λ a. is_lazy_layout a.layout ≡ false) }
-    ensures form { IfOk result (λ a. a.dense ≡ None) }
-    ensures layout { IfOk result (λ a. a.layout ≡ text_layout (scalar_row value.now)) }
-{
-    let text = text_or_none(alloc, value)?;
-    if text.len() <= u32::MAX as usize {
-        let views = views_alike(alloc, kind, &text, len, validity)?;
-        return Ok(views.into_array());
-    }
-    let texts = texts_alike(alloc, kind, &text, len, validity)?;
-    Ok(texts.into_array())
-}
-
 /// `len` rows of one value, null where the validity says no, stored row by row. `NoMemory` alone.
 #[tactic(auto, using(vx_model::proofs::Scalars::scalar_kinds))]
 pub fn store_scalar(
@@ -185,8 +145,9 @@ pub fn store_scalar(
         DType::Decimal(decimal, _) => {
             store_records(alloc, RecordType::Decimal(*decimal), value, len, validity)
         }
-        DType::Utf8(_) => store_texts(alloc, TextKind::Utf8, value, len, validity),
-        DType::Binary(_) => store_texts(alloc, TextKind::Binary, value, len, validity),
+        DType::Utf8(_) | DType::Binary(_) => {
+            Ok(store_texts(alloc, scalar, len, validity)?.into_array())
+        }
         DType::List(..) | DType::FixedSizeList(..) | DType::Map(..) => unreachable!(),
         DType::Struct(..) | DType::Union(..) | DType::Extension(..) => unreachable!(),
     }

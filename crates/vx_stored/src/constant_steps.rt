@@ -13,9 +13,11 @@ ghost use Rattle.vx_types.specs.Scalar.{is_text_kind};
 ghost use Rattle.vx_types.specs.TypeTree.{is_flat, with_nullability};
 ghost use Rattle.vx_column.specs.Validity.{valid_of};
 ghost use Rattle.vx_stored.specs.Scalars.{text_layout};
+ghost use Rattle.vx_stored.specs.Texts.{copies_column, HasWideOffsets};
 ghost use Rattle.vx_model.specs.Step.{IsSlice, IsCut, IsStep, IsTake};
 
 use crate::constant::store_scalar;
+use crate::texts::{TextCopies, store_texts};
 use crate::validity::by_picks;
 use std::alloc::Global;
 use vx_bits::{BitBuffer, BitBuilder, NoMemory};
@@ -134,6 +136,21 @@ fn validity_for(scalar: &Scalar) -> Validity
         Nullability::NonNullable => Validity::NonNullable,
         Nullability::Nullable => Validity::AllValid,
     }
+}
+
+/// The same rows of one text, stored one after another: views of it, where its length fits a view,
+/// else texts with offsets of type `U64`. `NoMemory` alone.
+#[tactic(auto, using(vx_model::proofs::LazyRows::lazy_rows))]
+pub fn execute_texts(alloc: Global, array: &ConstantArray) -> Result<TextCopies, NoMemory>
+    requires { is_text_kind (constant_column array.now).dtype.kind ≡ true }
+    ensures same { IfOk result (λ t. IsStep (constant_column array.now)
+        (constant_column array.now).rows (constant_column array.now).dtype (copies_column t)) }
+    ensures layout { IfOk result
+        (λ t. (copies_column t).layout ≡ text_layout array.now.scalar.row) }
+    ensures offsets { IfOk result HasWideOffsets }
+{
+    let scalar = array.scalar();
+    store_texts(alloc, scalar, array.len(), validity_for(scalar))
 }
 
 /// The same rows, stored one after another. `NoMemory` alone.

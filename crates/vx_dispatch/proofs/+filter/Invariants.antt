@@ -12,7 +12,6 @@ use Rattle.vx_mask.specs.Mask.{mask_bits}
 use Rattle.vx_model.specs.Columns.{AreCuts}
 use Rattle.vx_model.specs.Columns.{columns_depth}
 use Rattle.vx_model.specs.Extension.{extension_size}
-use Rattle.vx_model.specs.Union.{union_size}
 use Rattle.vx_dispatch.proofs.+filter.Given as goal
 
 abbrev pub decreases-dict::DictArrayFilterRows::filter : goal.decreases-dict::DictArrayFilterRows::filter
@@ -66,9 +65,6 @@ decreases-columns::filter_each l = 2 * (columns_depth l.columns.now)
 abbrev pub invariant-columns::filter_each-loop-column : goal.invariant-columns::filter_each-loop-column
 invariant-columns::filter_each-loop-column l =
     AreCuts (items_where_true (mask_bits l.mask)) (take l.column-index l.columns) l.cut.items
-
-abbrev pub decreases-union_::UnionArrayFilterRows::filter : goal.decreases-union_::UnionArrayFilterRows::filter
-decreases-union_::UnionArrayFilterRows::filter l = 2 * union_size l.self.now
 
 abbrev pub decreases-union_::filter_variants : goal.decreases-union_::filter_variants
 decreases-union_::filter_variants l = 2 * (max l.array.now.ids.depth (columns_depth l.array.now.columns) + 1) + 1

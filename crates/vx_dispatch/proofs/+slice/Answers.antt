@@ -39,6 +39,8 @@ use Rattle.vx_model.specs.Records.{RecordParts, records_with}
 use Rattle.vx_model.specs.Union.{UnionParts, union_column, union_fault}
 use Rattle.vx_model.proofs.UnionFaults.{fault-dense-slice, fault-sparse-slice, is_slice-dense, is_slice-sparse}
 use Rattle.vx_model.proofs.UnionSteps.{rows-union}
+use Rattle.vx_dispatch.specs.Union.{IsUnionSlice}
+use Rattle.vx_dispatch.proofs.Unions.{sliced-dense, sliced-sparse}
 use Rattle.vx_dispatch.proofs.+slice.Goals as goal
 
 pub validity::slice_validity-returns-in-NonNullable-clause-left : goal.validity::slice_validity-returns-in-NonNullable-clause-left
@@ -225,43 +227,64 @@ columns::slice_each-loop-column-preserved t c =
 
 -- ---- unions
 
-pub union_::UnionArraySliceRows::slice-with_parts-requires :
-    goal.union_::UnionArraySliceRows::slice-with_parts-requires
-union_::UnionArraySliceRows::slice-with_parts-requires t c =
-    let p = c.args.self.now in let h = c.type_ids.ensures.valid in let s = c.args.start in let e = c.args.end in
+pub union_::slice_variants-with_parts-requires :
+    goal.union_::slice_variants-with_parts-requires
+union_::slice_variants-with_parts-requires t c =
+    let p = c.args.array.now in let h = c.type_ids.ensures.valid in let s = c.args.start in let e = c.args.end in
     let a = c.in_ok-ids.ids in let o = c.in-Some.offsets.now in
     let some : p.offsets ≡ Some o = sym c.in-Some.ensures.value in
     let cut : IsSlice p.ids s e a = subst (λ (x : Column). IsSlice x s e a) (c.deref.ensures ∙ c.type_ids.ensures.value) (rw c.in_ok-ids.ensures c.in_ok-slice.ensures.cut) in
     ap₂ (λ (r : RecordParts) (cs : List Column). union_fault (record p { ids = a; offsets = Some r; columns = cs })) c.slice_numbers-places.ensures (c.share-columns.ensures ∙ c.children.ensures.value)
     ∙ fault-dense-slice p o h some a s e c.requires.ordered (omega (arith, c.requires.within, rows-union p h)) cut
 
-pub union_::UnionArraySliceRows::slice-with_parts-requires-in-None :
-    goal.union_::UnionArraySliceRows::slice-with_parts-requires-in-None
-union_::UnionArraySliceRows::slice-with_parts-requires-in-None t c =
-    let p = c.args.self.now in let h = c.type_ids.ensures.valid in let s = c.args.start in let e = c.args.end in
+pub union_::slice_variants-with_parts-requires-in-None :
+    goal.union_::slice_variants-with_parts-requires-in-None
+union_::slice_variants-with_parts-requires-in-None t c =
+    let p = c.args.array.now in let h = c.type_ids.ensures.valid in let s = c.args.start in let e = c.args.end in
     let a = c.in_ok-ids.ids in let cs = c.in_ok-columns-in-None.columns in
     let cut : IsSlice p.ids s e a = subst (λ (x : Column). IsSlice x s e a) (c.deref.ensures ∙ c.type_ids.ensures.value) (rw c.in_ok-ids.ensures c.in_ok-slice.ensures.cut) in
     let cuts : AreCuts (λ rows. slice_range rows s e) p.columns cs = rw c.children-in-None.ensures.value at c.in_ok-columns-in-None.ensures in
     fault-sparse-slice p h (sym c.in-None.ensures.value) a cs s e c.requires.ordered (omega (arith, c.requires.within, rows-union p h)) cut cuts
 
-pub union_::UnionArraySliceRows::slice-returns-in-Some-clause-cut :
-    goal.union_::UnionArraySliceRows::slice-returns-in-Some-clause-cut
-union_::UnionArraySliceRows::slice-returns-in-Some-clause-cut t c =
-    let p = c.args.self.now in let h = c.type_ids.ensures.valid in let s = c.args.start in let e = c.args.end in
+pub union_::slice_variants-returns-in-Some-clause-cut :
+    goal.union_::slice_variants-returns-in-Some-clause-cut
+union_::slice_variants-returns-in-Some-clause-cut t c =
+    let p = c.args.array.now in let h = c.type_ids.ensures.valid in let s = c.args.start in let e = c.args.end in
     let a = c.in_ok-ids.ids in let o = c.in-Some.offsets.now in
     let some : p.offsets ≡ Some o = sym c.in-Some.ensures.value in
     let cut : IsSlice p.ids s e a = subst (λ (x : Column). IsSlice x s e a) (c.deref.ensures ∙ c.type_ids.ensures.value) (rw c.in_ok-ids.ensures c.in_ok-slice.ensures.cut) in
-    let q : c.into_array.result ≡ union_column (record p { ids = a; offsets = Some (records_with o (slice_range o.records s e) non_nullable) }) =
-    c.into_array.ensures ∙ ap union_column (c.with_parts.ensures
-    ∙ ap₂ (λ (r : RecordParts) (cs : List Column). let u : UnionParts = record p { ids = a; offsets = Some r; columns = cs } in u) c.slice_numbers-places.ensures (c.share-columns.ensures ∙ c.children.ensures.value)) in
-    subst (λ (x : Column). IsSlice (union_column p) s e x) (sym q) (is_slice-dense p o h some a s e cut)
+    let q : c.with_parts.result ≡ record p { ids = a; offsets = Some (records_with o (slice_range o.records s e) non_nullable) } =
+    c.with_parts.ensures
+    ∙ ap₂ (λ (r : RecordParts) (cs : List Column). let u : UnionParts = record p { ids = a; offsets = Some r; columns = cs } in u) c.slice_numbers-places.ensures (c.share-columns.ensures ∙ c.children.ensures.value) in
+    subst (λ (u : UnionParts). IsSlice (union_column p) s e (union_column u)) (sym q) (is_slice-dense p o h some a s e cut)
 
-pub union_::UnionArraySliceRows::slice-returns-in_ok-columns-in-None-clause-cut :
-    goal.union_::UnionArraySliceRows::slice-returns-in_ok-columns-in-None-clause-cut
-union_::UnionArraySliceRows::slice-returns-in_ok-columns-in-None-clause-cut t c =
-    let p = c.args.self.now in let h = c.type_ids.ensures.valid in let s = c.args.start in let e = c.args.end in
+pub union_::slice_variants-returns-in-Some-clause-parts :
+    goal.union_::slice_variants-returns-in-Some-clause-parts
+union_::slice_variants-returns-in-Some-clause-parts t c =
+    let p = c.args.array.now in let s = c.args.start in let e = c.args.end in
+    let a = c.in_ok-ids.ids in let o = c.in-Some.offsets.now in
+    let some : p.offsets ≡ Some o = sym c.in-Some.ensures.value in
+    let cut : IsSlice p.ids s e a = subst (λ (x : Column). IsSlice x s e a) (c.deref.ensures ∙ c.type_ids.ensures.value) (rw c.in_ok-ids.ensures c.in_ok-slice.ensures.cut) in
+    let q : c.with_parts.result ≡ record p { ids = a; offsets = Some (records_with o (slice_range o.records s e) non_nullable) } =
+    c.with_parts.ensures
+    ∙ ap₂ (λ (r : RecordParts) (cs : List Column). let u : UnionParts = record p { ids = a; offsets = Some r; columns = cs } in u) c.slice_numbers-places.ensures (c.share-columns.ensures ∙ c.children.ensures.value) in
+    subst (IsUnionSlice p s e) (sym q) (sliced-dense p s e a cut o some)
+
+pub union_::slice_variants-returns-in_ok-columns-in-None-clause-cut :
+    goal.union_::slice_variants-returns-in_ok-columns-in-None-clause-cut
+union_::slice_variants-returns-in_ok-columns-in-None-clause-cut t c =
+    let p = c.args.array.now in let h = c.type_ids.ensures.valid in let s = c.args.start in let e = c.args.end in
     let a = c.in_ok-ids.ids in let cs = c.in_ok-columns-in-None.columns in
     let cut : IsSlice p.ids s e a = subst (λ (x : Column). IsSlice x s e a) (c.deref.ensures ∙ c.type_ids.ensures.value) (rw c.in_ok-ids.ensures c.in_ok-slice.ensures.cut) in
     let cuts : AreCuts (λ rows. slice_range rows s e) p.columns cs = rw c.children-in-None.ensures.value at c.in_ok-columns-in-None.ensures in
-    rw (c.into_array-in-None.ensures, c.with_parts-in-None.ensures)
+    rw c.with_parts-in-None.ensures
     (is_slice-sparse p h (sym c.in-None.ensures.value) a cs s e c.requires.ordered (omega (arith, c.requires.within, rows-union p h)) cut cuts)
+
+pub union_::slice_variants-returns-in_ok-columns-in-None-clause-parts :
+    goal.union_::slice_variants-returns-in_ok-columns-in-None-clause-parts
+union_::slice_variants-returns-in_ok-columns-in-None-clause-parts t c =
+    let p = c.args.array.now in let s = c.args.start in let e = c.args.end in
+    let a = c.in_ok-ids.ids in let cs = c.in_ok-columns-in-None.columns in
+    let cut : IsSlice p.ids s e a = subst (λ (x : Column). IsSlice x s e a) (c.deref.ensures ∙ c.type_ids.ensures.value) (rw c.in_ok-ids.ensures c.in_ok-slice.ensures.cut) in
+    let cuts : AreCuts (λ rows. slice_range rows s e) p.columns cs = rw c.children-in-None.ensures.value at c.in_ok-columns-in-None.ensures in
+    rw c.with_parts-in-None.ensures (sliced-sparse p s e a cut cs (sym c.in-None.ensures.value) cuts)

@@ -57,5 +57,5 @@ abbrev pub invariant-columns::slice_each-loop-column : goal.invariant-columns::s
 invariant-columns::slice_each-loop-column l =
     AreCuts (λ rows. slice_range rows l.start l.end) (take l.column-index l.columns) l.cut.items
 
-abbrev pub decreases-union_::UnionArraySliceRows::slice : goal.decreases-union_::UnionArraySliceRows::slice
-decreases-union_::UnionArraySliceRows::slice l = union_size l.self.now
+abbrev pub decreases-union_::slice_variants : goal.decreases-union_::slice_variants
+decreases-union_::slice_variants l = union_size l.array.now

@@ -65,7 +65,8 @@ use Rattle.vx_model.specs.Records.{RecordParts, records_with}
 use Rattle.vx_model.specs.Union.{UnionParts, union_column, union_fault}
 use Rattle.vx_types.specs.FieldTypes.{VariantTypes}
 use Rattle.vx_model.proofs.UnionFaults.{fault-dense-take, fault-sparse-any, fault-sparse-take, is_take-dense, is_take-sparse, is_take-sparse-none, sparse-long}
-use Rattle.vx_dispatch.proofs.Unions.{ids_taken, types-variants}
+use Rattle.vx_dispatch.specs.Union.{IsUnionTake}
+use Rattle.vx_dispatch.proofs.Unions.{ids_taken, taken-dense, taken-sparse, types-variants}
 use Rattle.vx_dispatch.proofs.+take.Goals as goal
 
 pub validity::take_validity-returns-in-AllInvalid-default-clause-left : goal.validity::take_validity-returns-in-AllInvalid-default-clause-left
@@ -412,27 +413,39 @@ struct_::StructArrayTakeRows::take-returns t c =
 
 -- ---- unions
 
-pub union_::UnionArrayTakeRows::take-with_parts-requires :
-    goal.union_::UnionArrayTakeRows::take-with_parts-requires
-union_::UnionArrayTakeRows::take-with_parts-requires t c =
-    let p = c.args.self.now in let h = c.type_ids.ensures.valid in let picks = c.args.picks.picks in let n = c.args.nullability in
+pub union_::take_variants-with_parts-requires :
+    goal.union_::take_variants-with_parts-requires
+union_::take_variants-with_parts-requires t c =
+    let p = c.args.array.now in let h = c.type_ids.ensures.valid in let picks = c.args.picks.now.picks in let n = c.args.nullability in
     let a = c.in_ok-ids.ids in let o = c.in-Some.offsets.now in
     let some : p.offsets ≡ Some o = sym c.in-Some.ensures.value in
     let step = ids_taken n (c.deref.ensures ∙ c.type_ids.ensures.value) c.in_ok-copy.ensures c.in_ok-ids.ensures c.in_ok-taken.ensures in
     ap₂ (λ (r : RecordParts) (cs : List Column). union_fault (record p { ids = a; offsets = Some r; columns = cs })) c.in_ok-places-in-Some.ensures (c.share-columns.ensures ∙ c.children.ensures.value)
     ∙ fault-dense-take p o h some a (replicate o.width 0) picks n step
 
-pub union_::UnionArrayTakeRows::take-returns-in-Some :
-    goal.union_::UnionArrayTakeRows::take-returns-in-Some
-union_::UnionArrayTakeRows::take-returns-in-Some t c =
-    let p = c.args.self.now in let h = c.type_ids.ensures.valid in let picks = c.args.picks.picks in let n = c.args.nullability in
+pub union_::take_variants-returns-in_ok-places-in-Some-clause-taken :
+    goal.union_::take_variants-returns-in_ok-places-in-Some-clause-taken
+union_::take_variants-returns-in_ok-places-in-Some-clause-taken t c =
+    let p = c.args.array.now in let h = c.type_ids.ensures.valid in let picks = c.args.picks.now.picks in let n = c.args.nullability in
     let a = c.in_ok-ids.ids in let o = c.in-Some.offsets.now in
     let some : p.offsets ≡ Some o = sym c.in-Some.ensures.value in
     let step = ids_taken n (c.deref.ensures ∙ c.type_ids.ensures.value) c.in_ok-copy.ensures c.in_ok-ids.ensures c.in_ok-taken.ensures in
-    let q : c.into_array.result ≡ union_column (record p { ids = a; offsets = Some (records_with o (at (replicate o.width 0) o.records picks) non_nullable) }) =
-    c.into_array.ensures ∙ ap union_column (c.with_parts.ensures
-    ∙ ap₂ (λ (r : RecordParts) (cs : List Column). let u : UnionParts = record p { ids = a; offsets = Some r; columns = cs } in u) c.in_ok-places-in-Some.ensures (c.share-columns.ensures ∙ c.children.ensures.value)) in
-    subst (λ (x : Column). IsTake (union_column p) picks n x) (sym q) (is_take-dense p o h some a (replicate o.width 0) picks n step)
+    let q : c.with_parts.result ≡ record p { ids = a; offsets = Some (records_with o (at (replicate o.width 0) o.records picks) non_nullable) } =
+    c.with_parts.ensures
+    ∙ ap₂ (λ (r : RecordParts) (cs : List Column). let u : UnionParts = record p { ids = a; offsets = Some r; columns = cs } in u) c.in_ok-places-in-Some.ensures (c.share-columns.ensures ∙ c.children.ensures.value) in
+    subst (λ (u : UnionParts). IsTake (union_column p) picks n (union_column u)) (sym q) (is_take-dense p o h some a (replicate o.width 0) picks n step)
+
+pub union_::take_variants-returns-in_ok-places-in-Some-clause-parts :
+    goal.union_::take_variants-returns-in_ok-places-in-Some-clause-parts
+union_::take_variants-returns-in_ok-places-in-Some-clause-parts t c =
+    let p = c.args.array.now in let picks = c.args.picks.now.picks in let n = c.args.nullability in
+    let a = c.in_ok-ids.ids in let o = c.in-Some.offsets.now in
+    let some : p.offsets ≡ Some o = sym c.in-Some.ensures.value in
+    let step = ids_taken n (c.deref.ensures ∙ c.type_ids.ensures.value) c.in_ok-copy.ensures c.in_ok-ids.ensures c.in_ok-taken.ensures in
+    let q : c.with_parts.result ≡ record p { ids = a; offsets = Some (records_with o (at (replicate o.width 0) o.records picks) non_nullable) } =
+    c.with_parts.ensures
+    ∙ ap₂ (λ (r : RecordParts) (cs : List Column). let u : UnionParts = record p { ids = a; offsets = Some r; columns = cs } in u) c.in_ok-places-in-Some.ensures (c.share-columns.ensures ∙ c.children.ensures.value) in
+    subst (IsUnionTake p picks n) (sym q) (taken-dense p picks n a step o some)
 
 pub union_::take_sparse-with_parts-requires :
     goal.union_::take_sparse-with_parts-requires
@@ -442,14 +455,22 @@ union_::take_sparse-with_parts-requires t c =
     let types : types_in cs ≡ p.variants.types = c.in_ok-columns.ensures.types ∙ c.types-types.ensures.value ∙ ap (λ (v : VariantTypes). v.types) (c.deref.ensures ∙ c.variants.ensures.value) in
     fault-sparse-any p h c.requires.sparse c.args.ids cs picks n c.requires.ids (types ∙ types-variants p h) (rw c.len.ensures at c.in_ok-columns.ensures.long)
 
-pub union_::take_sparse-returns-then-bound-eq0 :
-    goal.union_::take_sparse-returns-then-bound-eq0
-union_::take_sparse-returns-then-bound-eq0 t c =
+pub union_::take_sparse-returns-then-bound-eq0-clause-taken :
+    goal.union_::take_sparse-returns-then-bound-eq0-clause-taken
+union_::take_sparse-returns-then-bound-eq0-clause-taken t c =
     let p = c.args.array.now in let h = c.variants.ensures.valid in let picks = c.args.picks.now.picks in let n = c.args.nullability in
     let none : length p.ids.rows ≡ 0 = grind (arith, nat_tests, c.requires.bound, c.bound.ensures.value, c.if-bound-eq0.true) in
     let below : AreBelow picks (length p.ids.rows) = subst (AreBelow picks) (c.bound.ensures.value ∙ c.requires.bound) c.bound.ensures.below in
-    rw (c.into_array.ensures, c.with_parts.ensures)
+    rw c.with_parts.ensures
     (is_take-sparse-none p h c.requires.sparse c.args.ids c.in_ok-columns.columns _ picks n none below c.requires.ids (rw c.len.ensures at c.in_ok-columns.ensures.rows))
+
+pub union_::take_sparse-returns-then-bound-eq0-clause-parts :
+    goal.union_::take_sparse-returns-then-bound-eq0-clause-parts
+union_::take_sparse-returns-then-bound-eq0-clause-parts t c =
+    let p = c.args.array.now in let picks = c.args.picks.now.picks in let n = c.args.nullability in
+    let none : length p.ids.rows ≡ 0 = grind (arith, nat_tests, c.requires.bound, c.bound.ensures.value, c.if-bound-eq0.true) in
+    rw c.with_parts.ensures
+    (taken-sparse p picks n c.args.ids c.requires.ids c.in_ok-columns.columns c.requires.sparse (λ some. absurd (omega (arith, some, none))))
 
 pub union_::take_sparse-take_each-requires :
     goal.union_::take_sparse-take_each-requires
@@ -472,14 +493,23 @@ union_::take_sparse-with_parts-requires-2 t c =
     rw (ap (λ (b : BoundedPicks). b.picks) c.in_ok-firsts.ensures, c.children.ensures.value) at c.in_ok-columns-2.ensures in
     fault-sparse-take p h c.requires.sparse c.args.ids cs picks n c.requires.ids steps
 
-pub union_::take_sparse-returns :
-    goal.union_::take_sparse-returns
-union_::take_sparse-returns t c =
+pub union_::take_sparse-returns-clause-taken :
+    goal.union_::take_sparse-returns-clause-taken
+union_::take_sparse-returns-clause-taken t c =
     let p = c.args.array.now in let h = c.children.ensures.valid in let picks = c.args.picks.now.picks in let n = c.args.nullability in
     let cs = c.in_ok-columns-2.columns in
     let some : 0 < length p.ids.rows = grind (arith, nat_tests, c.requires.bound, c.bound.ensures.value, c.if-bound-eq0.false) in
     let below : AreBelow picks (length p.ids.rows) = subst (AreBelow picks) (c.bound.ensures.value ∙ c.requires.bound) c.bound.ensures.below in
     let steps : AreSteps (λ rows. at null rows (firsts_for_nulls picks)) p.columns cs =
     rw (ap (λ (b : BoundedPicks). b.picks) c.in_ok-firsts.ensures, c.children.ensures.value) at c.in_ok-columns-2.ensures in
-    rw (c.into_array-2.ensures, c.with_parts-2.ensures)
+    rw c.with_parts-2.ensures
     (is_take-sparse p h c.requires.sparse c.args.ids cs picks n below (below-firsts picks (length p.ids.rows) some below) c.requires.ids steps)
+
+pub union_::take_sparse-returns-clause-parts :
+    goal.union_::take_sparse-returns-clause-parts
+union_::take_sparse-returns-clause-parts t c =
+    let p = c.args.array.now in let picks = c.args.picks.now.picks in let n = c.args.nullability in
+    let cs = c.in_ok-columns-2.columns in
+    let steps : AreSteps (λ rows. at null rows (firsts_for_nulls picks)) p.columns cs =
+    rw (ap (λ (b : BoundedPicks). b.picks) c.in_ok-firsts.ensures, c.children.ensures.value) at c.in_ok-columns-2.ensures in
+    rw c.with_parts-2.ensures (taken-sparse p picks n c.args.ids c.requires.ids cs c.requires.sparse (λ _. steps))

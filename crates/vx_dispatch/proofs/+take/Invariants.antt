@@ -73,8 +73,8 @@ abbrev pub invariant-columns::take_each-loop-column : goal.invariant-columns::ta
 invariant-columns::take_each-loop-column l =
     AreSteps (λ rows. at null rows l.picks.picks) (take l.column-index l.columns) l.taken.items
 
-abbrev pub decreases-union_::UnionArrayTakeRows::take : goal.decreases-union_::UnionArrayTakeRows::take
-decreases-union_::UnionArrayTakeRows::take l = union_size l.self.now
+abbrev pub decreases-union_::take_variants : goal.decreases-union_::take_variants
+decreases-union_::take_variants l = union_size l.array.now
 
 abbrev pub decreases-union_::take_sparse : goal.decreases-union_::take_sparse
 decreases-union_::take_sparse l = max l.array.now.ids.depth (columns_depth l.array.now.columns) + 1

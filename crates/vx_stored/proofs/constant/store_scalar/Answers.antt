@@ -9,7 +9,7 @@ use Rattle.vx_model.specs.Valid.{present_bits, shown_rows}
 use Rattle.vx_model.specs.Null.{null_column}
 use Rattle.vx_column.specs.Validity.{valid_of}
 use Rattle.vx_stored.specs.Scalars.{copied_bits, copied_records}
-use Rattle.vx_stored.proofs.StoredScalars.{of_column, of_rows, rows-null, rows-bits, rows-bytes}
+use Rattle.vx_stored.proofs.StoredScalars.{of_column, rows-null, rows-bits, rows-bytes}
 use Rattle.vx_stored.proofs.constant.store_scalar.Goals as goal
 
 pub returns-in-Null-clause-rows : goal.returns-in-Null-clause-rows
@@ -43,17 +43,3 @@ returns-in-Decimal-clause-rows c =
     let k : is_bool_kind s.dtype.kind ≡ false = ap (λ (t : TypeTree). is_bool_kind t.kind) (sym c.dtype.ensures.value ∙ ap type_of c.in-Decimal.is) in
     of_column (λ a. a.rows ≡ shown_rows (present_bits v n) (replicate n s.row)) c.store_records-in-Decimal.result (copied_records (decimal_kind d.precision d.scale d.width) s.row n v) same
     (rows-bytes s c.dtype.ensures.valid v n c.requires.null d.width k)
-
-pub returns-in-Utf8-clause-rows : goal.returns-in-Utf8-clause-rows
-returns-in-Utf8-clause-rows c =
-    let s = c.args.scalar.now in let v = valid_of c.args.validity in let n = c.args.len in
-    let same = rw c.value-value.ensures.value at c.store_texts.ensures.rows in
-    let k : is_bool_kind s.dtype.kind ≡ false = ap (λ (t : TypeTree). is_bool_kind t.kind) (sym c.dtype.ensures.value ∙ ap type_of c.in-Utf8.is) in
-    of_rows c.store_texts.result _ _ same (rows-bytes s c.dtype.ensures.valid v n c.requires.null 0 k)
-
-pub returns-in-Binary-clause-rows : goal.returns-in-Binary-clause-rows
-returns-in-Binary-clause-rows c =
-    let s = c.args.scalar.now in let v = valid_of c.args.validity in let n = c.args.len in
-    let same = rw c.value-value.ensures.value at c.store_texts-in-Binary.ensures.rows in
-    let k : is_bool_kind s.dtype.kind ≡ false = ap (λ (t : TypeTree). is_bool_kind t.kind) (sym c.dtype.ensures.value ∙ ap type_of c.in-Binary.is) in
-    of_rows c.store_texts-in-Binary.result _ _ same (rows-bytes s c.dtype.ensures.valid v n c.requires.null 0 k)
