@@ -50,7 +50,7 @@ fn view_fault(alloc: Global) -> Result<Option<ColumnError>, Fail> {
 pub(crate) fn print_rows(rt: &impl Print, alloc: Global) -> Result<(), Fail> {
     println!(rt; "# cells, and a view")?;
     print_cells(rt, &some_true(alloc)?)?;
-    print_cells(rt, &elements(alloc, 2)?)?;
+    print_cells(rt, &*elements(alloc, 2)?)?;
     println!(rt; "13 bytes inlined: {:?}", view_fault(alloc)?)?;
     Ok(())
 }
