@@ -7,11 +7,9 @@ use std::alloc::Global;
 use std::test::Fail;
 use vx_bits::{BitBuffer, Buffer, NoMemory, Records};
 use vx_column::{
-    Array, BinaryView, BoolArray, ColumnError, FlatRef, InlineBytes, LayoutName, PType,
-    PrimitiveArray, Row, TextKind, Validity, VarBinViewArray, record_of,
+    Array, BoolArray, FlatRef, LayoutName, PType, PrimitiveArray, Row, Validity, record_of,
 };
 use vx_pieces::Indices;
-use vx_shared::Shared;
 
 /// The records of these numbers, W bytes each.
 fn record_list<const W: usize>(alloc: Global, numbers: &[i128]) -> Result<Buffer<[u8; W]>, NoMemory>
@@ -203,15 +201,6 @@ fn by_number(alloc: Global) -> Result<Validity, Fail> {
     Ok(Validity::Array(numbers.into_ref(alloc)?))
 }
 
-/// What the constructor says of a view that holds 13 bytes of itself, which no document can state.
-fn view_fault(alloc: Global) -> Result<Option<ColumnError>, Fail> {
-    let bytes = [0; 12];
-    let view = BinaryView::Inlined(InlineBytes { len: 13, bytes });
-    let views = Buffer::from_vec(alloc, vec![in alloc; view]?)?;
-    let buffers = Shared::new(alloc, Vec::new(alloc))?;
-    Ok(VarBinViewArray::try_new(TextKind::Binary, views, buffers, Validity::AllInvalid).err())
-}
-
 /// What constructors refuse.
 pub(crate) fn print_refusals(rt: &impl Print, alloc: Global) -> Result<(), Fail> {
     let plain = Validity::NonNullable;
@@ -226,9 +215,7 @@ pub(crate) fn print_refusals(rt: &impl Print, alloc: Global) -> Result<(), Fail>
     let bit = by_bits(alloc, &[true])?;
     print_refused(rt, alloc, "a bit for two rows", PType::U32, &[1, 2], bit)?;
     let number = by_number(alloc)?;
-    print_refused(rt, alloc, "numbers as a validity", PType::U32, &[1], number)?;
-    print_shown(rt, "13 bytes inlined", &view_fault(alloc)?)?;
-    Ok(())
+    print_refused(rt, alloc, "numbers as a validity", PType::U32, &[1], number)
 }
 
 /// How many rows a slice has that takes no memory.

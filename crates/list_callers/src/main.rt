@@ -2,6 +2,7 @@
 //! prints what each gives.
 #![tactic(auto)]
 
+mod cells;
 mod columns;
 mod fixed;
 mod keeping;
@@ -20,5 +21,6 @@ fn main(rt: HostRuntime) -> Result<(), Fail> {
     views::print_rows(&rt, rt.alloc())?;
     fixed::print_rows(&rt, rt.alloc())?;
     truth::print_true_rows(&rt, rt.alloc())?;
-    keeping::print_kept_lists(&rt, rt.alloc())
+    keeping::print_kept_lists(&rt, rt.alloc())?;
+    cells::print_rows(&rt, rt.alloc())
 }

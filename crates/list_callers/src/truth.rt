@@ -7,7 +7,7 @@ use vx_column::{Array, BoolArray, FilterArray, Validity, mask_of};
 use vx_mask::Mask;
 
 /// True, null with a set bit behind it, false, true.
-fn some_true(alloc: Global) -> Result<Array, Fail> {
+pub(crate) fn some_true(alloc: Global) -> Result<Array, Fail> {
     let there = BitBuffer::from_bools(alloc, &[true, false, true, true])?;
     let bits = BitBuffer::from_bools(alloc, &[true, true, false, true])?;
     Ok(BoolArray::try_new(bits, Validity::from_bits(alloc, there)?)?.into_array())
