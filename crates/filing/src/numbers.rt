@@ -1,11 +1,12 @@
 //! Numbers of a type, as a file.
-ghost use Rattle.std.specs.Prelude.{◌≡◌, ◌*◌, ◌^◌, ◌<◌, true};
+ghost use Rattle.std.specs.Prelude.{◌≡◌, ◌*◌, ◌^◌, ◌<◌, IfOk, length, true};
 ghost use Rattle.std.specs.List.{All};
 ghost use Rattle.vx_types.specs.PType.{width};
+ghost use Rattle.vx_file.specs.File.{file_of};
 ghost use Rattle.vx_file.specs.Shape.{is_unsigned};
 
 use crate::output::File;
-use anyhow::{Context, bail};
+use anyhow::bail;
 use std::alloc::Global;
 use vx_file::file_blocks;
 use vx_types::PType;
@@ -40,9 +41,12 @@ fn all_fit(ptype: PType, numbers: &[u64]) -> bool
     true
 }
 
-/// The file of these numbers, in order.
+/// The file of these numbers, in order: its blocks, all of them.
 pub(crate) fn file_of(alloc: Global, ptype: PType, numbers: &[u64]) -> anyhow::Result<File>
     requires { is_unsigned ptype ≡ true }
+    ensures blocks { IfOk result (λ f. f.blocks
+        ≡ file_of (record { ptype = ptype; len = length numbers.now }) numbers.now) }
+    ensures count { IfOk result (λ f. f.count ≡ length f.blocks) }
 {
     if numbers.len() > MOST_ROWS {
         bail!("a file has at most 16,777,216 rows");
@@ -50,9 +54,9 @@ pub(crate) fn file_of(alloc: Global, ptype: PType, numbers: &[u64]) -> anyhow::R
     if !all_fit(ptype, numbers) {
         bail!("a number is too great for its type");
     }
-    let blocks = file_blocks(alloc, ptype, numbers)
-        .ok()
-        .context("memory is wanting")?;
+    let Ok(blocks) = file_blocks(alloc, ptype, numbers) else {
+        bail!("memory is wanting");
+    };
     Ok(File {
         blocks,
         count: 1 + numbers.len().div_ceil(1024),

@@ -1,13 +1,13 @@
 -- The answers of constructors that may also want memory.
 use Rattle.std.proofs.Common.{◌≡◌, Option, Some, None, refl}
-use Rattle.std.specs.Prelude.{unwrap_or}
+use Rattle.std.specs.Prelude.{unwrap_or, Result, Ok, Err}
 use Rattle.std.specs.Result.{result_ok}
 use Rattle.vx_bits.specs.Results.{ok_unless}
 use Rattle.vx_types.specs.declared.error.ColumnError.{ColumnError}
 use Rattle.vx_types.specs.declared.error.ColumnError.TheVariants.{NoMemory as ColumnNoMemory}
 use Rattle.vx_json.specs.declared.error.DocError.{DocError}
 use Rattle.vx_json.specs.declared.error.DocError.TheVariants.{Malformed, NoMemory}
-use Rattle.vx_json.specs.Meaning.{◌>>=◌, Fails}
+use Rattle.vx_json.specs.Meaning.{◌>>=◌, Fails, Gives}
 use Rattle.vx_json.proofs.TextLists.{nothing_then}
 use Rattle.vx_column_json.specs.Made.{refusal, made}
 
@@ -39,3 +39,9 @@ module _ {P C : Type 0} (fault : P → Option ColumnError) (of : P → C) (parts
   pub not_taken : (e : DocError) → Fails e (result_ok (ok_unless (fault parts) parts)) → Fails e (made fault of parts)
   unfolding made
   not_taken e none = nothing_then (λ sound. Some (of sound)) e _ none
+
+  -- what a constructor's answer was handed on as
+  pub gives_made : (r : Result P DocError) → Gives (λ p. p) r (result_ok (ok_unless (fault parts) parts)) → Gives of r (made fault of parts)
+  unfolding made
+  gives_made (Ok d) is = rw is refl
+  gives_made (Err e) none = nothing_then (λ sound. Some (of sound)) e _ none

@@ -40,13 +40,13 @@ unfoldable pub offset_of : Data → Option ℕ
 offset_of d = found_or 0 (at_most 7) (get (codes "offset") d)
 
 -- the bits as they are stored, and which rows are there
-unfoldable pub bools_by : Data → Option Valid → Option BoolParts
-bools_by d stated = do
+unfoldable pub bool_array : Data → Option Valid → Option BoolParts
+bool_array d stated = do
   o ← if_closed (codes "layout" ∷ codes "values" ∷ codes "validity" ∷ codes "offset" ∷ []) d
   offset ← offset_of o
   values ← get (codes "values") o
   bools_by_kind stated offset (as_str values) (as_array values)
 
--- the column of them; no row shows the offset
+-- the column of them; it doesn't tell the offset
 unfoldable pub bool_by : Data → Option Valid → Option Column
-bool_by d stated = bools_by d stated >>= λ p. Some (bool_column p)
+bool_by d stated = bool_array d stated >>= λ p. Some (bool_column p)

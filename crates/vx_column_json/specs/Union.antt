@@ -8,7 +8,7 @@ use Rattle.vx_types.specs.declared.ptype.PType.TheVariants.{I32}
 use Rattle.vx_model.specs.Column.{Column}
 use Rattle.vx_model.specs.Columns.{types_in}
 use Rattle.vx_model.specs.Records.{RecordParts}
-use Rattle.vx_model.specs.Union.{union_fault, union_column}
+use Rattle.vx_model.specs.Union.{UnionParts, union_fault, union_column}
 use Rattle.vx_column.specs.UnionParts.{union_parts}
 use Rattle.vx_json.specs.Items.{each}
 use Rattle.vx_json.specs.Meaning.{◌>>=◌}
@@ -60,13 +60,18 @@ offsets_stated d =
 
 -- ---- the column
 
--- the union of these parts, dense where there are offsets, where they can make one
-abbrev pub union_made : Column → Option RecordParts → VariantTypes → List Column → Option Column
+-- these parts, dense where there are offsets, where they can make a union
+abbrev pub union_made : Column → Option RecordParts → VariantTypes → List Column → Option UnionParts
 union_made ids offsets variants columns =
-    made union_fault union_column (union_parts ids offsets variants columns)
+    made union_fault (λ p. p) (union_parts ids offsets variants columns)
 
-unfoldable pub union_by : Data → Column → List Column → Option Column
-union_by d ids columns = do
+-- type ids, variants, children, and offsets where they are stated
+unfoldable pub union_array : Data → Column → List Column → Option UnionParts
+union_array d ids columns = do
   offsets ← offsets_stated d
   variants ← variants_in d columns
   union_made ids offsets variants columns
+
+-- the column of them; of the offsets it tells the type alone
+unfoldable pub union_by : Data → Column → List Column → Option Column
+union_by d ids columns = union_array d ids columns >>= λ p. Some (union_column p)

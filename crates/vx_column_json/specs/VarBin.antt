@@ -1,5 +1,5 @@
 -- What a JSON value means as a column of layout `VarBin`.
-use Rattle.std.specs.Prelude.{ℕ, List, [], ◌∷◌, if◌then◌else◌, Option, None, codes}
+use Rattle.std.specs.Prelude.{ℕ, List, [], ◌∷◌, if◌then◌else◌, Option, Some, None, codes}
 use Rattle.serde_json.specs.Data.{Data, Items}
 use Rattle.serde_json.specs.Find.{get, as_str, as_array}
 use Rattle.vx_types.specs.declared.ptype.PType.TheVariants.{I32}
@@ -20,28 +20,29 @@ abbrev pub varbin_parts : TextKind → RecordParts → List ℕ → Valid → Va
 varbin_parts kind offsets text valid =
     record { kind = kind; offsets = offsets; bytes = text; valid = valid }
 
--- the column that the offsets cut, where they can, and where the validity can be its
-abbrev pub varbin_made : TextKind → RecordParts → List ℕ → Valid → Option Column
+-- these parts, where the offsets can cut the texts, and where the validity can be theirs
+abbrev pub varbin_made : TextKind → RecordParts → List ℕ → Valid → Option VarBinParts
 varbin_made kind offsets text valid =
-    made varbin_fault varbin_column (varbin_parts kind offsets text valid)
+    made varbin_fault (λ p. p) (varbin_parts kind offsets text valid)
 
--- a list of texts and nulls
-unfoldable pub varbin_by_items : TextKind → Option Valid → Items → Option Column
+-- a list of texts and nulls, by offsets of type `i32` from 0 on
+unfoldable pub varbin_by_items : TextKind → Option Valid → Items → Option VarBinParts
 varbin_by_items kind stated items = do
   valid ← validity_beside stated items
   texts ← each (text_or_empty kind) items >>= strung
   varbin_made kind (offsets_column I32 texts.0) texts.1 valid
 
 -- offsets, and the texts one behind another
-unfoldable pub varbin_by_offsets : TextKind → Option Valid → Data → Option Column
+unfoldable pub varbin_by_offsets : TextKind → Option Valid → Data → Option VarBinParts
 varbin_by_offsets kind stated d = do
   ptype ← offset_type_of I32 d
   offsets ← offsets_in ptype (codes "offsets") d
   text ← get (codes "bytes") d >>= bytes_of
   varbin_made kind offsets text (validity_alone stated)
 
-unfoldable pub varbin_by : Data → Option Valid → Option Column
-varbin_by d stated = do
+-- offsets, which a list of texts has of type `i32`, and texts
+unfoldable pub varbin_array : Data → Option Valid → Option VarBinParts
+varbin_array d stated = do
   kind ← get (codes "type") d >>= as_str >>= text_kind_named
   if is_closed (codes "layout" ∷ codes "type" ∷ codes "values" ∷ codes "validity" ∷ []) d
       then get (codes "values") d >>= as_array >>= varbin_by_items kind stated
@@ -49,3 +50,7 @@ varbin_by d stated = do
       ∷ codes "bytes" ∷ codes "validity" ∷ []) d
       then varbin_by_offsets kind stated d
       else None
+
+-- the column of them; it doesn't tell the offsets
+unfoldable pub varbin_by : Data → Option Valid → Option Column
+varbin_by d stated = varbin_array d stated >>= λ p. Some (varbin_column p)

@@ -1,5 +1,5 @@
 -- What a JSON value means as a column of layout `VarBinView`.
-use Rattle.std.specs.Prelude.{ℕ, List, [], ◌∷◌, if◌then◌else◌, Option, None, codes}
+use Rattle.std.specs.Prelude.{ℕ, List, [], ◌∷◌, if◌then◌else◌, Option, Some, None, codes}
 use Rattle.serde_json.specs.Data.{Data, Items}
 use Rattle.serde_json.specs.Find.{get, as_str, as_array}
 use Rattle.vx_types.specs.declared.text.BinaryView.{BinaryView}
@@ -19,27 +19,28 @@ abbrev pub view_parts : TextKind → List BinaryView → List (List ℕ) → Val
 view_parts kind views buffers valid =
     record { kind = kind; views = views; buffers = buffers; valid = valid }
 
--- the column of these views, where each is one of a text, and the validity can be theirs
-abbrev pub views_made : TextKind → List BinaryView → List (List ℕ) → Valid → Option Column
+-- these parts, where each view is one of a text, and the validity can be theirs
+abbrev pub views_made : TextKind → List BinaryView → List (List ℕ) → Valid → Option ViewParts
 views_made kind views buffers valid =
-    made views_fault views_column (view_parts kind views buffers valid)
+    made views_fault (λ p. p) (view_parts kind views buffers valid)
 
--- a list of texts and nulls
-unfoldable pub views_by_items : TextKind → Option Valid → Items → Option Column
+-- a list of texts and nulls: what a view doesn't have in itself stands in buffer 0
+unfoldable pub views_by_items : TextKind → Option Valid → Items → Option ViewParts
 views_by_items kind stated items = do
   valid ← validity_beside stated items
   texts ← each (text_or_empty kind) items >>= views_and_buffer
   views_made kind texts.0 (texts.1 ∷ []) valid
 
 -- views, and the buffers that they look into
-unfoldable pub views_by_buffers : TextKind → Option Valid → Data → Option Column
+unfoldable pub views_by_buffers : TextKind → Option Valid → Data → Option ViewParts
 views_by_buffers kind stated d = do
   views ← get (codes "views") d >>= as_array >>= each view_in
   buffers ← get (codes "buffers") d >>= as_array >>= each bytes_of
   views_made kind views buffers (validity_alone stated)
 
-unfoldable pub views_by : Data → Option Valid → Option Column
-views_by d stated = do
+-- views, and buffers
+unfoldable pub views_array : Data → Option Valid → Option ViewParts
+views_array d stated = do
   kind ← get (codes "type") d >>= as_str >>= text_kind_named
   if is_closed (codes "layout" ∷ codes "type" ∷ codes "values" ∷ codes "validity" ∷ []) d
       then get (codes "values") d >>= as_array >>= views_by_items kind stated
@@ -47,3 +48,7 @@ views_by d stated = do
       ∷ codes "validity" ∷ []) d
       then views_by_buffers kind stated d
       else None
+
+-- the column of them; it doesn't tell the views
+unfoldable pub views_by : Data → Option Valid → Option Column
+views_by d stated = views_array d stated >>= λ p. Some (views_column p)

@@ -4,7 +4,7 @@ ghost use Rattle.std.specs.Option.{option_map};
 ghost use Rattle.serde_json.specs.View.{view, items_view};
 ghost use Rattle.vx_column.specs.Validity.{valid_of};
 ghost use Rattle.vx_json.specs.Meaning.{Gives};
-ghost use Rattle.vx_column_json.specs.Boolean.{bools_made, offset_of, bools_by_items, bools_by_text, bools_by, bool_by};
+ghost use Rattle.vx_column_json.specs.Boolean.{bools_made, offset_of, bools_by_items, bools_by_text, bool_array, bool_by};
 
 use crate::made::made;
 use crate::validity::{validity_alone, validity_beside};
@@ -64,10 +64,15 @@ fn offset_of(value: &Value) -> Result<usize, DocError>
     }
 }
 
-/// The bits at their offset, and the validity, of which the column is made.
-#[tactic(auto, unfolding(crate::specs::Boolean::bools_by))]
-fn bools_by(alloc: Global, value: &Value, stated: Option<Validity>) -> Result<BoolArray, DocError>
-    ensures { Gives (λ a. a) result (bools_by (view value.now) (option_map valid_of stated)) }
+/// What [`bool_by`] gives, as that layout: its bits are stored at the offset that is stated, of
+/// which a column tells nothing.
+#[tactic(auto, unfolding(crate::specs::Boolean::bool_array))]
+pub fn bool_array(
+    alloc: Global,
+    value: &Value,
+    stated: Option<Validity>,
+) -> Result<BoolArray, DocError>
+    ensures { Gives (λ a. a) result (bool_array (view value.now) (option_map valid_of stated)) }
 {
     let object = if_closed(value, &["layout", "values", "validity", "offset"])?;
     let offset = offset_of(object)?;
@@ -85,5 +90,5 @@ fn bools_by(alloc: Global, value: &Value, stated: Option<Validity>) -> Result<Bo
 pub fn bool_by(alloc: Global, value: &Value, stated: Option<Validity>) -> Result<Array, DocError>
     ensures { Gives (λ c. c) result (bool_by (view value.now) (option_map valid_of stated)) }
 {
-    Ok(bools_by(alloc, value, stated)?.into_array())
+    Ok(bool_array(alloc, value, stated)?.into_array())
 }

@@ -7,7 +7,7 @@ ghost use Rattle.vx_model.specs.Union.{union_fault};
 ghost use Rattle.vx_column.specs.UnionParts.{union_parts};
 ghost use Rattle.vx_json.specs.Items.{each};
 ghost use Rattle.vx_json.specs.Meaning.{Gives};
-ghost use Rattle.vx_column_json.specs.Union.{variant_id, variant_name, variants_made, variants_in, offsets_of_rows, offsets_stated, union_made, union_by};
+ghost use Rattle.vx_column_json.specs.Union.{variant_id, variant_name, variants_made, variants_in, offsets_of_rows, offsets_stated, union_made, union_array, union_by};
 
 use crate::made::{made, refusal};
 use crate::offsets::{offset_type_of, offsets_member};
@@ -152,7 +152,7 @@ fn union_with(
     }
 }
 
-/// The column of that union. `Malformed` where the parts can't make one.
+/// That union. `Malformed` where the parts can't make one.
 #[tactic(auto, unfolding(crate::specs::Made::made))]
 fn union_made(
     alloc: Global,
@@ -160,12 +160,28 @@ fn union_made(
     offsets: Option<PrimitiveArray>,
     variants: Shared<UnionVariants>,
     children: Vec<ArrayRef>,
-) -> Result<Array, DocError>
-    ensures { Gives (λ c. c) result (union_made type_ids offsets variants children.items) }
+) -> Result<UnionArray, DocError>
+    ensures { Gives (λ a. a) result (union_made type_ids offsets variants children.items) }
 {
     let type_ids = type_ids.into_ref(alloc)?;
     let children = Columns::new(alloc, children)?;
-    Ok(made(union_with(type_ids, offsets, variants, children))?.into_array())
+    made(union_with(type_ids, offsets, variants, children))
+}
+
+/// What [`union_by`] gives, as that layout: it has the offsets that are stated, of which a column
+/// tells the type alone.
+#[tactic(auto, unfolding(crate::specs::Union::union_array))]
+pub fn union_array(
+    alloc: Global,
+    value: &Value,
+    type_ids: Array,
+    children: Vec<ArrayRef>,
+) -> Result<UnionArray, DocError>
+    ensures { Gives (λ a. a) result (union_array (view value.now) type_ids children.items) }
+{
+    let offsets = offsets_stated(alloc, value)?;
+    let variants = variants_in(alloc, value, &children)?;
+    union_made(alloc, type_ids, offsets, variants, children)
 }
 
 /// The column of layout `Union` that the value means, by the column that its member `type_ids`
@@ -181,7 +197,5 @@ pub fn union_by(
 ) -> Result<Array, DocError>
     ensures { Gives (λ c. c) result (union_by (view value.now) type_ids children.items) }
 {
-    let offsets = offsets_stated(alloc, value)?;
-    let variants = variants_in(alloc, value, &children)?;
-    union_made(alloc, type_ids, offsets, variants, children)
+    Ok(union_array(alloc, value, type_ids, children)?.into_array())
 }

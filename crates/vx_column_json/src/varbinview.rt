@@ -3,7 +3,7 @@ ghost use Rattle.std.specs.Option.{option_map};
 ghost use Rattle.serde_json.specs.View.{view};
 ghost use Rattle.vx_column.specs.Validity.{valid_of};
 ghost use Rattle.vx_json.specs.Meaning.{Gives};
-ghost use Rattle.vx_column_json.specs.VarBinView.{views_made, views_by_buffers, views_by};
+ghost use Rattle.vx_column_json.specs.VarBinView.{views_made, views_by_buffers, views_array, views_by};
 
 use crate::made::made;
 use crate::validity::{validity_alone, validity_beside};
@@ -17,7 +17,7 @@ use vx_json::{
 };
 use vx_shared::Shared;
 
-/// The column of these views. `Malformed` where one is none of a text, or the validity can't be
+/// These views. `Malformed` where one is none of a text, or the validity can't be
 /// theirs.
 #[tactic(auto, unfolding(crate::specs::Made::made))]
 fn views_made(
@@ -26,12 +26,12 @@ fn views_made(
     views: Buffer<BinaryView>,
     buffers: Vec<Buffer<u8>>,
     validity: Validity,
-) -> Result<Array, DocError>
-    ensures { Gives (λ c. c) result
+) -> Result<VarBinViewArray, DocError>
+    ensures { Gives (λ a. a) result
         (views_made kind views buffers.items (valid_of validity)) }
 {
     let shared = Shared::new(alloc, buffers)?;
-    Ok(made(VarBinViewArray::try_new(kind, views, shared, validity))?.into_array())
+    made(VarBinViewArray::try_new(kind, views, shared, validity))
 }
 
 #[tactic(auto, unfolding(crate::specs::VarBinView::views_by_buffers))]
@@ -40,8 +40,8 @@ fn views_by_buffers(
     kind: TextKind,
     stated: Option<Validity>,
     value: &Value,
-) -> Result<Array, DocError>
-    ensures { Gives (λ c. c) result
+) -> Result<VarBinViewArray, DocError>
+    ensures { Gives (λ a. a) result
         (views_by_buffers kind (option_map valid_of stated) (view value.now)) }
 {
     let views = views_in(alloc, list_member(value, "views")?)?;
@@ -50,12 +50,15 @@ fn views_by_buffers(
     views_made(alloc, kind, views, buffers, validity_alone(stated))
 }
 
-/// The column of layout `VarBinView` that the value means, by the validity that it states.
-/// `Malformed` where there is no such kind of text, an item is none of it or null, a view is none
-/// of a text, the validity can't be the column's, or there is another member.
-#[tactic(auto, unfolding(crate::specs::VarBinView::views_by, crate::specs::VarBinView::views_by_items))]
-pub fn views_by(alloc: Global, value: &Value, stated: Option<Validity>) -> Result<Array, DocError>
-    ensures { Gives (λ c. c) result (views_by (view value.now) (option_map valid_of stated)) }
+/// What [`views_by`] gives, as that layout: a listed text of more than twelve bytes stands in buffer
+/// 0, of which a column tells nothing.
+#[tactic(auto, unfolding(crate::specs::VarBinView::views_array, crate::specs::VarBinView::views_by_items))]
+pub fn views_array(
+    alloc: Global,
+    value: &Value,
+    stated: Option<Validity>,
+) -> Result<VarBinViewArray, DocError>
+    ensures { Gives (λ a. a) result (views_array (view value.now) (option_map valid_of stated)) }
 {
     let kind = text_kind_named(text_member(value, "type")?)?;
     if is_closed(value, &["layout", "type", "values", "validity"]) {
@@ -70,4 +73,14 @@ pub fn views_by(alloc: Global, value: &Value, stated: Option<Validity>) -> Resul
     } else {
         Err(DocError::Malformed)
     }
+}
+
+/// The column of layout `VarBinView` that the value means, by the validity that it states.
+/// `Malformed` where there is no such kind of text, an item is none of it or null, a view is none
+/// of a text, the validity can't be the column's, or there is another member.
+#[tactic(auto, unfolding(crate::specs::VarBinView::views_by))]
+pub fn views_by(alloc: Global, value: &Value, stated: Option<Validity>) -> Result<Array, DocError>
+    ensures { Gives (λ c. c) result (views_by (view value.now) (option_map valid_of stated)) }
+{
+    Ok(views_array(alloc, value, stated)?.into_array())
 }

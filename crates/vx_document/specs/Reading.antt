@@ -1,14 +1,15 @@
 -- What a JSON value means as a document.
-use Rattle.std.specs.Prelude.{[], ◌∷◌, if◌then◌else◌, Option, Some, None, codes}
+use Rattle.std.specs.Prelude.{List, [], ◌∷◌, if◌then◌else◌, Option, Some, None, codes}
 use Rattle.serde_json.specs.Data.{Data}
 use Rattle.serde_json.specs.Find.{get}
+use Rattle.vx_mask.specs.MaskValues.{PartialMask}
 use Rattle.vx_mask.specs.Policy.{vortex_fields}
 use Rattle.vx_json.specs.Meaning.{◌>>=◌, found_or}
 use Rattle.vx_json.specs.Members.{is_closed}
 use Rattle.vx_json.specs.Policies.{policy_of}
 use Rattle.vx_document.specs.Columns.{column_of}
 use Rattle.vx_document.specs.Chunks.{chunks_of}
-use Rattle.vx_document.specs.Steps.{steps_of}
+use Rattle.vx_document.specs.Steps.{kept_of_steps, steps_of}
 use Rattle.vx_document.specs.Documents.{DocumentValue, SourceValue, column_source}
 
 -- a column, or else chunks
@@ -27,3 +28,7 @@ document_of d = do
   steps ← get (codes "steps") d >>= steps_of
   policy ← found_or vortex_fields policy_of (get (codes "policy") d)
   Some (record { source = source; steps = steps; policy = policy })
+
+-- for each of its steps what the mask of a filter keeps beside its bits
+unfoldable pub masks_of : Data → Option (List (Option PartialMask))
+masks_of d = get (codes "steps") d >>= kept_of_steps

@@ -1,9 +1,10 @@
 //! Reading a document from a JSON value.
-ghost use Rattle.std.specs.Prelude.{IfOk};
+ghost use Rattle.std.specs.Prelude.{◌≡◌, IfOk, Some, map};
 ghost use Rattle.serde_json.specs.View.{view};
 ghost use Rattle.vx_json.specs.Meaning.{Gives};
 ghost use Rattle.vx_document.specs.Documents.{IsWhole, document_value, source_value};
-ghost use Rattle.vx_document.specs.Reading.{document_of, source_of};
+ghost use Rattle.vx_document.specs.Reading.{document_of, masks_of, source_of};
+ghost use Rattle.vx_document.specs.Steps.{kept_by};
 
 use crate::chunks::chunks_of;
 use crate::columns::column_member;
@@ -32,11 +33,13 @@ fn source_of(alloc: Global, value: &Value) -> Result<DocumentSource, DocError>
 
 /// Reads a document. `Malformed` exactly where the value has no meaning as one, but that want of
 /// memory may come in place of any answer. The values of chunks are whole chunks of records of the
-/// type's width, and at least as many as the shape has.
-#[tactic(auto, unfolding(crate::specs::Reading::document_of))]
+/// type's width, and at least as many as the shape has. A filter's mask keeps the positions or the
+/// runs that the document lists.
+#[tactic(auto, unfolding(crate::specs::Reading::document_of, crate::specs::Reading::masks_of))]
 pub fn document(alloc: Global, value: &Value) -> Result<Document, DocError>
     ensures document { Gives document_value result (document_of (view value.now)) }
     ensures whole { IfOk result (λ d. IsWhole d.source) }
+    ensures kept { IfOk result (λ d. masks_of (view value.now) ≡ Some (map kept_by d.steps)) }
 {
     let policy = policy_found(value.get("policy"))?;
     let steps = steps_of(alloc, member(value, "steps")?)?;

@@ -3,7 +3,7 @@ ghost use Rattle.std.specs.Prelude.{map};
 ghost use Rattle.serde_json.specs.View.{view};
 ghost use Rattle.vx_steps.specs.Step.{step_value};
 ghost use Rattle.vx_json.specs.Meaning.{Gives};
-ghost use Rattle.vx_document.specs.Steps.{slice_of, filter_of, filter_by_of, take_of, step_of, steps_of};
+ghost use Rattle.vx_document.specs.Steps.{slice_of, filter_seen, filter_by_of, take_of, kept_by, kept_of_steps, seen_of, step_seen, steps_of, without_mask};
 
 use crate::columns::{column_of, flat_of};
 use crate::documents::StepList;
@@ -15,22 +15,22 @@ use vx_steps::Step;
 
 #[tactic(auto, unfolding(crate::specs::Steps::slice_of))]
 fn slice_of(value: &Value) -> Result<Step, DocError>
-    ensures { Gives step_value result (slice_of (view value.now)) }
+    ensures { Gives step_seen result (without_mask (slice_of (view value.now))) }
 {
     let (start, end) = pair_of(member(value, "slice")?)?;
     Ok(Step::Slice { start, end })
 }
 
-#[tactic(auto, unfolding(crate::specs::Steps::filter_of))]
+#[tactic(auto, unfolding(crate::specs::Steps::filter_seen))]
 fn filter_of(alloc: Global, value: &Value) -> Result<Step, DocError>
-    ensures { Gives step_value result (filter_of (view value.now)) }
+    ensures { Gives step_seen result (filter_seen (view value.now)) }
 {
     Ok(Step::Filter(mask_of(alloc, member(value, "filter")?)?))
 }
 
 #[tactic(auto, unfolding(crate::specs::Steps::filter_by_of))]
 fn filter_by_of(alloc: Global, value: &Value) -> Result<Step, DocError>
-    ensures { Gives step_value result (filter_by_of (view value.now)) }
+    ensures { Gives step_seen result (without_mask (filter_by_of (view value.now))) }
 {
     let column = column_of(alloc, member(value, "filter_by")?)?;
     Ok(Step::FilterBy(flat_of(alloc, column)?))
@@ -38,7 +38,7 @@ fn filter_by_of(alloc: Global, value: &Value) -> Result<Step, DocError>
 
 #[tactic(auto, unfolding(crate::specs::Steps::take_of))]
 fn take_of(alloc: Global, value: &Value) -> Result<Step, DocError>
-    ensures { Gives step_value result (take_of (view value.now)) }
+    ensures { Gives step_seen result (without_mask (take_of (view value.now))) }
 {
     Ok(Step::Take(indices_of(alloc, member(value, "take")?)?))
 }
@@ -48,17 +48,17 @@ fn take_of(alloc: Global, value: &Value) -> Result<Step, DocError>
 struct StepItem;
 
 impl ReadItem for StepItem {
-    ghost use Rattle.vx_steps.specs.Step.{StepValue};
+    ghost use Rattle.vx_document.specs.Steps.{StepSeen};
 
     type Out = Step;
 
-    ghost Seen = { StepValue };
+    ghost Seen = { StepSeen };
 
-    ghost seen = { λ s. step_value s };
+    ghost seen = { λ s. step_seen s };
 
-    ghost meaning = { λ _ d. step_of d };
+    ghost meaning = { λ _ d. seen_of d };
 
-    #[tactic(auto, unfolding(crate::specs::Steps::step_of))]
+    #[tactic(auto, unfolding(crate::specs::Steps::seen_of))]
     fn read(&self, alloc: Global, value: &Value) -> Result<Step, DocError> {
         if is_closed(value, &["slice"]) {
             slice_of(value)
@@ -75,10 +75,11 @@ impl ReadItem for StepItem {
 }
 
 /// The list of steps that the value means. `Malformed` exactly where it means none, but that want
-/// of memory may come in place of any answer.
+/// of memory may come in place of any answer. The mask of a filter keeps what the value lists.
 #[tactic(auto, unfolding(crate::specs::Steps::steps_of))]
 pub fn steps_of(alloc: Global, value: &Value) -> Result<StepList, DocError>
-    ensures { Gives (map step_value) result (steps_of (view value.now)) }
+    ensures steps { Gives (map step_value) result (steps_of (view value.now)) }
+    ensures kept { Gives (map kept_by) result (kept_of_steps (view value.now)) }
 {
     let steps = read_each(alloc, &StepItem, items_in(value)?)?;
     Ok(StepList::from_vec(steps))

@@ -13,17 +13,20 @@ use crate::table::Table;
 use std::alloc::Global;
 use vx_bits::NoMemory;
 use vx_mask::Policy;
+use vx_paging::{Readers, page_picks};
 use vx_pieces::Indices;
-use vx_select::{SelectError, Step, compose_part, pick_indices};
+use vx_select::{SelectError, Step, pick_indices};
 use vx_steps::takes_nullability;
 
-// The picks of a page as indices of one take. The steps are judged and composed here, once.
+// The picks of a page as indices of one take. The steps are judged and composed here, once, for all
+// readers.
 fn page_indices(
     alloc: Global,
     len: usize,
     steps: &[Step],
     page: usize,
     page_len: usize,
+    readers: Readers<'_>,
 ) -> Result<Indices, SelectError>
     ensures picks { IfOk result (λ i. IsCutOf (walk len (map step_value steps.now)) page page_len
         (index_picks (index_value i))) }
@@ -36,7 +39,7 @@ fn page_indices(
     // or ends past the rows
     let start = page.saturating_mul(page_len);
     let end = start.saturating_add(page_len);
-    let picks = compose_part(alloc, len, steps, start, end)?;
+    let picks = page_picks(alloc, len, steps, start, end, readers)?;
     Ok(pick_indices(alloc, &picks, takes_nullability(steps))?)
 }
 
@@ -45,8 +48,9 @@ fn page_indices(
 /// page may have fewer rows, and one past the end has none. A column's type is that after the
 /// steps, and a flat column is unwrapped.
 ///
-/// Each step is judged once, and the picks are composed once, for the whole table: a page costs
-/// what composing the steps costs, and its own rows in each of its columns.
+/// Each step is judged once, and the picks are composed once, for all columns, with masks made ready
+/// for as many consumers. Where no step is a take a page costs what it needs of the steps, and its
+/// own rows in each of its columns; a take lists what it leaves, for each page again.
 ///
 /// `NoColumn` exactly where a number of the projection isn't below the number of columns, with the
 /// first one. Else `EmptyPage` exactly where `page_len` is 0. Else `Broken` exactly where a step
@@ -72,7 +76,11 @@ pub fn page(
     if page_len == 0 {
         return Err(PageError::EmptyPage);
     }
-    let indices = page_indices(alloc, table.len(), steps, page, page_len)?;
+    let readers = Readers {
+        columns: projection.len(),
+        policy,
+    };
+    let indices = page_indices(alloc, table.len(), steps, page, page_len, readers)?;
     let rows = table
         .project(alloc, projection)?
         .take(alloc, &indices, policy)?;
