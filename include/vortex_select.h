@@ -34,9 +34,10 @@
  *
  * No function keeps a pointer or calls back, and none but vortex_program takes memory.
  *
- * A mask of n rows is (n + 63) / 64 words: bit k % 64 of word k / 64, the lowest bit first, is set
- * where row k is selected, and the bits past the rows are clear. Other bits may begin at any bit of
- * their words, and those before and behind them play no part. */
+ * Bit k of words is bit k % 64 of word k / 64, the lowest bit first. Where a call is told at which
+ * bit they begin, as by mask_at, the bits before and behind them play no part. Where it is not, as of
+ * valid and of a mask whose rows are told, there are just (n + 63) / 64 words for n bits, and those
+ * past the n are clear. A mask's bit is set where its row is selected. */
 #ifndef VORTEX_SELECT_H
 #define VORTEX_SELECT_H
 
@@ -86,38 +87,40 @@ typedef struct vortex_run {
 } vortex_run;
 
 /* Copies the records of src at the set bits of the mask to the front of dst, in order; the rest of
- * dst stays. The number is how many they are.
+ * dst stays. The bits of the mask are src_len ones from bit mask_at on. The number is how many records
+ * are selected.
  *
- * VORTEX_LENGTHS: the mask has not as many words as src asks for. VORTEX_BITS_PAST. VORTEX_ROOM. */
+ * VORTEX_LENGTHS: the mask does not hold so many bits. VORTEX_ROOM. */
 vortex_answer vortex_filter_1(const uint8_t *src, size_t src_len, const uint64_t *mask,
-    size_t mask_len, uint8_t *dst, size_t dst_len);
+    size_t mask_len, size_t mask_at, uint8_t *dst, size_t dst_len);
 vortex_answer vortex_filter_2(const uint16_t *src, size_t src_len, const uint64_t *mask,
-    size_t mask_len, uint16_t *dst, size_t dst_len);
+    size_t mask_len, size_t mask_at, uint16_t *dst, size_t dst_len);
 vortex_answer vortex_filter_4(const uint32_t *src, size_t src_len, const uint64_t *mask,
-    size_t mask_len, uint32_t *dst, size_t dst_len);
+    size_t mask_len, size_t mask_at, uint32_t *dst, size_t dst_len);
 vortex_answer vortex_filter_8(const uint64_t *src, size_t src_len, const uint64_t *mask,
-    size_t mask_len, uint64_t *dst, size_t dst_len);
+    size_t mask_len, size_t mask_at, uint64_t *dst, size_t dst_len);
 vortex_answer vortex_filter_16(const vortex_record_16 *src, size_t src_len, const uint64_t *mask,
-    size_t mask_len, vortex_record_16 *dst, size_t dst_len);
+    size_t mask_len, size_t mask_at, vortex_record_16 *dst, size_t dst_len);
 vortex_answer vortex_filter_32(const vortex_record_32 *src, size_t src_len, const uint64_t *mask,
-    size_t mask_len, vortex_record_32 *dst, size_t dst_len);
+    size_t mask_len, size_t mask_at, vortex_record_32 *dst, size_t dst_len);
 
-/* Moves the records at the set bits of the mask to the front, in order. The number is how many they
- * are. What stands behind them then is not said.
+/* Moves the records at the set bits of the mask to the front, in order. The bits of the mask are
+ * values_len ones from bit mask_at on. The number is how many records are selected. What stands
+ * behind them then is not said.
  *
- * VORTEX_LENGTHS: the mask has not as many words as the values ask for. VORTEX_BITS_PAST. */
-vortex_answer vortex_filter_in_place_1(uint8_t *values, size_t values_len, const uint64_t *mask,
-    size_t mask_len);
-vortex_answer vortex_filter_in_place_2(uint16_t *values, size_t values_len, const uint64_t *mask,
-    size_t mask_len);
-vortex_answer vortex_filter_in_place_4(uint32_t *values, size_t values_len, const uint64_t *mask,
-    size_t mask_len);
-vortex_answer vortex_filter_in_place_8(uint64_t *values, size_t values_len, const uint64_t *mask,
-    size_t mask_len);
+ * VORTEX_LENGTHS: the mask does not hold so many bits. */
+vortex_answer vortex_filter_in_place_1(uint8_t *values, size_t values_len,
+    const uint64_t *mask, size_t mask_len, size_t mask_at);
+vortex_answer vortex_filter_in_place_2(uint16_t *values, size_t values_len,
+    const uint64_t *mask, size_t mask_len, size_t mask_at);
+vortex_answer vortex_filter_in_place_4(uint32_t *values, size_t values_len,
+    const uint64_t *mask, size_t mask_len, size_t mask_at);
+vortex_answer vortex_filter_in_place_8(uint64_t *values, size_t values_len,
+    const uint64_t *mask, size_t mask_len, size_t mask_at);
 vortex_answer vortex_filter_in_place_16(vortex_record_16 *values, size_t values_len,
-    const uint64_t *mask, size_t mask_len);
+    const uint64_t *mask, size_t mask_len, size_t mask_at);
 vortex_answer vortex_filter_in_place_32(vortex_record_32 *values, size_t values_len,
-    const uint64_t *mask, size_t mask_len);
+    const uint64_t *mask, size_t mask_len, size_t mask_at);
 
 /* Copies the records of src at the indices to the front of dst, in order; the rest of dst stays.
  * Index k is null, and gives a record of zeros, where bit k of valid is clear; without words none

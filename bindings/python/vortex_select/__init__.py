@@ -93,11 +93,13 @@ class _View(ctypes.Structure):
 
 def _declare(library):
     place, size = ctypes.c_void_p, ctypes.c_size_t
-    lists = {"filter": 3, "filter_in_place": 2, "take_front": 4}
-    for name, count in lists.items():
+    items = [place, size]
+    mask = [place, size, size]
+    lists = {"filter": items + mask + items, "filter_in_place": items + mask, "take_front": items * 4}
+    for name, kinds in lists.items():
         for width in _WIDTHS:
             call = getattr(library, f"vortex_{name}_{width}")
-            call.argtypes, call.restype = [place, size] * count, _Answer
+            call.argtypes, call.restype = kinds, _Answer
     for name, sizes in {"filter": (2, 3), "take": (3, 1, 1)}.items():
         call = getattr(library, f"vortex_{name}_bits")
         kinds = [kind for count in sizes for kind in [place] + [size] * count]
@@ -268,10 +270,15 @@ class Bits:
     def __len__(self) -> int:
         return self.length
 
+    def _placed(self):
+        """A copy of the words that hold the bits, and the bit at which they begin there."""
+        first, last = self.at // 8, (self.at + self.length + 7) // 8
+        return _whole_words(self._data.cast("B")[first:last].tobytes()), self.at % 8
+
     def _words(self):
         """The words of the bits, the first one lowest, and zeros behind them."""
-        first, last = self.at // 8, (self.at + self.length + 7) // 8
-        number = int.from_bytes(self._data.cast("B")[first:last], "little") >> self.at % 8
+        placed, at = self._placed()
+        number = int.from_bytes(placed.tobytes(), "little") >> at
         number &= (1 << self.length) - 1
         words = array("Q")
         words.frombytes(number.to_bytes(8 * ((self.length + 63) // 64), "little"))
@@ -300,12 +307,23 @@ def _bools(mask):
     return view.tobytes() if _native(view) == "?" else None
 
 
-def _words(mask, rows):
-    """The words of a mask of so many rows. They are copies, which no other thread can write."""
+def _placed(mask, rows):
+    """The words that hold a mask of so many rows, and the bit at which it begins there. They are
+    copies, which no other thread can write.
+    """
     rows = _number(rows, "a number of rows")
     if isinstance(mask, Bits):
         if mask.length != rows:
             raise ValueError(f"{mask.length} bits are no mask of {rows} rows")
+        return mask._placed()
+    return _words(mask, rows), 0
+
+
+def _words(mask, rows):
+    """The words of a mask of so many rows, and of nothing else. They are copies too."""
+    rows = _number(rows, "a number of rows")
+    if isinstance(mask, Bits):
+        _placed(mask, rows)
         return mask._words()
     bools = _bools(mask)
     if bools is not None:
@@ -315,6 +333,8 @@ def _words(mask, rows):
     bits = _whole_bytes(mask)
     if len(bits) != (rows + 7) // 8:
         raise ValueError(f"{len(bits)} bytes are no mask of {rows} rows")
+    if rows % 8 and bits[-1] >> rows % 8:
+        raise ValueError("a bit past the rows is set")
     return _whole_words(bits)
 
 
@@ -384,11 +404,14 @@ def filter(values: Buffer, mask: Mask, width: Optional[int] = None) -> memoryvie
     call = getattr(_calls, f"vortex_filter_{of.width}")
     with of.held() as src:
         items = src.size // of.width
-        words = _words(mask, items)
-        count = _count(words, items)
-        kept = bytearray(of.width * count)
-        with _Held(words, 8) as by, _Held(kept, of.align, True) as dst:
-            _checked(call(src.address, items, by.address, len(words), dst.address, count))
+        words, at = _placed(mask, items)
+        with _Held(words, 8) as by:
+            lists = (src.address, items, by.address, len(words), at)
+            # Without room, the call tells how much of it there must be.
+            count = call(*lists, 0, 0).value
+            kept = bytearray(of.width * count)
+            with _Held(kept, of.align, True) as dst:
+                _checked(call(*lists, dst.address, count))
     return of.answer(kept)
 
 
@@ -405,9 +428,9 @@ def filter_in_place(values: Buffer, mask: Mask, width: Optional[int] = None) -> 
     call = getattr(_calls, f"vortex_filter_in_place_{of.width}")
     with of.held(writable=True) as src:
         items = src.size // of.width
-        words = _words(mask, items)
+        words, at = _placed(mask, items)
         with _Held(words, 8) as by:
-            return _checked(call(src.address, items, by.address, len(words)))
+            return _checked(call(src.address, items, by.address, len(words), at))
 
 
 def _one_index(value):
@@ -538,7 +561,8 @@ def _held_words(bits, at, count):
     if isinstance(bits, Bits):
         if at + count > bits.length:
             raise ValueError(f"there are no {count} bits from bit {at} on")
-        return bits._words(), at
+        words, first = bits._placed()
+        return words, first + at
     bools = _bools(bits)
     data = _whole_bytes(bits) if bools is None else _packed(bools).tobytes()
     if at + count > (8 * len(data) if bools is None else len(bools)):

@@ -35,6 +35,31 @@ impl<'a> Bits<'a> {
         self.len == 0
     }
 
+    // The words, how many they are, and the first bit's place.
+    pub(crate) fn parts(&self) -> (*const u64, usize, usize) {
+        (self.words.as_ptr(), self.words.len(), self.at)
+    }
+
+    // The bits from bit `64 * i` on, and zeros past the last one.
+    fn word(&self, i: usize) -> u64 {
+        let (first, shift) = (self.at / 64 + i, self.at % 64);
+        let high = self
+            .words
+            .get(first + 1)
+            .map_or(0, |word| word << 1 << (63 - shift));
+        let all = self.words[first] >> shift | high;
+        match self.len - 64 * i {
+            left @ 0..64 => all & ((1 << left) - 1),
+            _ => all,
+        }
+    }
+
+    // How many bits are set.
+    pub(crate) fn count(&self) -> usize {
+        let ones = |i| self.word(i).count_ones() as usize;
+        (0..self.len.div_ceil(64)).map(ones).sum()
+    }
+
     /// Bit `k`, if there is one.
     pub fn get(&self, k: usize) -> Option<bool> {
         (k < self.len).then(|| {

@@ -98,10 +98,25 @@ fn count_of(answer: CallAnswer) -> usize {
 /// assert_eq!(filter(&[0.5f64, 1.5, 2.5], &mask), [1.5, 2.5]);
 /// ```
 pub fn filter<T: Record>(values: &[T], mask: &Mask) -> Vec<T> {
+    filter_by(values, Bits::from(mask))
+}
+
+/// The values at the set ones of some bits, which may begin at any bit of their words, in order.
+///
+/// # Panics
+/// Where the bits aren't as many as the values.
+///
+/// ```
+/// use vortex_select_sys::{filter_by, Bits};
+///
+/// let bits = Bits::new(&[0b1101_0000], 5, 3).unwrap();
+/// assert_eq!(filter_by(&[7u8, 8, 9], bits), [8, 9]);
+/// ```
+pub fn filter_by<T: Record>(values: &[T], mask: Bits) -> Vec<T> {
     assert_eq!(values.len(), mask.len(), "a mask is as long as its values");
     let count = mask.count();
     let call = |dst: &mut [_]| {
-        let answer = record::filter(values, mask.words(), dst);
+        let answer = record::filter(values, mask, dst);
         (answer, count_of(answer))
     };
     // SAFETY: a filter that was done wrote as many values as it answers.
@@ -123,8 +138,24 @@ pub fn filter<T: Record>(values: &[T], mask: &Mask) -> Vec<T> {
 /// assert_eq!(values, [1, 3]);
 /// ```
 pub fn filter_in_place<T: Record>(values: &mut Vec<T>, mask: &Mask) {
+    filter_in_place_by(values, Bits::from(mask))
+}
+
+/// Keeps the values at the set ones of some bits, in order, in the memory that they have.
+///
+/// # Panics
+/// Where the bits aren't as many as the values.
+///
+/// ```
+/// use vortex_select_sys::{filter_in_place_by, Bits};
+///
+/// let mut values = vec![7u8, 8, 9];
+/// filter_in_place_by(&mut values, Bits::new(&[0b1010_0000], 5, 3).unwrap());
+/// assert_eq!(values, [7, 9]);
+/// ```
+pub fn filter_in_place_by<T: Record>(values: &mut Vec<T>, mask: Bits) {
     assert_eq!(values.len(), mask.len(), "a mask is as long as its values");
-    let answer = record::filter_in_place(values, mask.words());
+    let answer = record::filter_in_place(values, mask);
     assert_eq!(answer.status, DONE);
     values.truncate(answer.value as usize);
 }

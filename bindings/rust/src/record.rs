@@ -1,4 +1,5 @@
 use crate::calls::{self, Answer};
+use crate::Bits;
 use std::mem::MaybeUninit;
 
 mod sealed {
@@ -70,29 +71,26 @@ pub(crate) fn unwritten<T: Record>(values: &mut [T]) -> &mut [MaybeUninit<T>] {
     unsafe { std::slice::from_raw_parts_mut(place, len) }
 }
 
-pub(crate) fn filter<T: Record>(src: &[T], words: &[u64], dst: &mut [MaybeUninit<T>]) -> Answer {
-    let (s, n, w, m) = (src.as_ptr(), src.len(), words.as_ptr(), words.len());
+pub(crate) fn filter<T: Record>(src: &[T], mask: Bits, dst: &mut [MaybeUninit<T>]) -> Answer {
+    let (s, n) = (src.as_ptr(), src.len());
+    let (w, m, at) = mask.parts();
     let (d, room) = (dst.as_mut_ptr(), dst.len());
     // SAFETY: each pointer is that of a slice and leads to as many aligned items as is said, and the
     // slice that is written is borrowed alone, so that it overlaps no other one.
     unsafe {
         by_size!(T: vortex_filter_1 vortex_filter_2 vortex_filter_4 vortex_filter_8
-            vortex_filter_16 vortex_filter_32 (s.cast(), n, w, m, d.cast(), room))
+            vortex_filter_16 vortex_filter_32 (s.cast(), n, w, m, at, d.cast(), room))
     }
 }
 
-pub(crate) fn filter_in_place<T: Record>(values: &mut [T], words: &[u64]) -> Answer {
-    let (v, n, w, m) = (
-        values.as_mut_ptr(),
-        values.len(),
-        words.as_ptr(),
-        words.len(),
-    );
+pub(crate) fn filter_in_place<T: Record>(values: &mut [T], mask: Bits) -> Answer {
+    let (v, n) = (values.as_mut_ptr(), values.len());
+    let (w, m, at) = mask.parts();
     // SAFETY: as in `filter`. The call only moves values, so each is one that was there.
     unsafe {
         by_size!(T: vortex_filter_in_place_1 vortex_filter_in_place_2 vortex_filter_in_place_4
             vortex_filter_in_place_8 vortex_filter_in_place_16 vortex_filter_in_place_32
-            (v.cast(), n, w, m))
+            (v.cast(), n, w, m, at))
     }
 }
 

@@ -4,8 +4,8 @@
 use std::fmt::Debug;
 use std::ops::Range;
 use vortex_select_sys::{
-    filter, filter_bits, filter_in_place, take, take_bits, take_bits_valid, take_into, take_valid,
-    Bits, Mask, OutOfBounds, Record,
+    filter, filter_bits, filter_by, filter_in_place, filter_in_place_by, take, take_bits,
+    take_bits_valid, take_into, take_valid, Bits, Mask, OutOfBounds, Record,
 };
 
 /// Random numbers by xorshift.
@@ -98,15 +98,20 @@ fn one_call<T: Record + PartialEq + Debug>(dice: &mut Dice, zero: T, of: fn(u64)
     match dice.below(6) {
         0 => {
             let rows = dice.bools(values.len());
-            assert_eq!(
-                filter(&values, &Mask::from_bools(&rows)),
-                plain_filter(&values, &rows)
-            );
+            let plain = plain_filter(&values, &rows);
+            assert_eq!(filter(&values, &Mask::from_bools(&rows)), plain);
+            let (words, at) = placed(dice, &rows);
+            let bits = Bits::new(&words, at, rows.len()).unwrap();
+            assert_eq!(filter_by(&values, bits), plain);
         }
         1 => {
             let rows = dice.bools(values.len());
             let mut kept = values.clone();
             filter_in_place(&mut kept, &Mask::from_bools(&rows));
+            assert_eq!(kept, plain_filter(&values, &rows));
+            let (words, at) = placed(dice, &rows);
+            kept = values.clone();
+            filter_in_place_by(&mut kept, Bits::new(&words, at, rows.len()).unwrap());
             assert_eq!(kept, plain_filter(&values, &rows));
         }
         2 => {
