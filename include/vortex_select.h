@@ -165,6 +165,14 @@ vortex_answer vortex_take_front_32(const vortex_record_32 *src, size_t src_len,
     const uint64_t *indices, size_t indices_len, const uint64_t *valid, size_t valid_len,
     vortex_record_32 *dst, size_t dst_len);
 
+/* Writes the numbers of 32 bits to the front of dst as such of 64, in order; the rest of dst stays. The
+ * number is how many they are. By it a take goes over indices of 32 bits: block by block, each of which
+ * is widened into a list that stays in a cache, and of a multiple of 64 indices but for the last, so
+ * that its part of valid begins with a word.
+ *
+ * VORTEX_ROOM. */
+vortex_answer vortex_widen_4(const uint32_t *src, size_t src_len, uint64_t *dst, size_t dst_len);
+
 /* Writes the bits of src at the set bits of the mask to the front of dst, in order, and clear bits
  * to the end of the last word that they reach; the words behind it stay. The bits of src are the
  * rows ones from bit src_at on, those of the mask as many from bit mask_at on. The number is how

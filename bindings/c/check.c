@@ -120,6 +120,41 @@ static void fronts(void) {
     expect(is(answer, VORTEX_DONE, 0), "a front of no indices");
 }
 
+/* A take of so many indices of 32 bits, 64 at a time: the place of the first one out of bounds, or
+ * their number. */
+static size_t narrow_take(const uint32_t *indices, size_t count, const uint64_t *valid, uint32_t *out) {
+    uint64_t wide[64];
+    for (size_t start = 0; start < count; start += 64) {
+        size_t some = count - start < 64 ? count - start : 64;
+        vortex_answer answer = vortex_widen_4(indices + start, some, wide, 64);
+        expect(is(answer, VORTEX_DONE, some), "a block of indices");
+        answer = vortex_take_front_4(four, 4, wide, some, valid + start / 64, 1, out + start, some);
+        if (answer.status != VORTEX_DONE || answer.value < some) {
+            return start + answer.value;
+        }
+    }
+    return count;
+}
+
+static void narrow_indices(void) {
+    const uint32_t most[2] = {UINT32_MAX, 1};
+    uint64_t wide[3] = {7, 7, 7};
+    vortex_answer answer = vortex_widen_4(most, 2, wide, 1);
+    expect(is(answer, VORTEX_ROOM, 2) && wide[0] == 7, "wide numbers without room");
+    answer = vortex_widen_4(most, 2, wide, 3);
+    expect(is(answer, VORTEX_DONE, 2) && wide[0] == UINT32_MAX && wide[1] == 1 && wide[2] == 7, "wide");
+    answer = vortex_widen_4(NULL, 0, NULL, 0);
+    expect(is(answer, VORTEX_DONE, 0), "no wide numbers");
+    uint32_t indices[100], out[100];
+    for (uint32_t k = 0; k < 100; k++) {
+        indices[k] = k % 4;
+    }
+    indices[70] = 9;
+    const uint64_t all[2] = {UINT64_MAX, ((uint64_t)1 << 36) - 1}, some[2] = {UINT64_MAX, 3};
+    expect(narrow_take(indices, 100, all, out) == 70 && out[69] == 20, "narrow indices, one past");
+    expect(narrow_take(indices, 100, some, out) == 100 && out[70] == 0, "narrow indices, with nulls");
+}
+
 static const uint64_t ten_bits[2] = {(uint64_t)3 << 60, 5};
 
 static void bit_filters(void) {
@@ -212,6 +247,7 @@ int main(void) {
     filters_in_place();
     takes();
     fronts();
+    narrow_indices();
     bit_filters();
     bit_takes();
     positions();

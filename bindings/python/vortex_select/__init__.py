@@ -108,6 +108,7 @@ def _declare(library):
         call.argtypes, call.restype = [place, size, size, place, size], _Answer
     for call in library.vortex_rank, library.vortex_count_before:
         call.argtypes, call.restype = [place, size, size, size], _Answer
+    library.vortex_widen_4.argtypes, library.vortex_widen_4.restype = items * 2, _Answer
     library.vortex_version.argtypes, library.vortex_version.restype = [], ctypes.c_uint32
     if hasattr(library, "vortex_program"):
         library.vortex_program.argtypes = [place, size] * 3
@@ -456,10 +457,15 @@ def _listed(indices):
 _SIGN = bytes(128) + b"\xff" * 128
 
 
-def _widened(data, size, is_signed):
-    """The numbers of so many bytes each as such of eight, a negative one as one past every bound."""
+def _widened(data, size, is_signed, bound):
+    """The numbers of so many bytes each as such of eight, a negative one as one past the bound."""
     count = len(data) // size
     wide = bytearray(8 * count)
+    # Of four bytes, a negative one is 2^31 at least as one that has no sign.
+    if size == 4 and not (is_signed and bound > 1 << 31):
+        with _Held(data, 4) as src, _Held(wide, 8, True) as dst:
+            _checked(_calls.vortex_widen_4(src.address, count, dst.address, count))
+        return wide
     for place in range(size):
         wide[place::8] = data[place::size]
     if is_signed:
@@ -500,7 +506,7 @@ class _Indices:
     def __len__(self):
         return len(self._view)
 
-    def blocks(self):
+    def blocks(self, bound):
         """The place of each block, how many indices it has, and where they are.
 
         A negative number of eight bytes is 2^63 at least as one that has no sign.
@@ -509,7 +515,7 @@ class _Indices:
         for start in range(0, len(self), self.BLOCK):
             block = self._view[start : start + self.BLOCK].tobytes()
             if size < 8:
-                block = _widened(block, size, self._is_signed)
+                block = _widened(block, size, self._is_signed, bound)
             with _Held(block, 8) as held:
                 yield start, len(block) // 8, held.address
 
@@ -547,7 +553,7 @@ def take(
     taken = bytearray(of.width * len(at))
     with of.held() as src, _Held(words, 8) as there, _Held(taken, of.align, True) as dst:
         items = src.size // of.width
-        for start, count, place in at.blocks():
+        for start, count, place in at.blocks(items):
             lists = (src.address, items, place, count, *_part(there, words, start, count))
             done = _checked(call(*lists, dst.address + of.width * start, count))
             if done < count:
@@ -606,7 +612,7 @@ def take_bits(
     words = _valid_words(valid, picks)
     taken = bytearray(8 * ((picks + 63) // 64))
     with _Held(src, 8) as held, _Held(words, 8) as there, _Held(taken, 8, True) as dst:
-        for start, some, place in listed.blocks():
+        for start, some, place in listed.blocks(count):
             lists = (held.address, len(src), at, count, place, some)
             to = (dst.address + start // 8, (some + 63) // 64)
             answer = _calls.vortex_take_bits(*lists, *_part(there, words, start, some), *to)

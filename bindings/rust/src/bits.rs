@@ -139,6 +139,24 @@ pub fn take_bits(src: Bits, indices: &[u64]) -> Result<Mask, OutOfBounds> {
     take_words(src, indices, &[])
 }
 
+/// `take_bits` by indices of 32 bits.
+///
+/// ```
+/// use vortex_select_sys::{take_bits_u32, Bits, Mask};
+///
+/// let bits = Mask::from_bools(&[true, false, true]);
+/// let taken = take_bits_u32(Bits::from(&bits), &[2, 1]);
+/// assert_eq!(taken, Ok(Mask::from_bools(&[true, false])));
+/// ```
+pub fn take_bits_u32(src: Bits, indices: &[u32]) -> Result<Mask, OutOfBounds> {
+    let mut words = Vec::with_capacity(indices.len().div_ceil(64));
+    crate::in_blocks(indices, &[], |indices, _| {
+        words.extend_from_slice(take_words(src, indices, &[])?.words());
+        Ok(())
+    })?;
+    Ok(Mask::of(words, indices.len()))
+}
+
 /// The bits of `src` at the indices that are there, in order, and clear ones at the others; or the
 /// first index that is there and out of bounds.
 ///

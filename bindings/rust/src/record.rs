@@ -64,10 +64,12 @@ macro_rules! by_size {
 }
 
 /// Memory of values as such that needn't be written yet.
-pub(crate) fn unwritten<T: Record>(values: &mut [T]) -> &mut [MaybeUninit<T>] {
+///
+/// # Safety
+/// Nothing but values is written into it.
+pub(crate) unsafe fn unwritten<T: Record>(values: &mut [T]) -> &mut [MaybeUninit<T>] {
     let (place, len) = (values.as_mut_ptr().cast(), values.len());
-    // SAFETY: the same memory, borrowed for the same time. The calls of this file write whole values
-    // into it, and nothing else is done with it.
+    // SAFETY: the same memory, borrowed for the same time.
     unsafe { std::slice::from_raw_parts_mut(place, len) }
 }
 

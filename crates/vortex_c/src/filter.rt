@@ -110,7 +110,7 @@ fn filter_at<T: Copy>(src: &[T], words: &[u64], mask_at: usize, dst: &mut [T]) -
 {
     let mask = Bits::new(words, mask_at, src.len());
     let count = count_bits(&mask);
-    if count > dst.len() {
+    if dst.len() < count {
         return Answer {
             status: ROOM,
             value: count as u64,
