@@ -122,7 +122,8 @@ static void fronts(void) {
 
 /* A take of so many indices of 32 bits, 64 at a time: the place of the first one out of bounds, or
  * their number. */
-static size_t narrow_take(const uint32_t *indices, size_t count, const uint64_t *valid, uint32_t *out) {
+static size_t narrow_take(const uint32_t *indices, size_t count, const uint64_t *valid,
+    uint32_t *out) {
     uint64_t wide[64];
     for (size_t start = 0; start < count; start += 64) {
         size_t some = count - start < 64 ? count - start : 64;
@@ -142,7 +143,8 @@ static void narrow_indices(void) {
     vortex_answer answer = vortex_widen_4(most, 2, wide, 1);
     expect(is(answer, VORTEX_ROOM, 2) && wide[0] == 7, "wide numbers without room");
     answer = vortex_widen_4(most, 2, wide, 3);
-    expect(is(answer, VORTEX_DONE, 2) && wide[0] == UINT32_MAX && wide[1] == 1 && wide[2] == 7, "wide");
+    expect(is(answer, VORTEX_DONE, 2) && wide[0] == UINT32_MAX && wide[1] == 1, "wide numbers");
+    expect(wide[2] == 7, "what stands behind them");
     answer = vortex_widen_4(NULL, 0, NULL, 0);
     expect(is(answer, VORTEX_DONE, 0), "no wide numbers");
     uint32_t indices[100], out[100];
@@ -152,7 +154,7 @@ static void narrow_indices(void) {
     indices[70] = 9;
     const uint64_t all[2] = {UINT64_MAX, ((uint64_t)1 << 36) - 1}, some[2] = {UINT64_MAX, 3};
     expect(narrow_take(indices, 100, all, out) == 70 && out[69] == 20, "narrow indices, one past");
-    expect(narrow_take(indices, 100, some, out) == 100 && out[70] == 0, "narrow indices, with nulls");
+    expect(narrow_take(indices, 100, some, out) == 100 && out[70] == 0, "with nulls");
 }
 
 static const uint64_t ten_bits[2] = {(uint64_t)3 << 60, 5};

@@ -1,7 +1,7 @@
-/* Calls the kernels over lists that lie against pages that can't be touched, at their end or at their
- * start, and of which those that are read can't be written; compares what comes with plain loops; and
- * prints `c: N passed, M failed`. A byte past a list ends the program by a signal. The calls run on a
- * stack of 64 KiB.
+/* Calls the kernels over lists that lie against pages that can't be touched, at their end or at
+ * their start, and of which those that are read can't be written; compares what comes with plain
+ * loops; and prints `c: N passed, M failed`. A byte past a list ends the program by a signal. The
+ * calls run on a stack of 64 KiB.
  *
  * usage: guarded [rounds] */
 #define _DEFAULT_SOURCE

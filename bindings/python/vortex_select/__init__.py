@@ -95,7 +95,8 @@ def _declare(library):
     place, size = ctypes.c_void_p, ctypes.c_size_t
     items = [place, size]
     mask = [place, size, size]
-    lists = {"filter": items + mask + items, "filter_in_place": items + mask, "take_front": items * 4}
+    lists = {"filter": items + mask + items, "filter_in_place": items + mask}
+    lists["take_front"] = items * 4
     for name, kinds in lists.items():
         for width in _WIDTHS:
             call = getattr(library, f"vortex_{name}_{width}")
@@ -176,7 +177,10 @@ class _Held:
 
 
 # The parts of a buffer's format: a name, or a shape, an order of bytes, a count and a type.
-_PART = re.compile(r":[^:]*:|T\{|\}|(\([0-9,]*\))?([@=<>!^]?)([0-9]*)(Z[fdg]|[?cbBhHiIlLqQnNefdgwsx])")
+_PART = re.compile(
+    r":[^:]*:|T\{|\}|"
+    r"(\([0-9,]*\))?([@=<>!^]?)([0-9]*)(Z[fdg]|[?cbBhHiIlLqQnNefdgwsx])"
+)
 _SIZES = {"g": ctypes.sizeof(ctypes.c_longdouble), "w": 4, "Zf": 8, "Zd": 16}
 _SIZES["Zg"] = 2 * _SIZES["g"]
 
@@ -189,7 +193,7 @@ def _size_of(kind, order):
 
 
 def _plain_size(form):
-    """The bytes of an item of this format, or none where it isn't one of numbers and bytes alone."""
+    """The bytes of an item of this format, or none where it has more than numbers and bytes."""
     size = place = 0
     order = "@"
     while place < len(form):
@@ -215,8 +219,8 @@ def _is_masked(data):
 def _view_of(data, what):
     """A view of a buffer of one dimension, whose items are numbers or bytes.
 
-    A type that holds objects is refused, since the module would move references that no one counts, and
-    so is one whose format doesn't tell all of its bytes, as a union's.
+    A type that holds objects is refused, since the module would move references that no one counts,
+    and so is one whose format doesn't tell all of its bytes, as a union's.
     """
     if _is_masked(data):
         raise TypeError(f"{what} can't be a masked array: hand in its data, and its mask as a mask")
@@ -249,7 +253,7 @@ def _number(value, what):
 
 
 class Bits:
-    """So many bits of bytes, from bit `at` on: bit k % 8 of byte k // 8, the lowest first, is bit k.
+    """So many bits of bytes, from bit `at` on: bit k % 8 of byte k // 8, lowest first, is bit k.
 
     The bits before and behind them play no part.
 
@@ -342,7 +346,7 @@ def _words(mask, rows):
 def _whole_bytes(bits):
     view = _view_of(bits, "a mask")
     if _native(view) != "B":
-        raise TypeError(f"a mask can't have items of format {view.format!r}: bytes or bools are wanted")
+        raise TypeError(f"a mask is of bytes or bools, and not of format {view.format!r}")
     return view.tobytes()
 
 
@@ -478,13 +482,13 @@ def _widened(data, size, is_signed, bound):
 class _Indices:
     """A list of indices, which hands out blocks of them as numbers of 64 bits.
 
-    A kernel may test an index and read by it in two steps, and a call drops the interpreter's lock: a
-    thread that wrote to the list in between would have it read out of bounds. So each block is copied
-    before it is tested. Of 16,777,216 indices one cost 4.2 ns in a take that copied nothing, whether it
-    held the lock (`PyDLL`) or not, 5.0 ns by such blocks and 11 ns where the list was copied whole, all
-    of them ascending; random ones cost 28 ns in each way. Holding the lock is cheaper by that
-    nanosecond, but it stops all other threads for the whole call, and doesn't keep off those that write
-    without it, as numpy's do.
+    A kernel may test an index and read by it in two steps, and a call drops the interpreter's lock:
+    a thread that wrote to the list in between would have it read out of bounds. So each block is
+    copied before it is tested. Of 16,777,216 ascending indices one cost 4.2 ns in a take that
+    copied nothing, whether it held the lock (`PyDLL`) or not, 5.0 ns by such blocks, and 11 ns where the
+    list was copied whole; random ones cost some 28 ns in each way. Holding the lock is cheaper by
+    that nanosecond, but it stops all other threads for the whole call, and doesn't keep off those
+    that write without it, as numpy's do.
     """
 
     # A multiple of 64, so that a block's validity and its bits begin with a word; 1 MiB, which a
@@ -493,7 +497,7 @@ class _Indices:
 
     def __init__(self, indices):
         if _is_masked(indices):
-            raise TypeError("indices can't be a masked array: hand in its data, and a mask as valid")
+            raise TypeError("indices can't be a masked array: hand in its data, and valid")
         try:
             self._view = memoryview(indices)
         except TypeError:
@@ -587,7 +591,8 @@ def filter_bits(
     >>> bytes(kept), count
     (b'\\x05', 3)
     """
-    (src, bits_at), (by, mask_at) = _held_words(bits, bits_at, rows), _held_words(mask, mask_at, rows)
+    src, bits_at = _held_words(bits, bits_at, rows)
+    by, mask_at = _held_words(mask, mask_at, rows)
     with _Held(src, 8) as held, _Held(by, 8) as mask_held:
         lists = (held.address, len(src), bits_at, mask_held.address, len(by), mask_at, rows)
         count = _calls.vortex_filter_bits(*lists, 0, 0).value
@@ -600,7 +605,7 @@ def filter_bits(
 def take_bits(
     bits: Mask, count: int, indices: Indices, valid: Optional[Mask] = None, at: int = 0
 ) -> bytearray:
-    """The bits at the indices, in order, as bytes, and clear ones where the bit of `valid` is clear.
+    """The bits at the indices, in order, as bytes, and clear ones where `valid` has clear bits.
 
     The bits are the `count` ones from bit `at` on. The indices are as for `take`.
 
@@ -637,7 +642,7 @@ def positions(mask: Mask, rows: int) -> array:
 
 
 def runs(mask: Mask, rows: int) -> List[Tuple[int, int]]:
-    """The maximal runs of rows that a mask of so many selects, each its start and its end, ascending.
+    """The maximal runs of rows that a mask of so many selects, each a start and an end, ascending.
 
     >>> runs(b"\\x0d", 4)
     [(0, 1), (2, 4)]
@@ -699,7 +704,8 @@ def run(words: Sequence[str], document: Buffer = b"") -> Answer:
 
     The status is 0 where no step is broken, 1 where one is, 2 where the document has no meaning, 3
     where the words are others, 6 where memory is wanting or the text would be too long, and 7 where
-    the document has more than 16,777,216 bytes. The text is that of the rows at 0, the fault's line at 1, else nothing.
+    the document has more than 16,777,216 bytes. The text is that of the rows at 0, the fault's line
+    at 1, else nothing.
 
     >>> run(["made", "7"]).text
     b'made 7 rows 500 nulls 45 sum 512344210835\\n'

@@ -100,8 +100,8 @@ pub fn filter_bits(src: Bits, mask: Bits) -> Mask {
     let mut count = 0;
     let call = |dst: &mut [_]| {
         let dst: &mut [MaybeUninit<u64>] = dst;
-        // SAFETY: each pointer is that of a slice and leads to as many words as is said, and the one
-        // that is written is borrowed alone.
+        // SAFETY: each pointer is that of a slice and leads to as many words as is said, and the
+        // one that is written is borrowed alone.
         let answer = unsafe {
             calls::vortex_filter_bits(
                 s.as_ptr(),

@@ -35,8 +35,8 @@ pub use rows::{file, made, page, rows, run, Answer};
 use calls::{Answer as CallAnswer, DONE, INDEX};
 use std::mem::MaybeUninit;
 
-/// The version of the library that is linked: a million times the major number, and a thousand times
-/// the minor one, and the patch number. It is this crate's.
+/// The version of the library that is linked, which is this crate's: a million times the major
+/// number, and a thousand times the minor one, and the patch number.
 ///
 /// ```
 /// assert_eq!(vortex_select_sys::version(), 1_000); // 0.1.0

@@ -40,7 +40,7 @@ pub trait Record: Copy + sealed::Sealed {}
 macro_rules! records {
     ($($item:ty)+) => {$(
         const _: () = assert!(matches!(size_of::<$item>(), 1 | 2 | 4 | 8 | 16 | 32));
-        const _: () = assert!(align_of::<$item>() >= size_of::<$item>() || align_of::<$item>() >= 8);
+        const _: () = assert!(align_of::<$item>() >= align_of::<u64>().min(size_of::<$item>()));
         impl sealed::Sealed for $item {}
         impl Record for $item {}
     )+};
@@ -77,8 +77,8 @@ pub(crate) fn filter<T: Record>(src: &[T], mask: Bits, dst: &mut [MaybeUninit<T>
     let (s, n) = (src.as_ptr(), src.len());
     let (w, m, at) = mask.parts();
     let (d, room) = (dst.as_mut_ptr(), dst.len());
-    // SAFETY: each pointer is that of a slice and leads to as many aligned items as is said, and the
-    // slice that is written is borrowed alone, so that it overlaps no other one.
+    // SAFETY: each pointer is that of a slice and leads to as many aligned items as is said, and
+    // the slice that is written is borrowed alone, so that it overlaps no other one.
     unsafe {
         by_size!(T: vortex_filter_1 vortex_filter_2 vortex_filter_4 vortex_filter_8
             vortex_filter_16 vortex_filter_32 (s.cast(), n, w, m, at, d.cast(), room))
