@@ -40,7 +40,8 @@ pub trait Record: Copy + sealed::Sealed {}
 macro_rules! records {
     ($($item:ty)+) => {$(
         const _: () = assert!(matches!(size_of::<$item>(), 1 | 2 | 4 | 8 | 16 | 32));
-        const _: () = assert!(align_of::<$item>() >= align_of::<u64>().min(size_of::<$item>()));
+        const _: () = assert!(align_of::<$item>() == size_of::<$item>() || size_of::<$item>() > 8);
+        const _: () = assert!(align_of::<$item>() >= 8 || size_of::<$item>() < 8);
         impl sealed::Sealed for $item {}
         impl Record for $item {}
     )+};
