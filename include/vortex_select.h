@@ -34,9 +34,10 @@
  *
  * No function keeps a pointer or calls back, and none but vortex_program takes memory.
  *
- * A mask of n rows is (n + 63) / 64 words: bit k % 64 of word k / 64, the lowest bit first, is set
- * where row k is selected, and the bits past the rows are clear. Other bits may begin at any bit of
- * their words, and those before and behind them play no part. */
+ * Bit k of words is bit k % 64 of word k / 64, the lowest bit first. Where a call is told at which
+ * bit they begin, as by mask_at, the bits before and behind them play no part. Where it is not, as
+ * of valid and of a mask whose rows are told, there are just (n + 63) / 64 words for n bits, and
+ * those past the n are clear. A mask's bit is set where its row is selected. */
 #ifndef VORTEX_SELECT_H
 #define VORTEX_SELECT_H
 
@@ -54,8 +55,8 @@ extern "C" {
 #define VORTEX_VERSION                                                                             \
     (VORTEX_VERSION_MAJOR * 1000000 + VORTEX_VERSION_MINOR * 1000 + VORTEX_VERSION_PATCH)
 
-/* The version of the library: a million times the major number, and a thousand times the minor one,
- * and the patch number. */
+/* The version of the library: a million times the major number, and a thousand times the minor
+ * one, and the patch number. */
 uint32_t vortex_version(void);
 
 typedef struct vortex_answer {
@@ -86,38 +87,40 @@ typedef struct vortex_run {
 } vortex_run;
 
 /* Copies the records of src at the set bits of the mask to the front of dst, in order; the rest of
- * dst stays. The number is how many they are.
+ * dst stays. The bits of the mask are src_len ones from bit mask_at on. The number is how many
+ * records are selected.
  *
- * VORTEX_LENGTHS: the mask has not as many words as src asks for. VORTEX_BITS_PAST. VORTEX_ROOM. */
+ * VORTEX_LENGTHS: the mask does not hold so many bits. VORTEX_ROOM. */
 vortex_answer vortex_filter_1(const uint8_t *src, size_t src_len, const uint64_t *mask,
-    size_t mask_len, uint8_t *dst, size_t dst_len);
+    size_t mask_len, size_t mask_at, uint8_t *dst, size_t dst_len);
 vortex_answer vortex_filter_2(const uint16_t *src, size_t src_len, const uint64_t *mask,
-    size_t mask_len, uint16_t *dst, size_t dst_len);
+    size_t mask_len, size_t mask_at, uint16_t *dst, size_t dst_len);
 vortex_answer vortex_filter_4(const uint32_t *src, size_t src_len, const uint64_t *mask,
-    size_t mask_len, uint32_t *dst, size_t dst_len);
+    size_t mask_len, size_t mask_at, uint32_t *dst, size_t dst_len);
 vortex_answer vortex_filter_8(const uint64_t *src, size_t src_len, const uint64_t *mask,
-    size_t mask_len, uint64_t *dst, size_t dst_len);
+    size_t mask_len, size_t mask_at, uint64_t *dst, size_t dst_len);
 vortex_answer vortex_filter_16(const vortex_record_16 *src, size_t src_len, const uint64_t *mask,
-    size_t mask_len, vortex_record_16 *dst, size_t dst_len);
+    size_t mask_len, size_t mask_at, vortex_record_16 *dst, size_t dst_len);
 vortex_answer vortex_filter_32(const vortex_record_32 *src, size_t src_len, const uint64_t *mask,
-    size_t mask_len, vortex_record_32 *dst, size_t dst_len);
+    size_t mask_len, size_t mask_at, vortex_record_32 *dst, size_t dst_len);
 
-/* Moves the records at the set bits of the mask to the front, in order. The number is how many they
- * are. What stands behind them then is not said.
+/* Moves the records at the set bits of the mask to the front, in order. The bits of the mask are
+ * values_len ones from bit mask_at on. The number is how many records are selected. What stands
+ * behind them then is not said.
  *
- * VORTEX_LENGTHS: the mask has not as many words as the values ask for. VORTEX_BITS_PAST. */
-vortex_answer vortex_filter_in_place_1(uint8_t *values, size_t values_len, const uint64_t *mask,
-    size_t mask_len);
-vortex_answer vortex_filter_in_place_2(uint16_t *values, size_t values_len, const uint64_t *mask,
-    size_t mask_len);
-vortex_answer vortex_filter_in_place_4(uint32_t *values, size_t values_len, const uint64_t *mask,
-    size_t mask_len);
-vortex_answer vortex_filter_in_place_8(uint64_t *values, size_t values_len, const uint64_t *mask,
-    size_t mask_len);
+ * VORTEX_LENGTHS: the mask does not hold so many bits. */
+vortex_answer vortex_filter_in_place_1(uint8_t *values, size_t values_len,
+    const uint64_t *mask, size_t mask_len, size_t mask_at);
+vortex_answer vortex_filter_in_place_2(uint16_t *values, size_t values_len,
+    const uint64_t *mask, size_t mask_len, size_t mask_at);
+vortex_answer vortex_filter_in_place_4(uint32_t *values, size_t values_len,
+    const uint64_t *mask, size_t mask_len, size_t mask_at);
+vortex_answer vortex_filter_in_place_8(uint64_t *values, size_t values_len,
+    const uint64_t *mask, size_t mask_len, size_t mask_at);
 vortex_answer vortex_filter_in_place_16(vortex_record_16 *values, size_t values_len,
-    const uint64_t *mask, size_t mask_len);
+    const uint64_t *mask, size_t mask_len, size_t mask_at);
 vortex_answer vortex_filter_in_place_32(vortex_record_32 *values, size_t values_len,
-    const uint64_t *mask, size_t mask_len);
+    const uint64_t *mask, size_t mask_len, size_t mask_at);
 
 /* Copies the records of src at the indices to the front of dst, in order; the rest of dst stays.
  * Index k is null, and gives a record of zeros, where bit k of valid is clear; without words none
@@ -141,9 +144,9 @@ vortex_answer vortex_take_32(const vortex_record_32 *src, size_t src_len, const 
     size_t indices_len, const uint64_t *valid, size_t valid_len,
     vortex_record_32 *dst, size_t dst_len);
 
-/* The same in one pass over the indices, which stops at the first that is out of bounds: copies the
- * records at the indices before that one. The number is how many they are, which is indices_len
- * where no index is out of bounds, and else the place of the first one.
+/* The same in one pass over the indices, which stops at the first that is out of bounds: copies
+ * the records at the indices before that one. The number is how many they are, which is
+ * indices_len where no index is out of bounds, and else the place of the first one.
  *
  * VORTEX_LENGTHS: valid has words, but not as many as a mask of the indices. VORTEX_BITS_PAST.
  * VORTEX_ROOM: dst has not as many records as there are indices. */
@@ -162,6 +165,14 @@ vortex_answer vortex_take_front_32(const vortex_record_32 *src, size_t src_len,
     const uint64_t *indices, size_t indices_len, const uint64_t *valid, size_t valid_len,
     vortex_record_32 *dst, size_t dst_len);
 
+/* Writes the numbers of 32 bits to the front of dst as such of 64, in order; the rest of dst
+ * stays. The number is how many they are. By it a take goes over indices of 32 bits: block by
+ * block, each of which is widened into a list that stays in a cache, and of a multiple of 64
+ * indices but for the last, so that its part of valid begins with a word.
+ *
+ * VORTEX_ROOM. */
+vortex_answer vortex_widen_4(const uint32_t *src, size_t src_len, uint64_t *dst, size_t dst_len);
+
 /* Writes the bits of src at the set bits of the mask to the front of dst, in order, and clear bits
  * to the end of the last word that they reach; the words behind it stay. The bits of src are the
  * rows ones from bit src_at on, those of the mask as many from bit mask_at on. The number is how
@@ -173,15 +184,15 @@ vortex_answer vortex_filter_bits(const uint64_t *src, size_t src_len, size_t src
     const uint64_t *mask, size_t mask_len, size_t mask_at, size_t rows, uint64_t *dst,
     size_t dst_len);
 
-/* Writes the bits of src at the indices to the front of dst, in order, and clear bits to the end of
- * the last word that they reach; the words behind it stay. The bits of src are the bits ones from
- * bit src_at on. Index k is null, and gives a clear bit, where bit k of valid is clear; without
- * words none is null. The number is how many indices there are.
+/* Writes the bits of src at the indices to the front of dst, in order, and clear bits to the end
+ * of the last word that they reach; the words behind it stay. The bits of src are the bits ones
+ * from bit src_at on. Index k is null, and gives a clear bit, where bit k of valid is clear;
+ * without words none is null. The number is how many indices there are.
  *
  * VORTEX_LENGTHS: src does not hold so many bits, or valid has words, but not as many as a mask of
- * the indices. VORTEX_BITS_PAST: a bit of valid past the indices is set. VORTEX_ROOM: (number + 63) /
- * 64 words hold the bits. VORTEX_INDEX: an index that is not null is not below bits, and the number
- * is the place of the first one in the list of indices. */
+ * the indices. VORTEX_BITS_PAST: a bit of valid past the indices is set. VORTEX_ROOM: (number +
+ * 63) / 64 words hold the bits. VORTEX_INDEX: an index that is not null is not below bits, and the
+ * number is the place of the first one in the list of indices. */
 vortex_answer vortex_take_bits(const uint64_t *src, size_t src_len, size_t src_at, size_t bits,
     const uint64_t *indices, size_t indices_len, const uint64_t *valid, size_t valid_len,
     uint64_t *dst, size_t dst_len);
@@ -194,8 +205,9 @@ vortex_answer vortex_take_bits(const uint64_t *src, size_t src_len, size_t src_a
 vortex_answer vortex_positions(const uint64_t *mask, size_t mask_len, size_t rows, uint64_t *dst,
     size_t dst_len);
 
-/* Writes the maximal runs of the rows that a mask of so many selects to the front of dst, ascending:
- * none is empty, and no two touch. The rest of dst stays. The number is how many they are.
+/* Writes the maximal runs of the rows that a mask of so many selects to the front of dst,
+ * ascending: none is empty, and no two touch. The rest of dst stays. The number is how many they
+ * are.
  *
  * VORTEX_LENGTHS, VORTEX_BITS_PAST: as for positions. VORTEX_ROOM. */
 vortex_answer vortex_runs(const uint64_t *mask, size_t mask_len, size_t rows, vortex_run *dst,

@@ -35,33 +35,46 @@ static int is_untouched(void) {
 
 static void filters(void) {
     refill();
-    vortex_answer answer = vortex_filter_4(four, 4, odd, 1, dst, 4);
+    vortex_answer answer = vortex_filter_4(four, 4, odd, 1, 0, dst, 4);
     expect(is(answer, VORTEX_DONE, 2) && dst[0] == 20 && dst[1] == 40, "a filter");
     expect(dst[2] == 0xabababab && dst[3] == 0xabababab, "the rest of its output stays");
     refill();
-    answer = vortex_filter_4(four, 4, odd, 1, dst, 1);
+    answer = vortex_filter_4(four, 4, odd, 1, 0, dst, 1);
     expect(is(answer, VORTEX_ROOM, 2) && is_untouched(), "a filter into too little room");
-    answer = vortex_filter_4(four, 4, odd, 1, NULL, 0);
+    answer = vortex_filter_4(four, 4, odd, 1, 0, NULL, 0);
     expect(is(answer, VORTEX_ROOM, 2), "a filter into no room");
-    answer = vortex_filter_4(four, 3, odd, 1, dst, 4);
-    expect(is(answer, VORTEX_BITS_PAST, 0) && is_untouched(), "a bit past the items");
-    const uint64_t two[2] = {10, 0};
-    answer = vortex_filter_4(four, 4, two, 2, dst, 4);
-    expect(is(answer, VORTEX_LENGTHS, 0) && is_untouched(), "a mask with a word too many");
-    answer = vortex_filter_4(four, 4, NULL, 0, dst, 4);
+    answer = vortex_filter_4(four, 4, NULL, 0, 0, dst, 4);
     expect(is(answer, VORTEX_LENGTHS, 0) && is_untouched(), "a mask of no words");
-    answer = vortex_filter_4(NULL, 0, NULL, 0, NULL, 0);
+    answer = vortex_filter_4(four, 4, odd, 1, 61, dst, 4);
+    expect(is(answer, VORTEX_LENGTHS, 0) && is_untouched(), "a mask of too few bits");
+    answer = vortex_filter_4(four, 4, odd, 1, SIZE_MAX, dst, 4);
+    expect(is(answer, VORTEX_LENGTHS, 0) && is_untouched(), "a mask from far away");
+    answer = vortex_filter_4(NULL, 0, NULL, 0, 0, NULL, 0);
     expect(is(answer, VORTEX_DONE, 0), "a filter of nothing");
+    answer = vortex_filter_4(NULL, 0, NULL, 0, 1, NULL, 0);
+    expect(is(answer, VORTEX_LENGTHS, 0), "a filter of nothing past no words");
+    answer = vortex_filter_4(four, 3, odd, 1, 0, dst, 4);
+    expect(is(answer, VORTEX_DONE, 1) && dst[0] == 20, "bits past the items");
+    const uint64_t two[2] = {(uint64_t)3 << 62, 14};
+    refill();
+    answer = vortex_filter_4(four, 4, two, 2, 63, dst, 2);
+    expect(is(answer, VORTEX_ROOM, 3) && is_untouched(), "a mask across two words, without room");
+    answer = vortex_filter_4(four, 4, two, 2, 63, dst, 3);
+    expect(is(answer, VORTEX_DONE, 3), "a mask across two words");
+    expect(dst[0] == 10 && dst[1] == 30 && dst[2] == 40 && dst[3] == 0xabababab, "what it keeps");
 }
 
 static void filters_in_place(void) {
     uint32_t values[4] = {10, 20, 30, 40};
-    vortex_answer answer = vortex_filter_in_place_4(values, 3, odd, 1);
-    expect(is(answer, VORTEX_BITS_PAST, 0), "in place, a bit past the items");
+    vortex_answer answer = vortex_filter_in_place_4(values, 4, odd, 1, 61);
+    expect(is(answer, VORTEX_LENGTHS, 0), "in place, too few bits");
     expect(memcmp(values, four, sizeof four) == 0, "values that a refusal leaves");
-    answer = vortex_filter_in_place_4(values, 4, odd, 1);
+    answer = vortex_filter_in_place_4(values, 3, odd, 1, 1);
+    expect(is(answer, VORTEX_DONE, 2) && values[0] == 10 && values[1] == 30, "in place, at a bit");
+    memcpy(values, four, sizeof four);
+    answer = vortex_filter_in_place_4(values, 4, odd, 1, 0);
     expect(is(answer, VORTEX_DONE, 2) && values[0] == 20 && values[1] == 40, "in place");
-    answer = vortex_filter_in_place_4(NULL, 0, NULL, 0);
+    answer = vortex_filter_in_place_4(NULL, 0, NULL, 0, 0);
     expect(is(answer, VORTEX_DONE, 0), "nothing in place");
 }
 
@@ -105,6 +118,43 @@ static void fronts(void) {
     expect(is(answer, VORTEX_DONE, 6) && out[5] == 0, "a front, which ends at no null");
     answer = vortex_take_front_4(NULL, 0, NULL, 0, NULL, 0, NULL, 0);
     expect(is(answer, VORTEX_DONE, 0), "a front of no indices");
+}
+
+/* A take of so many indices of 32 bits, 64 at a time: the place of the first one out of bounds, or
+ * their number. */
+static size_t narrow_take(const uint32_t *indices, size_t count, const uint64_t *valid,
+    uint32_t *out) {
+    uint64_t wide[64];
+    for (size_t start = 0; start < count; start += 64) {
+        size_t some = count - start < 64 ? count - start : 64;
+        vortex_answer answer = vortex_widen_4(indices + start, some, wide, 64);
+        expect(is(answer, VORTEX_DONE, some), "a block of indices");
+        answer = vortex_take_front_4(four, 4, wide, some, valid + start / 64, 1, out + start, some);
+        if (answer.status != VORTEX_DONE || answer.value < some) {
+            return start + answer.value;
+        }
+    }
+    return count;
+}
+
+static void narrow_indices(void) {
+    const uint32_t most[2] = {UINT32_MAX, 1};
+    uint64_t wide[3] = {7, 7, 7};
+    vortex_answer answer = vortex_widen_4(most, 2, wide, 1);
+    expect(is(answer, VORTEX_ROOM, 2) && wide[0] == 7, "wide numbers without room");
+    answer = vortex_widen_4(most, 2, wide, 3);
+    expect(is(answer, VORTEX_DONE, 2) && wide[0] == UINT32_MAX && wide[1] == 1, "wide numbers");
+    expect(wide[2] == 7, "what stands behind them");
+    answer = vortex_widen_4(NULL, 0, NULL, 0);
+    expect(is(answer, VORTEX_DONE, 0), "no wide numbers");
+    uint32_t indices[100], out[100];
+    for (uint32_t k = 0; k < 100; k++) {
+        indices[k] = k % 4;
+    }
+    indices[70] = 9;
+    const uint64_t all[2] = {UINT64_MAX, ((uint64_t)1 << 36) - 1}, some[2] = {UINT64_MAX, 3};
+    expect(narrow_take(indices, 100, all, out) == 70 && out[69] == 20, "narrow indices, one past");
+    expect(narrow_take(indices, 100, some, out) == 100 && out[70] == 0, "with nulls");
 }
 
 static const uint64_t ten_bits[2] = {(uint64_t)3 << 60, 5};
@@ -199,6 +249,7 @@ int main(void) {
     filters_in_place();
     takes();
     fronts();
+    narrow_indices();
     bit_filters();
     bit_takes();
     positions();

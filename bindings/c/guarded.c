@@ -1,7 +1,7 @@
-/* Calls the kernels over lists that lie against pages that can't be touched, at their end or at their
- * start, and of which those that are read can't be written; compares what comes with plain loops; and
- * prints `c: N passed, M failed`. A byte past a list ends the program by a signal. The calls run on a
- * stack of 64 KiB.
+/* Calls the kernels over lists that lie against pages that can't be touched, at their end or at
+ * their start, and of which those that are read can't be written; compares what comes with plain
+ * loops; and prints `c: N passed, M failed`. A byte past a list ends the program by a signal. The
+ * calls run on a stack of 64 KiB.
  *
  * usage: guarded [rounds] */
 #define _DEFAULT_SOURCE
@@ -97,19 +97,20 @@ static void fill_mask(uint64_t *words, size_t bits) {
     }
 }
 
-typedef vortex_answer call_of_filter(const void *, size_t, const uint64_t *, size_t, void *, size_t);
-typedef vortex_answer call_in_place(void *, size_t, const uint64_t *, size_t);
+typedef vortex_answer call_of_filter(const void *, size_t, const uint64_t *, size_t, size_t, void *,
+    size_t);
+typedef vortex_answer call_in_place(void *, size_t, const uint64_t *, size_t, size_t);
 typedef vortex_answer call_of_take(const void *, size_t, const uint64_t *, size_t, const uint64_t *,
     size_t, void *, size_t);
 
 /* The functions of a width, over untyped items. */
 #define WIDTH(w, item)                                                                             \
-    static vortex_answer filter_##w(const void *s, size_t n, const uint64_t *m, size_t k, void *d, \
-        size_t r) {                                                                                \
-        return vortex_filter_##w((const item *)s, n, m, k, (item *)d, r);                          \
+    static vortex_answer filter_##w(const void *s, size_t n, const uint64_t *m, size_t k,          \
+        size_t at, void *d, size_t r) {                                                            \
+        return vortex_filter_##w((const item *)s, n, m, k, at, (item *)d, r);                      \
     }                                                                                              \
-    static vortex_answer in_place_##w(void *s, size_t n, const uint64_t *m, size_t k) {            \
-        return vortex_filter_in_place_##w((item *)s, n, m, k);                                     \
+    static vortex_answer in_place_##w(void *s, size_t n, const uint64_t *m, size_t k, size_t at) { \
+        return vortex_filter_in_place_##w((item *)s, n, m, k, at);                                 \
     }                                                                                              \
     static vortex_answer take_##w(const void *s, size_t n, const uint64_t *i, size_t k,            \
         const uint64_t *v, size_t m, void *d, size_t r) {                                          \
@@ -147,10 +148,11 @@ static void read_only(int is) {
 }
 
 /* The items at the set bits, in `kept`, and their number. */
-static size_t plain_filter(const uint8_t *src, size_t n, int w, const uint64_t *mask, uint8_t *kept) {
+static size_t plain_filter(const uint8_t *src, size_t n, int w, const uint64_t *mask, size_t at,
+    uint8_t *kept) {
     size_t count = 0;
     for (size_t k = 0; k < n; k++) {
-        if (bit(mask, k)) {
+        if (bit(mask, at + k)) {
             memcpy(kept + w * count++, src + w * k, (size_t)w);
         }
     }
@@ -160,23 +162,24 @@ static size_t plain_filter(const uint8_t *src, size_t n, int w, const uint64_t *
 static void filters(const width *of) {
     static uint8_t kept[32 * MOST];
     int w = of->bytes, at_end = (int)below(2);
-    size_t n = below(MOST + 1), bytes = (size_t)w * n;
+    size_t n = below(MOST + 1), bytes = (size_t)w * n, at = below(2) ? below(130) : 0;
+    size_t m = words_of(at + n);
     uint8_t *src = against(src_pages, bytes, at_end);
-    uint64_t *mask = against(mask_pages, 8 * words_of(n), at_end);
+    uint64_t *mask = against(mask_pages, 8 * m, at_end);
     fill(src, bytes);
-    fill_mask(mask, n);
-    size_t count = plain_filter(src, n, w, mask, kept);
+    fill_mask(mask, below(2) ? at + n : 64 * m);
+    size_t count = plain_filter(src, n, w, mask, at, kept);
     uint8_t *dst = against(dst_pages, (size_t)w * count, at_end);
     read_only(1);
-    vortex_answer answer = of->filter(src, n, mask, words_of(n), dst, count);
+    vortex_answer answer = of->filter(src, n, mask, m, at, dst, count);
     expect(answer.status == VORTEX_DONE && answer.value == count, "a filter's answer", w);
     expect(memcmp(dst, kept, w * count) == 0, "a filter", w);
     if (count > 0) {
-        answer = of->filter(src, n, mask, words_of(n), dst, count - 1);
+        answer = of->filter(src, n, mask, m, at, dst, count - 1);
         expect(answer.status == VORTEX_ROOM && answer.value == count, "a filter without room", w);
     }
     let(src_pages, PROT_READ | PROT_WRITE);
-    answer = of->in_place(src, n, mask, words_of(n));
+    answer = of->in_place(src, n, mask, m, at);
     expect(answer.status == VORTEX_DONE && answer.value == count, "in place, the answer", w);
     expect(memcmp(src, kept, w * count) == 0, "in place", w);
     read_only(0);

@@ -1,7 +1,7 @@
 """Builds the wheel of `vortex_select`, with the shared library in it.
 
-The library is the file that VORTEX_SELECT_LIBRARY names, or else the one that `bindings/check` builds.
-Nothing but Python's standard library is needed.
+The library is the file that VORTEX_SELECT_LIBRARY names, or else the one that `bindings/check`
+builds. Nothing but Python's standard library is needed.
 """
 
 import base64
@@ -24,7 +24,7 @@ def said(name):
 def library():
     path = os.environ.get("VORTEX_SELECT_LIBRARY", HERE.parent / "out" / "libvortex_select.so")
     if not pathlib.Path(path).is_file():
-        raise SystemExit(f"there is no {path}: build it by bindings/check, or name one by VORTEX_SELECT_LIBRARY")
+        raise SystemExit(f"there is no {path}: run bindings/check, or name one by VORTEX_SELECT_LIBRARY")
     return pathlib.Path(path).read_bytes()
 
 
@@ -42,8 +42,8 @@ def contents(info):
     files["vortex_select/py.typed"] = b""
     files["vortex_select/libvortex_select.so"] = library()
     files[f"{info}/METADATA"] = metadata()
-    wheel = f"Wheel-Version: 1.0\nGenerator: wheel_with_library\nRoot-Is-Purelib: false\nTag: {TAG}\n"
-    files[f"{info}/WHEEL"] = wheel.encode()
+    wheel = ["Wheel-Version: 1.0", "Generator: wheel_with_library", "Root-Is-Purelib: false"]
+    files[f"{info}/WHEEL"] = "\n".join([*wheel, f"Tag: {TAG}", ""]).encode()
     return files
 
 

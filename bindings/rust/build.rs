@@ -1,5 +1,5 @@
-//! Links the static libraries: those in the folder that `VORTEX_SELECT_LIB_DIR` names, or else those of
-//! this repository, which `rt lib` builds where they are older than what they are made of.
+//! Links the static libraries: those in the folder that `VORTEX_SELECT_LIB_DIR` names, or else those
+//! of this repository, which `rt lib` builds where they are older than what they are made of.
 use std::env;
 use std::fs;
 use std::path::{Path, PathBuf};
@@ -61,12 +61,13 @@ fn build(folder: &Path, library: &Path) {
     match run {
         Ok(run) if run.status.success() && library.exists() => (),
         Ok(run) => {
-            eprint!("{}{}", String::from_utf8_lossy(&run.stdout), String::from_utf8_lossy(&run.stderr));
+            let said = [run.stdout, run.stderr].concat();
+            eprint!("{}", String::from_utf8_lossy(&said));
             fail(format!("`rt lib` failed in {}", folder.display()))
         }
         Err(why) => fail(format!(
-            "{} is missing or old, and `rt lib`, which builds it, can't be run ({why}): put it right, \
-             or name the folder of a built one by VORTEX_SELECT_LIB_DIR",
+            "{} is missing or old, and `rt lib`, which builds it, can't be run ({why}): name the \
+             folder of a built one by VORTEX_SELECT_LIB_DIR",
             library.display()
         )),
     }
@@ -84,8 +85,8 @@ fn built(root: &Path, name: &str) -> PathBuf {
     let target = env::var("TARGET").unwrap_or_default();
     if target != "x86_64-unknown-linux-gnu" && target != "x86_64-unknown-linux-musl" {
         fail(format!(
-            "`rt lib` builds for x86-64 Linux and not for {target}: name the folder of a library for \
-             it by VORTEX_SELECT_LIB_DIR"
+            "`rt lib` builds for x86-64 Linux and not for {target}: name the folder of a library \
+             for it by VORTEX_SELECT_LIB_DIR"
         ));
     }
     let library = folder.join("out").join(format!("lib{name}.a"));

@@ -93,11 +93,14 @@ class _View(ctypes.Structure):
 
 def _declare(library):
     place, size = ctypes.c_void_p, ctypes.c_size_t
-    lists = {"filter": 3, "filter_in_place": 2, "take_front": 4}
-    for name, count in lists.items():
+    items = [place, size]
+    mask = [place, size, size]
+    lists = {"filter": items + mask + items, "filter_in_place": items + mask}
+    lists["take_front"] = items * 4
+    for name, kinds in lists.items():
         for width in _WIDTHS:
             call = getattr(library, f"vortex_{name}_{width}")
-            call.argtypes, call.restype = [place, size] * count, _Answer
+            call.argtypes, call.restype = kinds, _Answer
     for name, sizes in {"filter": (2, 3), "take": (3, 1, 1)}.items():
         call = getattr(library, f"vortex_{name}_bits")
         kinds = [kind for count in sizes for kind in [place] + [size] * count]
@@ -106,6 +109,7 @@ def _declare(library):
         call.argtypes, call.restype = [place, size, size, place, size], _Answer
     for call in library.vortex_rank, library.vortex_count_before:
         call.argtypes, call.restype = [place, size, size, size], _Answer
+    library.vortex_widen_4.argtypes, library.vortex_widen_4.restype = items * 2, _Answer
     library.vortex_version.argtypes, library.vortex_version.restype = [], ctypes.c_uint32
     if hasattr(library, "vortex_program"):
         library.vortex_program.argtypes = [place, size] * 3
@@ -173,7 +177,10 @@ class _Held:
 
 
 # The parts of a buffer's format: a name, or a shape, an order of bytes, a count and a type.
-_PART = re.compile(r":[^:]*:|T\{|\}|(\([0-9,]*\))?([@=<>!^]?)([0-9]*)(Z[fdg]|[?cbBhHiIlLqQnNefdgwsx])")
+_PART = re.compile(
+    r":[^:]*:|T\{|\}|"
+    r"(\([0-9,]*\))?([@=<>!^]?)([0-9]*)(Z[fdg]|[?cbBhHiIlLqQnNefdgwsx])"
+)
 _SIZES = {"g": ctypes.sizeof(ctypes.c_longdouble), "w": 4, "Zf": 8, "Zd": 16}
 _SIZES["Zg"] = 2 * _SIZES["g"]
 
@@ -186,7 +193,7 @@ def _size_of(kind, order):
 
 
 def _plain_size(form):
-    """The bytes of an item of this format, or none where it isn't one of numbers and bytes alone."""
+    """The bytes of an item of this format, or none where it has more than numbers and bytes."""
     size = place = 0
     order = "@"
     while place < len(form):
@@ -212,8 +219,8 @@ def _is_masked(data):
 def _view_of(data, what):
     """A view of a buffer of one dimension, whose items are numbers or bytes.
 
-    A type that holds objects is refused, since the module would move references that no one counts, and
-    so is one whose format doesn't tell all of its bytes, as a union's.
+    A type that holds objects is refused, since the module would move references that no one counts,
+    and so is one whose format doesn't tell all of its bytes, as a union's.
     """
     if _is_masked(data):
         raise TypeError(f"{what} can't be a masked array: hand in its data, and its mask as a mask")
@@ -246,7 +253,7 @@ def _number(value, what):
 
 
 class Bits:
-    """So many bits of bytes, from bit `at` on: bit k % 8 of byte k // 8, the lowest first, is bit k.
+    """So many bits of bytes, from bit `at` on: bit k % 8 of byte k // 8, lowest first, is bit k.
 
     The bits before and behind them play no part.
 
@@ -268,10 +275,15 @@ class Bits:
     def __len__(self) -> int:
         return self.length
 
+    def _placed(self):
+        """A copy of the words that hold the bits, and the bit at which they begin there."""
+        first, last = self.at // 8, (self.at + self.length + 7) // 8
+        return _whole_words(self._data.cast("B")[first:last].tobytes()), self.at % 8
+
     def _words(self):
         """The words of the bits, the first one lowest, and zeros behind them."""
-        first, last = self.at // 8, (self.at + self.length + 7) // 8
-        number = int.from_bytes(self._data.cast("B")[first:last], "little") >> self.at % 8
+        placed, at = self._placed()
+        number = int.from_bytes(placed.tobytes(), "little") >> at
         number &= (1 << self.length) - 1
         words = array("Q")
         words.frombytes(number.to_bytes(8 * ((self.length + 63) // 64), "little"))
@@ -300,12 +312,23 @@ def _bools(mask):
     return view.tobytes() if _native(view) == "?" else None
 
 
-def _words(mask, rows):
-    """The words of a mask of so many rows. They are copies, which no other thread can write."""
+def _placed(mask, rows):
+    """The words that hold a mask of so many rows, and the bit at which it begins there. They are
+    copies, which no other thread can write.
+    """
     rows = _number(rows, "a number of rows")
     if isinstance(mask, Bits):
         if mask.length != rows:
             raise ValueError(f"{mask.length} bits are no mask of {rows} rows")
+        return mask._placed()
+    return _words(mask, rows), 0
+
+
+def _words(mask, rows):
+    """The words of a mask of so many rows, and of nothing else. They are copies too."""
+    rows = _number(rows, "a number of rows")
+    if isinstance(mask, Bits):
+        _placed(mask, rows)
         return mask._words()
     bools = _bools(mask)
     if bools is not None:
@@ -315,13 +338,15 @@ def _words(mask, rows):
     bits = _whole_bytes(mask)
     if len(bits) != (rows + 7) // 8:
         raise ValueError(f"{len(bits)} bytes are no mask of {rows} rows")
+    if rows % 8 and bits[-1] >> rows % 8:
+        raise ValueError("a bit past the rows is set")
     return _whole_words(bits)
 
 
 def _whole_bytes(bits):
     view = _view_of(bits, "a mask")
     if _native(view) != "B":
-        raise TypeError(f"a mask can't have items of format {view.format!r}: bytes or bools are wanted")
+        raise TypeError(f"a mask is of bytes or bools, and not of format {view.format!r}")
     return view.tobytes()
 
 
@@ -384,11 +409,14 @@ def filter(values: Buffer, mask: Mask, width: Optional[int] = None) -> memoryvie
     call = getattr(_calls, f"vortex_filter_{of.width}")
     with of.held() as src:
         items = src.size // of.width
-        words = _words(mask, items)
-        count = _count(words, items)
-        kept = bytearray(of.width * count)
-        with _Held(words, 8) as by, _Held(kept, of.align, True) as dst:
-            _checked(call(src.address, items, by.address, len(words), dst.address, count))
+        words, at = _placed(mask, items)
+        with _Held(words, 8) as by:
+            lists = (src.address, items, by.address, len(words), at)
+            # Without room, the call tells how much of it there must be.
+            count = call(*lists, 0, 0).value
+            kept = bytearray(of.width * count)
+            with _Held(kept, of.align, True) as dst:
+                _checked(call(*lists, dst.address, count))
     return of.answer(kept)
 
 
@@ -405,9 +433,9 @@ def filter_in_place(values: Buffer, mask: Mask, width: Optional[int] = None) -> 
     call = getattr(_calls, f"vortex_filter_in_place_{of.width}")
     with of.held(writable=True) as src:
         items = src.size // of.width
-        words = _words(mask, items)
+        words, at = _placed(mask, items)
         with _Held(words, 8) as by:
-            return _checked(call(src.address, items, by.address, len(words)))
+            return _checked(call(src.address, items, by.address, len(words), at))
 
 
 def _one_index(value):
@@ -433,10 +461,15 @@ def _listed(indices):
 _SIGN = bytes(128) + b"\xff" * 128
 
 
-def _widened(data, size, is_signed):
-    """The numbers of so many bytes each as such of eight, a negative one as one past every bound."""
+def _widened(data, size, is_signed, bound):
+    """The numbers of so many bytes each as such of eight, a negative one as one past the bound."""
     count = len(data) // size
     wide = bytearray(8 * count)
+    # Of four bytes, a negative one is 2^31 at least as one that has no sign.
+    if size == 4 and not (is_signed and bound > 1 << 31):
+        with _Held(data, 4) as src, _Held(wide, 8, True) as dst:
+            _checked(_calls.vortex_widen_4(src.address, count, dst.address, count))
+        return wide
     for place in range(size):
         wide[place::8] = data[place::size]
     if is_signed:
@@ -449,13 +482,13 @@ def _widened(data, size, is_signed):
 class _Indices:
     """A list of indices, which hands out blocks of them as numbers of 64 bits.
 
-    A kernel may test an index and read by it in two steps, and a call drops the interpreter's lock: a
-    thread that wrote to the list in between would have it read out of bounds. So each block is copied
-    before it is tested. Of 16,777,216 indices one cost 4.2 ns in a take that copied nothing, whether it
-    held the lock (`PyDLL`) or not, 5.0 ns by such blocks and 11 ns where the list was copied whole, all
-    of them ascending; random ones cost 28 ns in each way. Holding the lock is cheaper by that
-    nanosecond, but it stops all other threads for the whole call, and doesn't keep off those that write
-    without it, as numpy's do.
+    A kernel may test an index and read by it in two steps, and a call drops the interpreter's lock:
+    a thread that wrote to the list in between would have it read out of bounds. So each block is
+    copied before it is tested. Of 16,777,216 ascending indices one cost 4.2 ns in a take that
+    copied nothing, whether it held the lock (`PyDLL`) or not, 5.0 ns by such blocks, and 11 ns where the
+    list was copied whole; random ones cost some 28 ns in each way. Holding the lock is cheaper by
+    that nanosecond, but it stops all other threads for the whole call, and doesn't keep off those
+    that write without it, as numpy's do.
     """
 
     # A multiple of 64, so that a block's validity and its bits begin with a word; 1 MiB, which a
@@ -464,7 +497,7 @@ class _Indices:
 
     def __init__(self, indices):
         if _is_masked(indices):
-            raise TypeError("indices can't be a masked array: hand in its data, and a mask as valid")
+            raise TypeError("indices can't be a masked array: hand in its data, and valid")
         try:
             self._view = memoryview(indices)
         except TypeError:
@@ -477,7 +510,7 @@ class _Indices:
     def __len__(self):
         return len(self._view)
 
-    def blocks(self):
+    def blocks(self, bound):
         """The place of each block, how many indices it has, and where they are.
 
         A negative number of eight bytes is 2^63 at least as one that has no sign.
@@ -486,7 +519,7 @@ class _Indices:
         for start in range(0, len(self), self.BLOCK):
             block = self._view[start : start + self.BLOCK].tobytes()
             if size < 8:
-                block = _widened(block, size, self._is_signed)
+                block = _widened(block, size, self._is_signed, bound)
             with _Held(block, 8) as held:
                 yield start, len(block) // 8, held.address
 
@@ -524,7 +557,7 @@ def take(
     taken = bytearray(of.width * len(at))
     with of.held() as src, _Held(words, 8) as there, _Held(taken, of.align, True) as dst:
         items = src.size // of.width
-        for start, count, place in at.blocks():
+        for start, count, place in at.blocks(items):
             lists = (src.address, items, place, count, *_part(there, words, start, count))
             done = _checked(call(*lists, dst.address + of.width * start, count))
             if done < count:
@@ -538,7 +571,8 @@ def _held_words(bits, at, count):
     if isinstance(bits, Bits):
         if at + count > bits.length:
             raise ValueError(f"there are no {count} bits from bit {at} on")
-        return bits._words(), at
+        words, first = bits._placed()
+        return words, first + at
     bools = _bools(bits)
     data = _whole_bytes(bits) if bools is None else _packed(bools).tobytes()
     if at + count > (8 * len(data) if bools is None else len(bools)):
@@ -557,7 +591,8 @@ def filter_bits(
     >>> bytes(kept), count
     (b'\\x05', 3)
     """
-    (src, bits_at), (by, mask_at) = _held_words(bits, bits_at, rows), _held_words(mask, mask_at, rows)
+    src, bits_at = _held_words(bits, bits_at, rows)
+    by, mask_at = _held_words(mask, mask_at, rows)
     with _Held(src, 8) as held, _Held(by, 8) as mask_held:
         lists = (held.address, len(src), bits_at, mask_held.address, len(by), mask_at, rows)
         count = _calls.vortex_filter_bits(*lists, 0, 0).value
@@ -570,7 +605,7 @@ def filter_bits(
 def take_bits(
     bits: Mask, count: int, indices: Indices, valid: Optional[Mask] = None, at: int = 0
 ) -> bytearray:
-    """The bits at the indices, in order, as bytes, and clear ones where the bit of `valid` is clear.
+    """The bits at the indices, in order, as bytes, and clear ones where `valid` has clear bits.
 
     The bits are the `count` ones from bit `at` on. The indices are as for `take`.
 
@@ -582,7 +617,7 @@ def take_bits(
     words = _valid_words(valid, picks)
     taken = bytearray(8 * ((picks + 63) // 64))
     with _Held(src, 8) as held, _Held(words, 8) as there, _Held(taken, 8, True) as dst:
-        for start, some, place in listed.blocks():
+        for start, some, place in listed.blocks(count):
             lists = (held.address, len(src), at, count, place, some)
             to = (dst.address + start // 8, (some + 63) // 64)
             answer = _calls.vortex_take_bits(*lists, *_part(there, words, start, some), *to)
@@ -607,7 +642,7 @@ def positions(mask: Mask, rows: int) -> array:
 
 
 def runs(mask: Mask, rows: int) -> List[Tuple[int, int]]:
-    """The maximal runs of rows that a mask of so many selects, each its start and its end, ascending.
+    """The maximal runs of rows that a mask of so many selects, each a start and an end, ascending.
 
     >>> runs(b"\\x0d", 4)
     [(0, 1), (2, 4)]
@@ -669,7 +704,8 @@ def run(words: Sequence[str], document: Buffer = b"") -> Answer:
 
     The status is 0 where no step is broken, 1 where one is, 2 where the document has no meaning, 3
     where the words are others, 6 where memory is wanting or the text would be too long, and 7 where
-    the document has more than 16,777,216 bytes. The text is that of the rows at 0, the fault's line at 1, else nothing.
+    the document has more than 16,777,216 bytes. The text is that of the rows at 0, the fault's line
+    at 1, else nothing.
 
     >>> run(["made", "7"]).text
     b'made 7 rows 500 nulls 45 sum 512344210835\\n'

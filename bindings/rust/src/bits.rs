@@ -35,6 +35,31 @@ impl<'a> Bits<'a> {
         self.len == 0
     }
 
+    // The words, how many they are, and the first bit's place.
+    pub(crate) fn parts(&self) -> (*const u64, usize, usize) {
+        (self.words.as_ptr(), self.words.len(), self.at)
+    }
+
+    // The bits from bit `64 * i` on, and zeros past the last one.
+    fn word(&self, i: usize) -> u64 {
+        let (first, shift) = (self.at / 64 + i, self.at % 64);
+        let high = self
+            .words
+            .get(first + 1)
+            .map_or(0, |word| word << 1 << (63 - shift));
+        let all = self.words[first] >> shift | high;
+        match self.len - 64 * i {
+            left @ 0..64 => all & ((1 << left) - 1),
+            _ => all,
+        }
+    }
+
+    // How many bits are set.
+    pub(crate) fn count(&self) -> usize {
+        let ones = |i| self.word(i).count_ones() as usize;
+        (0..self.len.div_ceil(64)).map(ones).sum()
+    }
+
     /// Bit `k`, if there is one.
     pub fn get(&self, k: usize) -> Option<bool> {
         (k < self.len).then(|| {
@@ -75,8 +100,8 @@ pub fn filter_bits(src: Bits, mask: Bits) -> Mask {
     let mut count = 0;
     let call = |dst: &mut [_]| {
         let dst: &mut [MaybeUninit<u64>] = dst;
-        // SAFETY: each pointer is that of a slice and leads to as many words as is said, and the one
-        // that is written is borrowed alone.
+        // SAFETY: each pointer is that of a slice and leads to as many words as is said, and the
+        // one that is written is borrowed alone.
         let answer = unsafe {
             calls::vortex_filter_bits(
                 s.as_ptr(),
@@ -112,6 +137,24 @@ pub fn filter_bits(src: Bits, mask: Bits) -> Mask {
 /// ```
 pub fn take_bits(src: Bits, indices: &[u64]) -> Result<Mask, OutOfBounds> {
     take_words(src, indices, &[])
+}
+
+/// `take_bits` by indices of 32 bits.
+///
+/// ```
+/// use vortex_select_sys::{take_bits_u32, Bits, Mask};
+///
+/// let bits = Mask::from_bools(&[true, false, true]);
+/// let taken = take_bits_u32(Bits::from(&bits), &[2, 1]);
+/// assert_eq!(taken, Ok(Mask::from_bools(&[true, false])));
+/// ```
+pub fn take_bits_u32(src: Bits, indices: &[u32]) -> Result<Mask, OutOfBounds> {
+    let mut words = Vec::with_capacity(indices.len().div_ceil(64));
+    crate::in_blocks(indices, &[], |indices, _| {
+        words.extend_from_slice(take_words(src, indices, &[])?.words());
+        Ok(())
+    })?;
+    Ok(Mask::of(words, indices.len()))
 }
 
 /// The bits of `src` at the indices that are there, in order, and clear ones at the others; or the

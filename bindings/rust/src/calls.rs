@@ -34,10 +34,17 @@ macro_rules! of_width {
                 n: usize,
                 words: *const u64,
                 m: usize,
+                at: usize,
                 dst: *mut $item,
                 room: usize,
             ) -> Answer;
-            pub fn $in_place(values: *mut $item, n: usize, words: *const u64, m: usize) -> Answer;
+            pub fn $in_place(
+                values: *mut $item,
+                n: usize,
+                words: *const u64,
+                m: usize,
+                at: usize,
+            ) -> Answer;
             pub fn $take(
                 src: *const $item,
                 n: usize,

@@ -26,7 +26,7 @@ mod record;
 #[cfg(feature = "rows")]
 mod rows;
 
-pub use bits::{filter_bits, take_bits, take_bits_valid, Bits};
+pub use bits::{filter_bits, take_bits, take_bits_u32, take_bits_valid, Bits};
 pub use mask::Mask;
 pub use record::Record;
 #[cfg(feature = "rows")]
@@ -35,8 +35,8 @@ pub use rows::{file, made, page, rows, run, Answer};
 use calls::{Answer as CallAnswer, DONE, INDEX};
 use std::mem::MaybeUninit;
 
-/// The version of the library that is linked: a million times the major number, and a thousand times
-/// the minor one, and the patch number. It is this crate's.
+/// The version of the library that is linked, which is this crate's: a million times the major
+/// number, and a thousand times the minor one, and the patch number.
 ///
 /// ```
 /// assert_eq!(vortex_select_sys::version(), 1_000); // 0.1.0
@@ -98,10 +98,25 @@ fn count_of(answer: CallAnswer) -> usize {
 /// assert_eq!(filter(&[0.5f64, 1.5, 2.5], &mask), [1.5, 2.5]);
 /// ```
 pub fn filter<T: Record>(values: &[T], mask: &Mask) -> Vec<T> {
+    filter_by(values, Bits::from(mask))
+}
+
+/// The values at the set ones of some bits, which may begin at any bit of their words, in order.
+///
+/// # Panics
+/// Where the bits aren't as many as the values.
+///
+/// ```
+/// use vortex_select_sys::{filter_by, Bits};
+///
+/// let bits = Bits::new(&[0b1101_0000], 5, 3).unwrap();
+/// assert_eq!(filter_by(&[7u8, 8, 9], bits), [8, 9]);
+/// ```
+pub fn filter_by<T: Record>(values: &[T], mask: Bits) -> Vec<T> {
     assert_eq!(values.len(), mask.len(), "a mask is as long as its values");
     let count = mask.count();
     let call = |dst: &mut [_]| {
-        let answer = record::filter(values, mask.words(), dst);
+        let answer = record::filter(values, mask, dst);
         (answer, count_of(answer))
     };
     // SAFETY: a filter that was done wrote as many values as it answers.
@@ -123,8 +138,24 @@ pub fn filter<T: Record>(values: &[T], mask: &Mask) -> Vec<T> {
 /// assert_eq!(values, [1, 3]);
 /// ```
 pub fn filter_in_place<T: Record>(values: &mut Vec<T>, mask: &Mask) {
+    filter_in_place_by(values, Bits::from(mask))
+}
+
+/// Keeps the values at the set ones of some bits, in order, in the memory that they have.
+///
+/// # Panics
+/// Where the bits aren't as many as the values.
+///
+/// ```
+/// use vortex_select_sys::{filter_in_place_by, Bits};
+///
+/// let mut values = vec![7u8, 8, 9];
+/// filter_in_place_by(&mut values, Bits::new(&[0b1010_0000], 5, 3).unwrap());
+/// assert_eq!(values, [7, 9]);
+/// ```
+pub fn filter_in_place_by<T: Record>(values: &mut Vec<T>, mask: Bits) {
     assert_eq!(values.len(), mask.len(), "a mask is as long as its values");
-    let answer = record::filter_in_place(values, mask.words());
+    let answer = record::filter_in_place(values, mask);
     assert_eq!(answer.status, DONE);
     values.truncate(answer.value as usize);
 }
@@ -185,6 +216,78 @@ fn take_words<T: Record>(
     Ok(taken)
 }
 
+/// How many indices of 32 bits are widened at a time: whole words of a mask.
+const BLOCK: usize = 4096;
+
+/// Hands on the indices in blocks of 64-bit ones, each with the words of the mask that are its own.
+fn in_blocks(
+    indices: &[u32],
+    valid: &[u64],
+    mut take: impl FnMut(&[u64], &[u64]) -> Result<(), OutOfBounds>,
+) -> Result<(), OutOfBounds> {
+    let mut wide = [0; BLOCK];
+    let mut valid = valid.chunks(BLOCK / 64);
+    for (number, block) in indices.chunks(BLOCK).enumerate() {
+        for (to, index) in wide.iter_mut().zip(block) {
+            *to = u64::from(*index);
+        }
+        let there = valid.next().unwrap_or(&[]);
+        take(&wide[..block.len()], there).map_err(|fault| OutOfBounds {
+            place: BLOCK * number + fault.place,
+        })?;
+    }
+    Ok(())
+}
+
+fn take_words_u32<T: Record>(
+    values: &[T],
+    indices: &[u32],
+    valid: &[u64],
+) -> Result<Vec<T>, OutOfBounds> {
+    let mut taken = Vec::with_capacity(indices.len());
+    in_blocks(indices, valid, |indices, valid| {
+        taken.extend_from_slice(&take_words(values, indices, valid)?);
+        Ok(())
+    })?;
+    Ok(taken)
+}
+
+/// `take` by indices of 32 bits, some thousand of which are widened at a time.
+///
+/// ```
+/// use vortex_select_sys::{take_u32, OutOfBounds};
+///
+/// assert_eq!(take_u32(&[7u16, 8, 9], &[2, 2, 0]), Ok(vec![9, 9, 7]));
+/// assert_eq!(take_u32(&[7u16, 8, 9], &[2, 3]), Err(OutOfBounds { place: 1 }));
+/// ```
+pub fn take_u32<T: Record>(values: &[T], indices: &[u32]) -> Result<Vec<T>, OutOfBounds> {
+    take_words_u32(values, indices, &[])
+}
+
+/// `take_valid` by indices of 32 bits.
+///
+/// # Panics
+/// Where the mask isn't as long as the list of indices.
+///
+/// ```
+/// use vortex_select_sys::{take_valid_u32, Mask};
+///
+/// let there = Mask::from_bools(&[true, false, true]);
+/// assert_eq!(take_valid_u32(&[7u16, 8, 9], &[2, 99, 0], &there), Ok(vec![9, 0, 7]));
+/// ```
+pub fn take_valid_u32<T: Record>(
+    values: &[T],
+    indices: &[u32],
+    there: &Mask,
+) -> Result<Vec<T>, OutOfBounds> {
+    assert_eq!(
+        indices.len(),
+        there.len(),
+        "a mask is as long as its indices"
+    );
+    take_words_u32(values, indices, there.words())
+}
+
 /// Writes the values at the indices to `dst`, in order; or writes nothing, and tells the first
 /// index that is out of bounds.
 ///
@@ -206,7 +309,9 @@ pub fn take_into<T: Record>(
     dst: &mut [T],
 ) -> Result<(), OutOfBounds> {
     assert_eq!(indices.len(), dst.len(), "a list is as long as its indices");
-    let answer = record::take(values, indices, &[], record::unwritten(dst));
+    // SAFETY: a take writes values.
+    let room = unsafe { record::unwritten(dst) };
+    let answer = record::take(values, indices, &[], room);
     match answer.status {
         DONE => Ok(()),
         INDEX => Err(OutOfBounds {

@@ -71,8 +71,8 @@ impl Mask {
         let call = |dst: &mut [_]| {
             let dst: &mut [MaybeUninit<u64>] = dst;
             let d = dst.as_mut_ptr().cast();
-            // SAFETY: the words are a slice, and what is written is borrowed alone and as long as is
-            // said.
+            // SAFETY: the words are a slice, and what is written is borrowed alone and as long as
+            // is said.
             let answer =
                 unsafe { calls::vortex_positions(words, self.words.len(), rows, d, dst.len()) };
             (answer, crate::count_of(answer))

@@ -51,8 +51,8 @@ unsafe fn whole_of(place: *mut u8) -> (*mut u8, Option<Layout>) {
     (whole, layout(size))
 }
 
-// SAFETY of the names: no other item of a link has them, but where the caller links memory of its own,
-// and then the linker says so. The program's library calls them by these types.
+// SAFETY of the names: no other item of a link has them, but where the caller links memory of its
+// own, and then the linker says so. The program's library calls them by these types.
 #[no_mangle]
 unsafe extern "C" fn rattle_alloc(size: usize, _align: usize) -> Block {
     match layout(size) {

@@ -1,4 +1,5 @@
 use crate::calls::{self, Answer};
+use crate::Bits;
 use std::mem::MaybeUninit;
 
 mod sealed {
@@ -39,7 +40,8 @@ pub trait Record: Copy + sealed::Sealed {}
 macro_rules! records {
     ($($item:ty)+) => {$(
         const _: () = assert!(matches!(size_of::<$item>(), 1 | 2 | 4 | 8 | 16 | 32));
-        const _: () = assert!(align_of::<$item>() >= size_of::<$item>() || align_of::<$item>() >= 8);
+        const _: () = assert!(align_of::<$item>() == size_of::<$item>() || size_of::<$item>() > 8);
+        const _: () = assert!(align_of::<$item>() >= 8 || size_of::<$item>() < 8);
         impl sealed::Sealed for $item {}
         impl Record for $item {}
     )+};
@@ -63,36 +65,35 @@ macro_rules! by_size {
 }
 
 /// Memory of values as such that needn't be written yet.
-pub(crate) fn unwritten<T: Record>(values: &mut [T]) -> &mut [MaybeUninit<T>] {
+///
+/// # Safety
+/// Nothing but values is written into it.
+pub(crate) unsafe fn unwritten<T: Record>(values: &mut [T]) -> &mut [MaybeUninit<T>] {
     let (place, len) = (values.as_mut_ptr().cast(), values.len());
-    // SAFETY: the same memory, borrowed for the same time. The calls of this file write whole values
-    // into it, and nothing else is done with it.
+    // SAFETY: the same memory, borrowed for the same time.
     unsafe { std::slice::from_raw_parts_mut(place, len) }
 }
 
-pub(crate) fn filter<T: Record>(src: &[T], words: &[u64], dst: &mut [MaybeUninit<T>]) -> Answer {
-    let (s, n, w, m) = (src.as_ptr(), src.len(), words.as_ptr(), words.len());
+pub(crate) fn filter<T: Record>(src: &[T], mask: Bits, dst: &mut [MaybeUninit<T>]) -> Answer {
+    let (s, n) = (src.as_ptr(), src.len());
+    let (w, m, at) = mask.parts();
     let (d, room) = (dst.as_mut_ptr(), dst.len());
-    // SAFETY: each pointer is that of a slice and leads to as many aligned items as is said, and the
-    // slice that is written is borrowed alone, so that it overlaps no other one.
+    // SAFETY: each pointer is that of a slice and leads to as many aligned items as is said, and
+    // the slice that is written is borrowed alone, so that it overlaps no other one.
     unsafe {
         by_size!(T: vortex_filter_1 vortex_filter_2 vortex_filter_4 vortex_filter_8
-            vortex_filter_16 vortex_filter_32 (s.cast(), n, w, m, d.cast(), room))
+            vortex_filter_16 vortex_filter_32 (s.cast(), n, w, m, at, d.cast(), room))
     }
 }
 
-pub(crate) fn filter_in_place<T: Record>(values: &mut [T], words: &[u64]) -> Answer {
-    let (v, n, w, m) = (
-        values.as_mut_ptr(),
-        values.len(),
-        words.as_ptr(),
-        words.len(),
-    );
+pub(crate) fn filter_in_place<T: Record>(values: &mut [T], mask: Bits) -> Answer {
+    let (v, n) = (values.as_mut_ptr(), values.len());
+    let (w, m, at) = mask.parts();
     // SAFETY: as in `filter`. The call only moves values, so each is one that was there.
     unsafe {
         by_size!(T: vortex_filter_in_place_1 vortex_filter_in_place_2 vortex_filter_in_place_4
             vortex_filter_in_place_8 vortex_filter_in_place_16 vortex_filter_in_place_32
-            (v.cast(), n, w, m))
+            (v.cast(), n, w, m, at))
     }
 }
 

@@ -4,8 +4,9 @@
 use std::fmt::Debug;
 use std::ops::Range;
 use vortex_select_sys::{
-    filter, filter_bits, filter_in_place, take, take_bits, take_bits_valid, take_into, take_valid,
-    Bits, Mask, OutOfBounds, Record,
+    filter, filter_bits, filter_by, filter_in_place, filter_in_place_by, take, take_bits,
+    take_bits_u32, take_bits_valid, take_into, take_u32, take_valid, take_valid_u32, Bits, Mask,
+    OutOfBounds, Record,
 };
 
 /// Random numbers by xorshift.
@@ -82,6 +83,12 @@ fn plain_take<T: Copy>(
     indices.iter().zip(there).enumerate().map(item).collect()
 }
 
+/// The same indices, where one past 32 bits is the greatest of them.
+fn narrowed(indices: &[u64]) -> Vec<u32> {
+    let narrow = |index: &u64| u32::try_from(*index).unwrap_or(u32::MAX);
+    indices.iter().map(narrow).collect()
+}
+
 fn plain_runs(rows: &[bool]) -> Vec<Range<u64>> {
     let mut runs: Vec<Range<u64>> = Vec::new();
     for row in (0..rows.len() as u64).filter(|row| rows[*row as usize]) {
@@ -98,32 +105,40 @@ fn one_call<T: Record + PartialEq + Debug>(dice: &mut Dice, zero: T, of: fn(u64)
     match dice.below(6) {
         0 => {
             let rows = dice.bools(values.len());
-            assert_eq!(
-                filter(&values, &Mask::from_bools(&rows)),
-                plain_filter(&values, &rows)
-            );
+            let plain = plain_filter(&values, &rows);
+            assert_eq!(filter(&values, &Mask::from_bools(&rows)), plain);
+            let (words, at) = placed(dice, &rows);
+            let bits = Bits::new(&words, at, rows.len()).unwrap();
+            assert_eq!(filter_by(&values, bits), plain);
         }
         1 => {
             let rows = dice.bools(values.len());
             let mut kept = values.clone();
             filter_in_place(&mut kept, &Mask::from_bools(&rows));
             assert_eq!(kept, plain_filter(&values, &rows));
+            let (words, at) = placed(dice, &rows);
+            kept = values.clone();
+            filter_in_place_by(&mut kept, Bits::new(&words, at, rows.len()).unwrap());
+            assert_eq!(kept, plain_filter(&values, &rows));
         }
         2 => {
             let len = dice.len();
             let indices = dice.indices(len, values.len());
             let all = vec![true; len];
-            assert_eq!(
-                take(&values, &indices),
-                plain_take(&values, &indices, &all, zero)
-            );
+            let plain = plain_take(&values, &indices, &all, zero);
+            assert_eq!(take(&values, &indices), plain);
+            let narrow = narrowed(&indices);
+            assert_eq!(take_u32(&values, &narrow), plain);
         }
         3 => {
             let len = dice.len();
             let indices = dice.indices(len, values.len());
             let there = dice.bools(len);
-            let answer = take_valid(&values, &indices, &Mask::from_bools(&there));
-            assert_eq!(answer, plain_take(&values, &indices, &there, zero));
+            let mask = Mask::from_bools(&there);
+            let plain = plain_take(&values, &indices, &there, zero);
+            assert_eq!(take_valid(&values, &indices, &mask), plain);
+            let narrow = narrowed(&indices);
+            assert_eq!(take_valid_u32(&values, &narrow, &mask), plain);
         }
         4 => {
             let len = dice.len();
@@ -178,8 +193,9 @@ fn one_call_of_bits(dice: &mut Dice) {
         }
         1 => {
             let plain = plain_take(&src, &indices, &vec![true; picks], false);
-            let taken = take_bits(bits, &indices);
-            assert_eq!(taken, plain.map(|rows| Mask::from_bools(&rows)));
+            let plain = plain.map(|rows| Mask::from_bools(&rows));
+            assert_eq!(take_bits(bits, &indices), plain);
+            assert_eq!(take_bits_u32(bits, &narrowed(&indices)), plain);
         }
         _ => {
             let there = dice.bools(picks);

@@ -7,3 +7,5 @@ pub mod TopBits
 pub mod RunStarts
 pub mod RunMarks
 pub mod PutRows
+pub mod PickedRows
+pub mod WholeMasks

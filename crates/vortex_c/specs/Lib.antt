@@ -4,3 +4,4 @@ pub mod Takes
 pub mod Bits
 pub mod Positions
 pub mod Runs
+pub mod Widened

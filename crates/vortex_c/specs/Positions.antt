@@ -3,13 +3,20 @@ use Rattle.std.specs.Prelude.{◌≡◌, ◌≢◌, ◌⊎◌, ℕ, ◌==◌, Li
 use Rattle.vx_bits.specs.BitBuffer.{true_count_of}
 use Rattle.vx_filter.specs.Compact.{bits_of_words}
 use Rattle.vx_mask.specs.Positions.{rank_of, set_of}
-use Rattle.vortex_c.specs.Filters.{filter_fault}
 use Rattle.vortex_c.specs.Masks.{count_of, mask_fault}
+
+-- why the set positions can't be listed in so much room: the mask's fault, else 3 where more are set
+-- than there is room for, else 0
+abbrev pub list_fault : ℕ → List ℕ → ℕ → ℕ
+list_fault rows words room =
+    if mask_fault rows words == 0
+    then if nat_lt room (count_of words) then 3 else 0
+    else mask_fault rows words
 
 -- the set positions stand at the front of the output and the rest of it is as it was, or the call
 -- was refused and all of it is
 pub record AreListed (rows : ℕ) (words old new : List ℕ) (status value : ℕ) : Type 0 where
-  pub fault : status ≡ filter_fault rows words (length old)
+  pub fault : status ≡ list_fault rows words (length old)
   pub count : mask_fault rows words ≡ 0 → value ≡ count_of words
   pub untold : (status ≡ 1) ⊎ (status ≡ 2) → value ≡ 0
   pub positions : status ≡ 0 → new ≡ set_of (bits_of_words words) ++ drop value old

@@ -1,16 +1,20 @@
 //! Filters of records.
-ghost use Rattle.std.specs.Prelude.{◌≡◌, ◌*◌, ◌≤◌, false, length};
+ghost use Rattle.std.specs.Prelude.{◌≡◌, ◌+◌, ◌*◌, ◌≤◌, false, length, take, drop};
+ghost use Rattle.std.specs.List.{items_where_true};
 ghost use Rattle.vx_bits.specs.BitBuffer.{true_count_of};
 ghost use Rattle.vx_bits.specs.Words.{word_count};
 ghost use Rattle.vx_filter.specs.Compact.{AreCompacted, bits_of_words};
 ghost use Rattle.vx_mask.specs.Positions.{AllBits};
 ghost use Rattle.vortex_c.specs.Filters.{IsFiltered};
+ghost use Rattle.vortex_c.specs.Masks.{mask_fault};
 
-use crate::answer::{Answer, DONE, ROOM};
+use crate::answer::{Answer, DONE, LENGTHS, ROOM};
+use crate::bits::{Bits, hold};
+use crate::filter_bits::count_bits;
 use crate::masks::{count_set, fault_of};
 use crate::records::{Record16, Record32};
 use crate::rows::compact_rows;
-use vx_filter::{compact_runs, compact_words};
+use vx_filter::{compact_runs, compact_words, copy_picked};
 
 // How many runs the set bits make. A run that crosses words counts in each.
 fn count_runs(words: &[u64]) -> u64 {
@@ -64,15 +68,11 @@ fn keep<T: Copy>(src: &[T], words: &[u64], count: usize, dst: &mut [T], size: us
     }
 }
 
-// Copies the items, of so many bytes, at the set bits to the front of the output, or tells why not.
-fn filter<T: Copy>(src: &[T], words: &[u64], dst: &mut [T], size: usize) -> Answer
-    ensures { IsFiltered src.now words.now dst.old dst.new result.status result.value }
+// Copies the items, of so many bytes, at the set bits of a mask's words, all of which are its own.
+fn filter_words<T: Copy>(src: &[T], words: &[u64], dst: &mut [T], size: usize) -> Answer
+    requires { mask_fault (length src.now) words.now ≡ 0 }
+    ensures { IsFiltered src.now words.now 0 dst.old dst.new result.status result.value }
 {
-    let items = src.len();
-    let fault = fault_of(words, items);
-    if fault != DONE {
-        return Answer::refused(fault);
-    }
     let count = count_set(words);
     if count > dst.len() {
         return Answer {
@@ -87,74 +87,161 @@ fn filter<T: Copy>(src: &[T], words: &[u64], dst: &mut [T], size: usize) -> Answ
     }
 }
 
-/// Copies the records of 1 byte at the set bits of `words` to the front of `dst`, in order. The
-/// answer is how many they are.
-///
-/// 1: `words` are not as many as hold a bit for each record. 2: a bit past the records is set. 3:
-/// `dst` is too small, and the number is how many records are selected.
-#[unsafe(no_mangle)]
-pub extern "C" fn vortex_filter_1(src: &[u8], words: &[u64], dst: &mut [u8]) -> Answer
-    ensures { IsFiltered src.now words.now dst.old dst.new result.status result.value }
+// Copies the items at the mask's set bits to the front of the output, a word of them at a time.
+fn put_picked<T: Copy>(src: &[T], mask: &Bits, dst: &mut [T]) -> usize
+    requires same { length mask.now ≡ length src.now }
+    requires room { true_count_of mask.now ≤ length dst.old }
+    ensures count { result ≡ true_count_of mask.now }
+    ensures front { take result dst.new ≡ items_where_true mask.now src.now }
+    ensures rest { drop result dst.new ≡ drop result dst.old }
 {
-    filter(src, words, dst, 1)
+    let mut kept = 0;
+    for i in 0..mask.len().div_ceil(64) {
+        let word = mask.word(i);
+        kept = copy_picked(dst, kept, src, 64 * i, word);
+    }
+    kept
+}
+
+// Copies the items at the set ones of so many bits of the words from bit `mask_at` on.
+fn filter_at<T: Copy>(src: &[T], words: &[u64], mask_at: usize, dst: &mut [T]) -> Answer
+    requires { mask_at + length src.now ≤ 64 * length words.now }
+    ensures { IsFiltered src.now words.now mask_at dst.old dst.new result.status result.value }
+{
+    let mask = Bits::new(words, mask_at, src.len());
+    let count = count_bits(&mask);
+    if dst.len() < count {
+        return Answer {
+            status: ROOM,
+            value: count as u64,
+        };
+    }
+    let kept = put_picked(src, &mask, dst);
+    Answer {
+        status: DONE,
+        value: kept as u64,
+    }
+}
+
+// Copies the items, of so many bytes, at the mask's set bits to the front of the output, or tells why
+// not. Masks that begin with their words and end with them are the most common.
+fn filter<T: Copy>(src: &[T], words: &[u64], mask_at: usize, dst: &mut [T], size: usize) -> Answer
+    ensures { IsFiltered src.now words.now mask_at dst.old dst.new result.status result.value }
+{
+    if !hold(words, mask_at, src.len()) {
+        return Answer::refused(LENGTHS);
+    }
+    if mask_at == 0 && fault_of(words, src.len()) == DONE {
+        filter_words(src, words, dst, size)
+    } else {
+        filter_at(src, words, mask_at, dst)
+    }
+}
+
+/// Copies the records of 1 byte at the set bits of `words` to the front of `dst`, in order. The
+/// answer is how many they are. The mask's bits are as many as there are records, from bit
+/// `mask_at` on; those before and behind them play no part.
+///
+/// 1: `words` do not hold so many bits. 3: `dst` is too small, and the number is how many records
+/// are selected.
+#[unsafe(no_mangle)]
+pub extern "C" fn vortex_filter_1(
+    src: &[u8],
+    words: &[u64],
+    mask_at: usize,
+    dst: &mut [u8],
+) -> Answer
+    ensures { IsFiltered src.now words.now mask_at dst.old dst.new result.status result.value }
+{
+    filter(src, words, mask_at, dst, 1)
 }
 
 /// Copies the records of 2 bytes at the set bits of `words` to the front of `dst`, in order. The
-/// answer is how many they are.
+/// answer is how many they are. The mask's bits are as many as there are records, from bit
+/// `mask_at` on; those before and behind them play no part.
 ///
-/// 1: `words` are not as many as hold a bit for each record. 2: a bit past the records is set. 3:
-/// `dst` is too small, and the number is how many records are selected.
+/// 1: `words` do not hold so many bits. 3: `dst` is too small, and the number is how many records
+/// are selected.
 #[unsafe(no_mangle)]
-pub extern "C" fn vortex_filter_2(src: &[u16], words: &[u64], dst: &mut [u16]) -> Answer
-    ensures { IsFiltered src.now words.now dst.old dst.new result.status result.value }
+pub extern "C" fn vortex_filter_2(
+    src: &[u16],
+    words: &[u64],
+    mask_at: usize,
+    dst: &mut [u16],
+) -> Answer
+    ensures { IsFiltered src.now words.now mask_at dst.old dst.new result.status result.value }
 {
-    filter(src, words, dst, 2)
+    filter(src, words, mask_at, dst, 2)
 }
 
 /// Copies the records of 4 bytes at the set bits of `words` to the front of `dst`, in order. The
-/// answer is how many they are.
+/// answer is how many they are. The mask's bits are as many as there are records, from bit
+/// `mask_at` on; those before and behind them play no part.
 ///
-/// 1: `words` are not as many as hold a bit for each record. 2: a bit past the records is set. 3:
-/// `dst` is too small, and the number is how many records are selected.
+/// 1: `words` do not hold so many bits. 3: `dst` is too small, and the number is how many records
+/// are selected.
 #[unsafe(no_mangle)]
-pub extern "C" fn vortex_filter_4(src: &[u32], words: &[u64], dst: &mut [u32]) -> Answer
-    ensures { IsFiltered src.now words.now dst.old dst.new result.status result.value }
+pub extern "C" fn vortex_filter_4(
+    src: &[u32],
+    words: &[u64],
+    mask_at: usize,
+    dst: &mut [u32],
+) -> Answer
+    ensures { IsFiltered src.now words.now mask_at dst.old dst.new result.status result.value }
 {
-    filter(src, words, dst, 4)
+    filter(src, words, mask_at, dst, 4)
 }
 
 /// Copies the records of 8 bytes at the set bits of `words` to the front of `dst`, in order. The
-/// answer is how many they are.
+/// answer is how many they are. The mask's bits are as many as there are records, from bit
+/// `mask_at` on; those before and behind them play no part.
 ///
-/// 1: `words` are not as many as hold a bit for each record. 2: a bit past the records is set. 3:
-/// `dst` is too small, and the number is how many records are selected.
+/// 1: `words` do not hold so many bits. 3: `dst` is too small, and the number is how many records
+/// are selected.
 #[unsafe(no_mangle)]
-pub extern "C" fn vortex_filter_8(src: &[u64], words: &[u64], dst: &mut [u64]) -> Answer
-    ensures { IsFiltered src.now words.now dst.old dst.new result.status result.value }
+pub extern "C" fn vortex_filter_8(
+    src: &[u64],
+    words: &[u64],
+    mask_at: usize,
+    dst: &mut [u64],
+) -> Answer
+    ensures { IsFiltered src.now words.now mask_at dst.old dst.new result.status result.value }
 {
-    filter(src, words, dst, 8)
+    filter(src, words, mask_at, dst, 8)
 }
 
 /// Copies the records of 16 bytes at the set bits of `words` to the front of `dst`, in order. The
-/// answer is how many they are.
+/// answer is how many they are. The mask's bits are as many as there are records, from bit
+/// `mask_at` on; those before and behind them play no part.
 ///
-/// 1: `words` are not as many as hold a bit for each record. 2: a bit past the records is set. 3:
-/// `dst` is too small, and the number is how many records are selected.
+/// 1: `words` do not hold so many bits. 3: `dst` is too small, and the number is how many records
+/// are selected.
 #[unsafe(no_mangle)]
-pub extern "C" fn vortex_filter_16(src: &[Record16], words: &[u64], dst: &mut [Record16]) -> Answer
-    ensures { IsFiltered src.now words.now dst.old dst.new result.status result.value }
+pub extern "C" fn vortex_filter_16(
+    src: &[Record16],
+    words: &[u64],
+    mask_at: usize,
+    dst: &mut [Record16],
+) -> Answer
+    ensures { IsFiltered src.now words.now mask_at dst.old dst.new result.status result.value }
 {
-    filter(src, words, dst, 16)
+    filter(src, words, mask_at, dst, 16)
 }
 
 /// Copies the records of 32 bytes at the set bits of `words` to the front of `dst`, in order. The
-/// answer is how many they are.
+/// answer is how many they are. The mask's bits are as many as there are records, from bit
+/// `mask_at` on; those before and behind them play no part.
 ///
-/// 1: `words` are not as many as hold a bit for each record. 2: a bit past the records is set. 3:
-/// `dst` is too small, and the number is how many records are selected.
+/// 1: `words` do not hold so many bits. 3: `dst` is too small, and the number is how many records
+/// are selected.
 #[unsafe(no_mangle)]
-pub extern "C" fn vortex_filter_32(src: &[Record32], words: &[u64], dst: &mut [Record32]) -> Answer
-    ensures { IsFiltered src.now words.now dst.old dst.new result.status result.value }
+pub extern "C" fn vortex_filter_32(
+    src: &[Record32],
+    words: &[u64],
+    mask_at: usize,
+    dst: &mut [Record32],
+) -> Answer
+    ensures { IsFiltered src.now words.now mask_at dst.old dst.new result.status result.value }
 {
-    filter(src, words, dst, 32)
+    filter(src, words, mask_at, dst, 32)
 }

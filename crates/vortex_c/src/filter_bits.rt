@@ -11,7 +11,7 @@ use crate::bits::{Bits, Packed, hold};
 use vx_bitfilter::pext_fallback;
 
 // How many bits are set.
-fn count_bits(bits: &Bits) -> usize
+pub(crate) fn count_bits(bits: &Bits) -> usize
     ensures { result ≡ true_count_of bits.now }
 {
     let mut count = 0;

@@ -20,3 +20,4 @@ mod take;
 mod take_bits;
 mod take_front;
 mod version;
+mod widen;
