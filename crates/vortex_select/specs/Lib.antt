@@ -4,6 +4,9 @@ pub use Rattle.vx_bits.specs.Records
 pub use Rattle.vx_bits.specs.Results
 pub use Rattle.vx_bits.specs.WordReader
 pub use Rattle.vx_bits.specs.Words
+pub use Rattle.vx_build.specs.Faults as BuildFaults
+pub use Rattle.vx_build.specs.Positions as NamedPositions
+pub use Rattle.vx_build.specs.Rows as BuiltRows
 pub use Rattle.vx_chunked.specs.Asked
 pub use Rattle.vx_column.specs.Bool as BoolBits
 pub use Rattle.vx_column.specs.Cell
@@ -83,6 +86,10 @@ pub use Rattle.vx_pieces.specs.Runs
 pub use Rattle.vx_pieces.specs.declared.error.PiecesError as PiecesErrors
 pub use Rattle.vx_positions.specs.Offsets
 pub use Rattle.vx_positions.specs.Positions
+pub use Rattle.vx_print.specs.Calls as PrintedCalls
+pub use Rattle.vx_print.specs.Fault as PrintedFault
+pub use Rattle.vx_print.specs.Reads as PrintedReads
+pub use Rattle.vx_print.specs.Text as PrintedText
 pub use Rattle.vx_select.specs.Chunks
 pub use Rattle.vx_select.specs.Laws as SelectLaws
 pub use Rattle.vx_select.specs.Select
@@ -100,7 +107,9 @@ pub use Rattle.vx_table.specs.Page
 pub use Rattle.vx_table.specs.Table
 pub use Rattle.vx_table.specs.Taken
 pub use Rattle.vx_table.specs.declared.error.PageError as PageErrors
+pub use Rattle.vx_table.specs.declared.error.TableError as TableErrors
 pub use Rattle.vx_take.specs.Picks
+pub use Rattle.vx_take.specs.Ranks as TakenRanks
 pub use Rattle.vx_text.specs.Building
 pub use Rattle.vx_text.specs.OffsetList
 pub use Rattle.vx_types.specs.DType

@@ -1,9 +1,14 @@
 //! What a caller of the engine needs, in one crate to depend on.
 //!
 //! A column is built by its layout ([`PrimitiveArray`] and the others), its rows are named by a
-//! [`Mask`] or by [`Indices`], and [`select`] answers the rows of a list of [`Step`]s. What stands
-//! here is another crate's, which states and proves it; `specs/` hands on what contracts cite.
+//! [`Mask`] or by [`Indices`], and [`select`] answers the rows of a list of [`Step`]s. [`build`] makes
+//! them of lists of numbers, of bools and of texts, and [`kernels`] works on slices and bits alone.
+//! What stands here is another crate's, which states and proves it; `specs/` hands on what contracts
+//! cite.
 #![tactic(auto)]
+
+pub mod build;
+pub mod kernels;
 
 pub use vx_bits::BitBuffer;
 pub use vx_bits::BitBuilder;
@@ -117,12 +122,23 @@ pub use vx_mask::PolicyError;
 pub use vx_mask::PolicyFields;
 pub use vx_mask::Ratio;
 pub use vx_mask::prepare_mask_for_reuse;
+pub use vx_packed::PackedChunks;
+pub use vx_packed::PackedError;
+pub use vx_packed::PackedFault;
+pub use vx_packed::pack;
+pub use vx_packed::read_chunk;
+pub use vx_packed::record_from;
 pub use vx_pieces::BadPieces;
 pub use vx_pieces::IndexFault;
 pub use vx_pieces::Indices;
 pub use vx_pieces::PiecesError;
 pub use vx_pieces::PiecewiseSequence;
 pub use vx_pieces::PiecewiseSequenceArray;
+pub use vx_print::FAULT_ROOM;
+pub use vx_print::calls_line;
+pub use vx_print::fault_line;
+pub use vx_print::reads_line;
+pub use vx_print::text_of;
 pub use vx_select::Cause;
 pub use vx_select::ChunkShape;
 pub use vx_select::SelectError;

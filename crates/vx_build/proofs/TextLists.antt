@@ -1,0 +1,63 @@
+-- Texts that are put out one after another.
+use Rattle.std.proofs.Common.{◌≡◌, ℕ, ◌+◌, ◌^◌, ◌<◌, ◌++◌, List, [], ◌∷◌, length, get_or, map, take, true, refl, sym, ap, ap₂, subst, ◌∙◌}
+use Rattle.std.specs.Prelude.{Ok, Err, Option, None, Some}
+use Rattle.vx_bits.specs.Results.{ok_unless}
+use Rattle.vx_types.specs.declared.ptype.PType.TheVariants.{I32}
+use Rattle.vx_text.specs.Building.{AreTexts, is_cut}
+use Rattle.vx_text.specs.OffsetList.{OffsetList, with_offset}
+use Rattle.vx_text.proofs.BuiltTexts.{built, built_texts, one_text}
+use Rattle.std.proofs.lemmas.Simd.{map-map}
+use Rattle.std.specs.Prelude.{is_some, pos}
+use Rattle.vx_types.specs.RowValue.{bytes}
+use Rattle.vx_types.specs.TypeTree.{is_int_kind}
+use Rattle.vx_types.specs.declared.text.TextKind.TheVariants.{Utf8}
+use Rattle.vx_positions.specs.Offsets.{lists_at}
+use Rattle.vx_model.specs.Bool.{bits_column}
+use Rattle.vx_model.specs.Numbers.{integers_of}
+use Rattle.vx_model.specs.Records.{RecordParts}
+use Rattle.vx_model.specs.Valid.{Valid, by_column, is_fitting, non_nullable, stored_rows}
+use Rattle.vx_model.specs.VarBin.{varbin_column, varbin_fault}
+use Rattle.vx_model.proofs.ShownRows.{shown_rows-all}
+use Rattle.vx_build.specs.Rows.{bytes_or_none, row_or_null}
+use Rattle.vx_build.proofs.Shown.{map_item, shown_texts, stored_some}
+
+-- one text more
+pub next_text : {X : Type 0} (xs : List X) (text_of : X → List ℕ) (i : ℕ) (x : X) (old new : OffsetList) (bytes more text : List ℕ) → i < length xs → x ≡ get_or xs i x → text ≡ text_of x → AreTexts I32 old bytes (map text_of (take i xs)) → length more < 2 ^ 63 → more ≡ bytes ++ text → new ≡ with_offset old (length more) → AreTexts I32 new more (map text_of (take (i + 1) xs))
+next_text xs text_of i x old new bytes more text l there e are short joined is =
+    subst (λ (t : List (List ℕ)). AreTexts I32 new more t)
+    (ap (λ t. map text_of (take i xs) ++ t ∷ []) e ∙ sym (map_item text_of xs i x l there))
+    (one_text I32 old new bytes more text (map text_of (take i xs)) are short joined is)
+
+-- what a constructor makes is its parts
+pub made : {T E : Type 0} (fault : Option E) (parts x : T) → Ok x ≡ ok_unless fault parts → x ≡ parts
+made None parts x h = cc
+made (Some e) parts x h = cc
+
+-- and where there is no fault it refuses nothing
+pub unrefused : {T E : Type 0} (fault : Option E) (parts : T) (e : E) → fault ≡ None → Err e ≡ ok_unless fault parts → ⊥
+unrefused fault parts e h is = cc
+
+-- ---- the column of texts that stand one after another
+
+module _ (o : RecordParts) (b text : List ℕ) (v : Valid) (numbers : List ℕ) (same : b ≡ text) (read : integers_of o ≡ map pos numbers) where
+  pub text_sound : is_int_kind o.kind ≡ true → o.valid ≡ non_nullable → is_cut numbers (length text) ≡ true → is_fitting v (length (lists_at numbers text)) ≡ true → varbin_fault (record { kind = Utf8; offsets = o; bytes = b; valid = v }) ≡ None
+  text_sound int there cut fit =
+      subst (λ (x : List ℕ). varbin_fault (record { kind = Utf8; offsets = o; bytes = x; valid = v }) ≡ None) (sym same)
+      (built Utf8 o text v numbers read int there cut fit)
+
+  pub text_rows : (varbin_column (record { kind = Utf8; offsets = o; bytes = b; valid = v })).rows ≡ stored_rows v (map bytes (lists_at numbers text))
+  text_rows =
+      ap (λ (ts : List (List ℕ)). stored_rows v (map bytes ts))
+      (built_texts Utf8 o b v numbers read ∙ ap (lists_at numbers) same)
+
+-- none of them null
+pub rows_of_texts : {X : Type 0} (f : X → List ℕ) (xs : List X) (texts : List (List ℕ)) → texts ≡ map f xs → stored_rows non_nullable (map bytes texts) ≡ map (λ x. bytes (f x)) xs
+rows_of_texts f xs texts h =
+    shown_rows-all _ (map bytes texts) refl ∙ ap (map bytes) h ∙ map-map bytes f xs
+
+-- null where there is none
+pub rows_of_some_texts : {X : Type 0} (f : X → List ℕ) (xs : List (Option X)) (texts : List (List ℕ)) (v : Valid) → v ≡ by_column (bits_column (map is_some xs) 0) → texts ≡ map (bytes_or_none f) xs → stored_rows v (map bytes texts) ≡ map (row_or_null (λ x. bytes (f x))) xs
+rows_of_some_texts f xs texts v is h =
+    ap₂ (λ (u : Valid) (ts : List (List ℕ)). stored_rows u (map bytes ts)) is h
+    ∙ stored_some (map is_some xs) (map bytes (map (bytes_or_none f) xs))
+    ∙ shown_texts f (bytes_or_none f) (λ x. refl) xs
