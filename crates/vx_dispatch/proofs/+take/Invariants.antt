@@ -39,8 +39,11 @@ decreases-validity::take_validity l = valid_size (valid_of l.validity.now)
 abbrev pub decreases-validity::taken_bits : goal.decreases-validity::taken_bits
 decreases-validity::taken_bits l = l.array.now.depth
 
+abbrev pub decreases-list::take_lists : goal.decreases-list::take_lists
+decreases-list::take_lists l = max l.array.now.elements.depth (valid_size l.array.now.valid) + 2
+
 abbrev pub decreases-list::ListArrayTakeRows::take : goal.decreases-list::ListArrayTakeRows::take
-decreases-list::ListArrayTakeRows::take l = max l.self.now.elements.depth (valid_size l.self.now.valid) + 2
+decreases-list::ListArrayTakeRows::take l = max l.self.now.elements.depth (valid_size l.self.now.valid) + 3
 
 abbrev pub decreases-listview::ListViewArrayTakeRows::take : goal.decreases-listview::ListViewArrayTakeRows::take
 decreases-listview::ListViewArrayTakeRows::take l = valid_size l.self.now.valid + 2
