@@ -1,8 +1,6 @@
 -- Takes by a list of indices, and why they have no rows.
-use Rattle.std.specs.Prelude.{ℕ, nat_le, Option, length, if◌then◌else◌}
+use Rattle.std.specs.Prelude.{ℕ, Option, length}
 use Rattle.std.specs.Option.{option_map}
-use Rattle.vx_types.specs.declared.layout_name.LayoutName.{LayoutName}
-use Rattle.vx_types.specs.declared.layout_name.LayoutName.TheVariants.{VarBin, VarBinView}
 use Rattle.vx_model.specs.Column.{Column}
 use Rattle.vx_model.specs.Step.{IsTake}
 use Rattle.vx_pieces.specs.Indices.{IndexValue, index_fault, index_nullability, index_picks}
@@ -26,8 +24,3 @@ take_fault c indices = option_map (error_of (length c.rows)) (index_fault indice
 -- theirs is
 abbrev pub IsTakeBy : IndexValue → Column → Column → Type 0
 IsTakeBy indices c a = IsTake c (index_picks indices) (index_nullability indices) a
-
--- the layout of the rows that a take leaves of a column of layout `VarBin` whose last text ends at
--- this byte
-abbrev pub text_layout : ℕ → LayoutName
-text_layout last = if nat_le last 2147483647 then VarBinView else VarBin

@@ -1,24 +1,22 @@
 //! Layout `VarBin`.
 ghost use Rattle.std.specs.Prelude.{◌≡◌, ◌≤◌, length, IfOk};
 ghost use Rattle.vx_bits.specs.Results.{FailsBy};
-ghost use Rattle.vx_text.specs.LastOffset.{last_offset};
 ghost use Rattle.vx_types.specs.TypeTree.{primitive_kind};
 ghost use Rattle.vx_model.specs.Step.{IsSlice};
 ghost use Rattle.vx_model.specs.VarBin.{varbin_column};
-ghost use Rattle.vx_model.specs.VarBinView.{views_column};
 ghost use Rattle.vx_pieces.specs.Indices.{index_value};
 ghost use Rattle.vx_text.specs.Building.{type_for, type_of};
-ghost use Rattle.vx_layouts.specs.Taking.{IsTakeBy, take_fault, text_layout};
+ghost use Rattle.vx_layouts.specs.Taking.{IsTakeBy, take_fault};
 
 use crate::taking::{TakeError, take_fault};
 use std::alloc::Global;
 use vx_bits::NoMemory;
 use vx_column::vtables::VarBin;
-use vx_column::{Array, ArrayView, VTable, VarBinArray, VarBinViewArray};
+use vx_column::{Array, ArrayView, VTable, VarBinArray};
 use vx_dispatch::{slice, take_validity};
 use vx_mask::Policy;
 use vx_pieces::Indices;
-use vx_text::{take_varbin_picks, take_views};
+use vx_text::take_varbin_picks;
 
 /// A slice of a column of layout `VarBin`, by the name that Vortex gives it.
 pub trait VarBinSlice: VTable {
@@ -75,49 +73,4 @@ pub fn take_varbin(
     let nullability = indices.nullability();
     let validity = take_validity(alloc, array.validity(), &picks, nullability, &policy)?;
     Ok(take_varbin_picks(alloc, array, &picks, validity)?)
-}
-
-// The last offset of a column whose rows a take answers as views of its bytes: Vortex's
-// `MAX_BUFFER_LEN`.
-const MAX_BUFFER_LEN: usize = 2_147_483_647;
-
-/// The rows that indices name, as a take of a column of layout `VarBin` gives them: as views of its
-/// bytes, where the last text ends at byte 2,147,483,647 or before it, else as a column of the same
-/// layout.
-///
-/// `InvalidIndices`, `BadPieces` and `OutOfBounds` exactly where the indices are at fault, also
-/// where memory is wanting. Else `NoMemory` alone.
-pub fn take_texts(alloc: Global, array: &VarBinArray, indices: &Indices) -> Result<Array, TakeError>
-    ensures taken { IfOk result (IsTakeBy (index_value indices.now) (varbin_column array.now)) }
-    ensures layout { IfOk result (λ a. a.layout ≡ text_layout (last_offset array.now)) }
-    ensures fault { FailsBy result
-        (take_fault (varbin_column array.now) (index_value indices.now)) TakeError.NoMemory }
-{
-    if array.last_offset() <= MAX_BUFFER_LEN {
-        return Ok(views_at(alloc, array, indices)?.into_array());
-    }
-    Ok(take_varbin(alloc, array, indices)?.into_array())
-}
-
-// The rows that indices name, as views of the column's bytes, which are few.
-fn views_at(
-    alloc: Global,
-    array: &VarBinArray,
-    indices: &Indices,
-) -> Result<VarBinViewArray, TakeError>
-    requires { last_offset array.now ≤ 2147483647 }
-    ensures taken { IfOk result (λ a. IsTakeBy (index_value indices.now)
-        (varbin_column array.now) (views_column a)) }
-    ensures fault { FailsBy result
-        (take_fault (varbin_column array.now) (index_value indices.now)) TakeError.NoMemory }
-{
-    let column = array.share().into_array();
-    if let Some(error) = take_fault(&column, indices) {
-        return Err(error);
-    }
-    let policy = Policy::vortex();
-    let picks = indices.picks(alloc, column.len())?;
-    let nullability = indices.nullability();
-    let validity = take_validity(alloc, array.validity(), &picks, nullability, &policy)?;
-    Ok(take_views(alloc, array, &picks, validity)?)
 }
