@@ -1,0 +1,13 @@
+-- The mask that was read is the one that is stated.
+use Rattle.std.proofs.Common.{refl}
+use Rattle.std.proofs.lemmas.Result.{err_from_is_err_and}
+use Rattle.serde_json.specs.View.{view}
+use Rattle.vx_document.specs.Steps.{filter_seen}
+use Rattle.vx_document.proofs.SeenSteps.{stated}
+use Rattle.vx_document.proofs.steps.filter_of.Goals as goal
+
+pub returns : goal.returns
+unfolding filter_seen
+returns c =
+    let m = c.in_ok-mask_of.field-0 in
+    rw (c.in_ok-member.ensures.value, stated (view c.in_ok-member.field-0.now) m c.in_ok-mask_of.ensures.bits c.in_ok-mask_of.ensures.kept) refl
