@@ -91,7 +91,8 @@ fits_values xs n v is h =
 
 module _ {X : Type 0} (p q : PType) (same : q ≡ p) (w : ℕ) (records : List (List ℕ)) where
   pub rows_of_all : (f : X → List ℕ) (xs : List X) → records ≡ map f xs → (records_column (record { kind = primitive_kind q; width = w; records = records; valid = non_nullable })).rows ≡ map (λ x. bytes (f x)) xs
-  rows_of_all f xs h = rows-records-non_nullable _ refl ∙ ap (map bytes) h ∙ map-map bytes f xs
+  rows_of_all f xs h =
+      rows-records-non_nullable (record { kind = primitive_kind q; width = w; records = records; valid = non_nullable }) refl ∙ ap (map bytes) h ∙ map-map bytes f xs
 
   pub numbers_of_all : (g : X → ℤ) (xs : List X) → map (number p) records ≡ map g xs → numbers_of (records_column (record { kind = primitive_kind q; width = w; records = records; valid = non_nullable })) ≡ map (λ x. Some (g x)) xs
   numbers_of_all g xs h =

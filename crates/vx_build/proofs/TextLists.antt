@@ -22,11 +22,11 @@ use Rattle.vx_build.specs.Rows.{bytes_or_none, row_or_null}
 use Rattle.vx_build.proofs.Shown.{map_item, shown_texts, stored_some}
 
 -- one text more
-pub next_text : {X : Type 0} (xs : List X) (text_of : X → List ℕ) (i : ℕ) (x : X) (old new : OffsetList) (bytes more text : List ℕ) → i < length xs → x ≡ get_or xs i x → text ≡ text_of x → AreTexts I32 old bytes (map text_of (take i xs)) → length more < 2 ^ 63 → more ≡ bytes ++ text → new ≡ with_offset old (length more) → AreTexts I32 new more (map text_of (take (i + 1) xs))
-next_text xs text_of i x old new bytes more text l there e are short joined is =
+pub next_text : {X : Type 0} (xs : List X) (text_of : X → List ℕ) (i : ℕ) (x : X) (old new : OffsetList) (before more text : List ℕ) → i < length xs → x ≡ get_or xs i x → text ≡ text_of x → AreTexts I32 old before (map text_of (take i xs)) → length more < 2 ^ 63 → more ≡ before ++ text → new ≡ with_offset old (length more) → AreTexts I32 new more (map text_of (take (i + 1) xs))
+next_text xs text_of i x old new before more text l there e are short joined is =
     subst (λ (t : List (List ℕ)). AreTexts I32 new more t)
     (ap (λ t. map text_of (take i xs) ++ t ∷ []) e ∙ sym (map_item text_of xs i x l there))
-    (one_text I32 old new bytes more text (map text_of (take i xs)) are short joined is)
+    (one_text I32 old new before more text (map text_of (take i xs)) are short joined is)
 
 -- what a constructor makes is its parts
 pub made : {T E : Type 0} (fault : Option E) (parts x : T) → Ok x ≡ ok_unless fault parts → x ≡ parts

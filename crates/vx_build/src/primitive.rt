@@ -119,8 +119,9 @@ pub fn constant<T: NativePType<W>, const W: usize>(
         ≡ record { kind = primitive_kind (T.ptype); nullability = NonNullable }) }
     ensures rows { IfOk result (λ c. c.rows ≡ replicate len (bytes (T.record_of value))) }
 {
-    let bytes = Buffer::from_vec(alloc, Vec::from_slice(alloc, &value.to_record())?)?;
+    // a record has few bytes
     let dtype = DType::Primitive(T::ptype(), Nullability::NonNullable);
+    let bytes = Buffer::from_vec(alloc, Vec::from_slice(alloc, &value.to_record())?)?;
     match Scalar::try_new(dtype, ScalarValue::Bytes(bytes)) {
         Ok(scalar) => Ok(ConstantArray::new(scalar, len).into_array()),
         Err(_) => unreachable!(),

@@ -9,11 +9,11 @@ pub unreachable-requires : goal.unreachable-requires
 unreachable-requires c =
     let ends = c.in_ok-ends.ensures in
     unrefused _ _ _
-    (text_sound _ _ c.args.self.text.items _ c.args.self.offsets.numbers c.in_ok-bytes.ensures ends.numbers ends.int ends.valid c.requires.cut c.requires.fitting)
+    (text_sound c.in_ok-ends.ends _ c.args.self.text.items _ c.args.self.offsets.numbers c.in_ok-bytes.ensures ends.numbers ends.int ends.valid c.requires.cut c.requires.fitting)
     c.in-Err.ensures
 
 pub returns-clause-rows : goal.returns-clause-rows
 returns-clause-rows c =
     ap (λ (k : Column). k.rows) c.into_array.ensures
     ∙ ap (λ (p : VarBinParts). (varbin_column p).rows) (made _ _ _ c.in-Ok.ensures)
-    ∙ text_rows _ _ c.args.self.text.items _ c.args.self.offsets.numbers c.in_ok-bytes.ensures c.in_ok-ends.ensures.numbers
+    ∙ text_rows c.in_ok-ends.ends _ c.args.self.text.items _ c.args.self.offsets.numbers c.in_ok-bytes.ensures c.in_ok-ends.ensures.numbers
