@@ -1,3 +1,4 @@
 pub mod FirstRows
 pub mod NameTables
+pub mod NumberColumns
 pub mod SquareLists

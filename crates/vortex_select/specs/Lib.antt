@@ -4,9 +4,6 @@ pub use Rattle.vx_bits.specs.Records
 pub use Rattle.vx_bits.specs.Results
 pub use Rattle.vx_bits.specs.WordReader
 pub use Rattle.vx_bits.specs.Words
-pub use Rattle.vx_build.specs.Faults as BuildFaults
-pub use Rattle.vx_build.specs.Positions as NamedPositions
-pub use Rattle.vx_build.specs.Rows as BuiltRows
 pub use Rattle.vx_chunked.specs.Asked
 pub use Rattle.vx_column.specs.Bool as BoolBits
 pub use Rattle.vx_column.specs.Cell
@@ -45,6 +42,7 @@ pub use Rattle.vx_layouts.specs.Answers as LayoutAnswers
 pub use Rattle.vx_layouts.specs.Pack
 pub use Rattle.vx_layouts.specs.Sorted
 pub use Rattle.vx_layouts.specs.Taking
+pub use Rattle.vx_layouts.specs.Union as UnionSteps
 pub use Rattle.vx_layouts.specs.declared.taking.TakeError as TakeErrors
 pub use Rattle.vx_mask.specs.Mask
 pub use Rattle.vx_mask.specs.MaskValues
@@ -103,6 +101,7 @@ pub use Rattle.vx_steps.specs.Walk
 pub use Rattle.vx_steps.specs.declared.cause.Cause as Causes
 pub use Rattle.vx_steps.specs.declared.cause.SelectError as SelectErrors
 pub use Rattle.vx_stored.specs.Scalars as StoredScalars
+pub use Rattle.vx_stored.specs.Texts as StoredTexts
 pub use Rattle.vx_table.specs.Page
 pub use Rattle.vx_table.specs.Table
 pub use Rattle.vx_table.specs.Taken

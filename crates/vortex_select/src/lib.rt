@@ -1,13 +1,11 @@
 //! What a caller of the engine needs, in one crate to depend on.
 //!
 //! A column is built by its layout ([`PrimitiveArray`] and the others), its rows are named by a
-//! [`Mask`] or by [`Indices`], and [`select`] answers the rows of a list of [`Step`]s. [`build`] makes
-//! them of lists of numbers, of bools and of texts, and [`kernels`] works on slices and bits alone.
-//! What stands here is another crate's, which states and proves it; `specs/` hands on what contracts
-//! cite.
+//! [`Mask`] or by [`Indices`], and [`select`] answers the rows of a list of [`Step`]s; [`kernels`]
+//! works on slices and bits alone. What stands here is another crate's, which states and proves it;
+//! `specs/` hands on what contracts cite.
 #![tactic(auto)]
 
-pub mod build;
 pub mod kernels;
 
 pub use vx_bits::BitBuffer;
@@ -102,8 +100,10 @@ pub use vx_layouts::TakeExecute;
 pub use vx_layouts::TakeExecuteAdaptor;
 pub use vx_layouts::TakeReduce;
 pub use vx_layouts::TakeReduceAdaptor;
+pub use vx_layouts::TextCopies;
 pub use vx_layouts::VarBinSlice;
 pub use vx_layouts::execute;
+pub use vx_layouts::execute_texts;
 pub use vx_layouts::filter;
 pub use vx_layouts::filter_fixed_size_list;
 pub use vx_layouts::filter_listview;
@@ -112,7 +112,10 @@ pub use vx_layouts::filter_union;
 pub use vx_layouts::filter_varbinview;
 pub use vx_layouts::pack_union;
 pub use vx_layouts::slice;
+pub use vx_layouts::slice_union;
 pub use vx_layouts::take;
+pub use vx_layouts::take_list;
+pub use vx_layouts::take_union;
 pub use vx_layouts::take_varbin;
 pub use vx_mask::Mask;
 pub use vx_mask::MaskError;

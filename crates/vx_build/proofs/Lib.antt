@@ -1,4 +1,0 @@
-pub mod Parts
-pub mod Pushes
-pub mod Shown
-pub mod TextLists
