@@ -10,13 +10,13 @@ use vx_column::PType;
 use vx_json::{list_member, ptype_named, wholes_in};
 use vx_text::Offsets;
 
-/// The offsets that these numbers make, one after another.
+/// The offsets that these numbers of 32 bits make, one after another.
 fn pushed(alloc: Global, ptype: PType, numbers: &[usize]) -> Result<Offsets, Fail>
     requires { is_int ptype ≡ true }
 {
     let mut offsets = Offsets::new(alloc, ptype);
     for number in numbers {
-        offsets.push(*number)?;
+        offsets.push(u32::try_from(*number)? as usize)?;
     }
     Ok(offsets)
 }
