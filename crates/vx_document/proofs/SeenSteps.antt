@@ -120,7 +120,13 @@ not_both : (mask : Option MaskSeen) → (mask >>= λ s. Some s.0) ≡ None → m
 not_both None is = refl
 not_both (Some s) is = absurd cc
 
-pub not_stated : (d : Data) (e : DocError) → Fails e (mask_of d) → Fails e (stated_mask d)
+not_stated : (d : Data) (e : DocError) → Fails e (mask_of d) → Fails e (stated_mask d)
 unfolding mask_of
 not_stated d Malformed none = not_both (stated_mask d) none
 not_stated d NoMemory none = tt
+
+-- a filter without a mask has no meaning
+pub filter-fails : (d f : Data) (e : DocError) → get (codes "filter") d ≡ Some f → Fails e (mask_of f) → Fails e (filter_seen d)
+unfolding filter_seen
+filter-fails d f Malformed is none = rw (is, not_stated f Malformed none) refl
+filter-fails d f NoMemory is none = tt
