@@ -1,12 +1,11 @@
 -- A slice behind steps, and the same in front of them.
-use Rattle.std.proofs.Common.{◌≡◌, ℕ, zero, suc, ◌+◌, ◌-◌, ◌≤◌, ◌<◌, Bool, true, false, List, [], ◌∷◌, ◌++◌, length, map, take, drop, get_or, slice_range, Option, Some, None, refl, sym, ap, ap₂, inl, inr, ◌∙◌, subst, arith}
+use Rattle.std.proofs.Common.{◌≡◌, ℕ, zero, suc, add-one, ◌+◌, ◌-◌, ◌≤◌, ◌<◌, Bool, true, false, List, [], ◌∷◌, ◌++◌, length, map, take, drop, get_or, slice_range, Option, Some, None, refl, sym, ap, ap₂, inl, inr, ◌∙◌, subst, arith}
 use Rattle.std.specs.Prelude.{◌==◌, ◌||◌, if◌then◌else◌, ◌&&◌, nat_le, IfOk, Result, Ok, Err, min}
 use Rattle.std.specs.List.{items_where_true, list_any}
 use Rattle.std.proofs.Math.Seq.{take-nil}
 use Rattle.std.proofs.lemmas.Bool.{cases_lt}
 use Rattle.std.proofs.lemmas.Bool.Decides.{nat_tests}
-use Rattle.std.proofs.lemmas.List.{drop_all, length-drop, take_all}
-use Rattle.vx_bits.specs.BitBuffer.{true_count_of}
+use Rattle.std.proofs.lemmas.List.{append_assoc, drop_all, length-drop, length_push, map-append, take_all}
 use Rattle.vx_mask.specs.Mask.{mask_bits}
 use Rattle.vx_mask.specs.declared.mask.Mask.{Mask}
 use Rattle.vx_mask.specs.declared.mask.Mask.TheVariants.{AllTrue, AllFalse, Values}
@@ -18,8 +17,10 @@ use Rattle.vx_model.proofs.KeptItems.{slice-items}
 use Rattle.vx_column.proofs.TruthBits.{length-true_bits}
 use Rattle.vx_column.specs.Truth.{is_bool_type, true_bits}
 use Rattle.vx_model.specs.Column.{Column}
-use Rattle.vx_steps.specs.Step.{StepValue, slice_step, filter_step, filter_by_step}
-use Rattle.vx_steps.specs.Walk.{Walk, walk_fault, walk_picks, walk_from, walk, all_positions, apply, broken, unless_broken}
+use Rattle.vx_steps.specs.Step.{StepValue, slice_step, filter_step, filter_by_step, step_value}
+use Rattle.vx_steps.specs.declared.step.Step.{Step}
+use Rattle.vx_steps.specs.declared.step.Step.TheVariants.{Filter}
+use Rattle.vx_steps.specs.Walk.{Walk, walk_fault, walk_picks, walk_from, walk, all_positions, apply, broken, rows_left, unless_broken}
 use Rattle.vx_steps.specs.Check.{HasCount}
 use Rattle.vx_types.specs.Nullability.{either_nullable}
 use Rattle.vx_types.specs.declared.nullability.Nullability.{Nullability}
@@ -30,6 +31,7 @@ use Rattle.vx_steps.specs.declared.cause.SelectError.TheVariants.{Broken, NoMemo
 use Rattle.vx_steps.specs.declared.cause.Cause.{Cause}
 use Rattle.vx_steps.specs.declared.cause.Cause.TheVariants.{BadMask, NotBool}
 use Rattle.vx_steps.proofs.Cuts.{slice_range-slice_range}
+use Rattle.vx_steps.proofs.Walks.{length-apply}
 use Rattle.vx_paging.specs.Needed.{IsPartBefore, Leaves, filters_back, is_take, left_by, left_of}
 
 -- ---- masks, the last one first
@@ -38,6 +40,18 @@ use Rattle.vx_paging.specs.Needed.{IsPartBefore, Leaves, filters_back, is_take, 
 pub filters_back-push : (masks : List Mask) (m : Mask) → filters_back (masks ++ m ∷ []) ≡ filter_step (mask_bits m) ∷ filters_back masks
 filters_back-push [] m = refl
 filters_back-push (x ∷ masks) m = ap (λ l. l ++ filter_step (mask_bits x) ∷ []) (filters_back-push masks m)
+
+-- the last mask goes behind the steps
+pub one_more : (done next : List Step) (old rest : List Mask) (m : Mask) (all : List StepValue) → old ≡ rest ++ m ∷ [] → next ≡ done ++ Filter m ∷ [] → map step_value done ++ filters_back old ≡ all → map step_value next ++ filters_back rest ≡ all
+one_more done next old rest m all popped pushed so =
+    ap (λ l. map step_value l ++ filters_back rest) pushed
+    ∙ ap (λ l. l ++ filters_back rest) (map-append step_value done (Filter m ∷ []))
+    ∙ append_assoc (map step_value done) (filter_step (mask_bits m) ∷ []) (filters_back rest)
+    ∙ sym (ap (λ l. map step_value done ++ l) (ap filters_back popped ∙ filters_back-push rest m))
+    ∙ so
+
+pub popped_len : (old rest : List Mask) (m : Mask) (n k : ℕ) → old ≡ rest ++ m ∷ [] → length old + k ≡ n → length rest + (k + 1) ≡ n
+popped_len old rest m n k popped so = omega (arith, ap length popped, length_push rest m, so)
 
 -- ---- what a mask is made ready for
 
@@ -98,6 +112,38 @@ long_bits column n sound = length-true_bits column ∙ by_type (is_bool_type col
     by_type true m n h = grind (arith, nat_tests)
     by_type false m n h = cc
 
+-- by a step that is such a one
+
+within_slice : (s e n : ℕ) → broken (slice_step s e) n ≡ None → (s ≤ e) × (e ≤ n)
+within_slice s e n sound = grind (arith, nat_tests)
+
+long_mask : (bits : List Bool) (n : ℕ) → broken (filter_step bits) n ≡ None → length bits ≡ n
+long_mask bits n sound = grind (arith, nat_tests)
+
+module _ (v : StepValue) (a b start end : ℕ) (masks more : List Mask) (items left : List (Option ℕ)) (sound : broken v (length items) ≡ None) (r : Leaves a b masks (apply None v items) left) where
+  sound_as : (w : StepValue) → v ≡ w → broken w (length items) ≡ None
+  sound_as w is = subst (λ x. broken x (length items) ≡ None) is sound
+
+  left_as : (w : StepValue) → v ≡ w → Leaves a b masks (apply None w items) left
+  left_as w is = subst (λ x. Leaves a b masks (apply None x items) left) is r
+
+  pub by-slice : (s e : ℕ) → v ≡ slice_step s e → start ≡ s + a → end ≡ s + b → more ≡ masks → Leaves start end more items left
+  by-slice s e is first last kept =
+      let inside = within_slice s e (length items) (sound_as (slice_step s e) is) in
+      rw (first, last, kept) (before-slice s e a b masks items left inside.0 inside.1 (left_as (slice_step s e) is))
+
+  pub by-mask : (bits : List Bool) → v ≡ filter_step bits → IsPartBefore bits a b start end masks more → Leaves start end more items left
+  by-mask bits is p =
+      before-mask bits a b start end masks more items left (long_mask bits (length items) (sound_as (filter_step bits) is)) p (left_as (filter_step bits) is)
+
+  pub by-column : (column : Column) → v ≡ filter_by_step column → IsPartBefore (true_bits column) a b start end masks more → Leaves start end more items left
+  by-column column is p =
+      before-mask (true_bits column) a b start end masks more items left (long_bits column (length items) (sound_as (filter_by_step column) is)) p (left_as (filter_by_step column) is)
+
+-- of equal bits the same part
+pub part_of : {bits same : List Bool} {a b start end : ℕ} {masks more : List Mask} → bits ≡ same → IsPartBefore bits a b start end masks more → IsPartBefore same a b start end masks more
+part_of {a = a} {b = b} {start = start} {end = end} {masks = masks} {more = more} is p = subst (λ (x : List Bool). IsPartBefore x a b start end masks more) is p
+
 -- what follows from a fact of the value in an `Ok`
 pub if_ok : {T E : Type 0} (P Q : T → Type 0) (r : Result T E) → IfOk r P → ((x : T) → P x → Q x) → IfOk r Q
 if_ok P Q (Ok x) h f = f x h
@@ -119,6 +165,14 @@ pub any_more : (steps : List StepValue) (k : ℕ) (s : StepValue) → k < length
 any_more [] k s h is = absurd (omega arith)
 any_more (x ∷ steps) zero s h is = ap (λ b. b || list_any is_take steps) (ap is_take (sym is))
 any_more (x ∷ steps) (suc k) s h is = any_more steps k s (omega arith) is
+
+-- of the steps from this one on one is a take where this one is, and otherwise where one behind it is
+pub any_here : (steps : List StepValue) (k : ℕ) (s : StepValue) → k < length steps → s ≡ get_or steps k s → list_any is_take (drop k steps) ≡ list_any is_take steps → is_take s ≡ true → true ≡ list_any is_take steps
+any_here steps k s h is so taken = sym (any_more steps k s h is ∙ ap (λ b. b || list_any is_take (drop (suc k) steps)) taken) ∙ so
+
+pub any_next : (steps : List StepValue) (k : ℕ) (s : StepValue) → k < length steps → s ≡ get_or steps k s → list_any is_take (drop k steps) ≡ list_any is_take steps → is_take s ≡ false → list_any is_take (drop (k + 1) steps) ≡ list_any is_take steps
+any_next steps k s h is so kept =
+    rw add-one (sym (any_more steps k s h is ∙ ap (λ b. b || list_any is_take (drop (suc k) steps)) kept) ∙ so)
 
 -- ---- all steps
 
@@ -157,6 +211,17 @@ by_walk n steps (walk_picks ps) is h = is ∙ ap walk_picks (sym (left_by-all 0 
 -- where no step is broken
 pub walk-left : (n : ℕ) (steps : List StepValue) → IsUnbroken (walk n steps) → walk n steps ≡ walk_picks (left_of n steps)
 walk-left n steps h = by_walk n steps (walk n steps) refl h
+
+-- what the steps up to this one leave, by what those before it do
+pub step_back : (n : ℕ) (steps : List StepValue) (k j : ℕ) (s : StepValue) → IsUnbroken (walk n steps) → j ≡ suc k → k < length steps → s ≡ get_or steps k s
+    → (broken s (length (left_by k (all_positions n) steps)) ≡ None) × (left_by j (all_positions n) steps ≡ apply None s (left_by k (all_positions n) steps))
+step_back n steps k j s unbroken next h is =
+    let both = left_by-more 0 (all_positions n) (left_of n steps) steps k s (walk-left n steps unbroken) h is in
+    (both.0, ap (λ i. left_by i (all_positions n) steps) next ∙ both.1)
+
+-- so many rows does it leave
+pub rows_within : (s : StepValue) (before after : List (Option ℕ)) (end : ℕ) → broken s (length before) ≡ None → after ≡ apply None s before → end ≤ length after → end ≤ rows_left s
+rows_within s before after end sound is h = omega (arith, h, ap length is, length-apply None s before (length before) refl sound)
 
 -- ---- the answer
 
@@ -222,3 +287,16 @@ part_left n steps start end count part h counts is =
     let both = counted_left n steps count counts in
     subst (λ w. IsPartOf w start end part) (sym (walk-left n steps both.0))
     (is ∙ ap₂ (λ a b. slice_range (left_of n steps) a b) (ap (min start) both.1) (ap (min end) both.1) ∙ clipped (left_of n steps) start end h)
+
+-- the part that the steps make that were brought together
+pub needed_part : (n : ℕ) (steps made : List StepValue) (start end low high count a b : ℕ) (masks : List Mask) (part : List (Option ℕ)) → start ≤ end → HasCount (walk n steps) count → low ≡ min start count → high ≡ min end count → made ≡ slice_step a b ∷ filters_back masks
+    → Leaves a b masks (all_positions n) (slice_range (left_of n steps) low high) → walk n made ≡ walk_picks part → IsPartOf (walk n steps) start end part
+needed_part n steps made start end low high count a b masks part h counts first last is needed walked =
+    let left = slice_range (left_of n steps) low high in
+    let both : walk_picks part ≡ walk_picks left = sym walked ∙ ap (walk n) is ∙ walk-needed n a b masks left needed in
+    let same : part ≡ left = cc in
+    part_left n steps start end count part h counts (same ∙ ap₂ (λ i j. slice_range (left_of n steps) i j) first last)
+
+-- they leave no nulls
+pub made-there : (made : List StepValue) (a b : ℕ) (masks : List Mask) → made ≡ slice_step a b ∷ filters_back masks → takes_nullability made ≡ NonNullable
+made-there made a b masks is = ap takes_nullability is ∙ filters-there masks

@@ -1,11 +1,10 @@
 -- Of the rows before steps those that a page needs, and the masks that are left to go over them.
-use Rattle.std.specs.Prelude.{◌≡◌, ℕ, zero, suc, ◌≤◌, Bool, true, false, List, [], ◌∷◌, ◌++◌, length, map, Option, None, slice_range, take}
-use Rattle.std.specs.List.{list_any}
+use Rattle.std.specs.Prelude.{◌≡◌, ℕ, zero, suc, ◌≤◌, Bool, true, false, List, [], ◌∷◌, ◌++◌, length, Option, None, slice_range, take}
 use Rattle.vx_bits.specs.BitBuffer.{true_count_of}
 use Rattle.vx_mask.specs.Mask.{mask_bits}
 use Rattle.vx_mask.specs.declared.mask.Mask.{Mask}
 use Rattle.vx_steps.specs.Step.{StepValue, slice_step, filter_step, filter_by_step, take_step}
-use Rattle.vx_steps.specs.Walk.{Walk, all_positions, apply, walk_from, walk_picks}
+use Rattle.vx_steps.specs.Walk.{all_positions, apply, walk_from, walk_picks}
 
 abbrev pub is_take : StepValue → Bool
 is_take (slice_step start end) = false

@@ -1,9 +1,10 @@
 //! The picks of a page, from the rows alone that it needs.
-ghost use Rattle.std.specs.Prelude.{◌≡◌, ◌≤◌, ◌∷◌, List, Option, ℕ, IfErr, IfOk, None, OnOk, length, map, false, slice_range};
+ghost use Rattle.std.specs.Prelude.{◌+◌, ◌-◌, ◌≡◌, ◌≤◌, ◌∷◌, List, Option, ℕ, IfErr, IfOk, None, OnOk, length, map, false, slice_range};
 ghost use Rattle.std.specs.List.{list_any};
 ghost use Rattle.vx_types.specs.declared.nullability.Nullability.TheVariants.{NonNullable};
 ghost use Rattle.vx_bits.specs.BitBuffer.{true_count_of};
 ghost use Rattle.vx_mask.specs.Mask.{mask_bits};
+ghost use Rattle.vx_column.specs.Truth.{true_bits};
 ghost use Rattle.vx_positions.specs.Positions.{AllThere};
 ghost use Rattle.vx_steps.specs.Compose.{IsCounted, IsFaultOf, IsPartOf, IsUnbroken, takes_nullability};
 ghost use Rattle.vx_steps.specs.Step.{slice_step, step_value};
@@ -13,7 +14,7 @@ ghost use Rattle.vx_paging.specs.Needed.{IsPartBefore, Leaves, filters_back, is_
 use crate::ranges::{mask_range, slice_mask};
 use std::alloc::Global;
 use vx_bits::NoMemory;
-use vx_column::mask_of;
+use vx_column::{Array, mask_of};
 use vx_mask::{Mask, Policy, prepare_mask_for_reuse};
 use vx_steps::{SelectError, Step, check_steps, compose, compose_part};
 use vx_take::Picks;
@@ -79,6 +80,22 @@ impl Needed {
         Ok(Needed { start, end, masks })
     }
 
+    // What a column of bools leaves them of.
+    fn before_column(
+        self,
+        alloc: Global,
+        column: &Array,
+        readers: Readers<'_>,
+    ) -> Result<Needed, NoMemory>
+        requires ordered { self.start ≤ self.end }
+        requires within { self.end ≤ true_count_of (true_bits column.now) }
+        ensures { IfOk result (λ n. IsPartBefore (true_bits column.now) self.start self.end
+            n.start n.end self.masks.items n.masks.items) }
+    {
+        let mask = mask_of(alloc, column)?;
+        self.before_mask(alloc, &mask, readers)
+    }
+
     // What a step that is no take leaves them of.
     fn before(self, alloc: Global, step: &Step, readers: Readers<'_>) -> Result<Needed, NoMemory>
         requires cut { is_take (step_value step.now) ≡ false }
@@ -93,10 +110,7 @@ impl Needed {
         match step {
             Step::Slice { start, end } => Ok(self.before_slice(*start, *end)),
             Step::Filter(mask) => self.before_mask(alloc, mask, readers),
-            Step::FilterBy(column) => {
-                let mask = mask_of(alloc, column.array())?;
-                self.before_mask(alloc, &mask, readers)
-            }
+            Step::FilterBy(column) => self.before_column(alloc, column.array(), readers),
             Step::Take(_) => unreachable!(),
         }
     }
