@@ -62,8 +62,9 @@ fn picks_of(alloc: Global, len: usize, steps: &[Step]) -> Result<Picks, NoMemory
 
 /// How much room the picks need that the steps leave of `len` rows: what [`compose`] writes.
 ///
-/// `Lacking` exactly where an image has no meaning, with the first one. Else `Broken` with the first
-/// step that breaks a rule, or `NoMemory`; never `Room`.
+/// `Lacking` exactly where an image has no meaning, with the first one. Else `Broken` with the
+/// first step that breaks a rule, or `NoMemory`; never `Room`. Want of memory may come in place of
+/// `Broken`.
 pub fn count(alloc: Global, len: usize, steps: &[StepImage]) -> Result<Need, Refusal>
     ensures meant { OnOk result (AreMeant (map step_parts steps.now)) }
     ensures need { IfOk result (HasNeed len (map step_parts steps.now)) }
@@ -77,9 +78,9 @@ pub fn count(alloc: Global, len: usize, steps: &[StepImage]) -> Result<Need, Ref
 /// at a null, and to `valid` a bit that is clear at a null, where a take may leave nulls. What is
 /// written is what [`count`] answers.
 ///
-/// `Lacking` exactly where an image has no meaning, with the first one. Else `Broken` with the first
-/// step that breaks a rule, `Room` where `places` or `valid` is too short, or `NoMemory`. Nothing is
-/// written then.
+/// `Lacking` exactly where an image has no meaning, with the first one. Else `Broken` with the
+/// first step that breaks a rule, `Room` where `places` or `valid` is too short, or `NoMemory`,
+/// which may come in place of these two. Nothing is written then.
 pub fn compose(
     alloc: Global,
     len: usize,
