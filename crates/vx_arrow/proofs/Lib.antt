@@ -1,0 +1,6 @@
+pub mod Copied
+pub mod FirstLack
+pub mod MeantSteps
+pub mod Refusals
+pub mod SoundColumns
+pub mod Writes

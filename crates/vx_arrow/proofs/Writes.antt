@@ -1,0 +1,65 @@
+-- Places and bits, written one after another.
+use Rattle.std.proofs.Common.{◌≡◌, ℕ, ◌+◌, ◌*◌, ◌/◌, ◌%◌, ◌<◌, ◌≤◌, ◌≢◌, Bool, List, [], ◌∷◌, ◌++◌, length, get_or, take, drop, set, map, eqb, Option, None, refl, ap, subst, ◌∙◌, sym, inl, inr, arith, get_or-set_same, get_or-set_other, length-take-le, append_assoc, drop-cons, add-one}
+use Rattle.std.specs.Prelude.{is_some}
+use Rattle.std.specs.Int.{bit_at}
+use Rattle.std.proofs.lemmas.Bool.{cases_eq}
+use Rattle.std.proofs.lemmas.List.{same_lists, length-map, get_or-map, map_push, take_more, set_at}
+use Rattle.vx_bits.specs.BitBuffer.{bit_of}
+use Rattle.vx_bits.proofs.BitLists.{bit_in, length_bits}
+use Rattle.vx_arrow.specs.Written.{AreMarked, IsMarked, place_of}
+
+-- ---- one bit
+
+pub marked : (bs : List ℕ) (j x : ℕ) (b : Bool) → j < 8 * length bs → eqb (bit_at x (j % 8)) 1 ≡ b
+    → ((r : ℕ) → r < 8 → r ≢ j % 8 → bit_at x r ≡ bit_at (get_or bs (j / 8) 0) r)
+    → IsMarked bs (set bs (j / 8) x) j b
+marked bs j x b lt same others =
+    let within : j / 8 < length bs = omega arith in
+    record {
+      mark = ap (λ y. eqb (bit_at y (j % 8)) 1) (get_or-set_same bs (j / 8) x 0 within) ∙ same;
+      others = λ i ne. elim (cases_eq (i / 8) (j / 8)) as (λ _. bit_of (set bs (j / 8) x) i ≡ bit_of bs i) [
+        | inl e ↦
+            let other : i % 8 ≢ j % 8 = λ f. ne (omega arith) in
+            ap (λ q. eqb (bit_at (get_or (set bs (j / 8) x) q 0) (i % 8)) 1) e
+            ∙ ap (λ y. eqb (bit_at y (i % 8)) 1) (get_or-set_same bs (j / 8) x 0 within)
+            ∙ ap (λ y. eqb y 1) (others (i % 8) (omega arith) other)
+            ∙ ap (λ q. eqb (bit_at (get_or bs q 0) (i % 8)) 1) (sym e)
+        | inr f ↦ ap (λ y. eqb (bit_at y (i % 8)) 1) (get_or-set_other bs (j / 8) (i / 8) x 0 f)
+      ];
+    }
+
+pub marked_by : (bs : List ℕ) (j x y : ℕ) (a b : Bool) → x ≡ y → a ≡ b → IsMarked bs (set bs (j / 8) y) j b → IsMarked bs (set bs (j / 8) x) j a
+marked_by bs j x y a b e f h = subst (λ (z : ℕ). IsMarked bs (set bs (j / 8) z) j a) (sym e) (subst (λ (v : Bool). IsMarked bs (set bs (j / 8) y) j v) (sym f) h)
+
+-- ---- bits of picks
+
+-- the bits of the first k picks are written
+pub record Marked (picks : List (Option ℕ)) (old new : List ℕ) (k : ℕ) : Type 0 where
+  pub marks : (j : ℕ) → j < k → bit_of new j ≡ is_some (get_or picks j None)
+  pub rest : (j : ℕ) → k ≤ j → bit_of new j ≡ bit_of old j
+
+pub all_marked : (picks : List (Option ℕ)) (old new : List ℕ) (k : ℕ) → k ≡ length picks → Marked picks old new k → AreMarked picks old new
+all_marked picks old new k e m =
+    record {
+      marks = same_lists _ _ (length_bits new 0 (length picks) ∙ sym (length-map picks is_some)) (λ j d h.
+          let below : j < length picks = omega (arith, length_bits new 0 (length picks)) in
+          let at : 0 + j ≡ j = omega arith in
+          bit_in new 0 (length picks) j d below ∙ ap (bit_of new) at ∙ m.marks j (omega arith) ∙ sym (get_or-map is_some picks j None d below));
+      rest = λ j h. m.rest j (omega arith);
+    }
+
+-- ---- places of picks
+
+pub next_placed : (picks : List (Option ℕ)) (old places : List ℕ) (k : ℕ) (x : Option ℕ) → length picks ≤ length old → k < length picks
+    → places ≡ map place_of (take k picks) ++ drop k old → x ≡ get_or picks k None
+    → set places k (place_of x) ≡ map place_of (take (k + 1) picks) ++ drop (k + 1) old
+next_placed picks old places k x fits h is pick =
+    let front = map place_of (take k picks) in
+    let long : length front ≡ k = length-map (take k picks) place_of ∙ length-take-le k picks (omega arith) in
+    let cut : drop k old ≡ get_or old k 0 ∷ drop (k + 1) old = drop-cons old k 0 (omega arith) ∙ rw (add-one) refl in
+    let more : map place_of (take (k + 1) picks) ≡ front ++ place_of x ∷ [] =
+    ap (map place_of) (take_more picks k None h) ∙ map_push place_of (take k picks) (get_or picks k None) ∙ ap (λ y. front ++ place_of y ∷ []) (sym pick) in
+    ap (λ l. set l k (place_of x)) (is ∙ ap (λ l. front ++ l) cut)
+    ∙ set_at front (get_or old k 0) (drop (k + 1) old) (place_of x) k long
+    ∙ sym (append_assoc front (place_of x ∷ []) (drop (k + 1) old))
+    ∙ ap (λ l. l ++ drop (k + 1) old) (sym more)

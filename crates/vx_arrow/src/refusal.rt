@@ -1,0 +1,35 @@
+//! Why there are no picks.
+
+use crate::lacks::Lacking;
+use crate::need::Need;
+use vx_bits::NoMemory;
+use vx_steps::Cause;
+
+/// Why there are no picks. What comes first here is said first.
+#[derive(Debug, Clone, Copy, PartialEq, Eq)]
+pub enum Refusal {
+    /// An image has no meaning.
+    Lacking(Lacking),
+    /// A step breaks a rule.
+    Broken {
+        /// The first such step's number, counted from 0.
+        step: usize,
+        /// The rule that it breaks.
+        cause: Cause,
+    },
+    /// The picks need more room than there is.
+    Room(Need),
+    /// Want of memory.
+    NoMemory,
+}
+
+impl From<NoMemory> for Refusal {
+    ghost use Rattle.std.specs.Prelude.{◌≡◌};
+    ghost use Rattle.vx_arrow.specs.declared.refusal.Refusal.TheVariants.{NoMemory as OutOfMemory};
+
+    ghost from_gives = { λ _ e. e ≡ OutOfMemory };
+
+    fn from(_: NoMemory) -> Refusal {
+        Refusal::NoMemory
+    }
+}
