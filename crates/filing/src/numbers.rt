@@ -55,7 +55,7 @@ pub(crate) fn file_of(alloc: Global, ptype: PType, numbers: &[u64]) -> anyhow::R
         bail!("a number is too great for its type");
     }
     let Ok(blocks) = file_blocks(alloc, ptype, numbers) else {
-        bail!("memory is wanting");
+        bail!("out of memory");
     };
     Ok(File {
         blocks,
