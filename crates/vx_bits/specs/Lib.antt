@@ -4,3 +4,4 @@ pub mod Results
 pub mod Records
 pub mod WordReader
 pub mod Words
+pub mod Messages

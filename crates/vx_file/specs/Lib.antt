@@ -5,3 +5,4 @@ pub mod Touched
 pub mod File
 pub mod Reading
 pub mod Stated
+pub mod Messages

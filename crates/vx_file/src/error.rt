@@ -1,6 +1,8 @@
 //! Why a file or its rows can't be had.
 
 use std::alloc::AllocError;
+use std::error::Error;
+use std::fmt;
 use vx_bits::NoMemory;
 use vx_select::{Cause, SelectError};
 
@@ -62,3 +64,22 @@ impl From<SelectError> for FileError {
         }
     }
 }
+
+impl fmt::Display for FileError {
+    ghost use Rattle.std.specs.Prelude.{Some};
+    ghost use Rattle.vx_file.specs.Messages.{file_error_text};
+
+    ghost output = { λ e. Some (file_error_text e) };
+
+    fn fmt<W: fmt::Write>(&self, f: &mut fmt::Formatter<W>) -> fmt::Result {
+        match self {
+            FileError::ReadFault => f.write_str("a block could not be read"),
+            FileError::BadHeader => f.write_str("block 0 is no header"),
+            FileError::Damaged { block } => write!(f, "block {block} is damaged"),
+            FileError::Broken { step, cause } => write!(f, "step {step}: {cause}"),
+            FileError::NoMemory => f.write_str("out of memory"),
+        }
+    }
+}
+
+impl Error for FileError {}

@@ -5,3 +5,4 @@ pub mod Keys
 pub mod Numbers
 pub mod Pairs
 pub mod Runs
+pub mod Messages

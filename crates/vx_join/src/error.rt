@@ -1,5 +1,7 @@
 //! Why there is no join.
 
+use std::error::Error;
+use std::fmt;
 use vx_bits::NoMemory;
 
 /// Why two tables can't be joined. Pairs of keys count from 0.
@@ -31,3 +33,21 @@ impl From<NoMemory> for JoinError {
         JoinError::NoMemory
     }
 }
+
+impl fmt::Display for JoinError {
+    ghost use Rattle.std.specs.Prelude.{Some};
+    ghost use Rattle.vx_join.specs.Messages.{join_error_text};
+
+    ghost output = { λ e. Some (join_error_text e) };
+
+    fn fmt<W: fmt::Write>(&self, f: &mut fmt::Formatter<W>) -> fmt::Result {
+        match self {
+            JoinError::NoKeys => f.write_str("there is no pair of keys"),
+            JoinError::NoKey { pair } => write!(f, "pair {pair} names no column"),
+            JoinError::KeyTypes { pair } => write!(f, "pair {pair} has no common flat type"),
+            JoinError::NoMemory => f.write_str("out of memory"),
+        }
+    }
+}
+
+impl Error for JoinError {}

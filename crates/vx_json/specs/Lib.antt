@@ -10,3 +10,4 @@ pub mod Masks
 pub mod Policies
 pub mod Texts
 pub mod Views
+pub mod Messages

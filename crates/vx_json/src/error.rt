@@ -3,6 +3,8 @@ ghost use Rattle.std.specs.Prelude.{◌≡◌};
 ghost use Rattle.vx_json.specs.declared.error.DocError.TheVariants.{NoMemory as OutOfMemory};
 
 use std::alloc::{AllocError, AllocFailed};
+use std::error::Error;
+use std::fmt;
 use vx_bits::NoMemory;
 use vx_mask::MaskError;
 
@@ -52,3 +54,19 @@ impl<T: Drop> From<AllocFailed<T>> for DocError {
         DocError::NoMemory
     }
 }
+
+impl fmt::Display for DocError {
+    ghost use Rattle.std.specs.Prelude.{Some};
+    ghost use Rattle.vx_json.specs.Messages.{doc_error_text};
+
+    ghost output = { λ e. Some (doc_error_text e) };
+
+    fn fmt<W: fmt::Write>(&self, f: &mut fmt::Formatter<W>) -> fmt::Result {
+        f.write_str(match self {
+            DocError::Malformed => "the value has no meaning here",
+            DocError::NoMemory => "out of memory",
+        })
+    }
+}
+
+impl Error for DocError {}

@@ -5,3 +5,4 @@ pub use Rattle.vx_dispatch.specs.Union
 pub mod Pack
 pub mod Sorted
 pub mod Taking
+pub mod Messages

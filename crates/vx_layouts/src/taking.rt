@@ -15,6 +15,8 @@ ghost use Rattle.vx_layouts.specs.Taking.{IsTakeBy, take_fault};
 use crate::always::{TakeExecuteAlways, TakeReduceAlways};
 use crate::answer::Answer;
 use std::alloc::Global;
+use std::error::Error;
+use std::fmt;
 use vx_bits::NoMemory;
 use vx_column::{Array, ArrayView, VTable};
 use vx_mask::Policy;
@@ -48,6 +50,24 @@ impl From<NoMemory> for TakeError {
         TakeError::NoMemory
     }
 }
+
+impl fmt::Display for TakeError {
+    ghost use Rattle.std.specs.Prelude.{Some};
+    ghost use Rattle.vx_layouts.specs.Messages.{take_error_text};
+
+    ghost output = { λ e. Some (take_error_text e) };
+
+    fn fmt<W: fmt::Write>(&self, f: &mut fmt::Formatter<W>) -> fmt::Result {
+        match self {
+            TakeError::InvalidIndices => f.write_str("InvalidIndices"),
+            TakeError::BadPieces => f.write_str("BadPieces"),
+            TakeError::OutOfBounds { index, len } => write!(f, "OutOfBounds {index} of {len}"),
+            TakeError::NoMemory => f.write_str("out of memory"),
+        }
+    }
+}
+
+impl Error for TakeError {}
 
 // Why a take from a column by these indices isn't one; none where it is. It takes no memory.
 pub(crate) fn take_fault(array: &Array, indices: &Indices) -> Option<TakeError>

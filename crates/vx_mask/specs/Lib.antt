@@ -4,3 +4,4 @@ pub mod Policy
 pub mod Positions
 pub mod Ranks
 pub mod Reuse
+pub mod Messages

@@ -1,5 +1,7 @@
 //! Why positions or parts are no mask.
 
+use std::error::Error;
+use std::fmt;
 use vx_bits::NoMemory;
 
 /// Why a mask was not made.
@@ -29,3 +31,22 @@ impl From<NoMemory> for MaskError {
         MaskError::NoMemory
     }
 }
+
+impl fmt::Display for MaskError {
+    ghost use Rattle.std.specs.Prelude.{Some};
+    ghost use Rattle.vx_mask.specs.Messages.{mask_error_text};
+
+    ghost output = { λ e. Some (mask_error_text e) };
+
+    fn fmt<W: fmt::Write>(&self, f: &mut fmt::Formatter<W>) -> fmt::Result {
+        f.write_str(match self {
+            MaskError::Count => "the true count is not the number of set bits",
+            MaskError::NotSelective => "no bit is set, or all are",
+            MaskError::Indices => "indices are not the positions of the set bits, ascending",
+            MaskError::Slices => "runs are not the runs of set bits, ascending",
+            MaskError::NoMemory => "out of memory",
+        })
+    }
+}
+
+impl Error for MaskError {}

@@ -3,6 +3,8 @@ ghost use Rattle.std.specs.Prelude.{◌≡◌, ◌≤◌, None};
 ghost use Rattle.vx_bits.specs.Results.{ok_unless};
 ghost use Rattle.vx_mask.specs.Policy.{has_zero_divisor, has_wide_sparse_limit, policy_fault, sparse_limit_of, vortex_fields};
 
+use std::error::Error;
+use std::fmt;
 use std::marker::Model;
 
 /// The ratio `num / den`.
@@ -218,3 +220,20 @@ impl Policy {
         }
     }
 }
+
+impl fmt::Display for PolicyError {
+    ghost use Rattle.std.specs.Prelude.{Some};
+    ghost use Rattle.vx_mask.specs.Messages.{policy_error_text};
+
+    ghost output = { λ e. Some (policy_error_text e) };
+
+    fn fmt<W: fmt::Write>(&self, f: &mut fmt::Formatter<W>) -> fmt::Result {
+        f.write_str(match self {
+            PolicyError::ZeroDivisor => "a number that is divided by is 0",
+            PolicyError::ZeroLookupCap => "rank_lookup_cap is 0",
+            PolicyError::SparseLimit => "a sparse limit is above 160",
+        })
+    }
+}
+
+impl Error for PolicyError {}

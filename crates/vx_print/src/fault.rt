@@ -1,7 +1,8 @@
 //! The line of a broken step, written without memory.
 ghost use Rattle.std.specs.Prelude.{◌≡◌, ◌+◌, ◌≤◌, ◌++◌, length, take, decimal};
 ghost use Rattle.std.specs.Fmt.{signed_decimal};
-ghost use Rattle.vx_print.specs.Fault.{cause_text, fault_text};
+ghost use Rattle.vx_print.specs.Fault.{fault_text};
+ghost use Rattle.vx_steps.specs.Messages.{cause_text};
 
 use itoa::Buffer;
 use vx_steps::Cause;

@@ -3,6 +3,7 @@ pub mod Cause
 pub mod Check
 pub mod Compose
 pub mod Laws
+pub mod Messages
 pub mod Shape
 pub mod Step
 pub mod Walk

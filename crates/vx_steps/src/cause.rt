@@ -1,5 +1,7 @@
 //! Why a list of steps has no answer.
 
+use std::error::Error;
+use std::fmt;
 use vx_bits::NoMemory;
 
 /// The rule that a step breaks, with what the step asked for and what was there. All counts are
@@ -61,3 +63,39 @@ impl From<NoMemory> for SelectError {
         SelectError::NoMemory
     }
 }
+
+impl fmt::Display for Cause {
+    ghost use Rattle.std.specs.Prelude.{Some};
+    ghost use Rattle.vx_steps.specs.Messages.{cause_text};
+
+    ghost output = { λ e. Some (cause_text e) };
+
+    fn fmt<W: fmt::Write>(&self, f: &mut fmt::Formatter<W>) -> fmt::Result {
+        match self {
+            Cause::BadRange { start, end, len } => write!(f, "BadRange {start}..{end} of {len}"),
+            Cause::BadMask { mask_len, len } => write!(f, "BadMask {mask_len} of {len}"),
+            Cause::NotBool => f.write_str("NotBool"),
+            Cause::InvalidIndices => f.write_str("InvalidIndices"),
+            Cause::BadPieces => f.write_str("BadPieces"),
+            Cause::OutOfBounds { index, len } => write!(f, "OutOfBounds {index} of {len}"),
+        }
+    }
+}
+
+impl Error for Cause {}
+
+impl fmt::Display for SelectError {
+    ghost use Rattle.std.specs.Prelude.{Some};
+    ghost use Rattle.vx_steps.specs.Messages.{select_error_text};
+
+    ghost output = { λ e. Some (select_error_text e) };
+
+    fn fmt<W: fmt::Write>(&self, f: &mut fmt::Formatter<W>) -> fmt::Result {
+        match self {
+            SelectError::Broken { step, cause } => write!(f, "step {step}: {cause}"),
+            SelectError::NoMemory => f.write_str("out of memory"),
+        }
+    }
+}
+
+impl Error for SelectError {}

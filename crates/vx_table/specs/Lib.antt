@@ -1,3 +1,4 @@
 pub mod Page
 pub mod Table
 pub mod Taken
+pub mod Messages

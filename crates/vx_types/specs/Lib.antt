@@ -19,3 +19,4 @@ pub mod Text
 pub mod TypeTree
 pub mod TypeTreeCode
 pub mod Variants
+pub mod Messages

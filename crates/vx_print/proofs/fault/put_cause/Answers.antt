@@ -1,7 +1,7 @@
 use Rattle.std.proofs.Common.{◌≡◌, ◌++◌, ◌∙◌, ℕ, List, take, ap, sym, append_assoc}
 use Rattle.std.specs.Prelude.{codes, decimal}
 use Rattle.std.specs.Fmt.{signed_decimal}
-use Rattle.vx_print.specs.Fault.{cause_text}
+use Rattle.vx_steps.specs.Messages.{cause_text}
 use Rattle.vx_print.proofs.fault.put_cause.Goals as goal
 
 joined : (a b c d e : List ℕ) → (((a ++ b) ++ c) ++ d) ++ e ≡ a ++ (((b ++ c) ++ d) ++ e)
