@@ -230,7 +230,7 @@ enum {
     VORTEX_PROGRAM_BROKEN = 1,    /* a step is broken */
     VORTEX_PROGRAM_MALFORMED = 2, /* the document spells no JSON value, or it has no meaning */
     VORTEX_PROGRAM_WORDS = 3,     /* the words are others */
-    VORTEX_PROGRAM_MEMORY = 6,    /* memory is wanting, or the text would be too long */
+    VORTEX_PROGRAM_MEMORY = 6,    /* out of memory, or the text would be too long */
     VORTEX_PROGRAM_TOO_LONG = 7,  /* the document has more than 16,777,216 bytes */
     VORTEX_PROGRAM_NO_WORDS = 9,  /* a word is not UTF-8 */
     VORTEX_PROGRAM_ROOM = 16      /* dst is too small */

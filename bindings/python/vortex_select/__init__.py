@@ -703,7 +703,7 @@ def run(words: Sequence[str], document: Buffer = b"") -> Answer:
     """What the program does by its words, with the document in place of its standard input.
 
     The status is 0 where no step is broken, 1 where one is, 2 where the document has no meaning, 3
-    where the words are others, 6 where memory is wanting or the text would be too long, and 7 where
+    where the words are others, 6 where memory runs out or the text would be too long, and 7 where
     the document has more than 16,777,216 bytes. The text is that of the rows at 0, the fault's line
     at 1, else nothing.
 

@@ -10,7 +10,7 @@ const FIRST_ROOM: usize = 4096;
 #[derive(Clone, Debug, PartialEq, Eq)]
 pub struct Answer {
     /// The program's status: 0 where no step is broken, 1 where one is, 2 where the document has no
-    /// meaning, 3 where the words are others, 6 where memory is wanting or the text would be too
+    /// meaning, 3 where the words are others, 6 where memory runs out or the text would be too
     /// long, 7 where the document has more than 16,777,216 bytes.
     pub status: u8,
     /// What it prints: the text of the rows at status 0, the fault's line at 1, else nothing.

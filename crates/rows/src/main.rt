@@ -6,23 +6,26 @@ ghost use Rattle.std.specs.Prelude.{◌≤◌, ◌↔◌, IsSome};
 
 use std::env;
 use std::process::ExitCode;
+use vx_rows::status::{
+    BROKEN, DONE, MALFORMED, NO_MEMORY, SINK_FAULT, SOURCE_FAULT, TOO_LONG, WRONG_WORDS,
+};
 use vx_rows::{StdSink, StdSource, Trace, run};
 
 /// The status where the words can't be had.
 const NO_WORDS: u8 = 9;
 
-/// What a status stands for; 0 and 1 are told on standard output.
+/// What a status stands for; [`DONE`] and [`BROKEN`] are said on standard output.
 fn meaning(status: u8) -> Option<&'static str>
     ensures { IsSome result ↔ 2 ≤ status }
 {
     match status {
-        0 | 1 => None,
-        2 => Some("malformed document"),
-        3 => Some("wrong words; usage: rows rows|page P L|file|made N"),
-        4 => Some("reading failed"),
-        5 => Some("writing failed"),
-        6 => Some("memory is wanting, or the text would be too long"),
-        7 => Some("more than 16,777,216 bytes"),
+        DONE | BROKEN => None,
+        MALFORMED => Some("malformed document"),
+        WRONG_WORDS => Some("wrong words; usage: rows rows|page P L|file|made N"),
+        SOURCE_FAULT => Some("reading failed"),
+        SINK_FAULT => Some("writing failed"),
+        NO_MEMORY => Some("out of memory, or the text would be too long"),
+        TOO_LONG => Some("more than 16,777,216 bytes"),
         _ => Some("the program's words can't be had"),
     }
 }

@@ -1,27 +1,7 @@
 //! Takes of records that stop at an index out of bounds.
-ghost use Rattle.std.specs.Prelude.{◌≡◌};
-ghost use Rattle.vortex_c.specs.Takes.{IsFrontTaken};
+ghost use Rattle.vx_words.specs.Takes.{IsFrontTaken};
 
-use crate::answer::{Answer, DONE};
-use crate::gather::gather;
-use crate::records::{Record16, Record32};
-use crate::take::fault_of_take;
-
-// The items at the picks before the first that is out of bounds, at the front of the output.
-fn take_front<T: Copy>(src: &[T], indices: &[u64], valid: &[u64], fill: T, dst: &mut [T]) -> Answer
-    ensures { IsFrontTaken fill src.now indices.now valid.now dst.old dst.new result.status
-        result.value }
-{
-    let fault = fault_of_take(indices.len(), valid, dst.len());
-    if fault != DONE {
-        return Answer::refused_for(fault, indices.len() as u64);
-    }
-    let count = gather(src, indices, valid, fill, dst);
-    Answer {
-        status: DONE,
-        value: count as u64,
-    }
-}
+use vx_words::{Answer, Record16, Record32, take_records_front};
 
 /// Writes the records of 1 byte at the indices before the first that is out of bounds to the
 /// front of `dst`, in order, and zeros at each null. The answer is how many they are: as many as
@@ -40,7 +20,7 @@ pub extern "C" fn vortex_take_front_1(
     ensures { IsFrontTaken 0 src.now indices.now valid.now dst.old
         dst.new result.status result.value }
 {
-    take_front(src, indices, valid, 0, dst)
+    take_records_front(src, indices, valid, 0, dst)
 }
 
 /// Writes the records of 2 bytes at the indices before the first that is out of bounds to the
@@ -60,7 +40,7 @@ pub extern "C" fn vortex_take_front_2(
     ensures { IsFrontTaken 0 src.now indices.now valid.now dst.old
         dst.new result.status result.value }
 {
-    take_front(src, indices, valid, 0, dst)
+    take_records_front(src, indices, valid, 0, dst)
 }
 
 /// Writes the records of 4 bytes at the indices before the first that is out of bounds to the
@@ -80,7 +60,7 @@ pub extern "C" fn vortex_take_front_4(
     ensures { IsFrontTaken 0 src.now indices.now valid.now dst.old
         dst.new result.status result.value }
 {
-    take_front(src, indices, valid, 0, dst)
+    take_records_front(src, indices, valid, 0, dst)
 }
 
 /// Writes the records of 8 bytes at the indices before the first that is out of bounds to the
@@ -100,7 +80,7 @@ pub extern "C" fn vortex_take_front_8(
     ensures { IsFrontTaken 0 src.now indices.now valid.now dst.old
         dst.new result.status result.value }
 {
-    take_front(src, indices, valid, 0, dst)
+    take_records_front(src, indices, valid, 0, dst)
 }
 
 /// Writes the records of 16 bytes at the indices before the first that is out of bounds to the
@@ -120,7 +100,7 @@ pub extern "C" fn vortex_take_front_16(
     ensures { IsFrontTaken (record { low = 0; high = 0 }) src.now indices.now valid.now dst.old
         dst.new result.status result.value }
 {
-    take_front(src, indices, valid, Record16::ZERO, dst)
+    take_records_front(src, indices, valid, Record16::ZERO, dst)
 }
 
 /// Writes the records of 32 bytes at the indices before the first that is out of bounds to the
@@ -140,5 +120,5 @@ pub extern "C" fn vortex_take_front_32(
     ensures { IsFrontTaken (record { a = 0; b = 0; c = 0; d = 0 }) src.now indices.now valid.now
         dst.old dst.new result.status result.value }
 {
-    take_front(src, indices, valid, Record32::ZERO, dst)
+    take_records_front(src, indices, valid, Record32::ZERO, dst)
 }

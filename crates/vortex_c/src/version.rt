@@ -1,4 +1,4 @@
-//! The version of the library.
+//! Which version of the library this is.
 ghost use Rattle.std.specs.Prelude.{◌≡◌};
 
 /// The version of the library: a million times the major number, and a thousand times the minor one,

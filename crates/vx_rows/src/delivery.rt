@@ -4,12 +4,10 @@ ghost use Rattle.vx_io.specs.Bytes.{Rose, with_back};
 ghost use Rattle.vx_rows.specs.Reply.{text_of_reply, status_of_reply, traced_by_reply};
 
 use crate::reply::Reply;
+use crate::status::{BROKEN, DONE, MALFORMED, NO_MEMORY, SINK_FAULT};
 use crate::trace::Trace;
 use vx_io::{Sink, deliver};
 use vx_print::{FAULT_ROOM, fault_line};
-
-/// The status where the sink fails.
-const SINK_FAULT: u8 = 5;
 
 // Writes what a reply prints, if it prints anything, and answers the status. What was asked for it
 // is kept before the first write. A reply that prints nothing leaves the sink as it was.
@@ -32,7 +30,7 @@ pub(crate) fn deliver_reply<K: Sink>(sink: &mut K, trace: &mut Trace, reply: Rep
         Reply::Done { text, asked } => {
             trace.keep(asked);
             match deliver(sink, &text) {
-                Ok(()) => 0,
+                Ok(()) => DONE,
                 Err(_) => SINK_FAULT,
             }
         }
@@ -40,11 +38,11 @@ pub(crate) fn deliver_reply<K: Sink>(sink: &mut K, trace: &mut Trace, reply: Rep
             let mut line = [0; FAULT_ROOM];
             let len = fault_line(step, &cause, &mut line);
             match deliver(sink, &line[..len]) {
-                Ok(()) => 1,
+                Ok(()) => BROKEN,
                 Err(_) => SINK_FAULT,
             }
         }
-        Reply::Malformed => 2,
-        Reply::NoMemory => 6,
+        Reply::Malformed => MALFORMED,
+        Reply::NoMemory => NO_MEMORY,
     }
 }

@@ -12,6 +12,7 @@ mod made;
 mod pages;
 mod program;
 mod reply;
+pub mod status;
 mod trace;
 
 pub use program::run;

@@ -12,6 +12,7 @@ use crate::command::{Command, Form, command_of};
 use crate::delivery::deliver_reply;
 use crate::made::reply_to_made;
 use crate::reply::reply_to;
+use crate::status::{NO_MEMORY, SOURCE_FAULT, TOO_LONG, WRONG_WORDS};
 use crate::trace::Trace;
 use std::alloc::Global;
 use vx_io::{MAX_BYTES, Sink, Source, Stop, read_all};
@@ -58,9 +59,9 @@ fn run_document<S: Source, K: Sink>(
 {
     let bytes = match read_all(alloc, source) {
         Ok(bytes) => bytes,
-        Err(Stop::Fault) => return 4,
-        Err(Stop::TooLong) => return 7,
-        Err(Stop::NoMemory) => return 6,
+        Err(Stop::Fault) => return SOURCE_FAULT,
+        Err(Stop::TooLong) => return TOO_LONG,
+        Err(Stop::NoMemory) => return NO_MEMORY,
     };
     deliver_reply(sink, trace, reply_to(alloc, form, bytes))
 }
@@ -157,7 +158,7 @@ pub fn run<S: Source, K: Sink>(
         ⊎ IfTold (map string_bytes words.now) (S.rest source.old) (λ o. result ≡ status_of o) }
 {
     match command_of(words) {
-        None => 3,
+        None => WRONG_WORDS,
         Some(Command::Read(form)) => run_document(alloc, form, source, sink, trace),
         Some(Command::Made(seed)) => run_made(alloc, seed, sink, trace),
     }

@@ -1,5 +1,0 @@
-use Rattle.vortex_c.proofs.BitWords.{length-bits_at}
-use Rattle.vortex_c.proofs.bits.Bits.new.Goals as goal
-
-pub returns-clause-len : goal.returns-clause-len
-returns-clause-len c = length-bits_at c.args.words.now c.args.offset c.args.len c.requires

@@ -1,5 +1,0 @@
-use Rattle.vortex_c.specs.Takes.{IsFront}
-use Rattle.vortex_c.proofs.gather.put_front.Given as goal
-
-abbrev pub invariant-loop-k : goal.invariant-loop-k
-invariant-loop-k g l = IsFront l.fill l.src l.indices l.valid l.fn.dst l.dst l.k

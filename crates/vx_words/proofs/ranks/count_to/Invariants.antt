@@ -1,0 +1,7 @@
+use Rattle.std.proofs.Common.{◌≡◌, ◌*◌, take}
+use Rattle.vx_bits.specs.BitBuffer.{true_count_of}
+use Rattle.vx_filter.specs.Compact.{bits_of_words}
+use Rattle.vx_words.proofs.ranks.count_to.Given as goal
+
+abbrev pub invariant-loop-w : goal.invariant-loop-w
+invariant-loop-w l = l.count ≡ true_count_of (take (64 * l.w) (bits_of_words l.words))
