@@ -2,6 +2,7 @@
 ghost use Rattle.std.specs.Prelude.{◌≡◌, ◌+◌, ◌^◌, ◌<◌, ◌≤◌, length, map};
 ghost use Rattle.vx_packed.specs.Chunk.{digits, greatest, least};
 
+/// The least of the numbers.
 pub(crate) fn least_of(numbers: &[u64]) -> u64
     requires { 0 < length numbers.now }
     ensures { result ≡ least numbers.now }
@@ -13,6 +14,7 @@ pub(crate) fn least_of(numbers: &[u64]) -> u64
     low
 }
 
+/// The greatest of the numbers.
 pub(crate) fn greatest_of(numbers: &[u64]) -> u64
     requires { 0 < length numbers.now }
     ensures { result ≡ greatest numbers.now }

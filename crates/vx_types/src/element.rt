@@ -62,6 +62,7 @@ impl ElementType {
         }
     }
 
+    /// Whether the element types are the same.
     #[cycle(same)]
     pub(crate) fn is_same(&self, other: &ElementType) -> bool
         ensures { result ≡ is_same_type self.now other.now }

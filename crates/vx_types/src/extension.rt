@@ -69,6 +69,7 @@ impl ExtDType {
         &self.storage
     }
 
+    /// Whether the names are the same, and the storage types but for their nullability.
     #[cycle(same)]
     pub(crate) fn is_same(&self, other: &ExtDType) -> bool
         ensures { result ≡ is_same_extension self.now other.now }

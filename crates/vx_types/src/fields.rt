@@ -90,6 +90,7 @@ impl StructFields {
         &self.types
     }
 
+    /// Whether names and types are the same, in order.
     #[cycle(same)]
     pub(crate) fn is_same(&self, other: &StructFields) -> bool
         ensures { result ≡ are_same_fields self.now other.now }

@@ -14,6 +14,7 @@ use crate::ptype::PType;
 use std::rc::RcStr;
 
 impl Nullability {
+    /// Whether both have nulls, or neither has.
     pub(crate) fn is_same(self, other: Nullability) -> bool
         ensures { result ≡ is_same_nullability self other }
     {
@@ -41,12 +42,14 @@ impl PType {
     }
 }
 
+/// Whether the bytes are the same.
 pub(crate) fn are_same_bytes(xs: &[u8], ys: &[u8]) -> bool
     ensures { result ≡ are_same_bytes xs.now ys.now }
 {
     xs == ys
 }
 
+/// Whether the names are the same, in order.
 #[tactic(auto, using(crate::proofs::Alike::names_apart))]
 pub(crate) fn are_same_names(xs: &[RcStr], ys: &[RcStr]) -> bool
     ensures { result ≡ are_same_names (names_of xs.now) (names_of ys.now) }
@@ -54,6 +57,7 @@ pub(crate) fn are_same_names(xs: &[RcStr], ys: &[RcStr]) -> bool
     xs == ys
 }
 
+/// Whether the types are the same, in order.
 #[cycle(same)]
 #[tactic(auto, using(crate::proofs::Alike::alike))]
 pub(crate) fn are_same_types(xs: &[DType], ys: &[DType]) -> bool

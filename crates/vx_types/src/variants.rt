@@ -121,6 +121,7 @@ impl UnionVariants {
         &self.types
     }
 
+    /// Whether ids, names and types are the same, in order.
     #[cycle(same)]
     pub(crate) fn is_same(&self, other: &UnionVariants) -> bool
         ensures { result ≡ are_same_variants self.now other.now }

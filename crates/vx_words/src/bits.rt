@@ -35,6 +35,7 @@ impl<'a> Model for Bits<'a> {
 }
 
 impl<'a> Bits<'a> {
+    /// The `len` bits from bit `offset` of the words on.
     pub(crate) fn new(words: &'a [u64], offset: usize, len: usize) -> Bits<'a>
         requires { offset + len ≤ 64 * length words.now }
         ensures bits { result ≡ bits_at words.now offset len }
@@ -71,6 +72,7 @@ impl<'a> Bits<'a> {
     }
 
     #[inline(always)]
+    /// How many bits there are.
     pub(crate) fn len(&self) -> usize
         ensures { result ≡ length self.now }
     {
