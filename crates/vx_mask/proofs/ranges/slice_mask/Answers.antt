@@ -3,8 +3,8 @@ use Rattle.std.proofs.Common.{◌≡◌, ◌≤◌, true, false, length, sym, ap
 use Rattle.std.specs.Prelude.{slice_range, replicate}
 use Rattle.std.proofs.lemmas.List.{length-replicate}
 use Rattle.vx_mask.specs.Mask.{mask_bits}
-use Rattle.vx_model.proofs.Items.{slice_range-replicate}
-use Rattle.vx_dispatch.proofs.ranges.slice_mask.Goals as goal
+use Rattle.vx_mask.proofs.RangeCounts.{slice_range-replicate}
+use Rattle.vx_mask.proofs.ranges.slice_mask.Goals as goal
 
 pub returns-in-AllTrue : goal.returns-in-AllTrue
 returns-in-AllTrue c =

@@ -1,12 +1,12 @@
-//! The part of a mask that holds a range of its set positions.
+//! The range of a mask that holds a range of its set positions, and a part of a mask.
 ghost use Rattle.std.specs.Prelude.{◌≡◌, ◌≤◌, length, take, slice_range};
 ghost use Rattle.vx_bits.specs.BitBuffer.{true_count_of};
 ghost use Rattle.vx_mask.specs.Mask.{mask_bits};
 
-use vx_mask::Mask;
+use crate::mask::Mask;
 
 // A position with so many set positions below it.
-#[tactic(auto, using(vx_model::proofs::KeptItems::counts))]
+#[tactic(auto, using(crate::proofs::RangeCounts::counts))]
 fn boundary(mask: &Mask, count: usize) -> usize
     requires { count ≤ true_count_of (mask_bits mask.now) }
     ensures count { true_count_of (take result (mask_bits mask.now)) ≡ count }
@@ -20,8 +20,8 @@ fn boundary(mask: &Mask, count: usize) -> usize
 }
 
 /// From where up to where the set positions `start` to `end` of a mask lie.
-#[tactic(auto, using(vx_model::proofs::KeptItems::counts))]
-pub(crate) fn mask_range(mask: &Mask, start: usize, end: usize) -> (usize, usize)
+#[tactic(auto, using(crate::proofs::RangeCounts::counts))]
+pub fn mask_range(mask: &Mask, start: usize, end: usize) -> (usize, usize)
     requires ordered { start ≤ end }
     requires within { end ≤ true_count_of (mask_bits mask.now) }
     ensures start { true_count_of (take result.0 (mask_bits mask.now)) ≡ start }
@@ -35,8 +35,8 @@ pub(crate) fn mask_range(mask: &Mask, start: usize, end: usize) -> (usize, usize
 }
 
 /// The part of a mask from `start` up to `end`. It takes no memory.
-#[tactic(auto, using(vx_model::proofs::KeptItems::counts))]
-pub(crate) fn slice_mask(mask: &Mask, start: usize, end: usize) -> Mask
+#[tactic(auto, using(crate::proofs::RangeCounts::counts))]
+pub fn slice_mask(mask: &Mask, start: usize, end: usize) -> Mask
     requires ordered { start ≤ end }
     requires within { end ≤ length (mask_bits mask.now) }
     ensures { mask_bits result ≡ slice_range (mask_bits mask.now) start end }

@@ -2,8 +2,8 @@
 use Rattle.std.proofs.Common.{◌≤◌, arith}
 use Rattle.std.proofs.Common.{rules}
 use Rattle.vx_mask.specs.Mask.{mask_bits}
-use Rattle.vx_model.proofs.KeptItems.{count_take-ordered}
-use Rattle.vx_dispatch.proofs.ranges.mask_range.Goals as goal
+use Rattle.vx_mask.proofs.RangeCounts.{count_take-ordered}
+use Rattle.vx_mask.proofs.ranges.mask_range.Goals as goal
 
 pub returns-else-low-high-clause-end : goal.returns-else-low-high-clause-end
 returns-else-low-high-clause-end c =
