@@ -4,7 +4,7 @@ ghost use Rattle.vx_column.specs.Validity.{valid_of};
 ghost use Rattle.vx_model.specs.Valid.{is_fitting};
 ghost use Rattle.vx_model.specs.VarBin.{varbin_texts};
 ghost use Rattle.vx_model.specs.VarBinView.{view_texts};
-ghost use Rattle.vx_text.specs.Fits.{FitsTake};
+ghost use Rattle.vx_offsets.specs.Fits.{FitsTake};
 
 use crate::arguments::{indices_at, mask_at, range_at, validity_at};
 use crate::slices::Range;

@@ -48,7 +48,7 @@ pub(crate) fn push_columns(lines: &mut String, alloc: Global, row: &Value) -> Re
 
 /// Rows of the column's type that stand where none is shown, `len` of them.
 pub(crate) fn filler(alloc: Global, row: &Value, column: &Array) -> Result<Array, Fail> {
-    Ok(Array::filler(alloc, column.dtype(), number_at(row, "len")?)?)
+    Ok(vx_filler::filler(alloc, column.dtype(), number_at(row, "len")?)?)
 }
 
 /// The column behind the step that the row states, if it states one.

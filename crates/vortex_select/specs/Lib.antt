@@ -76,6 +76,7 @@ pub use Rattle.vx_model.specs.Union
 pub use Rattle.vx_model.specs.Valid
 pub use Rattle.vx_model.specs.VarBin
 pub use Rattle.vx_model.specs.VarBinView
+pub use Rattle.vx_offsets.specs.Cut
 pub use Rattle.vx_packed.specs.Chunk as PackedChunks
 pub use Rattle.vx_packed.specs.Faults as PackedFaults
 pub use Rattle.vx_pieces.specs.Indices

@@ -87,6 +87,8 @@ pub use vx_file::SteadyBlocks;
 pub use vx_file::file_blocks;
 pub use vx_file::open_file;
 pub use vx_file::select_file;
+pub use vx_filler::filler;
+pub use vx_filler::fillers;
 pub use vx_join::JoinError;
 pub use vx_join::JoinIndices;
 pub use vx_join::join;

@@ -1,7 +1,6 @@
 pub mod BitRows
 pub mod Cells
 pub mod Fields
-pub mod Fillers
 pub mod Naturals
 pub mod NumberLists
 pub mod RowLists
@@ -10,3 +9,4 @@ pub mod Stretches
 pub mod Tags
 pub mod TruthBits
 pub mod UnionCells
+pub mod VariantCounts

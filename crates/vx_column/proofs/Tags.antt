@@ -21,9 +21,9 @@ use Rattle.vx_model.specs.Columns.{types_in}
 use Rattle.vx_model.specs.Union.{UnionParts, has_place, has_row, have_rows, index_of, is_id_type, is_known, union_fault}
 use Rattle.vx_model.proofs.StructSteps.{same_trees}
 use Rattle.vx_column.specs.Cell.{type_by_id}
-use Rattle.vx_column.proofs.Fillers.{many-variants}
+use Rattle.vx_column.proofs.VariantCounts.{many-variants}
 use Rattle.vx_column.proofs.Naturals.{integers_long}
-use Rattle.vx_model.proofs.UnionSteps.{alike-union, index-below, known-index, place-index, same-many}
+use Rattle.vx_model.proofs.UnionSteps.{alike-union, index-below, place-index, same-many}
 
 -- ---- the place of a variant
 

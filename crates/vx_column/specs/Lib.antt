@@ -1,6 +1,5 @@
 pub mod Bool
 pub mod Cell
-pub mod Fillers
 pub mod Flat
 pub mod Layout
 pub mod ListParts

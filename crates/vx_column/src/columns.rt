@@ -1,9 +1,5 @@
 //! Shared lists of columns.
-ghost use Rattle.std.specs.Prelude.{◌≡◌, ◌<◌, IfOk, Some, length, map, replicate, slice_get, true};
-ghost use Rattle.vx_types.specs.DType.{type_of};
-ghost use Rattle.vx_types.specs.TypeTree.{are_carried, types_of};
-ghost use Rattle.vx_model.specs.Columns.{are_long, rows_across, types_in};
-ghost use Rattle.vx_model.specs.Filler.{filler_row};
+ghost use Rattle.std.specs.Prelude.{◌≡◌, ◌<◌, IfOk, Some, length, slice_get};
 
 use crate::array::{Array, ArrayRef};
 use std::alloc::Global;
@@ -78,23 +74,5 @@ impl Columns {
         Columns {
             list: self.list.share(),
         }
-    }
-
-    /// So many rows of each of these types, which are ones that columns may have; none of the rows
-    /// is to be shown. `NoMemory` alone.
-    #[cycle(filler)]
-    #[tactic(auto, using(crate::proofs::Fillers::each_filler))]
-    pub fn fillers(alloc: Global, types: &[DType], len: usize) -> Result<Columns, NoMemory>
-        requires { are_carried (types_of (map type_of types.now)) ≡ true }
-        ensures types { IfOk result (λ f. types_in f ≡ map type_of types.now) }
-        ensures long { IfOk result (λ f. are_long len f ≡ true) }
-        ensures rows { IfOk result (λ f. rows_across f len
-            ≡ replicate len (map filler_row (map type_of types.now))) }
-    {
-        let mut fillers = Vec::with_capacity(alloc, types.len())?;
-        for dtype in types {
-            fillers.push(Array::filler(alloc, dtype, len)?.into_ref(alloc)?)?;
-        }
-        Columns::new(alloc, fillers)
     }
 }

@@ -1,16 +1,22 @@
 //! Offsets and sizes: columns of integers that have no null.
-ghost use Rattle.std.specs.Prelude.{◌≡◌, ◌+◌, ◌<◌, ◌≤◌, [], length, nat_le, pos, slice_index_or, true};
+ghost use Rattle.std.specs.Prelude.{◌≡◌, ◌+◌, ◌<◌, ◌≤◌, [], length, nat_le, pos, slice_index_or, slice_range, true};
 ghost use Rattle.std.specs.List.{list_all};
-ghost use Rattle.vx_types.specs.TypeTree.{is_int_kind};
+ghost use Rattle.vx_bits.specs.Records.{records_of, width_of};
+ghost use Rattle.vx_types.specs.PType.{width};
+ghost use Rattle.vx_types.specs.TypeTree.{is_int_kind, primitive_kind};
 ghost use Rattle.vx_positions.specs.Offsets.{are_offsets, offset_positions};
 ghost use Rattle.vx_model.specs.ListView.{are_views, is_natural};
 ghost use Rattle.vx_model.specs.Numbers.{integer_by, integers_of};
+ghost use Rattle.vx_model.specs.Records.{records_with};
+ghost use Rattle.vx_model.specs.Valid.{non_nullable};
 ghost use Rattle.vx_model.specs.VarBin.{are_integers, row_count};
 ghost use Rattle.vx_column.specs.Naturals.{are_naturals};
 
 use crate::primitive::PrimitiveArray;
 use crate::validity::Validity;
+use vx_bits::Records;
 use vx_positions::are_offsets;
+use vx_types::PType;
 
 /// Whether it is a column of integers that has no null.
 pub(crate) fn are_integers(offsets: &PrimitiveArray) -> bool
@@ -114,4 +120,39 @@ pub(crate) fn are_views(offsets: &PrimitiveArray, sizes: &PrimitiveArray, len: u
         }
     }
     true
+}
+
+/// The column of these records, none of them null. It takes no memory.
+#[tactic(auto, using(vx_model::proofs::Layouts::layout_rows))]
+pub fn number_column(ptype: PType, values: Records) -> PrimitiveArray
+    requires { width_of values ≡ width ptype }
+    ensures { result ≡ record {
+      kind = primitive_kind ptype;
+      width = width_of values;
+      records = records_of values;
+      valid = non_nullable;
+    } }
+{
+    match PrimitiveArray::try_new(ptype, values, Validity::NonNullable) {
+        Ok(column) => column,
+        Err(_) => unreachable!(),
+    }
+}
+
+/// The offsets from `start` up to `end`, and the one at `end`. It takes no memory.
+#[tactic(auto, using(vx_model::proofs::Layouts::layout_rows))]
+pub fn slice_offsets(offsets: &PrimitiveArray, start: usize, end: usize) -> PrimitiveArray
+    requires ordered { start ≤ end }
+    requires within { end < length offsets.now.records }
+    ensures { result ≡ records_with offsets.now
+        (slice_range offsets.now.records start (end + 1)) non_nullable }
+{
+    let values = offsets.values();
+    // one more than `end` is at most their number
+    let _ = values.len();
+    let cut = values.slice(start, end + 1);
+    match PrimitiveArray::try_new(offsets.ptype(), cut, Validity::NonNullable) {
+        Ok(offsets) => offsets,
+        Err(_) => unreachable!(),
+    }
 }

@@ -349,6 +349,13 @@ impl UnionArray {
         self.offsets.as_ref()
     }
 
+    /// The same offsets once more. It takes no memory.
+    pub fn shared_offsets(&self) -> Option<PrimitiveArray>
+        ensures { result ≡ self.now.offsets }
+    {
+        shared(&self.offsets)
+    }
+
     /// The ids, names and types of the variants.
     pub fn variants(&self) -> &Shared<UnionVariants>
         ensures value { result.now ≡ self.now.variants }

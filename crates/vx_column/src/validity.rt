@@ -1,16 +1,20 @@
 //! Which rows of a column are there, and which are null.
-ghost use Rattle.std.specs.Prelude.{◌≡◌, ℕ, true, is_some, IfOk, IfSome};
+ghost use Rattle.std.specs.Prelude.{◌≡◌, ℕ, map, true, is_some, IfOk, IfSome};
 ghost use Rattle.vx_types.specs.declared.nullability.Nullability.TheVariants.{Nullable};
+ghost use Rattle.vx_mask.specs.Mask.{mask_bits};
 ghost use Rattle.vx_model.specs.Bool.{bits_column};
 ghost use Rattle.vx_model.specs.Valid.{by_column, is_bools, is_fitting, is_present, nullability_by, cover_by, is_constant_form, present_bits};
 ghost use Rattle.vx_column.specs.Cell.{HasRow};
 ghost use Rattle.vx_column.specs.Validity.{valid_of};
 
-use crate::array::{ArrayRef, Layout};
+use crate::array::{Array, ArrayRef, Layout};
 use crate::boolean::BoolArray;
 use crate::cell::Cell;
+use crate::truth::mask_of;
 use std::alloc::Global;
 use vx_bits::{BitBuffer, NoMemory};
+use vx_mask::Mask;
+use vx_take::{Picks, valid_bits};
 use vx_types::{DType, Nullability};
 
 /// Which rows of a column are there: Vortex's `Validity`. The first three are the constant forms.
@@ -111,11 +115,38 @@ impl Validity {
         }
     }
 
+    /// The validity that is this column. `NoMemory` alone.
+    pub fn from_column(alloc: Global, column: Array) -> Result<Validity, NoMemory>
+        ensures { IfOk result (λ v. valid_of v ≡ by_column column) }
+    {
+        Ok(Validity::Array(column.into_ref(alloc)?))
+    }
+
     /// The validity that is a column of these bits. `NoMemory` alone.
     pub fn from_bits(alloc: Global, bits: BitBuffer) -> Result<Validity, NoMemory>
         ensures { IfOk result (λ v. valid_of v ≡ by_column (bits_column bits.bits bits.offset)) }
     {
         let column = BoolArray::of(bits, Validity::NonNullable).into_array();
-        Ok(Validity::Array(column.into_ref(alloc)?))
+        Validity::from_column(alloc, column)
+    }
+
+    /// The validity that says which picks are there. `NoMemory` alone.
+    pub fn by_picks(alloc: Global, picks: &Picks) -> Result<Validity, NoMemory>
+        ensures { IfOk result
+            (λ v. valid_of v ≡ by_column (bits_column (map is_some picks.now.picks) 0)) }
+    {
+        Validity::from_bits(alloc, valid_bits(alloc, picks)?)
+    }
+
+    /// Which of `len` rows are there. `NoMemory` alone.
+    pub fn present_mask(&self, alloc: Global, len: usize) -> Result<Mask, NoMemory>
+        requires { is_fitting (valid_of self.now) len ≡ true }
+        ensures { IfOk result (λ m. mask_bits m ≡ present_bits (valid_of self.now) len) }
+    {
+        match self {
+            Validity::NonNullable | Validity::AllValid => Ok(Mask::AllTrue(len)),
+            Validity::AllInvalid => Ok(Mask::AllFalse(len)),
+            Validity::Array(array) => mask_of(alloc, array),
+        }
     }
 }

@@ -1,8 +1,8 @@
 -- Steps over columns one by one.
-use Rattle.std.proofs.Common.{◌≡◌, ℕ, zero, suc, ◌+◌, ◌<◌, ◌≤◌, Bool, true, false, List, [], ◌∷◌, ◌++◌, map, length, take, get_or, slice_range, Option, None, Some, refl, sym, ap, subst, ◌∙◌, arith}
+use Rattle.std.proofs.Common.{◌≡◌, ℕ, zero, suc, ◌+◌, ◌<◌, ◌≤◌, Bool, true, false, List, [], ◌∷◌, ◌++◌, length, take, get_or, slice_range, Option, None, Some, refl, sym, ap, subst, ◌∙◌, arith}
 use Rattle.std.specs.Prelude.{IfSome, if◌then◌else◌}
 use Rattle.std.specs.List.{items_where_true}
-use Rattle.std.proofs.lemmas.List.{map_more, take_all, take_more}
+use Rattle.std.proofs.lemmas.List.{take_all, take_more}
 use Rattle.std.proofs.lemmas.List.Elements.{All-cons, All-nil}
 use Rattle.vx_mask.specs.Mask.{mask_bits}
 use Rattle.vx_mask.specs.MaskValues.{PartialMask, keep_indices}
@@ -14,7 +14,7 @@ use Rattle.vx_types.specs.RowValue.{RowValue, null}
 use Rattle.vx_types.specs.declared.nullability.Nullability.TheVariants.{NonNullable}
 use Rattle.vx_take.specs.Picks.{AreBelow, at}
 use Rattle.vx_model.specs.Column.{Column}
-use Rattle.vx_model.specs.Columns.{AreCuts, AreSteps, firsts_for_nulls, or_first}
+use Rattle.vx_model.specs.Columns.{AreCuts, AreSteps, firsts_for_nulls}
 use Rattle.vx_model.specs.Step.{IsCut, IsSlice, IsStep, IsTake}
 use Rattle.vx_model.proofs.Across.{long-get, shallow-get}
 use Rattle.vx_model.proofs.Nullabilities.{also_nullable-none}
@@ -78,14 +78,6 @@ cuts_ready m consumers fields {mask} {ready} {given} {cs} xs made is same cuts =
     subst (λ k. AreCuts (items_where_true k) cs xs) bits (subst (λ l. AreCuts (items_where_true (mask_bits ready)) l xs) same cuts)
 
 -- ---- the first position in place of each null
-
-pub firsts_more : (picks : List (Option ℕ)) (k : ℕ) → k < length picks → firsts_for_nulls (take (k + 1) picks) ≡ firsts_for_nulls (take k picks) ++ Some (or_first (get_or picks k None)) ∷ []
-firsts_more picks k h = map_more (λ (pick : Option ℕ). Some (or_first pick)) picks k None h
-
-pub firsts_all : (picks : List (Option ℕ)) (k : ℕ) → length picks ≤ k → take k picks ≡ picks
-firsts_all picks k h = take_all k picks h
-
-pub ruleset firsts = (firsts_more, firsts_all)
 
 pub below-firsts : (picks : List (Option ℕ)) (n : ℕ) → 0 < n → AreBelow picks n → AreBelow (firsts_for_nulls picks) n
 below-firsts [] n some below = All-nil (λ (pick : Option ℕ). IfSome pick (λ p. p < n))

@@ -1,13 +1,12 @@
 //! Columns side by side, the fields of a struct or the variants of a union: a step over each.
-ghost use Rattle.std.specs.Prelude.{◌≡◌, ◌≤◌, ◌<◌, length, slice_index_or, slice_range, None, true, IfOk};
+ghost use Rattle.std.specs.Prelude.{◌≡◌, ◌≤◌, ◌<◌, length, slice_range, true, IfOk};
 ghost use Rattle.std.specs.List.{items_where_true};
 ghost use Rattle.vx_types.specs.RowValue.{null};
 ghost use Rattle.vx_mask.specs.Mask.{mask_bits};
 ghost use Rattle.vx_take.specs.Picks.{at};
 ghost use Rattle.vx_positions.specs.Positions.{AllThere};
-ghost use Rattle.vx_model.specs.Columns.{AreCuts, AreSteps, are_long, firsts_for_nulls, or_first};
+ghost use Rattle.vx_model.specs.Columns.{AreCuts, AreSteps, are_long};
 
-use crate::dict::copied;
 use crate::filtering::filter;
 use crate::lists::execute_elements;
 use crate::slicing::slice;
@@ -60,33 +59,6 @@ pub(crate) fn filter_each(
     Columns::new(alloc, cut)
 }
 
-// The position of pick `i`, or the first one where it is a null.
-fn position_or_first(picks: &Picks, i: usize) -> usize
-    requires row { i < length picks.now.picks }
-    requires rows { 0 < picks.now.bound }
-    ensures value { result ≡ or_first (slice_index_or picks.now.picks i None) }
-    ensures below { result < picks.now.bound }
-{
-    match picks.get(i) {
-        Some(position) => position,
-        None => 0,
-    }
-}
-
-/// The same picks, with the first position in place of each null.
-#[tactic(auto, using(crate::proofs::EachColumn::firsts))]
-pub(crate) fn firsts_for_nulls(alloc: Global, picks: &Picks) -> Result<Picks, NoMemory>
-    requires { 0 < picks.now.bound }
-    ensures { IfOk result (λ p. p
-        ≡ record { picks = firsts_for_nulls picks.now.picks; bound = picks.now.bound }) }
-{
-    let mut firsts = Picks::with_capacity(alloc, picks.bound(), picks.len())?;
-    for i in 0..picks.len() {
-        firsts.push(Some(position_or_first(picks, i)))?;
-    }
-    Ok(firsts)
-}
-
 /// The rows of each column at the picks, none of which is a null.
 #[cycle(take)]
 #[tactic(auto, using(crate::proofs::EachColumn::each_column))]
@@ -102,7 +74,7 @@ pub(crate) fn take_each(
 {
     let mut taken = Vec::with_capacity(alloc, columns.len())?;
     for column in columns.as_slice() {
-        let copy = copied(alloc, picks)?;
+        let copy = picks.copied(alloc)?;
         let rows = take_picks(alloc, column, copy, Nullability::NonNullable, policy)?;
         taken.push(rows.into_ref(alloc)?)?;
     }

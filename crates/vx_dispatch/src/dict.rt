@@ -60,24 +60,13 @@ impl TakeRows for DictArray {
     }
 }
 
-// The same picks once more.
-pub(crate) fn copied(alloc: Global, picks: &Picks) -> Result<Picks, NoMemory>
-    ensures { IfOk result (λ p. p ≡ picks.now) }
-{
-    let mut copy = Picks::with_capacity(alloc, picks.bound(), picks.len())?;
-    for i in 0..picks.len() {
-        copy.push(picks.get(i))?;
-    }
-    Ok(copy)
-}
-
 // The bits of the rows at the picks, of a dictionary of bools that aren't null.
 impl TakeBits for DictArray {
     #[cycle(take)]
     #[tactic(auto, using(vx_model::proofs::LazyRows::lazy_rows))]
     fn bits(&self, alloc: Global, picks: &Picks, policy: &Policy) -> Result<BitBuffer, NoMemory> {
         let values = self.values();
-        let copy = copied(alloc, picks)?;
+        let copy = picks.copied(alloc)?;
         let codes = take_picks(alloc, self.codes(), copy, Nullability::Nullable, policy)?;
         let named = number_picks(alloc, &codes, values.len())?;
         taken_bits(alloc, values, &named, policy)

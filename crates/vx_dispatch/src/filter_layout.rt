@@ -12,14 +12,13 @@ use crate::executing::{ExecuteRows, execute};
 use crate::filtering::{FilterRows, filter};
 use crate::materialized::is_materialized;
 use crate::parts::{Parts, StepResult};
-use crate::ranges::{mask_range, slice_mask};
 use crate::slicing::{SliceRows, slice};
 use crate::taking::{TakeRows, take_picks};
 use crate::validity::{TakeBits, taken_bits};
 use std::alloc::Global;
 use vx_bits::{BitBuffer, NoMemory};
 use vx_column::{FilterArray, Nullability};
-use vx_mask::{Mask, MaskValues, Policy};
+use vx_mask::{Mask, MaskValues, Policy, mask_range, slice_mask};
 use vx_take::{Picks, translate_ranks};
 
 impl Parts for FilterArray {

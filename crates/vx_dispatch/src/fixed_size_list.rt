@@ -93,7 +93,7 @@ impl TakeRows for FixedSizeListArray {
         let len = picks.len();
         drop(picks);
         if self.len() == 0 {
-            let elements = Array::filler(alloc, self.elements().dtype(), filler)?;
+            let elements = vx_filler::filler(alloc, self.elements().dtype(), filler)?;
             return relisted(alloc, self, elements, validity, len);
         }
         let elements = take_runs(alloc, self.elements(), runs, policy)?;

@@ -14,7 +14,6 @@ mod listview;
 mod map;
 mod materialized;
 mod parts;
-mod ranges;
 mod runs;
 mod slicing;
 mod stored;

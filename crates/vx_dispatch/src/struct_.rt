@@ -4,7 +4,7 @@ ghost use Rattle.std.specs.List.{items_where_true};
 ghost use Rattle.vx_model.specs.Step.{IsCut};
 ghost use Rattle.vx_model.specs.Struct.{struct_column};
 
-use crate::columns::{execute_each, filter_each, firsts_for_nulls, slice_each, take_each};
+use crate::columns::{execute_each, filter_each, slice_each, take_each};
 use crate::executing::ExecuteRows;
 use crate::filtering::FilterRows;
 use crate::parts::{Parts, StepResult};
@@ -14,6 +14,7 @@ use crate::validity::{execute_validity, filter_validity, slice_validity, take_va
 use std::alloc::Global;
 use vx_bits::NoMemory;
 use vx_column::{Columns, Nullability, StructArray};
+use vx_filler::{fillers, firsts_for_nulls};
 use vx_mask::{Mask, MaskValues, Policy, prepare_mask_for_reuse};
 use vx_take::Picks;
 
@@ -76,7 +77,7 @@ impl TakeRows for StructArray {
         let validity = take_validity(alloc, self.validity(), &picks, nullability, policy)?;
         if picks.bound() == 0 {
             let types = self.struct_fields().types();
-            let fields = Columns::fillers(alloc, types, len)?;
+            let fields = fillers(alloc, types, len)?;
             return Ok(self.with_parts(fields, len, validity).into_array());
         }
         let firsts = firsts_for_nulls(alloc, &picks)?;

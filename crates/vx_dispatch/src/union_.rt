@@ -8,8 +8,7 @@ ghost use Rattle.vx_model.specs.Step.{IsCut, IsSlice, IsTake};
 ghost use Rattle.vx_model.specs.Union.{IsUnionFilter, union_column};
 ghost use Rattle.vx_dispatch.specs.Union.{IsUnionSlice, IsUnionTake};
 
-use crate::columns::{execute_each, filter_each, firsts_for_nulls, slice_each, take_each};
-use crate::dict::copied;
+use crate::columns::{execute_each, filter_each, slice_each, take_each};
 use crate::executing::{ExecuteRows, execute};
 use crate::filtering::filter_values;
 use crate::parts::{Parts, StepResult};
@@ -18,6 +17,7 @@ use crate::taking::take_picks;
 use std::alloc::Global;
 use vx_bits::NoMemory;
 use vx_column::{ArrayRef, Columns, Nullability, PrimitiveArray, UnionArray};
+use vx_filler::{fillers, firsts_for_nulls};
 use vx_lists::{filter_numbers, slice_numbers, take_numbers};
 use vx_mask::{Mask, MaskValues, Policy, prepare_mask_for_reuse};
 use vx_take::Picks;
@@ -134,7 +134,7 @@ fn take_sparse(
     let _ = nullability;
     if picks.bound() == 0 {
         let types = array.variants().types();
-        let columns = Columns::fillers(alloc, types, picks.len())?;
+        let columns = fillers(alloc, types, picks.len())?;
         return Ok(array.with_parts(ids, None, columns));
     }
     let firsts = firsts_for_nulls(alloc, picks)?;
@@ -160,7 +160,7 @@ pub fn take_variants(
         (λ a. IsTake (union_column array.now) picks.now.picks nullability (union_column a)) }
     ensures parts { IfOk result (IsUnionTake array.now picks.now.picks nullability) }
 {
-    let copy = copied(alloc, picks)?;
+    let copy = picks.copied(alloc)?;
     let taken = take_picks(alloc, array.type_ids(), copy, nullability, policy)?;
     let ids = taken.into_ref(alloc)?;
     match array.offsets() {
@@ -173,16 +173,6 @@ pub fn take_variants(
     }
 }
 
-// The offsets once more.
-fn shared_offsets(array: &UnionArray) -> Option<PrimitiveArray>
-    ensures { result ≡ array.now.offsets }
-{
-    match array.offsets() {
-        Some(offsets) => Some(offsets.share()),
-        None => None,
-    }
-}
-
 // The same rows, with the ids and the columns executed.
 impl ExecuteRows for UnionArray {
     #[cycle(execute)]
@@ -190,7 +180,7 @@ impl ExecuteRows for UnionArray {
     fn execute(&self, alloc: Global, policy: &Policy) -> StepResult {
         let ids = execute(alloc, self.type_ids(), policy)?.into_ref(alloc)?;
         let columns = execute_each(alloc, self.children(), policy)?;
-        let offsets = shared_offsets(self);
+        let offsets = self.shared_offsets();
         Ok(self.with_parts(ids, offsets, columns).into_array())
     }
 }

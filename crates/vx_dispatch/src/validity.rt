@@ -5,7 +5,7 @@ ghost use Rattle.vx_types.specs.Nullability.{either_nullable};
 ghost use Rattle.vx_types.specs.declared.nullability.Nullability.TheVariants.{NonNullable};
 ghost use Rattle.vx_take.specs.Picks.{at};
 ghost use Rattle.vx_positions.specs.Positions.{AllThere};
-ghost use Rattle.vx_model.specs.Valid.{by_column, is_yes, is_non_null_bool, is_fitting, is_constant_form, is_flat_cover, is_bool_layout, cover_by, nullability_by, present_bits, IsLeft, IsAsPlain};
+ghost use Rattle.vx_model.specs.Valid.{is_yes, is_non_null_bool, is_fitting, is_constant_form, is_flat_cover, is_bool_layout, cover_by, nullability_by, present_bits, IsLeft, IsAsPlain};
 ghost use Rattle.vx_model.specs.Plain.{is_unwrapped};
 ghost use Rattle.vx_column.specs.Validity.{valid_of};
 
@@ -17,7 +17,7 @@ use std::alloc::Global;
 use vx_bits::{BitBuffer, NoMemory};
 use vx_column::{Array, Layout, Nullability, Validity};
 use vx_mask::{MaskValues, Policy};
-use vx_stored::{by_picks, constant_bits};
+use vx_stored::constant_bits;
 use vx_take::{Picks, gather_bits};
 
 // A layout whose bools the recursion looks up.
@@ -28,13 +28,6 @@ pub(crate) trait TakeBits: Parts {
         requires bound { picks.now.bound ≡ length (Self.column self.now).rows }
         ensures { IfOk result
             (λ b. b.bits ≡ at false (map is_yes (Self.column self.now).rows) picks.now.picks) };
-}
-
-// The validity that is a column.
-fn of_column(alloc: Global, column: Array) -> Result<Validity, NoMemory>
-    ensures { IfOk result (λ v. valid_of v ≡ by_column column) }
-{
-    Ok(Validity::Array(column.into_ref(alloc)?))
 }
 
 // The validity of the rows from `start` up to `end`, of so many rows.
@@ -59,7 +52,7 @@ pub(crate) fn slice_validity(
         Validity::NonNullable => Ok(Validity::NonNullable),
         Validity::AllValid => Ok(Validity::AllValid),
         Validity::AllInvalid => Ok(Validity::AllInvalid),
-        Validity::Array(array) => of_column(alloc, slice(alloc, array, start, end)?),
+        Validity::Array(array) => Validity::from_column(alloc, slice(alloc, array, start, end)?),
     }
 }
 
@@ -83,7 +76,9 @@ pub fn filter_validity(
         Validity::NonNullable => Ok(Validity::NonNullable),
         Validity::AllValid => Ok(Validity::AllValid),
         Validity::AllInvalid => Ok(Validity::AllInvalid),
-        Validity::Array(array) => of_column(alloc, filter_values(alloc, array, mask, policy)?),
+        Validity::Array(array) => {
+            Validity::from_column(alloc, filter_values(alloc, array, mask, policy)?)
+        }
     }
 }
 
@@ -168,8 +163,8 @@ pub fn take_validity(
         }
         (Validity::NonNullable, Nullability::NonNullable) => Ok(Validity::NonNullable),
         (Validity::AllValid, Nullability::NonNullable) => Ok(Validity::AllValid),
-        (Validity::NonNullable, Nullability::Nullable) => by_picks(alloc, picks),
-        (Validity::AllValid, Nullability::Nullable) => by_picks(alloc, picks),
+        (Validity::NonNullable, Nullability::Nullable) => Validity::by_picks(alloc, picks),
+        (Validity::AllValid, Nullability::Nullable) => Validity::by_picks(alloc, picks),
     }
 }
 
@@ -217,7 +212,7 @@ pub(crate) fn execute_validity(
             _ => {
                 let bools = execute(alloc, array, policy)?;
                 see_bools(&bools);
-                of_column(alloc, bools)
+                Validity::from_column(alloc, bools)
             }
         },
         constant => Ok(constant.share()),

@@ -9,6 +9,7 @@ mod in_place;
 mod ladder;
 mod laws;
 mod lists;
+mod records;
 
 pub use bitmap::filter_slice_by_bitmap;
 pub use choice::{useful_indices, useful_slices};
@@ -18,3 +19,4 @@ pub use in_place::{filter_slice_in_place, filter_vec, keep_picked};
 pub use ladder::filter_slice;
 pub use laws::filter_law;
 pub use lists::{filter_slice_by_indices, filter_slice_by_slices};
+pub use records::filter_records;

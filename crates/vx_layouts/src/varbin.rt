@@ -5,7 +5,8 @@ ghost use Rattle.vx_types.specs.TypeTree.{primitive_kind};
 ghost use Rattle.vx_model.specs.Step.{IsSlice};
 ghost use Rattle.vx_model.specs.VarBin.{varbin_column};
 ghost use Rattle.vx_pieces.specs.Indices.{index_value};
-ghost use Rattle.vx_text.specs.Building.{type_for, type_of};
+ghost use Rattle.vx_offsets.specs.Cut.{type_of};
+ghost use Rattle.vx_text.specs.Building.{type_for};
 ghost use Rattle.vx_layouts.specs.Taking.{IsTakeBy, take_fault};
 
 use crate::taking::{TakeError, take_fault};

@@ -29,12 +29,11 @@ use Rattle.vx_model.proofs.Spans.{spans-slice}
 use Rattle.vx_positions.specs.Positions.{position_of}
 use Rattle.vx_positions.proofs.Ascending.{le_first}
 use Rattle.vx_types.specs.TypeTree.{is_int_kind}
-use Rattle.vx_text.proofs.CutOffsets.{are_offsets-slice}
+use Rattle.vx_offsets.proofs.Cuts.{are_offsets-slice, cut_are, positions_back}
 use Rattle.vx_model.proofs.ShownRows.{length-present_bits}
 use Rattle.vx_model.proofs.Takes.{length-at}
 use Rattle.vx_model.specs.VarBin.{are_integers, is_never_null, row_count}
-use Rattle.vx_text.specs.Building.{is_cut}
-use Rattle.vx_text.proofs.BuiltTexts.{cut_are, positions_back}
+use Rattle.vx_offsets.specs.Cut.{is_cut}
 use Rattle.vx_lists.specs.Plans.{LeavesLists, MakesLists, PlansLists, is_all_invalid, lists_left}
 use Rattle.vx_lists.specs.Sums.{concat_lists, length_at, offsets_of, sums_from}
 use Rattle.vx_lists.specs.Takes.{IsTake, shown_picks}

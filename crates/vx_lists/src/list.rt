@@ -10,13 +10,13 @@ ghost use Rattle.vx_model.specs.Valid.{non_nullable, present_bits};
 ghost use Rattle.vx_positions.specs.Offsets.{offset_positions};
 ghost use Rattle.vx_column.specs.Validity.{valid_of};
 ghost use Rattle.vx_take.specs.Picks.{at, in_runs};
-ghost use Rattle.vx_text.specs.Building.{type_of};
+ghost use Rattle.vx_offsets.specs.Cut.{type_of};
 ghost use Rattle.vx_types.specs.TypeTree.{primitive_kind};
 ghost use Rattle.vx_types.specs.declared.ptype.PType.TheVariants.{U64};
 ghost use Rattle.vx_lists.specs.Lists.{AreOffsets, last_offset};
 ghost use Rattle.vx_lists.specs.Numbers.{AreInType};
 ghost use Rattle.vx_lists.specs.Plans.{IsRangeOf, LeavesLists, PlansLists, filter_range, is_all_invalid, lists_left};
-ghost use Rattle.vx_text.specs.Fits.{FitsFilter, FitsSlice, FitsTake};
+ghost use Rattle.vx_offsets.specs.Fits.{FitsFilter, FitsSlice, FitsTake};
 
 use crate::filter::{ListFilter, filter_lists};
 use crate::numbers::{offset_column, offset_numbers, u64_column};
@@ -24,10 +24,9 @@ use crate::plans::{ListFilterPlan, ListTakePlan};
 use crate::take::{ListTake, taken_where};
 use std::alloc::Global;
 use vx_bits::NoMemory;
-use vx_column::{ListArray, Validity};
+use vx_column::{ListArray, Validity, slice_offsets};
 use vx_mask::{Mask, MaskValues, Policy};
 use vx_take::Picks;
-use vx_text::{present_mask, slice_offsets};
 
 // Whether it says no at each row.
 fn is_all_invalid(validity: &Validity) -> bool
@@ -158,7 +157,7 @@ fn taken_by(
 {
     // Each pick is a row.
     let _ = picks.bound();
-    let present = present_mask(alloc, validity, picks.len())?;
+    let present = validity.present_mask(alloc, picks.len())?;
     let offsets = list_offsets(alloc, array)?;
     let take = taken_where(alloc, offsets.as_slice(), picks, &present)?;
     Ok(take)

@@ -5,7 +5,7 @@ ghost use Rattle.vx_bits.specs.Records.{records_of, width_of};
 ghost use Rattle.vx_model.specs.Numbers.{integers_of};
 ghost use Rattle.vx_model.specs.VarBin.{are_integers};
 ghost use Rattle.vx_positions.specs.Offsets.{are_offsets, offset_positions, record_numbers};
-ghost use Rattle.vx_text.specs.Building.{type_of};
+ghost use Rattle.vx_offsets.specs.Cut.{type_of};
 ghost use Rattle.vx_types.specs.PType.{greatest, is_int, number, width};
 ghost use Rattle.vx_types.specs.TypeTree.{primitive_kind};
 ghost use Rattle.vx_types.specs.declared.ptype.PType.TheVariants.{U64};
@@ -14,9 +14,9 @@ ghost use Rattle.vx_lists.specs.Numbers.{AreInType, record_by};
 
 use std::alloc::Global;
 use vx_bits::{Buffer, NoMemory, Records};
-use vx_column::{PType, PrimitiveArray};
+use vx_column::{PType, PrimitiveArray, number_column};
+use vx_offsets::{OffsetRecord, offset_at};
 use vx_positions::by_type;
-use vx_text::{OffsetRecord, number_column, offset_at};
 
 // What bytes spell is at most the greatest number of their type.
 #[inline(always)]

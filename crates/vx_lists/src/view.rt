@@ -8,10 +8,10 @@ ghost use Rattle.vx_take.specs.Picks.{at};
 
 use std::alloc::Global;
 use vx_bits::{NoMemory, Records};
-use vx_column::PrimitiveArray;
+use vx_column::{PrimitiveArray, number_column};
+use vx_filter::filter_records;
 use vx_mask::{MaskValues, Policy};
-use vx_take::Picks;
-use vx_text::{filter_records, number_column, take_records};
+use vx_take::{Picks, take_records};
 
 // The same column with other records, none of them null.
 fn with_records(numbers: &PrimitiveArray, records: Records) -> PrimitiveArray

@@ -13,3 +13,4 @@ pub mod MadeBits
 pub mod Spans
 pub mod RankedItems
 pub mod MarkedBits
+pub mod RangeCounts

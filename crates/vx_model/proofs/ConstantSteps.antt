@@ -10,7 +10,8 @@ use Rattle.vx_take.specs.Picks.{AreBelow, at}
 use Rattle.vx_positions.specs.Positions.{AllThere}
 use Rattle.vx_model.specs.Constant.{ConstantParts, constant_column, constant_with}
 use Rattle.vx_model.specs.Step.{IsCut, IsSlice, IsTake}
-use Rattle.vx_model.proofs.Items.{items_where_true-replicate, slice_range-replicate}
+use Rattle.vx_mask.proofs.RangeCounts.{slice_range-replicate}
+use Rattle.vx_model.proofs.Items.{items_where_true-replicate}
 use Rattle.vx_model.proofs.Nullabilities.{also_nullable-none}
 
 -- of equal items, each pick that is there is one more

@@ -2,7 +2,7 @@
 use Rattle.std.proofs.Common.{◌≡◌, ℕ, zero, suc, ◌-◌, ◌≤◌, Bool, true, false, List, [], ◌∷◌, map, length, take, drop, slice_range, refl, sym, ap, ◌∙◌, arith, length-drop, length-take}
 use Rattle.std.specs.Prelude.{replicate}
 use Rattle.std.specs.List.{items_where_true}
-use Rattle.std.proofs.lemmas.List.{take-map, drop-map, take-replicate, drop-replicate}
+use Rattle.std.proofs.lemmas.List.{take-map, drop-map}
 use Rattle.vx_bits.specs.BitBuffer.{true_count_of}
 use Rattle.vx_mask.proofs.PositionLists.{true_count_of-cons}
 
@@ -50,9 +50,6 @@ items_where_true-replicate (false ∷ bits) x =
 
 pub length-slice_range : {X : Type 0} (xs : List X) (s e : ℕ) → s ≤ e → e ≤ length xs → length (slice_range xs s e) ≡ e - s
 length-slice_range xs s e h k = omega (arith, length-take (e - s) (drop s xs), length-drop s xs)
-
-pub slice_range-replicate : {X : Type 0} (n : ℕ) (x : X) (s e : ℕ) → s ≤ e → e ≤ n → slice_range (replicate n x) s e ≡ replicate (e - s) x
-slice_range-replicate n x s e h k = ap (take (e - s)) (drop-replicate s n x) ∙ take-replicate (e - s) (n - s) x (omega arith)
 
 -- how many items a filter keeps
 pub ruleset kept_items = (length-items_where_true)

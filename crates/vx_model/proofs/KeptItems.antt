@@ -1,12 +1,11 @@
--- The items that a mask keeps: their slices, their ranks, and what a mask of them keeps.
-use Rattle.std.proofs.Common.{◌≡◌, ℕ, zero, suc, ◌-◌, ◌≤◌, ◌<◌, Bool, true, false, cond, List, [], ◌∷◌, map, length, take, drop, slice_range, Some, inl, inr, refl, sym, ap, ap₂, ◌∙◌, arith, take_all}
+-- The items that a mask keeps: their slices, and what a mask of them keeps.
+use Rattle.std.proofs.Common.{◌≡◌, ℕ, zero, suc, ◌-◌, ◌≤◌, Bool, true, false, List, [], ◌∷◌, map, length, take, drop, slice_range, Some, refl, sym, ap, ap₂, ◌∙◌, arith}
 use Rattle.std.specs.List.{items_where_true, slice_get}
 use Rattle.std.proofs.Math.Seq.{take-nil, drop-nil}
-use Rattle.std.proofs.lemmas.Bool.{cases_lt}
 use Rattle.std.proofs.lemmas.Simd.{map-map}
 use Rattle.vx_bits.specs.BitBuffer.{true_count_of}
 use Rattle.vx_mask.specs.Positions.{rank_of, set_of}
-use Rattle.vx_mask.proofs.PositionLists.{place_of, position_at, ranks_ascend, true_count_before_set, true_count_between, true_count_of-cons, true_count_between}
+use Rattle.vx_mask.proofs.PositionLists.{true_count_between, true_count_of-cons, true_count_between}
 use Rattle.vx_mask.proofs.RankedItems.{filters_join, items_at_the_set}
 
 -- ---- slices
@@ -51,29 +50,6 @@ module _ {X : Type 0} where
       ∙ ap₂ take between (drop-items lo mask items)
       ∙ take-items (hi - lo) (drop lo mask) (drop lo items)
 
--- ---- ranks
-
-abbrev one_if : Bool → ℕ
-one_if b = cond b 1 0
-
--- the place of a rank has as many set bits before it
-pub count-at-rank : (mask : List Bool) (k : ℕ) → k < true_count_of mask → true_count_of (take (rank_of mask k) mask) ≡ k
-count-at-rank mask k h =
-    let place = place_of 0 mask k 0 h in
-    let i : ℕ = place.0 in
-    let j : ℕ = true_count_of (take i mask) in
-    let here : rank_of mask k ≡ i = place.1.position ∙ omega arith in
-    let again : rank_of mask j ≡ i = position_at 0 mask i 0 place.1.within place.1.set ∙ omega arith in
-    let below : j < true_count_of mask = true_count_before_set mask i place.1.within place.1.set in
-    let same : j ≡ k = elim (cases_lt j k) [
-      | inl less ↦ absurd (omega (arith, here, again, ranks_ascend mask j k less h))
-      | inr more ↦ elim (cases_lt k j) [
-        | inl less ↦ absurd (omega (arith, here, again, ranks_ascend mask k j less below))
-        | inr same ↦ omega arith
-      ]
-    ] in
-    ap (λ n. true_count_of (take n mask)) here ∙ same
-
 -- ---- masks of what is kept
 
 -- items are the same where they are as options
@@ -95,15 +71,3 @@ kept-by-both mask other both items h few set long =
     ∙ ap (map (slice_get items)) set
     ∙ map-map (slice_get items) (rank_of mask) (set_of other)
     ∙ sym (filters_join mask other items h few))
-
--- ---- boundaries of ranges of set positions
-
-pub count_take-all : (mask : List Bool) → true_count_of (take (length mask) mask) ≡ true_count_of mask
-count_take-all mask = ap true_count_of (take_all (length mask) mask (omega arith))
-
--- no more are set below the lower of two positions
-pub count_take-ordered : (mask : List Bool) (low high : ℕ) → low ≤ high → true_count_of (take low mask) ≤ true_count_of (take high mask)
-count_take-ordered mask low high h = omega (arith, true_count_between mask low high h)
-
--- what a proof about a range of set positions needs
-pub ruleset counts = (count-at-rank, count_take-all)

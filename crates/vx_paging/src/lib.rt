@@ -2,6 +2,5 @@
 #![tactic(auto)]
 
 mod needed;
-mod ranges;
 
 pub use needed::{Readers, page_picks};

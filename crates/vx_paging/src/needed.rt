@@ -11,11 +11,10 @@ ghost use Rattle.vx_steps.specs.Step.{slice_step, step_value};
 ghost use Rattle.vx_steps.specs.Walk.{all_positions, apply, broken, rows_left, walk};
 ghost use Rattle.vx_paging.specs.Needed.{IsPartBefore, Leaves, filters_back, is_take, left_of};
 
-use crate::ranges::{mask_range, slice_mask};
 use std::alloc::Global;
 use vx_bits::NoMemory;
 use vx_column::{Array, mask_of};
-use vx_mask::{Mask, Policy, prepare_mask_for_reuse};
+use vx_mask::{Mask, Policy, mask_range, prepare_mask_for_reuse, slice_mask};
 use vx_steps::{SelectError, Step, check_steps, compose, compose_part};
 use vx_take::Picks;
 

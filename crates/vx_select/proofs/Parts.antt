@@ -13,7 +13,8 @@ use Rattle.vx_model.specs.Column.{Column}
 use Rattle.vx_model.specs.Null.{null_column}
 use Rattle.vx_model.specs.Plain.{is_lazy_layout, is_unwrapped}
 use Rattle.vx_model.specs.Step.{IsStep}
-use Rattle.vx_model.proofs.Items.{length-slice_range, slice_range-replicate, items_where_true-all, items_where_true-replicate}
+use Rattle.vx_mask.proofs.RangeCounts.{slice_range-replicate}
+use Rattle.vx_model.proofs.Items.{length-slice_range, items_where_true-all, items_where_true-replicate}
 use Rattle.vx_steps.proofs.Cuts.{slice_range-slice_range}
 
 -- all rows

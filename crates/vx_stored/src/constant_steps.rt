@@ -18,7 +18,6 @@ ghost use Rattle.vx_model.specs.Step.{IsSlice, IsCut, IsStep, IsTake};
 
 use crate::constant::store_scalar;
 use crate::texts::{TextCopies, store_texts};
-use crate::validity::by_picks;
 use std::alloc::Global;
 use vx_bits::{BitBuffer, BitBuilder, NoMemory};
 use vx_column::{Array, ConstantArray, Nullability, Scalar, ScalarValue, Validity};
@@ -80,7 +79,7 @@ pub fn take_constant(
     match nullability {
         Nullability::NonNullable => Ok(ConstantArray::new(scalar.share(), len).into_array()),
         Nullability::Nullable => {
-            let validity = by_picks(alloc, picks)?;
+            let validity = Validity::by_picks(alloc, picks)?;
             store_scalar(alloc, scalar, len, validity)
         }
     }

@@ -7,11 +7,9 @@ mod constant;
 mod constant_steps;
 mod null;
 mod record_array;
-mod records;
 mod rows;
 mod stored;
 mod texts;
-mod validity;
 mod varbin;
 mod varbinview;
 
@@ -21,8 +19,5 @@ pub use constant_steps::{
 };
 pub use null::{filter_nulls, slice_nulls, take_nulls};
 pub use record_array::take_array_runs;
-pub use records::take_runs;
 pub use stored::{filter_stored, slice_stored, take_stored, with_validity};
 pub use texts::{TextCopies, store_texts};
-pub use validity::by_picks;
-pub use vx_text::{filter_records, take_records};

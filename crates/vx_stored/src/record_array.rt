@@ -5,14 +5,13 @@ ghost use Rattle.vx_model.specs.Valid.{is_fitting};
 ghost use Rattle.vx_model.specs.Records.{records_with};
 ghost use Rattle.vx_column.specs.Validity.{valid_of};
 
-use crate::records::take_runs;
 use crate::rows::{StepResult, StoredRows};
 use std::alloc::Global;
 use vx_bits::NoMemory;
 use vx_column::{Array, RecordArray, Validity};
+use vx_filter::filter_records;
 use vx_mask::{MaskValues, Policy};
-use vx_take::Picks;
-use vx_text::{filter_records, take_records};
+use vx_take::{Picks, take_records, take_runs};
 
 impl StoredRows for RecordArray {
     ghost use Rattle.vx_model.specs.Records.{stored_records};

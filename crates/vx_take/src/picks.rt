@@ -1,5 +1,5 @@
 //! Lists of optional positions.
-ghost use Rattle.std.specs.Prelude.{◌≡◌, ◌++◌, ◌-◌, ◌<◌, ◌^◌, ◌↔◌, [], ◌∷◌, IfOk, IfSome, IsTrue, None, Some, OnErr, OnOk, length, map, slice_index_or};
+ghost use Rattle.std.specs.Prelude.{◌≡◌, ◌++◌, ◌-◌, ◌<◌, ◌↔◌, [], ◌∷◌, IfOk, IfSome, IsTrue, None, Some, OnErr, OnOk, length, map, slice_index_or};
 ghost use Rattle.std.specs.List.{All};
 ghost use Rattle.vx_take.specs.Picks.{ArePlaces, AreBelow, pick_of, picks_of};
 
@@ -82,6 +82,16 @@ impl Picks {
     {
         self.places.push(pick.unwrap_or(NULL_PLACE))?;
         Ok(())
+    }
+
+    /// The same picks once more. `NoMemory` alone.
+    pub fn copied(&self, alloc: Global) -> Result<Picks, NoMemory>
+        ensures { IfOk result (λ p. p ≡ self.now) }
+    {
+        Ok(Picks {
+            places: self.places.as_slice().to_vec(alloc)?,
+            bound: self.bound,
+        })
     }
 
     /// The number of picks.

@@ -1,8 +1,7 @@
 -- One text more, and the column of those that are put out.
 use Rattle.std.proofs.Common.{◌≡◌, ℕ, zero, suc, ◌+◌, ◌-◌, ◌^◌, ◌<◌, ◌≤◌, Bool, true, false, List, [], ◌∷◌, ◌++◌, map, length, get_or, take, drop, slice_range, Option, None, refl, sym, ap, ap₂, subst, ◌∙◌, arith, length-append, length-drop}
-use Rattle.std.specs.Prelude.{IfOk, Result, Ok, Err, pos, int_le, ◌==◌, nat_le, if◌then◌else◌, replicate}
+use Rattle.std.specs.Prelude.{IfOk, Result, Ok, Err, pos, ◌==◌, nat_le, if◌then◌else◌, replicate}
 use Rattle.std.proofs.lemmas.Bool.Decides.{nat_tests}
-use Rattle.std.proofs.lemmas.Int.{ints}
 use Rattle.std.proofs.lemmas.List.{length-map, drop_all, drop-append-le, take-append-le, take_all}
 use Rattle.vx_types.specs.PType.{is_signed}
 use Rattle.vx_types.specs.declared.ptype.PType.{PType}
@@ -16,32 +15,15 @@ use Rattle.vx_model.specs.VarBin.{VarBinParts, is_never_null, row_count, varbin_
 use Rattle.vx_model.proofs.Texts.{length-lists_at}
 use Rattle.vx_model.specs.Text.{kept_texts}
 use Rattle.vx_text.proofs.CutOffsets.{sound-varbin}
-use Rattle.vx_positions.specs.Offsets.{ascend_within, are_offsets, offset_positions, lists_at}
+use Rattle.vx_positions.specs.Offsets.{are_offsets, offset_positions, lists_at}
 use Rattle.vx_text.specs.OffsetList.{OffsetList, first_type, greatest_offset, wide_type, with_offset}
-use Rattle.vx_text.specs.Building.{is_cut, type_for, type_of, AreTexts}
+use Rattle.vx_offsets.specs.Cut.{is_cut, type_of}
+use Rattle.vx_offsets.proofs.Cuts.{equal, at_most, not_past, same, begins_within, positions_back, cut_are}
+use Rattle.vx_text.specs.Building.{type_for, AreTexts}
 use Rattle.vx_text.specs.Left.{LeavesTexts}
-use Rattle.vx_text.proofs.Both.{first, rest, join}
+use Rattle.vx_offsets.proofs.Both.{first, rest, join}
 
 -- ---- offsets that cut so many bytes
-
-equal : (a n : ℕ) → (a == n) ≡ true → a ≡ n
-equal a n h = grind (arith, nat_tests, h)
-
-at_most : (a b : ℕ) → nat_le a b ≡ true → a ≤ b
-at_most a b h = grind (arith, nat_tests, h)
-
-pub not_past : (a b : ℕ) → a ≤ b → nat_le a b ≡ true
-not_past a b h = grind (arith, nat_tests, h)
-
-same : (a : ℕ) → (a == a) ≡ true
-same a = grind (arith, nat_tests)
-
-begins_within : (a n : ℕ) (os : List ℕ) → is_cut (a ∷ os) n ≡ true → a ≤ n
-begins_within a n [] h = omega (arith, equal a n h)
-begins_within a n (b ∷ os) h =
-    let step = at_most a b (first (nat_le a b) (is_cut (b ∷ os) n) h) in
-    let more = begins_within b n os (rest (nat_le a b) (is_cut (b ∷ os) n) h) in
-    omega (arith, step, more)
 
 pub cut_more : (os : List ℕ) (n m : ℕ) → is_cut os n ≡ true → n ≤ m → is_cut (os ++ m ∷ []) m ≡ true
 cut_more [] n m h l = cc
@@ -109,26 +91,7 @@ one_text p old new bytes more text texts are l e is =
           ∙ type_more p (length bytes) (length more) (omega (arith, long)) l;
     }
 
--- ---- the column's offsets
-
-pub positions_back : (os : List ℕ) → offset_positions (map pos os) ≡ os
-positions_back [] = refl
-positions_back (a ∷ os) = ap (λ l. a ∷ l) (positions_back os)
-
-int_at_most : (a b : ℕ) → a ≤ b → int_le (pos a) (pos b) ≡ true
-int_at_most a b h = grind (arith, ints)
-
-ascends : (n low a : ℕ) (os : List ℕ) → low ≤ a → is_cut (a ∷ os) n ≡ true → ascend_within (pos low) (pos a ∷ map pos os) n ≡ true
-ascends n low a [] h k =
-    join _ true (join (int_le (pos low) (pos a)) _ (int_at_most low a h) (int_at_most a n (omega (arith, equal a n k)))) refl
-ascends n low a (b ∷ os) h k =
-    join _ _
-    (join (int_le (pos low) (pos a)) _ (int_at_most low a h) (int_at_most a n (begins_within a n (b ∷ os) k)))
-    (ascends n a b os (at_most a b (first (nat_le a b) (is_cut (b ∷ os) n) k)) (rest (nat_le a b) (is_cut (b ∷ os) n) k))
-
-pub cut_are : (os : List ℕ) (n : ℕ) → is_cut os n ≡ true → are_offsets (map pos os) n ≡ true
-cut_are [] n h = cc
-cut_are (a ∷ os) n h = ascends n 0 a os (omega arith) h
+-- ---- no text yet
 
 pub no_texts : (p : PType) (o : OffsetList) (bytes : List ℕ) → bytes ≡ [] → o ≡ with_offset (record { ptype = first_type p; numbers = [] }) 0 → AreTexts p o bytes []
 no_texts p o bytes none is =

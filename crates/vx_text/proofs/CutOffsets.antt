@@ -1,6 +1,6 @@
 -- Offsets from one to another cut the lists between them.
-use Rattle.std.proofs.Common.{◌≡◌, ℕ, zero, suc, ◌+◌, ◌-◌, ◌<◌, ◌≤◌, Bool, true, false, List, [], ◌∷◌, map, length, take, drop, slice_range, Option, None, Some, refl, sym, ap, subst, ◌∙◌, arith}
-use Rattle.std.specs.Prelude.{ℤ, pos, int_le, ◌&&◌, if◌then◌else◌, IfSome}
+use Rattle.std.proofs.Common.{◌≡◌, ℕ, ◌+◌, ◌-◌, ◌<◌, ◌≤◌, Bool, true, false, List, [], ◌∷◌, map, length, slice_range, Option, None, Some, refl, sym, ap, subst, ◌∙◌, arith}
+use Rattle.std.specs.Prelude.{ℤ, if◌then◌else◌, IfSome}
 use Rattle.std.specs.List.{All}
 use Rattle.std.proofs.lemmas.List.{length-map}
 use Rattle.vx_types.specs.TypeTree.{is_int_kind}
@@ -8,54 +8,17 @@ use Rattle.vx_types.specs.declared.error.ColumnError.TheVariants.{WrongType, Bad
 use Rattle.vx_types.specs.declared.text.TextKind.{TextKind}
 use Rattle.vx_take.specs.Picks.{AreBelow}
 use Rattle.vx_positions.specs.Positions.{position_of}
-use Rattle.vx_positions.specs.Offsets.{ascend_within, are_offsets, offset_positions, spans, items_in, lists_at}
+use Rattle.vx_positions.specs.Offsets.{are_offsets, offset_positions, spans, items_in, lists_at}
 use Rattle.vx_model.specs.Valid.{Valid, is_fitting, non_nullable}
 use Rattle.vx_model.specs.Numbers.{integer_by, integers_of}
 use Rattle.vx_model.specs.Records.{RecordParts, records_with}
 use Rattle.vx_model.specs.VarBin.{VarBinParts, are_integers, is_never_null, row_count, varbin_fault, varbin_texts}
 use Rattle.vx_model.proofs.Items.{map-slice_range, length-slice_range}
 use Rattle.vx_model.proofs.Spans.{spans-slice}
-use Rattle.vx_text.proofs.Both.{first, rest, join}
+use Rattle.vx_offsets.proofs.Both.{first, join}
+use Rattle.vx_offsets.proofs.Cuts.{are_offsets-slice}
 use Rattle.vx_text.proofs.PickedRows.{next_rows}
 use Rattle.vx_model.proofs.Texts.{integers-varbin, offsets-varbin, texts-varbin}
-
--- ---- offsets that ascend
-
-int_le-trans : (a b c : ℤ) → int_le a b ≡ true → int_le b c ≡ true → int_le a c ≡ true
-int_le-trans a b c h k = grind arith
-
-module _ (n : ℕ) where
-  pub ascend-from : (a b : ℤ) (zs : List ℤ) → int_le a b ≡ true → ascend_within b zs n ≡ true → ascend_within a zs n ≡ true
-  ascend-from a b [] h k = refl
-  ascend-from a b (z ∷ zs) h k =
-      let both = first (int_le b z && int_le z (pos n)) (ascend_within z zs n) k in
-      join _ _ (join _ _ (int_le-trans a b z h (first (int_le b z) _ both)) (rest (int_le b z) _ both)) (rest (int_le b z && int_le z (pos n)) _ k)
-
-  pub ascend-drop : (low : ℤ) (zs : List ℤ) (k : ℕ) → ascend_within low zs n ≡ true → ascend_within low (drop k zs) n ≡ true
-  ascend-drop low zs zero h = h
-  ascend-drop low [] (suc k) h = refl
-  ascend-drop low (z ∷ zs) (suc k) h =
-      let both = first (int_le low z && int_le z (pos n)) (ascend_within z zs n) h in
-      ascend-drop low zs k (ascend-from low z zs (first (int_le low z) _ both) (rest (int_le low z && int_le z (pos n)) _ h))
-
-  pub ascend-take : (low : ℤ) (zs : List ℤ) (k : ℕ) → ascend_within low zs n ≡ true → ascend_within low (take k zs) n ≡ true
-  ascend-take low zs zero h = refl
-  ascend-take low [] (suc k) h = refl
-  ascend-take low (z ∷ zs) (suc k) h =
-      join _ _ (first (int_le low z && int_le z (pos n)) _ h) (ascend-take z zs k (rest (int_le low z && int_le z (pos n)) _ h))
-
-  are-ascending : (zs : List ℤ) → are_offsets zs n ≡ true → ascend_within (pos 0) zs n ≡ true
-  are-ascending [] h = cc
-  are-ascending (z ∷ zs) h = h
-
-  ascending-are : (zs : List ℤ) → 0 < length zs → ascend_within (pos 0) zs n ≡ true → are_offsets zs n ≡ true
-  ascending-are [] h k = absurd (omega arith)
-  ascending-are (z ∷ zs) h k = k
-
-  pub are_offsets-slice : (zs : List ℤ) (s e : ℕ) → s < e → e ≤ length zs → are_offsets zs n ≡ true → are_offsets (slice_range zs s e) n ≡ true
-  are_offsets-slice zs s e h l k =
-      ascending-are (slice_range zs s e) (omega (arith, h, l, length-slice_range zs s e (omega (arith, h)) l))
-      (ascend-take (pos 0) (drop s zs) (e - s) (ascend-drop (pos 0) zs s (are-ascending zs k)))
 
 -- ---- the lists between them
 

@@ -12,7 +12,7 @@ use Rattle.vx_take.specs.Picks.{at, item_at}
 use Rattle.vx_model.proofs.Items.{map-slice_range, map-items_where_true}
 use Rattle.vx_model.proofs.Takes.{map-at}
 use Rattle.vx_text.specs.Views.{empty_view}
-use Rattle.vx_text.proofs.Both.{first, rest, join}
+use Rattle.vx_offsets.proofs.Both.{first, rest, join}
 
 -- what holds of all items holds of those that are kept
 module _ {X : Type 0} (p : X → Bool) where

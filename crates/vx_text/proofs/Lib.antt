@@ -1,11 +1,9 @@
-pub mod Both
 pub mod BuiltTexts
 pub mod CutOffsets
 pub mod FilteredTexts
 pub mod KeptViews
 pub mod OffsetLists
 pub mod PickedRows
-pub mod ReadOffsets
 pub mod RunEnds
 pub mod RunTexts
 pub mod TextViews

@@ -8,7 +8,7 @@ use Rattle.std.proofs.lemmas.List.FromFn.{get_or-map-range_with_len, length-map-
 use Rattle.vx_types.specs.declared.ptype.PType.{PType}
 use Rattle.vx_positions.specs.Offsets.{are_offsets, offset_positions, record_numbers}
 use Rattle.vx_text.specs.OffsetList.{run_ends}
-use Rattle.vx_text.proofs.ReadOffsets.{run_ordered}
+use Rattle.vx_offsets.proofs.ReadOffsets.{run_ordered}
 
 module _ (os : List ℕ) (base s : ℕ) where
   pub no_end : run_ends os base s s ≡ []

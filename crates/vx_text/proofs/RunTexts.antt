@@ -14,8 +14,9 @@ use Rattle.vx_model.proofs.Items.{length-slice_range}
 use Rattle.vx_model.proofs.Texts.{get_or-lists_at, length-lists_at}
 use Rattle.vx_text.specs.Building.{AddsTexts, AreTexts}
 use Rattle.vx_text.specs.OffsetList.{OffsetList, greatest_offset, run_ends, wide_type, with_offset}
-use Rattle.vx_text.proofs.BuiltTexts.{not_past, one_text}
-use Rattle.vx_text.proofs.ReadOffsets.{read_within, run_ordered}
+use Rattle.vx_offsets.proofs.Cuts.{not_past}
+use Rattle.vx_text.proofs.BuiltTexts.{one_text}
+use Rattle.vx_offsets.proofs.ReadOffsets.{read_within, run_ordered}
 use Rattle.vx_text.proofs.RunEnds.{no_end, one_end}
 
 -- ---- parts of a list

@@ -23,9 +23,9 @@ use Rattle.vx_model.specs.VarBinView.{views_fault}
 use Rattle.vx_model.proofs.Items.{length-slice_range}
 use Rattle.vx_model.proofs.Texts.{get_or-lists_at, offsets-varbin}
 use Rattle.vx_text.specs.Views.{text_view}
-use Rattle.vx_text.proofs.Both.{join}
+use Rattle.vx_offsets.proofs.Both.{join}
 use Rattle.vx_text.proofs.KeptViews.{sound-as}
-use Rattle.vx_text.proofs.ReadOffsets.{climb}
+use Rattle.vx_offsets.proofs.ReadOffsets.{climb}
 
 same_bytes : (xs ys : List ℕ) → xs ≡ ys → bytes_eq xs ys ≡ true
 same_bytes xs ys h = (bytes_eq-Decides xs ys).1 h

@@ -1,26 +1,14 @@
 -- Texts that are put out one after another.
-use Rattle.std.specs.Prelude.{◌≡◌, ℕ, ◌==◌, ◌&&◌, nat_le, List, [], ◌∷◌, ◌++◌, length, Bool, true, false, if◌then◌else◌}
-use Rattle.vx_types.specs.TypeTree.{TypeKind, primitive_kind}
+use Rattle.std.specs.Prelude.{◌≡◌, ℕ, nat_le, List, ◌++◌, length, true, if◌then◌else◌}
 use Rattle.vx_types.specs.declared.ptype.PType.{PType}
-use Rattle.vx_types.specs.declared.ptype.PType.TheVariants.{U64}
 use Rattle.vx_positions.specs.Offsets.{lists_at}
+use Rattle.vx_offsets.specs.Cut.{is_cut}
 use Rattle.vx_text.specs.OffsetList.{OffsetList, first_type, greatest_offset, wide_type}
-
--- none is below the one before, and the last is n
-abbrev pub is_cut : List ℕ → ℕ → Bool
-is_cut [] n = false
-is_cut (a ∷ []) n = a == n
-is_cut (a ∷ b ∷ offsets) n = nat_le a b && is_cut (b ∷ offsets) n
 
 -- the type of offsets up to n that come of offsets of a type: as signed, and of at least 32 bits
 abbrev pub type_for : PType → ℕ → PType
 type_for p n =
     if nat_le n (greatest_offset (first_type p)) then first_type p else wide_type (first_type p)
-
--- the type of records of a primitive kind
-abbrev pub type_of : TypeKind → PType
-type_of (primitive_kind p) = p
-type_of k = U64
 
 -- offsets that cut the bytes into these texts
 pub record AreTexts (p : PType) (offsets : OffsetList) (bytes : List ℕ) (left : List (List ℕ))

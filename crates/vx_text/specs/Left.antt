@@ -6,7 +6,8 @@ use Rattle.vx_model.specs.Records.{records_with}
 use Rattle.vx_model.specs.Valid.{Valid, non_nullable}
 use Rattle.vx_model.specs.VarBin.{VarBinParts, varbin_texts}
 use Rattle.vx_model.specs.VarBinView.{ViewParts, view_texts}
-use Rattle.vx_text.specs.Building.{type_for, type_of}
+use Rattle.vx_offsets.specs.Cut.{type_of}
+use Rattle.vx_text.specs.Building.{type_for}
 
 -- these texts, with the kind of the column that they come of, and offsets that come of its own
 pub record LeavesTexts (p : VarBinParts) (left : List (List ℕ)) (handed : Valid) (a : VarBinParts)

@@ -1,5 +1,4 @@
 pub mod Building
-pub mod Fits
 pub mod LastOffset
 pub mod Left
 pub mod OffsetList

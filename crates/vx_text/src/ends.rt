@@ -2,9 +2,9 @@
 ghost use Rattle.std.specs.Prelude.{◌≡◌, ◌+◌, ◌-◌, ◌++◌, ◌<◌, ◌^◌, map, slice_index, OnErr, OnOk};
 ghost use Rattle.vx_text.specs.OffsetList.{offsets_by, run_ends};
 
-use crate::offset_record::OffsetRecord;
 use crate::text_run::TextRun;
 use vx_bits::NoMemory;
+use vx_offsets::OffsetRecord;
 
 // Appends where each row of a run ends, if its bytes stand behind `base` others. `NoMemory` alone,
 // and then they are as before.

@@ -8,11 +8,12 @@ ghost use Rattle.vx_model.specs.Text.{kept_texts};
 ghost use Rattle.vx_model.specs.Valid.{present_bits};
 ghost use Rattle.vx_model.specs.VarBin.{varbin_texts};
 ghost use Rattle.vx_column.specs.Validity.{valid_of};
-ghost use Rattle.vx_text.specs.Building.{type_of, AreTexts};
-ghost use Rattle.vx_text.specs.Fits.{FitsFilter};
+ghost use Rattle.vx_offsets.specs.Cut.{type_of};
+ghost use Rattle.vx_text.specs.Building.{AreTexts};
+ghost use Rattle.vx_offsets.specs.Fits.{FitsFilter};
 ghost use Rattle.vx_text.specs.Left.{LeavesTexts};
 
-use crate::picked_texts::{present_mask, texts_in};
+use crate::picked_texts::texts_in;
 use crate::run_texts::texts_in_runs;
 use crate::texts::Texts;
 use std::alloc::Global;
@@ -113,7 +114,7 @@ pub fn filter_varbin(
         (kept_texts (present_bits (valid_of validity) (true_count_of bits))
         (items_where_true bits (varbin_texts array.now).texts)) (valid_of validity)) }
 {
-    let present = present_mask(alloc, &validity, mask.true_count())?;
+    let present = validity.present_mask(alloc, mask.true_count())?;
     let texts = texts_kept(alloc, array, mask, policy, &present)?;
     texts.finish(alloc, array.kind(), validity)
 }

@@ -13,7 +13,7 @@ use crate::text_run::TextRun;
 use std::alloc::Global;
 use std::marker::Model;
 use vx_bits::{Buffer, NoMemory, Records};
-use vx_column::{PType, PrimitiveArray, Validity};
+use vx_column::{PType, PrimitiveArray, number_column};
 
 // The records of offsets, of 32 bits or of 64.
 #[derive(Drop)]
@@ -135,23 +135,6 @@ fn widened(alloc: Global, records: &[[u8; 4]], room: usize) -> Result<Vec<[u8; 8
         wide.push_reserved(u64::from(number).to_le_bytes());
     }
     Ok(wide)
-}
-
-/// The column of these records, none of them null. It takes no memory.
-#[tactic(auto, using(vx_model::proofs::Layouts::layout_rows))]
-pub fn number_column(ptype: PType, values: Records) -> PrimitiveArray
-    requires { width_of values ≡ width ptype }
-    ensures { result ≡ record {
-      kind = primitive_kind ptype;
-      width = width_of values;
-      records = records_of values;
-      valid = non_nullable;
-    } }
-{
-    match PrimitiveArray::try_new(ptype, values, Validity::NonNullable) {
-        Ok(column) => column,
-        Err(_) => unreachable!(),
-    }
 }
 
 /// A list of offsets that widens: of 32 bits until an offset passes these, and of 64 from then on.

@@ -7,33 +7,22 @@ ghost use Rattle.vx_take.specs.Picks.{at, item_at};
 ghost use Rattle.vx_positions.specs.Offsets.{are_offsets, lists_at, offset_positions, record_numbers};
 ghost use Rattle.vx_model.specs.Numbers.{integers_of};
 ghost use Rattle.vx_model.specs.Text.{kept_texts};
-ghost use Rattle.vx_model.specs.Valid.{is_fitting, present_bits};
+ghost use Rattle.vx_model.specs.Valid.{present_bits};
 ghost use Rattle.vx_model.specs.VarBin.{are_integers, varbin_texts};
 ghost use Rattle.vx_column.specs.Validity.{valid_of};
-ghost use Rattle.vx_text.specs.Building.{type_of, AreTexts};
-ghost use Rattle.vx_text.specs.Fits.{FitsTake};
+ghost use Rattle.vx_offsets.specs.Cut.{type_of};
+ghost use Rattle.vx_text.specs.Building.{AreTexts};
+ghost use Rattle.vx_offsets.specs.Fits.{FitsTake};
 ghost use Rattle.vx_text.specs.Left.{LeavesTexts};
 
-use crate::reading::span_at;
 use crate::texts::Texts;
 use std::alloc::Global;
 use vx_bits::{NoMemory, Records};
-use vx_column::{PType, PrimitiveArray, Validity, VarBinArray, mask_of};
+use vx_column::{PType, PrimitiveArray, Validity, VarBinArray};
 use vx_mask::Mask;
+use vx_offsets::span_at;
 use vx_positions::by_type;
 use vx_take::Picks;
-
-/// Which of `len` rows are there. `NoMemory` alone.
-pub fn present_mask(alloc: Global, validity: &Validity, len: usize) -> Result<Mask, NoMemory>
-    requires { is_fitting (valid_of validity.now) len ≡ true }
-    ensures { IfOk result (λ m. mask_bits m ≡ present_bits (valid_of validity.now) len) }
-{
-    match validity {
-        Validity::NonNullable | Validity::AllValid => Ok(Mask::AllTrue(len)),
-        Validity::AllInvalid => Ok(Mask::AllFalse(len)),
-        Validity::Array(array) => mask_of(alloc, array),
-    }
-}
 
 // The text at a pick, and an empty one at a null.
 #[inline(always)]
@@ -180,7 +169,7 @@ pub fn take_varbin_picks(
         (kept_texts (present_bits (valid_of validity) (length picks.now.picks))
         (at [] (varbin_texts array.now).texts picks.now.picks)) (valid_of validity)) }
 {
-    let present = present_mask(alloc, &validity, picks.len())?;
+    let present = validity.present_mask(alloc, picks.len())?;
     let offsets = array.offsets();
     let bytes = array.bytes();
     let texts = texts_in(alloc, offsets, bytes.as_slice(), picks, &present)?;

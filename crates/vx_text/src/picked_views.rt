@@ -9,14 +9,14 @@ ghost use Rattle.vx_model.specs.VarBin.{are_integers, row_count, varbin_texts};
 ghost use Rattle.vx_column.specs.Validity.{valid_of};
 ghost use Rattle.vx_text.specs.LastOffset.{last_offset};
 ghost use Rattle.vx_text.specs.Views.{text_view};
-ghost use Rattle.vx_text.specs.Fits.{FitsTake};
+ghost use Rattle.vx_offsets.specs.Fits.{FitsTake};
 ghost use Rattle.vx_text.specs.Left.{LeavesViews};
 
 use crate::alike::one_buffer;
-use crate::reading::span_at;
 use std::alloc::Global;
 use vx_bits::{Buffer, NoMemory, Records};
 use vx_column::{BinaryView, PType, PrimitiveArray, Validity, VarBinArray, VarBinViewArray};
+use vx_offsets::span_at;
 use vx_positions::by_type;
 use vx_take::Picks;
 

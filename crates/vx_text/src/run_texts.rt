@@ -6,7 +6,8 @@ ghost use Rattle.vx_types.specs.PType.{is_int, width};
 ghost use Rattle.vx_positions.specs.Offsets.{are_offsets, lists_at, offset_positions, record_numbers};
 ghost use Rattle.vx_model.specs.Numbers.{integers_of};
 ghost use Rattle.vx_model.specs.VarBin.{are_integers};
-ghost use Rattle.vx_text.specs.Building.{type_of, AddsTexts, AreTexts};
+ghost use Rattle.vx_offsets.specs.Cut.{type_of};
+ghost use Rattle.vx_text.specs.Building.{AddsTexts, AreTexts};
 ghost use Rattle.vx_text.specs.OffsetList.{offsets_by};
 
 use crate::offsets::Offsets;

@@ -4,8 +4,8 @@ ghost use Rattle.vx_types.specs.PType.{is_int, width};
 ghost use Rattle.vx_positions.specs.Offsets.{are_offsets, record_numbers};
 ghost use Rattle.vx_text.specs.OffsetList.{offsets_by};
 
-use crate::reading::offset_at;
 use vx_column::PType;
+use vx_offsets::offset_at;
 
 /// A run of rows, from its start up to its end, of the texts that records of an integer type cut.
 #[derive(Clone, Copy)]

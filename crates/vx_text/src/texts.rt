@@ -6,7 +6,8 @@ ghost use Rattle.vx_positions.specs.Offsets.{lists_at};
 ghost use Rattle.vx_model.specs.Valid.{is_fitting};
 ghost use Rattle.vx_model.specs.VarBin.{varbin_texts};
 ghost use Rattle.vx_column.specs.Validity.{valid_of};
-ghost use Rattle.vx_text.specs.Building.{is_cut, AreTexts};
+ghost use Rattle.vx_offsets.specs.Cut.{is_cut};
+ghost use Rattle.vx_text.specs.Building.{AreTexts};
 ghost use Rattle.vx_text.specs.OffsetList.{with_offset};
 
 use crate::offsets::Offsets;

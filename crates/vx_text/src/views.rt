@@ -4,7 +4,7 @@ ghost use Rattle.std.specs.List.{items_where_true};
 ghost use Rattle.vx_take.specs.Picks.{at};
 ghost use Rattle.vx_model.specs.VarBinView.{view_texts};
 ghost use Rattle.vx_column.specs.Validity.{valid_of};
-ghost use Rattle.vx_text.specs.Fits.{FitsFilter, FitsSlice, FitsTake};
+ghost use Rattle.vx_offsets.specs.Fits.{FitsFilter, FitsSlice, FitsTake};
 ghost use Rattle.vx_text.specs.Left.{LeavesViews};
 
 use std::alloc::Global;

@@ -70,7 +70,7 @@ validity::filter_validity-returns-in_ok-filter_values-in-Array-clause-left t c =
     let kept = c.in_ok-filter_values-in-Array.field-0 in
     let cut : IsCut a (items_where_true mask a.rows) kept = rw c.deref.ensures at c.in_ok-filter_values-in-Array.ensures.cut in
     let left = is_left-filter-by_column a kept mask fit cut in
-    rw c.in-Array.is (weaker c.of_column.result c.of_column.ensures (λ v is. rw is left))
+    rw c.in-Array.is (weaker c.from_column.result c.from_column.ensures (λ v is. rw is left))
 
 pub dict::DictArrayFilterRows::filter-recoded-requires : goal.dict::DictArrayFilterRows::filter-recoded-requires
 dict::DictArrayFilterRows::filter-recoded-requires t c =

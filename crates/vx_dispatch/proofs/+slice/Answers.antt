@@ -62,7 +62,7 @@ validity::slice_validity-returns-in_ok-slice-in-Array-clause-left t c =
     let part = c.in_ok-slice-in-Array.field-0 in
     let cut : IsSlice a s e part = rw c.deref.ensures at c.in_ok-slice-in-Array.ensures.cut in
     let left = is_left-slice-by_column a part c.args.len s e fit c.requires.ordered c.requires.within cut in
-    rw c.in-Array.is (weaker c.of_column.result c.of_column.ensures (λ v is. rw is left))
+    rw c.in-Array.is (weaker c.from_column.result c.from_column.ensures (λ v is. rw is left))
 
 pub dict::DictArraySliceRows::slice-recoded-requires : goal.dict::DictArraySliceRows::slice-recoded-requires
 dict::DictArraySliceRows::slice-recoded-requires t c =

@@ -7,7 +7,7 @@ use Rattle.vx_model.specs.Lists.{lists_of}
 use Rattle.vx_model.specs.Numbers.{integers_of}
 use Rattle.vx_model.proofs.Spans.{length-spans}
 use Rattle.vx_column.specs.Validity.{valid_of}
-use Rattle.vx_text.specs.Building.{type_of}
+use Rattle.vx_offsets.specs.Cut.{type_of}
 use Rattle.vx_lists.specs.Lists.{last_offset}
 use Rattle.vx_lists.proofs.MadeLists.{bounded_in_type, empty_leaves, filter_leaves, some_stay}
 use Rattle.vx_lists.proofs.list.left_by.Goals as goal

@@ -2,7 +2,7 @@
 use Rattle.std.proofs.Common.{◌∙◌, ap, sym}
 use Rattle.std.specs.Prelude.{int_le, pos}
 use Rattle.vx_types.specs.PType.{greatest, number}
-use Rattle.vx_text.proofs.ReadOffsets.{offset_read}
+use Rattle.vx_offsets.proofs.ReadOffsets.{offset_read}
 use Rattle.vx_lists.proofs.numbers.number_at.Goals as goal
 
 pub returns-clause-small : goal.returns-clause-small

@@ -10,7 +10,8 @@ use Rattle.vx_positions.specs.Offsets.{lists_at, offset_positions}
 use Rattle.vx_model.specs.Numbers.{integers_of}
 use Rattle.vx_model.specs.Records.{RecordParts}
 use Rattle.vx_model.specs.VarBin.{varbin_texts}
-use Rattle.vx_text.specs.Building.{type_of, AreTexts}
+use Rattle.vx_offsets.specs.Cut.{type_of}
+use Rattle.vx_text.specs.Building.{AreTexts}
 use Rattle.vx_text.proofs.CutOffsets.{end-within}
 use Rattle.vx_text.proofs.FilteredTexts.{set_runs_within}
 use Rattle.vx_text.proofs.filtered.texts_by_mask.Goals as goal

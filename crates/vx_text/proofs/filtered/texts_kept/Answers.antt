@@ -12,7 +12,8 @@ use Rattle.vx_model.specs.Text.{kept_texts}
 use Rattle.vx_model.specs.VarBin.{varbin_texts}
 use Rattle.vx_model.proofs.Items.{length-items_where_true}
 use Rattle.vx_model.proofs.Texts.{offsets-varbin}
-use Rattle.vx_text.specs.Building.{type_of, AreTexts}
+use Rattle.vx_offsets.specs.Cut.{type_of}
+use Rattle.vx_text.specs.Building.{AreTexts}
 use Rattle.vx_text.proofs.CutOffsets.{end-within}
 use Rattle.vx_text.proofs.FilteredTexts.{kept_there, set_count}
 use Rattle.vx_text.proofs.filtered.texts_kept.Goals as goal

@@ -7,7 +7,8 @@ use Rattle.vx_take.specs.Picks.{at}
 use Rattle.vx_positions.specs.Offsets.{lists_at, offset_positions, record_numbers}
 use Rattle.vx_model.specs.Numbers.{integer_by}
 use Rattle.vx_model.specs.Text.{kept_texts}
-use Rattle.vx_text.specs.Building.{type_of, AreTexts}
+use Rattle.vx_offsets.specs.Cut.{type_of}
+use Rattle.vx_text.specs.Building.{AreTexts}
 use Rattle.vx_text.proofs.picked_texts.texts_in.Goals as goal
 
 pub returns : goal.returns

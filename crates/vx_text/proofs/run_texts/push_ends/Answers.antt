@@ -6,7 +6,7 @@ use Rattle.vx_positions.specs.Positions.{position_of}
 use Rattle.vx_positions.proofs.Ascending.{length-numbers}
 use Rattle.vx_text.specs.Building.{AddsTexts}
 use Rattle.vx_text.specs.OffsetList.{greatest_offset, with_offset}
-use Rattle.vx_text.proofs.ReadOffsets.{read_within, run_ordered}
+use Rattle.vx_offsets.proofs.ReadOffsets.{read_within, run_ordered}
 use Rattle.vx_text.proofs.RunTexts.{no_row, one_row, run_added}
 use Rattle.vx_text.proofs.run_texts.push_ends.Goals as goal
 

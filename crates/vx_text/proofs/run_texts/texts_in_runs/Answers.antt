@@ -5,7 +5,8 @@ use Rattle.std.specs.Prelude.{IfOk}
 use Rattle.vx_types.specs.TypeTree.{TypeKind}
 use Rattle.vx_positions.specs.Offsets.{lists_at, offset_positions, record_numbers}
 use Rattle.vx_model.specs.Numbers.{integer_by}
-use Rattle.vx_text.specs.Building.{type_of, AreTexts}
+use Rattle.vx_offsets.specs.Cut.{type_of}
+use Rattle.vx_text.specs.Building.{AreTexts}
 use Rattle.vx_text.proofs.run_texts.texts_in_runs.Goals as goal
 
 pub returns : goal.returns

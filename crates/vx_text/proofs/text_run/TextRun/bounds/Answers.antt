@@ -1,6 +1,6 @@
 -- A run ends no earlier than it begins.
 use Rattle.std.proofs.Common.{length, arith}
-use Rattle.vx_text.proofs.ReadOffsets.{run_ordered}
+use Rattle.vx_offsets.proofs.ReadOffsets.{run_ordered}
 use Rattle.vx_text.proofs.text_run.TextRun.bounds.Goals as goal
 
 pub returns-clause-ordered : goal.returns-clause-ordered

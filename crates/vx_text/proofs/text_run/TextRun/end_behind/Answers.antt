@@ -1,6 +1,6 @@
 -- No row of the run begins before it or ends behind it.
 use Rattle.std.proofs.Common.{◌+◌, ◌<◌, ◌≤◌, length, arith}
-use Rattle.vx_text.proofs.ReadOffsets.{run_ordered}
+use Rattle.vx_offsets.proofs.ReadOffsets.{run_ordered}
 use Rattle.vx_text.proofs.text_run.TextRun.end_behind.Goals as goal
 
 pub overflow_sub-result : goal.overflow_sub-result

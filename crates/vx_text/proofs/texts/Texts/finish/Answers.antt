@@ -4,7 +4,7 @@ use Rattle.vx_model.specs.Valid.{is_fitting}
 use Rattle.vx_model.specs.VarBin.{VarBinParts, varbin_texts}
 use Rattle.vx_positions.specs.Offsets.{lists_at}
 use Rattle.vx_column.specs.Validity.{valid_of}
-use Rattle.vx_text.specs.Building.{is_cut}
+use Rattle.vx_offsets.specs.Cut.{is_cut}
 use Rattle.vx_text.proofs.BuiltTexts.{built, built_texts}
 use Rattle.vx_text.proofs.texts.Texts.finish.Goals as goal
 

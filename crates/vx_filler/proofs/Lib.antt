@@ -1,0 +1,2 @@
+mod Fillers
+mod FirstRows

@@ -1,0 +1,8 @@
+//! Columns of rows that stand where none is shown, and picks of the first row in their place.
+#![tactic(auto)]
+
+mod firsts;
+mod rows;
+
+pub use firsts::firsts_for_nulls;
+pub use rows::{filler, fillers};
