@@ -37,7 +37,7 @@ stored_bits [] (suc n) h = refl
 stored_bits (b ∷ bits) zero h = absurd (omega arith)
 stored_bits (b ∷ bits) (suc n) h = ap (λ l. b ∷ l) (stored_bits bits n (omega arith))
 
--- the numbers that are there, and none for each other one
+-- the valid numbers, and none for each other one
 pub read_some : (numbers : List (Option ℕ)) (records : List (List ℕ)) → map (number U32) records ≡ map (λ n. pos (unwrap_or n 0)) numbers → map (number_in (primitive_kind U32)) (shown_rows (map is_some numbers) (map bytes records)) ≡ map (option_map pos) numbers
 read_some [] records h = refl
 read_some (n ∷ numbers) [] h = absurd (omega (arith, ap length h))

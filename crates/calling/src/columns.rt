@@ -32,7 +32,7 @@ fn u32_records(alloc: Global, numbers: &[Option<u32>]) -> Result<Records, NoMemo
     Ok(Records::W4(Buffer::from_vec(alloc, records)?))
 }
 
-// A bit for each number: whether it is there.
+// A bit for each number: whether it is valid.
 fn presence(alloc: Global, numbers: &[Option<u32>]) -> Result<BitBuffer, NoMemory>
     ensures { IfOk result (λ b. b.bits ≡ map is_some numbers.now) }
 {

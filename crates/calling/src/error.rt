@@ -7,7 +7,7 @@ use vortex_select::{ColumnError, NoMemory};
 pub(crate) enum BuildError {
     /// A constructor refuses its parts.
     Refused(ColumnError),
-    /// Want of memory.
+    /// Out of memory.
     NoMemory,
 }
 

@@ -80,7 +80,7 @@ pub(crate) fn table(
     dictionary(alloc, u32_column(alloc, codes)?, text_column(alloc, names)?)
 }
 
-/// The rows at the set bits: no step is broken, so there is no error but for want of memory.
+/// The rows at the set bits: no step is broken, so there is no error but for `NoMemory`.
 pub(crate) fn kept(alloc: Global, table: &Array, bits: &[bool]) -> Result<Array, NoMemory>
     requires { length bits.now ≡ length table.now.rows }
     ensures { IfOk result (λ c. c.rows ≡ items_where_true bits.now table.now.rows) }

@@ -42,7 +42,7 @@ fn steps_of(alloc: Global) -> Result<Vec<Step>, Fail> {
     Ok(steps)
 }
 
-/// The answer's rows behind a name, or the rule that a step breaks. Want of memory is handed on.
+/// The answer's rows behind a name, or the rule that a step breaks. `NoMemory` is handed on.
 fn print_answer(
     rt: &impl Print,
     alloc: Global,

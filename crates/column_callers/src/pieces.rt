@@ -178,7 +178,7 @@ fn unchecked(
     Ok(PiecewiseSequence::new_unchecked(starts, lengths, multipliers, len))
 }
 
-/// A sequence once more, by that constructor.
+/// A sequence once again, by that constructor.
 fn made_again(pieces: &PiecewiseSequence) -> Result<PiecewiseSequence, Fail> {
     let (starts, lengths) = (pieces.starts().share(), pieces.lengths().share());
     unchecked(starts, lengths, pieces.multipliers().share(), pieces.len())

@@ -32,7 +32,7 @@ fn print_column(rt: &impl Print, name: &str, column: &Array) -> io::Result<()> {
     }
 }
 
-/// A lazy filter, once more and as a column.
+/// A lazy filter, once again and as a column.
 fn print_filter(rt: &impl Print, alloc: Global, filter: FilterArray) -> Result<(), Fail> {
     print_lists(rt, "mask of the filter", filter.mask())?;
     print_lists(rt, "of the same once more", filter.share().mask())?;

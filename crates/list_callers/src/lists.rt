@@ -41,8 +41,8 @@ fn rows_of(array: &ListArray) -> usize
 }
 
 // The first and the last list, and the last one alone: with the whole range, cropped, and where no
-// row is there. Each says what it prints first, the lists, whether it crops, and which rows are
-// there.
+// row is valid. Each says what it prints first, the lists, whether it crops, and which rows are
+// valid.
 const FILTERS: [(&str, [bool; 3], bool, Presence); 4] = [
     ("101", [true, false, true], false, Presence::Each),
     ("001", [false, false, true], false, Presence::Each),

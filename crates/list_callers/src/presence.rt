@@ -1,9 +1,9 @@
-//! Which rows of an answer are there.
+//! Which rows of an answer are valid.
 use std::alloc::Global;
 use vx_bits::{BitBuffer, NoMemory};
 use vx_column::Validity;
 
-/// Which rows are there.
+/// Which rows are valid.
 #[derive(Clone, Copy)]
 pub(crate) enum Presence {
     /// Each, and the type has no null.

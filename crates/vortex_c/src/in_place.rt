@@ -3,8 +3,8 @@ ghost use Rattle.vx_words.specs.Filters.{IsKept};
 
 use vx_words::{Answer, Record16, Record32, filter_in_place};
 
-/// Moves the records of 1 byte at the set bits of `words` to the front, in order. The answer is
-/// how many they are. What stands behind them then is not said. The mask's bits are as many as there
+/// Moves the records of 1 byte at the set bits of `words` to the front, in order. The answer is how
+/// many they are. What stands behind them then is not said. The mask's bits are as many as there
 /// are records, from bit `mask_at` on; those before and behind them play no part.
 ///
 /// 1: `words` do not hold so many bits.
@@ -20,8 +20,8 @@ pub extern "C" fn vortex_filter_in_place_1(
 }
 
 /// Moves the records of 2 bytes at the set bits of `words` to the front, in order. The answer is
-/// how many they are. What stands behind them then is not said. The mask's bits are as many as there
-/// are records, from bit `mask_at` on; those before and behind them play no part.
+/// how many they are. What stands behind them then is not said. The mask's bits are as many as
+/// there are records, from bit `mask_at` on; those before and behind them play no part.
 ///
 /// 1: `words` do not hold so many bits.
 #[unsafe(no_mangle)]
@@ -36,8 +36,8 @@ pub extern "C" fn vortex_filter_in_place_2(
 }
 
 /// Moves the records of 4 bytes at the set bits of `words` to the front, in order. The answer is
-/// how many they are. What stands behind them then is not said. The mask's bits are as many as there
-/// are records, from bit `mask_at` on; those before and behind them play no part.
+/// how many they are. What stands behind them then is not said. The mask's bits are as many as
+/// there are records, from bit `mask_at` on; those before and behind them play no part.
 ///
 /// 1: `words` do not hold so many bits.
 #[unsafe(no_mangle)]
@@ -52,8 +52,8 @@ pub extern "C" fn vortex_filter_in_place_4(
 }
 
 /// Moves the records of 8 bytes at the set bits of `words` to the front, in order. The answer is
-/// how many they are. What stands behind them then is not said. The mask's bits are as many as there
-/// are records, from bit `mask_at` on; those before and behind them play no part.
+/// how many they are. What stands behind them then is not said. The mask's bits are as many as
+/// there are records, from bit `mask_at` on; those before and behind them play no part.
 ///
 /// 1: `words` do not hold so many bits.
 #[unsafe(no_mangle)]
@@ -68,8 +68,8 @@ pub extern "C" fn vortex_filter_in_place_8(
 }
 
 /// Moves the records of 16 bytes at the set bits of `words` to the front, in order. The answer is
-/// how many they are. What stands behind them then is not said. The mask's bits are as many as there
-/// are records, from bit `mask_at` on; those before and behind them play no part.
+/// how many they are. What stands behind them then is not said. The mask's bits are as many as
+/// there are records, from bit `mask_at` on; those before and behind them play no part.
 ///
 /// 1: `words` do not hold so many bits.
 #[unsafe(no_mangle)]
@@ -84,8 +84,8 @@ pub extern "C" fn vortex_filter_in_place_16(
 }
 
 /// Moves the records of 32 bytes at the set bits of `words` to the front, in order. The answer is
-/// how many they are. What stands behind them then is not said. The mask's bits are as many as there
-/// are records, from bit `mask_at` on; those before and behind them play no part.
+/// how many they are. What stands behind them then is not said. The mask's bits are as many as
+/// there are records, from bit `mask_at` on; those before and behind them play no part.
 ///
 /// 1: `words` do not hold so many bits.
 #[unsafe(no_mangle)]

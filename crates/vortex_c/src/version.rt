@@ -1,8 +1,8 @@
 //! Which version of the library this is.
 ghost use Rattle.std.specs.Prelude.{◌≡◌};
 
-/// The version of the library: a million times the major number, and a thousand times the minor one,
-/// and the patch number. It is 0.1.0.
+/// The version of the library: a million times the major number, and a thousand times the minor
+/// one, and the patch number. It is 0.1.0.
 #[unsafe(no_mangle)]
 pub extern "C" fn vortex_version() -> u32
     ensures { result ≡ 1000 }

@@ -3,8 +3,8 @@ ghost use Rattle.vx_words.specs.Widened.{IsWidened};
 
 use vx_words::{Answer, widen_numbers};
 
-/// Writes the numbers of 4 bytes to the front of `dst` as such of 8, in order: a take of indices of 4
-/// bytes goes block by block, each widened before it. The answer is how many they are.
+/// Writes the numbers of 4 bytes to the front of `dst` as such of 8, in order: a take of indices of
+/// 4 bytes goes block by block, each widened before it. The answer is how many they are.
 ///
 /// 3: `dst` is too small, and the number is how many there are.
 #[unsafe(no_mangle)]

@@ -56,7 +56,7 @@ pub record Ran (said : List (List ℕ)) (document text : List ℕ) (s : ℕ) : T
   pub too_long : s ≡ 7 → IfTold said (Some document) (λ o. o ≡ TooLong)
   pub complete : s ≢ 5 → (s ≡ 3) ⊎ (s ≡ 6) ⊎ IfTold said (Some document) (λ o. s ≡ status_of o)
 
--- a run answered with 6: memory is wanting
+-- a run answered with 6: memory runs out
 pub no_memory : (said : List (List ℕ)) (document old new : List ℕ) (status value : ℕ) → status ≡ 6 → value ≡ 0 → new ≡ old → IsRun said document old new status value
 no_memory said document old new status value e none same = record {
   done = λ z. absurd (omega (arith, e, z));

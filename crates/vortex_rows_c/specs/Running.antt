@@ -52,7 +52,7 @@ pub record IsRun (said : List (List ℕ)) (document old new : List ℕ) (status 
   pub not_text : status ≡ 9 → AreTexts said → ⊥
   pub room : status ≡ 16 → IfTold said (Some document)
       (λ o. IsPrinted o (λ text. IsTooLong text old value))
-  -- the status is the program's, or memory is wanting, or it is one of those above
+  -- the status is the program's, or memory runs out, or it is one of those above
   pub complete : (status ≡ 3) ⊎ (status ≡ 6) ⊎ (status ≡ 9) ⊎ (status ≡ 16)
       ⊎ IfTold said (Some document) (λ o. status ≡ status_of o)
   pub refused : 1 < status → new ≡ old

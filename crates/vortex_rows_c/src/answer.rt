@@ -12,7 +12,7 @@ pub struct Answer {
     pub value: u64,
 }
 
-/// The status where memory is wanting.
+/// The status when memory runs out.
 const NO_MEMORY: u64 = 6;
 
 /// The status where the words aren't text.
@@ -32,7 +32,7 @@ impl Answer {
         }
     }
 
-    /// No text, for want of memory.
+    /// No text, for `NoMemory`.
     pub(crate) fn no_memory() -> Answer
         ensures { result ≡ record { status = 6; value = 0 } }
     {
@@ -66,8 +66,8 @@ fn put(status: u64, text: &[u8], dst: &mut [u8]) -> Answer
     }
 }
 
-// The answer to a run that ended with a status and made a text. The sink fails for want of memory
-// alone, and the source never.
+/// The answer to a run that ended with a status and made a text. The sink fails only when memory
+/// runs out, and the source never.
 pub(crate) fn answer_to(status: u8, text: &[u8], dst: &mut [u8]) -> Answer
     ensures fits { status ≤ 1 → length text.now ≤ length dst.old → result.status ≡ status }
     ensures put { status ≤ 1 → length text.now ≤ length dst.old

@@ -31,7 +31,7 @@ fn run_words(alloc: Global, words: &[String], document: &[u8], dst: &mut [u8]) -
 /// | 1 | a step is broken; `dst` has the fault's line |
 /// | 2 | the document spells no JSON value, or it has no meaning as a document |
 /// | 3 | the words are others |
-/// | 6 | memory is wanting, or the text would be too long |
+/// | 6 | memory runs out, or the text would be too long |
 /// | 7 | the document has more than 16,777,216 bytes |
 /// | 9 | a word isn't UTF-8 |
 /// | 16 | the status would be 0 or 1, but `dst` is too small; the number is what it must hold |

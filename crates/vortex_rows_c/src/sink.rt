@@ -6,7 +6,7 @@ use std::alloc::Global;
 use std::marker::Model;
 use vx_rows::{Failed, Sink};
 
-/// A text that grows. A write fails for want of memory alone.
+/// A text that grows. A write fails only when memory runs out.
 #[derive(Drop)]
 pub(crate) struct TextSink {
     text: Vec<u8>,

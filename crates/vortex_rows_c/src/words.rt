@@ -10,7 +10,7 @@ use std::alloc::Global;
 pub(crate) enum WordsFault {
     /// A word isn't UTF-8.
     NotText,
-    /// Want of memory.
+    /// Out of memory.
     NoMemory,
 }
 

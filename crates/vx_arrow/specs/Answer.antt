@@ -53,7 +53,7 @@ IsFault w (refusals.Broken k cause) = w ≡ walk_fault k cause
 IsFault w (refusals.Room need) = ⊥
 IsFault w refusals.NoMemory = ⊥
 
--- an image lacks something, or want of memory where none does
+-- an image lacks something, or `NoMemory` where none does
 abbrev pub IsUnread : List StepParts → Refusal → Type 0
 IsUnread steps (refusals.Lacking lacking) = first_lack 0 steps ≡ Some lacking
 IsUnread steps (refusals.Broken k cause) = ⊥

@@ -32,12 +32,12 @@ pub record IsMarked (old new : List ℕ) (j : ℕ) (bit : Bool) : Type 0 where
   pub mark : bit_of new j ≡ bit
   pub others : (i : ℕ) → i ≢ j → bit_of new i ≡ bit_of old i
 
--- the first bits say which picks are there, and the others are as they were
+-- the first bits say which picks are not null, and the others are as they were
 pub record AreMarked (picks : List (Option ℕ)) (old new : List ℕ) : Type 0 where
   pub marks : bits_of new 0 (length picks) ≡ map is_some picks
   pub rest : (j : ℕ) → length picks ≤ j → bit_of new j ≡ bit_of old j
 
--- bits say which picks are there; where none are needed, all picks are there, and no bit is written
+-- bits say which picks are not null; where none are needed, no pick is null, and no bit is written
 pub record AreShown (needed : ℕ) (picks : List (Option ℕ)) (old new : List ℕ) : Type 0 where
   pub there : needed ≡ 0 → AllThere picks
   pub same : needed ≡ 0 → new ≡ old

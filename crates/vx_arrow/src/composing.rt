@@ -46,7 +46,7 @@ fn need_of(len: usize, steps: &[Step]) -> Result<Need, Refusal>
     }
 }
 
-// The picks that the steps leave of `len` rows, where none is broken. `NoMemory` alone.
+// The picks that the steps leave of `len` rows, where none is broken. Fails only with `NoMemory`.
 fn picks_of(alloc: Global, len: usize, steps: &[Step]) -> Result<Picks, NoMemory>
     requires { IsUnbroken (walk len (map step_value steps.now)) }
     ensures picks { IfOk result (λ p. walk len (map step_value steps.now) ≡ walk_picks p.picks) }
@@ -63,7 +63,7 @@ fn picks_of(alloc: Global, len: usize, steps: &[Step]) -> Result<Picks, NoMemory
 /// How much room the picks need that the steps leave of `len` rows: what [`compose`] writes.
 ///
 /// `Lacking` exactly where an image has no meaning, with the first one. Else `Broken` with the
-/// first step that breaks a rule, or `NoMemory`; never `Room`. Want of memory may come in place of
+/// first step that breaks a rule, or `NoMemory`; never `Room`. `NoMemory` may come in place of
 /// `Broken`.
 pub fn count(alloc: Global, len: usize, steps: &[StepImage]) -> Result<Need, Refusal>
     ensures meant { OnOk result (AreMeant (map step_parts steps.now)) }

@@ -12,7 +12,7 @@ use vx_bits::{BitBuffer, Buffer, NoMemory, Records};
 use vx_column::{Array, PrimitiveArray, Validity};
 use vx_types::PType;
 
-// The `len` bits of the bytes from bit `offset` on. `NoMemory` alone.
+/// The `len` bits of the bytes from bit `offset` on. Fails only with `NoMemory`.
 pub(crate) fn bits_in(
     alloc: Global,
     bytes: &[u8],
@@ -31,7 +31,7 @@ pub(crate) fn bits_in(
     }
 }
 
-// The validity of so many rows. `NoMemory` alone.
+/// The validity of so many rows. Fails only with `NoMemory`.
 pub(crate) fn validity_in(
     alloc: Global,
     bytes: &[u8],
@@ -59,7 +59,7 @@ fn record_at<const W: usize>(bytes: &[u8], k: usize) -> [u8; W]
     record
 }
 
-// The `len` records of the bytes from record `offset` on. `NoMemory` alone.
+// The `len` records of the bytes from record `offset` on. Fails only with `NoMemory`.
 fn records_of_width<const W: usize>(
     alloc: Global,
     bytes: &[u8],
@@ -77,7 +77,7 @@ fn records_of_width<const W: usize>(
     Buffer::from_vec(alloc, records)
 }
 
-// The same, of the width of a type. `NoMemory` alone.
+// The same, of the width of a type. Fails only with `NoMemory`.
 fn records_of_type(
     alloc: Global,
     ptype: PType,
@@ -105,7 +105,7 @@ fn records_of_type(
     }
 }
 
-// The column of the numbers of a type. `NoMemory` alone.
+/// The column of the numbers of a type. Fails only with `NoMemory`.
 pub(crate) fn numbers_in(
     alloc: Global,
     ptype: PType,

@@ -37,7 +37,7 @@ pub struct StepImage<'a> {
     pub multipliers: &'a [u8],
 }
 
-// What a step does.
+/// What a step does.
 #[derive(Clone, Copy)]
 pub(crate) enum StepKind {
     Slice,
@@ -46,7 +46,7 @@ pub(crate) enum StepKind {
     TakePieces,
 }
 
-// The kind that a number names.
+/// The kind that a number names.
 pub(crate) fn kind_of(code: u64) -> Option<StepKind>
     ensures { result ≡ kind_in code }
 {
@@ -59,7 +59,7 @@ pub(crate) fn kind_of(code: u64) -> Option<StepKind>
     }
 }
 
-// The type that a number names.
+/// The type that a number names.
 pub(crate) fn ptype_of(code: u64) -> Option<PType>
     ensures { result ≡ ptype_in code }
 {

@@ -34,7 +34,7 @@ pub struct Lacking {
 }
 
 impl StepImage<'_> {
-    // What the image lacks; none where it has a meaning.
+    /// What the image lacks; none where it has a meaning.
     pub(crate) fn lack(&self) -> Option<Lack>
         ensures { result ≡ step_lack (step_parts self.now) }
     {
@@ -139,7 +139,7 @@ fn holds_records(bytes: &[u8], end: usize, width: usize) -> bool
     end as u128 * width as u128 <= bytes.len() as u128
 }
 
-// The first image that lacks something.
+/// The first image that lacks something.
 pub(crate) fn first_lack(steps: &[StepImage]) -> Option<Lacking>
     ensures { result ≡ first_lack 0 (map step_parts steps.now) }
 {

@@ -16,7 +16,7 @@ pub struct Need {
 }
 
 impl Need {
-    // What so many picks need, of which some may be null where `nullability` says so.
+    /// What so many picks need, of which some may be null where `nullability` says so.
     pub(crate) fn of(places: usize, nullability: Nullability) -> Need
         ensures { result ≡ need_of places nullability }
     {
@@ -27,7 +27,7 @@ impl Need {
         Need { places, valid }
     }
 
-    // Whether so many places and bytes are room enough.
+    /// Whether so many places and bytes are room enough.
     pub(crate) fn has_room(&self, places: usize, valid: usize) -> bool
         ensures { result ≡ has_room self.now places valid }
     {

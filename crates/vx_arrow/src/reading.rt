@@ -16,7 +16,7 @@ use vx_pieces::{Indices, PiecewiseSequence};
 use vx_steps::Step;
 use vx_types::PType;
 
-// A column that is known to be flat, behind a counted pointer. `NoMemory` alone.
+// A column that is known to be flat, behind a counted pointer. Fails only with `NoMemory`.
 fn flat_ref(alloc: Global, array: Array) -> Result<FlatRef, NoMemory>
     requires { is_flat array.dtype ≡ true }
     ensures { IfOk result (λ f. f ≡ array) }
@@ -28,7 +28,7 @@ fn flat_ref(alloc: Global, array: Array) -> Result<FlatRef, NoMemory>
 }
 
 impl StepImage<'_> {
-    // The step that the image means. `NoMemory` alone.
+    /// The step that the image means. Fails only with `NoMemory`.
     pub(crate) fn step(&self, alloc: Global) -> Result<Step, NoMemory>
         requires { step_lack (step_parts self.now) ≡ None }
         ensures { IfOk result (λ s. step_value s ≡ step_in (step_parts self.now)) }
@@ -48,7 +48,7 @@ impl StepImage<'_> {
         }
     }
 
-    // The filter by its bits, a null of which isn't true. `NoMemory` alone.
+    // The filter by its bits, a null of which isn't true. Fails only with `NoMemory`.
     fn filter(&self, alloc: Global) -> Result<Step, NoMemory>
         requires { filter_lack (step_parts self.now) ≡ None }
         ensures { IfOk result (λ s. step_value s ≡ filter_in (step_parts self.now)) }
@@ -64,7 +64,7 @@ impl StepImage<'_> {
         }
     }
 
-    // The take by its numbers. `NoMemory` alone.
+    // The take by its numbers. Fails only with `NoMemory`.
     fn take(&self, alloc: Global, ptype: PType) -> Result<Step, NoMemory>
         requires { take_lack ptype (step_parts self.now) ≡ None }
         ensures { IfOk result (λ s. step_value s ≡ typed_take_in ptype (step_parts self.now)) }
@@ -75,7 +75,7 @@ impl StepImage<'_> {
         Ok(Step::Take(Indices::Array(flat_ref(alloc, numbers)?)))
     }
 
-    // A column of numbers of its pieces. `NoMemory` alone.
+    // A column of numbers of its pieces. Fails only with `NoMemory`.
     fn naturals(&self, alloc: Global, bytes: &[u8]) -> Result<ArrayRef, NoMemory>
         requires counted { self.now.offset + self.now.len < 2 ^ 63 }
         requires held { holds_records 8 bytes.now (self.now.offset + self.now.len) ≡ true }
@@ -86,7 +86,7 @@ impl StepImage<'_> {
         numbers_in(alloc, PType::U64, bytes, validity, offset, len)?.into_ref(alloc)
     }
 
-    // The take by its pieces. `NoMemory` alone.
+    // The take by its pieces. Fails only with `NoMemory`.
     fn take_pieces(&self, alloc: Global) -> Result<Step, NoMemory>
         requires { pieces_lack (step_parts self.now) ≡ None }
         ensures { IfOk result (λ s. step_value s ≡ pieces_in (step_parts self.now)) }
@@ -102,7 +102,7 @@ impl StepImage<'_> {
     }
 }
 
-// The steps that images mean, of which none lacks anything. `NoMemory` alone.
+/// The steps that images mean, of which none lacks anything. Fails only with `NoMemory`.
 pub(crate) fn steps_of(alloc: Global, images: &[StepImage]) -> Result<Vec<Step>, NoMemory>
     requires { first_lack 0 (map step_parts images.now) ≡ None }
     ensures { IfOk result

@@ -19,7 +19,7 @@ pub enum Refusal {
     },
     /// The picks need more room than there is.
     Room(Need),
-    /// Want of memory.
+    /// Out of memory.
     NoMemory,
 }
 

@@ -24,7 +24,7 @@ fn put_bit(bytes: &mut [u8], j: usize, bit: bool)
     bytes[j / 8] = if bit { old | mask } else { old & !mask };
 }
 
-// Writes a place for each pick.
+/// Writes a place for each pick.
 pub(crate) fn write_places(picks: &Picks, places: &mut [u64])
     requires { length picks.now.picks ≤ length places.old }
     ensures { ArePlaced picks.now.picks places.old places.new }
@@ -34,7 +34,7 @@ pub(crate) fn write_places(picks: &Picks, places: &mut [u64])
     }
 }
 
-// Writes a bit for each pick: whether it is there.
+/// Writes a bit for each pick: whether it is valid.
 pub(crate) fn write_valid(picks: &Picks, valid: &mut [u8])
     requires { length picks.now.picks ≤ 8 * length valid.old }
     ensures { AreMarked picks.now.picks valid.old valid.new }

@@ -89,8 +89,8 @@ not_all_clear mask some = elim (cases_lt 0 (count_ones mask)) [
   | inr none ↦ absurd (some (zero_from_ones mask (omega (arith, none))))
 ]
 
--- what the positions that aren't clear pick of `packed` is the word's bits at the upper end, above a
--- zero for each turn
+-- what the positions that aren't clear pick of `packed` is the word's bits at the upper end, above
+-- a zero for each turn
 pub record IsClosing (src mask packed clear : ℕ) : Type 0 where
   pub value : packed_of 64 packed (2 ^ 64 - 1 - clear) * 2 ^ count_ones clear ≡ pext src mask * 2 ^ (64 - count_ones mask)
   pub apart : (i : ℕ) → bit_at clear i ≡ 1 → bit_at packed i ≡ 0

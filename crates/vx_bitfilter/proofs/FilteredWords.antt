@@ -33,11 +33,11 @@ busy_more : (mask : List Bool) (n : ℕ) → busy_words mask (n + 1) ≡ busy_wo
 busy_more mask n =
     ap (filter (λ i. not (eqb (word_at mask i) 0))) (words_more n) ∙ filter-append (λ i. not (eqb (word_at mask i) 0)) (first_words n) (n ∷ [])
 
--- the mask's next word is told
+-- the mask's next word is recorded
 pub next_told : (start before after : Option (List ℕ)) (n : ℕ) → before ≡ then_told start (first_words n) → after ≡ then_told before (n ∷ []) → after ≡ then_told start (first_words (n + 1))
 next_told start before after n e f = f ∙ ap (λ r. then_told r (n ∷ [])) e ∙ told_more start (first_words n) (n ∷ []) ∙ ap (then_told start) (sym (words_more n))
 
--- the source's next word is told, where the mask's is not 0
+-- the source's next word is recorded, where the mask's is not 0
 pub busy_told : (mask : List Bool) (start before after : Option (List ℕ)) (n : ℕ) → (word_at mask n ≡ 0 → ⊥) → before ≡ then_told start (busy_words mask n) → after ≡ then_told before (n ∷ []) → after ≡ then_told start (busy_words mask (n + 1))
 busy_told mask start before after n some e f =
     let more = busy_more mask n ∙ ap (λ b. busy_words mask n ++ cond (not b) (n ∷ []) []) (ne_eqb (word_at mask n) 0 some) in

@@ -1,5 +1,5 @@
--- Bits that go to their ranks: each set bit that is picked stands where the number of picks below it
--- says.
+-- Bits that go to their ranks: each set bit that is picked stands where the number of picks below
+-- it says.
 use Rattle.std.proofs.Common.{◌≡◌, ℕ, zero, suc, ◌+◌, ◌-◌, ◌*◌, ◌/◌, ◌%◌, ◌^◌, ◌<◌, ◌≤◌, min, bit_and, bit_or, inl, inr, sym, ap, ap₂, ◌∙◌, zero-add, arith}
 use Rattle.std.specs.Int.{bit_at, w64}
 use Rattle.std.specs.Int.RustNames.{count_ones}

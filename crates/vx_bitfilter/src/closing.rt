@@ -2,9 +2,9 @@
 ghost use Rattle.std.specs.Prelude.{◌≡◌};
 ghost use Rattle.vx_bitfilter.specs.Pext.{pext};
 
-// The bits of `src` at the set positions of `mask`, packed from bit 0, and zero above them: a turn
-// for each clear position, the lowest first, into which all bits below it move up by one. So they
-// come to stand at the word's upper end.
+/// The bits of `src` at the set positions of `mask`, packed from bit 0, and zero above them: a turn
+/// for each clear position, the lowest first, into which all bits below it move up by one. So they
+/// come to stand at the word's upper end.
 #[inline(always)]
 pub(crate) fn closed_up(src: u64, mask: u64) -> u64
     ensures { result ≡ pext src mask }

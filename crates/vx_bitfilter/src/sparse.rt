@@ -9,8 +9,8 @@ use std::alloc::Global;
 use vx_bits::{BitBuffer, BitBuilder, NoMemory};
 use vx_mask::MaskValues;
 
-/// The source's bits at the mask's set positions, from offset 0 on: Vortex's `filter_sparse`.
-/// `NoMemory` alone.
+/// The source's bits at the mask's set positions, from offset 0 on: Vortex's `filter_sparse`. Fails
+/// only with `NoMemory`.
 ///
 /// It walks the set positions, by the mask's indices where it keeps them, else by its words.
 pub fn filter_sparse(

@@ -28,7 +28,7 @@ impl Model for PextTable {
 }
 
 impl PextTable {
-    /// The table of 65,536 entries. `NoMemory` alone.
+    /// The table of 65,536 entries. Fails only with `NoMemory`.
     pub fn new(alloc: Global) -> Result<PextTable, NoMemory>
         ensures { IfOk result (λ t. t ≡ pext_entries) }
     {

@@ -14,7 +14,7 @@ use std::marker::Model;
 use vx_bits::{BitBuffer, BitBuilder, NoMemory, WordReader, Words};
 
 /// The source's bits at the mask's set positions, from offset 0 on, wherever the bits of each lie
-/// in their bytes: Vortex's `filter_bitbuffer_by_mask`. `NoMemory` alone.
+/// in their bytes: Vortex's `filter_bitbuffer_by_mask`. Fails only with `NoMemory`.
 ///
 /// `true_count` is the number of the mask's set bits.
 pub fn filter_bitbuffer_by_mask(
@@ -81,7 +81,7 @@ impl<'a> WordReader for ViewedWords<'a> {
     }
 }
 
-/// The source's bits at the mask's set positions, from offset 0 on. `NoMemory` alone.
+/// The source's bits at the mask's set positions, from offset 0 on. Fails only with `NoMemory`.
 ///
 /// The mask is asked for each word that holds a bit, once, ascending, and the source for those at
 /// which the mask's word is not 0. `true_count` is the number of the mask's set bits.

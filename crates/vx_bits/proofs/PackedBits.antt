@@ -9,7 +9,8 @@ use Rattle.vx_bits.proofs.BitLists.{number_take_below}
 use Rattle.vx_bits.proofs.WordLists.{take_both}
 use Rattle.vx_bits.proofs.ByteWords.{eight_items}
 
--- eight bits that stand in eight bytes, times a number that brings each to its place of the highest byte
+-- eight bits that stand in eight bytes, times a number that brings each to its place of the highest
+-- byte
 pub packed_eight : (a b c d e f g h : ℕ) → a ≤ 1 → b ≤ 1 → c ≤ 1 → d ≤ 1 → e ≤ 1 → f ≤ 1 → g ≤ 1 → h ≤ 1
     → (a + 256 * (b + 256 * (c + 256 * (d + 256 * (e + 256 * (f + 256 * (g + 256 * h))))))) * 0x0102_0408_1020_4080 % 2 ^ 64 / 2 ^ 56 ≡ a + 2 * (b + 2 * (c + 2 * (d + 2 * (e + 2 * (f + 2 * (g + 2 * h))))))
 packed_eight a b c d e f g h pa pb pc pd pe pf pg ph =

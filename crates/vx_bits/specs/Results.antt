@@ -6,8 +6,8 @@ abbrev pub ok_unless : {T E : Type 0} → Option E → T → Result T E
 ok_unless None value = Ok value
 ok_unless (Some fault) value = Err fault
 
--- an error is that fault, or want of memory where there is none, and a value comes only where
--- there is none
+-- an error is that fault, or `NoMemory` where there is none, and a value comes only where there is
+-- none
 abbrev pub FailsBy : {T E : Type 0} → Result T E → Option E → E → Type 0
 FailsBy result fault no_memory =
     MatchResult result (λ _. fault ≡ None) (λ e. e ≡ unwrap_or fault no_memory)

@@ -67,7 +67,7 @@ impl BitBuffer {
         Ok(BitBuffer { bytes, offset, len })
     }
 
-    // The first `len` bits of the bytes.
+    /// The first `len` bits of the bytes.
     pub(crate) fn from_start(bytes: Buffer<u8>, len: usize) -> BitBuffer
         requires { len ≤ 8 * length bytes }
         ensures { result ≡ record { bits = bits_of bytes 0 len; offset = 0 } }
@@ -192,7 +192,7 @@ impl BitBuffer {
         }
     }
 
-    /// The same bits once more, at the same offset. It takes no memory.
+    /// Another handle to the same bits, at the same offset. It takes no memory.
     pub fn share(&self) -> BitBuffer
         ensures { result ≡ self.now }
     {

@@ -19,7 +19,7 @@ const BLOCK: usize = 256;
 /// A list of bits that grows, and becomes a `BitBuffer`.
 ///
 /// Clauses see the bits. A refused append leaves them as they were. More than `usize::MAX` bits
-/// are want of memory.
+/// give `NoMemory`.
 #[derive(Drop)]
 pub struct BitBuilder {
     alloc: Global,
@@ -52,7 +52,7 @@ impl BitBuilder {
         }
     }
 
-    /// No bit yet, and room for so many. `NoMemory` alone.
+    /// No bit yet, and room for so many. Fails only with `NoMemory`.
     pub fn with_capacity(alloc: Global, bits: usize) -> Result<BitBuilder, NoMemory>
         ensures { IfOk result (λ b. b ≡ []) }
     {
@@ -71,7 +71,7 @@ impl BitBuilder {
         8 * self.bytes.len() + self.held as usize
     }
 
-    /// Appends a bit. `NoMemory` alone.
+    /// Appends a bit. Fails only with `NoMemory`.
     pub fn append(&mut self, bit: bool) -> Result<(), NoMemory>
         ensures ok { OnOk result (self.new ≡ self.old ++ bit ∷ []) }
         ensures err { OnErr result (self.new ≡ self.old) }
@@ -79,7 +79,7 @@ impl BitBuilder {
         self.append_word(word_alike(bit), 1)
     }
 
-    /// Appends a bit `n` times over. `NoMemory` alone.
+    /// Appends a bit `n` times over. Fails only with `NoMemory`.
     pub fn append_n(&mut self, bit: bool, n: usize) -> Result<(), NoMemory>
         ensures ok { OnOk result (self.new ≡ self.old ++ replicate n bit) }
         ensures err { OnErr result (self.new ≡ self.old) }
@@ -97,7 +97,7 @@ impl BitBuilder {
         Ok(())
     }
 
-    /// Appends the lowest `n` bits of the word, the lowest first. `NoMemory` alone.
+    /// Appends the lowest `n` bits of the word, the lowest first. Fails only with `NoMemory`.
     #[inline]
     pub fn append_word(&mut self, word: u64, n: usize) -> Result<(), NoMemory>
         requires { n ≤ 64 }
@@ -131,7 +131,7 @@ impl BitBuilder {
         }
     }
 
-    /// The bits, the first one at offset 0. `NoMemory` alone.
+    /// The bits, the first one at offset 0. Fails only with `NoMemory`.
     pub fn finish(self) -> Result<BitBuffer, NoMemory>
         ensures { IfOk result (λ b. b ≡ record { bits = self; offset = 0 }) }
     {

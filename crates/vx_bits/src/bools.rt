@@ -8,7 +8,7 @@ use crate::error::NoMemory;
 use std::alloc::Global;
 
 impl BitBuffer {
-    /// The same bits, the first one at offset 0. `NoMemory` alone.
+    /// The same bits, the first one at offset 0. Fails only with `NoMemory`.
     pub fn from_bools(alloc: Global, bits: &[bool]) -> Result<BitBuffer, NoMemory>
         ensures { IfOk result (λ b. b ≡ record { bits = bits.now; offset = 0 }) }
     {

@@ -37,7 +37,7 @@ impl<T: Copy> Drop for Buffer<T> {
 }
 
 impl<T: Copy> Buffer<T> {
-    /// The list of `values`. `NoMemory` alone, where the shared list gets no memory.
+    /// The list of `values`. Fails only with `NoMemory`, where the shared list gets no memory.
     pub fn from_vec(alloc: Global, values: Vec<T>) -> Result<Buffer<T>, NoMemory>
         ensures { IfOk result (λ b. b ≡ values.items) }
     {
@@ -84,7 +84,7 @@ impl<T: Copy> Buffer<T> {
         }
     }
 
-    /// The same list once more. It takes no memory.
+    /// Another handle to the same list. It takes no memory.
     pub fn share(&self) -> Buffer<T>
         ensures { result ≡ self.now }
     {

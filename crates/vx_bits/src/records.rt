@@ -94,7 +94,7 @@ impl Records {
         map_each_record_width!(self, buffer => buffer.slice(start, end))
     }
 
-    /// The same records once more. It takes no memory.
+    /// Another handle to the same records. It takes no memory.
     pub fn share(&self) -> Records
         ensures { result ≡ self.now }
     {

@@ -13,7 +13,7 @@ pub trait WordReader {
     // the bits
     ghost bits: { Self → List Bool };
 
-    // the numbers of the words that were read, where they are told
+    // the numbers of the words that were read, where they are recorded
     ghost reads: { Self → Option (List ℕ) };
 
     // how many words may still be read
@@ -98,7 +98,7 @@ impl Model for CountedWords {
 }
 
 impl CountedWords {
-    /// A reader of these bits that may read `room` words. `NoMemory` alone.
+    /// A reader of these bits that may read `room` words. Fails only with `NoMemory`.
     pub fn new(alloc: Global, bits: BitBuffer, room: usize) -> Result<CountedWords, NoMemory>
         ensures { IfOk result (λ w. w ≡ record { bits = bits.bits; reads = []; spare = room }) }
     {

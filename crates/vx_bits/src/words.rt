@@ -28,7 +28,7 @@ impl<'a> Model for Words<'a> {
 }
 
 impl<'a> Words<'a> {
-    // The words of the `len` bits from bit `shift` of the bytes on.
+    /// The words of the `len` bits from bit `shift` of the bytes on.
     #[inline(always)]
     pub(crate) fn new(bytes: &'a [u8], shift: u32, len: usize) -> Words<'a>
         requires { bit_fault (length bytes.now) shift len ≡ None }

@@ -55,7 +55,7 @@ pub calls_none : (limit : ℕ) (all : List ℕ) (chunk : ℕ) → calls_from lim
 unfolding calls_from
 calls_none limit all chunk = refl
 
--- one chunk's call was told
+-- one chunk's call was recorded
 pub told_next : (now new total : Option (List Call)) (limit : ℕ) (all places rest : List ℕ) (chunk n m : ℕ) → then_told now (calls_from limit all chunk n) ≡ total → new ≡ then_told now (call_for limit chunk (length places)) → all ≡ map (λ p. 1024 * chunk + p) places ++ rest → All (λ p. p < 1024) places → All (λ p. 1024 * (chunk + 1) ≤ p) rest → n ≡ suc m → then_told new (calls_from limit rest (chunk + 1) m) ≡ total
 told_next now new total limit all places rest chunk n m h t e inside beyond c =
     ap (λ r. then_told r (calls_from limit rest (chunk + 1) m)) t

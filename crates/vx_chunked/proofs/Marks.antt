@@ -183,7 +183,8 @@ picked_front (suc n) (b ∷ bits) [] h = refl
 picked_front (suc n) (true ∷ bits) (x ∷ xs) h = ap (λ l. x ∷ l) (picked_front n bits xs (omega arith))
 picked_front (suc n) (false ∷ bits) (x ∷ xs) h = picked_front n bits xs (omega arith)
 
--- what bits pick of items is what stands at their set positions, where those past the items are clear
+-- what bits pick of items is what stands at their set positions, where those past the items are
+-- clear
 pub picked_places : {X : Type 0} (bits : List Bool) (src : List X) → length src ≤ length bits → AllBits bits (length src) (length bits) false → map Some (items_where_true bits src) ≡ map (slice_get src) (set_of bits)
 picked_places bits src h clear =
     let n = length src in

@@ -27,8 +27,8 @@ struct BitFront {
         false },
 }
 
-// Bits from `at` on, each a position that counts from value `offset` on, and those that were taken
-// last. A chunk's values are copied run after run where its runs have `long` bits on average.
+/// Bits from `at` on, each a position that counts from value `offset` on, and those that were taken
+/// last. A chunk's values are copied run after run where its runs have `long` bits on average.
 #[derive(Drop)]
 pub(crate) struct BitCursor<'a> {
     bits: &'a BitBuffer,
@@ -41,8 +41,8 @@ pub(crate) struct BitCursor<'a> {
 }
 
 impl BitCursor<'_> {
-    // A cursor over the bits of a mask. A chunk's values are copied run after run where its runs
-    // have `long` bits on average.
+    /// A cursor over the bits of a mask. A chunk's values are copied run after run where its runs
+    /// have `long` bits on average.
     pub(crate) fn new<'a>(mask: &'a MaskValues, offset: usize, long: usize) -> BitCursor<'a>
         requires { offset + length mask.now.bits.bits < 2 ^ 64 }
         ensures { map (λ i. result.offset + i) (positions_from result.at result.bits.now.bits)

@@ -4,7 +4,7 @@ ghost use Rattle.std.specs.List.{All};
 ghost use Rattle.vx_mask.specs.Positions.{ascending};
 ghost use Rattle.vx_chunked.specs.Positions.{AscendFrom};
 
-// Ascending positions, of which each call takes those of one chunk.
+/// Ascending positions, of which each call takes those of one chunk.
 pub(crate) trait Cursor<T: Copy> {
     // the positions that are left
     ghost rest: { Self → List ℕ };

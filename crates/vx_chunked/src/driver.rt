@@ -56,8 +56,8 @@ fn scratch_of<T: Record>(alloc: Global) -> Result<Vec<T>, NoMemory>
     Ok(scratch)
 }
 
-// Reserves all that is needed, and only then asks for the chunks of the cursor's positions, which
-// number `total` and lie before `end`.
+/// Reserves all that is needed, and only then asks for the chunks of the cursor's positions, which
+/// number `total` and lie before `end`.
 pub(crate) fn filter_at<T: Record, D: ChunkDecoder<T>, C: Cursor<T>>(
     alloc: Global,
     decoder: &mut D,

@@ -32,8 +32,8 @@ fn long_in_words(policy: &Policy, width: usize) -> usize {
     policy.fields().min_run_bytes.div_ceil(width.max(1)).min(4)
 }
 
-/// The values at the indices, which count from value `offset` on: those of `filter_chunked` for
-/// the mask of `len` rows with these set positions. `NoMemory` alone.
+/// The values at the indices, which count from value `offset` on: those of `filter_chunked` for the
+/// mask of `len` rows with these set positions. Fails only with `NoMemory`.
 pub fn filter_chunked_by_indices<T: Record, D: ChunkDecoder<T>>(
     alloc: Global,
     decoder: &mut D,
@@ -75,7 +75,7 @@ fn total_of(len: usize, slices: &[(usize, usize)]) -> usize
 }
 
 /// The values of the runs, which count from value `offset` on: those of `filter_chunked` for the
-/// mask of `len` rows with these set positions. A run may cross chunks. `NoMemory` alone.
+/// mask of `len` rows with these set positions. A run may cross chunks. Fails only with `NoMemory`.
 pub fn filter_chunked_by_slices<T: Record, D: ChunkDecoder<T>>(
     alloc: Global,
     decoder: &mut D,
@@ -135,7 +135,7 @@ fn filter_by<T: Record, D: ChunkDecoder<T>, C: Cursor<T>>(
 }
 
 /// The values at the set positions of the mask, which count from value `offset` on: Vortex's
-/// `filter_chunked`. `NoMemory` alone.
+/// `filter_chunked`. Fails only with `NoMemory`.
 ///
 /// Of each chunk that holds selected values these alone are decoded, where they number at most the
 /// policy's sparse limit, else the whole chunk. No chunk is asked for before all memory is there.
@@ -202,7 +202,7 @@ fn filter_front<T: Record, D: ChunkDecoder<T>>(
     filter_at(alloc, decoder, &mut cursor, end, count, limit)
 }
 
-/// The same for any mask. `NoMemory` alone.
+/// The same for any mask. Fails only with `NoMemory`.
 pub fn filter_chunked_mask<T: Record, D: ChunkDecoder<T>>(
     alloc: Global,
     decoder: &mut D,

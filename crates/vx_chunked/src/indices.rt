@@ -17,8 +17,8 @@ struct IndexFront<'a> {
     ghost inside: { All (λ i. IsInChunk base (offset + i)) indices.now },
 }
 
-// Indices that are left, each a position that counts from value `offset` on, and those that were
-// taken last.
+/// Indices that are left, each a position that counts from value `offset` on, and those that were
+/// taken last.
 #[derive(Drop)]
 pub(crate) struct IndexCursor<'a> {
     indices: &'a [usize],
@@ -27,7 +27,7 @@ pub(crate) struct IndexCursor<'a> {
 }
 
 impl IndexCursor<'_> {
-    // A cursor over these indices.
+    /// A cursor over these indices.
     pub(crate) fn new<'a>(indices: &'a [usize], offset: usize) -> IndexCursor<'a>
         ensures { map (λ i. result.offset + i) result.indices.now
             ≡ map (λ i. offset + i) indices.now }

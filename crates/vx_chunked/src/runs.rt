@@ -28,7 +28,7 @@ struct RunFront<'a> {
         (take count (with_runs runs.start runs.end runs.later.now)) },
 }
 
-// Runs whose positions count from value `offset` on, and those positions that were taken last.
+/// Runs whose positions count from value `offset` on, and those positions that were taken last.
 #[derive(Drop)]
 pub(crate) struct RunCursor<'a> {
     runs: Runs<'a>,
@@ -37,7 +37,7 @@ pub(crate) struct RunCursor<'a> {
 }
 
 impl RunCursor<'_> {
-    // A cursor over the positions from `start` up to `end`, and those of the runs.
+    /// A cursor over the positions from `start` up to `end`, and those of the runs.
     pub(crate) fn new<'a>(
         start: usize,
         end: usize,

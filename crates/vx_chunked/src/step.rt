@@ -7,8 +7,8 @@ ghost use Rattle.vx_chunked.specs.Positions.{AscendFrom};
 use crate::cursor::Cursor;
 use vx_decoder::{ChunkDecoder, FILTER_CHUNK_LEN};
 
-// Asks for one chunk, once and only where some of its values were taken, and appends these. There
-// is room for them.
+/// Asks for one chunk, once and only where some of its values were taken, and appends these. There
+/// is room for them.
 pub(crate) fn put_chunk<T: Copy, D: ChunkDecoder<T>, C: Cursor<T>>(
     decoder: &mut D,
     chunk: usize,

@@ -111,7 +111,7 @@ impl Drop for Array {
 }
 
 impl Layout {
-    /// The same layout once more. It takes no memory.
+    /// Another handle to the same layout. It takes no memory.
     pub fn share(&self) -> Layout
         ensures { result ≡ self.now }
     {
@@ -137,7 +137,7 @@ impl Layout {
 }
 
 impl Array {
-    // The column of this layout, which is of this type and has so many rows.
+    /// The column of this layout, which is of this type and has so many rows.
     pub(crate) fn new(dtype: DType, len: usize, layout: Layout) -> Array
         requires typed { type_of dtype ≡ (column_of layout).dtype }
         requires long { len ≡ length (column_of layout).rows }
@@ -176,7 +176,7 @@ impl Array {
         self.dtype.is_flat()
     }
 
-    /// The same column once more. It takes no memory.
+    /// Another handle to the same column. It takes no memory.
     pub fn share(&self) -> Array
         ensures { result ≡ self.now }
     {
@@ -187,7 +187,7 @@ impl Array {
         }
     }
 
-    /// The column behind a counted pointer. `NoMemory` alone.
+    /// The column behind a counted pointer. Fails only with `NoMemory`.
     pub fn into_ref(self, alloc: Global) -> Result<ArrayRef, NoMemory>
         ensures { IfOk result (λ r. r ≡ self) }
     {

@@ -70,7 +70,7 @@ impl BoolArray {
         &self.bits
     }
 
-    /// Which rows are there.
+    /// Which rows are valid.
     pub fn validity(&self) -> &Validity
         ensures { IsPart (bool_fault self.now) (valid_of result.now) self.now.valid }
     {
@@ -88,7 +88,7 @@ impl BoolArray {
         }
     }
 
-    /// The same column once more. It takes no memory.
+    /// Another handle to the same column. It takes no memory.
     pub fn share(&self) -> BoolArray
         ensures { result ≡ self.now }
     {
@@ -108,7 +108,7 @@ impl BoolArray {
         Array::new(dtype, len, Layout::Bool(self))
     }
 
-    // The rows from `start` up to `end`, where the validity is a constant form.
+    /// The rows from `start` up to `end`, where the validity is a constant form.
     #[tactic(auto, using(vx_model::proofs::Layouts::layout_rows))]
     pub(crate) fn slice_plain(&self, start: usize, end: usize) -> Option<Array>
         requires ordered { start ≤ end }
@@ -142,7 +142,7 @@ impl ReadRow for BoolArray {
 
 // Which rows are true.
 impl BoolArray {
-    // The rows from `start` on.
+    /// The rows from `start` on.
     #[cycle(truth)]
     #[tactic(auto, using(crate::proofs::TruthBits::truth))]
     pub(crate) fn true_from(&self, start: usize) -> Stretch
@@ -167,14 +167,14 @@ impl BoolArray {
         }
     }
 
-    // The bits of its rows, where the validity isn't an array; none where it is, and where all rows
-    // are null.
+    /// The bits of its rows, where the validity isn't an array; none where it is, and where all
+    /// rows are null.
     #[tactic(auto, using(crate::proofs::TruthBits::truth, crate::proofs::TruthBits::plain))]
-    pub(crate) fn present_bits(&self) -> Option<&BitBuffer>
+    pub(crate) fn plain_bits(&self) -> Option<&BitBuffer>
         ensures rows { IfSome result (λ b. (bool_column self.now).rows ≡ map bit b.now.bits) }
         ensures yes { IfSome result (λ b. b.now.bits ≡ true_bits (bool_column self.now)) }
         ensures plain { IfSome result (λ _. is_plain_bools (bool_column self.now) ≡ true) }
-        ensures told { (i : ℕ) → is_plain_bools (bool_column self.now) ≡ true
+        ensures exactly { (i : ℕ) → is_plain_bools (bool_column self.now) ≡ true
             → slice_index_or (bool_column self.now).rows i null ≢ null → IsSome result }
     {
         let bits = self.bits();

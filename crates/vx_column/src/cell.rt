@@ -82,7 +82,7 @@ impl Cell<'_> {
     }
 }
 
-// A layout that reads a row of its own.
+/// A layout that reads a row of its own.
 pub(crate) trait ReadRow {
     // the column of the layout
     ghost column: { Self → Column };

@@ -36,7 +36,7 @@ impl Model for Columns {
 }
 
 impl Columns {
-    /// The list behind a counted pointer. `NoMemory` alone.
+    /// The list behind a counted pointer. Fails only with `NoMemory`.
     pub fn new(alloc: Global, columns: Vec<ArrayRef>) -> Result<Columns, NoMemory>
         ensures { IfOk result (λ c. c ≡ columns.items) }
     {
@@ -67,7 +67,7 @@ impl Columns {
         self.list.as_ref()
     }
 
-    /// The same columns once more. It takes no memory.
+    /// Another handle to the same columns. It takes no memory.
     pub fn share(&self) -> Columns
         ensures { result ≡ self.now }
     {

@@ -50,7 +50,7 @@ impl ConstantArray {
         self.len
     }
 
-    /// The same column once more. It takes no memory.
+    /// Another handle to the same column. It takes no memory.
     pub fn share(&self) -> ConstantArray
         ensures { result ≡ self.now }
     {
@@ -101,7 +101,7 @@ impl ConstantArray {
         }
     }
 
-    // The rows from `start` on.
+    /// The rows from `start` on.
     #[tactic(auto, using(vx_model::proofs::LazyRows::lazy_rows))]
     pub(crate) fn true_from(&self, start: usize) -> Stretch
         requires { start < length (constant_column self.now).rows }
@@ -120,7 +120,7 @@ impl Array {
     pub fn as_constant(&self) -> Option<&Scalar>
         ensures value { IfSome result (λ s. constant_column
             (record { scalar = s.now; len = length self.now.rows }) ≡ self.now) }
-        ensures told { is_some result ≡ is_constant_layout self.now.layout }
+        ensures exactly { is_some result ≡ is_constant_layout self.now.layout }
     {
         match self.layout() {
             Layout::Constant(a) => Some(a.scalar()),

@@ -62,7 +62,7 @@ impl DecimalArray {
         Ok(DecimalArray { rows })
     }
 
-    // The column of these rows.
+    /// The column of these rows.
     pub(crate) fn of(rows: RecordArray) -> DecimalArray
         requires { is_decimal_kind rows.kind ≡ true }
         ensures { result ≡ rows }
@@ -97,14 +97,14 @@ impl DecimalArray {
         self.rows.values()
     }
 
-    /// Which rows are there.
+    /// Which rows are valid.
     pub fn validity(&self) -> &Validity
         ensures { IsPart (records_fault self.now) (valid_of result.now) self.now.valid }
     {
         self.rows.validity()
     }
 
-    /// The same column once more. It takes no memory.
+    /// Another handle to the same column. It takes no memory.
     pub fn share(&self) -> DecimalArray
         ensures { result ≡ self.now }
     {

@@ -97,7 +97,7 @@ impl DictArray {
         }
     }
 
-    /// The same column once more. It takes no memory.
+    /// Another handle to the same column. It takes no memory.
     pub fn share(&self) -> DictArray
         ensures { result ≡ self.now }
     {
@@ -139,7 +139,7 @@ impl Array {
     pub fn as_dict(&self) -> Option<&DictArray>
         ensures value { IfSome result (λ d. dict_column d.now ≡ self.now) }
         ensures codes { option_map (λ d. dict_codes d.now) result ≡ self.now.codes }
-        ensures told { IsSome result ↔ (self.now.layout ≡ DictLayout) }
+        ensures exactly { IsSome result ↔ (self.now.layout ≡ DictLayout) }
     {
         match self.layout() {
             Layout::Dict(a) => Some(a),

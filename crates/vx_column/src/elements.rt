@@ -37,7 +37,7 @@ impl Model for Elements {
 }
 
 impl Elements {
-    /// The elements of this column. `NoMemory` alone.
+    /// The elements of this column. Fails only with `NoMemory`.
     pub(crate) fn new(alloc: Global, column: ArrayRef) -> Result<Elements, ColumnError>
         ensures made { IfOk result (λ e. e ≡ column) }
         ensures refusal { FailsBy result None ColumnError.NoMemory }

@@ -81,7 +81,7 @@ impl ExtensionArray {
         &self.storage
     }
 
-    /// The same column once more. It takes no memory.
+    /// Another handle to the same column. It takes no memory.
     pub fn share(&self) -> ExtensionArray
         ensures { result ≡ self.now }
     {
@@ -115,7 +115,7 @@ impl Array {
     /// Its storage, and the name that it is under; some exactly where it is of layout `Extension`.
     pub fn as_extension(&self) -> Option<&ExtensionArray>
         ensures value { IfSome result (λ e. extension_column e.now ≡ self.now) }
-        ensures told { IsSome result ↔ (self.now.layout ≡ ExtensionLayout) }
+        ensures exactly { IsSome result ↔ (self.now.layout ≡ ExtensionLayout) }
     {
         match self.layout() {
             Layout::Extension(a) => Some(a),

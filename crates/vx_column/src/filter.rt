@@ -85,7 +85,7 @@ impl FilterArray {
         }
     }
 
-    /// The same column once more. It takes no memory.
+    /// Another handle to the same column. It takes no memory.
     pub fn share(&self) -> FilterArray
         ensures { result ≡ self.now }
     {
@@ -108,8 +108,8 @@ impl FilterArray {
 
 // Which rows are true.
 impl FilterArray {
-    // The rows from `start` on: those that the mask keeps of a stretch of the child, which begins
-    // with the first of them.
+    /// The rows from `start` on: those that the mask keeps of a stretch of the child, which begins
+    /// with the first of them.
     #[cycle(truth)]
     #[tactic(auto, using(vx_model::proofs::LazyRows::lazy_rows, crate::proofs::TruthBits::truth))]
     pub(crate) fn true_from(&self, start: usize) -> Stretch
@@ -126,7 +126,7 @@ impl FilterArray {
         }
     }
 
-    // How many rows are true: the child's at the set positions, a stretch after another.
+    /// How many rows are true: the child's at the set positions, a stretch after another.
     #[cycle(true_rows)]
     #[tactic(auto, using(vx_model::proofs::LazyRows::lazy_rows, crate::proofs::TruthBits::truth))]
     pub(crate) fn true_rows(&self) -> usize

@@ -51,7 +51,8 @@ impl FixedSizeListArray {
     /// A column of `len` rows, each of `list_size` elements, behind those of the row before.
     ///
     /// `WrongLength` exactly where the elements don't number `list_size * len`. Else `BadValidity`
-    /// exactly where the validity can't be that of so many rows. Else `NoMemory` alone.
+    /// exactly where the validity can't be that of so many rows. Otherwise it fails only with
+    /// `NoMemory`.
     pub fn try_new(
         alloc: Global,
         elements: ArrayRef,
@@ -111,7 +112,7 @@ impl FixedSizeListArray {
         self.list_size
     }
 
-    /// Which rows are there.
+    /// Which rows are valid.
     pub fn validity(&self) -> &Validity
         ensures { IsPart (fixed_fault self.now) (valid_of result.now) self.now.valid }
     {
@@ -142,7 +143,7 @@ impl FixedSizeListArray {
         (start, start + size)
     }
 
-    /// The same column once more. It takes no memory.
+    /// Another handle to the same column. It takes no memory.
     pub fn share(&self) -> FixedSizeListArray
         ensures { result ≡ self.now }
     {

@@ -50,7 +50,7 @@ impl FlatRef {
         &self.array
     }
 
-    /// The same column once more. It takes no memory.
+    /// Another handle to the same column. It takes no memory.
     pub fn share(&self) -> FlatRef
         ensures { result ≡ self.now }
     {

@@ -11,7 +11,7 @@ ghost use Rattle.vx_types.specs.declared.layout_name.LayoutName.TheVariants.{Lis
 
 use crate::array::{Array, ArrayRef, Layout};
 use crate::elements::Elements;
-use crate::offsets::{are_integers, cut, position_at, row_count};
+use crate::offsets::{are_integers, cuts_list, position_at, row_count};
 use crate::primitive::PrimitiveArray;
 use crate::validity::Validity;
 use std::alloc::Global;
@@ -56,7 +56,7 @@ impl ListArray {
     /// `WrongType` exactly where the offsets aren't a non-nullable column of integers. Else
     /// `BadValidity` exactly where the validity can't be that of so many rows. Else `BadOffsets`
     /// exactly where there is no offset, or one is negative, below the one before, or past the
-    /// elements. Else `NoMemory` alone.
+    /// elements. Otherwise it fails only with `NoMemory`.
     pub fn try_new(
         alloc: Global,
         elements: ArrayRef,
@@ -73,7 +73,7 @@ impl ListArray {
         if !validity.is_fitting(row_count(&offsets)) {
             return Err(ColumnError::BadValidity);
         }
-        if !cut(&offsets, elements.len()) {
+        if !cuts_list(&offsets, elements.len()) {
             return Err(ColumnError::BadOffsets);
         }
         Ok(ListArray {
@@ -116,7 +116,7 @@ impl ListArray {
         &self.offsets
     }
 
-    /// Which rows are there.
+    /// Which rows are valid.
     pub fn validity(&self) -> &Validity
         ensures { IsPart (list_fault self.now) (valid_of result.now) self.now.valid }
     {
@@ -154,7 +154,7 @@ impl ListArray {
         (self.offset_at(i), self.offset_at(i + 1))
     }
 
-    /// The same column once more. It takes no memory.
+    /// Another handle to the same column. It takes no memory.
     pub fn share(&self) -> ListArray
         ensures { result ≡ self.now }
     {
@@ -180,7 +180,7 @@ impl Array {
     /// Its lists; some exactly where it is of layout `List`.
     pub fn as_list(&self) -> Option<&ListArray>
         ensures value { IfSome result (λ l. list_column l.now ≡ self.now) }
-        ensures told { IsSome result ↔ (self.now.layout ≡ ListLayout) }
+        ensures exactly { IsSome result ↔ (self.now.layout ≡ ListLayout) }
     {
         match self.layout() {
             Layout::List(a) => Some(a),

@@ -57,7 +57,7 @@ impl<'a> Lists<'a> {
         }
     }
 
-    /// Which rows are there.
+    /// Which rows are valid.
     #[tactic(auto, using(vx_model::proofs::ListRows::list_rows, vx_model::proofs::ListRows::listview_rows, vx_model::proofs::ListRows::fixed_rows))]
     pub fn validity(self) -> &'a Validity
         ensures value { valid_of result.now ≡ (spans_of self.entry).valid }
@@ -87,7 +87,7 @@ impl<'a> Lists<'a> {
         }
     }
 
-    // Row `i`.
+    /// Row `i`.
     #[cycle(cell)]
     #[tactic(auto, using(vx_model::proofs::ListRows::any_lists, vx_model::proofs::Layouts::absent_nullable, crate::proofs::Cells::there))]
     pub(crate) fn cell_at(self, i: usize) -> Cell<'a>

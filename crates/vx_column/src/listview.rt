@@ -55,11 +55,11 @@ impl Model for ListViewArray {
 impl ListViewArray {
     /// A column with one row an offset: as many elements as its size, from the offset on.
     ///
-    /// `WrongType` exactly where the offsets or the sizes aren't a non-nullable column of
-    /// integers. Else `WrongLength` exactly where these aren't as many. Else `BadValidity`
-    /// exactly where the validity can't be that of so many rows. Else `BadOffsets` exactly where
-    /// an offset is negative. Else `BadSizes` exactly where a size is negative or passes the
-    /// elements, in a null row too. Else `NoMemory` alone.
+    /// `WrongType` exactly where the offsets or the sizes aren't a non-nullable column of integers.
+    /// Else `WrongLength` exactly where these aren't as many. Else `BadValidity` exactly where the
+    /// validity can't be that of so many rows. Else `BadOffsets` exactly where an offset is
+    /// negative. Else `BadSizes` exactly where a size is negative or passes the elements, in a null
+    /// row too. Otherwise it fails only with `NoMemory`.
     pub fn try_new(
         alloc: Global,
         elements: ArrayRef,
@@ -125,7 +125,7 @@ impl ListViewArray {
         &self.sizes
     }
 
-    /// Which rows are there.
+    /// Which rows are valid.
     pub fn validity(&self) -> &Validity
         ensures { IsPart (listview_fault self.now) (valid_of result.now) self.now.valid }
     {
@@ -177,7 +177,7 @@ impl ListViewArray {
         (start, start + size)
     }
 
-    /// The same column once more. It takes no memory.
+    /// Another handle to the same column. It takes no memory.
     pub fn share(&self) -> ListViewArray
         ensures { result ≡ self.now }
     {
@@ -238,7 +238,7 @@ impl Array {
     /// Its list views; some exactly where it is of layout `ListView`.
     pub fn as_listview(&self) -> Option<&ListViewArray>
         ensures value { IfSome result (λ v. listview_column v.now ≡ self.now) }
-        ensures told { is_some result ≡ is_listview_layout self.now.layout }
+        ensures exactly { is_some result ≡ is_listview_layout self.now.layout }
     {
         match self.layout() {
             Layout::ListView(a) => Some(a),

@@ -85,7 +85,7 @@ impl MapArray {
         &self.entries
     }
 
-    /// The same column once more. It takes no memory.
+    /// Another handle to the same column. It takes no memory.
     pub fn share(&self) -> MapArray
         ensures { result ≡ self.now }
     {

@@ -37,7 +37,7 @@ impl NullArray {
         self.len
     }
 
-    /// The same column once more. It takes no memory.
+    /// Another handle to the same column. It takes no memory.
     pub fn share(&self) -> NullArray
         ensures { result ≡ self.now }
     {
@@ -51,7 +51,7 @@ impl NullArray {
         Array::new(DType::Null, self.len, Layout::Null(self))
     }
 
-    // The rows from `start` up to `end`.
+    /// The rows from `start` up to `end`.
     pub(crate) fn slice_plain(&self, start: usize, end: usize) -> Option<Array>
         requires ordered { start ≤ end }
         requires within { end ≤ length (null_column self.now).rows }
@@ -67,7 +67,7 @@ impl Array {
     /// Its nulls; some exactly where it is of layout `Null`.
     pub fn as_null(&self) -> Option<&NullArray>
         ensures value { IfSome result (λ n. null_column n.now ≡ self.now) }
-        ensures told { is_some result ≡ is_null_layout self.now.layout }
+        ensures exactly { is_some result ≡ is_null_layout self.now.layout }
     {
         match self.layout() {
             Layout::Null(a) => Some(a),

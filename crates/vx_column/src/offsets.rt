@@ -36,7 +36,7 @@ pub(crate) fn row_count(offsets: &PrimitiveArray) -> usize
 }
 
 /// Whether the numbers cut a list of so many bytes.
-pub(crate) fn cut(offsets: &PrimitiveArray, len: usize) -> bool
+pub(crate) fn cuts_list(offsets: &PrimitiveArray, len: usize) -> bool
     requires { are_integers offsets.now ≡ true }
     ensures { result ≡ are_offsets (integers_of offsets.now) len }
 {

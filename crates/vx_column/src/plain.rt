@@ -15,11 +15,11 @@ impl Array {
     /// The records of its rows, one a row, where the layout stores records and no row is null by a
     /// constant form. Some where the layout stores records and the type has no null. It takes no
     /// memory.
-    pub fn present_records(&self) -> Option<&Records>
+    pub fn plain_records(&self) -> Option<&Records>
         ensures { HasRecords self.now (option_map (λ r. r.now) result) }
     {
         match self.records() {
-            Some(records) => records.present_records(),
+            Some(records) => records.plain_records(),
             None => None,
         }
     }
@@ -53,16 +53,16 @@ impl Array {
         }
     }
 
-    /// The records of its rows, null rows too, and a bit a row that says whether it is there. Some
+    /// The records of its rows, null rows too, and a bit a row that says whether it is valid. Some
     /// exactly where the layout stores records and its validity is a column of layout `Bool`. It
     /// takes no memory.
-    pub fn shown_records(&self) -> Option<(&Records, &BitBuffer)>
+    pub fn records_with_validity(&self) -> Option<(&Records, &BitBuffer)>
         ensures rows { IfSome result (λ p. AreShownRowsOf self.now p.0.now p.1.now) }
-        ensures told { is_some result
+        ensures exactly { is_some result
             ≡ (stores_records self.now.layout && is_bools self.now.cover) }
     {
         match self.records() {
-            Some(records) => records.shown_records(),
+            Some(records) => records.records_with_validity(),
             None => None,
         }
     }
@@ -71,7 +71,7 @@ impl Array {
     #[tactic(auto, using(vx_model::proofs::Layouts::layout_rows))]
     pub fn records(&self) -> Option<&RecordArray>
         ensures same { IfSome result (λ r. records_column r.now ≡ self.now) }
-        ensures told { is_some result ≡ stores_records self.now.layout }
+        ensures exactly { is_some result ≡ stores_records self.now.layout }
     {
         match self.layout() {
             Layout::Primitive(a) => Some(a.rows()),

@@ -48,10 +48,10 @@ impl Array {
         requires { int_type_of self.now.dtype ≡ Some ptype }
         ensures { IfSome result (λ bad. bad ≡ first_bad len (numbers_of self.now)) }
     {
-        if let Some(values) = self.present_records() {
+        if let Some(values) = self.plain_records() {
             return Some(first_bad_present(ptype, values, len));
         }
-        match self.shown_records() {
+        match self.records_with_validity() {
             Some((values, bits)) => Some(first_bad_shown(ptype, values, bits, len)),
             None => None,
         }
@@ -90,7 +90,7 @@ impl Array {
     }
 
     /// The positions that its numbers name, of which there are `len`; none at a null. `ptype` is
-    /// the type's. `NoMemory` alone.
+    /// the type's. Fails only with `NoMemory`.
     #[tactic(auto, using(crate::proofs::NumberLists::stored))]
     pub fn positions(&self, alloc: Global, ptype: PType, len: usize) -> Result<Picks, NoMemory>
         requires int { int_type_of self.now.dtype ≡ Some ptype }
@@ -100,10 +100,10 @@ impl Array {
         ensures there { IfOk result
             (λ p. self.now.dtype.nullability ≡ NonNullable → AllThere p.picks) }
     {
-        if let Some(values) = self.present_records() {
+        if let Some(values) = self.plain_records() {
             return picks_present(alloc, ptype, values, len);
         }
-        match self.shown_records() {
+        match self.records_with_validity() {
             Some((values, bits)) => picks_shown(alloc, ptype, values, bits, len),
             None => picks_of(alloc, &Rows { array: self }, len),
         }

@@ -62,7 +62,7 @@ impl PrimitiveArray {
         Ok(PrimitiveArray { rows })
     }
 
-    // The column of these rows.
+    /// The column of these rows.
     pub(crate) fn of(rows: RecordArray) -> PrimitiveArray
         requires { is_primitive_kind rows.kind ≡ true }
         ensures { result ≡ rows }
@@ -97,14 +97,14 @@ impl PrimitiveArray {
         self.rows.values()
     }
 
-    /// Which rows are there.
+    /// Which rows are valid.
     pub fn validity(&self) -> &Validity
         ensures { IsPart (records_fault self.now) (valid_of result.now) self.now.valid }
     {
         self.rows.validity()
     }
 
-    /// The same column once more. It takes no memory.
+    /// Another handle to the same column. It takes no memory.
     pub fn share(&self) -> PrimitiveArray
         ensures { result ≡ self.now }
     {

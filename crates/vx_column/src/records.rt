@@ -37,7 +37,7 @@ impl RecordType {
     /// decimal.
     pub fn of(dtype: &DType) -> Option<RecordType>
         ensures kind { IfSome result (λ t. kind_of t ≡ (type_of dtype.now).kind) }
-        ensures told { is_some result ≡ is_some (type_width (type_of dtype.now)) }
+        ensures exactly { is_some result ≡ is_some (type_width (type_of dtype.now)) }
     {
         match dtype {
             DType::Primitive(ptype, _) => Some(RecordType::Primitive(*ptype)),
@@ -159,7 +159,7 @@ impl RecordArray {
         &self.values
     }
 
-    /// Which rows are there.
+    /// Which rows are valid.
     pub fn validity(&self) -> &Validity
         ensures { IsPart (records_fault self.now) (valid_of result.now) self.now.valid }
     {
@@ -179,7 +179,7 @@ impl RecordArray {
         }
     }
 
-    /// The same column once more. It takes no memory.
+    /// Another handle to the same column. It takes no memory.
     pub fn share(&self) -> RecordArray
         ensures { result ≡ self.now }
     {
@@ -207,7 +207,7 @@ impl RecordArray {
         }
     }
 
-    // The rows from `start` up to `end`, where the validity is a constant form.
+    /// The rows from `start` up to `end`, where the validity is a constant form.
     #[tactic(auto, using(vx_model::proofs::Layouts::layout_rows))]
     pub(crate) fn slice_plain(&self, start: usize, end: usize) -> Option<Array>
         requires ordered { start ≤ end }
@@ -223,9 +223,9 @@ impl RecordArray {
         Some(self.with_rows(values, self.validity().share()).into_array())
     }
 
-    // The records of its rows, where no row is null by a constant form.
+    /// The records of its rows, where no row is null by a constant form.
     #[tactic(auto, using(vx_model::proofs::Layouts::present_rows))]
-    pub(crate) fn present_records(&self) -> Option<&Records>
+    pub(crate) fn plain_records(&self) -> Option<&Records>
         ensures { HasRecords (records_column self.now) (option_map (λ r. r.now) result) }
     {
         match self.validity() {
@@ -234,13 +234,13 @@ impl RecordArray {
         }
     }
 
-    // The records of its rows, and the bits that say which are there, where the validity is a
-    // column of layout `Bool`.
+    /// The records of its rows, and the bits that say which are there, where the validity is a
+    /// column of layout `Bool`.
     #[tactic(auto, using(crate::proofs::ShownBits::shown))]
-    pub(crate) fn shown_records(&self) -> Option<(&Records, &BitBuffer)>
+    pub(crate) fn records_with_validity(&self) -> Option<(&Records, &BitBuffer)>
         ensures rows { IfSome result
             (λ p. AreShownRowsOf (records_column self.now) p.0.now p.1.now) }
-        ensures told { is_some result ≡ is_bools (records_column self.now).cover }
+        ensures exactly { is_some result ≡ is_bools (records_column self.now).cover }
     {
         match self.validity().bits() {
             Some(bits) => Some((self.values(), bits)),

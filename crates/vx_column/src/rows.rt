@@ -42,7 +42,7 @@ fn fields_at(alloc: Global, columns: &Columns, i: usize) -> Result<RowList, NoMe
 }
 
 impl Array {
-    /// Row `i`, with all that is in it. `NoMemory` alone.
+    /// Row `i`, with all that is in it. Fails only with `NoMemory`.
     #[cycle(rows)]
     pub fn row_at(&self, alloc: Global, i: usize) -> Result<Row, NoMemory>
         requires { i < length self.now.rows }

@@ -37,7 +37,7 @@ impl<'a> Stored<'a> {
         }
     }
 
-    /// Which rows are there.
+    /// Which rows are valid.
     #[tactic(auto, using(vx_model::proofs::Layouts::stored_items, vx_model::proofs::Texts::text_items))]
     pub fn validity(self) -> &'a Validity
         ensures value { valid_of result.now ≡ (parts_of self.entry).valid }

@@ -167,7 +167,7 @@ impl StructArray {
         self.len
     }
 
-    /// Which rows are there.
+    /// Which rows are valid.
     #[tactic(auto, using(vx_model::proofs::StructSteps::struct_rows))]
     pub fn validity(&self) -> &Validity
         ensures value { valid_of result.now ≡ self.now.valid }
@@ -177,7 +177,7 @@ impl StructArray {
         &self.validity
     }
 
-    /// The same column once more. It takes no memory.
+    /// Another handle to the same column. It takes no memory.
     pub fn share(&self) -> StructArray
         ensures { result ≡ self.now }
     {
@@ -216,7 +216,7 @@ impl Array {
     /// Its structs; some exactly where it is of layout `Struct`.
     pub fn as_struct(&self) -> Option<&StructArray>
         ensures value { IfSome result (λ s. struct_column s.now ≡ self.now) }
-        ensures told { IsSome result ↔ (self.now.layout ≡ StructLayout) }
+        ensures exactly { IsSome result ↔ (self.now.layout ≡ StructLayout) }
     {
         match self.layout() {
             Layout::Struct(a) => Some(a),

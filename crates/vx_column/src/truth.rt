@@ -17,8 +17,8 @@ use vx_bits::{BitBuffer, BitBuilder, NoMemory};
 use vx_mask::Mask;
 use vx_types::DType;
 
-// Of rows that follow one another, some and at most 64, which are true: a bit a row, the first one
-// lowest, and zeros above them.
+/// Of rows that follow one another, some and at most 64, which are true: a bit a row, the first one
+/// lowest, and zeros above them.
 #[derive(Clone, Copy)]
 pub(crate) struct Stretch {
     pub(crate) word: u64,
@@ -26,7 +26,7 @@ pub(crate) struct Stretch {
 }
 
 impl Stretch {
-    // The rows at the set bits.
+    /// The rows at the set bits.
     #[tactic(auto, using(crate::proofs::Stretches::full_picks))]
     pub(crate) fn picked(self, picks: u64) -> Stretch
         requires few { self.len ≤ 64 }
@@ -46,7 +46,7 @@ impl Stretch {
     }
 }
 
-// `len` bits from bit `start` on, at most 64, the first one lowest, and zeros above them.
+/// `len` bits from bit `start` on, at most 64, the first one lowest, and zeros above them.
 #[inline(always)]
 pub(crate) fn word_from(bits: &BitBuffer, start: usize, len: usize) -> u64
     requires few { len ≤ 64 }
@@ -58,7 +58,7 @@ pub(crate) fn word_from(bits: &BitBuffer, start: usize, len: usize) -> u64
     bits.slice(start, start + len).word(0)
 }
 
-// So many bits that are all this one, and zeros above them.
+/// So many bits that are all this one, and zeros above them.
 #[tactic(auto, using(crate::proofs::Stretches::alike_bits))]
 pub(crate) fn alike(bit: bool, len: usize) -> u64
     requires { len ≤ 64 }
@@ -123,7 +123,7 @@ impl Array {
         Stretch { word, len }
     }
 
-    // The rows from `start` on, as many as are told at once.
+    /// The rows from `start` on, as many as are told at once.
     #[cycle(truth)]
     #[tactic(auto, using(vx_model::proofs::Layouts::layout_rows, vx_model::proofs::LazyRows::lazy_rows))]
     pub(crate) fn true_from(&self, start: usize) -> Stretch
@@ -152,7 +152,7 @@ impl Array {
         count
     }
 
-    // How many of the rows at the set bits are true, a stretch after another.
+    /// How many of the rows at the set bits are true, a stretch after another.
     pub(crate) fn true_rows_at(&self, bits: &BitBuffer) -> usize
         requires { length bits.now.bits ≡ length self.now.rows }
         ensures { result ≡ true_count_of (items_where_true bits.now.bits (true_bits self.now)) }
@@ -183,15 +183,15 @@ impl Array {
     /// The bits of its rows, one a row, where the layout is `Bool` and its validity isn't an array;
     /// none where it is, and where all rows are null. It takes no memory.
     #[tactic(auto, using(vx_model::proofs::Layouts::layout_rows))]
-    pub fn present_bits(&self) -> Option<&BitBuffer>
+    pub fn plain_bits(&self) -> Option<&BitBuffer>
         ensures rows { IfSome result (λ b. self.now.rows ≡ map bit b.now.bits) }
         ensures yes { IfSome result (λ b. b.now.bits ≡ true_bits self.now) }
         ensures plain { IfSome result (λ _. is_plain_bools self.now ≡ true) }
-        ensures told { (i : ℕ) → is_plain_bools self.now ≡ true
+        ensures exactly { (i : ℕ) → is_plain_bools self.now ≡ true
             → slice_index_or self.now.rows i null ≢ null → IsSome result }
     {
         match self.layout() {
-            Layout::Bool(a) => a.present_bits(),
+            Layout::Bool(a) => a.plain_bits(),
             _ => None,
         }
     }
@@ -214,13 +214,13 @@ impl Array {
 
 /// The mask of the rows that are true, as long as the column; a null isn't. The bits of layout
 /// `Bool` whose validity isn't an array are shared, which takes no memory, but where all rows are
-/// null. `NoMemory` alone.
+/// null. Fails only with `NoMemory`.
 pub fn mask_of(alloc: Global, column: &Array) -> Result<Mask, NoMemory>
     ensures bits { IfOk result (λ m. mask_bits m ≡ true_bits column.now) }
     ensures shared { (i : ℕ) → is_plain_bools column.now ≡ true
         → slice_index_or column.now.rows i null ≢ null → IsOk result }
 {
-    if let Some(bits) = column.present_bits() {
+    if let Some(bits) = column.plain_bits() {
         return Ok(Mask::from_buffer(bits.share()));
     }
     Ok(Mask::from_buffer(column.true_bits(alloc)?))

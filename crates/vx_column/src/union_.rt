@@ -240,7 +240,7 @@ fn fault_of(
     None
 }
 
-// The offsets once more.
+// The offsets once again.
 fn shared(offsets: &Option<PrimitiveArray>) -> Option<PrimitiveArray>
     ensures { result ≡ offsets.now }
 {
@@ -349,7 +349,7 @@ impl UnionArray {
         self.offsets.as_ref()
     }
 
-    /// The same offsets once more. It takes no memory.
+    /// The same offsets once again. It takes no memory.
     pub fn shared_offsets(&self) -> Option<PrimitiveArray>
         ensures { result ≡ self.now.offsets }
     {
@@ -379,7 +379,7 @@ impl UnionArray {
         self.type_ids.len()
     }
 
-    /// The same column once more. It takes no memory.
+    /// Another handle to the same column. It takes no memory.
     pub fn share(&self) -> UnionArray
         ensures { result ≡ self.now }
     {
@@ -427,7 +427,7 @@ impl Array {
     /// Its union; some exactly where it is of layout `Union`.
     pub fn as_union(&self) -> Option<&UnionArray>
         ensures value { IfSome result (λ u. union_column u.now ≡ self.now) }
-        ensures told { IsSome result ↔ (self.now.layout ≡ UnionLayout) }
+        ensures exactly { IsSome result ↔ (self.now.layout ≡ UnionLayout) }
     {
         match self.layout() {
             Layout::Union(a) => Some(a),

@@ -1,4 +1,4 @@
-//! Which rows of a column are there, and which are null.
+//! Which rows of a column are valid, and which are null.
 ghost use Rattle.std.specs.Prelude.{◌≡◌, ℕ, map, true, is_some, IfOk, IfSome};
 ghost use Rattle.vx_types.specs.declared.nullability.Nullability.TheVariants.{Nullable};
 ghost use Rattle.vx_mask.specs.Mask.{mask_bits};
@@ -17,7 +17,7 @@ use vx_mask::Mask;
 use vx_take::{Picks, valid_bits};
 use vx_types::{DType, Nullability};
 
-/// Which rows of a column are there: Vortex's `Validity`. The first three are the constant forms.
+/// Which rows of a column are valid: Vortex's `Validity`. The first three are the constant forms.
 #[cycle(array)]
 #[derive(Drop)]
 pub enum Validity {
@@ -32,7 +32,7 @@ pub enum Validity {
 }
 
 impl Validity {
-    /// The same validity once more. It takes no memory.
+    /// Another handle to the same validity. It takes no memory.
     pub fn share(&self) -> Validity
         ensures { result ≡ self.now }
     {
@@ -88,7 +88,7 @@ impl Validity {
         match self {
             Validity::NonNullable | Validity::AllValid => true,
             Validity::AllInvalid => false,
-            Validity::Array(array) => match array.present_bits() {
+            Validity::Array(array) => match array.plain_bits() {
                 Some(bits) => bits.value(i),
                 None => match array.cell_at(i) {
                     Cell::Bit(bit) => bit,
@@ -98,13 +98,13 @@ impl Validity {
         }
     }
 
-    // The bits that say which rows are there, where it is a column of layout `Bool`.
+    /// The bits that say which rows are valid, where it is a column of layout `Bool`.
     #[tactic(auto, using(crate::proofs::ShownBits::shown))]
     pub(crate) fn bits(&self) -> Option<&BitBuffer>
         ensures bits { IfSome result (λ b. (n : ℕ) → is_fitting (valid_of self.now) n ≡ true
             → present_bits (valid_of self.now) n ≡ b.now.bits) }
         ensures nullable { IfSome result (λ _. nullability_by (valid_of self.now) ≡ Nullable) }
-        ensures told { is_some result ≡ is_bools (cover_by (valid_of self.now)) }
+        ensures exactly { is_some result ≡ is_bools (cover_by (valid_of self.now)) }
     {
         match self {
             Validity::NonNullable | Validity::AllValid | Validity::AllInvalid => None,
@@ -115,14 +115,14 @@ impl Validity {
         }
     }
 
-    /// The validity that is this column. `NoMemory` alone.
+    /// The validity that is this column. Fails only with `NoMemory`.
     pub fn from_column(alloc: Global, column: Array) -> Result<Validity, NoMemory>
         ensures { IfOk result (λ v. valid_of v ≡ by_column column) }
     {
         Ok(Validity::Array(column.into_ref(alloc)?))
     }
 
-    /// The validity that is a column of these bits. `NoMemory` alone.
+    /// The validity that is a column of these bits. Fails only with `NoMemory`.
     pub fn from_bits(alloc: Global, bits: BitBuffer) -> Result<Validity, NoMemory>
         ensures { IfOk result (λ v. valid_of v ≡ by_column (bits_column bits.bits bits.offset)) }
     {
@@ -130,7 +130,7 @@ impl Validity {
         Validity::from_column(alloc, column)
     }
 
-    /// The validity that says which picks are there. `NoMemory` alone.
+    /// The validity that says which picks are not null. Fails only with `NoMemory`.
     pub fn by_picks(alloc: Global, picks: &Picks) -> Result<Validity, NoMemory>
         ensures { IfOk result
             (λ v. valid_of v ≡ by_column (bits_column (map is_some picks.now.picks) 0)) }
@@ -138,7 +138,7 @@ impl Validity {
         Validity::from_bits(alloc, valid_bits(alloc, picks)?)
     }
 
-    /// Which of `len` rows are there. `NoMemory` alone.
+    /// Which of `len` rows are valid. Fails only with `NoMemory`.
     pub fn present_mask(&self, alloc: Global, len: usize) -> Result<Mask, NoMemory>
         requires { is_fitting (valid_of self.now) len ≡ true }
         ensures { IfOk result (λ m. mask_bits m ≡ present_bits (valid_of self.now) len) }

@@ -11,7 +11,7 @@ ghost use Rattle.vx_column.specs.Part.{IsPart};
 
 use crate::array::{Array, Layout};
 use crate::cell::{Cell, ReadRow};
-use crate::offsets::{are_integers, cut, position_at, row_count};
+use crate::offsets::{are_integers, cuts_list, position_at, row_count};
 use crate::primitive::PrimitiveArray;
 use crate::validity::Validity;
 use std::marker::Model;
@@ -75,7 +75,7 @@ impl VarBinArray {
         if !validity.is_fitting(row_count(&offsets)) {
             return Err(ColumnError::BadValidity);
         }
-        if !cut(&offsets, bytes.len()) {
+        if !cuts_list(&offsets, bytes.len()) {
             return Err(ColumnError::BadOffsets);
         }
         Ok(VarBinArray::of(kind, offsets, bytes, validity))
@@ -121,7 +121,7 @@ impl VarBinArray {
         &self.bytes
     }
 
-    /// Which rows are there.
+    /// Which rows are valid.
     pub fn validity(&self) -> &Validity
         ensures { IsPart (varbin_fault self.now) (valid_of result.now) self.now.valid }
     {
@@ -184,7 +184,7 @@ impl VarBinArray {
         }
     }
 
-    /// The same column once more. It takes no memory.
+    /// Another handle to the same column. It takes no memory.
     pub fn share(&self) -> VarBinArray
         ensures { result ≡ self.now }
     {

@@ -62,7 +62,7 @@ impl VarBinViewArray {
     ///
     /// `BadValidity` exactly where the validity can't be that of so many rows. Else `BadViews`
     /// exactly where some view, of a null row too, is one of more than twelve bytes in itself, or
-    /// of at most twelve elsewhere, or in a buffer that isn't there, or past its buffer's end, or
+    /// of at most twelve elsewhere, or in a buffer that doesn't exist, or past its buffer's end, or
     /// with other first bytes than it tells.
     pub fn try_new(
         kind: TextKind,
@@ -123,7 +123,7 @@ impl VarBinViewArray {
         &self.buffers
     }
 
-    /// Which rows are there.
+    /// Which rows are valid.
     pub fn validity(&self) -> &Validity
         ensures { IsPart (views_fault self.now) (valid_of result.now) self.now.valid }
     {
@@ -154,7 +154,7 @@ impl VarBinViewArray {
         }
     }
 
-    /// The same column once more. It takes no memory.
+    /// Another handle to the same column. It takes no memory.
     pub fn share(&self) -> VarBinViewArray
         ensures { result ≡ self.now }
     {

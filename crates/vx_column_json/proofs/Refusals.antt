@@ -21,7 +21,7 @@ module _ {P C : Type 0} (fault : P → Option ColumnError) (of : P → C) (parts
   by_fault None e is = rw is tt
   by_fault (Some f) e is = fails_none _ (refusal e)
 
-  -- the fault, or want of memory where there is none
+  -- the fault, or `NoMemory` where there is none
   pub refused_by : (e : ColumnError) → e ≡ unwrap_or (fault parts) ColumnNoMemory → Fails (refusal e) (made fault of parts)
   unfolding made
   refused_by e is = by_fault (fault parts) e is

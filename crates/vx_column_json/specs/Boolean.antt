@@ -39,7 +39,7 @@ bools_by_kind stated offset None items = items >>= bools_by_items stated offset
 unfoldable pub offset_of : Data → Option ℕ
 offset_of d = found_or 0 (at_most 7) (get (codes "offset") d)
 
--- the bits as they are stored, and which rows are there
+-- the bits as they are stored, and which rows are valid
 unfoldable pub bool_array : Data → Option Valid → Option BoolParts
 bool_array d stated = do
   o ← if_closed (codes "layout" ∷ codes "values" ∷ codes "validity" ∷ codes "offset" ∷ []) d

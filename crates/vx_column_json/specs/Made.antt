@@ -8,7 +8,7 @@ use Rattle.vx_json.specs.declared.error.DocError.{DocError}
 use Rattle.vx_json.specs.declared.error.DocError.TheVariants.{Malformed, NoMemory}
 use Rattle.vx_json.specs.Meaning.{◌>>=◌}
 
--- want of memory stays that
+-- `NoMemory` stays that
 abbrev pub refusal : ColumnError → DocError
 refusal ColumnNoMemory = NoMemory
 refusal e = Malformed

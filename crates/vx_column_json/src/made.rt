@@ -7,7 +7,7 @@ ghost use Rattle.vx_column_json.specs.Made.{refusal};
 use vx_column::ColumnError;
 use vx_json::DocError;
 
-/// What a constructor's refusal says of the document: want of memory stays that, and all else is
+/// What a constructor's refusal says of the document: `NoMemory` stays that, and all else is
 /// `Malformed`.
 pub(crate) fn refusal(fault: ColumnError) -> DocError
     ensures { result ≡ refusal fault }

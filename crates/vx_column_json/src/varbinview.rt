@@ -50,8 +50,8 @@ fn views_by_buffers(
     views_made(alloc, kind, views, buffers, validity_alone(stated))
 }
 
-/// What [`views_by`] gives, as that layout: a listed text of more than twelve bytes stands in buffer
-/// 0, of which a column tells nothing.
+/// What [`views_by`] gives, as that layout: a listed text of more than twelve bytes stands in
+/// buffer 0, of which a column tells nothing.
 #[tactic(auto, unfolding(crate::specs::VarBinView::views_array, crate::specs::VarBinView::views_by_items))]
 pub fn views_array(
     alloc: Global,

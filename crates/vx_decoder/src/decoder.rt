@@ -14,7 +14,7 @@ pub trait ChunkDecoder<T: Copy> {
     // the values
     ghost values: { Self → List T };
 
-    // the calls that were made, where they are told
+    // the calls that were made, where they are recorded
     ghost calls: { Self → Option (List Call) };
 
     // how many calls may still be made

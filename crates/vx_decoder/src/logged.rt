@@ -31,7 +31,8 @@ impl<T: Copy, D: ChunkDecoder<T> + Drop> Model for Logged<T, D> {
 }
 
 impl<T: Copy, D: ChunkDecoder<T> + Drop> Logged<T, D> {
-    /// The decoder `inner`, which may be asked `room` times, with no call yet. `NoMemory` alone.
+    /// The decoder `inner`, which may be asked `room` times, with no call yet. Fails only with
+    /// `NoMemory`.
     pub fn new(alloc: Global, inner: D, room: usize) -> Result<Logged<T, D>, NoMemory>
         requires { room ≤ D.spare inner }
         ensures { IfOk result (λ s. s ≡ (inner, [], room)) }

@@ -56,7 +56,7 @@ left_taken {v} {w} {given} {m} {bound} picks n same long left =
     subst (λ k. IsLeft v (either_nullable (nullability_by v) n) (at false (present_bits v k) picks) w) long
     (subst (λ x. IsLeft x (either_nullable (nullability_by x) n) (at false (present_bits x bound) picks) w) same left)
 
--- ---- where no row is there, the lists don't show
+-- ---- where no row is valid, the lists don't show
 
 pub left_shown : (v : Valid) (lists : List (List RowValue)) → stored_rows v (map list_row (lists_left v lists)) ≡ stored_rows v (map list_row lists)
 left_shown non_nullable lists = refl

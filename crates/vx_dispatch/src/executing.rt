@@ -13,7 +13,7 @@ use vx_column::{Array, Layout, Lists, Stored};
 use vx_mask::Policy;
 use vx_stored::execute_constant;
 
-// A layout whose rows the recursion unwraps.
+/// A layout whose rows the recursion unwraps.
 pub(crate) trait ExecuteRows: Parts {
     // The same rows, as `execute` gives them.
     fn execute(&self, alloc: Global, policy: &Policy) -> StepResult
@@ -25,8 +25,8 @@ pub(crate) trait ExecuteRows: Parts {
         ensures kept { is_unwrapped (Self.column self.now) ≡ true → IsOk result };
 }
 
-/// The same rows and type, unwrapped where the type is flat, and of no lazy layout. `NoMemory`
-/// alone, and never where the column is unwrapped.
+/// The same rows and type, unwrapped where the type is flat, and of no lazy layout. Fails only with
+/// `NoMemory`, and never where the column is unwrapped.
 ///
 /// A `Constant` of texts becomes a `VarBinView`, or a `VarBin` where its value has 2^32 bytes or
 /// more.

@@ -14,7 +14,7 @@ use vx_column::{Array, Layout, Stored};
 use vx_mask::{Mask, MaskValues, Policy};
 use vx_stored::{filter_constant, filter_nulls};
 
-// A layout whose rows the recursion filters.
+/// A layout whose rows the recursion filters.
 pub(crate) trait FilterRows: Parts {
     // The rows at the set positions of a mask that selects some and not all.
     fn filter(&self, alloc: Global, mask: &MaskValues, policy: &Policy) -> StepResult
@@ -23,7 +23,7 @@ pub(crate) trait FilterRows: Parts {
             (items_where_true mask.now.bits.bits (Self.column self.now).rows)) };
 }
 
-// The rows at the set positions of a mask that selects some and not all.
+/// The rows at the set positions of a mask that selects some and not all.
 #[cycle(filter)]
 pub(crate) fn filter_values(
     alloc: Global,
@@ -56,8 +56,9 @@ pub(crate) fn filter_values(
     }
 }
 
-/// The rows at the set positions of a mask that is as long. `NoMemory` alone, and never where the
-/// mask keeps all rows, nor where it keeps none of a plain column, nor over layout `Null`.
+/// The rows at the set positions of a mask that is as long. Fails only with `NoMemory`, and never
+/// where the mask keeps all rows, nor where it keeps none of a plain column, nor over layout
+/// `Null`.
 #[cycle(filter)]
 pub fn filter(alloc: Global, array: &Array, mask: &Mask, policy: &Policy) -> Result<Array, NoMemory>
     requires { length (mask_bits mask.now) ≡ length array.now.rows }

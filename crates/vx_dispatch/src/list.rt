@@ -64,7 +64,8 @@ impl FilterRows for ListArray {
 }
 
 /// The lists at the picks, in order, and a null at each null, with offsets of type `U64`. The type
-/// is nullable also where `nullability` is, and no pick is a null where it isn't. `NoMemory` alone.
+/// is nullable also where `nullability` is, and no pick is a null where it isn't. Fails only with
+/// `NoMemory`.
 #[cycle(take)]
 #[tactic(auto, using(vx_model::proofs::ListRows::list_rows))]
 pub fn take_lists(

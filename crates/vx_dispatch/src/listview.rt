@@ -40,6 +40,7 @@ fn relisted(array: &ListViewArray, plan: ViewPlan) -> ListViewArray
     array.with_parts(array.elements().share(), offsets, sizes, validity)
 }
 
+/// The list views of the rows from `start` up to `end`.
 #[cycle(slice)]
 #[tactic(auto, using(vx_model::proofs::ListRows::listview_rows))]
 pub(crate) fn slice_views(
@@ -68,6 +69,7 @@ impl SliceRows for ListViewArray {
     }
 }
 
+/// The list views of the rows at the set positions of a mask.
 #[cycle(filter)]
 #[tactic(auto, using(vx_model::proofs::ListRows::listview_rows))]
 pub(crate) fn filter_views(
@@ -93,6 +95,7 @@ impl FilterRows for ListViewArray {
     }
 }
 
+/// The list views of the rows at the picks, and a null at each null.
 #[cycle(take)]
 #[tactic(auto, using(vx_model::proofs::ListRows::listview_rows))]
 pub(crate) fn take_views(

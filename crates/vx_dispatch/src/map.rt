@@ -12,7 +12,7 @@ use vx_column::{Array, ListViewArray, MapArray, Nullability};
 use vx_mask::{MaskValues, Policy};
 use vx_take::Picks;
 
-// The maps of these entries.
+/// The maps of these entries.
 pub(crate) fn of_entries(entries: ListViewArray) -> Array
     requires { map_fault entries ≡ None }
     ensures { result ≡ map_column entries }

@@ -13,8 +13,8 @@ use vx_column::{Array, Columns, Layout, Nullability, Runs};
 use vx_mask::Policy;
 use vx_pieces::{Indices, run_picks, total_len};
 
-// The take by runs: of a column that stores records whose validity is a constant form, by a
-// sequence whose pieces are runs. None where either isn't so. `NoMemory` alone.
+/// The take by runs: of a column that stores records whose validity is a constant form, by a
+/// sequence whose pieces are runs. None where either isn't so. Fails only with `NoMemory`.
 pub(crate) fn take_by_runs(
     alloc: Global,
     array: &Array,
@@ -34,7 +34,7 @@ pub(crate) fn take_by_runs(
 }
 
 // The rows in the runs of a column that stores records whose validity is a constant form; none of
-// another. `NoMemory` alone.
+// another. Fails only with `NoMemory`.
 fn take_stored_runs(alloc: Global, array: &Array, runs: &Runs) -> Result<Option<Array>, NoMemory>
     requires { All (λ run. run.0 + run.1 ≤ length array.now.rows) runs.now }
     ensures { IfOk result (λ taken. IfSome taken
@@ -108,8 +108,8 @@ fn check_room(array: &Array, runs: &Runs) -> Result<(), NoMemory>
     Ok(())
 }
 
-/// The rows in the runs, each its start and its length, one run after another. `NoMemory` alone.
-/// Room for all of them is asked for before the first is written.
+/// The rows in the runs, each its start and its length, one run after another. Fails only with
+/// `NoMemory`. Room for all of them is asked for before the first is written.
 #[cycle(take)]
 pub(crate) fn take_runs(
     alloc: Global,

@@ -10,7 +10,7 @@ use vx_bits::NoMemory;
 use vx_column::{Array, Layout, Stored};
 use vx_stored::{slice_constant, slice_nulls};
 
-// A layout whose rows the recursion slices.
+/// A layout whose rows the recursion slices.
 pub(crate) trait SliceRows: Parts {
     // The rows from `start` up to `end`, as `slice` gives them.
     fn slice(&self, alloc: Global, start: usize, end: usize) -> StepResult
@@ -20,7 +20,7 @@ pub(crate) trait SliceRows: Parts {
         ensures plain { is_plain (Self.column self.now) ≡ true → IsOk result };
 }
 
-/// The rows from `start` up to `end`. `NoMemory` alone, and never over a plain column.
+/// The rows from `start` up to `end`. Fails only with `NoMemory`, and never over a plain column.
 #[cycle(slice)]
 pub fn slice(alloc: Global, array: &Array, start: usize, end: usize) -> Result<Array, NoMemory>
     requires ordered { start ≤ end }

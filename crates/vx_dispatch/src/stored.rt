@@ -65,7 +65,7 @@ impl ExecuteRows for Stored<'_> {
 }
 
 /// The rows in the runs, each its start and its length, one run after another; none where the
-/// validity isn't a constant form. `NoMemory` alone.
+/// validity isn't a constant form. Fails only with `NoMemory`.
 #[tactic(auto, using(vx_model::proofs::Layouts::layout_rows))]
 pub(crate) fn take_record_runs(
     alloc: Global,

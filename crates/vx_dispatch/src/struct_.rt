@@ -34,7 +34,7 @@ impl SliceRows for StructArray {
 }
 
 /// The structs at the set positions of a mask that is as long: each field's rows there, by a mask
-/// that is made ready for as many consumers as there are fields. `NoMemory` alone.
+/// that is made ready for as many consumers as there are fields. Fails only with `NoMemory`.
 #[cycle(filter)]
 #[tactic(auto, using(vx_model::proofs::StructSteps::struct_rows))]
 pub fn filter_fields(

@@ -21,7 +21,7 @@ use vx_pieces::Indices;
 use vx_stored::{take_constant, take_nulls};
 use vx_take::Picks;
 
-// A layout whose rows the recursion takes.
+/// A layout whose rows the recursion takes.
 pub(crate) trait TakeRows: Parts {
     // The rows at the picks, as `take_picks` gives them.
     fn take(
@@ -36,8 +36,8 @@ pub(crate) trait TakeRows: Parts {
         ensures { IfOk result (IsTake (Self.column self.now) picks.picks nullability) };
 }
 
-// The rows at the picks, in order, and a null at each null. The type is nullable also where
-// `nullability` is, and no pick is a null where it isn't.
+/// The rows at the picks, in order, and a null at each null. The type is nullable also where
+/// `nullability` is, and no pick is a null where it isn't.
 #[cycle(take)]
 pub(crate) fn take_picks(
     alloc: Global,
@@ -72,11 +72,11 @@ pub(crate) fn take_picks(
     }
 }
 
-/// The rows that indices name, in order, and a null for each null. `NoMemory` alone, and never
-/// over layout `Null`. The type is nullable also where the indices' type is.
+/// The rows that indices name, in order, and a null for each null. Fails only with `NoMemory`, and
+/// never over layout `Null`. The type is nullable also where the indices' type is.
 ///
 /// A take of lists that would make more elements than twice those that there are, and more than 4
-/// GiB of picks of theirs and of rows, is want of memory: a pick is 8 bytes, a row a record, or 24
+/// GiB of picks of theirs and of rows, gives `NoMemory`: a pick is 8 bytes, a row a record, or 24
 /// bytes where it is none.
 pub fn take(
     alloc: Global,
@@ -108,7 +108,7 @@ fn nulls_for(array: &NullArray, indices: &Indices) -> Array
     NullArray::new(indices.len()).into_array()
 }
 
-// The positions that the numbers of a column name, of which there are `len`; none at a null.
+/// The positions that the numbers of a column name, of which there are `len`; none at a null.
 pub(crate) fn number_picks(alloc: Global, column: &Array, len: usize) -> Result<Picks, NoMemory>
     requires int { is_int_type column.now.dtype ≡ true }
     requires sound { first_bad len (numbers_of column.now) ≡ None }

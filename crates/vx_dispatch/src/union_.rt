@@ -26,8 +26,8 @@ impl Parts for UnionArray {
     ghost column = { union_column };
 }
 
-/// The rows of a union from `start` up to `end`, in the union's form. A dense one keeps its columns,
-/// and the type of its offsets. `NoMemory` alone.
+/// The rows of a union from `start` up to `end`, in the union's form. A dense one keeps its
+/// columns, and the type of its offsets. Fails only with `NoMemory`.
 #[cycle(slice)]
 #[tactic(auto, using(vx_model::proofs::UnionSteps::rows_of_unions))]
 pub fn slice_variants(
@@ -85,7 +85,7 @@ fn filter_sparse(
 }
 
 /// The rows of a union at the set positions of a mask that is as long, in the union's form. A dense
-/// one keeps its columns, and the type of its offsets. `NoMemory` alone.
+/// one keeps its columns, and the type of its offsets. Fails only with `NoMemory`.
 #[cycle(filter)]
 #[tactic(auto, using(vx_model::proofs::UnionSteps::rows_of_unions))]
 pub fn filter_variants(
@@ -142,9 +142,10 @@ fn take_sparse(
     Ok(array.with_parts(ids, None, columns))
 }
 
-/// The rows of a union at the picks, in order, and a null at each null, in the union's form. A dense
-/// one keeps its columns, and the type of its offsets, of which one is 0 at a null. The type is
-/// nullable also where `nullability` is, and no pick is a null where it isn't. `NoMemory` alone.
+/// The rows of a union at the picks, in order, and a null at each null, in the union's form. A
+/// dense one keeps its columns, and the type of its offsets, of which one is 0 at a null. The type
+/// is nullable also where `nullability` is, and no pick is a null where it isn't. Fails only with
+/// `NoMemory`.
 #[cycle(take)]
 #[tactic(auto, using(vx_model::proofs::UnionSteps::rows_of_unions))]
 pub fn take_variants(

@@ -20,7 +20,7 @@ use vx_mask::{MaskValues, Policy};
 use vx_stored::constant_bits;
 use vx_take::{Picks, gather_bits};
 
-// A layout whose bools the recursion looks up.
+/// A layout whose bools the recursion looks up.
 pub(crate) trait TakeBits: Parts {
     // The bits of the rows at the picks, as `taken_bits` gives them.
     fn bits(&self, alloc: Global, picks: &Picks, policy: &Policy) -> Result<BitBuffer, NoMemory>
@@ -30,7 +30,7 @@ pub(crate) trait TakeBits: Parts {
             (λ b. b.bits ≡ at false (map is_yes (Self.column self.now).rows) picks.now.picks) };
 }
 
-// The validity of the rows from `start` up to `end`, of so many rows.
+/// The validity of the rows from `start` up to `end`, of so many rows.
 #[cycle(slice)]
 pub(crate) fn slice_validity(
     alloc: Global,
@@ -56,7 +56,8 @@ pub(crate) fn slice_validity(
     }
 }
 
-/// The validity of the rows at the set positions of a mask that is as long. `NoMemory` alone.
+/// The validity of the rows at the set positions of a mask that is as long. Fails only with
+/// `NoMemory`.
 #[cycle(filter)]
 pub fn filter_validity(
     alloc: Global,
@@ -82,7 +83,7 @@ pub fn filter_validity(
     }
 }
 
-// The bits of a non-nullable column of bools at the picks, and false at a null.
+/// The bits of a non-nullable column of bools at the picks, and false at a null.
 #[cycle(take)]
 #[tactic(auto, using(vx_model::proofs::Takes::bool_bits))]
 pub(crate) fn taken_bits(
@@ -137,7 +138,7 @@ pub(crate) fn taken_bits(
 }
 
 /// The validity of the rows at the picks, where a null pick leaves a null. `nullability` says
-/// whether there may be one. It is unwrapped. `NoMemory` alone.
+/// whether there may be one. It is unwrapped. Fails only with `NoMemory`.
 #[cycle(take)]
 pub fn take_validity(
     alloc: Global,
@@ -168,7 +169,8 @@ pub fn take_validity(
     }
 }
 
-// An unwrapped column of bools is one of layout `Bool`. It does no work: its clause is for the check.
+// An unwrapped column of bools is one of layout `Bool`. It does no work: its clause is for the
+// check.
 fn see_bools(array: &Array)
     requires bools { is_non_null_bool array.now.dtype ≡ true }
     requires unwrapped { is_unwrapped array.now ≡ true }

@@ -17,7 +17,7 @@ use vx_column_json::{
 use vx_json::{DocError, list_member, member, text_member};
 
 /// The column that the value means, by its layout. `Malformed` exactly where it means none, but
-/// that want of memory may come in place of any answer.
+/// that `NoMemory` may come in place of any answer.
 #[cycle(columns)]
 #[tactic(auto, unfolding(crate::specs::Columns::column_by))]
 pub fn column_of(alloc: Global, value: &Value) -> Result<Array, DocError>

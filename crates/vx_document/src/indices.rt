@@ -13,9 +13,9 @@ use vx_column::PType;
 use vx_json::{DocError, is_closed, member};
 use vx_pieces::Indices;
 
-/// The list of indices that the value means: an object of pieces, a list of numbers and nulls, or
-/// a column. `Malformed` exactly where it means none, but that want of memory may come in place of
-/// any answer.
+/// The list of indices that the value means: an object of pieces, a list of numbers and nulls, or a
+/// column. `Malformed` exactly where it means none, but that `NoMemory` may come in place of any
+/// answer.
 #[tactic(auto, unfolding(crate::specs::Indices::indices_of))]
 pub fn indices_of(alloc: Global, value: &Value) -> Result<Indices, DocError>
     ensures { Gives index_value result (indices_of (view value.now)) }

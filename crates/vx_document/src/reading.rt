@@ -31,10 +31,10 @@ fn source_of(alloc: Global, value: &Value) -> Result<DocumentSource, DocError>
     }
 }
 
-/// Reads a document. `Malformed` exactly where the value has no meaning as one, but that want of
-/// memory may come in place of any answer. The values of chunks are whole chunks of records of the
-/// type's width, and at least as many as the shape has. A filter's mask keeps the positions or the
-/// runs that the document lists.
+/// Reads a document. `Malformed` exactly where the value has no meaning as one, but that `NoMemory`
+/// may come in place of any answer. The values of chunks are whole chunks of records of the type's
+/// width, and at least as many as the shape has. A filter's mask keeps the positions or the runs
+/// that the document lists.
 #[tactic(auto, unfolding(crate::specs::Reading::document_of, crate::specs::Reading::masks_of))]
 pub fn document(alloc: Global, value: &Value) -> Result<Document, DocError>
     ensures document { Gives document_value result (document_of (view value.now)) }

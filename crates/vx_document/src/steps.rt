@@ -74,8 +74,8 @@ impl ReadItem for StepItem {
     }
 }
 
-/// The list of steps that the value means. `Malformed` exactly where it means none, but that want
-/// of memory may come in place of any answer. The mask of a filter keeps what the value lists.
+/// The list of steps that the value means. `Malformed` exactly where it means none, but that
+/// `NoMemory` may come in place of any answer. The mask of a filter keeps what the value lists.
 #[tactic(auto, unfolding(crate::specs::Steps::steps_of, crate::specs::Steps::kept_of_steps))]
 pub fn steps_of(alloc: Global, value: &Value) -> Result<StepList, DocError>
     ensures steps { Gives (map step_value) result (steps_of (view value.now)) }

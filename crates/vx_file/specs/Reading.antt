@@ -52,7 +52,7 @@ held_number numbers starts (Some p) = slice_index numbers (slice_index starts (p
 abbrev pub IsNoSpelling : ℕ → List ℕ → Type 0
 IsNoSpelling width bytes = IsSpelling width bytes → ⊥
 
--- what holds where as many reads are told as there are touched blocks
+-- what holds where as many reads are recorded as there are touched blocks
 abbrev pub AreTold : ℕ → BoundedPicks → Type 0 → Type 0
 AreTold spare picks P = length (blocks_touched picks.picks (blocks_for picks.bound)) ≤ spare → P
 
@@ -89,8 +89,8 @@ abbrev pub AllRead : BoundedPicks → Option (List ℕ) → Option (List ℕ) �
 AllRead picks before after =
     after ≡ then_told before (blocks_touched picks.picks (blocks_for picks.bound))
 
--- what an error of reading says, where as many reads are told as there are touched blocks: a read
--- failed; the last block that was read is no spelling; or memory was wanting
+-- what an error of reading says, where as many reads are recorded as there are touched blocks: a
+-- read failed; the last block that was read is no spelling; or memory was wanting
 abbrev pub IsReadError : ℕ → BoundedPicks → ℕ → Type 0 → Option (List ℕ) → Option (List ℕ)
     → Option (List (List ℕ)) → FileError → Type 0
 IsReadError width picks spare Raised before after blocks e =

@@ -14,10 +14,10 @@ pub trait BlockReader {
     // the blocks, where they are known
     ghost blocks: { Self → Option (List (List ℕ)) };
 
-    // the numbers of the blocks that were asked for, where they are told
+    // the numbers of the blocks that were asked for, where they are recorded
     ghost reads: { Self → Option (List ℕ) };
 
-    // how many more reads are told
+    // how many more reads are recorded
     ghost spare: { Self → ℕ };
 
     // How many reads have failed. It never falls, and stands still at its greatest value.

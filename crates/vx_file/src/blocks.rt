@@ -37,7 +37,7 @@ impl Blocks {
         }
     }
 
-    /// Appends a block. `NoMemory` alone, which leaves the list as it was.
+    /// Appends a block. Fails only with `NoMemory`, which leaves the list as it was.
     pub fn push(&mut self, bytes: &[u8]) -> Result<(), NoMemory>
         requires { length bytes.now ≤ 8201 }
         ensures ok { OnOk result (self.new ≡ self.old ++ bytes.now ∷ []) }
@@ -48,7 +48,7 @@ impl Blocks {
         Ok(())
     }
 
-    // Puts the bytes of a block to the front of `dst`, and gives their number.
+    /// Puts the bytes of a block to the front of `dst`, and gives their number.
     pub(crate) fn put(&self, block: usize, dst: &mut [u8; 8201]) -> usize
         ensures within { result ≤ 8201 }
         ensures value { take result dst.new ≡ block_at self.now block }

@@ -49,7 +49,7 @@ fn taken<const N: usize>(
     Buffer::from_vec(alloc, records)
 }
 
-// The same as records of a width that is one of four.
+/// The same as records of a width that is one of four.
 pub(crate) fn taken_records(
     alloc: Global,
     held: &Held,
@@ -74,7 +74,7 @@ pub(crate) fn taken_records(
     }
 }
 
-// The column of these records, as nullable as the validity. It takes no memory.
+/// The column of these records, as nullable as the validity. It takes no memory.
 pub(crate) fn column_of(ptype: PType, values: Records, validity: Validity) -> Array
     requires width { width ptype ≡ width_of values }
     requires fitting { is_fitting (valid_of validity) (length (records_of values)) ≡ true }

@@ -25,7 +25,7 @@ pub enum FileError {
         /// The rule that it breaks.
         cause: Cause,
     },
-    /// Want of memory, though no step breaks a rule.
+    /// Out of memory, though no step breaks a rule.
     NoMemory,
 }
 

@@ -46,7 +46,7 @@ impl Model for MemoryBlocks {
 
 impl MemoryBlocks {
     /// A reader of these blocks, which keeps its first `room` reads. A call fails where its number,
-    /// from 0, is in `failing`. `NoMemory` alone.
+    /// from 0, is in `failing`. Fails only with `NoMemory`.
     pub fn new(
         alloc: Global,
         blocks: Blocks,

@@ -63,7 +63,7 @@ fn keep_block<R: BlockReader>(
     Ok(())
 }
 
-// Reads each touched block once, ascending, and keeps its numbers.
+/// Reads each touched block once, ascending, and keeps its numbers.
 pub(crate) fn read_touched<R: BlockReader>(
     alloc: Global,
     reader: &mut R,

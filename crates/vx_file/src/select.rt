@@ -78,9 +78,9 @@ fn take_file<R: BlockReader>(
 /// Each block that holds a picked row is read once, ascending, and no other; a row that is picked
 /// again is read once.
 ///
-/// `Broken` exactly where a step breaks a rule, with the first one, even where memory is wanting,
-/// and without a read. Else `ReadFault` only where a read failed, `Damaged` only where the block
-/// that was read last is no spelling of numbers of the type, and `NoMemory`.
+/// `Broken` exactly where a step breaks a rule, with the first one, even when memory runs out, and
+/// without a read. Else `ReadFault` only where a read failed, `Damaged` only where the block that
+/// was read last is no spelling of numbers of the type, and `NoMemory`.
 pub fn select_file<R: BlockReader>(
     alloc: Global,
     reader: &mut R,
@@ -100,7 +100,7 @@ pub fn select_file<R: BlockReader>(
     ensures spelled { OnOk result (IfSome (R.blocks reader.old) (AreSpellings
         (width shape.now.ptype) (picks_of_steps shape.now.len (map step_value steps.now)))) }
 
-    // The reads, where as many are told as there are touched blocks.
+    // The reads, where as many are recorded as there are touched blocks.
     ensures told { OnOk result (AreTold (R.spare reader.old)
         (picks_of_steps shape.now.len (map step_value steps.now))
         (AllRead (picks_of_steps shape.now.len (map step_value steps.now))
@@ -111,7 +111,7 @@ pub fn select_file<R: BlockReader>(
         (R.spare reader.old) (Rose (R.faults reader.old) (R.faults reader.new))
         (R.reads reader.old) (R.reads reader.new) (R.blocks reader.old))) }
 
-    // A block that is told as damaged holds a picked row, whatever is told of the reads.
+    // A block that is reported as damaged holds a picked row, whatever is recorded of the reads.
     ensures touched { IfErr result (NamesTouched
         (picks_of_steps shape.now.len (map step_value steps.now))) }
     ensures same { R.blocks reader.new ≡ R.blocks reader.old }

@@ -52,7 +52,7 @@ impl FileShape {
         self.len
     }
 
-    // What a header states, where the bytes are one.
+    /// What a header states, where the bytes are one.
     pub(crate) fn from_header(bytes: &[u8]) -> Option<FileShape>
         ensures { MatchOption result (IsNoHeader bytes.now) (λ s. bytes.now ≡ header s) }
     {

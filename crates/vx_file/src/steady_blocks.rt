@@ -7,7 +7,7 @@ use crate::blocks::Blocks;
 use std::marker::Model;
 use vx_bits::Failed;
 
-/// Blocks in memory. No call fails, and no read is told.
+/// Blocks in memory. No call fails, and no read is recorded.
 ///
 /// Clauses see the blocks.
 #[derive(Drop)]

@@ -6,7 +6,7 @@ use std::alloc::Global;
 use vx_bits::NoMemory;
 use vx_take::Picks;
 
-// For each block of 1024 rows whether it holds a picked one.
+/// For each block of 1024 rows whether it holds a picked one.
 pub(crate) fn touched_blocks(alloc: Global, picks: &Picks) -> Result<Vec<bool>, NoMemory>
     ensures { IfOk result (λ v. AreMarked v.items picks.now.picks (blocks_for picks.now.bound)) }
 {

@@ -13,7 +13,7 @@ use vx_bits::NoMemory;
 use vx_column::PType;
 use vx_packed::pack;
 
-/// The blocks of a file with these rows. `NoMemory` alone.
+/// The blocks of a file with these rows. Fails only with `NoMemory`.
 pub fn file_blocks(alloc: Global, ptype: PType, values: &[u64]) -> Result<Blocks, NoMemory>
     requires unsigned { is_unsigned ptype ≡ true }
     requires below { All (λ n. n < 2 ^ (8 * width ptype)) values.now }

@@ -288,10 +288,10 @@ fn filler_union(
     }
 }
 
-/// A column of this type, which is one that a column may have, and of so many rows, none of
-/// which is to be shown: nulls where the type has them, else zeros, empty texts, empty lists
-/// and maps, lists and structs of such rows, and such a row of a union's first variant. However
-/// many rows it has, it takes the memory of one value a level of the type. `NoMemory` alone.
+/// A column of this type, which is one that a column may have, and of so many rows, none of which
+/// is to be shown: nulls where the type has them, else zeros, empty texts, empty lists and maps,
+/// lists and structs of such rows, and such a row of a union's first variant. However many rows it
+/// has, it takes the memory of one value a level of the type. Fails only with `NoMemory`.
 #[cycle(filler)]
 #[tactic(auto, using(vx_model::proofs::LazyRows::lazy_rows, crate::proofs::Fillers::carried_inside))]
 pub fn filler(alloc: Global, dtype: &DType, len: usize) -> Result<Array, NoMemory>
@@ -333,8 +333,8 @@ pub fn filler(alloc: Global, dtype: &DType, len: usize) -> Result<Array, NoMemor
     }
 }
 
-/// So many rows of each of these types, which are ones that columns may have; none of the rows
-/// is to be shown. `NoMemory` alone.
+/// So many rows of each of these types, which are ones that columns may have; none of the rows is
+/// to be shown. Fails only with `NoMemory`.
 #[cycle(filler)]
 #[tactic(auto, using(crate::proofs::Fillers::each_filler))]
 pub fn fillers(alloc: Global, types: &[DType], len: usize) -> Result<Columns, NoMemory>

@@ -10,7 +10,7 @@ use vx_bits::NoMemory;
 use vx_mask::MaskValues;
 
 /// The items of `src` at the set positions of `mask`, in order, by one walk over its words:
-/// Vortex's `filter_slice_by_bitmap`. `NoMemory` alone.
+/// Vortex's `filter_slice_by_bitmap`. Fails only with `NoMemory`.
 ///
 /// A word without a set bit is passed over, and the items of a full word are copied whole.
 pub fn filter_slice_by_bitmap<T: Copy>(
@@ -41,7 +41,7 @@ fn push_words<T: Copy>(kept: &mut Vec<T>, src: &[T], mask: &MaskValues) -> Resul
     Ok(())
 }
 
-// Appends the items that a word picks. There is room for them, and no bit is set past the items.
+/// Appends the items that a word picks. There is room for them, and no bit is set past the items.
 #[inline(always)]
 pub(crate) fn push_picked<T: Copy>(
     kept: &mut Vec<T>,

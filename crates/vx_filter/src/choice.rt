@@ -38,14 +38,14 @@ pub fn useful_indices<'a>(mask: &'a MaskValues, fields: &PolicyFields) -> Option
     }
 }
 
-// Whether the density of a mask is at least this ratio.
+/// Whether the density of a mask is at least this ratio.
 pub(crate) fn is_dense(mask: &MaskValues, from: Ratio) -> bool
     ensures { IsTrue result ↔ IsDense mask.now from }
 {
     product(from.num, mask.len() as u64) <= product(mask.true_count() as u64, from.den)
 }
 
-// The density from which on records of so many bytes are compressed by bytes of the mask.
+/// The density from which on records of so many bytes are compressed by bytes of the mask.
 pub(crate) fn dense_from(fields: &PolicyFields, width: usize) -> Ratio {
     match width {
         1 => fields.dense_w1,

@@ -27,7 +27,7 @@ pub struct CompressTable {
 }
 
 impl CompressTable {
-    /// The table, with the row of each byte. `NoMemory` alone.
+    /// The table, with the row of each byte. Fails only with `NoMemory`.
     pub fn new(alloc: Global) -> Result<CompressTable, NoMemory>
         ensures { IfOk result (λ table. IsTable 256 table.places.items) }
     {
@@ -71,7 +71,7 @@ fn row_of(byte: u8) -> [u8; 8]
 }
 
 /// The items of `src` at the set positions of `mask`, in order, byte by byte: Vortex's
-/// `byte_compress`. `NoMemory` alone.
+/// `byte_compress`. Fails only with `NoMemory`.
 ///
 /// A mask with few set bits or few clear ones, and a word with few set bits or all, are done by
 /// words: there that is less work.

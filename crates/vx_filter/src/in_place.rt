@@ -36,7 +36,7 @@ pub fn filter_slice_in_place<T: Copy>(values: &mut [T], mask: &MaskValues, polic
 }
 
 /// The values at the set positions of `mask`, in order: in place where the mask's density is at
-/// least the policy's `in_place_min`, else a copy. `NoMemory` alone, and never in place.
+/// least the policy's `in_place_min`, else a copy. Fails only with `NoMemory`, and never in place.
 pub fn filter_vec<T: Copy>(
     alloc: Global,
     mut values: Vec<T>,

@@ -10,8 +10,8 @@ use std::alloc::Global;
 use vx_bits::NoMemory;
 use vx_mask::{MaskValues, Policy};
 
-/// The items of `src` at the set positions of `mask`, in order: Vortex's `filter_slice`.
-/// `NoMemory` alone.
+/// The items of `src` at the set positions of `mask`, in order: Vortex's `filter_slice`. Fails only
+/// with `NoMemory`.
 ///
 /// By runs that the mask keeps where they are one or long enough, else by indices that it keeps
 /// where they are few enough, else by its bytes where it is as dense as the policy asks for items

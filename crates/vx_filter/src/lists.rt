@@ -5,8 +5,8 @@ ghost use Rattle.std.specs.List.{All, flat_map};
 use std::alloc::Global;
 use vx_bits::NoMemory;
 
-/// The items of `src` at the indices, in their order: Vortex's `filter_slice_by_indices`.
-/// `NoMemory` alone.
+/// The items of `src` at the indices, in their order: Vortex's `filter_slice_by_indices`. Fails
+/// only with `NoMemory`.
 pub fn filter_slice_by_indices<T: Copy>(
     alloc: Global,
     src: &[T],
@@ -23,7 +23,7 @@ pub fn filter_slice_by_indices<T: Copy>(
 }
 
 /// The items of `src` of the runs, each from its start up to its end, joined: Vortex's
-/// `filter_slice_by_slices`. `NoMemory` alone.
+/// `filter_slice_by_slices`. Fails only with `NoMemory`.
 pub fn filter_slice_by_slices<T: Copy>(
     alloc: Global,
     src: &[T],

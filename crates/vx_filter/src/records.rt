@@ -20,7 +20,7 @@ fn filter_buffer<T: Copy>(
     Buffer::from_vec(alloc, filter_slice(alloc, buffer.as_slice(), mask, policy)?)
 }
 
-/// The records at the set positions of `mask`, in order. `NoMemory` alone.
+/// The records at the set positions of `mask`, in order. Fails only with `NoMemory`.
 pub fn filter_records(
     alloc: Global,
     records: &Records,

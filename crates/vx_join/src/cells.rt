@@ -52,14 +52,14 @@ impl KeyCell<'_> {
     }
 }
 
-// Whether one of the cells is null.
+/// Whether one of the cells is null.
 pub(crate) fn has_null(row: &[KeyCell]) -> bool
     ensures { result ≡ list_any is_null_cell row.now }
 {
     row.iter().any(|cell| cell.is_null())
 }
 
-// The cells of so many rows, one row after another: each column's row is looked up once.
+/// The cells of so many rows, one row after another: each column's row is looked up once.
 pub(crate) fn cells_of<'a>(
     alloc: Global,
     columns: &'a [Array],

@@ -9,7 +9,7 @@ use vx_bits::NoMemory;
 pub enum JoinError {
     /// There is no pair of keys.
     NoKeys,
-    /// A pair names a column that isn't there.
+    /// A pair names a column that doesn't exist.
     NoKey {
         /// The first such pair.
         pair: usize,
@@ -19,7 +19,7 @@ pub enum JoinError {
         /// The first such pair.
         pair: usize,
     },
-    /// Want of memory, though none of these is so.
+    /// Out of memory, though none of these is so.
     NoMemory,
 }
 

@@ -15,7 +15,7 @@ fn is_there(left: &Table, right: &Table, key: (usize, usize)) -> bool
     key.0 < left.columns().len() && key.1 < right.columns().len()
 }
 
-// The first pair that names a column that isn't there.
+/// The first pair that names a column that doesn't exist.
 pub(crate) fn first_missing(left: &Table, right: &Table, keys: &[(usize, usize)]) -> Option<usize>
     ensures { result ≡ position_from (λ k. not (is_there left.now right.now k)) 0 keys.now }
 {
@@ -53,7 +53,7 @@ fn has_key_types(left: &Table, right: &Table, key: (usize, usize)) -> bool
     )
 }
 
-// The first pair whose columns' types aren't those of keys.
+/// The first pair whose columns' types aren't those of keys.
 pub(crate) fn first_of_other_types(
     left: &Table,
     right: &Table,

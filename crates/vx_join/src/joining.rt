@@ -61,10 +61,10 @@ fn matched(
 /// null and both are equal as they are stored, bit for bit and byte for byte: -0.0 isn't 0.0.
 ///
 /// A pair of keys is the number of a left column and of a right one. `NoKeys` exactly where there
-/// is no pair. Else `NoKey` exactly where a pair names a column that isn't there, with the first
+/// is no pair. Else `NoKey` exactly where a pair names a column that doesn't exist, with the first
 /// one. Else `KeyTypes` exactly where a pair's two types aren't flat or differ in more than
-/// nullability, with the first one. All three come also where memory is wanting, and `NoMemory`
-/// only where none of them does. More pairs than a `usize` counts want memory.
+/// nullability, with the first one. All three come also when memory runs out, and `NoMemory` only
+/// where none of them does. More pairs than a `usize` counts want memory.
 pub fn join_indices(
     alloc: Global,
     left: &Table,

@@ -17,7 +17,7 @@ use vx_column::{Array, Columns};
 use vx_dispatch::execute;
 use vx_mask::Policy;
 
-// The columns of these numbers, unwrapped: a row is then found at once through any layout.
+/// The columns of these numbers, unwrapped: a row is then found at once through any layout.
 pub(crate) fn key_columns(
     alloc: Global,
     columns: &Columns,

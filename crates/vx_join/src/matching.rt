@@ -129,8 +129,8 @@ fn push_chain<K: Ord + Copy>(
 }
 
 /// The pairs of rows whose keys are equal, by the left and then by the right row. A row without a
-/// key is in no pair. Each left row is looked up once in an ordered map of the right rows' keys, and
-/// the pairs are counted before the first of them is made.
+/// key is in no pair. Each left row is looked up once in an ordered map of the right rows' keys,
+/// and the pairs are counted before the first of them is made.
 pub(crate) fn join_keys<K: Ord + Copy>(
     alloc: Global,
     left: &[Option<K>],

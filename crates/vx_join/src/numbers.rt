@@ -31,7 +31,7 @@ fn byte_at(bytes: &[u8], i: usize) -> u8
     bytes.get(i).copied().unwrap_or(0)
 }
 
-// The number that the first eight bytes spell, lowest byte first, with zeros past the end.
+/// The number that the first eight bytes spell, lowest byte first, with zeros past the end.
 #[inline(always)]
 pub(crate) fn spelt(bytes: &[u8]) -> u64
     ensures value { result ≡ from_le_bytes w64 bytes.now }

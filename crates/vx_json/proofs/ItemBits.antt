@@ -33,7 +33,7 @@ bit_more word bit k below = record {
     is_set true = refl
     is_set false = refl
 
--- which items are there, read one by one
+-- which items are valid, read one by one
 pub each-presence : (ds : Items) → each (λ d. Some (is_there d)) ds ≡ Some (presence ds)
 unfolding each
 each-presence no_items = refl

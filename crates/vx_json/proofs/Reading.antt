@@ -23,7 +23,8 @@ with_read-one read x (Some xs) = ap Some (simp append_assoc)
 pub items_from : (vs : List Value) (k : ℕ) (v : Value) → k < length vs → v ≡ get_or vs k v → items_view (drop k vs) ≡ item (view v) (items_view (drop (k + 1) vs))
 items_from vs k v h is = ap items_view (drop-cons vs k v h) ∙ rw (← is, add-one) refl
 
--- The state of a loop that has read the items before place k: what was read, behind which the rest gives the whole.
+-- The state of a loop that has read the items before place k: what was read, behind which the rest
+-- gives the whole.
 pub record IsReading {A : Type 0} (f : Data → Option A) (vs : List Value) (k : ℕ) (read : List A) (whole : Option (List A)) : Type 0 where
   pub so_far : with_read read (each f (items_view (drop k vs))) ≡ whole
 

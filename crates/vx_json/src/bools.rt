@@ -1,4 +1,4 @@
-//! Lists of bits, an item a bit, and which items of a list are there.
+//! Lists of bits, an item a bit, and which items of a list are valid.
 ghost use Rattle.std.specs.Prelude.{◌≡◌, ◌≤◌, IfOk, Some, length, option_map};
 ghost use Rattle.serde_json.specs.Find.{as_bool};
 ghost use Rattle.serde_json.specs.View.{view, items_view};
@@ -158,8 +158,8 @@ pub fn has_null(items: &Vec<Value>) -> bool
     false
 }
 
-/// A bit for each item, set where the item isn't null; `None` exactly
-/// where no item is null. `NoMemory` alone.
+/// A bit for each item, set where the item isn't null; `None` exactly where no item is null. Fails
+/// only with `NoMemory`.
 pub fn presence_of(alloc: Global, items: &Vec<Value>) -> Result<Option<BitBuffer>, DocError>
     ensures { Gives (λ o. option_map (λ b. b.bits) o) result
         (Some (presence_of (items_view items.now.items))) }

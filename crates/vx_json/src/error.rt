@@ -13,7 +13,7 @@ use vx_mask::MaskError;
 pub enum DocError {
     /// It has no meaning as one.
     Malformed,
-    /// Want of memory.
+    /// Out of memory.
     NoMemory,
 }
 

@@ -11,7 +11,7 @@ use vx_lists::plan_fixed_filter;
 use vx_mask::{MaskValues, Policy};
 
 /// The lists at the set positions of a mask that is as long, of the elements that are theirs:
-/// Vortex's `filter_fixed_size_list`. `NoMemory` alone.
+/// Vortex's `filter_fixed_size_list`. Fails only with `NoMemory`.
 #[tactic(auto, using(vx_model::proofs::ListRows::fixed_rows))]
 pub fn filter_fixed_size_list(
     alloc: Global,

@@ -39,7 +39,7 @@ impl FilterKernel for List {
 /// what a take of a column of layout `List` gives.
 ///
 /// `InvalidIndices`, `BadPieces` and `OutOfBounds` exactly where the indices are at fault, also
-/// where memory is wanting. Else `NoMemory` alone.
+/// when memory runs out. Otherwise it fails only with `NoMemory`.
 pub fn take_list(
     alloc: Global,
     array: &ListArray,

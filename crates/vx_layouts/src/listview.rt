@@ -11,7 +11,7 @@ use vx_lists::plan_view_filter;
 use vx_mask::{MaskValues, Policy};
 
 /// The lists at the set positions of a mask that is as long, of the same elements: Vortex's
-/// `filter_listview`. `NoMemory` alone.
+/// `filter_listview`. Fails only with `NoMemory`.
 #[tactic(auto, using(vx_model::proofs::ListRows::listview_rows))]
 pub fn filter_listview(
     alloc: Global,

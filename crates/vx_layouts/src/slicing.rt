@@ -30,7 +30,7 @@ pub trait SliceKernel: VTable {
         ensures { AnswersSlice array.entry.array.now start end result };
 }
 
-fn cut(alloc: Global, array: &Array, start: usize, end: usize) -> Answer
+fn sliced(alloc: Global, array: &Array, start: usize, end: usize) -> Answer
     requires ordered { start ≤ end }
     requires within { end ≤ length array.now.rows }
     ensures { AnswersSlice array.now start end result }
@@ -44,7 +44,7 @@ impl<V: SliceReduceAlways> SliceReduce for V {
         requires within { end ≤ length array.array.now.rows }
         ensures { AnswersSlice array.entry.array.now start end result }
     {
-        cut(alloc, array.array(), start, end)
+        sliced(alloc, array.array(), start, end)
     }
 }
 
@@ -54,6 +54,6 @@ impl<V: SliceKernelAlways> SliceKernel for V {
         requires within { end ≤ length array.array.now.rows }
         ensures { AnswersSlice array.entry.array.now start end result }
     {
-        cut(alloc, array.array(), start, end)
+        sliced(alloc, array.array(), start, end)
     }
 }

@@ -10,7 +10,7 @@ use vx_dispatch::filter_fields;
 use vx_mask::{MaskValues, Policy};
 
 /// The structs at the set positions of a mask that is as long: Vortex's `filter_struct`. The mask
-/// is made ready for as many consumers as there are fields. `NoMemory` alone.
+/// is made ready for as many consumers as there are fields. Fails only with `NoMemory`.
 pub fn filter_struct(
     alloc: Global,
     array: &StructArray,

@@ -36,7 +36,7 @@ pub enum TakeError {
         /// How many rows there are.
         len: usize,
     },
-    /// Want of memory, though the indices have no fault.
+    /// Out of memory, though the indices have no fault.
     NoMemory,
 }
 
@@ -69,7 +69,7 @@ impl fmt::Display for TakeError {
 
 impl Error for TakeError {}
 
-// Why a take from a column by these indices isn't one; none where it is. It takes no memory.
+/// Why a take from a column by these indices isn't one; none where it is. It takes no memory.
 pub(crate) fn take_fault(array: &Array, indices: &Indices) -> Option<TakeError>
     ensures { result ≡ take_fault array.now (index_value indices.now) }
 {
@@ -86,7 +86,7 @@ pub(crate) fn take_fault(array: &Array, indices: &Indices) -> Option<TakeError>
 /// the indices' type is.
 ///
 /// `InvalidIndices`, `BadPieces` and `OutOfBounds` exactly where the indices are at fault, also
-/// where memory is wanting. Else `NoMemory` alone, and never over layout `Null`.
+/// when memory runs out. Otherwise it fails only with `NoMemory`, and never over layout `Null`.
 pub fn take(
     alloc: Global,
     array: &Array,

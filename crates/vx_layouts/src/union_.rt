@@ -18,7 +18,8 @@ use vx_pieces::Indices;
 
 /// The rows of a union at the set positions of a mask that is as long, in the union's form, sparse
 /// or dense: Vortex's `filter_union`. A sparse union makes the mask ready for as many consumers as
-/// it has columns; a dense one keeps its columns, and the type of its offsets. `NoMemory` alone.
+/// it has columns; a dense one keeps its columns, and the type of its offsets. Fails only with
+/// `NoMemory`.
 pub fn filter_union(
     alloc: Global,
     array: &UnionArray,
@@ -33,7 +34,7 @@ pub fn filter_union(
 }
 
 /// The rows of a union from `start` up to `end`, in the union's form, sparse or dense. A dense one
-/// keeps its columns, and the type of its offsets. `NoMemory` alone.
+/// keeps its columns, and the type of its offsets. Fails only with `NoMemory`.
 pub fn slice_union(
     alloc: Global,
     array: &UnionArray,
@@ -54,7 +55,7 @@ pub fn slice_union(
 /// at a null index. The type is nullable also where the indices' type is.
 ///
 /// `InvalidIndices`, `BadPieces` and `OutOfBounds` exactly where the indices are at fault, also
-/// where memory is wanting. Else `NoMemory` alone.
+/// when memory runs out. Otherwise it fails only with `NoMemory`.
 pub fn take_union(
     alloc: Global,
     array: &UnionArray,

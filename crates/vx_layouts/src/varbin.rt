@@ -21,7 +21,7 @@ use vx_text::take_varbin_picks;
 
 /// A slice of a column of layout `VarBin`, by the name that Vortex gives it.
 pub trait VarBinSlice: VTable {
-    /// The rows from `start` up to `end`. `NoMemory` alone: Vortex's `VarBin::_slice`.
+    /// The rows from `start` up to `end`. Fails only with `NoMemory`: Vortex's `VarBin::_slice`.
     fn _slice(
         alloc: Global,
         array: ArrayView<'_, Self>,
@@ -52,7 +52,7 @@ impl VarBinSlice for VarBin {
 /// and are signed where the source's are: Vortex's `take_varbin`.
 ///
 /// `InvalidIndices`, `BadPieces` and `OutOfBounds` exactly where the indices are at fault, also
-/// where memory is wanting. Else `NoMemory` alone.
+/// when memory runs out. Otherwise it fails only with `NoMemory`.
 pub fn take_varbin(
     alloc: Global,
     array: &VarBinArray,

@@ -10,8 +10,8 @@ use vx_dispatch::filter_validity;
 use vx_mask::{MaskValues, Policy};
 use vx_text::filter_views;
 
-/// The rows at the set positions of a mask that is as long: Vortex's `filter_varbinview`.
-/// `NoMemory` alone.
+/// The rows at the set positions of a mask that is as long: Vortex's `filter_varbinview`. Fails
+/// only with `NoMemory`.
 pub fn filter_varbinview(
     alloc: Global,
     array: &VarBinViewArray,

@@ -108,7 +108,7 @@ none_left n = record { sums = ap (λ k. replicate k 0) (add-one n) ∙ ap (λ l.
     nothing zero = refl
     nothing (suc k) = nothing k
 
--- ---- the lists of rows that are there
+-- ---- the lists of valid rows
 
 pub kept_at : {X : Type 0} (present : List Bool) (lists : List (List X)) (picks : List (Option ℕ)) → kept_lists present (at [] lists picks) ≡ at [] lists (shown_picks present picks)
 kept_at [] lists picks = refl

@@ -266,7 +266,7 @@ elements_taken offsets picks sums runs v =
     sym (length-places runs) ∙ ap length v.places ∙ sum_picked offsets picks
     ∙ sym (ap last_offset v.sums ∙ last_sum 0 (map (picked_length offsets) picks) ∙ omega arith)
 
--- ---- by the rows that are there
+-- ---- by the valid rows
 
 pub take_all_there : (offsets : List ℕ) (n : ℕ) (picks : List (Option ℕ)) (sums : List ℕ) (runs : List (ℕ × ℕ)) → n ≡ length picks → IsTake offsets picks sums runs → IsTake offsets (shown_picks (replicate n true) picks) sums runs
 take_all_there offsets n picks sums runs h v = subst (λ (l : List (Option ℕ)). IsTake offsets l sums runs) (sym (all_shown n picks h)) v

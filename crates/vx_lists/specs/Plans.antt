@@ -39,12 +39,12 @@ is_all_invalid all_valid = false
 is_all_invalid all_invalid = true
 is_all_invalid (by_column c) = false
 
--- the lists that stay behind a validity: where no row is there, each is empty
+-- the lists that stay behind a validity: where no row is valid, each is empty
 abbrev pub lists_left : Valid → List (List RowValue) → List (List RowValue)
 lists_left v lists = if is_all_invalid v then replicate (length lists) [] else lists
 
 -- the range of old elements that a filter's new ones are among: from the first offset to the last,
--- or the part of it that the selected lists lie in; none where no row is there
+-- or the part of it that the selected lists lie in; none where no row is valid
 abbrev pub filter_range : PolicyFields → Valid → List ℕ → List Bool → ℕ × ℕ
 filter_range fields v offsets selection =
     if is_all_invalid v then (0, 0) else

@@ -14,7 +14,7 @@ use vx_mask::{Mask, MaskValues, Policy, Ratio};
 /// `element_mask_from_offsets`.
 ///
 /// It goes by the set positions where the density of the selection is below the
-/// `list_indices_below` of `Policy::vortex()`, else by runs of them. `NoMemory` alone.
+/// `list_indices_below` of `Policy::vortex()`, else by runs of them. Fails only with `NoMemory`.
 pub fn element_mask_from_offsets(
     alloc: Global,
     offsets: &[u64],
@@ -61,7 +61,7 @@ fn element_bits(
     marked_by_indices(alloc, offsets, indices_of(&kept), range)
 }
 
-// The set positions that a mask keeps.
+/// The set positions that a mask keeps.
 pub(crate) fn indices_of(mask: &Mask) -> &[usize]
     requires { IsSome (indices_in mask.now) }
     ensures { result.now ≡ set_of (mask_bits mask.now) }
@@ -72,7 +72,7 @@ pub(crate) fn indices_of(mask: &Mask) -> &[usize]
     }
 }
 
-// The runs that a mask keeps.
+/// The runs that a mask keeps.
 pub(crate) fn runs_of(mask: &Mask) -> &[(usize, usize)]
     requires { IsSome (slices_in mask.now) }
     ensures cover { run_positions result.now ≡ set_of (mask_bits mask.now) }
@@ -87,7 +87,7 @@ pub(crate) fn runs_of(mask: &Mask) -> &[(usize, usize)]
     }
 }
 
-// The bits of the elements of the lists at these indices.
+/// The bits of the elements of the lists at these indices.
 pub(crate) fn marked_by_indices(
     alloc: Global,
     offsets: &[u64],
@@ -109,7 +109,7 @@ pub(crate) fn marked_by_indices(
     padded(bits, range.1 - range.0)
 }
 
-// The bits of the elements of the lists in these runs.
+/// The bits of the elements of the lists in these runs.
 pub(crate) fn marked_by_runs(
     alloc: Global,
     offsets: &[u64],

@@ -26,7 +26,7 @@ pub struct ListFilter {
     pub mask: Mask,
 }
 
-/// The lists at the set positions of `selection`, in order. `NoMemory` alone.
+/// The lists at the set positions of `selection`, in order. Fails only with `NoMemory`.
 ///
 /// The range goes from the first offset to the last. It is cut to the elements from the first
 /// selected list to the last where at least `crop_min` elements lie outside these, and that number

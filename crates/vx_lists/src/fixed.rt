@@ -18,7 +18,7 @@ use vx_types::Runs;
 /// times.
 ///
 /// It keeps the runs of selected elements where `size` is at least `cached_list_size`. More
-/// elements than `usize::MAX` are want of memory. `NoMemory` alone.
+/// elements than `usize::MAX` give `NoMemory`. Fails only with `NoMemory`.
 pub fn repeated_mask(
     alloc: Global,
     selection: &MaskValues,
@@ -132,7 +132,7 @@ pub struct FixedTake {
 ///
 /// Where there is no list, each pick is a null, and has `size` elements of filler. Runs that lie
 /// one behind the other are joined, and there is none of lists of size 0. More elements than
-/// `usize::MAX` are want of memory. `NoMemory` alone.
+/// `usize::MAX` give `NoMemory`. Fails only with `NoMemory`.
 pub fn take_fixed(
     alloc: Global,
     size: usize,

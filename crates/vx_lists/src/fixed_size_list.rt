@@ -22,8 +22,8 @@ use vx_take::Picks;
 
 /// The plan of the lists at the set positions of `mask`, in order, with their validity.
 ///
-/// The mask of the elements has each bit `list_size` times, and keeps the runs of selected
-/// elements where `list_size` is at least `cached_list_size`. `NoMemory` alone.
+/// The mask of the elements has each bit `list_size` times, and keeps the runs of selected elements
+/// where `list_size` is at least `cached_list_size`. Fails only with `NoMemory`.
 pub fn plan_fixed_filter(
     alloc: Global,
     array: &FixedSizeListArray,
@@ -49,7 +49,7 @@ pub fn plan_fixed_filter(
 /// The plan of the lists at the picks, in order, with their validity, and of list 0 at a null.
 ///
 /// Where there is no list, each pick is a null, and has `list_size` elements of filler. More
-/// elements than `usize::MAX` are want of memory. `NoMemory` alone.
+/// elements than `usize::MAX` give `NoMemory`. Fails only with `NoMemory`.
 pub fn plan_fixed_take(
     alloc: Global,
     array: &FixedSizeListArray,

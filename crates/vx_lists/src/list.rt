@@ -65,7 +65,7 @@ fn all_empty(alloc: Global, len: usize) -> Result<ListFilter, NoMemory>
     })
 }
 
-// What a filter leaves: no element where no row is there.
+// What a filter leaves: no element where no row is valid.
 fn left_by(
     alloc: Global,
     array: &ListArray,
@@ -102,8 +102,8 @@ fn left_by(
 ///
 /// The elements of a selected null row are kept, but where the validity is `AllInvalid` each list
 /// is empty. The range of the elements goes from the first offset to the last, and is cut as
-/// [`crate::filter_lists`] cuts it; where the validity is `AllInvalid` it is empty. `NoMemory`
-/// alone.
+/// [`crate::filter_lists`] cuts it; where the validity is `AllInvalid` it is empty. Fails only with
+/// `NoMemory`.
 pub fn plan_list_filter(
     alloc: Global,
     array: &ListArray,
@@ -167,7 +167,7 @@ fn taken_by(
 /// at a null.
 ///
 /// The offsets are running sums of the lengths of the lists that are taken, and the last is the
-/// number of elements. More elements than `usize::MAX` are want of memory. `NoMemory` alone.
+/// number of elements. More elements than `usize::MAX` give `NoMemory`. Fails only with `NoMemory`.
 pub fn plan_list_take(
     alloc: Global,
     array: &ListArray,

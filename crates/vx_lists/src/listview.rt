@@ -18,8 +18,8 @@ use vx_column::{ListViewArray, Validity};
 use vx_mask::{MaskValues, Policy};
 use vx_take::Picks;
 
-/// The plan of the list views at the set positions of `mask`, in order, with their validity.
-/// `NoMemory` alone.
+/// The plan of the list views at the set positions of `mask`, in order, with their validity. Fails
+/// only with `NoMemory`.
 #[tactic(auto, using(vx_model::proofs::ListRows::listview_rows))]
 pub fn plan_view_filter(
     alloc: Global,
@@ -50,8 +50,8 @@ pub fn plan_view_filter(
     })
 }
 
-/// The plan of the list views at the picks, in order, with their validity: offset 0 and size 0 at
-/// a null. `NoMemory` alone.
+/// The plan of the list views at the picks, in order, with their validity: offset 0 and size 0 at a
+/// null. Fails only with `NoMemory`.
 #[tactic(auto, using(vx_model::proofs::ListRows::listview_rows))]
 pub fn plan_view_take(
     alloc: Global,

@@ -82,7 +82,8 @@ fn numbers_of(
     by_type!(ptype, values, numbers_in, alloc, len)
 }
 
-/// The offsets of a column of integers, which cut a list of `len` elements. `NoMemory` alone.
+/// The offsets of a column of integers, which cut a list of `len` elements. Fails only with
+/// `NoMemory`.
 pub(crate) fn offset_numbers(
     alloc: Global,
     offsets: &PrimitiveArray,
@@ -131,7 +132,8 @@ fn offset_records(alloc: Global, ptype: PType, offsets: &[u64]) -> Result<Record
     }
 }
 
-/// The column of an integer type that has these offsets, none of them null. `NoMemory` alone.
+/// The column of an integer type that has these offsets, none of them null. Fails only with
+/// `NoMemory`.
 pub(crate) fn offset_column(
     alloc: Global,
     ptype: PType,
@@ -147,7 +149,7 @@ pub(crate) fn offset_column(
     Ok(number_column(ptype, records))
 }
 
-/// The same of type `U64`, which each offset fits. `NoMemory` alone.
+/// The same of type `U64`, which each offset fits. Fails only with `NoMemory`.
 pub(crate) fn u64_column(alloc: Global, offsets: &[u64]) -> Result<PrimitiveArray, NoMemory>
     ensures kind { IfOk result (λ a. a.kind ≡ primitive_kind U64) }
     ensures integers { IfOk result (λ a. are_integers a ≡ true) }

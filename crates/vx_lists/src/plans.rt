@@ -9,7 +9,7 @@ use vx_types::Runs;
 pub struct ListFilterPlan {
     /// The new offsets, from 0 on, of the type of the old ones.
     pub offsets: PrimitiveArray,
-    /// Which rows are there.
+    /// Which rows are valid.
     pub validity: Validity,
     /// The range of old elements, from its start up to its end, which it leaves out.
     pub range: (usize, usize),
@@ -22,7 +22,7 @@ pub struct ListFilterPlan {
 pub struct ListTakePlan {
     /// The new offsets, from 0 on, of type `U64`.
     pub offsets: PrimitiveArray,
-    /// Which rows are there.
+    /// Which rows are valid.
     pub validity: Validity,
     /// The new elements, as runs of old ones, each its start and its length.
     pub runs: Runs,
@@ -35,14 +35,14 @@ pub struct ViewPlan {
     pub offsets: PrimitiveArray,
     /// The new sizes, of the type of the old ones.
     pub sizes: PrimitiveArray,
-    /// Which rows are there.
+    /// Which rows are valid.
     pub validity: Validity,
 }
 
 /// What a filter of lists of one size leaves: the elements that the mask selects.
 #[derive(Drop)]
 pub struct FixedFilterPlan {
-    /// Which rows are there.
+    /// Which rows are valid.
     pub validity: Validity,
     /// Which elements stay.
     pub mask: Mask,
@@ -52,7 +52,7 @@ pub struct FixedFilterPlan {
 /// value where there is no old list.
 #[derive(Drop)]
 pub struct FixedTakePlan {
-    /// Which rows are there.
+    /// Which rows are valid.
     pub validity: Validity,
     /// The new elements, as runs of old ones, each its start and its length.
     pub runs: Runs,

@@ -13,7 +13,7 @@ use vx_filter::lowest_run;
 use vx_mask::Mask;
 
 /// Runs that cover the set positions, each from its start up to its end, ascending: those that the
-/// mask keeps, else the runs of each word. `NoMemory` alone.
+/// mask keeps, else the runs of each word. Fails only with `NoMemory`.
 pub(crate) fn set_runs(alloc: Global, mask: &Mask) -> Result<Vec<(usize, usize)>, NoMemory>
     requires { IsSome (partial_of mask.now) }
     ensures cover { IfOk result

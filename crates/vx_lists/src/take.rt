@@ -27,8 +27,8 @@ pub struct ListTake {
 /// pick is null.
 ///
 /// The offsets are running sums of the lengths of the lists that are taken. The runs of picks of
-/// which each is the row behind the one before are joined, and there is none of an empty list.
-/// More elements than `usize::MAX` are want of memory. `NoMemory` alone.
+/// which each is the row behind the one before are joined, and there is none of an empty list. More
+/// elements than `usize::MAX` give `NoMemory`. Fails only with `NoMemory`.
 pub fn take_lists(
     alloc: Global,
     offsets: &[u64],
@@ -171,9 +171,9 @@ fn picked_run(offsets: &[u64], pick: Option<usize>) -> (usize, usize)
     }
 }
 
-// Puts a run behind the last one: joined with it where it begins at its end and may be, else the
-// last one goes to the runs before it, for which there is room. Gives the run that is the last one
-// then.
+/// Puts a run behind the last one: joined with it where it begins at its end and may be, else the
+/// last one goes to the runs before it, for which there is room. Gives the run that is the last one
+/// then.
 #[inline(always)]
 pub(crate) fn push_run(
     runs: &mut Vec<(usize, usize)>,
@@ -216,7 +216,7 @@ fn put_if(runs: &mut Vec<(usize, usize)>, run: (usize, usize), stays: bool)
     runs.truncate(count + usize::from(stays));
 }
 
-// Puts the last run behind the runs before it, where it has elements.
+/// Puts the last run behind the runs before it, where it has elements.
 #[inline(always)]
 pub(crate) fn push_last(runs: &mut Vec<(usize, usize)>, last: (usize, usize))
     requires { vec_len runs.old < vec_capacity runs.old }

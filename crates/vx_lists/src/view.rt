@@ -23,7 +23,8 @@ fn with_records(numbers: &PrimitiveArray, records: Records) -> PrimitiveArray
     number_column(numbers.ptype(), records)
 }
 
-/// The numbers at the set positions of `mask`, in order, of the same type. `NoMemory` alone.
+/// The numbers at the set positions of `mask`, in order, of the same type. Fails only with
+/// `NoMemory`.
 pub fn filter_numbers(
     alloc: Global,
     numbers: &PrimitiveArray,
@@ -38,7 +39,8 @@ pub fn filter_numbers(
     Ok(with_records(numbers, records))
 }
 
-/// The numbers at the picks, in order, and 0 at a null, of the same type. `NoMemory` alone.
+/// The numbers at the picks, in order, and 0 at a null, of the same type. Fails only with
+/// `NoMemory`.
 pub fn take_numbers(
     alloc: Global,
     numbers: &PrimitiveArray,

@@ -7,7 +7,7 @@ ghost use Rattle.vx_mask.specs.MaskValues.{are_set_positions, are_set_runs, pass
 use crate::runs::next_with;
 use vx_bits::{BitBuffer, Buffer};
 
-// Whether the indices, where there are any, are just the set positions.
+/// Whether the indices, where there are any, are just the set positions.
 pub(crate) fn indices_agree(bits: &BitBuffer, indices: &Option<Buffer<usize>>) -> bool
     ensures { result ≡ passes (are_set_positions bits.now.bits) indices.now }
 {
@@ -17,7 +17,7 @@ pub(crate) fn indices_agree(bits: &BitBuffer, indices: &Option<Buffer<usize>>) -
     }
 }
 
-// Whether the slices, where there are any, cover just the set positions, and none is empty.
+/// Whether the slices, where there are any, cover just the set positions, and none is empty.
 pub(crate) fn slices_agree(bits: &BitBuffer, slices: &Option<Buffer<(usize, usize)>>) -> bool
     ensures { result ≡ passes (are_set_runs bits.now.bits) slices.now }
 {

@@ -5,7 +5,7 @@ ghost use Rattle.vx_mask.specs.Ranks.{blocks_of};
 use std::alloc::Global;
 use vx_bits::{BitBuffer, NoMemory};
 
-// For each multiple of 512 up to the length, the number of set bits before it.
+/// For each multiple of 512 up to the length, the number of set bits before it.
 pub(crate) fn counts_of(alloc: Global, bits: &BitBuffer) -> Result<Vec<usize>, NoMemory>
     ensures { IfOk result (λ blocks. blocks.items ≡ blocks_of bits.now.bits) }
 {

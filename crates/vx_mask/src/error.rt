@@ -17,7 +17,7 @@ pub enum MaskError {
     /// A run is empty, starts before the end of the one before, or ends past the length; or, beside
     /// bits, the runs do not cover just the set positions.
     Slices,
-    /// Want of memory.
+    /// Out of memory.
     NoMemory,
 }
 

@@ -9,7 +9,7 @@ ghost use Rattle.vx_mask.specs.Positions.{AllBits, ascending, positions, set_of}
 use std::alloc::Global;
 use vx_bits::{BitBuffer, BitBuilder, NoMemory};
 
-// The bits that are set at those set positions of `bits` whose rank is set in `by`.
+/// The bits that are set at those set positions of `bits` whose rank is set in `by`.
 pub(crate) fn bits_by_rank(
     alloc: Global,
     bits: &BitBuffer,

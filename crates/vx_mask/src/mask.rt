@@ -224,8 +224,8 @@ impl Mask {
         self.values()?.cached_blocks()
     }
 
-    /// The same mask, with its set positions beside it where it selects some rows and not all.
-    /// What else it keeps stays. `NoMemory` alone.
+    /// The same mask, with its set positions beside it where it selects some rows and not all. What
+    /// else it keeps stays. Fails only with `NoMemory`.
     pub fn with_indices(&self, alloc: Global) -> Result<Mask, NoMemory>
         ensures value { IfOk result (λ m. m ≡ map_partial keep_indices self.now) }
         ensures bits { IfOk result (λ m. mask_bits m ≡ mask_bits self.now) }
@@ -237,7 +237,7 @@ impl Mask {
     }
 
     /// The same mask, with slices beside it where it selects some rows and not all: those that it
-    /// keeps, or else its maximal runs. What else it keeps stays. `NoMemory` alone.
+    /// keeps, or else its maximal runs. What else it keeps stays. Fails only with `NoMemory`.
     pub fn with_slices(&self, alloc: Global) -> Result<Mask, NoMemory>
         ensures value { IfOk result (λ m. m ≡ map_partial keep_slices self.now) }
         ensures maximal { slices_in self.now ≡ None → IfOk result
@@ -251,7 +251,7 @@ impl Mask {
     }
 
     /// The same mask, with its block counts beside it where it selects some rows and not all. What
-    /// else it keeps stays. `NoMemory` alone.
+    /// else it keeps stays. Fails only with `NoMemory`.
     pub fn with_blocks(&self, alloc: Global) -> Result<Mask, NoMemory>
         ensures value { IfOk result (λ m. m ≡ map_partial keep_blocks self.now) }
         ensures bits { IfOk result (λ m. mask_bits m ≡ mask_bits self.now) }
@@ -262,8 +262,8 @@ impl Mask {
         }
     }
 
-    /// The rows at the set positions of this mask whose rank is set in `other`: what is left of
-    /// the rows where `other` selects among those that this mask selects. `NoMemory` alone.
+    /// The rows at the set positions of this mask whose rank is set in `other`: what is left of the
+    /// rows where `other` selects among those that this mask selects. Fails only with `NoMemory`.
     pub fn intersect_by_rank(&self, alloc: Global, other: &Mask) -> Result<Mask, NoMemory>
         requires { length (mask_bits other.now) ≡ true_count_of (mask_bits self.now) }
         ensures set { IfOk result (λ m. set_of (mask_bits m)
@@ -305,7 +305,7 @@ impl Mask {
         product(num, self.len() as u64) <= product(self.true_count() as u64, den)
     }
 
-    /// The same mask once more. It takes no memory.
+    /// Another handle to the same mask. It takes no memory.
     pub fn share(&self) -> Mask
         ensures { result ≡ self.now }
     {

@@ -113,7 +113,7 @@ impl MaskValues {
         None
     }
 
-    // The mask of bits of which some are set and not all, with their count.
+    /// The mask of bits of which some are set and not all, with their count.
     pub(crate) fn new(bits: BitBuffer, true_count: usize) -> MaskValues
         requires counted { true_count ≡ true_count_of bits.bits }
         requires some { 0 < true_count }
@@ -129,7 +129,7 @@ impl MaskValues {
         }
     }
 
-    // The mask of these bits with their count, and of lists that agree with them.
+    /// The mask of these bits with their count, and of lists that agree with them.
     pub(crate) fn with_lists(
         bits: BitBuffer,
         true_count: usize,
@@ -154,7 +154,7 @@ impl MaskValues {
         }
     }
 
-    // The mask of the rows at these indices, which are some rows and not all. It keeps them.
+    /// The mask of the rows at these indices, which are some rows and not all. It keeps them.
     pub(crate) fn by_indices(
         alloc: Global,
         len: usize,
@@ -171,7 +171,7 @@ impl MaskValues {
         Ok(MaskValues::with_lists(bits, count, Some(indices), None))
     }
 
-    // The mask of the rows of these runs, which are some rows and not all. It keeps them.
+    /// The mask of the rows of these runs, which are some rows and not all. It keeps them.
     pub(crate) fn by_slices(
         alloc: Global,
         len: usize,
@@ -247,7 +247,7 @@ impl MaskValues {
         }
     }
 
-    // Where the set positions are all those from a start up to an end, that run.
+    /// Where the set positions are all those from a start up to an end, that run.
     pub(crate) fn contiguous(&self) -> Option<(usize, usize)>
         ensures { result ≡ span_of self.now.bits.bits }
     {
@@ -260,7 +260,7 @@ impl MaskValues {
         }
     }
 
-    // The same mask with its set positions beside it.
+    /// The same mask with its set positions beside it.
     pub(crate) fn keep_indices(&self, alloc: Global) -> Result<MaskValues, NoMemory>
         ensures { IfOk result (λ m. m ≡ keep_indices self.now) }
     {
@@ -277,7 +277,7 @@ impl MaskValues {
         })
     }
 
-    // The same mask with slices beside it: those that it has, or else its maximal runs.
+    /// The same mask with slices beside it: those that it has, or else its maximal runs.
     pub(crate) fn keep_slices(&self, alloc: Global) -> Result<MaskValues, NoMemory>
         ensures { IfOk result (λ m. m ≡ keep_slices self.now) }
     {
@@ -294,7 +294,7 @@ impl MaskValues {
         })
     }
 
-    // The same mask with its block counts beside it.
+    /// The same mask with its block counts beside it.
     pub(crate) fn keep_blocks(&self, alloc: Global) -> Result<MaskValues, NoMemory>
         ensures { IfOk result (λ m. m ≡ keep_blocks self.now) }
     {
@@ -364,7 +364,7 @@ impl MaskValues {
         }
     }
 
-    /// The same mask once more, with what it keeps. It takes no memory.
+    /// Another handle to the same mask, with what it keeps. It takes no memory.
     pub fn share(&self) -> MaskValues
         ensures { result ≡ self.now }
     {
@@ -378,7 +378,7 @@ impl MaskValues {
     }
 }
 
-// The same list once more, where there is one.
+// Another handle to the same list, where there is one.
 fn shared<T: Copy>(list: &Option<Buffer<T>>) -> Option<Buffer<T>>
     ensures { result ≡ list.now }
 {

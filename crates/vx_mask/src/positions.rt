@@ -6,7 +6,7 @@ ghost use Rattle.vx_mask.specs.Positions.{run_positions, ascending, bits_with, r
 use std::alloc::Global;
 use vx_bits::{BitBuffer, BitBuilder, NoMemory};
 
-// Whether the indices strictly ascend below the length.
+/// Whether the indices strictly ascend below the length.
 pub(crate) fn ascend(indices: &[usize], len: usize) -> bool
     ensures { result ≡ ascending 0 len indices.now }
 {
@@ -20,8 +20,8 @@ pub(crate) fn ascend(indices: &[usize], len: usize) -> bool
     true
 }
 
-// The number of positions that the runs cover, where they are not empty, ascend, do not overlap and
-// end within the length.
+/// The number of positions that the runs cover, where they are not empty, ascend, do not overlap
+/// and end within the length.
 pub(crate) fn run_total(runs: &[(usize, usize)], len: usize) -> Option<usize>
     ensures { result
         ≡ (if runs_ascend 0 len runs.now then Some (length (run_positions runs.now)) else None) }
@@ -38,7 +38,7 @@ pub(crate) fn run_total(runs: &[(usize, usize)], len: usize) -> Option<usize>
     Some(total)
 }
 
-// The bits that are set at these indices.
+/// The bits that are set at these indices.
 pub(crate) fn bits_at(alloc: Global, len: usize, indices: &[usize]) -> Result<BitBuffer, NoMemory>
     requires { ascending 0 len indices.now ≡ true }
     ensures { IfOk result (λ b. b ≡ at_front (bits_with len indices.now)) }
@@ -51,7 +51,7 @@ pub(crate) fn bits_at(alloc: Global, len: usize, indices: &[usize]) -> Result<Bi
     bits.finish()
 }
 
-// The bits that are set in these runs.
+/// The bits that are set in these runs.
 pub(crate) fn bits_of_runs(
     alloc: Global,
     len: usize,

@@ -60,8 +60,8 @@ pub fn words_before<R: WordReader>(bits: &mut R, blocks: &[usize], p: usize) -> 
     count
 }
 
-// The position of the `k`-th set bit, from 0, where `before` bits are set before word `first`. It
-// reads the words from there on, up to the one that has the bit.
+/// The position of the `k`-th set bit, from 0, where `before` bits are set before word `first`. It
+/// reads the words from there on, up to the one that has the bit.
 pub(crate) fn rank_from<R: WordReader>(bits: &mut R, first: usize, before: usize, k: usize) -> usize
     requires counted { before ≡ true_count_of (take (64 * first) (R.bits bits.old)) }
     requires behind { before ≤ k }

@@ -9,7 +9,8 @@ use crate::policy::{Policy, PolicyFields, Ratio};
 use std::alloc::Global;
 use vx_bits::NoMemory;
 
-/// The same mask, ready for so many consumers: Vortex's `prepare_mask_for_reuse`. `NoMemory` alone.
+/// The same mask, ready for so many consumers: Vortex's `prepare_mask_for_reuse`. Fails only with
+/// `NoMemory`.
 ///
 /// It gets indices exactly where it selects some rows and not all, has neither indices nor slices,
 /// is no single run, has at least 2 consumers, and its density is at most the policy's limit for 2,
@@ -71,7 +72,7 @@ fn is_at_most(limit: Ratio, true_count: usize, len: usize) -> bool
     product(true_count as u64, limit.den) <= product(limit.num, len as u64)
 }
 
-// The product, which a wider number holds.
+/// The product, which a wider number holds.
 #[inline(always)]
 pub(crate) fn product(x: u64, y: u64) -> u128
     ensures { result ≡ x * y }

@@ -8,7 +8,7 @@ ghost use Rattle.vx_mask.specs.Positions.{AllBits, maximal_runs, positions, set_
 use std::alloc::Global;
 use vx_bits::{BitBuffer, NoMemory};
 
-// The set positions, ascending.
+/// The set positions, ascending.
 pub(crate) fn positions_of(
     alloc: Global,
     bits: &BitBuffer,
@@ -41,7 +41,7 @@ fn push_positions(indices: &mut Vec<usize>, base: usize, word: u64)
     }
 }
 
-// The maximal runs of set bits, each from its start up to its end, ascending.
+/// The maximal runs of set bits, each from its start up to its end, ascending.
 pub(crate) fn runs_of(alloc: Global, bits: &BitBuffer) -> Result<Vec<(usize, usize)>, NoMemory>
     ensures { IfOk result (λ runs. runs.items ≡ maximal_runs bits.now.bits) }
 {
@@ -56,7 +56,7 @@ pub(crate) fn runs_of(alloc: Global, bits: &BitBuffer) -> Result<Vec<(usize, usi
     Ok(runs)
 }
 
-// The first position from `from` on whose bit is `want`, or the number of bits.
+/// The first position from `from` on whose bit is `want`, or the number of bits.
 pub(crate) fn next_with(bits: &BitBuffer, from: usize, want: bool) -> usize
     requires { from ≤ length bits.now.bits }
     ensures from { from ≤ result }

@@ -39,7 +39,7 @@ module _ (p q : ListsParts) (from : is_in_place p.layout ≡ false) (to : is_laz
         (ap (λ xs. stored_rows q.valid (map list_row xs)) lists ∙ filter-stored list_row (lists_of p) p.valid q.valid fit mask h left)
         left plain inner
 
-    -- where no row is there, the lists don't show
+    -- where no row is valid, the lists don't show
     pub is_filter-hidden : (mask : List Bool) (lists : List (List RowValue)) → length mask ≡ length (stored_lists p).items → lists ≡ items_where_true mask (lists_of p) → stored_rows q.valid (map list_row (lists_of q)) ≡ stored_rows q.valid (map list_row lists) → IsLeft p.valid (nullability_by p.valid) (items_where_true mask (present_bits p.valid (length (stored_lists p).items))) q.valid → IsAsPlain p.valid q.valid → q.elements.depth ≤ p.elements.depth → IsCut (lists_column p) (items_where_true mask (lists_column p).rows) (lists_column q)
     is_filter-hidden mask lists h is same left plain inner =
         is_cut-lists _ _
@@ -53,7 +53,7 @@ module _ (p q : ListsParts) (from : is_in_place p.layout ≡ false) (to : is_laz
         (ap (λ xs. stored_rows q.valid (map list_row xs)) lists ∙ take-stored list_row missing (lists_of p) p.valid q.valid n fit picks left)
         left
 
-    -- the same where the lists of rows that aren't there are empty
+    -- the same where the lists of null rows are empty
     pub is_take-kept_lists : (missing : List RowValue) (picks : List (Option ℕ)) (n : Nullability) → is_fitting q.valid (length (at missing (lists_of p) picks)) ≡ true → lists_of q ≡ kept_lists (present_bits q.valid (length (at missing (lists_of p) picks))) (at missing (lists_of p) picks) → IsLeft p.valid n (at false (present_bits p.valid (length (stored_lists p).items)) picks) q.valid → IsStep (lists_column p) (at null (lists_column p).rows picks) (record { kind = p.kind; nullability = n }) (lists_column q)
     is_take-kept_lists missing picks n fitting lists left =
         let xs = at missing (lists_of p) picks in

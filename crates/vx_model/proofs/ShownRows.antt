@@ -76,7 +76,7 @@ length-present_bits (by_column c) n h =
     let same : length c.rows ≡ n = grind (arith, nat_tests) in
     length-map c.rows is_yes ∙ same
 
--- bit i says whether row i is there
+-- bit i says whether row i is valid
 pub get_or-present_bits : (v : Valid) (n i : ℕ) → is_fitting v n ≡ true → i < n → get_or (present_bits v n) i false ≡ is_present v i
 get_or-present_bits non_nullable n i h l = get_or-replicate n i true false l
 get_or-present_bits all_valid n i h l = get_or-replicate n i true false l

@@ -129,7 +129,7 @@ yes-bool p h =
 -- what a proof about the bits of such a column needs
 pub ruleset bool_bits = (length-bool, yes-bool)
 
--- the picks that are there, of rows that all are
+-- the picks that are not null, of rows that are all valid
 pub all_there : (m : ℕ) (picks : List (Option ℕ)) → AreBelow picks m → map is_some picks ≡ at false (replicate m true) picks
 all_there m [] h = refl
 all_there m (None ∷ picks) h = ap (λ l. false ∷ l) (all_there m picks (λ k d l. h (suc k) d (omega arith)))

@@ -29,7 +29,7 @@ not_unwrapped p h = neither (is_null_layout p.layout) (is_row_layout p.layout) (
 not_plain : (p : TextParts) → is_in_place p.layout ≡ false → is_plain (text_column p) ≡ false
 not_plain p h = neither (is_null_layout p.layout) (is_row_layout p.layout) (is_constant_form (text_column p).cover) h
 
--- ---- texts of the rows that are there
+-- ---- texts of the valid rows
 
 same-kept : (bits : List Bool) (texts : List (List ℕ)) → kept_texts bits texts ≡ kept_lists bits texts
 same-kept [] texts = refl
@@ -66,7 +66,7 @@ module _ (p q : TextParts) (left : List RowValue) (bits : List Bool) (from : is_
         depth = omega (arith, plain.depth);
       }
 
--- q has the kind of p, and w says which of its rows are there
+-- q has the kind of p, and w says which of its rows are valid
 module _ (p q : TextParts) (w : Valid) (from : is_in_place p.layout ≡ false) (to : is_lazy_layout q.layout ≡ false) (kind : q.kind ≡ p.kind) (valid : q.valid ≡ w) (fit : is_fitting p.valid (length (stored_texts p).items) ≡ true) where
   left_so : (n : Nullability) (bits : List Bool) → IsLeft p.valid n bits w → IsLeft p.valid n bits q.valid
   left_so n bits left = subst (λ v. IsLeft p.valid n bits v) (sym valid) left
@@ -87,7 +87,7 @@ module _ (p q : TextParts) (w : Valid) (from : is_in_place p.layout ≡ false) (
       (ap (λ xs. stored_rows q.valid (map bytes xs)) texts ∙ filter-stored bytes p.texts p.valid q.valid fit mask h (left_so _ _ left))
       (left_so _ _ left) (plain_so plain)
 
-  -- the same where the texts of rows that aren't there are empty
+  -- the same where the texts of null rows are empty
   rows_kept : (n : ℕ) (xs : List (List ℕ)) → n ≡ length xs → is_fitting w n ≡ true → q.texts ≡ kept_texts (present_bits w n) xs → stored_rows q.valid (map bytes q.texts) ≡ stored_rows q.valid (map bytes xs)
   rows_kept n xs long fitting texts =
       let there : length (present_bits w (length xs)) ≡ length xs = length-present_bits w (length xs) (ap (is_fitting w) (sym long) ∙ fitting) in

@@ -331,7 +331,7 @@ module _ (p : UnionParts) (o : RecordParts) (h : union_fault p ≡ None) (some :
       ∙ ap (items_where_true mask) (sym (dense-rows p o some)) in
       is_filter-union p (dense (items_where_true mask o.records)) h refl (sym (ap offsets_kind some)) mask cut rows (omega (arith, cut.depth))
 
-  -- whatever record is there at a null pick
+  -- whatever record is valid at a null pick
   pub fault-dense-take : (filler : List ℕ) (picks : List (Option ℕ)) (n : Nullability) → IsTake p.ids picks n a → union_fault (record p { ids = a; offsets = Some (records_with o (at filler o.records picks) non_nullable) }) ≡ None
   fault-dense-take filler picks n step =
       let records = at filler o.records picks in

@@ -49,7 +49,7 @@ stored_lists p =
 abbrev pub lists_column : ListsParts → Column
 lists_column p = stored_column (stored_lists p)
 
--- the lists of rows that are there, and an empty one in place of each other
+-- the lists of valid rows, and an empty one in place of each other
 abbrev pub kept_lists : {X : Type 0} → List Bool → List (List X) → List (List X)
 kept_lists [] lists = []
 kept_lists (b ∷ bits) [] = []

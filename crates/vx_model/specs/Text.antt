@@ -31,7 +31,7 @@ stored_texts p =
 abbrev pub text_column : TextParts → Column
 text_column p = stored_column (stored_texts p)
 
--- the texts of rows that are there, and an empty one in place of each other
+-- the texts of valid rows, and an empty one in place of each other
 abbrev pub kept_texts : List Bool → List (List ℕ) → List (List ℕ)
 kept_texts [] texts = []
 kept_texts (b ∷ bits) [] = []

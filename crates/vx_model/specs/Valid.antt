@@ -1,4 +1,4 @@
--- Which rows are there, and which are null.
+-- Which rows are valid, and which are null.
 use Rattle.std.specs.Prelude.{◌≡◌, ℕ, ◌+◌, ◌≤◌, ◌==◌, ◌&&◌, ◌||◌, length, List, [], ◌∷◌, map, replicate, Bool, true, false, not, slice_index_or, if◌then◌else◌}
 use Rattle.vx_types.specs.RowValue.{RowValue, null, bit}
 use Rattle.vx_types.specs.TypeTree.{TypeTree, is_bool_kind}
@@ -20,21 +20,21 @@ abbrev pub is_yes : RowValue → Bool
 is_yes (bit b) = b
 is_yes x = false
 
--- for each of n rows whether it is there
+-- for each of n rows whether it is valid
 abbrev pub present_bits : Valid → ℕ → List Bool
 present_bits non_nullable n = replicate n true
 present_bits all_valid n = replicate n true
 present_bits all_invalid n = replicate n false
 present_bits (by_column c) n = map is_yes c.rows
 
--- row i is there
+-- row i is valid
 abbrev pub is_present : Valid → ℕ → Bool
 is_present non_nullable i = true
 is_present all_valid i = true
 is_present all_invalid i = false
 is_present (by_column c) i = is_yes (slice_index_or c.rows i null)
 
--- the rows that are there, and null in place of each other one
+-- the valid rows, and null in place of each other one
 abbrev pub shown_rows : List Bool → List RowValue → List RowValue
 shown_rows [] rows = []
 shown_rows (b ∷ bits) [] = []

@@ -43,8 +43,8 @@ impl<const W: usize> Model for PackedChunks<W> {
 impl<const W: usize> PackedChunks<W> {
     /// The numbers of which the bytes are the spelling, chunk by chunk.
     ///
-    /// An error is the first part of the bytes that is no chunk, and where there is none want of
-    /// memory. More values than a `usize` counts are want of memory too.
+    /// An error is the first part of the bytes that is no chunk, and where there is none
+    /// `NoMemory`. More values than a `usize` counts give `NoMemory` too.
     pub fn try_new(alloc: Global, bytes: Buffer<u8>) -> Result<PackedChunks<W>, PackedError>
         requires { is_width W ≡ true }
         ensures packed { IfOk result (λ p. ArePacked W p bytes) }

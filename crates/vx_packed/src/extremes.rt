@@ -26,7 +26,7 @@ pub(crate) fn greatest_of(numbers: &[u64]) -> u64
     high
 }
 
-// How many binary digits a number has.
+/// How many binary digits a number has.
 #[inline(always)]
 pub(crate) fn digits_of(n: u64) -> u32
     ensures { result ≡ digits n }
@@ -34,7 +34,7 @@ pub(crate) fn digits_of(n: u64) -> u32
     64 - n.leading_zeros()
 }
 
-// Writes each offset, and the base added to it.
+/// Writes each offset, and the base added to it.
 pub(crate) fn put_added(offsets: &[u64; 1024], base: u64, dst: &mut [u64; 1024])
     requires { base + greatest offsets.now < 2 ^ 64 }
     ensures { dst.new ≡ map (λ n. base + n) offsets.now }

@@ -31,7 +31,7 @@ pub enum PackedError {
         /// The first rule that it breaks.
         fault: PackedFault,
     },
-    /// Want of memory.
+    /// Out of memory.
     NoMemory,
 }
 

@@ -8,7 +8,7 @@ use crate::extremes::{digits_of, greatest_of, least_of};
 use std::alloc::Global;
 use vx_bits::{NoMemory, put_eight};
 
-/// The spelling of the values, chunk by chunk. `NoMemory` alone.
+/// The spelling of the values, chunk by chunk. Fails only with `NoMemory`.
 ///
 /// `width` is how many bytes a value has.
 pub fn pack(alloc: Global, values: &[u64], width: usize) -> Result<Vec<u8>, NoMemory>

@@ -7,7 +7,7 @@ ghost use Rattle.vx_packed.specs.Parts.{all_numbers, first_bad, front_len, parts
 use crate::fault::PackedError;
 use crate::reading::offsets_of;
 
-// The bytes up to where the first one says that the chunk ends, or all.
+/// The bytes up to where the first one says that the chunk ends, or all.
 pub(crate) fn front_of(bytes: &[u8]) -> &[u8]
     requires { 0 < length bytes.now }
     ensures { result.now ≡ take (front_len bytes.now) bytes.now }
@@ -19,7 +19,7 @@ pub(crate) fn front_of(bytes: &[u8]) -> &[u8]
     &bytes[..len]
 }
 
-// How many chunks the bytes have, or the first part that is none.
+/// How many chunks the bytes have, or the first part that is none.
 pub(crate) fn count_chunks(bytes: &[u8], width: usize) -> Result<usize, PackedError>
     requires { is_width width ≡ true }
     ensures count { IfOk result (λ n. n ≡ length (parts_of bytes.now)) }

@@ -31,7 +31,7 @@ pub fn read_chunk(bytes: &[u8], width: usize, dst: &mut [u64; 1024]) -> Result<(
     Ok(())
 }
 
-// Writes the offsets, and gives the base, or the first rule that the bytes break.
+/// Writes the offsets, and gives the base, or the first rule that the bytes break.
 pub(crate) fn offsets_of(
     bytes: &[u8],
     width: usize,
@@ -93,7 +93,7 @@ fn number_at(bytes: &[u8], j: usize) -> u64
     base_of(bytes) + field_from(&bytes[HEAD..], j * digits as usize, digits as u32)
 }
 
-// Number `j` of the chunk, read alone.
+/// Number `j` of the chunk, read alone.
 #[inline(always)]
 pub(crate) fn read_one(bytes: &[u8], j: usize) -> u64
     requires within { j < 1024 }

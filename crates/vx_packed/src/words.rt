@@ -5,8 +5,8 @@ ghost use Rattle.vx_packed.specs.Faults.{fields};
 
 use vx_bits::{eight_bytes, lowest_bits};
 
-// The number that `digits` bits from bit `place` on spell. The bytes are whole words, and the bits
-// lie in one of them or in two.
+/// The number that `digits` bits from bit `place` on spell. The bytes are whole words, and the bits
+/// lie in one of them or in two.
 #[inline(always)]
 pub(crate) fn field_from(body: &[u8], place: usize, digits: u32) -> u64
     requires most { digits ≤ 64 }
@@ -27,7 +27,7 @@ pub(crate) fn field_from(body: &[u8], place: usize, digits: u32) -> u64
     lowest_bits((low >> shift) | (high << (64 - shift)), digits)
 }
 
-// Writes the 1024 numbers that the bits spell, `digits` bits to each.
+/// Writes the 1024 numbers that the bits spell, `digits` bits to each.
 pub(crate) fn unpack(body: &[u8], digits: u32, dst: &mut [u64; 1024])
     requires most { digits ≤ 64 }
     requires whole { length body.now ≡ 128 * digits }

@@ -166,7 +166,8 @@ any_more [] k s h is = absurd (omega arith)
 any_more (x ∷ steps) zero s h is = ap (λ b. b || list_any is_take steps) (ap is_take (sym is))
 any_more (x ∷ steps) (suc k) s h is = any_more steps k s (omega arith) is
 
--- of the steps from this one on one is a take where this one is, and otherwise where one behind it is
+-- of the steps from this one on one is a take where this one is, and otherwise where one behind it
+-- is
 pub any_here : (steps : List StepValue) (k : ℕ) (s : StepValue) → k < length steps → s ≡ get_or steps k s → list_any is_take (drop k steps) ≡ list_any is_take steps → is_take s ≡ true → true ≡ list_any is_take steps
 any_here steps k s h is so taken = sym (any_more steps k s h is ∙ ap (λ b. b || list_any is_take (drop (suc k) steps)) taken) ∙ so
 
@@ -265,7 +266,7 @@ pub filters-there : (masks : List Mask) → takes_nullability (filters_back mask
 filters-there [] = refl
 filters-there (m ∷ masks) = takes-append (filters_back masks) (filter_step (mask_bits m)) (filters-there masks) refl
 
--- where neither list of steps is broken, want of memory alone is left
+-- where neither list of steps is broken, `NoMemory` alone is left
 pub other_fault : (v w : Walk) (ps qs : List (Option ℕ)) → v ≡ walk_picks ps → w ≡ walk_picks qs → (e : SelectError) → IsFaultOf v e → IsFaultOf w e
 other_fault v w ps qs is same (Broken k cause) h = absurd (apart (sym h ∙ is))
   where

@@ -23,7 +23,8 @@ pub record Leaves (start end : ℕ) (masks : List Mask) (items left : List (Opti
   pub within : end ≤ length items
   pub walked : (k : ℕ) → walk_from k (slice_range items start end) (filters_back masks) ≡ walk_picks left
 
--- the part of a mask that holds its set positions from number `low` up to `high`, before the other masks
+-- the part of a mask that holds its set positions from number `low` up to `high`, before the other
+-- masks
 pub record IsPartBefore (bits : List Bool) (low high start end : ℕ) (masks more : List Mask) : Type 0 where
   pub ordered : start ≤ end
   pub within : end ≤ length bits

@@ -18,7 +18,7 @@ pub enum PiecesError {
     Overflow,
     /// There are no more numbers than this index.
     PastEnd,
-    /// Want of memory.
+    /// Out of memory.
     NoMemory,
 }
 

@@ -16,7 +16,7 @@ use vx_take::Picks;
 impl PiecewiseSequence {
     /// The column of type `u64` of its numbers.
     ///
-    /// `BadPieces` exactly where the sequence isn't sound, else `NoMemory` alone.
+    /// `BadPieces` exactly where the sequence isn't sound, otherwise only `NoMemory`.
     pub fn execute(&self, alloc: Global) -> Result<Array, PiecesError>
         ensures numbers { IfOk result (λ a. a ≡ numbers_column (expand self.now)) }
         ensures fault { FailsBy result (sound_fault self.now) PiecesError.NoMemory }
@@ -27,7 +27,7 @@ impl PiecewiseSequence {
         Ok(self.numbers(alloc)?)
     }
 
-    // The column of its numbers, of a sound sequence. `NoMemory` alone.
+    // The column of its numbers, of a sound sequence. Fails only with `NoMemory`.
     fn numbers(&self, alloc: Global) -> Result<Array, NoMemory>
         requires { is_sound self.now ≡ true }
         ensures { IfOk result (λ a. a ≡ numbers_column (expand self.now)) }
@@ -40,7 +40,7 @@ impl PiecewiseSequence {
         }
     }
 
-    // A record for each of its numbers, of a sound sequence. `NoMemory` alone.
+    // A record for each of its numbers, of a sound sequence. Fails only with `NoMemory`.
     fn records(&self, alloc: Global) -> Result<Vec<[u8; 8]>, NoMemory>
         requires { is_sound self.now ≡ true }
         ensures { IfOk result (λ v. v.items ≡ map (to_le_bytes w64) (expand self.now)) }
@@ -53,7 +53,7 @@ impl PiecewiseSequence {
     }
 
     /// The positions that its numbers are, of a sound sequence whose numbers are all below `len`.
-    /// `NoMemory` alone.
+    /// Fails only with `NoMemory`.
     #[tactic(auto, using(crate::proofs::PieceLists::there))]
     pub(crate) fn picks(&self, alloc: Global, len: usize) -> Result<Picks, NoMemory>
         requires sound { is_sound self.now ≡ true }
@@ -70,7 +70,7 @@ impl PiecewiseSequence {
     }
 }
 
-// Appends a record for each number of a piece. `NoMemory` alone.
+// Appends a record for each number of a piece. Fails only with `NoMemory`.
 fn push_records(records: &mut Vec<[u8; 8]>, piece: Piece) -> Result<(), NoMemory>
     requires { is_sound_piece piece ≡ true }
     ensures { OnOk result
@@ -82,7 +82,7 @@ fn push_records(records: &mut Vec<[u8; 8]>, piece: Piece) -> Result<(), NoMemory
     Ok(())
 }
 
-// Appends the numbers of a piece. `NoMemory` alone.
+// Appends the numbers of a piece. Fails only with `NoMemory`.
 fn push_picks(picks: &mut Picks, piece: Piece) -> Result<(), NoMemory>
     requires sound { is_sound_piece piece ≡ true }
     requires within { first_from picks.old.bound (piece_numbers piece) ≡ None }

@@ -41,7 +41,7 @@ impl Indices {
         }
     }
 
-    /// The same indices once more. It takes no memory.
+    /// The same indices once again. It takes no memory.
     pub fn share(&self) -> Indices
         ensures { result ≡ self.now }
     {
@@ -72,7 +72,7 @@ impl Indices {
         }
     }
 
-    /// The positions that they name among `len` rows. `NoMemory` alone.
+    /// The positions that they name among `len` rows. Fails only with `NoMemory`.
     pub fn picks(&self, alloc: Global, len: usize) -> Result<Picks, NoMemory>
         requires { index_fault (index_value self.now) len ≡ None }
         ensures picks { IfOk result
@@ -87,8 +87,8 @@ impl Indices {
     }
 
     /// The runs that they name among `len` rows, each its start and its length: of a sequence whose
-    /// multipliers are a constant 1. None exactly of others, which takes no memory. `NoMemory`
-    /// alone.
+    /// multipliers are a constant 1. None exactly of others, which takes no memory. Fails only with
+    /// `NoMemory`.
     pub fn runs(&self, alloc: Global, len: usize) -> Result<Option<Runs>, NoMemory>
         requires { index_fault (index_value self.now) len ≡ None }
         ensures runs { IfOk result (λ runs. runs ≡ index_runs (index_value self.now)) }
@@ -107,7 +107,8 @@ impl Indices {
     }
 }
 
-// The runs that the pieces of a sound sequence are; none where they aren't runs. `NoMemory` alone.
+// The runs that the pieces of a sound sequence are; none where they aren't runs. Fails only with
+// `NoMemory`.
 fn sequence_runs(alloc: Global, pieces: &PiecewiseSequence) -> Result<Option<Runs>, NoMemory>
     requires { is_sound pieces.now ≡ true }
     ensures runs { IfOk result (λ runs. runs ≡ contiguous_runs pieces.now) }
@@ -124,7 +125,7 @@ fn sequence_runs(alloc: Global, pieces: &PiecewiseSequence) -> Result<Option<Run
     }
 }
 
-// The positions that the numbers of a column name. `NoMemory` alone.
+// The positions that the numbers of a column name. Fails only with `NoMemory`.
 fn column_picks(alloc: Global, array: &Array, len: usize) -> Result<Picks, NoMemory>
     requires { column_fault array.now len ≡ None }
     ensures picks { IfOk result

@@ -5,7 +5,7 @@ ghost use Rattle.vx_pieces.specs.Pieces.{is_unsigned, is_unsigned_type, naturals
 
 use vx_column::{Array, Cell, DType, Nullability, PType};
 
-// Whether a column's type is non-nullable and unsigned.
+/// Whether a column's type is non-nullable and unsigned.
 pub(crate) fn is_unsigned_column(array: &Array) -> bool
     ensures { result ≡ is_unsigned_type array.now.dtype }
 {
@@ -28,7 +28,7 @@ fn is_unsigned(ptype: PType) -> bool
     }
 }
 
-// The number that a record of such a type spells.
+/// The number that a record of such a type spells.
 #[tactic(auto, using(crate::proofs::Naturals::spelled))]
 pub(crate) fn natural(ptype: PType, bytes: &[u8]) -> usize
     requires unsigned { is_unsigned ptype ≡ true }
@@ -38,7 +38,7 @@ pub(crate) fn natural(ptype: PType, bytes: &[u8]) -> usize
     ptype.number(bytes) as usize
 }
 
-// The number in row `i` of a column of such a type, of any layout.
+/// The number in row `i` of a column of such a type, of any layout.
 #[tactic(auto, using(crate::proofs::Naturals::naturals))]
 pub(crate) fn natural_at(array: &Array, i: usize) -> usize
     requires unsigned { is_unsigned_type array.now.dtype ≡ true }

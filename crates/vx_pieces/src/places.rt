@@ -20,7 +20,7 @@ pub fn total_len(runs: &[(usize, usize)]) -> usize
     total
 }
 
-// Appends the positions in a run. `NoMemory` alone.
+// Appends the positions in a run. Fails only with `NoMemory`.
 #[tactic(auto, using(crate::proofs::RunPlaces::places_in_runs))]
 fn push_places(places: &mut Vec<usize>, start: usize, len: usize) -> Result<(), NoMemory>
     requires { start + len < 2 ^ 64 }
@@ -32,7 +32,7 @@ fn push_places(places: &mut Vec<usize>, start: usize, len: usize) -> Result<(), 
     Ok(())
 }
 
-// The positions in the runs, one run after another, of `len` rows. `NoMemory` alone.
+// The positions in the runs, one run after another, of `len` rows. Fails only with `NoMemory`.
 #[tactic(auto, using(crate::proofs::RunPlaces::places_in_runs))]
 fn places_in(alloc: Global, runs: &[(usize, usize)], len: usize) -> Result<Vec<usize>, NoMemory>
     requires { All (λ run. run.0 + run.1 ≤ len) runs.now }
@@ -46,7 +46,8 @@ fn places_in(alloc: Global, runs: &[(usize, usize)], len: usize) -> Result<Vec<u
     Ok(places)
 }
 
-/// The positions in the runs, one run after another, as picks from `len` rows. `NoMemory` alone.
+/// The positions in the runs, one run after another, as picks from `len` rows. Fails only with
+/// `NoMemory`.
 #[tactic(auto, using(crate::proofs::RunPlaces::places_below))]
 pub fn run_picks(alloc: Global, runs: &Runs, len: usize) -> Result<Picks, NoMemory>
     requires { All (λ run. run.0 + run.1 ≤ len) runs.now }

@@ -28,7 +28,7 @@ impl PiecewiseSequence {
     /// The pieces that have numbers, each its start and its length, where the multipliers are a
     /// constant 1; none exactly where they aren't, which takes no memory.
     ///
-    /// `BadPieces` exactly where they are and the sequence isn't sound, else `NoMemory` alone.
+    /// `BadPieces` exactly where they are and the sequence isn't sound, otherwise only `NoMemory`.
     pub fn contiguous_runs(&self, alloc: Global) -> Result<Option<Runs>, PiecesError>
         ensures runs { IfOk result (λ runs. runs ≡ contiguous_runs self.now) }
         ensures numbers { IfOk result
@@ -47,7 +47,8 @@ impl PiecewiseSequence {
         Ok(Some(self.runs(alloc)?))
     }
 
-    // The pieces that have numbers, of a sequence whose multipliers are all 1. `NoMemory` alone.
+    // The pieces that have numbers, of a sequence whose multipliers are all 1. Fails only with
+    // `NoMemory`.
     fn runs(&self, alloc: Global) -> Result<Runs, NoMemory>
         requires { All (λ p. p.multiplier ≡ 1) (pieces_of self.now) }
         ensures runs { IfOk result (λ runs. runs ≡ runs_of (pieces_of self.now)) }
@@ -63,7 +64,7 @@ impl PiecewiseSequence {
     }
 }
 
-// Appends the run of a piece, where it has numbers. `NoMemory` alone.
+// Appends the run of a piece, where it has numbers. Fails only with `NoMemory`.
 fn push_run(runs: &mut Vec<(usize, usize)>, piece: Piece) -> Result<(), NoMemory>
     ensures { OnOk result (runs.new.items ≡ runs.old.items ++ runs_of (piece ∷ [])) }
 {

@@ -94,14 +94,14 @@ impl PiecewiseSequence {
         self.len
     }
 
-    /// Which of its rows are there: all of them, by the type.
+    /// Which of its rows are valid: all of them, by the type.
     pub fn validity(&self) -> Validity
         ensures { valid_of result ≡ non_nullable }
     {
         Validity::NonNullable
     }
 
-    /// The same sequence once more. It takes no memory.
+    /// Another handle to the same sequence. It takes no memory.
     pub fn share(&self) -> PiecewiseSequence
         ensures { result ≡ self.now }
     {
@@ -115,7 +115,7 @@ impl PiecewiseSequence {
         }
     }
 
-    // How many pieces there are.
+    /// How many pieces there are.
     #[tactic(auto, using(crate::proofs::Naturals::naturals))]
     pub(crate) fn count(&self) -> usize
         ensures { result ≡ length (pieces_of self.now) }
@@ -123,7 +123,7 @@ impl PiecewiseSequence {
         self.slots.starts.len()
     }
 
-    // Piece `i`.
+    /// Piece `i`.
     #[tactic(auto, using(crate::proofs::Naturals::naturals))]
     pub(crate) fn piece(&self, i: usize) -> Piece
         requires { i < length (pieces_of self.now) }

@@ -18,7 +18,7 @@ pub struct PiecewiseSequenceSlots {
 }
 
 impl PiecewiseSequenceSlots {
-    // Why the columns make no sequence, of whichever declared length; none where they make one.
+    /// Why the columns make no sequence, of whichever declared length; none where they make one.
     pub(crate) fn fault(&self) -> Option<ColumnError>
         ensures { result ≡ pieces_fault
             (pieces_parts self.now.starts self.now.lengths self.now.multipliers 0) }

@@ -10,7 +10,7 @@ number_of p bytes = Some (number p bytes)
 abbrev pub present_numbers : PType → List (List ℕ) → List (Option ℤ)
 present_numbers p records = map (number_of p) records
 
--- of records that are there where a bit is set
+-- of records that are valid where a bit is set
 abbrev pub shown_numbers : PType → List Bool → List (List ℕ) → List (Option ℤ)
 shown_numbers p [] records = []
 shown_numbers p (b ∷ bits) [] = []

@@ -55,7 +55,7 @@ impl<const W: usize> Numbers for Present<'_, W> {
     }
 }
 
-/// Records of an integer type, which are there where a bit is set.
+/// Records of an integer type, which are valid where a bit is set.
 #[derive(Clone, Copy)]
 pub(crate) struct Shown<'a, const W: usize> {
     pub(crate) ptype: PType,

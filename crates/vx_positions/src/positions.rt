@@ -62,7 +62,7 @@ fn position_of(number: Option<i128>, len: usize) -> Option<usize>
     }
 }
 
-/// The positions that the numbers name. `NoMemory` alone.
+/// The positions that the numbers name. Fails only with `NoMemory`.
 #[inline(always)]
 pub fn picks_of<N: Numbers>(alloc: Global, numbers: &N, len: usize) -> Result<Picks, NoMemory>
     requires { first_bad len (N.numbers numbers.now) ≡ None }

@@ -57,7 +57,7 @@ pub fn first_bad_present(ptype: PType, values: &Records, len: usize) -> Option<i
     by_type!(ptype, values, first_bad_present_of_width, len)
 }
 
-/// The same of records that are there where a bit is set.
+/// The same of records that are valid where a bit is set.
 pub fn first_bad_shown(ptype: PType, values: &Records, bits: &BitBuffer, len: usize) -> Option<i128>
     requires int { is_int ptype ≡ true }
     requires width { width_of values.now ≡ width ptype }
@@ -113,7 +113,7 @@ fn picks_shown_of_width<const W: usize>(
     )
 }
 
-/// The positions that the numbers name, of records that are all there. `NoMemory` alone.
+/// The positions that the numbers name, of records that are all there. Fails only with `NoMemory`.
 pub fn picks_present(
     alloc: Global,
     ptype: PType,
@@ -132,7 +132,7 @@ pub fn picks_present(
     by_type!(ptype, values, picks_present_of_width, alloc, len)
 }
 
-/// The same of records that are there where a bit is set. `NoMemory` alone.
+/// The same of records that are valid where a bit is set. Fails only with `NoMemory`.
 pub fn picks_shown(
     alloc: Global,
     ptype: PType,

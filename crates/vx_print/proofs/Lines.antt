@@ -21,7 +21,7 @@ pub length-record_rows : (bits : Option (List Bool)) (rs : List (List ℕ)) → 
 length-record_rows None rs h = length-map rs bytes
 length-record_rows (Some bits) rs h = length-shown_rows bits (map bytes rs) (h ∙ sym (length-map rs bytes)) ∙ length-map rs bytes
 
--- row i, of which the bit says whether it is there
+-- row i, of which the bit says whether it is valid
 pub get_or-record_rows : (bits : List Bool) (rs : List (List ℕ)) (i : ℕ) (r : List ℕ) → length bits ≡ length rs → i < length rs → r ≡ get_or rs i r → (if get_or bits i false then bytes r else null) ≡ get_or (record_rows (Some bits) rs) i null
 get_or-record_rows bits rs i r h l is =
     let long = length-map rs bytes in

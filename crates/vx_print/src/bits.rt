@@ -42,7 +42,7 @@ fn put_lines(word: u64, len: usize, dst: &mut [u8; ROOM]) -> usize
     at
 }
 
-/// Appends a line for each bit. `NoMemory` alone.
+/// Appends a line for each bit. Fails only with `NoMemory`.
 pub(crate) fn push_bits(text: &mut Vec<u8>, bits: &BitBuffer) -> Result<(), NoMemory>
     ensures { IsOk result → text.new.items ≡ text.old.items ++ lines bit_text bits.now.bits }
 {

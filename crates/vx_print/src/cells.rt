@@ -32,7 +32,7 @@ fn put_primitive(ptype: PType, bytes: &[u8], dst: &mut [u8; ROOM], end: usize) -
     }
 }
 
-/// Appends a record of a primitive type, by way of `dst`. `NoMemory` alone.
+/// Appends a record of a primitive type, by way of `dst`. Fails only with `NoMemory`.
 pub(crate) fn push_record(
     text: &mut Vec<u8>,
     dst: &mut [u8; ROOM],
@@ -47,7 +47,7 @@ pub(crate) fn push_record(
     Ok(())
 }
 
-/// Appends a variant's id and a colon, by way of `dst`. `NoMemory` alone.
+/// Appends a variant's id and a colon, by way of `dst`. Fails only with `NoMemory`.
 pub(crate) fn push_id(text: &mut Vec<u8>, dst: &mut [u8; ROOM], id: u8) -> Result<(), NoMemory>
     ensures { IsOk result → text.new.items ≡ text.old.items ++ (decimal id ++ codes ":") }
 {
@@ -104,7 +104,7 @@ fn put_rows(column: &Array, start: usize, end: usize, dst: &mut [u8; ROOM]) -> u
     at
 }
 
-/// Appends a line for each row of a column of flat type. `NoMemory` alone.
+/// Appends a line for each row of a column of flat type. Fails only with `NoMemory`.
 pub(crate) fn push_rows(text: &mut Vec<u8>, column: &Array) -> Result<(), NoMemory>
     requires { is_flat column.now.dtype ≡ true }
     ensures { IsOk result → text.new.items
@@ -150,14 +150,14 @@ fn put_joined(column: &Array, start: usize, end: usize, dst: &mut [u8; ROOM]) ->
     ensures put { drop result dst.new
         ≡ comma_list (map (row_text column.now.dtype) (slice_range column.now.rows start end)) }
 {
-    match column.present_records() {
+    match column.plain_records() {
         Some(records) => put_elements(column.dtype(), records, start, end, dst),
         None => put_cells(column, start, end, dst),
     }
 }
 
 /// Appends the rows from `start` up to `end` of a column of flat type, with `, ` between them, by
-/// way of `dst`. `NoMemory` alone, also where the text would grow past its bound.
+/// way of `dst`. Fails only with `NoMemory`, also where the text would grow past its bound.
 pub(crate) fn push_joined(
     text: &mut Vec<u8>,
     dst: &mut [u8; ROOM],

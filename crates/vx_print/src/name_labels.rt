@@ -10,7 +10,7 @@ use std::rc::RcStr;
 use vx_bits::NoMemory;
 
 /// What stands in front of each field of these names, so that it is put together once a column and
-/// not once a row. `NoMemory` alone.
+/// not once a row. Fails only with `NoMemory`.
 pub(crate) fn labels_of(alloc: Global, names: &[RcStr]) -> Result<Vec<Vec<u8>>, NoMemory>
     ensures { IfOk result (λ labels.
         AreLabels (names_of names.now) (map (λ l. l.items) labels.items)) }
@@ -25,7 +25,8 @@ pub(crate) fn labels_of(alloc: Global, names: &[RcStr]) -> Result<Vec<Vec<u8>>, 
     Ok(labels)
 }
 
-/// Appends what stands in front of field `k`, as it is put together where it is. `NoMemory` alone.
+/// Appends what stands in front of field `k`, as it is put together where it is. Fails only with
+/// `NoMemory`.
 #[inline(always)]
 pub(crate) fn push_label(
     text: &mut Vec<u8>,

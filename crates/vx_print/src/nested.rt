@@ -212,8 +212,8 @@ fn push_row(
     }
 }
 
-/// Appends a line for each row of any column. `NoMemory` alone, also where the text would grow past
-/// its bound.
+/// Appends a line for each row of any column. Fails only with `NoMemory`, also where the text would
+/// grow past its bound.
 pub(crate) fn push_nested(alloc: Global, text: &mut Vec<u8>, column: &Array) -> Result<(), NoMemory>
     ensures { IsOk result → text.new.items
         ≡ text.old.items ++ lines (row_text column.now.dtype) column.now.rows }

@@ -149,7 +149,7 @@ fn push_each<const W: usize>(
 }
 
 /// Appends a line for each row: the record's bytes, or null where there are bits and the row's bit
-/// is clear. `NoMemory` alone.
+/// is clear. Fails only with `NoMemory`.
 pub(crate) fn push_hex(
     text: &mut Vec<u8>,
     values: &Records,

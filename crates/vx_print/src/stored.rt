@@ -27,8 +27,8 @@ pub(crate) fn storage_of(column: &Array) -> &Array
     }
 }
 
-/// Appends bytes that are a row of this type. `NoMemory` alone, also where the text would grow past
-/// its bound.
+/// Appends bytes that are a row of this type. Fails only with `NoMemory`, also where the text would
+/// grow past its bound.
 #[tactic(auto, using(crate::proofs::Widths::decimal_short))]
 pub(crate) fn push_stored(
     text: &mut Vec<u8>,

@@ -18,7 +18,7 @@ use std::alloc::Global;
 use vx_bits::{BitBuffer, NoMemory, Records};
 use vx_column::{Array, DType};
 
-// Appends a word and a number behind it.
+/// Appends a word and a number behind it.
 pub(crate) fn push_number<I: Integer>(
     text: &mut Vec<u8>,
     word: &[u8],
@@ -58,13 +58,13 @@ fn push_lines(alloc: Global, text: &mut Vec<u8>, column: &Array) -> Result<(), N
     ensures { IsOk result → text.new.items
         ≡ text.old.items ++ lines (row_text column.now.dtype) column.now.rows }
 {
-    if let Some(bits) = column.present_bits() {
+    if let Some(bits) = column.plain_bits() {
         return push_bits(text, bits);
     }
-    if let Some(records) = column.present_records() {
+    if let Some(records) = column.plain_records() {
         return push_records(text, column.dtype(), records, None);
     }
-    if let Some((records, bits)) = column.shown_records() {
+    if let Some((records, bits)) = column.records_with_validity() {
         return push_records(text, column.dtype(), records, Some(bits));
     }
     if column.dtype().is_flat() {
@@ -87,7 +87,7 @@ fn push_text(alloc: Global, all: &mut Vec<u8>, column: &Array) -> Result<(), NoM
     push_lines(alloc, all, storage_of(column))
 }
 
-/// The text of a column: the line of its type, and a line for each row. `NoMemory` alone.
+/// The text of a column: the line of its type, and a line for each row. Fails only with `NoMemory`.
 pub fn text_of(alloc: Global, column: &Array) -> Result<Vec<u8>, NoMemory>
     ensures { IfOk result (λ v. v.items ≡ text column.now.dtype column.now.rows) }
 {

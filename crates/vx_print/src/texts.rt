@@ -158,7 +158,7 @@ fn push_few(text: &mut Vec<u8>, bytes: &[u8]) -> Result<(), NoMemory>
     Ok(())
 }
 
-/// Appends bytes between quotes. `NoMemory` alone.
+/// Appends bytes between quotes. Fails only with `NoMemory`.
 #[inline(always)]
 pub(crate) fn push_quoted(text: &mut Vec<u8>, bytes: &[u8]) -> Result<(), NoMemory>
     ensures { IsOk result → text.new.items ≡ text.old.items ++ quoted_text bytes.now }
@@ -176,7 +176,7 @@ pub(crate) fn push_quoted(text: &mut Vec<u8>, bytes: &[u8]) -> Result<(), NoMemo
     Ok(())
 }
 
-/// Appends bytes in hexadecimal digits. `NoMemory` alone.
+/// Appends bytes in hexadecimal digits. Fails only with `NoMemory`.
 pub(crate) fn push_digits(text: &mut Vec<u8>, bytes: &[u8]) -> Result<(), NoMemory>
     requires { length bytes.now ≤ TEXT_BYTES }
     ensures { IsOk result → text.new.items ≡ text.old.items ++ hex_text bytes.now }
@@ -198,8 +198,8 @@ pub(crate) fn has_room(len: usize, more: usize) -> bool
     len <= TEXT_BYTES && more <= TEXT_BYTES - len
 }
 
-/// Appends the bytes of a row of text, as its type says. `NoMemory` alone, also where the text
-/// would grow past its bound.
+/// Appends the bytes of a row of text, as its type says. Fails only with `NoMemory`, also where the
+/// text would grow past its bound.
 #[inline(always)]
 pub(crate) fn push_bytes(text: &mut Vec<u8>, dtype: &DType, bytes: &[u8]) -> Result<(), NoMemory>
     requires { is_text_kind (type_of dtype.now).kind ≡ true }
@@ -234,8 +234,8 @@ fn push_row(text: &mut Vec<u8>, dtype: &DType, row: Cell<'_>) -> Result<(), NoMe
     }
 }
 
-/// Appends a line for each row of a column of text. `NoMemory` alone, also where the text would
-/// grow past its bound.
+/// Appends a line for each row of a column of text. Fails only with `NoMemory`, also where the text
+/// would grow past its bound.
 pub(crate) fn push_texts(text: &mut Vec<u8>, column: &Array) -> Result<(), NoMemory>
     requires { is_text_kind column.now.dtype.kind ≡ true }
     ensures { IsOk result → text.new.items
@@ -249,8 +249,8 @@ pub(crate) fn push_texts(text: &mut Vec<u8>, column: &Array) -> Result<(), NoMem
     Ok(())
 }
 
-/// Appends the rows from `start` up to `end` of a column of text, with `, ` between them.
-/// `NoMemory` alone, also where the text would grow past its bound.
+/// Appends the rows from `start` up to `end` of a column of text, with `, ` between them. Fails
+/// only with `NoMemory`, also where the text would grow past its bound.
 pub(crate) fn push_listed(
     text: &mut Vec<u8>,
     column: &Array,

@@ -44,7 +44,7 @@ fn push_decimal(text: &mut Vec<u8>, decimal: DecimalDType) -> Result<(), NoMemor
     Ok(())
 }
 
-/// Appends a word. `NoMemory` alone.
+/// Appends a word. Fails only with `NoMemory`.
 pub(crate) fn push_word(text: &mut Vec<u8>, word: &[u8]) -> Result<(), NoMemory>
     ensures { IsOk result → text.new.items ≡ text.old.items ++ word.now }
 {
@@ -79,7 +79,7 @@ fn push_id(text: &mut Vec<u8>, ids: &[u8], i: usize) -> Result<(), NoMemory>
     }
 }
 
-/// Appends the label of name `i`, where there is one. `NoMemory` alone.
+/// Appends the label of name `i`, where there is one. Fails only with `NoMemory`.
 #[tactic(auto, using(crate::proofs::Labels::label_here))]
 pub(crate) fn push_name(text: &mut Vec<u8>, names: &[RcStr], i: usize) -> Result<(), NoMemory>
     ensures { IsOk result → text.new.items
@@ -216,7 +216,7 @@ fn push_kind(text: &mut Vec<u8>, dtype: &DType) -> Result<(), NoMemory>
     }
 }
 
-/// Appends a type, marked where it is nullable. `NoMemory` alone.
+/// Appends a type, marked where it is nullable. Fails only with `NoMemory`.
 #[cycle(types)]
 pub(crate) fn push_type(text: &mut Vec<u8>, dtype: &DType) -> Result<(), NoMemory>
     ensures { IsOk result → text.new.items ≡ text.old.items ++ type_text (type_of dtype.now) }

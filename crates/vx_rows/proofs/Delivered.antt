@@ -32,7 +32,7 @@ is_malformed (replies.Broken step cause) o h s = absurd (omega arith)
 is_malformed replies.Malformed o h s = h
 is_malformed replies.NoMemory o h s = absurd (omega arith)
 
--- the status is that of the outcome, or memory is wanting
+-- the status is that of the outcome, or memory runs out
 pub status_or_memory : (r : Reply) (o : Outcome) → Replies r o → (status_of_reply r ≡ 6) ⊎ (status_of_reply r ≡ status_of o)
 status_or_memory (replies.Done text asked) o h = inr (sym (ap status_of h))
 status_or_memory (replies.Broken step cause) o h = inr (sym (ap status_of h))
@@ -48,7 +48,7 @@ traced_alike (replies.Broken step cause) o t h s = sym (ap (λ x. traced_by x t)
 traced_alike replies.Malformed o t h s = sym (ap (λ x. traced_by x t) h)
 traced_alike replies.NoMemory o t h s = absurd (s refl)
 
--- what is written isn't want of memory
+-- what is written isn't `NoMemory`
 pub written_status : (r : Reply) (Q : List ℕ → Type 0) → IsSomeAnd (text_of_reply r) Q → status_of_reply r ≢ 6
 written_status (replies.Done text asked) Q q = omega arith
 written_status (replies.Broken step cause) Q q = omega arith

@@ -32,7 +32,7 @@ use Rattle.vx_rows.specs.declared.asked.Asked.TheVariants.{Reads}
 use Rattle.vx_rows.specs.declared.reply.Reply.{Reply}
 use Rattle.vx_rows.specs.declared.reply.Reply.TheVariants as replies
 
--- the reads that are told are kept
+-- the reads that are recorded are kept
 pub kept_is : (s : BlocksState) (reads : List ℕ) → told_reads s ≡ Some reads → s.kept ≡ reads
 kept_is s reads e = by (nat_le s.call s.room) e
   where

@@ -205,7 +205,7 @@ answer_err (Err x) a e h m =
     let P : SelectError → Type 0 = λ y. MatchError y (λ k cause. a ≡ answer_fault k cause) (IsRows a) in
     subst P (sym h) m
 
--- memory is wanting, and the check found no broken step
+-- memory runs out, and the check found no broken step
 pub wants_memory : (s : StructParts) → struct_fault s ≡ None → s.valid ≡ non_nullable → (steps : List StepValue) (number len count : ℕ) → HasCount (walk s.len steps) count → (r : Result Column SelectError) → IsErrAnd r (λ x. x ≡ NoMemory) → IsAnswer r (page_answer number len (struct_column s) steps)
 wants_memory s h v steps number len count fine r is =
     answer_err r _ NoMemory is (page_sound s h v steps number len (checked (walk s.len steps) count fine))

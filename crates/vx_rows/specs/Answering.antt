@@ -13,7 +13,7 @@ pub record IsAnsweredBy (p : Answered) (a : Answer) (what : Asked) : Type 0 wher
   pub asked : p.asked ≡ what
 
 -- the answer's type and rows and what was asked where no step is broken, else the first broken
--- step; want of memory only where none is
+-- step; `NoMemory` only where none is
 abbrev pub Answers : Result Answered SelectError → Answer → Asked → Type 0
 Answers r a asked =
     MatchResult r (λ p. IsAnsweredBy p a asked)

@@ -58,8 +58,7 @@ fn chunk_count(shape: &ChunkShape) -> usize
     }
 }
 
-/// By a decoder of these values, which keeps its calls. No memory is wanting where a step is
-/// broken.
+/// By a decoder of these values, which keeps its calls. No memory runs out where a step is broken.
 fn answer_by_calls<const W: usize>(
     alloc: Global,
     shape: &ChunkShape,

@@ -9,8 +9,8 @@ use crate::trace::Trace;
 use vx_io::{Sink, deliver};
 use vx_print::{FAULT_ROOM, fault_line};
 
-// Writes what a reply prints, if it prints anything, and answers the status. What was asked for it
-// is kept before the first write. A reply that prints nothing leaves the sink as it was.
+/// Writes what a reply prints, if it prints anything, and answers the status. What was asked for it
+/// is kept before the first write. A reply that prints nothing leaves the sink as it was.
 pub(crate) fn deliver_reply<K: Sink>(sink: &mut K, trace: &mut Trace, reply: Reply) -> u8
     ensures status { result ≢ 5 → result ≡ status_of_reply reply }
     ensures traced { trace.new ≡ traced_by_reply reply trace.old }

@@ -83,7 +83,7 @@ fn file_by(alloc: Global, value: &Value) -> Result<FileDocument, DocError>
 }
 
 /// Reads a document of a file, of which no block was read yet. `Malformed` exactly where the value
-/// has no meaning as one, but that want of memory may come in place of any answer.
+/// has no meaning as one, but that `NoMemory` may come in place of any answer.
 #[tactic(auto, unfolding(crate::specs::FileDocument::file_document_of))]
 pub(crate) fn file_document(alloc: Global, value: &Value) -> Result<FileDocument, DocError>
     ensures document { Gives file_value result (file_document_of (view value.now)) }

@@ -93,7 +93,7 @@ fn drawn_bits(alloc: Global, draws: &[u32]) -> Result<BitBuffer, NoMemory>
     bits.finish()
 }
 
-// Whether each index is there.
+// Whether each index is valid.
 fn presence(alloc: Global, draws: &[u32]) -> Result<BitBuffer, NoMemory>
     ensures { IfOk result
         (λ b. b ≡ record { bits = map (λ d. not (d % 10 == 0)) draws.now; offset = 0 }) }

@@ -42,7 +42,7 @@ fn table_in(column: &Array) -> Option<&StructArray>
     }
 }
 
-// The names once more.
+// The names once again.
 fn copied_names(alloc: Global, names: &[RcStr]) -> Result<Vec<RcStr>, NoMemory>
     ensures { IfOk result (λ copy. names_of copy.items ≡ names_of names.now) }
 {
@@ -130,7 +130,7 @@ fn whole_page(
     let every = all_columns(alloc, table)?;
     match page(alloc, table, &every, steps, number, len, policy) {
         Ok(rows) => Ok(rows),
-        // each column is there, the page has rows, and no step is broken: what is left is memory
+        // each column is there, the page has rows, and no step is broken: only memory can run out
         Err(_) => Err(NoMemory),
     }
 }

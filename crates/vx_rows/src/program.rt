@@ -97,7 +97,7 @@ fn run_made<K: Sink>(alloc: Global, seed: u32, sink: &mut K, trace: &mut Trace) 
 /// | 3 | the words are others; nothing was read or written |
 /// | 4 | the source failed; nothing was written |
 /// | 5 | the sink failed; what was written is a prefix of the text |
-/// | 6 | memory is wanting, or the text would be too long; nothing was written |
+/// | 6 | memory runs out, or the text would be too long; nothing was written |
 /// | 7 | 16,777,217 bytes were taken; nothing was written |
 ///
 /// The text would be too long where the rows of a column of text, of lists, of structs or of unions
@@ -151,7 +151,7 @@ pub fn run<S: Source, K: Sink>(
         (λ o. trace.new ≡ traced_by o trace.old) }
     ensures untraced { result ≢ 0 → result ≢ 5 → trace.new ≡ trace.old }
     ensures leaves { LeavesTrace (command_of (map string_bytes words.now)) trace.old trace.new }
-    // Where neither count of faults rose, the status is that of the bytes, or memory is wanting.
+    // Where neither count of faults rose, the status is that of the bytes, or memory runs out.
     ensures complete { ¬ Rose (S.faults source.old) (S.faults source.new)
         → ¬ Rose (K.faults sink.old) (K.faults sink.new)
         → (result ≡ 3) ⊎ (result ≡ 6)

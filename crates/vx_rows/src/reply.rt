@@ -44,7 +44,7 @@ pub(crate) enum Reply {
     },
     /// The bytes have no meaning.
     Malformed,
-    /// Want of memory.
+    /// Out of memory.
     NoMemory,
 }
 
@@ -151,7 +151,7 @@ fn text_with(alloc: Global, rows: &Array, asked: &Asked) -> Result<Vec<u8>, NoMe
     Ok(text)
 }
 
-/// The text of the rows and of what was asked for them, or want of memory.
+/// The text of the rows and of what was asked for them, or `NoMemory`.
 pub(crate) fn reply_with(alloc: Global, rows: &Array, asked: Asked) -> Reply
     ensures { Replies result (Done (text_with rows.now.dtype rows.now.rows asked) asked) }
 {

@@ -27,7 +27,7 @@ impl Trace {
         }
     }
 
-    // Keeps the calls of a decoder, or the reads of a file, in place of those from before.
+    /// Keeps the calls of a decoder, or the reads of a file, in place of those from before.
     pub(crate) fn keep(&mut self, asked: Asked)
         ensures { self.new ≡ with_asked asked self.old }
     {

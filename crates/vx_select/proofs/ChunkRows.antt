@@ -121,7 +121,7 @@ module _ (t : TypeTree) (rows : List RowValue) (steps : List StepValue) (n : ℕ
   rows_by_walk (walk_fault k cause) h = absurd h
   rows_by_walk (walk_picks picks) h = tt
 
-  -- want of memory comes only where no step is broken
+  -- `NoMemory` comes only where no step is broken
   pub answered_unbroken : IsUnbroken (walk n steps) → IsRows (answer_of t rows steps)
   answered_unbroken h =
       let P : ℕ → Type 0 = λ m. IsUnbroken (walk m steps) in

@@ -7,8 +7,8 @@ use Rattle.vx_steps.specs.declared.cause.SelectError.{SelectError}
 use Rattle.vx_steps.specs.declared.cause.SelectError.TheVariants.{Broken}
 use Rattle.vx_select.specs.Select.{IsSelection}
 
--- two that are Ok have the same type and rows, and what one refuses but for want of memory the
--- other refuses in the same way
+-- two that are Ok have the same type and rows, and what one refuses but for `NoMemory` the other
+-- refuses in the same way
 pub record AreAlike (r s : Result Column SelectError) : Type 0 where
   pub dtype : (a b : Column) → r ≡ Ok a → s ≡ Ok b → a.dtype ≡ b.dtype
   pub rows : (a b : Column) → r ≡ Ok a → s ≡ Ok b → a.rows ≡ b.rows

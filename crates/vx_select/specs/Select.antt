@@ -15,8 +15,8 @@ abbrev pub IsRows : Answer → Type 0
 IsRows (answer_fault k cause) = ⊥
 IsRows (answer_rows t rows) = Unit {0}
 
--- the answer's type and rows where no step is broken, else the first broken step; want of memory
--- only where none is
+-- the answer's type and rows where no step is broken, else the first broken step; `NoMemory` only
+-- where none is
 abbrev pub IsAnswer : Result Column SelectError → Answer → Type 0
 IsAnswer r a =
     MatchResult r (λ c. a ≡ answer_rows c.dtype c.rows)

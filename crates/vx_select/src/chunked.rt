@@ -199,8 +199,8 @@ fn take_chunked<const W: usize, D: ChunkDecoder<[u8; W]>>(
 /// picked values alone where they number at most the policy's sparse limit, else for all. No chunk
 /// is asked for otherwise.
 ///
-/// `Broken` exactly where a step breaks a rule, with the first one, even where memory is wanting,
-/// and without a call. `NoMemory` only where none does, without a call or after all of them.
+/// `Broken` exactly where a step breaks a rule, with the first one, even when memory runs out, and
+/// without a call. `NoMemory` only where none does, without a call or after all of them.
 pub fn select_chunked<const W: usize, D: ChunkDecoder<[u8; W]>>(
     alloc: Global,
     decoder: &mut D,

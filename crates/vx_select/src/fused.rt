@@ -92,7 +92,7 @@ fn taken(
 
 /// The same promise as that of [`select`], by one take of the composed picks.
 ///
-/// `Broken` exactly where a step breaks a rule, with the first one, even where memory is wanting.
+/// `Broken` exactly where a step breaks a rule, with the first one, even when memory runs out.
 /// `NoMemory` only where none does, and never over layout `Null` or for slices alone over a plain
 /// column: there it is `select`.
 pub fn select_fused(

@@ -7,7 +7,7 @@ use vx_column::Array;
 use vx_steps::Step;
 
 /// Whatever two policies, and whichever of `select` and `select_fused`: two answers that are Ok
-/// have the same type and rows, and a refusal that isn't want of memory is the same.
+/// have the same type and rows, and a refusal that isn't `NoMemory` is the same.
 pub fn selections_alike(column: &Array, steps: &[Step])
     ensures { SelectionsAreAlike column.now (map step_value steps.now) }
 {

@@ -70,8 +70,8 @@ impl Part {
         self.column.as_null().is_some()
     }
 
-    /// The column of its rows. `NoMemory` alone, and never of a plain column.
-    pub(crate) fn cut(&self, alloc: Global) -> Result<Array, NoMemory>
+    /// The column of its rows. Fails only with `NoMemory`, and never of a plain column.
+    pub(crate) fn materialize(&self, alloc: Global) -> Result<Array, NoMemory>
         ensures step { IfOk result (IsStep self.now self.now.rows self.now.dtype) }
         ensures plain { is_plain self.now ≡ true → IfOk result (λ a. is_plain a ≡ true) }
         ensures free { is_plain self.now ≡ true → IsOk result }

@@ -38,7 +38,7 @@ fn index_records(alloc: Global, picks: &Picks) -> Result<Buffer<[u8; 8]>, NoMemo
     Buffer::from_vec(alloc, records)
 }
 
-// The validity of rows that are there where a bit is set, of a type that has nulls.
+// The validity of rows that are valid where a bit is set, of a type that has nulls.
 fn shown_by(alloc: Global, bits: BitBuffer) -> Result<Validity, NoMemory>
     ensures present { IfOk result
         (λ v. present_bits (valid_of v) (length bits.bits) ≡ bits.bits) }
@@ -51,7 +51,7 @@ fn shown_by(alloc: Global, bits: BitBuffer) -> Result<Validity, NoMemory>
     Validity::from_bits(alloc, bits)
 }
 
-// Which picks are there: a constant form where each is.
+// Which picks are not null: a constant form where each is.
 fn index_validity(
     alloc: Global,
     picks: &Picks,
@@ -91,7 +91,7 @@ fn indices_of(alloc: Global, column: Array) -> Result<Indices, NoMemory>
 }
 
 /// The indices that name these picks: a column of numbers, of a type that has nulls where
-/// `nullability` says so, also where no pick is one. `NoMemory` alone.
+/// `nullability` says so, also where no pick is one. Fails only with `NoMemory`.
 pub fn pick_indices(
     alloc: Global,
     picks: &Picks,

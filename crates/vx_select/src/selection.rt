@@ -30,7 +30,7 @@ fn kept(alloc: Global, part: Part, mask: &Mask, policy: &Policy) -> Result<Part,
     if let Mask::AllTrue(_) = mask {
         return Ok(part);
     }
-    let column = part.cut(alloc)?;
+    let column = part.materialize(alloc)?;
     let rows = filter(alloc, &column, mask, policy)?;
     Ok(Part::whole(rows))
 }
@@ -64,7 +64,7 @@ fn apply(alloc: Global, part: Part, step: &Step, policy: &Policy) -> Result<Part
         Step::Filter(mask) => kept(alloc, part, mask, policy),
         Step::FilterBy(column) => kept_by(alloc, part, column.array(), policy),
         Step::Take(indices) => {
-            let column = part.cut(alloc)?;
+            let column = part.materialize(alloc)?;
             let taken = take(alloc, &column, indices, policy)?;
             Ok(Part::whole(taken))
         }
@@ -74,7 +74,7 @@ fn apply(alloc: Global, part: Part, step: &Step, policy: &Policy) -> Result<Part
 /// The rows that the steps pick, in order, as a column of the source's type, nullable also where a
 /// take's indices are, and unwrapped where the type is flat.
 ///
-/// `Broken` exactly where a step breaks a rule, with the first one, even where memory is wanting.
+/// `Broken` exactly where a step breaks a rule, with the first one, even when memory runs out.
 /// `NoMemory` only where none does, and never over layout `Null` or for slices alone over a plain
 /// column.
 pub fn select(
@@ -90,7 +90,7 @@ pub fn select(
     for step in steps {
         current = apply(alloc, current, step, policy)?;
     }
-    let rows = current.cut(alloc)?;
+    let rows = current.materialize(alloc)?;
     let answer = execute(alloc, &rows, policy)?;
     Ok(answer)
 }

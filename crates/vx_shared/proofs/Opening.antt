@@ -71,7 +71,8 @@ module _ (R : RattleType) (c : Ptr) (x : R.Denot) where
     lent_back t z a s = step (λ next. move t (1 ∷ 0 ∷ []) $ obor_close t z $ drop t $ next)
 
   module _ {M : Type 1} {𝓤 : Ura M} {𝓛 : Logic 𝓤} {K : Type 0} {Γ : List (Item 𝓤)} {G : Goal 𝓤 𝓛.H} where
-    -- all goes back, and the ticket is another owner's: [the whole token; the thread's token; the other owner]
+    -- all goes back, and the ticket is another owner's: [the whole token; the thread's token; the
+    -- other owner]
     pub owner_made : K → Soaks G → {κ : Lft} {q : Share} (a : Id) (s r : Share) (y : Bool) (n b o b' o' : ℕ) → c ≡ block_ptr b o → Step K 𝓛 (‵ (flft κ q) ∷ ‵ (ftok every) ∷ ‵ (counted_owns R c x) ∷ Γ) G
         (‵ (tally P a y n) ∷ ‵ (ticket a) ∷ ‵ (cell n b o) ∷ ‵ (flft (ν a) s) ∷ Shuts 𝓛 a ∷ ‵ (box a) ∷ ‵ (value_shared R c x (ν a)) ∷ ‵ (fobor κ (Share.right q) (flft (ν a) s))
         ∷ ‵ (fat r (word_type R) b' o' (word c)) ∷ Shut 𝓛 κ (Share.left q) (part_at (Word R) r (c, tt) b' o') ∷ Γ) G

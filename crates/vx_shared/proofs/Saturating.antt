@@ -164,7 +164,8 @@ module _ (k : Key) (S : ℕ → Fml) (P : Fml) where
         by_token q = qed 𝓛 (‵ (fbor κ Owns) ∷ ‵ (flft κ q) ∷ []) ∵ updating ! $ bor_open ! tt $ move ! (1 ∷ []) $ fpick ! (λ a. fsplit3 ! $ fpick ! (λ e. fsplit ! $ move ! (2 ∷ []) $
             use1 𝓛 (‵ (box a) ⊛ ‵ (box a)) (na_inv_dup 𝓛 k (Inv k S P a)) $ split ! $ move ! (4 ∷ []) $
             use1 𝓛 (‵ (t (ν a)) ⊛ ‵ (t (ν a))) (contraction 𝓛 t L (ν a)) $ split ! $
-            -- [what is seen, twice; the invariant, twice; the share; why it stands; the open borrow]
+            -- [what is seen, twice; the invariant, twice; the share; why it stands; the open
+            -- borrow]
             move ! (2 ∷ 0 ∷ 5 ∷ []) $ group ! 3 $ use1 𝓛 (‵ (fwand (fsep (fdead κ) (fseps (flft (ν a) e.0 ∷ []))) (fupd Owns))) (again a e.0 e.1) $
             nothing ! $ move ! (4 ∷ 0 ∷ []) $ fjoin ! $ move ! (4 ∷ 0 ∷ 1 ∷ []) $ obor_alter ! tt (flft (ν a) e.0 ∷ []) $
             use1 𝓛 (‵ (fbor κ (flft (ν a) e.0)) ⊛ ‵ ftrue) (id⊢ 𝓤 _) $ split ! $ bor_fracture ! tt (λ r. flft (ν a) r) e.0 $ move ! (0 ∷ 4 ∷ 3 ∷ []) $ fjoin3 ! $

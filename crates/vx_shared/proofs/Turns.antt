@@ -1,4 +1,5 @@
--- A walk that opens a non-atomic invariant begins with the thread's token, and ends with it. Assumes `Logic`.
+-- A walk that opens a non-atomic invariant begins with the thread's token, and ends with it.
+-- Assumes `Logic`.
 --     held, tables_held      the clauses with the token in both;  and the tables below which it is held
 --     proved_held      a walk at those clauses and tables meets the contract
 use mathlib.Core.Path.{subst}

@@ -19,7 +19,8 @@ use Rattle.vx_column.proofs.TruthBits.{length-true_bits}
 use Rattle.vx_model.proofs.Takes.{length-at, map-at}
 use Rattle.vx_model.proofs.Items.{length-items_where_true, length-slice_range, map-slice_range, map-items_where_true}
 
--- the steps before number k are done: picks are left, of which P holds, and the rest of the walk goes on from them
+-- the steps before number k are done: picks are left, of which P holds, and the rest of the walk
+-- goes on from them
 pub record Reached (n : ℕ) (steps : List StepValue) (k : ℕ) (P : List (Option ℕ) → Type 0) : Type 0 where
   pub picks : List (Option ℕ)
   pub so : P picks

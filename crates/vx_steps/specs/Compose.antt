@@ -57,6 +57,6 @@ abbrev pub IsUnbroken : Walk → Type 0
 IsUnbroken (walk_fault k cause) = ⊥
 IsUnbroken (walk_picks picks) = Unit {0}
 
--- an error is the first broken step and its cause, or want of memory where no step is broken
+-- an error is the first broken step and its cause, or `NoMemory` where no step is broken
 abbrev pub IsFaultOf : Walk → SelectError → Type 0
 IsFaultOf w e = MatchError e (λ k cause. w ≡ walk_fault k cause) (IsUnbroken w)

@@ -49,7 +49,7 @@ pub enum SelectError {
         /// The rule that it breaks.
         cause: Cause,
     },
-    /// Want of memory, though no step breaks a rule.
+    /// Out of memory, though no step breaks a rule.
     NoMemory,
 }
 

@@ -10,7 +10,7 @@ use crate::step::Step;
 use vx_pieces::IndexFault;
 
 impl Step {
-    // The rule that the step breaks over `len` rows; none where it breaks none.
+    /// The rule that the step breaks over `len` rows; none where it breaks none.
     pub(crate) fn broken(&self, len: usize) -> Option<Cause>
         ensures { result ≡ broken (step_value self.now) len }
     {
@@ -38,7 +38,7 @@ impl Step {
         }
     }
 
-    // How many rows the step leaves, where it breaks no rule: of a take as many as it has indices.
+    /// How many rows the step leaves, where it breaks no rule: of a take as many as it has indices.
     pub(crate) fn rows_left(&self) -> usize
         ensures { result ≡ rows_left (step_value self.now) }
     {

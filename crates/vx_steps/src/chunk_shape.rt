@@ -130,7 +130,7 @@ impl ChunkShape {
         self.len
     }
 
-    /// Which rows are there.
+    /// Which rows are valid.
     pub fn validity(&self) -> &Validity
         ensures value { valid_of result.now ≡ self.now.valid }
         ensures fitting { is_fitting self.now.valid self.now.len ≡ true }

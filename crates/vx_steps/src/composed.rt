@@ -20,7 +20,7 @@ use vx_mask::Mask;
 use vx_pieces::Indices;
 use vx_take::Picks;
 
-// Picks, as a range as long as slices alone made them.
+/// Picks, as a range as long as slices alone made them.
 #[derive(Drop)]
 pub(crate) enum Composed {
     // Each position of a range.
@@ -30,7 +30,7 @@ pub(crate) enum Composed {
 }
 
 impl Composed {
-    // How many picks there are.
+    /// How many picks there are.
     pub(crate) fn len(&self) -> usize
         ensures { result ≡ length (picks_in self.now) }
     {
@@ -191,7 +191,7 @@ impl Composed {
         Ok(Composed::Listed(self.each_looked_up(alloc, &later)?))
     }
 
-    // The picks that one step more leaves, where it breaks no rule.
+    /// The picks that one step more leaves, where it breaks no rule.
     pub(crate) fn after(self, alloc: Global, step: &Step) -> Result<Composed, NoMemory>
         requires { broken (step_value step.now) (length (picks_in self)) ≡ None }
         ensures picks { IfOk result
@@ -208,7 +208,7 @@ impl Composed {
         }
     }
 
-    // The picks as a list.
+    /// The picks as a list.
     pub(crate) fn into_picks(self, alloc: Global) -> Result<Picks, NoMemory>
         ensures { IfOk result (λ p. p ≡ record { picks = picks_in self; bound = bound_of self }) }
     {
@@ -221,7 +221,7 @@ impl Composed {
         }
     }
 
-    // The picks from number `start` up to `end`, as far as there are any, as a list.
+    /// The picks from number `start` up to `end`, as far as there are any, as a list.
     pub(crate) fn into_part(
         self,
         alloc: Global,

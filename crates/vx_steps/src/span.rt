@@ -1,7 +1,7 @@
 //! A range of positions.
 ghost use Rattle.std.specs.Prelude.{◌≡◌, ◌+◌, ◌-◌, ◌<◌, ◌≤◌};
 
-// The positions from `start` up to `end`, none of them beyond `bound`.
+/// The positions from `start` up to `end`, none of them beyond `bound`.
 #[derive(Drop)]
 pub(crate) struct Span {
     pub(crate) start: usize,
@@ -12,7 +12,7 @@ pub(crate) struct Span {
 }
 
 impl Span {
-    // The `i`th position.
+    /// The `i`th position.
     #[inline(always)]
     pub(crate) fn position(&self, i: usize) -> usize
         requires { i < self.now.end - self.now.start }
@@ -23,7 +23,7 @@ impl Span {
         self.start + i
     }
 
-    // The positions of the range from its `start`th up to its `end`th.
+    /// The positions of the range from its `start`th up to its `end`th.
     pub(crate) fn part(&self, start: usize, end: usize) -> Span
         requires ordered { start ≤ end }
         requires within { end ≤ self.now.end - self.now.start }

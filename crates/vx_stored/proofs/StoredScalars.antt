@@ -34,7 +34,7 @@ null_alone (list xs) h = cc
 null_alone (fields xs) h = cc
 null_alone (tagged n x) h = cc
 
--- where no row is there, the stored ones don't show
+-- where no row is valid, the stored ones don't show
 hidden : (n : ℕ) (x y : RowValue) → shown_rows (replicate n false) (replicate n x) ≡ shown_rows (replicate n false) (replicate n y)
 hidden n x y = none_shown n (replicate n x) (length-replicate n x) ∙ sym (none_shown n (replicate n y) (length-replicate n y))
 

@@ -114,7 +114,8 @@ fn store_records(
     Ok(record_type.column(values, validity))
 }
 
-/// `len` rows of one value, null where the validity says no, stored row by row. `NoMemory` alone.
+/// `len` rows of one value, null where the validity says no, stored row by row. Fails only with
+/// `NoMemory`.
 #[tactic(auto, using(vx_model::proofs::Scalars::scalar_kinds))]
 pub fn store_scalar(
     alloc: Global,

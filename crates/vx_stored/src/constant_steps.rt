@@ -57,7 +57,8 @@ fn is_null(scalar: &Scalar) -> bool
 }
 
 /// The rows at the picks: a null stays null at any of them, and a value stays itself where all are
-/// there; else the value is stored for each pick, beside which of them are there. `NoMemory` alone.
+/// there; else the value is stored for each pick, beside which of them are there. Fails only with
+/// `NoMemory`.
 #[tactic(auto, using(vx_model::proofs::LazyRows::lazy_rows))]
 pub fn take_constant(
     alloc: Global,
@@ -95,8 +96,8 @@ fn is_set(scalar: &Scalar) -> bool
     }
 }
 
-/// The bits of the rows at the picks, of one bool: where picks are there, or none. `NoMemory`
-/// alone.
+/// The bits of the rows at the picks, of one bool: where picks are there, or none. Fails only with
+/// `NoMemory`.
 #[tactic(auto, using(vx_model::proofs::LazyRows::lazy_rows))]
 pub fn constant_bits(
     alloc: Global,
@@ -138,7 +139,7 @@ fn validity_for(scalar: &Scalar) -> Validity
 }
 
 /// The same rows of one text, stored one after another: views of it, where its length fits a view,
-/// else texts with offsets of type `U64`. `NoMemory` alone.
+/// else texts with offsets of type `U64`. Fails only with `NoMemory`.
 #[tactic(auto, using(vx_model::proofs::LazyRows::lazy_rows))]
 pub fn execute_texts(alloc: Global, array: &ConstantArray) -> Result<TextCopies, NoMemory>
     requires { is_text_kind (constant_column array.now).dtype.kind ≡ true }
@@ -152,7 +153,7 @@ pub fn execute_texts(alloc: Global, array: &ConstantArray) -> Result<TextCopies,
     store_texts(alloc, scalar, array.len(), validity_for(scalar))
 }
 
-/// The same rows, stored one after another. `NoMemory` alone.
+/// The same rows, stored one after another. Fails only with `NoMemory`.
 #[tactic(auto, using(vx_model::proofs::LazyRows::lazy_rows))]
 pub fn execute_constant(alloc: Global, array: &ConstantArray) -> Result<Array, NoMemory>
     ensures same { IfOk result (IsStep (constant_column array.now) (constant_column array.now).rows

@@ -41,7 +41,7 @@ impl StoredRows for RecordArray {
 }
 
 /// The records in the runs, each its start and its length, one run after another, with this
-/// validity. `NoMemory` alone.
+/// validity. Fails only with `NoMemory`.
 pub fn take_array_runs(
     alloc: Global,
     array: &RecordArray,

@@ -15,10 +15,10 @@ use vx_column::{Array, Validity};
 use vx_mask::{MaskValues, Policy};
 use vx_take::Picks;
 
-// What a filter or a take leaves.
+/// What a filter or a take leaves.
 pub(crate) type StepResult = Result<Array, NoMemory>;
 
-// A layout that stores its rows in their places, with the new validity handed in.
+/// A layout that stores its rows in their places, with the new validity handed in.
 pub(crate) trait StoredRows {
     ghost use Rattle.vx_model.specs.Stored.{StoredParts};
 

@@ -36,7 +36,8 @@ pub fn slice_stored(stored: Stored<'_>, start: usize, end: usize, validity: Vali
     }
 }
 
-/// The rows at the set positions of `mask`, in order, with their validity. `NoMemory` alone.
+/// The rows at the set positions of `mask`, in order, with their validity. Fails only with
+/// `NoMemory`.
 pub fn filter_stored(
     alloc: Global,
     stored: Stored<'_>,
@@ -61,8 +62,8 @@ pub fn filter_stored(
     }
 }
 
-/// The rows at the picks, in order, and null at a null pick, with their validity. `NoMemory`
-/// alone.
+/// The rows at the picks, in order, and null at a null pick, with their validity. Fails only with
+/// `NoMemory`.
 pub fn take_stored(
     alloc: Global,
     stored: Stored<'_>,

@@ -91,8 +91,8 @@ fn kind_of_texts(dtype: &DType) -> TextKind
 }
 
 /// `len` rows of one text, null where the validity says no, stored row by row: views of it, where
-/// its length fits a view, else one text after another with offsets of type `U64`. `NoMemory`
-/// alone.
+/// its length fits a view, else one text after another with offsets of type `U64`. Fails only with
+/// `NoMemory`.
 pub fn store_texts(
     alloc: Global,
     scalar: &Scalar,

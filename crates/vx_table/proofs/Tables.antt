@@ -196,7 +196,7 @@ taken_sound t after picks names taken n valid same h count =
     let long : AreLong n taken = subst (λ m. AreLong m taken) count (taken_long t.columns after picks taken h) in
     no_fault (table_with names taken n) (ap length same ∙ same_count t valid ∙ sym (length-taken t.columns after picks taken h)) long
 
--- the names once more and the rows at the picks are the table that a take wants
+-- the names once again and the rows at the picks are the table that a take wants
 pub taken_table : (t : TableValue) (v : IndexValue) (names front last : List (List ℕ)) (from columns : List Column) (n : ℕ) → table_fault t ≡ None
     → names ≡ front ++ last → front ≡ [] → last ≡ t.names → from ≡ t.columns → AreTaken from (λ u. also_nullable u (index_nullability v)) (index_picks v) columns → length (index_picks v) ≡ n
     → (table_fault (table_with names columns n) ≡ None) × IsTaken t (λ u. also_nullable u (index_nullability v)) (index_picks v) (table_with names columns n)

@@ -9,7 +9,7 @@ use std::rc::RcStr;
 use vx_bits::NoMemory;
 use vx_column::{ArrayRef, Columns};
 
-// Appends the names once more.
+/// Appends the names once again.
 pub(crate) fn append_names(to: &mut Vec<RcStr>, names: &[RcStr]) -> Result<(), NoMemory>
     ensures { OnOk result (names_of to.new.items ≡ names_of to.old.items ++ names_of names.now) }
 {
@@ -19,7 +19,7 @@ pub(crate) fn append_names(to: &mut Vec<RcStr>, names: &[RcStr]) -> Result<(), N
     Ok(())
 }
 
-// Appends the columns once more. None of their rows is copied.
+// Appends the columns once again. None of their rows is copied.
 fn append_columns(to: &mut Vec<ArrayRef>, columns: &Columns) -> Result<(), NoMemory>
     ensures { OnOk result (to.new.items ≡ to.old.items ++ columns.now) }
 {
@@ -31,7 +31,7 @@ fn append_columns(to: &mut Vec<ArrayRef>, columns: &Columns) -> Result<(), NoMem
 
 impl Table {
     /// Its columns and then those of another table that is as long, with their names. No row is
-    /// copied. `NoMemory` alone.
+    /// copied. Fails only with `NoMemory`.
     pub fn beside(&self, alloc: Global, other: &Table) -> Result<Table, NoMemory>
         requires { other.now.len ≡ self.now.len }
         ensures { IfOk result (λ t. t ≡ beside self.now other.now) }

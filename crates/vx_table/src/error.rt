@@ -20,7 +20,7 @@ pub enum TableError {
 /// Why there is no page.
 #[derive(Debug, Clone, Copy, PartialEq, Eq)]
 pub enum PageError {
-    /// The projection names a column that isn't there.
+    /// The projection names a column that doesn't exist.
     NoColumn {
         /// The first such number in the projection.
         index: usize,
@@ -34,7 +34,7 @@ pub enum PageError {
         /// The rule that it breaks.
         cause: Cause,
     },
-    /// Want of memory, though none of these is so.
+    /// Out of memory, though none of these is so.
     NoMemory,
 }
 

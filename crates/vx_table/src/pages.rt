@@ -48,14 +48,14 @@ fn page_indices(
 /// page may have fewer rows, and one past the end has none. A column's type is that after the
 /// steps, and a flat column is unwrapped.
 ///
-/// Each step is judged once, and the picks are composed once, for all columns, with masks made ready
-/// for as many consumers. Where no step is a take a page costs what it needs of the steps, and its
-/// own rows in each of its columns; a take lists what it leaves, for each page again.
+/// Each step is judged once, and the picks are composed once, for all columns, with masks made
+/// ready for as many consumers. Where no step is a take a page costs what it needs of the steps,
+/// and its own rows in each of its columns; a take lists what it leaves, for each page again.
 ///
 /// `NoColumn` exactly where a number of the projection isn't below the number of columns, with the
 /// first one. Else `EmptyPage` exactly where `page_len` is 0. Else `Broken` exactly where a step
-/// breaks a rule, with the first one. All three come also where memory is wanting, and `NoMemory`
-/// only where none of them does.
+/// breaks a rule, with the first one. All three come also when memory runs out, and `NoMemory` only
+/// where none of them does.
 pub fn page(
     alloc: Global,
     table: &Table,

@@ -43,7 +43,7 @@ fn chosen_columns(
     Columns::new(alloc, copy)
 }
 
-// The first number that isn't below a bound.
+/// The first number that isn't below a bound.
 pub(crate) fn first_missing(projection: &[usize], count: usize) -> Option<usize>
     ensures { result ≡ find (λ i. nat_le count i) projection.now }
 {
@@ -52,7 +52,7 @@ pub(crate) fn first_missing(projection: &[usize], count: usize) -> Option<usize>
 
 impl Table {
     /// The columns of these numbers, in this order, with their names: a number may stand twice. No
-    /// row is copied. `NoMemory` alone.
+    /// row is copied. Fails only with `NoMemory`.
     pub fn project(&self, alloc: Global, projection: &[usize]) -> Result<Table, NoMemory>
         requires { All (λ i. i < length self.now.columns) projection.now }
         ensures { IfOk result (λ t. t ≡ columns_at self.now projection.now) }

@@ -63,7 +63,7 @@ fn taken_columns(
 impl Table {
     /// The rows that the indices name, in order, and a null for each null: one list of indices
     /// serves all columns. A column's type is nullable also where the indices' is, and a flat
-    /// column is unwrapped. `NoMemory` alone.
+    /// column is unwrapped. Fails only with `NoMemory`.
     pub fn take(&self, alloc: Global, indices: &Indices, policy: &Policy) -> Result<Table, NoMemory>
         requires { index_fault (index_value indices.now) self.now.len ≡ None }
         ensures { IfOk result (IsTaken self.now

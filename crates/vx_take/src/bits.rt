@@ -1,4 +1,4 @@
-//! Bits at picks, and which picks are there.
+//! Bits at picks, and which picks are not null.
 ghost use Rattle.std.specs.Prelude.{◌≡◌, ◌+◌, ◌-◌, ◌^◌, ◌<◌, ◌≤◌, Bool, ℕ, IfOk, if◌then◌else◌, is_some, length, map};
 ghost use Rattle.std.specs.List.{All};
 ghost use Rattle.vx_bits.specs.Words.{word_bits};
@@ -8,7 +8,7 @@ use crate::picks::{NULL_PLACE, Picks};
 use std::alloc::Global;
 use vx_bits::{BitBuffer, BitBuilder, NoMemory};
 
-/// The bits of `src` at the picks, in order, and `fill` at each null. `NoMemory` alone.
+/// The bits of `src` at the picks, in order, and `fill` at each null. Fails only with `NoMemory`.
 ///
 /// With `fill` false these are the valid rows of a column at the picks, where `src` are its own.
 pub fn gather_bits(
@@ -24,7 +24,7 @@ pub fn gather_bits(
     packed(alloc, &BitOrFill { src, fill }, picks.places())
 }
 
-/// For each pick whether it is there, and no null. `NoMemory` alone.
+/// For each pick whether it is valid, and no null. Fails only with `NoMemory`.
 pub fn valid_bits(alloc: Global, picks: &Picks) -> Result<BitBuffer, NoMemory>
     ensures { IfOk result (λ b. b ≡ record { bits = map is_some picks.now.picks; offset = 0 }) }
 {

@@ -6,7 +6,7 @@ ghost use Rattle.vx_take.specs.Picks.{pick_of, picks_of};
 use std::alloc::Global;
 use vx_bits::NoMemory;
 
-// Gives an item for each place.
+/// Gives an item for each place.
 pub(crate) trait ItemOf<T: Copy> {
     // the item of a pick
     ghost item: { Self → Option ℕ → T };
@@ -19,7 +19,7 @@ pub(crate) trait ItemOf<T: Copy> {
         ensures { result ≡ item self.now (pick_of place) };
 }
 
-// The items of the places, in order.
+/// The items of the places, in order.
 pub(crate) fn listed<T: Copy, I: ItemOf<T>>(
     alloc: Global,
     item: &I,

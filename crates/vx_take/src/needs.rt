@@ -11,8 +11,8 @@ use std::alloc::Global;
 use vx_bits::{BitBuffer, BitBuilder, NoMemory, Words};
 use vx_mask::Mask;
 
-/// The mask of the bound's length whose set positions are just the non-null picks. `NoMemory`
-/// alone.
+/// The mask of the bound's length whose set positions are just the non-null picks. Fails only with
+/// `NoMemory`.
 pub fn needed(alloc: Global, picks: &Picks) -> Result<Mask, NoMemory>
     ensures set { IfOk result (λ m. AreJustSet (mask_bits m) picks.now.picks) }
     ensures each { IfOk result (λ m. AreSet (mask_bits m) picks.now.picks) }
@@ -40,7 +40,7 @@ fn set_there(bits: &mut BitBuilder, place: usize)
 }
 
 /// For each pick its rank among the set positions of `mask`. Null stays null, and the bound is the
-/// number of set positions. `NoMemory` alone.
+/// number of set positions. Fails only with `NoMemory`.
 pub fn ranks_in(alloc: Global, picks: &Picks, mask: &Mask) -> Result<Picks, NoMemory>
     requires { AreSet (mask_bits mask.now) picks.now.picks }
     ensures ranks { IfOk result

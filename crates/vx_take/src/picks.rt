@@ -7,7 +7,7 @@ use std::alloc::Global;
 use std::marker::Model;
 use vx_bits::NoMemory;
 
-// Stands for a null: no position is this number, since each is below a bound.
+/// Stands for a null: no position is this number, since each is below a bound.
 pub(crate) const NULL_PLACE: usize = usize::MAX;
 
 /// A list of optional positions with a bound that each position is below.
@@ -46,7 +46,7 @@ impl Picks {
         }
     }
 
-    /// No pick yet, and room for so many. `NoMemory` alone.
+    /// No pick yet, and room for so many. Fails only with `NoMemory`.
     pub fn with_capacity(alloc: Global, bound: usize, len: usize) -> Result<Picks, NoMemory>
         ensures { IfOk result (λ p. p ≡ record { picks = []; bound = bound }) }
     {
@@ -65,7 +65,7 @@ impl Picks {
         Picks::from_places(positions, bound)
     }
 
-    // The picks that these places stand for.
+    /// The picks that these places stand for.
     pub(crate) fn from_places(places: Vec<usize>, bound: usize) -> Picks
         requires { ArePlaces places.items bound }
         ensures { result ≡ record { picks = picks_of places.items; bound = bound } }
@@ -73,7 +73,7 @@ impl Picks {
         Picks { places, bound }
     }
 
-    /// Appends a position, or a null. `NoMemory` alone, and then the picks are as before.
+    /// Appends a position, or a null. Fails only with `NoMemory`, and then the picks are as before.
     pub fn push(&mut self, pick: Option<usize>) -> Result<(), NoMemory>
         requires { IfSome pick (λ p. p < self.old.bound) }
         ensures ok { OnOk result
@@ -84,7 +84,7 @@ impl Picks {
         Ok(())
     }
 
-    /// The same picks once more. `NoMemory` alone.
+    /// Another handle to the same picks. Fails only with `NoMemory`.
     pub fn copied(&self, alloc: Global) -> Result<Picks, NoMemory>
         ensures { IfOk result (λ p. p ≡ self.now) }
     {
@@ -125,7 +125,7 @@ impl Picks {
         pick_at(self.places[i])
     }
 
-    // The places that stand for the picks.
+    /// The places that stand for the picks.
     pub(crate) fn places(&self) -> &[usize]
         ensures value { picks_of result.now ≡ self.now.picks }
         ensures below { ArePlaces result.now self.now.bound }

@@ -15,7 +15,7 @@ use vx_bits::NoMemory;
 use vx_mask::{Mask, Policy};
 
 /// The set positions of `filter` that the ranks name, in order. Null stays null, and the bound is
-/// the length of `filter`. `NoMemory` alone.
+/// the length of `filter`. Fails only with `NoMemory`.
 ///
 /// The picks do not depend on the policy: where the set positions are one run its start is added,
 /// few ranks are looked up one by one, and for others the set positions are listed once.

@@ -20,7 +20,7 @@ fn take_buffer<const W: usize>(
     Buffer::from_vec(alloc, gather(alloc, buffer.as_slice(), picks, [0; W])?)
 }
 
-/// The records at the picks, in order, and zeros at a null. `NoMemory` alone.
+/// The records at the picks, in order, and zeros at a null. Fails only with `NoMemory`.
 pub fn take_records(alloc: Global, records: &Records, picks: &Picks) -> Result<Records, NoMemory>
     requires { picks.now.bound ≤ length (records_of records.now) }
     ensures records { IfOk result (λ r. records_of r
@@ -41,8 +41,8 @@ fn take_buffer_runs<const W: usize>(
     Buffer::from_vec(alloc, gather_runs(alloc, buffer.as_slice(), runs)?)
 }
 
-/// The records in the runs, each its start and its length, one run after another. `NoMemory`
-/// alone.
+/// The records in the runs, each its start and its length, one run after another. Fails only with
+/// `NoMemory`.
 pub fn take_runs(
     alloc: Global,
     records: &Records,

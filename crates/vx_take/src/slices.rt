@@ -8,7 +8,7 @@ use crate::picks::{NULL_PLACE, Picks};
 use std::alloc::Global;
 use vx_bits::NoMemory;
 
-/// The items of `src` at the picks, in order, and `fill` at each null. `NoMemory` alone.
+/// The items of `src` at the picks, in order, and `fill` at each null. Fails only with `NoMemory`.
 pub fn gather<T: Copy>(alloc: Global, src: &[T], picks: &Picks, fill: T) -> Result<Vec<T>, NoMemory>
     requires { picks.now.bound ≤ length src.now }
     ensures { IfOk result (λ items. items.items ≡ at fill src.now picks.now.picks) }
@@ -40,8 +40,8 @@ impl<T: Copy> ItemOf<T> for ItemOrFill<'_, T> {
     }
 }
 
-/// The items of `src` in the runs, each its start and its length, one run after another.
-/// `NoMemory` alone.
+/// The items of `src` in the runs, each its start and its length, one run after another. Fails only
+/// with `NoMemory`.
 pub fn gather_runs<T: Copy>(
     alloc: Global,
     src: &[T],

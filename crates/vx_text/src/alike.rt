@@ -13,7 +13,7 @@ use vx_bits::{Buffer, NoMemory};
 use vx_column::{BinaryView, PType, TextKind, Validity, VarBinArray, VarBinViewArray};
 use vx_shared::Shared;
 
-// These bytes as the one buffer of a column's views.
+/// These bytes as the one buffer of a column's views.
 pub(crate) fn one_buffer(
     alloc: Global,
     bytes: &Buffer<u8>,
@@ -32,8 +32,8 @@ fn copies(alloc: Global, view: BinaryView, len: usize) -> Result<Buffer<BinaryVi
     Buffer::from_vec(alloc, vec![in alloc; view; len]?)
 }
 
-/// `len` rows of one text, which stands in one shared buffer, with their validity. `NoMemory`
-/// alone.
+/// `len` rows of one text, which stands in one shared buffer, with their validity. Fails only with
+/// `NoMemory`.
 pub fn views_alike(
     alloc: Global,
     kind: TextKind,
@@ -53,8 +53,8 @@ pub fn views_alike(
     Ok(VarBinViewArray::of(kind, views, buffers, validity))
 }
 
-/// `len` rows of one text, one after another with offsets of type `U64`, with their validity.
-/// `NoMemory` alone.
+/// `len` rows of one text, one after another with offsets of type `U64`, with their validity. Fails
+/// only with `NoMemory`.
 pub fn texts_alike(
     alloc: Global,
     kind: TextKind,

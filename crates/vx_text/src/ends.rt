@@ -6,8 +6,8 @@ use crate::text_run::TextRun;
 use vx_bits::NoMemory;
 use vx_offsets::OffsetRecord;
 
-// Appends where each row of a run ends, if its bytes stand behind `base` others. `NoMemory` alone,
-// and then they are as before.
+/// Appends where each row of a run ends, if its bytes stand behind `base` others. Fails only with
+/// `NoMemory`, and then they are as before.
 #[inline(always)]
 pub(crate) fn push_ends<R: OffsetRecord, const W: usize>(
     ends: &mut Vec<R>,

@@ -51,7 +51,7 @@ fn goes_by_runs(mask: &MaskValues, policy: &Policy, present: &Mask) -> bool
     }
 }
 
-// The texts at the set positions of a mask, by its runs. `NoMemory` alone.
+// The texts at the set positions of a mask, by its runs. Fails only with `NoMemory`.
 fn texts_by_mask(alloc: Global, array: &VarBinArray, mask: &MaskValues) -> Result<Texts, NoMemory>
     requires { length mask.now.bits.bits ≡ length (varbin_texts array.now).texts }
     ensures { IfOk result (λ t. AreTexts (type_of array.now.offsets.kind) t.offsets t.bytes.items
@@ -71,8 +71,8 @@ fn texts_by_mask(alloc: Global, array: &VarBinArray, mask: &MaskValues) -> Resul
     }
 }
 
-// The texts at the set positions of a mask that are there, and an empty one in place of each
-// other: by its runs or by its set positions. `NoMemory` alone.
+// The texts at the set positions of a mask that are there, and an empty one in place of each other:
+// by its runs or by its set positions. Fails only with `NoMemory`.
 fn texts_kept(
     alloc: Global,
     array: &VarBinArray,
@@ -96,8 +96,8 @@ fn texts_kept(
 }
 
 /// The rows at the set positions of `mask`, in order, with their validity; the text of a null row
-/// is empty. Their offsets have at least 32 bits, and are as signed as those of the column.
-/// `NoMemory` alone.
+/// is empty. Their offsets have at least 32 bits, and are as signed as those of the column. Fails
+/// only with `NoMemory`.
 ///
 /// By the runs of the mask where no row is null and the mask is as dense as the policy asks, each
 /// run's bytes copied at once; else by its set positions.

@@ -54,7 +54,7 @@ impl OffsetRecords {
         }
     }
 
-    // Appends an offset that fits. `NoMemory` alone, and then they are as before.
+    // Appends an offset that fits. Fails only with `NoMemory`, and then they are as before.
     fn push(&mut self, signed: bool, offset: usize) -> Result<(), NoMemory>
         requires { offset ≤ greatest_offset (type_by signed self.old) }
         ensures numbers { OnOk result
@@ -70,7 +70,7 @@ impl OffsetRecords {
     }
 
     // Appends where each row of a run ends, if its bytes stand behind `base` others and the last
-    // end fits. `NoMemory` alone, and then they are as before.
+    // end fits. Fails only with `NoMemory`, and then they are as before.
     #[inline(always)]
     fn push_run<const W: usize>(
         &mut self,
@@ -93,7 +93,7 @@ impl OffsetRecords {
         }
     }
 
-    // The same offsets of 32 bits in 64, and one more. `NoMemory` alone.
+    // The same offsets of 32 bits in 64, and one more. Fails only with `NoMemory`.
     fn widened_by(&self, alloc: Global, offset: usize) -> Result<OffsetRecords, NoMemory>
         requires { is_wide self.now ≡ false }
         ensures numbers { IfOk result
@@ -111,7 +111,7 @@ impl OffsetRecords {
         Ok(OffsetRecords::Wide(wide))
     }
 
-    // The records as those of a column. `NoMemory` alone.
+    // The records as those of a column. Fails only with `NoMemory`.
     fn into_values(self, alloc: Global) -> Result<Records, NoMemory>
         ensures records { IfOk result (λ values. records_of values ≡ stored_records self) }
         ensures width { IfOk result (λ values. width_of values ≡ stored_width self) }
@@ -177,7 +177,7 @@ impl Offsets {
         }
     }
 
-    // No offset yet, with room for so many. `NoMemory` alone.
+    /// No offset yet, with room for so many. Fails only with `NoMemory`.
     pub(crate) fn with_room(alloc: Global, ptype: PType, room: usize) -> Result<Offsets, NoMemory>
         requires { is_int ptype ≡ true }
         ensures { IfOk result
@@ -217,7 +217,7 @@ impl Offsets {
         self.records.get(i)
     }
 
-    // The greatest offset of their type.
+    /// The greatest offset of their type.
     pub(crate) fn greatest(&self) -> usize
         ensures { result ≡ greatest_offset self.now.ptype }
     {
@@ -228,8 +228,8 @@ impl Offsets {
         }
     }
 
-    /// Appends an offset; the first that passes 32 bits widens all to 64. `NoMemory` alone, and
-    /// then they are as before.
+    /// Appends an offset; the first that passes 32 bits widens all to 64. Fails only with
+    /// `NoMemory`, and then they are as before.
     pub fn push(&mut self, offset: usize) -> Result<(), NoMemory>
         requires { offset < 2 ^ 63 }
         ensures ok { OnOk result (self.new ≡ with_offset self.old offset) }
@@ -242,8 +242,8 @@ impl Offsets {
         Ok(())
     }
 
-    // Appends where each row of a run ends, if its bytes stand behind `base` others and the last
-    // end fits their type. `NoMemory` alone.
+    /// Appends where each row of a run ends, if its bytes stand behind `base` others and the last
+    /// end fits their type. Fails only with `NoMemory`.
     #[inline(always)]
     pub(crate) fn push_run<const W: usize>(
         &mut self,
@@ -262,7 +262,7 @@ impl Offsets {
         self.records.push_run(self.signed, base, run)
     }
 
-    /// The column of these offsets. `NoMemory` alone.
+    /// The column of these offsets. Fails only with `NoMemory`.
     pub fn into_primitive(self) -> Result<PrimitiveArray, NoMemory>
         ensures kind { IfOk result (λ a. a.kind ≡ primitive_kind self.ptype) }
         ensures int { IfOk result (λ a. is_int_kind a.kind ≡ true) }

@@ -48,7 +48,7 @@ fn text_at<'a, const W: usize>(
     }
 }
 
-// Pick `i`, and none where the row isn't there.
+// Pick `i`, and none where the row is null.
 #[inline(always)]
 fn shown_pick(picks: &Picks, present: &Mask, i: usize) -> Option<usize>
     requires pick { i < length picks.now.picks }
@@ -135,7 +135,7 @@ fn texts_of(
     by_type!(ptype, values, texts_at, alloc, bytes, picks, present)
 }
 
-// The same by the offsets of a column.
+/// The same by the offsets of a column.
 pub(crate) fn texts_in(
     alloc: Global,
     offsets: &PrimitiveArray,
@@ -157,7 +157,8 @@ pub(crate) fn texts_in(
 }
 
 /// The rows at the picks, in order, with their validity; the text of a null row is empty. Their
-/// offsets have at least 32 bits, and are as signed as those of the column. `NoMemory` alone.
+/// offsets have at least 32 bits, and are as signed as those of the column. Fails only with
+/// `NoMemory`.
 pub fn take_varbin_picks(
     alloc: Global,
     array: &VarBinArray,

@@ -114,7 +114,7 @@ fn views_in(
 }
 
 /// The rows at the picks, in order, an empty text at a null pick, with their validity: views into
-/// the column's own bytes. `NoMemory` alone.
+/// the column's own bytes. Fails only with `NoMemory`.
 pub fn take_views(
     alloc: Global,
     array: &VarBinArray,

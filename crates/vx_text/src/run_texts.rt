@@ -19,7 +19,7 @@ use vx_column::{PType, PrimitiveArray};
 use vx_positions::by_type;
 
 // Appends where each row of a run ends, if its bytes stand behind `base` others: all at once where
-// the last of them fits the type, else row by row. `NoMemory` alone.
+// the last of them fits the type, else row by row. Fails only with `NoMemory`.
 #[inline(always)]
 fn push_ends<const W: usize>(
     ends: &mut Offsets,
@@ -45,7 +45,7 @@ fn push_ends<const W: usize>(
     Ok(())
 }
 
-// Appends the texts of a run. `NoMemory` alone.
+// Appends the texts of a run. Fails only with `NoMemory`.
 #[inline(always)]
 fn push_run<const W: usize>(texts: &mut Texts, run: TextRun<'_, W>) -> Result<(), NoMemory>
     ensures { OnOk result (AddsTexts texts.old.offsets texts.old.bytes.items
@@ -146,7 +146,7 @@ fn texts_of(
     by_type!(ptype, values, texts_by_runs, alloc, bytes, runs, rows)
 }
 
-// The texts of runs of `rows` rows together, by the offsets of a column.
+/// The texts of runs of `rows` rows together, by the offsets of a column.
 pub(crate) fn texts_in_runs(
     alloc: Global,
     offsets: &PrimitiveArray,

@@ -33,7 +33,7 @@ impl<'a, const W: usize> TextRun<'a, W> {
         offset_at(self.ptype, self.records, i, self.bytes.len())
     }
 
-    // Where its bytes begin and end.
+    /// Where its bytes begin and end.
     #[inline(always)]
     pub(crate) fn bounds(self) -> (usize, usize)
         ensures start { result.0
@@ -48,7 +48,7 @@ impl<'a, const W: usize> TextRun<'a, W> {
         (start, end)
     }
 
-    // Its bytes.
+    /// Its bytes.
     #[inline(always)]
     pub(crate) fn bytes(self) -> &'a [u8]
         ensures value { result.now ≡ slice_range self.entry.bytes.now
@@ -62,7 +62,7 @@ impl<'a, const W: usize> TextRun<'a, W> {
         &self.bytes[start..end]
     }
 
-    // How far behind `first`, where its bytes begin, a row of it ends.
+    /// How far behind `first`, where its bytes begin, a row of it ends.
     #[inline(always)]
     pub(crate) fn end_behind(self, first: usize, row: usize) -> usize
         requires first { first ≡ slice_index (offsets_by self.ptype self.records.now) self.rows.0 }

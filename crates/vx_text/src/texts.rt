@@ -15,7 +15,7 @@ use std::alloc::Global;
 use vx_bits::{Buffer, NoMemory};
 use vx_column::{PType, TextKind, Validity, VarBinArray};
 
-// The texts so far: the bytes, and the offsets that cut them.
+/// The texts so far: the bytes, and the offsets that cut them.
 #[derive(Drop)]
 pub(crate) struct Texts {
     pub(crate) offsets: Offsets,
@@ -23,8 +23,8 @@ pub(crate) struct Texts {
 }
 
 impl Texts {
-    // No text yet, with room for `texts` of `room` bytes together, and with offsets of at least 32
-    // bits that are as signed as the type.
+    /// No text yet, with room for `texts` of `room` bytes together, and with offsets of at least 32
+    /// bits that are as signed as the type.
     #[tactic(auto, using(crate::proofs::BuiltTexts::no_text_yet))]
     pub(crate) fn with_room(
         alloc: Global,
@@ -43,7 +43,7 @@ impl Texts {
         })
     }
 
-    // Appends a text. `NoMemory` alone.
+    /// Appends a text. Fails only with `NoMemory`.
     pub(crate) fn push(&mut self, text: &[u8]) -> Result<(), NoMemory>
         ensures short { OnOk result (length self.new.bytes.items < 2 ^ 63) }
         ensures bytes { OnOk result (self.new.bytes.items ≡ self.old.bytes.items ++ text.now) }
@@ -58,7 +58,7 @@ impl Texts {
         self.offsets.push(end)
     }
 
-    // The column of these texts. `NoMemory` alone.
+    /// The column of these texts. Fails only with `NoMemory`.
     pub(crate) fn finish(
         self,
         alloc: Global,

@@ -28,7 +28,8 @@ pub fn slice_views(
     array.with_views(array.views().slice(start, end), validity)
 }
 
-/// The rows at the set positions of `mask`, in order, with their validity. `NoMemory` alone.
+/// The rows at the set positions of `mask`, in order, with their validity. Fails only with
+/// `NoMemory`.
 pub fn filter_views(
     alloc: Global,
     array: &VarBinViewArray,
@@ -46,8 +47,8 @@ pub fn filter_views(
     Ok(array.with_views(views, validity))
 }
 
-/// The rows at the picks, in order, an empty text at a null pick, with their validity. `NoMemory`
-/// alone.
+/// The rows at the picks, in order, an empty text at a null pick, with their validity. Fails only
+/// with `NoMemory`.
 pub fn gather_views(
     alloc: Global,
     array: &VarBinViewArray,

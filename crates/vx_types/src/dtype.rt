@@ -45,7 +45,7 @@ pub enum DType {
 }
 
 impl DType {
-    /// The same type once more. It takes no memory.
+    /// Another handle to the same type. It takes no memory.
     pub fn share(&self) -> DType
         ensures { result ≡ self.now }
     {

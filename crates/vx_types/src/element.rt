@@ -37,7 +37,7 @@ impl Model for ElementType {
 }
 
 impl ElementType {
-    /// The type of these elements. `NoMemory` alone.
+    /// The type of these elements. Fails only with `NoMemory`.
     pub fn new(alloc: Global, dtype: DType) -> Result<ElementType, NoMemory>
         ensures { IfOk result (λ t. t ≡ type_of dtype) }
     {
@@ -53,7 +53,7 @@ impl ElementType {
         &self.dtype
     }
 
-    /// The same type once more. It takes no memory.
+    /// Another handle to the same type. It takes no memory.
     pub fn share(&self) -> ElementType
         ensures { result ≡ self.now }
     {

@@ -21,13 +21,13 @@ pub enum ColumnError {
     BadOffsets,
     /// A size is negative, or passes what it points into.
     BadSizes,
-    /// A view names bytes that aren't there.
+    /// A view names bytes outside of its buffers.
     BadViews,
     /// A type id names no variant, or names two.
     BadTypeId,
     /// A length passes `usize::MAX`.
     TooLong,
-    /// Want of memory, which only a constructor that takes an allocator answers.
+    /// Out of memory, which only a constructor that takes an allocator answers.
     NoMemory,
 }
 
@@ -53,7 +53,8 @@ impl fmt::Display for ColumnError {
             ColumnError::WrongType => "a part is of another type than its place wants",
             ColumnError::WrongWidth => "records are not as wide as their type",
             ColumnError::WrongLength => "parts that go together differ in length",
-            ColumnError::BadValidity => "the validity is no non-nullable bool column as long as the rows",
+            ColumnError::BadValidity =>
+                "the validity is no non-nullable bool column as long as the rows",
             ColumnError::CodeOutOfRange => "a dictionary code names no value",
             ColumnError::BadOffsets => "offsets fall, are negative, or pass what they point into",
             ColumnError::BadSizes => "a size is negative, or passes what it points into",

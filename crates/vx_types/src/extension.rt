@@ -47,7 +47,7 @@ impl Model for ExtDType {
 }
 
 impl ExtDType {
-    /// The type of this name over this storage. `NoMemory` alone.
+    /// The type of this name over this storage. Fails only with `NoMemory`.
     pub fn new(alloc: Global, name: RcStr, storage: DType) -> Result<Shared<ExtDType>, NoMemory>
         ensures { IfOk result (λ e. e ≡ extension_of name storage) }
     {

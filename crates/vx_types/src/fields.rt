@@ -55,7 +55,8 @@ impl Model for StructFields {
 impl StructFields {
     /// Fields of these names and types.
     ///
-    /// `WrongLength` exactly where the numbers of names and types differ; else `NoMemory` alone.
+    /// `WrongLength` exactly where the numbers of names and types differ; otherwise only
+    /// `NoMemory`.
     pub fn try_new(
         alloc: Global,
         names: Vec<RcStr>,

@@ -78,7 +78,7 @@ pub(crate) fn are_same_types(xs: &[DType], ys: &[DType]) -> bool
 }
 
 impl DType {
-    // Whether the two are one type but for their outer nullability.
+    /// Whether the two are one type but for their outer nullability.
     #[cycle(same)]
     pub(crate) fn is_same_kind(&self, other: &DType) -> bool
         ensures { result ≡ is_same_kind (type_of self.now).kind (type_of other.now).kind }

@@ -21,7 +21,7 @@ pub enum ScalarValue {
 }
 
 impl ScalarValue {
-    /// The same value once more. It takes no memory.
+    /// The same value once again. It takes no memory.
     pub fn share(&self) -> ScalarValue
         ensures { result ≡ self.now }
     {
@@ -117,7 +117,7 @@ impl Scalar {
         &self.value
     }
 
-    /// The same value once more. It takes no memory.
+    /// The same value once again. It takes no memory.
     pub fn share(&self) -> Scalar
         ensures { result ≡ self.now }
     {

@@ -74,7 +74,7 @@ impl UnionVariants {
     /// Variants of these ids, names and types.
     ///
     /// `WrongLength` exactly where their numbers differ or there is none; else `BadTypeId` exactly
-    /// where an id occurs twice; else `NoMemory` alone.
+    /// where an id occurs twice; otherwise only `NoMemory`.
     pub fn try_new(
         alloc: Global,
         ids: Vec<u8>,

@@ -11,8 +11,8 @@ use Rattle.vx_mask.proofs.WordCounts.{count_of_word}
 use Rattle.vx_mask.proofs.WordPositions.{word_pushed}
 
 module _ {X : Type 0} where
-  -- the items at the set ones of the bits of the first words stand at the front, and the rest is as it
-  -- was
+  -- the items at the set ones of the bits of the first words stand at the front, and the rest is as
+  -- it was
   pub record IsPicked (src : List X) (bits : List Bool) (old now : List X) (kept w : ℕ) : Type 0 where
     pub front : map Some (take kept now) ≡ map (slice_get src) (set_of (take (64 * w) bits))
     pub rest : drop kept now ≡ drop kept old

@@ -30,7 +30,8 @@ last_end : (n s e : ℕ) → (s, e) ∷ [] ≡ pairs e (s ∷ positions e (chang
 last_end zero s e = refl
 last_end (suc n) s e = sym (ap (λ l. (s, e) ∷ pairs e l) (no_changes n (e + 1)))
 
--- runs by the marks of bits with n clear ones behind them: from a clear bit on, and from within a run on
+-- runs by the marks of bits with n clear ones behind them: from a clear bit on, and from within a
+-- run on
 record AreTold (n : ℕ) (bits : List Bool) : Type 0 where
   pub closed : (at : ℕ) → runs_from at bits ≡ pairs (at + length bits) (positions at (changes false (bits ++ replicate n false)))
   pub within : (s k : ℕ) → runs_from s (replicate (suc k) true ++ bits) ≡ pairs (s + suc k + length bits) (s ∷ positions (s + suc k) (changes true (bits ++ replicate n false)))

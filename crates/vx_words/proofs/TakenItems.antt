@@ -14,7 +14,7 @@ use Rattle.vx_words.specs.Masks.{mask_fault}
 use Rattle.vx_words.specs.Takes.{IsFront, front_at, is_there, pick_at, take_fault, valid_fault}
 use Rattle.vx_words.proofs.MaskRows.{bits_from}
 
--- ---- which picks are there
+-- ---- which picks are not null
 
 pub all_there : (valid : List ℕ) (k : ℕ) → length valid ≡ 0 → is_there valid k ≡ true
 all_there [] k e = refl

@@ -59,8 +59,8 @@ pub record AreBitsFiltered (src : List ℕ) (src_at : ℕ) (mask : List ℕ) (ma
   pub refused : status ≢ 0 → new ≡ old
 
 -- why so many picks of bits do not fit into so many words: 1 where the source's words do not hold
--- its bits, else why the words do not say which picks are there, else 3 where there is too little
--- room, else 0
+-- its bits, else why the words do not say which picks are not null, else 3 where there is too
+-- little room, else 0
 abbrev pub bit_take_fault : List ℕ → ℕ → ℕ → ℕ → List ℕ → ℕ → ℕ
 bit_take_fault src src_at len picks valid room =
     if are_held src src_at len

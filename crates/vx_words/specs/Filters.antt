@@ -14,8 +14,8 @@ filter_fault items words mask_at room =
     then if nat_lt room (true_count_of (bits_at words mask_at items)) then 3 else 0
     else 1
 
--- the items at the mask's set bits stand at the front of the output and the rest of it is as it was,
--- or the call was refused and all of it is
+-- the items at the mask's set bits stand at the front of the output and the rest of it is as it
+-- was, or the call was refused and all of it is
 pub record IsFiltered {X : Type 0} (src : List X) (words : List ℕ) (mask_at : ℕ) (old new : List X)
     (status value : ℕ) : Type 0 where
   pub fault : status ≡ filter_fault (length src) words mask_at (length old)

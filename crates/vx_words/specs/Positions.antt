@@ -5,8 +5,8 @@ use Rattle.vx_filter.specs.Compact.{bits_of_words}
 use Rattle.vx_mask.specs.Positions.{rank_of, set_of}
 use Rattle.vx_words.specs.Masks.{count_of, mask_fault}
 
--- why the set positions can't be listed in so much room: the mask's fault, else 3 where more are set
--- than there is room for, else 0
+-- why the set positions can't be listed in so much room: the mask's fault, else 3 where more are
+-- set than there is room for, else 0
 abbrev pub list_fault : ℕ → List ℕ → ℕ → ℕ
 list_fault rows words room =
     if mask_fault rows words == 0

@@ -5,7 +5,7 @@ use Rattle.vx_filter.specs.Compact.{bits_of_words}
 use Rattle.vx_take.specs.Picks.{at}
 use Rattle.vx_words.specs.Masks.{mask_fault}
 
--- whether pick k is there: all are where there are no words
+-- whether pick k is not null: all are where there are no words
 abbrev pub is_there : List ℕ → ℕ → Bool
 is_there valid k = slice_index_or (bits_of_words valid) k true
 
@@ -28,7 +28,7 @@ take_fault picks valid room =
     then if nat_lt room picks then 3 else 0
     else valid_fault picks valid
 
--- pick k is there, and its index is not below the bound
+-- pick k is not null, and its index is not below the bound
 pub record IsPast (bound : ℕ) (indices valid : List ℕ) (k : ℕ) : Type 0 where
   pub within : k < length indices
   pub there : is_there valid k ≡ true

@@ -27,7 +27,7 @@ pub struct Answer {
 }
 
 impl Answer {
-    // A refusal that tells no number.
+    /// A refusal that tells no number.
     pub(crate) fn refused(status: u64) -> Answer
         ensures status { result.status ≡ status }
         ensures value { result.value ≡ 0 }
@@ -35,7 +35,7 @@ impl Answer {
         Answer { status, value: 0 }
     }
 
-    // A refusal that tells what the output has to hold, where it is too small, and else no number.
+    /// A refusal that tells what the output has to hold, where it is too small, and else no number.
     pub(crate) fn refused_for(status: u64, wanted: u64) -> Answer
         ensures status { result.status ≡ status }
         ensures room { status ≡ 3 → result.value ≡ wanted }

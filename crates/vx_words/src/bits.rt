@@ -6,16 +6,16 @@ ghost use Rattle.vx_words.specs.Bits.{IsPacked, bits_at, words_of};
 
 use std::marker::Model;
 
-// Whether the words hold so many bits from bit `offset` on.
+/// Whether the words hold so many bits from bit `offset` on.
 pub(crate) fn hold(words: &[u64], offset: usize, len: usize) -> bool
     ensures { result ≡ nat_le (offset + len) (64 * length words.now) }
 {
     offset as u128 + len as u128 <= 64 * words.len() as u128
 }
 
-// The `len` bits from bit `offset` of the words on.
-//
-// Clauses see the bits.
+/// The `len` bits from bit `offset` of the words on.
+///
+/// Clauses see the bits.
 #[derive(Drop)]
 pub(crate) struct Bits<'a> {
     words: &'a [u64],
@@ -44,7 +44,7 @@ impl<'a> Bits<'a> {
         Bits { words, offset, len }
     }
 
-    // The same bits, where they begin with the words: then their offset is known to be 0.
+    /// The same bits, where they begin with the words: then their offset is known to be 0.
     #[inline(always)]
     pub(crate) fn from_first(&self) -> Option<Bits<'a>>
         ensures { IfSome result (λ bits. bits ≡ self.now) }
@@ -59,7 +59,7 @@ impl<'a> Bits<'a> {
         })
     }
 
-    // The same bits once more.
+    /// Another handle to the same bits.
     #[inline(always)]
     pub(crate) fn share(&self) -> Bits<'a>
         ensures { result ≡ self.now }
@@ -79,7 +79,7 @@ impl<'a> Bits<'a> {
         self.len
     }
 
-    // Word `i` of the bits, and zeros past their end.
+    /// Word `i` of the bits, and zeros past their end.
     #[inline(always)]
     pub(crate) fn word(&self, i: usize) -> u64
         requires { 64 * i < length self.now }
@@ -96,7 +96,7 @@ impl<'a> Bits<'a> {
         cut(low, high, (self.offset % 64) as u32, count as u32)
     }
 
-    // Bit `index`, lowest, and what stands above it in its word.
+    /// Bit `index`, lowest, and what stands above it in its word.
     #[inline(always)]
     pub(crate) fn from_bit(&self, index: u64) -> u64
         requires { index < length self.now }
@@ -140,7 +140,7 @@ fn front(word: u64, count: u32) -> u64
     word & ((1 << count) - 1)
 }
 
-// How many words are full, and the bits behind them, fewer than 64.
+/// How many words are full, and the bits behind them, fewer than 64.
 #[derive(Clone, Copy)]
 pub(crate) struct Packed {
     pub(crate) full: usize,
@@ -149,7 +149,7 @@ pub(crate) struct Packed {
 }
 
 impl Packed {
-    // No bit yet.
+    /// No bit yet.
     pub(crate) fn new() -> Packed
         ensures full { result.full ≡ 0 }
         ensures next { result.next ≡ 0 }
@@ -162,8 +162,8 @@ impl Packed {
         }
     }
 
-    // Appends the lowest `n` bits of a word that has no other ones. A word that is full then is
-    // written.
+    /// Appends the lowest `n` bits of a word that has no other ones. A word that is full then is
+    /// written.
     #[inline(always)]
     pub(crate) fn append(self, dst: &mut [u64], word: u64, n: u32) -> Packed
         requires open { self.held < 64 }
@@ -196,7 +196,7 @@ impl Packed {
         }
     }
 
-    // Writes the bits behind the full words.
+    /// Writes the bits behind the full words.
     pub(crate) fn close(self, dst: &mut [u64])
         requires open { self.held < 64 }
         requires room { 64 * self.full + self.held ≤ 64 * length dst.old }

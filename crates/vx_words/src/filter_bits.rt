@@ -10,7 +10,7 @@ use crate::answer::{Answer, DONE, LENGTHS, ROOM};
 use crate::bits::{Bits, Packed, hold};
 use vx_bitfilter::pext_fallback;
 
-// How many bits are set.
+/// How many bits are set.
 pub(crate) fn count_bits(bits: &Bits) -> usize
     ensures { result ≡ true_count_of bits.now }
 {

@@ -101,8 +101,8 @@ fn put_front<T: Copy>(src: &[T], indices: &[u64], valid: &[u64], fill: T, dst: &
     indices.len()
 }
 
-// Writes the items at the picks, and `fill` at each null, up to the first pick whose index is out
-// of bounds, and answers how many they are. Where no pick is null, none is asked for.
+/// Writes the items at the picks, and `fill` at each null, up to the first pick whose index is out
+/// of bounds, and answers how many they are. Where no pick is null, none is asked for.
 pub(crate) fn gather<T: Copy>(
     src: &[T],
     indices: &[u64],

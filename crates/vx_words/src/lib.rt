@@ -1,8 +1,8 @@
 //! The kernels of row selection over lists of the caller's: masks and validities are words of 64
 //! bits, lowest bit first.
 //!
-//! Each call tests what it asks of its lists, and answers a status and a number. A call whose status
-//! is not 0 is refused, and writes nothing.
+//! Each call tests what it asks of its lists, and answers a status and a number. A call whose
+//! status is not 0 is refused, and writes nothing.
 #![tactic(auto)]
 
 mod answer;

@@ -4,7 +4,7 @@ ghost use Rattle.vx_words.specs.Masks.{count_of, mask_fault};
 
 use crate::answer::{BITS_PAST, DONE, LENGTHS};
 
-// Why the words are no mask of so many rows, or `DONE`.
+/// Why the words are no mask of so many rows, or `DONE`.
 pub(crate) fn fault_of(words: &[u64], rows: usize) -> u64
     ensures { result ≡ mask_fault rows words.now }
 {
@@ -17,7 +17,7 @@ pub(crate) fn fault_of(words: &[u64], rows: usize) -> u64
     DONE
 }
 
-// How many bits of the words are set.
+/// How many bits of the words are set.
 pub(crate) fn count_set(words: &[u64]) -> usize
     requires { count_of words.now < 2 ^ 64 }
     ensures { result ≡ count_of words.now }

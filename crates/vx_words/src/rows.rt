@@ -108,7 +108,7 @@ fn copy_rows<T: Copy>(
     }
 }
 
-// Copies the items at the set bits, so many, to the front of the output, row after row.
+/// Copies the items at the set bits, so many, to the front of the output, row after row.
 pub(crate) fn compact_rows<T: Copy>(src: &[T], words: &[u64], count: usize, dst: &mut [T]) -> usize
     requires words { length words.now ≡ word_count (length src.now) }
     requires clear { AllBits (bits_of_words words.now) (length src.now) (64 * length words.now)

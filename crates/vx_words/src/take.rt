@@ -15,7 +15,7 @@ fn is_set(words: &[u64], k: usize) -> bool
     (words[k / 64] >> (k % 64)) & 1 == 1
 }
 
-// Whether pick `k` is there.
+/// Whether pick `k` is not null.
 #[inline(always)]
 pub(crate) fn there(valid: &[u64], k: usize) -> bool
     requires { (length valid.now ≢ 0) → k / 64 < length valid.now }
@@ -24,7 +24,7 @@ pub(crate) fn there(valid: &[u64], k: usize) -> bool
     valid.is_empty() || is_set(valid, k)
 }
 
-// Why the words do not say which of so many picks are there, or `DONE`.
+/// Why the words do not say which of so many picks are there, or `DONE`.
 pub(crate) fn fault_of_valid(valid: &[u64], picks: usize) -> u64
     ensures { result ≡ valid_fault picks valid.now }
 {
@@ -35,7 +35,7 @@ pub(crate) fn fault_of_valid(valid: &[u64], picks: usize) -> u64
     }
 }
 
-// Why so many picks do not fit into so much room, or `DONE`.
+/// Why so many picks do not fit into so much room, or `DONE`.
 pub(crate) fn fault_of_take(picks: usize, valid: &[u64], room: usize) -> u64
     ensures { result ≡ take_fault picks valid.now room }
 {
@@ -68,7 +68,7 @@ fn are_below(indices: &[u64], bound: usize) -> bool
     signs < 1 << 63
 }
 
-// The first pick that is there and whose index is not below the bound.
+/// The first pick that is there and whose index is not below the bound.
 pub(crate) fn first_past(indices: &[u64], valid: &[u64], bound: usize) -> Option<usize>
     requires { valid_fault (length indices.now) valid.now ≡ 0 }
     ensures { MatchOption result

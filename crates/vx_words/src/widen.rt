@@ -14,8 +14,8 @@ fn widen(src: &[u32], dst: &mut [u64])
     }
 }
 
-/// Writes the numbers of 4 bytes to the front of `dst` as such of 8, in order: a take of indices of 4
-/// bytes goes block by block, each widened before it. The answer is how many they are.
+/// Writes the numbers of 4 bytes to the front of `dst` as such of 8, in order: a take of indices of
+/// 4 bytes goes block by block, each widened before it. The answer is how many they are.
 ///
 /// 3: `dst` is too small, and the number is how many there are.
 pub fn widen_numbers(src: &[u32], dst: &mut [u64]) -> Answer

@@ -58,7 +58,7 @@ fn rows_compared(alloc: Global, one: &Array, other: &Array) -> Result<Likeness, 
     }
 }
 
-/// How two refusals compare. Want of memory is like nothing.
+/// How two refusals compare. `NoMemory` is like nothing.
 fn faults_compared(one: SelectError, other: SelectError) -> Likeness {
     if one != SelectError::NoMemory && one == other {
         Likeness::SameFault

@@ -63,7 +63,7 @@ pub(crate) fn reader_of(
     Ok(MemoryBlocks::new(alloc, blocks, failing, 9)?)
 }
 
-/// A take of the indices that are there.
+/// A take of the indices that are not null.
 pub(crate) fn take(alloc: Global, indices: &[u32], there: &[bool]) -> Result<Step, Fail> {
     let mut records = Vec::new(alloc);
     for index in indices {

@@ -14,7 +14,7 @@ fn length_of<S: Source>(alloc: Global, source: &mut S) -> Result<usize, Stop> {
     Ok(bytes_in(alloc, source)?.len())
 }
 
-/// Seven bytes read to their end, and once more, where one read fails.
+/// Seven bytes read to their end, and once again, where one read fails.
 pub(crate) fn print_readings(rt: &impl Print, alloc: Global) -> Result<(), Fail> {
     for failing in [9, 0, 1, 3] {
         let mut source = failing_source(alloc, &[failing])?;

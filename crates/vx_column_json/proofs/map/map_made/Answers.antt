@@ -7,7 +7,7 @@ use Rattle.vx_column_json.proofs.Maps.{map_made-views, map_made-none}
 use Rattle.vx_column_json.proofs.map.map_made.Goals as goal
 
 pub returns-in_default : goal.returns-in_default
-returns-in_default c = map_made-none c.args.entries.now (sym c.in_default.ensures.told)
+returns-in_default c = map_made-none c.args.entries.now (sym c.in_default.ensures.exactly)
 
 pub returns-in-Ok : goal.returns-in-Ok
 returns-in-Ok c =

@@ -1,4 +1,4 @@
--- No element is left where no row is there, and else what the filter leaves is the selected lists.
+-- No element is left where no row is valid, and else what the filter leaves is the selected lists.
 use Rattle.std.proofs.Common.{◌≡◌, ◌+◌, ◌≤◌, ◌∙◌, length, sym, ap, arith}
 use Rattle.std.proofs.lemmas.List.{length-map}
 use Rattle.vx_positions.specs.Offsets.{items_in, offset_positions}

@@ -1,4 +1,4 @@
--- The picks that are shown where all rows are there, or none.
+-- The picks that are shown where all rows are valid, or none.
 use Rattle.std.proofs.Common.{◌≡◌, ◌∙◌, true, false, length, sym}
 use Rattle.std.proofs.lemmas.List.{length-replicate}
 use Rattle.std.proofs.lemmas.Result.{IfOk-weaker}

@@ -1,4 +1,4 @@
--- One value at picks: a null, a value where all picks are there, and a value beside nulls.
+-- One value at picks: a null, a value where no pick is null, and a value beside nulls.
 use Rattle.std.proofs.Common.{◌≡◌, ℕ, true, map, refl, sym, ap, ap₂, ◌∙◌, subst}
 use Rattle.std.specs.Prelude.{is_some, replicate, Result, Ok, Err, IfOk}
 use Rattle.std.proofs.lemmas.List.{length-map}

@@ -62,10 +62,12 @@ share_spec 𝓤 𝓛 𝓜 𝓡 wired T L =
     enter ! 𝓣.C 𝓣.Λ fn (vptr b o ∷ []) Post $ alloc_all ! (λ l. pass_all ! refl ((tt, tt), tt) $ let Ev : Env 𝓤 H = env fn.locals l in
     use1 𝓛 (‵ (hidden_shr (Word R) κ (p, tt) b o) ⊛ ‵ (fhide (counted_shares R p x κ))) (lending.lent_out 𝓛 (counted.struct R) (counted.the_codes T.Denot R.coded) (counted.the_heap R) (counted.the_lent R) κ z.0.3.0.now b o) $ split ! $
     move ! (2 ∷ []) $ use1 𝓛 (‵ (flft κ (Share.left q)) ⊛ ‵ (flft κ (Share.right q))) (𝓛.lfts.lft_split κ q) $ split ! $ move ! (2 ∷ 0 ∷ []) $
-    -- [the pointer; half of the token; the other half; what the `&` holds; the thread's token; the other tokens]
+    -- [the pointer; half of the token; the other half; what the `&` holds; the thread's token; the
+    -- other tokens]
     read_word R p ! tt b o (λ r. move ! (3 ∷ 2 ∷ []) $ unhide ! $ lent_out R p x ! tt (λ a s. move ! (1 ∷ []) $ twice R p x a ! $ move ! (0 ∷ 2 ∷ 7 ∷ []) $
     enters R p x a ! tt s (λ y n pb po at fits some.
-    -- [the count; what is beside it; the share; the right to shut; the invariant; what is seen; the loan; the pointer; the way back; the other tokens]
+    -- [the count; what is beside it; the share; the right to shut; the invariant; what is seen; the
+    -- loan; the pointer; the way back; the other tokens]
     sets ! (is ! (of_opd ! (load ! (through ! refl (fld ! refl (stop !))) (look_in ! 7 (sub ! 0 refl (whole !))))) (ap ptr_val at)) refl (tt, tt) $ sets ! (of_opd ! (get ! refl)) refl (tt, tt) $ first ! $ blocks ! $
     sets ! (of_opd ! (load ! (through ! refl (fld ! refl (stop !))) (look ! 0 refl))) refl (tt, record { fits = fits }) $ sets ! (bin ! (get ! refl) (neg_lit ! tt) tt) refl (tt, tt) $ branches ! (get ! refl)
     (λ room. let fits' : n + 1 < 2 ^ 64 = omega (arith, is_not n (2 ^ 64 - 1) room, fits) in

@@ -70,7 +70,8 @@ step_down_spec 𝓤 𝓛 𝓜 𝓡 wired T L =
     suffices ! (Run (word p ∷ h ∷ [])) (subst (λ (us : List Val). ent 𝓤 (Run (word p ∷ h ∷ [])) (Run us)) (sym (λ i. told R p z.0.4.0 is₁ i ++ (is₂ i ++ []))) (id⊢ 𝓤 (Run (word p ∷ h ∷ [])))) $
     enter ! 𝓣.C 𝓣.Λ fn (word p ∷ h ∷ []) Post $ alloc_all ! (λ l. pass_all ! refl (word-Good (name R) p, (fits_h, tt)) $ let Ev : Env 𝓤 H = env fn.locals l in
     fpick ! (λ a. fsplit3 ! $ fpick ! (λ e. fsplit ! $ move ! (2 ∷ 0 ∷ 4 ∷ []) $ enters R p x a ! tt e.0 (λ y n pb po at fits some. move ! (2 ∷ 4 ∷ []) $ use2 𝓛 (‵ (ticket a)) (ticket_of 𝓛 a e.0 e.1) $ move ! (1 ∷ []) $
-    -- [the count; the ticket; what is beside the count; the right to shut; what is seen; the allocator; the tokens]
+    -- [the count; the ticket; what is beside the count; the right to shut; what is seen; the
+    -- allocator; the tokens]
     sets ! (is ! (of_opd ! (get_in ! (fld ! refl (stop !)) (sub ! 0 refl (whole !)))) (ap ptr_val at)) refl (tt, tt) $ sets ! (of_opd ! (get ! refl)) refl (tt, tt) $ first ! $ blocks ! $
     sets ! (of_opd ! (load ! (through ! refl (fld ! refl (stop !))) (look ! 0 refl))) refl (tt, record { fits = fits }) $ sets ! (bin ! (get ! refl) (neg_lit ! tt) tt) refl (tt, tt) $ first ! $ branches ! (get ! refl)
     (λ full. sets ! (agg ! (and_then ! (lit ! tt) (no_more !))) refl (tt, (record { fits = lit< tt }, tt)) $ move ! (0 ∷ 2 ∷ 3 ∷ []) $ shuts_at R p x a ! tt y n pb po at $
@@ -87,7 +88,8 @@ step_down_spec 𝓤 𝓛 𝓜 𝓡 wired T L =
     (λ one. skips ! $ exec ! 𝓣.C 𝓣.Λ Ev (after 3 fn.body) (at_ret Ev Post) $ let is_one : n ≡ 1 = is_so n 1 one in let block : B.Denot = record { count = 1; value = x } in
     rewrite ! 0 (λ (m : ℕ). ‵ (cell R p x m pb po)) is_one refl $ rewrite ! 2 (λ (m : ℕ). ‵ (tally P a y m)) is_one refl $
     move ! (2 ∷ 1 ∷ []) $ use2 𝓛 (later (‵ P ⊛ ‵ (fdead (ν a)))) (last 𝓛 a P y) $ await ! tt $ split ! $ move ! (1 ∷ 3 ∷ []) $ ends R p x a ! tt $
-    -- [the thread's token; the value with its block; the count; what is seen; the allocator; the tokens]
+    -- [the thread's token; the value with its block; the count; what is seen; the allocator; the
+    -- tokens]
     move ! (1 ∷ []) $ fsplit3 ! $ rewrite ! 0 (λ (r : Ptr). ‵ (value_at R r x)) at refl $ rewrite ! 1 (λ (r : Ptr). ‵ (left_at R r)) at refl $ rewrite ! 2 (λ (r : Ptr). ‵ (freeable R r)) at refl $
     move ! (4 ∷ []) $ use1 𝓛 (‵ (count_at (block_ptr pb po) 1)) (uint_in 𝓛 full_share w64 1 pb (po + 0)) $ use3 𝓛 (‵ (part_at B full_share block pb po)) (block_in T L 𝓛 1 x pb po) $
     move ! (1 ∷ []) $ fpick ! (λ _. move ! (1 ∷ 0 ∷ []) $ fjoin ! $ move ! (0 ∷ 3 ∷ []) $ unboxed_in B Z LZ ghosts ! pb po h alloc block $

@@ -1,7 +1,7 @@
 -- Where the part is the whole column, that is it.
 use Rattle.std.proofs.Common.{rules, ◌≡◌, length, sym, ◌∙◌}
 use Rattle.vx_select.proofs.Parts.{whole_part, same_step}
-use Rattle.vx_select.proofs.part.Part.cut.Goals as goal
+use Rattle.vx_select.proofs.part.Part.materialize.Goals as goal
 
 pub returns-then-self-len-clause-step : goal.returns-then-self-len-clause-step
 returns-then-self-len-clause-step c =
