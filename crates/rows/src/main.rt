@@ -49,6 +49,7 @@ fn status_of(rt: &HostRuntime) -> u8 {
 fn main(rt: HostRuntime) -> ExitCode {
     let status = status_of(&rt);
     if let Some(text) = meaning(status) {
+        // The status is the same where the line can't be written.
         let _ = eprintln!(rt; "rows: {text} (status {status})");
     }
     ExitCode::from(status)

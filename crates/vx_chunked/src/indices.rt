@@ -148,6 +148,7 @@ impl<T: Copy> Cursor<T> for IndexCursor<'_> {
     }
 
     fn next_chunk(&self, chunk: usize) -> usize {
+        // Only the contract speaks of it.
         let _ = chunk;
         match self.indices.first() {
             Some(first) => (self.offset + first) / FILTER_CHUNK_LEN,

@@ -77,8 +77,10 @@ impl ReadRow for ConstantArray {
 
     #[tactic(auto, using(vx_model::proofs::LazyRows::lazy_rows, vx_model::proofs::Scalars::scalars))]
     fn cell_at(&self, i: usize) -> Cell<'_> {
+        // Only the contract speaks of it.
         let _ = i;
         let scalar = self.scalar();
+        // What its clauses say is used below.
         let _ = scalar.dtype();
         match scalar.value() {
             ScalarValue::Null => Cell::Null,

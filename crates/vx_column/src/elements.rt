@@ -71,6 +71,7 @@ impl Elements {
         ensures value { result ≡ self.now.dtype }
         ensures carried { is_carried self.now.dtype ≡ true }
     {
+        // What its clauses say is used below.
         let _ = self.column.dtype();
         self.element.share()
     }

@@ -63,6 +63,7 @@ pub(crate) fn position_at(numbers: &PrimitiveArray, i: usize, len: usize) -> usi
     requires within { slice_index_or (offset_positions (integers_of numbers.now)) i 0 ≤ len }
     ensures { result ≡ slice_index_or (offset_positions (integers_of numbers.now)) i 0 }
 {
+    // Only the contract speaks of it.
     let _ = len;
     integer_at(numbers, i) as usize
 }

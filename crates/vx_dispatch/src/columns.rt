@@ -32,6 +32,7 @@ pub(crate) fn slice_each(
     requires within { end ≤ len }
     ensures { IfOk result (AreCuts (λ rows. slice_range rows start end) columns.now) }
 {
+    // Only the contract speaks of it.
     let _ = len;
     let mut cut = Vec::with_capacity(alloc, columns.len())?;
     for column in columns.as_slice() {

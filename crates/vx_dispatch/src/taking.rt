@@ -104,6 +104,7 @@ fn nulls_for(array: &NullArray, indices: &Indices) -> Array
     ensures { IsTake (null_column array.now) (index_picks (index_value indices.now))
         (index_nullability (index_value indices.now)) result }
 {
+    // Only the contract speaks of it.
     let _ = array;
     NullArray::new(indices.len()).into_array()
 }

@@ -73,6 +73,7 @@ fn push_word<T: Copy>(kept: &mut Vec<T>, items: &[T], word: u64)
 {
     let mut left = word;
     for k in 0..word.count_ones() {
+        // Only the loop's invariant speaks of it.
         let _ = k;
         kept.push_reserved(items[left.trailing_zeros() as usize]);
         left &= left - 1;

@@ -119,6 +119,7 @@ fn copy_word<T: Copy>(dst: &mut [T], kept: usize, src: &[T], base: usize, word: 
     let mut next = kept;
     let mut left = word;
     for k in 0..word.count_ones() {
+        // Only the loop's invariant speaks of it.
         let _ = k;
         copy_one(dst, next, src, base + left.trailing_zeros() as usize);
         next += 1;

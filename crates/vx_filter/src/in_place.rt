@@ -134,6 +134,7 @@ fn keep_word<T: Copy>(values: &mut [T], kept: usize, base: usize, word: u64) -> 
     let mut next = kept;
     let mut left = word;
     for k in 0..word.count_ones() {
+        // Only the loop's invariant speaks of it.
         let _ = k;
         move_one(values, base + left.trailing_zeros() as usize, next);
         next += 1;

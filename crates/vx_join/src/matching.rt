@@ -118,6 +118,7 @@ fn push_chain<K: Ord + Copy>(
     ensures right { OnOk result (found.new.right.items ≡ found.old.right.items
         ++ positions_from (keys_match (eq_by_cmp K.cmp) (Some key)) 0 rows.now) }
 {
+    // Only the contract speaks of it.
     let _ = key;
     let mut j = first;
     while j < rows.len() {

@@ -191,6 +191,7 @@ fn fixed_run(pick: Option<usize>, size: usize, rows: usize) -> (usize, usize)
     ensures value { result ≡ fixed_run size pick }
     ensures inside { result.0 + result.1 ≤ rows * size }
 {
+    // Only the contract speaks of it.
     let _ = rows;
     match pick {
         None => (0, size),

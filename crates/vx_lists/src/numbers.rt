@@ -25,6 +25,7 @@ fn is_in_type(ptype: PType, bytes: &[u8])
     requires width { length bytes.now ≡ width ptype }
     ensures { int_le (number ptype bytes.now) (greatest ptype) ≡ true }
 {
+    // Only the contract speaks of it.
     let _ = (ptype, bytes.len());
 }
 

@@ -80,6 +80,7 @@ fn lengthen_last(runs: &mut Vec<(usize, usize)>, len: usize, base: usize, word: 
     ensures count { vec_len runs.new ≡ vec_len runs.old }
     ensures capacity { vec_capacity runs.new ≡ vec_capacity runs.old }
 {
+    // Only the contract speaks of it.
     let _ = len;
     let count = runs.len();
     if count == 0 || word % 2 == 0 {

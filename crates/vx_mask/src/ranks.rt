@@ -118,6 +118,7 @@ pub fn place_with(word: u64, k: usize) -> usize
 {
     let mut left = word;
     for i in 0..k {
+        // Only the loop's invariant speaks of it.
         let _ = i;
         left &= left - 1;
     }

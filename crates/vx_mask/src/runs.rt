@@ -35,6 +35,7 @@ fn push_positions(indices: &mut Vec<usize>, base: usize, word: u64)
 {
     let mut left = word;
     for k in 0..word.count_ones() {
+        // Only the loop's invariant speaks of it.
         let _ = k;
         indices.push_reserved(base + left.trailing_zeros() as usize);
         left &= left - 1;

@@ -17,6 +17,7 @@ pub fn offset_at<const W: usize>(ptype: PType, records: &[[u8; W]], i: usize, le
         ≡ slice_index (offset_positions (record_numbers ptype records.now)) i }
     ensures within { result ≤ len }
 {
+    // Only the contract speaks of it.
     let _ = len;
     let number = ptype.number(&records[i]);
     number as usize

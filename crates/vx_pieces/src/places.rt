@@ -38,6 +38,7 @@ fn places_in(alloc: Global, runs: &[(usize, usize)], len: usize) -> Result<Vec<u
     requires { All (λ run. run.0 + run.1 ≤ len) runs.now }
     ensures { IfOk result (λ places. places.items ≡ run_places runs.now) }
 {
+    // Only the contract speaks of it.
     let _ = len;
     let mut places = Vec::with_capacity(alloc, total_len(runs))?;
     for run in runs {

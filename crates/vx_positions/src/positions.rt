@@ -45,6 +45,7 @@ pub fn position(number: i128, len: usize) -> usize
     ensures value { result ≡ position_of number }
     ensures below { result < len }
 {
+    // Only the contract speaks of it.
     let _ = len;
     number as usize
 }

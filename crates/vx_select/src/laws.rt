@@ -11,6 +11,7 @@ use vx_steps::Step;
 pub fn selections_alike(column: &Array, steps: &[Step])
     ensures { SelectionsAreAlike column.now (map step_value steps.now) }
 {
+    // Only the contract speaks of it.
     let _ = column;
     let _ = steps;
 }

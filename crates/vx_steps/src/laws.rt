@@ -5,5 +5,6 @@ ghost use Rattle.vx_steps.specs.Laws.{SliceOfSlice};
 pub fn slice_of_slice<T>(items: &[T])
     ensures { SliceOfSlice items.now }
 {
+    // Only the contract speaks of it.
     let _ = items;
 }

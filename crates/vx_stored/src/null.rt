@@ -15,6 +15,7 @@ pub fn slice_nulls(array: &NullArray, start: usize, end: usize) -> Array
     requires within { end ≤ length (null_column array.now).rows }
     ensures { IsSlice (null_column array.now) start end result }
 {
+    // Only the contract speaks of it.
     let _ = array;
     NullArray::new(end - start).into_array()
 }
@@ -25,6 +26,7 @@ pub fn filter_nulls(array: &NullArray, mask: &MaskValues) -> Array
     ensures { IsCut (null_column array.now)
         (items_where_true mask.now.bits.bits (null_column array.now).rows) result }
 {
+    // Only the contract speaks of it.
     let _ = array;
     NullArray::new(mask.true_count()).into_array()
 }
@@ -33,6 +35,7 @@ pub fn filter_nulls(array: &NullArray, mask: &MaskValues) -> Array
 pub fn take_nulls(array: &NullArray, picks: &Picks, nullability: Nullability) -> Array
     ensures { IsTake (null_column array.now) picks.now.picks nullability result }
 {
+    // Only the contract speaks of it.
     let _ = array;
     let _ = nullability;
     NullArray::new(picks.len()).into_array()

@@ -24,6 +24,7 @@ fn put_word(dst: &mut [u64], kept: usize, base: u64, word: u64) -> usize
     let mut next = kept;
     let mut left = word;
     for k in 0..word.count_ones() {
+        // Only the loop's invariant speaks of it.
         let _ = k;
         dst[next] = base + u64::from(left.trailing_zeros());
         next += 1;
