@@ -6,3 +6,4 @@ pub mod Steps
 pub mod Documents
 pub mod Chunks
 pub mod Reading
+pub mod Policies

@@ -6,7 +6,7 @@ use Rattle.vx_mask.specs.MaskValues.{PartialMask}
 use Rattle.vx_mask.specs.Policy.{vortex_fields}
 use Rattle.vx_json.specs.Meaning.{◌>>=◌, found_or}
 use Rattle.vx_json.specs.Members.{is_closed}
-use Rattle.vx_json.specs.Policies.{policy_of}
+use Rattle.vx_document.specs.Policies.{policy_of}
 use Rattle.vx_document.specs.Columns.{column_of}
 use Rattle.vx_document.specs.Chunks.{chunks_of}
 use Rattle.vx_document.specs.Steps.{kept_of_steps, steps_of}

@@ -9,10 +9,11 @@ ghost use Rattle.vx_document.specs.Steps.{kept_by};
 use crate::chunks::chunks_of;
 use crate::columns::column_member;
 use crate::documents::{Document, DocumentSource};
+use crate::policies::policy_found;
 use crate::steps::steps_of;
 use serde_json::Value;
 use std::alloc::Global;
-use vx_json::{DocError, is_closed, member, policy_found};
+use vx_json::{DocError, is_closed, member};
 
 /// Where the rows are: in a column, or behind a decoder. `Malformed` where the object has neither,
 /// or both.

@@ -7,7 +7,6 @@ pub mod Values
 pub mod Decimals
 pub mod BitText
 pub mod Masks
-pub mod Policies
 pub mod Texts
 pub mod Views
 pub mod Messages

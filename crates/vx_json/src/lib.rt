@@ -11,7 +11,6 @@ mod letting_go;
 mod masks;
 mod members;
 mod offsets;
-mod policies;
 mod texts;
 mod values;
 mod views;
@@ -27,7 +26,6 @@ pub use masks::mask_of;
 pub use members::{
     bool_in, if_closed, is_among, is_closed, items_in, list_member, member, text_in, text_member,
 };
-pub use policies::policy_found;
 pub use texts::{
     StrungTexts, byte_lists_in, bytes_of, names_of, strung_texts, text_kind_named, text_of,
 };

@@ -11,7 +11,7 @@ use Rattle.vx_steps.specs.Step.{StepValue}
 use Rattle.vx_json.specs.Items.{each}
 use Rattle.vx_json.specs.Meaning.{◌>>=◌, found_or}
 use Rattle.vx_json.specs.Members.{is_closed}
-use Rattle.vx_json.specs.Policies.{policy_of}
+use Rattle.vx_document.specs.Policies.{policy_of}
 use Rattle.vx_document.specs.Steps.{steps_of}
 
 -- the blocks of a file, steps over its rows, and a policy

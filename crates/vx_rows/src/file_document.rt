@@ -10,9 +10,9 @@ ghost use Rattle.vx_rows.specs.Files.{IsUnread, file_value};
 use crate::file_blocks::FileBlocks;
 use serde_json::Value;
 use std::alloc::Global;
-use vx_document::{DocError, StepList, steps_of};
+use vx_document::{DocError, StepList, policy_found, steps_of};
 use vx_file::{BLOCK_LEN, Blocks};
-use vx_json::{is_closed, list_member, member, policy_found, text_in};
+use vx_json::{is_closed, list_member, member, text_in};
 use vx_mask::Policy;
 
 /// What a document of a file asks for: these steps over these blocks, by this policy.

@@ -1,8 +1,8 @@
 -- What a loop over members keeps.
 use Rattle.std.proofs.Common.{◌≡◌}
 use Rattle.serde_json.specs.View.{members_view}
-use Rattle.vx_json.specs.Policies.{with_members}
-use Rattle.vx_json.proofs.policies.with_members.Given as goal
+use Rattle.vx_document.specs.Policies.{with_members}
+use Rattle.vx_document.proofs.policies.with_members.Given as goal
 
 -- the fields so far, with what the members that are left say, are those with what all say
 abbrev pub invariant-loop-name : goal.invariant-loop-name

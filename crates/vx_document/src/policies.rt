@@ -3,11 +3,10 @@ ghost use Rattle.std.specs.Prelude.{◌≡◌, option_map, Some};
 ghost use Rattle.serde_json.specs.View.{view, members_view};
 ghost use Rattle.vx_mask.specs.Policy.{policy_fault, vortex_fields};
 ghost use Rattle.vx_json.specs.Meaning.{Gives, OnlyMalformed, found_or, unless_fault};
-ghost use Rattle.vx_json.specs.Policies.{ratio_of, with_ratio, with_size, with_number, with_member, with_members, policy_of};
+ghost use Rattle.vx_document.specs.Policies.{ratio_of, with_ratio, with_size, with_number, with_member, with_members, policy_of};
 
-use crate::error::DocError;
-use crate::wholes::{pair_of, whole_of};
 use serde_json::{Map, Value};
+use vx_json::{DocError, pair_of, whole_of};
 use vx_mask::{Policy, PolicyFields, Ratio};
 
 #[tactic(auto, unfolding(crate::specs::Policies::ratio_of))]
