@@ -86,7 +86,7 @@ pub use Rattle.vx_pieces.specs.declared.error.PiecesError as PiecesErrors
 pub use Rattle.vx_positions.specs.Offsets
 pub use Rattle.vx_positions.specs.Positions
 pub use Rattle.vx_print.specs.Calls as PrintedCalls
-pub use Rattle.vx_print.specs.Fault as PrintedFault
+pub use Rattle.vx_steps.specs.Fault as PrintedFault
 pub use Rattle.vx_print.specs.Reads as PrintedReads
 pub use Rattle.vx_print.specs.Text as PrintedText
 pub use Rattle.vx_select.specs.Chunks

@@ -5,7 +5,6 @@
 mod bits;
 mod calls;
 mod cells;
-mod fault;
 mod joined;
 mod name_labels;
 mod nested;
@@ -19,6 +18,5 @@ mod texts;
 mod types;
 
 pub use calls::calls_line;
-pub use fault::{FAULT_ROOM, fault_line};
 pub use reads::reads_line;
 pub use text::text_of;

@@ -23,7 +23,7 @@ use Rattle.vx_file.specs.Stated.{are_spellings, shape_in}
 use Rattle.vx_file.specs.Touched.{blocks_for, picks_of_steps, blocks_touched}
 use Rattle.vx_file.proofs.FileAnswers.{length-file_rows}
 use Rattle.vx_file.proofs.StatedParts.{all_spelled, found_bad, length-touched, no_shape, shape_of_header}
-use Rattle.vx_print.specs.Fault.{fault_text}
+use Rattle.vx_steps.specs.Fault.{fault_text}
 use Rattle.vx_rows.specs.FileDocument.{FileValue}
 use Rattle.vx_rows.specs.Program.{Malformed, Broken, Done, file_answer, of_file, of_file_answer, of_header, of_shape, text_with, touched_by}
 use Rattle.vx_rows.specs.Reply.{IsHonest, Replies}

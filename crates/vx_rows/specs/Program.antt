@@ -26,7 +26,7 @@ use Rattle.vx_document.specs.Documents.{DocumentValue, SourceValue, column_sourc
 use Rattle.vx_document.specs.Reading.{document_of}
 use Rattle.vx_io.specs.declared.transfer.TheConstants.{MAX_BYTES}
 use Rattle.vx_print.specs.Calls.{calls_text}
-use Rattle.vx_print.specs.Fault.{fault_text}
+use Rattle.vx_steps.specs.Fault.{fault_text}
 use Rattle.vx_print.specs.Reads.{reads_text}
 use Rattle.vx_print.specs.Text.{text}
 use Rattle.vx_rows.specs.declared.command.Command.{Command}

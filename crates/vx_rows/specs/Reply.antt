@@ -1,7 +1,7 @@
 -- What a `Reply` stands for.
 use Rattle.std.specs.Prelude.{◌≡◌, ℕ, List, Option, None, Some}
 use Rattle.vx_steps.specs.Answer.{Answer, answer_fault}
-use Rattle.vx_print.specs.Fault.{fault_text}
+use Rattle.vx_steps.specs.Fault.{fault_text}
 use Rattle.vx_rows.specs.Program.{Outcome, Malformed, Broken, Done, with_asked}
 use Rattle.vx_rows.specs.declared.reply.Reply.{Reply}
 use Rattle.vx_rows.specs.declared.reply.Reply.TheVariants as replies

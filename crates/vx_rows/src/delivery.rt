@@ -7,7 +7,7 @@ use crate::reply::Reply;
 use crate::status::{BROKEN, DONE, MALFORMED, NO_MEMORY, SINK_FAULT};
 use crate::trace::Trace;
 use vx_io::{Sink, deliver};
-use vx_print::{FAULT_ROOM, fault_line};
+use vx_steps::{FAULT_ROOM, fault_line};
 
 /// Writes what a reply prints, if it prints anything, and answers the status. What was asked for it
 /// is kept before the first write. A reply that prints nothing leaves the sink as it was.

@@ -23,4 +23,5 @@ pub use vx_file::ReadLog;
 pub use vx_io::{
     CountingSink, Failed, MemorySink, MemorySource, Sink, Source, StdSink, StdSource, SteadySource,
 };
-pub use vx_print::{calls_line, fault_line, reads_line, text_of};
+pub use vx_print::{calls_line, reads_line, text_of};
+pub use vx_steps::fault_line;

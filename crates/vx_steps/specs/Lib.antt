@@ -2,6 +2,7 @@ pub mod Answer
 pub mod Cause
 pub mod Check
 pub mod Compose
+pub mod Fault
 pub mod Laws
 pub mod Messages
 pub mod Shape

@@ -6,9 +6,8 @@ use callers::Family;
 use std::alloc::Global;
 use std::test::Fail;
 use vx_bits::Buffer;
-use vx_print::{FAULT_ROOM, fault_line};
 use vx_rows::{CountingSink, MemorySink, Sink, SteadySource, Trace, run};
-use vx_steps::Cause;
+use vx_steps::{Cause, FAULT_ROOM, fault_line};
 
 /// A document of two rows and no steps.
 const TWO_ROWS: &str =

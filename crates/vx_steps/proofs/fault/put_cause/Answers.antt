@@ -2,7 +2,7 @@ use Rattle.std.proofs.Common.{◌≡◌, ◌++◌, ◌∙◌, ℕ, List, take, a
 use Rattle.std.specs.Prelude.{codes, decimal}
 use Rattle.std.specs.Fmt.{signed_decimal}
 use Rattle.vx_steps.specs.Messages.{cause_text}
-use Rattle.vx_print.proofs.fault.put_cause.Goals as goal
+use Rattle.vx_steps.proofs.fault.put_cause.Goals as goal
 
 joined : (a b c d e : List ℕ) → (((a ++ b) ++ c) ++ d) ++ e ≡ a ++ (((b ++ c) ++ d) ++ e)
 joined a b c d e = simp append_assoc

@@ -1,11 +1,11 @@
 //! The line of a broken step, written without memory.
 ghost use Rattle.std.specs.Prelude.{◌≡◌, ◌+◌, ◌≤◌, ◌++◌, length, take, decimal};
 ghost use Rattle.std.specs.Fmt.{signed_decimal};
-ghost use Rattle.vx_print.specs.Fault.{fault_text};
+ghost use Rattle.vx_steps.specs.Fault.{fault_text};
 ghost use Rattle.vx_steps.specs.Messages.{cause_text};
 
+use crate::cause::Cause;
 use itoa::Buffer;
-use vx_steps::Cause;
 
 /// How many bytes the line of a broken step has room for.
 pub const FAULT_ROOM: usize = 160;
