@@ -1,12 +1,11 @@
 //! Shared lists of columns.
 ghost use Rattle.std.specs.Prelude.{◌≡◌, ◌<◌, IfOk, Some, length, slice_get};
 
-use crate::array::{Array, ArrayRef};
+use crate::array::ArrayRef;
 use std::alloc::Global;
 use std::marker::Model;
 use vx_bits::NoMemory;
 use vx_shared::Shared;
-use vx_types::DType;
 
 /// A shared list of columns of any types and lengths. A contract sees the columns, in order.
 #[cycle(array)]

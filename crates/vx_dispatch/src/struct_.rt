@@ -13,7 +13,7 @@ use crate::taking::TakeRows;
 use crate::validity::{execute_validity, filter_validity, slice_validity, take_validity};
 use std::alloc::Global;
 use vx_bits::NoMemory;
-use vx_column::{Columns, Nullability, StructArray};
+use vx_column::{Nullability, StructArray};
 use vx_filler::{fillers, firsts_for_nulls};
 use vx_mask::{Mask, MaskValues, Policy, prepare_mask_for_reuse};
 use vx_take::Picks;

@@ -16,7 +16,7 @@ use crate::slicing::slice;
 use crate::taking::take_picks;
 use std::alloc::Global;
 use vx_bits::NoMemory;
-use vx_column::{ArrayRef, Columns, Nullability, PrimitiveArray, UnionArray};
+use vx_column::{ArrayRef, Nullability, UnionArray};
 use vx_filler::{fillers, firsts_for_nulls};
 use vx_lists::{filter_numbers, slice_numbers, take_numbers};
 use vx_mask::{Mask, MaskValues, Policy, prepare_mask_for_reuse};
