@@ -211,6 +211,18 @@ typedef struct vortex_arrow_need {
     uint64_t len, valid, offsets, values, sizes;
 } vortex_arrow_need;
 
+/* What a node lacks that has no meaning. */
+enum {
+    VORTEX_ARROW_LACKS_TREE = 1,     /* nodes are left over, or too few */
+    VORTEX_ARROW_LACKS_ROWS = 2,     /* fewer than 2^60 rows, those before the first one counted */
+    VORTEX_ARROW_LACKS_VALID = 3,    /* a bit of validity for each row */
+    VORTEX_ARROW_LACKS_CHILDREN = 4, /* as many children as its format has */
+    VORTEX_ARROW_LACKS_VALUES = 5,   /* values for all rows */
+    VORTEX_ARROW_LACKS_OFFSETS = 6,  /* an offset for each row and one more */
+    VORTEX_ARROW_LACKS_ITEMS = 7,    /* offsets that ascend, and items up to the last */
+    VORTEX_ARROW_LACKS_LENGTH = 8    /* as many rows as its parent asks for */
+};
+
 /* How many places and bytes of validity the picks need. */
 typedef struct vortex_arrow_picks_need {
     uint64_t places, valid;
@@ -218,7 +230,7 @@ typedef struct vortex_arrow_picks_need {
 
 /* A status; the node or the step that it is about; and what that lacks, or the rule it breaks. */
 typedef struct vortex_arrow_answer {
-    uint64_t status, at, what;
+    uint64_t status, node_or_step, what;
 } vortex_arrow_answer;
 
 /* How much room the picks need that the steps leave of `len` rows: to *need. */

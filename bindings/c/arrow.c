@@ -21,7 +21,7 @@ uint64_t vortex_arrow_fault(vortex_arrow_error *error, uint64_t status, const ch
     static const char *const causes[] = {"a slice that isn't within the rows",
         "a mask that isn't as long as the rows", "a filter that isn't by bools",
         "indices that are no integers", "pieces that aren't sound", "an index out of bounds"};
-    const char *text = words[status < 9 ? status : status - VORTEX_ARROW_SHAPE + 9];
+    const char *text = words[status < 9 ? status : status < VORTEX_ARROW_SHAPE ? 0 : status - 7];
     if (status == VORTEX_ARROW_BROKEN && error->cause < sizeof causes / sizeof causes[0]) {
         text = causes[error->cause];
     }
@@ -35,9 +35,9 @@ static uint64_t fault_of_steps(vortex_arrow_error *error, vortex_arrow_answer an
 {
     char place[40] = "";
     if (answer.status == VORTEX_ARROW_BROKEN || answer.status == VORTEX_ARROW_LACKING) {
-        error->step = answer.at;
+        error->step = answer.node_or_step;
         error->cause = answer.what;
-        snprintf(place, sizeof place, "step %llu", (unsigned long long)answer.at);
+        snprintf(place, sizeof place, "step %llu", (unsigned long long)answer.node_or_step);
     }
     return vortex_arrow_fault(error, answer.status, place);
 }
@@ -370,11 +370,20 @@ static size_t place(const table *t, size_t node, const vortex_arrow_need *needs,
     return next;
 }
 
-/* A fault of the library's that is about a node. */
+/* A fault of the library's that is about a node: the part of it is what it lacks. */
 static uint64_t fault_of_node(const table *t, vortex_arrow_answer answer)
 {
+    static const char *const parts[] = {"", "children", "length", "validity", "children", "values",
+        "offsets", "offsets", "length"};
+    size_t node = answer.node_or_step < t->len ? answer.node_or_step : NO_NODE;
+    const char *part = "";
     t->error->cause = answer.what;
-    return fault_at(t, answer.status, answer.at, "");
+    if (answer.status == VORTEX_ARROW_FORMAT && node != NO_NODE) {
+        part = t->sources[node].schema->format;
+    } else if (answer.status == VORTEX_ARROW_NO_MEANING && answer.what < 9) {
+        part = parts[answer.what];
+    }
+    return fault_at(t, answer.status, node, part);
 }
 
 /* The rows at the picks, as the library writes them. */

@@ -9,6 +9,11 @@ import time
 import unittest
 from array import array
 
+try:
+    import numpy
+except ImportError:
+    numpy = None
+
 import arrow_model
 from arrow_model import Layout, after, random_row, random_steps, random_type, wrapped
 from vortex_select import BrokenStep, Column, Filter, Slice, Take, column, from_buffers, select
@@ -221,6 +226,25 @@ class Answers(unittest.TestCase):
             select(Spent(), [])
 
 
+@unittest.skipUnless(numpy, "there is no numpy")
+class Numpy(unittest.TestCase):
+    def test_in_place(self):
+        """numpy's arrays are taken as they stand, and an answer's memory is read as one."""
+        numbers = numpy.arange(1000, dtype="int32")
+        source = from_buffers("int32", 1000, [None, numbers])
+        self.assertEqual(source._chunks[0].buffers[1], numbers.ctypes.data)
+        found = select(source, [Filter(numbers % 2 == 1), Take(numpy.array([3, 0], dtype="uint8"))])
+        self.assertEqual(found.to_pylist(), [7, 1])
+        with self.assertRaises(TypeError):
+            Take(numpy.ma.masked_array([1, 2], [True, False]))
+        with self.assertRaises(TypeError):
+            Take(numpy.array([1.0]))
+
+    def test_strided(self):
+        with self.assertRaises((BufferError, ValueError)):
+            from_buffers("int32", 2, [None, numpy.arange(4, dtype="int32")[::2]])
+
+
 class Release(unittest.TestCase):
     def setUp(self):
         self.before = held()
@@ -388,13 +412,34 @@ class Hostile(unittest.TestCase):
         ends = [built(Type("i"), [1]), built(Type("i"), [1])]
         self.assertIn("+r", self.refused(Type("+r", pair), arrow.made_array(1, 0, 0, [], ends)))
 
+    def test_unknown(self):
+        """Formats that the library may not know: the answer is right, or the format is named."""
+        item, pair = (("item", Type("i")),), (("a", Type("i")), ("b", Type("i")))
+        one, none = array("i", [1]), array("i", [0])
+        for of, buffers, children in (
+            (Type("vu"), [None, b"\1\0\0\0a" + bytes(11), array("q", [])], 0),
+            (Type("+vl", item), [None, none, one], 1),
+            (Type("+us:0,1", pair), [b"\1"], 2),
+            (Type("+ud:0,1", pair), [b"\1", none], 2),
+            (Type("+w:1", item), [None], 1),
+        ):
+            below = [built(Type("i"), [1]) for _ in range(children)]
+            source = wrapped(of, arrow.made_array(1, 0, 0, buffers, below))
+            rows = source.to_pylist()
+            try:
+                found = select(source, [Take([0, 0])])
+            except ValueError as why:
+                self.assertIn(f"{of.format}: the format isn't known", str(why))
+            else:
+                self.assertEqual(found.to_pylist(), [*rows, *rows])
+
     def test_place(self):
         """The wrong buffer's column is named, from the top."""
         bad = arrow.made_array(1, 0, 0, [None, array("i", [5, 4]), b"abcd"])
         lists = arrow.made_array(1, 0, 0, [None, array("i", [0, 1])], [bad])
         of = type_of("struct<id: int8, tags: list<utf8>>")
         made = arrow.made_array(1, 0, 0, [None], [built(Type("c"), [1]), lists])
-        self.assertIn("tags.item", self.refused(of, made))
+        self.assertIn("tags.item offsets", self.refused(of, made))
 
 
 def _free_deep(struct):

@@ -367,12 +367,13 @@ def from_buffers(
         raise ValueError("a dictionary belongs to a column of type dictionary, and to no other")
     if dictionary is not None and dictionary.type != str(of.dictionary):
         raise ValueError(f"the dictionary of a column of type {of} is of another type")
+    held = [arrow.kept(data) for data in buffers]
     below = [arrow.shared(_single(child)) for child in children]
     inner = None if dictionary is None else arrow.shared(_single(dictionary))
     nulls = -1 if buffers and buffers[0] is not None else 0
     if of.format == "n":
         nulls = length
-    array = arrow.made_array(length, nulls, offset, buffers, below, inner)
+    array = arrow.made_array(length, nulls, offset, held, below, inner)
     return Column(arrow.made_schema(of), [array])
 
 

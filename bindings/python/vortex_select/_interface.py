@@ -239,7 +239,7 @@ def made_schema(of: Type, name: str = "", flags: int = NULLABLE, metadata=None) 
     return _own(struct, _release_schema, (below, metadata))
 
 
-class _Kept(_Held):
+class Kept(_Held):
     """The memory of a buffer, held until this goes away."""
 
     def __init__(self, data):
@@ -252,9 +252,14 @@ class _Kept(_Held):
         self.__exit__()
 
 
+def kept(data):
+    """The memory of a buffer, or none."""
+    return data if data is None or isinstance(data, Kept) else Kept(data)
+
+
 def made_array(length, null_count, offset, buffers, children=(), dictionary=None) -> Array:
     """An array over buffers that are objects of Python, or none."""
-    held = [data if data is None else _Kept(data) for data in buffers]
+    held = [kept(data) for data in buffers]
     listed = (ctypes.c_void_p * max(len(held), 1))(*(data and data.place for data in held))
     struct = Array(length, null_count, offset, len(held))
     struct.buffers = ctypes.cast(listed, ctypes.POINTER(ctypes.c_void_p))
