@@ -8,10 +8,23 @@
 #include <stdio.h>
 #include <stdlib.h>
 #include <string.h>
+#include <time.h>
 
 #include "random_arrow.h"
 
 #define MOST 64
+
+/* How long a call may take at the most. */
+#if defined(__SANITIZE_ADDRESS__)
+#define SECONDS 10
+#elif defined(__has_feature)
+#if __has_feature(address_sanitizer)
+#define SECONDS 10
+#endif
+#endif
+#ifndef SECONDS
+#define SECONDS 3
+#endif
 
 static int passed, failed;
 
@@ -285,6 +298,49 @@ static void threads_round(uint64_t seed)
     schema.release(&schema);
 }
 
+/* ---- A struct of a million fields ---- */
+
+static void keep_schema(struct ArrowSchema *schema) { schema->release = NULL; }
+static void keep_array(struct ArrowArray *array) { array->release = NULL; }
+
+/* All fields are one and the same: nothing of them is handed through, so none is replaced. */
+static void many_nodes(void)
+{
+    const int64_t fields = 1000000;
+    struct ArrowSchema schema, field = {"C", "", NULL, 2, 0, NULL, NULL, keep_schema, NULL};
+    struct ArrowArray array, out;
+    const uint8_t byte = 7;
+    const void *bytes[] = {NULL, &byte}, *none[] = {NULL};
+    struct ArrowArray values = {1, 0, 0, 2, 0, bytes, NULL, NULL, keep_array, NULL};
+    clock_t start = clock();
+    uint64_t status;
+    int64_t k;
+    schema = field;
+    schema.format = "+s";
+    schema.n_children = fields;
+    schema.children = (struct ArrowSchema **)made_block((size_t)fields * sizeof(void *));
+    array = values;
+    array.n_buffers = 1;
+    array.buffers = none;
+    array.n_children = fields;
+    array.children = (struct ArrowArray **)made_block((size_t)fields * sizeof(void *));
+    for (k = 0; k < fields; k++) {
+        schema.children[k] = &field;
+        array.children[k] = &values;
+    }
+    status = vortex_select_arrow(&schema, &array, NULL, 0, NULL, &out, NULL);
+    expect(status == VORTEX_ARROW_DONE || status == VORTEX_ARROW_NO_MEMORY, "a million fields", 0);
+    if (!status) {
+        const uint8_t *last = (const uint8_t *)out.children[fields - 1]->buffers[1];
+        expect(out.n_children == fields && *last == byte, "the last of a million fields", 0);
+        out.release(&out);
+    }
+    printf("a million fields: %.2f seconds\n", (double)(clock() - start) / CLOCKS_PER_SEC);
+    expect((double)(clock() - start) / CLOCKS_PER_SEC < SECONDS, "a million fields in time", 0);
+    free(schema.children);
+    free(array.children);
+}
+
 /* Whether the library knows lists of a fixed size. */
 static int knows_items(void)
 {
@@ -322,6 +378,9 @@ int main(int argc, char **argv)
         }
     }
     expect(live_columns() == 0, "all released", 0);
+    if (rounds >= 10000) {
+        many_nodes();
+    }
     printf("c: %d passed, %d failed\n", passed, failed);
     return failed != 0;
 }
