@@ -113,14 +113,74 @@ fn prebuilt(folder: PathBuf, name: &str) -> PathBuf {
     folder
 }
 
+/// Runs a tool of C, which must succeed.
+fn run(tool: &str, words: Vec<PathBuf>) {
+    match Command::new(tool).args(&words).status() {
+        Ok(status) if status.success() => (),
+        Ok(status) => fail(format!("{tool}: {status}, of {words:?}")),
+        Err(why) => fail(format!("{tool} can't be run: {why}")),
+    }
+}
+
+/// Builds the shim over Arrow's interface, whose sources are in `bindings/c`, or takes the prebuilt
+/// one where there are none.
+fn link_shim(root: &Path) {
+    const SHIM: &str = "vortex_arrow_shim";
+    let sources = root.join("bindings/c");
+    if !sources.join("arrow.c").exists() {
+        let Some(folder) = env::var_os("VORTEX_SELECT_LIB_DIR") else {
+            fail("the shim's sources, bindings/c/arrow.c, are not beside this crate".into());
+        };
+        let folder = prebuilt(folder.into(), SHIM);
+        println!("cargo:rustc-link-search=native={}", folder.display());
+        println!("cargo:rustc-link-lib=static={SHIM}");
+        return;
+    }
+    let out = PathBuf::from(env::var_os("OUT_DIR").expect("cargo sets it"));
+    let library = out.join(format!("lib{SHIM}.a"));
+    let mut objects = Vec::new();
+    for name in ["arrow", "arrow_arrays", "arrow_formats", "arrow_stream"] {
+        let (source, object) = (
+            sources.join(format!("{name}.c")),
+            out.join(format!("{name}.o")),
+        );
+        let mut words: Vec<PathBuf> = ["-std=c99", "-O2", "-fPIC", "-c", "-I"]
+            .map(PathBuf::from)
+            .into();
+        words.extend([
+            root.join("include"),
+            source.clone(),
+            "-o".into(),
+            object.clone(),
+        ]);
+        run("cc", words);
+        println!("cargo:rerun-if-changed={}", source.display());
+        objects.push(object);
+    }
+    let _ = fs::remove_file(&library);
+    run(
+        "ar",
+        [vec!["rcs".into(), library.clone()], objects].concat(),
+    );
+    println!("cargo:rustc-link-search=native={}", out.display());
+    println!("cargo:rustc-link-lib=static={SHIM}");
+}
+
 fn main() {
     let here = env::var_os("CARGO_MANIFEST_DIR").expect("cargo sets it");
     let root = Path::new(&here).join("../..");
     println!("cargo:rerun-if-env-changed=VORTEX_SELECT_LIB_DIR");
     println!("cargo:rerun-if-changed=build.rs");
-    let has_rows = env::var_os("CARGO_FEATURE_ROWS").is_some();
-    let names = ["vortex_rows_c", "vortex_c"];
-    for name in &names[if has_rows { 0 } else { 1 }..] {
+    let has = |feature: &str| env::var_os(format!("CARGO_FEATURE_{feature}")).is_some();
+    if has("ARROW") {
+        link_shim(&root);
+    }
+    let wanted = [
+        ("vortex_rows_c", has("ROWS")),
+        ("vortex_arrow_c", has("ARROW")),
+        ("vortex_c", true),
+    ];
+    for (name, _) in wanted.into_iter().filter(|(_, is_wanted)| *is_wanted) {
         let folder = match env::var_os("VORTEX_SELECT_LIB_DIR") {
             Some(folder) => prebuilt(folder.into(), name),
             None => built(&root, name),

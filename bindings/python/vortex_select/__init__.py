@@ -45,11 +45,18 @@ __version__ = "0.1.0"
 __all__ = [
     "Answer",
     "Bits",
+    "BrokenStep",
+    "Column",
+    "Filter",
+    "Slice",
+    "Take",
+    "column",
     "count_before",
     "file",
     "filter",
     "filter_bits",
     "filter_in_place",
+    "from_buffers",
     "made",
     "page",
     "positions",
@@ -57,6 +64,7 @@ __all__ = [
     "rows",
     "run",
     "runs",
+    "select",
     "take",
     "take_bits",
 ]
@@ -755,3 +763,15 @@ def file(document: Buffer) -> Answer:
 def made(seed: int) -> Answer:
     """A line of the rows that are made from a number."""
     return run(["made", str(seed)])
+
+
+from ._columns import (  # noqa: E402 - they stand on what is above
+    BrokenStep,
+    Column,
+    Filter,
+    Slice,
+    Take,
+    column,
+    from_buffers,
+    select,
+)

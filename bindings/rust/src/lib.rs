@@ -17,10 +17,12 @@
 #[cfg(not(all(target_arch = "x86_64", target_pointer_width = "64")))]
 compile_error!("the library is built for x86-64 alone, where `usize` has eight bytes");
 
+#[cfg(feature = "arrow")]
+pub mod arrow;
 mod bits;
 mod calls;
 mod mask;
-#[cfg(feature = "rows")]
+#[cfg(any(feature = "rows", feature = "arrow"))]
 mod memory;
 mod record;
 #[cfg(feature = "rows")]

@@ -1,0 +1,226 @@
+/* Selects from arrays whose lengths, offsets, counts and formats are wild, in buffers that have just
+ * the bytes that the shim takes them to have, or none where that is much: so what is read beyond a
+ * buffer is an error of the shim or the library. An answer is read whole, and released.
+ *
+ * Build: bench/arrow/build_fuzz. */
+#include <stdio.h>
+#include <stdlib.h>
+#include <string.h>
+
+#include "../../bindings/c/random_arrow.h"
+
+#define MOST_BYTES 65536
+
+typedef struct input {
+    const uint8_t *data;
+    size_t len;
+} input;
+
+static uint8_t next(input *in)
+{
+    uint8_t byte = in->len ? *in->data : 0;
+    in->data += in->len != 0;
+    in->len -= in->len != 0;
+    return byte;
+}
+
+/* Mostly a small number, else one that no list has: numbers between cost more than they show. */
+static int64_t number(input *in)
+{
+    static const int64_t wild[] = {INT64_MAX, INT64_MAX - 1, INT64_MIN, -1, (int64_t)1 << 62,
+        (int64_t)1 << 60, ((int64_t)1 << 60) - 1, (int64_t)1 << 50};
+    uint8_t byte = next(in);
+    return byte < 240 ? byte % 40 : wild[byte % 8];
+}
+
+/* A buffer of just so many values, of the input's bytes; or none. */
+static void *buffer(input *in, uint64_t count, uint64_t width)
+{
+    uint8_t *bytes;
+    size_t k, size;
+    if (count > MOST_BYTES || width > MOST_BYTES || count * width > MOST_BYTES || next(in) == 255) {
+        return NULL;
+    }
+    size = count * width;
+    bytes = (uint8_t *)made_block(size);
+    for (k = 0; k < size; k++) {
+        bytes[k] = next(in);
+    }
+    return bytes;
+}
+
+/* Offsets, of which most ascend in small steps; *last is the end that they tell. */
+static void *offsets(input *in, uint64_t end, int is_wide, int64_t *last)
+{
+    uint8_t *bytes;
+    int64_t at = next(in) % 4;
+    uint64_t k;
+    *last = 0;
+    if (end > MOST_BYTES / 8) {
+        return NULL;
+    }
+    bytes = (uint8_t *)made_block(end ? (end + 1) * (is_wide ? 8 : 4) : 0);
+    for (k = 0; end && k <= end; k++) {
+        uint8_t byte = next(in);
+        int64_t value = byte < 250 ? at : number(in);
+        int32_t narrow = (int32_t)value;
+        memcpy(bytes + k * (is_wide ? 8 : 4), is_wide ? (void *)&value : (void *)&narrow,
+            is_wide ? 8 : 4);
+        at += byte % 4;
+        *last = is_wide ? value : narrow;
+    }
+    return bytes;
+}
+
+static const char *format_of(input *in, char *room)
+{
+    static const char *const known[] = {"n", "b", "c", "S", "i", "g", "u", "U", "z", "Z", "w:3", "w:0",
+        "d:9,2", "tdD", "tin", "tsu:", "+s", "+l", "+L", "+m", "+w:2", "+w:0", "+w:999999999", "vu",
+        "+vl", "+vL", "+us:0,1", "+ud:0,1", "+r", "C", "I", "+s", "+l", "u"};
+    uint8_t byte = next(in);
+    size_t k;
+    if (byte < 250) {
+        return known[byte % (sizeof known / sizeof known[0])];
+    }
+    for (k = 0; k < 15; k++) {
+        room[k] = (char)next(in);
+    }
+    room[15] = 0;
+    return room;
+}
+
+static void column(input *in, struct ArrowSchema *schema, struct ArrowArray *array, int depth)
+{
+    char room[16];
+    const char *format = format_of(in, room);
+    int is_text = format[0] && strchr("uUzZ", format[0]) && !format[1];
+    int is_list = !strcmp(format, "+l") || !strcmp(format, "+L") || !strcmp(format, "+m");
+    int is_wide = format[0] == 'U' || format[0] == 'Z' || format[1] == 'L';
+    uint64_t end, width = format[0] && strchr("wdcCsSeiIflLg", format[0]) ? width_of(format) : 16;
+    int64_t last = 0, k, children = 0, wanted = format[0] == 'n' ? 0 : is_text || format[0] == 'v'
+        ? 3 : format[0] == '+' && !is_list && format[1] != 'v' ? 1 + (format[2] == 'd') : 2 +
+        (format[1] == 'v');
+    flat_schema(schema, format);
+    memset(array, 0, sizeof *array);
+    __atomic_add_fetch(&live, 1, __ATOMIC_SEQ_CST);
+    array->release = release_made_array;
+    array->length = number(in);
+    array->offset = next(in) % 4 ? 0 : number(in);
+    array->null_count = next(in) % 4 ? -1 : number(in);
+    array->n_buffers = next(in) < 250 ? wanted : next(in) % 5;
+    end = (uint64_t)array->length + (uint64_t)array->offset;
+    end = array->length < 0 || array->offset < 0 || (int64_t)end < 0 ? UINT64_MAX : end;
+    array->buffers = (const void **)made_block((size_t)array->n_buffers * sizeof(void *));
+    for (k = 0; k < array->n_buffers; k++) {
+        uint64_t bits = end / 8 + (end % 8 != 0);
+        array->buffers[k] = k == 0 && format[0] == '+' && format[1] == 'u' ? buffer(in, end, 1)
+            : k == 0 ? next(in) % 2 ? NULL : buffer(in, bits, 1)
+            : k == 1 && (is_text || is_list) ? offsets(in, end, is_wide, &last)
+            : k == 2 && is_text ? buffer(in, last < 0 ? 0 : (uint64_t)last, 1)
+            : buffer(in, format[0] == 'b' ? bits : end, format[0] == 'b' ? 1 : width);
+    }
+    if (format[0] == '+' && depth < 70) {
+        children = format[1] == 's' || format[1] == 'u' || next(in) > 250 ? next(in) % 4 : 1;
+        children_of(schema, array, children);
+        for (k = 0; k < children; k++) {
+            column(in, schema->children[k], array->children[k], depth + 1);
+        }
+    } else if (next(in) > 230 && depth < 70) {
+        schema->dictionary = (struct ArrowSchema *)made_block(sizeof *schema);
+        array->dictionary = (struct ArrowArray *)made_block(sizeof *array);
+        column(in, schema->dictionary, array->dictionary, depth + 1);
+    }
+}
+
+static void step_of(input *in, vortex_arrow_step *step)
+{
+    static const uint64_t widths[] = {1, 2, 4, 8, 1, 2, 4, 8, 2, 4, 8};
+    uint64_t end, width;
+    memset(step, 0, sizeof *step);
+    step->kind = next(in) % 4;
+    step->start = (uint64_t)number(in);
+    step->end = (uint64_t)number(in);
+    step->ptype = next(in) % 12;
+    step->offset = next(in) % 4 ? 0 : (uint64_t)number(in);
+    step->len = (uint64_t)number(in);
+    step->declared = (uint64_t)number(in);
+    end = step->offset + step->len;
+    width = step->kind == VORTEX_ARROW_TAKE && step->ptype < 11 ? widths[step->ptype] : 8;
+    step->values.data = (uint8_t *)buffer(in, end, width);
+    step->values.len = step->values.data ? end * width : 0;
+    if (next(in) % 2) {
+        step->valid.data = (uint8_t *)buffer(in, end / 8 + 1, 1);
+        step->valid.len = step->valid.data ? end / 8 + 1 : 0;
+    }
+    step->lengths.data = (uint8_t *)buffer(in, end, 8);
+    step->lengths.len = step->lengths.data ? end * 8 : 0;
+    step->multipliers.data = (uint8_t *)buffer(in, end, 8);
+    step->multipliers.len = step->multipliers.data ? end * 8 : 0;
+}
+
+/* Reads what arrays of ours have, to their last byte. */
+static uint64_t touch(const struct ArrowSchema *schema, const struct ArrowArray *array, int is_ours)
+{
+    text t = {NULL, 0, 0};
+    uint64_t sum = (uint64_t)array->length;
+    int64_t k;
+    if (is_ours && !schema->dictionary && strcmp(schema->format, "n") && array->length < 5000 &&
+        schema->format[0] != '+' && schema->format[0] != 'v') {
+        for (k = 0; k < array->length; k++) {
+            say_row(&t, schema, array, k);
+        }
+        sum += t.len;
+        free(t.data);
+    }
+    for (k = 0; k < array->n_children; k++) {
+        sum += touch(schema->children[k], array->children[k], is_ours);
+    }
+    return sum;
+}
+
+static volatile uint64_t seen; /* so that no reading is left out */
+
+int LLVMFuzzerTestOneInput(const uint8_t *data, size_t len);
+
+int LLVMFuzzerTestOneInput(const uint8_t *data, size_t len)
+{
+    input in = {data, len};
+    struct ArrowSchema schema, out_schema;
+    struct ArrowArray array, out, again;
+    vortex_arrow_step steps[3];
+    vortex_arrow_error error;
+    size_t k, n_steps = next(&in) % 4;
+    for (k = 0; k < n_steps; k++) {
+        step_of(&in, &steps[k]);
+    }
+    column(&in, &schema, &array, 1);
+    if (!vortex_select_arrow(&schema, &array, steps, n_steps, &out_schema, &out, &error)) {
+        seen = seen + touch(&out_schema, &out, 1);
+        if (!vortex_arrow_share(&out, &again)) {
+            out.release(&out);
+            seen = seen + touch(&out_schema, &again, 1);
+            out = again;
+        }
+        out_schema.release(&out_schema);
+        if (next(&in) % 2) {
+            array.release(&array);
+        }
+        out.release(&out);
+    } else if (out.release || out_schema.release || !error.text[0]) {
+        abort();
+    }
+    if (array.release) {
+        array.release(&array);
+    }
+    schema.release(&schema);
+    for (k = 0; k < n_steps; k++) {
+        free((void *)(uintptr_t)steps[k].values.data);
+        free((void *)(uintptr_t)steps[k].valid.data);
+        free((void *)(uintptr_t)steps[k].lengths.data);
+        free((void *)(uintptr_t)steps[k].multipliers.data);
+    }
+    if (live_columns()) {
+        abort();
+    }
+    return 0;
+}

@@ -1,0 +1,468 @@
+/* Row selection over columns that Arrow's C Data Interface describes: makes tables of nodes for the
+ * calls of libvortex_arrow_c.a, and arrays of what they write. C99 and C++11. */
+#include "arrow_parts.h"
+
+#include <stdio.h>
+#include <stdlib.h>
+#include <string.h>
+
+#define ALIGNED(bytes) (((bytes) + 63) / 64 * 64)
+#define NO_NODE ((size_t)-1)
+
+/* ---- Faults ---- */
+
+uint64_t vortex_arrow_fault(vortex_arrow_error *error, uint64_t status, const char *place)
+{
+    static const char *const words[] = {"", "the column has no meaning", "a pick is past the rows",
+        "a list that is written is too short", "offsets of 32 bits would pass 2^31 - 1",
+        "memory is wanting", "a step breaks a rule", "the step has no meaning",
+        "the format isn't known", "the struct isn't what its format says",
+        "more than 64 columns stand in one another", "the stream that is read failed"};
+    static const char *const causes[] = {"a slice that isn't within the rows",
+        "a mask that isn't as long as the rows", "a filter that isn't by bools",
+        "indices that are no integers", "pieces that aren't sound", "an index out of bounds"};
+    const char *text = words[status < 9 ? status : status < VORTEX_ARROW_SHAPE ? 0 : status - 7];
+    if (status == VORTEX_ARROW_BROKEN && error->cause < sizeof causes / sizeof causes[0]) {
+        text = causes[error->cause];
+    }
+    error->status = status;
+    snprintf(error->place, sizeof error->place, "%s", place);
+    snprintf(error->text, sizeof error->text, "%s%s%s", place, *place ? ": " : "", text);
+    return status;
+}
+
+static uint64_t fault_of_steps(vortex_arrow_error *error, vortex_arrow_answer answer)
+{
+    char place[40] = "";
+    if (answer.status == VORTEX_ARROW_BROKEN || answer.status == VORTEX_ARROW_LACKING) {
+        error->step = answer.node_or_step;
+        error->cause = answer.what;
+        snprintf(place, sizeof place, "step %llu", (unsigned long long)answer.node_or_step);
+    }
+    return vortex_arrow_fault(error, answer.status, place);
+}
+
+/* ---- Picks ---- */
+
+uint64_t vortex_arrow_pick(uint64_t len, const vortex_arrow_step *steps, size_t n_steps,
+    vortex_arrow_picks *p, vortex_arrow_error *error)
+{
+    vortex_arrow_picks_need need = {0, 0};
+    vortex_arrow_answer answer = vortex_arrow_count(len, steps, n_steps, &need, 1);
+    p->places = NULL;
+    if (answer.status) {
+        return fault_of_steps(error, answer);
+    }
+    if (need.places < SIZE_MAX / 16) {
+        p->places = (uint64_t *)malloc(8 * need.places + need.valid + 8);
+    }
+    if (!p->places) {
+        return vortex_arrow_fault(error, VORTEX_ARROW_NO_MEMORY, "");
+    }
+    p->len = need.places;
+    p->valid = (uint8_t *)(p->places + p->len);
+    p->n_valid = need.valid;
+    memset(p->valid, 0, p->n_valid);
+    answer = vortex_arrow_compose(len, steps, n_steps, p->places, p->len, p->valid, p->n_valid);
+    if (answer.status) {
+        free(p->places);
+        return fault_of_steps(error, answer);
+    }
+    return VORTEX_ARROW_DONE;
+}
+
+/* Whether a take may leave nulls, so that the answer is nullable. */
+int vortex_arrow_leaves_nulls(const vortex_arrow_step *steps, size_t n_steps)
+{
+    size_t k;
+    for (k = 0; k < n_steps; k++) {
+        if (steps[k].kind == VORTEX_ARROW_TAKE && steps[k].valid.len) {
+            return 1;
+        }
+    }
+    return 0;
+}
+
+/* ---- From arrays to tables of nodes ---- */
+
+typedef struct source {
+    const struct ArrowSchema *schema;
+    struct ArrowArray *array;
+    size_t parent;
+} source;
+
+typedef struct table {
+    vortex_arrow_node *nodes;
+    source *sources; /* what each node is made of */
+    size_t len, room, n_buffers, n_dictionaries, n_views;
+    vortex_arrow_error *error;
+} table;
+
+/* A fault of a node: its place is the names that lead to it, and `part` behind them. */
+static uint64_t fault_at(const table *t, uint64_t status, size_t node, const char *part)
+{
+    size_t way[VORTEX_ARROW_LEVELS], levels = 0, used = 0;
+    char place[sizeof t->error->place] = "";
+    for (; node < t->len && levels < VORTEX_ARROW_LEVELS; node = t->sources[node].parent) {
+        way[levels++] = node;
+    }
+    while (levels-- > 0) {
+        const char *name = t->sources[way[levels]].schema->name;
+        if (name && *name && used < sizeof place) {
+            used += (size_t)snprintf(place + used, sizeof place - used, used ? ".%s" : "%s", name);
+        }
+    }
+    if (used < sizeof place) {
+        snprintf(place + used, sizeof place - used, used ? " %s" : "%s", part);
+    }
+    return vortex_arrow_fault(t->error, status, place);
+}
+
+static vortex_arrow_bytes bytes_at(const void *buffer, uint64_t count, uint64_t width)
+{
+    vortex_arrow_bytes bytes = {(const uint8_t *)buffer, 0};
+    /* More than memory can have are none: the library then says that they are too few. */
+    if (buffer && (!width || count <= INT64_MAX / width)) {
+        bytes.len = count * width;
+    }
+    return bytes;
+}
+
+/* Where the last value ends that these offsets tell of. */
+static uint64_t last_of(vortex_arrow_bytes offsets, size_t width)
+{
+    int32_t narrow = 0;
+    int64_t wide = 0;
+    if (offsets.len >= width && width == 4) {
+        memcpy(&narrow, offsets.data + offsets.len - 4, 4);
+        wide = narrow;
+    } else if (offsets.len >= width) {
+        memcpy(&wide, offsets.data + offsets.len - 8, 8);
+    }
+    return wide < 0 ? 0 : (uint64_t)wide;
+}
+
+/* The lists of a node: their lengths are what the shim is trusted for. */
+static void fill(vortex_arrow_node *node, const void **buffers)
+{
+    uint64_t end = node->offset + node->len, bits = end / 8 + (end % 8 != 0);
+    uint64_t format = node->format, offsets = end;
+    int is_text = format == VORTEX_ARROW_TEXT || format == VORTEX_ARROW_LARGE_TEXT;
+    int is_list = format == VORTEX_ARROW_LIST || format == VORTEX_ARROW_LARGE_LIST;
+    int is_union = format == VORTEX_ARROW_SPARSE_UNION || format == VORTEX_ARROW_DENSE_UNION;
+    size_t wide = format == VORTEX_ARROW_LARGE_TEXT || format == VORTEX_ARROW_LARGE_LIST ||
+        format == VORTEX_ARROW_LARGE_LIST_VIEW ? 8 : 4;
+    const char *slot = vortex_arrow_slots[format];
+    if ((is_text || is_list) && end) { /* of no rows the offsets may have no bytes */
+        offsets = end + 1;
+    }
+    for (; *slot; slot++, buffers++) {
+        if (*slot == 'v') {
+            node->valid = bytes_at(*buffers, bits, 1);
+        } else if (*slot == 'o') {
+            node->offsets = bytes_at(*buffers, offsets, wide);
+        } else if (*slot == 's') {
+            node->sizes = bytes_at(*buffers, end, is_union ? 1 : wide);
+        } else if (is_text) {
+            node->values = bytes_at(*buffers, last_of(node->offsets, wide), 1);
+        } else if (format == VORTEX_ARROW_BITS) {
+            node->values = bytes_at(*buffers, bits, 1);
+        } else {
+            node->values = bytes_at(*buffers, end, format == VORTEX_ARROW_VIEWS ? 16 : node->width);
+        }
+    }
+}
+
+/* Which part of the two structs isn't what the format says, or null. */
+static const char *misfit(const struct ArrowSchema *schema, const struct ArrowArray *array,
+    const vortex_arrow_node *node)
+{
+    int64_t buffers = (int64_t)strlen(vortex_arrow_slots[node->format]);
+    int family = vortex_arrow_families[node->format], is_views = node->format == VORTEX_ARROW_VIEWS;
+    if (array->length < 0 || array->offset < 0 || array->offset > INT64_MAX - 1 - array->length) {
+        return "length";
+    }
+    if ((is_views ? array->n_buffers < 3 : array->n_buffers != buffers) ||
+        array->n_buffers > INT32_MAX || (array->n_buffers && !array->buffers)) {
+        return "buffers";
+    }
+    if (schema->n_children < 0 || schema->n_children != array->n_children ||
+        (family >= 0 && family != schema->n_children) ||
+        (schema->n_children && (!schema->children || !array->children))) {
+        return "children";
+    }
+    if (array->null_count > 0 && *vortex_arrow_slots[node->format] == 'v' && !array->buffers[0]) {
+        return "validity";
+    }
+    return !schema->dictionary != !array->dictionary ||
+            (schema->dictionary && !vortex_arrow_has_word("c C s S i I l L", schema->format))
+        ? "dictionary" : NULL;
+}
+
+static int has_room(table *t)
+{
+    size_t room = t->room ? 2 * t->room : 16;
+    void *nodes, *sources;
+    if (t->len < t->room) {
+        return 1;
+    }
+    nodes = realloc(t->nodes, room * sizeof *t->nodes);
+    t->nodes = nodes ? (vortex_arrow_node *)nodes : t->nodes;
+    sources = realloc(t->sources, room * sizeof *t->sources);
+    t->sources = sources ? (source *)sources : t->sources;
+    t->room = nodes && sources ? room : t->room;
+    return nodes && sources;
+}
+
+/* Appends the nodes of an array to the table. */
+static uint64_t walk(table *t, const struct ArrowSchema *schema, struct ArrowArray *array,
+    size_t parent, int level)
+{
+    vortex_arrow_node node;
+    source from = {schema, array, parent};
+    const char *part;
+    uint64_t status = VORTEX_ARROW_DONE;
+    size_t at = t->len;
+    int64_t k;
+    memset(&node, 0, sizeof node);
+    if (level > VORTEX_ARROW_LEVELS || !schema || !array || !schema->release || !array->release ||
+        !schema->format) {
+        status = level > VORTEX_ARROW_LEVELS ? VORTEX_ARROW_DEPTH : VORTEX_ARROW_SHAPE;
+        return fault_at(t, status, parent, "children");
+    }
+    if (!has_room(t)) {
+        return vortex_arrow_fault(t->error, VORTEX_ARROW_NO_MEMORY, "");
+    }
+    t->sources[t->len++] = from;
+    if (!vortex_arrow_parse(schema->format, &node)) {
+        return fault_at(t, VORTEX_ARROW_FORMAT, at, schema->format);
+    }
+    if ((part = misfit(schema, array, &node)) != NULL) {
+        return fault_at(t, VORTEX_ARROW_SHAPE, at, part);
+    }
+    node.len = (uint64_t)array->length;
+    node.offset = (uint64_t)array->offset;
+    node.children = (uint64_t)array->n_children;
+    fill(&node, array->buffers);
+    t->nodes[at] = node;
+    t->n_buffers += (size_t)array->n_buffers;
+    t->n_views += node.format == VORTEX_ARROW_VIEWS;
+    if (array->dictionary) {
+        t->n_dictionaries++;
+        if (!vortex_arrow_arrays_in(array->dictionary, level + 1, &status)) {
+            return fault_at(t, status, at, "dictionary");
+        }
+    }
+    for (k = 0; k < array->n_children && !status; k++) {
+        status = walk(t, schema->children[k], array->children[k], at, level + 1);
+    }
+    return status;
+}
+
+/* ---- From what the library wrote to arrays ---- */
+
+static uint64_t need_of(const vortex_arrow_need *need, char slot)
+{
+    return slot == 'v' ? need->valid : slot == 'o' ? need->offsets
+        : slot == 'd' ? need->values : need->sizes;
+}
+
+static vortex_arrow_room_bytes *room_of(vortex_arrow_room *room, char slot)
+{
+    return slot == 'v' ? &room->valid : slot == 'o' ? &room->offsets
+        : slot == 'd' ? &room->values : &room->sizes;
+}
+
+/* How many bytes a buffer has in the answer: whole lines of a cache, and some for empty offsets. */
+static uint64_t space_of(const vortex_arrow_need *need, char slot)
+{
+    uint64_t bytes = need_of(need, slot);
+    return bytes || slot == 'v' ? ALIGNED(bytes) : 64;
+}
+
+/* One block for the whole answer; 0 where there isn't that much memory. */
+static int supply_answer(const table *t, const vortex_arrow_need *needs, supply *s)
+{
+    size_t arrays = t->len + t->n_dictionaries + t->n_views;
+    uint64_t bytes = t->n_buffers * sizeof(void *) + 64;
+    size_t k;
+    for (k = 0; k < t->len; k++) {
+        const char *slot = vortex_arrow_slots[t->nodes[k].format];
+        for (; *slot; slot++) {
+            if (need_of(&needs[k], *slot) > PTRDIFF_MAX / 4 || bytes > PTRDIFF_MAX / 4) {
+                return 0;
+            }
+            bytes += space_of(&needs[k], *slot);
+        }
+    }
+    if (!vortex_arrow_supply(s, t->len, arrays, bytes)) {
+        return 0;
+    }
+    s->of->held = s->arrays;
+    s->arrays += t->n_views;
+    s->bytes = (uint8_t *)(s->buffers + t->n_buffers);
+    s->bytes += -(uintptr_t)s->bytes % 64;
+    return 1;
+}
+
+/* The rooms of a node, and the buffers of its array; the texts of views are the source's. */
+static void place_buffers(const table *t, size_t node, const vortex_arrow_need *need,
+    vortex_arrow_room *room, struct ArrowArray *to, supply *s)
+{
+    const char *slot = vortex_arrow_slots[t->nodes[node].format];
+    const struct ArrowArray *from = t->sources[node].array;
+    int64_t k;
+    to->buffers = s->buffers;
+    for (k = 0; k < from->n_buffers; k++) {
+        if (*slot) {
+            vortex_arrow_room_bytes *bytes = room_of(room, *slot);
+            uint64_t space = space_of(need, *slot);
+            bytes->data = s->bytes;
+            bytes->len = need_of(need, *slot);
+            memset(bytes->data + bytes->len, 0, space - bytes->len);
+            to->buffers[k] = space ? s->bytes : NULL;
+            s->bytes += space;
+            slot++;
+        } else {
+            to->buffers[k] = from->buffers[k];
+        }
+    }
+    s->buffers += from->n_buffers;
+}
+
+/* Has the answer share a dictionary, or the memory that views lead to. */
+static void hand_on(struct ArrowArray *from, struct ArrowArray *to, supply *s)
+{
+    uint64_t status = vortex_arrow_share(from, to);
+    s->status = s->status ? s->status : status;
+}
+
+/* Makes the array of a node, and those below it. The answer is the node behind them. */
+static size_t place(const table *t, size_t node, const vortex_arrow_need *needs,
+    vortex_arrow_room *rooms, struct ArrowArray *to, supply *s)
+{
+    struct ArrowArray *from = t->sources[node].array;
+    size_t next = node + 1;
+    int64_t k;
+    memset(to, 0, sizeof *to);
+    vortex_arrow_own(s, to, NULL);
+    to->length = (int64_t)needs[node].len;
+    to->null_count = needs[node].valid ? -1 : 0;
+    if (t->nodes[node].format == VORTEX_ARROW_NULL) {
+        to->null_count = to->length;
+    }
+    to->n_buffers = from->n_buffers;
+    place_buffers(t, node, &needs[node], &rooms[node], to, s);
+    if (t->nodes[node].format == VORTEX_ARROW_VIEWS) {
+        hand_on(from, &s->of->held[s->of->n_held++], s);
+    }
+    if (from->dictionary) {
+        to->dictionary = s->arrays++;
+        hand_on(from->dictionary, to->dictionary, s);
+    }
+    to->n_children = from->n_children;
+    to->children = to->n_children ? s->pointers : NULL;
+    s->pointers += to->n_children;
+    for (k = 0; k < to->n_children; k++) {
+        to->children[k] = s->arrays++;
+        next = place(t, next, needs, rooms, to->children[k], s);
+    }
+    return next;
+}
+
+/* A fault of the library's that is about a node: the part of it is what it lacks. */
+static uint64_t fault_of_node(const table *t, vortex_arrow_answer answer)
+{
+    static const char *const parts[] = {"", "children", "length", "validity", "children", "values",
+        "offsets", "offsets", "length"};
+    size_t node = answer.node_or_step < t->len ? answer.node_or_step : NO_NODE;
+    const char *part = "";
+    t->error->cause = answer.what;
+    if (answer.status == VORTEX_ARROW_FORMAT && node != NO_NODE) {
+        part = t->sources[node].schema->format;
+    } else if (answer.status == VORTEX_ARROW_NO_MEANING && answer.what < 9) {
+        part = parts[answer.what];
+    }
+    return fault_at(t, answer.status, node, part);
+}
+
+/* The rows at the picks, as the library writes them. */
+static uint64_t take_rows(const table *t, const vortex_arrow_picks *p, struct ArrowArray *out)
+{
+    vortex_arrow_need *needs = (vortex_arrow_need *)calloc(t->len, sizeof *needs);
+    vortex_arrow_room *rooms = (vortex_arrow_room *)calloc(t->len, sizeof *rooms);
+    vortex_arrow_answer answer = {VORTEX_ARROW_NO_MEMORY, NO_NODE, 0};
+    supply s;
+    if (needs && rooms) {
+        answer = vortex_arrow_sizes(t->nodes, t->len, p->places, p->len, p->valid, p->n_valid,
+            needs, t->len);
+    }
+    if (!answer.status && !supply_answer(t, needs, &s)) {
+        answer.status = VORTEX_ARROW_NO_MEMORY;
+    }
+    if (!answer.status) {
+        place(t, 0, needs, rooms, out, &s);
+        answer.status = s.status;
+        if (!s.status) {
+            answer = vortex_arrow_take(t->nodes, t->len, p->places, p->len, p->valid, p->n_valid,
+                rooms, t->len);
+        }
+        if (answer.status) {
+            out->release(out);
+        }
+    }
+    free(needs);
+    free(rooms);
+    return answer.status ? fault_of_node(t, answer) : 0;
+}
+
+/* ---- The call ---- */
+
+uint64_t vortex_arrow_take_rows(const struct ArrowSchema *schema, struct ArrowArray *array,
+    const vortex_arrow_picks *p, struct ArrowArray *out, vortex_arrow_error *error)
+{
+    table t;
+    uint64_t status;
+    memset(&t, 0, sizeof t);
+    t.error = error;
+    status = walk(&t, schema, array, NO_NODE, 1);
+    if (!status) {
+        status = take_rows(&t, p, out);
+    }
+    free(t.nodes);
+    free(t.sources);
+    return status;
+}
+
+uint64_t vortex_select_arrow(const struct ArrowSchema *schema, struct ArrowArray *array,
+    const vortex_arrow_step *steps, size_t n_steps, struct ArrowSchema *out_schema,
+    struct ArrowArray *out_array, vortex_arrow_error *error)
+{
+    vortex_arrow_error unread;
+    vortex_arrow_picks p;
+    uint64_t status = VORTEX_ARROW_DONE;
+    error = error ? error : &unread;
+    memset(error, 0, sizeof *error);
+    out_array->release = NULL;
+    if (out_schema) {
+        out_schema->release = NULL;
+    }
+    if (!array->release || !schema->release || array->length < 0) {
+        return vortex_arrow_fault(error, VORTEX_ARROW_SHAPE, array->release ? "length" : "release");
+    }
+    if (vortex_arrow_pick((uint64_t)array->length, steps, n_steps, &p, error)) {
+        return error->status;
+    }
+    if (out_schema && (status = vortex_arrow_copy_schema(schema, out_schema)) != 0) {
+        vortex_arrow_fault(error, status, "schema");
+    }
+    status = status ? status : vortex_arrow_take_rows(schema, array, &p, out_array, error);
+    if (out_schema && !status && vortex_arrow_leaves_nulls(steps, n_steps)) {
+        out_schema->flags |= ARROW_FLAG_NULLABLE;
+    }
+    if (out_schema && status && out_schema->release) {
+        out_schema->release(out_schema);
+    }
+    free(p.places);
+    return status;
+}

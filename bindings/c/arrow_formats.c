@@ -1,0 +1,77 @@
+/* What Arrow's format strings say of an array: how it is laid out, and how many bytes a value has.
+ * C99 and C++11. */
+#include "arrow_parts.h"
+
+#include <stdio.h>
+#include <stdlib.h>
+#include <string.h>
+
+/* The buffers of each format, in Arrow's order: validity, offsets, data, sizes or type ids. */
+const char *const vortex_arrow_slots[] = {"", "vd", "vd", "vod", "vod", "v", "vo", "vo", "v", "vd",
+    "vos", "vos", "s", "so"};
+/* How many children each has; -1 where the schema says it. */
+const int vortex_arrow_families[] = {0, 0, 0, 0, 0, -1, 1, 1, 1, 0, 1, 1, -1, -1};
+
+int vortex_arrow_has_word(const char *words, const char *word)
+{
+    size_t len = strlen(word);
+    const char *at = words;
+    while (len && !strchr(word, ' ') && (at = strstr(at, word)) != NULL) {
+        if ((at == words || at[-1] == ' ') && (at[len] == 0 || at[len] == ' ')) {
+            return 1;
+        }
+        at++;
+    }
+    return 0;
+}
+
+/* Formats with numbers or names in them. */
+static int parse_long(const char *text, vortex_arrow_node *node)
+{
+    char first[10], second[10];
+    int used = 0;
+    node->format = VORTEX_ARROW_FIXED;
+    if (sscanf(text, "w:%9[0-9]%n", first, &used) == 1 && !text[used]) {
+        node->width = strtoull(first, NULL, 10);
+        return 1;
+    }
+    if (sscanf(text, "+w:%9[0-9]%n", first, &used) == 1 && !text[used]) {
+        node->format = VORTEX_ARROW_FIXED_LIST;
+        node->width = strtoull(first, NULL, 10);
+        return 1;
+    }
+    if (sscanf(text, "d:%9[0-9],%9[-0-9]%n", first, second, &used) == 2) {
+        node->width = text[used] ? strtoull(text + used + 1, NULL, 10) / 8 : 16;
+        return !text[used] || vortex_arrow_has_word(",32 ,64 ,128 ,256", text + used);
+    }
+    if (!strncmp(text, "ts", 2) && text[2] && strchr("smun", text[2]) && text[3] == ':') {
+        node->width = 8;
+        return 1;
+    }
+    node->format = strncmp(text, "+us:", 4) ? VORTEX_ARROW_DENSE_UNION : VORTEX_ARROW_SPARSE_UNION;
+    return !strncmp(text, "+us:", 4) || !strncmp(text, "+ud:", 4);
+}
+
+int vortex_arrow_parse(const char *text, vortex_arrow_node *node)
+{
+    static const struct {
+        const char *words;
+        uint64_t format, width;
+    } known[] = {{"c C", VORTEX_ARROW_FIXED, 1}, {"s S e", VORTEX_ARROW_FIXED, 2},
+        {"i I f tdD tts ttm tiM", VORTEX_ARROW_FIXED, 4},
+        {"l L g tdm ttu ttn tDs tDm tDu tDn tiD", VORTEX_ARROW_FIXED, 8},
+        {"tin", VORTEX_ARROW_FIXED, 16}, {"n", VORTEX_ARROW_NULL, 0}, {"b", VORTEX_ARROW_BITS, 0},
+        {"u z", VORTEX_ARROW_TEXT, 0}, {"U Z", VORTEX_ARROW_LARGE_TEXT, 0},
+        {"vu vz", VORTEX_ARROW_VIEWS, 0}, {"+s", VORTEX_ARROW_STRUCT, 0},
+        {"+l +m", VORTEX_ARROW_LIST, 0}, {"+L", VORTEX_ARROW_LARGE_LIST, 0},
+        {"+vl", VORTEX_ARROW_LIST_VIEW, 0}, {"+vL", VORTEX_ARROW_LARGE_LIST_VIEW, 0}};
+    size_t k;
+    for (k = 0; k < sizeof known / sizeof known[0]; k++) {
+        if (vortex_arrow_has_word(known[k].words, text)) {
+            node->format = known[k].format;
+            node->width = known[k].width;
+            return 1;
+        }
+    }
+    return parse_long(text, node);
+}

@@ -1,0 +1,386 @@
+/* Selects from random columns in Arrow's memory, whose buffers have not a byte more than they must,
+ * and compares the rows, as texts, with those of the source; releases answers and sources in any
+ * order and in threads; and prints `c: N passed, M failed`.
+ *
+ * usage: check_arrow [rounds] */
+#define _DEFAULT_SOURCE
+#include <pthread.h>
+#include <stdio.h>
+#include <stdlib.h>
+#include <string.h>
+#include <time.h>
+
+#include "random_arrow.h"
+
+#define MOST 64
+
+/* How long a call may take at the most. */
+#if defined(__SANITIZE_ADDRESS__)
+#define SECONDS 10
+#elif defined(__has_feature)
+#if __has_feature(address_sanitizer)
+#define SECONDS 10
+#endif
+#endif
+#ifndef SECONDS
+#define SECONDS 3
+#endif
+
+static int passed, failed;
+
+static void expect(int holds, const char *what, uint64_t seed)
+{
+    passed += holds;
+    failed += !holds;
+    if (!holds && failed < 20) {
+        printf("c: not so: %s, seed %llu\n", what, (unsigned long long)seed);
+    }
+}
+
+/* ---- Steps, and the picks that they leave ---- */
+
+typedef struct walk {
+    uint64_t picks[MOST]; /* a row, or NONE */
+    size_t len;
+    vortex_arrow_step steps[3];
+    uint8_t bytes[3][2][MOST];
+    size_t n_steps;
+} walk;
+
+#define NONE UINT64_MAX
+
+static void add_slice(walk *w, vortex_arrow_step *step)
+{
+    size_t start = below(w->len + 1), len = below(w->len - start + 1);
+    step->kind = VORTEX_ARROW_SLICE;
+    step->start = start;
+    step->end = start + len;
+    memmove(w->picks, w->picks + start, len * sizeof w->picks[0]);
+    w->len = len;
+}
+
+static void add_filter(walk *w, vortex_arrow_step *step, uint8_t *bits)
+{
+    size_t k, kept = 0, at = below(9);
+    step->kind = VORTEX_ARROW_FILTER;
+    step->offset = at;
+    step->len = w->len;
+    step->values.data = bits;
+    step->values.len = (at + w->len + 7) / 8;
+    for (k = 0; k < step->values.len; k++) {
+        bits[k] = (uint8_t)roll();
+    }
+    for (k = 0; k < w->len; k++) {
+        if (is_set(bits, at + k)) {
+            w->picks[kept++] = w->picks[k];
+        }
+    }
+    w->len = kept;
+}
+
+static void add_take(walk *w, vortex_arrow_step *step, uint8_t *numbers, uint8_t *valid)
+{
+    uint64_t picks[MOST];
+    size_t k, len = w->len ? below(40) : 0;
+    step->kind = VORTEX_ARROW_TAKE;
+    step->ptype = VORTEX_ARROW_U8;
+    step->len = len;
+    step->values.data = numbers;
+    step->values.len = len;
+    if (len && below(2)) {
+        step->valid.data = valid;
+        step->valid.len = (len + 7) / 8;
+    }
+    for (k = 0; k < len; k++) {
+        int is_there = below(4) != 0 || !step->valid.len;
+        numbers[k] = is_there ? (uint8_t)below(w->len) : (uint8_t)roll();
+        valid[k / 8] = (uint8_t)((k % 8 ? valid[k / 8] : 0) | is_there << k % 8);
+        picks[k] = is_there ? w->picks[numbers[k]] : NONE;
+    }
+    memcpy(w->picks, picks, sizeof picks);
+    w->len = len;
+}
+
+static void random_walk(walk *w, size_t rows)
+{
+    size_t k;
+    memset(w, 0, sizeof *w);
+    for (k = 0; k < rows; k++) {
+        w->picks[k] = k;
+    }
+    w->len = rows;
+    w->n_steps = below(4);
+    for (k = 0; k < w->n_steps; k++) {
+        switch (below(3)) {
+        case 0: add_slice(w, &w->steps[k]); break;
+        case 1: add_filter(w, &w->steps[k], w->bytes[k][0]); break;
+        default: add_take(w, &w->steps[k], w->bytes[k][0], w->bytes[k][1]); break;
+        }
+    }
+}
+
+/* ---- Rounds ---- */
+
+static char *rows_of(const struct ArrowSchema *schema, const struct ArrowArray *array,
+    const uint64_t *picks, size_t len)
+{
+    text t = {NULL, 0, 0};
+    size_t k;
+    say(&t, "%s", "");
+    for (k = 0; k < len; k++) {
+        if (picks && picks[k] == NONE) {
+            say(&t, "%s", "-");
+        } else {
+            say_row(&t, schema, array, (int64_t)(picks ? picks[k] : k));
+        }
+        say(&t, "%s", ";");
+    }
+    return t.data;
+}
+
+static void round_of(uint64_t seed)
+{
+    struct ArrowSchema schema, out_schema;
+    struct ArrowArray array, out, again;
+    vortex_arrow_error error;
+    walk w;
+    char *wanted, *found;
+    uint64_t status;
+    reseed(seed);
+    random_column(&schema, &array, 3);
+    random_walk(&w, (size_t)array.length);
+    wanted = rows_of(&schema, &array, w.picks, w.len);
+    status = vortex_select_arrow(&schema, &array, w.steps, w.n_steps, &out_schema, &out, &error);
+    expect(status == VORTEX_ARROW_DONE && error.status == status, error.text, seed);
+    if (!status) {
+        int source_first = below(2) != 0;
+        expect(out.length == (int64_t)w.len && out.offset == 0, "length", seed);
+        expect(vortex_arrow_share(&out, &again) == VORTEX_ARROW_DONE, "share", seed);
+        if (source_first) {
+            array.release(&array);
+        }
+        if (below(2)) {
+            out.release(&out);
+            out = again;
+        } else {
+            again.release(&again);
+        }
+        found = rows_of(&out_schema, &out, NULL, w.len);
+        expect(!strcmp(wanted, found), "rows", seed);
+        free(found);
+        out.release(&out);
+        expect(!out.release, "released", seed);
+        out_schema.release(&out_schema);
+        if (!source_first) {
+            array.release(&array);
+        }
+    } else {
+        array.release(&array);
+    }
+    schema.release(&schema);
+    free(wanted);
+}
+
+/* ---- Streams ---- */
+
+typedef struct batches {
+    struct ArrowArray arrays[3];
+    size_t next;
+} batches;
+
+static int bits_schema(struct ArrowArrayStream *stream, struct ArrowSchema *out)
+{
+    (void)stream;
+    flat_schema(out, "b");
+    return 0;
+}
+
+static int bits_next(struct ArrowArrayStream *stream, struct ArrowArray *out)
+{
+    batches *b = (batches *)stream->private_data;
+    out->release = NULL;
+    if (b->next < 3) {
+        *out = b->arrays[b->next];
+        b->arrays[b->next++].release = NULL;
+    }
+    return 0;
+}
+
+static const char *bits_error(struct ArrowArrayStream *stream)
+{
+    (void)stream;
+    return NULL;
+}
+
+static void bits_release(struct ArrowArrayStream *stream) { stream->release = NULL; }
+
+static void stream_round(uint64_t seed)
+{
+    struct ArrowArrayStream source = {bits_schema, bits_next, bits_error, bits_release, NULL}, out;
+    struct ArrowSchema schema;
+    batches b = {{{0, 0, 0, 0, 0, NULL, NULL, NULL, NULL, NULL}}, 0};
+    text wanted = {NULL, 0, 0}, found = {NULL, 0, 0};
+    char *rows[3];
+    int64_t starts[4] = {0, 0, 0, 0};
+    walk w;
+    size_t k;
+    reseed(seed);
+    flat_schema(&schema, "b");
+    for (k = 0; k < 3; k++) {
+        flat_array(&b.arrays[k], "b", (int64_t)below(20));
+        starts[k + 1] = starts[k] + b.arrays[k].length;
+        rows[k] = rows_of(&schema, &b.arrays[k], NULL, (size_t)b.arrays[k].length);
+    }
+    source.private_data = &b;
+    random_walk(&w, (size_t)starts[3]);
+    for (k = 0; k < w.len; k++) {
+        int part = w.picks[k] >= (uint64_t)starts[2] ? 2 : w.picks[k] >= (uint64_t)starts[1];
+        say(&wanted, "%c;", w.picks[k] == NONE ? '-' : rows[part][2 * (w.picks[k] - starts[part])]);
+    }
+    expect(!vortex_select_arrow_stream(&source, w.steps, w.n_steps, &out, NULL), "stream", seed);
+    source.release(&source);
+    for (;;) {
+        struct ArrowArray batch;
+        char *some;
+        expect(!out.get_next(&out, &batch), "next", seed);
+        if (!batch.release) {
+            break;
+        }
+        some = rows_of(&schema, &batch, NULL, (size_t)batch.length);
+        say(&found, "%s", some);
+        free(some);
+        batch.release(&batch);
+    }
+    out.release(&out);
+    expect(!strcmp(wanted.data ? wanted.data : "", found.data ? found.data : ""), "rows", seed);
+    for (k = 0; k < 3; k++) {
+        free(rows[k]);
+    }
+    free(wanted.data);
+    free(found.data);
+    schema.release(&schema);
+}
+
+/* ---- Threads ---- */
+
+static void *let_go(void *given)
+{
+    struct ArrowArray *arrays = (struct ArrowArray *)given;
+    size_t k;
+    for (k = 0; k < 50; k++) {
+        arrays[k].release(&arrays[k]);
+    }
+    return NULL;
+}
+
+/* Arrays that share their memory, which are let go by eight threads. */
+static void threads_round(uint64_t seed)
+{
+    static struct ArrowArray arrays[8][50];
+    struct ArrowSchema schema;
+    struct ArrowArray array;
+    pthread_t threads[8];
+    size_t k, j;
+    reseed(seed);
+    random_column(&schema, &array, 3);
+    for (k = 0; k < 8; k++) {
+        for (j = 0; j < 50; j++) {
+            expect(!vortex_arrow_share(&array, &arrays[k][j]), "share", seed);
+        }
+    }
+    array.release(&array);
+    for (k = 0; k < 8; k++) {
+        pthread_create(&threads[k], NULL, let_go, arrays[k]);
+    }
+    for (k = 0; k < 8; k++) {
+        pthread_join(threads[k], NULL);
+    }
+    schema.release(&schema);
+}
+
+/* ---- A struct of a million fields ---- */
+
+static void keep_schema(struct ArrowSchema *schema) { schema->release = NULL; }
+static void keep_array(struct ArrowArray *array) { array->release = NULL; }
+
+/* All fields are one and the same: nothing of them is handed through, so none is replaced. */
+static void many_nodes(void)
+{
+    const int64_t fields = 1000000;
+    struct ArrowSchema schema, field = {"C", "", NULL, 2, 0, NULL, NULL, keep_schema, NULL};
+    struct ArrowArray array, out;
+    const uint8_t byte = 7;
+    const void *bytes[] = {NULL, &byte}, *none[] = {NULL};
+    struct ArrowArray values = {1, 0, 0, 2, 0, bytes, NULL, NULL, keep_array, NULL};
+    clock_t start = clock();
+    uint64_t status;
+    int64_t k;
+    schema = field;
+    schema.format = "+s";
+    schema.n_children = fields;
+    schema.children = (struct ArrowSchema **)made_block((size_t)fields * sizeof(void *));
+    array = values;
+    array.n_buffers = 1;
+    array.buffers = none;
+    array.n_children = fields;
+    array.children = (struct ArrowArray **)made_block((size_t)fields * sizeof(void *));
+    for (k = 0; k < fields; k++) {
+        schema.children[k] = &field;
+        array.children[k] = &values;
+    }
+    status = vortex_select_arrow(&schema, &array, NULL, 0, NULL, &out, NULL);
+    expect(status == VORTEX_ARROW_DONE || status == VORTEX_ARROW_NO_MEMORY, "a million fields", 0);
+    if (!status) {
+        const uint8_t *last = (const uint8_t *)out.children[fields - 1]->buffers[1];
+        expect(out.n_children == fields && *last == byte, "the last of a million fields", 0);
+        out.release(&out);
+    }
+    printf("a million fields: %.2f seconds\n", (double)(clock() - start) / CLOCKS_PER_SEC);
+    expect((double)(clock() - start) / CLOCKS_PER_SEC < SECONDS, "a million fields in time", 0);
+    free(schema.children);
+    free(array.children);
+}
+
+/* Whether the library knows lists of a fixed size. */
+static int knows_items(void)
+{
+    struct ArrowSchema schema;
+    struct ArrowArray array, out;
+    uint64_t status;
+    flat_schema(&schema, "+w:2");
+    start_array(&array, 1, 0);
+    children_of(&schema, &array, 1);
+    flat_schema(schema.children[0], "c");
+    flat_array(array.children[0], "c", 20);
+    status = vortex_select_arrow(&schema, &array, NULL, 0, NULL, &out, NULL);
+    if (!status) {
+        out.release(&out);
+    }
+    array.release(&array);
+    schema.release(&schema);
+    return status != VORTEX_ARROW_FORMAT;
+}
+
+int main(int argc, char **argv)
+{
+    uint64_t rounds = argc > 1 ? strtoull(argv[1], NULL, 10) : 20000, seed;
+    if (!knows_items()) {
+        printf("skipped, the library doesn't know lists of a fixed size\n");
+        lists = 2;
+    }
+    for (seed = 1; seed <= rounds; seed++) {
+        round_of(seed);
+        if (seed % 10 == 0) {
+            stream_round(seed);
+        }
+        if (seed % 500 == 0) {
+            threads_round(seed);
+        }
+    }
+    expect(live_columns() == 0, "all released", 0);
+    if (rounds >= 10000) {
+        many_nodes();
+    }
+    printf("c: %d passed, %d failed\n", passed, failed);
+    return failed != 0;
+}

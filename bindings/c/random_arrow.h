@@ -1,0 +1,339 @@
+/* Makes columns in Arrow's memory of random formats, and says their rows as texts. Each buffer is a
+ * block of its own of not a byte more than the format asks for, so that a checker of memory sees
+ * what is read beyond. */
+#ifndef RANDOM_ARROW_H
+#define RANDOM_ARROW_H
+
+#include <stdarg.h>
+
+#include "vortex_arrow.h"
+
+static uint64_t state = 1;
+static int live; /* structs that were made and not released */
+static size_t lists = 3; /* how many formats of lists the library knows, of those below */
+
+static void reseed(uint64_t seed) { state = seed * 0x9e3779b97f4a7c15u | 1; }
+
+static uint64_t roll(void)
+{
+    state ^= state << 13;
+    state ^= state >> 7;
+    return state ^= state << 17;
+}
+
+static size_t below(size_t bound) { return (size_t)(roll() >> 8) % bound; }
+
+static int is_set(const uint8_t *bits, size_t k) { return bits[k / 8] >> k % 8 & 1; }
+
+static int live_columns(void) { return __atomic_load_n(&live, __ATOMIC_SEQ_CST); }
+
+static void *made_block(size_t size)
+{
+    void *block = malloc(size ? size : 1);
+    if (!block) {
+        perror("malloc");
+        exit(2);
+    }
+    return block;
+}
+
+/* ---- Structs ---- */
+
+static void release_made_schema(struct ArrowSchema *schema)
+{
+    int64_t k;
+    for (k = 0; k < schema->n_children; k++) {
+        if (schema->children[k]->release) {
+            schema->children[k]->release(schema->children[k]);
+        }
+        free(schema->children[k]);
+    }
+    if (schema->dictionary) {
+        schema->dictionary->release(schema->dictionary);
+        free(schema->dictionary);
+    }
+    free(schema->children);
+    free(schema->private_data);
+    schema->release = NULL;
+    __atomic_sub_fetch(&live, 1, __ATOMIC_SEQ_CST);
+}
+
+static void release_made_array(struct ArrowArray *array)
+{
+    int64_t k;
+    for (k = 0; k < array->n_children; k++) {
+        if (array->children[k]->release) {
+            array->children[k]->release(array->children[k]);
+        }
+        free(array->children[k]);
+    }
+    if (array->dictionary) {
+        if (array->dictionary->release) {
+            array->dictionary->release(array->dictionary);
+        }
+        free(array->dictionary);
+    }
+    for (k = 0; k < array->n_buffers; k++) {
+        free((void *)array->buffers[k]);
+    }
+    free(array->buffers);
+    free(array->children);
+    array->release = NULL;
+    __atomic_sub_fetch(&live, 1, __ATOMIC_SEQ_CST);
+}
+
+static void flat_schema(struct ArrowSchema *schema, const char *format)
+{
+    char *copy = (char *)made_block(strlen(format) + 1);
+    memset(schema, 0, sizeof *schema);
+    strcpy(copy, format);
+    schema->format = copy;
+    schema->name = "";
+    schema->flags = ARROW_FLAG_NULLABLE;
+    schema->private_data = copy;
+    schema->release = release_made_schema;
+    __atomic_add_fetch(&live, 1, __ATOMIC_SEQ_CST);
+}
+
+static void children_of(struct ArrowSchema *schema, struct ArrowArray *array, int64_t n)
+{
+    int64_t k;
+    schema->n_children = array->n_children = n;
+    schema->children = (struct ArrowSchema **)made_block((size_t)n * sizeof(void *));
+    array->children = (struct ArrowArray **)made_block((size_t)n * sizeof(void *));
+    for (k = 0; k < n; k++) {
+        schema->children[k] = (struct ArrowSchema *)made_block(sizeof(struct ArrowSchema));
+        array->children[k] = (struct ArrowArray *)made_block(sizeof(struct ArrowArray));
+    }
+}
+
+/* ---- Buffers ---- */
+
+static void *random_bytes(size_t size)
+{
+    uint8_t *bytes = (uint8_t *)made_block(size);
+    size_t k;
+    for (k = 0; k < size; k++) {
+        bytes[k] = (uint8_t)roll();
+    }
+    return bytes;
+}
+
+/* Offsets of so many rows, ascending from any of the first; the last one is the answer. */
+static int64_t random_offsets(const void **buffer, size_t rows, int is_wide)
+{
+    int64_t at = (int64_t)below(4);
+    size_t k;
+    void *offsets = made_block((rows + 1) * (is_wide ? 8 : 4));
+    for (k = 0; k <= rows; k++) {
+        if (is_wide) {
+            ((int64_t *)offsets)[k] = at;
+        } else {
+            ((int32_t *)offsets)[k] = (int32_t)at;
+        }
+        at += k < rows ? (int64_t)below(4) : 0;
+    }
+    *buffer = offsets;
+    return at;
+}
+
+static void start_array(struct ArrowArray *array, int64_t n_buffers, int64_t length)
+{
+    size_t end;
+    memset(array, 0, sizeof *array);
+    array->length = length;
+    array->offset = below(3) ? 0 : (int64_t)below(9);
+    array->null_count = -1;
+    array->n_buffers = n_buffers;
+    array->buffers = (const void **)made_block((size_t)n_buffers * sizeof(void *));
+    array->release = release_made_array;
+    end = (size_t)(array->length + array->offset);
+    if (n_buffers) {
+        memset(array->buffers, 0, (size_t)n_buffers * sizeof(void *));
+        array->buffers[0] = below(3) ? random_bytes((end + 7) / 8) : NULL;
+        array->null_count = array->buffers[0] ? -1 : 0;
+    }
+    __atomic_add_fetch(&live, 1, __ATOMIC_SEQ_CST);
+}
+
+static size_t width_of(const char *format)
+{
+    static const char *const letters[] = {"cC", "sSe", "", "iIf", "", "", "", "lLg"};
+    size_t k;
+    if (format[0] == 'w') {
+        return strtoul(format + 2, NULL, 10);
+    }
+    if (format[0] == 'd') {
+        return 16;
+    }
+    for (k = 0; k < 8; k++) {
+        if (strchr(letters[k], format[0])) {
+            return k + 1;
+        }
+    }
+    return 8;
+}
+
+/* A column of so many rows of a format that has no children. */
+static void flat_array(struct ArrowArray *array, const char *format, int64_t length)
+{
+    int is_text = strchr("uUzZ", format[0]) != NULL;
+    size_t end;
+    start_array(array, format[0] == 'n' ? 0 : is_text ? 3 : 2, length);
+    end = (size_t)(array->length + array->offset);
+    if (is_text) {
+        int is_wide = format[0] == 'U' || format[0] == 'Z';
+        int64_t last = random_offsets(&array->buffers[1], end, is_wide);
+        array->buffers[2] = random_bytes((size_t)last);
+    } else if (format[0] == 'b') {
+        array->buffers[1] = random_bytes((end + 7) / 8);
+    } else if (format[0] != 'n') {
+        array->buffers[1] = random_bytes(end * width_of(format));
+    }
+}
+
+/* ---- Columns ---- */
+
+static void random_rows(struct ArrowSchema *schema, struct ArrowArray *array, int depth,
+    int64_t length);
+
+static void dictionary_rows(struct ArrowSchema *schema, struct ArrowArray *array, int depth,
+    int64_t length)
+{
+    size_t k, end;
+    uint8_t *codes;
+    flat_schema(schema, "C");
+    flat_array(array, "C", length);
+    schema->dictionary = (struct ArrowSchema *)made_block(sizeof(struct ArrowSchema));
+    array->dictionary = (struct ArrowArray *)made_block(sizeof(struct ArrowArray));
+    random_rows(schema->dictionary, array->dictionary, depth - 1, 5);
+    codes = (uint8_t *)(uintptr_t)array->buffers[1];
+    end = (size_t)(array->length + array->offset);
+    for (k = 0; k < end; k++) {
+        codes[k] %= 5;
+    }
+}
+
+static void random_rows(struct ArrowSchema *schema, struct ArrowArray *array, int depth,
+    int64_t length)
+{
+    static const char *const flat[] = {"n", "b", "c", "S", "e", "i", "l", "g", "u", "U", "z", "Z",
+        "w:0", "w:3", "d:20,3", "tdD", "tsu:UTC"};
+    size_t kind = depth > 0 ? 3 - lists + below(6 + lists) : 8;
+    int64_t k, end;
+    if (kind >= 6) {
+        const char *format = flat[below(sizeof flat / sizeof flat[0])];
+        flat_schema(schema, format);
+        flat_array(array, format[0] == 't' ? format[1] == 'd' ? "i" : "l" : format, length);
+    } else if (kind == 5) {
+        dictionary_rows(schema, array, depth, length);
+    } else if (kind >= 3) {
+        flat_schema(schema, "+s");
+        start_array(array, 1, length);
+        end = array->length + array->offset;
+        children_of(schema, array, (int64_t)below(4));
+        for (k = 0; k < array->n_children; k++) {
+            int64_t more = (int64_t)below(3);
+            random_rows(schema->children[k], array->children[k], depth - 1, end + more);
+        }
+    } else {
+        static const char *const formats[] = {"+w:2", "+l", "+L"};
+        flat_schema(schema, formats[kind]);
+        start_array(array, kind == 0 ? 1 : 2, length);
+        end = array->length + array->offset;
+        children_of(schema, array, 1);
+        end = kind == 0 ? 2 * end : random_offsets(&array->buffers[1], (size_t)end, kind == 2);
+        random_rows(schema->children[0], array->children[0], depth - 1, end + (int64_t)below(2));
+    }
+}
+
+static void random_column(struct ArrowSchema *schema, struct ArrowArray *array, int depth)
+{
+    random_rows(schema, array, depth, (int64_t)below(20));
+}
+
+/* ---- Rows as texts ---- */
+
+typedef struct text {
+    char *data;
+    size_t len, room;
+} text;
+
+static void say(text *t, const char *format, ...)
+{
+    va_list arguments;
+    int size;
+    if (t->room - t->len < 80 || !t->data) {
+        t->room = 2 * t->room + 4096;
+        t->data = (char *)realloc(t->data, t->room);
+        if (!t->data) {
+            exit(2);
+        }
+    }
+    for (;;) {
+        va_start(arguments, format);
+        size = vsnprintf(t->data + t->len, t->room - t->len, format, arguments);
+        va_end(arguments);
+        if ((size_t)size < t->room - t->len) {
+            break;
+        }
+        t->room = 2 * t->room + (size_t)size;
+        t->data = (char *)realloc(t->data, t->room);
+    }
+    t->len += (size_t)size;
+}
+
+static void say_bytes(text *t, const void *from, size_t size)
+{
+    size_t k;
+    for (k = 0; k < size; k++) {
+        say(t, "%02x", ((const uint8_t *)from)[k]);
+    }
+}
+
+static int64_t offset_at(const void *offsets, int64_t k, int is_wide)
+{
+    return is_wide ? ((const int64_t *)offsets)[k] : ((const int32_t *)offsets)[k];
+}
+
+static void say_row(text *t, const struct ArrowSchema *schema, const struct ArrowArray *array,
+    int64_t row)
+{
+    const char *format = schema->format;
+    int64_t k, at = row + array->offset;
+    int is_wide = format[0] == 'U' || format[0] == 'Z' || format[1] == 'L';
+    const uint8_t *valid = array->n_buffers ? (const uint8_t *)array->buffers[0] : NULL;
+    if (format[0] == 'n' || (valid && !is_set(valid, (size_t)at))) {
+        say(t, "-");
+    } else if (schema->dictionary) {
+        say_row(t, schema->dictionary, array->dictionary, ((const uint8_t *)array->buffers[1])[at]);
+    } else if (format[0] == 'b') {
+        say(t, "%d", is_set((const uint8_t *)array->buffers[1], (size_t)at));
+    } else if (strchr("uUzZ", format[0])) {
+        int64_t start = offset_at(array->buffers[1], at, is_wide);
+        say(t, "\"");
+        say_bytes(t, (const uint8_t *)array->buffers[2] + start,
+            (size_t)(offset_at(array->buffers[1], at + 1, is_wide) - start));
+    } else if (!strcmp(format, "+s")) {
+        say(t, "{");
+        for (k = 0; k < array->n_children; k++) {
+            say_row(t, schema->children[k], array->children[k], at);
+            say(t, ",");
+        }
+        say(t, "}");
+    } else if (format[0] == '+') {
+        int64_t start = format[1] == 'w' ? 2 * at : offset_at(array->buffers[1], at, is_wide);
+        int64_t end = format[1] == 'w' ? 2 * at + 2 : offset_at(array->buffers[1], at + 1, is_wide);
+        say(t, "[");
+        for (k = start; k < end; k++) {
+            say_row(t, schema->children[0], array->children[0], k);
+            say(t, ",");
+        }
+        say(t, "]");
+    } else {
+        size_t width = !strcmp(format, "tdD") ? 4 : width_of(format[0] == 't' ? "l" : format);
+        say_bytes(t, (const uint8_t *)array->buffers[1] + at * (int64_t)width, width);
+    }
+}
+
+#endif

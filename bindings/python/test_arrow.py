@@ -1,0 +1,457 @@
+"""Compares selection over columns in Arrow's memory with plain Python, and calls it with what lies."""
+
+import ctypes
+import doctest
+import os
+import random
+import threading
+import time
+import unittest
+from array import array
+
+try:
+    import numpy
+except ImportError:
+    numpy = None
+
+import arrow_model
+from arrow_model import Layout, after, random_row, random_steps, random_type, wrapped
+from vortex_select import BrokenStep, Column, Filter, Slice, Take, column, from_buffers, select
+from vortex_select import _interface as arrow
+from vortex_select import _columns, _types
+from vortex_select._building import built
+from vortex_select._types import Type, type_of
+
+CALLS = int(os.environ.get("VORTEX_ARROW_CALLS", "3000"))
+
+
+def setUpModule():
+    try:
+        select(column([[1]], "fixed_size_list<int8, 1>"), [])
+    except ValueError as why:
+        print(f"skipped, the library doesn't know lists of a fixed size: {why}")
+        arrow_model.NESTED.remove("+w:")
+
+
+class Streamed:
+    """A column that is handed over as a stream alone."""
+
+    def __init__(self, of):
+        self.of = of
+
+    def __arrow_c_stream__(self, requested_schema=None):
+        return self.of.__arrow_c_stream__()
+
+
+def held():
+    """How many structs are handed out and not yet released."""
+    return len(arrow._kept), len(arrow._handed), len(arrow._streams)
+
+
+class Random(unittest.TestCase):
+    def setUp(self):
+        self.before = held()
+
+    def tearDown(self):
+        self.assertEqual(held(), self.before)
+
+    def agrees(self, seed, source, rows, steps, said):
+        wanted, broken = after(rows, said)
+        try:
+            found = select(source, steps)
+        except BrokenStep as why:
+            self.assertEqual((why.step, why.cause), broken, seed)
+            return
+        self.assertIsNone(broken, seed)
+        self.assertEqual(len(found), len(wanted), seed)
+        self.assertEqual(found.type, self.type, seed)
+        self.assertEqual(found.to_pylist(), wanted, seed)
+        # Once more, out of the answer.
+        self.assertEqual(select(found, [Slice(0, len(wanted))]).to_pylist(), wanted, seed)
+
+    def test_arrays(self):
+        for seed in range(CALLS):
+            dice = random.Random(seed)
+            of = random_type(dice, dice.randrange(4))
+            rows = [random_row(dice, of) for _ in range(dice.choice([0, 1, 8, dice.randrange(30)]))]
+            source = wrapped(of, Layout(dice).array(of, rows))
+            self.type = str(of)
+            self.assertEqual(source.to_pylist(), rows, seed)
+            self.agrees(seed, source, rows, *random_steps(dice, len(rows)))
+
+    def test_streams(self):
+        for seed in range(CALLS // 5):
+            dice = random.Random(-1 - seed)
+            of = random_type(dice, dice.randrange(3))
+            parts = [
+                [random_row(dice, of) for _ in range(dice.randrange(9))]
+                for _ in range(1 + dice.randrange(4))
+            ]
+            rows = [row for part in parts for row in part]
+            chunks = [Layout(dice).array(of, part) for part in parts]
+            source = Streamed(Column(arrow.made_schema(of), chunks))
+            self.type = str(of)
+            self.agrees(seed, source, rows, *random_steps(dice, len(rows)))
+
+    def test_built(self):
+        for seed in range(CALLS // 10):
+            dice = random.Random(seed)
+            of = random_type(dice, 3)
+            rows = [random_row(dice, of) for _ in range(9)]
+            made = column(rows, str(of))
+            self.assertEqual((made.to_pylist(), made.type), (rows, str(of)), seed)
+
+
+class Answers(unittest.TestCase):
+    people = [{"id": 5, "tags": ["a"]}, None, {"id": 7, "tags": []}]
+
+    def test_examples(self):
+        for module in _columns, _types:
+            failed, tried = doctest.testmod(module, extraglobs={"column": column, "select": select})
+            self.assertTrue(tried and not failed, module)
+
+    def test_schema(self):
+        """Names, flags and metadata are those of the source; nulls of a take show at the top."""
+        said = (1).to_bytes(4, "little") + (3).to_bytes(4, "little") + b"key" + (1).to_bytes(4, "little") + b"v"
+        of = type_of("struct<id: int64, tags: list<utf8>>")
+        for steps, flags in (([Slice(0, 1)], 0), ([Take([0, 0])], 0), ([Take([0, None])], 2)):
+            source = Column(arrow.made_schema(of, "people", 0, said), [built(of, [{"id": 1, "tags": None}])])
+            answer = select(source, steps)
+            made = answer._schema
+            self.assertEqual((made.name, made.flags, made.format), (b"people", flags, b"+s"))
+            self.assertEqual(ctypes.string_at(made.metadata, len(said)), said)
+            child = made.children[1].contents
+            self.assertEqual((child.name, child.flags), (b"tags", 2))
+            self.assertEqual(child.children[0].contents.name, b"item")
+
+    def test_flags_of_no_rows(self):
+        made = select(column([], "int8"), [Take([None]), Slice(0, 0)])
+        self.assertEqual((made._schema.flags & 2, made.to_pylist()), (2, []))
+
+    def test_nulls(self):
+        """A null that later steps drop refuses nothing."""
+        made = select(column([1, 2], "int32"), [Take([0, None, 1]), Filter([True, False, True])])
+        self.assertEqual(made.to_pylist(), [1, 2])
+        self.assertEqual(select(column([None, None]), [Take([1, None])]).to_pylist(), [None, None])
+
+    def test_broken(self):
+        source = column([1, 2, 3], "int32")
+        for steps, step, cause in (
+            ([Slice(2, 1)], 0, "BadRange"),
+            ([Slice(0, 2), Filter([True])], 1, "BadMask"),
+            ([Slice(0, 2), Slice(0, 1), Take([1])], 2, "OutOfBounds"),
+            ([Take([-1])], 0, "OutOfBounds"),
+            ([Take(column([0.0]))], 0, "InvalidIndices"),
+        ):
+            with self.assertRaises(BrokenStep) as why:
+                select(source, steps)
+            self.assertEqual((why.exception.step, why.exception.cause), (step, cause))
+            with self.assertRaises(BrokenStep):
+                select(Streamed(source), steps)
+
+    def test_broken_first(self):
+        """A broken step is told before a column that has no meaning."""
+        source = wrapped(Type("u"), arrow.made_array(1, 0, 0, [None, array("i", [3, 2]), b"abc"]))
+        with self.assertRaises(BrokenStep):
+            select(source, [Slice(0, 2)])
+        with self.assertRaises(ValueError):
+            select(source, [Slice(0, 1)])
+
+    def test_overflow(self):
+        source = column(["x" * 2**20])
+        with self.assertRaises(OverflowError):
+            select(source, [Take(array("B", bytes(2**11)))])
+        wide = select(column(["x" * 2**10], "large_utf8"), [Take(array("B", bytes(2**11)))])
+        self.assertEqual(len(wide), 2**11)
+        with self.assertRaises(OverflowError):
+            select(Streamed(source), [Take(array("B", bytes(2**11)))])
+
+    def test_types(self):
+        for wrong in (b"ab", "ab", [1, 0], 7, memoryview(b"ab")):
+            with self.assertRaises(TypeError):
+                Filter(wrong)
+        for wrong in ("ab", [1.0], [True], array("d", [1.0]), column(["a"])):
+            with self.assertRaises(TypeError):
+                Take(wrong)
+        with self.assertRaises(TypeError):
+            select([1, 2], [])
+        with self.assertRaises(TypeError):
+            select(column([1]), [(0, 1)])
+        with self.assertRaises(TypeError):
+            Filter(column([1]))
+        for wrong in ("int65", "list<utf8", "list<utf8>>", "struct<a>", "", "utf8 "[:4] + ">"):
+            with self.assertRaises(ValueError):
+                type_of(wrong)
+
+    def test_buffers(self):
+        numbers = array("q", range(100))
+        source = from_buffers("int64", 90, [None, numbers], offset=10)
+        with self.assertRaises(BufferError):
+            numbers.append(1)
+        self.assertEqual(select(source, [Take([0, 89])]).to_pylist(), [10, 99])
+        del source
+        numbers.append(1)
+        for wrong in (
+            ("int64", 101, [None, numbers[:100]]),
+            ("utf8", 1, [None, array("i", [0, 4]), b"abc"]),
+            ("utf8", 2, [None, array("i", [0, 4]), b"abcd"]),
+            ("bool", 9, [None, b"a"]),
+            ("int8", 9, [b"a", b"123456789"]),
+            ("int8", 1, [b"a"]),
+            ("list<int8>", 1, [None, array("i", [0, 1])]),
+            ("int64", -1, [None, numbers]),
+        ):
+            with self.assertRaises(ValueError):
+                from_buffers(*wrong)
+        items = from_buffers("list<int8>", 1, [None, array("i", [0, 1])], [column([4], "int8")])
+        self.assertEqual(select(items, [Take([0, 0])]).to_pylist(), [[4], [4]])
+
+    def test_empty_stream(self):
+        none = Streamed(Column(arrow.made_schema(Type("u")), []))
+        made = select(none, [Slice(0, 0)])
+        self.assertEqual((made.to_pylist(), made.type), ([], "utf8"))
+        self.assertEqual(select(made, []).to_pylist(), [])
+
+    def test_null_buffer_of_pointers(self):
+        """Struct and array that were released already."""
+        source = column([1])
+        schema, made = source.__arrow_c_array__()
+        arrow.release(arrow.held_by(made, arrow.Array))
+
+        class Spent:
+            def __arrow_c_array__(self, requested_schema=None):
+                return schema, made
+
+        with self.assertRaises(ValueError):
+            select(Spent(), [])
+
+
+@unittest.skipUnless(numpy, "there is no numpy")
+class Numpy(unittest.TestCase):
+    def test_in_place(self):
+        """numpy's arrays are taken as they stand, and an answer's memory is read as one."""
+        numbers = numpy.arange(1000, dtype="int32")
+        source = from_buffers("int32", 1000, [None, numbers])
+        self.assertEqual(source._chunks[0].buffers[1], numbers.ctypes.data)
+        found = select(source, [Filter(numbers % 2 == 1), Take(numpy.array([3, 0], dtype="uint8"))])
+        self.assertEqual(found.to_pylist(), [7, 1])
+        with self.assertRaises(TypeError):
+            Take(numpy.ma.masked_array([1, 2], [True, False]))
+        with self.assertRaises(TypeError):
+            Take(numpy.array([1.0]))
+
+    def test_strided(self):
+        with self.assertRaises((BufferError, ValueError)):
+            from_buffers("int32", 2, [None, numpy.arange(4, dtype="int32")[::2]])
+
+
+class Release(unittest.TestCase):
+    def setUp(self):
+        self.before = held()
+        words = ["a", "bb", None, "a"]
+        self.rows = [{"d": word, "n": k} for k, word in enumerate(words)]
+        self.source = column(self.rows, "struct<d: dictionary<int8, utf8>, n: int32>")
+
+    def tearDown(self):
+        self.source = None
+        self.assertEqual(held(), self.before)
+
+    def test_early(self):
+        """The source goes first, then the answer, and the dictionary last."""
+        made = select(self.source, [Take([3, 2, 1, None])])
+        again = select(made, [Take([2])])
+        self.source = None
+        self.assertEqual(made.to_pylist(), [self.rows[3], self.rows[2], self.rows[1], None])
+        del made
+        self.assertEqual(again.to_pylist(), [self.rows[1]])
+
+    def test_moved(self):
+        """Children and dictionaries that are moved out outlive what they were in."""
+        made = select(self.source, [Slice(0, 3)])
+        self.source = None
+        child, inner = arrow.Array(), arrow.Array()
+        place = made._chunks[0].children[0].contents
+        ctypes.memmove(ctypes.addressof(child), ctypes.addressof(place), ctypes.sizeof(child))
+        place.release = None
+        ctypes.memmove(ctypes.addressof(inner), child.dictionary, ctypes.sizeof(inner))
+        child.dictionary.contents.release = None
+        del made
+        codes = arrow.Schema(b"c")
+        from vortex_select._reading import rows
+
+        self.assertEqual(rows(codes, child, 0, 2), [0, 1])
+        arrow.release(child)
+        self.assertEqual(rows(arrow.Schema(b"u"), inner, 0, 2), ["a", "bb"])
+        arrow.release(inner)
+
+    def test_twice(self):
+        made = select(self.source, [Slice(0, 3)])
+        array = made._chunks[0]
+        call = array.release
+        arrow.release(array)
+        arrow.RELEASE(call)(ctypes.addressof(array))
+        self.assertIsNone(array.release)
+
+    def test_threads(self):
+        """A hundred answers share one dictionary, and go away in eight threads."""
+        answers = [select(self.source, [Take([k % 4, None])]) for k in range(100)]
+        self.source = None
+        wrong = []
+
+        def work():
+            while True:
+                try:
+                    answer = answers.pop()
+                except IndexError:
+                    return
+                for _ in range(20):
+                    part = select(answer, [Take([0])])
+                    if part.to_pylist()[0] not in self.rows:
+                        wrong.append(part)
+
+        threads = [threading.Thread(target=work) for _ in range(8)]
+        for thread in threads:
+            thread.start()
+        for thread in threads:
+            thread.join()
+        self.assertEqual(wrong, [])
+
+
+class Hostile(unittest.TestCase):
+    """Each call is back within a second, with a status."""
+
+    def refused(self, of, made, steps=(Slice(0, 1),), kind=ValueError):
+        source, start = wrapped(of, made), time.monotonic()
+        with self.assertRaises(kind) as why:
+            select(source, list(steps))
+        self.assertLess(time.monotonic() - start, 1)
+        return str(why.exception)
+
+    def status(self, schema, made):
+        out, fault, start = arrow.Array(), arrow.Fault(), time.monotonic()
+        places = [ctypes.addressof(struct) for struct in (schema, made)]
+        more = [ctypes.addressof(struct) for struct in (out, fault)]
+        status = arrow.calls().vortex_select_arrow(*places, None, 0, None, *more)
+        self.assertLess(time.monotonic() - start, 1)
+        self.assertEqual(status == 0, out.release is not None)
+        arrow.release(out)
+        _free_deep(schema)
+        _free_deep(made)
+        return status, fault.place.decode()
+
+    def test_lengths(self):
+        """Lengths and offsets that no buffer can have; the buffers have a byte each."""
+        for form in ("c", "l", "b", "w:1000000000", "u", "Z", "+s", "n", "tin"):
+            buffers = {"u": 3, "Z": 3, "+s": 1, "n": 0}.get(form, 2)
+            for length, offset in ((-1, 0), (2**63 - 1, 1), (2**63 - 1, 2**63 - 1), (1, -1), (1, 2**63 - 1)):
+                made = arrow.made_array(length, 0, offset, [None] + [b"x"] * (buffers - 1) if buffers else [])
+                self.refused(Type(form), made, [Slice(0, 1)], (ValueError, BrokenStep))
+
+    def test_no_buffers(self):
+        for form in ("c", "b", "u", "+l"):
+            children = [built(Type("c"), [1])] if form == "+l" else ()
+            of = Type(form, (("item", Type("c")),)) if form == "+l" else Type(form)
+            buffers = 3 if form == "u" else 2
+            self.refused(of, arrow.made_array(2**40, 0, 0, [None] * buffers, children))
+
+    def test_offsets(self):
+        for offsets in ((5, 4), (0, -1), (-1, 0), (-5, -4)):
+            made = arrow.made_array(1, 0, 0, [None, array("i", offsets), b"abcd"])
+            self.refused(Type("u"), made)
+        items = Type("+l", (("item", Type("c")),))
+        for offsets in ((5, 4), (0, 3), (-1, 0), (0, 2**31 - 1)):
+            child = built(Type("c"), [1, 2])
+            self.refused(items, arrow.made_array(1, 0, 0, [None, array("i", offsets)], [child]))
+
+    def test_equal_offsets(self):
+        """A million texts of no bytes."""
+        offsets = array("i", bytes(4 * (10**6 + 1)))
+        made = arrow.made_array(10**6, 0, 0, [None, offsets, b""])
+        found = select(wrapped(Type("u"), made), [Slice(0, 10**6), Take(array("i", range(0, 10**6, 999)))])
+        self.assertEqual(found.to_pylist(), [""] * len(found))
+
+    def test_deep_lists(self):
+        for levels, wanted in ((10_000, 17), (64, 17), (63, 0)):
+            made, schema = built(Type("c"), [1]), arrow.made_schema(Type("c"))
+            for _ in range(levels):
+                made = arrow.made_array(1, 0, 0, [None, array("i", [0, 1])], [made])
+                inner, schema = schema, arrow.made_schema(Type("+l"))
+                arrow._kept[schema.private_data] += arrow._below(schema, arrow.Schema, [inner], None)
+            self.assertEqual(self.status(schema, made)[0], wanted)
+
+    def test_deep_dictionaries(self):
+        made, schema = built(Type("c"), [1]), arrow.made_schema(Type("c"))
+        for _ in range(1_000):
+            made = arrow.made_array(1, 0, 0, [None, b"\0"], (), made)
+            inner, schema = schema, arrow.made_schema(Type("c"))
+            schema.dictionary = ctypes.pointer(inner)
+        self.assertEqual(self.status(schema, made), (17, "dictionary"))
+
+    def test_shapes(self):
+        """Counts of buffers and children that aren't those of the format."""
+        one = Type("+s", (("a", Type("c")),))
+        for of, made in (
+            (Type("c"), arrow.made_array(1, 0, 0, [None])),
+            (Type("c"), arrow.made_array(1, 0, 0, [None, b"a", b"b"])),
+            (Type("u"), arrow.made_array(1, 0, 0, [None, b"aaaaaaaa"])),
+            (one, arrow.made_array(1, 0, 0, [None])),
+            (one, arrow.made_array(1, 0, 0, [None], [built(Type("c"), [1])] * 2)),
+            (Type("+l", ()), arrow.made_array(0, 0, 0, [None, None])),
+            (Type("c", (), Type("c")), arrow.made_array(1, 0, 0, [None, b"a"])),
+            (Type("f", (), Type("c")), arrow.made_array(0, 0, 0, [None, b""], (), built(Type("c"), []))),
+            (Type("c"), arrow.made_array(1, 1, 0, [None, b"a"])),
+        ):
+            self.refused(of, made, ())
+
+    def test_formats(self):
+        pair = (("run_ends", Type("i")), ("values", Type("i")))
+        for form in ("+r", "x", "", "cc", "c ", "w:", "w:-1", "w:x", "w:9999999999", "d:", "d:1", "d:1,2,9",
+                     "tdx", "ts", "tsx:", "+w", "+w:x", "+x", "+u:", "+", "t", "d:1,2,128x"):
+            made = arrow.made_array(1, 0, 0, [None, b"a" * 64])
+            self.assertIn("format", self.refused(Type(form), made))
+        ends = [built(Type("i"), [1]), built(Type("i"), [1])]
+        self.assertIn("+r", self.refused(Type("+r", pair), arrow.made_array(1, 0, 0, [], ends)))
+
+    def test_unknown(self):
+        """Formats that the library may not know: the answer is right, or the format is named."""
+        item, pair = (("item", Type("i")),), (("a", Type("i")), ("b", Type("i")))
+        one, none = array("i", [1]), array("i", [0])
+        for of, buffers, children in (
+            (Type("vu"), [None, b"\1\0\0\0a" + bytes(11), array("q", [])], 0),
+            (Type("+vl", item), [None, none, one], 1),
+            (Type("+us:0,1", pair), [b"\1"], 2),
+            (Type("+ud:0,1", pair), [b"\1", none], 2),
+            (Type("+w:1", item), [None], 1),
+        ):
+            below = [built(Type("i"), [1]) for _ in range(children)]
+            source = wrapped(of, arrow.made_array(1, 0, 0, buffers, below))
+            rows = source.to_pylist()
+            try:
+                found = select(source, [Take([0, 0])])
+            except ValueError as why:
+                self.assertIn(f"{of.format}: the format isn't known", str(why))
+            else:
+                self.assertEqual(found.to_pylist(), [*rows, *rows])
+
+    def test_place(self):
+        """The wrong buffer's column is named, from the top."""
+        bad = arrow.made_array(1, 0, 0, [None, array("i", [5, 4]), b"abcd"])
+        lists = arrow.made_array(1, 0, 0, [None, array("i", [0, 1])], [bad])
+        of = type_of("struct<id: int8, tags: list<utf8>>")
+        made = arrow.made_array(1, 0, 0, [None], [built(Type("c"), [1]), lists])
+        self.assertIn("tags.item offsets", self.refused(of, made))
+
+
+def _free_deep(struct):
+    """Releases from the top down, each by itself, so that no recursion is as deep."""
+    while struct is not None:
+        kept = arrow._kept.get(struct.private_data)
+        below = struct.children[0].contents if struct.n_children else None
+        below = struct.dictionary.contents if struct.dictionary else below
+        struct.n_children, struct.dictionary = 0, None
+        arrow.release(struct)
+        struct, _ = below, kept
+
+
+if __name__ == "__main__":
+    unittest.main()
