@@ -15,7 +15,7 @@ uint64_t vortex_arrow_fault(vortex_arrow_error *error, uint64_t status, const ch
 {
     static const char *const words[] = {"", "the column has no meaning", "a pick is past the rows",
         "a list that is written is too short", "offsets of 32 bits would pass 2^31 - 1",
-        "memory is wanting", "a step breaks a rule", "the step has no meaning",
+        "out of memory", "a step breaks a rule", "the step has no meaning",
         "the format isn't known", "the struct isn't what its format says",
         "more than 64 columns stand in one another", "the stream that is read failed"};
     static const char *const causes[] = {"a slice that isn't within the rows",

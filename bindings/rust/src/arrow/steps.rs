@@ -165,7 +165,7 @@ impl fmt::Display for Error {
             Error::NoMeaning(text) | Error::Overflow(text) | Error::Format(text) => {
                 f.write_str(text)
             }
-            Error::NoMemory => f.write_str("memory is wanting"),
+            Error::NoMemory => f.write_str("out of memory"),
         }
     }
 }
