@@ -1,0 +1,115 @@
+//! What each call answers.
+ghost use Rattle.std.specs.Prelude.{◌≡◌};
+ghost use Rattle.vortex_arrow_c.specs.Answer.{column_answer, lack_answer, lack_code, refusal_answer};
+
+use vx_arrow_columns::{Lack, Refusal};
+
+/// The call was done.
+pub(crate) const DONE: u64 = 0;
+
+/// A node has no meaning: its number, and what it lacks.
+pub(crate) const NO_MEANING: u64 = 1;
+
+/// A pick that isn't null is past the rows.
+pub(crate) const BEYOND: u64 = 2;
+
+/// A room is smaller than its need: the node's number.
+pub(crate) const ROOM: u64 = 3;
+
+/// Rows or items are too many to be counted: the node's number.
+pub(crate) const OVERFLOW: u64 = 4;
+
+/// Want of memory.
+pub(crate) const NO_MEMORY: u64 = 5;
+
+/// A number names no format: the node's number.
+pub(crate) const FORMAT: u64 = 8;
+
+/// A status, which is 0 where the call was done, and where and what the fault is.
+#[repr(C)]
+#[derive(Clone, Copy)]
+pub struct Answer {
+    pub status: u64,
+    pub node_or_step: u64,
+    pub what: u64,
+}
+
+// The number of what a node lacks.
+fn code_of(lack: Lack) -> u64
+    ensures { result ≡ lack_code lack }
+{
+    match lack {
+        Lack::Format => 0,
+        Lack::Tree => 1,
+        Lack::Rows => 2,
+        Lack::Valid => 3,
+        Lack::Children => 4,
+        Lack::Values => 5,
+        Lack::Offsets => 6,
+        Lack::Items => 7,
+        Lack::Length => 8,
+    }
+}
+
+impl Answer {
+    // A status alone.
+    fn plain(status: u64) -> Answer
+        ensures { result ≡ record { status = status; node_or_step = 0; what = 0 } }
+    {
+        Answer {
+            status,
+            node_or_step: 0,
+            what: 0,
+        }
+    }
+
+    // That a node has no meaning.
+    fn without(node: usize, lack: Lack) -> Answer
+        ensures { result ≡ lack_answer node lack }
+    {
+        let node_or_step = node as u64;
+        match lack {
+            Lack::Format => Answer {
+                status: FORMAT,
+                node_or_step,
+                what: 0,
+            },
+            _ => Answer {
+                status: NO_MEANING,
+                node_or_step,
+                what: code_of(lack),
+            },
+        }
+    }
+
+    // Why a call over columns is refused.
+    fn refused(refusal: Refusal) -> Answer
+        ensures { result ≡ refusal_answer refusal }
+    {
+        match refusal {
+            Refusal::NoMeaning { node, lack } => Answer::without(node, lack),
+            Refusal::Beyond => Answer::plain(BEYOND),
+            Refusal::Room { node } => Answer {
+                status: ROOM,
+                node_or_step: node as u64,
+                what: 0,
+            },
+            Refusal::Overflow { node } => Answer {
+                status: OVERFLOW,
+                node_or_step: node as u64,
+                what: 0,
+            },
+            Refusal::NoMemory => Answer::plain(NO_MEMORY),
+        }
+    }
+
+    // What a call over columns answers.
+    pub(crate) fn of(outcome: Result<(), Refusal>) -> Answer
+        ensures { result ≡ column_answer outcome }
+    {
+        match outcome {
+            Ok(()) => Answer::plain(DONE),
+            Err(refusal) => Answer::refused(refusal),
+        }
+    }
+}

@@ -1,0 +1,90 @@
+-- When a written node has the rows at picks.
+use Rattle.std.proofs.Common.{◌≡◌, ℕ, ◌+◌, ◌-◌, ◌*◌, ◌^◌, ◌<◌, ◌≤◌, Bool, true, false, cond, List, [], ◌∷◌, ◌++◌, length, get_or, take, drop, map, Option, Some, None, ap, sym, ◌∙◌, refl, subst, arith, ltb, leb}
+use Rattle.std.specs.Prelude.{is_some}
+use Rattle.std.specs.List.{range_with_len}
+use Rattle.std.proofs.lemmas.Bool.{and_parts, and_from, lt-ltb, le-leb, leb-true}
+use Rattle.std.proofs.lemmas.List.{ext_get_or, get_or-map, length-map}
+use Rattle.std.proofs.lemmas.List.FromFn.{length-map-range_with_len, get_or-map-range_with_len}
+use Rattle.vx_arrow_columns.specs.declared.format.Format.{Format}
+use Rattle.vx_arrow_columns.specs.Rows.{RowValue, null, row_at, picked}
+use Rattle.vx_arrow_columns.specs.Image.{Part, is_valid, holds_valid, is_placed, is_sound, fits, value_at, row_of, column_of}
+use Rattle.vx_arrow_columns.specs.Picks.{place_of}
+use Rattle.vx_arrow_columns.specs.Taken.{AreWithin, ShowsRows}
+
+pub length_column : (p : Part) (cs : List (List RowValue)) → length (column_of p cs) ≡ p.len
+unfolding column_of
+length_column p cs = length-map-range_with_len (row_of p cs) p.offset p.len
+
+pub get_column : (p : Part) (cs : List (List RowValue)) (i : ℕ) → i < p.len → get_or (column_of p cs) i null ≡ row_of p cs (p.offset + i)
+unfolding column_of
+get_column p cs i h = get_or-map-range_with_len (row_of p cs) p.offset p.len i (p.offset + i) null h refl
+
+some_row : (p w : Part) (cs ds : List (List RowValue)) (k i : ℕ) (v : Bool) → is_valid p.valid (p.offset + i) ≡ v → is_valid w.valid k ≡ is_some (place_of p (Some i))
+    → ((n : ℕ) → place_of p (Some i) ≡ Some n → value_at w.format w ds k ≡ value_at p.format p cs n) → row_of w ds k ≡ row_of p cs (p.offset + i)
+some_row p w cs ds k i true e s h =
+    let there : place_of p (Some i) ≡ Some (p.offset + i) = ap (λ b. cond b (Some (p.offset + i)) None) e in
+    let shown : is_valid w.valid k ≡ true = s ∙ ap is_some there in
+    ap (λ b. cond b (value_at w.format w ds k) null) shown ∙ h (p.offset + i) there ∙ sym (ap (λ b. cond b (value_at p.format p cs (p.offset + i)) null) e)
+some_row p w cs ds k i false e s h =
+    let there : place_of p (Some i) ≡ None = ap (λ b. cond b (Some (p.offset + i)) None) e in
+    let shown : is_valid w.valid k ≡ false = s ∙ ap is_some there in
+    ap (λ b. cond b (value_at w.format w ds k) null) shown ∙ sym (ap (λ b. cond b (value_at p.format p cs (p.offset + i)) null) e)
+
+row_same : (p w : Part) (cs ds : List (List RowValue)) (k : ℕ) (o : Option ℕ) → is_valid w.valid k ≡ is_some (place_of p o) → ((i : ℕ) → o ≡ Some i → i < p.len)
+    → ((n : ℕ) → place_of p o ≡ Some n → value_at w.format w ds k ≡ value_at p.format p cs n) → row_of w ds k ≡ row_at (column_of p cs) o
+row_same p w cs ds k None s low h = ap (λ b. cond b (value_at w.format w ds k) null) s
+row_same p w cs ds k (Some i) s low h = some_row p w cs ds k i (is_valid p.valid (p.offset + i)) refl s h ∙ sym (get_column p cs i (low i refl))
+
+-- the rows of a written node are those at the picks where its bits and its values are
+pub same_column : (p w : Part) (cs ds : List (List RowValue)) (q : List (Option ℕ)) → w.len ≡ length q → w.offset ≡ 0 → ShowsRows p q w.valid → AreWithin q p.len
+    → ((k n : ℕ) → k < length q → place_of p (get_or q k None) ≡ Some n → value_at w.format w ds k ≡ value_at p.format p cs n)
+    → column_of w ds ≡ picked q (column_of p cs)
+same_column p w cs ds q len zero_offset shows within values =
+    let long = length_column w ds ∙ len in
+    ext_get_or null (column_of w ds) (picked q (column_of p cs)) (long ∙ sym (length-map q (row_at (column_of p cs)))) (λ k h.
+    let below : k < length q = omega arith in
+    get_column w ds k (omega arith) ∙ ap (row_of w ds) (omega arith)
+    ∙ row_same p w cs ds k (get_or q k None) (shows.shows k below) (λ i e. within.below k i below e) (λ n e. values k n below e)
+    ∙ sym (get_or-map (row_at (column_of p cs)) q k None null below))
+
+-- ---- sound nodes
+
+pub holds_bits : (v : List ℕ) (n : ℕ) → n ≤ 8 * length v → holds_valid v n ≡ true
+holds_bits [] n h = refl
+holds_bits (b ∷ bs) n h = le-leb n (8 * length (b ∷ bs)) h
+
+pub placed : (w : Part) → w.offset ≡ 0 → w.len < 2 ^ 60 → holds_valid w.valid w.len ≡ true → is_placed w ≡ true
+unfolding is_placed
+placed w zero_offset few valid = and_from _ _ (lt-ltb _ _ (omega arith)) (ap (holds_valid w.valid) (let e : w.offset + w.len ≡ w.len = omega arith in e) ∙ valid)
+
+pub sound_from : (p : Part) (lens : List ℕ) (f : Option Format) → p.format ≡ f → is_placed p ≡ true → fits f p lens ≡ true → is_sound p lens ≡ true
+unfolding is_sound
+sound_from p lens f e a b = and_from _ _ a (ap (λ (g : Option Format). fits g p lens) e ∙ b)
+
+pub sound_placed : (p : Part) (lens : List ℕ) → is_sound p lens ≡ true → is_placed p ≡ true
+unfolding is_sound
+sound_placed p lens h = (and_parts _ _ h).0
+
+pub sound_fits : (p : Part) (lens : List ℕ) (f : Option Format) → p.format ≡ f → is_sound p lens ≡ true → fits f p lens ≡ true
+unfolding is_sound
+sound_fits p lens f e h = ap (λ (g : Option Format). fits g p lens) (sym e) ∙ (and_parts _ _ h).1
+
+-- ---- where a place is
+
+pub place_some : (p : Part) (o : Option ℕ) (n : ℕ) → place_of p o ≡ Some n → (i : ℕ) × ((o ≡ Some i) × (n ≡ p.offset + i))
+place_some p None n e = absurd (let f : None ≡ Some n = e in cc)
+place_some p (Some i) n e = (i, (refl, go (is_valid p.valid (p.offset + i)) refl))
+  where
+    go : (v : Bool) → is_valid p.valid (p.offset + i) ≡ v → n ≡ p.offset + i
+    go true f = let there : Some (p.offset + i) ≡ Some n = sym (ap (λ b. cond b (Some (p.offset + i)) None) f) ∙ e in cc
+    go false f = let there : None ≡ Some n = sym (ap (λ b. cond b (Some (p.offset + i)) None) f) ∙ e in absurd cc
+
+pub place_between : (p : Part) (q : List (Option ℕ)) (k n : ℕ) → AreWithin q p.len → k < length q → place_of p (get_or q k None) ≡ Some n → (p.offset ≤ n) × (n < p.offset + p.len)
+place_between p q k n w h e =
+    let at = place_some p (get_or q k None) n e in
+    let low = w.below k at.0 h at.1.0 in
+    (omega (arith, at.1.1), omega (arith, at.1.1))
+
+pub placed_by : (p : Part) (n : ℕ) → p.offset + p.len ≡ n → n < 2 ^ 60 → holds_valid p.valid n ≡ true → is_placed p ≡ true
+unfolding is_placed
+placed_by p n e few valid = and_from _ _ (lt-ltb _ _ (let f : p.offset + p.len < 2 ^ 60 = omega arith in f)) (ap (holds_valid p.valid) e ∙ valid)

@@ -1,0 +1,14 @@
+pub mod BitPuts
+pub mod Bytes
+pub mod Columns
+pub mod Cuts
+pub mod Measures
+pub mod OffsetReads
+pub mod OwnTaken
+pub mod PickReads
+pub mod Plans
+pub mod Rooms
+pub mod Steps
+pub mod Takings
+pub mod Trees
+pub mod Walks

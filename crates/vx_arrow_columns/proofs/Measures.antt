@@ -1,0 +1,85 @@
+-- What each format's tests find.
+use Rattle.std.proofs.Common.{◌≡◌, ℕ, ◌+◌, ◌*◌, ◌/◌, ◌^◌, ◌<◌, ◌≤◌, Bool, true, List, [], length, map, Option, Some, None, ap, ap₂, sym, ◌∙◌, refl, subst, arith}
+use Rattle.std.specs.Prelude.{Result, Ok, Err, IfOk, OnOk}
+use Rattle.std.proofs.lemmas.Bool.{lt-ltb}
+use Rattle.vx_arrow_columns.specs.declared.format.Format.{Format}
+use Rattle.vx_arrow_columns.specs.declared.format.Format.TheVariants.{Nulls, Bits, Fixed, Text, List as Lists, Struct}
+use Rattle.vx_arrow_columns.specs.declared.format.Offsets.{Offsets}
+use Rattle.vx_arrow_columns.specs.declared.needs.Inner.{Inner}
+use Rattle.vx_arrow_columns.specs.declared.needs.Inner.TheVariants as inners
+use Rattle.vx_arrow_columns.specs.declared.needs.Items.{Items}
+use Rattle.vx_arrow_columns.specs.declared.needs.Measure.{Measure}
+use Rattle.vx_arrow_columns.specs.Image.{Part, is_placed, limit_of}
+use Rattle.vx_arrow_columns.specs.Measured.{AreItems, AreListed, IsInner, IsLeaf, IsMeasured, IsTextLen}
+use Rattle.vx_arrow_columns.specs.Picks.{Picking, counts_by, inner_nullable, inner_picks, is_counted, items_len, items_of, picking_of, picks_of, values_len}
+use Rattle.vx_arrow_columns.specs.Taken.{AreWithin, Holds, IsReadable}
+use Rattle.vx_arrow_columns.proofs.OwnTaken.{counted_from}
+use Rattle.vx_arrow_columns.proofs.PickReads.{all_picks, length_picks}
+
+pub ok_weaker : {T E : Type 0} (P Q : T → Type 0) (r : Result T E) → ((x : T) → P x → Q x) → IfOk r P → IfOk r Q
+ok_weaker P Q (Ok x) f h = f x h
+ok_weaker P Q (Err e) f h = h
+
+pub ok_then : {T E : Type 0} (P Q : Type 0) (r : Result T E) → (P → Q) → OnOk r P → OnOk r Q
+ok_then P Q (Ok x) f h = f h
+ok_then P Q (Err e) f h = h
+
+readable : (p : Part) (ps vs : List ℕ) (add : ℕ) (f : Format) → p.format ≡ Some f → length ps < 2 ^ 60 → is_placed p ≡ true → AreWithin (picks_of ps vs add) p.len
+    → counts_by (Some f) p (picks_of ps vs add) ≡ true → Holds (Some f) p (picks_of ps vs add) → IsReadable p (picks_of ps vs add)
+readable p ps vs add f format few placed within counted held = record {
+  placed = placed;
+  within = within;
+  counted = counted_from p (picks_of ps vs add) (Some f) format (omega (arith, length_picks ps vs add)) counted;
+  held = subst (λ (g : Option Format). Holds g p (picks_of ps vs add)) (sym format) held;
+}
+
+leaf_measured : (p : Part) (q : Picking) (f : Format) (values : ℕ) (m : Measure) → p.format ≡ Some f → IsReadable p q.picks → values ≡ values_len (Some f) p q.picks → IsLeaf p values m → IsMeasured p q m
+leaf_measured p q f values m format r same l = record {
+  readable = r;
+  values = l.values_are ∙ same ∙ ap (λ (g : Option Format). values_len g p q.picks) (sym format);
+  children = subst (λ (i : Inner). IsInner p q i) (sym l.inner_is) l.leaf;
+}
+
+pub nulls_measured : (p : Part) (ps vs : List ℕ) (add : ℕ) (m : Measure) → p.format ≡ Some Nulls → length ps < 2 ^ 60 → is_placed p ≡ true → AreWithin (picks_of ps vs add) p.len → IsLeaf p 0 m → IsMeasured p (picking_of ps vs add) m
+nulls_measured p ps vs add m format few placed within l = leaf_measured p (picking_of ps vs add) Nulls 0 m format (readable p ps vs add Nulls format few placed within refl l.leaf) refl l
+
+pub bits_measured : (p : Part) (ps vs : List ℕ) (add n : ℕ) (m : Measure) → p.format ≡ Some Bits → length ps < 2 ^ 60 → is_placed p ≡ true → AreWithin (picks_of ps vs add) p.len
+    → p.offset + p.len ≤ 8 * length p.values → n ≡ (length ps + 7) / 8 → IsLeaf p n m → IsMeasured p (picking_of ps vs add) m
+bits_measured p ps vs add n m format few placed within held size l =
+    leaf_measured p (picking_of ps vs add) Bits n m format (readable p ps vs add Bits format few placed within refl (l.leaf, held)) (size ∙ ap (λ k. (k + 7) / 8) (sym (length_picks ps vs add))) l
+
+pub fixed_measured : (p : Part) (ps vs : List ℕ) (add n : ℕ) (m : Measure) → p.format ≡ Some Fixed → length ps < 2 ^ 60 → is_placed p ≡ true → AreWithin (picks_of ps vs add) p.len
+    → (p.offset + p.len) * p.width ≤ length p.values → n ≡ length ps * p.width → n < 2 ^ 63 → IsLeaf p n m → IsMeasured p (picking_of ps vs add) m
+fixed_measured p ps vs add n m format few placed within held size small l =
+    let same : n ≡ length (picks_of ps vs add) * p.width = size ∙ ap (λ k. k * p.width) (sym (length_picks ps vs add)) in
+    leaf_measured p (picking_of ps vs add) Fixed n m format (readable p ps vs add Fixed format few placed within (lt-ltb _ _ (subst (λ k. k < 2 ^ 63) same small)) (l.leaf, held)) same l
+
+pub text_measured : (z : Offsets) (p : Part) (ps vs : List ℕ) (add n : ℕ) (m : Measure) → p.format ≡ Some (Text z) → length ps < 2 ^ 60 → is_placed p ≡ true → AreWithin (picks_of ps vs add) p.len
+    → IsTextLen z p (picks_of ps vs add) n → IsLeaf p n m → IsMeasured p (picking_of ps vs add) m
+text_measured z p ps vs add n m format few placed within t l =
+    leaf_measured p (picking_of ps vs add) (Text z) n m format (readable p ps vs add (Text z) format few placed within (lt-ltb _ _ (subst (λ k. k < limit_of z) t.len t.small)) (l.leaf, t.cut)) t.len l
+
+pub struct_measured : (p : Part) (ps vs : List ℕ) (add : ℕ) (m : Measure) → p.format ≡ Some Struct → length ps < 2 ^ 60 → is_placed p ≡ true → AreWithin (picks_of ps vs add) p.len
+    → m.values ≡ 0 → m.inner ≡ inners.Same → IsMeasured p (picking_of ps vs add) m
+struct_measured p ps vs add m format few placed within none same = record {
+  readable = readable p ps vs add Struct format few placed within refl tt;
+  values = none ∙ ap (λ (g : Option Format). values_len g p (picks_of ps vs add)) (sym format);
+  children = subst (λ (i : Inner). IsInner p (picking_of ps vs add) i) (sym same) format;
+}
+
+pub same_picking : (a b : Picking) → a.picks ≡ b.picks → a.nullable ≡ b.nullable → a ≡ b
+same_picking a b e f = let make : List (Option ℕ) → Bool → Picking = λ x y. record { picks = x; nullable = y } in ap₂ make e f
+
+pub items_listed : (z : Offsets) (p : Part) (q : Picking) (places : List ℕ) → p.format ≡ Some (Lists z) → places ≡ items_of z p q.picks → record { picks = inner_picks p.format p q.picks; nullable = inner_nullable p.format q.nullable } ≡ picking_of places [] 0
+items_listed z p q places format items =
+    same_picking _ _
+    (ap (λ (g : Option Format). inner_picks g p q.picks) format ∙ ap (λ (l : List ℕ). map Some l) (sym items) ∙ sym (all_picks places))
+    (ap (λ (g : Option Format). inner_nullable g q.nullable) format)
+
+pub list_measured : (z : Offsets) (p : Part) (ps vs : List ℕ) (add : ℕ) (items : Items) → p.format ≡ Some (Lists z) → length ps < 2 ^ 60 → is_placed p ≡ true → AreWithin (picks_of ps vs add) p.len → p.children ≡ 1
+    → AreItems z p (picks_of ps vs add) items.places.items items.end → IsMeasured p (picking_of ps vs add) (record { values = 0; inner = inners.Listed items })
+list_measured z p ps vs add items format few placed within one are = record {
+  readable = readable p ps vs add (Lists z) format few placed within (lt-ltb _ _ are.small) (one, are.cut);
+  values = ap (λ (g : Option Format). values_len g p (picks_of ps vs add)) (sym format);
+  children = record { one = one; listed = items_listed z p (picking_of ps vs add) items.places.items format are.items; below = are.below };
+}

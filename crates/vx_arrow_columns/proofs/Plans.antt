@@ -1,0 +1,201 @@
+-- The jobs of children, and the plan at the end of a walk.
+use Rattle.std.proofs.Common.{zero, suc, ◌≡◌, ℕ, ◌+◌, ◌-◌, ◌^◌, ◌<◌, ◌≤◌, Bool, true, false, cond, List, [], ◌∷◌, ◌++◌, length, get_or, take, drop, map, reverse, Option, Some, None, ap, ap₂, sym, ◌∙◌, refl, subst, arith, length-append, eq-eqb}
+use Rattle.std.specs.Prelude.{replicate}
+use Rattle.std.specs.Option.{option_map}
+use Rattle.std.proofs.lemmas.List.{append-nil, drop_all, get_or-map, length-map, map-append, get_or-append_right}
+use Rattle.vx_arrow_columns.specs.declared.format.Format.{Format}
+use Rattle.vx_arrow_columns.specs.declared.format.Format.TheVariants.{Struct}
+use Rattle.vx_arrow_columns.specs.declared.image.Node as image
+use Rattle.vx_arrow_columns.specs.declared.image.Need.{Need}
+use Rattle.vx_arrow_columns.specs.declared.needs.Inner.TheVariants as inners
+use Rattle.vx_arrow_columns.specs.declared.needs.Items.{Items}
+use Rattle.vx_arrow_columns.specs.declared.places.Places.{Places}
+use Rattle.vx_arrow_columns.specs.declared.plan.Job as jobs
+use Rattle.vx_arrow_columns.specs.declared.plan.Plan as plans
+use Rattle.vx_arrow_columns.specs.declared.plan.Walk as walks
+use Rattle.vx_arrow_columns.specs.Image.{Part, part_of}
+use Rattle.vx_arrow_columns.specs.Measured.{AreBelow}
+use Rattle.vx_arrow_columns.specs.Picks.{Picking, bytes_for, inner, inner_picks, inner_nullable, need_of, needs_by, offsets_len, picking_of, pickings, picks_of, shows_valid, values_len}
+use Rattle.vx_arrow_columns.specs.Planned.{IsListed, IsNext, IsPlanned, are_trees, first_len, picking_by, picking_in, places_in, valid_in}
+use Rattle.vx_arrow_columns.specs.Taken.{AreWithin}
+use Rattle.vx_arrow_columns.proofs.Measures.{same_picking}
+use Rattle.vx_arrow_columns.proofs.PickReads.{all_picks, length_picks, moved_picks}
+use Rattle.vx_arrow_columns.proofs.Walks.{WalkIs}
+
+-- ---- the same picks, further on
+
+moved_by : (ps vs : List ℕ) (ls : List Places) (o : Option ℕ) (a m by n : ℕ) → AreWithin (picking_by ps vs ls o a).picks n → by + n < 2 ^ 60 → (a + by < 2 ^ 64 → m ≡ a + by)
+    → picking_by ps vs ls o m ≡ record { picks = map (option_map (λ i. by + i)) (picking_by ps vs ls o a).picks; nullable = (picking_by ps vs ls o a).nullable }
+moved_by ps vs ls None a m by n w few e = same_picking _ _ (moved_picks ps vs a m by n w few e) refl
+moved_by ps vs ls (Some k) a m by n w few e = same_picking _ _ (moved_picks (places_in ls k) (valid_in ls k) a m by n w few e) refl
+
+moved_in : (ps vs : List ℕ) (ls : List Places) (job next : jobs.Job) (by n : ℕ) → next.list ≡ job.list → AreWithin (picking_in ps vs ls job).picks n → by + n < 2 ^ 60 → (job.add + by < 2 ^ 64 → next.add ≡ job.add + by)
+    → picking_in ps vs ls next ≡ record { picks = map (option_map (λ i. by + i)) (picking_in ps vs ls job).picks; nullable = (picking_in ps vs ls job).nullable }
+unfolding picking_in
+moved_in ps vs ls job next by n same w few e = ap (λ (o : Option ℕ). picking_by ps vs ls o next.add) same ∙ moved_by ps vs ls job.list job.add next.add by n w few e
+
+back : (by j : ℕ) (x : Option ℕ) → option_map (λ i. by + i) x ≡ Some j → (i : ℕ) × ((x ≡ Some i) × (j ≡ by + i))
+back by j None e = absurd (let f : None ≡ Some j = e in cc)
+back by j (Some x) e = (x, (refl, (let f : Some (by + x) ≡ Some j = e in cc)))
+
+moved_within : (q r : List (Option ℕ)) (by n m : ℕ) → r ≡ map (option_map (λ i. by + i)) q → AreWithin q n → by + n ≤ m → AreWithin r m
+moved_within q r by n m is within far = record {
+  below = λ k j h e.
+      let f = option_map (λ (i : ℕ). by + i) in
+      let low : k < length q = omega (arith, ap length is, length-map q f) in
+      let at = back by j (get_or q k None) (sym (get_or-map f q k None None low) ∙ sym (ap (λ (l : List (Option ℕ)). get_or l k None) is) ∙ e) in
+      let there = within.below k at.0 low at.1.0 in
+      omega (arith, at.1.1);
+}
+
+struct_inner : (p : Part) (q r : Picking) → p.format ≡ Some Struct → r ≡ record { picks = map (option_map (λ i. p.offset + i)) q.picks; nullable = q.nullable } → r ≡ inner p q
+struct_inner p q r format e = e ∙ sym (same_picking (inner p q) _ (ap (λ (g : Option Format). inner_picks g p q.picks) format) (ap (λ (g : Option Format). inner_nullable g q.nullable) format))
+
+pub next_same : (node : image.Node) (job next : jobs.Job) (old : List Places) → node.offset + node.len < 2 ^ 60 → next.list ≡ job.list → (job.add + node.offset < 2 ^ 64 → next.add ≡ job.add + node.offset) → next.end ≡ node.offset + node.len
+    → IsNext node job inners.Same old old next
+next_same node job next old few same sum end = record {
+  more = [];
+  grown = sym (append-nil old);
+  listed = λ h k e. h k (sym same ∙ e);
+  within = λ ps vs below w format.
+      let is = moved_in ps vs old job next node.offset node.len same w few sum in
+      moved_within (picking_in ps vs old job).picks (picking_in ps vs old next).picks node.offset node.len next.end (ap (λ (q : Picking). q.picks) is) w (omega arith);
+  picks = λ ps vs w format. ap (replicate node.children) (struct_inner (part_of node) (picking_in ps vs old job) (picking_in ps vs old next) format (moved_in ps vs old job next node.offset node.len same w few sum));
+}
+
+-- ---- a list of places
+
+last_list : (ls : List Places) (x : Places) (f : Places → List ℕ) → get_or (map f (ls ++ x ∷ [])) (length ls) [] ≡ f x
+last_list ls x f =
+    ap (λ (l : List (List ℕ)). get_or l (length ls) []) (map-append f ls (x ∷ []))
+    ∙ get_or-append_right (map f ls) (f x ∷ []) (length ls) (length ls) [] (length-map ls f) (omega arith)
+    ∙ ap (λ n. get_or (f x ∷ []) n []) (let z : length ls - length ls ≡ 0 = omega arith in z)
+
+listed_in : (ps vs : List ℕ) (ls new : List Places) (x : Places) (next : jobs.Job) → new ≡ ls ++ x ∷ [] → next.list ≡ Some (length ls) → next.add ≡ 0 → x.valid.items ≡ [] → picking_in ps vs new next ≡ picking_of x.places.items [] 0
+unfolding picking_in
+listed_in ps vs ls new x next e list none bits =
+    ap₂ (λ (o : Option ℕ) (a : ℕ). picking_by ps vs new o a) list none
+    ∙ ap₂ (λ (a : List ℕ) (b : List ℕ). picking_of a b 0)
+    (ap (λ (l : List Places). places_in l (length ls)) e ∙ last_list ls x (λ (y : Places). y.places.items))
+    (ap (λ (l : List Places). valid_in l (length ls)) e ∙ last_list ls x (λ (y : Places). y.valid.items) ∙ bits)
+
+below_within : (places : List ℕ) (end : ℕ) → AreBelow places end → AreWithin (picking_of places [] 0).picks end
+below_within places end b = record {
+  below = λ k i h e.
+      let all = all_picks places in
+      let low : k < length places = omega (arith, ap length all, length-map places Some) in
+      let at : Some (get_or places k 0) ≡ Some i = sym (get_or-map Some places k 0 None low) ∙ sym (ap (λ (l : List (Option ℕ)). get_or l k None) all) ∙ e in
+      let same : get_or places k 0 ≡ i = cc in
+      let under = b.below k low in
+      omega arith;
+}
+
+pub next_listed : (node : image.Node) (job next : jobs.Job) (old new : List Places) (items : Items) (x : Places) → new ≡ old ++ x ∷ [] → x.places ≡ items.places → x.valid.items ≡ [] → next.list ≡ Some (length old) → next.add ≡ 0 → next.end ≡ items.end
+    → IsNext node job (inners.Listed items) old new next
+next_listed node job next old new items x e same bits list none end = record {
+  more = x ∷ [];
+  grown = e;
+  listed = λ h k f. let at : Some (length old) ≡ Some k = sym list ∙ f in let here : length old ≡ k = cc in omega (arith, ap length e, length-append old (x ∷ []));
+  within = λ ps vs below w are.
+      subst (λ (q : Picking). AreWithin q.picks next.end) (sym (listed_in ps vs old new x next e list none bits))
+      (subst (λ (n : ℕ). AreWithin (picking_of x.places.items [] 0).picks n) (sym end)
+      (below_within x.places.items items.end (subst (λ (l : List ℕ). AreBelow l items.end) (ap (λ v. v.items) (sym same)) are.below)));
+  picks = λ ps vs w are. ap (replicate node.children) (listed_in ps vs old new x next e list none bits ∙ ap (λ v. picking_of v.items [] 0) same ∙ sym are.listed);
+}
+
+-- ---- the end of a walk
+
+empty : {X : Type 0} (xs : List X) → length xs ≡ 0 → xs ≡ []
+empty [] e = refl
+empty (x ∷ xs) e = absurd (omega arith)
+
+pub plan_done : (parts : List Part) (ps vs : List ℕ) (i : ℕ) (w : walks.Walk) → WalkIs parts ps vs i w → i ≡ length parts
+    → IsPlanned parts ps vs (record { jobs = w.jobs; lists = w.lists; needs = w.needs })
+plan_done parts ps vs i w is all =
+    let few = is.few in
+    let J = picking_in ps vs w.lists.items in
+    let none : w.stack.items ≡ [] = empty w.stack.items (omega arith) in
+    let behind : drop i parts ≡ [] = drop_all i parts (omega arith) in
+    let left : pickings (drop i parts) (map J (reverse w.stack.items)) ≡ [] = ap₂ (λ (l : List Part) (s : List jobs.Job). pickings l (map J (reverse s))) behind none in
+    record {
+      tree = is.tree ∙ ap₂ (λ (l : List Part) (s : List jobs.Job). are_trees l (length s)) behind none;
+      len = is.done ∙ all;
+      picks = sym (is.walk ∙ ap (λ (l : List Picking). map J w.jobs.items ++ l) left ∙ append-nil (map J w.jobs.items));
+      needs = sym (is.needs ∙ ap₂ (λ (l : List Part) (q : List Picking). w.needs.items ++ needs_by l q) behind left ∙ append-nil w.needs.items);
+      listed = is.listed;
+      readable = is.readable;
+    }
+
+-- ---- the picks of a job
+
+pub none_is : (ps vs : List ℕ) (ls : List Places) (job : jobs.Job) (add : ℕ) → job.list ≡ None → add ≡ job.add → picking_of ps vs add ≡ picking_in ps vs ls job
+unfolding picking_in
+none_is ps vs ls job add e same = ap (λ (a : ℕ). picking_of ps vs a) same ∙ sym (ap (λ (o : Option ℕ). picking_by ps vs ls o job.add) e)
+
+pub some_is : (ps vs : List ℕ) (ls : List Places) (job : jobs.Job) (k : ℕ) (x d : Places) (places valid : List ℕ) → job.list ≡ Some k → k < length ls → get_or ls k d ≡ x → places ≡ x.places.items → valid ≡ x.valid.items
+    → picking_of places valid job.add ≡ picking_in ps vs ls job
+unfolding picking_in
+some_is ps vs ls job k x d places valid e low at same bits =
+    ap₂ (λ (a : List ℕ) (b : List ℕ). picking_of a b job.add)
+    (same ∙ sym (ap (λ (y : Places). y.places.items) at) ∙ sym (get_or-map (λ (y : Places). y.places.items) ls k d [] low))
+    (bits ∙ sym (ap (λ (y : Places). y.valid.items) at) ∙ sym (get_or-map (λ (y : Places). y.valid.items) ls k d [] low))
+    ∙ sym (ap (λ (o : Option ℕ). picking_by ps vs ls o job.add) e)
+
+-- ---- needs
+
+pub need_is : (p : Part) (ps vs : List ℕ) (add valid offs values : ℕ) → valid ≡ cond (shows_valid p (picking_of ps vs add)) (bytes_for (length ps)) 0 → offs ≡ offsets_len p.format (length ps) → values ≡ values_len p.format p (picks_of ps vs add)
+    → record { len = length ps; valid = valid; offsets = offs; values = values; sizes = 0 } ≡ need_of p (picking_of ps vs add)
+need_is p ps vs add valid offs values e f g =
+    let make : ℕ → ℕ → ℕ → ℕ → Need = λ a b c d. record { len = a; valid = b; offsets = c; values = d; sizes = 0 } in
+    let n = sym (length_picks ps vs add) in
+    ap (λ (a : ℕ). make a valid offs values) n
+    ∙ ap (λ (b : ℕ). make (length (picks_of ps vs add)) b offs values) (e ∙ ap (λ (m : ℕ). cond (shows_valid p (picking_of ps vs add)) (bytes_for m) 0) n)
+    ∙ ap₂ (λ (c : ℕ) (d : ℕ). make (length (picks_of ps vs add)) (cond (shows_valid p (picking_of ps vs add)) (bytes_for (length (picks_of ps vs add))) 0) c d) (f ∙ ap (offsets_len p.format) n) g
+
+needs_len : (ps : List Part) (qs : List Picking) → length qs ≡ length ps → length (needs_by ps qs) ≡ length ps
+needs_len [] qs e = refl
+needs_len (p ∷ ps) [] e = absurd (omega arith)
+needs_len (p ∷ ps) (q ∷ qs) e = omega (arith, needs_len ps qs (omega arith))
+
+pub planned_picks : (parts : List Part) (ps vs : List ℕ) (plan : plans.Plan) → IsPlanned parts ps vs plan → length (pickings parts (picking_of ps vs 0 ∷ [])) ≡ length parts
+planned_picks parts ps vs plan is = sym (ap length is.picks) ∙ length-map plan.jobs.items (picking_in ps vs plan.lists.items) ∙ is.len
+
+pub planned_needs : (parts : List Part) (ps vs : List ℕ) (plan : plans.Plan) → IsPlanned parts ps vs plan → length plan.needs.items ≡ length parts
+planned_needs parts ps vs plan is = ap length is.needs ∙ needs_len parts (pickings parts (picking_of ps vs 0 ∷ [])) (planned_picks parts ps vs plan is)
+
+-- the picks and the need of a node of a plan
+pub planned_at : (parts : List Part) (ps vs : List ℕ) (plan : plans.Plan) (k : ℕ) (d : jobs.Job) (q : Picking) → IsPlanned parts ps vs plan → k < length parts
+    → get_or (pickings parts (picking_of ps vs 0 ∷ [])) k q ≡ picking_in ps vs plan.lists.items (get_or plan.jobs.items k d)
+planned_at parts ps vs plan k d q is h = ap (λ (l : List Picking). get_or l k q) (sym is.picks) ∙ get_or-map (picking_in ps vs plan.lists.items) plan.jobs.items k d q (omega (arith, is.len))
+
+need_by_at : (ps : List Part) (qs : List Picking) (k : ℕ) (n : Need) (d : Part) (q : Picking) → length qs ≡ length ps → k < length ps → get_or (needs_by ps qs) k n ≡ need_of (get_or ps k d) (get_or qs k q)
+need_by_at [] qs k n d q e h = absurd (omega arith)
+need_by_at (p ∷ ps) [] k n d q e h = absurd (omega arith)
+need_by_at (p ∷ ps) (x ∷ qs) zero n d q e h = refl
+need_by_at (p ∷ ps) (x ∷ qs) (suc k) n d q e h = need_by_at ps qs k n d q (omega arith) (omega arith)
+
+pub planned_need : (parts : List Part) (ps vs : List ℕ) (plan : plans.Plan) (k : ℕ) (n : Need) (d : Part) (e : jobs.Job) → IsPlanned parts ps vs plan → k < length parts
+    → get_or plan.needs.items k n ≡ need_of (get_or parts k d) (picking_in ps vs plan.lists.items (get_or plan.jobs.items k e))
+planned_need parts ps vs plan k n d e is h =
+    let q = picking_in ps vs plan.lists.items (get_or plan.jobs.items k e) in
+    ap (λ (l : List Need). get_or l k n) is.needs
+    ∙ need_by_at parts (pickings parts (picking_of ps vs 0 ∷ [])) k n d q (planned_picks parts ps vs plan is) h
+    ∙ ap (need_of (get_or parts k d)) (planned_at parts ps vs plan k e q is h)
+
+pub first_is : (nodes : List image.Node) (d : image.Node) (q : List (Option ℕ)) → AreWithin q (get_or nodes 0 d).len → 0 < length nodes → AreWithin q (first_len nodes)
+first_is [] d q w some = absurd (omega arith)
+first_is (n ∷ nodes) d q w some = w
+
+-- the node that a read past the end would give
+abbrev pub zero_node : image.Node
+zero_node = record {
+  format = 0;
+  width = 0;
+  len = 0;
+  offset = 0;
+  children = 0;
+  valid = record { ref_ptr = (0, 0); now = [] };
+  offsets = record { ref_ptr = (0, 0); now = [] };
+  values = record { ref_ptr = (0, 0); now = [] };
+  sizes = record { ref_ptr = (0, 0); now = [] };
+}

@@ -1,0 +1,303 @@
+-- One more row, written or measured.
+use Rattle.std.proofs.Common.{◌≡◌, ℕ, ◌+◌, ◌-◌, ◌*◌, ◌^◌, ◌<◌, ◌≤◌, ◌≢◌, Bool, true, false, List, [], ◌∷◌, ◌++◌, length, get_or, take, drop, Option, Some, None, ap, ap₂, sym, ◌∙◌, refl, subst, inl, inr, arith, length-append, lit<, lit≤}
+use Rattle.std.specs.Prelude.{slice_range}
+use Rattle.std.specs.List.{range_with_len, flat_map}
+use Rattle.std.proofs.lemmas.Bool.{cases_eq, cases_lt}
+use Rattle.std.proofs.lemmas.List.{append-nil, length-take-le, length-drop, take_all, take_more, flat_map_more, get_or_append_left, get_or-append_right, take-take}
+use Rattle.std.proofs.lemmas.List.FromFn.{length-range_with_len, get_or-range_with_len}
+use Rattle.std.proofs.Math.Nat.{mul-le-mul_right, add-mul, one-mul}
+use Rattle.vx_arrow_columns.specs.declared.format.Offsets.{Offsets}
+use Rattle.vx_arrow_columns.specs.declared.format.Offsets.TheVariants.{Short, Long}
+use Rattle.vx_arrow_columns.specs.Image.{Part, bit_of, holds_offsets, is_cut, limit_of, offset_at}
+use Rattle.vx_arrow_columns.specs.Measured.{AreBelow}
+use Rattle.vx_arrow_columns.specs.Picks.{items_len, items_of, pick_at, picks_of, place_of, row_items, row_len}
+use Rattle.vx_arrow_columns.specs.Taken.{AreBits, AreCutAt, AreFixed, AreOffsets, row_text, texts_of}
+use Rattle.vx_arrow_columns.specs.Written.{PutsBit, PutsOffset}
+use Rattle.vx_arrow_columns.proofs.Bytes.{put_at, put_there, put_front, cut_before}
+use Rattle.vx_arrow_columns.proofs.Cuts.{len_more, len_all, len_zero}
+use Rattle.vx_arrow_columns.proofs.PickReads.{get_picks, length_picks}
+
+-- ---- the place of a pick
+
+pub at_pick : (p : Part) (ps vs : List ℕ) (add k : ℕ) (o : Option ℕ) → k < length ps → o ≡ place_of p (pick_at ps vs add k) → place_of p (get_or (picks_of ps vs add) k None) ≡ o
+at_pick p ps vs add k o h e = ap (place_of p) (get_picks ps vs add k h) ∙ sym e
+
+same_some : (i j : ℕ) (o : Option ℕ) → o ≡ Some i → o ≡ Some j → i ≡ j
+same_some i j o e f = cc
+
+none_some : (i : ℕ) (o : Option ℕ) → o ≡ None → o ≡ Some i → ⊥
+none_some i o e f = cc
+
+-- ---- bits
+
+pub no_bits : (p : Part) (q : List (Option ℕ)) (out : List ℕ) → AreBits p q 0 out
+no_bits p q out = record { values = λ k i h e. absurd (omega arith) }
+
+pub bits_kept : (p : Part) (q : List (Option ℕ)) (k : ℕ) (out new : List ℕ) → place_of p (get_or q k None) ≡ None → new ≡ out → AreBits p q k out → AreBits p q (k + 1) new
+bits_kept p q k out new e same b = subst (λ (l : List ℕ). AreBits p q (k + 1) l) (sym same) (record {
+  values = λ j i below f. elim (cases_eq j k) as (λ _. bit_of out j ≡ bit_of p.values i) [
+    | inl here ↦ absurd (none_some i _ e (ap (λ (n : ℕ). place_of p (get_or q n None)) (sym here) ∙ f))
+    | inr other ↦ b.values j i (omega arith) f
+  ];
+})
+
+pub bits_put : (p : Part) (q : List (Option ℕ)) (k i : ℕ) (out mid new : List ℕ) (bit : Bool) → place_of p (get_or q k None) ≡ Some i → bit ≡ bit_of p.values i → new ≡ mid → PutsBit out mid k bit → AreBits p q k out → AreBits p q (k + 1) new
+bits_put p q k i out mid new bit e g same put b = subst (λ (l : List ℕ). AreBits p q (k + 1) l) (sym same) (record {
+  values = λ j n below f. elim (cases_eq j k) as (λ _. bit_of mid j ≡ bit_of p.values n) [
+    | inl here ↦
+        let there : i ≡ n = same_some i n _ e (ap (λ (m : ℕ). place_of p (get_or q m None)) (sym here) ∙ f) in
+        ap (bit_of mid) here ∙ put.put ∙ g ∙ ap (bit_of p.values) there
+    | inr other ↦ put.others j other ∙ b.values j n (omega arith) f
+  ];
+})
+
+-- ---- values of a fixed width
+
+pub no_fixed : (p : Part) (q : List (Option ℕ)) (out : List ℕ) → AreFixed p q 0 out
+no_fixed p q out = record { values = λ k i h e. absurd (omega arith) }
+
+pub fixed_kept : (p : Part) (q : List (Option ℕ)) (k : ℕ) (out new : List ℕ) → place_of p (get_or q k None) ≡ None → new ≡ out → AreFixed p q k out → AreFixed p q (k + 1) new
+fixed_kept p q k out new e same b = subst (λ (l : List ℕ). AreFixed p q (k + 1) l) (sym same) (record {
+  values = λ j i below f. elim (cases_eq j k) as (λ _. take p.width (drop (j * p.width) out) ≡ take p.width (drop (i * p.width) p.values)) [
+    | inl here ↦ absurd (none_some i _ e (ap (λ (n : ℕ). place_of p (get_or q n None)) (sym here) ∙ f))
+    | inr other ↦ b.values j i (omega arith) f
+  ];
+})
+
+pub next_place : (j k w : ℕ) → j < k → j * w + w ≤ k * w
+next_place j k w h = let e : (j + 1) * w ≡ j * w + w = add-mul j 1 w ∙ ap (λ n. j * w + n) (one-mul w) in omega (arith, mul-le-mul_right {m = j + 1} {n = k} w (omega arith))
+
+fixed_some : (p : Part) (q : List (Option ℕ)) (k i : ℕ) (out src : List ℕ) → place_of p (get_or q k None) ≡ Some i → src ≡ take p.width (drop (i * p.width) p.values) → length src ≡ p.width → k * p.width ≤ length out
+    → AreFixed p q k out → AreFixed p q (k + 1) (put_at out src (k * p.width))
+fixed_some p q k i out src e g long room b = record {
+  values = λ j n below f. elim (cases_eq j k) as (λ _. take p.width (drop (j * p.width) (put_at out src (k * p.width))) ≡ take p.width (drop (n * p.width) p.values)) [
+    | inl same ↦
+        let there : i ≡ n = same_some i n _ e (ap (λ (m : ℕ). place_of p (get_or q m None)) (sym same) ∙ f) in
+        ap (λ m. take p.width (drop (m * p.width) (put_at out src (k * p.width)))) same
+        ∙ ap (λ m. take m (drop (k * p.width) (put_at out src (k * p.width)))) (sym long)
+        ∙ put_there out src (k * p.width) room
+        ∙ g ∙ ap (λ m. take p.width (drop (m * p.width) p.values)) there
+    | inr other ↦ cut_before out (src ++ drop (k * p.width + length src) out) (j * p.width) p.width (k * p.width) (next_place j k p.width (omega arith)) room ∙ b.values j n (omega arith) f
+  ];
+}
+
+pub fixed_put : (p : Part) (q : List (Option ℕ)) (k i m : ℕ) (out new : List ℕ) → place_of p (get_or q k None) ≡ Some i → i < p.offset + p.len
+    → m ≡ p.width → (p.offset + p.len) * p.width ≤ length p.values → k * p.width ≤ length out
+    → new ≡ put_at out (take m (drop (i * p.width) p.values)) (k * p.width)
+    → AreFixed p q k out → AreFixed p q (k + 1) new
+fixed_put p q k i m out new e low size long room eq b =
+    let fits : i * p.width + p.width ≤ (p.offset + p.len) * p.width = next_place i (p.offset + p.len) p.width low in
+    let wide : length (take m (drop (i * p.width) p.values)) ≡ m = length-take-le m (drop (i * p.width) p.values) (omega (arith, length-drop (i * p.width) p.values)) in
+    subst (λ (l : List ℕ). AreFixed p q (k + 1) l) (sym eq)
+    (fixed_some p q k i out (take m (drop (i * p.width) p.values)) e (ap (λ (n : ℕ). take n (drop (i * p.width) p.values)) size) (wide ∙ size) room b)
+
+-- ---- offsets
+
+-- `at` items are those of the first k rows, and the offsets say so
+pub record OffsetsTo (z : Offsets) (p : Part) (q : List (Option ℕ)) (k at : ℕ) (out : List ℕ) : Type 0 where
+  pub len : at ≡ items_len z p (take k q)
+  pub are : AreOffsets z p q k out
+
+pub first_offset : (z : Offsets) (p : Part) (q : List (Option ℕ)) (at : ℕ) (old out : List ℕ) → PutsOffset z old out 0 at → at ≡ 0 → OffsetsTo z p q 0 at out
+first_offset z p q at old out put e = record {
+  len = e ∙ sym (len_zero z p q);
+  are = record { ends = λ k h. let first : k ≡ 0 = omega arith in ap (offset_at z out) first ∙ put.put ∙ e ∙ sym (len_zero z p q) ∙ ap (λ n. items_len z p (take n q)) (sym first) };
+}
+
+pub next_len : (z : Offsets) (p : Part) (q : List (Option ℕ)) (k at new : ℕ) (o : Option ℕ) → k < length q → place_of p (get_or q k None) ≡ o → at ≡ items_len z p (take k q) → new ≡ at + row_len z p o → new ≡ items_len z p (take (k + 1) q)
+next_len z p q k at new o h there len step = step ∙ ap₂ ◌+◌ len (ap (row_len z p) (sym there)) ∙ sym (len_more z p q k h)
+
+pub next_offset : (z : Offsets) (p : Part) (q : List (Option ℕ)) (k at new : ℕ) (o : Option ℕ) (old out : List ℕ) → k < length q → place_of p (get_or q k None) ≡ o → new ≡ at + row_len z p o → PutsOffset z old out (k + 1) new
+    → OffsetsTo z p q k at old → OffsetsTo z p q (k + 1) new out
+next_offset z p q k at new o old out h there step put to =
+    let len = next_len z p q k at new o h there to.len step in
+    record {
+      len = len;
+      are = record {
+        ends = λ j below. elim (cases_eq j (k + 1)) as (λ _. offset_at z out j ≡ items_len z p (take j q)) [
+          | inl e ↦ ap (offset_at z out) e ∙ put.put ∙ len ∙ ap (λ n. items_len z p (take n q)) (sym e)
+          | inr other ↦ put.before j (omega arith) ∙ to.are.ends j (omega arith)
+        ];
+      };
+    }
+
+pub row_some : (z : Offsets) (p : Part) (i s e at new : ℕ) → s ≡ offset_at z p.offsets i → e ≡ offset_at z p.offsets (i + 1) → new ≡ at + (e - s) → new ≡ at + row_len z p (Some i)
+row_some z p i s e at new from to step = step ∙ ap (λ n. at + n) (ap₂ ◌-◌ to from)
+
+pub row_none : (z : Offsets) (p : Part) (at new : ℕ) → new ≡ at → new ≡ at + row_len z p None
+row_none z p at new e = omega arith
+
+-- ---- texts
+
+-- the bytes of the first k texts are written
+pub record TextsTo (z : Offsets) (p : Part) (q : List (Option ℕ)) (k at : ℕ) (out : List ℕ) : Type 0 where
+  pub len : at ≡ items_len z p (take k q)
+  pub are : take at out ≡ texts_of z p (take k q)
+
+pub no_texts : (z : Offsets) (p : Part) (q : List (Option ℕ)) (at : ℕ) (out : List ℕ) → at ≡ 0 → TextsTo z p q 0 at out
+unfolding texts_of
+no_texts z p q at out e = record { len = e ∙ sym (len_zero z p q); are = ap (λ n. take n out) e }
+
+texts_more : (z : Offsets) (p : Part) (q : List (Option ℕ)) (k : ℕ) → k < length q → texts_of z p (take (k + 1) q) ≡ texts_of z p (take k q) ++ row_text z p (place_of p (get_or q k None))
+unfolding texts_of
+texts_more z p q k h =
+    let f = λ (o : Option ℕ). row_text z p (place_of p o) in
+    ap (flat_map f) (take_more q k None h) ∙ sym (flat_map_more f [] (take k q) (get_or q k None))
+
+pub text_put : (z : Offsets) (p : Part) (q : List (Option ℕ)) (k i at new s e m : ℕ) (old out : List ℕ) → k < length q → place_of p (get_or q k None) ≡ Some i
+    → s ≡ offset_at z p.offsets i → e ≡ offset_at z p.offsets (i + 1) → s ≤ e → e ≤ length p.values → m ≡ e - s → new ≡ at + m → at + m ≤ length old
+    → out ≡ put_at old (take m (drop s p.values)) at → TextsTo z p q k at old → TextsTo z p q (k + 1) new out
+text_put z p q k i at new s e m old out h there from to up end size step room put t =
+    let src = take m (drop s p.values) in
+    let wide : length src ≡ m = length-take-le m (drop s p.values) (omega (arith, length-drop s p.values)) in
+    let cut : src ≡ row_text z p (Some i) = ap (λ n. take n (drop s p.values)) size ∙ ap₂ (λ (a : ℕ) (b : ℕ). slice_range p.values a b) from to in
+    record {
+      len = next_len z p q k at new (Some i) h there t.len (row_some z p i s e at new from to (omega arith));
+      are = ap₂ (λ (n : ℕ) (l : List ℕ). take n l) (let f : new ≡ at + length src = omega arith in f) put
+          ∙ put_front old src at (omega arith)
+          ∙ ap₂ ◌++◌ t.are (cut ∙ ap (row_text z p) (sym there)) ∙ sym (texts_more z p q k h);
+    }
+
+pub text_kept : (z : Offsets) (p : Part) (q : List (Option ℕ)) (k at new : ℕ) (old out : List ℕ) → k < length q → place_of p (get_or q k None) ≡ None → new ≡ at → out ≡ old
+    → TextsTo z p q k at old → TextsTo z p q (k + 1) new out
+text_kept z p q k at new old out h there step same t = record {
+  len = next_len z p q k at new None h there t.len (row_none z p at new step);
+  are = ap₂ (λ (n : ℕ) (l : List ℕ). take n l) step same ∙ t.are ∙ sym (append-nil (texts_of z p (take k q))) ∙ ap (λ (o : Option ℕ). texts_of z p (take k q) ++ row_text z p o) (sym there) ∙ sym (texts_more z p q k h);
+}
+
+pub all_texts : (z : Offsets) (p : Part) (q : List (Option ℕ)) (k at : ℕ) (out : List ℕ) → length q ≤ k → TextsTo z p q k at out → take (items_len z p q) out ≡ texts_of z p q
+all_texts z p q k at out h t = ap (λ n. take n out) (sym (t.len ∙ len_all z p q k h)) ∙ t.are ∙ ap (texts_of z p) (take_all k q h)
+
+-- ---- what is measured
+
+-- the first k rows are cut as they should be
+pub record CutTo (z : Offsets) (p : Part) (q : List (Option ℕ)) (count k : ℕ) : Type 0 where
+  pub cut : (j i : ℕ) → j < k → place_of p (get_or q j None) ≡ Some i → is_cut z p count i ≡ true
+
+pub no_cut : (z : Offsets) (p : Part) (q : List (Option ℕ)) (count : ℕ) → CutTo z p q count 0
+no_cut z p q count = record { cut = λ j i h e. absurd (omega arith) }
+
+pub cut_some : (z : Offsets) (p : Part) (q : List (Option ℕ)) (count k i : ℕ) → place_of p (get_or q k None) ≡ Some i → is_cut z p count i ≡ true → CutTo z p q count k → CutTo z p q count (k + 1)
+cut_some z p q count k i there own c = record {
+  cut = λ j n h e. elim (cases_eq j k) as (λ _. is_cut z p count n ≡ true) [
+    | inl same ↦ subst (λ (m : ℕ). is_cut z p count m ≡ true) (same_some i n _ there (ap (λ (m : ℕ). place_of p (get_or q m None)) (sym same) ∙ e)) own
+    | inr other ↦ c.cut j n (omega arith) e
+  ];
+}
+
+pub cut_none : (z : Offsets) (p : Part) (q : List (Option ℕ)) (count k : ℕ) → place_of p (get_or q k None) ≡ None → CutTo z p q count k → CutTo z p q count (k + 1)
+cut_none z p q count k there c = record {
+  cut = λ j n h e. elim (cases_eq j k) as (λ _. is_cut z p count n ≡ true) [
+    | inl same ↦ absurd (none_some n _ there (ap (λ (m : ℕ). place_of p (get_or q m None)) (sym same) ∙ e))
+    | inr other ↦ c.cut j n (omega arith) e
+  ];
+}
+
+pub all_cut : (z : Offsets) (p : Part) (q : List (Option ℕ)) (count k : ℕ) → holds_offsets z p ≡ true → length q ≤ k → CutTo z p q count k → AreCutAt z p q count
+all_cut z p q count k held h c = record { held = held; cut = λ j i b e. c.cut j i (omega arith) e }
+
+pub items_zero : (z : Offsets) (p : Part) (q : List (Option ℕ)) → items_of z p (take 0 q) ≡ []
+unfolding items_of
+items_zero z p q = refl
+
+items_more : (z : Offsets) (p : Part) (q : List (Option ℕ)) (k : ℕ) → k < length q → items_of z p (take (k + 1) q) ≡ items_of z p (take k q) ++ row_items z p (place_of p (get_or q k None))
+unfolding items_of
+items_more z p q k h =
+    let f = λ (o : Option ℕ). row_items z p (place_of p o) in
+    ap (flat_map f) (take_more q k None h) ∙ sym (flat_map_more f [] (take k q) (get_or q k None))
+
+pub items_all : (z : Offsets) (p : Part) (q : List (Option ℕ)) (k : ℕ) → length q ≤ k → items_of z p (take k q) ≡ items_of z p q
+items_all z p q k h = ap (items_of z p) (take_all k q h)
+
+pub items_some : (z : Offsets) (p : Part) (q : List (Option ℕ)) (k i s e : ℕ) (items new : List ℕ) → k < length q → place_of p (get_or q k None) ≡ Some i → s ≡ offset_at z p.offsets i → e ≡ offset_at z p.offsets (i + 1)
+    → items ≡ items_of z p (take k q) → new ≡ items ++ range_with_len s (e - s) → new ≡ items_of z p (take (k + 1) q)
+items_some z p q k i s e items new h there from to old pushed =
+    pushed ∙ ap₂ (λ (l : List ℕ) (r : List ℕ). l ++ r) old (ap₂ (λ (a : ℕ) (b : ℕ). range_with_len a (b - a)) from to ∙ ap (row_items z p) (sym there)) ∙ sym (items_more z p q k h)
+
+pub items_none : (z : Offsets) (p : Part) (q : List (Option ℕ)) (k : ℕ) (items new : List ℕ) → k < length q → place_of p (get_or q k None) ≡ None → items ≡ items_of z p (take k q) → new ≡ items → new ≡ items_of z p (take (k + 1) q)
+items_none z p q k items new h there old same =
+    same ∙ old ∙ sym (append-nil (items_of z p (take k q))) ∙ ap (λ (o : Option ℕ). items_of z p (take k q) ++ row_items z p o) (sym there) ∙ sym (items_more z p q k h)
+
+-- ---- places below an end
+
+pub none_below : (places : List ℕ) (end : ℕ) → places ≡ [] → AreBelow places end
+none_below places end e = record { below = λ k h. absurd (omega (arith, ap length e)) }
+
+pub more_below : (places new : List ℕ) (s e last last' : ℕ) → AreBelow places last → new ≡ places ++ range_with_len s (e - s) → last ≤ last' → e ≤ last' → AreBelow new last'
+more_below places new s e last last' b pushed up end =
+    let r = range_with_len s (e - s) in
+    let size : length r ≡ e - s = length-range_with_len s (e - s) in
+    let long : length new ≡ length places + length r = ap length pushed ∙ length-append places r in
+    record {
+      below = λ j g. elim (cases_lt j (length places)) as (λ _. get_or new j 0 < last') [
+        | inl low ↦ let at : get_or new j 0 ≡ get_or places j 0 = ap (λ (l : List ℕ). get_or l j 0) pushed ∙ get_or_append_left places r 0 j low in
+            let under = b.below j low in omega arith
+        | inr high ↦
+            let at : get_or new j 0 ≡ get_or r (j - length places) 0 = ap (λ (l : List ℕ). get_or l j 0) pushed ∙ get_or-append_right places r (length places) j 0 refl high in
+            let is = get_or-range_with_len s (e - s) (j - length places) 0 (omega arith) in
+            omega arith
+      ];
+    }
+
+pub same_below : (places new : List ℕ) (last : ℕ) → AreBelow places last → new ≡ places → AreBelow new last
+same_below places new last b e = subst (λ (l : List ℕ). AreBelow l last) (sym e) b
+
+-- ---- the loops that measure
+
+-- the first k rows are cut as they should be, and have so many items
+pub record LenTo (z : Offsets) (p : Part) (q : List (Option ℕ)) (count k total : ℕ) : Type 0 where
+  pub cut : CutTo z p q count k
+  pub len : total ≡ items_len z p (take k q)
+  pub small : total < limit_of z
+
+limit_some : (z : Offsets) → 0 < limit_of z
+limit_some Short = lit< tt
+limit_some Long = lit< tt
+
+pub no_len : (z : Offsets) (p : Part) (q : List (Option ℕ)) (count total : ℕ) → total ≡ 0 → LenTo z p q count 0 total
+no_len z p q count total e = record { cut = no_cut z p q count; len = e ∙ sym (len_zero z p q); small = let s = limit_some z in omega arith }
+
+pub len_some : (z : Offsets) (p : Part) (q : List (Option ℕ)) (count k i s e total new : ℕ) → k < length q → place_of p (get_or q k None) ≡ Some i → s ≡ offset_at z p.offsets i → e ≡ offset_at z p.offsets (i + 1)
+    → is_cut z p count i ≡ true → new ≡ total + (e - s) → new < limit_of z → LenTo z p q count k total → LenTo z p q count (k + 1) new
+len_some z p q count k i s e total new h there from to own step small t = record {
+  cut = cut_some z p q count k i there own t.cut;
+  len = next_len z p q k total new (Some i) h there t.len (row_some z p i s e total new from to step);
+  small = small;
+}
+
+pub len_none : (z : Offsets) (p : Part) (q : List (Option ℕ)) (count k total new : ℕ) → k < length q → place_of p (get_or q k None) ≡ None → new ≡ total → LenTo z p q count k total → LenTo z p q count (k + 1) new
+len_none z p q count k total new h there step t = record {
+  cut = cut_none z p q count k there t.cut;
+  len = next_len z p q k total new None h there t.len (row_none z p total new step);
+  small = let s = t.small in omega arith;
+}
+
+-- and their items are these places, below `last`
+pub record ItemsTo (z : Offsets) (p : Part) (q : List (Option ℕ)) (k total : ℕ) (places : List ℕ) (last : ℕ) : Type 0 where
+  pub lens : LenTo z p q (limit_of z) k total
+  pub items : places ≡ items_of z p (take k q)
+  pub below : AreBelow places last
+
+pub no_places : (z : Offsets) (p : Part) (q : List (Option ℕ)) (total : ℕ) (places : List ℕ) (last : ℕ) → total ≡ 0 → places ≡ [] → ItemsTo z p q 0 total places last
+no_places z p q total places last e none = record { lens = no_len z p q (limit_of z) total e; items = none ∙ sym (items_zero z p q); below = none_below places last none }
+
+pub places_some : (z : Offsets) (p : Part) (q : List (Option ℕ)) (k i s e total new : ℕ) (places more : List ℕ) (last last' : ℕ) → k < length q → place_of p (get_or q k None) ≡ Some i → s ≡ offset_at z p.offsets i → e ≡ offset_at z p.offsets (i + 1)
+    → is_cut z p (limit_of z) i ≡ true → new ≡ total + (e - s) → new < limit_of z → more ≡ places ++ range_with_len s (e - s) → last ≤ last' → e ≤ last'
+    → ItemsTo z p q k total places last → ItemsTo z p q (k + 1) new more last'
+places_some z p q k i s e total new places more last last' h there from to own step small pushed up end t = record {
+  lens = len_some z p q (limit_of z) k i s e total new h there from to own step small t.lens;
+  items = items_some z p q k i s e places more h there from to t.items pushed;
+  below = more_below places more s e last last' t.below pushed up end;
+}
+
+pub places_none : (z : Offsets) (p : Part) (q : List (Option ℕ)) (k total new : ℕ) (places more : List ℕ) (last last' : ℕ) → k < length q → place_of p (get_or q k None) ≡ None → new ≡ total → more ≡ places → last' ≡ last
+    → ItemsTo z p q k total places last → ItemsTo z p q (k + 1) new more last'
+places_none z p q k total new places more last last' h there step same e t = record {
+  lens = len_none z p q (limit_of z) k total new h there step t.lens;
+  items = items_none z p q k places more h there t.items same;
+  below = subst (λ (n : ℕ). AreBelow more n) (sym e) (same_below places more last t.below same);
+}
+
+pub limit_few : (z : Offsets) → limit_of z ≤ 2 ^ 60
+limit_few Short = lit≤ tt
+limit_few Long = omega arith

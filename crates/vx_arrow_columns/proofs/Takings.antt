@@ -1,0 +1,142 @@
+-- The rooms of all nodes, written one after another.
+use Rattle.std.proofs.Common.{zero, suc, ◌≡◌, ℕ, ◌+◌, ◌-◌, ◌<◌, ◌≤◌, ◌≢◌, Bool, true, List, [], ◌∷◌, ◌++◌, length, get_or, set, map, Option, Some, None, ap, ap₂, sym, ◌∙◌, refl, subst, inl, inr, arith, get_or-set_same, get_or-set_other, length-set}
+use Rattle.std.proofs.lemmas.Bool.{cases_eq}
+use Rattle.std.specs.Prelude.{IsSome, is_some}
+use Rattle.std.proofs.lemmas.List.{get_or-map, length-map}
+use Rattle.vx_arrow_columns.specs.declared.image.Need.{Need}
+use Rattle.vx_arrow_columns.specs.declared.image.Room.{Room}
+use Rattle.vx_arrow_columns.specs.declared.image.Node as image
+use Rattle.vx_arrow_columns.specs.declared.places.Places.{Places}
+use Rattle.vx_arrow_columns.specs.declared.plan.Job.{Job}
+use Rattle.vx_arrow_columns.specs.declared.plan.Plan as plans
+use Rattle.vx_arrow_columns.specs.Answer.{AreTaken, HaveRoom, MeansPicked}
+use Rattle.vx_arrow_columns.specs.Rows.{RowValue}
+use Rattle.vx_arrow_columns.specs.Image.{Part, column_in, part_of, parts_of}
+use Rattle.vx_arrow_columns.specs.Picks.{Picking, need_of, needs_by, picking_of, pickings, picks_of}
+use Rattle.vx_arrow_columns.specs.Planned.{IsPlanned, are_trees, first_len, picking_in}
+use Rattle.vx_arrow_columns.specs.Taken.{AreWithin, IsOwnTaken, IsReadable}
+use Rattle.vx_arrow_columns.specs.Written.{has_room, written, written_by, written_part}
+use Rattle.vx_arrow_columns.proofs.Plans.{planned_at, planned_need}
+use Rattle.vx_arrow_columns.proofs.Trees.{AllTaken, column_len, picked_column, sound_column}
+
+-- the rooms of the nodes before i are written, and the others are large enough
+pub record TakenTo (parts : List Part) (qs : List Picking) (needs : List Need) (i : ℕ) (rooms : List Room) : Type 0 where
+  pub taken : (k : ℕ) (d : Part) (q : Picking) (r : Room) → k < i → IsOwnTaken (get_or parts k d) (written_part (get_or parts k d) (get_or qs k q) (get_or rooms k r)) (get_or qs k q)
+  pub room : (k : ℕ) (d : Need) (r : Room) → i ≤ k → k < length rooms → has_room (get_or needs k d) (get_or rooms k r) ≡ true
+
+pub none_taken : (parts : List Part) (qs : List Picking) (needs : List Need) (rooms : List Room) → HaveRoom needs rooms → TakenTo parts qs needs 0 rooms
+none_taken parts qs needs rooms h = record { taken = λ k d q r l. absurd (omega arith); room = λ k d r l b. h.room k d r b }
+
+any_default : {X : Type 0} (xs : List X) (i : ℕ) (d e : X) → i < length xs → get_or xs i d ≡ get_or xs i e
+any_default [] i d e h = absurd (omega arith)
+any_default (x ∷ xs) zero d e h = refl
+any_default (x ∷ xs) (suc i) d e h = any_default xs i d e (omega arith)
+
+pub one_taken : (parts : List Part) (qs : List Picking) (needs : List Need) (i : ℕ) (rooms : List Room) (room : Room) (p : Part) (q : Picking) (e : Part) (f : Picking) → i < length parts → i < length qs → i < length rooms
+    → get_or parts i e ≡ p → get_or qs i f ≡ q → IsOwnTaken p (written_part p q room) q → TakenTo parts qs needs i rooms → TakenTo parts qs needs (i + 1) (set rooms i room)
+one_taken parts qs needs i rooms room p q e f in_parts in_qs in_rooms at_p at_q own t = record {
+  taken = λ k d g r h. elim (cases_eq k i) as (λ _. IsOwnTaken (get_or parts k d) (written_part (get_or parts k d) (get_or qs k g) (get_or (set rooms i room) k r)) (get_or qs k g)) [
+    | inl same ↦
+        let P : get_or parts k d ≡ p = ap (λ n. get_or parts n d) same ∙ any_default parts i d e in_parts ∙ at_p in
+        let Q : get_or qs k g ≡ q = ap (λ n. get_or qs n g) same ∙ any_default qs i g f in_qs ∙ at_q in
+        let R : get_or (set rooms i room) k r ≡ room = ap (λ n. get_or (set rooms i room) n r) same ∙ get_or-set_same rooms i room r in_rooms in
+        subst (λ (x : Part). IsOwnTaken x (written_part x (get_or qs k g) (get_or (set rooms i room) k r)) (get_or qs k g)) (sym P)
+        (subst (λ (y : Picking). IsOwnTaken p (written_part p y (get_or (set rooms i room) k r)) y) (sym Q)
+        (subst (λ (z : Room). IsOwnTaken p (written_part p q z) q) (sym R) own))
+    | inr other ↦ subst (λ (z : Room). IsOwnTaken (get_or parts k d) (written_part (get_or parts k d) (get_or qs k g) z) (get_or qs k g)) (sym (get_or-set_other rooms i k room r other)) (t.taken k d g r (omega arith))
+  ];
+  room = λ k d r l b.
+      let other : k ≢ i = λ s. absurd (omega arith) in
+      ap (λ (z : Room). has_room (get_or needs k d) z) (get_or-set_other rooms i k room r other) ∙ t.room k d r (omega arith) (omega (arith, length-set rooms i room));
+}
+
+written_len : (ps : List Part) (qs : List Picking) (rs : List Room) → length qs ≡ length ps → length rs ≡ length ps → length (written_by ps qs rs) ≡ length ps
+written_len [] qs rs e f = refl
+written_len (p ∷ ps) [] rs e f = absurd (omega arith)
+written_len (p ∷ ps) (q ∷ qs) [] e f = absurd (omega arith)
+written_len (p ∷ ps) (q ∷ qs) (r ∷ rs) e f = omega (arith, written_len ps qs rs (omega arith) (omega arith))
+
+written_at : (ps : List Part) (qs : List Picking) (rs : List Room) (k : ℕ) (d e : Part) (q : Picking) (r : Room) → length qs ≡ length ps → length rs ≡ length ps → k < length ps
+    → get_or (written_by ps qs rs) k e ≡ written_part (get_or ps k d) (get_or qs k q) (get_or rs k r)
+written_at [] qs rs k d e q r m n h = absurd (omega arith)
+written_at (p ∷ ps) [] rs k d e q r m n h = absurd (omega arith)
+written_at (p ∷ ps) (x ∷ qs) [] k d e q r m n h = absurd (omega arith)
+written_at (p ∷ ps) (x ∷ qs) (y ∷ rs) zero d e q r m n h = refl
+written_at (p ∷ ps) (x ∷ qs) (y ∷ rs) (suc k) d e q r m n h = written_at ps qs rs k d e q r (omega arith) (omega arith) (omega arith)
+
+some_room : (rs : List Room) (n : ℕ) → n < length rs → Room
+some_room [] n h = absurd (omega arith)
+some_room (r ∷ rs) n h = r
+
+pub all_taken : (parts : List Part) (q : Picking) (needs : List Need) (i : ℕ) (rooms : List Room) → are_trees parts 1 ≡ true → length (pickings parts (q ∷ [])) ≡ length parts → length rooms ≡ length parts → length parts ≤ i
+    → TakenTo parts (pickings parts (q ∷ [])) needs i rooms → AreTaken parts q rooms
+all_taken parts q needs i rooms tree same count all t =
+    let qs = pickings parts (q ∷ []) in
+    record {
+      tree = tree;
+      len = written_len parts qs rooms same count;
+      taken = λ k d e r h.
+          let z = some_room rooms k (omega arith) in
+          subst (λ (w : Part). IsOwnTaken (get_or parts k d) w (get_or qs k r)) (sym (written_at parts qs rooms k d e r z same count h)) (t.taken k d r z (omega arith));
+    }
+
+-- ---- a node of a plan
+
+-- own are the picks of node i
+pub record IsOwn (nodes : List image.Node) (ps vs : List ℕ) (plan : plans.Plan) (i : ℕ) (own : Picking) : Type 0 where
+  pub low : i < length nodes
+  pub job : Job
+  pub at : get_or plan.jobs.items i job ≡ job
+  pub is : own ≡ picking_in ps vs plan.lists.items job
+
+pub own_from : (nodes : List image.Node) (ps vs : List ℕ) (plan : plans.Plan) (i : ℕ) (lists : List Places) (job : Job) (own : Picking) → i < length nodes → lists ≡ plan.lists.items → job ≡ get_or plan.jobs.items i job → own ≡ picking_in ps vs lists job
+    → IsOwn nodes ps vs plan i own
+own_from nodes ps vs plan i lists job own low same at is = record { low = low; job = job; at = sym at; is = is ∙ ap (λ (l : List Places). picking_in ps vs l job) same }
+
+part_at : (nodes : List image.Node) (i : ℕ) (d : image.Node) → i < length nodes → get_or (parts_of nodes) i (part_of d) ≡ part_of (get_or nodes i d)
+part_at nodes i d h = get_or-map part_of nodes i d (part_of d) h
+
+pub node_readable : (nodes : List image.Node) (ps vs : List ℕ) (plan : plans.Plan) (i : ℕ) (d : image.Node) (own : Picking) → IsPlanned (parts_of nodes) ps vs plan → IsOwn nodes ps vs plan i own → IsReadable (part_of (get_or nodes i d)) own.picks
+node_readable nodes ps vs plan i d own planned o =
+    let low = o.low in
+    subst (λ (p : Part). IsReadable p own.picks) (part_at nodes i d low)
+    (subst (λ (q : Picking). IsReadable (get_or (parts_of nodes) i (part_of d)) q.picks) (ap (picking_in ps vs plan.lists.items) o.at ∙ sym o.is)
+    (planned.readable i o.job (part_of d) (omega (arith, planned.len, length-map nodes part_of))))
+
+pub node_room : (nodes : List image.Node) (ps vs : List ℕ) (plan : plans.Plan) (rooms : List Room) (i : ℕ) (d : image.Node) (n : Need) (r : Room) (own : Picking) → IsPlanned (parts_of nodes) ps vs plan → IsOwn nodes ps vs plan i own
+    → has_room (get_or plan.needs.items i n) (get_or rooms i r) ≡ true → has_room (need_of (part_of (get_or nodes i d)) own) (get_or rooms i r) ≡ true
+node_room nodes ps vs plan rooms i d n r own planned o room =
+    let low = o.low in
+    sym (ap (λ (m : Need). has_room m (get_or rooms i r))
+    (planned_need (parts_of nodes) ps vs plan i n (part_of d) o.job planned (omega (arith, length-map nodes part_of))
+    ∙ ap₂ need_of (part_at nodes i d low) (ap (picking_in ps vs plan.lists.items) o.at ∙ sym o.is))) ∙ room
+
+pub node_taken : (nodes : List image.Node) (ps vs : List ℕ) (plan : plans.Plan) (rooms : List Room) (room : Room) (i : ℕ) (d : image.Node) (own : Picking) → IsPlanned (parts_of nodes) ps vs plan → IsOwn nodes ps vs plan i own → i < length rooms
+    → IsOwnTaken (part_of (get_or nodes i d)) (written_part (part_of (get_or nodes i d)) own room) own → TakenTo (parts_of nodes) (pickings (parts_of nodes) (picking_of ps vs 0 ∷ [])) plan.needs.items i rooms
+    → TakenTo (parts_of nodes) (pickings (parts_of nodes) (picking_of ps vs 0 ∷ [])) plan.needs.items (i + 1) (set rooms i room)
+node_taken nodes ps vs plan rooms room i d own planned o in_rooms taken t =
+    let parts = parts_of nodes in
+    let low = o.low in
+    let in_parts : i < length parts = omega (arith, length-map nodes part_of) in
+    let q = picking_of ps vs 0 in
+    one_taken parts (pickings parts (q ∷ [])) plan.needs.items i rooms room (part_of (get_or nodes i d)) own (part_of d) own in_parts
+    (omega (arith, planned.len, ap length planned.picks, length-map plan.jobs.items (picking_in ps vs plan.lists.items))) in_rooms (part_at nodes i d low)
+    (planned_at parts ps vs plan i o.job own planned in_parts ∙ ap (picking_in ps vs plan.lists.items) o.at ∙ sym o.is) taken t
+
+-- ---- the whole table
+
+every : (parts : List Part) (q : Picking) (rooms : List Room) → AreTaken parts q rooms → AllTaken parts (written parts q rooms) (q ∷ [])
+every parts q rooms a = record { len = a.len; taken = a.taken }
+
+rows_first : (nodes : List image.Node) (rows : List RowValue) → column_in (parts_of nodes) ≡ Some rows → length rows ≡ first_len nodes
+rows_first [] rows e = absurd (let f : None ≡ Some rows = e in cc)
+rows_first (n ∷ nodes) rows e = column_len (part_of n) (parts_of nodes) rows e
+
+pub means_picked : (nodes : List image.Node) (q : Picking) (rooms : List Room) → AreTaken (parts_of nodes) q rooms → AreWithin q.picks (first_len nodes) → MeansPicked (parts_of nodes) q rooms
+means_picked nodes q rooms a w = record {
+  within = λ rows e. subst (λ (n : ℕ). AreWithin q.picks n) (sym (rows_first nodes rows e)) w;
+  picked = λ rows e. picked_column (parts_of nodes) (written (parts_of nodes) q rooms) q rows e (every (parts_of nodes) q rooms a);
+}
+
+pub means_some : (parts : List Part) (q : Picking) (rooms : List Room) → AreTaken parts q rooms → IsSome (column_in (written parts q rooms))
+means_some parts q rooms a = let there = sound_column parts (written parts q rooms) q a.tree (every parts q rooms a) in ap is_some there.1

@@ -1,0 +1,50 @@
+-- The items of one list more.
+use Rattle.std.proofs.Common.{◌≡◌, ◌≤◌, ◌<◌, ◌+◌, ◌^◌, ℕ, true, subst, ap, sym, ◌∙◌, refl, arith, length}
+use Rattle.vx_arrow_columns.specs.Image.{is_cut, part_of, limit_of}
+use Rattle.vx_arrow_columns.specs.Picks.{picks_of}
+use Rattle.vx_arrow_columns.proofs.PickReads.{length_picks}
+use Rattle.vx_arrow_columns.proofs.Steps.{all_cut, at_pick, items_all, limit_few, no_places, places_none, places_some}
+use Rattle.vx_arrow_columns.proofs.Cuts.{len_all}
+use Rattle.vx_arrow_columns.proofs.needs.list_items.Goals as goal
+use Rattle.vx_arrow_columns.proofs.needs.list_items.Goals.{in-Some+in_ok-cut+else-total-limit+in_ok-push_range, in_default}
+
+pub overflow_add-total : goal.overflow_add-total
+overflow_add-total c = let small = c.loop-k.invariant.lens.small in let few = limit_few c.args.size in omega (arith, c.in_ok-cut.ensures.small)
+
+pub loop-k-init : goal.loop-k-init
+loop-k-init c = no_places _ _ _ _ _ _ refl c.new-places.ensures.items
+
+pub loop-k-preserved : goal.loop-k-preserved
+loop-k-preserved c =
+    let z = c.args.size in
+    let p = part_of c.args.node.now in
+    let ps = c.args.picks.now in
+    let k = c.loop-k.k in
+    let q = picks_of ps.places.now ps.valid.now ps.add in
+    let low : k < length q = omega (arith, length_picks ps.places.now ps.valid.now ps.add) in
+    elim c.match-place.branch [
+      | in-Some+in_ok-cut+else-total-limit+in_ok-push_range w ↦
+          places_some z p q k w.in-Some.i w.in_ok-cut.cut.start w.in_ok-cut.cut.end c.loop-k.total c.match-place.total c.loop-k.places.items c.match-place.places.items c.loop-k.last c.match-place.last low
+          (at_pick p ps.places.now ps.valid.now ps.add k _ c.loop-k-test.true w.in-Some.ensures.place)
+          w.in_ok-cut.ensures.start w.in_ok-cut.ensures.end
+          (subst (λ (n : ℕ). is_cut z p n w.in-Some.i ≡ true) w.limit.ensures w.in_ok-cut.ensures.cut)
+          w.total-is (omega (arith, w.total-is, w.if-total-limit.false, w.limit-in-Some.ensures))
+          (ap (λ v. v.items) w.places-is ∙ w.in_ok-push_range.ensures) (omega (arith, w.last-is, w.greater-last.ensures.first)) (omega (arith, w.last-is, w.greater-last.ensures.second)) c.loop-k.invariant
+      | in_default w ↦
+          places_none z p q k c.loop-k.total c.match-place.total c.loop-k.places.items c.match-place.places.items c.loop-k.last c.match-place.last low
+          (at_pick p ps.places.now ps.valid.now ps.add k _ c.loop-k-test.true w.in_default.ensures.place) w.total-is (ap (λ v. v.items) w.places-is) w.last-is c.loop-k.invariant
+    ]
+
+pub returns : goal.returns
+returns c =
+    let p = part_of c.args.node.now in
+    let ps = c.args.picks.now in
+    let q = picks_of ps.places.now ps.valid.now ps.add in
+    let t = c.loop-k.invariant in
+    let all : length q ≤ c.loop-k.k = omega (arith, length_picks ps.places.now ps.valid.now ps.add) in
+    record {
+      cut = all_cut c.args.size p q (limit_of c.args.size) c.loop-k.k (sym c.if-not-holds_offsets.ensures) all t.lens.cut;
+      items = t.items ∙ items_all c.args.size p q c.loop-k.k all;
+      small = let s = t.lens.small in let e = t.lens.len ∙ len_all c.args.size p q c.loop-k.k all in omega arith;
+      below = t.below;
+    }

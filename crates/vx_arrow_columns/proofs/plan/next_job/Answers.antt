@@ -1,0 +1,27 @@
+-- The same picks further on, or a list of places.
+use Rattle.std.proofs.Common.{refl, sym, subst, ◌∙◌, ◌≡◌, ◌+◌, ◌++◌, ◌∷◌, [], Some, ap, length, arith, rules}
+use Rattle.vx_arrow_columns.specs.declared.needs.Inner.{Inner}
+use Rattle.vx_arrow_columns.specs.declared.places.Places.{Places}
+use Rattle.vx_arrow_columns.specs.declared.plan.Job.{Job}
+use Rattle.vx_arrow_columns.specs.Planned.{IsNext}
+use Rattle.vx_arrow_columns.proofs.Plans.{next_listed, next_same}
+use Rattle.vx_arrow_columns.proofs.plan.next_job.Goals as goal
+
+pub returns-in-Same : goal.returns-in-Same
+returns-in-Same c =
+    let node = c.args.node.now in
+    let next : Job = record { list = c.args.job.list; add = c.sum.result; end = node.offset + node.len } in
+    let old = c.args.lists.now.items in
+    subst (λ (i : Inner). IsNext node c.args.job i old old next) (sym c.in-Same.is)
+    (next_same node c.args.job next old c.requires refl (λ h. c.sum.ensures h) refl)
+
+pub returns-in_ok-push-in-Listed : goal.returns-in_ok-push-in-Listed
+returns-in_ok-push-in-Listed c =
+    let old = c.args.lists.now.items in
+    let items = c.in-Listed.items in
+    let list : c.len-list.result ≡ length old = omega arith in
+    let x : Places = record { places = items.places; valid = c.new.result } in
+    let pushed : c.push.new.self.items ≡ old ++ x ∷ [] = search rules in
+    let next : Job = record { list = Some c.len-list.result; add = 0; end = items.end } in
+    subst (λ (i : Inner). IsNext c.args.node.now c.args.job i old c.push.new.self.items next) (sym c.in-Listed.is)
+    (next_listed c.args.node.now c.args.job next old c.push.new.self.items items x pushed refl c.new.ensures.items (ap Some list) refl refl)

@@ -1,0 +1,11 @@
+-- As many needs as nodes.
+use Rattle.std.proofs.Common.{◌≡◌, length, arith}
+use Rattle.std.proofs.lemmas.List.{length-map}
+use Rattle.vx_arrow_columns.specs.Image.{part_of, parts_of}
+use Rattle.vx_arrow_columns.proofs.Plans.{planned_needs}
+use Rattle.vx_arrow_columns.proofs.taking.sizes.Goals as goal
+
+pub copy_from_slice-requires : goal.copy_from_slice-requires
+copy_from_slice-requires c =
+    let nodes = c.args.nodes.now in
+    omega (arith, planned_needs (parts_of nodes) c.args.places.now c.args.valid.now c.in_ok-plan.plan c.in_ok-plan.ensures.planned, c.deref.ensures.len, length-map nodes part_of, c.if-needs-nodes.false)

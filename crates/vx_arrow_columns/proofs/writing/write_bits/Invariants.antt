@@ -1,0 +1,8 @@
+-- The bits so far.
+use Rattle.vx_arrow_columns.specs.Image.{part_of}
+use Rattle.vx_arrow_columns.specs.Picks.{picks_of}
+use Rattle.vx_arrow_columns.specs.Taken.{AreBits}
+use Rattle.vx_arrow_columns.proofs.writing.write_bits.Given as goal
+
+abbrev pub invariant-loop-k : goal.invariant-loop-k
+invariant-loop-k l = AreBits (part_of l.node) (picks_of l.picks.places.now l.picks.valid.now l.picks.add) l.k l.out

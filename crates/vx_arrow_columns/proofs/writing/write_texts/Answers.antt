@@ -1,0 +1,122 @@
+-- One text more.
+use Rattle.std.proofs.Common.{◌≡◌, ◌∙◌, ◌≤◌, ◌<◌, ◌+◌, ◌-◌, sym, refl, take, length, arith}
+use Rattle.vx_arrow_columns.specs.Image.{part_of}
+use Rattle.vx_arrow_columns.specs.Picks.{items_len, picks_of}
+use Rattle.vx_arrow_columns.proofs.Cuts.{cut_end, cut_up, len_within}
+use Rattle.vx_arrow_columns.proofs.PickReads.{length_picks}
+use Rattle.vx_arrow_columns.proofs.Steps.{all_texts, at_pick, next_len, no_texts, row_some, text_kept, text_put}
+use Rattle.vx_arrow_columns.proofs.writing.write_texts.Goals as goal
+use Rattle.vx_arrow_columns.proofs.writing.write_texts.Goals.{in-Some, in_default}
+
+pub loop-k-init : goal.loop-k-init
+loop-k-init c = no_texts _ _ _ _ _ refl
+
+pub slice_bounds-put_bytes-count : goal.slice_bounds-put_bytes-count
+slice_bounds-put_bytes-count c =
+    let z = c.args.size in
+    let p = part_of c.args.node.now in
+    let ps = c.args.picks.now in
+    let k = c.loop-k.k in
+    let q = picks_of ps.places.now ps.valid.now ps.add in
+    let low : k < length q = omega (arith, length_picks ps.places.now ps.valid.now ps.add) in
+    let there = at_pick p ps.places.now ps.valid.now ps.add k _ c.loop-k-test.true c.in-Some.ensures.place in
+    let own = c.requires.cut.cut k c.in-Some.i low there in
+    let up = cut_up z p (length p.values) c.in-Some.i own in
+    let end = cut_end z p (length p.values) c.in-Some.i own in
+    let from = c.cut_at-cut.ensures.start in
+    let to = c.cut_at-cut.ensures.end in
+    omega arith
+
+pub slice_bounds-put_bytes-start : goal.slice_bounds-put_bytes-start
+slice_bounds-put_bytes-start c =
+    let z = c.args.size in
+    let p = part_of c.args.node.now in
+    let ps = c.args.picks.now in
+    let k = c.loop-k.k in
+    let q = picks_of ps.places.now ps.valid.now ps.add in
+    let low : k < length q = omega (arith, length_picks ps.places.now ps.valid.now ps.add) in
+    let there = at_pick p ps.places.now ps.valid.now ps.add k _ c.loop-k-test.true c.in-Some.ensures.place in
+    let own = c.requires.cut.cut k c.in-Some.i low there in
+    let up = cut_up z p (length p.values) c.in-Some.i own in
+    let end = cut_end z p (length p.values) c.in-Some.i own in
+    let from = c.cut_at-cut.ensures.start in
+    let to = c.cut_at-cut.ensures.end in
+    omega arith
+
+pub slice_bounds-put_bytes-end : goal.slice_bounds-put_bytes-end
+slice_bounds-put_bytes-end c =
+    let z = c.args.size in
+    let p = part_of c.args.node.now in
+    let ps = c.args.picks.now in
+    let k = c.loop-k.k in
+    let q = picks_of ps.places.now ps.valid.now ps.add in
+    let low : k < length q = omega (arith, length_picks ps.places.now ps.valid.now ps.add) in
+    let there = at_pick p ps.places.now ps.valid.now ps.add k _ c.loop-k-test.true c.in-Some.ensures.place in
+    let own = c.requires.cut.cut k c.in-Some.i low there in
+    let up = cut_up z p (length p.values) c.in-Some.i own in
+    let end = cut_end z p (length p.values) c.in-Some.i own in
+    let from = c.cut_at-cut.ensures.start in
+    let to = c.cut_at-cut.ensures.end in
+    omega arith
+
+pub overflow_sub-at : goal.overflow_sub-at
+overflow_sub-at c =
+    let z = c.args.size in
+    let p = part_of c.args.node.now in
+    let ps = c.args.picks.now in
+    let k = c.loop-k.k in
+    let q = picks_of ps.places.now ps.valid.now ps.add in
+    let low : k < length q = omega (arith, length_picks ps.places.now ps.valid.now ps.add) in
+    let there = at_pick p ps.places.now ps.valid.now ps.add k _ c.loop-k-test.true c.in-Some.ensures.place in
+    let own = c.requires.cut.cut k c.in-Some.i low there in
+    let up = cut_up z p (length p.values) c.in-Some.i own in
+    let end = cut_end z p (length p.values) c.in-Some.i own in
+    let from = c.cut_at-cut.ensures.start in
+    let to = c.cut_at-cut.ensures.end in
+    omega arith
+
+pub put_bytes-requires : goal.put_bytes-requires
+put_bytes-requires c =
+    let z = c.args.size in
+    let p = part_of c.args.node.now in
+    let ps = c.args.picks.now in
+    let k = c.loop-k.k in
+    let q = picks_of ps.places.now ps.valid.now ps.add in
+    let low : k < length q = omega (arith, length_picks ps.places.now ps.valid.now ps.add) in
+    let there = at_pick p ps.places.now ps.valid.now ps.add k _ c.loop-k-test.true c.in-Some.ensures.place in
+    let own = c.requires.cut.cut k c.in-Some.i low there in
+    let up = cut_up z p (length p.values) c.in-Some.i own in
+    let end = cut_end z p (length p.values) c.in-Some.i own in
+    let from = c.cut_at-cut.ensures.start in
+    let to = c.cut_at-cut.ensures.end in
+    let new = next_len z p q k c.loop-k.at _ _ low there c.loop-k.invariant.len (row_some z p c.in-Some.i _ _ c.loop-k.at _ from to refl) in
+    let within = len_within z p q k low in
+    let room = c.requires.room in
+    omega (arith, c.loop-k.auto.out)
+
+pub loop-k-preserved : goal.loop-k-preserved
+loop-k-preserved c =
+    let z = c.args.size in
+    let p = part_of c.args.node.now in
+    let ps = c.args.picks.now in
+    let k = c.loop-k.k in
+    let q = picks_of ps.places.now ps.valid.now ps.add in
+    let low : k < length q = omega (arith, length_picks ps.places.now ps.valid.now ps.add) in
+    elim c.match-place.branch [
+      | in-Some w ↦
+          let there = at_pick p ps.places.now ps.valid.now ps.add k _ c.loop-k-test.true w.in-Some.ensures.place in
+          let own = c.requires.cut.cut k w.in-Some.i low there in
+          let from = w.cut_at-cut.ensures.start in
+          let to = w.cut_at-cut.ensures.end in
+          let up = cut_up z p (length p.values) w.in-Some.i own in
+          let end = cut_end z p (length p.values) w.in-Some.i own in
+          let new = next_len z p q k c.loop-k.at _ _ low there c.loop-k.invariant.len (row_some z p w.in-Some.i _ _ c.loop-k.at _ from to refl) in
+          let within = len_within z p q k low in
+          let room = c.requires.room in
+          text_put z p q k w.in-Some.i c.loop-k.at c.match-place.at w.cut_at-cut.result.start w.cut_at-cut.result.end _ c.loop-k.out _ low there from to (omega arith) (omega arith) refl w.at-is
+          (omega (arith, c.loop-k.auto.out)) (w.out-is ∙ w.put_bytes.ensures) c.loop-k.invariant
+      | in_default w ↦ text_kept z p q k c.loop-k.at c.match-place.at c.loop-k.out _ low (at_pick p ps.places.now ps.valid.now ps.add k _ c.loop-k-test.true w.in_default.ensures.place) w.at-is w.out-is c.loop-k.invariant
+    ]
+
+pub returns : goal.returns
+returns c = all_texts c.args.size (part_of c.args.node.now) _ c.loop-k.k c.loop-k.at _ (omega (arith, length_picks c.args.picks.now.places.now c.args.picks.now.valid.now c.args.picks.now.add)) c.loop-k.invariant

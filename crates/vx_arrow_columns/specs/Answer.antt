@@ -1,0 +1,36 @@
+-- What the rooms hold after a take.
+use Rattle.std.specs.Prelude.{ℕ, ◌<◌, ◌≡◌, true, false, List, [], ◌∷◌, length, slice_index_or, Some}
+use Rattle.vx_arrow_columns.specs.declared.image.Need.{Need}
+use Rattle.vx_arrow_columns.specs.declared.image.Room.{Room}
+use Rattle.vx_arrow_columns.specs.Rows.{RowValue, picked}
+use Rattle.vx_arrow_columns.specs.Image.{Part, column_in}
+use Rattle.vx_arrow_columns.specs.Picks.{Picking, pickings}
+use Rattle.vx_arrow_columns.specs.Planned.{are_trees}
+use Rattle.vx_arrow_columns.specs.Taken.{AreWithin, IsOwnTaken}
+use Rattle.vx_arrow_columns.specs.Written.{has_room, written}
+
+-- each room is as large as its need
+pub record HaveRoom (needs : List Need) (rooms : List Room) : Type 0 where
+  pub room : (k : ℕ) (d : Need) (e : Room) → k < length rooms
+      → has_room (slice_index_or needs k d) (slice_index_or rooms k e) ≡ true
+
+-- room k is smaller than its need
+pub record IsShort (needs : List Need) (rooms : List Room) (k : ℕ) : Type 0 where
+  pub there : k < length rooms
+  pub short : (d : Need) (e : Room)
+      → has_room (slice_index_or needs k d) (slice_index_or rooms k e) ≡ false
+
+-- each room has the rows of its node
+pub record AreTaken (parts : List Part) (q : Picking) (rooms : List Room) : Type 0 where
+  pub tree : are_trees parts 1 ≡ true
+  pub len : length (written parts q rooms) ≡ length parts
+  pub taken : (k : ℕ) (d e : Part) (r : Picking) → k < length parts
+      → IsOwnTaken (slice_index_or parts k d) (slice_index_or (written parts q rooms) k e)
+      (slice_index_or (pickings parts (q ∷ [])) k r)
+
+-- where the table means a column, the rooms mean its rows at the picks
+pub record MeansPicked (parts : List Part) (q : Picking) (rooms : List Room) : Type 0 where
+  pub within : (rows : List RowValue) → column_in parts ≡ Some rows
+      → AreWithin q.picks (length rows)
+  pub picked : (rows : List RowValue) → column_in parts ≡ Some rows
+      → column_in (written parts q rooms) ≡ Some (picked q.picks rows)

@@ -1,0 +1,52 @@
+-- What the tests of one node at picks find.
+use Rattle.std.specs.Prelude.{ℕ, ◌<◌, ◌≡◌, List, [], length, slice_index_or, Option, Some}
+use Rattle.vx_arrow_columns.specs.declared.format.Format.TheVariants.{Struct}
+use Rattle.vx_arrow_columns.specs.declared.format.Offsets.{Offsets}
+use Rattle.vx_arrow_columns.specs.declared.needs.Inner.{Inner}
+use Rattle.vx_arrow_columns.specs.declared.needs.Inner.TheVariants as inners
+use Rattle.vx_arrow_columns.specs.declared.needs.Measure as measures
+use Rattle.vx_arrow_columns.specs.Image.{Part, limit_of}
+use Rattle.vx_arrow_columns.specs.Picks.{Picking, picking_of, inner, items_len, items_of, values_len}
+use Rattle.vx_arrow_columns.specs.Taken.{AreCutAt, IsReadable}
+
+-- n bytes are the texts at picks, and can be counted
+pub record IsTextLen (z : Offsets) (p : Part) (q : List (Option ℕ)) (n : ℕ) : Type 0 where
+  pub cut : AreCutAt z p q (length p.values)
+  pub len : n ≡ items_len z p q
+  pub small : n < limit_of z
+
+-- each place is below the end
+pub record AreBelow (places : List ℕ) (end : ℕ) : Type 0 where
+  pub below : (k : ℕ) → k < length places → slice_index_or places k 0 < end
+
+-- these are the places of the items of the lists at picks, and can be counted
+pub record AreItems (z : Offsets) (p : Part) (q : List (Option ℕ)) (places : List ℕ) (end : ℕ)
+    : Type 0 where
+  pub cut : AreCutAt z p q (limit_of z)
+  pub items : places ≡ items_of z p q
+  pub small : items_len z p q < limit_of z
+  pub below : AreBelow places end
+
+-- the picks of the only child are these places
+pub record AreListed (p : Part) (q : Picking) (places : List ℕ) (end : ℕ) : Type 0 where
+  pub one : p.children ≡ 1
+  pub listed : inner p q ≡ picking_of places [] 0
+  pub below : AreBelow places end
+
+-- the picks of the children are these
+abbrev pub IsInner : Part → Picking → Inner → Type 0
+IsInner p q inners.Leaf = p.children ≡ 0
+IsInner p q inners.Same = p.format ≡ Some Struct
+IsInner p q (inners.Listed items) = AreListed p q items.places.items items.end
+
+-- so many bytes of values, of a node that has no children
+pub record IsLeaf (p : Part) (values : ℕ) (m : measures.Measure) : Type 0 where
+  pub leaf : p.children ≡ 0
+  pub values_are : m.values ≡ values
+  pub inner_is : m.inner ≡ inners.Leaf
+
+-- the rows at picks can be read, and what they need is this
+pub record IsMeasured (p : Part) (q : Picking) (m : measures.Measure) : Type 0 where
+  pub readable : IsReadable p q.picks
+  pub values : m.values ≡ values_len p.format p q.picks
+  pub children : IsInner p q m.inner

@@ -1,0 +1,158 @@
+-- Picks of a column's rows, of its children's, and what the rows at them need.
+use Rattle.std.specs.Prelude.{ℕ, ◌+◌, ◌-◌, ◌*◌, ◌/◌, ◌^◌, Bool, true, false, ◌&&◌, ◌||◌, List, [], ◌∷◌, ◌++◌, map, length, replicate, slice_index, ◌==◌, nat_lt, if◌then◌else◌, Option, Some, None}
+use Rattle.std.specs.List.{range_with_len, flat_map, sum_by}
+use Rattle.std.specs.Option.{option_map}
+use Rattle.vx_arrow_columns.specs.declared.format.Format.{Format}
+use Rattle.vx_arrow_columns.specs.declared.format.Format.TheVariants.{Nulls, Bits, Fixed, Text, Struct, List as Lists}
+use Rattle.vx_arrow_columns.specs.declared.format.Offsets.{Offsets}
+use Rattle.vx_arrow_columns.specs.declared.image.Need as image
+use Rattle.vx_arrow_columns.specs.Image.{Part, is_valid, offset_at, size_of, limit_of}
+
+-- picks, and whether bits say which of them are null
+pub record Picking : Type 0 where
+  pub picks : List (Option ℕ)
+  pub nullable : Bool
+
+abbrev pub has_bits : List ℕ → Bool
+has_bits [] = false
+has_bits (b ∷ bs) = true
+
+-- pick k of places in the caller's memory, each `add` further on
+abbrev pub pick_at : List ℕ → List ℕ → ℕ → ℕ → Option ℕ
+pick_at places valid add k =
+    if is_valid valid k then Some (add + slice_index places k) else None
+
+unfoldable pub picks_of : List ℕ → List ℕ → ℕ → List (Option ℕ)
+picks_of places valid add = map (pick_at places valid add) (range_with_len 0 (length places))
+
+-- the picks that places and bits of the caller's say
+abbrev pub picking_of : List ℕ → List ℕ → ℕ → Picking
+picking_of places valid add =
+    record { picks = picks_of places valid add; nullable = has_bits valid }
+
+-- ---- the picks of the children
+
+-- where the row of a pick stands, if pick and row are there
+abbrev pub place_of : Part → Option ℕ → Option ℕ
+place_of p None = None
+place_of p (Some i) = if is_valid p.valid (p.offset + i) then Some (p.offset + i) else None
+
+-- how many items the row at a place has
+abbrev pub row_len : Offsets → Part → Option ℕ → ℕ
+row_len z p None = 0
+row_len z p (Some i) = offset_at z p.offsets (i + 1) - offset_at z p.offsets i
+
+-- how many items the rows at picks have together
+unfoldable pub items_len : Offsets → Part → List (Option ℕ) → ℕ
+items_len z p q = sum_by (λ o. row_len z p (place_of p o)) q
+
+-- the places of the items of a row
+abbrev pub row_items : Offsets → Part → Option ℕ → List ℕ
+row_items z p None = []
+row_items z p (Some i) =
+    range_with_len (offset_at z p.offsets i) (offset_at z p.offsets (i + 1) - offset_at z p.offsets i)
+
+-- and of the rows at picks
+unfoldable pub items_of : Offsets → Part → List (Option ℕ) → List ℕ
+items_of z p q = flat_map (λ o. row_items z p (place_of p o)) q
+
+-- the picks of each child, from those of its parent
+abbrev pub inner_picks : Option Format → Part → List (Option ℕ) → List (Option ℕ)
+inner_picks None p q = []
+inner_picks (Some Nulls) p q = []
+inner_picks (Some Bits) p q = []
+inner_picks (Some Fixed) p q = []
+inner_picks (Some (Text z)) p q = []
+inner_picks (Some Struct) p q = map (option_map (λ i. p.offset + i)) q
+inner_picks (Some (Lists z)) p q = map Some (items_of z p q)
+
+abbrev pub inner_nullable : Option Format → Bool → Bool
+inner_nullable None b = false
+inner_nullable (Some Nulls) b = false
+inner_nullable (Some Bits) b = false
+inner_nullable (Some Fixed) b = false
+inner_nullable (Some (Text z)) b = false
+inner_nullable (Some Struct) b = b
+inner_nullable (Some (Lists z)) b = false
+
+abbrev pub inner : Part → Picking → Picking
+inner p q =
+    record {
+      picks = inner_picks p.format p q.picks;
+      nullable = inner_nullable p.format q.nullable;
+    }
+
+-- the picks of each node of a table of trees, of which the first ones have these picks
+abbrev pub pickings : List Part → List Picking → List Picking
+pickings [] qs = []
+pickings (p ∷ ps) [] = []
+pickings (p ∷ ps) (q ∷ qs) = q ∷ pickings ps (replicate p.children (inner p q) ++ qs)
+
+-- ---- what the rows at picks need
+
+abbrev pub bytes_for : ℕ → ℕ
+bytes_for n = (n + 7) / 8
+
+-- whether bits of validity are written: where the column or the picks have some
+abbrev pub shows_by : Option Format → Bool → Bool
+shows_by None b = b
+shows_by (Some Nulls) b = false
+shows_by (Some Bits) b = b
+shows_by (Some Fixed) b = b
+shows_by (Some (Text z)) b = b
+shows_by (Some Struct) b = b
+shows_by (Some (Lists z)) b = b
+
+abbrev pub shows_valid : Part → Picking → Bool
+shows_valid p q = shows_by p.format (has_bits p.valid || q.nullable)
+
+abbrev pub offsets_len : Option Format → ℕ → ℕ
+offsets_len None n = 0
+offsets_len (Some Nulls) n = 0
+offsets_len (Some Bits) n = 0
+offsets_len (Some Fixed) n = 0
+offsets_len (Some (Text z)) n = size_of z * (n + 1)
+offsets_len (Some Struct) n = 0
+offsets_len (Some (Lists z)) n = size_of z * (n + 1)
+
+abbrev pub values_len : Option Format → Part → List (Option ℕ) → ℕ
+values_len None p q = 0
+values_len (Some Nulls) p q = 0
+values_len (Some Bits) p q = bytes_for (length q)
+values_len (Some Fixed) p q = length q * p.width
+values_len (Some (Text z)) p q = items_len z p q
+values_len (Some Struct) p q = 0
+values_len (Some (Lists z)) p q = 0
+
+-- how many rows a node has at these picks, and how many bytes they are
+abbrev pub need_of : Part → Picking → image.Need
+need_of p q =
+    record {
+      len = length q.picks;
+      valid = if shows_valid p q then bytes_for (length q.picks) else 0;
+      offsets = offsets_len p.format (length q.picks);
+      values = values_len p.format p q.picks;
+      sizes = 0;
+    }
+
+abbrev pub needs_by : List Part → List Picking → List image.Need
+needs_by [] qs = []
+needs_by (p ∷ ps) [] = []
+needs_by (p ∷ ps) (q ∷ qs) = need_of p q ∷ needs_by ps qs
+
+-- what each node of a table needs at picks of its one column
+abbrev pub needs_of : List Part → Picking → List image.Need
+needs_of ps q = needs_by ps (pickings ps (q ∷ []))
+
+-- the lengths can be counted: rows and items below 2^60, bytes below 2^63, and offsets by their size
+abbrev pub counts_by : Option Format → Part → List (Option ℕ) → Bool
+counts_by None p q = true
+counts_by (Some Nulls) p q = true
+counts_by (Some Bits) p q = true
+counts_by (Some Fixed) p q = nat_lt (length q * p.width) (2 ^ 63)
+counts_by (Some (Text z)) p q = nat_lt (items_len z p q) (limit_of z)
+counts_by (Some Struct) p q = true
+counts_by (Some (Lists z)) p q = nat_lt (items_len z p q) (limit_of z)
+
+unfoldable pub is_counted : Part → List (Option ℕ) → Bool
+is_counted p q = nat_lt (length q) (2 ^ 60) && counts_by p.format p q

@@ -1,0 +1,109 @@
+-- Walks over a table, and the plan that they leave.
+use Rattle.std.specs.List.{All}
+use Rattle.std.specs.Prelude.{ℕ, ◌+◌, ◌<◌, ◌≤◌, ◌≡◌, ◌==◌, Bool, true, false, zero, suc, List, [], ◌∷◌, ◌++◌, map, drop, length, replicate, reverse, slice_index_or, Option, Some, None}
+use Rattle.vx_arrow_columns.specs.declared.image.Node as image
+use Rattle.vx_arrow_columns.specs.declared.needs.Inner.{Inner}
+use Rattle.vx_arrow_columns.specs.declared.places.Places as places
+use Rattle.vx_arrow_columns.specs.declared.plan.Job as job_type
+use Rattle.vx_arrow_columns.specs.declared.plan.Measured as measured
+use Rattle.vx_arrow_columns.specs.declared.plan.Plan as plans
+use Rattle.vx_arrow_columns.specs.declared.plan.Walk as walks
+use Rattle.vx_arrow_columns.specs.Image.{Part, part_of}
+use Rattle.vx_arrow_columns.specs.Measured.{IsInner}
+use Rattle.vx_arrow_columns.specs.Picks.{Picking, picking_of, inner, need_of, needs_by, needs_of, pickings}
+use Rattle.vx_arrow_columns.specs.Taken.{AreWithin, IsReadable}
+
+-- the list of a job is among so many
+abbrev pub IsListed : job_type.Job → ℕ → Type 0
+IsListed job n = (k : ℕ) → job.list ≡ Some k → k < n
+
+abbrev pub places_in : List places.Places → ℕ → List ℕ
+places_in lists k = slice_index_or (map (λ l. l.places.items) lists) k []
+
+abbrev pub valid_in : List places.Places → ℕ → List ℕ
+valid_in lists k = slice_index_or (map (λ l. l.valid.items) lists) k []
+
+abbrev pub picking_by : List ℕ → List ℕ → List places.Places → Option ℕ → ℕ → Picking
+picking_by ps vs lists None add = picking_of ps vs add
+picking_by ps vs lists (Some k) add = picking_of (places_in lists k) (valid_in lists k) add
+
+-- the picks of a job, where these are the caller's
+unfoldable pub picking_in : List ℕ → List ℕ → List places.Places → job_type.Job → Picking
+picking_in ps vs lists job = picking_by ps vs lists job.list job.add
+
+-- the job `next` of a node's children comes from its own, and lists are added at most
+pub record IsNext (node : image.Node) (job : job_type.Job) (inside : Inner)
+    (old new : List places.Places) (next : job_type.Job) : Type 0 where
+  pub more : List places.Places
+  pub grown : new ≡ old ++ more
+  pub listed : IsListed job (length old) → IsListed next (length new)
+  pub within : (ps vs : List ℕ) → AreWithin (picking_in ps vs old job).picks job.end
+      → AreWithin (picking_in ps vs old job).picks node.len
+      → IsInner (part_of node) (picking_in ps vs old job) inside
+      → AreWithin (picking_in ps vs new next).picks next.end
+  pub picks : (ps vs : List ℕ) → AreWithin (picking_in ps vs old job).picks node.len
+      → IsInner (part_of node) (picking_in ps vs old job) inside
+      → replicate node.children (picking_in ps vs new next)
+      ≡ replicate node.children (inner (part_of node) (picking_in ps vs old job))
+
+-- the rows at picks can be read, and what they need is this
+pub record IsJobMeasured (p : Part) (q : Picking) (m : measured.Measured) : Type 0 where
+  pub readable : IsReadable p q.picks
+  pub need : m.need ≡ need_of p q
+  pub children : IsInner p q m.inner
+
+-- how many rows the first node has
+abbrev pub first_len : List image.Node → ℕ
+first_len [] = 0
+first_len (n ∷ nodes) = n.len
+
+-- a job whose list is there, and whose picks are below its end
+pub record IsSound (ps vs : List ℕ) (lists : List places.Places) (job : job_type.Job) : Type 0 where
+  pub listed : IsListed job (length lists)
+  pub within : AreWithin (picking_in ps vs lists job).picks job.end
+
+-- the jobs to come are sound
+abbrev pub IsWalking : List ℕ → List ℕ → walks.Walk → Type 0
+IsWalking ps vs w = All (IsSound ps vs w.lists.items) w.stack.items
+
+-- before the first node: the caller's picks
+pub record IsStart (end : ℕ) (w : walks.Walk) : Type 0 where
+  pub jobs : w.jobs.items ≡ []
+  pub lists : w.lists.items ≡ []
+  pub needs : w.needs.items ≡ []
+  pub stack : w.stack.items ≡ record { list = None; add = 0; end = end } ∷ []
+
+-- a node that has so many nodes behind it was gone over
+pub record IsVisited (ps vs : List ℕ) (node : image.Node) (behind : ℕ) (old new : walks.Walk)
+    : Type 0 where
+  pub job : job_type.Job
+  pub next : job_type.Job
+  pub inside : Inner
+  pub rest : List job_type.Job
+  pub popped : old.stack.items ≡ rest ++ job ∷ []
+  pub few : node.children + length rest ≤ behind
+  pub stack : new.stack.items ≡ rest ++ replicate node.children next
+  pub jobs : new.jobs.items ≡ old.jobs.items ++ job ∷ []
+  pub needs : new.needs.items
+      ≡ old.needs.items ++ need_of (part_of node) (picking_in ps vs old.lists.items job) ∷ []
+  pub next_is : IsNext node job inside old.lists.items new.lists.items next
+  pub readable : IsReadable (part_of node) (picking_in ps vs old.lists.items job).picks
+  pub inner_is : IsInner (part_of node) (picking_in ps vs old.lists.items job) inside
+
+-- a table of whole trees, as many as n
+abbrev pub are_trees : List Part → ℕ → Bool
+are_trees [] n = n == 0
+are_trees (p ∷ ps) zero = false
+are_trees (p ∷ ps) (suc n) = are_trees ps (p.children + n)
+
+-- each node has its picks, which it can be read at, and its need
+pub record IsPlanned (parts : List Part) (ps vs : List ℕ) (plan : plans.Plan) : Type 0 where
+  pub tree : are_trees parts 1 ≡ true
+  pub len : length plan.jobs.items ≡ length parts
+  pub picks : map (picking_in ps vs plan.lists.items) plan.jobs.items
+      ≡ pickings parts (picking_of ps vs 0 ∷ [])
+  pub needs : plan.needs.items ≡ needs_of parts (picking_of ps vs 0)
+  pub listed : All (λ job. IsListed job (length plan.lists.items)) plan.jobs.items
+  pub readable : (k : ℕ) (d : job_type.Job) (e : Part) → k < length plan.jobs.items
+      → IsReadable (slice_index_or parts k e)
+      (picking_in ps vs plan.lists.items (slice_index_or plan.jobs.items k d)).picks

@@ -1,0 +1,68 @@
+-- What is written to the caller's rooms.
+use Rattle.std.specs.Prelude.{◌≡◌, ◌≢◌, ℕ, ◌<◌, Bool, ◌&&◌, nat_le, length, List, [], ◌∷◌, if◌then◌else◌}
+use Rattle.vx_arrow_columns.specs.declared.format.Offsets.{Offsets}
+use Rattle.vx_arrow_columns.specs.declared.image.Need as needed
+use Rattle.vx_arrow_columns.specs.declared.image.Node as image
+use Rattle.vx_arrow_columns.specs.declared.image.Room as rooms
+use Rattle.vx_arrow_columns.specs.Image.{Part, bit_of, offset_at, part_of}
+use Rattle.vx_arrow_columns.specs.Picks.{Picking, picking_of, shows_valid, pickings}
+use Rattle.vx_arrow_columns.specs.Taken.{IsOwnTaken, ShowsRows}
+
+-- bit j is this one, and the others are as they were
+pub record PutsBit (old new : List ℕ) (j : ℕ) (bit : Bool) : Type 0 where
+  pub put : bit_of new j ≡ bit
+  pub others : (i : ℕ) → i ≢ j → bit_of new i ≡ bit_of old i
+
+-- offset j is this one, and those before it are as they were
+pub record PutsOffset (z : Offsets) (old new : List ℕ) (j value : ℕ) : Type 0 where
+  pub put : offset_at z new j ≡ value
+  pub before : (i : ℕ) → i < j → offset_at z new i ≡ offset_at z old i
+
+-- a node of the same format over other lists, as many rows as picks
+abbrev pub new_part : Part → Picking → List ℕ → List ℕ → List ℕ → Part
+new_part p q valid offsets values =
+    record {
+      format = p.format;
+      width = p.width;
+      len = length q.picks;
+      offset = 0;
+      children = p.children;
+      valid = valid;
+      offsets = offsets;
+      values = values;
+    }
+
+-- and over those of a room
+abbrev pub written_part : Part → Picking → rooms.Room → Part
+written_part p q r =
+    new_part p q (if shows_valid p q then r.valid.now else []) r.offsets.now r.values.now
+
+abbrev pub written_by : List Part → List Picking → List rooms.Room → List Part
+written_by [] qs rs = []
+written_by (p ∷ ps) [] rs = []
+written_by (p ∷ ps) (q ∷ qs) [] = []
+written_by (p ∷ ps) (q ∷ qs) (r ∷ rs) = written_part p q r ∷ written_by ps qs rs
+
+-- the table that the rooms hold, at picks of the one column
+abbrev pub written : List Part → Picking → List rooms.Room → List Part
+written ps q rs = written_by ps (pickings ps (q ∷ [])) rs
+
+-- a room is as large as the need
+abbrev pub has_room : needed.Need → rooms.Room → Bool
+has_room n r =
+    nat_le n.valid (length r.valid.now)
+    && (nat_le n.offsets (length r.offsets.now) && nat_le n.values (length r.values.now))
+
+-- validity is written where the rows have some, and what is written besides stands as it was
+pub record HasValid (p : Part) (q : Picking) (old new : rooms.Room) : Type 0 where
+  pub shows : ShowsRows p q.picks (if shows_valid p q then new.valid.now else [])
+  pub long : length new.valid.now ≡ length old.valid.now
+  pub offsets : new.offsets ≡ old.offsets
+  pub values : new.values ≡ old.values
+
+-- the room has the node's rows at picks of the caller's, where its children's rooms have theirs
+abbrev pub IsNodeTaken : image.Node → List ℕ → List ℕ → ℕ → rooms.Room → Type 0
+IsNodeTaken n places valid add room =
+    IsOwnTaken (part_of n)
+    (written_part (part_of n) (picking_of places valid add) room)
+    (picking_of places valid add)

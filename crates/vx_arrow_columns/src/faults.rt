@@ -1,0 +1,28 @@
+//! What stops at a node.
+use crate::refusal::{Lack, Refusal};
+use std::alloc::AllocFailed;
+
+// Why a node's rows at picks are not there.
+#[derive(Clone, Copy)]
+pub(crate) enum Fault {
+    Lacks(Lack),
+    Overflow,
+    NoMemory,
+}
+
+impl Fault {
+    // The same of the node with a number.
+    pub(crate) fn at(self, node: usize) -> Refusal {
+        match self {
+            Fault::Lacks(lack) => Refusal::NoMeaning { node, lack },
+            Fault::Overflow => Refusal::Overflow { node },
+            Fault::NoMemory => Refusal::NoMemory,
+        }
+    }
+}
+
+impl<T: Drop> From<AllocFailed<T>> for Fault {
+    fn from(_error: AllocFailed<T>) -> Fault {
+        Fault::NoMemory
+    }
+}

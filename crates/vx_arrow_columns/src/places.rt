@@ -1,0 +1,67 @@
+//! Places of rows.
+ghost use Rattle.std.specs.Prelude.{◌≡◌, ◌+◌, ◌<◌, ◌≤◌, IfSome, length, true, false};
+ghost use Rattle.vx_arrow_columns.specs.Image.{is_placed, part_of};
+ghost use Rattle.vx_arrow_columns.specs.Picks.{pick_at, picks_of, place_of};
+ghost use Rattle.vx_arrow_columns.specs.Taken.{AreWithin};
+
+use crate::bits::is_there;
+use crate::image::Node;
+
+// Picks of a column's rows: places, each `add` further on, and a bit for each, clear at a null one;
+// without bits none is null.
+#[derive(Clone, Copy)]
+pub(crate) struct Picks<'a> {
+    pub(crate) places: &'a [u64],
+    pub(crate) valid: &'a [u8],
+    pub(crate) add: u64,
+}
+
+// Such lists of the crate's own.
+#[derive(Drop)]
+pub(crate) struct Places {
+    pub(crate) places: Vec<u64>,
+    pub(crate) valid: Vec<u8>,
+}
+
+// Where the row of pick `k` stands, if pick and row are there.
+#[inline(always)]
+pub(crate) fn place(node: &Node, picks: &Picks, k: usize) -> Option<usize>
+    requires index { k < length picks.now.places.now }
+    requires placed { is_placed (part_of node.now) ≡ true }
+    requires within { AreWithin
+        (picks_of picks.now.places.now picks.now.valid.now picks.now.add) node.now.len }
+    ensures place { result ≡ place_of (part_of node.now)
+        (pick_at picks.now.places.now picks.now.valid.now picks.now.add k) }
+    ensures below { IfSome result (λ i. i < node.now.offset + node.now.len) }
+    ensures from { IfSome result (λ i. node.now.offset ≤ i) }
+{
+    if !is_there(picks.valid, k) {
+        return None;
+    }
+    let row = node.offset + (picks.add + picks.places[k]);
+    if is_there(node.valid, row as usize) {
+        Some(row as usize)
+    } else {
+        None
+    }
+}
+
+// Whether each pick is null or below the length.
+pub(crate) fn are_within(picks: &Picks, len: u64) -> bool
+    ensures within { result ≡ true → AreWithin
+        (picks_of picks.now.places.now picks.now.valid.now picks.now.add) len }
+    ensures beyond { result ≡ false → AreWithin
+        (picks_of picks.now.places.now picks.now.valid.now picks.now.add) len → ⊥ }
+{
+    for k in 0..picks.places.len() {
+        if is_there(picks.valid, k) {
+            let Some(row) = picks.add.checked_add(picks.places[k]) else {
+                return false;
+            };
+            if row >= len {
+                return false;
+            }
+        }
+    }
+    true
+}

@@ -1,0 +1,274 @@
+//! Which rows of each node are taken, and what they need.
+ghost use Rattle.std.specs.Prelude.{◌≡◌, ◌+◌, ◌*◌, ◌^◌, ◌<◌, ◌≤◌, ◌++◌, IfOk, OnOk, length, replicate};
+ghost use Rattle.vx_arrow_columns.specs.Image.{format_in, part_of, parts_of};
+ghost use Rattle.vx_arrow_columns.specs.Picks.{need_of, offsets_len, picking_of, picks_of, values_len};
+ghost use Rattle.vx_arrow_columns.specs.Planned.{IsJobMeasured, IsListed, IsNext, IsPlanned, IsStart, IsVisited, IsWalking, first_len, picking_in};
+ghost use Rattle.vx_arrow_columns.specs.Taken.{AreWithin};
+
+use crate::faults::Fault;
+use crate::format::{Format, format_of};
+use crate::image::{Need, Node};
+use crate::needs::{Inner, measure_node, shows_valid};
+use crate::places::{Picks, Places, are_within};
+use crate::refusal::{Lack, Refusal};
+use std::alloc::Global;
+
+// The picks of a node: the caller's or a list of places, each `add` further on, all below `end`.
+#[derive(Clone, Copy)]
+pub(crate) struct Job {
+    pub(crate) list: Option<usize>,
+    pub(crate) add: u64,
+    pub(crate) end: u64,
+}
+
+// The picks of each node, and what its rows at them need.
+#[derive(Drop)]
+pub(crate) struct Plan {
+    pub(crate) jobs: Vec<Job>,
+    pub(crate) lists: Vec<Places>,
+    pub(crate) needs: Vec<Need>,
+}
+
+// The picks of a job, where these are the caller's.
+#[inline(always)]
+pub(crate) fn picks_for<'a>(
+    places: &'a [u64],
+    valid: &'a [u8],
+    lists: &'a [Places],
+    job: Job,
+) -> Picks<'a>
+    requires { IsListed job (length lists.now) }
+    ensures { picking_of result.places.now result.valid.now result.add
+        ≡ picking_in places.now valid.now lists.now job }
+{
+    match job.list {
+        None => Picks {
+            places,
+            valid,
+            add: job.add,
+        },
+        Some(k) => {
+            let list = &lists[k];
+            Picks {
+                places: &list.places,
+                valid: &list.valid,
+                add: job.add,
+            }
+        }
+    }
+}
+
+// How many bytes of offsets so many rows need.
+fn offsets_len(node: &Node, count: u64) -> u64
+    requires { count < 2 ^ 60 }
+    ensures { result ≡ offsets_len (format_in node.now.format) count }
+{
+    match format_of(node.format) {
+        Some(Format::Text(size)) => size.size() * (count + 1),
+        Some(Format::List(size)) => size.size() * (count + 1),
+        _ => 0,
+    }
+}
+
+// What a node's rows at picks need, which have so many bytes of values.
+fn need_for(node: &Node, picks: &Picks, values: u64) -> Need
+    requires few { length picks.now.places.now < 2 ^ 60 }
+    requires values { values ≡ values_len (format_in node.now.format) (part_of node.now)
+        (picks_of picks.now.places.now picks.now.valid.now picks.now.add) }
+    ensures { result ≡ need_of (part_of node.now)
+        (picking_of picks.now.places.now picks.now.valid.now picks.now.add) }
+{
+    let len = picks.places.len() as u64;
+    let valid = if shows_valid(node, picks) {
+        len.div_ceil(8)
+    } else {
+        0
+    };
+    Need {
+        len,
+        valid,
+        offsets: offsets_len(node, len),
+        values,
+        sizes: 0,
+    }
+}
+
+// What a node's rows at the picks of a job need, and which rows its children's are.
+#[derive(Drop)]
+struct Measured {
+    need: Need,
+    inner: Inner,
+}
+
+// Tests what a node's rows at the picks of a job touch, and says what they need.
+fn measure_job<'a>(
+    alloc: Global,
+    places: &'a [u64],
+    valid: &'a [u8],
+    lists: &'a [Places],
+    node: &Node,
+    job: Job,
+) -> Result<Measured, Fault>
+    requires listed { IsListed job (length lists.now) }
+    requires within { AreWithin (picking_in places.now valid.now lists.now job).picks job.end }
+    ensures { IfOk result (IsJobMeasured (part_of node.now)
+        (picking_in places.now valid.now lists.now job)) }
+{
+    let picks = picks_for(places, valid, lists, job);
+    let measure = measure_node(alloc, node, &picks, job.end)?;
+    Ok(Measured {
+        need: need_for(node, &picks, measure.values),
+        inner: measure.inner,
+    })
+}
+
+// The sum of two numbers, where it fits.
+fn sum(a: u64, b: u64) -> u64
+    ensures { a + b < 2 ^ 64 → result ≡ a + b }
+{
+    match a.checked_add(b) {
+        Some(total) => total,
+        None => a,
+    }
+}
+
+// The picks of a node's children, from its own, which are those of a job.
+fn next_job(
+    alloc: Global,
+    node: &Node,
+    job: Job,
+    inner: Inner,
+    lists: &mut Vec<Places>,
+) -> Result<Job, Fault>
+    requires { node.now.offset + node.now.len < 2 ^ 60 }
+    ensures { IfOk result (IsNext node.now job inner lists.old.items lists.new.items) }
+{
+    match inner {
+        Inner::Leaf => Ok(job),
+        Inner::Same => Ok(Job {
+            list: job.list,
+            add: sum(job.add, node.offset),
+            end: node.offset + node.len,
+        }),
+        Inner::Listed(items) => {
+            let list = lists.len();
+            lists.push(Places {
+                places: items.places,
+                valid: Vec::new(alloc),
+            })?;
+            Ok(Job {
+                list: Some(list),
+                add: 0,
+                end: items.end,
+            })
+        }
+    }
+}
+
+// A walk over a table: the nodes that were seen, and the jobs of those to come, the next one last.
+#[derive(Drop)]
+struct Walk {
+    jobs: Vec<Job>,
+    lists: Vec<Places>,
+    needs: Vec<Need>,
+    stack: Vec<Job>,
+}
+
+// Pushes a job so many times.
+fn push_times(stack: &mut Vec<Job>, job: Job, times: u64) -> Result<(), Fault>
+    ensures { OnOk result (stack.new.items ≡ stack.old.items ++ replicate times job) }
+{
+    for pushed in 0..times {
+        stack.push(job)?;
+    }
+    Ok(())
+}
+
+impl Walk {
+    // Before the first node: the caller's picks, all below `end`.
+    fn start(alloc: Global, end: u64) -> Result<Walk, Fault>
+        ensures { IfOk result (IsStart end) }
+    {
+        let mut stack = Vec::new(alloc);
+        stack.push(Job {
+            list: None,
+            add: 0,
+            end,
+        })?;
+        Ok(Walk {
+            jobs: Vec::new(alloc),
+            lists: Vec::new(alloc),
+            needs: Vec::new(alloc),
+            stack,
+        })
+    }
+
+    // Goes over a node that has so many nodes behind it.
+    fn visit(
+        &mut self,
+        alloc: Global,
+        places: &[u64],
+        valid: &[u8],
+        node: &Node,
+        behind: usize,
+    ) -> Result<(), Fault>
+        requires { IsWalking places.now valid.now self.old }
+        ensures { OnOk result (IsVisited places.now valid.now node.now behind self.old self.new) }
+    {
+        let Some(job) = self.stack.pop() else {
+            return Err(Fault::Lacks(Lack::Tree));
+        };
+        let left = self.stack.len();
+        if left > behind || node.children > (behind - left) as u64 {
+            return Err(Fault::Lacks(Lack::Tree));
+        }
+        let measure = measure_job(alloc, places, valid, &self.lists, node, job)?;
+        let next = next_job(alloc, node, job, measure.inner, &mut self.lists)?;
+        self.jobs.push(job)?;
+        self.needs.push(measure.need)?;
+        push_times(&mut self.stack, next, node.children)
+    }
+}
+
+// The picks of each node of a table, where its one column has these.
+pub(crate) fn plan_of(
+    alloc: Global,
+    nodes: &[Node],
+    places: &[u64],
+    valid: &[u8],
+) -> Result<Plan, Refusal>
+    ensures planned { IfOk result (IsPlanned (parts_of nodes.now) places.now valid.now) }
+    ensures within { OnOk result (AreWithin (picks_of places.now valid.now 0)
+        (first_len nodes.now)) }
+{
+    if nodes.len() == 0 {
+        return Err(Fault::Lacks(Lack::Tree).at(0));
+    }
+    let end = nodes[0].len;
+    if !are_within(
+        &Picks {
+            places,
+            valid,
+            add: 0,
+        },
+        end,
+    ) {
+        return Err(Refusal::Beyond);
+    }
+    let mut walk = match Walk::start(alloc, end) {
+        Ok(walk) => walk,
+        Err(fault) => return Err(fault.at(0)),
+    };
+    for i in 0..nodes.len() {
+        if let Err(fault) = walk.visit(alloc, places, valid, &nodes[i], nodes.len() - i - 1) {
+            return Err(fault.at(i));
+        }
+    }
+    let Walk {
+        jobs,
+        lists,
+        needs,
+        stack: _,
+    } = walk;
+    Ok(Plan { jobs, lists, needs })
+}

@@ -1,0 +1,222 @@
+//! The rows of one node at picks, written.
+ghost use Rattle.std.specs.Prelude.{◌≡◌, ◌+◌, ◌*◌, ◌^◌, ◌<◌, ◌≤◌, ◌/◌, ◌++◌, Some, length, take, true};
+ghost use Rattle.vx_arrow_columns.specs.Image.{format_in, holds_offsets, is_placed, limit_of, part_of, size_of};
+ghost use Rattle.vx_arrow_columns.specs.Picks.{items_len, need_of, picking_of, picks_of};
+ghost use Rattle.vx_arrow_columns.specs.Taken.{AreBits, AreCutAt, AreFixed, AreOffsets, AreOrdered, AreWithin, IsNullable, IsReadable, ShowsRows, texts_of};
+ghost use Rattle.vx_arrow_columns.specs.Written.{HasValid, IsNodeTaken, has_room};
+
+use crate::bits::{bit_is, put_bit, put_bytes};
+use crate::format::{Format, Offsets, format_of};
+use crate::image::{Node, Room};
+use crate::needs::shows_valid;
+use crate::offsets::{cut_at, put_offset};
+use crate::places::{Picks, place};
+
+// Writes a bit for each pick: whether its row is there.
+fn write_valid(node: &Node, picks: &Picks, out: &mut [u8])
+    requires placed { is_placed (part_of node.now) ≡ true }
+    requires within { AreWithin
+        (picks_of picks.now.places.now picks.now.valid.now picks.now.add) node.now.len }
+    requires room { length picks.now.places.now ≤ 8 * length out.old }
+    ensures { ShowsRows (part_of node.now)
+        (picks_of picks.now.places.now picks.now.valid.now picks.now.add) out.new }
+{
+    for k in 0..picks.places.len() {
+        let there = place(node, picks, k).is_some();
+        put_bit(out, k, there);
+    }
+}
+
+// Writes the bit of each row that is there.
+fn write_bits(node: &Node, picks: &Picks, out: &mut [u8])
+    requires placed { is_placed (part_of node.now) ≡ true }
+    requires within { AreWithin
+        (picks_of picks.now.places.now picks.now.valid.now picks.now.add) node.now.len }
+    requires room { length picks.now.places.now ≤ 8 * length out.old }
+    ensures { AreBits (part_of node.now)
+        (picks_of picks.now.places.now picks.now.valid.now picks.now.add)
+        (length picks.now.places.now) out.new }
+{
+    for k in 0..picks.places.len() {
+        if let Some(i) = place(node, picks, k) {
+            put_bit(out, k, bit_is(node.values, i));
+        }
+    }
+}
+
+// Writes the value of each row that is there.
+fn write_fixed(node: &Node, picks: &Picks, out: &mut [u8])
+    requires placed { is_placed (part_of node.now) ≡ true }
+    requires within { AreWithin
+        (picks_of picks.now.places.now picks.now.valid.now picks.now.add) node.now.len }
+    requires values { (node.now.offset + node.now.len) * node.now.width
+        ≤ length node.now.values.now }
+    requires room { length picks.now.places.now * node.now.width ≤ length out.old }
+    ensures { AreFixed (part_of node.now)
+        (picks_of picks.now.places.now picks.now.valid.now picks.now.add)
+        (length picks.now.places.now) out.new }
+{
+    let width = node.width as usize;
+    for k in 0..picks.places.len() {
+        if let Some(i) = place(node, picks, k) {
+            put_bytes(out, k * width, &node.values[i * width..i * width + width]);
+        }
+    }
+}
+
+// Writes where the items of each row begin and end among those of all rows.
+fn write_offsets(size: Offsets, node: &Node, picks: &Picks, out: &mut [u8])
+    requires placed { is_placed (part_of node.now) ≡ true }
+    requires within { AreWithin
+        (picks_of picks.now.places.now picks.now.valid.now picks.now.add) node.now.len }
+    requires ordered { AreOrdered size (part_of node.now)
+        (picks_of picks.now.places.now picks.now.valid.now picks.now.add) }
+    requires counted { items_len size (part_of node.now)
+        (picks_of picks.now.places.now picks.now.valid.now picks.now.add) < limit_of size }
+    requires room { size_of size * (length picks.now.places.now + 1) ≤ length out.old }
+    ensures { AreOffsets size (part_of node.now)
+        (picks_of picks.now.places.now picks.now.valid.now picks.now.add)
+        (length picks.now.places.now) out.new }
+{
+    let mut at = 0;
+    put_offset(size, out, 0, 0);
+    for k in 0..picks.places.len() {
+        if let Some(i) = place(node, picks, k) {
+            let cut = cut_at(size, node, i);
+            at += cut.end - cut.start;
+        }
+        put_offset(size, out, k + 1, at);
+    }
+}
+
+// Writes the bytes of the texts of all rows, one behind another.
+fn write_texts(size: Offsets, node: &Node, picks: &Picks, out: &mut [u8])
+    requires placed { is_placed (part_of node.now) ≡ true }
+    requires within { AreWithin
+        (picks_of picks.now.places.now picks.now.valid.now picks.now.add) node.now.len }
+    requires cut { AreCutAt size (part_of node.now)
+        (picks_of picks.now.places.now picks.now.valid.now picks.now.add)
+        (length node.now.values.now) }
+    requires room { items_len size (part_of node.now)
+        (picks_of picks.now.places.now picks.now.valid.now picks.now.add) ≤ length out.old }
+    ensures { take (items_len size (part_of node.now)
+        (picks_of picks.now.places.now picks.now.valid.now picks.now.add)) out.new
+        ≡ texts_of size (part_of node.now)
+        (picks_of picks.now.places.now picks.now.valid.now picks.now.add) }
+{
+    let mut at = 0;
+    for k in 0..picks.places.len() {
+        if let Some(i) = place(node, picks, k) {
+            let cut = cut_at(size, node, i);
+            put_bytes(out, at, &node.values[cut.start as usize..cut.end as usize]);
+            at += (cut.end - cut.start) as usize;
+        }
+    }
+}
+
+// Writes validity, where the rows have some.
+fn write_valid_of(node: &Node, picks: &Picks, room: &mut Room)
+    requires placed { is_placed (part_of node.now) ≡ true }
+    requires within { AreWithin
+        (picks_of picks.now.places.now picks.now.valid.now picks.now.add) node.now.len }
+    requires nullable { IsNullable (format_in node.now.format) }
+    requires room { has_room (need_of (part_of node.now)
+        (picking_of picks.now.places.now picks.now.valid.now picks.now.add)) room.old ≡ true }
+    ensures { HasValid (part_of node.now)
+        (picking_of picks.now.places.now picks.now.valid.now picks.now.add) room.old room.new }
+{
+    if !shows_valid(node, picks) {
+        return;
+    }
+    write_valid(node, picks, room.valid);
+}
+
+// Writes bits.
+fn write_bits_node(node: &Node, picks: &Picks, room: &mut Room)
+    requires format { format_in node.now.format ≡ Some Format.Bits }
+    requires readable { IsReadable (part_of node.now)
+        (picks_of picks.now.places.now picks.now.valid.now picks.now.add) }
+    requires room { has_room (need_of (part_of node.now)
+        (picking_of picks.now.places.now picks.now.valid.now picks.now.add)) room.old ≡ true }
+    ensures { IsNodeTaken node.now
+        picks.now.places.now picks.now.valid.now picks.now.add room.new }
+{
+    write_valid_of(node, picks, room);
+    write_bits(node, picks, room.values);
+}
+
+// Writes values of a fixed width.
+fn write_fixed_node(node: &Node, picks: &Picks, room: &mut Room)
+    requires format { format_in node.now.format ≡ Some Format.Fixed }
+    requires readable { IsReadable (part_of node.now)
+        (picks_of picks.now.places.now picks.now.valid.now picks.now.add) }
+    requires room { has_room (need_of (part_of node.now)
+        (picking_of picks.now.places.now picks.now.valid.now picks.now.add)) room.old ≡ true }
+    ensures { IsNodeTaken node.now
+        picks.now.places.now picks.now.valid.now picks.now.add room.new }
+{
+    write_valid_of(node, picks, room);
+    write_fixed(node, picks, room.values);
+}
+
+// Writes texts.
+fn write_text_node(size: Offsets, node: &Node, picks: &Picks, room: &mut Room)
+    requires format { format_in node.now.format ≡ Some (Format.Text size) }
+    requires readable { IsReadable (part_of node.now)
+        (picks_of picks.now.places.now picks.now.valid.now picks.now.add) }
+    requires room { has_room (need_of (part_of node.now)
+        (picking_of picks.now.places.now picks.now.valid.now picks.now.add)) room.old ≡ true }
+    ensures { IsNodeTaken node.now
+        picks.now.places.now picks.now.valid.now picks.now.add room.new }
+{
+    write_valid_of(node, picks, room);
+    write_offsets(size, node, picks, room.offsets);
+    write_texts(size, node, picks, room.values);
+}
+
+// Writes the lists' own part: where the items of each begin and end.
+fn write_list_node(size: Offsets, node: &Node, picks: &Picks, room: &mut Room)
+    requires format { format_in node.now.format ≡ Some (Format.List size) }
+    requires readable { IsReadable (part_of node.now)
+        (picks_of picks.now.places.now picks.now.valid.now picks.now.add) }
+    requires room { has_room (need_of (part_of node.now)
+        (picking_of picks.now.places.now picks.now.valid.now picks.now.add)) room.old ≡ true }
+    ensures { IsNodeTaken node.now
+        picks.now.places.now picks.now.valid.now picks.now.add room.new }
+{
+    write_valid_of(node, picks, room);
+    write_offsets(size, node, picks, room.offsets);
+}
+
+// Writes a struct's own part.
+fn write_struct_node(node: &Node, picks: &Picks, room: &mut Room)
+    requires format { format_in node.now.format ≡ Some Format.Struct }
+    requires readable { IsReadable (part_of node.now)
+        (picks_of picks.now.places.now picks.now.valid.now picks.now.add) }
+    requires room { has_room (need_of (part_of node.now)
+        (picking_of picks.now.places.now picks.now.valid.now picks.now.add)) room.old ≡ true }
+    ensures { IsNodeTaken node.now
+        picks.now.places.now picks.now.valid.now picks.now.add room.new }
+{
+    write_valid_of(node, picks, room);
+}
+
+// Writes what a node's own lists hold of its rows at picks.
+pub(crate) fn write_node(node: &Node, picks: &Picks, room: &mut Room)
+    requires readable { IsReadable (part_of node.now)
+        (picks_of picks.now.places.now picks.now.valid.now picks.now.add) }
+    requires room { has_room (need_of (part_of node.now)
+        (picking_of picks.now.places.now picks.now.valid.now picks.now.add)) room.old ≡ true }
+    ensures { IsNodeTaken node.now
+        picks.now.places.now picks.now.valid.now picks.now.add room.new }
+{
+    match format_of(node.format) {
+        Some(Format::Bits) => write_bits_node(node, picks, room),
+        Some(Format::Fixed) => write_fixed_node(node, picks, room),
+        Some(Format::Text(size)) => write_text_node(size, node, picks, room),
+        Some(Format::Struct) => write_struct_node(node, picks, room),
+        Some(Format::List(size)) => write_list_node(size, node, picks, room),
+        Some(Format::Nulls) => {}
+        None => {}
+    }
+}
