@@ -1,0 +1,4 @@
+pub mod Parts
+pub mod Pushes
+pub mod Shown
+pub mod TextLists

@@ -1,0 +1,8 @@
+-- The texts before the one at hand.
+use Rattle.std.proofs.Common.{map, take}
+use Rattle.vx_types.specs.declared.ptype.PType.TheVariants.{I32}
+use Rattle.vx_text.specs.Building.{AreTexts}
+use Rattle.vx_build.proofs.text.join_texts.Given as goal
+
+abbrev pub invariant-loop-text : goal.invariant-loop-text
+invariant-loop-text l = AreTexts I32 l.joined.offsets l.joined.text.items (map (λ text. text.now) (take l.text-index l.values))

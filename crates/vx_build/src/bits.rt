@@ -1,0 +1,50 @@
+//! Masks, validities and columns of bools.
+ghost use Rattle.std.specs.Prelude.{◌≡◌, IfOk, is_some, length, map, true};
+ghost use Rattle.vx_types.specs.RowValue.{bit};
+ghost use Rattle.vx_types.specs.TypeTree.{bool_kind};
+ghost use Rattle.vx_types.specs.declared.nullability.Nullability.TheVariants.{NonNullable, Nullable};
+ghost use Rattle.vx_mask.specs.Mask.{mask_bits};
+ghost use Rattle.vx_model.specs.Bool.{bits_column};
+ghost use Rattle.vx_model.specs.Valid.{by_column, is_fitting, nullability_by, present_bits};
+ghost use Rattle.vx_column.specs.Validity.{valid_of};
+
+use std::alloc::Global;
+use vx_bits::{BitBuffer, BitBuilder, NoMemory};
+use vx_column::{Array, BoolArray, Validity};
+use vx_mask::Mask;
+
+/// The mask of these bits. `NoMemory` alone.
+pub fn mask(alloc: Global, bits: &[bool]) -> Result<Mask, NoMemory>
+    ensures { IfOk result (λ m. mask_bits m ≡ bits.now) }
+{
+    Ok(Mask::from_buffer(BitBuffer::from_bools(alloc, bits)?))
+}
+
+/// The validity that says of each row whether it is valid. `NoMemory` alone.
+pub fn validity(alloc: Global, valid: &[bool]) -> Result<Validity, NoMemory>
+    ensures { IfOk result (λ v. valid_of v ≡ by_column (bits_column valid.now 0)) }
+{
+    Validity::from_bits(alloc, BitBuffer::from_bools(alloc, valid)?)
+}
+
+/// The non-nullable column of these bools. `NoMemory` alone.
+pub fn bools(alloc: Global, values: &[bool]) -> Result<Array, NoMemory>
+    ensures { IfOk result (λ c. c ≡ bits_column values.now 0) }
+{
+    let bits = BitBuffer::from_bools(alloc, values)?;
+    match BoolArray::try_new(bits, Validity::NonNullable) {
+        Ok(bools) => Ok(bools.into_array()),
+        Err(_) => unreachable!(),
+    }
+}
+
+/// The validity of rows that are null where there is no value. `NoMemory` alone.
+pub(crate) fn presence<T>(alloc: Global, values: &[Option<T>]) -> Result<Validity, NoMemory>
+    ensures { IfOk result (λ v. valid_of v ≡ by_column (bits_column (map is_some values.now) 0)) }
+{
+    let mut bits = BitBuilder::with_capacity(alloc, values.len())?;
+    for value in values {
+        bits.append(value.is_some())?;
+    }
+    Validity::from_bits(alloc, bits.finish()?)
+}

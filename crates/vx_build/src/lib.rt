@@ -1,0 +1,16 @@
+//! Columns, masks, indices and steps from what a caller has: lists of numbers, of bools, of texts.
+#![tactic(auto)]
+
+mod bits;
+mod native;
+mod nested;
+mod primitive;
+mod step;
+mod text;
+
+pub use bits::{bools, mask, validity};
+pub use native::NativePType;
+pub use nested::{lists, structs};
+pub use primitive::{constant, nullable_numbers, numbers, records};
+pub use step::{filter, indices, slice, take};
+pub use text::{nullable_texts, texts};

@@ -1,0 +1,279 @@
+//! Rust's integers as numbers of a column.
+ghost use Rattle.std.specs.Prelude.{◌≡◌, ◌≤◌};
+ghost use Rattle.vx_bits.specs.Records.{records_of, width_of};
+ghost use Rattle.vx_types.specs.PType.{number, width};
+
+use vx_bits::{Buffer, Records};
+use vx_types::PType;
+
+/// An integer type of Rust and the primitive type of its values, each of `W` bytes: Vortex's
+/// `NativePType`.
+pub trait NativePType<const W: usize>: Copy {
+    ghost use Rattle.std.specs.Prelude.{ℕ, ℤ, List};
+    ghost use Rattle.vx_types.specs.declared.ptype.PType.{PType};
+
+    // the primitive type
+    ghost ptype: { PType };
+
+    // the integer that a value is
+    ghost integer: { Self → ℤ };
+
+    // the bytes of a value, the lowest first
+    ghost record_of: { Self → List ℕ };
+
+    /// The primitive type.
+    fn ptype() -> PType
+        ensures value { result ≡ ptype }
+        ensures width { width ptype ≡ W }
+        ensures narrow { W ≤ 8 };
+
+    /// The bytes of the value, the lowest first.
+    fn to_record(self) -> [u8; W]
+        ensures value { result ≡ record_of self }
+        ensures number { number ptype (record_of self) ≡ integer self };
+
+    /// These records, as ones of their width.
+    fn records(buffer: Buffer<[u8; W]>) -> Records
+        ensures records { records_of result ≡ buffer.entry }
+        ensures width { width_of result ≡ W };
+}
+
+impl NativePType<1> for u8 {
+    ghost use Rattle.std.specs.Prelude.{pos};
+    ghost use Rattle.std.specs.Int.{to_le_bytes, w8};
+    ghost use Rattle.vx_types.specs.declared.ptype.PType.TheVariants.{U8};
+
+    ghost ptype = { U8 };
+
+    ghost integer = { pos };
+
+    ghost record_of = { to_le_bytes w8 };
+
+    fn ptype() -> PType {
+        PType::U8
+    }
+
+    fn to_record(self) -> [u8; 1] {
+        self.to_le_bytes()
+    }
+
+    fn records(buffer: Buffer<[u8; 1]>) -> Records
+        ensures records { records_of result ≡ buffer }
+        ensures width { width_of result ≡ 1 }
+    {
+        Records::W1(buffer)
+    }
+}
+
+impl NativePType<2> for u16 {
+    ghost use Rattle.std.specs.Prelude.{pos};
+    ghost use Rattle.std.specs.Int.{to_le_bytes, w16};
+    ghost use Rattle.vx_types.specs.declared.ptype.PType.TheVariants.{U16};
+
+    ghost ptype = { U16 };
+
+    ghost integer = { pos };
+
+    ghost record_of = { to_le_bytes w16 };
+
+    fn ptype() -> PType {
+        PType::U16
+    }
+
+    fn to_record(self) -> [u8; 2] {
+        self.to_le_bytes()
+    }
+
+    fn records(buffer: Buffer<[u8; 2]>) -> Records
+        ensures records { records_of result ≡ buffer }
+        ensures width { width_of result ≡ 2 }
+    {
+        Records::W2(buffer)
+    }
+}
+
+impl NativePType<4> for u32 {
+    ghost use Rattle.std.specs.Prelude.{pos};
+    ghost use Rattle.std.specs.Int.{to_le_bytes, w32};
+    ghost use Rattle.vx_types.specs.declared.ptype.PType.TheVariants.{U32};
+
+    ghost ptype = { U32 };
+
+    ghost integer = { pos };
+
+    ghost record_of = { to_le_bytes w32 };
+
+    fn ptype() -> PType {
+        PType::U32
+    }
+
+    fn to_record(self) -> [u8; 4] {
+        self.to_le_bytes()
+    }
+
+    fn records(buffer: Buffer<[u8; 4]>) -> Records
+        ensures records { records_of result ≡ buffer }
+        ensures width { width_of result ≡ 4 }
+    {
+        Records::W4(buffer)
+    }
+}
+
+impl NativePType<8> for u64 {
+    ghost use Rattle.std.specs.Prelude.{pos};
+    ghost use Rattle.std.specs.Int.{to_le_bytes, w64};
+    ghost use Rattle.vx_types.specs.declared.ptype.PType.TheVariants.{U64};
+
+    ghost ptype = { U64 };
+
+    ghost integer = { pos };
+
+    ghost record_of = { to_le_bytes w64 };
+
+    fn ptype() -> PType {
+        PType::U64
+    }
+
+    fn to_record(self) -> [u8; 8] {
+        self.to_le_bytes()
+    }
+
+    fn records(buffer: Buffer<[u8; 8]>) -> Records
+        ensures records { records_of result ≡ buffer }
+        ensures width { width_of result ≡ 8 }
+    {
+        Records::W8(buffer)
+    }
+}
+
+impl NativePType<1> for i8 {
+    ghost use Rattle.std.specs.Int.{cast_unsigned, to_le_bytes, w8};
+    ghost use Rattle.vx_types.specs.declared.ptype.PType.TheVariants.{I8};
+
+    ghost ptype = { I8 };
+
+    ghost integer = { λ z. z };
+
+    ghost record_of = { λ z. to_le_bytes w8 (cast_unsigned w8 z) };
+
+    fn ptype() -> PType {
+        PType::I8
+    }
+
+    fn to_record(self) -> [u8; 1] {
+        self.to_le_bytes()
+    }
+
+    fn records(buffer: Buffer<[u8; 1]>) -> Records
+        ensures records { records_of result ≡ buffer }
+        ensures width { width_of result ≡ 1 }
+    {
+        Records::W1(buffer)
+    }
+}
+
+impl NativePType<2> for i16 {
+    ghost use Rattle.std.specs.Int.{cast_unsigned, to_le_bytes, w16};
+    ghost use Rattle.vx_types.specs.declared.ptype.PType.TheVariants.{I16};
+
+    ghost ptype = { I16 };
+
+    ghost integer = { λ z. z };
+
+    ghost record_of = { λ z. to_le_bytes w16 (cast_unsigned w16 z) };
+
+    fn ptype() -> PType {
+        PType::I16
+    }
+
+    fn to_record(self) -> [u8; 2] {
+        self.to_le_bytes()
+    }
+
+    fn records(buffer: Buffer<[u8; 2]>) -> Records
+        ensures records { records_of result ≡ buffer }
+        ensures width { width_of result ≡ 2 }
+    {
+        Records::W2(buffer)
+    }
+}
+
+impl NativePType<4> for i32 {
+    ghost use Rattle.std.specs.Int.{cast_unsigned, to_le_bytes, w32};
+    ghost use Rattle.vx_types.specs.declared.ptype.PType.TheVariants.{I32};
+
+    ghost ptype = { I32 };
+
+    ghost integer = { λ z. z };
+
+    ghost record_of = { λ z. to_le_bytes w32 (cast_unsigned w32 z) };
+
+    fn ptype() -> PType {
+        PType::I32
+    }
+
+    fn to_record(self) -> [u8; 4] {
+        self.to_le_bytes()
+    }
+
+    fn records(buffer: Buffer<[u8; 4]>) -> Records
+        ensures records { records_of result ≡ buffer }
+        ensures width { width_of result ≡ 4 }
+    {
+        Records::W4(buffer)
+    }
+}
+
+impl NativePType<8> for i64 {
+    ghost use Rattle.std.specs.Int.{cast_unsigned, to_le_bytes, w64};
+    ghost use Rattle.vx_types.specs.declared.ptype.PType.TheVariants.{I64};
+
+    ghost ptype = { I64 };
+
+    ghost integer = { λ z. z };
+
+    ghost record_of = { λ z. to_le_bytes w64 (cast_unsigned w64 z) };
+
+    fn ptype() -> PType {
+        PType::I64
+    }
+
+    fn to_record(self) -> [u8; 8] {
+        self.to_le_bytes()
+    }
+
+    fn records(buffer: Buffer<[u8; 8]>) -> Records
+        ensures records { records_of result ≡ buffer }
+        ensures width { width_of result ≡ 8 }
+    {
+        Records::W8(buffer)
+    }
+}
+
+// A position: an unsigned number of 64 bits.
+impl NativePType<8> for usize {
+    ghost use Rattle.std.specs.Prelude.{pos};
+    ghost use Rattle.std.specs.Int.{to_le_bytes, w64};
+    ghost use Rattle.vx_types.specs.declared.ptype.PType.TheVariants.{U64};
+
+    ghost ptype = { U64 };
+
+    ghost integer = { pos };
+
+    ghost record_of = { to_le_bytes w64 };
+
+    fn ptype() -> PType {
+        PType::U64
+    }
+
+    fn to_record(self) -> [u8; 8] {
+        self.to_le_bytes()
+    }
+
+    fn records(buffer: Buffer<[u8; 8]>) -> Records
+        ensures records { records_of result ≡ buffer }
+        ensures width { width_of result ≡ 8 }
+    {
+        Records::W8(buffer)
+    }
+}
