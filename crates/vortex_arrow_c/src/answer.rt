@@ -19,7 +19,7 @@ pub(crate) const ROOM: u64 = 3;
 /// Rows or items are too many to be counted: the node's number.
 pub(crate) const OVERFLOW: u64 = 4;
 
-/// Want of memory.
+/// Out of memory.
 pub(crate) const NO_MEMORY: u64 = 5;
 
 /// A number names no format: the node's number.
@@ -103,7 +103,7 @@ impl Answer {
         }
     }
 
-    // What a call over columns answers.
+    /// What a call over columns answers.
     pub(crate) fn of(outcome: Result<(), Refusal>) -> Answer
         ensures { result ≡ column_answer outcome }
     {

@@ -38,7 +38,7 @@ pub extern "C" fn vortex_arrow_sizes(
 /// | 2 | a pick that isn't null is past the rows |
 /// | 3 | there are not as many rooms as nodes, or a node's room is smaller than its need |
 /// | 4 | a node's rows at the picks are more than its offsets, or a length, can count |
-/// | 5 | memory is wanting |
+/// | 5 | memory runs out |
 /// | 8 | a node's number of a format names none |
 ///
 /// From 1 on nothing is written.

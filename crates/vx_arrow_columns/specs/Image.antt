@@ -55,7 +55,7 @@ parts_of nodes = map part_of nodes
 abbrev pub bit_of : List ℕ → ℕ → Bool
 bit_of bs j = bit_at (slice_index bs (j / 8)) (j % 8) == 1
 
--- whether row j is there; without bits each row is
+-- whether row j is valid; without bits each row is
 abbrev pub is_valid : List ℕ → ℕ → Bool
 is_valid [] j = true
 is_valid (b ∷ bs) j = bit_of (b ∷ bs) j

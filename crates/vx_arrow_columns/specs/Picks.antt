@@ -144,7 +144,8 @@ needs_by (p ∷ ps) (q ∷ qs) = need_of p q ∷ needs_by ps qs
 abbrev pub needs_of : List Part → Picking → List image.Need
 needs_of ps q = needs_by ps (pickings ps (q ∷ []))
 
--- the lengths can be counted: rows and items below 2^60, bytes below 2^63, and offsets by their size
+-- the lengths can be counted: rows and items below 2^60, bytes below 2^63, and offsets by their
+-- size
 abbrev pub counts_by : Option Format → Part → List (Option ℕ) → Bool
 counts_by None p q = true
 counts_by (Some Nulls) p q = true

@@ -3,7 +3,7 @@ ghost use Rattle.std.specs.Prelude.{◌≡◌, ◌+◌, ◌*◌, ◌<◌, ◌≤
 ghost use Rattle.vx_arrow_columns.specs.Image.{bit_of, is_valid};
 ghost use Rattle.vx_arrow_columns.specs.Written.{PutsBit};
 
-// Bit `j`; a clear one past the bytes.
+/// Bit `j`; a clear one past the bytes.
 #[inline(always)]
 pub(crate) fn bit_is(bytes: &[u8], j: usize) -> bool
     ensures { result ≡ bit_of bytes.now j }
@@ -14,7 +14,7 @@ pub(crate) fn bit_is(bytes: &[u8], j: usize) -> bool
     (bytes[j / 8] >> (j % 8)) & 1 == 1
 }
 
-// Whether row `j` is there by these bits of validity; without any, each row is.
+/// Whether row `j` is valid by these bits of validity; without any, each row is.
 #[inline(always)]
 pub(crate) fn is_there(valid: &[u8], j: usize) -> bool
     ensures { result ≡ is_valid valid.now j }
@@ -26,7 +26,7 @@ pub(crate) fn is_there(valid: &[u8], j: usize) -> bool
     }
 }
 
-// Sets bit `j`, or clears it.
+/// Sets bit `j`, or clears it.
 #[inline(always)]
 pub(crate) fn put_bit(bytes: &mut [u8], j: usize, bit: bool)
     requires { j < 8 * length bytes.old }
@@ -37,7 +37,7 @@ pub(crate) fn put_bit(bytes: &mut [u8], j: usize, bit: bool)
     bytes[j / 8] = if bit { old | mask } else { old & !mask };
 }
 
-// Writes `src` over the bytes from `at` on.
+/// Writes `src` over the bytes from `at` on.
 #[inline(always)]
 pub(crate) fn put_bytes(bytes: &mut [u8], at: usize, src: &[u8])
     requires { at + length src.now ≤ length bytes.old }

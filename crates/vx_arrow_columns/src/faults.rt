@@ -2,7 +2,7 @@
 use crate::refusal::{Lack, Refusal};
 use std::alloc::AllocFailed;
 
-// Why a node's rows at picks are not there.
+/// Why a node's rows at picks are not there.
 #[derive(Clone, Copy)]
 pub(crate) enum Fault {
     Lacks(Lack),
@@ -11,7 +11,7 @@ pub(crate) enum Fault {
 }
 
 impl Fault {
-    // The same of the node with a number.
+    /// The same of the node with a number.
     pub(crate) fn at(self, node: usize) -> Refusal {
         match self {
             Fault::Lacks(lack) => Refusal::NoMeaning { node, lack },

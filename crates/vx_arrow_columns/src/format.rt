@@ -2,14 +2,14 @@
 ghost use Rattle.std.specs.Prelude.{◌≡◌};
 ghost use Rattle.vx_arrow_columns.specs.Image.{format_in, limit_of, size_of};
 
-// How many bytes an offset has.
+/// How many bytes an offset has.
 #[derive(Clone, Copy)]
 pub(crate) enum Offsets {
     Short,
     Long,
 }
 
-// What a node's rows are, and how they are stored.
+/// What a node's rows are, and how they are stored.
 #[derive(Clone, Copy)]
 pub(crate) enum Format {
     Nulls,
@@ -30,7 +30,7 @@ impl Offsets {
         }
     }
 
-    // Offsets are below it.
+    /// Offsets are below it.
     pub(crate) fn limit(self) -> u64
         ensures { result ≡ limit_of self }
     {
@@ -41,7 +41,7 @@ impl Offsets {
     }
 }
 
-// The format that a number names.
+/// The format that a number names.
 pub(crate) fn format_of(code: u64) -> Option<Format>
     ensures { result ≡ format_in code }
 {

@@ -14,14 +14,14 @@ use crate::places::{Picks, place};
 use crate::refusal::Lack;
 use std::alloc::Global;
 
-// The places of the items of lists, all below `end`.
+/// The places of the items of lists, all below `end`.
 #[derive(Drop)]
 pub(crate) struct Items {
     pub(crate) places: Vec<u64>,
     pub(crate) end: u64,
 }
 
-// Which rows of the children are taken.
+/// Which rows of the children are taken.
 #[derive(Drop)]
 pub(crate) enum Inner {
     // There are no children.
@@ -32,14 +32,14 @@ pub(crate) enum Inner {
     Listed(Items),
 }
 
-// How many bytes of values a node's rows at picks are, and which rows its children's are.
+/// How many bytes of values a node's rows at picks are, and which rows its children's are.
 #[derive(Drop)]
 pub(crate) struct Measure {
     pub(crate) values: u64,
     pub(crate) inner: Inner,
 }
 
-// Whether so many rows have a bit of validity each, if there are any.
+/// Whether so many rows have a bit of validity each, if there are any.
 pub(crate) fn holds_valid(valid: &[u8], end: u64) -> bool
     requires { end < 2 ^ 60 }
     ensures { result ≡ holds_valid valid.now end }
@@ -47,7 +47,7 @@ pub(crate) fn holds_valid(valid: &[u8], end: u64) -> bool
     valid.is_empty() || end.div_ceil(8) <= valid.len() as u64
 }
 
-// Whether bits of validity are written for these rows.
+/// Whether bits of validity are written for these rows.
 pub(crate) fn shows_valid(node: &Node, picks: &Picks) -> bool
     ensures { result ≡ shows_valid (part_of node.now)
         (picking_of picks.now.places.now picks.now.valid.now picks.now.add) }
@@ -293,7 +293,7 @@ fn measure_struct(node: &Node, picks: &Picks) -> Measure
     }
 }
 
-// Tests what the rows of a node at picks below `end` touch, and says what they need.
+/// Tests what the rows of a node at picks below `end` touch, and says what they need.
 pub(crate) fn measure_node(
     alloc: Global,
     node: &Node,

@@ -41,7 +41,7 @@ fn long_offset(offsets: &[u8], j: usize) -> u64
     ])
 }
 
-// Offset `j`.
+/// Offset `j`.
 #[inline(always)]
 pub(crate) fn offset(size: Offsets, offsets: &[u8], j: usize) -> u64
     requires { size_of size * j + size_of size ≤ length offsets.now }
@@ -53,7 +53,7 @@ pub(crate) fn offset(size: Offsets, offsets: &[u8], j: usize) -> u64
     }
 }
 
-// Whether there is an offset for each row and one more.
+/// Whether there is an offset for each row and one more.
 pub(crate) fn holds_offsets(size: Offsets, node: &Node) -> bool
     requires { node.now.offset + node.now.len < 2 ^ 60 }
     ensures { result ≡ holds_offsets size (part_of node.now) }
@@ -61,14 +61,14 @@ pub(crate) fn holds_offsets(size: Offsets, node: &Node) -> bool
     node.len == 0 || size.size() * (node.offset + node.len + 1) <= node.offsets.len() as u64
 }
 
-// Where the items of a row begin and end.
+/// Where the items of a row begin and end.
 #[derive(Clone, Copy)]
 pub(crate) struct Cut {
     pub(crate) start: u64,
     pub(crate) end: u64,
 }
 
-// Those of row `i`.
+/// Those of row `i`.
 #[inline(always)]
 pub(crate) fn cut_at(size: Offsets, node: &Node, i: usize) -> Cut
     requires held { holds_offsets size (part_of node.now) ≡ true }
@@ -83,7 +83,7 @@ pub(crate) fn cut_at(size: Offsets, node: &Node, i: usize) -> Cut
     }
 }
 
-// Writes offset `j`.
+/// Writes offset `j`.
 #[inline(always)]
 pub(crate) fn put_offset(size: Offsets, offsets: &mut [u8], j: usize, value: u64)
     requires room { size_of size * j + size_of size ≤ length offsets.old }

@@ -7,8 +7,8 @@ ghost use Rattle.vx_arrow_columns.specs.Taken.{AreWithin};
 use crate::bits::is_there;
 use crate::image::Node;
 
-// Picks of a column's rows: places, each `add` further on, and a bit for each, clear at a null one;
-// without bits none is null.
+/// Picks of a column's rows: places, each `add` further on, and a bit for each, clear at a null one;
+/// without bits none is null.
 #[derive(Clone, Copy)]
 pub(crate) struct Picks<'a> {
     pub(crate) places: &'a [u64],
@@ -16,14 +16,14 @@ pub(crate) struct Picks<'a> {
     pub(crate) add: u64,
 }
 
-// Such lists of the crate's own.
+/// Such lists of the crate's own.
 #[derive(Drop)]
 pub(crate) struct Places {
     pub(crate) places: Vec<u64>,
     pub(crate) valid: Vec<u8>,
 }
 
-// Where the row of pick `k` stands, if pick and row are there.
+/// Where the row of pick `k` stands, if pick and row are there.
 #[inline(always)]
 pub(crate) fn place(node: &Node, picks: &Picks, k: usize) -> Option<usize>
     requires index { k < length picks.now.places.now }
@@ -46,7 +46,7 @@ pub(crate) fn place(node: &Node, picks: &Picks, k: usize) -> Option<usize>
     }
 }
 
-// Whether each pick is null or below the length.
+/// Whether each pick is null or below the length.
 pub(crate) fn are_within(picks: &Picks, len: u64) -> bool
     ensures within { result ≡ true → AreWithin
         (picks_of picks.now.places.now picks.now.valid.now picks.now.add) len }

@@ -13,7 +13,7 @@ use crate::places::{Picks, Places, are_within};
 use crate::refusal::{Lack, Refusal};
 use std::alloc::Global;
 
-// The picks of a node: the caller's or a list of places, each `add` further on, all below `end`.
+/// The picks of a node: the caller's or a list of places, each `add` further on, all below `end`.
 #[derive(Clone, Copy)]
 pub(crate) struct Job {
     pub(crate) list: Option<usize>,
@@ -21,7 +21,7 @@ pub(crate) struct Job {
     pub(crate) end: u64,
 }
 
-// The picks of each node, and what its rows at them need.
+/// The picks of each node, and what its rows at them need.
 #[derive(Drop)]
 pub(crate) struct Plan {
     pub(crate) jobs: Vec<Job>,
@@ -29,7 +29,7 @@ pub(crate) struct Plan {
     pub(crate) needs: Vec<Need>,
 }
 
-// The picks of a job, where these are the caller's.
+/// The picks of a job, where these are the caller's.
 #[inline(always)]
 pub(crate) fn picks_for<'a>(
     places: &'a [u64],
@@ -230,7 +230,7 @@ impl Walk {
     }
 }
 
-// The picks of each node of a table, where its one column has these.
+/// The picks of each node of a table, where its one column has these.
 pub(crate) fn plan_of(
     alloc: Global,
     nodes: &[Node],

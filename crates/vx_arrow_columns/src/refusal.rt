@@ -45,6 +45,6 @@ pub enum Refusal {
         /// The node's number.
         node: usize,
     },
-    /// Want of memory.
+    /// Out of memory.
     NoMemory,
 }

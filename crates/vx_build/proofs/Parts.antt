@@ -30,7 +30,7 @@ use Rattle.vx_model.specs.VarBin.{are_integers}
 use Rattle.vx_model.proofs.ShownRows.{shown_rows-all}
 use Rattle.vx_pieces.specs.Indices.{by_column}
 use Rattle.vx_pieces.specs.declared.fault.IndexFault.TheVariants.{InvalidIndices, OutOfBounds}
-use Rattle.vx_text.proofs.BuiltTexts.{positions_back}
+use Rattle.vx_offsets.proofs.Cuts.{positions_back}
 use Rattle.vx_build.specs.Faults.{lengths_fault, offsets_fault}
 use Rattle.vx_build.specs.Positions.{NamePositions}
 

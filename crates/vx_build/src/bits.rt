@@ -13,21 +13,21 @@ use vx_bits::{BitBuffer, BitBuilder, NoMemory};
 use vx_column::{Array, BoolArray, Validity};
 use vx_mask::Mask;
 
-/// The mask of these bits. `NoMemory` alone.
+/// The mask of these bits. Fails only with `NoMemory`.
 pub fn mask(alloc: Global, bits: &[bool]) -> Result<Mask, NoMemory>
     ensures { IfOk result (λ m. mask_bits m ≡ bits.now) }
 {
     Ok(Mask::from_buffer(BitBuffer::from_bools(alloc, bits)?))
 }
 
-/// The validity that says of each row whether it is valid. `NoMemory` alone.
+/// The validity that says of each row whether it is valid. Fails only with `NoMemory`.
 pub fn validity(alloc: Global, valid: &[bool]) -> Result<Validity, NoMemory>
     ensures { IfOk result (λ v. valid_of v ≡ by_column (bits_column valid.now 0)) }
 {
     Validity::from_bits(alloc, BitBuffer::from_bools(alloc, valid)?)
 }
 
-/// The non-nullable column of these bools. `NoMemory` alone.
+/// The non-nullable column of these bools. Fails only with `NoMemory`.
 pub fn bools(alloc: Global, values: &[bool]) -> Result<Array, NoMemory>
     ensures { IfOk result (λ c. c ≡ bits_column values.now 0) }
 {
@@ -38,7 +38,7 @@ pub fn bools(alloc: Global, values: &[bool]) -> Result<Array, NoMemory>
     }
 }
 
-/// The validity of rows that are null where there is no value. `NoMemory` alone.
+/// The validity of rows that are null where there is no value. Fails only with `NoMemory`.
 pub(crate) fn presence<T>(alloc: Global, values: &[Option<T>]) -> Result<Validity, NoMemory>
     ensures { IfOk result (λ v. valid_of v ≡ by_column (bits_column (map is_some values.now) 0)) }
 {

@@ -19,10 +19,9 @@ use std::rc::RcStr;
 use vx_bits::NoMemory;
 use vx_column::{
     Array, ArrayRef, ColumnError, Columns, DType, ListArray, PType, PrimitiveArray, StructArray,
-    StructFields, Validity,
+    StructFields, Validity, number_column,
 };
 use vx_shared::Shared;
-use vx_text::number_column;
 
 // The same answer, with an error of columns.
 fn in_memory<T>(made: Result<T, NoMemory>) -> Result<T, ColumnError>
@@ -57,7 +56,7 @@ fn are_offsets(offsets: &[usize], len: usize) -> bool
     !offsets.is_empty()
 }
 
-// The non-nullable column of these offsets. `NoMemory` alone.
+// The non-nullable column of these offsets. Fails only with `NoMemory`.
 fn offset_column(alloc: Global, offsets: &[usize]) -> Result<PrimitiveArray, NoMemory>
     ensures integers { IfOk result (λ a. are_integers a ≡ true) }
     ensures numbers { IfOk result (λ a. integers_of a ≡ map pos offsets.now) }
@@ -68,7 +67,7 @@ fn offset_column(alloc: Global, offsets: &[usize]) -> Result<PrimitiveArray, NoM
 /// The column of lists that these offsets cut the elements into, none of them null.
 ///
 /// `BadOffsets` exactly where there is no offset, or one is below the one before or past the
-/// elements. Else `NoMemory` alone.
+/// elements. Otherwise it fails only with `NoMemory`.
 pub fn lists(alloc: Global, offsets: &[usize], elements: Array) -> Result<Array, ColumnError>
     ensures dtype { IfOk result (λ c. c.dtype
         ≡ record { kind = list_of elements.dtype; nullability = NonNullable }) }
@@ -86,7 +85,7 @@ pub fn lists(alloc: Global, offsets: &[usize], elements: Array) -> Result<Array,
     Ok(lists.into_array())
 }
 
-// The names of fields. `NoMemory` alone.
+// The names of fields. Fails only with `NoMemory`.
 fn names_in(alloc: Global, fields: &[(&str, ArrayRef)]) -> Result<Vec<RcStr>, NoMemory>
     ensures { IfOk result (λ names. names_of names.items ≡ map (λ f. f.0.now) fields.now) }
 {
@@ -97,7 +96,7 @@ fn names_in(alloc: Global, fields: &[(&str, ArrayRef)]) -> Result<Vec<RcStr>, No
     Ok(names)
 }
 
-// The columns of fields. `NoMemory` alone.
+// The columns of fields. Fails only with `NoMemory`.
 fn columns_in(alloc: Global, fields: &[(&str, ArrayRef)]) -> Result<Columns, NoMemory>
     ensures { IfOk result (λ columns. columns ≡ map (λ f. f.1) fields.now) }
 {
@@ -108,7 +107,7 @@ fn columns_in(alloc: Global, fields: &[(&str, ArrayRef)]) -> Result<Columns, NoM
     Columns::new(alloc, columns)
 }
 
-// The types of the columns of fields. `NoMemory` alone.
+// The types of the columns of fields. Fails only with `NoMemory`.
 fn types_in(alloc: Global, fields: &[(&str, ArrayRef)]) -> Result<Vec<DType>, NoMemory>
     ensures { IfOk result
         (λ types. map type_of types.items ≡ types_in (map (λ f. f.1) fields.now)) }
@@ -120,7 +119,7 @@ fn types_in(alloc: Global, fields: &[(&str, ArrayRef)]) -> Result<Vec<DType>, No
     Ok(types)
 }
 
-// The names and types of fields. `NoMemory` alone.
+// The names and types of fields. Fails only with `NoMemory`.
 fn struct_fields(
     alloc: Global,
     fields: &[(&str, ArrayRef)],
@@ -153,7 +152,7 @@ fn are_long(fields: &[(&str, ArrayRef)], len: usize) -> bool
 
 /// The column of `len` structs of these fields, each a name and a column, none of them null.
 ///
-/// `WrongLength` exactly where a column hasn't `len` rows. Else `NoMemory` alone.
+/// `WrongLength` exactly where a column hasn't `len` rows. Otherwise it fails only with `NoMemory`.
 pub fn structs(alloc: Global, fields: &[(&str, ArrayRef)], len: usize) -> Result<Array, ColumnError>
     ensures dtype { IfOk result (λ c. c.dtype ≡ record {
       kind = struct_of (record {

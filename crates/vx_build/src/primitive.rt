@@ -19,7 +19,7 @@ use vx_column::{
     Array, ConstantArray, DType, Nullability, PType, RecordType, Scalar, ScalarValue, Validity,
 };
 
-/// A record for each number. `NoMemory` alone.
+/// A record for each number. Fails only with `NoMemory`.
 pub fn records<T: NativePType<W>, const W: usize>(
     alloc: Global,
     numbers: &[T],
@@ -38,7 +38,7 @@ pub fn records<T: NativePType<W>, const W: usize>(
     Ok(T::records(Buffer::from_vec(alloc, records)?))
 }
 
-/// The column of these numbers, none of them null. `NoMemory` alone.
+/// The column of these numbers, none of them null. Fails only with `NoMemory`.
 pub fn numbers<T: NativePType<W>, const W: usize>(
     alloc: Global,
     values: &[T],
@@ -68,7 +68,7 @@ fn record_or_zeros<T: NativePType<W>, const W: usize>(value: Option<T>) -> [u8; 
     }
 }
 
-// A record for each number, and zeros where there is none. `NoMemory` alone.
+// A record for each number, and zeros where there is none. Fails only with `NoMemory`.
 fn records_or_zeros<T: NativePType<W>, const W: usize>(
     alloc: Global,
     numbers: &[Option<T>],
@@ -91,7 +91,7 @@ fn records_or_zeros<T: NativePType<W>, const W: usize>(
     Ok(T::records(Buffer::from_vec(alloc, records)?))
 }
 
-/// The column of these numbers, null where there is none. `NoMemory` alone.
+/// The column of these numbers, null where there is none. Fails only with `NoMemory`.
 pub fn nullable_numbers<T: NativePType<W>, const W: usize>(
     alloc: Global,
     values: &[Option<T>],
@@ -109,7 +109,7 @@ pub fn nullable_numbers<T: NativePType<W>, const W: usize>(
     Ok(record_type.column(stored, validity))
 }
 
-// So many rows of the number that these bytes are. `NoMemory` alone.
+// So many rows of the number that these bytes are. Fails only with `NoMemory`.
 fn constant_bytes(alloc: Global, ptype: PType, number: &[u8], len: usize) -> Result<Array, NoMemory>
     requires { length number.now ≡ width ptype }
     ensures dtype { IfOk result (λ c. c.dtype
@@ -124,7 +124,7 @@ fn constant_bytes(alloc: Global, ptype: PType, number: &[u8], len: usize) -> Res
     }
 }
 
-/// So many rows of this number. `NoMemory` alone.
+/// So many rows of this number. Fails only with `NoMemory`.
 pub fn constant<T: NativePType<W>, const W: usize>(
     alloc: Global,
     value: T,

@@ -12,7 +12,7 @@ use vx_column::FlatRef;
 use vx_pieces::Indices;
 use vx_steps::Step;
 
-/// The indices of these positions, null where there is none. `NoMemory` alone.
+/// The indices of these positions, null where there is none. Fails only with `NoMemory`.
 pub fn indices(alloc: Global, positions: &[Option<usize>]) -> Result<Indices, NoMemory>
     ensures { IfOk result (λ i. NamePositions positions.now (index_value i)) }
 {
@@ -30,14 +30,15 @@ pub fn slice(start: usize, end: usize) -> Step
     Step::Slice { start, end }
 }
 
-/// The step to the rows at the set bits. `NoMemory` alone.
+/// The step to the rows at the set bits. Fails only with `NoMemory`.
 pub fn filter(alloc: Global, bits: &[bool]) -> Result<Step, NoMemory>
     ensures { IfOk result (λ s. step_value s ≡ filter_step bits.now) }
 {
     Ok(Step::Filter(mask(alloc, bits)?))
 }
 
-/// The step to the rows at these positions, and a null where there is none. `NoMemory` alone.
+/// The step to the rows at these positions, and a null where there is none. Fails only with
+/// `NoMemory`.
 pub fn take(alloc: Global, positions: &[Option<usize>]) -> Result<Step, NoMemory>
     ensures { IfOk result (λ s. TakesPositions positions.now (step_value s)) }
 {

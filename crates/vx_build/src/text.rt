@@ -80,7 +80,7 @@ fn text_or_empty<'a>(text: &Option<&'a str>) -> &'a str
     }
 }
 
-// These texts, one after another. `NoMemory` alone.
+// These texts, one after another. Fails only with `NoMemory`.
 fn join_texts(alloc: Global, values: &[&str]) -> Result<Joined, NoMemory>
     ensures { IfOk result
         (λ j. AreTexts I32 j.offsets j.text.items (map (λ text. text.now) values.now)) }
@@ -92,7 +92,7 @@ fn join_texts(alloc: Global, values: &[&str]) -> Result<Joined, NoMemory>
     Ok(joined)
 }
 
-// These texts, and an empty one where there is none. `NoMemory` alone.
+// These texts, and an empty one where there is none. Fails only with `NoMemory`.
 fn join_texts_or_empty(alloc: Global, values: &[Option<&str>]) -> Result<Joined, NoMemory>
     ensures { IfOk result (λ j. AreTexts I32 j.offsets j.text.items
         (map (bytes_or_none (λ text. text.now)) values.now)) }
@@ -104,7 +104,7 @@ fn join_texts_or_empty(alloc: Global, values: &[Option<&str>]) -> Result<Joined,
     Ok(joined)
 }
 
-/// The column of these texts, none of them null. `NoMemory` alone.
+/// The column of these texts, none of them null. Fails only with `NoMemory`.
 pub fn texts(alloc: Global, values: &[&str]) -> Result<Array, NoMemory>
     ensures dtype { IfOk result (λ c. c.dtype
         ≡ record { kind = utf8_kind; nullability = NonNullable }) }
@@ -113,7 +113,7 @@ pub fn texts(alloc: Global, values: &[&str]) -> Result<Array, NoMemory>
     join_texts(alloc, values)?.into_array(alloc, Validity::NonNullable)
 }
 
-/// The column of these texts, null where there is none. `NoMemory` alone.
+/// The column of these texts, null where there is none. Fails only with `NoMemory`.
 pub fn nullable_texts(alloc: Global, values: &[Option<&str>]) -> Result<Array, NoMemory>
     ensures dtype { IfOk result (λ c. c.dtype
         ≡ record { kind = utf8_kind; nullability = Nullable }) }
