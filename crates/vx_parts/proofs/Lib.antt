@@ -1,0 +1,8 @@
+pub mod BoundLists
+pub mod Clipped
+pub mod CutRows
+pub mod PickCuts
+pub mod Planned
+pub mod RunPieces
+pub mod Walked
+pub mod Slots

@@ -1,0 +1,6 @@
+pub mod Arrivals
+pub mod Bounds
+pub mod Cuts
+pub mod Own
+pub mod Plan
+pub mod Runs

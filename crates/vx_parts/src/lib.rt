@@ -1,0 +1,19 @@
+//! A column that is cut into parts, each of which answers alone: what each part is asked, and how
+//! the answers are put together.
+#![tactic(auto)]
+
+mod arriving;
+mod bounds;
+mod cut;
+mod own;
+mod plan;
+mod planning;
+mod runs;
+
+pub use arriving::{ArrivalError, arrange};
+pub use bounds::{bounds_of, part_of, total_len};
+pub use own::{OwnPicks, cut_picks};
+pub use plan::{PartPlan, Plan};
+pub use planning::plan_steps;
+pub use runs::{Piece, cut_runs};
+pub use vx_interleave::Place;
