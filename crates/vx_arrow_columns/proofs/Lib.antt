@@ -8,6 +8,7 @@ pub mod OwnTaken
 pub mod PickReads
 pub mod Plans
 pub mod Rooms
+pub mod Stacks
 pub mod Steps
 pub mod Takings
 pub mod Trees

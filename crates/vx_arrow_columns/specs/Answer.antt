@@ -1,7 +1,9 @@
 -- What the rooms hold after a take.
-use Rattle.std.specs.Prelude.{ℕ, ◌<◌, ◌≡◌, true, false, List, [], ◌∷◌, length, slice_index_or, Some}
+use Rattle.std.specs.Prelude.{ℕ, ◌<◌, ◌≡◌, true, false, List, [], ◌∷◌, length, slice_index_or, Option, Some, None, ⊤}
 use Rattle.vx_arrow_columns.specs.declared.image.Need.{Need}
 use Rattle.vx_arrow_columns.specs.declared.image.Room.{Room}
+use Rattle.vx_arrow_columns.specs.declared.refusal.Refusal.{Refusal}
+use Rattle.vx_arrow_columns.specs.declared.refusal.Refusal.TheVariants as refusals
 use Rattle.vx_arrow_columns.specs.Rows.{RowValue, picked}
 use Rattle.vx_arrow_columns.specs.Image.{Part, column_in}
 use Rattle.vx_arrow_columns.specs.Picks.{Picking, pickings}
@@ -34,3 +36,11 @@ pub record MeansPicked (parts : List Part) (q : Picking) (rooms : List Room) : T
       → AreWithin q.picks (length rows)
   pub picked : (rows : List RowValue) → column_in parts ≡ Some rows
       → column_in (written parts q rooms) ≡ Some (picked q.picks rows)
+
+-- a refusal by want of meaning comes only where there is none, and no other but want of memory
+abbrev pub IsUnsound : Option (List RowValue) → Refusal → Type 0
+IsUnsound column (refusals.NoMeaning node lack) = column ≡ None
+IsUnsound column refusals.Beyond = ⊥
+IsUnsound column (refusals.Room node) = ⊥
+IsUnsound column (refusals.Overflow node) = ⊥
+IsUnsound column refusals.NoMemory = ⊤

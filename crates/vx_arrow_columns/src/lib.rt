@@ -6,7 +6,7 @@
 #![tactic(auto)]
 
 mod bits;
-// mod checking;
+mod checking;
 mod faults;
 mod format;
 mod image;
@@ -18,7 +18,7 @@ mod refusal;
 mod taking;
 mod writing;
 
-// pub use crate::checking::check;
+pub use crate::checking::check;
 pub use crate::image::{Need, Node, Room};
 pub use crate::refusal::{Lack, Refusal};
 pub use crate::taking::{sizes, take};
