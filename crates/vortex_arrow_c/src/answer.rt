@@ -1,7 +1,9 @@
 //! What each call answers.
 ghost use Rattle.std.specs.Prelude.{◌≡◌};
 ghost use Rattle.vortex_arrow_c.specs.Answer.{column_answer, lack_answer, lack_code, refusal_answer};
+ghost use Rattle.vortex_arrow_c.specs.Steps.{cause_code, step_answer, step_lack_code};
 
+use vx_arrow::Cause;
 use vx_arrow_columns::{Lack, Refusal};
 
 /// The call was done.
@@ -21,6 +23,12 @@ pub(crate) const OVERFLOW: u64 = 4;
 
 /// Out of memory.
 pub(crate) const NO_MEMORY: u64 = 5;
+
+/// A step breaks a rule: its number, and the rule.
+pub(crate) const BROKEN: u64 = 6;
+
+/// A step's image has no meaning: its number, and what it lacks.
+pub(crate) const LACKING: u64 = 7;
 
 /// A number names no format: the node's number.
 pub(crate) const FORMAT: u64 = 8;
@@ -48,6 +56,35 @@ fn code_of(lack: Lack) -> u64
         Lack::Offsets => 6,
         Lack::Items => 7,
         Lack::Length => 8,
+    }
+}
+
+// The number of what a step's image lacks.
+fn step_code_of(lack: vx_arrow::Lack) -> u64
+    ensures { result ≡ step_lack_code lack }
+{
+    match lack {
+        vx_arrow::Lack::Kind => 0,
+        vx_arrow::Lack::Type => 1,
+        vx_arrow::Lack::Counted => 2,
+        vx_arrow::Lack::Values => 3,
+        vx_arrow::Lack::Valid => 4,
+        vx_arrow::Lack::Lengths => 5,
+        vx_arrow::Lack::Multipliers => 6,
+    }
+}
+
+// The number of the rule that a step breaks.
+fn cause_code_of(cause: Cause) -> u64
+    ensures { result ≡ cause_code cause }
+{
+    match cause {
+        Cause::BadRange { .. } => 0,
+        Cause::BadMask { .. } => 1,
+        Cause::NotBool => 2,
+        Cause::InvalidIndices => 3,
+        Cause::BadPieces => 4,
+        Cause::OutOfBounds { .. } => 5,
     }
 }
 
@@ -110,6 +147,33 @@ impl Answer {
         match outcome {
             Ok(()) => Answer::plain(DONE),
             Err(refusal) => Answer::refused(refusal),
+        }
+    }
+
+    /// What a call over steps that is done answers.
+    pub(crate) fn done() -> Answer
+        ensures { result ≡ record { status = 0; node_or_step = 0; what = 0 } }
+    {
+        Answer::plain(DONE)
+    }
+
+    /// Why a call over steps is refused.
+    pub(crate) fn of_steps(refusal: vx_arrow::Refusal) -> Answer
+        ensures { result ≡ step_answer refusal }
+    {
+        match refusal {
+            vx_arrow::Refusal::Lacking(lacking) => Answer {
+                status: LACKING,
+                node_or_step: lacking.step as u64,
+                what: step_code_of(lacking.lack),
+            },
+            vx_arrow::Refusal::Broken { step, cause } => Answer {
+                status: BROKEN,
+                node_or_step: step as u64,
+                what: cause_code_of(cause),
+            },
+            vx_arrow::Refusal::Room(_) => Answer::plain(ROOM),
+            vx_arrow::Refusal::NoMemory => Answer::plain(NO_MEMORY),
         }
     }
 }

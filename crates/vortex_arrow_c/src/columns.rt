@@ -1,5 +1,5 @@
 //! Calls over columns.
-ghost use Rattle.std.specs.Prelude.{◌≡◌, ◌≢◌, IsSome};
+ghost use Rattle.std.specs.Prelude.{◌≡◌, ◌≢◌, IsSome, None};
 ghost use Rattle.vx_arrow_columns.specs.Answer.{MeansPicked};
 ghost use Rattle.vx_arrow_columns.specs.Image.{column_in, parts_of};
 ghost use Rattle.vx_arrow_columns.specs.Picks.{needs_of, picking_of};
@@ -7,7 +7,7 @@ ghost use Rattle.vx_arrow_columns.specs.Written.{written};
 
 use crate::answer::Answer;
 use std::alloc::Global;
-use vx_arrow_columns::{Need, Node, Room, sizes, take};
+use vx_arrow_columns::{Need, Node, Room, check, sizes, take};
 
 /// Says how many rows and bytes each node of a column needs for its rows at picks.
 ///
@@ -57,4 +57,15 @@ pub extern "C" fn vortex_arrow_take(
     ensures kept { result.status ≢ 0 → rooms.new ≡ rooms.old }
 {
     Answer::of(take(alloc, nodes, places, valid, rooms))
+}
+
+/// Tests a whole table: the status is 0 exactly where it means a column, 5 when memory runs out,
+/// and else 1 or 8 with a node that lacks something, as [`vortex_arrow_take`] has them.
+#[unsafe(no_mangle)]
+pub extern "C" fn vortex_arrow_check(alloc: Global, nodes: &[Node]) -> Answer
+    ensures sound { result.status ≡ 0 → IsSome (column_in (parts_of nodes.now)) }
+    ensures unsound { result.status ≢ 0 → result.status ≢ 5
+        → column_in (parts_of nodes.now) ≡ None }
+{
+    Answer::of(check(alloc, nodes))
 }

@@ -6,3 +6,4 @@
 
 mod answer;
 mod columns;
+mod steps;

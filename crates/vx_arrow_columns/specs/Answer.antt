@@ -37,7 +37,7 @@ pub record MeansPicked (parts : List Part) (q : Picking) (rooms : List Room) : T
   pub picked : (rows : List RowValue) → column_in parts ≡ Some rows
       → column_in (written parts q rooms) ≡ Some (picked q.picks rows)
 
--- a refusal by want of meaning comes only where there is none, and no other but want of memory
+-- a refusal by want of meaning comes only where there is none, and no other but `NoMemory`
 abbrev pub IsUnsound : Option (List RowValue) → Refusal → Type 0
 IsUnsound column (refusals.NoMeaning node lack) = column ≡ None
 IsUnsound column refusals.Beyond = ⊥

@@ -7,8 +7,8 @@ ghost use Rattle.vx_arrow_columns.specs.Taken.{AreWithin};
 use crate::bits::is_there;
 use crate::image::Node;
 
-/// Picks of a column's rows: places, each `add` further on, and a bit for each, clear at a null one;
-/// without bits none is null.
+/// Picks of a column's rows: places, each `add` further on, and a bit for each, clear at a null
+/// one; without bits none is null.
 #[derive(Clone, Copy)]
 pub(crate) struct Picks<'a> {
     pub(crate) places: &'a [u64],

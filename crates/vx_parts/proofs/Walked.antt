@@ -66,7 +66,7 @@ no_fault w k cause e h = subst IsUnbroken e h
 pub not_broken : (w : Walk) (k : ℕ) (cause : Cause) → IsUnbroken w → IsFaultOf w (Broken k cause) → ⊥
 not_broken w k cause h e = no_fault w k cause e h
 
--- a fault of a walk, which never is want of memory, is one where there may be want of memory
+-- a fault of a walk, which never gives `NoMemory`, is one where there may be `NoMemory`
 pub fault_of : (w : Walk) (e : SelectError) → MatchError e (λ k cause. w ≡ walk_fault k cause) ⊥ → IsFaultOf w e
 fault_of w (Broken k cause) h = h
 fault_of w NoMemory h = absurd h

@@ -28,7 +28,7 @@ pub fn part_of(bounds: &[usize], position: usize) -> usize
     low
 }
 
-/// Where parts of these lengths begin, and where the last one ends. `NoMemory` alone.
+/// Where parts of these lengths begin, and where the last one ends. Fails only with `NoMemory`.
 pub fn bounds_of(alloc: Global, lengths: &[usize]) -> Result<Vec<usize>, NoMemory>
     requires { sum lengths.now < 2 ^ 64 }
     ensures { IfOk result (λ bounds. bounds.items ≡ bounds_of lengths.now) }

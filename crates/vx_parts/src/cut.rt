@@ -11,7 +11,7 @@ use vx_column::mask_of;
 use vx_mask::Mask;
 use vx_steps::Step;
 
-// A step of the whole that is no take.
+/// A step of the whole that is no take.
 #[derive(Drop)]
 pub(crate) enum Cut {
     // The rows from `start` up to `end`.
@@ -73,7 +73,7 @@ impl Cut {
     }
 }
 
-// How many of the rows before a position the steps leave.
+/// How many of the rows before a position the steps leave.
 pub(crate) fn carried_by(cuts: &[Cut], position: usize) -> usize
     ensures { result ≡ carried_by (map cut_value cuts.now) position }
 {
@@ -84,7 +84,7 @@ pub(crate) fn carried_by(cuts: &[Cut], position: usize) -> usize
     left
 }
 
-// The steps, as those of the part from row `low` up to row `high`.
+/// The steps, as those of the part from row `low` up to row `high`.
 pub(crate) fn own_cuts(
     alloc: Global,
     cuts: &[Cut],
@@ -105,7 +105,7 @@ pub(crate) fn own_cuts(
     Ok(steps)
 }
 
-// The bounds of what the steps leave of parts.
+/// The bounds of what the steps leave of parts.
 pub(crate) fn left_bounds(
     alloc: Global,
     cuts: &[Cut],
@@ -139,7 +139,7 @@ fn cut_of(alloc: Global, step: &Step) -> Result<Option<Cut>, NoMemory>
     }
 }
 
-// The steps before the first take.
+/// The steps before the first take.
 #[derive(Drop)]
 pub(crate) struct Prefix {
     pub(crate) cuts: Vec<Cut>,
@@ -147,7 +147,7 @@ pub(crate) struct Prefix {
     pub(crate) done: usize,
 }
 
-// The steps before the first take, to be cut into parts.
+/// The steps before the first take, to be cut into parts.
 pub(crate) fn prefix_of(alloc: Global, steps: &[Step]) -> Result<Prefix, NoMemory>
     ensures cuts { IfOk result
         (λ p. map cut_value p.cuts.items ≡ cuts_of (map step_value steps.now)) }

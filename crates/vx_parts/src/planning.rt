@@ -21,7 +21,7 @@ use vx_select::pick_indices;
 use vx_steps::{SelectError, Step, check_steps, compose, takes_nullability};
 use vx_take::Picks;
 
-// The picks that steps that break no rule leave of `len` rows. `NoMemory` alone.
+// The picks that steps that break no rule leave of `len` rows. Fails only with `NoMemory`.
 fn compose_sound(alloc: Global, len: usize, steps: &[Step]) -> Result<Picks, NoMemory>
     requires { IsUnbroken (walk len (map step_value steps.now)) }
     ensures picks { IfOk result (λ p. walk len (map step_value steps.now) ≡ walk_picks p.picks) }
@@ -132,7 +132,7 @@ fn into_order(rest: Option<OwnPicks>) -> Option<Vec<Option<Place>>>
     }
 }
 
-// Cuts steps that break no rule over the whole. `NoMemory` alone.
+// Cuts steps that break no rule over the whole. Fails only with `NoMemory`.
 fn plan_sound(alloc: Global, lengths: &[usize], steps: &[Step]) -> Result<Plan, NoMemory>
     requires counted { sum lengths.now < 2 ^ 64 }
     requires unbroken { IsUnbroken (walk (sum lengths.now) (map step_value steps.now)) }

@@ -51,7 +51,7 @@ fn push_run(
 
 /// The pieces of parts that runs of the whole are, each run its start and its length, in the order
 /// of the runs: the parts begin and the last one ends at these bounds. A run costs a piece for each
-/// part that it has rows of, however many rows these are. `NoMemory` alone.
+/// part that it has rows of, however many rows these are. Fails only with `NoMemory`.
 pub fn cut_runs(
     alloc: Global,
     runs: &[(usize, usize)],
