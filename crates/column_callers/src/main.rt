@@ -7,7 +7,6 @@ mod columns;
 mod extremes;
 mod fused;
 mod layouts;
-mod made;
 mod pieces;
 mod rows;
 mod selecting;
@@ -37,8 +36,7 @@ fn print_more(rt: &impl Print, alloc: Global) -> Result<(), Fail> {
     shapes::print_refusals(rt)?;
     shapes::print_shape(rt)?;
     shapes::print_composed(rt, alloc)?;
-    extremes::print_selections(rt, alloc)?;
-    made::print_lines(rt, alloc)
+    extremes::print_selections(rt, alloc)
 }
 
 fn main(rt: HostRuntime) -> Result<(), Fail> {

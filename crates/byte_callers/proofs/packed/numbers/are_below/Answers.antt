@@ -4,7 +4,7 @@ use Rattle.std.proofs.lemmas.List.{take_all, take_more}
 use Rattle.std.proofs.lemmas.List.Elements.{All-push}
 use Rattle.std.proofs.lemmas.Nat.{pow_pos}
 use Rattle.vx_packed.proofs.Rules.{most_is, small_width}
-use Rattle.file_callers.proofs.packed.numbers.are_below.Goals as goal
+use Rattle.byte_callers.proofs.packed.numbers.are_below.Goals as goal
 
 pub loop-n-preserved : goal.loop-n-preserved
 loop-n-preserved c =
