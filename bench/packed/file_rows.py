@@ -1,51 +1,86 @@
-"""What `file_callers` must print of `vx_file`, worked out from the definition of a column file alone."""
+"""The rows of files in `crates/select_calls/stdin`, worked out from the definition of a column file alone.
 
+    python3 bench/packed/file_rows.py | diff - <(sed -n '/^# blocks of files/,$p' crates/select_calls/stdin)
+"""
+
+from json import dumps
 from struct import pack
 
 
-def digits(rows):
-    return (max(rows) - min(rows)).bit_length()
+def header(kind, rows, front=b"VXCOL001"):
+    return front + bytes([kind]) + pack("<Q", rows)
 
 
 def lengths(n):
     rows = [list(range(k, min(k + 1024, n))) for k in range(0, n, 1024)]
-    return [17] + [9 + 128 * digits(r) for r in rows]
+    return [17] + [9 + 128 * (r[-1] - r[0]).bit_length() for r in rows] + [0]
 
 
-three = lengths(3000) + [0]
-head = b"VXCOL001" + bytes([2]) + pack("<Q", 3000)
-print("3000 rows: " + " ".join(map(str, three)) + "".join(f" {b:02x}" for b in head))
-print("no rows: 17 0")
-for line in ["0, no rows: U8 0", "1: U16 258", "3, most rows: U64 16777216",
-             "a row more: BadHeader", "4: BadHeader", "8 as a width: BadHeader",
-             "another name: BadHeader", "a byte more: BadHeader", "a byte less: BadHeader",
-             "no blocks: BadHeader", "call 0 fails: ReadFault", "the next call: U32 9",
-             "reads: [0, 0]", "log: [0, 0], new []", "pushed: true, [7, 8, 9]", "another reader: ReadFault",
-             "its next call: U32 9"]:
-    print(line)
+def row(call, answers, **members):
+    print(dumps({"call": call, **members}, separators=(",", ":")))
+    for answer in answers:
+        print(f"= {answer}")
 
 
-def steps(name, picks, reads, nullability="NonNullable"):
-    shown = "".join(" None" if p is None else f" Some({p})" for p in picks)
-    print(f"{name}: {nullability}{shown}, reads {[0] + reads}")
+def cut(*range_of):
+    return {"slice": list(range_of)}
 
 
-taken = [2047, 0, None, 2047]
-touched = lambda picks: sorted({1 + p // 1024 for p in picks if p is not None})
-steps("take", taken, touched(taken), "Nullable")
-steps("block 3 is damaged", taken, touched(taken), "Nullable")
-print("block 2 is empty: Damaged { block: 2 }, reads [0, 1, 2]")
-print("call 1 fails: ReadFault, reads [0, 1]")
-print("call 2 fails: ReadFault, reads [0, 1, 2]")
-steps("call 3 would fail", taken, touched(taken), "Nullable")
-steps("the last row", [2999], touched([2999]))
-steps("no row", [], [])
-print("a row of the fill: Broken { step: 0, cause: BadRange { start: 2999, end: 3001, len: 3000 } }"
-      ", reads [0]")
-print("a broken step: Broken { step: 2, cause: BadRange { start: 0, end: 3, len: 2 } }, reads [0]")
-rows = list(range(3000))[1022:2050][1:1027][1024:1026]
-steps("slices", rows, touched(rows))
-shown = "Nullable Some(2047) Some(0) None Some(2047)"
-print(f"room for a read: {shown}, reads [0]")
-print(f"never fails, None is empty: {shown}")
-print("never fails, Some(2) is empty: Damaged { block: 2 }")
+STEADY = {"reader": "SteadyBlocks"}
+PICKS = [2047, 0, None, 2047]
+TAKE = {"take": {"layout": "Primitive", "type": "u32", "values": [2047, 0, 9, 2047],
+                 "validity": [True, True, False, True]}}
+TAKEN = ["u32?"] + ["null" if p is None else p for p in PICKS]
+TOUCHED = sorted({1 + p // 1024 for p in PICKS if p is not None})
+
+
+def selected(answers, reads, steps=(TAKE,), room=9, failing=(), **members):
+    row("select_file", [*answers, reads, reads], reader="MemoryBlocks", rows=3000, failing=list(failing),
+        room=room, steps=list(steps), **members)
+
+
+def broken(step, start, end, length):
+    return f"Broken {{ step: {step}, cause: BadRange {{ start: {start}, end: {end}, len: {length} }} }}"
+
+
+print("# blocks of files")
+for k, n in enumerate(lengths(3000)):
+    row("block_len", [n], **STEADY, rows=3000, at=k)
+row("read_block", [list(header(2, 3000))], **STEADY, rows=3000, at=0)
+for k, n in enumerate(lengths(0)):
+    row("block_len", [n], **STEADY, rows=0, at=k)
+row("read_block", [[7, 8, 9]], **STEADY, blocks=["070809"], at=0)
+
+print("# headers")
+GOOD = [(0, 0, "(U8, 0)"), (1, 258, "(U16, 258)"), (3, 2 ** 24, "(U64, 16777216)")]
+BAD = [[header(3, 2 ** 24 + 1)], [header(4, 1)], [header(8, 1)], [header(0, 1, b"VXCOL002")],
+       [header(0, 1, b"VXCOL0010")], [header(0, 1, b"VXCOL00")], []]
+for kind, rows, shape in GOOD:
+    row("open_file", [shape], **STEADY, blocks=[header(kind, rows).hex()], times=1)
+for blocks in BAD:
+    row("open_file", ["BadHeader"], **STEADY, blocks=[b.hex() for b in blocks], times=1)
+
+print("# readers that fail")
+row("open_file", ["ReadFault", "(U32, 9)", "[0, 0]", "[0, 0]"], reader="MemoryBlocks", rows=9, failing=[0], room=9,
+    times=2)
+row("reads", ["[]"], reader="no reader")
+row("open_file", ["ReadFault", "(U32, 9)"], reader="Flaky", rows=9, times=2)
+
+print("# rows of files, and the blocks that are read for them")
+READS = [0] + TOUCHED
+selected(TAKEN, READS)
+selected(TAKEN, READS, empty=3)
+selected(["Damaged { block: 2 }"], [0, 1, 2], empty=2)
+selected(["ReadFault"], [0, 1], failing=[1])
+selected(["ReadFault"], [0, 1, 2], failing=[2])
+selected(TAKEN, READS, failing=[3])
+selected(["u32", 2999], [0, 1 + 2999 // 1024], steps=[cut(2999, 3000)])
+selected(["u32"], [0], steps=[cut(5, 5)])
+selected([broken(0, 2999, 3001, 3000)], [0], steps=[cut(2999, 3001)])
+selected([broken(2, 0, 3, 2)], [0], steps=[cut(1024, 2048), cut(3, 5), cut(0, 3)])
+LEFT = list(range(3000))[1022:2050][1:1027][1024:1026]
+selected(["u32", *LEFT], [0] + sorted({1 + p // 1024 for p in LEFT}),
+         steps=[cut(1022, 2050), cut(1, 1027), cut(1024, 1026)])
+selected(TAKEN, [0], room=1)
+row("select_file", TAKEN, **STEADY, rows=3000, steps=[TAKE])
+row("select_file", ["Damaged { block: 2 }"], **STEADY, rows=3000, empty=2, steps=[TAKE])

@@ -20,13 +20,13 @@ pub enum Stop {
     Fault,
     /// One byte more than the bound was taken.
     TooLong,
-    /// Out of memory.
+    /// Want of memory.
     NoMemory,
 }
 
 /// All bytes of a source, up to its end.
 ///
-/// It stops at the first read that fails: rows of `file_callers` show it, and no clause says so.
+/// It stops at the first read that fails: rows of `byte_callers` show it, and no clause says so.
 /// Where there are more than `MAX_BYTES`, one byte past the bound is taken, and no more.
 pub fn read_all<S: Source>(alloc: Global, source: &mut S) -> Result<Vec<u8>, Stop>
     ensures taken { IfOk result (λ v. S.rest source.old ≡ with_front v.items (S.rest source.new)) }
