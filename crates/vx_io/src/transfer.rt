@@ -20,7 +20,7 @@ pub enum Stop {
     Fault,
     /// One byte more than the bound was taken.
     TooLong,
-    /// Want of memory.
+    /// Out of memory.
     NoMemory,
 }
 
