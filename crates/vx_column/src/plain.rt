@@ -56,13 +56,13 @@ impl Array {
     /// The records of its rows, null rows too, and a bit a row that says whether it is valid. Some
     /// exactly where the layout stores records and its validity is a column of layout `Bool`. It
     /// takes no memory.
-    pub fn records_with_validity(&self) -> Option<(&Records, &BitBuffer)>
+    pub fn shown_records(&self) -> Option<(&Records, &BitBuffer)>
         ensures rows { IfSome result (λ p. AreShownRowsOf self.now p.0.now p.1.now) }
         ensures exactly { is_some result
             ≡ (stores_records self.now.layout && is_bools self.now.cover) }
     {
         match self.records() {
-            Some(records) => records.records_with_validity(),
+            Some(records) => records.shown_records(),
             None => None,
         }
     }

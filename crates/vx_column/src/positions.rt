@@ -51,7 +51,7 @@ impl Array {
         if let Some(values) = self.plain_records() {
             return Some(first_bad_present(ptype, values, len));
         }
-        match self.records_with_validity() {
+        match self.shown_records() {
             Some((values, bits)) => Some(first_bad_shown(ptype, values, bits, len)),
             None => None,
         }
@@ -103,7 +103,7 @@ impl Array {
         if let Some(values) = self.plain_records() {
             return picks_present(alloc, ptype, values, len);
         }
-        match self.records_with_validity() {
+        match self.shown_records() {
             Some((values, bits)) => picks_shown(alloc, ptype, values, bits, len),
             None => picks_of(alloc, &Rows { array: self }, len),
         }

@@ -237,7 +237,7 @@ impl RecordArray {
     /// The records of its rows, and the bits that say which are there, where the validity is a
     /// column of layout `Bool`.
     #[tactic(auto, using(crate::proofs::ShownBits::shown))]
-    pub(crate) fn records_with_validity(&self) -> Option<(&Records, &BitBuffer)>
+    pub(crate) fn shown_records(&self) -> Option<(&Records, &BitBuffer)>
         ensures rows { IfSome result
             (λ p. AreShownRowsOf (records_column self.now) p.0.now p.1.now) }
         ensures exactly { is_some result ≡ is_bools (records_column self.now).cover }

@@ -64,7 +64,7 @@ fn push_lines(alloc: Global, text: &mut Vec<u8>, column: &Array) -> Result<(), N
     if let Some(records) = column.plain_records() {
         return push_records(text, column.dtype(), records, None);
     }
-    if let Some((records, bits)) = column.records_with_validity() {
+    if let Some((records, bits)) = column.shown_records() {
         return push_records(text, column.dtype(), records, Some(bits));
     }
     if column.dtype().is_flat() {
