@@ -7,8 +7,8 @@ use std::alloc::Global;
 use std::test::Fail;
 use vx_column::{Array, ArrayRef, Validity};
 use vx_column_json::validity_alone;
-use vx_document::{StepList, column_member, indices_of, steps_of, validity_stated};
-use vx_json::{mask_of, member, pair_of, policy_found, whole_of};
+use vx_document::{StepList, column_member, indices_of, policy_found, steps_of, validity_stated};
+use vx_json::{mask_of, member, pair_of, whole_of};
 use vx_mask::{Mask, Policy};
 use vx_pieces::Indices;
 

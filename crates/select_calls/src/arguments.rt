@@ -7,8 +7,10 @@ use std::alloc::Global;
 use std::test::Fail;
 use vx_column::{Array, ArrayRef, Validity};
 use vx_column_json::validity_alone;
-use vx_document::{StepList, column_member, columns_member, steps_of, validity_stated};
-use vx_json::{list_member, member, names_of, pairs_in, policy_found, whole_of, wholes_in};
+use vx_document::{
+    StepList, column_member, columns_member, policy_found, steps_of, validity_stated,
+};
+use vx_json::{list_member, member, names_of, pairs_in, whole_of, wholes_in};
 use vx_mask::Policy;
 use vx_table::{Columns, Table, TableError};
 
