@@ -1,4 +1,3 @@
 pub mod FirstRows
 pub mod NameTables
-pub mod NumberColumns
 pub mod SquareLists

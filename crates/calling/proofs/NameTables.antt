@@ -1,16 +1,11 @@
 -- Names that codes name, and those that a mask keeps.
-use Rattle.std.proofs.Common.{◌≡◌, ℕ, ◌+◌, ◌^◌, ◌<◌, ◌++◌, Bool, List, [], ◌∷◌, length, get_or, map, take, Option, Some, None, Ok, Err, refl, sym, ap, subst, ◌∙◌, arith}
+use Rattle.std.proofs.Common.{◌≡◌, ℕ, Bool, List, [], ◌∷◌, length, map, Option, Some, None, Ok, Err, refl, ap, subst, ◌∙◌, arith}
 use Rattle.std.specs.Prelude.{Result}
 use Rattle.std.specs.Prelude.{pos}
 use Rattle.std.specs.List.{items_where_true}
 use Rattle.std.specs.Option.{option_map}
 use Rattle.std.proofs.lemmas.Bool.Decides.{nat_tests}
-use Rattle.std.proofs.lemmas.List.{map_more}
-use Rattle.vortex_select.specs.PTypes.TheVariants.{I32}
 use Rattle.vortex_select.specs.Positions.{positions_of}
-use Rattle.vortex_select.specs.Building.{AreTexts}
-use Rattle.vortex_select.specs.OffsetList.{OffsetList, with_offset}
-use Rattle.vortex_select.proofs.BuiltTexts.{one_text}
 use Rattle.vortex_select.specs.Column.{Column}
 use Rattle.vortex_select.specs.Step.{filter_step}
 use Rattle.vortex_select.specs.Walk.{all_positions, broken, unless_broken, walk_picks}
@@ -27,12 +22,6 @@ pub codes_back : (codes : List (Option ℕ)) → positions_of (map (option_map p
 codes_back [] = refl
 codes_back (None ∷ codes) = ap (λ l. None ∷ l) (codes_back codes)
 codes_back (Some n ∷ codes) = ap (λ l. Some n ∷ l) (codes_back codes)
-
--- one name more is put out
-pub one_name : {X : Type 0} (names : List X) (text_of : X → List ℕ) (i : ℕ) (d : X) (old new : OffsetList) (bytes more : List ℕ) → i < length names → AreTexts I32 old bytes (map text_of (take i names)) → length more < 2 ^ 63 → more ≡ bytes ++ text_of (get_or names i d) → new ≡ with_offset old (length more) → AreTexts I32 new more (map text_of (take (i + 1) names))
-one_name names text_of i d old new bytes more h are short joined is =
-    subst (λ (l : List (List ℕ)). AreTexts I32 new more l) (sym (map_more text_of names i d h))
-    (one_text I32 old new bytes more (text_of (get_or names i d)) (map text_of (take i names)) are short joined is)
 
 -- the filter breaks no rule
 sound : (bits : List Bool) (n : ℕ) → length bits ≡ n → broken (filter_step bits) (length (all_positions n)) ≡ None

@@ -10,9 +10,9 @@ ghost use Rattle.vortex_select.specs.Chunks.{asked_by_walk};
 use crate::policies::with_sparse_limit;
 use crate::printing::{print_calls, print_fault, print_numbers};
 use crate::squares::Squares;
-use crate::steps::{slice, take};
 use std::alloc::Global;
 use std::test::Fail;
+use vortex_select::build::{slice, take};
 use vortex_select::{
     Array, Call, CallLog, ChunkShape, ColumnError, DType, Logged, Nullability, PType, Policy,
     SelectError, Step, Validity, select_chunked,

@@ -5,8 +5,10 @@
 mod chunks;
 mod columns;
 mod error;
+mod first;
 mod names;
 mod people;
+mod picked;
 mod policies;
 mod printing;
 mod reading;
@@ -18,12 +20,13 @@ mod tables;
 use std::test::Fail;
 
 fn main(rt: HostRuntime) -> Result<(), Fail> {
+    first::print_picked(&rt, rt.alloc())?;
+    people::print_people(&rt, rt.alloc())?;
     selecting::print_refusals(&rt, rt.alloc())?;
     selecting::print_answers(&rt, rt.alloc())?;
     selecting::print_faults(&rt, rt.alloc())?;
     selecting::print_rows(&rt, rt.alloc())?;
     names::print_names(&rt, rt.alloc())?;
     chunks::print_squares(&rt, rt.alloc())?;
-    tables::print_pages(&rt, rt.alloc())?;
-    people::print_people(&rt, rt.alloc())
+    tables::print_pages(&rt, rt.alloc())
 }

@@ -1,12 +1,13 @@
 //! Rows of columns in memory.
-use crate::columns::{dictionary, filtered, mask_of, u32_column, u64_column};
+use crate::columns::{dictionary, filtered};
 use crate::error::BuildError;
 use crate::policies::with_sparse_limit;
 use crate::printing::{print_fault, print_numbers, print_row};
 use crate::reading::{first_rows, present_rows, row_or_null};
-use crate::steps::{filter, slice, take, take_pieces};
+use crate::steps::take_pieces;
 use std::alloc::Global;
 use std::test::Fail;
+use vortex_select::build::{filter, mask, nullable_numbers, numbers, slice, take};
 use vortex_select::{Array, Policy, SelectError, Step, select};
 
 /// The values that the codes name.
@@ -15,7 +16,11 @@ fn by_codes(
     codes: &[Option<u32>],
     values: &[Option<u32>],
 ) -> Result<Array, BuildError> {
-    dictionary(alloc, u32_column(alloc, codes)?, u32_column(alloc, values)?)
+    dictionary(
+        alloc,
+        nullable_numbers(alloc, codes)?,
+        nullable_numbers(alloc, values)?,
+    )
 }
 
 /// The rows 10, 40, null, 20, 40, 10, by codes.
@@ -28,8 +33,8 @@ fn source(alloc: Global) -> Result<Array, BuildError> {
 fn step_of(alloc: Global, n: usize) -> Result<Step, BuildError> {
     match n {
         0 => Ok(slice(1, 6)),
-        1 => filter(alloc, &[true, true, true, false, true]),
-        2 => take(alloc, &[Some(3), None, Some(0), Some(1)]),
+        1 => Ok(filter(alloc, &[true, true, true, false, true])?),
+        2 => Ok(take(alloc, &[Some(3), None, Some(0), Some(1)])?),
         _ => take_pieces(alloc, &[0, 3], &[2, 2], &[2, 0], 4),
     }
 }
@@ -72,8 +77,8 @@ fn refused_codes(alloc: Global) -> Option<BuildError> {
 }
 
 fn refused_mask(alloc: Global) -> Result<Option<BuildError>, BuildError> {
-    let child = u32_column(alloc, &[Some(10), Some(20)])?;
-    Ok(filtered(alloc, child, mask_of(alloc, &[true])?).err())
+    let child = numbers(alloc, &[10_u32, 20])?;
+    Ok(filtered(alloc, child, mask(alloc, &[true])?).err())
 }
 
 /// Answers under two policies, of a dictionary and of a lazy filter of it.
@@ -99,8 +104,8 @@ fn print_by_policies(
 
 /// The column without its third row.
 fn lazy(alloc: Global, column: Array) -> Result<Array, BuildError> {
-    let mask = mask_of(alloc, &[true, true, false, true, true, true])?;
-    filtered(alloc, column, mask)
+    let kept = mask(alloc, &[true, true, false, true, true, true])?;
+    filtered(alloc, column, kept)
 }
 
 fn print_lazy(rt: &impl Print, alloc: Global, lazy: &Array) -> Result<(), Fail> {
@@ -129,8 +134,8 @@ pub(crate) fn print_faults(rt: &impl Print, alloc: Global) -> Result<(), Fail> {
 fn broken_step(alloc: Global, n: usize) -> Result<Step, BuildError> {
     match n {
         0 => Ok(slice(1, 9)),
-        1 => filter(alloc, &[true; 6]),
-        2 => take(alloc, &[Some(5), None, Some(6)]),
+        1 => Ok(filter(alloc, &[true; 6])?),
+        2 => Ok(take(alloc, &[Some(5), None, Some(6)])?),
         _ => take_pieces(alloc, &[0, 3], &[2, 2], &[2, 0], 5),
     }
 }
@@ -177,7 +182,7 @@ fn print_row_at(
 }
 
 fn print_first_two(rt: &impl Print, alloc: Global) -> Result<(), Fail> {
-    let plain = u64_column(alloc, &[7, 8, 9])?;
+    let plain = numbers(alloc, &[7_u64, 8, 9])?;
     if plain.len() >= 2 {
         print!(rt; "first 2 of 7 8 9:")?;
         print_numbers(rt, &first_rows(alloc, &plain, 2))?;

@@ -2,12 +2,11 @@
 ghost use Rattle.std.specs.Prelude.{◌≡◌, ◌≤◌, ◌<◌, [], ◌∷◌, IfOk, length};
 ghost use Rattle.vortex_select.specs.Keys.{matching_pairs};
 
-use crate::columns::u64_column;
 use crate::printing::print_numbers;
-use crate::steps::slice;
 use std::alloc::Global;
 use std::rc::RcStr;
 use std::test::Fail;
+use vortex_select::build::{numbers, slice};
 use vortex_select::{ArrayRef, Columns, JoinError, PageError, Policy, Step, Table, join, page};
 
 /// Of the rows that the steps leave, page `number` of four rows, of these columns.
@@ -43,8 +42,8 @@ fn numbered(alloc: Global, columns: Vec<ArrayRef>, len: usize) -> Result<Table, 
 // A table of these columns of numbers.
 fn table_of(alloc: Global, columns: &[&[u64]], len: usize) -> Result<Table, Fail> {
     let mut made = Vec::with_capacity(alloc, columns.len())?;
-    for numbers in columns {
-        made.push(u64_column(alloc, numbers)?)?;
+    for rows in columns {
+        made.push(numbers(alloc, *rows)?.into_ref(alloc)?)?;
     }
     numbered(alloc, made, len)
 }
@@ -57,7 +56,7 @@ fn seven_rows(alloc: Global, k: u64) -> Result<ArrayRef, Fail>
     for i in 0..7_u64 {
         rows.push(10 * k + i)?;
     }
-    Ok(u64_column(alloc, &rows)?)
+    Ok(numbers(alloc, rows.as_slice())?.into_ref(alloc)?)
 }
 
 // Ten columns of seven rows.

@@ -4,6 +4,9 @@ pub use Rattle.vx_bits.specs.Records
 pub use Rattle.vx_bits.specs.Results
 pub use Rattle.vx_bits.specs.WordReader
 pub use Rattle.vx_bits.specs.Words
+pub use Rattle.vx_build.specs.Faults as BuildFaults
+pub use Rattle.vx_build.specs.Positions as NamedPositions
+pub use Rattle.vx_build.specs.Rows as BuiltRows
 pub use Rattle.vx_chunked.specs.Asked
 pub use Rattle.vx_column.specs.Bool as BoolBits
 pub use Rattle.vx_column.specs.Cell

@@ -6,6 +6,7 @@
 //! `specs/` hands on what contracts cite.
 #![tactic(auto)]
 
+pub mod build;
 pub mod kernels;
 
 pub use vx_bits::BitBuffer;

@@ -9,7 +9,7 @@ use Rattle.calling.proofs.names.table.Goals as goal
 
 pub returns : goal.returns
 returns c =
-    let codes = ap positions_of c.in_ok-u32_column.ensures ∙ codes_back c.args.codes.now in
+    let codes = ap positions_of c.in_ok-nullable_numbers.ensures.numbers ∙ codes_back c.args.codes.now in
     subst (λ (rows : List RowValue). IfOk c.dictionary.result (λ k. k.rows ≡ rows))
-    (ap₂ (λ (values : List RowValue) (picks : List (Option ℕ)). at null values picks) c.in_ok-text_column.ensures codes)
+    (ap₂ (λ (values : List RowValue) (picks : List (Option ℕ)). at null values picks) c.in_ok-texts.ensures.rows codes)
     c.dictionary.ensures
