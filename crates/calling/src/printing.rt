@@ -17,6 +17,7 @@ pub(crate) fn print_numbers(rt: &impl Print, column: &Array) -> Result<(), Fail>
     Ok(())
 }
 
+/// Prints a blank and a number, or `null` where there is none.
 pub(crate) fn print_number(rt: &impl Print, number: Option<i128>) -> io::Result<()> {
     match number {
         Some(number) => print!(rt; " {number}"),
@@ -44,6 +45,7 @@ pub(crate) fn print_text(rt: &impl Print, alloc: Global, column: &Array) -> Resu
     Ok(())
 }
 
+/// Prints a blank and a name, or `null` where there is none.
 pub(crate) fn print_name(rt: &impl Print, row: &Row) -> Result<(), Fail> {
     match row {
         Row::Bytes(bytes) => match std::str::from_utf8(bytes.as_slice()) {
