@@ -1,2 +1,2 @@
-mod Fillers
+mod FilledRows
 mod FirstRows

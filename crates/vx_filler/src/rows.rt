@@ -89,7 +89,7 @@ fn zero_numbers(alloc: Global, len: usize) -> Result<PrimitiveArray, NoMemory>
 }
 
 // A list of no elements, as a column of one row.
-#[tactic(auto, using(crate::proofs::Fillers::empty_list))]
+#[tactic(auto, using(crate::proofs::FilledRows::empty_list))]
 fn filler_list(alloc: Global, elements: Array, nullability: Nullability) -> Result<Array, NoMemory>
     requires { elements.rows ≡ [] }
     ensures dtype { IfOk result (λ a. a.dtype ≡ list_type elements.dtype nullability) }
@@ -106,7 +106,7 @@ fn filler_list(alloc: Global, elements: Array, nullability: Nullability) -> Resu
 }
 
 // A list of so many elements that stand where none is shown, as a column of one row.
-#[tactic(auto, using(crate::proofs::Fillers::one_list))]
+#[tactic(auto, using(crate::proofs::FilledRows::one_list))]
 fn filler_fixed(
     alloc: Global,
     elements: Array,
@@ -147,7 +147,7 @@ fn decoded(codes: ArrayRef, values: ArrayRef) -> DictArray
 }
 
 // The one row of a column, so many times. One code is tested, and the others are the same.
-#[tactic(auto, using(crate::proofs::Fillers::one_code))]
+#[tactic(auto, using(crate::proofs::FilledRows::one_code))]
 fn repeated(alloc: Global, column: Array, len: usize) -> Result<Array, NoMemory>
     requires { length column.rows ≡ 1 }
     ensures dtype { IfOk result (λ a. a.dtype ≡ column.dtype) }
@@ -161,7 +161,7 @@ fn repeated(alloc: Global, column: Array, len: usize) -> Result<Array, NoMemory>
 }
 
 // The list views of one row that has none of these elements.
-#[tactic(auto, using(crate::proofs::Fillers::no_entries))]
+#[tactic(auto, using(crate::proofs::FilledRows::no_entries))]
 fn empty_views(
     alloc: Global,
     elements: Array,
@@ -181,7 +181,7 @@ fn empty_views(
 }
 
 // A map of no entries, as a column of one row.
-#[tactic(auto, using(crate::proofs::Fillers::no_entries))]
+#[tactic(auto, using(crate::proofs::FilledRows::no_entries))]
 fn filler_map(alloc: Global, entries: Array, nullability: Nullability) -> Result<Array, NoMemory>
     requires none { entries.rows ≡ [] }
     requires entries { is_entry_type entries.dtype ≡ true }
@@ -197,7 +197,7 @@ fn filler_map(alloc: Global, entries: Array, nullability: Nullability) -> Result
 }
 
 // Structs of these fields, of which none is to be shown.
-#[tactic(auto, using(crate::proofs::Fillers::structs))]
+#[tactic(auto, using(crate::proofs::FilledRows::structs))]
 fn filler_struct(
     columns: Columns,
     fields: &Shared<StructFields>,
@@ -220,7 +220,7 @@ fn filler_struct(
 }
 
 // The rows of the storage, under the extension's name.
-#[tactic(auto, using(crate::proofs::Fillers::extensions))]
+#[tactic(auto, using(crate::proofs::FilledRows::extensions))]
 fn filler_extension(
     alloc: Global,
     ext: &Shared<ExtDType>,
@@ -252,7 +252,7 @@ fn filler_id(alloc: Global, ids: &[u8], nullability: Nullability) -> Result<Scal
 }
 
 // The ids of one row of a union.
-#[tactic(auto, using(crate::proofs::Fillers::unions))]
+#[tactic(auto, using(crate::proofs::FilledRows::unions))]
 fn filler_ids(alloc: Global, ids: &[u8], nullability: Nullability) -> Result<Array, NoMemory>
     requires { 0 < length ids.now }
     ensures dtype { IfOk result (λ a. a.dtype ≡ primitive_type U8 nullability) }
@@ -266,7 +266,7 @@ fn filler_ids(alloc: Global, ids: &[u8], nullability: Nullability) -> Result<Arr
 }
 
 // One row of the first variant, or a null where the type has one.
-#[tactic(auto, using(crate::proofs::Fillers::unions))]
+#[tactic(auto, using(crate::proofs::FilledRows::unions))]
 fn filler_union(
     alloc: Global,
     columns: Columns,
@@ -293,7 +293,7 @@ fn filler_union(
 /// lists and structs of such rows, and such a row of a union's first variant. However many rows it
 /// has, it takes the memory of one value a level of the type. Fails only with `NoMemory`.
 #[cycle(filler)]
-#[tactic(auto, using(vx_model::proofs::LazyRows::lazy_rows, crate::proofs::Fillers::carried_inside))]
+#[tactic(auto, using(vx_model::proofs::LazyRows::lazy_rows, crate::proofs::FilledRows::carried_inside))]
 pub fn filler(alloc: Global, dtype: &DType, len: usize) -> Result<Array, NoMemory>
     requires { is_carried (type_of dtype.now) ≡ true }
     ensures dtype { IfOk result (λ a. a.dtype ≡ type_of dtype.now) }
@@ -336,7 +336,7 @@ pub fn filler(alloc: Global, dtype: &DType, len: usize) -> Result<Array, NoMemor
 /// So many rows of each of these types, which are ones that columns may have; none of the rows is
 /// to be shown. Fails only with `NoMemory`.
 #[cycle(filler)]
-#[tactic(auto, using(crate::proofs::Fillers::each_filler))]
+#[tactic(auto, using(crate::proofs::FilledRows::each_filler))]
 pub fn fillers(alloc: Global, types: &[DType], len: usize) -> Result<Columns, NoMemory>
     requires { are_carried (types_of (map type_of types.now)) ≡ true }
     ensures types { IfOk result (λ f. types_in f ≡ map type_of types.now) }

@@ -4,7 +4,7 @@ use Rattle.vx_model.specs.Column.{Column}
 use Rattle.vx_model.specs.Struct.{struct_column}
 use Rattle.vx_column.specs.StructParts.{struct_parts}
 use Rattle.vx_column.specs.Validity.{valid_of}
-use Rattle.vx_filler.proofs.Fillers.{dtype-structs, made-structs, rows-structs}
+use Rattle.vx_filler.proofs.FilledRows.{dtype-structs, made-structs, rows-structs}
 use Rattle.vx_filler.proofs.rows.filler_struct.Goals as goal
 
 pub unreachable-requires : goal.unreachable-requires

@@ -2,7 +2,7 @@
 use Rattle.std.proofs.Common.{length, ap, ◌∙◌}
 use Rattle.vx_model.specs.Column.{Column}
 use Rattle.vx_model.specs.Dict.{DictParts}
-use Rattle.vx_filler.proofs.Fillers.{sound-codes}
+use Rattle.vx_filler.proofs.FilledRows.{sound-codes}
 use Rattle.vx_filler.proofs.rows.repeated.Goals as goal
 
 pub with_codes-requires : goal.with_codes-requires
