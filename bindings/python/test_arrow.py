@@ -359,9 +359,16 @@ class Hostile(unittest.TestCase):
             made = arrow.made_array(1, 0, 0, [None, array("i", offsets), b"abcd"])
             self.refused(Type("u"), made)
         items = Type("+l", (("item", Type("c")),))
-        for offsets in ((5, 4), (0, 3), (-1, 0), (0, 2**31 - 1)):
+        for offsets in ((5, 4), (0, 3), (-1, 0), (0, 2**20)):
             child = built(Type("c"), [1, 2])
             self.refused(items, arrow.made_array(1, 0, 0, [None, array("i", offsets)], [child]))
+
+    @unittest.skipUnless("VORTEX_ARROW_WILD" in os.environ, "it may take 16 GB of memory")
+    def test_wild_lists(self):
+        """A list that says that it has 2^31 - 1 items, where there are two."""
+        items = Type("+l", (("item", Type("c")),))
+        made = arrow.made_array(1, 0, 0, [None, array("i", [0, 2**31 - 1])], [built(Type("c"), [1, 2])])
+        self.refused(items, made)
 
     def test_equal_offsets(self):
         """A million texts of no bytes."""
