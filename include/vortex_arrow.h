@@ -233,24 +233,33 @@ typedef struct vortex_arrow_answer {
     uint64_t status, node_or_step, what;
 } vortex_arrow_answer;
 
-/* How much room the picks need that the steps leave of `len` rows: to *need. */
+/* What the call writes to, as a table of rooms or a list of places, is as it was where its status
+ * isn't DONE. */
+
+/* Says how much room the picks need that the steps leave of `len` rows. LACKING: the image of a
+ * step, whose number is told, has no meaning (`what` 0 no kind, 1 no type, 2 lengths that pass
+ * INT64_MAX, 3 values too short, 4 validity too short, 5 lengths too short, 6 multipliers too
+ * short). BROKEN: a step breaks a rule, and `what` is its number. NO_MEMORY. */
 vortex_arrow_answer vortex_arrow_count(uint64_t len, const vortex_arrow_step *steps, size_t n_steps,
-    vortex_arrow_picks_need *need, size_t n_needs);
+    vortex_arrow_picks_need *need);
 
 /* Writes for each row that the steps leave of `len` rows its place among these, 0 at a null, and to
- * valid a bit that is clear at a null, where a take may leave nulls. */
+ * valid a bit that is clear at a null, where a take may leave nulls. ROOM: there are fewer places or
+ * bytes than vortex_arrow_count says; and what that answers. */
 vortex_arrow_answer vortex_arrow_compose(uint64_t len, const vortex_arrow_step *steps,
     size_t n_steps, uint64_t *places, size_t n_places, uint8_t *valid, size_t n_valid);
 
-/* Whether the whole table has a meaning. */
-vortex_arrow_answer vortex_arrow_check(const vortex_arrow_node *nodes, size_t n_nodes);
-
-/* What the rows at the places need, node by node. */
+/* Says what the rows of a column at the places need, node by node. A place is a row's number, and
+ * null where its bit of valid is clear; without bytes there none is. What is not at a place is not
+ * looked at, but for each node's own numbers. NO_MEANING: a node, whose number is told, lacks
+ * `what`. BEYOND: a place that isn't null is past the rows. ROOM: there are not as many needs as
+ * nodes. OVERFLOW: rows or bytes are more than a node's offsets can count. FORMAT, NO_MEMORY. */
 vortex_arrow_answer vortex_arrow_sizes(const vortex_arrow_node *nodes, size_t n_nodes,
     const uint64_t *places, size_t n_places, const uint8_t *valid, size_t n_valid,
     vortex_arrow_need *needs, size_t n_needs);
 
-/* Writes the rows at the places, node by node. */
+/* Writes the rows at the places, node by node. ROOM: there are not as many rooms as nodes, or one is
+ * smaller than its need; and what vortex_arrow_sizes answers. */
 vortex_arrow_answer vortex_arrow_take(const vortex_arrow_node *nodes, size_t n_nodes,
     const uint64_t *places, size_t n_places, const uint8_t *valid, size_t n_valid,
     vortex_arrow_room *rooms, size_t n_rooms);

@@ -48,7 +48,7 @@ uint64_t vortex_arrow_pick(uint64_t len, const vortex_arrow_step *steps, size_t 
     vortex_arrow_picks *p, vortex_arrow_error *error)
 {
     vortex_arrow_picks_need need = {0, 0};
-    vortex_arrow_answer answer = vortex_arrow_count(len, steps, n_steps, &need, 1);
+    vortex_arrow_answer answer = vortex_arrow_count(len, steps, n_steps, &need);
     p->places = NULL;
     if (answer.status) {
         return fault_of_steps(error, answer);
