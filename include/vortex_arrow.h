@@ -244,8 +244,8 @@ vortex_arrow_answer vortex_arrow_count(uint64_t len, const vortex_arrow_step *st
     vortex_arrow_picks_need *need);
 
 /* Writes for each row that the steps leave of `len` rows its place among these, 0 at a null, and to
- * valid a bit that is clear at a null, where a take may leave nulls. ROOM: there are fewer places or
- * bytes than vortex_arrow_count says; and what that answers. */
+ * valid a bit that is clear at a null, where a take may leave nulls. ROOM: there are fewer places
+ * or bytes than vortex_arrow_count says; and what that answers. */
 vortex_arrow_answer vortex_arrow_compose(uint64_t len, const vortex_arrow_step *steps,
     size_t n_steps, uint64_t *places, size_t n_places, uint8_t *valid, size_t n_valid);
 
@@ -258,8 +258,8 @@ vortex_arrow_answer vortex_arrow_sizes(const vortex_arrow_node *nodes, size_t n_
     const uint64_t *places, size_t n_places, const uint8_t *valid, size_t n_valid,
     vortex_arrow_need *needs, size_t n_needs);
 
-/* Writes the rows at the places, node by node. ROOM: there are not as many rooms as nodes, or one is
- * smaller than its need; and what vortex_arrow_sizes answers. */
+/* Writes the rows at the places, node by node. ROOM: there are not as many rooms as nodes, or one
+ * is smaller than its need; and what vortex_arrow_sizes answers. */
 vortex_arrow_answer vortex_arrow_take(const vortex_arrow_node *nodes, size_t n_nodes,
     const uint64_t *places, size_t n_places, const uint8_t *valid, size_t n_valid,
     vortex_arrow_room *rooms, size_t n_rooms);
