@@ -249,6 +249,10 @@ vortex_arrow_answer vortex_arrow_count(uint64_t len, const vortex_arrow_step *st
 vortex_arrow_answer vortex_arrow_compose(uint64_t len, const vortex_arrow_step *steps,
     size_t n_steps, uint64_t *places, size_t n_places, uint8_t *valid, size_t n_valid);
 
+/* Tests a whole table: DONE where it means a column, else NO_MEANING or FORMAT with a node that
+ * lacks something, or NO_MEMORY. */
+vortex_arrow_answer vortex_arrow_check(const vortex_arrow_node *nodes, size_t n_nodes);
+
 /* Says what the rows of a column at the places need, node by node. A place is a row's number, and
  * null where its bit of valid is clear; without bytes there none is. What is not at a place is not
  * looked at, but for each node's own numbers. NO_MEANING: a node, whose number is told, lacks
@@ -292,11 +296,17 @@ uint64_t vortex_select_arrow(const struct ArrowSchema *schema, struct ArrowArray
     const vortex_arrow_step *steps, size_t n_steps, struct ArrowSchema *out_schema,
     struct ArrowArray *out_array, vortex_arrow_error *error);
 
-/* The same over a stream: the steps go over the rows of all of its batches, end to end. The source
+/* Tests a whole column, which vortex_select_arrow doesn't: that looks at the picked rows alone. For
+ * those who don't trust their producer; the lengths of the buffers stay trusted. The answer is the
+ * status, as above. */
+uint64_t vortex_arrow_check_array(const struct ArrowSchema *schema, struct ArrowArray *array,
+    vortex_arrow_error *error);
+
+/* Selects rows of a stream: the steps go over the rows of all of its batches, end to end. The source
  * is read to its end, and stays the caller's, who releases it. *out gives the answer: a batch for
  * each longest run of picks within one batch, so at most one for each where the picks ascend, and
- * one without rows where no row is picked. Its schema is nullable also where a take's numbers
- * are. A fault of a batch is told by its get_next, as EINVAL, ENOMEM or EOVERFLOW. */
+ * one without rows where no row is picked. Its schema is nullable also where a take's numbers are.
+ * A fault of a batch is told by its get_next, as EINVAL, ENOMEM or EOVERFLOW. */
 uint64_t vortex_select_arrow_stream(struct ArrowArrayStream *source, const vortex_arrow_step *steps,
     size_t n_steps, struct ArrowArrayStream *out, vortex_arrow_error *error);
 
