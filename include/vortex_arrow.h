@@ -29,9 +29,9 @@
  *
  * Formats: null (n), bools (b), integers and floats (c C s S i I l L e f g), binary of a fixed
  * width (w:N), decimals (d:P,S and d:P,S,W), dates, times, timestamps, durations and intervals
- * (t..), texts and bytes (u U z Z), structs (+s), lists (+l +L) and maps (+m), each with an offset,
- * a validity, and a dictionary where it is of integers. An answer has the format of its source.
- * Lists of a fixed size (+w:N), views (vu vz), views of lists (+vl +vL) and unions (+us: +ud:) are
+ * (t..), texts and bytes (u U z Z), structs (+s), lists (+l +L), lists of a fixed size (+w:N) and
+ * maps (+m), each with an offset, a validity, and a dictionary where it is of integers. An answer
+ * has the format of its source. Views (vu vz), views of lists (+vl +vL) and unions (+us: +ud:) are
  * handed to the library; those that it doesn't know are refused by VORTEX_ARROW_FORMAT, as are
  * arrays that are run-end encoded (+r) and formats that Arrow doesn't have. */
 #ifndef VORTEX_ARROW_H
