@@ -29,9 +29,9 @@
  *
  * Formats: null (n), bools (b), integers and floats (c C s S i I l L e f g), binary of a fixed
  * width (w:N), decimals (d:P,S and d:P,S,W), dates, times, timestamps, durations and intervals
- * (t..), texts and bytes (u U z Z), structs (+s), lists (+l +L) and maps (+m), each with an offset,
- * a validity, and a dictionary where it is of integers. An answer has the format of its source.
- * Lists of a fixed size (+w:N), views (vu vz), views of lists (+vl +vL) and unions (+us: +ud:) are
+ * (t..), texts and bytes (u U z Z), structs (+s), lists (+l +L), lists of a fixed size (+w:N) and
+ * maps (+m), each with an offset, a validity, and a dictionary where it is of integers. An answer
+ * has the format of its source. Views (vu vz), views of lists (+vl +vL) and unions (+us: +ud:) are
  * handed to the library; those that it doesn't know are refused by VORTEX_ARROW_FORMAT, as are
  * arrays that are run-end encoded (+r) and formats that Arrow doesn't have. */
 #ifndef VORTEX_ARROW_H
@@ -233,24 +233,37 @@ typedef struct vortex_arrow_answer {
     uint64_t status, node_or_step, what;
 } vortex_arrow_answer;
 
-/* How much room the picks need that the steps leave of `len` rows: to *need. */
+/* What the call writes to, as a table of rooms or a list of places, is as it was where its status
+ * isn't DONE. */
+
+/* Says how much room the picks need that the steps leave of `len` rows. LACKING: the image of a
+ * step, whose number is told, has no meaning (`what` 0 no kind, 1 no type, 2 lengths that pass
+ * INT64_MAX, 3 values too short, 4 validity too short, 5 lengths too short, 6 multipliers too
+ * short). BROKEN: a step breaks a rule, and `what` is its number. NO_MEMORY. */
 vortex_arrow_answer vortex_arrow_count(uint64_t len, const vortex_arrow_step *steps, size_t n_steps,
-    vortex_arrow_picks_need *need, size_t n_needs);
+    vortex_arrow_picks_need *need);
 
 /* Writes for each row that the steps leave of `len` rows its place among these, 0 at a null, and to
- * valid a bit that is clear at a null, where a take may leave nulls. */
+ * valid a bit that is clear at a null, where a take may leave nulls. ROOM: there are fewer places
+ * or bytes than vortex_arrow_count says; and what that answers. */
 vortex_arrow_answer vortex_arrow_compose(uint64_t len, const vortex_arrow_step *steps,
     size_t n_steps, uint64_t *places, size_t n_places, uint8_t *valid, size_t n_valid);
 
-/* Whether the whole table has a meaning. */
+/* Tests a whole table: DONE where it means a column, else NO_MEANING or FORMAT with a node that
+ * lacks something, or NO_MEMORY. */
 vortex_arrow_answer vortex_arrow_check(const vortex_arrow_node *nodes, size_t n_nodes);
 
-/* What the rows at the places need, node by node. */
+/* Says what the rows of a column at the places need, node by node. A place is a row's number, and
+ * null where its bit of valid is clear; without bytes there none is. What is not at a place is not
+ * looked at, but for each node's own numbers. NO_MEANING: a node, whose number is told, lacks
+ * `what`. BEYOND: a place that isn't null is past the rows. ROOM: there are not as many needs as
+ * nodes. OVERFLOW: rows or bytes are more than a node's offsets can count. FORMAT, NO_MEMORY. */
 vortex_arrow_answer vortex_arrow_sizes(const vortex_arrow_node *nodes, size_t n_nodes,
     const uint64_t *places, size_t n_places, const uint8_t *valid, size_t n_valid,
     vortex_arrow_need *needs, size_t n_needs);
 
-/* Writes the rows at the places, node by node. */
+/* Writes the rows at the places, node by node. ROOM: there are not as many rooms as nodes, or one
+ * is smaller than its need; and what vortex_arrow_sizes answers. */
 vortex_arrow_answer vortex_arrow_take(const vortex_arrow_node *nodes, size_t n_nodes,
     const uint64_t *places, size_t n_places, const uint8_t *valid, size_t n_valid,
     vortex_arrow_room *rooms, size_t n_rooms);
@@ -283,11 +296,17 @@ uint64_t vortex_select_arrow(const struct ArrowSchema *schema, struct ArrowArray
     const vortex_arrow_step *steps, size_t n_steps, struct ArrowSchema *out_schema,
     struct ArrowArray *out_array, vortex_arrow_error *error);
 
-/* The same over a stream: the steps go over the rows of all of its batches, end to end. The source
+/* Tests a whole column, which vortex_select_arrow doesn't: that looks at the picked rows alone. For
+ * those who don't trust their producer; the lengths of the buffers stay trusted. The answer is the
+ * status, as above. */
+uint64_t vortex_arrow_check_array(const struct ArrowSchema *schema, struct ArrowArray *array,
+    vortex_arrow_error *error);
+
+/* Selects rows of a stream: the steps go over the rows of all of its batches, end to end. The source
  * is read to its end, and stays the caller's, who releases it. *out gives the answer: a batch for
  * each longest run of picks within one batch, so at most one for each where the picks ascend, and
- * one without rows where no row is picked. Its schema is nullable also where a take's numbers
- * are. A fault of a batch is told by its get_next, as EINVAL, ENOMEM or EOVERFLOW. */
+ * one without rows where no row is picked. Its schema is nullable also where a take's numbers are.
+ * A fault of a batch is told by its get_next, as EINVAL, ENOMEM or EOVERFLOW. */
 uint64_t vortex_select_arrow_stream(struct ArrowArrayStream *source, const vortex_arrow_step *steps,
     size_t n_steps, struct ArrowArrayStream *out, vortex_arrow_error *error);
 

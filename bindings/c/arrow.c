@@ -48,7 +48,7 @@ uint64_t vortex_arrow_pick(uint64_t len, const vortex_arrow_step *steps, size_t 
     vortex_arrow_picks *p, vortex_arrow_error *error)
 {
     vortex_arrow_picks_need need = {0, 0};
-    vortex_arrow_answer answer = vortex_arrow_count(len, steps, n_steps, &need, 1);
+    vortex_arrow_answer answer = vortex_arrow_count(len, steps, n_steps, &need);
     p->places = NULL;
     if (answer.status) {
         return fault_of_steps(error, answer);
@@ -418,7 +418,8 @@ static uint64_t take_rows(const table *t, const vortex_arrow_picks *p, struct Ar
 
 /* ---- The call ---- */
 
-uint64_t vortex_arrow_take_rows(const struct ArrowSchema *schema, struct ArrowArray *array,
+/* The rows of an array at the picks; without any, whether it has a meaning. */
+static uint64_t over_table(const struct ArrowSchema *schema, struct ArrowArray *array,
     const vortex_arrow_picks *p, struct ArrowArray *out, vortex_arrow_error *error)
 {
     table t;
@@ -426,12 +427,30 @@ uint64_t vortex_arrow_take_rows(const struct ArrowSchema *schema, struct ArrowAr
     memset(&t, 0, sizeof t);
     t.error = error;
     status = walk(&t, schema, array, NO_NODE, 1);
-    if (!status) {
+    if (!status && p) {
         status = take_rows(&t, p, out);
+    } else if (!status) {
+        vortex_arrow_answer answer = vortex_arrow_check(t.nodes, t.len);
+        status = answer.status ? fault_of_node(&t, answer) : 0;
     }
     free(t.nodes);
     free(t.sources);
     return status;
+}
+
+uint64_t vortex_arrow_take_rows(const struct ArrowSchema *schema, struct ArrowArray *array,
+    const vortex_arrow_picks *p, struct ArrowArray *out, vortex_arrow_error *error)
+{
+    return over_table(schema, array, p, out, error);
+}
+
+uint64_t vortex_arrow_check_array(const struct ArrowSchema *schema, struct ArrowArray *array,
+    vortex_arrow_error *error)
+{
+    vortex_arrow_error unread;
+    error = error ? error : &unread;
+    memset(error, 0, sizeof *error);
+    return over_table(schema, array, NULL, NULL, error);
 }
 
 uint64_t vortex_select_arrow(const struct ArrowSchema *schema, struct ArrowArray *array,

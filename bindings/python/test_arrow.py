@@ -16,7 +16,8 @@ except ImportError:
 
 import arrow_model
 from arrow_model import Layout, after, random_row, random_steps, random_type, wrapped
-from vortex_select import BrokenStep, Column, Filter, Slice, Take, column, from_buffers, select
+from vortex_select import BrokenStep, Column, Filter, Slice, Take
+from vortex_select import check, column, from_buffers, select
 from vortex_select import _interface as arrow
 from vortex_select import _columns, _types
 from vortex_select._building import built
@@ -77,6 +78,7 @@ class Random(unittest.TestCase):
             source = wrapped(of, Layout(dice).array(of, rows))
             self.type = str(of)
             self.assertEqual(source.to_pylist(), rows, seed)
+            check(source)
             self.agrees(seed, source, rows, *random_steps(dice, len(rows)))
 
     def test_streams(self):
@@ -156,6 +158,18 @@ class Answers(unittest.TestCase):
             select(source, [Slice(0, 2)])
         with self.assertRaises(ValueError):
             select(source, [Slice(0, 1)])
+
+    def test_check(self):
+        """A row that has no meaning is found where it isn't picked, too."""
+        source = wrapped(Type("u"), arrow.made_array(2, 0, 0, [None, array("i", [0, 5, 2]), b"ab"]))
+        with self.assertRaisesRegex(ValueError, "offsets"):
+            check(source)
+        with self.assertRaisesRegex(ValueError, "offsets"):
+            select(source, [Take([0])])
+        fine = wrapped(Type("u"), arrow.made_array(2, 0, 0, [None, array("i", [5, 1, 2]), b"ab"]))
+        self.assertEqual(select(fine, [Take([1])]).to_pylist(), ["b"])
+        with self.assertRaisesRegex(ValueError, "offsets"):
+            check(fine)
 
     def test_overflow(self):
         source = column(["x" * 2**20])
@@ -359,9 +373,16 @@ class Hostile(unittest.TestCase):
             made = arrow.made_array(1, 0, 0, [None, array("i", offsets), b"abcd"])
             self.refused(Type("u"), made)
         items = Type("+l", (("item", Type("c")),))
-        for offsets in ((5, 4), (0, 3), (-1, 0), (0, 2**31 - 1)):
+        for offsets in ((5, 4), (0, 3), (-1, 0), (0, 2**20)):
             child = built(Type("c"), [1, 2])
             self.refused(items, arrow.made_array(1, 0, 0, [None, array("i", offsets)], [child]))
+
+    @unittest.skipUnless("VORTEX_ARROW_WILD" in os.environ, "it may take 16 GB of memory")
+    def test_wild_lists(self):
+        """A list that says that it has 2^31 - 1 items, where there are two."""
+        items = Type("+l", (("item", Type("c")),))
+        made = arrow.made_array(1, 0, 0, [None, array("i", [0, 2**31 - 1])], [built(Type("c"), [1, 2])])
+        self.refused(items, made)
 
     def test_equal_offsets(self):
         """A million texts of no bytes."""

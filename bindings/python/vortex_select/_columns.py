@@ -280,6 +280,19 @@ def select(column: Any, steps: Sequence[Union[Slice, Filter, Take]] = ()) -> Col
     raise TypeError(f"a {type(column).__name__} hands over no column of Arrow's")
 
 
+def check(column: Any) -> None:
+    """Tests a whole column, any object with `__arrow_c_array__`: a `ValueError` where it has no
+    meaning, which names the buffer. `select` looks at the rows that it picks alone. That buffers are
+    as long as they must be can't be tested.
+
+    >>> check(column(["a", None]))
+    """
+    source, fault = _Borrowed(column), arrow.Fault()
+    structs = [ctypes.addressof(struct) for struct in (source.schema, source.array, fault)]
+    if arrow.calls().vortex_arrow_check_array(*structs) != _DONE:
+        _raise(fault)
+
+
 def _has_chunks(column):
     return isinstance(column, Column) and len(column._chunks) > 1
 

@@ -90,6 +90,7 @@ def _declare(library):
     for name, kinds in {
         "vortex_select_arrow": [ref, ref, ref, size, ref, ref, ref],
         "vortex_select_arrow_stream": [ref, ref, size, ref, ref],
+        "vortex_arrow_check_array": [ref, ref, ref],
         "vortex_arrow_copy_schema": [ref, ref],
     }.items():
         call = getattr(library, name)
