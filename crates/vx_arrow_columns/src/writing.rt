@@ -201,6 +201,19 @@ fn write_struct_node(node: &Node, picks: &Picks, room: &mut Room)
     write_valid_of(node, picks, room);
 }
 
+// Writes the own part of lists of a fixed size.
+fn write_fixed_list_node(node: &Node, picks: &Picks, room: &mut Room)
+    requires format { format_in node.now.format ≡ Some Format.FixedList }
+    requires readable { IsReadable (part_of node.now)
+        (picks_of picks.now.places.now picks.now.valid.now picks.now.add) }
+    requires room { has_room (need_of (part_of node.now)
+        (picking_of picks.now.places.now picks.now.valid.now picks.now.add)) room.old ≡ true }
+    ensures { IsNodeTaken node.now
+        picks.now.places.now picks.now.valid.now picks.now.add room.new }
+{
+    write_valid_of(node, picks, room);
+}
+
 // Writes what a node's own lists hold of its rows at picks.
 pub(crate) fn write_node(node: &Node, picks: &Picks, room: &mut Room)
     requires readable { IsReadable (part_of node.now)
@@ -216,6 +229,7 @@ pub(crate) fn write_node(node: &Node, picks: &Picks, room: &mut Room)
         Some(Format::Text(size)) => write_text_node(size, node, picks, room),
         Some(Format::Struct) => write_struct_node(node, picks, room),
         Some(Format::List(size)) => write_list_node(size, node, picks, room),
+        Some(Format::FixedList) => write_fixed_list_node(node, picks, room),
         Some(Format::Nulls) => {}
         None => {}
     }
