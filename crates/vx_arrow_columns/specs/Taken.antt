@@ -1,5 +1,6 @@
 -- What a node has to hold for its rows at picks, and what is taken of it.
-use Rattle.std.specs.Prelude.{ℕ, ◌+◌, ◌*◌, ◌^◌, ◌<◌, ◌≤◌, ◌≡◌, ⊤, true, List, [], map, take, drop, length, replicate, slice_index_or, slice_range, Option, Some, None, is_some}
+use Rattle.std.specs.Prelude.{ℕ, ◌+◌, ◌*◌, ◌^◌, ◌<◌, ◌≤◌, ◌≡◌, ◌==◌, ⊤, Bool, true, List, [], map, take, drop, length, replicate, slice_index_or, slice_range, Option, Some, None, is_some}
+use Rattle.std.specs.Int.{bit_at}
 use Rattle.std.specs.List.{flat_map}
 use Rattle.vx_arrow_columns.specs.declared.format.Format.{Format}
 use Rattle.vx_arrow_columns.specs.declared.format.Format.TheVariants.{Nulls, Bits, Fixed, Text, Struct, List as Lists, FixedList}
@@ -57,6 +58,11 @@ IsNullable (Some FixedList) = ⊤
 pub record ShowsRows (p : Part) (q : List (Option ℕ)) (valid : List ℕ) : Type 0 where
   pub shows : (k : ℕ) → k < length q
       → is_valid valid k ≡ is_some (place_of p (slice_index_or q k None))
+
+-- the first n bits of the byte are those from `first` on, and the others are clear
+pub record IsByteOf (f : ℕ → Bool) (first n byte : ℕ) : Type 0 where
+  pub bits : (i : ℕ) → i < n → (bit_at byte i == 1) ≡ f (first + i)
+  pub rest : (i : ℕ) → n ≤ i → bit_at byte i ≡ 0
 
 -- Below, of the first n picks.
 
