@@ -2,6 +2,7 @@ pub mod BitPuts
 pub mod Bytes
 pub mod Columns
 pub mod Cuts
+pub mod FixedLists
 pub mod Measures
 pub mod OffsetReads
 pub mod OwnTaken

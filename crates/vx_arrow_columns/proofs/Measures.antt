@@ -1,18 +1,20 @@
 -- What each format's tests find.
-use Rattle.std.proofs.Common.{◌≡◌, ℕ, ◌+◌, ◌*◌, ◌/◌, ◌^◌, ◌<◌, ◌≤◌, Bool, true, List, [], length, map, Option, Some, None, ap, ap₂, sym, ◌∙◌, refl, subst, arith}
+use Rattle.std.proofs.Common.{◌≡◌, ℕ, ◌+◌, ◌*◌, ◌/◌, ◌^◌, ◌<◌, ◌≤◌, Bool, true, List, [], length, get_or, map, Option, Some, None, ap, ap₂, sym, ◌∙◌, refl, subst, arith}
 use Rattle.std.specs.Prelude.{Result, Ok, Err, IfOk, OnOk}
 use Rattle.std.proofs.lemmas.Bool.{lt-ltb}
+use Rattle.std.proofs.lemmas.List.{get_or-map, length-map}
 use Rattle.vx_arrow_columns.specs.declared.format.Format.{Format}
-use Rattle.vx_arrow_columns.specs.declared.format.Format.TheVariants.{Nulls, Bits, Fixed, Text, List as Lists, Struct}
+use Rattle.vx_arrow_columns.specs.declared.format.Format.TheVariants.{Nulls, Bits, Fixed, Text, List as Lists, FixedList, Struct}
 use Rattle.vx_arrow_columns.specs.declared.format.Offsets.{Offsets}
 use Rattle.vx_arrow_columns.specs.declared.needs.Inner.{Inner}
 use Rattle.vx_arrow_columns.specs.declared.needs.Inner.TheVariants as inners
 use Rattle.vx_arrow_columns.specs.declared.needs.Items.{Items}
 use Rattle.vx_arrow_columns.specs.declared.needs.Measure.{Measure}
 use Rattle.vx_arrow_columns.specs.Image.{Part, is_placed, limit_of}
-use Rattle.vx_arrow_columns.specs.Measured.{AreItems, AreListed, IsInner, IsLeaf, IsMeasured, IsTextLen}
-use Rattle.vx_arrow_columns.specs.Picks.{Picking, counts_by, inner_nullable, inner_picks, is_counted, items_len, items_of, picking_of, picks_of, values_len}
+use Rattle.vx_arrow_columns.specs.Measured.{AreBelow, AreItems, AreListed, IsInner, IsLeaf, IsMeasured, IsTextLen}
+use Rattle.vx_arrow_columns.specs.Picks.{Picking, counts_by, fixed_items, has_bits, inner, inner_nullable, inner_picks, is_counted, items_len, items_of, picking_of, picks_of, values_len}
 use Rattle.vx_arrow_columns.specs.Taken.{AreWithin, Holds, IsReadable}
+use Rattle.vx_arrow_columns.proofs.FixedLists.{items_within}
 use Rattle.vx_arrow_columns.proofs.OwnTaken.{counted_from}
 use Rattle.vx_arrow_columns.proofs.PickReads.{all_picks, length_picks}
 
@@ -76,10 +78,41 @@ items_listed z p q places format items =
     (ap (λ (g : Option Format). inner_picks g p q.picks) format ∙ ap (λ (l : List ℕ). map Some l) (sym items) ∙ sym (all_picks places))
     (ap (λ (g : Option Format). inner_nullable g q.nullable) format)
 
+below_within : (places : List ℕ) (end : ℕ) → AreBelow places end → AreWithin (picks_of places [] 0) end
+below_within places end b = record {
+  below = λ k i h e.
+      let all = all_picks places in
+      let low : k < length places = omega (arith, ap length all, length-map places Some) in
+      let at : Some (get_or places k 0) ≡ Some i = sym (get_or-map Some places k 0 None low) ∙ sym (ap (λ (l : List (Option ℕ)). get_or l k None) all) ∙ e in
+      let same : get_or places k 0 ≡ i = cc in
+      let under = b.below k low in
+      omega arith;
+}
+
+bare_listed : (p : Part) (q : Picking) (places valid : List ℕ) (end : ℕ) → p.children ≡ 1 → valid ≡ [] → inner p q ≡ picking_of places [] 0 → AreWithin (picks_of places [] 0) end → AreListed p q places valid end
+bare_listed p q places valid end one none listed within = subst (λ (v : List ℕ). AreListed p q places v end) (sym none) (record { one = one; listed = listed; within = within })
+
 pub list_measured : (z : Offsets) (p : Part) (ps vs : List ℕ) (add : ℕ) (items : Items) → p.format ≡ Some (Lists z) → length ps < 2 ^ 60 → is_placed p ≡ true → AreWithin (picks_of ps vs add) p.len → p.children ≡ 1
-    → AreItems z p (picks_of ps vs add) items.places.items items.end → IsMeasured p (picking_of ps vs add) (record { values = 0; inner = inners.Listed items })
-list_measured z p ps vs add items format few placed within one are = record {
+    → AreItems z p (picks_of ps vs add) items.list.places.items items.end → items.list.valid.items ≡ [] → IsMeasured p (picking_of ps vs add) (record { values = 0; inner = inners.Listed items })
+list_measured z p ps vs add items format few placed within one are none = record {
   readable = readable p ps vs add (Lists z) format few placed within (lt-ltb _ _ are.small) (one, are.cut);
   values = ap (λ (g : Option Format). values_len g p (picks_of ps vs add)) (sym format);
-  children = record { one = one; listed = items_listed z p (picking_of ps vs add) items.places.items format are.items; below = are.below };
+  children = bare_listed p (picking_of ps vs add) items.list.places.items items.list.valid.items items.end one none (items_listed z p (picking_of ps vs add) items.list.places.items format are.items) (below_within items.list.places.items items.end are.below);
 }
+
+pub fixed_list_measured : (p : Part) (ps vs : List ℕ) (add n : ℕ) (items : Items) → p.format ≡ Some FixedList → length ps < 2 ^ 60 → is_placed p ≡ true → AreWithin (picks_of ps vs add) p.len → p.children ≡ 1
+    → (p.offset + p.len) * p.width < 2 ^ 60 → n ≡ length ps * p.width → n < 2 ^ 60
+    → picks_of items.list.places.items items.list.valid.items 0 ≡ fixed_items p (picks_of ps vs add) → has_bits items.list.valid.items ≡ has_bits vs → (p.offset + p.len) * p.width ≤ items.end
+    → IsMeasured p (picking_of ps vs add) (record { values = 0; inner = inners.Listed items })
+fixed_list_measured p ps vs add n items format few placed within one held size small are bits far =
+    let q = picks_of ps vs add in
+    let same : n ≡ length q * p.width = size ∙ ap (λ (k : ℕ). k * p.width) (sym (length_picks ps vs add)) in
+    record {
+      readable = readable p ps vs add FixedList format few placed within (lt-ltb _ _ (subst (λ (k : ℕ). k < 2 ^ 60) same small)) (one, held);
+      values = ap (λ (g : Option Format). values_len g p q) (sym format);
+      children = record {
+        one = one;
+        listed = same_picking _ _ (ap (λ (g : Option Format). inner_picks g p q) format ∙ sym are) (ap (λ (g : Option Format). inner_nullable g (has_bits vs)) format ∙ sym bits);
+        within = subst (λ (l : List (Option ℕ)). AreWithin l items.end) (sym are) (items_within p q items.end within far);
+      };
+    }

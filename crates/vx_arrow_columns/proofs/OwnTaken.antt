@@ -7,7 +7,7 @@ use Rattle.std.proofs.lemmas.Bool.{and_parts, and_from, or_parts, lt-ltb, le-leb
 use Rattle.std.proofs.lemmas.List.{ext_get_or, get_or-map, length-map, length-replicate}
 use Rattle.std.proofs.lemmas.List.FromFn.{length-map-range_with_len, get_or-map-range_with_len}
 use Rattle.vx_arrow_columns.specs.declared.format.Format.{Format}
-use Rattle.vx_arrow_columns.specs.declared.format.Format.TheVariants.{Nulls, Bits, Fixed, Text, List as Lists, Struct}
+use Rattle.vx_arrow_columns.specs.declared.format.Format.TheVariants.{Nulls, Bits, Fixed, Text, List as Lists, FixedList, Struct}
 use Rattle.vx_arrow_columns.specs.declared.format.Offsets.{Offsets}
 use Rattle.vx_arrow_columns.specs.Rows.{RowValue, null, bit, bytes, list, fields, row_values, row_at, picked}
 use Rattle.vx_arrow_columns.specs.Image.{Part, bit_of, is_valid, fits, holds_valid, is_placed, is_sound, value_at, row_of, column_of, offset_at, are_cut, limit_of, size_of}
@@ -48,6 +48,7 @@ nullable_shows (Some Fixed) b h = refl
 nullable_shows (Some (Text z)) b h = refl
 nullable_shows (Some Struct) b h = refl
 nullable_shows (Some (Lists z)) b h = refl
+nullable_shows (Some FixedList) b h = refl
 
 pub few_picks : (p : Part) (q : List (Option ℕ)) → is_counted p q ≡ true → length q < 2 ^ 60
 unfolding is_counted

@@ -14,12 +14,11 @@ use Rattle.vx_arrow_columns.specs.declared.plan.Job as jobs
 use Rattle.vx_arrow_columns.specs.declared.plan.Plan as plans
 use Rattle.vx_arrow_columns.specs.declared.plan.Walk as walks
 use Rattle.vx_arrow_columns.specs.Image.{Part, part_of}
-use Rattle.vx_arrow_columns.specs.Measured.{AreBelow}
 use Rattle.vx_arrow_columns.specs.Picks.{Picking, bytes_for, inner, inner_picks, inner_nullable, need_of, needs_by, offsets_len, picking_of, pickings, picks_of, shows_valid, values_len}
 use Rattle.vx_arrow_columns.specs.Planned.{IsListed, IsNext, IsPlanned, are_trees, first_len, picking_by, picking_in, places_in, valid_in}
 use Rattle.vx_arrow_columns.specs.Taken.{AreWithin}
 use Rattle.vx_arrow_columns.proofs.Measures.{same_picking}
-use Rattle.vx_arrow_columns.proofs.PickReads.{all_picks, length_picks, moved_picks}
+use Rattle.vx_arrow_columns.proofs.PickReads.{length_picks, moved_picks}
 use Rattle.vx_arrow_columns.proofs.Walks.{WalkIs}
 
 -- ---- the same picks, further on
@@ -71,36 +70,24 @@ last_list ls x f =
     ∙ get_or-append_right (map f ls) (f x ∷ []) (length ls) (length ls) [] (length-map ls f) (omega arith)
     ∙ ap (λ n. get_or (f x ∷ []) n []) (let z : length ls - length ls ≡ 0 = omega arith in z)
 
-listed_in : (ps vs : List ℕ) (ls new : List Places) (x : Places) (next : jobs.Job) → new ≡ ls ++ x ∷ [] → next.list ≡ Some (length ls) → next.add ≡ 0 → x.valid.items ≡ [] → picking_in ps vs new next ≡ picking_of x.places.items [] 0
+listed_in : (ps vs : List ℕ) (ls new : List Places) (x : Places) (next : jobs.Job) → new ≡ ls ++ x ∷ [] → next.list ≡ Some (length ls) → next.add ≡ 0 → picking_in ps vs new next ≡ picking_of x.places.items x.valid.items 0
 unfolding picking_in
-listed_in ps vs ls new x next e list none bits =
+listed_in ps vs ls new x next e list none =
     ap₂ (λ (o : Option ℕ) (a : ℕ). picking_by ps vs new o a) list none
     ∙ ap₂ (λ (a : List ℕ) (b : List ℕ). picking_of a b 0)
     (ap (λ (l : List Places). places_in l (length ls)) e ∙ last_list ls x (λ (y : Places). y.places.items))
-    (ap (λ (l : List Places). valid_in l (length ls)) e ∙ last_list ls x (λ (y : Places). y.valid.items) ∙ bits)
+    (ap (λ (l : List Places). valid_in l (length ls)) e ∙ last_list ls x (λ (y : Places). y.valid.items))
 
-below_within : (places : List ℕ) (end : ℕ) → AreBelow places end → AreWithin (picking_of places [] 0).picks end
-below_within places end b = record {
-  below = λ k i h e.
-      let all = all_picks places in
-      let low : k < length places = omega (arith, ap length all, length-map places Some) in
-      let at : Some (get_or places k 0) ≡ Some i = sym (get_or-map Some places k 0 None low) ∙ sym (ap (λ (l : List (Option ℕ)). get_or l k None) all) ∙ e in
-      let same : get_or places k 0 ≡ i = cc in
-      let under = b.below k low in
-      omega arith;
-}
-
-pub next_listed : (node : image.Node) (job next : jobs.Job) (old new : List Places) (items : Items) (x : Places) → new ≡ old ++ x ∷ [] → x.places ≡ items.places → x.valid.items ≡ [] → next.list ≡ Some (length old) → next.add ≡ 0 → next.end ≡ items.end
+pub next_listed : (node : image.Node) (job next : jobs.Job) (old new : List Places) (items : Items) → new ≡ old ++ items.list ∷ [] → next.list ≡ Some (length old) → next.add ≡ 0 → next.end ≡ items.end
     → IsNext node job (inners.Listed items) old new next
-next_listed node job next old new items x e same bits list none end = record {
-  more = x ∷ [];
+next_listed node job next old new items e list none end = record {
+  more = items.list ∷ [];
   grown = e;
-  listed = λ h k f. let at : Some (length old) ≡ Some k = sym list ∙ f in let here : length old ≡ k = cc in omega (arith, ap length e, length-append old (x ∷ []));
+  listed = λ h k f. let at : Some (length old) ≡ Some k = sym list ∙ f in let here : length old ≡ k = cc in omega (arith, ap length e, length-append old (items.list ∷ []));
   within = λ ps vs below w are.
-      subst (λ (q : Picking). AreWithin q.picks next.end) (sym (listed_in ps vs old new x next e list none bits))
-      (subst (λ (n : ℕ). AreWithin (picking_of x.places.items [] 0).picks n) (sym end)
-      (below_within x.places.items items.end (subst (λ (l : List ℕ). AreBelow l items.end) (ap (λ v. v.items) (sym same)) are.below)));
-  picks = λ ps vs w are. ap (replicate node.children) (listed_in ps vs old new x next e list none bits ∙ ap (λ v. picking_of v.items [] 0) same ∙ sym are.listed);
+      subst (λ (q : Picking). AreWithin q.picks next.end) (sym (listed_in ps vs old new items.list next e list none))
+      (subst (λ (n : ℕ). AreWithin (picking_of items.list.places.items items.list.valid.items 0).picks n) (sym end) are.within);
+  picks = λ ps vs w are. ap (replicate node.children) (listed_in ps vs old new items.list next e list none ∙ sym are.listed);
 }
 
 -- ---- the end of a walk

@@ -1,7 +1,10 @@
 -- One more row, written or measured.
-use Rattle.std.proofs.Common.{◌≡◌, ℕ, ◌+◌, ◌-◌, ◌*◌, ◌^◌, ◌<◌, ◌≤◌, ◌≢◌, Bool, true, false, List, [], ◌∷◌, ◌++◌, length, get_or, take, drop, Option, Some, None, ap, ap₂, sym, ◌∙◌, refl, subst, inl, inr, arith, length-append, lit<, lit≤}
+use Rattle.std.proofs.Common.{◌≡◌, ℕ, ◌+◌, ◌-◌, ◌*◌, ◌/◌, ◌%◌, ◌^◌, ◌<◌, ◌≤◌, ◌≢◌, Bool, true, false, List, [], ◌∷◌, ◌++◌, length, get_or, set, take, drop, eqb, get_or-set_same, get_or-set_other, Option, Some, None, ap, ap₂, sym, ◌∙◌, refl, subst, inl, inr, arith, length-append, lit<, lit≤}
 use Rattle.std.specs.Prelude.{slice_range}
+use Rattle.std.specs.Int.{bit_at}
 use Rattle.std.specs.List.{range_with_len, flat_map}
+use Rattle.std.specs.Option.{option_map}
+use Rattle.std.proofs.lemmas.Nat.Bits.{bit_at-zero}
 use Rattle.std.proofs.lemmas.Bool.{cases_eq, cases_lt}
 use Rattle.std.proofs.lemmas.List.{append-nil, length-take-le, length-drop, take_all, take_more, flat_map_more, get_or_append_left, get_or-append_right, take-take}
 use Rattle.std.proofs.lemmas.List.FromFn.{length-range_with_len, get_or-range_with_len}
@@ -11,9 +14,10 @@ use Rattle.vx_arrow_columns.specs.declared.format.Offsets.TheVariants.{Short, Lo
 use Rattle.vx_arrow_columns.specs.Image.{Part, bit_of, holds_offsets, is_cut, limit_of, offset_at}
 use Rattle.vx_arrow_columns.specs.Measured.{AreBelow}
 use Rattle.vx_arrow_columns.specs.Picks.{items_len, items_of, pick_at, picks_of, place_of, row_items, row_len}
-use Rattle.vx_arrow_columns.specs.Taken.{AreBits, AreCutAt, AreFixed, AreOffsets, row_text, texts_of}
+use Rattle.vx_arrow_columns.specs.Taken.{AreBits, AreCutAt, AreFixed, AreOffsets, IsByteOf, row_text, texts_of}
 use Rattle.vx_arrow_columns.specs.Written.{PutsBit, PutsOffset}
 use Rattle.vx_arrow_columns.proofs.Bytes.{put_at, put_there, put_front, cut_before}
+use Rattle.vx_arrow_columns.proofs.Columns.{place_some}
 use Rattle.vx_arrow_columns.proofs.Cuts.{len_more, len_all, len_zero}
 use Rattle.vx_arrow_columns.proofs.PickReads.{get_picks, length_picks}
 
@@ -53,13 +57,20 @@ bits_put p q k i out mid new bit e g same put b = subst (λ (l : List ℕ). AreB
 
 -- ---- values of a fixed width
 
+-- the row of a pick is the place of a row that is there
+pub row_place : (p : Part) (ps vs : List ℕ) (add k : ℕ) (o : Option ℕ) → k < length ps → o ≡ option_map (λ i. p.offset + i) (pick_at ps vs add k)
+    → (n : ℕ) → place_of p (get_or (picks_of ps vs add) k None) ≡ Some n → o ≡ Some n
+row_place p ps vs add k o h e n f =
+    let at = place_some p (get_or (picks_of ps vs add) k None) n f in
+    e ∙ ap (option_map (λ i. p.offset + i)) (sym (get_picks ps vs add k h) ∙ at.1.0) ∙ ap Some (sym at.1.1)
+
 pub no_fixed : (p : Part) (q : List (Option ℕ)) (out : List ℕ) → AreFixed p q 0 out
 no_fixed p q out = record { values = λ k i h e. absurd (omega arith) }
 
-pub fixed_kept : (p : Part) (q : List (Option ℕ)) (k : ℕ) (out new : List ℕ) → place_of p (get_or q k None) ≡ None → new ≡ out → AreFixed p q k out → AreFixed p q (k + 1) new
-fixed_kept p q k out new e same b = subst (λ (l : List ℕ). AreFixed p q (k + 1) l) (sym same) (record {
+pub fixed_kept : (p : Part) (q : List (Option ℕ)) (k : ℕ) (out new : List ℕ) → ((n : ℕ) → place_of p (get_or q k None) ≡ Some n → None ≡ Some n) → new ≡ out → AreFixed p q k out → AreFixed p q (k + 1) new
+fixed_kept p q k out new none same b = subst (λ (l : List ℕ). AreFixed p q (k + 1) l) (sym same) (record {
   values = λ j i below f. elim (cases_eq j k) as (λ _. take p.width (drop (j * p.width) out) ≡ take p.width (drop (i * p.width) p.values)) [
-    | inl here ↦ absurd (none_some i _ e (ap (λ (n : ℕ). place_of p (get_or q n None)) (sym here) ∙ f))
+    | inl here ↦ absurd (none_some i None refl (none i (ap (λ (n : ℕ). place_of p (get_or q n None)) (sym here) ∙ f)))
     | inr other ↦ b.values j i (omega arith) f
   ];
 })
@@ -67,12 +78,12 @@ fixed_kept p q k out new e same b = subst (λ (l : List ℕ). AreFixed p q (k + 
 pub next_place : (j k w : ℕ) → j < k → j * w + w ≤ k * w
 next_place j k w h = let e : (j + 1) * w ≡ j * w + w = add-mul j 1 w ∙ ap (λ n. j * w + n) (one-mul w) in omega (arith, mul-le-mul_right {m = j + 1} {n = k} w (omega arith))
 
-fixed_some : (p : Part) (q : List (Option ℕ)) (k i : ℕ) (out src : List ℕ) → place_of p (get_or q k None) ≡ Some i → src ≡ take p.width (drop (i * p.width) p.values) → length src ≡ p.width → k * p.width ≤ length out
+fixed_some : (p : Part) (q : List (Option ℕ)) (k i : ℕ) (out src : List ℕ) → ((n : ℕ) → place_of p (get_or q k None) ≡ Some n → Some i ≡ Some n) → src ≡ take p.width (drop (i * p.width) p.values) → length src ≡ p.width → k * p.width ≤ length out
     → AreFixed p q k out → AreFixed p q (k + 1) (put_at out src (k * p.width))
-fixed_some p q k i out src e g long room b = record {
+fixed_some p q k i out src at g long room b = record {
   values = λ j n below f. elim (cases_eq j k) as (λ _. take p.width (drop (j * p.width) (put_at out src (k * p.width))) ≡ take p.width (drop (n * p.width) p.values)) [
     | inl same ↦
-        let there : i ≡ n = same_some i n _ e (ap (λ (m : ℕ). place_of p (get_or q m None)) (sym same) ∙ f) in
+        let there : i ≡ n = same_some i n (Some i) refl (at n (ap (λ (m : ℕ). place_of p (get_or q m None)) (sym same) ∙ f)) in
         ap (λ m. take p.width (drop (m * p.width) (put_at out src (k * p.width)))) same
         ∙ ap (λ m. take m (drop (k * p.width) (put_at out src (k * p.width)))) (sym long)
         ∙ put_there out src (k * p.width) room
@@ -81,15 +92,44 @@ fixed_some p q k i out src e g long room b = record {
   ];
 }
 
-pub fixed_put : (p : Part) (q : List (Option ℕ)) (k i m : ℕ) (out new : List ℕ) → place_of p (get_or q k None) ≡ Some i → i < p.offset + p.len
-    → m ≡ p.width → (p.offset + p.len) * p.width ≤ length p.values → k * p.width ≤ length out
-    → new ≡ put_at out (take m (drop (i * p.width) p.values)) (k * p.width)
+pub fixed_put : (p : Part) (q : List (Option ℕ)) (k i m w : ℕ) (out new : List ℕ) → ((n : ℕ) → place_of p (get_or q k None) ≡ Some n → Some i ≡ Some n) → i < p.offset + p.len
+    → m ≡ w → w ≡ p.width → (p.offset + p.len) * p.width ≤ length p.values → k * p.width ≤ length out
+    → new ≡ put_at out (take m (drop (i * w) p.values)) (k * w)
     → AreFixed p q k out → AreFixed p q (k + 1) new
-fixed_put p q k i m out new e low size long room eq b =
+fixed_put p q k i m w out new at low size known long room eq b =
     let fits : i * p.width + p.width ≤ (p.offset + p.len) * p.width = next_place i (p.offset + p.len) p.width low in
-    let wide : length (take m (drop (i * p.width) p.values)) ≡ m = length-take-le m (drop (i * p.width) p.values) (omega (arith, length-drop (i * p.width) p.values)) in
-    subst (λ (l : List ℕ). AreFixed p q (k + 1) l) (sym eq)
-    (fixed_some p q k i out (take m (drop (i * p.width) p.values)) e (ap (λ (n : ℕ). take n (drop (i * p.width) p.values)) size) (wide ∙ size) room b)
+    let src = take p.width (drop (i * p.width) p.values) in
+    let wide : length src ≡ p.width = length-take-le p.width (drop (i * p.width) p.values) (omega (arith, length-drop (i * p.width) p.values)) in
+    subst (λ (l : List ℕ). AreFixed p q (k + 1) l)
+    (sym (eq ∙ ap (λ (n : ℕ). put_at out (take n (drop (i * w) p.values)) (k * w)) (size ∙ known) ∙ ap (λ (n : ℕ). put_at out (take p.width (drop (i * n) p.values)) (k * n)) known))
+    (fixed_some p q k i out src at refl wide room b)
+
+-- ---- bytes of bits
+
+pub no_byte : (f : ℕ → Bool) (first byte : ℕ) → byte ≡ 0 → IsByteOf f first 0 byte
+no_byte f first byte e = record { bits = λ i h. absurd (omega arith); rest = λ i h. ap (λ n. bit_at n i) e ∙ bit_at-zero i }
+
+pub byte_more : (f : ℕ → Bool) (first j old new : ℕ) (bit : Bool) → eqb (bit_at new j) 1 ≡ bit → bit ≡ f (first + j) → ((i : ℕ) → i ≢ j → bit_at new i ≡ bit_at old i) → IsByteOf f first j old → IsByteOf f first (j + 1) new
+byte_more f first j old new bit set is others b = record {
+  bits = λ i h. elim (cases_eq i j) as (λ _. eqb (bit_at new i) 1 ≡ f (first + i)) [
+    | inl same ↦ ap (λ n. eqb (bit_at new n) 1) same ∙ set ∙ is ∙ ap (λ n. f (first + n)) (sym same)
+    | inr other ↦ ap (λ n. eqb n 1) (others i other) ∙ b.bits i (omega arith)
+  ];
+  rest = λ i h. others i (λ e. omega arith) ∙ b.rest i (omega arith);
+}
+
+pub byte_put : (f : ℕ → Bool) (out new : List ℕ) (b n byte : ℕ) → ((k : ℕ) → k < 8 * b → bit_of out k ≡ f k) → IsByteOf f (8 * b) n byte → n ≤ 8 → b < length out → new ≡ set out b byte → (k : ℕ) → k < 8 * b + n → bit_of new k ≡ f k
+byte_put f out new b n byte are own few room eq k h =
+    ap (λ (l : List ℕ). bit_of l k) eq
+    ∙ elim (cases_lt k (8 * b)) as (λ _. bit_of (set out b byte) k ≡ f k) [
+      | inl low ↦ ap (λ y. eqb (bit_at y (k % 8)) 1) (get_or-set_other out b (k / 8) byte 0 (λ e. omega arith)) ∙ are k low
+      | inr high ↦
+          let here : k / 8 ≡ b = omega arith in
+          let at : k % 8 ≡ k - 8 * b = omega arith in
+          ap (λ m. eqb (bit_at (get_or (set out b byte) m 0) (k % 8)) 1) here
+          ∙ ap (λ y. eqb (bit_at y (k % 8)) 1) (get_or-set_same out b byte 0 room)
+          ∙ ap (λ m. eqb (bit_at byte m) 1) at ∙ own.bits (k - 8 * b) (omega arith) ∙ ap f (omega arith)
+    ]
 
 -- ---- offsets
 

@@ -4,7 +4,7 @@ use Rattle.std.specs.Int.{bit_at, from_le_bytes, w32, w64}
 use Rattle.std.specs.List.{range_with_len, list_all}
 use Rattle.std.specs.Option.{option_and_then}
 use Rattle.vx_arrow_columns.specs.declared.format.Format.{Format}
-use Rattle.vx_arrow_columns.specs.declared.format.Format.TheVariants.{Nulls, Bits, Fixed, Text, Struct, List as Lists}
+use Rattle.vx_arrow_columns.specs.declared.format.Format.TheVariants.{Nulls, Bits, Fixed, Text, Struct, List as Lists, FixedList}
 use Rattle.vx_arrow_columns.specs.declared.format.Offsets.{Offsets}
 use Rattle.vx_arrow_columns.specs.declared.format.Offsets.TheVariants.{Short, Long}
 use Rattle.vx_arrow_columns.specs.declared.image.Node as image
@@ -31,6 +31,7 @@ format_in n =
     else if n == 5 then Some Struct
     else if n == 6 then Some (Lists Short)
     else if n == 7 then Some (Lists Long)
+    else if n == 8 then Some FixedList
     else None
 
 abbrev pub part_of : image.Node → Part
@@ -112,6 +113,8 @@ fits (Some Fixed) p lens =
 fits (Some (Text z)) p lens = (p.children == 0) && are_cut z p (length p.values)
 fits (Some Struct) p lens = list_all (λ n. nat_le (p.offset + p.len) n) lens
 fits (Some (Lists z)) p lens = (p.children == 1) && are_cut z p (slice_index lens 0)
+fits (Some FixedList) p lens =
+    (p.children == 1) && nat_le ((p.offset + p.len) * p.width) (slice_index lens 0)
 
 unfoldable pub is_sound : Part → List ℕ → Bool
 is_sound p lens = is_placed p && fits p.format p lens
@@ -130,6 +133,8 @@ value_at (Some Struct) p cs i = fields (row_values (map (λ c. slice_index_or c 
 value_at (Some (Lists z)) p cs i =
     list (row_values
     (slice_range (slice_index_or cs 0 []) (offset_at z p.offsets i) (offset_at z p.offsets (i + 1))))
+value_at (Some FixedList) p cs i =
+    list (row_values (take p.width (drop (i * p.width) (slice_index_or cs 0 []))))
 
 abbrev pub row_of : Part → List (List RowValue) → ℕ → RowValue
 row_of p cs i = if is_valid p.valid i then value_at p.format p cs i else null

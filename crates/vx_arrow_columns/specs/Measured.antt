@@ -6,8 +6,8 @@ use Rattle.vx_arrow_columns.specs.declared.needs.Inner.{Inner}
 use Rattle.vx_arrow_columns.specs.declared.needs.Inner.TheVariants as inners
 use Rattle.vx_arrow_columns.specs.declared.needs.Measure as measures
 use Rattle.vx_arrow_columns.specs.Image.{Part, limit_of}
-use Rattle.vx_arrow_columns.specs.Picks.{Picking, picking_of, inner, items_len, items_of, values_len}
-use Rattle.vx_arrow_columns.specs.Taken.{AreCutAt, IsReadable}
+use Rattle.vx_arrow_columns.specs.Picks.{Picking, picking_of, picks_of, fixed_item, inner, items_len, items_of, values_len}
+use Rattle.vx_arrow_columns.specs.Taken.{AreCutAt, AreWithin, IsReadable}
 
 -- n bytes are the texts at picks, and can be counted
 pub record IsTextLen (z : Offsets) (p : Part) (q : List (Option ℕ)) (n : ℕ) : Type 0 where
@@ -27,17 +27,23 @@ pub record AreItems (z : Offsets) (p : Part) (q : List (Option ℕ)) (places : L
   pub small : items_len z p q < limit_of z
   pub below : AreBelow places end
 
--- the picks of the only child are these places
-pub record AreListed (p : Part) (q : Picking) (places : List ℕ) (end : ℕ) : Type 0 where
+-- these are the places of n items of lists of a fixed size, where they are there
+pub record AreItemPlaces (p : Part) (q : List (Option ℕ)) (n : ℕ) (places : List ℕ) : Type 0 where
+  pub len : length places ≡ n
+  pub are : (m x : ℕ) → m < n → fixed_item p q m ≡ Some x → slice_index_or places m 0 ≡ x
+
+-- the picks of the only child are at these places, all below the end
+pub record AreListed (p : Part) (q : Picking) (places valid : List ℕ) (end : ℕ) : Type 0 where
   pub one : p.children ≡ 1
-  pub listed : inner p q ≡ picking_of places [] 0
-  pub below : AreBelow places end
+  pub listed : inner p q ≡ picking_of places valid 0
+  pub within : AreWithin (picks_of places valid 0) end
 
 -- the picks of the children are these
 abbrev pub IsInner : Part → Picking → Inner → Type 0
 IsInner p q inners.Leaf = p.children ≡ 0
 IsInner p q inners.Same = p.format ≡ Some Struct
-IsInner p q (inners.Listed items) = AreListed p q items.places.items items.end
+IsInner p q (inners.Listed items) =
+    AreListed p q items.list.places.items items.list.valid.items items.end
 
 -- so many bytes of values, of a node that has no children
 pub record IsLeaf (p : Part) (values : ℕ) (m : measures.Measure) : Type 0 where

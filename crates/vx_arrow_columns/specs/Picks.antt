@@ -1,9 +1,9 @@
 -- Picks of a column's rows, of its children's, and what the rows at them need.
-use Rattle.std.specs.Prelude.{ℕ, ◌+◌, ◌-◌, ◌*◌, ◌/◌, ◌^◌, Bool, true, false, ◌&&◌, ◌||◌, List, [], ◌∷◌, ◌++◌, map, length, replicate, slice_index, ◌==◌, nat_lt, if◌then◌else◌, Option, Some, None}
+use Rattle.std.specs.Prelude.{ℕ, ◌+◌, ◌-◌, ◌*◌, ◌/◌, ◌%◌, ◌^◌, Bool, true, false, ◌&&◌, ◌||◌, List, [], ◌∷◌, ◌++◌, map, length, replicate, slice_index, slice_index_or, ◌==◌, nat_lt, if◌then◌else◌, Option, Some, None}
 use Rattle.std.specs.List.{range_with_len, flat_map, sum_by}
 use Rattle.std.specs.Option.{option_map}
 use Rattle.vx_arrow_columns.specs.declared.format.Format.{Format}
-use Rattle.vx_arrow_columns.specs.declared.format.Format.TheVariants.{Nulls, Bits, Fixed, Text, Struct, List as Lists}
+use Rattle.vx_arrow_columns.specs.declared.format.Format.TheVariants.{Nulls, Bits, Fixed, Text, Struct, List as Lists, FixedList}
 use Rattle.vx_arrow_columns.specs.declared.format.Offsets.{Offsets}
 use Rattle.vx_arrow_columns.specs.declared.image.Need as image
 use Rattle.vx_arrow_columns.specs.Image.{Part, is_valid, offset_at, size_of, limit_of}
@@ -56,6 +56,15 @@ row_items z p (Some i) =
 unfoldable pub items_of : Offsets → Part → List (Option ℕ) → List ℕ
 items_of z p q = flat_map (λ o. row_items z p (place_of p o)) q
 
+-- item m of the lists of a fixed size at picks: null where the pick is
+abbrev pub fixed_item : Part → List (Option ℕ) → ℕ → Option ℕ
+fixed_item p q m =
+    option_map (λ i. (p.offset + i) * p.width + m % p.width)
+    (slice_index_or q (m / p.width) None)
+
+unfoldable pub fixed_items : Part → List (Option ℕ) → List (Option ℕ)
+fixed_items p q = map (fixed_item p q) (range_with_len 0 (length q * p.width))
+
 -- the picks of each child, from those of its parent
 abbrev pub inner_picks : Option Format → Part → List (Option ℕ) → List (Option ℕ)
 inner_picks None p q = []
@@ -65,6 +74,7 @@ inner_picks (Some Fixed) p q = []
 inner_picks (Some (Text z)) p q = []
 inner_picks (Some Struct) p q = map (option_map (λ i. p.offset + i)) q
 inner_picks (Some (Lists z)) p q = map Some (items_of z p q)
+inner_picks (Some FixedList) p q = fixed_items p q
 
 abbrev pub inner_nullable : Option Format → Bool → Bool
 inner_nullable None b = false
@@ -74,6 +84,7 @@ inner_nullable (Some Fixed) b = false
 inner_nullable (Some (Text z)) b = false
 inner_nullable (Some Struct) b = b
 inner_nullable (Some (Lists z)) b = false
+inner_nullable (Some FixedList) b = b
 
 abbrev pub inner : Part → Picking → Picking
 inner p q =
@@ -102,6 +113,7 @@ shows_by (Some Fixed) b = b
 shows_by (Some (Text z)) b = b
 shows_by (Some Struct) b = b
 shows_by (Some (Lists z)) b = b
+shows_by (Some FixedList) b = b
 
 abbrev pub shows_valid : Part → Picking → Bool
 shows_valid p q = shows_by p.format (has_bits p.valid || q.nullable)
@@ -114,6 +126,7 @@ offsets_len (Some Fixed) n = 0
 offsets_len (Some (Text z)) n = size_of z * (n + 1)
 offsets_len (Some Struct) n = 0
 offsets_len (Some (Lists z)) n = size_of z * (n + 1)
+offsets_len (Some FixedList) n = 0
 
 abbrev pub values_len : Option Format → Part → List (Option ℕ) → ℕ
 values_len None p q = 0
@@ -123,6 +136,7 @@ values_len (Some Fixed) p q = length q * p.width
 values_len (Some (Text z)) p q = items_len z p q
 values_len (Some Struct) p q = 0
 values_len (Some (Lists z)) p q = 0
+values_len (Some FixedList) p q = 0
 
 -- how many rows a node has at these picks, and how many bytes they are
 abbrev pub need_of : Part → Picking → image.Need
@@ -154,6 +168,7 @@ counts_by (Some Fixed) p q = nat_lt (length q * p.width) (2 ^ 63)
 counts_by (Some (Text z)) p q = nat_lt (items_len z p q) (limit_of z)
 counts_by (Some Struct) p q = true
 counts_by (Some (Lists z)) p q = nat_lt (items_len z p q) (limit_of z)
+counts_by (Some FixedList) p q = nat_lt (length q * p.width) (2 ^ 60)
 
 unfoldable pub is_counted : Part → List (Option ℕ) → Bool
 is_counted p q = nat_lt (length q) (2 ^ 60) && counts_by p.format p q

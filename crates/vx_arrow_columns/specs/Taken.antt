@@ -1,8 +1,9 @@
 -- What a node has to hold for its rows at picks, and what is taken of it.
-use Rattle.std.specs.Prelude.{ℕ, ◌+◌, ◌*◌, ◌<◌, ◌≤◌, ◌≡◌, ⊤, true, List, [], map, take, drop, length, replicate, slice_index_or, slice_range, Option, Some, None, is_some}
+use Rattle.std.specs.Prelude.{ℕ, ◌+◌, ◌*◌, ◌^◌, ◌<◌, ◌≤◌, ◌≡◌, ◌==◌, ⊤, Bool, true, List, [], map, take, drop, length, replicate, slice_index_or, slice_range, Option, Some, None, is_some}
+use Rattle.std.specs.Int.{bit_at}
 use Rattle.std.specs.List.{flat_map}
 use Rattle.vx_arrow_columns.specs.declared.format.Format.{Format}
-use Rattle.vx_arrow_columns.specs.declared.format.Format.TheVariants.{Nulls, Bits, Fixed, Text, Struct, List as Lists}
+use Rattle.vx_arrow_columns.specs.declared.format.Format.TheVariants.{Nulls, Bits, Fixed, Text, Struct, List as Lists, FixedList}
 use Rattle.vx_arrow_columns.specs.declared.format.Offsets.{Offsets}
 use Rattle.vx_arrow_columns.specs.Rows.{RowValue, picked}
 use Rattle.vx_arrow_columns.specs.Image.{Part, bit_of, is_valid, is_placed, holds_offsets, is_cut, limit_of, offset_at, is_sound, column_of}
@@ -33,6 +34,7 @@ Holds (Some Fixed) p q = (p.children ≡ 0) × ((p.offset + p.len) * p.width ≤
 Holds (Some (Text z)) p q = (p.children ≡ 0) × AreCutAt z p q (length p.values)
 Holds (Some Struct) p q = ⊤
 Holds (Some (Lists z)) p q = (p.children ≡ 1) × AreCutAt z p q (limit_of z)
+Holds (Some FixedList) p q = (p.children ≡ 1) × ((p.offset + p.len) * p.width < 2 ^ 60)
 
 -- the rows of a node at picks can be read and written, where its children have theirs
 pub record IsReadable (p : Part) (q : List (Option ℕ)) : Type 0 where
@@ -50,11 +52,17 @@ IsNullable (Some Fixed) = ⊤
 IsNullable (Some (Text z)) = ⊤
 IsNullable (Some Struct) = ⊤
 IsNullable (Some (Lists z)) = ⊤
+IsNullable (Some FixedList) = ⊤
 
 -- the bits say which rows at picks are there
 pub record ShowsRows (p : Part) (q : List (Option ℕ)) (valid : List ℕ) : Type 0 where
   pub shows : (k : ℕ) → k < length q
       → is_valid valid k ≡ is_some (place_of p (slice_index_or q k None))
+
+-- the first n bits of the byte are those from `first` on, and the others are clear
+pub record IsByteOf (f : ℕ → Bool) (first n byte : ℕ) : Type 0 where
+  pub bits : (i : ℕ) → i < n → (bit_at byte i == 1) ≡ f (first + i)
+  pub rest : (i : ℕ) → n ≤ i → bit_at byte i ≡ 0
 
 -- Below, of the first n picks.
 

@@ -1,5 +1,6 @@
 //! Bits of bytes, the least significant of each byte first, and bytes written over others.
-ghost use Rattle.std.specs.Prelude.{◌≡◌, ◌+◌, ◌*◌, ◌<◌, ◌≤◌, ◌++◌, length, take, drop};
+ghost use Rattle.std.specs.Int.{bit_at};
+ghost use Rattle.std.specs.Prelude.{◌≡◌, ◌≢◌, ◌==◌, ℕ, ◌+◌, ◌*◌, ◌<◌, ◌≤◌, ◌++◌, length, take, drop};
 ghost use Rattle.vx_arrow_columns.specs.Image.{bit_of, is_valid};
 ghost use Rattle.vx_arrow_columns.specs.Written.{PutsBit};
 
@@ -37,7 +38,18 @@ pub(crate) fn put_bit(bytes: &mut [u8], j: usize, bit: bool)
     bytes[j / 8] = if bit { old | mask } else { old & !mask };
 }
 
-/// Writes `src` over the bytes from `at` on.
+// The byte with bit `j`, which was clear.
+#[inline(always)]
+pub(crate) fn with_bit(byte: u8, j: usize, bit: bool) -> u8
+    requires index { j < 8 }
+    requires clear { bit_at byte j ≡ 0 }
+    ensures set { (bit_at result j == 1) ≡ bit }
+    ensures others { (i : ℕ) → i ≢ j → bit_at result i ≡ bit_at byte i }
+{
+    if bit { byte | (1 << j) } else { byte }
+}
+
+// Writes `src` over the bytes from `at` on.
 #[inline(always)]
 pub(crate) fn put_bytes(bytes: &mut [u8], at: usize, src: &[u8])
     requires { at + length src.now ≤ length bytes.old }

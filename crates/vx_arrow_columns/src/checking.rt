@@ -77,6 +77,21 @@ fn fixed_fits(node: &Node, lens: &[u64]) -> bool
     }
 }
 
+// Whether the only child, which has so many rows, has those of lists of a fixed size.
+fn fixed_list_fits(node: &Node, lens: &[u64]) -> bool
+    requires { node.now.offset + node.now.len < 2 ^ 60 }
+    ensures { result ≡ fits (Some Format.FixedList) (part_of node.now) lens.now }
+{
+    if node.children != 1 {
+        return false;
+    }
+    let count = if lens.is_empty() { 0 } else { lens[0] };
+    match (node.offset + node.len).checked_mul(node.width) {
+        Some(size) => size <= count,
+        None => false,
+    }
+}
+
 // Whether a node's lists and children, which have so many rows, are long enough.
 fn fits(format: Format, node: &Node, lens: &[u64]) -> bool
     requires { node.now.offset + node.now.len < 2 ^ 60 }
@@ -89,6 +104,7 @@ fn fits(format: Format, node: &Node, lens: &[u64]) -> bool
         Format::Fixed => fixed_fits(node, lens),
         Format::Text(size) => node.children == 0 && are_cut(size, node, node.values.len() as u64),
         Format::Struct => all_long(lens, end),
+        Format::FixedList => fixed_list_fits(node, lens),
         Format::List(size) => {
             let count = if lens.is_empty() { 0 } else { lens[0] };
             node.children == 1 && are_cut(size, node, count)
@@ -109,7 +125,7 @@ fn unfit(format: Format, node: &Node) -> Lack
                 Lack::Values
             }
         }
-        Format::Struct => Lack::Length,
+        Format::Struct | Format::FixedList => Lack::Length,
         Format::Text(size) | Format::List(size) => {
             if holds_offsets(size, node) {
                 Lack::Items

@@ -18,6 +18,7 @@ pub(crate) enum Format {
     Text(Offsets),
     Struct,
     List(Offsets),
+    FixedList,
 }
 
 impl Offsets {
@@ -54,6 +55,7 @@ pub(crate) fn format_of(code: u64) -> Option<Format>
         5 => Some(Format::Struct),
         6 => Some(Format::List(Offsets::Short)),
         7 => Some(Format::List(Offsets::Long)),
+        8 => Some(Format::FixedList),
         _ => None,
     }
 }

@@ -9,9 +9,10 @@
 #[derive(Clone, Copy)]
 pub struct Node<'a> {
     /// 0 nulls, 1 bits, 2 values of a fixed width, 3 texts with offsets of 4 bytes, 4 with such of
-    /// 8, 5 a struct, 6 lists with offsets of 4 bytes, 7 with such of 8.
+    /// 8, 5 a struct, 6 lists with offsets of 4 bytes, 7 with such of
+    /// 8, 8 lists of a fixed size.
     pub format: u64,
-    /// Of values of a fixed width: how many bytes one has.
+    /// Of values of a fixed width: how many bytes one has. Of lists of a fixed size: how many items.
     pub width: u64,
     /// How many rows it has.
     pub len: u64,

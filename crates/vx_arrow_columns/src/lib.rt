@@ -8,6 +8,7 @@
 mod bits;
 mod checking;
 mod faults;
+mod fixed_lists;
 mod format;
 mod image;
 mod needs;

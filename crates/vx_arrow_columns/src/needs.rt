@@ -1,5 +1,5 @@
 //! What the rows of one node at picks need.
-ghost use Rattle.std.specs.Prelude.{◌≡◌, ◌+◌, ◌-◌, ◌*◌, ◌^◌, ◌<◌, ◌≤◌, ◌++◌, ℕ, IfOk, OnOk, Some, length, slice_index_or, true};
+ghost use Rattle.std.specs.Prelude.{◌≡◌, ◌+◌, ◌-◌, ◌*◌, ◌^◌, ◌<◌, ◌≤◌, ◌++◌, ℕ, IfOk, OnOk, Some, [], length, slice_index_or, true};
 ghost use Rattle.std.specs.List.{range_with_len};
 ghost use Rattle.vx_arrow_columns.specs.Image.{format_in, holds_offsets, holds_valid, is_cut, is_placed, limit_of, offset_at, part_of};
 ghost use Rattle.vx_arrow_columns.specs.Measured.{AreItems, IsLeaf, IsMeasured, IsTextLen};
@@ -7,17 +7,18 @@ ghost use Rattle.vx_arrow_columns.specs.Picks.{picking_of, picks_of, shows_valid
 ghost use Rattle.vx_arrow_columns.specs.Taken.{AreWithin};
 
 use crate::faults::Fault;
+use crate::fixed_lists::fixed_items;
 use crate::format::{Format, Offsets, format_of};
 use crate::image::Node;
 use crate::offsets::{Cut, cut_at, holds_offsets};
-use crate::places::{Picks, place};
+use crate::places::{Picks, Places, place};
 use crate::refusal::Lack;
 use std::alloc::Global;
 
 /// The places of the items of lists, all below `end`.
 #[derive(Drop)]
 pub(crate) struct Items {
-    pub(crate) places: Vec<u64>,
+    pub(crate) list: Places,
     pub(crate) end: u64,
 }
 
@@ -164,9 +165,10 @@ fn list_items(alloc: Global, size: Offsets, node: &Node, picks: &Picks) -> Resul
     requires within { AreWithin
         (picks_of picks.now.places.now picks.now.valid.now picks.now.add) node.now.len }
     requires few { node.now.offset + node.now.len < 2 ^ 60 }
-    ensures { IfOk result (λ items. AreItems size (part_of node.now)
+    ensures items { IfOk result (λ items. AreItems size (part_of node.now)
         (picks_of picks.now.places.now picks.now.valid.now picks.now.add)
-        items.places.items items.end) }
+        items.list.places.items items.end) }
+    ensures there { IfOk result (λ items. items.list.valid.items ≡ []) }
 {
     if !holds_offsets(size, node) {
         return Err(Fault::Lacks(Lack::Offsets));
@@ -185,7 +187,13 @@ fn list_items(alloc: Global, size: Offsets, node: &Node, picks: &Picks) -> Resul
             last = greater(last, cut.end);
         }
     }
-    Ok(Items { places, end: last })
+    Ok(Items {
+        list: Places {
+            places,
+            valid: Vec::new(alloc),
+        },
+        end: last,
+    })
 }
 
 // Of nulls.
@@ -277,6 +285,38 @@ fn measure_list(alloc: Global, size: Offsets, node: &Node, picks: &Picks) -> Res
     })
 }
 
+// Of lists of a fixed size.
+fn measure_fixed_list(alloc: Global, node: &Node, picks: &Picks) -> Result<Measure, Fault>
+    requires format { format_in node.now.format ≡ Some Format.FixedList }
+    requires few { length picks.now.places.now < 2 ^ 60 }
+    requires placed { is_placed (part_of node.now) ≡ true }
+    requires within { AreWithin
+        (picks_of picks.now.places.now picks.now.valid.now picks.now.add) node.now.len }
+    ensures { IfOk result (IsMeasured (part_of node.now)
+        (picking_of picks.now.places.now picks.now.valid.now picks.now.add)) }
+{
+    if node.children != 1 {
+        return Err(Fault::Lacks(Lack::Children));
+    }
+    let Some(end) = (node.offset + node.len).checked_mul(node.width) else {
+        return Err(Fault::Lacks(Lack::Length));
+    };
+    if end >= 1 << 60 {
+        return Err(Fault::Lacks(Lack::Length));
+    }
+    let Some(count) = (picks.places.len() as u64).checked_mul(node.width) else {
+        return Err(Fault::Overflow);
+    };
+    if count >= 1 << 60 {
+        return Err(Fault::Overflow);
+    }
+    let list = fixed_items(alloc, node, picks, count as usize)?;
+    Ok(Measure {
+        values: 0,
+        inner: Inner::Listed(Items { list, end }),
+    })
+}
+
 // Of a struct.
 fn measure_struct(node: &Node, picks: &Picks) -> Measure
     requires format { format_in node.now.format ≡ Some Format.Struct }
@@ -316,5 +356,6 @@ pub(crate) fn measure_node(
         Format::Text(size) => measure_text(size, node, picks),
         Format::Struct => Ok(measure_struct(node, picks)),
         Format::List(size) => measure_list(alloc, size, node, picks),
+        Format::FixedList => measure_fixed_list(alloc, node, picks),
     }
 }

@@ -133,13 +133,7 @@ fn sum(a: u64, b: u64) -> u64
 }
 
 // The picks of a node's children, from its own, which are those of a job.
-fn next_job(
-    alloc: Global,
-    node: &Node,
-    job: Job,
-    inner: Inner,
-    lists: &mut Vec<Places>,
-) -> Result<Job, Fault>
+fn next_job(node: &Node, job: Job, inner: Inner, lists: &mut Vec<Places>) -> Result<Job, Fault>
     requires { node.now.offset + node.now.len < 2 ^ 60 }
     ensures { IfOk result (IsNext node.now job inner lists.old.items lists.new.items) }
 {
@@ -152,10 +146,7 @@ fn next_job(
         }),
         Inner::Listed(items) => {
             let list = lists.len();
-            lists.push(Places {
-                places: items.places,
-                valid: Vec::new(alloc),
-            })?;
+            lists.push(items.list)?;
             Ok(Job {
                 list: Some(list),
                 add: 0,
@@ -223,7 +214,7 @@ impl Walk {
             return Err(Fault::Lacks(Lack::Tree));
         }
         let measure = measure_job(alloc, places, valid, &self.lists, node, job)?;
-        let next = next_job(alloc, node, job, measure.inner, &mut self.lists)?;
+        let next = next_job(node, job, measure.inner, &mut self.lists)?;
         self.jobs.push(job)?;
         self.needs.push(measure.need)?;
         push_times(&mut self.stack, next, node.children)

@@ -1,16 +1,34 @@
 //! The rows of one node at picks, written.
-ghost use Rattle.std.specs.Prelude.{◌≡◌, ◌+◌, ◌*◌, ◌^◌, ◌<◌, ◌≤◌, ◌/◌, ◌++◌, Some, length, take, true};
+ghost use Rattle.std.specs.Prelude.{◌≡◌, ◌+◌, ◌*◌, ◌^◌, ◌<◌, ◌≤◌, ◌/◌, ◌++◌, Some, is_some, length, take, true};
 ghost use Rattle.vx_arrow_columns.specs.Image.{format_in, holds_offsets, is_placed, limit_of, part_of, size_of};
-ghost use Rattle.vx_arrow_columns.specs.Picks.{items_len, need_of, picking_of, picks_of};
-ghost use Rattle.vx_arrow_columns.specs.Taken.{AreBits, AreCutAt, AreFixed, AreOffsets, AreOrdered, AreWithin, IsNullable, IsReadable, ShowsRows, texts_of};
+ghost use Rattle.vx_arrow_columns.specs.Picks.{items_len, need_of, pick_at, picking_of, picks_of, place_of};
+ghost use Rattle.vx_arrow_columns.specs.Taken.{AreBits, AreCutAt, AreFixed, AreOffsets, AreOrdered, AreWithin, IsByteOf, IsNullable, IsReadable, ShowsRows, texts_of};
 ghost use Rattle.vx_arrow_columns.specs.Written.{HasValid, IsNodeTaken, has_room};
 
-use crate::bits::{bit_is, put_bit, put_bytes};
+use crate::bits::{bit_is, put_bit, put_bytes, with_bit};
 use crate::format::{Format, Offsets, format_of};
 use crate::image::{Node, Room};
 use crate::needs::shows_valid;
 use crate::offsets::{cut_at, put_offset};
-use crate::places::{Picks, place};
+use crate::places::{Picks, place, row};
+
+// A bit for each of so many picks from pick `first` on: whether its row is there.
+#[inline(always)]
+fn valid_byte(node: &Node, picks: &Picks, first: usize, count: usize) -> u8
+    requires placed { is_placed (part_of node.now) ≡ true }
+    requires within { AreWithin
+        (picks_of picks.now.places.now picks.now.valid.now picks.now.add) node.now.len }
+    requires index { first + count ≤ length picks.now.places.now }
+    requires few { count ≤ 8 }
+    ensures { IsByteOf (λ k. is_some (place_of (part_of node.now)
+        (pick_at picks.now.places.now picks.now.valid.now picks.now.add k))) first count result }
+{
+    let mut byte = 0;
+    for j in 0..count {
+        byte = with_bit(byte, j, place(node, picks, first + j).is_some());
+    }
+    byte
+}
 
 // Writes a bit for each pick: whether its row is there.
 fn write_valid(node: &Node, picks: &Picks, out: &mut [u8])
@@ -21,10 +39,15 @@ fn write_valid(node: &Node, picks: &Picks, out: &mut [u8])
     ensures { ShowsRows (part_of node.now)
         (picks_of picks.now.places.now picks.now.valid.now picks.now.add) out.new }
 {
-    for k in 0..picks.places.len() {
-        let there = place(node, picks, k).is_some();
-        put_bit(out, k, there);
+    let count = picks.places.len();
+    let full = count / 8;
+    for b in 0..full {
+        out[b] = valid_byte(node, picks, 8 * b, 8);
     }
+    if count % 8 == 0 {
+        return;
+    }
+    out[full] = valid_byte(node, picks, 8 * full, count % 8);
 }
 
 // Writes the bit of each row that is there.
@@ -44,8 +67,28 @@ fn write_bits(node: &Node, picks: &Picks, out: &mut [u8])
     }
 }
 
-// Writes the value of each row that is there.
-fn write_fixed(node: &Node, picks: &Picks, out: &mut [u8])
+// Writes the value of each row at a pick that isn't null, of a width that is known beforehand.
+fn write_records<const W: usize>(node: &Node, picks: &Picks, out: &mut [u8])
+    requires width { node.now.width ≡ W }
+    requires placed { is_placed (part_of node.now) ≡ true }
+    requires within { AreWithin
+        (picks_of picks.now.places.now picks.now.valid.now picks.now.add) node.now.len }
+    requires values { (node.now.offset + node.now.len) * node.now.width
+        ≤ length node.now.values.now }
+    requires room { length picks.now.places.now * node.now.width ≤ length out.old }
+    ensures { AreFixed (part_of node.now)
+        (picks_of picks.now.places.now picks.now.valid.now picks.now.add)
+        (length picks.now.places.now) out.new }
+{
+    for k in 0..picks.places.len() {
+        if let Some(i) = row(node, picks, k) {
+            put_bytes(out, k * W, &node.values[i * W..i * W + W]);
+        }
+    }
+}
+
+// The same, of any width.
+fn write_values(node: &Node, picks: &Picks, out: &mut [u8])
     requires placed { is_placed (part_of node.now) ≡ true }
     requires within { AreWithin
         (picks_of picks.now.places.now picks.now.valid.now picks.now.add) node.now.len }
@@ -58,9 +101,32 @@ fn write_fixed(node: &Node, picks: &Picks, out: &mut [u8])
 {
     let width = node.width as usize;
     for k in 0..picks.places.len() {
-        if let Some(i) = place(node, picks, k) {
+        if let Some(i) = row(node, picks, k) {
             put_bytes(out, k * width, &node.values[i * width..i * width + width]);
         }
+    }
+}
+
+// Writes values of a fixed width.
+fn write_fixed(node: &Node, picks: &Picks, out: &mut [u8])
+    requires placed { is_placed (part_of node.now) ≡ true }
+    requires within { AreWithin
+        (picks_of picks.now.places.now picks.now.valid.now picks.now.add) node.now.len }
+    requires values { (node.now.offset + node.now.len) * node.now.width
+        ≤ length node.now.values.now }
+    requires room { length picks.now.places.now * node.now.width ≤ length out.old }
+    ensures { AreFixed (part_of node.now)
+        (picks_of picks.now.places.now picks.now.valid.now picks.now.add)
+        (length picks.now.places.now) out.new }
+{
+    match node.width {
+        1 => write_records::<1>(node, picks, out),
+        2 => write_records::<2>(node, picks, out),
+        4 => write_records::<4>(node, picks, out),
+        8 => write_records::<8>(node, picks, out),
+        16 => write_records::<16>(node, picks, out),
+        32 => write_records::<32>(node, picks, out),
+        _ => write_values(node, picks, out),
     }
 }
 
@@ -201,7 +267,20 @@ fn write_struct_node(node: &Node, picks: &Picks, room: &mut Room)
     write_valid_of(node, picks, room);
 }
 
-/// Writes what a node's own lists hold of its rows at picks.
+// Writes the own part of lists of a fixed size.
+fn write_fixed_list_node(node: &Node, picks: &Picks, room: &mut Room)
+    requires format { format_in node.now.format ≡ Some Format.FixedList }
+    requires readable { IsReadable (part_of node.now)
+        (picks_of picks.now.places.now picks.now.valid.now picks.now.add) }
+    requires room { has_room (need_of (part_of node.now)
+        (picking_of picks.now.places.now picks.now.valid.now picks.now.add)) room.old ≡ true }
+    ensures { IsNodeTaken node.now
+        picks.now.places.now picks.now.valid.now picks.now.add room.new }
+{
+    write_valid_of(node, picks, room);
+}
+
+// Writes what a node's own lists hold of its rows at picks.
 pub(crate) fn write_node(node: &Node, picks: &Picks, room: &mut Room)
     requires readable { IsReadable (part_of node.now)
         (picks_of picks.now.places.now picks.now.valid.now picks.now.add) }
@@ -216,6 +295,7 @@ pub(crate) fn write_node(node: &Node, picks: &Picks, room: &mut Room)
         Some(Format::Text(size)) => write_text_node(size, node, picks, room),
         Some(Format::Struct) => write_struct_node(node, picks, room),
         Some(Format::List(size)) => write_list_node(size, node, picks, room),
+        Some(Format::FixedList) => write_fixed_list_node(node, picks, room),
         Some(Format::Nulls) => {}
         None => {}
     }

@@ -35,8 +35,8 @@ loop-k-preserved c =
           (at_pick p ps.places.now ps.valid.now ps.add k _ c.loop-k-test.true w.in_default.ensures.place) w.total-is (ap (λ v. v.items) w.places-is) w.last-is c.loop-k.invariant
     ]
 
-pub returns : goal.returns
-returns c =
+pub returns-clause-items : goal.returns-clause-items
+returns-clause-items c =
     let p = part_of c.args.node.now in
     let ps = c.args.picks.now in
     let q = picks_of ps.places.now ps.valid.now ps.add in

@@ -9,4 +9,4 @@ pub list_items-requires-clause-few : goal.list_items-requires-clause-few
 list_items-requires-clause-few c = placed_end (part_of c.args.node.now) c.requires.placed
 
 pub returns : goal.returns
-returns c = let ps = c.args.picks.now in list_measured c.args.size (part_of c.args.node.now) ps.places.now ps.valid.now ps.add c.in_ok-items.items c.requires.format c.requires.few c.requires.placed c.requires.within (omega arith) c.in_ok-items.ensures
+returns c = let ps = c.args.picks.now in list_measured c.args.size (part_of c.args.node.now) ps.places.now ps.valid.now ps.add c.in_ok-items.items c.requires.format c.requires.few c.requires.placed c.requires.within (omega arith) c.in_ok-items.ensures.items c.in_ok-items.ensures.there

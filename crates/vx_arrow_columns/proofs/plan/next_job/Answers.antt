@@ -1,7 +1,6 @@
 -- The same picks further on, or a list of places.
 use Rattle.std.proofs.Common.{refl, sym, subst, ◌∙◌, ◌≡◌, ◌+◌, ◌++◌, ◌∷◌, [], Some, ap, length, arith, rules}
 use Rattle.vx_arrow_columns.specs.declared.needs.Inner.{Inner}
-use Rattle.vx_arrow_columns.specs.declared.places.Places.{Places}
 use Rattle.vx_arrow_columns.specs.declared.plan.Job.{Job}
 use Rattle.vx_arrow_columns.specs.Planned.{IsNext}
 use Rattle.vx_arrow_columns.proofs.Plans.{next_listed, next_same}
@@ -20,8 +19,7 @@ returns-in_ok-push-in-Listed c =
     let old = c.args.lists.now.items in
     let items = c.in-Listed.items in
     let list : c.len-list.result ≡ length old = omega arith in
-    let x : Places = record { places = items.places; valid = c.new.result } in
-    let pushed : c.push.new.self.items ≡ old ++ x ∷ [] = search rules in
+    let pushed : c.push.new.self.items ≡ old ++ items.list ∷ [] = search rules in
     let next : Job = record { list = Some c.len-list.result; add = 0; end = items.end } in
     subst (λ (i : Inner). IsNext c.args.node.now c.args.job i old c.push.new.self.items next) (sym c.in-Listed.is)
-    (next_listed c.args.node.now c.args.job next old c.push.new.self.items items x pushed refl c.new.ensures.items (ap Some list) refl refl)
+    (next_listed c.args.node.now c.args.job next old c.push.new.self.items items pushed (ap Some list) refl refl)

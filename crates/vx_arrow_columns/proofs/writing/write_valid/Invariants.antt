@@ -1,9 +1,9 @@
--- The bits so far.
-use Rattle.std.proofs.Common.{◌≡◌, ℕ, ◌<◌}
+-- The bytes so far.
+use Rattle.std.proofs.Common.{◌≡◌, ℕ, ◌<◌, ◌*◌}
 use Rattle.std.specs.Prelude.{is_some}
 use Rattle.vx_arrow_columns.specs.Image.{bit_of, part_of}
 use Rattle.vx_arrow_columns.specs.Picks.{pick_at, place_of}
 use Rattle.vx_arrow_columns.proofs.writing.write_valid.Given as goal
 
-abbrev pub invariant-loop-k : goal.invariant-loop-k
-invariant-loop-k l = (j : ℕ) → j < l.k → bit_of l.out j ≡ is_some (place_of (part_of l.node) (pick_at l.picks.places.now l.picks.valid.now l.picks.add j))
+abbrev pub invariant-loop-b : goal.invariant-loop-b
+invariant-loop-b l = (k : ℕ) → k < 8 * l.b → bit_of l.out k ≡ is_some (place_of (part_of l.node) (pick_at l.picks.places.now l.picks.valid.now l.picks.add k))

@@ -1,0 +1,9 @@
+-- The bits so far.
+use Rattle.std.specs.Prelude.{is_some}
+use Rattle.vx_arrow_columns.specs.Image.{part_of}
+use Rattle.vx_arrow_columns.specs.Picks.{pick_at, place_of}
+use Rattle.vx_arrow_columns.specs.Taken.{IsByteOf}
+use Rattle.vx_arrow_columns.proofs.writing.valid_byte.Given as goal
+
+abbrev pub invariant-loop-j : goal.invariant-loop-j
+invariant-loop-j l = IsByteOf (λ k. is_some (place_of (part_of l.node) (pick_at l.picks.places.now l.picks.valid.now l.picks.add k))) l.first l.j l.byte
