@@ -38,7 +38,7 @@ pub(crate) fn put_bit(bytes: &mut [u8], j: usize, bit: bool)
     bytes[j / 8] = if bit { old | mask } else { old & !mask };
 }
 
-// The byte with bit `j`, which was clear.
+/// The byte with bit `j`, which was clear.
 #[inline(always)]
 pub(crate) fn with_bit(byte: u8, j: usize, bit: bool) -> u8
     requires index { j < 8 }
@@ -49,7 +49,7 @@ pub(crate) fn with_bit(byte: u8, j: usize, bit: bool) -> u8
     if bit { byte | (1 << j) } else { byte }
 }
 
-// Writes `src` over the bytes from `at` on.
+/// Writes `src` over the bytes from `at` on.
 #[inline(always)]
 pub(crate) fn put_bytes(bytes: &mut [u8], at: usize, src: &[u8])
     requires { at + length src.now ≤ length bytes.old }

@@ -66,7 +66,7 @@ fn item_valid(alloc: Global, valid: &[u8], width: usize, count: usize) -> Result
     Ok(bits)
 }
 
-// The places of the items of the lists at the picks, so many in all.
+/// The places of the items of the lists at the picks, so many in all.
 pub(crate) fn fixed_items(
     alloc: Global,
     node: &Node,

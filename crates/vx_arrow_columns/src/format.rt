@@ -22,6 +22,7 @@ pub(crate) enum Format {
 }
 
 impl Offsets {
+    /// How many bytes an offset has.
     pub(crate) fn size(self) -> u64
         ensures { result ≡ size_of self }
     {

@@ -12,7 +12,8 @@ pub struct Node<'a> {
     /// 8, 5 a struct, 6 lists with offsets of 4 bytes, 7 with such of
     /// 8, 8 lists of a fixed size.
     pub format: u64,
-    /// Of values of a fixed width: how many bytes one has. Of lists of a fixed size: how many items.
+    /// Of values of a fixed width: how many bytes one has. Of lists of a fixed size: how many
+    /// items.
     pub width: u64,
     /// How many rows it has.
     pub len: u64,

@@ -24,7 +24,7 @@ pub(crate) struct Places {
     pub(crate) valid: Vec<u8>,
 }
 
-// Where the row of pick `k` stands, if the pick is there.
+/// Where the row of pick `k` stands, if the pick is there.
 #[inline(always)]
 pub(crate) fn row(node: &Node, picks: &Picks, k: usize) -> Option<usize>
     requires index { k < length picks.now.places.now }
@@ -42,7 +42,7 @@ pub(crate) fn row(node: &Node, picks: &Picks, k: usize) -> Option<usize>
     Some((node.offset + (picks.add + picks.places[k])) as usize)
 }
 
-// Where the row of pick `k` stands, if pick and row are there.
+/// Where the row of pick `k` stands, if pick and row are there.
 #[inline(always)]
 pub(crate) fn place(node: &Node, picks: &Picks, k: usize) -> Option<usize>
     requires index { k < length picks.now.places.now }

@@ -280,7 +280,7 @@ fn write_fixed_list_node(node: &Node, picks: &Picks, room: &mut Room)
     write_valid_of(node, picks, room);
 }
 
-// Writes what a node's own lists hold of its rows at picks.
+/// Writes what a node's own lists hold of its rows at picks.
 pub(crate) fn write_node(node: &Node, picks: &Picks, room: &mut Room)
     requires readable { IsReadable (part_of node.now)
         (picks_of picks.now.places.now picks.now.valid.now picks.now.add) }

@@ -1,4 +1,4 @@
--- The sums fit, since the row is there.
+-- The sums fit, since the row is valid.
 use Rattle.std.proofs.Common.{◌≡◌, ◌+◌, ◌*◌, ◌/◌, ◌%◌, ◌<◌, ◌≤◌, ◌^◌, true, length, get_or, sym, ◌∙◌, arith}
 use Rattle.std.proofs.Math.Nat.{mod-lt}
 use Rattle.vx_arrow_columns.specs.Image.{is_valid, part_of}
