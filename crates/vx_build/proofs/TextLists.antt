@@ -2,7 +2,8 @@
 use Rattle.std.proofs.Common.{◌≡◌, ℕ, ◌+◌, ◌^◌, ◌<◌, ◌++◌, List, [], ◌∷◌, length, get_or, map, take, true, refl, sym, ap, ap₂, subst, ◌∙◌}
 use Rattle.std.specs.Prelude.{Option, None}
 use Rattle.vx_types.specs.declared.ptype.PType.TheVariants.{I32}
-use Rattle.vx_text.specs.Building.{AreTexts, is_cut}
+use Rattle.vx_offsets.specs.Cut.{is_cut}
+use Rattle.vx_text.specs.Building.{AreTexts}
 use Rattle.vx_text.specs.OffsetList.{OffsetList, with_offset}
 use Rattle.vx_text.proofs.BuiltTexts.{built, built_texts, one_text}
 use Rattle.std.proofs.lemmas.List.{length-map, map_more}

@@ -7,7 +7,8 @@ ghost use Rattle.vx_types.specs.declared.ptype.PType.TheVariants.{I32};
 ghost use Rattle.vx_positions.specs.Offsets.{lists_at};
 ghost use Rattle.vx_model.specs.Valid.{is_fitting, nullability_by, stored_rows};
 ghost use Rattle.vx_column.specs.Validity.{valid_of};
-ghost use Rattle.vx_text.specs.Building.{AreTexts, is_cut};
+ghost use Rattle.vx_offsets.specs.Cut.{is_cut};
+ghost use Rattle.vx_text.specs.Building.{AreTexts};
 ghost use Rattle.vx_text.specs.OffsetList.{with_offset};
 ghost use Rattle.vx_build.specs.Rows.{bytes_or_none, row_or_null};
 
