@@ -302,7 +302,7 @@ uint64_t vortex_select_arrow(const struct ArrowSchema *schema, struct ArrowArray
 uint64_t vortex_arrow_check_array(const struct ArrowSchema *schema, struct ArrowArray *array,
     vortex_arrow_error *error);
 
-/* Selects rows of a stream: the steps go over the rows of all of its batches, end to end. The source
+/* Selects rows of a stream: the steps go over the rows of all its batches, end to end. The stream
  * is read to its end, and stays the caller's, who releases it. *out gives the answer: a batch for
  * each longest run of picks within one batch, so at most one for each where the picks ascend, and
  * one without rows where no row is picked. Its schema is nullable also where a take's numbers are.

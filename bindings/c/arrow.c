@@ -214,6 +214,17 @@ static int has_room(table *t)
     return nodes && sources;
 }
 
+/* Whether the lists of a node end past their child's rows. It spares the library their places. */
+static int is_past(const vortex_arrow_node *list, const vortex_arrow_node *child)
+{
+    if (list->format == VORTEX_ARROW_LIST || list->format == VORTEX_ARROW_LARGE_LIST) {
+        size_t width = list->format == VORTEX_ARROW_LIST ? 4 : 8;
+        return last_of(list->offsets, width) > child->len;
+    }
+    return list->format == VORTEX_ARROW_FIXED_LIST && list->width &&
+        list->offset + list->len > child->len / list->width;
+}
+
 /* Appends the nodes of an array to the table. */
 static uint64_t walk(table *t, const struct ArrowSchema *schema, struct ArrowArray *array,
     size_t parent, int level)
@@ -255,6 +266,10 @@ static uint64_t walk(table *t, const struct ArrowSchema *schema, struct ArrowArr
     }
     for (k = 0; k < array->n_children && !status; k++) {
         status = walk(t, schema->children[k], array->children[k], at, level + 1);
+    }
+    if (!status && node.children == 1 && is_past(&node, &t->nodes[at + 1])) {
+        int is_fixed = node.format == VORTEX_ARROW_FIXED_LIST;
+        return fault_at(t, VORTEX_ARROW_NO_MEANING, at, is_fixed ? "length" : "offsets");
     }
     return status;
 }
@@ -419,7 +434,7 @@ static uint64_t take_rows(const table *t, const vortex_arrow_picks *p, struct Ar
 /* ---- The call ---- */
 
 /* The rows of an array at the picks; without any, whether it has a meaning. */
-static uint64_t over_table(const struct ArrowSchema *schema, struct ArrowArray *array,
+uint64_t vortex_arrow_take_rows(const struct ArrowSchema *schema, struct ArrowArray *array,
     const vortex_arrow_picks *p, struct ArrowArray *out, vortex_arrow_error *error)
 {
     table t;
@@ -438,19 +453,13 @@ static uint64_t over_table(const struct ArrowSchema *schema, struct ArrowArray *
     return status;
 }
 
-uint64_t vortex_arrow_take_rows(const struct ArrowSchema *schema, struct ArrowArray *array,
-    const vortex_arrow_picks *p, struct ArrowArray *out, vortex_arrow_error *error)
-{
-    return over_table(schema, array, p, out, error);
-}
-
 uint64_t vortex_arrow_check_array(const struct ArrowSchema *schema, struct ArrowArray *array,
     vortex_arrow_error *error)
 {
     vortex_arrow_error unread;
     error = error ? error : &unread;
     memset(error, 0, sizeof *error);
-    return over_table(schema, array, NULL, NULL, error);
+    return vortex_arrow_take_rows(schema, array, NULL, NULL, error);
 }
 
 uint64_t vortex_select_arrow(const struct ArrowSchema *schema, struct ArrowArray *array,

@@ -377,12 +377,17 @@ class Hostile(unittest.TestCase):
             child = built(Type("c"), [1, 2])
             self.refused(items, arrow.made_array(1, 0, 0, [None, array("i", offsets)], [child]))
 
-    @unittest.skipUnless("VORTEX_ARROW_WILD" in os.environ, "it may take 16 GB of memory")
     def test_wild_lists(self):
-        """A list that says that it has 2^31 - 1 items, where there are two."""
-        items = Type("+l", (("item", Type("c")),))
-        made = arrow.made_array(1, 0, 0, [None, array("i", [0, 2**31 - 1])], [built(Type("c"), [1, 2])])
-        self.refused(items, made)
+        """Lists that say that they have more items than there are: two."""
+        for form, buffers in (
+            ("+l", [None, array("i", [0, 2**31 - 1])]),
+            ("+L", [None, array("q", [0, 2**60 - 1])]),
+            ("+L", [None, array("q", [0, 2**63 - 1])]),
+            ("+w:999999999", [None]),
+            ("+w:3", [None]),
+        ):
+            made = arrow.made_array(1, 0, 0, buffers, [built(Type("c"), [1, 2])])
+            self.refused(Type(form, (("item", Type("c")),)), made)
 
     def test_equal_offsets(self):
         """A million texts of no bytes."""
