@@ -186,3 +186,7 @@ zero_node = record {
   values = record { ref_ptr = (0, 0); now = [] };
   sizes = record { ref_ptr = (0, 0); now = [] };
 }
+
+pub first_was : (nodes : List image.Node) (d : image.Node) (q : List (Option ℕ)) → AreWithin q (first_len nodes) → 0 < length nodes → AreWithin q (get_or nodes 0 d).len
+first_was [] d q w some = absurd (omega arith)
+first_was (n ∷ nodes) d q w some = w

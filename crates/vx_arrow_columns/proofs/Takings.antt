@@ -9,7 +9,9 @@ use Rattle.vx_arrow_columns.specs.declared.image.Node as image
 use Rattle.vx_arrow_columns.specs.declared.places.Places.{Places}
 use Rattle.vx_arrow_columns.specs.declared.plan.Job.{Job}
 use Rattle.vx_arrow_columns.specs.declared.plan.Plan as plans
-use Rattle.vx_arrow_columns.specs.Answer.{AreTaken, HaveRoom, MeansPicked}
+use Rattle.vx_arrow_columns.specs.declared.refusal.Refusal.{Refusal}
+use Rattle.vx_arrow_columns.specs.declared.refusal.Refusal.TheVariants as refusals
+use Rattle.vx_arrow_columns.specs.Answer.{AreTaken, HaveRoom, IsPlanRefusal, IsRefusal, IsShort, MeansPicked}
 use Rattle.vx_arrow_columns.specs.Rows.{RowValue}
 use Rattle.vx_arrow_columns.specs.Image.{Part, column_in, part_of, parts_of}
 use Rattle.vx_arrow_columns.specs.Picks.{Picking, need_of, needs_by, picking_of, pickings, picks_of}
@@ -140,3 +142,15 @@ means_picked nodes q rooms a w = record {
 
 pub means_some : (parts : List Part) (q : Picking) (rooms : List Room) → AreTaken parts q rooms → IsSome (column_in (written parts q rooms))
 means_some parts q rooms a = let there = sound_column parts (written parts q rooms) q a.tree (every parts q rooms a) in ap is_some there.1
+
+-- ---- refusals
+
+pub refused_by : (nodes : List image.Node) (q : Picking) (rooms : List Room) (refusal : Refusal) → IsPlanRefusal q (first_len nodes) refusal → IsRefusal (parts_of nodes) q rooms refusal
+refused_by nodes q rooms (refusals.NoMeaning node lack) h = tt
+refused_by nodes q rooms refusals.Beyond h = λ rows e w. h (subst (λ (n : ℕ). AreWithin q.picks n) (rows_first nodes rows e) w)
+refused_by nodes q rooms (refusals.Room node) h = absurd h
+refused_by nodes q rooms (refusals.Overflow node) h = tt
+refused_by nodes q rooms refusals.NoMemory h = tt
+
+pub short_of : (needs all : List Need) (rooms : List Room) (k : ℕ) → needs ≡ all → IsShort needs rooms k → IsShort all rooms k
+short_of needs all rooms k e s = subst (λ (n : List Need). IsShort n rooms k) e s

@@ -6,7 +6,7 @@ use Rattle.vx_arrow_columns.specs.declared.refusal.Refusal.{Refusal}
 use Rattle.vx_arrow_columns.specs.declared.refusal.Refusal.TheVariants as refusals
 use Rattle.vx_arrow_columns.specs.Rows.{RowValue, picked}
 use Rattle.vx_arrow_columns.specs.Image.{Part, column_in}
-use Rattle.vx_arrow_columns.specs.Picks.{Picking, pickings}
+use Rattle.vx_arrow_columns.specs.Picks.{Picking, needs_of, pickings}
 use Rattle.vx_arrow_columns.specs.Planned.{are_trees}
 use Rattle.vx_arrow_columns.specs.Taken.{AreWithin, IsOwnTaken}
 use Rattle.vx_arrow_columns.specs.Written.{has_room, written}
@@ -37,7 +37,26 @@ pub record MeansPicked (parts : List Part) (q : Picking) (rooms : List Room) : T
   pub picked : (rows : List RowValue) → column_in parts ≡ Some rows
       → column_in (written parts q rooms) ≡ Some (picked q.picks rows)
 
--- a refusal by want of meaning comes only where there is none, and no other but `NoMemory`
+-- why there is no plan: of the refusals that name no room, what `Beyond` says
+abbrev pub IsPlanRefusal : Picking → ℕ → Refusal → Type 0
+IsPlanRefusal q len (refusals.NoMeaning node lack) = ⊤
+IsPlanRefusal q len refusals.Beyond = AreWithin q.picks len → ⊥
+IsPlanRefusal q len (refusals.Room node) = ⊥
+IsPlanRefusal q len (refusals.Overflow node) = ⊤
+IsPlanRefusal q len refusals.NoMemory = ⊤
+
+-- why nothing is taken. `Beyond` comes only where some pick is past the rows, and `Room` only where
+-- there are not as many rooms as nodes or the one that is named is smaller than its need
+abbrev pub IsRefusal : List Part → Picking → List Room → Refusal → Type 0
+IsRefusal parts q rooms (refusals.NoMeaning node lack) = ⊤
+IsRefusal parts q rooms refusals.Beyond =
+    (rows : List RowValue) → column_in parts ≡ Some rows → AreWithin q.picks (length rows) → ⊥
+IsRefusal parts q rooms (refusals.Room node) =
+    length rooms ≡ length parts → IsShort (needs_of parts q) rooms node
+IsRefusal parts q rooms (refusals.Overflow node) = ⊤
+IsRefusal parts q rooms refusals.NoMemory = ⊤
+
+-- a refusal by want of meaning comes only where there is none, and no other but want of memory
 abbrev pub IsUnsound : Option (List RowValue) → Refusal → Type 0
 IsUnsound column (refusals.NoMeaning node lack) = column ≡ None
 IsUnsound column refusals.Beyond = ⊥

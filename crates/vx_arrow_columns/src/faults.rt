@@ -1,4 +1,8 @@
 //! What stops at a node.
+ghost use Rattle.std.specs.Prelude.{ℕ};
+ghost use Rattle.vx_arrow_columns.specs.Answer.{IsPlanRefusal};
+ghost use Rattle.vx_arrow_columns.specs.Picks.{Picking};
+
 use crate::refusal::{Lack, Refusal};
 use std::alloc::AllocFailed;
 
@@ -11,8 +15,10 @@ pub(crate) enum Fault {
 }
 
 impl Fault {
-    /// The same of the node with a number.
-    pub(crate) fn at(self, node: usize) -> Refusal {
+    // The same of the node with a number.
+    pub(crate) fn at(self, node: usize) -> Refusal
+        ensures { (q : Picking) → (len : ℕ) → IsPlanRefusal q len result }
+    {
         match self {
             Fault::Lacks(lack) => Refusal::NoMeaning { node, lack },
             Fault::Overflow => Refusal::Overflow { node },

@@ -1,5 +1,5 @@
 //! Places of rows.
-ghost use Rattle.std.specs.Prelude.{◌≡◌, ◌+◌, ◌<◌, ◌≤◌, IfSome, length, true, false};
+ghost use Rattle.std.specs.Prelude.{◌≡◌, ◌+◌, ◌<◌, ◌≤◌, IfSome, Some, [], length, true, false};
 ghost use Rattle.std.specs.Option.{option_map};
 ghost use Rattle.vx_arrow_columns.specs.Image.{is_placed, part_of};
 ghost use Rattle.vx_arrow_columns.specs.Picks.{pick_at, picks_of, place_of};
@@ -42,7 +42,22 @@ pub(crate) fn row(node: &Node, picks: &Picks, k: usize) -> Option<usize>
     Some((node.offset + (picks.add + picks.places[k])) as usize)
 }
 
-/// Where the row of pick `k` stands, if pick and row are there.
+// Where the row of pick `k` stands, where no pick is null.
+#[inline(always)]
+pub(crate) fn row_there(node: &Node, picks: &Picks, k: usize) -> usize
+    requires there { picks.now.valid.now ≡ [] }
+    requires index { k < length picks.now.places.now }
+    requires placed { is_placed (part_of node.now) ≡ true }
+    requires within { AreWithin
+        (picks_of picks.now.places.now picks.now.valid.now picks.now.add) node.now.len }
+    ensures row { Some result ≡ option_map (λ i. node.now.offset + i)
+        (pick_at picks.now.places.now picks.now.valid.now picks.now.add k) }
+    ensures below { result < node.now.offset + node.now.len }
+{
+    (node.offset + picks.add + picks.places[k]) as usize
+}
+
+// Where the row of pick `k` stands, if pick and row are there.
 #[inline(always)]
 pub(crate) fn place(node: &Node, picks: &Picks, k: usize) -> Option<usize>
     requires index { k < length picks.now.places.now }

@@ -1,5 +1,6 @@
 //! Which rows of each node are taken, and what they need.
-ghost use Rattle.std.specs.Prelude.{◌≡◌, ◌+◌, ◌*◌, ◌^◌, ◌<◌, ◌≤◌, ◌++◌, IfOk, OnOk, length, replicate};
+ghost use Rattle.std.specs.Prelude.{◌≡◌, ◌+◌, ◌*◌, ◌^◌, ◌<◌, ◌≤◌, ◌++◌, IfErr, IfOk, OnOk, length, replicate};
+ghost use Rattle.vx_arrow_columns.specs.Answer.{IsPlanRefusal};
 ghost use Rattle.vx_arrow_columns.specs.Image.{format_in, part_of, parts_of};
 ghost use Rattle.vx_arrow_columns.specs.Picks.{need_of, offsets_len, picking_of, picks_of, values_len};
 ghost use Rattle.vx_arrow_columns.specs.Planned.{IsJobMeasured, IsListed, IsNext, IsPlanned, IsStart, IsVisited, IsWalking, first_len, picking_in};
@@ -230,6 +231,8 @@ pub(crate) fn plan_of(
 ) -> Result<Plan, Refusal>
     ensures planned { IfOk result (IsPlanned (parts_of nodes.now) places.now valid.now) }
     ensures within { OnOk result (AreWithin (picks_of places.now valid.now 0)
+        (first_len nodes.now)) }
+    ensures refused { IfErr result (IsPlanRefusal (picking_of places.now valid.now 0)
         (first_len nodes.now)) }
 {
     if nodes.len() == 0 {

@@ -1,6 +1,6 @@
 //! What a column's rows at picks need, and the rows themselves.
-ghost use Rattle.std.specs.Prelude.{◌≡◌, IfNone, IfSome, OnErr, OnOk, length, IsSome};
-ghost use Rattle.vx_arrow_columns.specs.Answer.{AreTaken, HaveRoom, IsShort, MeansPicked};
+ghost use Rattle.std.specs.Prelude.{◌≡◌, IfErr, IfNone, IfSome, OnErr, OnOk, length, IsSome};
+ghost use Rattle.vx_arrow_columns.specs.Answer.{AreTaken, HaveRoom, IsRefusal, IsShort, MeansPicked};
 ghost use Rattle.vx_arrow_columns.specs.Image.{column_in, parts_of};
 ghost use Rattle.vx_arrow_columns.specs.Picks.{needs_of, picking_of};
 ghost use Rattle.vx_arrow_columns.specs.Planned.{IsPlanned};
@@ -96,12 +96,17 @@ pub fn take(
         (picking_of places.now valid.now 0) rooms.new) }
     ensures sound { OnOk result (IsSome (column_in
         (written (parts_of nodes.now) (picking_of places.now valid.now 0) rooms.new))) }
+    ensures refused { IfErr result (IsRefusal (parts_of nodes.now)
+        (picking_of places.now valid.now 0) rooms.old) }
     ensures kept { OnErr result (rooms.new ≡ rooms.old) }
 {
     if rooms.len() != nodes.len() {
         return Err(Refusal::Room { node: nodes.len() });
     }
-    let plan = plan_of(alloc, nodes, places, valid)?;
+    let plan = match plan_of(alloc, nodes, places, valid) {
+        Ok(plan) => plan,
+        Err(refusal) => return Err(refusal),
+    };
     if let Some(node) = first_short(&plan.needs, rooms) {
         return Err(Refusal::Room { node });
     }

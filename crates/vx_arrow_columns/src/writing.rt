@@ -1,5 +1,5 @@
 //! The rows of one node at picks, written.
-ghost use Rattle.std.specs.Prelude.{◌≡◌, ◌+◌, ◌*◌, ◌^◌, ◌<◌, ◌≤◌, ◌/◌, ◌++◌, Some, is_some, length, take, true};
+ghost use Rattle.std.specs.Prelude.{◌≡◌, ◌+◌, ◌*◌, ◌^◌, ◌<◌, ◌≤◌, ◌/◌, ◌++◌, Some, [], is_some, length, take, true};
 ghost use Rattle.vx_arrow_columns.specs.Image.{format_in, holds_offsets, is_placed, limit_of, part_of, size_of};
 ghost use Rattle.vx_arrow_columns.specs.Picks.{items_len, need_of, pick_at, picking_of, picks_of, place_of};
 ghost use Rattle.vx_arrow_columns.specs.Taken.{AreBits, AreCutAt, AreFixed, AreOffsets, AreOrdered, AreWithin, IsByteOf, IsNullable, IsReadable, ShowsRows, texts_of};
@@ -10,7 +10,7 @@ use crate::format::{Format, Offsets, format_of};
 use crate::image::{Node, Room};
 use crate::needs::shows_valid;
 use crate::offsets::{cut_at, put_offset};
-use crate::places::{Picks, place, row};
+use crate::places::{Picks, place, row, row_there};
 
 // A bit for each of so many picks from pick `first` on: whether its row is there.
 #[inline(always)]
@@ -67,6 +67,27 @@ fn write_bits(node: &Node, picks: &Picks, out: &mut [u8])
     }
 }
 
+// Writes the value of the row at each pick, where none is null, of a width that is known
+// beforehand.
+fn write_rows<const W: usize>(node: &Node, picks: &Picks, out: &mut [u8])
+    requires there { picks.now.valid.now ≡ [] }
+    requires width { node.now.width ≡ W }
+    requires placed { is_placed (part_of node.now) ≡ true }
+    requires within { AreWithin
+        (picks_of picks.now.places.now picks.now.valid.now picks.now.add) node.now.len }
+    requires values { (node.now.offset + node.now.len) * node.now.width
+        ≤ length node.now.values.now }
+    requires room { length picks.now.places.now * node.now.width ≤ length out.old }
+    ensures { AreFixed (part_of node.now)
+        (picks_of picks.now.places.now picks.now.valid.now picks.now.add)
+        (length picks.now.places.now) out.new }
+{
+    for k in 0..picks.places.len() {
+        let i = row_there(node, picks, k);
+        put_bytes(out, k * W, &node.values[i * W..i * W + W]);
+    }
+}
+
 // Writes the value of each row at a pick that isn't null, of a width that is known beforehand.
 fn write_records<const W: usize>(node: &Node, picks: &Picks, out: &mut [u8])
     requires width { node.now.width ≡ W }
@@ -80,6 +101,10 @@ fn write_records<const W: usize>(node: &Node, picks: &Picks, out: &mut [u8])
         (picks_of picks.now.places.now picks.now.valid.now picks.now.add)
         (length picks.now.places.now) out.new }
 {
+    if picks.valid.is_empty() {
+        write_rows::<W>(node, picks, out);
+        return;
+    }
     for k in 0..picks.places.len() {
         if let Some(i) = row(node, picks, k) {
             put_bytes(out, k * W, &node.values[i * W..i * W + W]);

@@ -2,7 +2,9 @@
 use Rattle.std.proofs.Common.{◌≡◌, ◌<◌, ◌-◌, ◌+◌, get_or, length, refl, sym, arith}
 use Rattle.std.proofs.lemmas.List.{length-map, get_or-map}
 use Rattle.vx_arrow_columns.specs.Image.{part_of, parts_of}
-use Rattle.vx_arrow_columns.proofs.Plans.{first_is, plan_done, zero_node}
+use Rattle.vx_arrow_columns.specs.Picks.{picking_of}
+use Rattle.vx_arrow_columns.specs.Planned.{first_len}
+use Rattle.vx_arrow_columns.proofs.Plans.{first_is, first_was, plan_done, zero_node}
 use Rattle.vx_arrow_columns.proofs.Walks.{first_walk, next_walk}
 use Rattle.vx_arrow_columns.proofs.plan.plan_of.Goals as goal
 
@@ -26,3 +28,15 @@ returns-clause-planned c = plan_done (parts_of c.args.nodes.now) c.args.places.n
 
 pub returns-clause-within : goal.returns-clause-within
 returns-clause-within c = first_is c.args.nodes.now _ _ (c.if-not-are_within.ensures.within refl) (omega arith)
+
+pub returns-then-not-are_within-clause-refused : goal.returns-then-not-are_within-clause-refused
+returns-then-not-are_within-clause-refused c w = c.if-not-are_within.ensures.beyond refl (first_was c.args.nodes.now _ _ w (omega arith))
+
+pub returns-then-nodes-eq0-clause-refused : goal.returns-then-nodes-eq0-clause-refused
+returns-then-nodes-eq0-clause-refused c = c.at.ensures (picking_of c.args.places.now c.args.valid.now 0) (first_len c.args.nodes.now)
+
+pub returns-in-Err-clause-refused : goal.returns-in-Err-clause-refused
+returns-in-Err-clause-refused c = c.at-in-Err.ensures (picking_of c.args.places.now c.args.valid.now 0) (first_len c.args.nodes.now)
+
+pub returns-in-Err-visit-clause-refused : goal.returns-in-Err-visit-clause-refused
+returns-in-Err-visit-clause-refused c = c.at-in-Err-visit.ensures (picking_of c.args.places.now c.args.valid.now 0) (first_len c.args.nodes.now)
