@@ -114,6 +114,24 @@ fn tested_cut(size: Offsets, node: &Node, i: usize, count: u64) -> Result<Cut, F
     Ok(cut)
 }
 
+// The same of a list, whose items are among `items`: they are listed one by one, and so tested before.
+fn listed_cut(size: Offsets, node: &Node, i: usize, items: u64) -> Result<Cut, Fault>
+    requires held { holds_offsets size (part_of node.now) ≡ true }
+    requires from { node.now.offset ≤ i }
+    requires below { i < node.now.offset + node.now.len }
+    ensures start { IfOk result (λ r. r.start ≡ offset_at size node.now.offsets.now i) }
+    ensures end { IfOk result (λ r. r.end ≡ offset_at size node.now.offsets.now (i + 1)) }
+    ensures ordered { IfOk result (λ r. r.start ≤ r.end) }
+    ensures small { IfOk result (λ r. r.end < limit_of size) }
+    ensures cut { OnOk result (is_cut size (part_of node.now) (limit_of size) i ≡ true) }
+{
+    let cut = tested_cut(size, node, i, size.limit())?;
+    if cut.end > items {
+        return Err(Fault::Lacks(Lack::Items));
+    }
+    Ok(cut)
+}
+
 // How many bytes the texts at the picks have together.
 fn text_len(size: Offsets, node: &Node, picks: &Picks) -> Result<u64, Fault>
     requires placed { is_placed (part_of node.now) ≡ true }
@@ -160,7 +178,13 @@ fn greater(a: u64, b: u64) -> u64
 }
 
 // The places of the items of the lists at the picks.
-fn list_items(alloc: Global, size: Offsets, node: &Node, picks: &Picks) -> Result<Items, Fault>
+fn list_items(
+    alloc: Global,
+    size: Offsets,
+    node: &Node,
+    picks: &Picks,
+    items: u64,
+) -> Result<Items, Fault>
     requires placed { is_placed (part_of node.now) ≡ true }
     requires within { AreWithin
         (picks_of picks.now.places.now picks.now.valid.now picks.now.add) node.now.len }
@@ -178,7 +202,7 @@ fn list_items(alloc: Global, size: Offsets, node: &Node, picks: &Picks) -> Resul
     let mut total = 0;
     for k in 0..picks.places.len() {
         if let Some(i) = place(node, picks, k) {
-            let cut = tested_cut(size, node, i, size.limit())?;
+            let cut = listed_cut(size, node, i, items)?;
             total += cut.end - cut.start;
             if total >= size.limit() {
                 return Err(Fault::Overflow);
@@ -266,7 +290,13 @@ fn measure_text(size: Offsets, node: &Node, picks: &Picks) -> Result<Measure, Fa
 }
 
 // Of lists.
-fn measure_list(alloc: Global, size: Offsets, node: &Node, picks: &Picks) -> Result<Measure, Fault>
+fn measure_list(
+    alloc: Global,
+    size: Offsets,
+    node: &Node,
+    picks: &Picks,
+    items: u64,
+) -> Result<Measure, Fault>
     requires format { format_in node.now.format ≡ Some (Format.List size) }
     requires few { length picks.now.places.now < 2 ^ 60 }
     requires placed { is_placed (part_of node.now) ≡ true }
@@ -278,7 +308,7 @@ fn measure_list(alloc: Global, size: Offsets, node: &Node, picks: &Picks) -> Res
     if node.children != 1 {
         return Err(Fault::Lacks(Lack::Children));
     }
-    let items = list_items(alloc, size, node, picks)?;
+    let items = list_items(alloc, size, node, picks, items)?;
     Ok(Measure {
         values: 0,
         inner: Inner::Listed(items),
@@ -286,7 +316,12 @@ fn measure_list(alloc: Global, size: Offsets, node: &Node, picks: &Picks) -> Res
 }
 
 // Of lists of a fixed size.
-fn measure_fixed_list(alloc: Global, node: &Node, picks: &Picks) -> Result<Measure, Fault>
+fn measure_fixed_list(
+    alloc: Global,
+    node: &Node,
+    picks: &Picks,
+    items: u64,
+) -> Result<Measure, Fault>
     requires format { format_in node.now.format ≡ Some Format.FixedList }
     requires few { length picks.now.places.now < 2 ^ 60 }
     requires placed { is_placed (part_of node.now) ≡ true }
@@ -303,6 +338,9 @@ fn measure_fixed_list(alloc: Global, node: &Node, picks: &Picks) -> Result<Measu
     };
     if end >= 1 << 60 {
         return Err(Fault::Lacks(Lack::Length));
+    }
+    if end > items {
+        return Err(Fault::Lacks(Lack::Items));
     }
     let Some(count) = (picks.places.len() as u64).checked_mul(node.width) else {
         return Err(Fault::Overflow);
@@ -333,12 +371,14 @@ fn measure_struct(node: &Node, picks: &Picks) -> Measure
     }
 }
 
-/// Tests what the rows of a node at picks below `end` touch, and says what they need.
+/// Tests what the rows of a node at picks below `end` touch, and says what they need. Where it is one
+/// of lists, its child has `items` rows.
 pub(crate) fn measure_node(
     alloc: Global,
     node: &Node,
     picks: &Picks,
     end: u64,
+    items: u64,
 ) -> Result<Measure, Fault>
     requires { AreWithin
         (picks_of picks.now.places.now picks.now.valid.now picks.now.add) end }
@@ -355,7 +395,7 @@ pub(crate) fn measure_node(
         Format::Fixed => measure_fixed(node, picks),
         Format::Text(size) => measure_text(size, node, picks),
         Format::Struct => Ok(measure_struct(node, picks)),
-        Format::List(size) => measure_list(alloc, size, node, picks),
-        Format::FixedList => measure_fixed_list(alloc, node, picks),
+        Format::List(size) => measure_list(alloc, size, node, picks, items),
+        Format::FixedList => measure_fixed_list(alloc, node, picks, items),
     }
 }

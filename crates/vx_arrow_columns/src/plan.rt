@@ -101,7 +101,8 @@ struct Measured {
     inner: Inner,
 }
 
-// Tests what a node's rows at the picks of a job touch, and says what they need.
+// Tests what a node's rows at the picks of a job touch, and says what they need. The node behind it
+// has `items` rows.
 fn measure_job<'a>(
     alloc: Global,
     places: &'a [u64],
@@ -109,6 +110,7 @@ fn measure_job<'a>(
     lists: &'a [Places],
     node: &Node,
     job: Job,
+    items: u64,
 ) -> Result<Measured, Fault>
     requires listed { IsListed job (length lists.now) }
     requires within { AreWithin (picking_in places.now valid.now lists.now job).picks job.end }
@@ -116,7 +118,7 @@ fn measure_job<'a>(
         (picking_in places.now valid.now lists.now job)) }
 {
     let picks = picks_for(places, valid, lists, job);
-    let measure = measure_node(alloc, node, &picks, job.end)?;
+    let measure = measure_node(alloc, node, &picks, job.end, items)?;
     Ok(Measured {
         need: need_for(node, &picks, measure.values),
         inner: measure.inner,
@@ -195,7 +197,7 @@ impl Walk {
         })
     }
 
-    // Goes over a node that has so many nodes behind it.
+    // Goes over a node that has so many nodes behind it, of which the first has `items` rows.
     fn visit(
         &mut self,
         alloc: Global,
@@ -203,6 +205,7 @@ impl Walk {
         valid: &[u8],
         node: &Node,
         behind: usize,
+        items: u64,
     ) -> Result<(), Fault>
         requires { IsWalking places.now valid.now self.old }
         ensures { OnOk result (IsVisited places.now valid.now node.now behind self.old self.new) }
@@ -214,11 +217,21 @@ impl Walk {
         if left > behind || node.children > (behind - left) as u64 {
             return Err(Fault::Lacks(Lack::Tree));
         }
-        let measure = measure_job(alloc, places, valid, &self.lists, node, job)?;
+        let measure = measure_job(alloc, places, valid, &self.lists, node, job, items)?;
         let next = next_job(node, job, measure.inner, &mut self.lists)?;
         self.jobs.push(job)?;
         self.needs.push(measure.need)?;
         push_times(&mut self.stack, next, node.children)
+    }
+}
+
+// How many rows the node behind node `i` has, and 0 where there is none.
+fn len_behind(nodes: &[Node], i: usize) -> u64
+    requires { i < length nodes.now }
+{
+    match nodes.get(i + 1) {
+        Some(node) => node.len,
+        None => 0,
     }
 }
 
@@ -254,7 +267,9 @@ pub(crate) fn plan_of(
         Err(fault) => return Err(fault.at(0)),
     };
     for i in 0..nodes.len() {
-        if let Err(fault) = walk.visit(alloc, places, valid, &nodes[i], nodes.len() - i - 1) {
+        let items = len_behind(nodes, i);
+        let behind = nodes.len() - i - 1;
+        if let Err(fault) = walk.visit(alloc, places, valid, &nodes[i], behind, items) {
             return Err(fault.at(i));
         }
     }

@@ -27,8 +27,8 @@ loop-k-preserved c =
           places_some z p q k w.in-Some.i w.in_ok-cut.cut.start w.in_ok-cut.cut.end c.loop-k.total c.match-place.total c.loop-k.places.items c.match-place.places.items c.loop-k.last c.match-place.last low
           (at_pick p ps.places.now ps.valid.now ps.add k _ c.loop-k-test.true w.in-Some.ensures.place)
           w.in_ok-cut.ensures.start w.in_ok-cut.ensures.end
-          (subst (λ (n : ℕ). is_cut z p n w.in-Some.i ≡ true) w.limit.ensures w.in_ok-cut.ensures.cut)
-          w.total-is (omega (arith, w.total-is, w.if-total-limit.false, w.limit-in-Some.ensures))
+          w.in_ok-cut.ensures.cut
+          w.total-is (omega (arith, w.total-is, w.if-total-limit.false, w.limit.ensures))
           (ap (λ v. v.items) w.places-is ∙ w.in_ok-push_range.ensures) (omega (arith, w.last-is, w.greater-last.ensures.first)) (omega (arith, w.last-is, w.greater-last.ensures.second)) c.loop-k.invariant
       | in_default w ↦
           places_none z p q k c.loop-k.total c.match-place.total c.loop-k.places.items c.match-place.places.items c.loop-k.last c.match-place.last low
