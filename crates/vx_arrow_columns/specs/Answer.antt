@@ -56,7 +56,7 @@ IsRefusal parts q rooms (refusals.Room node) =
 IsRefusal parts q rooms (refusals.Overflow node) = ⊤
 IsRefusal parts q rooms refusals.NoMemory = ⊤
 
--- a refusal by want of meaning comes only where there is none, and no other but want of memory
+-- a refusal by want of meaning comes only where there is none, and no other but `NoMemory`
 abbrev pub IsUnsound : Option (List RowValue) → Refusal → Type 0
 IsUnsound column (refusals.NoMeaning node lack) = column ≡ None
 IsUnsound column refusals.Beyond = ⊥

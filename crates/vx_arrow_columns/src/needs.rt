@@ -114,7 +114,8 @@ fn tested_cut(size: Offsets, node: &Node, i: usize, count: u64) -> Result<Cut, F
     Ok(cut)
 }
 
-// The same of a list, whose items are among `items`: they are listed one by one, and so tested before.
+// The same of a list, whose items are among `items`: they are listed one by one, and so tested
+// before.
 fn listed_cut(size: Offsets, node: &Node, i: usize, items: u64) -> Result<Cut, Fault>
     requires held { holds_offsets size (part_of node.now) ≡ true }
     requires from { node.now.offset ≤ i }
@@ -371,8 +372,8 @@ fn measure_struct(node: &Node, picks: &Picks) -> Measure
     }
 }
 
-/// Tests what the rows of a node at picks below `end` touch, and says what they need. Where it is one
-/// of lists, its child has `items` rows.
+/// Tests what the rows of a node at picks below `end` touch, and says what they need. Where it is
+/// one of lists, its child has `items` rows.
 pub(crate) fn measure_node(
     alloc: Global,
     node: &Node,
