@@ -1,1 +1,4 @@
 pub mod Places
+pub mod Rows
+pub mod Sources
+pub mod Texts

@@ -1,6 +1,14 @@
 //! The rows of several columns of one type, in any order, as one column.
 #![tactic(auto)]
 
+mod bools;
+mod gathering;
+mod interleaving;
 mod place;
+mod records;
+mod row;
+mod texts;
+mod validity;
 
+pub use interleaving::interleave;
 pub use place::Place;

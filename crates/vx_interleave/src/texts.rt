@@ -1,0 +1,130 @@
+//! Rows of text, gathered.
+ghost use Rattle.std.specs.Prelude.{◌≡◌, ◌++◌, ◌<◌, ◌^◌, [], IfOk, IfSome, OnOk, length, map, true};
+ghost use Rattle.vx_types.specs.DType.{type_of};
+ghost use Rattle.vx_types.specs.RowValue.{bytes};
+ghost use Rattle.vx_types.specs.Scalar.{is_text_kind};
+ghost use Rattle.vx_types.specs.Text.{text_kind};
+ghost use Rattle.vx_types.specs.declared.ptype.PType.TheVariants.{U64};
+ghost use Rattle.vx_positions.specs.Offsets.{lists_at};
+ghost use Rattle.vx_model.specs.Valid.{is_fitting, nullability_by, stored_rows};
+ghost use Rattle.vx_column.specs.Validity.{valid_of};
+ghost use Rattle.vx_text.specs.Building.{AreTexts, is_cut};
+ghost use Rattle.vx_text.specs.OffsetList.{with_offset};
+ghost use Rattle.vx_interleave.specs.Rows.{AreRowsOf, IsRowOf, row_in, rows_in, shown_as, stored_as};
+ghost use Rattle.vx_interleave.specs.Texts.{AreJoined};
+
+use crate::row::{RowRef, cell_of};
+use crate::validity::validity_of;
+use std::alloc::Global;
+use vx_bits::{Buffer, NoMemory};
+use vx_column::{Array, Cell, DType, PType, TextKind, Validity, VarBinArray};
+use vx_text::Offsets;
+
+// The bytes of a row; none of a null.
+fn text_at<'a>(dtype: &DType, row: &Option<RowRef<'a>>) -> &'a [u8]
+    requires of_type { IfSome row.now (IsRowOf (type_of dtype.now)) }
+    requires text { is_text_kind (type_of dtype.now).kind ≡ true }
+    ensures { bytes result.now ≡ stored_as (type_of dtype.now).kind (row_in row.now) }
+{
+    match cell_of(dtype, row) {
+        Cell::Null => &[],
+        Cell::Bytes(bytes) => bytes,
+        _ => unreachable!(),
+    }
+}
+
+// Texts one after another, and the offsets that cut them.
+#[derive(Drop)]
+struct Joined {
+    offsets: Offsets,
+    bytes: Vec<u8>,
+}
+
+impl Joined {
+    // No text yet.
+    #[tactic(auto, using(vx_text::proofs::BuiltTexts::no_text_yet))]
+    fn new(alloc: Global) -> Result<Joined, NoMemory>
+        ensures { IfOk result (λ j. AreTexts U64 j.offsets j.bytes.items []) }
+    {
+        let mut offsets = Offsets::new(alloc, PType::U64);
+        offsets.push(0)?;
+        Ok(Joined {
+            offsets,
+            bytes: Vec::new(alloc),
+        })
+    }
+
+    // Appends a text.
+    fn push(&mut self, text: &[u8]) -> Result<(), NoMemory>
+        ensures short { OnOk result (length self.new.bytes.items < 2 ^ 63) }
+        ensures bytes { OnOk result (self.new.bytes.items ≡ self.old.bytes.items ++ text.now) }
+        ensures offsets { OnOk result (self.new.offsets
+            ≡ with_offset self.old.offsets (length self.new.bytes.items)) }
+    {
+        self.bytes.extend_from_slice(text)?;
+        let end = self.bytes.len();
+        if end > isize::MAX as usize {
+            return Err(NoMemory);
+        }
+        self.offsets.push(end)
+    }
+
+    // The column of these texts, each null where the validity says no.
+    fn into_array(
+        self,
+        alloc: Global,
+        kind: TextKind,
+        validity: Validity,
+    ) -> Result<Array, NoMemory>
+        requires cut { is_cut self.offsets.numbers (length self.bytes.items) ≡ true }
+        requires fitting { is_fitting (valid_of validity)
+            (length (lists_at self.offsets.numbers self.bytes.items)) ≡ true }
+        ensures dtype { IfOk result (λ c. c.dtype ≡ record {
+          kind = text_kind kind;
+          nullability = nullability_by (valid_of validity);
+        }) }
+        ensures rows { IfOk result (λ c. c.rows ≡ stored_rows (valid_of validity)
+            (map bytes (lists_at self.offsets.numbers self.bytes.items))) }
+    {
+        let Joined { offsets, bytes } = self;
+        let ends = offsets.into_primitive()?;
+        let bytes = Buffer::from_vec(alloc, bytes)?;
+        Ok(VarBinArray::of(kind, ends, bytes, validity).into_array())
+    }
+}
+
+// The texts of the rows, one after another.
+fn joined_texts(
+    alloc: Global,
+    dtype: &DType,
+    rows: &[Option<RowRef<'_>>],
+) -> Result<Joined, NoMemory>
+    requires of_type { AreRowsOf (type_of dtype.now) rows.now }
+    requires text { is_text_kind (type_of dtype.now).kind ≡ true }
+    ensures { IfOk result (λ j. AreJoined (type_of dtype.now).kind (rows_in rows.now) j.offsets
+        j.bytes.items) }
+{
+    let mut joined = Joined::new(alloc)?;
+    for row in rows {
+        joined.push(text_at(dtype, row))?;
+    }
+    Ok(joined)
+}
+
+// The rows as a column of texts.
+pub(crate) fn gather_texts(
+    alloc: Global,
+    dtype: &DType,
+    kind: TextKind,
+    rows: &[Option<RowRef<'_>>],
+) -> Result<Array, NoMemory>
+    requires of_type { AreRowsOf (type_of dtype.now) rows.now }
+    requires kind { text_kind kind ≡ (type_of dtype.now).kind }
+    ensures dtype { IfOk result (λ a. a.dtype ≡ type_of dtype.now) }
+    ensures rows { IfOk result
+        (λ a. a.rows ≡ map (shown_as (type_of dtype.now)) (rows_in rows.now)) }
+{
+    let validity = validity_of(alloc, dtype, rows)?;
+    let texts = joined_texts(alloc, dtype, rows)?;
+    texts.into_array(alloc, kind, validity)
+}
