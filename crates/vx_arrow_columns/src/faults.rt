@@ -15,7 +15,7 @@ pub(crate) enum Fault {
 }
 
 impl Fault {
-    // The same of the node with a number.
+    /// The same of the node with a number.
     pub(crate) fn at(self, node: usize) -> Refusal
         ensures { (q : Picking) → (len : ℕ) → IsPlanRefusal q len result }
     {

@@ -42,7 +42,7 @@ pub(crate) fn row(node: &Node, picks: &Picks, k: usize) -> Option<usize>
     Some((node.offset + (picks.add + picks.places[k])) as usize)
 }
 
-// Where the row of pick `k` stands, where no pick is null.
+/// Where the row of pick `k` stands, where no pick is null.
 #[inline(always)]
 pub(crate) fn row_there(node: &Node, picks: &Picks, k: usize) -> usize
     requires there { picks.now.valid.now ≡ [] }
@@ -57,7 +57,7 @@ pub(crate) fn row_there(node: &Node, picks: &Picks, k: usize) -> usize
     (node.offset + picks.add + picks.places[k]) as usize
 }
 
-// Where the row of pick `k` stands, if pick and row are there.
+/// Where the row of pick `k` stands, if pick and row are there.
 #[inline(always)]
 pub(crate) fn place(node: &Node, picks: &Picks, k: usize) -> Option<usize>
     requires index { k < length picks.now.places.now }

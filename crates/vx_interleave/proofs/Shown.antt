@@ -15,7 +15,7 @@ use Rattle.vx_interleave.specs.Rows.{IsValidityOf, is_there, shown_as, stored_as
 by_bits : (bits : List Bool) (items : List RowValue) → stored_rows (by_column (bits_column bits 0)) items ≡ shown_rows bits items
 by_bits bits items = ap (λ bs. shown_rows bs items) (is_left-bits_column non_nullable bits 0 Nullable refl).bits
 
--- the rows that are there, of which each other is a null
+-- the valid rows, of which each other is a null
 shown_there : (k : TypeKind) (rows : List RowValue) → shown_rows (map is_there rows) (map (stored_as k) rows) ≡ rows
 shown_there k [] = refl
 shown_there k (null ∷ rows) = ap (λ l. null ∷ l) (shown_there k rows)

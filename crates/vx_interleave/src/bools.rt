@@ -41,7 +41,7 @@ fn true_bits(
     bits.finish()
 }
 
-// The rows as a column of bools.
+/// The rows as a column of bools.
 pub(crate) fn gather_bools(
     alloc: Global,
     dtype: &DType,

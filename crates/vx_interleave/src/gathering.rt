@@ -30,7 +30,7 @@ fn null_rows(dtype: &DType, rows: &[Option<RowRef<'_>>]) -> usize
     len
 }
 
-// The rows as a column of the type, with fillers in place of nulls where it has none.
+/// The rows as a column of the type, with fillers in place of nulls where it has none.
 pub(crate) fn gather(
     alloc: Global,
     dtype: &DType,

@@ -30,11 +30,7 @@ fn ref_at<'a>(dtype: &DType, column: &'a Array, row: usize) -> RowRef<'a>
 }
 
 // The row at a place; none where there is no place.
-fn ref_of<'a>(
-    dtype: &DType,
-    columns: &'a Columns,
-    place: &Option<Place>,
-) -> Option<RowRef<'a>>
+fn ref_of<'a>(dtype: &DType, columns: &'a Columns, place: &Option<Place>) -> Option<RowRef<'a>>
     requires sources { All (IsSourceOf (type_of dtype.now)) columns.now }
     requires place { IsPlaceFor (type_of dtype.now) (rows_of columns.now) place.now }
     ensures of_type { IsRefOf (type_of dtype.now) result }
@@ -67,8 +63,8 @@ fn refs_of<'a>(
     Ok(refs)
 }
 
-/// The rows at these places of the columns, in order, as a column of this type: null at each
-/// place that is none. The columns are of any layouts. `NoMemory` alone.
+/// The rows at these places of the columns, in order, as a column of this type: null at each place
+/// that is none. The columns are of any layouts. Fails only with `NoMemory`.
 ///
 /// The columns are of this type, or of the same without nulls, and where it has none there is a
 /// row at each place. The type is flat or text.

@@ -73,7 +73,7 @@ fn gather_bytes(
     }
 }
 
-// The rows as a column of records.
+/// The rows as a column of records.
 pub(crate) fn gather_records(
     alloc: Global,
     dtype: &DType,

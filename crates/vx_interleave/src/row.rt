@@ -15,7 +15,7 @@ pub(crate) struct RowRef<'a> {
     pub row: usize,
 }
 
-// The row that a reference names, as a row of a type; a null where there is none.
+/// The row that a reference names, as a row of a type; a null where there is none.
 pub(crate) fn cell_of<'a>(dtype: &DType, row: &Option<RowRef<'a>>) -> Cell<'a>
     requires { IfSome row.now (IsRowOf (type_of dtype.now)) }
     ensures row { row_of result ≡ row_in row.now }
@@ -28,7 +28,7 @@ pub(crate) fn cell_of<'a>(dtype: &DType, row: &Option<RowRef<'a>>) -> Cell<'a>
     }
 }
 
-// Whether a row is there.
+/// Whether a row is there.
 pub(crate) fn is_there(cell: Cell<'_>) -> bool
     ensures { result ≡ is_there (row_of cell.entry) }
 {

@@ -111,7 +111,7 @@ fn joined_texts(
     Ok(joined)
 }
 
-// The rows as a column of texts.
+/// The rows as a column of texts.
 pub(crate) fn gather_texts(
     alloc: Global,
     dtype: &DType,

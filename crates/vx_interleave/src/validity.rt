@@ -1,4 +1,4 @@
-//! Which of the rows are there.
+//! Which of the rows are valid.
 ghost use Rattle.std.specs.Prelude.{◌≡◌, IfOk, map};
 ghost use Rattle.vx_types.specs.DType.{type_of};
 ghost use Rattle.vx_column.specs.Validity.{valid_of};
@@ -26,7 +26,7 @@ fn there_bits(
     bits.finish()
 }
 
-// The validity of the rows, as those of the type.
+/// The validity of the rows, as those of the type.
 pub(crate) fn validity_of(
     alloc: Global,
     dtype: &DType,
