@@ -4,7 +4,7 @@ use Rattle.column_calls.proofs.ThreeLists.{are_three}
 use Rattle.column_calls.proofs.lists.push_filter.Goals as goal
 
 pub filter_lists-requires-clause-offsets : goal.filter_lists-requires-clause-offsets
-filter_lists-requires-clause-offsets g c = are_three
+filter_lists-requires-clause-offsets c = are_three
 
 pub filter_lists-requires-clause-counted : goal.filter_lists-requires-clause-counted
-filter_lists-requires-clause-counted g c = omega (arith, ap length (c.in-Some.ensures.bits ∙ c.in_ok-lists.ensures))
+filter_lists-requires-clause-counted c = omega (arith, ap length (c.in-Some.ensures.bits ∙ c.in_ok-lists.ensures))
