@@ -11,7 +11,8 @@ use Rattle.vx_model.specs.Numbers.{integers_of}
 use Rattle.vx_model.specs.Records.{RecordParts}
 use Rattle.vx_model.specs.Valid.{Valid, is_fitting, non_nullable, stored_rows}
 use Rattle.vx_model.specs.VarBin.{varbin_column, varbin_fault}
-use Rattle.vx_text.specs.Building.{AreTexts, is_cut}
+use Rattle.vx_offsets.specs.Cut.{is_cut}
+use Rattle.vx_text.specs.Building.{AreTexts}
 use Rattle.vx_text.specs.OffsetList.{OffsetList, with_offset}
 use Rattle.vx_text.proofs.BuiltTexts.{built, built_texts, one_text}
 use Rattle.vx_interleave.specs.Rows.{row_in, rows_in, stored_as}
