@@ -4,7 +4,7 @@ use Rattle.std.specs.Prelude.{slice_index}
 use Rattle.std.specs.List.{sum}
 use Rattle.std.proofs.lemmas.List.{get_or-map, length-map}
 use Rattle.std.proofs.lemmas.List.Sums.{sum_by-cons}
-use Rattle.vx_model.proofs.KeptItems.{count_take-ordered}
+use Rattle.vx_mask.proofs.RangeCounts.{count_take-ordered}
 use Rattle.vx_parts.specs.Bounds.{AreBounds, bounds_from, bounds_of, end_of}
 use Rattle.vx_parts.specs.Cuts.{CutValue, slice_cut, filter_cut, carried, carried_by}
 

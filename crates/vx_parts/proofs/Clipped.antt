@@ -4,7 +4,7 @@ use Rattle.std.specs.Prelude.{replicate}
 use Rattle.std.proofs.Math.Seq.{take-nil}
 use Rattle.std.proofs.lemmas.Bool.{cases_lt}
 use Rattle.std.proofs.lemmas.List.{drop_all, length-drop, length-replicate, take_min}
-use Rattle.vx_model.proofs.Items.{slice_range-replicate}
+use Rattle.vx_mask.proofs.RangeCounts.{slice_range-replicate}
 
 module _ {X : Type 0} (xs : List X) (low high : ℕ) where
   inside : low < min high (length xs) → slice_range xs low (min high (length xs)) ≡ slice_range xs low high
