@@ -32,6 +32,7 @@ mod stored;
 mod struct_;
 mod truth;
 mod union_;
+mod union_check;
 mod validity;
 mod varbin;
 mod varbinview;

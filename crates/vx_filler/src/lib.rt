@@ -3,6 +3,7 @@
 
 mod firsts;
 mod rows;
+mod values;
 
 pub use firsts::firsts_for_nulls;
 pub use rows::{filler, fillers};

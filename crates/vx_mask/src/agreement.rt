@@ -2,10 +2,35 @@
 ghost use Rattle.std.specs.Prelude.{◌≡◌, ◌≤◌, length, true};
 ghost use Rattle.std.specs.Bool.{Decides};
 ghost use Rattle.vx_mask.specs.Positions.{BeginsWithRun};
-ghost use Rattle.vx_mask.specs.MaskValues.{are_set_positions, are_set_runs, passes};
+ghost use Rattle.vx_mask.specs.MaskValues.{are_set_positions, are_set_runs, parts_fault, passes};
 
+use crate::error::MaskError;
 use crate::runs::next_with;
 use vx_bits::{BitBuffer, Buffer};
+
+/// Why the parts are no mask that selects some rows and not all, if they are none.
+pub(crate) fn fault_of(
+    bits: &BitBuffer,
+    true_count: usize,
+    indices: &Option<Buffer<usize>>,
+    slices: &Option<Buffer<(usize, usize)>>,
+) -> Option<MaskError>
+    ensures { result ≡ parts_fault bits.now.bits true_count indices.now slices.now }
+{
+    if true_count != bits.true_count() {
+        return Some(MaskError::Count);
+    }
+    if true_count == 0 || true_count == bits.len() {
+        return Some(MaskError::NotSelective);
+    }
+    if !indices_agree(bits, indices) {
+        return Some(MaskError::Indices);
+    }
+    if !slices_agree(bits, slices) {
+        return Some(MaskError::Slices);
+    }
+    None
+}
 
 /// Whether the indices, where there are any, are just the set positions.
 pub(crate) fn indices_agree(bits: &BitBuffer, indices: &Option<Buffer<usize>>) -> bool

@@ -7,7 +7,7 @@ ghost use Rattle.vx_mask.specs.Mask.{mask_by_indices, mask_by_slices};
 ghost use Rattle.vx_mask.specs.MaskValues.{AreSlicesOf, IsPartial, bits_alone, block_counts, keep_blocks, keep_indices, keep_slices, parts_fault};
 ghost use Rattle.vx_mask.specs.Positions.{ascending, rank_of, run_positions, runs_ascend, set_of, span_of};
 
-use crate::agreement::{indices_agree, slices_agree};
+use crate::agreement::fault_of;
 use crate::blocks::counts_of;
 use crate::error::MaskError;
 use crate::positions::{bits_at, bits_of_runs};
@@ -21,6 +21,7 @@ use vx_bits::{BitBuffer, Buffer, NoMemory, PlainWords};
 ///
 /// Clauses see the bits, and the indices, slices and block counts that the mask keeps beside
 /// them, where it keeps any.
+#[derive(Drop)]
 pub struct MaskValues {
     bits: BitBuffer,
     true_count: usize,
@@ -49,22 +50,6 @@ impl Model for MaskValues {
     }) m.true_count };
 }
 
-impl Drop for MaskValues {
-    fn drop(self) {
-        let MaskValues {
-            bits,
-            true_count: _,
-            indices,
-            slices,
-            blocks,
-        } = self;
-        drop(bits);
-        drop(indices);
-        drop(slices);
-        drop(blocks)
-    }
-}
-
 impl MaskValues {
     /// The mask of these bits, with the set positions and the runs of them that are handed in. It
     /// takes no memory.
@@ -83,34 +68,10 @@ impl MaskValues {
         ensures { result ≡ ok_unless (parts_fault bits.bits true_count indices slices)
             (record { bits = bits; indices = indices; slices = slices; blocks = None }) }
     {
-        if let Some(fault) = MaskValues::fault_of(&bits, true_count, &indices, &slices) {
+        if let Some(fault) = fault_of(&bits, true_count, &indices, &slices) {
             return Err(fault);
         }
         Ok(MaskValues::with_lists(bits, true_count, indices, slices))
-    }
-
-    // Why the parts are no mask that selects some rows and not all, if they are none.
-    fn fault_of(
-        bits: &BitBuffer,
-        true_count: usize,
-        indices: &Option<Buffer<usize>>,
-        slices: &Option<Buffer<(usize, usize)>>,
-    ) -> Option<MaskError>
-        ensures { result ≡ parts_fault bits.now.bits true_count indices.now slices.now }
-    {
-        if true_count != bits.true_count() {
-            return Some(MaskError::Count);
-        }
-        if true_count == 0 || true_count == bits.len() {
-            return Some(MaskError::NotSelective);
-        }
-        if !indices_agree(bits, indices) {
-            return Some(MaskError::Indices);
-        }
-        if !slices_agree(bits, slices) {
-            return Some(MaskError::Slices);
-        }
-        None
     }
 
     /// The mask of bits of which some are set and not all, with their count.

@@ -3,7 +3,7 @@ use Rattle.std.specs.List.{list_all}
 use Rattle.vx_positions.specs.Positions.{positions_of}
 use Rattle.vx_model.specs.Numbers.{numbers_of}
 use Rattle.vx_model.specs.Union.{is_known}
-use Rattle.vx_column.proofs.union_.are_known.Given as goal
+use Rattle.vx_column.proofs.union_check.are_known.Given as goal
 
 abbrev pub invariant-loop-i : goal.invariant-loop-i
 invariant-loop-i l =

@@ -4,7 +4,7 @@ use Rattle.vx_types.specs.Same.{are_same_types}
 use Rattle.vx_types.specs.TypeTree.{TypeTrees, are_carried, types_of}
 use Rattle.vx_model.specs.Columns.{types_in}
 use Rattle.vx_model.proofs.StructSteps.{same_trees}
-use Rattle.vx_column.proofs.union_.are_union_types.Goals as goal
+use Rattle.vx_column.proofs.union_check.are_union_types.Goals as goal
 
 pub returns-clause-carried : goal.returns-clause-carried
 returns-clause-carried c = λ yes.

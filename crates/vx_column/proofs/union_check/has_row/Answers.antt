@@ -6,7 +6,7 @@ use Rattle.vx_model.specs.Column.{Column}
 use Rattle.vx_model.specs.Numbers.{integers_of}
 use Rattle.vx_model.specs.Union.{has_row}
 use Rattle.vx_model.proofs.UnionSteps.{place-index}
-use Rattle.vx_column.proofs.union_.has_row.Goals as goal
+use Rattle.vx_column.proofs.union_check.has_row.Goals as goal
 
 pub returns-in-Some-variant_of : goal.returns-in-Some-variant_of
 returns-in-Some-variant_of c =

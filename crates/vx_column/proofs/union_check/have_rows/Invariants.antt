@@ -2,7 +2,7 @@ use Rattle.std.proofs.Common.{◌≡◌, drop}
 use Rattle.vx_positions.specs.Positions.{positions_of}
 use Rattle.vx_model.specs.Numbers.{integers_of, numbers_of}
 use Rattle.vx_model.specs.Union.{have_rows}
-use Rattle.vx_column.proofs.union_.have_rows.Given as goal
+use Rattle.vx_column.proofs.union_check.have_rows.Given as goal
 
 abbrev pub invariant-loop-i : goal.invariant-loop-i
 invariant-loop-i l =

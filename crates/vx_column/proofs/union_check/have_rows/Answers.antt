@@ -1,7 +1,7 @@
 -- One row after the other.
 use Rattle.std.proofs.Common.{◌<◌, length, sym, ◌∙◌, arith}
 use Rattle.vx_column.proofs.Tags.{rows-by}
-use Rattle.vx_column.proofs.union_.have_rows.Goals as goal
+use Rattle.vx_column.proofs.union_check.have_rows.Goals as goal
 
 pub returns-then-not-has_row : goal.returns-then-not-has_row
 returns-then-not-has_row c =

@@ -6,7 +6,7 @@ use Rattle.vx_types.specs.Same.{are_same_types}
 use Rattle.vx_model.specs.Columns.{types_in}
 use Rattle.vx_model.specs.Union.{are_places, is_id_type}
 use Rattle.vx_column.proofs.Tags.{many-alike}
-use Rattle.vx_column.proofs.union_.fault_of.Goals as goal
+use Rattle.vx_column.proofs.union_check.fault_of.Goals as goal
 
 pub have_rows-requires-clause-many : goal.have_rows-requires-clause-many
 have_rows-requires-clause-many c =
