@@ -5,9 +5,10 @@ use Rattle.std.specs.List.{range_with_len}
 use Rattle.std.proofs.lemmas.Bool.{and_parts, and_from, lt-ltb, le-leb, leb-true}
 use Rattle.std.proofs.lemmas.List.{ext_get_or, get_or-map, length-map}
 use Rattle.std.proofs.lemmas.List.FromFn.{length-map-range_with_len, get_or-map-range_with_len}
-use Rattle.vx_arrow_columns.specs.declared.format.Format.{Format}
-use Rattle.vx_arrow_columns.specs.Rows.{RowValue, null, row_at, picked}
-use Rattle.vx_arrow_columns.specs.Image.{Part, is_valid, holds_valid, is_placed, is_sound, fits, value_at, row_of, column_of}
+use Rattle.vx_arrow_image.specs.declared.format.Format.{Format}
+use Rattle.vx_arrow_image.specs.Rows.{RowValue, null, row_at, picked}
+use Rattle.vx_arrow_image.specs.Image.{Part, is_valid, holds_valid, is_placed, is_sound, fits, value_at, row_of, column_of}
+use Rattle.vx_arrow_image.proofs.SoundNodes.{get_column, length_column}
 use Rattle.vx_arrow_columns.specs.Picks.{place_of}
 use Rattle.vx_arrow_columns.specs.Taken.{AreWithin, ShowsRows}
 

@@ -6,7 +6,7 @@ use Rattle.std.specs.List.{range_with_len}
 use Rattle.std.proofs.lemmas.Bool.{cases_eq, and_parts, ltb-true, leb-true}
 use Rattle.std.proofs.lemmas.List.{ext_get_or, get_or-map, length-map}
 use Rattle.std.proofs.lemmas.List.FromFn.{length-map-range_with_len, get_or-map-range_with_len}
-use Rattle.vx_arrow_columns.specs.Image.{Part, is_placed, is_valid, holds_valid, bit_of}
+use Rattle.vx_arrow_image.specs.Image.{Part, is_placed, is_valid, holds_valid, bit_of}
 use Rattle.vx_arrow_columns.specs.Picks.{picks_of, pick_at, place_of}
 use Rattle.vx_arrow_columns.specs.Taken.{AreWithin, ShowsRows}
 

@@ -1,6 +1,6 @@
 -- One offset more.
 use Rattle.std.proofs.Common.{◌≡◌, ◌∙◌, ◌≤◌, ◌<◌, ◌+◌, sym, refl, take, length, arith}
-use Rattle.vx_arrow_columns.specs.Image.{part_of}
+use Rattle.vx_arrow_image.specs.Image.{part_of}
 use Rattle.vx_arrow_columns.specs.Picks.{items_len, picks_of}
 use Rattle.vx_arrow_columns.proofs.Cuts.{len_more, len_within}
 use Rattle.vx_arrow_columns.proofs.PickReads.{length_picks}
