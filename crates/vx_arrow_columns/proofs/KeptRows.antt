@@ -1,5 +1,5 @@
 -- Rows of nodes whose children are kept.
-use Rattle.std.proofs.Common.{◌≡◌, ℕ, ◌+◌, ◌*◌, ◌^◌, ◌<◌, ◌≤◌, Bool, true, false, cond, List, [], length, get_or, take, drop, Option, Some, None, ap, ap₂, sym, ◌∙◌, refl, subst, arith, leb}
+use Rattle.std.proofs.Common.{◌≡◌, ℕ, ◌+◌, ◌*◌, ◌<◌, ◌≤◌, Bool, true, false, cond, List, [], length, get_or, take, drop, Option, Some, None, ap, ap₂, sym, ◌∙◌, refl, subst, arith, leb}
 use Rattle.std.specs.Prelude.{is_some, slice_range}
 use Rattle.std.specs.Int.{from_le_bytes, w32, w64}
 use Rattle.std.specs.List.{flat_map}
@@ -10,12 +10,12 @@ use Rattle.vx_arrow_image.specs.declared.format.Format.TheVariants.{TextView, Li
 use Rattle.vx_arrow_image.specs.declared.format.Offsets.{Offsets}
 use Rattle.vx_arrow_image.specs.declared.format.Offsets.TheVariants.{Short, Long}
 use Rattle.vx_arrow_image.specs.Rows.{RowValue, bytes, list, row_values}
-use Rattle.vx_arrow_image.specs.Image.{Part, all_valid, holds_starts, holds_valid, if_valid, is_list_view, is_sound, is_valid, is_view, offset_at, row_bytes, size_of, value_at, view_buffer, view_len, view_start, view_text}
+use Rattle.vx_arrow_image.specs.Image.{Part, all_valid, holds_starts, holds_valid, if_valid, is_list_view, is_valid, is_view, offset_at, row_bytes, size_of, value_at, view_buffer, view_len, view_start, view_text}
 use Rattle.vx_arrow_image.proofs.CutRows.{range_all}
 use Rattle.vx_arrow_image.proofs.SoundNodes.{sound_from}
 use Rattle.vx_arrow_image.proofs.ViewTests.{list_view_is, view_is}
 use Rattle.vx_arrow_columns.specs.Picks.{Picking, place_of}
-use Rattle.vx_arrow_columns.specs.Taken.{AllAt, AreCopied, AreInside, IsReadable, IsViewTaken, ShowsRows, is_inside}
+use Rattle.vx_arrow_columns.specs.Taken.{AreCopied, AreInside, IsReadable, IsViewTaken, ShowsRows, is_inside}
 use Rattle.vx_arrow_columns.specs.Written.{new_part}
 use Rattle.vx_arrow_columns.proofs.Columns.{placed, same_column}
 use Rattle.vx_arrow_columns.proofs.Cuts.{same_cut}

@@ -8,8 +8,10 @@ pub mod Measures
 pub mod OffsetPuts
 pub mod OwnTaken
 pub mod PickReads
+pub mod PickedTrees
 pub mod Plans
 pub mod Rooms
+pub mod SoundTrees
 pub mod Steps
 pub mod Takings
 pub mod Trees

@@ -1,18 +1,17 @@
 -- What a node of each format takes by itself.
-use Rattle.std.proofs.Common.{zero, suc, ◌≡◌, ℕ, ◌+◌, ◌-◌, ◌*◌, ◌/◌, ◌^◌, ◌<◌, ◌≤◌, Bool, true, false, cond, List, [], ◌∷◌, ◌++◌, length, get_or, take, drop, map, Option, Some, None, ap, ap₂, sym, ◌∙◌, refl, subst, arith, ltb, leb, eqb}
+use Rattle.std.proofs.Common.{zero, suc, ◌≡◌, ℕ, ◌+◌, ◌*◌, ◌^◌, ◌<◌, ◌≤◌, Bool, true, false, cond, List, [], ◌∷◌, length, get_or, take, map, Option, Some, None, ap, ap₂, sym, ◌∙◌, refl, subst, arith, ltb, leb, eqb}
 use Rattle.std.specs.Prelude.{◌||◌, is_some, slice_range, replicate}
 use Rattle.std.specs.Option.{option_map}
-use Rattle.std.specs.List.{range_with_len, list_all}
-use Rattle.std.proofs.lemmas.Bool.{and_parts, and_from, or_parts, lt-ltb, le-leb, leb-true, ltb-true, eqb-true, eq-eqb}
-use Rattle.std.proofs.lemmas.List.{ext_get_or, get_or-map, length-map, length-replicate}
-use Rattle.std.proofs.lemmas.List.FromFn.{length-map-range_with_len, get_or-map-range_with_len}
+use Rattle.std.specs.List.{list_all}
+use Rattle.std.proofs.lemmas.Bool.{and_parts, and_from, or_parts, lt-ltb, le-leb, ltb-true, eq-eqb}
+use Rattle.std.proofs.lemmas.List.{ext_get_or, get_or-map, length-map}
 use Rattle.vx_arrow_image.specs.declared.format.Format.{Format}
 use Rattle.vx_arrow_image.specs.declared.format.Format.TheVariants.{Nulls, Bits, Fixed, Text, List as Lists, FixedList, Struct, TextView, ListView}
 use Rattle.vx_arrow_image.specs.declared.format.Offsets.{Offsets}
 use Rattle.vx_arrow_image.specs.Rows.{RowValue, null, bit, bytes, list, fields, row_values, row_at, picked}
-use Rattle.vx_arrow_image.specs.Image.{Part, bit_of, is_valid, fits, holds_valid, is_placed, is_sound, value_at, row_of, column_of, offset_at, are_cut, limit_of, size_of}
-use Rattle.vx_arrow_columns.specs.Picks.{Picking, bytes_for, has_bits, inner, inner_picks, is_counted, counts_by, items_len, items_of, pick_at, picking_of, picks_of, place_of, shows_by, shows_valid}
-use Rattle.vx_arrow_columns.specs.Taken.{AreBits, AreCopied, AreCutAt, AreOffsets, AreWithin, Holds, IsNullable, IsOwnTaken, IsReadable, ShowsRows, texts_of}
+use Rattle.vx_arrow_image.specs.Image.{Part, is_valid, fits, holds_valid, is_sound, value_at, row_of, column_of, offset_at, are_cut, size_of}
+use Rattle.vx_arrow_columns.specs.Picks.{Picking, bytes_for, has_bits, inner, inner_picks, is_counted, counts_by, items_len, items_of, picks_of, place_of, shows_by, shows_valid}
+use Rattle.vx_arrow_columns.specs.Taken.{AreBits, AreCopied, AreOffsets, Holds, IsNullable, IsOwnTaken, IsReadable, ShowsRows, texts_of}
 use Rattle.vx_arrow_columns.specs.Written.{new_part}
 use Rattle.vx_arrow_image.proofs.CutRows.{are_cut_at}
 use Rattle.vx_arrow_image.proofs.SoundNodes.{get_column, length_column, sound_fits, sound_from}

@@ -1,10 +1,10 @@
 -- What a room has, and what is written to it.
-use Rattle.std.proofs.Common.{◌≡◌, ℕ, ◌+◌, ◌*◌, ◌/◌, ◌^◌, ◌<◌, ◌≤◌, Bool, true, false, cond, List, [], length, Option, Some, None, ap, sym, ◌∙◌, refl, subst, arith, leb}
+use Rattle.std.proofs.Common.{◌≡◌, ℕ, ◌≤◌, Bool, true, false, cond, List, [], length, Option, sym, ◌∙◌, subst, arith, leb}
 use Rattle.std.specs.Prelude.{◌&&◌, ◌||◌}
 use Rattle.std.proofs.lemmas.Bool.{and_parts, leb-true}
 use Rattle.vx_arrow_image.specs.declared.format.Format.{Format}
 use Rattle.vx_arrow_image.specs.Image.{Part, holds_valid}
-use Rattle.vx_arrow_columns.specs.Picks.{Picking, bytes_for, has_bits, offsets_len, picking_of, picks_of, shows_by, shows_valid, sizes_len, values_len}
+use Rattle.vx_arrow_columns.specs.Picks.{Picking, bytes_for, has_bits, offsets_len, picking_of, picks_of, shows_valid, sizes_len, values_len}
 use Rattle.vx_arrow_columns.specs.Taken.{IsNullable, ShowsRows}
 use Rattle.vx_arrow_columns.proofs.OwnTaken.{all_shown, nullable_shows, valid_holds}
 

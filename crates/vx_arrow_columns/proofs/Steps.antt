@@ -1,12 +1,12 @@
 -- One more row, written or measured.
-use Rattle.std.proofs.Common.{◌≡◌, ℕ, ◌+◌, ◌-◌, ◌*◌, ◌/◌, ◌%◌, ◌^◌, ◌<◌, ◌≤◌, ◌≢◌, Bool, true, false, List, [], ◌∷◌, ◌++◌, length, get_or, set, take, drop, eqb, get_or-set_same, get_or-set_other, Option, Some, None, ap, ap₂, sym, ◌∙◌, refl, subst, inl, inr, arith, length-append, lit<, lit≤}
+use Rattle.std.proofs.Common.{◌≡◌, ℕ, ◌+◌, ◌-◌, ◌*◌, ◌/◌, ◌%◌, ◌^◌, ◌<◌, ◌≤◌, ◌≢◌, Bool, true, List, [], ◌++◌, length, get_or, set, take, drop, eqb, get_or-set_same, get_or-set_other, Option, Some, None, ap, ap₂, sym, ◌∙◌, refl, subst, inl, inr, arith, length-append, lit<, lit≤}
 use Rattle.std.specs.Prelude.{slice_range}
 use Rattle.std.specs.Int.{bit_at}
 use Rattle.std.specs.List.{range_with_len, flat_map}
 use Rattle.std.specs.Option.{option_map}
 use Rattle.std.proofs.lemmas.Nat.Bits.{bit_at-zero}
 use Rattle.std.proofs.lemmas.Bool.{cases_eq, cases_lt}
-use Rattle.std.proofs.lemmas.List.{append-nil, length-take-le, length-drop, take_all, take_more, flat_map_more, get_or_append_left, get_or-append_right, take-take}
+use Rattle.std.proofs.lemmas.List.{append-nil, length-take-le, length-drop, take_all, take_more, flat_map_more, get_or_append_left, get_or-append_right}
 use Rattle.std.proofs.lemmas.List.FromFn.{length-range_with_len, get_or-range_with_len}
 use Rattle.std.proofs.Math.Nat.{mul-le-mul_right, add-mul, one-mul}
 use Rattle.vx_arrow_image.specs.declared.format.Offsets.{Offsets}
@@ -19,7 +19,7 @@ use Rattle.vx_arrow_columns.specs.Written.{PutsBit, PutsOffset}
 use Rattle.vx_arrow_columns.proofs.Bytes.{put_at, put_there, put_front, cut_before}
 use Rattle.vx_arrow_columns.proofs.Columns.{place_some}
 use Rattle.vx_arrow_columns.proofs.Cuts.{len_more, len_all, len_zero}
-use Rattle.vx_arrow_columns.proofs.PickReads.{get_picks, length_picks}
+use Rattle.vx_arrow_columns.proofs.PickReads.{get_picks}
 
 -- ---- the place of a pick
 

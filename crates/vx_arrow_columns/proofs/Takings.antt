@@ -1,5 +1,5 @@
 -- The rooms of all nodes, written one after another.
-use Rattle.std.proofs.Common.{zero, suc, ◌≡◌, ℕ, ◌+◌, ◌-◌, ◌<◌, ◌≤◌, ◌≢◌, Bool, true, false, List, [], ◌∷◌, ◌++◌, length, get_or, set, drop, map, Option, Some, None, ap, ap₂, sym, ◌∙◌, refl, subst, inl, inr, arith, get_or-set_same, get_or-set_other, length-set}
+use Rattle.std.proofs.Common.{zero, suc, ◌≡◌, ℕ, ◌+◌, ◌<◌, ◌≤◌, ◌≢◌, true, false, List, [], ◌∷◌, length, get_or, set, drop, Some, None, ap, ap₂, sym, ◌∙◌, refl, subst, inl, inr, arith, get_or-set_same, get_or-set_other, length-set}
 use Rattle.std.proofs.lemmas.Bool.{cases_eq}
 use Rattle.std.specs.Prelude.{IsSome, is_some}
 use Rattle.std.proofs.lemmas.List.{get_or-map, length-map}
@@ -14,12 +14,14 @@ use Rattle.vx_arrow_image.specs.declared.refusal.Refusal.TheVariants as refusals
 use Rattle.vx_arrow_columns.specs.Answer.{AreKeptSound, AreTaken, HaveRoom, IsPlanRefusal, IsRefusal, IsShort, MeansPicked}
 use Rattle.vx_arrow_image.specs.Rows.{RowValue}
 use Rattle.vx_arrow_image.specs.Image.{Part, column_in, part_of, parts_of}
-use Rattle.vx_arrow_columns.specs.Picks.{Picking, need_of, needs_by, picking_of, pickings, picks_of}
+use Rattle.vx_arrow_columns.specs.Picks.{Picking, need_of, picking_of, pickings}
 use Rattle.vx_arrow_columns.specs.Planned.{IsPlanned, IsRead, are_trees, first_len, picking_in}
 use Rattle.vx_arrow_columns.specs.Taken.{AreWithin, IsTaken, IsReadable}
 use Rattle.vx_arrow_columns.specs.Written.{has_room, written, written_by, written_part}
 use Rattle.vx_arrow_columns.proofs.Plans.{planned_at, planned_need}
-use Rattle.vx_arrow_columns.proofs.Trees.{AllTaken, column_len, picked_column, sound_column}
+use Rattle.vx_arrow_columns.proofs.PickedTrees.{picked_column}
+use Rattle.vx_arrow_columns.proofs.SoundTrees.{sound_column}
+use Rattle.vx_arrow_columns.proofs.Trees.{AllTaken, column_len}
 
 -- the rooms of the nodes before i are written, and the others are large enough
 pub record TakenTo (parts : List Part) (qs : List Picking) (needs : List Need) (i : ℕ) (rooms : List Room) : Type 0 where

@@ -1,9 +1,9 @@
 -- Walks over a table, one node at a time.
-use Rattle.std.proofs.Common.{zero, suc, ◌≡◌, ℕ, ◌+◌, ◌-◌, ◌<◌, ◌≤◌, Bool, true, false, cond, List, [], ◌∷◌, ◌++◌, length, get_or, take, drop, map, reverse, Option, Some, None, ap, ap₂, sym, ◌∙◌, refl, subst, inl, inr, arith, append_assoc, length-append}
+use Rattle.std.proofs.Common.{zero, suc, ◌≡◌, ℕ, ◌+◌, ◌-◌, ◌<◌, ◌≤◌, false, cond, List, [], ◌∷◌, ◌++◌, length, get_or, drop, map, reverse, Option, Some, None, ap, ap₂, sym, ◌∙◌, refl, subst, inl, inr, arith, append_assoc, length-append}
 use Rattle.std.specs.Prelude.{replicate}
 use Rattle.std.specs.List.{All}
-use Rattle.std.proofs.lemmas.Bool.{cases_eq, cases_lt}
-use Rattle.std.proofs.lemmas.List.{append-nil, reverse-append, length-replicate, map-append, drop_all, drop_more, get_or_append_left, get_or-append_right, get_or-map, length-map, length-drop}
+use Rattle.std.proofs.lemmas.Bool.{cases_lt}
+use Rattle.std.proofs.lemmas.List.{reverse-append, length-replicate, map-append, drop_more, get_or_append_left, get_or-append_right, length-map, length-drop}
 use Rattle.std.proofs.lemmas.List.Elements.{All-append, All-replicate, All-weaker, All-get_or, All-push, All-nil, All-cons, All-head, All-tail, All-same}
 use Rattle.vx_arrow_image.specs.declared.image.Node as image
 use Rattle.vx_arrow_image.specs.declared.image.Need.{Need}
@@ -12,7 +12,7 @@ use Rattle.vx_arrow_columns.specs.declared.plan.Job as jobs
 use Rattle.vx_arrow_columns.specs.declared.plan.Walk as walks
 use Rattle.vx_arrow_image.specs.Image.{Part, part_of, parts_of}
 use Rattle.vx_arrow_columns.specs.Picks.{Picking, all_rows, below, need_of, needs_by, picking_of, pickings}
-use Rattle.vx_arrow_columns.specs.Planned.{IsListed, IsNext, IsRead, IsSound, IsStart, IsVisited, IsWalking, are_trees, picking_by, picking_in, places_in, valid_in}
+use Rattle.vx_arrow_columns.specs.Planned.{IsListed, IsRead, IsSound, IsStart, IsVisited, IsWalking, are_trees, picking_by, picking_in, places_in, valid_in}
 use Rattle.vx_arrow_columns.specs.Taken.{AreWithin}
 
 -- ---- jobs keep their picks as lists are added

@@ -1,5 +1,5 @@
 -- What the rooms hold after a take.
-use Rattle.std.specs.Prelude.{ℕ, ◌<◌, ◌≡◌, true, false, List, [], ◌∷◌, ◌+◌, drop, length, slice_index_or, Option, Some, ⊤}
+use Rattle.std.specs.Prelude.{ℕ, ◌<◌, ◌≡◌, true, false, List, [], ◌∷◌, ◌+◌, drop, length, slice_index_or, Some, ⊤}
 use Rattle.vx_arrow_image.specs.declared.image.Need.{Need}
 use Rattle.vx_arrow_image.specs.declared.image.Room.{Room}
 use Rattle.vx_arrow_image.specs.declared.refusal.Refusal.{Refusal}

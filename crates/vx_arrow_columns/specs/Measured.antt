@@ -1,5 +1,5 @@
 -- What the tests of one node at picks find.
-use Rattle.std.specs.Prelude.{ℕ, ◌+◌, ◌^◌, ◌<◌, ◌≡◌, false, List, [], length, slice_index_or, Option, Some}
+use Rattle.std.specs.Prelude.{ℕ, ◌+◌, ◌^◌, ◌<◌, ◌≡◌, false, List, length, slice_index_or, Option, Some}
 use Rattle.vx_arrow_image.specs.declared.format.Format.TheVariants.{Struct}
 use Rattle.vx_arrow_image.specs.declared.format.Offsets.{Offsets}
 use Rattle.vx_arrow_columns.specs.declared.needs.Inner.{Inner}

@@ -1,5 +1,5 @@
 -- Picks of a column's rows, of its children's, and what the rows at them need.
-use Rattle.std.specs.Prelude.{ℕ, ◌+◌, ◌-◌, ◌*◌, ◌/◌, ◌%◌, ◌^◌, Bool, true, false, ◌&&◌, ◌||◌, List, [], ◌∷◌, ◌++◌, map, length, replicate, slice_index, slice_index_or, ◌==◌, nat_lt, if◌then◌else◌, Option, Some, None}
+use Rattle.std.specs.Prelude.{ℕ, ◌+◌, ◌-◌, ◌*◌, ◌/◌, ◌%◌, ◌^◌, Bool, true, false, ◌&&◌, ◌||◌, List, [], ◌∷◌, ◌++◌, map, length, replicate, slice_index, slice_index_or, nat_lt, if◌then◌else◌, Option, Some, None}
 use Rattle.std.specs.List.{range_with_len, flat_map, sum_by}
 use Rattle.std.specs.Option.{option_map}
 use Rattle.vx_arrow_image.specs.declared.format.Format.{Format}

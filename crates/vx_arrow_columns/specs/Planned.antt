@@ -1,6 +1,6 @@
 -- Walks over a table, and the plan that they leave.
 use Rattle.std.specs.List.{All}
-use Rattle.std.specs.Prelude.{ℕ, ◌+◌, ◌<◌, ◌≤◌, ◌≡◌, ◌==◌, Bool, true, false, zero, suc, List, [], ◌∷◌, ◌++◌, map, take, drop, length, replicate, reverse, slice_index_or, if◌then◌else◌, Option, Some, None}
+use Rattle.std.specs.Prelude.{ℕ, ◌+◌, ◌<◌, ◌≤◌, ◌≡◌, ◌==◌, Bool, true, false, zero, suc, List, [], ◌∷◌, ◌++◌, map, take, drop, length, replicate, slice_index_or, if◌then◌else◌, Option, Some, None}
 use Rattle.vx_arrow_image.specs.declared.image.Node as image
 use Rattle.vx_arrow_columns.specs.declared.needs.Inner.{Inner}
 use Rattle.vx_arrow_columns.specs.declared.places.Places as places
@@ -10,7 +10,7 @@ use Rattle.vx_arrow_columns.specs.declared.plan.Plan as plans
 use Rattle.vx_arrow_columns.specs.declared.plan.Walk as walks
 use Rattle.vx_arrow_image.specs.Image.{Part, part_of, parts_of}
 use Rattle.vx_arrow_columns.specs.Measured.{IsInner}
-use Rattle.vx_arrow_columns.specs.Picks.{Picking, all_rows, below, picking_of, need_of, needs_by, needs_of, pickings}
+use Rattle.vx_arrow_columns.specs.Picks.{Picking, all_rows, below, picking_of, need_of, needs_of, pickings}
 use Rattle.vx_arrow_columns.specs.Taken.{AreInside, AreWithin, IsReadable}
 
 -- how many rows each tree of a table has

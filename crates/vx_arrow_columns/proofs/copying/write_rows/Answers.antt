@@ -1,10 +1,10 @@
 -- One row more.
-use Rattle.std.proofs.Common.{◌≡◌, ◌∙◌, ◌≤◌, ◌*◌, ◌+◌, length, sym, refl, arith, subst, ℕ}
+use Rattle.std.proofs.Common.{◌≤◌, ◌*◌, ◌+◌, length, arith, subst, ℕ}
 use Rattle.std.proofs.Math.Nat.{mul-le-mul_right}
 use Rattle.vx_arrow_image.specs.Image.{part_of}
 use Rattle.vx_arrow_columns.specs.Picks.{picks_of}
 use Rattle.vx_arrow_columns.specs.Taken.{AreCopied}
-use Rattle.vx_arrow_columns.proofs.Steps.{row_place, copied_kept, copied_put, next_place, none_copied}
+use Rattle.vx_arrow_columns.proofs.Steps.{row_place, copied_put, next_place, none_copied}
 use Rattle.vx_arrow_columns.proofs.copying.write_rows.Goals as goal
 
 pub slice_bounds-put_bytes-end : goal.slice_bounds-put_bytes-end

@@ -1,5 +1,5 @@
 -- The bits so far.
-use Rattle.std.proofs.Common.{◌≡◌, ℕ, ◌<◌, ◌/◌, ◌≤◌, ◌+◌, length}
+use Rattle.std.proofs.Common.{◌≡◌, ℕ, ◌<◌, ◌/◌, ◌+◌, length}
 use Rattle.vx_arrow_image.specs.Image.{bit_of, is_valid}
 use Rattle.vx_arrow_columns.proofs.fixed_lists.item_valid.Given as goal
 

@@ -1,5 +1,5 @@
 -- One buffer more.
-use Rattle.std.proofs.Common.{◌≡◌, ◌<◌, ◌++◌, ◌∷◌, [], length, get_or, refl, arith, rules}
+use Rattle.std.proofs.Common.{◌≡◌, ◌++◌, ◌∷◌, [], get_or, arith, rules}
 use Rattle.vx_arrow_image.specs.Image.{part_of}
 use Rattle.vx_arrow_image.proofs.SoundNodes.{zero_node}
 use Rattle.vx_arrow_columns.proofs.Measures.{all_lens, first_lens, more_lens}

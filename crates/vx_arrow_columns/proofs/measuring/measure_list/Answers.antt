@@ -1,5 +1,5 @@
 -- The lists are tested.
-use Rattle.std.proofs.Common.{◌≡◌, ◌≤◌, ◌<◌, ◌+◌, ◌*◌, ◌/◌, length, refl, arith}
+use Rattle.std.proofs.Common.{arith}
 use Rattle.vx_arrow_image.specs.Image.{part_of}
 use Rattle.vx_arrow_columns.proofs.Measures.{list_measured}
 use Rattle.vx_arrow_columns.proofs.PickReads.{placed_end}

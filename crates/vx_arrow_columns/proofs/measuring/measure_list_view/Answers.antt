@@ -1,5 +1,5 @@
 -- There is an offset and a size for each row.
-use Rattle.std.proofs.Common.{◌≡◌, ◌≤◌, ◌<◌, ◌+◌, ◌*◌, ◌^◌, true, length, sym, ◌∙◌, arith}
+use Rattle.std.proofs.Common.{sym, arith}
 use Rattle.vx_arrow_image.specs.Image.{part_of}
 use Rattle.vx_arrow_columns.proofs.Measures.{list_view_measured}
 use Rattle.vx_arrow_columns.proofs.PickReads.{placed_end}

@@ -1,5 +1,4 @@
 -- No values are needed.
-use Rattle.std.proofs.Common.{◌≡◌, ◌≤◌, ◌<◌, ◌+◌, ◌*◌, ◌/◌, length, refl, arith}
 use Rattle.vx_arrow_image.specs.Image.{part_of}
 use Rattle.vx_arrow_columns.proofs.Measures.{nulls_measured, ok_weaker}
 use Rattle.vx_arrow_columns.proofs.measuring.measure_nulls.Goals as goal

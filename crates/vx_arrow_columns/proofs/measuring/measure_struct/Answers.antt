@@ -1,5 +1,5 @@
 -- A struct has no values of its own.
-use Rattle.std.proofs.Common.{◌≡◌, ◌≤◌, ◌<◌, ◌+◌, ◌*◌, ◌/◌, length, refl, arith}
+use Rattle.std.proofs.Common.{refl}
 use Rattle.vx_arrow_image.specs.Image.{part_of}
 use Rattle.vx_arrow_columns.proofs.Measures.{struct_measured}
 use Rattle.vx_arrow_columns.proofs.measuring.measure_struct.Goals as goal

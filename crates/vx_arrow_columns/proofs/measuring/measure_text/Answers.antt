@@ -1,5 +1,4 @@
 -- The texts are tested.
-use Rattle.std.proofs.Common.{◌≡◌, ◌≤◌, ◌<◌, ◌+◌, ◌*◌, ◌/◌, length, refl, arith}
 use Rattle.vx_arrow_image.specs.Image.{part_of}
 use Rattle.vx_arrow_columns.proofs.Measures.{ok_weaker, text_measured}
 use Rattle.vx_arrow_columns.proofs.PickReads.{placed_end}

@@ -1,5 +1,5 @@
 -- There is a view for each row.
-use Rattle.std.proofs.Common.{◌≡◌, ◌≤◌, ◌<◌, ◌+◌, ◌*◌, ◌^◌, length, refl, arith}
+use Rattle.std.proofs.Common.{refl, arith}
 use Rattle.vx_arrow_image.specs.Image.{part_of}
 use Rattle.vx_arrow_columns.proofs.Measures.{text_view_measured}
 use Rattle.vx_arrow_columns.proofs.PickReads.{placed_end}

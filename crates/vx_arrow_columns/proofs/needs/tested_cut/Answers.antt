@@ -1,5 +1,5 @@
 -- What was tested.
-use Rattle.std.proofs.Common.{◌≡◌, ◌≤◌, ◌<◌, sym, ◌∙◌, arith}
+use Rattle.std.proofs.Common.{arith}
 use Rattle.vx_arrow_image.specs.Image.{part_of}
 use Rattle.vx_arrow_image.proofs.CutRows.{cut_from}
 use Rattle.vx_arrow_columns.proofs.needs.tested_cut.Goals as goal

@@ -1,5 +1,4 @@
 -- A node that is kept, or that is measured.
-use Rattle.std.proofs.Common.{sym}
 use Rattle.vx_arrow_image.specs.Image.{part_of, parts_of}
 use Rattle.vx_arrow_columns.proofs.Plans.{kept_measured, own_measured}
 use Rattle.vx_arrow_columns.proofs.plan.measure_job.Goals as goal

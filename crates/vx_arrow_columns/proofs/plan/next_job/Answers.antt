@@ -1,5 +1,5 @@
 -- The same picks further on, or a list of places.
-use Rattle.std.proofs.Common.{refl, sym, subst, ◌∙◌, ◌≡◌, ◌+◌, ◌++◌, ◌∷◌, [], Some, None, true, false, ap, length, arith, rules}
+use Rattle.std.proofs.Common.{refl, sym, subst, ◌≡◌, ◌++◌, ◌∷◌, [], Some, None, true, false, ap, length, arith, rules}
 use Rattle.vx_arrow_columns.specs.declared.needs.Inner.{Inner}
 use Rattle.vx_arrow_columns.specs.declared.plan.Job.{Job}
 use Rattle.vx_arrow_columns.specs.Planned.{IsNext}

@@ -1,5 +1,5 @@
 -- One node more, and the end of the walk.
-use Rattle.std.proofs.Common.{◌≡◌, ◌<◌, ◌-◌, ◌+◌, get_or, drop, length, ap, ◌∙◌, refl, sym, arith}
+use Rattle.std.proofs.Common.{◌<◌, ◌-◌, ◌+◌, get_or, drop, length, ap, ◌∙◌, refl, sym, arith}
 use Rattle.std.proofs.lemmas.List.{length-map, length-drop, get_or-map, drop-map, take_all}
 use Rattle.vx_arrow_image.specs.Image.{part_of, parts_of}
 use Rattle.vx_arrow_columns.specs.Picks.{picking_of}

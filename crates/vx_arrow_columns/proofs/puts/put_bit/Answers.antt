@@ -1,5 +1,5 @@
 -- Either write leaves the other bits of the byte.
-use Rattle.std.proofs.Common.{◌≡◌, ◌/◌, ◌%◌, ◌<◌, true, false, ap, eqb, arith, w8}
+use Rattle.std.proofs.Common.{◌%◌, ◌<◌, true, false, ap, eqb, arith, w8}
 use Rattle.std.proofs.lemmas.Nat.Bits.{bit_at_set_same, bit_at_set_other, bit_at_clear_same, bit_at_clear_other}
 use Rattle.vx_arrow_columns.proofs.BitPuts.{puts, puts_from}
 use Rattle.vx_arrow_columns.proofs.puts.put_bit.Goals as goal

@@ -1,5 +1,5 @@
 -- Four bytes or eight.
-use Rattle.std.proofs.Common.{◌≡◌, ◌<◌, ◌^◌, ◌≤◌, ◌*◌, ◌+◌, ℕ, length, subst, sym, arith}
+use Rattle.std.proofs.Common.{◌<◌, ◌^◌, ◌≤◌, ◌*◌, ◌+◌, length, subst, sym, arith}
 use Rattle.vx_arrow_image.specs.declared.format.Offsets.{Offsets}
 use Rattle.vx_arrow_image.specs.Image.{limit_of, size_of}
 use Rattle.vx_arrow_columns.specs.Written.{PutsOffset}

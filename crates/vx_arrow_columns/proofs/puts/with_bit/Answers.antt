@@ -1,5 +1,5 @@
 -- The bit is set, or it was clear.
-use Rattle.std.proofs.Common.{◌≡◌, ◌∙◌, sym, ap, eqb, w8}
+use Rattle.std.proofs.Common.{◌∙◌, sym, ap, eqb, w8}
 use Rattle.std.proofs.lemmas.Nat.Bits.{bit_at_set_same, bit_at_set_other}
 use Rattle.vx_arrow_columns.proofs.puts.with_bit.Goals as goal
 

@@ -1,5 +1,5 @@
 -- As many needs as nodes.
-use Rattle.std.proofs.Common.{◌≡◌, length, arith}
+use Rattle.std.proofs.Common.{arith}
 use Rattle.std.proofs.lemmas.List.{length-map}
 use Rattle.vx_arrow_image.specs.Image.{part_of, parts_of}
 use Rattle.vx_arrow_columns.proofs.Plans.{planned_needs}

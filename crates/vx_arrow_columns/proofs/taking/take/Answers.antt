@@ -1,5 +1,5 @@
 -- What the rooms hold.
-use Rattle.std.proofs.Common.{◌≡◌, ◌∙◌, refl, length, arith}
+use Rattle.std.proofs.Common.{◌∙◌, refl, arith}
 use Rattle.std.proofs.lemmas.List.{length-map}
 use Rattle.vx_arrow_image.specs.Image.{part_of, parts_of}
 use Rattle.vx_arrow_columns.proofs.Plans.{planned_needs}

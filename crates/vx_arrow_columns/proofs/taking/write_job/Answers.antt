@@ -1,5 +1,5 @@
 -- Nothing is written where the node is kept.
-use Rattle.std.proofs.Common.{◌≡◌, ap, sym, subst, ◌∙◌}
+use Rattle.std.proofs.Common.{ap, sym, subst, ◌∙◌}
 use Rattle.vx_arrow_image.specs.Image.{part_of}
 use Rattle.vx_arrow_columns.specs.Picks.{Picking, need_of}
 use Rattle.vx_arrow_columns.specs.Taken.{IsReadable}

@@ -1,5 +1,5 @@
 -- One bit more.
-use Rattle.std.proofs.Common.{◌≡◌, ◌+◌, ◌∙◌, ℕ, ap, sym, refl, subst, arith}
+use Rattle.std.proofs.Common.{◌∙◌, ℕ, ap, refl, subst, arith}
 use Rattle.std.specs.Prelude.{is_some}
 use Rattle.vx_arrow_image.specs.Image.{part_of}
 use Rattle.vx_arrow_columns.specs.Picks.{pick_at, place_of}

@@ -1,14 +1,12 @@
 -- What the format's lemma asks for.
-use Rattle.std.proofs.Common.{◌≡◌, ◌≤◌, ◌<◌, ◌*◌, ◌+◌, ◌/◌, ℕ, length, Some, ap, sym, refl, subst, arith}
-use Rattle.std.proofs.lemmas.Bool.{ltb-true}
-use Rattle.vx_arrow_image.specs.declared.format.Format.TheVariants.{Bits, Fixed, Text, List as Lists, Struct}
-use Rattle.vx_arrow_image.specs.Image.{part_of, size_of}
-use Rattle.vx_arrow_columns.specs.Picks.{items_len, picking_of, picks_of}
-use Rattle.vx_arrow_columns.specs.Taken.{AreBits, AreCopied, AreOffsets}
-use Rattle.vx_arrow_columns.proofs.Cuts.{cut_ordered}
+use Rattle.std.proofs.Common.{ℕ, length, Some, ap, sym, subst, arith}
+use Rattle.vx_arrow_image.specs.declared.format.Format.TheVariants.{Bits}
+use Rattle.vx_arrow_image.specs.Image.{part_of}
+use Rattle.vx_arrow_columns.specs.Picks.{picking_of}
+use Rattle.vx_arrow_columns.specs.Taken.{AreBits}
 use Rattle.vx_arrow_columns.proofs.OwnTaken.{bits_taken}
 use Rattle.vx_arrow_columns.proofs.PickReads.{length_picks}
-use Rattle.vx_arrow_columns.proofs.Rooms.{held_valid, room_offsets, room_values, roomy}
+use Rattle.vx_arrow_columns.proofs.Rooms.{held_valid, room_values, roomy}
 use Rattle.vx_arrow_columns.proofs.writing.write_bits_node.Goals as goal
 
 pub write_bits-requires-clause-room : goal.write_bits-requires-clause-room

@@ -1,5 +1,4 @@
 -- What the format's lemma asks for.
-use Rattle.std.proofs.Common.{refl}
 use Rattle.vx_arrow_image.specs.Image.{part_of}
 use Rattle.vx_arrow_columns.specs.Picks.{picking_of}
 use Rattle.vx_arrow_columns.proofs.FixedLists.{fixed_list_taken}

@@ -1,7 +1,7 @@
 -- What the format's lemma asks for.
-use Rattle.std.proofs.Common.{◌≡◌, ◌≤◌, ◌*◌, ◌+◌, ℕ, length, Some, ap, sym, ◌∙◌, refl, subst, arith}
+use Rattle.std.proofs.Common.{◌≡◌, ◌*◌, ℕ, length, Some, ap, sym, subst, arith}
 use Rattle.std.proofs.lemmas.Bool.{leb-true}
-use Rattle.vx_arrow_image.specs.declared.format.Format.TheVariants.{TextView, ListView}
+use Rattle.vx_arrow_image.specs.declared.format.Format.TheVariants.{ListView}
 use Rattle.vx_arrow_image.specs.Image.{part_of, size_of}
 use Rattle.vx_arrow_columns.specs.Picks.{picking_of, picks_of}
 use Rattle.vx_arrow_columns.specs.Taken.{AreCopied}

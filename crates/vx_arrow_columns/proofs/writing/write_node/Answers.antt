@@ -1,5 +1,5 @@
 -- Each format has its own way; nulls have no lists of their own.
-use Rattle.std.proofs.Common.{◌≡◌, Some, None, refl, sym, ◌∙◌, rules}
+use Rattle.std.proofs.Common.{◌≡◌, Some, None, refl, rules}
 use Rattle.vx_arrow_image.specs.declared.format.Format.TheVariants.{Nulls, Bits, Fixed, Text, Struct, List as Lists, FixedList, TextView, ListView}
 use Rattle.vx_arrow_image.specs.Image.{format_in, part_of}
 use Rattle.vx_arrow_columns.proofs.OwnTaken.{no_format, nulls_node}

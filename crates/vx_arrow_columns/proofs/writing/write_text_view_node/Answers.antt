@@ -1,9 +1,8 @@
 -- What the format's lemma asks for.
-use Rattle.std.proofs.Common.{◌≡◌, ◌≤◌, ◌*◌, ◌+◌, ℕ, length, Some, ap, sym, ◌∙◌, refl, subst, arith}
-use Rattle.std.proofs.lemmas.Bool.{leb-true}
-use Rattle.vx_arrow_image.specs.declared.format.Format.TheVariants.{TextView, ListView}
-use Rattle.vx_arrow_image.specs.Image.{part_of, size_of}
-use Rattle.vx_arrow_columns.specs.Picks.{picking_of, picks_of}
+use Rattle.std.proofs.Common.{◌≤◌, ◌*◌, ◌+◌, ℕ, length, Some, ap, sym, subst, arith}
+use Rattle.vx_arrow_image.specs.declared.format.Format.TheVariants.{TextView}
+use Rattle.vx_arrow_image.specs.Image.{part_of}
+use Rattle.vx_arrow_columns.specs.Picks.{picking_of}
 use Rattle.vx_arrow_columns.specs.Taken.{AreCopied}
 use Rattle.vx_arrow_columns.proofs.KeptRows.{text_view_taken}
 use Rattle.vx_arrow_columns.proofs.OwnTaken.{held_by}

@@ -1,7 +1,7 @@
 -- One text more.
-use Rattle.std.proofs.Common.{◌≡◌, ◌∙◌, ◌≤◌, ◌<◌, ◌+◌, ◌-◌, sym, refl, take, length, arith}
+use Rattle.std.proofs.Common.{◌∙◌, ◌<◌, refl, length, arith}
 use Rattle.vx_arrow_image.specs.Image.{part_of}
-use Rattle.vx_arrow_columns.specs.Picks.{items_len, picks_of}
+use Rattle.vx_arrow_columns.specs.Picks.{picks_of}
 use Rattle.vx_arrow_image.proofs.CutRows.{cut_end, cut_up}
 use Rattle.vx_arrow_columns.proofs.Cuts.{len_within}
 use Rattle.vx_arrow_columns.proofs.PickReads.{length_picks}

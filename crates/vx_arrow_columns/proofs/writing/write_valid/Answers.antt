@@ -1,5 +1,5 @@
 -- One byte more, and the last one.
-use Rattle.std.proofs.Common.{◌≡◌, ◌+◌, ◌*◌, ◌/◌, ◌%◌, ◌<◌, length, length-set, refl, arith}
+use Rattle.std.proofs.Common.{◌*◌, ◌/◌, ◌%◌, length, length-set, refl, arith}
 use Rattle.vx_arrow_image.specs.Image.{part_of}
 use Rattle.vx_arrow_columns.proofs.PickReads.{shown_all}
 use Rattle.vx_arrow_columns.proofs.Steps.{byte_put}

@@ -1,5 +1,5 @@
 -- Bits are written, or none are needed.
-use Rattle.std.proofs.Common.{◌≡◌, ◌≤◌, ◌*◌, refl, sym, ◌∙◌, arith, length}
+use Rattle.std.proofs.Common.{refl, sym, arith}
 use Rattle.vx_arrow_image.specs.Image.{part_of}
 use Rattle.vx_arrow_columns.specs.Picks.{picking_of}
 use Rattle.vx_arrow_columns.proofs.PickReads.{length_picks}

@@ -1,5 +1,5 @@
 -- The facts of the steps, in order.
-use Rattle.std.proofs.Common.{◌≡◌, ◌≤◌, ◌+◌, ◌++◌, ◌∷◌, [], List, length, ap, sym, subst, ◌∙◌, refl, arith, rules}
+use Rattle.std.proofs.Common.{◌≡◌, ◌≤◌, ◌+◌, ◌++◌, ◌∷◌, [], List, length, ap, subst, ◌∙◌, arith, rules}
 use Rattle.vx_arrow_columns.specs.declared.places.Places.{Places}
 use Rattle.vx_arrow_image.specs.Image.{part_of, parts_of}
 use Rattle.std.specs.Prelude.{replicate}
