@@ -10,7 +10,7 @@ use crate::image::Node;
 use crate::offsets::{cut_at, holds_offsets};
 use crate::refusal::{Lack, Refusal};
 use crate::unions::{has_child, holds_ids, ids_lack};
-use crate::views::{holds_starts, is_list_view, is_view};
+use crate::views::{holds_starts, is_list_view, is_view, list_views_lack};
 use std::alloc::Global;
 
 // Whether the rows have numbers below 2^60, and a bit of validity each, if there are any.
@@ -231,24 +231,6 @@ fn fits(format: Format, node: &Node, lens: &[u64]) -> bool
             let count = if lens.is_empty() { 0 } else { lens[0] };
             node.children == 1 && are_cut(size, node, count)
         }
-    }
-}
-
-// What list views lack that don't fit.
-fn list_views_lack(size: Offsets, node: &Node) -> Lack
-    requires { node.now.offset + node.now.len < 2 ^ 60 }
-{
-    let end = node.offset + node.len;
-    if node.children != 1 {
-        return Lack::Children;
-    }
-    if !holds_starts(size, node.offsets, end) {
-        return Lack::Offsets;
-    }
-    if holds_starts(size, node.sizes, end) {
-        Lack::Items
-    } else {
-        Lack::Sizes
     }
 }
 
