@@ -173,20 +173,6 @@ pub first_is : (nodes : List image.Node) (d : image.Node) (q : List (Option ℕ)
 first_is [] d q w some = absurd (omega arith)
 first_is (n ∷ nodes) d q w some = w
 
--- the node that a read past the end would give
-abbrev pub zero_node : image.Node
-zero_node = record {
-  format = 0;
-  width = 0;
-  len = 0;
-  offset = 0;
-  children = 0;
-  valid = record { ref_ptr = (0, 0); now = [] };
-  offsets = record { ref_ptr = (0, 0); now = [] };
-  values = record { ref_ptr = (0, 0); now = [] };
-  sizes = record { ref_ptr = (0, 0); now = [] };
-}
-
 pub first_was : (nodes : List image.Node) (d : image.Node) (q : List (Option ℕ)) → AreWithin q (first_len nodes) → 0 < length nodes → AreWithin q (get_or nodes 0 d).len
 first_was [] d q w some = absurd (omega arith)
 first_was (n ∷ nodes) d q w some = w

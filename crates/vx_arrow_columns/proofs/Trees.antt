@@ -11,11 +11,6 @@ use Rattle.vx_arrow_columns.specs.Planned.{are_trees}
 use Rattle.vx_arrow_columns.specs.Taken.{AreWithin, IsOwnTaken}
 use Rattle.vx_arrow_columns.proofs.Columns.{length_column}
 
-pub with_part_is : (p : Part) (cs : List (List RowValue)) → p.children ≤ length cs → is_sound p (map length (take p.children cs)) ≡ true
-    → with_part p cs ≡ Some (column_of p (take p.children cs) ∷ drop p.children cs)
-unfolding with_part
-with_part_is p cs h s = ap (λ b. cond b (Some (column_of p (take p.children cs) ∷ drop p.children cs)) None) (and_from _ _ (le-leb _ _ h) s)
-
 -- a node before columns that it goes with
 pub record Joined (p : Part) (cs ds : List (List RowValue)) : Type 0 where
   pub enough : p.children ≤ length cs
