@@ -1,7 +1,7 @@
 -- The rows of a column in memory, as the rows of the model.
 use Rattle.std.specs.Prelude.{List, map}
 use Rattle.vx_types.specs.RowValue.{RowValue, RowValues, null, bit, bytes, list, fields, none, more}
-use Rattle.vx_arrow_columns.specs.Rows as rows
+use Rattle.vx_arrow_image.specs.Rows as rows
 
 mutual
   -- the model's row that a row stands for

@@ -6,11 +6,11 @@ use Rattle.vx_arrow.specs.Answer.{AreMeant, IfPicks, IsBroken, walk_in}
 use Rattle.vx_arrow.specs.Image.{StepParts, first_lack, steps_in}
 use Rattle.vx_arrow.specs.declared.refusal.Refusal as steps_refused
 use Rattle.vx_arrow.specs.declared.refusal.Refusal.TheVariants as step_refusals
-use Rattle.vx_arrow_columns.specs.declared.image.Need.{Need}
-use Rattle.vx_arrow_columns.specs.declared.image.Node.{Node}
-use Rattle.vx_arrow_columns.specs.declared.image.Room.{Room}
-use Rattle.vx_arrow_columns.specs.Rows as rows
-use Rattle.vx_arrow_columns.specs.Image.{column_in, parts_of}
+use Rattle.vx_arrow_image.specs.declared.image.Need.{Need}
+use Rattle.vx_arrow_image.specs.declared.image.Node.{Node}
+use Rattle.vx_arrow_image.specs.declared.image.Room.{Room}
+use Rattle.vx_arrow_image.specs.Rows as rows
+use Rattle.vx_arrow_image.specs.Image.{column_in, parts_of}
 use Rattle.vx_arrow_columns.specs.Picks.{Picking, needs_of}
 use Rattle.vx_arrow_columns.specs.Planned.{first_len}
 use Rattle.vx_arrow_columns.specs.Written.{written}

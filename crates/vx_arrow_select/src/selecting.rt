@@ -1,7 +1,7 @@
 //! Steps over a column, composed and taken.
 ghost use Rattle.std.specs.Prelude.{◌≡◌, IfErr, IfOk, OnErr, OnOk, length, map};
 ghost use Rattle.vx_arrow.specs.Image.{step_parts};
-ghost use Rattle.vx_arrow_columns.specs.Image.{parts_of};
+ghost use Rattle.vx_arrow_image.specs.Image.{parts_of};
 ghost use Rattle.vx_arrow_columns.specs.Picks.{needs_of, picking_of};
 ghost use Rattle.vx_arrow_select.specs.Selected.{AreComposed, AreNeeds, IsFault, IsStepFault, IsSelected};
 
