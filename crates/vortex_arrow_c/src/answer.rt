@@ -56,6 +56,7 @@ fn code_of(lack: Lack) -> u64
         Lack::Offsets => 6,
         Lack::Items => 7,
         Lack::Length => 8,
+        Lack::Sizes => 9,
     }
 }
 

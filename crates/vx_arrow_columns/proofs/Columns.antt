@@ -1,13 +1,11 @@
 -- When a written node has the rows at picks.
-use Rattle.std.proofs.Common.{◌≡◌, ℕ, ◌+◌, ◌-◌, ◌*◌, ◌^◌, ◌<◌, ◌≤◌, Bool, true, false, cond, List, [], ◌∷◌, ◌++◌, length, get_or, take, drop, map, Option, Some, None, ap, sym, ◌∙◌, refl, subst, arith, ltb, leb}
+use Rattle.std.proofs.Common.{◌≡◌, ℕ, ◌+◌, ◌*◌, ◌^◌, ◌<◌, ◌≤◌, Bool, true, false, cond, List, [], ◌∷◌, length, get_or, Option, Some, None, ap, sym, ◌∙◌, refl, arith}
 use Rattle.std.specs.Prelude.{is_some}
-use Rattle.std.specs.List.{range_with_len}
-use Rattle.std.proofs.lemmas.Bool.{and_parts, and_from, lt-ltb, le-leb, leb-true}
+use Rattle.std.proofs.lemmas.Bool.{and_from, lt-ltb, le-leb}
 use Rattle.std.proofs.lemmas.List.{ext_get_or, get_or-map, length-map}
-use Rattle.std.proofs.lemmas.List.FromFn.{length-map-range_with_len, get_or-map-range_with_len}
-use Rattle.vx_arrow_columns.specs.declared.format.Format.{Format}
-use Rattle.vx_arrow_columns.specs.Rows.{RowValue, null, row_at, picked}
-use Rattle.vx_arrow_columns.specs.Image.{Part, is_valid, holds_valid, is_placed, is_sound, fits, value_at, row_of, column_of}
+use Rattle.vx_arrow_image.specs.Rows.{RowValue, null, row_at, picked}
+use Rattle.vx_arrow_image.specs.Image.{Part, is_valid, holds_valid, is_placed, value_at, row_of, column_of}
+use Rattle.vx_arrow_image.proofs.SoundNodes.{get_column, length_column}
 use Rattle.vx_arrow_columns.specs.Picks.{place_of}
 use Rattle.vx_arrow_columns.specs.Taken.{AreWithin, ShowsRows}
 

@@ -1,14 +1,15 @@
 -- Lists cut by the lengths of what they are joined from.
-use Rattle.std.proofs.Common.{zero, suc, ◌≡◌, ℕ, ◌+◌, ◌-◌, ◌*◌, ◌^◌, ◌<◌, ◌≤◌, Bool, true, false, List, [], ◌∷◌, ◌++◌, length, get_or, take, drop, map, Option, Some, None, ap, ap₂, sym, ◌∙◌, refl, subst, inl, inr, arith, leb, ltb, length-append}
+use Rattle.std.proofs.Common.{zero, suc, ◌≡◌, ℕ, ◌+◌, ◌-◌, ◌*◌, ◌<◌, ◌≤◌, true, List, [], ◌∷◌, ◌++◌, length, get_or, take, drop, map, Option, Some, None, ap, ap₂, sym, ◌∙◌, refl, subst, arith, length-append}
 use Rattle.std.specs.Prelude.{slice_range}
-use Rattle.std.specs.List.{range_with_len, list_all, flat_map, sum_by}
-use Rattle.std.proofs.lemmas.Bool.{or_right, cases_eq, and_parts, and_from, le-leb, leb-true, lt-ltb, ltb-true, eqb-true}
-use Rattle.std.proofs.lemmas.List.{drop-take, take-take, length-take-le, length-drop, take_at, drop_at, take_all, ext_get_or, get_or-take, get_or-drop, length-map, get_or-map, take-map, drop-map}
-use Rattle.std.proofs.lemmas.List.FromFn.{length-range_with_len, get_or-range_with_len, length-map-range_with_len, get_or-map-range_with_len}
+use Rattle.std.specs.List.{range_with_len, flat_map, sum_by}
+use Rattle.std.proofs.lemmas.Bool.{or_right, le-leb}
+use Rattle.std.proofs.lemmas.List.{drop-take, take-take, length-take-le, length-drop, take_at, take_all, ext_get_or, get_or-take, get_or-drop, take-map, drop-map}
+use Rattle.std.proofs.lemmas.List.FromFn.{length-range_with_len, length-map-range_with_len, get_or-map-range_with_len}
 use Rattle.std.proofs.lemmas.List.Sums.{sum_by_more, sum_by-cons, sum_by_more_le}
-use Rattle.vx_arrow_columns.specs.declared.format.Offsets.{Offsets}
-use Rattle.vx_arrow_columns.specs.Rows.{RowValue, null, row_at, picked}
-use Rattle.vx_arrow_columns.specs.Image.{Part, holds_offsets, is_cut, are_cut, limit_of, offset_at, size_of}
+use Rattle.vx_arrow_image.specs.declared.format.Offsets.{Offsets}
+use Rattle.vx_arrow_image.specs.Rows.{RowValue, null, picked}
+use Rattle.vx_arrow_image.specs.Image.{Part, holds_offsets, is_cut, are_cut, limit_of, offset_at, size_of}
+use Rattle.vx_arrow_image.proofs.CutRows.{are_cut_from, cut_end, cut_from, cut_up}
 use Rattle.vx_arrow_columns.specs.Picks.{items_len, items_of, place_of, row_items, row_len}
 use Rattle.vx_arrow_columns.specs.Taken.{AreCutAt, AreOffsets, AreOrdered, row_text, texts_of}
 

@@ -1,22 +1,22 @@
 -- Lists of a fixed size.
-use Rattle.std.proofs.Common.{◌≡◌, ℕ, ◌+◌, ◌-◌, ◌*◌, ◌/◌, ◌%◌, ◌^◌, ◌<◌, ◌≤◌, ◌≢◌, Bool, true, false, cond, List, [], ◌∷◌, ◌++◌, length, get_or, take, drop, map, Option, Some, None, ap, ap₂, sym, ◌∙◌, refl, subst, inl, inr, arith, leb, eqb}
+use Rattle.std.proofs.Common.{◌≡◌, ℕ, ◌+◌, ◌-◌, ◌*◌, ◌/◌, ◌%◌, ◌^◌, ◌<◌, ◌≤◌, Bool, true, false, cond, List, [], ◌∷◌, ◌++◌, length, get_or, take, drop, map, Option, Some, None, ap, ap₂, sym, ◌∙◌, refl, subst, inl, inr, arith, eqb}
 use Rattle.std.specs.Prelude.{is_some, replicate}
 use Rattle.std.specs.Option.{option_map}
-use Rattle.std.specs.List.{range_with_len}
-use Rattle.std.proofs.lemmas.Bool.{and_parts, and_from, cases_eq, cases_lt, eq-eqb, le-leb, leb-true, ltb-true, lt-ltb, eqb-true}
+use Rattle.std.proofs.lemmas.Bool.{and_parts, and_from, cases_eq, cases_lt, eq-eqb, le-leb, leb-true}
 use Rattle.std.proofs.lemmas.List.{ext_get_or, get_or-map, length-map, get_or-take, get_or-drop, length-take-le, length-drop, get_or_append_left, get_or-append_right}
 use Rattle.std.proofs.lemmas.List.FromFn.{length-map-range_with_len, get_or-map-range_with_len}
 use Rattle.std.proofs.lemmas.Nat.{div-mul-add, mod-mul-add, div-add-mod'}
 use Rattle.std.proofs.Math.Nat.{mul-le-mul_left, mul-le-mul_right, mod-lt}
-use Rattle.vx_arrow_columns.specs.declared.format.Format.{Format}
-use Rattle.vx_arrow_columns.specs.declared.format.Format.TheVariants.{FixedList}
-use Rattle.vx_arrow_columns.specs.Rows.{RowValue, null, list, row_at, row_values, picked}
-use Rattle.vx_arrow_columns.specs.Image.{Part, bit_of, fits, holds_valid, is_sound, is_valid, value_at, column_of}
+use Rattle.vx_arrow_image.specs.declared.format.Format.{Format}
+use Rattle.vx_arrow_image.specs.declared.format.Format.TheVariants.{FixedList}
+use Rattle.vx_arrow_image.specs.Rows.{RowValue, null, list, row_at, row_values, picked}
+use Rattle.vx_arrow_image.specs.Image.{Part, bit_of, holds_valid, is_sound, is_valid, value_at}
 use Rattle.vx_arrow_columns.specs.Measured.{AreItemPlaces}
-use Rattle.vx_arrow_columns.specs.Picks.{Picking, fixed_item, fixed_items, inner, inner_picks, pick_at, picks_of, place_of}
+use Rattle.vx_arrow_columns.specs.Picks.{Picking, fixed_item, fixed_items, inner, inner_picks, pick_at, picks_of}
 use Rattle.vx_arrow_columns.specs.Taken.{AreWithin, IsOwnTaken, IsReadable, ShowsRows}
 use Rattle.vx_arrow_columns.specs.Written.{PutsBit, new_part}
-use Rattle.vx_arrow_columns.proofs.Columns.{placed, place_some, place_between, same_column, sound_fits, sound_from}
+use Rattle.vx_arrow_image.proofs.SoundNodes.{sound_fits, sound_from}
+use Rattle.vx_arrow_columns.proofs.Columns.{placed, place_some, same_column}
 use Rattle.vx_arrow_columns.proofs.OwnTaken.{few_picks, held_by}
 use Rattle.vx_arrow_columns.proofs.PickReads.{get_picks, length_picks}
 use Rattle.vx_arrow_columns.proofs.Steps.{next_place}
@@ -54,9 +54,9 @@ fixed_cell p q c k i low e inside wide =
     ∙ ap (row_at c) (get_items p q (k * w + j) at ∙ item_at p q k j i small e)
     ∙ sym (get_or-take w (drop ((p.offset + i) * w) c) j null small ∙ get_or-drop ((p.offset + i) * w) c j null))
 
-pub fixed_list_taken : (p : Part) (q : Picking) (v o x : List ℕ) → p.format ≡ Some FixedList → IsReadable p q.picks → ShowsRows p q.picks v → holds_valid v (length q.picks) ≡ true → IsOwnTaken p (new_part p q v o x) q
-fixed_list_taken p q v o x format r shows valid =
-    let w = new_part p q v o x in
+pub fixed_list_taken : (p : Part) (q : Picking) (v o x s : List ℕ) → p.format ≡ Some FixedList → IsReadable p q.picks → ShowsRows p q.picks v → holds_valid v (length q.picks) ≡ true → IsOwnTaken p (new_part p q v o x s) q
+fixed_list_taken p q v o x s format r shows valid =
+    let w = new_part p q v o x s in
     let held = held_by p q.picks (Some FixedList) format r in
     let one = held.0 in
     let is : (inner p q).picks ≡ fixed_items p q.picks = ap (λ (y : Option Format). inner_picks y p q.picks) format in
@@ -68,10 +68,10 @@ fixed_list_taken p q v o x format r shows valid =
       len = refl;
       sound = subst (λ (n : ℕ). is_sound w (replicate n (length (inner p q).picks)) ≡ true) (sym one)
           (sound_from w (length (inner p q).picks ∷ []) (Some FixedList) format (placed w refl (few_picks p q.picks r.counted) valid) (and_from _ _ (eq-eqb _ _ one) (le-leb _ _ room)));
-      column = λ cs few s. same_column p w cs (map (picked (inner p q).picks) cs) q.picks refl refl shows r.within (λ k n h e.
+      column = λ cs few own. same_column p w cs (map (picked (inner p q).picks) cs) q.picks refl refl shows r.within (λ k n h e.
           let back = place_some p (get_or q.picks k None) n e in
           let c = get_or cs 0 [] in
-          let fit = (and_parts (eqb p.children 1) _ (sound_fits p (map length cs) (Some FixedList) format s)).1 in
+          let fit = (and_parts (eqb p.children 1) _ (sound_fits p (map length cs) (Some FixedList) format own)).1 in
           let wide : (p.offset + p.len) * p.width ≤ length c = subst (λ (m : ℕ). (p.offset + p.len) * p.width ≤ m) (get_or-map length cs 0 [] 0 (omega arith)) (leb-true _ _ fit) in
           ap (λ (y : Option Format). value_at y w (map (picked (inner p q).picks) cs) k) format
           ∙ ap (λ (l : List RowValue). list (row_values (take p.width (drop (k * p.width) l)))) (get_or-map (picked (inner p q).picks) cs 0 [] [] (omega arith) ∙ ap (λ (l : List (Option ℕ)). picked l c) is)

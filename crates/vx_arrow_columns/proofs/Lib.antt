@@ -3,13 +3,15 @@ pub mod Bytes
 pub mod Columns
 pub mod Cuts
 pub mod FixedLists
+pub mod KeptRows
 pub mod Measures
-pub mod OffsetReads
+pub mod OffsetPuts
 pub mod OwnTaken
 pub mod PickReads
+pub mod PickedTrees
 pub mod Plans
 pub mod Rooms
-pub mod Stacks
+pub mod SoundTrees
 pub mod Steps
 pub mod Takings
 pub mod Trees

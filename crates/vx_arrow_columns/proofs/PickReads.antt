@@ -1,12 +1,11 @@
 -- What picks are, and where their rows stand.
-use Rattle.std.proofs.Common.{map, ◌≡◌, ℕ, ◌+◌, ◌*◌, ◌^◌, ◌<◌, ◌≤◌, Bool, true, false, cond, List, [], ◌∷◌, length, get_or, Option, Some, None, arith, ap, ap₂, ◌∙◌, sym, refl, subst, ltb, leb, inl, inr}
+use Rattle.std.proofs.Common.{map, ◌≡◌, ℕ, ◌+◌, ◌*◌, ◌^◌, ◌<◌, ◌≤◌, Bool, true, false, cond, List, [], ◌∷◌, length, get_or, Option, Some, None, arith, ap, ◌∙◌, sym, refl, inl, inr}
 use Rattle.std.specs.Prelude.{is_some}
 use Rattle.std.specs.Option.{option_map}
-use Rattle.std.specs.List.{range_with_len}
-use Rattle.std.proofs.lemmas.Bool.{cases_eq, and_parts, ltb-true, leb-true}
+use Rattle.std.proofs.lemmas.Bool.{cases_eq, and_parts, ltb-true}
 use Rattle.std.proofs.lemmas.List.{ext_get_or, get_or-map, length-map}
 use Rattle.std.proofs.lemmas.List.FromFn.{length-map-range_with_len, get_or-map-range_with_len}
-use Rattle.vx_arrow_columns.specs.Image.{Part, is_placed, is_valid, holds_valid, bit_of}
+use Rattle.vx_arrow_image.specs.Image.{Part, is_placed, is_valid, bit_of}
 use Rattle.vx_arrow_columns.specs.Picks.{picks_of, pick_at, place_of}
 use Rattle.vx_arrow_columns.specs.Taken.{AreWithin, ShowsRows}
 

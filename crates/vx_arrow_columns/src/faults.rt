@@ -3,8 +3,8 @@ ghost use Rattle.std.specs.Prelude.{ℕ};
 ghost use Rattle.vx_arrow_columns.specs.Answer.{IsPlanRefusal};
 ghost use Rattle.vx_arrow_columns.specs.Picks.{Picking};
 
-use crate::refusal::{Lack, Refusal};
 use std::alloc::AllocFailed;
+use vx_arrow_image::{Lack, Refusal};
 
 /// Why a node's rows at picks are not there.
 #[derive(Clone, Copy)]

@@ -1,5 +1,5 @@
 -- Rows that are tested one after another, and cuts.
-use Rattle.std.proofs.Common.{zero, suc, ◌≡◌, ℕ, ◌+◌, ◌<◌, ◌≤◌, Bool, true, false, List, length, ap, sym, ◌∙◌, refl, inl, inr, arith, leb, ltb}
+use Rattle.std.proofs.Common.{zero, suc, ◌≡◌, ℕ, ◌+◌, ◌<◌, ◌≤◌, Bool, true, ap, ◌∙◌, refl, inl, inr, arith, leb, ltb}
 use Rattle.std.specs.List.{range_with_len, list_all}
 use Rattle.std.proofs.lemmas.Bool.{cases_eq, and_parts, and_from, le-leb, leb-true, lt-ltb, ltb-true}
 use Rattle.vx_arrow_image.specs.declared.format.Offsets.{Offsets}

@@ -1,14 +1,13 @@
 -- The stack of lengths with which a table is tested from its end.
-use Rattle.std.proofs.Common.{zero, suc, ◌≡◌, ℕ, ◌+◌, ◌-◌, ◌*◌, ◌^◌, ◌<◌, ◌≤◌, Bool, true, false, List, [], ◌∷◌, ◌++◌, length, get_or, take, drop, set, map, Option, Some, None, ap, ap₂, sym, ◌∙◌, refl, subst, arith, ltb, leb, eqb, cond, inl, inr, take-append-drop, length-set}
-use Rattle.std.specs.Prelude.{◌&&◌, ◌||◌, is_some, unwrap_or, IsSome}
+use Rattle.std.proofs.Common.{◌≡◌, ℕ, ◌+◌, ◌-◌, ◌^◌, ◌<◌, ◌≤◌, Bool, true, false, List, [], ◌∷◌, ◌++◌, length, get_or, take, drop, set, map, Option, Some, None, ap, ap₂, sym, ◌∙◌, refl, arith, leb, cond, take-append-drop, length-set}
+use Rattle.std.specs.Prelude.{◌&&◌, is_some, IsSome}
 use Rattle.std.specs.Option.{option_and_then}
-use Rattle.std.proofs.lemmas.Bool.{and_from, and_left, and_right, and_parts, lt-ltb, le-ltb, le-leb, leb-true, ltb-true}
-use Rattle.std.proofs.lemmas.List.{length-map, get_or-map, length-drop, drop_all, drop_more, drop-drop, drop-map, drop-set, take-map}
+use Rattle.std.proofs.lemmas.Bool.{and_left, and_right, and_parts, lt-ltb, le-ltb, le-leb, leb-true}
+use Rattle.std.proofs.lemmas.List.{length-map, length-drop, drop_all, drop_more, drop-drop, drop-map, drop-set, take-map}
 use Rattle.vx_arrow_image.specs.declared.format.Format.{Format}
 use Rattle.vx_arrow_image.specs.declared.format.Offsets.{Offsets}
-use Rattle.vx_arrow_image.specs.declared.image.Node as image
 use Rattle.vx_arrow_image.specs.Rows.{RowValue}
-use Rattle.vx_arrow_image.specs.Image.{Part, all_valid, if_valid, are_cut, column_in, column_of, columns_in, fits, holds_offsets, holds_valid, is_cut, is_placed, is_sound, limit_of, offset_at, only, part_of, parts_of, with_part}
+use Rattle.vx_arrow_image.specs.Image.{Part, all_valid, if_valid, are_cut, column_in, column_of, columns_in, fits, holds_offsets, holds_valid, is_cut, is_placed, is_sound, limit_of, offset_at, only, with_part}
 use Rattle.vx_arrow_image.proofs.CutRows.{are_cut_at, are_cut_from, cut_small, cut_up, range_all, range_at}
 use Rattle.vx_arrow_image.proofs.SoundNodes.{length_column, sound_from, with_part_is}
 

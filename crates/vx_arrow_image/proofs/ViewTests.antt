@@ -1,5 +1,5 @@
 -- The tests of a view, one after another.
-use Rattle.std.proofs.Common.{◌≡◌, ℕ, ◌+◌, ◌*◌, ◌^◌, ◌<◌, ◌≤◌, Bool, true, false, List, length, get_or, ap, ap₂, sym, ◌∙◌, refl, leb, ltb}
+use Rattle.std.proofs.Common.{◌≡◌, ℕ, ◌+◌, ◌^◌, ◌<◌, ◌≤◌, Bool, true, false, List, length, get_or, ap, ap₂, sym, ◌∙◌, leb, ltb}
 use Rattle.std.specs.Prelude.{◌&&◌, ◌||◌}
 use Rattle.std.proofs.lemmas.Bool.{and_left, le-ltb, le-leb, lt-leb, lt-ltb, or_left}
 use Rattle.vx_arrow_image.specs.declared.format.Offsets.{Offsets}

@@ -1,5 +1,5 @@
 -- All rows were tested, or one is not cut as it should be.
-use Rattle.std.proofs.Common.{◌≡◌, ◌≤◌, ◌+◌, sym, ◌∙◌, arith}
+use Rattle.std.proofs.Common.{sym, arith}
 use Rattle.vx_arrow_image.specs.Image.{part_of}
 use Rattle.vx_arrow_image.proofs.Stacks.{cut_all, cut_falls, cut_short}
 use Rattle.vx_arrow_image.proofs.checking.are_cut.Goals as goal

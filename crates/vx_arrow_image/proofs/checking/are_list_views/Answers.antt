@@ -1,5 +1,5 @@
 -- All rows were tested, or one doesn't lie where it should.
-use Rattle.std.proofs.Common.{◌≡◌, ◌≤◌, ◌+◌, sym, ◌∙◌, arith}
+use Rattle.std.proofs.Common.{sym, arith}
 use Rattle.vx_arrow_image.specs.Image.{is_list_view, part_of}
 use Rattle.vx_arrow_image.proofs.Stacks.{valid_all, valid_falls}
 use Rattle.vx_arrow_image.proofs.checking.are_list_views.Goals as goal

@@ -1,9 +1,9 @@
 -- One node more, or none has a place.
-use Rattle.std.proofs.Common.{◌≡◌, ◌+◌, ◌-◌, ◌<◌, length, true, false, refl, sym, ◌∙◌, ap, arith}
+use Rattle.std.proofs.Common.{◌-◌, ◌<◌, length, refl, sym, ◌∙◌, ap, arith}
 use Rattle.std.proofs.lemmas.List.{length-map, get_or-map}
 use Rattle.vx_arrow_image.specs.Image.{part_of, parts_of, is_sound}
 use Rattle.vx_arrow_image.proofs.SoundNodes.{zero_node}
-use Rattle.vx_arrow_image.proofs.Stacks.{different, same_part, stack_first, stack_next, stack_none, stack_other, stack_some}
+use Rattle.vx_arrow_image.proofs.Stacks.{different, same_part, stack_next, stack_none, stack_other, stack_some}
 use Rattle.vx_arrow_image.proofs.checking.check.Goals as goal
 
 pub returns-then-node-nodes-clause-unsound : goal.returns-then-node-nodes-clause-unsound

@@ -1,6 +1,6 @@
 -- The three tests, in order.
-use Rattle.std.proofs.Common.{◌≡◌, ◌≤◌, ◌<◌, ◌∙◌, sym, arith}
-use Rattle.vx_arrow_image.specs.Image.{part_of, limit_of}
+use Rattle.std.proofs.Common.{arith}
+use Rattle.vx_arrow_image.specs.Image.{part_of}
 use Rattle.vx_arrow_image.proofs.Stacks.{cut_last, cut_not_small, cut_not_up}
 use Rattle.vx_arrow_image.proofs.checking.is_cut.Goals as goal
 

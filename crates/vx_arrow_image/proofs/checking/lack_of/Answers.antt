@@ -1,5 +1,5 @@
 -- A node is sound where nothing is lacking, and else not.
-use Rattle.std.proofs.Common.{◌≡◌, Some, None, refl, sym, ◌∙◌, rules}
+use Rattle.std.proofs.Common.{◌≡◌, Some, None, refl, sym, rules}
 use Rattle.vx_arrow_image.specs.Image.{format_in, part_of}
 use Rattle.vx_arrow_image.proofs.Stacks.{sound_fit, sound_not_fit, sound_not_placed}
 use Rattle.vx_arrow_image.proofs.checking.lack_of.Goals as goal

@@ -1,5 +1,5 @@
 -- The rows have places, or not.
-use Rattle.std.proofs.Common.{◌≡◌, ◌+◌, ◌^◌, ◌≤◌, sym, ◌∙◌, arith, rules}
+use Rattle.std.proofs.Common.{◌+◌, ◌^◌, ◌≤◌, sym, ◌∙◌, arith}
 use Rattle.std.proofs.lemmas.Bool.{le-ltb}
 use Rattle.vx_arrow_image.specs.Image.{part_of}
 use Rattle.vx_arrow_image.proofs.Stacks.{placed_if, placed_not}

@@ -1,5 +1,4 @@
 -- Eight bytes.
-use Rattle.std.proofs.Common.{arith}
 use Rattle.vx_arrow_image.proofs.OffsetReads.{read_long}
 use Rattle.vx_arrow_image.proofs.offsets.long_offset.Goals as goal
 

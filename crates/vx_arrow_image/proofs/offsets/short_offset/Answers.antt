@@ -1,5 +1,4 @@
 -- Four bytes.
-use Rattle.std.proofs.Common.{arith}
 use Rattle.vx_arrow_image.proofs.OffsetReads.{read_short}
 use Rattle.vx_arrow_image.proofs.offsets.short_offset.Goals as goal
 

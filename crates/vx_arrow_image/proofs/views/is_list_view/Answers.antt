@@ -1,5 +1,5 @@
 -- The tests, in order.
-use Rattle.std.proofs.Common.{◌≡◌, ◌∙◌, refl, arith}
+use Rattle.std.proofs.Common.{◌∙◌, refl, arith}
 use Rattle.vx_arrow_image.specs.Image.{offset_at, part_of}
 use Rattle.vx_arrow_image.proofs.ViewTests.{list_view_far, list_view_is, list_view_last, list_view_wide}
 use Rattle.vx_arrow_image.proofs.views.is_list_view.Goals as goal

@@ -1,5 +1,5 @@
 -- The tests, in order.
-use Rattle.std.proofs.Common.{◌≡◌, ◌∙◌, refl, arith}
+use Rattle.std.proofs.Common.{◌∙◌, refl, arith}
 use Rattle.vx_arrow_image.specs.Image.{part_of, view_buffer, view_start}
 use Rattle.vx_arrow_image.proofs.ViewTests.{view_astray, view_far, view_inline, view_is, view_last, view_wide}
 use Rattle.vx_arrow_image.proofs.views.is_view.Goals as goal
