@@ -17,6 +17,7 @@ lack_code lacks.Offsets = 6
 lack_code lacks.Items = 7
 lack_code lacks.Length = 8
 lack_code lacks.Sizes = 9
+lack_code lacks.Id = 10
 
 abbrev pub answer : ℕ → ℕ → ℕ → Answer
 answer status place what = record { status = status; node_or_step = place; what = what }
@@ -33,10 +34,12 @@ lack_answer node lacks.Offsets = answer 1 node 6
 lack_answer node lacks.Items = answer 1 node 7
 lack_answer node lacks.Length = answer 1 node 8
 lack_answer node lacks.Sizes = answer 1 node 9
+lack_answer node lacks.Id = answer 1 node 10
 
 abbrev pub refusal_answer : Refusal → Answer
 refusal_answer (refusals.NoMeaning node lack) = lack_answer node lack
 refusal_answer refusals.Beyond = answer 2 0 0
+refusal_answer refusals.NullPick = answer 9 0 0
 refusal_answer (refusals.Room node) = answer 3 node 0
 refusal_answer (refusals.Overflow node) = answer 4 node 0
 refusal_answer refusals.NoMemory = answer 5 0 0

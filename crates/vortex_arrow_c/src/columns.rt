@@ -36,12 +36,13 @@ pub extern "C" fn vortex_arrow_sizes(
 /// | status | stands for |
 /// |---|---|
 /// | 0 | the rooms hold a column of the same format: the rows at the picks |
-/// | 1 | a node, whose number is told, has no meaning: `what` it lacks (1 the place of a tree, 2 fewer than 2^60 rows, 3 validity, 4 its children, 5 values, 6 offsets, 7 items in order, 8 as many rows as its parent asks for, 9 sizes) |
+/// | 1 | a node, whose number is told, has no meaning: `what` it lacks (1 the place of a tree, 2 fewer than 2^60 rows, 3 validity, 4 its children, 5 values, 6 offsets, 7 items in order, 8 as many rows as its parent asks for, 9 sizes, 10 the id of a child in each row) |
 /// | 2 | a pick that isn't null is past the rows |
 /// | 3 | there are not as many rooms as nodes, or a node's room is smaller than its need |
 /// | 4 | a node's rows at the picks are more than its offsets, or a length, can count |
 /// | 5 | memory runs out |
 /// | 8 | a node's number of a format names none |
+/// | 9 | the column is a union, and a pick is null |
 ///
 /// From 1 on nothing is written.
 #[unsafe(no_mangle)]

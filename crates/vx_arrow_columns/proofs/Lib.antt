@@ -11,8 +11,10 @@ pub mod PickReads
 pub mod PickedTrees
 pub mod Plans
 pub mod Rooms
+pub mod RowsAt
 pub mod SoundTrees
 pub mod Steps
 pub mod Takings
 pub mod Trees
+pub mod UnionRows
 pub mod Walks

@@ -1,18 +1,19 @@
 -- What each format's tests find.
 use Rattle.std.proofs.Common.{◌≡◌, ℕ, ◌+◌, ◌*◌, ◌/◌, ◌^◌, ◌<◌, ◌≤◌, Bool, true, false, List, [], ◌∷◌, ◌++◌, length, get_or, take, drop, map, Option, Some, None, ap, ap₂, sym, ◌∙◌, refl, subst, arith, append_assoc, length-append}
 use Rattle.std.specs.Prelude.{Result, Ok, Err, IfOk, OnOk}
+use Rattle.std.specs.Option.{option_map}
 use Rattle.std.proofs.lemmas.Bool.{lt-ltb}
 use Rattle.std.proofs.lemmas.List.{drop_more, get_or-map, length-map, take_at}
 use Rattle.vx_arrow_image.specs.declared.format.Format.{Format}
-use Rattle.vx_arrow_image.specs.declared.format.Format.TheVariants.{Nulls, Bits, Fixed, Text, List as Lists, FixedList, Struct, TextView, ListView}
+use Rattle.vx_arrow_image.specs.declared.format.Format.TheVariants.{Nulls, Bits, Fixed, Text, List as Lists, FixedList, Struct, TextView, ListView, Union}
 use Rattle.vx_arrow_image.specs.declared.format.Offsets.{Offsets}
 use Rattle.vx_arrow_columns.specs.declared.needs.Inner.{Inner}
 use Rattle.vx_arrow_columns.specs.declared.needs.Inner.TheVariants as inners
 use Rattle.vx_arrow_columns.specs.declared.needs.Items.{Items}
 use Rattle.vx_arrow_columns.specs.declared.needs.Measure.{Measure}
 use Rattle.vx_arrow_image.specs.declared.image.Node as image
-use Rattle.vx_arrow_image.specs.Image.{Part, holds_starts, is_list_view, is_placed, limit_of, part_of, parts_of}
-use Rattle.vx_arrow_columns.specs.Measured.{AreBelow, AreItems, AreListed, IsInner, IsLeaf, IsMeasured, IsTextLen}
+use Rattle.vx_arrow_image.specs.Image.{Part, holds_starts, is_list_view, is_placed, limit_of, part_of, parts_of, has_child, holds_ids}
+use Rattle.vx_arrow_columns.specs.Measured.{AreBelow, AreItems, AreListed, IsInner, IsLeaf, IsMeasured, IsTextLen, moved}
 use Rattle.vx_arrow_columns.specs.Picks.{Picking, all_rows, below, counts_by, fixed_items, has_bits, inner, inner_nullable, inner_picks, keeps, items_of, picking_of, picks_of, values_len}
 use Rattle.vx_arrow_columns.specs.Planned.{child_lens, first_len, tree_lens}
 use Rattle.vx_arrow_columns.specs.Taken.{AllAt, AreInside, AreWithin, Holds, IsReadable, is_inside}
@@ -92,12 +93,24 @@ list_view_measured z p ps vs add format few placed within one offsets sizes = re
   children = kept_inner p (picking_of ps vs add) (ListView z) format refl refl refl;
 }
 
+moved_inner : (p : Part) (q : Picking) (f : Format) → p.format ≡ Some f → inner_picks (Some f) p q.picks ≡ map (option_map (λ i. p.offset + i)) q.picks → inner_nullable (Some f) q.nullable ≡ q.nullable → keeps (Some f) ≡ false → inner p q ≡ moved p.offset q
+moved_inner p q f format a b c =
+    same_picking _ _ (ap (λ (g : Option Format). inner_picks g p q.picks) format ∙ a) (ap (λ (g : Option Format). inner_nullable g q.nullable) format ∙ b) (ap keeps format ∙ c)
+
+pub union_measured : (p : Part) (ps vs : List ℕ) (add n : ℕ) → p.format ≡ Some Union → length ps < 2 ^ 60 → is_placed p ≡ true → AreWithin (picks_of ps vs add) p.len → holds_ids p ≡ true → AllAt p (picks_of ps vs add) (has_child p)
+    → n ≡ length ps → IsMeasured p (picking_of ps vs add) (record { values = n; inner = inners.Same })
+union_measured p ps vs add n format few placed within held ids size = record {
+  readable = readable p ps vs add Union format few placed within refl (held, ids);
+  values = size ∙ sym (length_picks ps vs add) ∙ ap (λ (g : Option Format). values_len g p (picks_of ps vs add)) (sym format);
+  children = (moved_inner p (picking_of ps vs add) Union format refl refl refl, refl, placed_end p placed);
+}
+
 pub struct_measured : (p : Part) (ps vs : List ℕ) (add : ℕ) (m : Measure) → p.format ≡ Some Struct → length ps < 2 ^ 60 → is_placed p ≡ true → AreWithin (picks_of ps vs add) p.len
     → m.values ≡ 0 → m.inner ≡ inners.Same → IsMeasured p (picking_of ps vs add) m
 struct_measured p ps vs add m format few placed within none same = record {
   readable = readable p ps vs add Struct format few placed within refl tt;
   values = none ∙ ap (λ (g : Option Format). values_len g p (picks_of ps vs add)) (sym format);
-  children = subst (λ (i : Inner). IsInner p (picking_of ps vs add) i) (sym same) (format, refl, placed_end p placed);
+  children = subst (λ (i : Inner). IsInner p (picking_of ps vs add) i) (sym same) (moved_inner p (picking_of ps vs add) Struct format refl refl refl, refl, placed_end p placed);
 }
 
 pub items_listed : (z : Offsets) (p : Part) (q : Picking) (places : List ℕ) → p.format ≡ Some (Lists z) → places ≡ items_of z p q.picks → inner p q ≡ picking_of places [] 0
@@ -156,6 +169,7 @@ bare_inside (Some (Text z)) p lens i e = refl
 bare_inside (Some Struct) p lens i e = refl
 bare_inside (Some (Lists z)) p lens i e = refl
 bare_inside (Some FixedList) p lens i e = refl
+bare_inside (Some Union) p lens i e = refl
 bare_inside (Some TextView) p lens i e = absurd (let f : true ≡ false = e in cc)
 bare_inside (Some (ListView z)) p lens i e = absurd (let f : true ≡ false = e in cc)
 

@@ -6,17 +6,18 @@ use Rattle.std.specs.List.{list_all}
 use Rattle.std.proofs.lemmas.Bool.{and_parts, and_from, or_parts, lt-ltb, le-leb, ltb-true, eq-eqb}
 use Rattle.std.proofs.lemmas.List.{ext_get_or, get_or-map, length-map}
 use Rattle.vx_arrow_image.specs.declared.format.Format.{Format}
-use Rattle.vx_arrow_image.specs.declared.format.Format.TheVariants.{Nulls, Bits, Fixed, Text, List as Lists, FixedList, Struct, TextView, ListView}
+use Rattle.vx_arrow_image.specs.declared.format.Format.TheVariants.{Nulls, Bits, Fixed, Text, List as Lists, FixedList, Struct, TextView, ListView, Union}
 use Rattle.vx_arrow_image.specs.declared.format.Offsets.{Offsets}
 use Rattle.vx_arrow_image.specs.Rows.{RowValue, null, bit, bytes, list, fields, row_values, row_at, picked}
 use Rattle.vx_arrow_image.specs.Image.{Part, is_valid, fits, holds_valid, is_sound, value_at, row_of, column_of, offset_at, are_cut, size_of}
-use Rattle.vx_arrow_columns.specs.Picks.{Picking, bytes_for, has_bits, inner, inner_picks, is_counted, counts_by, items_len, items_of, picks_of, place_of, shows_by, shows_valid}
-use Rattle.vx_arrow_columns.specs.Taken.{AreBits, AreCopied, AreOffsets, Holds, IsNullable, IsOwnTaken, IsReadable, ShowsRows, texts_of}
+use Rattle.vx_arrow_columns.specs.Picks.{Picking, bytes_for, has_bits, inner, inner_picks, is_counted, counts_by, items_len, items_of, picks_of, place_of, shows_by, shows_valid, tags}
+use Rattle.vx_arrow_columns.specs.Taken.{AreBits, AreCopied, AreOffsets, Holds, IsNullable, IsOwnTaken, IsReadable, ShowsRows, texts_of, AreAt, AreChildrenAt}
 use Rattle.vx_arrow_columns.specs.Written.{new_part}
 use Rattle.vx_arrow_image.proofs.CutRows.{are_cut_at}
 use Rattle.vx_arrow_image.proofs.SoundNodes.{get_column, length_column, sound_fits, sound_from}
 use Rattle.vx_arrow_columns.proofs.Columns.{same_column, placed, holds_bits, place_some, place_between}
 use Rattle.vx_arrow_columns.proofs.Cuts.{items_count, list_cell, new_cuts, text_cell}
+use Rattle.vx_arrow_columns.proofs.RowsAt.{first_at, picked_at, some_at}
 use Rattle.vx_arrow_columns.proofs.PickReads.{get_picks, length_picks, pick_there}
 
 -- ---- validity
@@ -52,6 +53,7 @@ nullable_shows (Some (Lists z)) b h = refl
 nullable_shows (Some FixedList) b h = refl
 nullable_shows (Some TextView) b h = refl
 nullable_shows (Some (ListView z)) b h = refl
+nullable_shows (Some Union) b h = absurd h
 
 pub few_picks : (p : Part) (q : List (Option ℕ)) → is_counted p q ≡ true → length q < 2 ^ 60
 unfolding is_counted
@@ -85,11 +87,14 @@ leaf_taken p q v o x s f format leaf r shows valid fit values =
       children = refl;
       len = refl;
       sound = subst (λ (n : ℕ). is_sound w (replicate n (length i.picks)) ≡ true) (sym leaf) (sound_from w [] (Some f) format (placed w refl (few_picks p q.picks r.counted) valid) fit);
-      column = λ cs few own.
-          let none : cs ≡ [] = no_children p leaf cs few in
-          subst (λ (l : List (List RowValue)). column_of w (map (picked i.picks) l) ≡ picked q.picks (column_of p l)) (sym none)
-          (same_column p w [] [] q.picks refl refl shows r.within (λ k n h e.
-          ap (λ (y : Option Format). value_at y w [] k) format ∙ values k n h e ∙ ap (λ (y : Option Format). value_at y p [] n) (sym format)));
+      column = λ cs ds at own.
+          let none : cs ≡ [] = no_children p leaf cs at.old_len in
+          let new : ds ≡ [] = no_children p leaf ds at.new_len in
+          picked_at (tags p.format) q.picks (column_of p cs) (column_of w ds)
+          (ap (column_of w) new
+          ∙ same_column p w [] [] q.picks refl refl shows r.within (λ k n h e.
+          ap (λ (y : Option Format). value_at y w [] k) format ∙ values k n h e ∙ ap (λ (y : Option Format). value_at y p [] n) (sym format))
+          ∙ sym (ap (λ (l : List (List RowValue)). picked q.picks (column_of p l)) none));
     }
 
 pub bits_taken : (p : Part) (q : Picking) (v o x s : List ℕ) → p.format ≡ Some Bits → IsReadable p q.picks → ShowsRows p q.picks v → holds_valid v (length q.picks) ≡ true
@@ -139,22 +144,28 @@ nulls_taken p q o x s format r =
       children = refl;
       len = refl;
       sound = subst (λ (n : ℕ). is_sound w (replicate n (length i.picks)) ≡ true) (sym leaf) (sound_from w [] (Some Nulls) format (placed w refl (few_picks p q.picks r.counted) refl) (eq-eqb _ _ leaf));
-      column = λ cs few own.
-          let ds = map (picked i.picks) cs in
-          ext_get_or null (column_of w ds) (picked q.picks (column_of p cs)) (length_column w ds ∙ sym (length-map q.picks (row_at (column_of p cs)))) (λ k h.
+      column = λ cs ds at own. picked_at (tags p.format) q.picks (column_of p cs) (column_of w ds)
+          (ext_get_or null (column_of w ds) (picked q.picks (column_of p cs)) (length_column w ds ∙ sym (length-map q.picks (row_at (column_of p cs)))) (λ k h.
           let below : k < length q.picks = omega (arith, length_column w ds) in
           get_column w ds k below ∙ null_row w ds (0 + k) format
-          ∙ sym (get_or-map (row_at (column_of p cs)) q.picks k None null below ∙ null_at p cs (get_or q.picks k None) format (λ n e. r.within.below k n below e)));
+          ∙ sym (get_or-map (row_at (column_of p cs)) q.picks k None null below ∙ null_at p cs (get_or q.picks k None) format (λ n e. r.within.below k n below e))));
     }
 
 -- ---- structs
 
-cells : (cs : List (List RowValue)) (q : List (Option ℕ)) (k i : ℕ) → k < length q → get_or q k None ≡ Some i
-    → map (λ c. get_or c k null) (map (picked q) cs) ≡ map (λ c. get_or c i null) cs
-cells [] q k i h e = refl
-cells (c ∷ cs) q k i h e = ap₂ ◌∷◌ (get_or-map (row_at c) q k None null h ∙ ap (row_at c) e) (cells cs q k i h e)
+cells : (cs ds : List (List RowValue)) (q : List (Option ℕ)) (n k i : ℕ) → k < length q → get_or q k None ≡ Some i → AreChildrenAt q n cs ds
+    → map (λ c. get_or c k null) ds ≡ map (λ c. get_or c i null) cs
+cells cs ds q n k i h e a =
+    let old = a.old_len in
+    let new = a.new_len in
+    let f = λ (c : List RowValue). get_or c k null in
+    let g = λ (c : List RowValue). get_or c i null in
+    ext_get_or null (map f ds) (map g cs) (length-map ds f ∙ new ∙ sym old ∙ sym (length-map cs g)) (λ j b.
+    let low : j < n = omega (arith, length-map ds f) in
+    let there = a.at j low in
+    get_or-map f ds j [] null (omega arith) ∙ there.at k i h e ∙ sym (get_or-map g cs j [] null (omega arith)))
 
-long_all : (n m k : ℕ) → n ≤ m → list_all (λ l. leb n l) (replicate k m) ≡ true
+pub long_all : (n m k : ℕ) → n ≤ m → list_all (λ l. leb n l) (replicate k m) ≡ true
 long_all n m zero h = refl
 long_all n m (suc k) h = and_from _ _ (le-leb _ _ h) (long_all n m k h)
 
@@ -168,20 +179,15 @@ struct_taken p q v o x s format r shows valid =
       children = refl;
       len = refl;
       sound = sound_from w _ (Some Struct) format (placed w refl (few_picks p q.picks r.counted) valid) (long_all (0 + length q.picks) (length (inner p q).picks) p.children (omega arith));
-      column = λ cs few own. same_column p w cs (map (picked (inner p q).picks) cs) q.picks refl refl shows r.within (λ k n h e.
+      column = λ cs ds children own. picked_at (tags p.format) q.picks (column_of p cs) (column_of w ds) (same_column p w cs ds q.picks refl refl shows r.within (λ k n h e.
           let back = place_some p (get_or q.picks k None) n e in
           let at : get_or (inner p q).picks k None ≡ Some n = ap (λ (l : List (Option ℕ)). get_or l k None) is ∙ get_or-map f q.picks k None None h ∙ ap f back.1.0 ∙ ap Some (sym back.1.1) in
-          ap (λ (y : Option Format). value_at y w (map (picked (inner p q).picks) cs) k) format
-          ∙ ap (λ l. fields (row_values l)) (cells cs (inner p q).picks k n (omega arith) at)
-          ∙ ap (λ (y : Option Format). value_at y p cs n) (sym format));
+          ap (λ (y : Option Format). value_at y w ds k) format
+          ∙ ap (λ l. fields (row_values l)) (cells cs ds (inner p q).picks p.children k n (omega arith) at children)
+          ∙ ap (λ (y : Option Format). value_at y p cs n) (sym format)));
     }
 
 -- ---- lists
-
-one_child : (p : Part) (cs : List (List RowValue)) → p.children ≡ 1 → length cs ≡ p.children → cs ≡ get_or cs 0 [] ∷ []
-one_child p [] one h = absurd (omega arith)
-one_child p (c ∷ []) one h = refl
-one_child p (c ∷ (d ∷ cs)) one h = absurd (omega arith)
 
 pub list_taken : (z : Offsets) (p : Part) (q : Picking) (v o x s : List ℕ) → p.format ≡ Some (Lists z) → IsReadable p q.picks → ShowsRows p q.picks v → holds_valid v (length q.picks) ≡ true
     → size_of z * (length q.picks + 1) ≤ length o → AreOffsets z p q.picks (length q.picks) o → IsOwnTaken p (new_part p q v o x s) q
@@ -199,16 +205,18 @@ list_taken z p q v o x s format r shows valid long offs =
       sound = subst (λ (n : ℕ). is_sound w (replicate n (length (inner p q).picks)) ≡ true) (sym one)
           (sound_from w (length (inner p q).picks ∷ []) (Some (Lists z)) format (placed w refl (few_picks p q.picks r.counted) valid)
           (and_from _ _ (eq-eqb _ _ one) (new_cuts z p w q.picks (length (inner p q).picks) refl refl long offs small (omega arith))));
-      column = λ cs few own. same_column p w cs (map (picked (inner p q).picks) cs) q.picks refl refl shows r.within (λ k i h e.
+      column = λ cs ds children own. picked_at (tags p.format) q.picks (column_of p cs) (column_of w ds) (same_column p w cs ds q.picks refl refl shows r.within (λ k i h e.
           let inside = place_between p q.picks k i r.within h e in
           let c = get_or cs 0 [] in
+          let old = children.old_len in
+          let all : get_or ds 0 [] ≡ picked (map Some places) c = some_at places c (get_or ds 0 []) (subst (λ (l : List (Option ℕ)). AreAt true l c (get_or ds 0 [])) is (first_at (inner p q).picks p.children cs ds one children)) in
           let fit = (and_parts (eqb p.children 1) _ (sound_fits p (map length cs) (Some (Lists z)) format own)).1 in
           let wide : get_or (map length cs) 0 0 ≡ length c = get_or-map length cs 0 [] 0 (omega arith) in
           let cut = are_cut_at z p (length c) i (subst (λ (n : ℕ). are_cut z p n ≡ true) wide fit) inside.0 inside.1 in
-          ap (λ (y : Option Format). value_at y w (map (picked (inner p q).picks) cs) k) format
-          ∙ ap (λ (l : List RowValue). list (row_values (slice_range l (offset_at z o k) (offset_at z o (k + 1))))) (get_or-map (picked (inner p q).picks) cs 0 [] [] (omega arith) ∙ ap (λ (l : List (Option ℕ)). picked l c) is)
+          ap (λ (y : Option Format). value_at y w ds k) format
+          ∙ ap (λ (l : List RowValue). list (row_values (slice_range l (offset_at z o k) (offset_at z o (k + 1))))) all
           ∙ ap (λ (l : List RowValue). list (row_values l)) (list_cell z p q.picks c k i (offset_at z o k) (offset_at z o (k + 1)) h e cut (offs.ends k (omega arith)) (offs.ends (k + 1) (omega arith)))
-          ∙ ap (λ (y : Option Format). value_at y p cs i) (sym format));
+          ∙ ap (λ (y : Option Format). value_at y p cs i) (sym format)));
     }
 
 -- the same with whatever bits there are, since none are looked at

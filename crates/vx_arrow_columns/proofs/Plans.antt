@@ -18,7 +18,7 @@ use Rattle.vx_arrow_columns.specs.declared.plan.Walk as walks
 use Rattle.vx_arrow_image.specs.Image.{Part, part_of}
 use Rattle.vx_arrow_columns.specs.Picks.{Picking, all_rows, below, bytes_for, inner, inner_picks, inner_nullable, keeps, kept_need, need_of, needs_by, offsets_len, own_need, sizes_len, picking_of, pickings, picks_of, shows_valid, values_len}
 use Rattle.vx_arrow_columns.specs.Planned.{IsJobMeasured, child_lens, IsNext, IsPlanned, are_trees, first_len, picking_by, picking_in, places_in, valid_in}
-use Rattle.vx_arrow_columns.specs.Measured.{IsMeasured}
+use Rattle.vx_arrow_columns.specs.Measured.{IsMeasured, moved}
 use Rattle.vx_arrow_columns.specs.Taken.{AreInside, AreWithin, IsOwnTaken, IsViewTaken, TakenAs}
 use Rattle.vx_arrow_columns.specs.Written.{IsRoomTaken}
 use Rattle.vx_arrow_columns.proofs.Measures.{same_picking}
@@ -26,10 +26,6 @@ use Rattle.vx_arrow_columns.proofs.PickReads.{length_picks, moved_picks}
 use Rattle.vx_arrow_columns.proofs.Walks.{WalkIs}
 
 -- ---- the same picks, further on
-
--- picks `by` further on
-abbrev moved : ℕ → Picking → Picking
-moved by q = record { picks = map (option_map (λ i. by + i)) q.picks; nullable = q.nullable; kept = false }
 
 moved_by : (ps vs : List ℕ) (ls : List Places) (o : Option ℕ) (a m by n : ℕ) → AreWithin (picking_by ps vs ls o a).picks n → by + n < 2 ^ 60 → (a + by < 2 ^ 64 → m ≡ a + by)
     → picking_by ps vs ls o m ≡ moved by (picking_by ps vs ls o a)
@@ -62,10 +58,8 @@ moved_within q r by n m is within far = record {
       omega (arith, at.1.1);
 }
 
-struct_inner : (p : Part) (q r : Picking) → p.format ≡ Some Struct → q.kept ≡ false → r ≡ moved p.offset q → r ≡ below p q
-struct_inner p q r format own e =
-    e ∙ sym (same_picking (inner p q) _ (ap (λ (g : Option Format). inner_picks g p q.picks) format) (ap (λ (g : Option Format). inner_nullable g q.nullable) format) (ap keeps format))
-    ∙ sym (ap (λ b. cond b all_rows (inner p q)) own)
+same_below : (p : Part) (q r : Picking) → inner p q ≡ moved p.offset q → q.kept ≡ false → r ≡ moved p.offset q → r ≡ below p q
+same_below p q r is own e = e ∙ sym is ∙ sym (ap (λ b. cond b all_rows (inner p q)) own)
 
 pub next_same : (node : image.Node) (job next : jobs.Job) (old : List Places) → next.list ≡ job.list → next.kept ≡ false → (job.add + node.offset < 2 ^ 64 → next.add ≡ job.add + node.offset) → (node.offset + node.len < 2 ^ 64 → next.end ≡ node.offset + node.len)
     → IsNext node job inners.Same old old next
@@ -76,7 +70,7 @@ next_same node job next old same bare sum end = record {
   within = λ ps vs below w in_order.
       let is = moved_in ps vs old job next node.offset node.len same bare in_order.1 w in_order.2 sum in
       moved_within (picking_in ps vs old job).picks (picking_in ps vs old next).picks node.offset node.len next.end (ap (λ (q : Picking). q.picks) is) w (let last = end (omega (arith, in_order.2)) in omega arith);
-  picks = λ ps vs w in_order. ap (replicate node.children) (struct_inner (part_of node) (picking_in ps vs old job) (picking_in ps vs old next) in_order.0 in_order.1 (moved_in ps vs old job next node.offset node.len same bare in_order.1 w in_order.2 sum));
+  picks = λ ps vs w in_order. ap (replicate node.children) (same_below (part_of node) (picking_in ps vs old job) (picking_in ps vs old next) in_order.0 in_order.1 (moved_in ps vs old job next node.offset node.len same bare in_order.1 w in_order.2 sum));
 }
 
 -- ---- children that are kept
@@ -201,14 +195,14 @@ some_is ps vs ls job k x d places valid e low at same bits bare =
 -- ---- needs
 
 pub need_is : (p : Part) (ps vs : List ℕ) (add valid offs values sizes : ℕ) → valid ≡ cond (shows_valid p (picking_of ps vs add)) (bytes_for (length ps)) 0 → offs ≡ offsets_len p.format (length ps) → values ≡ values_len p.format p (picks_of ps vs add)
-    → sizes ≡ sizes_len p.format (length ps) → record { len = length ps; valid = valid; offsets = offs; values = values; sizes = sizes } ≡ own_need p (picking_of ps vs add)
+    → sizes ≡ sizes_len p.format p (length ps) → record { len = length ps; valid = valid; offsets = offs; values = values; sizes = sizes } ≡ own_need p (picking_of ps vs add)
 need_is p ps vs add valid offs values sizes e f g h =
     let make : ℕ → ℕ → ℕ → ℕ → ℕ → Need = λ a b c d s. record { len = a; valid = b; offsets = c; values = d; sizes = s } in
     let n = sym (length_picks ps vs add) in
     ap (λ (a : ℕ). make a valid offs values sizes) n
     ∙ ap (λ (b : ℕ). make (length (picks_of ps vs add)) b offs values sizes) (e ∙ ap (λ (m : ℕ). cond (shows_valid p (picking_of ps vs add)) (bytes_for m) 0) n)
     ∙ ap₂ (λ (c : ℕ) (d : ℕ). make (length (picks_of ps vs add)) (cond (shows_valid p (picking_of ps vs add)) (bytes_for (length (picks_of ps vs add))) 0) c d sizes) (f ∙ ap (offsets_len p.format) n) g
-    ∙ ap (make (length (picks_of ps vs add)) (cond (shows_valid p (picking_of ps vs add)) (bytes_for (length (picks_of ps vs add))) 0) (offsets_len p.format (length (picks_of ps vs add))) (values_len p.format p (picks_of ps vs add))) (h ∙ ap (sizes_len p.format) n)
+    ∙ ap (make (length (picks_of ps vs add)) (cond (shows_valid p (picking_of ps vs add)) (bytes_for (length (picks_of ps vs add))) 0) (offsets_len p.format (length (picks_of ps vs add))) (values_len p.format p (picks_of ps vs add))) (h ∙ ap (sizes_len p.format p) n)
 
 needs_len : (ps : List Part) (qs : List Picking) → length qs ≡ length ps → length (needs_by ps qs) ≡ length ps
 needs_len [] qs e = refl

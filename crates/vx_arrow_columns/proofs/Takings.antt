@@ -14,9 +14,9 @@ use Rattle.vx_arrow_image.specs.declared.refusal.Refusal.TheVariants as refusals
 use Rattle.vx_arrow_columns.specs.Answer.{AreKeptSound, AreTaken, HaveRoom, IsPlanRefusal, IsRefusal, IsShort, MeansPicked}
 use Rattle.vx_arrow_image.specs.Rows.{RowValue}
 use Rattle.vx_arrow_image.specs.Image.{Part, column_in, part_of, parts_of}
-use Rattle.vx_arrow_columns.specs.Picks.{Picking, need_of, picking_of, pickings}
+use Rattle.vx_arrow_columns.specs.Picks.{Picking, need_of, picking_of, pickings, is_union}
 use Rattle.vx_arrow_columns.specs.Planned.{IsPlanned, IsRead, are_trees, first_len, picking_in}
-use Rattle.vx_arrow_columns.specs.Taken.{AreWithin, IsTaken, IsReadable}
+use Rattle.vx_arrow_columns.specs.Taken.{AreWithin, IsTaken, IsReadable, AreFull}
 use Rattle.vx_arrow_columns.specs.Written.{has_room, written, written_by, written_part}
 use Rattle.vx_arrow_columns.proofs.Plans.{planned_at, planned_need}
 use Rattle.vx_arrow_columns.proofs.PickedTrees.{picked_column}
@@ -147,10 +147,10 @@ rows_first : (nodes : List image.Node) (rows : List RowValue) → column_in (par
 rows_first [] rows e = absurd (let f : None ≡ Some rows = e in cc)
 rows_first (n ∷ nodes) rows e = column_len (part_of n) (parts_of nodes) rows e
 
-pub means_picked : (nodes : List image.Node) (q : Picking) (rooms : List Room) → q.kept ≡ false → AreTaken (parts_of nodes) q rooms → AreWithin q.picks (first_len nodes) → MeansPicked (parts_of nodes) q rooms
-means_picked nodes q rooms own a w = record {
+pub means_picked : (nodes : List image.Node) (q : Picking) (rooms : List Room) → q.kept ≡ false → (is_union (parts_of nodes) ≡ true → AreFull q.picks) → AreTaken (parts_of nodes) q rooms → AreWithin q.picks (first_len nodes) → MeansPicked (parts_of nodes) q rooms
+means_picked nodes q rooms own full a w = record {
   within = λ rows e. subst (λ (n : ℕ). AreWithin q.picks n) (sym (rows_first nodes rows e)) w;
-  picked = λ rows e. picked_column (parts_of nodes) (written (parts_of nodes) q rooms) q rows own e (every (parts_of nodes) q rooms a);
+  picked = λ rows e. picked_column (parts_of nodes) (written (parts_of nodes) q rooms) q rows own full e (every (parts_of nodes) q rooms a);
 }
 
 pub means_some : (parts : List Part) (q : Picking) (rooms : List Room) → AreTaken parts q rooms → AreKeptSound parts q → IsSome (column_in (written parts q rooms))
@@ -158,9 +158,10 @@ means_some parts q rooms a kept = let there = sound_column parts (written parts 
 
 -- ---- refusals
 
-pub refused_by : (nodes : List image.Node) (q : Picking) (rooms : List Room) (refusal : Refusal) → IsPlanRefusal q (first_len nodes) refusal → IsRefusal (parts_of nodes) q rooms refusal
+pub refused_by : (nodes : List image.Node) (q : Picking) (rooms : List Room) (refusal : Refusal) → IsPlanRefusal q (first_len nodes) (is_union (parts_of nodes)) refusal → IsRefusal (parts_of nodes) q rooms refusal
 refused_by nodes q rooms (refusals.NoMeaning node lack) h = tt
 refused_by nodes q rooms refusals.Beyond h = λ rows e w. h (subst (λ (n : ℕ). AreWithin q.picks n) (rows_first nodes rows e) w)
+refused_by nodes q rooms refusals.NullPick h = h
 refused_by nodes q rooms (refusals.Room node) h = absurd h
 refused_by nodes q rooms (refusals.Overflow node) h = tt
 refused_by nodes q rooms refusals.NoMemory h = tt

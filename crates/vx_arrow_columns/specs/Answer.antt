@@ -1,14 +1,14 @@
 -- What the rooms hold after a take.
-use Rattle.std.specs.Prelude.{ℕ, ◌<◌, ◌≡◌, true, false, List, [], ◌∷◌, ◌+◌, drop, length, slice_index_or, Some, ⊤}
+use Rattle.std.specs.Prelude.{ℕ, Bool, ◌<◌, ◌≡◌, true, false, List, [], ◌∷◌, ◌+◌, drop, length, slice_index_or, Some, ⊤}
 use Rattle.vx_arrow_image.specs.declared.image.Need.{Need}
 use Rattle.vx_arrow_image.specs.declared.image.Room.{Room}
 use Rattle.vx_arrow_image.specs.declared.refusal.Refusal.{Refusal}
 use Rattle.vx_arrow_image.specs.declared.refusal.Refusal.TheVariants as refusals
 use Rattle.vx_arrow_image.specs.Rows.{RowValue, picked}
 use Rattle.vx_arrow_image.specs.Image.{Part, column_in, is_sound}
-use Rattle.vx_arrow_columns.specs.Picks.{Picking, needs_of, pickings}
+use Rattle.vx_arrow_columns.specs.Picks.{Picking, needs_of, pickings, is_union}
 use Rattle.vx_arrow_columns.specs.Planned.{IsRead, are_trees, child_lens}
-use Rattle.vx_arrow_columns.specs.Taken.{AreWithin, IsTaken}
+use Rattle.vx_arrow_columns.specs.Taken.{AreFull, AreWithin, IsTaken}
 use Rattle.vx_arrow_columns.specs.Written.{has_room, written}
 
 -- each room is as large as its need
@@ -47,20 +47,22 @@ pub record MeansPicked (parts : List Part) (q : Picking) (rooms : List Room) : T
   pub picked : (rows : List RowValue) → column_in parts ≡ Some rows
       → column_in (written parts q rooms) ≡ Some (picked q.picks rows)
 
--- why there is no plan: of the refusals that name no room, what `Beyond` says
-abbrev pub IsPlanRefusal : Picking → ℕ → Refusal → Type 0
-IsPlanRefusal q len (refusals.NoMeaning node lack) = ⊤
-IsPlanRefusal q len refusals.Beyond = AreWithin q.picks len → ⊥
-IsPlanRefusal q len (refusals.Room node) = ⊥
-IsPlanRefusal q len (refusals.Overflow node) = ⊤
-IsPlanRefusal q len refusals.NoMemory = ⊤
+-- why there is no plan: of the refusals that name no room, what `Beyond` and `NullPick` say
+abbrev pub IsPlanRefusal : Picking → ℕ → Bool → Refusal → Type 0
+IsPlanRefusal q len tagging (refusals.NoMeaning node lack) = ⊤
+IsPlanRefusal q len tagging refusals.Beyond = AreWithin q.picks len → ⊥
+IsPlanRefusal q len tagging refusals.NullPick = (tagging ≡ true) × (AreFull q.picks → ⊥)
+IsPlanRefusal q len tagging (refusals.Room node) = ⊥
+IsPlanRefusal q len tagging (refusals.Overflow node) = ⊤
+IsPlanRefusal q len tagging refusals.NoMemory = ⊤
 
--- why nothing is taken. `Beyond` comes only where some pick is past the rows, and `Room` only where
--- there are not as many rooms as nodes or the one that is named is smaller than its need
+-- why nothing is taken. `Beyond` comes only where some pick is past the rows, `NullPick` only where
+-- the column is a union and some pick is null, and `Room` only where there are not as many rooms as nodes or the one that is named is smaller than its need
 abbrev pub IsRefusal : List Part → Picking → List Room → Refusal → Type 0
 IsRefusal parts q rooms (refusals.NoMeaning node lack) = ⊤
 IsRefusal parts q rooms refusals.Beyond =
     (rows : List RowValue) → column_in parts ≡ Some rows → AreWithin q.picks (length rows) → ⊥
+IsRefusal parts q rooms refusals.NullPick = (is_union parts ≡ true) × (AreFull q.picks → ⊥)
 IsRefusal parts q rooms (refusals.Room node) =
     length rooms ≡ length parts → IsShort (needs_of parts q) rooms node
 IsRefusal parts q rooms (refusals.Overflow node) = ⊤

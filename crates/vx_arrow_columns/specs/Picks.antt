@@ -3,7 +3,7 @@ use Rattle.std.specs.Prelude.{ℕ, ◌+◌, ◌-◌, ◌*◌, ◌/◌, ◌%◌, 
 use Rattle.std.specs.List.{range_with_len, flat_map, sum_by}
 use Rattle.std.specs.Option.{option_map}
 use Rattle.vx_arrow_image.specs.declared.format.Format.{Format}
-use Rattle.vx_arrow_image.specs.declared.format.Format.TheVariants.{Nulls, Bits, Fixed, Text, Struct, List as Lists, FixedList, TextView, ListView}
+use Rattle.vx_arrow_image.specs.declared.format.Format.TheVariants.{Nulls, Bits, Fixed, Text, Struct, List as Lists, FixedList, TextView, ListView, Union}
 use Rattle.vx_arrow_image.specs.declared.format.Offsets.{Offsets}
 use Rattle.vx_arrow_image.specs.declared.image.Need as image
 use Rattle.vx_arrow_image.specs.Image.{Part, is_valid, offset_at, size_of, limit_of}
@@ -82,6 +82,7 @@ inner_picks (Some (Lists z)) p q = map Some (items_of z p q)
 inner_picks (Some FixedList) p q = fixed_items p q
 inner_picks (Some TextView) p q = []
 inner_picks (Some (ListView z)) p q = []
+inner_picks (Some Union) p q = map (option_map (λ i. p.offset + i)) q
 
 abbrev pub inner_nullable : Option Format → Bool → Bool
 inner_nullable None b = false
@@ -94,6 +95,7 @@ inner_nullable (Some (Lists z)) b = false
 inner_nullable (Some FixedList) b = b
 inner_nullable (Some TextView) b = false
 inner_nullable (Some (ListView z)) b = false
+inner_nullable (Some Union) b = b
 
 -- whether the children of a node are kept
 abbrev pub keeps : Option Format → Bool
@@ -107,6 +109,25 @@ keeps (Some (Lists z)) = false
 keeps (Some FixedList) = false
 keeps (Some TextView) = true
 keeps (Some (ListView z)) = true
+keeps (Some Union) = false
+
+-- whether the rows are those of a union, which are never null
+abbrev pub tags : Option Format → Bool
+tags None = false
+tags (Some Nulls) = false
+tags (Some Bits) = false
+tags (Some Fixed) = false
+tags (Some (Text z)) = false
+tags (Some Struct) = false
+tags (Some (Lists z)) = false
+tags (Some FixedList) = false
+tags (Some TextView) = false
+tags (Some (ListView z)) = false
+tags (Some Union) = true
+
+abbrev pub is_union : List Part → Bool
+is_union [] = false
+is_union (p ∷ ps) = tags p.format
 
 -- the picks of each child of a node that isn't kept itself
 abbrev pub inner : Part → Picking → Picking
@@ -143,6 +164,7 @@ shows_by (Some (Lists z)) b = b
 shows_by (Some FixedList) b = b
 shows_by (Some TextView) b = b
 shows_by (Some (ListView z)) b = b
+shows_by (Some Union) b = false
 
 abbrev pub shows_valid : Part → Picking → Bool
 shows_valid p q = shows_by p.format (has_bits p.valid || q.nullable)
@@ -158,18 +180,20 @@ offsets_len (Some (Lists z)) n = size_of z * (n + 1)
 offsets_len (Some FixedList) n = 0
 offsets_len (Some TextView) n = 0
 offsets_len (Some (ListView z)) n = size_of z * n
+offsets_len (Some Union) n = 0
 
-abbrev pub sizes_len : Option Format → ℕ → ℕ
-sizes_len None n = 0
-sizes_len (Some Nulls) n = 0
-sizes_len (Some Bits) n = 0
-sizes_len (Some Fixed) n = 0
-sizes_len (Some (Text z)) n = 0
-sizes_len (Some Struct) n = 0
-sizes_len (Some (Lists z)) n = 0
-sizes_len (Some FixedList) n = 0
-sizes_len (Some TextView) n = 0
-sizes_len (Some (ListView z)) n = size_of z * n
+abbrev pub sizes_len : Option Format → Part → ℕ → ℕ
+sizes_len None p n = 0
+sizes_len (Some Nulls) p n = 0
+sizes_len (Some Bits) p n = 0
+sizes_len (Some Fixed) p n = 0
+sizes_len (Some (Text z)) p n = 0
+sizes_len (Some Struct) p n = 0
+sizes_len (Some (Lists z)) p n = 0
+sizes_len (Some FixedList) p n = 0
+sizes_len (Some TextView) p n = 0
+sizes_len (Some (ListView z)) p n = size_of z * n
+sizes_len (Some Union) p n = p.children
 
 abbrev pub values_len : Option Format → Part → List (Option ℕ) → ℕ
 values_len None p q = 0
@@ -182,6 +206,7 @@ values_len (Some (Lists z)) p q = 0
 values_len (Some FixedList) p q = 0
 values_len (Some TextView) p q = 16 * length q
 values_len (Some (ListView z)) p q = 0
+values_len (Some Union) p q = length q
 
 -- how many rows a node has at these picks, and how many bytes they are
 abbrev pub own_need : Part → Picking → image.Need
@@ -191,7 +216,7 @@ own_need p q =
       valid = if shows_valid p q then bytes_for (length q.picks) else 0;
       offsets = offsets_len p.format (length q.picks);
       values = values_len p.format p q.picks;
-      sizes = sizes_len p.format (length q.picks);
+      sizes = sizes_len p.format p (length q.picks);
     }
 
 -- no bytes are needed for rows that are kept
@@ -223,6 +248,7 @@ counts_by (Some (Lists z)) p q = nat_lt (items_len z p q) (limit_of z)
 counts_by (Some FixedList) p q = nat_lt (length q * p.width) (2 ^ 60)
 counts_by (Some TextView) p q = nat_lt (16 * length q) (2 ^ 63)
 counts_by (Some (ListView z)) p q = true
+counts_by (Some Union) p q = true
 
 unfoldable pub is_counted : Part → List (Option ℕ) → Bool
 is_counted p q = nat_lt (length q) (2 ^ 60) && counts_by p.format p q

@@ -1,5 +1,5 @@
 //! What stops at a node.
-ghost use Rattle.std.specs.Prelude.{ℕ};
+ghost use Rattle.std.specs.Prelude.{ℕ, Bool};
 ghost use Rattle.vx_arrow_columns.specs.Answer.{IsPlanRefusal};
 ghost use Rattle.vx_arrow_columns.specs.Picks.{Picking};
 
@@ -17,7 +17,7 @@ pub(crate) enum Fault {
 impl Fault {
     /// The same of the node with a number.
     pub(crate) fn at(self, node: usize) -> Refusal
-        ensures { (q : Picking) → (len : ℕ) → IsPlanRefusal q len result }
+        ensures { (q : Picking) → (len : ℕ) → (tagging : Bool) → IsPlanRefusal q len tagging result }
     {
         match self {
             Fault::Lacks(lack) => Refusal::NoMeaning { node, lack },

@@ -136,6 +136,7 @@ pub(crate) fn test_inside(
         | Format::Text(_)
         | Format::Struct
         | Format::List(_)
-        | Format::FixedList => Ok(()),
+        | Format::FixedList
+        | Format::Union => Ok(()),
     }
 }

@@ -15,6 +15,7 @@ mod places;
 mod plan;
 mod puts;
 mod taking;
+mod unions;
 mod writing;
 
 pub use crate::taking::{sizes, take};

@@ -11,6 +11,7 @@ use crate::fixed_lists::fixed_items;
 use crate::kept::{first_len, test_inside};
 use crate::needs::{Inner, Items, Measure, list_items, tested, text_len};
 use crate::places::Picks;
+use crate::unions::measure_union;
 use std::alloc::Global;
 use vx_arrow_image::{Format, Lack, Node, Offsets, holds_starts};
 
@@ -253,6 +254,7 @@ fn measure_format(
         Format::FixedList => measure_fixed_list(alloc, node, picks, items),
         Format::TextView => measure_text_view(node, picks),
         Format::ListView(size) => measure_list_view(size, node, picks),
+        Format::Union => measure_union(node, picks),
     }
 }
 

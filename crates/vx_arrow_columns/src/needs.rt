@@ -46,7 +46,7 @@ pub(crate) fn shows_valid(node: &Node, picks: &Picks) -> bool
         (picking_of picks.now.places.now picks.now.valid.now picks.now.add) }
 {
     match format_of(node.format) {
-        Some(Format::Nulls) => false,
+        Some(Format::Nulls | Format::Union) => false,
         _ => !node.valid.is_empty() || !picks.valid.is_empty(),
     }
 }

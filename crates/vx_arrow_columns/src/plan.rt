@@ -1,15 +1,16 @@
 //! Which rows of each node are taken, and what they need.
-ghost use Rattle.std.specs.Prelude.{◌≡◌, ◌+◌, ◌*◌, ◌^◌, ◌<◌, ◌≤◌, ◌++◌, IfErr, IfOk, OnOk, false, length, replicate};
+ghost use Rattle.std.specs.Prelude.{◌≡◌, ◌+◌, ◌*◌, ◌^◌, ◌<◌, ◌≤◌, ◌++◌, IfErr, IfOk, OnOk, false, length, replicate, true};
 ghost use Rattle.vx_arrow_columns.specs.Answer.{IsPlanRefusal};
 ghost use Rattle.vx_arrow_image.specs.Image.{format_in, part_of, parts_of};
-ghost use Rattle.vx_arrow_columns.specs.Picks.{kept_need, offsets_len, own_need, picking_of, picks_of, sizes_len, values_len};
+ghost use Rattle.vx_arrow_columns.specs.Picks.{is_union, kept_need, offsets_len, own_need, picking_of, picks_of, sizes_len, values_len};
 ghost use Rattle.vx_arrow_columns.specs.Planned.{IsJobMeasured, IsListed, IsNext, IsPlanned, IsStart, IsVisited, IsWalking, first_len, picking_in};
-ghost use Rattle.vx_arrow_columns.specs.Taken.{AreWithin};
+ghost use Rattle.vx_arrow_columns.specs.Taken.{AreFull, AreWithin};
 
 use crate::faults::Fault;
 use crate::measuring::measure_node;
 use crate::needs::{Inner, shows_valid};
-use crate::places::{Picks, Places, are_within};
+use crate::places::{Picks, Places, are_full, are_within};
+use crate::unions::is_union;
 use std::alloc::Global;
 use vx_arrow_image::{Format, Lack, Need, Node, Refusal, format_of};
 
@@ -77,10 +78,11 @@ fn offsets_len(node: &Node, count: u64) -> u64
 // How many bytes of sizes they need.
 fn sizes_len(node: &Node, count: u64) -> u64
     requires { count < 2 ^ 60 }
-    ensures { result ≡ sizes_len (format_in node.now.format) count }
+    ensures { result ≡ sizes_len (format_in node.now.format) (part_of node.now) count }
 {
     match format_of(node.format) {
         Some(Format::ListView(size)) => size.size() * count,
+        Some(Format::Union) => node.children,
         _ => 0,
     }
 }
@@ -275,22 +277,27 @@ pub(crate) fn plan_of(
     ensures planned { IfOk result (IsPlanned (parts_of nodes.now) places.now valid.now) }
     ensures within { OnOk result (AreWithin (picks_of places.now valid.now 0)
         (first_len nodes.now)) }
+    ensures full { OnOk result (is_union (parts_of nodes.now) ≡ true
+        → AreFull (picks_of places.now valid.now 0)) }
     ensures refused { IfErr result (IsPlanRefusal (picking_of places.now valid.now 0)
-        (first_len nodes.now)) }
+        (first_len nodes.now) (is_union (parts_of nodes.now))) }
 {
     if nodes.len() == 0 {
         return Err(Fault::Lacks(Lack::Tree).at(0));
     }
     let end = nodes[0].len;
-    if !are_within(
-        &Picks {
-            places,
-            valid,
-            add: 0,
-        },
-        end,
-    ) {
+    let picks = Picks {
+        places,
+        valid,
+        add: 0,
+    };
+    if !are_within(&picks, end) {
         return Err(Refusal::Beyond);
+    }
+    if is_union(&nodes[0]) {
+        if !are_full(&picks) {
+            return Err(Refusal::NullPick);
+        }
     }
     let mut walk = match Walk::start(alloc, end) {
         Ok(walk) => walk,

@@ -117,7 +117,8 @@ fn write_all<'a>(
 ///
 /// Picks are as [`sizes`] has them. Only what stands at picks is looked at, and a node's own
 /// numbers. Refused with `NoMeaning` where that has none, with `Beyond` where a pick that isn't
-/// null is past the rows, with `Overflow` where rows are too many to be counted, with `Room` where
+/// null is past the rows, with `NullPick` where the column is a union and a pick is null, with
+/// `Overflow` where rows are too many to be counted, with `Room` where
 /// there are not as many rooms as nodes or one is smaller than `sizes` says, and with `NoMemory`.
 /// The rooms are as they were then.
 pub fn take(

@@ -9,6 +9,7 @@ use crate::copying::{write_fixed, write_numbers, write_records};
 use crate::needs::shows_valid;
 use crate::places::{Picks, place};
 use crate::puts::{put_bit, put_bytes, put_offset, with_bit};
+use crate::unions::write_ids;
 use vx_arrow_image::{Format, Node, Offsets, Room, bit_is, cut_at, format_of};
 
 // A bit for each of so many picks from pick `first` on: whether its row is there.
@@ -245,6 +246,20 @@ fn write_list_view_node(size: Offsets, node: &Node, picks: &Picks, room: &mut Ro
     write_numbers(size, node.sizes, node, picks, room.sizes);
 }
 
+// Writes a union's own part: the ids of the rows, and those of the children.
+fn write_union_node(node: &Node, picks: &Picks, room: &mut Room)
+    requires format { format_in node.now.format ≡ Some Format.Union }
+    requires readable { IsReadable (part_of node.now)
+        (picks_of picks.now.places.now picks.now.valid.now picks.now.add) }
+    requires room { has_room (need_of (part_of node.now)
+        (picking_of picks.now.places.now picks.now.valid.now picks.now.add)) room.old ≡ true }
+    ensures { IsNodeTaken node.now
+        picks.now.places.now picks.now.valid.now picks.now.add room.new }
+{
+    write_ids(node, picks, room.values);
+    put_bytes(room.sizes, 0, &node.sizes[..node.children as usize]);
+}
+
 /// Writes what a node's own lists hold of its rows at picks.
 pub(crate) fn write_node(node: &Node, picks: &Picks, room: &mut Room)
     requires readable { IsReadable (part_of node.now)
@@ -263,6 +278,7 @@ pub(crate) fn write_node(node: &Node, picks: &Picks, room: &mut Room)
         Some(Format::FixedList) => write_fixed_list_node(node, picks, room),
         Some(Format::TextView) => write_text_view_node(node, picks, room),
         Some(Format::ListView(size)) => write_list_view_node(size, node, picks, room),
+        Some(Format::Union) => write_union_node(node, picks, room),
         Some(Format::Nulls) => {}
         None => {}
     }

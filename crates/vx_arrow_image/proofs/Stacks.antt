@@ -1,6 +1,7 @@
 -- The stack of lengths with which a table is tested from its end.
 use Rattle.std.proofs.Common.{◌≡◌, ℕ, ◌+◌, ◌-◌, ◌^◌, ◌<◌, ◌≤◌, Bool, true, false, List, [], ◌∷◌, ◌++◌, length, get_or, take, drop, set, map, Option, Some, None, ap, ap₂, sym, ◌∙◌, refl, arith, leb, cond, take-append-drop, length-set}
 use Rattle.std.specs.Prelude.{◌&&◌, is_some, IsSome}
+use Rattle.std.specs.List.{list_all, range_with_len}
 use Rattle.std.specs.Option.{option_and_then}
 use Rattle.std.proofs.lemmas.Bool.{and_left, and_right, and_parts, lt-ltb, le-ltb, le-leb, leb-true}
 use Rattle.std.proofs.lemmas.List.{length-map, length-drop, drop_all, drop_more, drop-drop, drop-map, drop-set, take-map}
@@ -50,9 +51,12 @@ cut_falls z p count i low high h = sym (false_if _ (λ t. different _ (are_cut_a
 pub cut_all : (z : Offsets) (p : Part) (count : ℕ) → holds_offsets z p ≡ true → ((i : ℕ) → p.offset ≤ i → i < p.offset + p.len → is_cut z p count i ≡ true) → true ≡ are_cut z p count
 cut_all z p count held h = sym (are_cut_from z p count held h)
 
+pub range_falls : (f : ℕ → Bool) (a n i : ℕ) → a ≤ i → i < a + n → f i ≡ false → false ≡ list_all f (range_with_len a n)
+range_falls f a n i low high h = sym (false_if _ (λ t. different _ (range_at f a n i t low high) h))
+
 pub valid_falls : (p : Part) (f : ℕ → Bool) (i : ℕ) → p.offset ≤ i → i < p.offset + p.len → if_valid p f i ≡ false → false ≡ all_valid p f
 unfolding all_valid
-valid_falls p f i low high h = sym (false_if _ (λ t. different _ (range_at (if_valid p f) p.offset p.len i t low high) h))
+valid_falls p f i low high h = range_falls (if_valid p f) p.offset p.len i low high h
 
 pub valid_all : (p : Part) (f : ℕ → Bool) → ((i : ℕ) → p.offset ≤ i → i < p.offset + p.len → if_valid p f i ≡ true) → true ≡ all_valid p f
 unfolding all_valid

@@ -8,6 +8,7 @@ use Rattle.vx_arrow_image.specs.Rows.{RowValue}
 abbrev pub IsUnsound : Option (List RowValue) → Refusal → Type 0
 IsUnsound column (refusals.NoMeaning node lack) = column ≡ None
 IsUnsound column refusals.Beyond = ⊥
+IsUnsound column refusals.NullPick = ⊥
 IsUnsound column (refusals.Room node) = ⊥
 IsUnsound column (refusals.Overflow node) = ⊥
 IsUnsound column refusals.NoMemory = ⊤

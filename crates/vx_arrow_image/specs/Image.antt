@@ -1,14 +1,14 @@
 -- What a table of nodes means: nodes in preorder, read from the end with a stack of columns.
 use Rattle.std.specs.Prelude.{ℕ, ◌+◌, ◌*◌, ◌/◌, ◌%◌, ◌^◌, Bool, true, false, ◌&&◌, ◌||◌, List, [], ◌∷◌, map, take, drop, length, slice_index, slice_index_or, slice_range, ◌==◌, nat_le, nat_lt, if◌then◌else◌, Option, Some, None}
 use Rattle.std.specs.Int.{bit_at, from_le_bytes, w32, w64}
-use Rattle.std.specs.List.{range_with_len, list_all, flat_map}
+use Rattle.std.specs.List.{range_with_len, list_all, list_any, flat_map}
 use Rattle.std.specs.Option.{option_and_then}
 use Rattle.vx_arrow_image.specs.declared.format.Format.{Format}
-use Rattle.vx_arrow_image.specs.declared.format.Format.TheVariants.{Nulls, Bits, Fixed, Text, Struct, List as Lists, FixedList, TextView, ListView}
+use Rattle.vx_arrow_image.specs.declared.format.Format.TheVariants.{Nulls, Bits, Fixed, Text, Struct, List as Lists, FixedList, TextView, ListView, Union}
 use Rattle.vx_arrow_image.specs.declared.format.Offsets.{Offsets}
 use Rattle.vx_arrow_image.specs.declared.format.Offsets.TheVariants.{Short, Long}
 use Rattle.vx_arrow_image.specs.declared.image.Node as image
-use Rattle.vx_arrow_image.specs.Rows.{RowValue, null, bit, bytes, list, fields, row_values}
+use Rattle.vx_arrow_image.specs.Rows.{RowValue, null, bit, bytes, list, fields, tagged, row_values}
 
 -- the numbers and the bytes of a node
 pub record Part : Type 0 where
@@ -36,6 +36,7 @@ format_in n =
     else if n == 9 then Some TextView
     else if n == 10 then Some (ListView Short)
     else if n == 11 then Some (ListView Long)
+    else if n == 12 then Some Union
     else None
 
 abbrev pub part_of : image.Node → Part
@@ -111,6 +112,21 @@ is_list_view z p count i =
     && (nat_lt (offset_at z p.sizes i) (limit_of z)
     && nat_le (offset_at z p.offsets i + offset_at z p.sizes i) count)
 
+-- ---- unions
+
+-- the ids of the children, in order
+abbrev pub ids_of : Part → List ℕ
+ids_of p = take p.children p.sizes
+
+-- the first child with an id
+abbrev pub child_of : List ℕ → ℕ → ℕ
+child_of [] id = 0
+child_of (x ∷ xs) id = if x == id then 0 else child_of xs id + 1
+
+-- row i has the id of a child
+unfoldable pub has_child : Part → ℕ → Bool
+has_child p i = list_any (λ x. x == slice_index p.values i) (ids_of p)
+
 -- ---- which nodes are sound
 
 abbrev pub holds_valid : List ℕ → ℕ → Bool
@@ -150,6 +166,13 @@ if_valid p f i = if is_valid p.valid i then f i else true
 unfoldable pub all_valid : Part → (ℕ → Bool) → Bool
 all_valid p f = list_all (if_valid p f) (range_with_len p.offset p.len)
 
+-- no validity, some children, and an id for each of them and for each row
+abbrev pub holds_ids : Part → Bool
+holds_ids p =
+    (length p.valid == 0)
+    && (nat_lt 0 p.children
+    && (nat_le p.children (length p.sizes) && nat_le (p.offset + p.len) (length p.values)))
+
 -- its lists, and its children, which have so many rows, are long enough
 abbrev pub fits : Option Format → Part → List ℕ → Bool
 fits None p lens = false
@@ -169,6 +192,10 @@ fits (Some (ListView z)) p lens =
     && (holds_starts z p.offsets (p.offset + p.len)
     && (holds_starts z p.sizes (p.offset + p.len)
     && all_valid p (is_list_view z p (slice_index lens 0))))
+fits (Some Union) p lens =
+    holds_ids p
+    && (list_all (λ n. nat_le (p.offset + p.len) n) lens
+    && list_all (has_child p) (range_with_len p.offset p.len))
 
 unfoldable pub is_sound : Part → List ℕ → Bool
 is_sound p lens = is_placed p && fits p.format p lens
@@ -182,6 +209,7 @@ row_bytes (bit b) = []
 row_bytes (bytes bs) = bs
 row_bytes (list items) = []
 row_bytes (fields items) = []
+row_bytes (tagged id row) = []
 
 -- the text of view i: its own bytes, or those of rows of a child
 abbrev pub view_text : Part → List (List RowValue) → ℕ → List ℕ
@@ -206,6 +234,9 @@ value_at (Some FixedList) p cs i =
 value_at (Some TextView) p cs i = bytes (view_text p cs i)
 value_at (Some (ListView z)) p cs i =
     list (row_values (slice_range (slice_index_or cs 0 []) (offset_at z p.offsets i) (offset_at z p.offsets i + offset_at z p.sizes i)))
+value_at (Some Union) p cs i =
+    tagged (slice_index p.values i)
+    (slice_index_or (slice_index_or cs (child_of (ids_of p) (slice_index p.values i)) []) i null)
 
 abbrev pub row_of : Part → List (List RowValue) → ℕ → RowValue
 row_of p cs i = if is_valid p.valid i then value_at p.format p cs i else null

@@ -14,6 +14,7 @@ lack_text lacks.Children = codes "as many children as its format has"
 lack_text lacks.Values = codes "values for all rows"
 lack_text lacks.Offsets = codes "an offset for each row"
 lack_text lacks.Sizes = codes "a size for each row"
+lack_text lacks.Id = codes "the id of a child in each row"
 lack_text lacks.Items = codes "items where its offsets say"
 lack_text lacks.Length = codes "as many rows as its parent asks for"
 
@@ -22,6 +23,7 @@ abbrev pub refusal_text : Refusal → List ℕ
 refusal_text (refusals.NoMeaning node lack) =
     codes "node " ++ decimal node ++ codes " lacks " ++ lack_text lack
 refusal_text refusals.Beyond = codes "a pick is past the rows"
+refusal_text refusals.NullPick = codes "a pick of a union is null"
 refusal_text (refusals.Room node) =
     codes "the room of node " ++ decimal node ++ codes " is too small"
 refusal_text (refusals.Overflow node) =

@@ -10,6 +10,8 @@ mutual
     list : RowValues → RowValue
     -- the fields of a struct, in order
     fields : RowValues → RowValue
+    -- the row of a union: a child's id, and that child's row
+    tagged : ℕ → RowValue → RowValue
 
   pub data RowValues : Type 0 where
     none : RowValues

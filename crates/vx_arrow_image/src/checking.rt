@@ -1,15 +1,16 @@
 //! Whether a table of nodes means a column.
 ghost use Rattle.std.specs.Prelude.{◌≡◌, ◌+◌, ◌*◌, ◌^◌, ◌<◌, ◌≤◌, IfErr, IsSome, MatchOption, OnOk, Some, length, nat_le, true, false};
-ghost use Rattle.std.specs.List.{list_all};
+ghost use Rattle.std.specs.List.{list_all, range_with_len};
 ghost use Rattle.vx_arrow_image.specs.Checking.{IsUnsound};
-ghost use Rattle.vx_arrow_image.specs.Image.{all_valid, are_cut, column_in, fits, holds_offsets, if_valid, is_cut, is_list_view, is_placed, is_sound, is_view, part_of, parts_of, size_of};
+ghost use Rattle.vx_arrow_image.specs.Image.{all_valid, are_cut, column_in, fits, has_child, holds_offsets, if_valid, is_cut, is_list_view, is_placed, is_sound, is_view, part_of, parts_of, size_of};
 
 use crate::bits::{holds_valid, is_there};
 use crate::format::{Format, Offsets, format_of};
 use crate::image::Node;
 use crate::offsets::{cut_at, holds_offsets};
 use crate::refusal::{Lack, Refusal};
-use crate::views::{holds_starts, is_list_view, is_view};
+use crate::unions::{has_child, holds_ids, ids_lack};
+use crate::views::{holds_starts, is_list_view, is_view, list_views_lack};
 use std::alloc::Global;
 
 // Whether the rows have numbers below 2^60, and a bit of validity each, if there are any.
@@ -182,6 +183,34 @@ fn list_views_fit(size: Offsets, node: &Node, lens: &[u64]) -> bool
     are_list_views(size, node, count)
 }
 
+// Whether each row of a union has the id of a child.
+fn are_tagged(node: &Node) -> bool
+    requires few { node.now.offset + node.now.len < 2 ^ 60 }
+    requires ids { node.now.children ≤ length node.now.sizes.now }
+    requires held { node.now.offset + node.now.len ≤ length node.now.values.now }
+    ensures { result ≡ list_all (has_child (part_of node.now))
+        (range_with_len node.now.offset node.now.len) }
+{
+    let start = node.offset as usize;
+    for i in start..start + node.len as usize {
+        if !has_child(node, i) {
+            return false;
+        }
+    }
+    true
+}
+
+// Whether the rows of a union are there in its children, which have so many.
+fn union_fits(node: &Node, lens: &[u64]) -> bool
+    requires { node.now.offset + node.now.len < 2 ^ 60 }
+    ensures { result ≡ fits (Some Format.Union) (part_of node.now) lens.now }
+{
+    if !holds_ids(node) {
+        return false;
+    }
+    all_long(lens, node.offset + node.len) && are_tagged(node)
+}
+
 // Whether a node's lists and children, which have so many rows, are long enough.
 fn fits(format: Format, node: &Node, lens: &[u64]) -> bool
     requires { node.now.offset + node.now.len < 2 ^ 60 }
@@ -197,6 +226,7 @@ fn fits(format: Format, node: &Node, lens: &[u64]) -> bool
         Format::FixedList => fixed_list_fits(node, lens),
         Format::TextView => views_fit(node, lens),
         Format::ListView(size) => list_views_fit(size, node, lens),
+        Format::Union => union_fits(node, lens),
         Format::List(size) => {
             let count = if lens.is_empty() { 0 } else { lens[0] };
             node.children == 1 && are_cut(size, node, count)
@@ -204,26 +234,22 @@ fn fits(format: Format, node: &Node, lens: &[u64]) -> bool
     }
 }
 
-// What list views lack that don't fit.
-fn list_views_lack(size: Offsets, node: &Node) -> Lack
+// What a union lacks that doesn't fit over children that have so many rows.
+fn union_lacks(node: &Node, lens: &[u64]) -> Lack
     requires { node.now.offset + node.now.len < 2 ^ 60 }
 {
-    let end = node.offset + node.len;
-    if node.children != 1 {
-        return Lack::Children;
+    if !holds_ids(node) {
+        return ids_lack(node);
     }
-    if !holds_starts(size, node.offsets, end) {
-        return Lack::Offsets;
-    }
-    if holds_starts(size, node.sizes, end) {
-        Lack::Items
+    if all_long(lens, node.offset + node.len) {
+        Lack::Id
     } else {
-        Lack::Sizes
+        Lack::Length
     }
 }
 
 // What a node lacks that doesn't fit.
-fn unfit(format: Format, node: &Node) -> Lack
+fn unfit(format: Format, node: &Node, lens: &[u64]) -> Lack
     requires { node.now.offset + node.now.len < 2 ^ 60 }
 {
     match format {
@@ -251,6 +277,7 @@ fn unfit(format: Format, node: &Node) -> Lack
             }
         }
         Format::ListView(size) => list_views_lack(size, node),
+        Format::Union => union_lacks(node, lens),
     }
 }
 
@@ -266,7 +293,7 @@ fn lack_of(node: &Node, lens: &[u64]) -> Option<Lack>
         return Some(Lack::Rows);
     }
     if !fits(format, node, lens) {
-        return Some(unfit(format, node));
+        return Some(unfit(format, node, lens));
     }
     None
 }

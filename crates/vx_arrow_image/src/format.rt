@@ -21,6 +21,7 @@ pub enum Format {
     FixedList,
     TextView,
     ListView(Offsets),
+    Union,
 }
 
 impl Offsets {
@@ -62,6 +63,7 @@ pub fn format_of(code: u64) -> Option<Format>
         9 => Some(Format::TextView),
         10 => Some(Format::ListView(Offsets::Short)),
         11 => Some(Format::ListView(Offsets::Long)),
+        12 => Some(Format::Union),
         _ => None,
     }
 }

@@ -10,6 +10,7 @@ mod format;
 mod image;
 mod offsets;
 mod refusal;
+mod unions;
 mod views;
 
 pub use crate::bits::{bit_is, holds_valid, is_there};
@@ -18,4 +19,5 @@ pub use crate::format::{Format, Offsets, format_of};
 pub use crate::image::{Need, Node, Room};
 pub use crate::offsets::{Cut, cut_at, holds_offsets};
 pub use crate::refusal::{Lack, Refusal};
+pub use crate::unions::{has_child, holds_ids, ids_lack};
 pub use crate::views::{holds_starts, is_list_view, is_view};

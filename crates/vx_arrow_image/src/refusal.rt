@@ -27,6 +27,8 @@ pub enum Lack {
     Items,
     /// As many rows as its parent asks for.
     Length,
+    /// The id of a child in each row of a union.
+    Id,
 }
 
 /// Why there is no answer.
@@ -41,6 +43,8 @@ pub enum Refusal {
     },
     /// A pick that isn't null is past the rows.
     Beyond,
+    /// The column is a union, whose rows are never null, and a pick is null.
+    NullPick,
     /// A node's room is smaller than its need, or there are not as many rooms as nodes.
     Room {
         /// The first such node's number; how many nodes there are, where rooms are too few or many.
@@ -71,6 +75,7 @@ impl fmt::Display for Lack {
             Lack::Values => "values for all rows",
             Lack::Offsets => "an offset for each row",
             Lack::Sizes => "a size for each row",
+            Lack::Id => "the id of a child in each row",
             Lack::Items => "items where its offsets say",
             Lack::Length => "as many rows as its parent asks for",
         })
@@ -89,6 +94,7 @@ impl fmt::Display for Refusal {
         match self {
             Refusal::NoMeaning { node, lack } => write!(f, "node {node} lacks {lack}"),
             Refusal::Beyond => f.write_str("a pick is past the rows"),
+            Refusal::NullPick => f.write_str("a pick of a union is null"),
             Refusal::Room { node } => write!(f, "the room of node {node} is too small"),
             Refusal::Overflow { node } => write!(f, "the rows of node {node} are too many"),
             Refusal::NoMemory => f.write_str("out of memory"),

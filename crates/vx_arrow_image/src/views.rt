@@ -5,6 +5,7 @@ ghost use Rattle.vx_arrow_image.specs.Image.{holds_starts, is_list_view, is_view
 use crate::format::Offsets;
 use crate::image::Node;
 use crate::offsets::offset;
+use crate::refusal::Lack;
 
 // How many bytes the text of view `i` has.
 fn view_len(node: &Node, i: usize) -> u64
@@ -76,4 +77,22 @@ pub fn is_list_view(size: Offsets, node: &Node, count: u64, i: usize) -> bool
         return false;
     }
     start + len <= count
+}
+
+/// What list views lack that don't fit.
+pub(crate) fn list_views_lack(size: Offsets, node: &Node) -> Lack
+    requires { node.now.offset + node.now.len < 2 ^ 60 }
+{
+    let end = node.offset + node.len;
+    if node.children != 1 {
+        return Lack::Children;
+    }
+    if !holds_starts(size, node.offsets, end) {
+        return Lack::Offsets;
+    }
+    if holds_starts(size, node.sizes, end) {
+        Lack::Items
+    } else {
+        Lack::Sizes
+    }
 }

@@ -2,7 +2,7 @@
 use Rattle.std.proofs.Common.{◌<◌, ◌-◌, ◌+◌, get_or, drop, length, ap, ◌∙◌, refl, sym, arith}
 use Rattle.std.proofs.lemmas.List.{length-map, length-drop, get_or-map, drop-map, take_all}
 use Rattle.vx_arrow_image.specs.Image.{part_of, parts_of}
-use Rattle.vx_arrow_columns.specs.Picks.{picking_of}
+use Rattle.vx_arrow_columns.specs.Picks.{picking_of, is_union}
 use Rattle.vx_arrow_columns.specs.Planned.{first_len}
 use Rattle.vx_arrow_image.proofs.SoundNodes.{zero_node}
 use Rattle.vx_arrow_columns.proofs.Plans.{first_is, first_was, plan_done}
@@ -34,10 +34,10 @@ pub returns-then-not-are_within-clause-refused : goal.returns-then-not-are_withi
 returns-then-not-are_within-clause-refused c w = c.if-not-are_within.ensures.beyond refl (first_was c.args.nodes.now _ _ w (omega arith))
 
 pub returns-then-nodes-eq0-clause-refused : goal.returns-then-nodes-eq0-clause-refused
-returns-then-nodes-eq0-clause-refused c = c.at.ensures (picking_of c.args.places.now c.args.valid.now 0) (first_len c.args.nodes.now)
+returns-then-nodes-eq0-clause-refused c = c.at.ensures (picking_of c.args.places.now c.args.valid.now 0) (first_len c.args.nodes.now) (is_union (parts_of c.args.nodes.now))
 
 pub returns-in-Err-clause-refused : goal.returns-in-Err-clause-refused
-returns-in-Err-clause-refused c = c.at-in-Err.ensures (picking_of c.args.places.now c.args.valid.now 0) (first_len c.args.nodes.now)
+returns-in-Err-clause-refused c = c.at-in-Err.ensures (picking_of c.args.places.now c.args.valid.now 0) (first_len c.args.nodes.now) (is_union (parts_of c.args.nodes.now))
 
 pub returns-in-Err-visit-clause-refused : goal.returns-in-Err-visit-clause-refused
-returns-in-Err-visit-clause-refused c = c.at-in-Err-visit.ensures (picking_of c.args.places.now c.args.valid.now 0) (first_len c.args.nodes.now)
+returns-in-Err-visit-clause-refused c = c.at-in-Err-visit.ensures (picking_of c.args.places.now c.args.valid.now 0) (first_len c.args.nodes.now) (is_union (parts_of c.args.nodes.now))

@@ -1,6 +1,6 @@
 -- Each format has its own way; nulls have no lists of their own.
 use Rattle.std.proofs.Common.{◌≡◌, Some, None, refl, rules}
-use Rattle.vx_arrow_image.specs.declared.format.Format.TheVariants.{Nulls, Bits, Fixed, Text, Struct, List as Lists, FixedList, TextView, ListView}
+use Rattle.vx_arrow_image.specs.declared.format.Format.TheVariants.{Nulls, Bits, Fixed, Text, Struct, List as Lists, FixedList, TextView, ListView, Union}
 use Rattle.vx_arrow_image.specs.Image.{format_in, part_of}
 use Rattle.vx_arrow_columns.proofs.OwnTaken.{no_format, nulls_node}
 use Rattle.vx_arrow_columns.proofs.Plans.{own_node, view_node}
@@ -35,3 +35,6 @@ returns-in-Some-Nulls c = let format : format_in c.args.node.now.format ≡ Some
 
 pub returns-in-None : goal.returns-in-None
 returns-in-None c = let format : format_in c.args.node.now.format ≡ None = search rules in absurd (no_format (part_of c.args.node.now) _ format c.requires.readable)
+
+pub returns-in-Some-Union : goal.returns-in-Some-Union
+returns-in-Some-Union c = let format : format_in c.args.node.now.format ≡ Some Union = search rules in own_node (part_of c.args.node.now) _ _ Union format refl c.write_union_node.ensures
