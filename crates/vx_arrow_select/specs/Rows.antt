@@ -1,9 +1,9 @@
 -- The rows of a column in memory, as the rows of the model.
 use Rattle.std.specs.Prelude.{List, map}
-use Rattle.vx_types.specs.RowValue.{RowValue, RowValues, null, bit, bytes, list, fields, none, more}
+use Rattle.vx_types.specs.RowValue.{RowValue, RowValues, null, bit, bytes, list, fields, tagged, none, more}
 use Rattle.vx_arrow_image.specs.Rows as rows
 
-mutual
+unfoldable mutual
   -- the model's row that a row stands for
   pub model_row : rows.RowValue → RowValue
   model_row rows.null = null
@@ -11,6 +11,7 @@ mutual
   model_row (rows.bytes bs) = bytes bs
   model_row (rows.list xs) = list (model_rows xs)
   model_row (rows.fields xs) = fields (model_rows xs)
+  model_row (rows.tagged id x) = tagged id (model_row x)
 
   pub model_rows : rows.RowValues → RowValues
   model_rows rows.none = none

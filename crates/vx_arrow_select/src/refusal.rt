@@ -33,3 +33,19 @@ impl From<vx_arrow_columns::Refusal> for Refusal {
         Refusal::Column(refusal)
     }
 }
+
+impl fmt::Display for Refusal {
+    ghost use Rattle.std.specs.Prelude.{Some};
+    ghost use Rattle.vx_arrow_select.specs.Messages.{refusal_text};
+
+    ghost output = { λ e. Some (refusal_text e) };
+
+    fn fmt<W: fmt::Write>(&self, f: &mut fmt::Formatter<W>) -> fmt::Result {
+        match self {
+            Refusal::Steps(refusal) => write!(f, "{refusal}"),
+            Refusal::Column(refusal) => write!(f, "{refusal}"),
+        }
+    }
+}
+
+impl Error for Refusal {}

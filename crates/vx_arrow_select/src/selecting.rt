@@ -1,8 +1,9 @@
 //! Steps over a column, composed and taken.
 ghost use Rattle.std.specs.Prelude.{◌≡◌, IfErr, IfOk, OnErr, OnOk, length, map};
+ghost use Rattle.vx_arrow.specs.Answer.{AreMeant, HasNeed};
 ghost use Rattle.vx_arrow.specs.Image.{step_parts};
-ghost use Rattle.vx_arrow_image.specs.Image.{parts_of};
-ghost use Rattle.vx_arrow_columns.specs.Picks.{needs_of, picking_of};
+ghost use Rattle.vx_arrow_columns.specs.Picks.{picking_of};
+ghost use Rattle.vx_arrow_columns.specs.Planned.{first_len};
 ghost use Rattle.vx_arrow_select.specs.Selected.{AreComposed, AreNeeds, IsFault, IsStepFault, IsSelected};
 
 use crate::refusal::Refusal;
@@ -12,15 +13,35 @@ use vx_arrow_columns::{Need, Node, Room, sizes, take};
 
 // Picks as places and bits.
 #[derive(Drop)]
-struct Composed {
+struct Places {
     places: Vec<u64>,
     valid: Vec<u8>,
 }
 
+// Writes the picks that the steps leave of `len` rows to lists that are as long as they need.
+fn fill_picks(
+    alloc: Global,
+    len: usize,
+    steps: &[StepImage],
+    places: &mut [u64],
+    valid: &mut [u8],
+) -> Result<(), vx_arrow::Refusal>
+    requires { HasNeed len (map step_parts steps.now)
+        (record { places = length places.old; valid = length valid.old }) }
+    ensures picks { OnOk result (AreComposed len (map step_parts steps.now)
+        (picking_of places.new valid.new 0)) }
+    ensures meant { OnOk result (AreMeant (map step_parts steps.now)) }
+    ensures fault { IfErr result (IsStepFault len (map step_parts steps.now)) }
+{
+    compose(alloc, len, steps, places, valid)?;
+    Ok(())
+}
+
 // The picks that the steps leave of `len` rows.
-fn composed(alloc: Global, len: usize, steps: &[StepImage]) -> Result<Composed, vx_arrow::Refusal>
+fn composed(alloc: Global, len: usize, steps: &[StepImage]) -> Result<Places, vx_arrow::Refusal>
     ensures picks { IfOk result (λ c. AreComposed len (map step_parts steps.now)
         (picking_of c.places.items c.valid.items 0)) }
+    ensures meant { OnOk result (AreMeant (map step_parts steps.now)) }
     ensures fault { IfErr result (IsStepFault len (map step_parts steps.now)) }
 {
     let need = count(alloc, len, steps)?;
@@ -30,10 +51,8 @@ fn composed(alloc: Global, len: usize, steps: &[StepImage]) -> Result<Composed, 
     let Ok(mut valid) = vec![in alloc; 0u8; need.valid] else {
         return Err(vx_arrow::Refusal::NoMemory);
     };
-    match compose(alloc, len, steps, &mut places, &mut valid) {
-        Ok(_) => Ok(Composed { places, valid }),
-        Err(refusal) => Err(refusal),
-    }
+    fill_picks(alloc, len, steps, &mut places, &mut valid)?;
+    Ok(Places { places, valid })
 }
 
 // How many rows the first node of a table has, and 0 where there is none.
