@@ -102,6 +102,7 @@ enum {
     VORTEX_ARROW_BROKEN = 6,     /* a step breaks a rule */
     VORTEX_ARROW_LACKING = 7,    /* the image of a step has no meaning */
     VORTEX_ARROW_FORMAT = 8,     /* a format that isn't known */
+    VORTEX_ARROW_NULL_UNION = 9, /* a null is picked of a union, which has none of its own */
     /* Of the shim alone: */
     VORTEX_ARROW_SHAPE = 16,     /* a struct isn't what its format says, or is released */
     VORTEX_ARROW_DEPTH = 17,     /* more than VORTEX_ARROW_LEVELS columns in one another */
@@ -189,11 +190,12 @@ typedef struct vortex_arrow_node {
     uint64_t width;  /* of FIXED: bytes a value; of FIXED_LIST: items a row; else 0 */
     uint64_t len;    /* rows */
     uint64_t offset; /* the first of them in the buffers */
-    uint64_t children;
+    uint64_t children; /* of VIEWS: a node for each buffer that they lead to, FIXED of a byte */
     vortex_arrow_bytes valid;   /* bits; no bytes where each row is valid */
     vortex_arrow_bytes offsets; /* of texts, lists, views of lists, dense unions */
-    vortex_arrow_bytes values;  /* FIXED: values; BITS: bits; TEXT: bytes; VIEWS: 16 bytes a row */
-    vortex_arrow_bytes sizes;   /* of views of lists: sizes; of unions: type ids, a byte a row */
+    vortex_arrow_bytes values;  /* FIXED: values; BITS: bits; TEXT: bytes; VIEWS: 16 bytes a row;
+                                 * unions: the id of each row's child, a byte */
+    vortex_arrow_bytes sizes;   /* of views of lists: sizes; of unions: a byte a child, its id */
 } vortex_arrow_node;
 
 typedef struct vortex_arrow_room_bytes {
@@ -287,11 +289,12 @@ typedef struct vortex_arrow_error {
  * *error has too, with the place and words; `error` may be null, and so may `out_schema`. A broken
  * step is told before any other fault but a step's own.
  *
- * Schema and array stay the caller's. The answer has memory of its own but for dictionaries and the
- * bytes of views, which it shares with the array: such a child of the array is replaced, in its
- * place, by one of the same rows that is counted, so the array is neither read nor released by
- * others meanwhile. Array and answer are then released in any order. At every status but DONE there
- * is nothing to release: *out_array and *out_schema are marked as released. */
+ * Schema and array stay the caller's. The answer has memory of its own but for dictionaries, the
+ * bytes that views lead to, and what lists are views of, which it shares with the array: each such
+ * array, *array itself or one below it, is replaced, in its place, by one of the same rows that is
+ * counted, so the array is neither read nor released by others meanwhile. Array and answer are then
+ * released in any order. At every status but DONE there is nothing to release: *out_array and
+ * *out_schema are marked as released. */
 uint64_t vortex_select_arrow(const struct ArrowSchema *schema, struct ArrowArray *array,
     const vortex_arrow_step *steps, size_t n_steps, struct ArrowSchema *out_schema,
     struct ArrowArray *out_array, vortex_arrow_error *error);
