@@ -498,17 +498,31 @@ static void say_items(text *t, const struct ArrowSchema *schema, const struct Ar
     say(t, "]");
 }
 
+/* The number of a union's child by its id, or -1. */
+static int64_t child_of(const char *format, uint8_t id)
+{
+    const char *ids = format + 4;
+    int64_t child = 0;
+    while (ids && *ids) {
+        if (strtoul(ids, NULL, 10) == id) {
+            return child;
+        }
+        ids = strchr(ids, ',');
+        ids += ids != NULL;
+        child++;
+    }
+    return -1;
+}
+
 static void say_chosen(text *t, const struct ArrowSchema *schema, const struct ArrowArray *array,
     int64_t at)
 {
-    unsigned long id = ((const uint8_t *)array->buffers[0])[at];
-    const char *ids = schema->format + 4;
-    size_t child = 0;
-    while (strtoul(ids, NULL, 10) != id) {
-        ids = strchr(ids, ',') + 1;
-        child++;
+    int64_t child = child_of(schema->format, ((const uint8_t *)array->buffers[0])[at]);
+    if (child < 0) {
+        say(t, "none");
+        return;
     }
-    say(t, "%lu:", (unsigned long)child);
+    say(t, "%d:", (int)child);
     say_row(t, schema->children[child], array->children[child],
         schema->format[2] == 'd' ? ((const int32_t *)array->buffers[1])[at] : at);
 }
