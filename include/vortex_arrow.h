@@ -221,8 +221,10 @@ enum {
     VORTEX_ARROW_LACKS_CHILDREN = 4, /* as many children as its format has */
     VORTEX_ARROW_LACKS_VALUES = 5,   /* values for all rows */
     VORTEX_ARROW_LACKS_OFFSETS = 6,  /* an offset for each row and one more */
-    VORTEX_ARROW_LACKS_ITEMS = 7,    /* offsets that ascend, and items up to the last */
-    VORTEX_ARROW_LACKS_LENGTH = 8    /* as many rows as its parent asks for */
+    VORTEX_ARROW_LACKS_ITEMS = 7,    /* offsets that ascend, and items up to the last; of views:
+                                      * all that each leads to */
+    VORTEX_ARROW_LACKS_LENGTH = 8,   /* as many rows as its parent asks for */
+    VORTEX_ARROW_LACKS_SIZES = 9     /* a size for each row */
 };
 
 /* How many places and bytes of validity the picks need. */

@@ -282,8 +282,8 @@ static uint64_t walk_data(table *t, struct ArrowArray *array, size_t parent)
         node = &t->nodes[t->len - 1];
         node->format = VORTEX_ARROW_FIXED;
         node->width = 1;
-        node->len = (uint64_t)length;
-        node->values = bytes_at(array->buffers[k + 2], node->len, 1);
+        node->values = bytes_at(array->buffers[k + 2], (uint64_t)length, 1);
+        node->len = node->values.len; /* none of a buffer that isn't there */
         t->sources[t->len - 1].end = t->len;
     }
     return VORTEX_ARROW_DONE;
@@ -503,18 +503,32 @@ static void place(const table *t, size_t node, const vortex_arrow_need *needs,
     }
 }
 
-/* A fault of the library's that is about a node: the part of it is what it lacks. */
-static uint64_t fault_of_node(const table *t, vortex_arrow_answer answer)
+/* The part of a node that is what it lacks. */
+static const char *part_of(const vortex_arrow_node *node, uint64_t lack)
 {
     static const char *const parts[] = {"", "children", "length", "validity", "children", "values",
-        "offsets", "offsets", "length"};
+        "offsets", "offsets", "length", "sizes"};
+    if (lack == VORTEX_ARROW_LACKS_VALUES || lack == VORTEX_ARROW_LACKS_ITEMS) {
+        if (has_views(node)) {
+            return "views";
+        }
+        if (lack == VORTEX_ARROW_LACKS_VALUES && is_union(node)) {
+            return "type ids";
+        }
+    }
+    return lack < sizeof parts / sizeof parts[0] ? parts[lack] : "";
+}
+
+/* A fault of the library's that is about a node. */
+static uint64_t fault_of_node(const table *t, vortex_arrow_answer answer)
+{
     size_t node = answer.node_or_step < t->len ? answer.node_or_step : NO_NODE;
     const char *part = "";
     t->error->cause = answer.what;
-    if (answer.status == VORTEX_ARROW_FORMAT && node != NO_NODE) {
+    if (answer.status == VORTEX_ARROW_FORMAT && node != NO_NODE && t->sources[node].schema) {
         part = t->sources[node].schema->format;
-    } else if (answer.status == VORTEX_ARROW_NO_MEANING && answer.what < 9) {
-        part = parts[answer.what];
+    } else if (answer.status == VORTEX_ARROW_NO_MEANING && node != NO_NODE) {
+        part = part_of(&t->nodes[node], answer.what);
     }
     return fault_at(t, answer.status, node, part);
 }

@@ -494,7 +494,7 @@ class Hostile(unittest.TestCase):
             (21, 0, 0), (2**31 - 1, 0, 0), (2**31 - 1, 0, 2**31 - 1), (-1, 0, 0), (-(2**31), 0, 0),
         ):
             for form in "vu", "vz":
-                self.refused(Type(form), made((size, b"", which, at)))
+                self.assertIn("views", self.refused(Type(form), made((size, b"", which, at))))
                 with self.assertRaises(ValueError):
                     check(wrapped(Type(form), made((size, b"", which, at))))
                 # What isn't picked isn't looked at.
