@@ -542,6 +542,17 @@ class Hostile(unittest.TestCase):
                 check(source)
                 self.assertEqual(select(source, []).to_pylist(), [None, [1, 2]])
 
+    def test_kept(self):
+        """What lists are views of is shared unread, and tested by `check`."""
+        if not knows("+v"):
+            self.skipTest("no views of lists")
+        bad = arrow.made_array(1, 0, 0, [None, array("i", [5, 4]), b"abcd"])
+        made = arrow.made_array(1, 0, 0, [None, array("i", [0]), array("i", [1])], [bad])
+        source = wrapped(Type("+vl", (("item", Type("u")),)), made)
+        self.assertEqual(len(select(source, [Take([0, 0])])), 2)
+        with self.assertRaisesRegex(ValueError, "offsets"):
+            check(source)
+
     def test_wild_unions(self):
         """Ids of no child, places past a child's rows, and formats that list no ids."""
         if not knows("+us:", "+ud:"):

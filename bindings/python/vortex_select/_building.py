@@ -174,7 +174,7 @@ def is_of(of, row):
     return isinstance(row, {"b": bool, "u": str, "U": str, "vu": str}.get(form, bytes))
 
 
-def chosen(of, places, rows):
+def _chosen(of, places, rows):
     """The buffers and children of a union whose rows are in the children of these numbers."""
     ids, is_dense = ids_of(of.format), of.format[2] == "d"
     each = [[] for _ in of.children]
@@ -197,7 +197,7 @@ def _union(of, rows):
         places.append(next(fitting, None))
         if places[-1] is None:
             raise ValueError(f"{row!r} is a row of no column below one of type {of}")
-    return chosen(of, places, rows)
+    return _chosen(of, places, rows)
 
 
 def _dictionary(of, rows):

@@ -200,7 +200,7 @@ class Column:
 
     def to_pylist(self) -> List[Any]:
         """The rows: numbers (dates and times too), texts, bytes, lists, dicts for structs, lists of
-        pairs for maps, and `None`.
+        pairs for maps, what a union's column has, and `None`.
         """
         return [row for chunk in self._chunks for row in rows(self._schema, chunk, 0, chunk.length)]
 
