@@ -10,9 +10,10 @@
  * - Proved: where a library call's status is VORTEX_ARROW_DONE, what it wrote means what is said of
  *   it below; at every other status it wrote nothing.
  * - Trusted: an array doesn't say how long its buffers are. The shim takes from `length`, `offset`
- *   and the format how many bytes a buffer must have, and from the last offset how many bytes of
- *   text there are. Where a producer hands in a shorter buffer, it is read past its end. Names,
- *   metadata, flags, dictionaries, the order of the buffers, and what is freed and when are the
+ *   and the format how many bytes a buffer must have, from the last offset how many bytes of text
+ *   there are, and from the last buffer of views how many there are in those that they lead to.
+ *   Where a producer hands in a shorter buffer, it is read past its end. Names, metadata, flags,
+ *   dictionaries, what views lead to, the order of the buffers, and what is freed and when are the
  *   shim's too.
  *
  * What the caller owes, and nothing tests:
@@ -29,11 +30,11 @@
  *
  * Formats: null (n), bools (b), integers and floats (c C s S i I l L e f g), binary of a fixed
  * width (w:N), decimals (d:P,S and d:P,S,W), dates, times, timestamps, durations and intervals
- * (t..), texts and bytes (u U z Z), structs (+s), lists (+l +L), lists of a fixed size (+w:N) and
- * maps (+m), each with an offset, a validity, and a dictionary where it is of integers. An answer
- * has the format of its source. Views (vu vz), views of lists (+vl +vL) and unions (+us: +ud:) are
- * handed to the library; those that it doesn't know are refused by VORTEX_ARROW_FORMAT, as are
- * arrays that are run-end encoded (+r) and formats that Arrow doesn't have. */
+ * (t..), texts and bytes (u U z Z) and views of them (vu vz), structs (+s), lists (+l +L), lists of
+ * a fixed size (+w:N), views of lists (+vl +vL) and maps (+m), each with an offset, a validity, and
+ * a dictionary where it is of integers. An answer has the format of its source. Unions (+us: +ud:)
+ * are handed to the library; where it doesn't know them, they are refused by VORTEX_ARROW_FORMAT,
+ * as are arrays that are run-end encoded (+r) and formats that Arrow doesn't have. */
 #ifndef VORTEX_ARROW_H
 #define VORTEX_ARROW_H
 
@@ -102,7 +103,7 @@ enum {
     VORTEX_ARROW_BROKEN = 6,     /* a step breaks a rule */
     VORTEX_ARROW_LACKING = 7,    /* the image of a step has no meaning */
     VORTEX_ARROW_FORMAT = 8,     /* a format that isn't known */
-    VORTEX_ARROW_NULL_UNION = 9, /* a null is picked of a union, which has none of its own */
+    VORTEX_ARROW_NULL_PICK = 9,  /* a null is picked of a union, whose rows are never null */
     /* Of the shim alone: */
     VORTEX_ARROW_SHAPE = 16,     /* a struct isn't what its format says, or is released */
     VORTEX_ARROW_DEPTH = 17,     /* more than VORTEX_ARROW_LEVELS columns in one another */
@@ -224,7 +225,8 @@ enum {
     VORTEX_ARROW_LACKS_ITEMS = 7,    /* offsets that ascend, and items up to the last; of views:
                                       * all that each leads to */
     VORTEX_ARROW_LACKS_LENGTH = 8,   /* as many rows as its parent asks for */
-    VORTEX_ARROW_LACKS_SIZES = 9     /* a size for each row */
+    VORTEX_ARROW_LACKS_SIZES = 9,    /* a size for each row, or an id for each child */
+    VORTEX_ARROW_LACKS_ID = 10       /* the id of a child in each row */
 };
 
 /* How many places and bytes of validity the picks need. */

@@ -16,7 +16,7 @@ uint64_t vortex_arrow_fault(vortex_arrow_error *error, uint64_t status, const ch
     static const char *const words[] = {"", "the column has no meaning", "a pick is past the rows",
         "a list that is written is too short", "offsets of 32 bits would pass 2^31 - 1",
         "out of memory", "a step breaks a rule", "the step has no meaning",
-        "the format isn't known", "a null is picked of a union, which has none of its own",
+        "the format isn't known", "a null is picked of a union, whose rows are never null",
         "the struct isn't what its format says",
         "more than 64 columns stand in one another", "the stream that is read failed"};
     static const char *const causes[] = {"a slice that isn't within the rows",
@@ -402,13 +402,20 @@ static uint64_t space_of(const vortex_arrow_need *need, char slot)
     return bytes || slot == 'v' ? ALIGNED(bytes) : 64;
 }
 
+/* What the library writes for a node: of unions also the ids of the children, in no buffer. */
+static const char *written_of(const vortex_arrow_node *node)
+{
+    return node->format == VORTEX_ARROW_SPARSE_UNION ? "ds"
+        : node->format == VORTEX_ARROW_DENSE_UNION ? "dos" : vortex_arrow_slots[node->format];
+}
+
 /* One block for the whole answer; 0 where there isn't that much memory. */
 static int supply_answer(const table *t, const vortex_arrow_need *needs, supply *s)
 {
     uint64_t bytes = t->n_buffers * sizeof(void *) + 64;
     size_t k;
     for (k = 0; k < t->len; k++) {
-        const char *slot = vortex_arrow_slots[t->nodes[k].format];
+        const char *slot = written_of(&t->nodes[k]);
         for (; *slot && !t->sources[k].is_kept; slot++) {
             if (need_of(&needs[k], *slot) > PTRDIFF_MAX / 4 || bytes > PTRDIFF_MAX / 4) {
                 return 0;
@@ -430,23 +437,23 @@ static int supply_answer(const table *t, const vortex_arrow_need *needs, supply 
 static void place_buffers(const table *t, size_t node, const vortex_arrow_need *need,
     vortex_arrow_room *room, struct ArrowArray *to, supply *s)
 {
-    const char *slot = vortex_arrow_slots[t->nodes[node].format];
+    const char *slot = written_of(&t->nodes[node]);
     const struct ArrowArray *from = t->sources[node].array;
     int64_t k;
     to->buffers = s->buffers;
-    for (k = 0; k < from->n_buffers; k++) {
-        if (*slot) {
-            vortex_arrow_room_bytes *bytes = room_of(room, *slot);
-            uint64_t space = space_of(need, *slot);
-            bytes->data = s->bytes;
-            bytes->len = need_of(need, *slot);
-            memset(bytes->data + bytes->len, 0, space - bytes->len);
+    for (k = 0; *slot; k++, slot++) {
+        vortex_arrow_room_bytes *bytes = room_of(room, *slot);
+        uint64_t space = space_of(need, *slot);
+        bytes->data = s->bytes;
+        bytes->len = need_of(need, *slot);
+        memset(bytes->data + bytes->len, 0, space - bytes->len);
+        if (k < from->n_buffers) {
             to->buffers[k] = space ? s->bytes : NULL;
-            s->bytes += space;
-            slot++;
-        } else {
-            to->buffers[k] = from->buffers[k];
         }
+        s->bytes += space;
+    }
+    for (; k < from->n_buffers; k++) {
+        to->buffers[k] = from->buffers[k];
     }
     s->buffers += from->n_buffers;
 }
@@ -507,7 +514,7 @@ static void place(const table *t, size_t node, const vortex_arrow_need *needs,
 static const char *part_of(const vortex_arrow_node *node, uint64_t lack)
 {
     static const char *const parts[] = {"", "children", "length", "validity", "children", "values",
-        "offsets", "offsets", "length", "sizes"};
+        "offsets", "offsets", "length", "sizes", "type ids"};
     if (lack == VORTEX_ARROW_LACKS_VALUES || lack == VORTEX_ARROW_LACKS_ITEMS) {
         if (has_views(node)) {
             return "views";

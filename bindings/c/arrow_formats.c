@@ -26,18 +26,21 @@ int vortex_arrow_has_word(const char *words, const char *word)
     return 0;
 }
 
-/* How many ids the format of a union lists, each below 128, or -1 where it isn't such a list. They
- * are written to `ids`, where that is one. */
+/* How many ids the format of a union lists, each below 128 and there once, or -1 where it isn't such
+ * a list. They are written to `ids`, where that is one. */
 int64_t vortex_arrow_ids(const char *format, uint8_t *ids)
 {
     const char *at = format + strlen("+us:");
+    uint8_t seen[128] = {0};
     int64_t count = 0;
     for (; *at; count++) {
         char *end;
         long id = strtol(at, &end, 10);
-        if (*at < '0' || *at > '9' || id > 127 || (*end && (*end != ',' || !end[1]))) {
+        int is_ended = !*end || (*end == ',' && end[1]);
+        if (*at < '0' || *at > '9' || id > 127 || !is_ended || seen[id]) {
             return -1;
         }
+        seen[id] = 1;
         if (ids) {
             ids[count] = (uint8_t)id;
         }

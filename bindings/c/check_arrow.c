@@ -138,7 +138,7 @@ static char *rows_of(const struct ArrowSchema *schema, const struct ArrowArray *
     return t.data;
 }
 
-/* Whether a null is picked that can't be: a union has none of its own. */
+/* Whether a null is picked of a union, whose rows are never null. */
 static int is_refused(const struct ArrowSchema *schema, const walk *w)
 {
     size_t k;
@@ -185,7 +185,7 @@ static void round_of(uint64_t seed)
     random_walk(&w, (size_t)array.length);
     wanted = rows_of(&schema, &array, w.picks, w.len);
     status = vortex_select_arrow(&schema, &array, w.steps, w.n_steps, &out_schema, &out, &error);
-    expect(status == (is_refused(&schema, &w) ? VORTEX_ARROW_NULL_UNION : VORTEX_ARROW_DONE) &&
+    expect(status == (is_refused(&schema, &w) ? VORTEX_ARROW_NULL_PICK : VORTEX_ARROW_DONE) &&
         error.status == status, error.text, seed);
     if (!status) {
         int source_first = below(2) != 0;

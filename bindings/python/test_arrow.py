@@ -318,27 +318,53 @@ class Shared(unittest.TestCase):
             with self.assertRaises(ValueError):
                 from_buffers(f"{name}<int8>", 4, [None, starts, sizes[:3]], [items])
 
-    def test_unions(self):
-        if not knows("+us:", "+ud:"):
-            self.skipTest("no unions")
+    def unions(self, source, ids):
+        """What holds of both kinds."""
+        self.assertEqual(source.to_pylist(), ["a", None, 3])
+        found = select(source, [Take([2, 1, 0, 0])])
+        self.assertEqual((found.to_pylist(), found.type), ([3, None, "a", "a"], source.type))
+        self.assertIn(ids, found.type)
+        with self.assertRaisesRegex(ValueError, "a null is picked of a union"):
+            select(source, [Take([0, None])])
+        self.assertEqual(select(source, [Take([0, None]), Slice(0, 1)]).to_pylist(), ["a"])
+        # Where a struct is null, nothing is said of its union.
+        below = wrapped(Type("+s", (("u", type_of(source.type)),)), arrow.made_array(
+            3, 0, 0, [None], [arrow.shared(source._chunks[0])]
+        ))
+        found = select(below, [Take([2, None, 1])])
+        self.assertEqual(found.to_pylist(), [{"u": 3}, None, {"u": None}])
+        return select(source, [Take([2, 0, 2])])._chunks[0]
+
+    def test_sparse_unions(self):
+        if not knows("+us:"):
+            self.skipTest("no sparse unions")
         words, numbers = column(["a", None, "c"]), column([1, 2, 3], "int16")
         names = "[5,9]<a: utf8, b: int16>"
-        sparse = from_buffers(f"sparse_union{names}", 3, [b"\5\5\x09"], [words, numbers])
-        self.assertEqual(sparse.to_pylist(), ["a", None, 3])
-        self.assertEqual(select(sparse, [Take([2, 1, 0, 0])]).to_pylist(), [3, None, "a", "a"])
-        dense = from_buffers(f"dense_union{names}", 3, [b"\5\x09\5", array("i", [0, 0, 2])], [words, numbers])
-        found = select(dense, [Take([2, 1, 2])])
-        self.assertEqual((found.to_pylist(), found.type), (["c", 1, "c"], f"dense_union{names}"))
-        self.assertEqual([found._chunks[0].children[k].contents.length for k in (0, 1)], [2, 1])
-        for source in sparse, dense:
-            with self.assertRaisesRegex(ValueError, "a null is picked of a union"):
-                select(source, [Take([0, None])])
-            self.assertEqual(select(source, [Take([0, None]), Slice(0, 1)]).to_pylist(), ["a"])
+        source = from_buffers(f"sparse_union{names}", 3, [b"\5\5\x09"], [words, numbers])
+        found = self.unions(source, "[5,9]")
+        self.assertEqual([found.children[k].contents.length for k in (0, 1)], [3, 3])
         for wrong in ("[5]<a: utf8, b: int16>", "[128,1]<a: utf8, b: int16>"):
             with self.assertRaises(ValueError):
                 select(from_buffers("sparse_union" + wrong, 1, [b"\5"], [words, numbers]), [])
-        with self.assertRaises(ValueError):
-            column(["a", 1.5], "sparse_union<a: utf8, b: int16>")
+
+    def test_dense_unions(self):
+        if not knows("+ud:"):
+            self.skipTest("no dense unions")
+        words, numbers = column(["a", "b", None]), column([1, 2, 3], "int16")
+        names, offsets = "[5,9]<a: utf8, b: int16>", array("i", [0, 2, 2])
+        source = from_buffers(f"dense_union{names}", 3, [b"\5\5\x09", offsets], [words, numbers])
+        found = self.unions(source, "[5,9]")
+        self.assertEqual([found.children[k].contents.length for k in (0, 1)], [1, 2])
+
+    def test_built_unions(self):
+        """A value is in the first column that it fits."""
+        made = column([1, "a", None, 300, 2.5], "dense_union<b: int8, a: utf8, i: int64, f: float64>")
+        types = ctypes.string_at(made._chunks[0].buffers[0], 5)
+        self.assertEqual(types, bytes([0, 1, 0, 2, 3]))
+        self.assertEqual(made.to_pylist(), [1, "a", None, 300, 2.5])
+        for wrong in (["a", 1.5], [b"a"], [2**15], [[1]], [True]):
+            with self.assertRaises(ValueError):
+                column(wrong, "sparse_union<a: utf8, b: int16>")
 
 
 class Release(unittest.TestCase):
@@ -554,9 +580,8 @@ class Hostile(unittest.TestCase):
             check(source)
 
     def test_wild_unions(self):
-        """Ids of no child, places past a child's rows, and formats that list no ids."""
-        if not knows("+us:", "+ud:"):
-            self.skipTest("no unions")
+        """Ids of no child, places past a child's rows, and formats that list no ids. Where unions
+        aren't known, their format is named."""
         fields = ("a", Type("c")), ("b", Type("u"))
 
         def below():
@@ -564,13 +589,17 @@ class Hostile(unittest.TestCase):
 
         for number in 2, 6, 127, 128, 255:
             types = bytes([number, 5])
-            self.refused(Type("+us:5,7", fields), arrow.made_array(2, 0, 0, [types], below()))
+            made = arrow.made_array(2, 0, 0, [types], below())
+            said = self.refused(Type("+us:5,7", fields), made)
+            self.assertIn("type ids" if knows("+us:") else "+us:5,7", said)
             made = arrow.made_array(2, 0, 0, [types, array("i", [0, 0])], below())
-            self.refused(Type("+ud:5,7", fields), made)
+            said = self.refused(Type("+ud:5,7", fields), made)
+            self.assertIn("type ids" if knows("+ud:") else "+ud:5,7", said)
         for place in -1, 2, 2**31 - 1, -(2**31):
             made = arrow.made_array(2, 0, 0, [b"\5\7", array("i", [place, 1])], below())
-            self.refused(Type("+ud:5,7", fields), made)
-        for ids in "0", "0,1,2", "", "0,", ",0", "0,128", "0,-1", "0;1", " 0,1", "0,1x", "0," + "9" * 30:
+            said = self.refused(Type("+ud:5,7", fields), made)
+            self.assertIn("" if knows("+ud:") else "+ud:5,7", said)
+        for ids in "0", "0,1,2", "", "0,", ",0", "0,0", "0,128", "0,-1", "0;1", " 0,1", "0,1x", "0," + "9" * 30:
             self.refused(Type("+us:" + ids, fields), arrow.made_array(1, 0, 0, [b"\0"], below()))
         short = [built(Type("c"), [1, 2, 3]), built(Type("u"), ["x", "y"])]
         self.refused(Type("+us:0,1", fields), arrow.made_array(3, 0, 0, [b"\0\0\1"], short), ())

@@ -135,7 +135,7 @@ fn unions_are_those_of_plain_loops() {
         let picked = match select(&mut Column::unions(&rows, fields()), &steps) {
             Ok(picked) => picked,
             Err(error) => {
-                assert!(matches!(error, Error::NullOfUnion(_)), "{error}");
+                assert!(matches!(error, Error::NullPick(_)), "{error}");
                 assert!(picks.contains(&None));
                 continue;
             }

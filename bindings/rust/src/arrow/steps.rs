@@ -121,8 +121,8 @@ pub enum Error {
     Overflow(String),
     /// The column has a format that isn't known.
     Format(String),
-    /// A null is picked of a union, which has none of its own.
-    NullOfUnion(String),
+    /// A null is picked of a union, whose rows are never null.
+    NullPick(String),
     /// Memory is wanting.
     NoMemory,
 }
@@ -155,7 +155,7 @@ impl Fault {
                 },
             },
             8 => Error::Format(text),
-            9 => Error::NullOfUnion(text),
+            9 => Error::NullPick(text),
             _ => Error::NoMeaning(text),
         }
     }
@@ -168,7 +168,7 @@ impl fmt::Display for Error {
             Error::NoMeaning(text)
             | Error::Overflow(text)
             | Error::Format(text)
-            | Error::NullOfUnion(text) => f.write_str(text),
+            | Error::NullPick(text) => f.write_str(text),
             Error::NoMemory => f.write_str("out of memory"),
         }
     }
