@@ -1,9 +1,9 @@
 -- What calls answer.
 use Rattle.std.specs.Prelude.{ℕ, Result, Ok, Err}
-use Rattle.vx_arrow_columns.specs.declared.refusal.Lack.{Lack}
-use Rattle.vx_arrow_columns.specs.declared.refusal.Lack.TheVariants as lacks
-use Rattle.vx_arrow_columns.specs.declared.refusal.Refusal.{Refusal}
-use Rattle.vx_arrow_columns.specs.declared.refusal.Refusal.TheVariants as refusals
+use Rattle.vx_arrow_image.specs.declared.refusal.Lack.{Lack}
+use Rattle.vx_arrow_image.specs.declared.refusal.Lack.TheVariants as lacks
+use Rattle.vx_arrow_image.specs.declared.refusal.Refusal.{Refusal}
+use Rattle.vx_arrow_image.specs.declared.refusal.Refusal.TheVariants as refusals
 use Rattle.vortex_arrow_c.specs.declared.answer.Answer.{Answer}
 
 abbrev pub lack_code : Lack → ℕ
@@ -16,6 +16,8 @@ lack_code lacks.Values = 5
 lack_code lacks.Offsets = 6
 lack_code lacks.Items = 7
 lack_code lacks.Length = 8
+lack_code lacks.Sizes = 9
+lack_code lacks.Id = 10
 
 abbrev pub answer : ℕ → ℕ → ℕ → Answer
 answer status place what = record { status = status; node_or_step = place; what = what }
@@ -31,10 +33,13 @@ lack_answer node lacks.Values = answer 1 node 5
 lack_answer node lacks.Offsets = answer 1 node 6
 lack_answer node lacks.Items = answer 1 node 7
 lack_answer node lacks.Length = answer 1 node 8
+lack_answer node lacks.Sizes = answer 1 node 9
+lack_answer node lacks.Id = answer 1 node 10
 
 abbrev pub refusal_answer : Refusal → Answer
 refusal_answer (refusals.NoMeaning node lack) = lack_answer node lack
 refusal_answer refusals.Beyond = answer 2 0 0
+refusal_answer refusals.NullPick = answer 9 0 0
 refusal_answer (refusals.Room node) = answer 3 node 0
 refusal_answer (refusals.Overflow node) = answer 4 node 0
 refusal_answer refusals.NoMemory = answer 5 0 0

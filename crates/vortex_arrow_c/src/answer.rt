@@ -33,6 +33,9 @@ pub(crate) const LACKING: u64 = 7;
 /// A number names no format: the node's number.
 pub(crate) const FORMAT: u64 = 8;
 
+/// A pick of a union is null.
+pub(crate) const NULL_PICK: u64 = 9;
+
 /// A status, which is 0 where the call was done, and where and what the fault is.
 #[repr(C)]
 #[derive(Clone, Copy)]
@@ -56,6 +59,8 @@ fn code_of(lack: Lack) -> u64
         Lack::Offsets => 6,
         Lack::Items => 7,
         Lack::Length => 8,
+        Lack::Sizes => 9,
+        Lack::Id => 10,
     }
 }
 
@@ -126,6 +131,7 @@ impl Answer {
         match refusal {
             Refusal::NoMeaning { node, lack } => Answer::without(node, lack),
             Refusal::Beyond => Answer::plain(BEYOND),
+            Refusal::NullPick => Answer::plain(NULL_PICK),
             Refusal::Room { node } => Answer {
                 status: ROOM,
                 node_or_step: node as u64,

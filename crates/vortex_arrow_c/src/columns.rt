@@ -1,7 +1,7 @@
 //! Calls over columns.
 ghost use Rattle.std.specs.Prelude.{◌≡◌, ◌≢◌, IsSome, None};
-ghost use Rattle.vx_arrow_columns.specs.Answer.{MeansPicked};
-ghost use Rattle.vx_arrow_columns.specs.Image.{column_in, parts_of};
+ghost use Rattle.vx_arrow_columns.specs.Answer.{AreKeptSound, MeansPicked};
+ghost use Rattle.vx_arrow_image.specs.Image.{column_in, parts_of};
 ghost use Rattle.vx_arrow_columns.specs.Picks.{needs_of, picking_of};
 ghost use Rattle.vx_arrow_columns.specs.Written.{written};
 
@@ -9,7 +9,8 @@ use crate::answer::Answer;
 use std::alloc::Global;
 use vx_arrow_columns::{Need, Node, Room, check, sizes, take};
 
-/// Says how many rows and bytes each node of a column needs for its rows at picks.
+/// Says how many rows and bytes each node of a column needs for its rows at picks. A child of
+/// views has all its rows, and needs no bytes.
 ///
 /// A pick is a row's number; it is null where its bit of `valid` is clear, which has no bytes where
 /// none is. The status is 0, and else that of [`vortex_arrow_take`].
@@ -29,17 +30,19 @@ pub extern "C" fn vortex_arrow_sizes(
 }
 
 /// Writes the rows of a column at picks, as [`vortex_arrow_sizes`] has them, to a room for each
-/// node.
+/// node. Nothing is written for the children of views: they stand in the answer as they do in the
+/// column.
 ///
 /// | status | stands for |
 /// |---|---|
 /// | 0 | the rooms hold a column of the same format: the rows at the picks |
-/// | 1 | a node, whose number is told, has no meaning: `what` it lacks (1 the place of a tree, 2 fewer than 2^60 rows, 3 validity, 4 its children, 5 values, 6 offsets, 7 items in order, 8 as many rows as its parent asks for) |
+/// | 1 | a node, whose number is told, has no meaning: `what` it lacks (1 the place of a tree, 2 fewer than 2^60 rows, 3 validity, 4 its children, 5 values, 6 offsets, 7 items in order, 8 as many rows as its parent asks for, 9 sizes, 10 the id of a child in each row) |
 /// | 2 | a pick that isn't null is past the rows |
 /// | 3 | there are not as many rooms as nodes, or a node's room is smaller than its need |
 /// | 4 | a node's rows at the picks are more than its offsets, or a length, can count |
 /// | 5 | memory runs out |
 /// | 8 | a node's number of a format names none |
+/// | 9 | the column is a union, and a pick is null |
 ///
 /// From 1 on nothing is written.
 #[unsafe(no_mangle)]
@@ -52,7 +55,8 @@ pub extern "C" fn vortex_arrow_take(
 ) -> Answer
     ensures picked { result.status ≡ 0 → MeansPicked (parts_of nodes.now)
         (picking_of places.now valid.now 0) rooms.new }
-    ensures sound { result.status ≡ 0 → IsSome (column_in
+    ensures sound { result.status ≡ 0 → AreKeptSound (parts_of nodes.now)
+        (picking_of places.now valid.now 0) → IsSome (column_in
         (written (parts_of nodes.now) (picking_of places.now valid.now 0) rooms.new)) }
     ensures kept { result.status ≢ 0 → rooms.new ≡ rooms.old }
 {

@@ -1,8 +1,8 @@
 -- One bit of bytes, written.
-use Rattle.std.proofs.Common.{◌≡◌, ℕ, ◌+◌, ◌*◌, ◌/◌, ◌%◌, ◌<◌, ◌≢◌, Bool, List, length, get_or, set, eqb, ap, subst, ◌∙◌, sym, inl, inr, arith, get_or-set_same, get_or-set_other}
+use Rattle.std.proofs.Common.{◌≡◌, ℕ, ◌*◌, ◌/◌, ◌%◌, ◌<◌, ◌≢◌, Bool, List, length, get_or, set, eqb, ap, subst, ◌∙◌, sym, inl, inr, arith, get_or-set_same, get_or-set_other}
 use Rattle.std.specs.Int.{bit_at}
 use Rattle.std.proofs.lemmas.Bool.{cases_eq}
-use Rattle.vx_arrow_columns.specs.Image.{bit_of}
+use Rattle.vx_arrow_image.specs.Image.{bit_of}
 use Rattle.vx_arrow_columns.specs.Written.{PutsBit}
 
 pub puts : (bs : List ℕ) (j x : ℕ) (b : Bool) → j < 8 * length bs → eqb (bit_at x (j % 8)) 1 ≡ b

@@ -1,23 +1,13 @@
 -- When a written node has the rows at picks.
-use Rattle.std.proofs.Common.{◌≡◌, ℕ, ◌+◌, ◌-◌, ◌*◌, ◌^◌, ◌<◌, ◌≤◌, Bool, true, false, cond, List, [], ◌∷◌, ◌++◌, length, get_or, take, drop, map, Option, Some, None, ap, sym, ◌∙◌, refl, subst, arith, ltb, leb}
+use Rattle.std.proofs.Common.{◌≡◌, ℕ, ◌+◌, ◌*◌, ◌^◌, ◌<◌, ◌≤◌, Bool, true, false, cond, List, [], ◌∷◌, length, get_or, Option, Some, None, ap, sym, ◌∙◌, refl, arith}
 use Rattle.std.specs.Prelude.{is_some}
-use Rattle.std.specs.List.{range_with_len}
-use Rattle.std.proofs.lemmas.Bool.{and_parts, and_from, lt-ltb, le-leb, leb-true}
+use Rattle.std.proofs.lemmas.Bool.{and_from, lt-ltb, le-leb}
 use Rattle.std.proofs.lemmas.List.{ext_get_or, get_or-map, length-map}
-use Rattle.std.proofs.lemmas.List.FromFn.{length-map-range_with_len, get_or-map-range_with_len}
-use Rattle.vx_arrow_columns.specs.declared.format.Format.{Format}
-use Rattle.vx_arrow_columns.specs.Rows.{RowValue, null, row_at, picked}
-use Rattle.vx_arrow_columns.specs.Image.{Part, is_valid, holds_valid, is_placed, is_sound, fits, value_at, row_of, column_of}
+use Rattle.vx_arrow_image.specs.Rows.{RowValue, null, row_at, picked}
+use Rattle.vx_arrow_image.specs.Image.{Part, is_valid, holds_valid, is_placed, value_at, row_of, column_of}
+use Rattle.vx_arrow_image.proofs.SoundNodes.{get_column, length_column}
 use Rattle.vx_arrow_columns.specs.Picks.{place_of}
 use Rattle.vx_arrow_columns.specs.Taken.{AreWithin, ShowsRows}
-
-pub length_column : (p : Part) (cs : List (List RowValue)) → length (column_of p cs) ≡ p.len
-unfolding column_of
-length_column p cs = length-map-range_with_len (row_of p cs) p.offset p.len
-
-pub get_column : (p : Part) (cs : List (List RowValue)) (i : ℕ) → i < p.len → get_or (column_of p cs) i null ≡ row_of p cs (p.offset + i)
-unfolding column_of
-get_column p cs i h = get_or-map-range_with_len (row_of p cs) p.offset p.len i (p.offset + i) null h refl
 
 some_row : (p w : Part) (cs ds : List (List RowValue)) (k i : ℕ) (v : Bool) → is_valid p.valid (p.offset + i) ≡ v → is_valid w.valid k ≡ is_some (place_of p (Some i))
     → ((n : ℕ) → place_of p (Some i) ≡ Some n → value_at w.format w ds k ≡ value_at p.format p cs n) → row_of w ds k ≡ row_of p cs (p.offset + i)
@@ -56,18 +46,6 @@ holds_bits (b ∷ bs) n h = le-leb n (8 * length (b ∷ bs)) h
 pub placed : (w : Part) → w.offset ≡ 0 → w.len < 2 ^ 60 → holds_valid w.valid w.len ≡ true → is_placed w ≡ true
 unfolding is_placed
 placed w zero_offset few valid = and_from _ _ (lt-ltb _ _ (omega arith)) (ap (holds_valid w.valid) (let e : w.offset + w.len ≡ w.len = omega arith in e) ∙ valid)
-
-pub sound_from : (p : Part) (lens : List ℕ) (f : Option Format) → p.format ≡ f → is_placed p ≡ true → fits f p lens ≡ true → is_sound p lens ≡ true
-unfolding is_sound
-sound_from p lens f e a b = and_from _ _ a (ap (λ (g : Option Format). fits g p lens) e ∙ b)
-
-pub sound_placed : (p : Part) (lens : List ℕ) → is_sound p lens ≡ true → is_placed p ≡ true
-unfolding is_sound
-sound_placed p lens h = (and_parts _ _ h).0
-
-pub sound_fits : (p : Part) (lens : List ℕ) (f : Option Format) → p.format ≡ f → is_sound p lens ≡ true → fits f p lens ≡ true
-unfolding is_sound
-sound_fits p lens f e h = ap (λ (g : Option Format). fits g p lens) (sym e) ∙ (and_parts _ _ h).1
 
 -- ---- where a place is
 

@@ -1,14 +1,15 @@
 -- Lists cut by the lengths of what they are joined from.
-use Rattle.std.proofs.Common.{zero, suc, ◌≡◌, ℕ, ◌+◌, ◌-◌, ◌*◌, ◌^◌, ◌<◌, ◌≤◌, Bool, true, false, List, [], ◌∷◌, ◌++◌, length, get_or, take, drop, map, Option, Some, None, ap, ap₂, sym, ◌∙◌, refl, subst, inl, inr, arith, leb, ltb, length-append}
+use Rattle.std.proofs.Common.{zero, suc, ◌≡◌, ℕ, ◌+◌, ◌-◌, ◌*◌, ◌<◌, ◌≤◌, true, List, [], ◌∷◌, ◌++◌, length, get_or, take, drop, map, Option, Some, None, ap, ap₂, sym, ◌∙◌, refl, subst, arith, length-append}
 use Rattle.std.specs.Prelude.{slice_range}
-use Rattle.std.specs.List.{range_with_len, list_all, flat_map, sum_by}
-use Rattle.std.proofs.lemmas.Bool.{or_right, cases_eq, and_parts, and_from, le-leb, leb-true, lt-ltb, ltb-true, eqb-true}
-use Rattle.std.proofs.lemmas.List.{drop-take, take-take, length-take-le, length-drop, take_at, drop_at, take_all, ext_get_or, get_or-take, get_or-drop, length-map, get_or-map, take-map, drop-map}
-use Rattle.std.proofs.lemmas.List.FromFn.{length-range_with_len, get_or-range_with_len, length-map-range_with_len, get_or-map-range_with_len}
+use Rattle.std.specs.List.{range_with_len, flat_map, sum_by}
+use Rattle.std.proofs.lemmas.Bool.{or_right, le-leb}
+use Rattle.std.proofs.lemmas.List.{drop-take, take-take, length-take-le, length-drop, take_at, take_all, ext_get_or, get_or-take, get_or-drop, take-map, drop-map}
+use Rattle.std.proofs.lemmas.List.FromFn.{length-range_with_len, length-map-range_with_len, get_or-map-range_with_len}
 use Rattle.std.proofs.lemmas.List.Sums.{sum_by_more, sum_by-cons, sum_by_more_le}
-use Rattle.vx_arrow_columns.specs.declared.format.Offsets.{Offsets}
-use Rattle.vx_arrow_columns.specs.Rows.{RowValue, null, row_at, picked}
-use Rattle.vx_arrow_columns.specs.Image.{Part, holds_offsets, is_cut, are_cut, limit_of, offset_at, size_of}
+use Rattle.vx_arrow_image.specs.declared.format.Offsets.{Offsets}
+use Rattle.vx_arrow_image.specs.Rows.{RowValue, null, picked}
+use Rattle.vx_arrow_image.specs.Image.{Part, holds_offsets, is_cut, are_cut, limit_of, offset_at, size_of}
+use Rattle.vx_arrow_image.proofs.CutRows.{are_cut_from, cut_end, cut_from, cut_up}
 use Rattle.vx_arrow_columns.specs.Picks.{items_len, items_of, place_of, row_items, row_len}
 use Rattle.vx_arrow_columns.specs.Taken.{AreCutAt, AreOffsets, AreOrdered, row_text, texts_of}
 
@@ -72,45 +73,12 @@ items_count z p q = joined_len (λ o. row_items z p (place_of p o)) (λ o. row_l
 
 -- ---- what a cut is
 
-pub cut_up : (z : Offsets) (p : Part) (n i : ℕ) → is_cut z p n i ≡ true → offset_at z p.offsets i ≤ offset_at z p.offsets (i + 1)
-unfolding is_cut
-cut_up z p n i h = leb-true _ _ (and_parts _ _ h).0
-
-pub cut_end : (z : Offsets) (p : Part) (n i : ℕ) → is_cut z p n i ≡ true → offset_at z p.offsets (i + 1) ≤ n
-unfolding is_cut
-cut_end z p n i h = leb-true _ _ (and_parts (ltb (offset_at z p.offsets (i + 1)) (limit_of z)) (leb (offset_at z p.offsets (i + 1)) n) (and_parts (leb (offset_at z p.offsets i) (offset_at z p.offsets (i + 1))) _ h).1).1
-
-pub cut_from : (z : Offsets) (p : Part) (n i : ℕ) → offset_at z p.offsets i ≤ offset_at z p.offsets (i + 1) → offset_at z p.offsets (i + 1) < limit_of z → offset_at z p.offsets (i + 1) ≤ n → is_cut z p n i ≡ true
-unfolding is_cut
-cut_from z p n i up small low = and_from _ _ (le-leb _ _ up) (and_from _ _ (lt-ltb _ _ small) (le-leb _ _ low))
-
 pub cut_ordered : (z : Offsets) (p : Part) (q : List (Option ℕ)) (n : ℕ) → AreCutAt z p q n → AreOrdered z p q
 cut_ordered z p q n c = record { held = c.held; ordered = λ k i h e. cut_up z p n i (c.cut k i h e) }
 
 pub range_more : (a n j : ℕ) → a + n ≡ j → range_with_len a (n + 1) ≡ range_with_len a n ++ j ∷ []
 range_more a zero j e = ap (λ k. k ∷ []) (omega arith)
 range_more a (suc n) j e = let m : suc n + 1 ≡ suc (n + 1) = omega arith in ap (range_with_len a) m ∙ ap (λ l. a ∷ l) (range_more (a + 1) n j (omega arith))
-
-range_all : (f : ℕ → Bool) (a n : ℕ) → ((i : ℕ) → a ≤ i → i < a + n → f i ≡ true) → list_all f (range_with_len a n) ≡ true
-range_all f a zero h = refl
-range_all f a (suc n) h = and_from _ _ (h a (omega arith) (omega arith)) (range_all f (a + 1) n (λ i p q. h i (omega arith) (omega arith)))
-
-pub range_at : (f : ℕ → Bool) (a n i : ℕ) → list_all f (range_with_len a n) ≡ true → a ≤ i → i < a + n → f i ≡ true
-range_at f a zero i h low high = absurd (omega arith)
-range_at f a (suc n) i h low high =
-    let parts = and_parts _ _ h in
-    elim (cases_eq i a) as (λ _. f i ≡ true) [
-      | inl e ↦ ap f e ∙ parts.0
-      | inr other ↦ range_at f (a + 1) n i parts.1 (omega arith) (omega arith)
-    ]
-
-pub are_cut_at : (z : Offsets) (p : Part) (n i : ℕ) → are_cut z p n ≡ true → p.offset ≤ i → i < p.offset + p.len → is_cut z p n i ≡ true
-unfolding are_cut
-are_cut_at z p n i h low high = range_at (is_cut z p n) p.offset p.len i (and_parts (holds_offsets z p) _ h).1 low high
-
-pub are_cut_from : (z : Offsets) (p : Part) (n : ℕ) → holds_offsets z p ≡ true → ((i : ℕ) → p.offset ≤ i → i < p.offset + p.len → is_cut z p n i ≡ true) → are_cut z p n ≡ true
-unfolding are_cut
-are_cut_from z p n held h = and_from _ _ held (range_all (is_cut z p n) p.offset p.len h)
 
 -- ---- the new offsets
 

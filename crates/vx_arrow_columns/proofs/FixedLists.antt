@@ -1,23 +1,24 @@
 -- Lists of a fixed size.
-use Rattle.std.proofs.Common.{◌≡◌, ℕ, ◌+◌, ◌-◌, ◌*◌, ◌/◌, ◌%◌, ◌^◌, ◌<◌, ◌≤◌, ◌≢◌, Bool, true, false, cond, List, [], ◌∷◌, ◌++◌, length, get_or, take, drop, map, Option, Some, None, ap, ap₂, sym, ◌∙◌, refl, subst, inl, inr, arith, leb, eqb}
+use Rattle.std.proofs.Common.{◌≡◌, ℕ, ◌+◌, ◌-◌, ◌*◌, ◌/◌, ◌%◌, ◌^◌, ◌<◌, ◌≤◌, Bool, true, false, cond, List, [], ◌∷◌, ◌++◌, length, get_or, take, drop, map, Option, Some, None, ap, ap₂, sym, ◌∙◌, refl, subst, inl, inr, arith, eqb}
 use Rattle.std.specs.Prelude.{is_some, replicate}
 use Rattle.std.specs.Option.{option_map}
-use Rattle.std.specs.List.{range_with_len}
-use Rattle.std.proofs.lemmas.Bool.{and_parts, and_from, cases_eq, cases_lt, eq-eqb, le-leb, leb-true, ltb-true, lt-ltb, eqb-true}
+use Rattle.std.proofs.lemmas.Bool.{and_parts, and_from, cases_eq, cases_lt, eq-eqb, le-leb, leb-true}
 use Rattle.std.proofs.lemmas.List.{ext_get_or, get_or-map, length-map, get_or-take, get_or-drop, length-take-le, length-drop, get_or_append_left, get_or-append_right}
 use Rattle.std.proofs.lemmas.List.FromFn.{length-map-range_with_len, get_or-map-range_with_len}
 use Rattle.std.proofs.lemmas.Nat.{div-mul-add, mod-mul-add, div-add-mod'}
 use Rattle.std.proofs.Math.Nat.{mul-le-mul_left, mul-le-mul_right, mod-lt}
-use Rattle.vx_arrow_columns.specs.declared.format.Format.{Format}
-use Rattle.vx_arrow_columns.specs.declared.format.Format.TheVariants.{FixedList}
-use Rattle.vx_arrow_columns.specs.Rows.{RowValue, null, list, row_at, row_values, picked}
-use Rattle.vx_arrow_columns.specs.Image.{Part, bit_of, fits, holds_valid, is_sound, is_valid, value_at, column_of}
+use Rattle.vx_arrow_image.specs.declared.format.Format.{Format}
+use Rattle.vx_arrow_image.specs.declared.format.Format.TheVariants.{FixedList}
+use Rattle.vx_arrow_image.specs.Rows.{RowValue, null, list, row_at, row_values, picked}
+use Rattle.vx_arrow_image.specs.Image.{Part, bit_of, holds_valid, is_sound, is_valid, value_at, column_of}
 use Rattle.vx_arrow_columns.specs.Measured.{AreItemPlaces}
-use Rattle.vx_arrow_columns.specs.Picks.{Picking, fixed_item, fixed_items, inner, inner_picks, pick_at, picks_of, place_of}
-use Rattle.vx_arrow_columns.specs.Taken.{AreWithin, IsOwnTaken, IsReadable, ShowsRows}
+use Rattle.vx_arrow_columns.specs.Picks.{Picking, fixed_item, fixed_items, inner, inner_picks, pick_at, picks_of, tags}
+use Rattle.vx_arrow_columns.specs.Taken.{AreWithin, IsOwnTaken, IsReadable, ShowsRows, AreAt}
 use Rattle.vx_arrow_columns.specs.Written.{PutsBit, new_part}
-use Rattle.vx_arrow_columns.proofs.Columns.{placed, place_some, place_between, same_column, sound_fits, sound_from}
+use Rattle.vx_arrow_image.proofs.SoundNodes.{sound_fits, sound_from}
+use Rattle.vx_arrow_columns.proofs.Columns.{placed, place_some, same_column}
 use Rattle.vx_arrow_columns.proofs.OwnTaken.{few_picks, held_by}
+use Rattle.vx_arrow_columns.proofs.RowsAt.{first_at, picked_at}
 use Rattle.vx_arrow_columns.proofs.PickReads.{get_picks, length_picks}
 use Rattle.vx_arrow_columns.proofs.Steps.{next_place}
 
@@ -35,13 +36,12 @@ item_at p q k j i h e =
     ap₂ (λ (n : ℕ) (r : ℕ). option_map (λ (x : ℕ). (p.offset + x) * p.width + r) (get_or q n None)) (div-mul-add k p.width j h) (mod-mul-add k p.width j h)
     ∙ ap (option_map (λ (x : ℕ). (p.offset + x) * p.width + j)) e
 
-fixed_cell : (p : Part) (q : List (Option ℕ)) (c : List RowValue) (k i : ℕ) → k < length q → get_or q k None ≡ Some i → i < p.len → (p.offset + p.len) * p.width ≤ length c
-    → take p.width (drop (k * p.width) (picked (fixed_items p q) c)) ≡ take p.width (drop ((p.offset + i) * p.width) c)
-fixed_cell p q c k i low e inside wide =
+fixed_cell : (p : Part) (q : List (Option ℕ)) (c new : List RowValue) (k i : ℕ) → AreAt true (fixed_items p q) c new → k < length q → get_or q k None ≡ Some i → i < p.len → (p.offset + p.len) * p.width ≤ length c
+    → take p.width (drop (k * p.width) new) ≡ take p.width (drop ((p.offset + i) * p.width) c)
+fixed_cell p q c new k i are low e inside wide =
     let w = p.width in
     let items = fixed_items p q in
-    let new = picked items c in
-    let size : length new ≡ length q * w = length-map items (row_at c) ∙ length_items p q in
+    let size : length new ≡ length q * w = are.len ∙ length_items p q in
     let end = next_place k (length q) w low in
     let far : (p.offset + i) * w + w ≤ (p.offset + p.len) * w = next_place (p.offset + i) (p.offset + p.len) w (omega arith) in
     let left : length (take w (drop (k * w) new)) ≡ w = length-take-le w (drop (k * w) new) (omega (arith, length-drop (k * w) new)) in
@@ -50,13 +50,12 @@ fixed_cell p q c k i low e inside wide =
     let small : j < w = omega arith in
     let at : k * w + j < length q * w = omega arith in
     get_or-take w (drop (k * w) new) j null small ∙ get_or-drop (k * w) new j null
-    ∙ get_or-map (row_at c) items (k * w + j) None null (omega (arith, length_items p q))
-    ∙ ap (row_at c) (get_items p q (k * w + j) at ∙ item_at p q k j i small e)
+    ∙ are.at (k * w + j) ((p.offset + i) * w + j) (omega (arith, length_items p q)) (get_items p q (k * w + j) at ∙ item_at p q k j i small e)
     ∙ sym (get_or-take w (drop ((p.offset + i) * w) c) j null small ∙ get_or-drop ((p.offset + i) * w) c j null))
 
-pub fixed_list_taken : (p : Part) (q : Picking) (v o x : List ℕ) → p.format ≡ Some FixedList → IsReadable p q.picks → ShowsRows p q.picks v → holds_valid v (length q.picks) ≡ true → IsOwnTaken p (new_part p q v o x) q
-fixed_list_taken p q v o x format r shows valid =
-    let w = new_part p q v o x in
+pub fixed_list_taken : (p : Part) (q : Picking) (v o x s : List ℕ) → p.format ≡ Some FixedList → IsReadable p q.picks → ShowsRows p q.picks v → holds_valid v (length q.picks) ≡ true → IsOwnTaken p (new_part p q v o x s) q
+fixed_list_taken p q v o x s format r shows valid =
+    let w = new_part p q v o x s in
     let held = held_by p q.picks (Some FixedList) format r in
     let one = held.0 in
     let is : (inner p q).picks ≡ fixed_items p q.picks = ap (λ (y : Option Format). inner_picks y p q.picks) format in
@@ -68,15 +67,15 @@ fixed_list_taken p q v o x format r shows valid =
       len = refl;
       sound = subst (λ (n : ℕ). is_sound w (replicate n (length (inner p q).picks)) ≡ true) (sym one)
           (sound_from w (length (inner p q).picks ∷ []) (Some FixedList) format (placed w refl (few_picks p q.picks r.counted) valid) (and_from _ _ (eq-eqb _ _ one) (le-leb _ _ room)));
-      column = λ cs few s. same_column p w cs (map (picked (inner p q).picks) cs) q.picks refl refl shows r.within (λ k n h e.
+      column = λ cs ds children own. picked_at (tags p.format) q.picks (column_of p cs) (column_of w ds) (same_column p w cs ds q.picks refl refl shows r.within (λ k n h e.
+          let old = children.old_len in
           let back = place_some p (get_or q.picks k None) n e in
           let c = get_or cs 0 [] in
-          let fit = (and_parts (eqb p.children 1) _ (sound_fits p (map length cs) (Some FixedList) format s)).1 in
+          let fit = (and_parts (eqb p.children 1) _ (sound_fits p (map length cs) (Some FixedList) format own)).1 in
           let wide : (p.offset + p.len) * p.width ≤ length c = subst (λ (m : ℕ). (p.offset + p.len) * p.width ≤ m) (get_or-map length cs 0 [] 0 (omega arith)) (leb-true _ _ fit) in
-          ap (λ (y : Option Format). value_at y w (map (picked (inner p q).picks) cs) k) format
-          ∙ ap (λ (l : List RowValue). list (row_values (take p.width (drop (k * p.width) l)))) (get_or-map (picked (inner p q).picks) cs 0 [] [] (omega arith) ∙ ap (λ (l : List (Option ℕ)). picked l c) is)
-          ∙ ap (λ (l : List RowValue). list (row_values l)) (fixed_cell p q.picks c k back.0 h back.1.0 (r.within.below k back.0 h back.1.0) wide ∙ ap (λ (m : ℕ). take p.width (drop (m * p.width) c)) (sym back.1.1))
-          ∙ ap (λ (y : Option Format). value_at y p cs n) (sym format));
+          ap (λ (y : Option Format). value_at y w ds k) format
+          ∙ ap (λ (l : List RowValue). list (row_values l)) (fixed_cell p q.picks c (get_or ds 0 []) k back.0 (subst (λ (l : List (Option ℕ)). AreAt true l c (get_or ds 0 [])) is (first_at (inner p q).picks p.children cs ds one children)) h back.1.0 (r.within.below k back.0 h back.1.0) wide ∙ ap (λ (m : ℕ). take p.width (drop (m * p.width) c)) (sym back.1.1))
+          ∙ ap (λ (y : Option Format). value_at y p cs n) (sym format)));
     }
 
 -- ---- the places of items

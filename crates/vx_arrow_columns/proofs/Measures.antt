@@ -1,22 +1,25 @@
 -- What each format's tests find.
-use Rattle.std.proofs.Common.{◌≡◌, ℕ, ◌+◌, ◌*◌, ◌/◌, ◌^◌, ◌<◌, ◌≤◌, Bool, true, List, [], length, get_or, map, Option, Some, None, ap, ap₂, sym, ◌∙◌, refl, subst, arith}
+use Rattle.std.proofs.Common.{◌≡◌, ℕ, ◌+◌, ◌*◌, ◌/◌, ◌^◌, ◌<◌, ◌≤◌, Bool, true, false, List, [], ◌∷◌, ◌++◌, length, get_or, take, drop, map, Option, Some, None, ap, ap₂, sym, ◌∙◌, refl, subst, arith, append_assoc, length-append}
 use Rattle.std.specs.Prelude.{Result, Ok, Err, IfOk, OnOk}
+use Rattle.std.specs.Option.{option_map}
 use Rattle.std.proofs.lemmas.Bool.{lt-ltb}
-use Rattle.std.proofs.lemmas.List.{get_or-map, length-map}
-use Rattle.vx_arrow_columns.specs.declared.format.Format.{Format}
-use Rattle.vx_arrow_columns.specs.declared.format.Format.TheVariants.{Nulls, Bits, Fixed, Text, List as Lists, FixedList, Struct}
-use Rattle.vx_arrow_columns.specs.declared.format.Offsets.{Offsets}
+use Rattle.std.proofs.lemmas.List.{drop_more, get_or-map, length-map, take_at}
+use Rattle.vx_arrow_image.specs.declared.format.Format.{Format}
+use Rattle.vx_arrow_image.specs.declared.format.Format.TheVariants.{Nulls, Bits, Fixed, Text, List as Lists, FixedList, Struct, TextView, ListView, Union}
+use Rattle.vx_arrow_image.specs.declared.format.Offsets.{Offsets}
 use Rattle.vx_arrow_columns.specs.declared.needs.Inner.{Inner}
 use Rattle.vx_arrow_columns.specs.declared.needs.Inner.TheVariants as inners
 use Rattle.vx_arrow_columns.specs.declared.needs.Items.{Items}
 use Rattle.vx_arrow_columns.specs.declared.needs.Measure.{Measure}
-use Rattle.vx_arrow_columns.specs.Image.{Part, is_placed, limit_of}
-use Rattle.vx_arrow_columns.specs.Measured.{AreBelow, AreItems, AreListed, IsInner, IsLeaf, IsMeasured, IsTextLen}
-use Rattle.vx_arrow_columns.specs.Picks.{Picking, counts_by, fixed_items, has_bits, inner, inner_nullable, inner_picks, is_counted, items_len, items_of, picking_of, picks_of, values_len}
-use Rattle.vx_arrow_columns.specs.Taken.{AreWithin, Holds, IsReadable}
+use Rattle.vx_arrow_image.specs.declared.image.Node as image
+use Rattle.vx_arrow_image.specs.Image.{Part, holds_starts, is_list_view, is_placed, limit_of, part_of, parts_of, has_child, holds_ids}
+use Rattle.vx_arrow_columns.specs.Measured.{AreBelow, AreItems, AreListed, IsInner, IsLeaf, IsMeasured, IsTextLen, moved}
+use Rattle.vx_arrow_columns.specs.Picks.{Picking, all_rows, below, counts_by, fixed_items, has_bits, inner, inner_nullable, inner_picks, keeps, items_of, picking_of, picks_of, values_len}
+use Rattle.vx_arrow_columns.specs.Planned.{child_lens, first_len, tree_lens}
+use Rattle.vx_arrow_columns.specs.Taken.{AllAt, AreInside, AreWithin, Holds, IsReadable, is_inside}
 use Rattle.vx_arrow_columns.proofs.FixedLists.{items_within}
 use Rattle.vx_arrow_columns.proofs.OwnTaken.{counted_from}
-use Rattle.vx_arrow_columns.proofs.PickReads.{all_picks, length_picks}
+use Rattle.vx_arrow_columns.proofs.PickReads.{all_picks, length_picks, placed_end}
 
 pub ok_weaker : {T E : Type 0} (P Q : T → Type 0) (r : Result T E) → ((x : T) → P x → Q x) → IfOk r P → IfOk r Q
 ok_weaker P Q (Ok x) f h = f x h
@@ -61,22 +64,60 @@ pub text_measured : (z : Offsets) (p : Part) (ps vs : List ℕ) (add n : ℕ) (m
 text_measured z p ps vs add n m format few placed within t l =
     leaf_measured p (picking_of ps vs add) (Text z) n m format (readable p ps vs add (Text z) format few placed within (lt-ltb _ _ (subst (λ k. k < limit_of z) t.len t.small)) (l.leaf, t.cut)) t.len l
 
+pub same_picking : (a b : Picking) → a.picks ≡ b.picks → a.nullable ≡ b.nullable → a.kept ≡ b.kept → a ≡ b
+same_picking a b e f g =
+    let make : List (Option ℕ) → Bool → Bool → Picking = λ x y z. record { picks = x; nullable = y; kept = z } in
+    ap₂ (λ (x : List (Option ℕ)) (y : Bool). make x y a.kept) e f ∙ ap (make b.picks b.nullable) g
+
+-- the children of a node of such a format are kept
+kept_inner : (p : Part) (q : Picking) (f : Format) → p.format ≡ Some f → inner_picks (Some f) p q.picks ≡ [] → inner_nullable (Some f) q.nullable ≡ false → keeps (Some f) ≡ true → inner p q ≡ all_rows
+kept_inner p q f format a b c =
+    same_picking _ _ (ap (λ (g : Option Format). inner_picks g p q.picks) format ∙ a) (ap (λ (g : Option Format). inner_nullable g q.nullable) format ∙ b) (ap keeps format ∙ c)
+
+pub text_view_measured : (p : Part) (ps vs : List ℕ) (add n : ℕ) → p.format ≡ Some TextView → length ps < 2 ^ 60 → is_placed p ≡ true → AreWithin (picks_of ps vs add) p.len
+    → 16 * (p.offset + p.len) ≤ length p.values → n ≡ 16 * length ps → n < 2 ^ 63 → IsMeasured p (picking_of ps vs add) (record { values = n; inner = inners.Kept })
+text_view_measured p ps vs add n format few placed within held size small =
+    let q = picks_of ps vs add in
+    let same : n ≡ 16 * length q = size ∙ ap (λ (k : ℕ). 16 * k) (sym (length_picks ps vs add)) in
+    record {
+      readable = readable p ps vs add TextView format few placed within (lt-ltb _ _ (subst (λ (k : ℕ). k < 2 ^ 63) same small)) held;
+      values = same ∙ ap (λ (g : Option Format). values_len g p q) (sym format);
+      children = kept_inner p (picking_of ps vs add) TextView format refl refl refl;
+    }
+
+pub list_view_measured : (z : Offsets) (p : Part) (ps vs : List ℕ) (add : ℕ) → p.format ≡ Some (ListView z) → length ps < 2 ^ 60 → is_placed p ≡ true → AreWithin (picks_of ps vs add) p.len → p.children ≡ 1
+    → holds_starts z p.offsets (p.offset + p.len) ≡ true → holds_starts z p.sizes (p.offset + p.len) ≡ true → IsMeasured p (picking_of ps vs add) (record { values = 0; inner = inners.Kept })
+list_view_measured z p ps vs add format few placed within one offsets sizes = record {
+  readable = readable p ps vs add (ListView z) format few placed within refl (one, offsets, sizes);
+  values = ap (λ (g : Option Format). values_len g p (picks_of ps vs add)) (sym format);
+  children = kept_inner p (picking_of ps vs add) (ListView z) format refl refl refl;
+}
+
+moved_inner : (p : Part) (q : Picking) (f : Format) → p.format ≡ Some f → inner_picks (Some f) p q.picks ≡ map (option_map (λ i. p.offset + i)) q.picks → inner_nullable (Some f) q.nullable ≡ q.nullable → keeps (Some f) ≡ false → inner p q ≡ moved p.offset q
+moved_inner p q f format a b c =
+    same_picking _ _ (ap (λ (g : Option Format). inner_picks g p q.picks) format ∙ a) (ap (λ (g : Option Format). inner_nullable g q.nullable) format ∙ b) (ap keeps format ∙ c)
+
+pub union_measured : (p : Part) (ps vs : List ℕ) (add n : ℕ) → p.format ≡ Some Union → length ps < 2 ^ 60 → is_placed p ≡ true → AreWithin (picks_of ps vs add) p.len → holds_ids p ≡ true → AllAt p (picks_of ps vs add) (has_child p)
+    → n ≡ length ps → IsMeasured p (picking_of ps vs add) (record { values = n; inner = inners.Same })
+union_measured p ps vs add n format few placed within held ids size = record {
+  readable = readable p ps vs add Union format few placed within refl (held, ids);
+  values = size ∙ sym (length_picks ps vs add) ∙ ap (λ (g : Option Format). values_len g p (picks_of ps vs add)) (sym format);
+  children = (moved_inner p (picking_of ps vs add) Union format refl refl refl, refl, placed_end p placed);
+}
+
 pub struct_measured : (p : Part) (ps vs : List ℕ) (add : ℕ) (m : Measure) → p.format ≡ Some Struct → length ps < 2 ^ 60 → is_placed p ≡ true → AreWithin (picks_of ps vs add) p.len
     → m.values ≡ 0 → m.inner ≡ inners.Same → IsMeasured p (picking_of ps vs add) m
 struct_measured p ps vs add m format few placed within none same = record {
   readable = readable p ps vs add Struct format few placed within refl tt;
   values = none ∙ ap (λ (g : Option Format). values_len g p (picks_of ps vs add)) (sym format);
-  children = subst (λ (i : Inner). IsInner p (picking_of ps vs add) i) (sym same) format;
+  children = subst (λ (i : Inner). IsInner p (picking_of ps vs add) i) (sym same) (moved_inner p (picking_of ps vs add) Struct format refl refl refl, refl, placed_end p placed);
 }
 
-pub same_picking : (a b : Picking) → a.picks ≡ b.picks → a.nullable ≡ b.nullable → a ≡ b
-same_picking a b e f = let make : List (Option ℕ) → Bool → Picking = λ x y. record { picks = x; nullable = y } in ap₂ make e f
-
-pub items_listed : (z : Offsets) (p : Part) (q : Picking) (places : List ℕ) → p.format ≡ Some (Lists z) → places ≡ items_of z p q.picks → record { picks = inner_picks p.format p q.picks; nullable = inner_nullable p.format q.nullable } ≡ picking_of places [] 0
+pub items_listed : (z : Offsets) (p : Part) (q : Picking) (places : List ℕ) → p.format ≡ Some (Lists z) → places ≡ items_of z p q.picks → inner p q ≡ picking_of places [] 0
 items_listed z p q places format items =
     same_picking _ _
     (ap (λ (g : Option Format). inner_picks g p q.picks) format ∙ ap (λ (l : List ℕ). map Some l) (sym items) ∙ sym (all_picks places))
-    (ap (λ (g : Option Format). inner_nullable g q.nullable) format)
+    (ap (λ (g : Option Format). inner_nullable g q.nullable) format) (ap keeps format)
 
 below_within : (places : List ℕ) (end : ℕ) → AreBelow places end → AreWithin (picks_of places [] 0) end
 below_within places end b = record {
@@ -89,7 +130,7 @@ below_within places end b = record {
       omega arith;
 }
 
-bare_listed : (p : Part) (q : Picking) (places valid : List ℕ) (end : ℕ) → p.children ≡ 1 → valid ≡ [] → inner p q ≡ picking_of places [] 0 → AreWithin (picks_of places [] 0) end → AreListed p q places valid end
+bare_listed : (p : Part) (q : Picking) (places valid : List ℕ) (end : ℕ) → p.children ≡ 1 → valid ≡ [] → below p q ≡ picking_of places [] 0 → AreWithin (picks_of places [] 0) end → AreListed p q places valid end
 bare_listed p q places valid end one none listed within = subst (λ (v : List ℕ). AreListed p q places v end) (sym none) (record { one = one; listed = listed; within = within })
 
 pub list_measured : (z : Offsets) (p : Part) (ps vs : List ℕ) (add : ℕ) (items : Items) → p.format ≡ Some (Lists z) → length ps < 2 ^ 60 → is_placed p ≡ true → AreWithin (picks_of ps vs add) p.len → p.children ≡ 1
@@ -112,7 +153,67 @@ fixed_list_measured p ps vs add n items format few placed within one held size s
       values = ap (λ (g : Option Format). values_len g p q) (sym format);
       children = record {
         one = one;
-        listed = same_picking _ _ (ap (λ (g : Option Format). inner_picks g p q) format ∙ sym are) (ap (λ (g : Option Format). inner_nullable g (has_bits vs)) format ∙ sym bits);
+        listed = same_picking _ _ (ap (λ (g : Option Format). inner_picks g p q) format ∙ sym are) (ap (λ (g : Option Format). inner_nullable g (has_bits vs)) format ∙ sym bits) (ap keeps format);
         within = subst (λ (l : List (Option ℕ)). AreWithin l items.end) (sym are) (items_within p q items.end within far);
       };
     }
+
+-- ---- what kept children are reached by
+
+bare_inside : (f : Option Format) (p : Part) (lens : List ℕ) (i : ℕ) → keeps f ≡ false → is_inside f p lens i ≡ true
+bare_inside None p lens i e = refl
+bare_inside (Some Nulls) p lens i e = refl
+bare_inside (Some Bits) p lens i e = refl
+bare_inside (Some Fixed) p lens i e = refl
+bare_inside (Some (Text z)) p lens i e = refl
+bare_inside (Some Struct) p lens i e = refl
+bare_inside (Some (Lists z)) p lens i e = refl
+bare_inside (Some FixedList) p lens i e = refl
+bare_inside (Some Union) p lens i e = refl
+bare_inside (Some TextView) p lens i e = absurd (let f : true ≡ false = e in cc)
+bare_inside (Some (ListView z)) p lens i e = absurd (let f : true ≡ false = e in cc)
+
+pub none_inside : (p : Part) (q : List (Option ℕ)) (lens : List ℕ) (f : Format) → p.format ≡ Some f → keeps (Some f) ≡ false → AreInside p q lens
+none_inside p q lens f format e = record { all = λ k i h at. bare_inside p.format p lens i (ap keeps format ∙ e) }
+
+pub inside_from : (p : Part) (q : List (Option ℕ)) (lens : List ℕ) (f : Format) → p.format ≡ Some f → AllAt p q (is_inside (Some f) p lens) → AreInside p q lens
+inside_from p q lens f format a = subst (λ (g : Option Format). AllAt p q (is_inside g p lens)) (sym format) a
+
+one_len : (p : Part) (nodes : List image.Node) → p.children ≡ 1 → get_or (child_lens p (parts_of nodes)) 0 0 ≡ first_len nodes
+unfolding tree_lens
+one_len p [] one = ap (λ n. get_or (take n []) 0 0) one
+one_len p (n ∷ nodes) one = ap (λ m. get_or (take m (n.len ∷ drop n.children (tree_lens (parts_of nodes)))) 0 0) one
+
+pub list_views_inside : (z : Offsets) (p : Part) (q : List (Option ℕ)) (nodes : List image.Node) (count : ℕ) → p.format ≡ Some (ListView z) → p.children ≡ 1 → count ≡ first_len nodes → AllAt p q (is_list_view z p count) → AreInside p q (child_lens p (parts_of nodes))
+list_views_inside z p q nodes count format one e a =
+    inside_from p q (child_lens p (parts_of nodes)) (ListView z) format (subst (λ (n : ℕ). AllAt p q (is_list_view z p n)) (e ∙ sym (one_len p nodes one)) a)
+
+-- the first k trees of the nodes have so many rows
+pub record LensTo (nodes : List image.Node) (k : ℕ) (lens : List ℕ) : Type 0 where
+  pub len : length lens ≡ k
+  pub are : lens ++ tree_lens (drop k (parts_of nodes)) ≡ tree_lens (parts_of nodes)
+
+pub first_lens : (nodes : List image.Node) (lens : List ℕ) → lens ≡ [] → LensTo nodes 0 lens
+first_lens nodes lens e = record { len = ap length e; are = ap (λ (l : List ℕ). l ++ tree_lens (parts_of nodes)) e }
+
+leaf_lens : (p : Part) (ps : List Part) → p.children ≡ 0 → tree_lens (p ∷ ps) ≡ p.len ∷ tree_lens ps
+unfolding tree_lens
+leaf_lens p ps e = ap (λ n. p.len ∷ drop n (tree_lens ps)) e
+
+pub more_lens : (nodes : List image.Node) (k : ℕ) (d : image.Node) (lens new : List ℕ) → k < length nodes → (get_or nodes k d).children ≡ 0 → new ≡ lens ++ (get_or nodes k d).len ∷ [] → LensTo nodes k lens → LensTo nodes (k + 1) new
+more_lens nodes k d lens new h leaf pushed t =
+    let parts = parts_of nodes in
+    let n = get_or nodes k d in
+    let low : k < length parts = omega (arith, length-map nodes part_of) in
+    let split : drop k parts ≡ part_of n ∷ drop (k + 1) parts = drop_more parts k (part_of d) low ∙ ap (λ (p : Part). p ∷ drop (k + 1) parts) (get_or-map part_of nodes k d (part_of d) h) in
+    record {
+      len = ap length pushed ∙ length-append lens (n.len ∷ []) ∙ ap (λ m. m + 1) t.len;
+      are = ap (λ (l : List ℕ). l ++ tree_lens (drop (k + 1) parts)) pushed
+          ∙ append_assoc lens (n.len ∷ []) (tree_lens (drop (k + 1) parts))
+          ∙ ap (λ (l : List ℕ). lens ++ l) (sym (ap tree_lens split ∙ leaf_lens (part_of n) (drop (k + 1) parts) leaf))
+          ∙ t.are;
+    }
+
+pub all_lens : (p : Part) (nodes : List image.Node) (k : ℕ) (lens : List ℕ) → k ≡ p.children → LensTo nodes k lens → lens ≡ child_lens p (parts_of nodes)
+all_lens p nodes k lens e t =
+    sym (take_at lens (tree_lens (drop k (parts_of nodes))) p.children (t.len ∙ e)) ∙ ap (take p.children) t.are

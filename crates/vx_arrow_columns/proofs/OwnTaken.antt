@@ -1,21 +1,23 @@
 -- What a node of each format takes by itself.
-use Rattle.std.proofs.Common.{zero, suc, ◌≡◌, ℕ, ◌+◌, ◌-◌, ◌*◌, ◌/◌, ◌^◌, ◌<◌, ◌≤◌, Bool, true, false, cond, List, [], ◌∷◌, ◌++◌, length, get_or, take, drop, map, Option, Some, None, ap, ap₂, sym, ◌∙◌, refl, subst, arith, ltb, leb, eqb}
+use Rattle.std.proofs.Common.{zero, suc, ◌≡◌, ℕ, ◌+◌, ◌*◌, ◌^◌, ◌<◌, ◌≤◌, Bool, true, false, cond, List, [], ◌∷◌, length, get_or, take, map, Option, Some, None, ap, ap₂, sym, ◌∙◌, refl, subst, arith, ltb, leb, eqb}
 use Rattle.std.specs.Prelude.{◌||◌, is_some, slice_range, replicate}
 use Rattle.std.specs.Option.{option_map}
-use Rattle.std.specs.List.{range_with_len, list_all}
-use Rattle.std.proofs.lemmas.Bool.{and_parts, and_from, or_parts, lt-ltb, le-leb, leb-true, ltb-true, eqb-true, eq-eqb}
-use Rattle.std.proofs.lemmas.List.{ext_get_or, get_or-map, length-map, length-replicate}
-use Rattle.std.proofs.lemmas.List.FromFn.{length-map-range_with_len, get_or-map-range_with_len}
-use Rattle.vx_arrow_columns.specs.declared.format.Format.{Format}
-use Rattle.vx_arrow_columns.specs.declared.format.Format.TheVariants.{Nulls, Bits, Fixed, Text, List as Lists, FixedList, Struct}
-use Rattle.vx_arrow_columns.specs.declared.format.Offsets.{Offsets}
-use Rattle.vx_arrow_columns.specs.Rows.{RowValue, null, bit, bytes, list, fields, row_values, row_at, picked}
-use Rattle.vx_arrow_columns.specs.Image.{Part, bit_of, is_valid, fits, holds_valid, is_placed, is_sound, value_at, row_of, column_of, offset_at, are_cut, limit_of, size_of}
-use Rattle.vx_arrow_columns.specs.Picks.{Picking, bytes_for, has_bits, inner, inner_picks, is_counted, counts_by, items_len, items_of, pick_at, picking_of, picks_of, place_of, shows_by, shows_valid}
-use Rattle.vx_arrow_columns.specs.Taken.{AreBits, AreCutAt, AreFixed, AreOffsets, AreWithin, Holds, IsNullable, IsOwnTaken, IsReadable, ShowsRows, texts_of}
+use Rattle.std.specs.List.{list_all}
+use Rattle.std.proofs.lemmas.Bool.{and_parts, and_from, or_parts, lt-ltb, le-leb, ltb-true, eq-eqb}
+use Rattle.std.proofs.lemmas.List.{ext_get_or, get_or-map, length-map}
+use Rattle.vx_arrow_image.specs.declared.format.Format.{Format}
+use Rattle.vx_arrow_image.specs.declared.format.Format.TheVariants.{Nulls, Bits, Fixed, Text, List as Lists, FixedList, Struct, TextView, ListView, Union}
+use Rattle.vx_arrow_image.specs.declared.format.Offsets.{Offsets}
+use Rattle.vx_arrow_image.specs.Rows.{RowValue, null, bit, bytes, list, fields, row_values, row_at, picked}
+use Rattle.vx_arrow_image.specs.Image.{Part, is_valid, fits, holds_valid, is_sound, value_at, row_of, column_of, offset_at, are_cut, size_of}
+use Rattle.vx_arrow_columns.specs.Picks.{Picking, bytes_for, has_bits, inner, inner_picks, is_counted, counts_by, items_len, items_of, picks_of, place_of, shows_by, shows_valid, tags}
+use Rattle.vx_arrow_columns.specs.Taken.{AreBits, AreCopied, AreOffsets, Holds, IsNullable, IsOwnTaken, IsReadable, ShowsRows, texts_of, AreAt, AreChildrenAt}
 use Rattle.vx_arrow_columns.specs.Written.{new_part}
-use Rattle.vx_arrow_columns.proofs.Columns.{same_column, get_column, length_column, placed, holds_bits, sound_from, sound_fits, place_some, place_between}
-use Rattle.vx_arrow_columns.proofs.Cuts.{are_cut_at, cut_end, items_count, list_cell, new_cuts, text_cell}
+use Rattle.vx_arrow_image.proofs.CutRows.{are_cut_at}
+use Rattle.vx_arrow_image.proofs.SoundNodes.{get_column, length_column, sound_fits, sound_from}
+use Rattle.vx_arrow_columns.proofs.Columns.{same_column, placed, holds_bits, place_some, place_between}
+use Rattle.vx_arrow_columns.proofs.Cuts.{items_count, list_cell, new_cuts, text_cell}
+use Rattle.vx_arrow_columns.proofs.RowsAt.{first_at, picked_at, some_at}
 use Rattle.vx_arrow_columns.proofs.PickReads.{get_picks, length_picks, pick_there}
 
 -- ---- validity
@@ -49,6 +51,9 @@ nullable_shows (Some (Text z)) b h = refl
 nullable_shows (Some Struct) b h = refl
 nullable_shows (Some (Lists z)) b h = refl
 nullable_shows (Some FixedList) b h = refl
+nullable_shows (Some TextView) b h = refl
+nullable_shows (Some (ListView z)) b h = refl
+nullable_shows (Some Union) b h = absurd h
 
 pub few_picks : (p : Part) (q : List (Option ℕ)) → is_counted p q ≡ true → length q < 2 ^ 60
 unfolding is_counted
@@ -71,46 +76,49 @@ no_children : (p : Part) → p.children ≡ 0 → (cs : List (List RowValue)) �
 no_children p e [] h = refl
 no_children p e (c ∷ cs) h = absurd (omega arith)
 
-leaf_taken : (p : Part) (q : Picking) (v o x : List ℕ) (f : Format) → p.format ≡ Some f → p.children ≡ 0 → IsReadable p q.picks
-    → ShowsRows p q.picks v → holds_valid v (length q.picks) ≡ true → fits (Some f) (new_part p q v o x) [] ≡ true
-    → ((k i : ℕ) → k < length q.picks → place_of p (get_or q.picks k None) ≡ Some i → value_at (Some f) (new_part p q v o x) [] k ≡ value_at (Some f) p [] i)
-    → IsOwnTaken p (new_part p q v o x) q
-leaf_taken p q v o x f format leaf r shows valid own values =
-    let w = new_part p q v o x in
+leaf_taken : (p : Part) (q : Picking) (v o x s : List ℕ) (f : Format) → p.format ≡ Some f → p.children ≡ 0 → IsReadable p q.picks
+    → ShowsRows p q.picks v → holds_valid v (length q.picks) ≡ true → fits (Some f) (new_part p q v o x s) [] ≡ true
+    → ((k i : ℕ) → k < length q.picks → place_of p (get_or q.picks k None) ≡ Some i → value_at (Some f) (new_part p q v o x s) [] k ≡ value_at (Some f) p [] i)
+    → IsOwnTaken p (new_part p q v o x s) q
+leaf_taken p q v o x s f format leaf r shows valid fit values =
+    let w = new_part p q v o x s in
     let i = inner p q in
     record {
       children = refl;
       len = refl;
-      sound = subst (λ (n : ℕ). is_sound w (replicate n (length i.picks)) ≡ true) (sym leaf) (sound_from w [] (Some f) format (placed w refl (few_picks p q.picks r.counted) valid) own);
-      column = λ cs few s.
-          let none : cs ≡ [] = no_children p leaf cs few in
-          subst (λ (l : List (List RowValue)). column_of w (map (picked i.picks) l) ≡ picked q.picks (column_of p l)) (sym none)
-          (same_column p w [] [] q.picks refl refl shows r.within (λ k n h e.
-          ap (λ (y : Option Format). value_at y w [] k) format ∙ values k n h e ∙ ap (λ (y : Option Format). value_at y p [] n) (sym format)));
+      sound = subst (λ (n : ℕ). is_sound w (replicate n (length i.picks)) ≡ true) (sym leaf) (sound_from w [] (Some f) format (placed w refl (few_picks p q.picks r.counted) valid) fit);
+      column = λ cs ds at own.
+          let none : cs ≡ [] = no_children p leaf cs at.old_len in
+          let new : ds ≡ [] = no_children p leaf ds at.new_len in
+          picked_at (tags p.format) q.picks (column_of p cs) (column_of w ds)
+          (ap (column_of w) new
+          ∙ same_column p w [] [] q.picks refl refl shows r.within (λ k n h e.
+          ap (λ (y : Option Format). value_at y w [] k) format ∙ values k n h e ∙ ap (λ (y : Option Format). value_at y p [] n) (sym format))
+          ∙ sym (ap (λ (l : List (List RowValue)). picked q.picks (column_of p l)) none));
     }
 
-pub bits_taken : (p : Part) (q : Picking) (v o x : List ℕ) → p.format ≡ Some Bits → IsReadable p q.picks → ShowsRows p q.picks v → holds_valid v (length q.picks) ≡ true
-    → bytes_for (length q.picks) ≤ length x → AreBits p q.picks (length q.picks) x → IsOwnTaken p (new_part p q v o x) q
-bits_taken p q v o x format r shows valid room are =
+pub bits_taken : (p : Part) (q : Picking) (v o x s : List ℕ) → p.format ≡ Some Bits → IsReadable p q.picks → ShowsRows p q.picks v → holds_valid v (length q.picks) ≡ true
+    → bytes_for (length q.picks) ≤ length x → AreBits p q.picks (length q.picks) x → IsOwnTaken p (new_part p q v o x s) q
+bits_taken p q v o x s format r shows valid room are =
     let held = held_by p q.picks (Some Bits) format r in
-    leaf_taken p q v o x Bits format held.0 r shows valid (and_from _ _ (eq-eqb _ _ held.0) (le-leb _ _ (omega arith))) (λ k i h e. ap bit (are.values k i h e))
+    leaf_taken p q v o x s Bits format held.0 r shows valid (and_from _ _ (eq-eqb _ _ held.0) (le-leb _ _ (omega arith))) (λ k i h e. ap bit (are.values k i h e))
 
-pub fixed_taken : (p : Part) (q : Picking) (v o x : List ℕ) → p.format ≡ Some Fixed → IsReadable p q.picks → ShowsRows p q.picks v → holds_valid v (length q.picks) ≡ true
-    → length q.picks * p.width ≤ length x → AreFixed p q.picks (length q.picks) x → IsOwnTaken p (new_part p q v o x) q
-fixed_taken p q v o x format r shows valid room are =
+pub fixed_taken : (p : Part) (q : Picking) (v o x s : List ℕ) → p.format ≡ Some Fixed → IsReadable p q.picks → ShowsRows p q.picks v → holds_valid v (length q.picks) ≡ true
+    → length q.picks * p.width ≤ length x → AreCopied p.width p.values p q.picks (length q.picks) x → IsOwnTaken p (new_part p q v o x s) q
+fixed_taken p q v o x s format r shows valid room are =
     let held = held_by p q.picks (Some Fixed) format r in
     let same : 0 + length q.picks ≡ length q.picks = omega arith in
     let total : (0 + length q.picks) * p.width ≤ length x = subst (λ (n : ℕ). n * p.width ≤ length x) (sym same) room in
-    leaf_taken p q v o x Fixed format held.0 r shows valid (and_from _ _ (eq-eqb _ _ held.0) (le-leb _ _ total)) (λ k i h e. ap bytes (are.values k i h e))
+    leaf_taken p q v o x s Fixed format held.0 r shows valid (and_from _ _ (eq-eqb _ _ held.0) (le-leb _ _ total)) (λ k i h e. ap bytes (are.values k i h e))
 
-pub text_taken : (z : Offsets) (p : Part) (q : Picking) (v o x : List ℕ) → p.format ≡ Some (Text z) → IsReadable p q.picks → ShowsRows p q.picks v → holds_valid v (length q.picks) ≡ true
+pub text_taken : (z : Offsets) (p : Part) (q : Picking) (v o x s : List ℕ) → p.format ≡ Some (Text z) → IsReadable p q.picks → ShowsRows p q.picks v → holds_valid v (length q.picks) ≡ true
     → size_of z * (length q.picks + 1) ≤ length o → AreOffsets z p q.picks (length q.picks) o → items_len z p q.picks ≤ length x → take (items_len z p q.picks) x ≡ texts_of z p q.picks
-    → IsOwnTaken p (new_part p q v o x) q
-text_taken z p q v o x format r shows valid long offs room are =
-    let w = new_part p q v o x in
+    → IsOwnTaken p (new_part p q v o x s) q
+text_taken z p q v o x s format r shows valid long offs room are =
+    let w = new_part p q v o x s in
     let held = held_by p q.picks (Some (Text z)) format r in
     let small = ltb-true _ _ (counts p q.picks (Some (Text z)) format r.counted) in
-    leaf_taken p q v o x (Text z) format held.0 r shows valid
+    leaf_taken p q v o x s (Text z) format held.0 r shows valid
     (and_from _ _ (eq-eqb _ _ held.0) (new_cuts z p w q.picks (length x) refl refl long offs small room))
     (λ k i h e. ap bytes (text_cell z p q.picks x k i (offset_at z o k) (offset_at z o (k + 1)) held.1 are h e (offs.ends k (omega arith)) (offs.ends (k + 1) (omega arith))))
 
@@ -127,37 +135,43 @@ null_at : (p : Part) (cs : List (List RowValue)) (o : Option ℕ) → p.format �
 null_at p cs None format h = refl
 null_at p cs (Some i) format h = get_column p cs i (h i refl) ∙ null_row p cs (p.offset + i) format
 
-pub nulls_taken : (p : Part) (q : Picking) (o x : List ℕ) → p.format ≡ Some Nulls → IsReadable p q.picks → IsOwnTaken p (new_part p q [] o x) q
-nulls_taken p q o x format r =
-    let w = new_part p q [] o x in
+pub nulls_taken : (p : Part) (q : Picking) (o x s : List ℕ) → p.format ≡ Some Nulls → IsReadable p q.picks → IsOwnTaken p (new_part p q [] o x s) q
+nulls_taken p q o x s format r =
+    let w = new_part p q [] o x s in
     let leaf = held_by p q.picks (Some Nulls) format r in
     let i = inner p q in
     record {
       children = refl;
       len = refl;
       sound = subst (λ (n : ℕ). is_sound w (replicate n (length i.picks)) ≡ true) (sym leaf) (sound_from w [] (Some Nulls) format (placed w refl (few_picks p q.picks r.counted) refl) (eq-eqb _ _ leaf));
-      column = λ cs few s.
-          let ds = map (picked i.picks) cs in
-          ext_get_or null (column_of w ds) (picked q.picks (column_of p cs)) (length_column w ds ∙ sym (length-map q.picks (row_at (column_of p cs)))) (λ k h.
+      column = λ cs ds at own. picked_at (tags p.format) q.picks (column_of p cs) (column_of w ds)
+          (ext_get_or null (column_of w ds) (picked q.picks (column_of p cs)) (length_column w ds ∙ sym (length-map q.picks (row_at (column_of p cs)))) (λ k h.
           let below : k < length q.picks = omega (arith, length_column w ds) in
           get_column w ds k below ∙ null_row w ds (0 + k) format
-          ∙ sym (get_or-map (row_at (column_of p cs)) q.picks k None null below ∙ null_at p cs (get_or q.picks k None) format (λ n e. r.within.below k n below e)));
+          ∙ sym (get_or-map (row_at (column_of p cs)) q.picks k None null below ∙ null_at p cs (get_or q.picks k None) format (λ n e. r.within.below k n below e))));
     }
 
 -- ---- structs
 
-cells : (cs : List (List RowValue)) (q : List (Option ℕ)) (k i : ℕ) → k < length q → get_or q k None ≡ Some i
-    → map (λ c. get_or c k null) (map (picked q) cs) ≡ map (λ c. get_or c i null) cs
-cells [] q k i h e = refl
-cells (c ∷ cs) q k i h e = ap₂ ◌∷◌ (get_or-map (row_at c) q k None null h ∙ ap (row_at c) e) (cells cs q k i h e)
+cells : (cs ds : List (List RowValue)) (q : List (Option ℕ)) (n k i : ℕ) → k < length q → get_or q k None ≡ Some i → AreChildrenAt q n cs ds
+    → map (λ c. get_or c k null) ds ≡ map (λ c. get_or c i null) cs
+cells cs ds q n k i h e a =
+    let old = a.old_len in
+    let new = a.new_len in
+    let f = λ (c : List RowValue). get_or c k null in
+    let g = λ (c : List RowValue). get_or c i null in
+    ext_get_or null (map f ds) (map g cs) (length-map ds f ∙ new ∙ sym old ∙ sym (length-map cs g)) (λ j b.
+    let low : j < n = omega (arith, length-map ds f) in
+    let there = a.at j low in
+    get_or-map f ds j [] null (omega arith) ∙ there.at k i h e ∙ sym (get_or-map g cs j [] null (omega arith)))
 
-long_all : (n m k : ℕ) → n ≤ m → list_all (λ l. leb n l) (replicate k m) ≡ true
+pub long_all : (n m k : ℕ) → n ≤ m → list_all (λ l. leb n l) (replicate k m) ≡ true
 long_all n m zero h = refl
 long_all n m (suc k) h = and_from _ _ (le-leb _ _ h) (long_all n m k h)
 
-pub struct_taken : (p : Part) (q : Picking) (v o x : List ℕ) → p.format ≡ Some Struct → IsReadable p q.picks → ShowsRows p q.picks v → holds_valid v (length q.picks) ≡ true → IsOwnTaken p (new_part p q v o x) q
-struct_taken p q v o x format r shows valid =
-    let w = new_part p q v o x in
+pub struct_taken : (p : Part) (q : Picking) (v o x s : List ℕ) → p.format ≡ Some Struct → IsReadable p q.picks → ShowsRows p q.picks v → holds_valid v (length q.picks) ≡ true → IsOwnTaken p (new_part p q v o x s) q
+struct_taken p q v o x s format r shows valid =
+    let w = new_part p q v o x s in
     let f = option_map (λ (i : ℕ). p.offset + i) in
     let is : (inner p q).picks ≡ map f q.picks = ap (λ (y : Option Format). inner_picks y p q.picks) format in
     let count : length (inner p q).picks ≡ length q.picks = ap length is ∙ length-map q.picks f in
@@ -165,25 +179,20 @@ struct_taken p q v o x format r shows valid =
       children = refl;
       len = refl;
       sound = sound_from w _ (Some Struct) format (placed w refl (few_picks p q.picks r.counted) valid) (long_all (0 + length q.picks) (length (inner p q).picks) p.children (omega arith));
-      column = λ cs few s. same_column p w cs (map (picked (inner p q).picks) cs) q.picks refl refl shows r.within (λ k n h e.
+      column = λ cs ds children own. picked_at (tags p.format) q.picks (column_of p cs) (column_of w ds) (same_column p w cs ds q.picks refl refl shows r.within (λ k n h e.
           let back = place_some p (get_or q.picks k None) n e in
           let at : get_or (inner p q).picks k None ≡ Some n = ap (λ (l : List (Option ℕ)). get_or l k None) is ∙ get_or-map f q.picks k None None h ∙ ap f back.1.0 ∙ ap Some (sym back.1.1) in
-          ap (λ (y : Option Format). value_at y w (map (picked (inner p q).picks) cs) k) format
-          ∙ ap (λ l. fields (row_values l)) (cells cs (inner p q).picks k n (omega arith) at)
-          ∙ ap (λ (y : Option Format). value_at y p cs n) (sym format));
+          ap (λ (y : Option Format). value_at y w ds k) format
+          ∙ ap (λ l. fields (row_values l)) (cells cs ds (inner p q).picks p.children k n (omega arith) at children)
+          ∙ ap (λ (y : Option Format). value_at y p cs n) (sym format)));
     }
 
 -- ---- lists
 
-one_child : (p : Part) (cs : List (List RowValue)) → p.children ≡ 1 → length cs ≡ p.children → cs ≡ get_or cs 0 [] ∷ []
-one_child p [] one h = absurd (omega arith)
-one_child p (c ∷ []) one h = refl
-one_child p (c ∷ (d ∷ cs)) one h = absurd (omega arith)
-
-pub list_taken : (z : Offsets) (p : Part) (q : Picking) (v o x : List ℕ) → p.format ≡ Some (Lists z) → IsReadable p q.picks → ShowsRows p q.picks v → holds_valid v (length q.picks) ≡ true
-    → size_of z * (length q.picks + 1) ≤ length o → AreOffsets z p q.picks (length q.picks) o → IsOwnTaken p (new_part p q v o x) q
-list_taken z p q v o x format r shows valid long offs =
-    let w = new_part p q v o x in
+pub list_taken : (z : Offsets) (p : Part) (q : Picking) (v o x s : List ℕ) → p.format ≡ Some (Lists z) → IsReadable p q.picks → ShowsRows p q.picks v → holds_valid v (length q.picks) ≡ true
+    → size_of z * (length q.picks + 1) ≤ length o → AreOffsets z p q.picks (length q.picks) o → IsOwnTaken p (new_part p q v o x s) q
+list_taken z p q v o x s format r shows valid long offs =
+    let w = new_part p q v o x s in
     let held = held_by p q.picks (Some (Lists z)) format r in
     let one = held.0 in
     let small = ltb-true _ _ (counts p q.picks (Some (Lists z)) format r.counted) in
@@ -196,23 +205,25 @@ list_taken z p q v o x format r shows valid long offs =
       sound = subst (λ (n : ℕ). is_sound w (replicate n (length (inner p q).picks)) ≡ true) (sym one)
           (sound_from w (length (inner p q).picks ∷ []) (Some (Lists z)) format (placed w refl (few_picks p q.picks r.counted) valid)
           (and_from _ _ (eq-eqb _ _ one) (new_cuts z p w q.picks (length (inner p q).picks) refl refl long offs small (omega arith))));
-      column = λ cs few s. same_column p w cs (map (picked (inner p q).picks) cs) q.picks refl refl shows r.within (λ k i h e.
+      column = λ cs ds children own. picked_at (tags p.format) q.picks (column_of p cs) (column_of w ds) (same_column p w cs ds q.picks refl refl shows r.within (λ k i h e.
           let inside = place_between p q.picks k i r.within h e in
           let c = get_or cs 0 [] in
-          let fit = (and_parts (eqb p.children 1) _ (sound_fits p (map length cs) (Some (Lists z)) format s)).1 in
+          let old = children.old_len in
+          let all : get_or ds 0 [] ≡ picked (map Some places) c = some_at places c (get_or ds 0 []) (subst (λ (l : List (Option ℕ)). AreAt true l c (get_or ds 0 [])) is (first_at (inner p q).picks p.children cs ds one children)) in
+          let fit = (and_parts (eqb p.children 1) _ (sound_fits p (map length cs) (Some (Lists z)) format own)).1 in
           let wide : get_or (map length cs) 0 0 ≡ length c = get_or-map length cs 0 [] 0 (omega arith) in
           let cut = are_cut_at z p (length c) i (subst (λ (n : ℕ). are_cut z p n ≡ true) wide fit) inside.0 inside.1 in
-          ap (λ (y : Option Format). value_at y w (map (picked (inner p q).picks) cs) k) format
-          ∙ ap (λ (l : List RowValue). list (row_values (slice_range l (offset_at z o k) (offset_at z o (k + 1))))) (get_or-map (picked (inner p q).picks) cs 0 [] [] (omega arith) ∙ ap (λ (l : List (Option ℕ)). picked l c) is)
+          ap (λ (y : Option Format). value_at y w ds k) format
+          ∙ ap (λ (l : List RowValue). list (row_values (slice_range l (offset_at z o k) (offset_at z o (k + 1))))) all
           ∙ ap (λ (l : List RowValue). list (row_values l)) (list_cell z p q.picks c k i (offset_at z o k) (offset_at z o (k + 1)) h e cut (offs.ends k (omega arith)) (offs.ends (k + 1) (omega arith)))
-          ∙ ap (λ (y : Option Format). value_at y p cs i) (sym format));
+          ∙ ap (λ (y : Option Format). value_at y p cs i) (sym format)));
     }
 
 -- the same with whatever bits there are, since none are looked at
-pub nulls_node : (p : Part) (q : Picking) (v o x : List ℕ) → p.format ≡ Some Nulls → IsReadable p q.picks → IsOwnTaken p (new_part p q (cond (shows_valid p q) v []) o x) q
-nulls_node p q v o x format r =
+pub nulls_node : (p : Part) (q : Picking) (v o x s : List ℕ) → p.format ≡ Some Nulls → IsReadable p q.picks → IsOwnTaken p (new_part p q (cond (shows_valid p q) v []) o x s) q
+nulls_node p q v o x s format r =
     let none : cond (shows_valid p q) v [] ≡ [] = ap (λ (f : Option Format). cond (shows_by f (has_bits p.valid || q.nullable)) v []) format in
-    subst (λ (w : List ℕ). IsOwnTaken p (new_part p q w o x) q) (sym none) (nulls_taken p q o x format r)
+    subst (λ (w : List ℕ). IsOwnTaken p (new_part p q w o x s) q) (sym none) (nulls_taken p q o x s format r)
 
 pub no_format : (p : Part) (q : List (Option ℕ)) → p.format ≡ None → IsReadable p q → ⊥
 no_format p q format r = subst (λ (f : Option Format). Holds f p q) format r.held

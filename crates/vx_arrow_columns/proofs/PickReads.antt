@@ -1,14 +1,13 @@
 -- What picks are, and where their rows stand.
-use Rattle.std.proofs.Common.{map, ◌≡◌, ℕ, ◌+◌, ◌*◌, ◌^◌, ◌<◌, ◌≤◌, Bool, true, false, cond, List, [], ◌∷◌, length, get_or, Option, Some, None, arith, ap, ap₂, ◌∙◌, sym, refl, subst, ltb, leb, inl, inr}
+use Rattle.std.proofs.Common.{map, ◌≡◌, ℕ, ◌+◌, ◌*◌, ◌^◌, ◌<◌, ◌≤◌, Bool, true, false, cond, List, [], ◌∷◌, length, get_or, Option, Some, None, arith, ap, ◌∙◌, sym, refl, inl, inr}
 use Rattle.std.specs.Prelude.{is_some}
 use Rattle.std.specs.Option.{option_map}
-use Rattle.std.specs.List.{range_with_len}
-use Rattle.std.proofs.lemmas.Bool.{cases_eq, and_parts, ltb-true, leb-true}
+use Rattle.std.proofs.lemmas.Bool.{cases_eq, and_parts, ltb-true}
 use Rattle.std.proofs.lemmas.List.{ext_get_or, get_or-map, length-map}
 use Rattle.std.proofs.lemmas.List.FromFn.{length-map-range_with_len, get_or-map-range_with_len}
-use Rattle.vx_arrow_columns.specs.Image.{Part, is_placed, is_valid, holds_valid, bit_of}
+use Rattle.vx_arrow_image.specs.Image.{Part, is_placed, is_valid, bit_of}
 use Rattle.vx_arrow_columns.specs.Picks.{picks_of, pick_at, place_of}
-use Rattle.vx_arrow_columns.specs.Taken.{AreWithin, ShowsRows}
+use Rattle.vx_arrow_columns.specs.Taken.{AreWithin, ShowsRows, AreFull}
 
 pub length_picks : (ps vs : List ℕ) (add : ℕ) → length (picks_of ps vs add) ≡ length ps
 unfolding picks_of
@@ -51,6 +50,16 @@ within_next ps vs add n k old here j i h e = elim (cases_eq j k) as (λ _. i < n
       omega (arith, is.1)
   | inr other ↦ old j i (omega arith) e
 ]
+
+pub all_full : (ps vs : List ℕ) (add m : ℕ) → length ps ≤ m → ((j : ℕ) → j < m → is_valid vs j ≡ true) → AreFull (picks_of ps vs add)
+all_full ps vs add m long h = record {
+  full = λ k b e.
+      let low : k < length ps = omega (arith, length_picks ps vs add) in
+      let f : Some (add + get_or ps k 0) ≡ None = sym (get_picks ps vs add k low ∙ pick_there ps vs add k (h k (omega arith))) ∙ e in cc;
+}
+
+pub not_full : (ps vs : List ℕ) (add k : ℕ) → k < length ps → is_valid vs k ≡ false → AreFull (picks_of ps vs add) → ⊥
+not_full ps vs add k h gone full = full.full k (omega (arith, length_picks ps vs add)) (get_picks ps vs add k h ∙ pick_null ps vs add k gone)
 
 pub within_more : (q : List (Option ℕ)) (m n : ℕ) → AreWithin q m → m ≤ n → AreWithin q n
 within_more q m n w h = record { below = λ k i b e. let low = w.below k i b e in omega arith }

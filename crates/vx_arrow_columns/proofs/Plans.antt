@@ -1,22 +1,26 @@
 -- The jobs of children, and the plan at the end of a walk.
-use Rattle.std.proofs.Common.{zero, suc, ◌≡◌, ℕ, ◌+◌, ◌-◌, ◌^◌, ◌<◌, ◌≤◌, Bool, true, false, cond, List, [], ◌∷◌, ◌++◌, length, get_or, take, drop, map, reverse, Option, Some, None, ap, ap₂, sym, ◌∙◌, refl, subst, arith, length-append, eq-eqb}
+use Rattle.std.proofs.Common.{zero, suc, ◌≡◌, ℕ, ◌+◌, ◌-◌, ◌^◌, ◌<◌, ◌≤◌, Bool, true, false, cond, List, [], ◌∷◌, ◌++◌, length, get_or, drop, map, reverse, Option, Some, None, ap, ap₂, sym, ◌∙◌, refl, subst, arith, length-append}
 use Rattle.std.specs.Prelude.{replicate}
 use Rattle.std.specs.Option.{option_map}
 use Rattle.std.proofs.lemmas.List.{append-nil, drop_all, get_or-map, length-map, map-append, get_or-append_right}
-use Rattle.vx_arrow_columns.specs.declared.format.Format.{Format}
-use Rattle.vx_arrow_columns.specs.declared.format.Format.TheVariants.{Struct}
-use Rattle.vx_arrow_columns.specs.declared.image.Node as image
-use Rattle.vx_arrow_columns.specs.declared.image.Need.{Need}
+use Rattle.vx_arrow_image.specs.declared.format.Format.{Format}
+use Rattle.vx_arrow_image.specs.declared.format.Format.TheVariants.{Struct}
+use Rattle.vx_arrow_image.specs.declared.image.Node as image
+use Rattle.vx_arrow_image.specs.declared.image.Need.{Need}
+use Rattle.vx_arrow_image.specs.declared.image.Room.{Room}
 use Rattle.vx_arrow_columns.specs.declared.needs.Inner.TheVariants as inners
 use Rattle.vx_arrow_columns.specs.declared.needs.Items.{Items}
+use Rattle.vx_arrow_columns.specs.declared.needs.Measure.{Measure}
 use Rattle.vx_arrow_columns.specs.declared.places.Places.{Places}
 use Rattle.vx_arrow_columns.specs.declared.plan.Job as jobs
 use Rattle.vx_arrow_columns.specs.declared.plan.Plan as plans
 use Rattle.vx_arrow_columns.specs.declared.plan.Walk as walks
-use Rattle.vx_arrow_columns.specs.Image.{Part, part_of}
-use Rattle.vx_arrow_columns.specs.Picks.{Picking, bytes_for, inner, inner_picks, inner_nullable, need_of, needs_by, offsets_len, picking_of, pickings, picks_of, shows_valid, values_len}
-use Rattle.vx_arrow_columns.specs.Planned.{IsListed, IsNext, IsPlanned, are_trees, first_len, picking_by, picking_in, places_in, valid_in}
-use Rattle.vx_arrow_columns.specs.Taken.{AreWithin}
+use Rattle.vx_arrow_image.specs.Image.{Part, part_of}
+use Rattle.vx_arrow_columns.specs.Picks.{Picking, all_rows, below, bytes_for, inner, inner_picks, inner_nullable, keeps, kept_need, need_of, needs_by, offsets_len, own_need, sizes_len, picking_of, pickings, picks_of, shows_valid, values_len}
+use Rattle.vx_arrow_columns.specs.Planned.{IsJobMeasured, child_lens, IsNext, IsPlanned, are_trees, first_len, picking_by, picking_in, places_in, valid_in}
+use Rattle.vx_arrow_columns.specs.Measured.{IsMeasured, moved}
+use Rattle.vx_arrow_columns.specs.Taken.{AreInside, AreWithin, IsOwnTaken, IsViewTaken, TakenAs}
+use Rattle.vx_arrow_columns.specs.Written.{IsRoomTaken}
 use Rattle.vx_arrow_columns.proofs.Measures.{same_picking}
 use Rattle.vx_arrow_columns.proofs.PickReads.{length_picks, moved_picks}
 use Rattle.vx_arrow_columns.proofs.Walks.{WalkIs}
@@ -24,14 +28,21 @@ use Rattle.vx_arrow_columns.proofs.Walks.{WalkIs}
 -- ---- the same picks, further on
 
 moved_by : (ps vs : List ℕ) (ls : List Places) (o : Option ℕ) (a m by n : ℕ) → AreWithin (picking_by ps vs ls o a).picks n → by + n < 2 ^ 60 → (a + by < 2 ^ 64 → m ≡ a + by)
-    → picking_by ps vs ls o m ≡ record { picks = map (option_map (λ i. by + i)) (picking_by ps vs ls o a).picks; nullable = (picking_by ps vs ls o a).nullable }
-moved_by ps vs ls None a m by n w few e = same_picking _ _ (moved_picks ps vs a m by n w few e) refl
-moved_by ps vs ls (Some k) a m by n w few e = same_picking _ _ (moved_picks (places_in ls k) (valid_in ls k) a m by n w few e) refl
+    → picking_by ps vs ls o m ≡ moved by (picking_by ps vs ls o a)
+moved_by ps vs ls None a m by n w few e = same_picking _ _ (moved_picks ps vs a m by n w few e) refl refl
+moved_by ps vs ls (Some k) a m by n w few e = same_picking _ _ (moved_picks (places_in ls k) (valid_in ls k) a m by n w few e) refl refl
 
-moved_in : (ps vs : List ℕ) (ls : List Places) (job next : jobs.Job) (by n : ℕ) → next.list ≡ job.list → AreWithin (picking_in ps vs ls job).picks n → by + n < 2 ^ 60 → (job.add + by < 2 ^ 64 → next.add ≡ job.add + by)
-    → picking_in ps vs ls next ≡ record { picks = map (option_map (λ i. by + i)) (picking_in ps vs ls job).picks; nullable = (picking_in ps vs ls job).nullable }
+moved_own : (ps vs : List ℕ) (ls : List Places) (b : Bool) (o : Option ℕ) (a m by n : ℕ) → (cond b all_rows (picking_by ps vs ls o a)).kept ≡ false → AreWithin (cond b all_rows (picking_by ps vs ls o a)).picks n → by + n < 2 ^ 60
+    → (a + by < 2 ^ 64 → m ≡ a + by) → picking_by ps vs ls o m ≡ moved by (cond b all_rows (picking_by ps vs ls o a))
+moved_own ps vs ls true o a m by n own w few e = absurd (let f : true ≡ false = own in cc)
+moved_own ps vs ls false o a m by n own w few e = moved_by ps vs ls o a m by n w few e
+
+moved_in : (ps vs : List ℕ) (ls : List Places) (job next : jobs.Job) (by n : ℕ) → next.list ≡ job.list → next.kept ≡ false → (picking_in ps vs ls job).kept ≡ false → AreWithin (picking_in ps vs ls job).picks n → by + n < 2 ^ 60
+    → (job.add + by < 2 ^ 64 → next.add ≡ job.add + by) → picking_in ps vs ls next ≡ moved by (picking_in ps vs ls job)
 unfolding picking_in
-moved_in ps vs ls job next by n same w few e = ap (λ (o : Option ℕ). picking_by ps vs ls o next.add) same ∙ moved_by ps vs ls job.list job.add next.add by n w few e
+moved_in ps vs ls job next by n same bare own w few e =
+    ap₂ (λ (o : Option ℕ) (b : Bool). cond b all_rows (picking_by ps vs ls o next.add)) same bare
+    ∙ moved_own ps vs ls job.kept job.list job.add next.add by n own w few e
 
 back : (by j : ℕ) (x : Option ℕ) → option_map (λ i. by + i) x ≡ Some j → (i : ℕ) × ((x ≡ Some i) × (j ≡ by + i))
 back by j None e = absurd (let f : None ≡ Some j = e in cc)
@@ -47,20 +58,72 @@ moved_within q r by n m is within far = record {
       omega (arith, at.1.1);
 }
 
-struct_inner : (p : Part) (q r : Picking) → p.format ≡ Some Struct → r ≡ record { picks = map (option_map (λ i. p.offset + i)) q.picks; nullable = q.nullable } → r ≡ inner p q
-struct_inner p q r format e = e ∙ sym (same_picking (inner p q) _ (ap (λ (g : Option Format). inner_picks g p q.picks) format) (ap (λ (g : Option Format). inner_nullable g q.nullable) format))
+same_below : (p : Part) (q r : Picking) → inner p q ≡ moved p.offset q → q.kept ≡ false → r ≡ moved p.offset q → r ≡ below p q
+same_below p q r is own e = e ∙ sym is ∙ sym (ap (λ b. cond b all_rows (inner p q)) own)
 
-pub next_same : (node : image.Node) (job next : jobs.Job) (old : List Places) → node.offset + node.len < 2 ^ 60 → next.list ≡ job.list → (job.add + node.offset < 2 ^ 64 → next.add ≡ job.add + node.offset) → next.end ≡ node.offset + node.len
+pub next_same : (node : image.Node) (job next : jobs.Job) (old : List Places) → next.list ≡ job.list → next.kept ≡ false → (job.add + node.offset < 2 ^ 64 → next.add ≡ job.add + node.offset) → (node.offset + node.len < 2 ^ 64 → next.end ≡ node.offset + node.len)
     → IsNext node job inners.Same old old next
-next_same node job next old few same sum end = record {
+next_same node job next old same bare sum end = record {
   more = [];
   grown = sym (append-nil old);
   listed = λ h k e. h k (sym same ∙ e);
-  within = λ ps vs below w format.
-      let is = moved_in ps vs old job next node.offset node.len same w few sum in
-      moved_within (picking_in ps vs old job).picks (picking_in ps vs old next).picks node.offset node.len next.end (ap (λ (q : Picking). q.picks) is) w (omega arith);
-  picks = λ ps vs w format. ap (replicate node.children) (struct_inner (part_of node) (picking_in ps vs old job) (picking_in ps vs old next) format (moved_in ps vs old job next node.offset node.len same w few sum));
+  within = λ ps vs below w in_order.
+      let is = moved_in ps vs old job next node.offset node.len same bare in_order.1 w in_order.2 sum in
+      moved_within (picking_in ps vs old job).picks (picking_in ps vs old next).picks node.offset node.len next.end (ap (λ (q : Picking). q.picks) is) w (let last = end (omega (arith, in_order.2)) in omega arith);
+  picks = λ ps vs w in_order. ap (replicate node.children) (same_below (part_of node) (picking_in ps vs old job) (picking_in ps vs old next) in_order.0 in_order.1 (moved_in ps vs old job next node.offset node.len same bare in_order.1 w in_order.2 sum));
 }
+
+-- ---- children that are kept
+
+kept_in : (ps vs : List ℕ) (ls : List Places) (job : jobs.Job) → job.kept ≡ true → picking_in ps vs ls job ≡ all_rows
+unfolding picking_in
+kept_in ps vs ls job e = ap (λ b. cond b all_rows (picking_by ps vs ls job.list job.add)) e
+
+pub none_within : (n : ℕ) → AreWithin all_rows.picks n
+none_within n = record { below = λ k i h e. absurd (omega arith) }
+
+pub next_kept : (node : image.Node) (job next : jobs.Job) (old : List Places) → next.list ≡ None → next.kept ≡ true → IsNext node job inners.Kept old old next
+next_kept node job next old bare kept = record {
+  more = [];
+  grown = sym (append-nil old);
+  listed = λ h k e. absurd (let f : None ≡ Some k = sym bare ∙ e in cc);
+  within = λ ps vs below w are. subst (λ (q : Picking). AreWithin q.picks next.end) (sym (kept_in ps vs old next kept)) (none_within next.end);
+  picks = λ ps vs w are. ap (replicate node.children) (kept_in ps vs old next kept ∙ sym are);
+}
+
+-- a node of a job that is kept
+pub kept_measured : (node : image.Node) (behind : List Part) (ps vs : List ℕ) (ls : List Places) (job : jobs.Job) (n : Need) → job.kept ≡ true → n ≡ kept_need (part_of node) → IsJobMeasured (part_of node) (picking_in ps vs ls job) behind (record { need = n; inner = inners.Kept })
+kept_measured node behind ps vs ls job n kept e =
+    let is = kept_in ps vs ls job kept in
+    let not_own : (picking_in ps vs ls job).kept ≡ false → ⊥ = λ f. let g : true ≡ false = sym (ap (λ (q : Picking). q.kept) is) ∙ f in cc in
+    record {
+      read = record {
+        within = subst (λ (q : Picking). AreWithin q.picks node.len) (sym is) (none_within node.len);
+        readable = λ f. absurd (not_own f);
+        inside = λ f. absurd (not_own f);
+      };
+      need = e ∙ sym (ap (need_of (part_of node)) is);
+      children = ap (below (part_of node)) is;
+    }
+
+-- and one of a job that is not
+pub own_measured : (p : Part) (ps vs : List ℕ) (add : ℕ) (own : Picking) (behind : List Part) (n : Need) (m : Measure) → picking_of ps vs add ≡ own → IsMeasured p (picking_of ps vs add) m → AreInside p (picks_of ps vs add) (child_lens p behind) → n ≡ own_need p (picking_of ps vs add)
+    → IsJobMeasured p own behind (record { need = n; inner = m.inner })
+own_measured p ps vs add own behind n m e is inside need =
+    let r = is.readable in
+    subst (λ (q : Picking). IsJobMeasured p q behind (record { need = n; inner = m.inner })) e
+    (record { read = record { within = r.within; readable = λ f. r; inside = λ f. inside }; need = need; children = is.children })
+
+-- ---- rooms
+
+pub kept_room : (p : Part) (ps vs : List ℕ) (ls : List Places) (job : jobs.Job) (r : Room) → job.kept ≡ true → IsRoomTaken p (picking_in ps vs ls job) r
+kept_room p ps vs ls job r kept = subst (λ (q : Picking). IsRoomTaken p q r) (sym (kept_in ps vs ls job kept)) refl
+
+pub own_node : (p w : Part) (q : Picking) (f : Format) → p.format ≡ Some f → keeps (Some f) ≡ false → IsOwnTaken p w q → TakenAs false (keeps p.format) p w q
+own_node p w q f format e t = subst (λ (b : Bool). TakenAs false b p w q) (sym (ap keeps format ∙ e)) t
+
+pub view_node : (p w : Part) (q : Picking) (f : Format) → p.format ≡ Some f → keeps (Some f) ≡ true → IsViewTaken p w q → TakenAs false (keeps p.format) p w q
+view_node p w q f format e t = subst (λ (b : Bool). TakenAs false b p w q) (sym (ap keeps format ∙ e)) t
 
 -- ---- a list of places
 
@@ -70,24 +133,25 @@ last_list ls x f =
     ∙ get_or-append_right (map f ls) (f x ∷ []) (length ls) (length ls) [] (length-map ls f) (omega arith)
     ∙ ap (λ n. get_or (f x ∷ []) n []) (let z : length ls - length ls ≡ 0 = omega arith in z)
 
-listed_in : (ps vs : List ℕ) (ls new : List Places) (x : Places) (next : jobs.Job) → new ≡ ls ++ x ∷ [] → next.list ≡ Some (length ls) → next.add ≡ 0 → picking_in ps vs new next ≡ picking_of x.places.items x.valid.items 0
+listed_in : (ps vs : List ℕ) (ls new : List Places) (x : Places) (next : jobs.Job) → new ≡ ls ++ x ∷ [] → next.list ≡ Some (length ls) → next.add ≡ 0 → next.kept ≡ false → picking_in ps vs new next ≡ picking_of x.places.items x.valid.items 0
 unfolding picking_in
-listed_in ps vs ls new x next e list none =
-    ap₂ (λ (o : Option ℕ) (a : ℕ). picking_by ps vs new o a) list none
+listed_in ps vs ls new x next e list none bare =
+    ap (λ b. cond b all_rows (picking_by ps vs new next.list next.add)) bare
+    ∙ ap₂ (λ (o : Option ℕ) (a : ℕ). picking_by ps vs new o a) list none
     ∙ ap₂ (λ (a : List ℕ) (b : List ℕ). picking_of a b 0)
     (ap (λ (l : List Places). places_in l (length ls)) e ∙ last_list ls x (λ (y : Places). y.places.items))
     (ap (λ (l : List Places). valid_in l (length ls)) e ∙ last_list ls x (λ (y : Places). y.valid.items))
 
-pub next_listed : (node : image.Node) (job next : jobs.Job) (old new : List Places) (items : Items) → new ≡ old ++ items.list ∷ [] → next.list ≡ Some (length old) → next.add ≡ 0 → next.end ≡ items.end
+pub next_listed : (node : image.Node) (job next : jobs.Job) (old new : List Places) (items : Items) → new ≡ old ++ items.list ∷ [] → next.list ≡ Some (length old) → next.add ≡ 0 → next.end ≡ items.end → next.kept ≡ false
     → IsNext node job (inners.Listed items) old new next
-next_listed node job next old new items e list none end = record {
+next_listed node job next old new items e list none end bare = record {
   more = items.list ∷ [];
   grown = e;
   listed = λ h k f. let at : Some (length old) ≡ Some k = sym list ∙ f in let here : length old ≡ k = cc in omega (arith, ap length e, length-append old (items.list ∷ []));
   within = λ ps vs below w are.
-      subst (λ (q : Picking). AreWithin q.picks next.end) (sym (listed_in ps vs old new items.list next e list none))
+      subst (λ (q : Picking). AreWithin q.picks next.end) (sym (listed_in ps vs old new items.list next e list none bare))
       (subst (λ (n : ℕ). AreWithin (picking_of items.list.places.items items.list.valid.items 0).picks n) (sym end) are.within);
-  picks = λ ps vs w are. ap (replicate node.children) (listed_in ps vs old new items.list next e list none ∙ sym are.listed);
+  picks = λ ps vs w are. ap (replicate node.children) (listed_in ps vs old new items.list next e list none bare ∙ sym are.listed);
 }
 
 -- ---- the end of a walk
@@ -110,34 +174,35 @@ plan_done parts ps vs i w is all =
       picks = sym (is.walk ∙ ap (λ (l : List Picking). map J w.jobs.items ++ l) left ∙ append-nil (map J w.jobs.items));
       needs = sym (is.needs ∙ ap₂ (λ (l : List Part) (q : List Picking). w.needs.items ++ needs_by l q) behind left ∙ append-nil w.needs.items);
       listed = is.listed;
-      readable = is.readable;
+      read = is.read;
     }
 
 -- ---- the picks of a job
 
-pub none_is : (ps vs : List ℕ) (ls : List Places) (job : jobs.Job) (add : ℕ) → job.list ≡ None → add ≡ job.add → picking_of ps vs add ≡ picking_in ps vs ls job
+pub none_is : (ps vs : List ℕ) (ls : List Places) (job : jobs.Job) (add : ℕ) → job.list ≡ None → add ≡ job.add → job.kept ≡ false → picking_of ps vs add ≡ picking_in ps vs ls job
 unfolding picking_in
-none_is ps vs ls job add e same = ap (λ (a : ℕ). picking_of ps vs a) same ∙ sym (ap (λ (o : Option ℕ). picking_by ps vs ls o job.add) e)
+none_is ps vs ls job add e same bare = ap (λ (a : ℕ). picking_of ps vs a) same ∙ sym (ap₂ (λ (o : Option ℕ) (b : Bool). cond b all_rows (picking_by ps vs ls o job.add)) e bare)
 
-pub some_is : (ps vs : List ℕ) (ls : List Places) (job : jobs.Job) (k : ℕ) (x d : Places) (places valid : List ℕ) → job.list ≡ Some k → k < length ls → get_or ls k d ≡ x → places ≡ x.places.items → valid ≡ x.valid.items
+pub some_is : (ps vs : List ℕ) (ls : List Places) (job : jobs.Job) (k : ℕ) (x d : Places) (places valid : List ℕ) → job.list ≡ Some k → k < length ls → get_or ls k d ≡ x → places ≡ x.places.items → valid ≡ x.valid.items → job.kept ≡ false
     → picking_of places valid job.add ≡ picking_in ps vs ls job
 unfolding picking_in
-some_is ps vs ls job k x d places valid e low at same bits =
+some_is ps vs ls job k x d places valid e low at same bits bare =
     ap₂ (λ (a : List ℕ) (b : List ℕ). picking_of a b job.add)
     (same ∙ sym (ap (λ (y : Places). y.places.items) at) ∙ sym (get_or-map (λ (y : Places). y.places.items) ls k d [] low))
     (bits ∙ sym (ap (λ (y : Places). y.valid.items) at) ∙ sym (get_or-map (λ (y : Places). y.valid.items) ls k d [] low))
-    ∙ sym (ap (λ (o : Option ℕ). picking_by ps vs ls o job.add) e)
+    ∙ sym (ap₂ (λ (o : Option ℕ) (b : Bool). cond b all_rows (picking_by ps vs ls o job.add)) e bare)
 
 -- ---- needs
 
-pub need_is : (p : Part) (ps vs : List ℕ) (add valid offs values : ℕ) → valid ≡ cond (shows_valid p (picking_of ps vs add)) (bytes_for (length ps)) 0 → offs ≡ offsets_len p.format (length ps) → values ≡ values_len p.format p (picks_of ps vs add)
-    → record { len = length ps; valid = valid; offsets = offs; values = values; sizes = 0 } ≡ need_of p (picking_of ps vs add)
-need_is p ps vs add valid offs values e f g =
-    let make : ℕ → ℕ → ℕ → ℕ → Need = λ a b c d. record { len = a; valid = b; offsets = c; values = d; sizes = 0 } in
+pub need_is : (p : Part) (ps vs : List ℕ) (add valid offs values sizes : ℕ) → valid ≡ cond (shows_valid p (picking_of ps vs add)) (bytes_for (length ps)) 0 → offs ≡ offsets_len p.format (length ps) → values ≡ values_len p.format p (picks_of ps vs add)
+    → sizes ≡ sizes_len p.format p (length ps) → record { len = length ps; valid = valid; offsets = offs; values = values; sizes = sizes } ≡ own_need p (picking_of ps vs add)
+need_is p ps vs add valid offs values sizes e f g h =
+    let make : ℕ → ℕ → ℕ → ℕ → ℕ → Need = λ a b c d s. record { len = a; valid = b; offsets = c; values = d; sizes = s } in
     let n = sym (length_picks ps vs add) in
-    ap (λ (a : ℕ). make a valid offs values) n
-    ∙ ap (λ (b : ℕ). make (length (picks_of ps vs add)) b offs values) (e ∙ ap (λ (m : ℕ). cond (shows_valid p (picking_of ps vs add)) (bytes_for m) 0) n)
-    ∙ ap₂ (λ (c : ℕ) (d : ℕ). make (length (picks_of ps vs add)) (cond (shows_valid p (picking_of ps vs add)) (bytes_for (length (picks_of ps vs add))) 0) c d) (f ∙ ap (offsets_len p.format) n) g
+    ap (λ (a : ℕ). make a valid offs values sizes) n
+    ∙ ap (λ (b : ℕ). make (length (picks_of ps vs add)) b offs values sizes) (e ∙ ap (λ (m : ℕ). cond (shows_valid p (picking_of ps vs add)) (bytes_for m) 0) n)
+    ∙ ap₂ (λ (c : ℕ) (d : ℕ). make (length (picks_of ps vs add)) (cond (shows_valid p (picking_of ps vs add)) (bytes_for (length (picks_of ps vs add))) 0) c d sizes) (f ∙ ap (offsets_len p.format) n) g
+    ∙ ap (make (length (picks_of ps vs add)) (cond (shows_valid p (picking_of ps vs add)) (bytes_for (length (picks_of ps vs add))) 0) (offsets_len p.format (length (picks_of ps vs add))) (values_len p.format p (picks_of ps vs add))) (h ∙ ap (sizes_len p.format p) n)
 
 needs_len : (ps : List Part) (qs : List Picking) → length qs ≡ length ps → length (needs_by ps qs) ≡ length ps
 needs_len [] qs e = refl
@@ -172,20 +237,6 @@ planned_need parts ps vs plan k n d e is h =
 pub first_is : (nodes : List image.Node) (d : image.Node) (q : List (Option ℕ)) → AreWithin q (get_or nodes 0 d).len → 0 < length nodes → AreWithin q (first_len nodes)
 first_is [] d q w some = absurd (omega arith)
 first_is (n ∷ nodes) d q w some = w
-
--- the node that a read past the end would give
-abbrev pub zero_node : image.Node
-zero_node = record {
-  format = 0;
-  width = 0;
-  len = 0;
-  offset = 0;
-  children = 0;
-  valid = record { ref_ptr = (0, 0); now = [] };
-  offsets = record { ref_ptr = (0, 0); now = [] };
-  values = record { ref_ptr = (0, 0); now = [] };
-  sizes = record { ref_ptr = (0, 0); now = [] };
-}
 
 pub first_was : (nodes : List image.Node) (d : image.Node) (q : List (Option ℕ)) → AreWithin q (first_len nodes) → 0 < length nodes → AreWithin q (get_or nodes 0 d).len
 first_was [] d q w some = absurd (omega arith)

@@ -1,25 +1,25 @@
 -- One more row, written or measured.
-use Rattle.std.proofs.Common.{◌≡◌, ℕ, ◌+◌, ◌-◌, ◌*◌, ◌/◌, ◌%◌, ◌^◌, ◌<◌, ◌≤◌, ◌≢◌, Bool, true, false, List, [], ◌∷◌, ◌++◌, length, get_or, set, take, drop, eqb, get_or-set_same, get_or-set_other, Option, Some, None, ap, ap₂, sym, ◌∙◌, refl, subst, inl, inr, arith, length-append, lit<, lit≤}
+use Rattle.std.proofs.Common.{◌≡◌, ℕ, ◌+◌, ◌-◌, ◌*◌, ◌/◌, ◌%◌, ◌^◌, ◌<◌, ◌≤◌, ◌≢◌, Bool, true, List, [], ◌++◌, length, get_or, set, take, drop, eqb, get_or-set_same, get_or-set_other, Option, Some, None, ap, ap₂, sym, ◌∙◌, refl, subst, inl, inr, arith, length-append, lit<, lit≤}
 use Rattle.std.specs.Prelude.{slice_range}
 use Rattle.std.specs.Int.{bit_at}
 use Rattle.std.specs.List.{range_with_len, flat_map}
 use Rattle.std.specs.Option.{option_map}
 use Rattle.std.proofs.lemmas.Nat.Bits.{bit_at-zero}
 use Rattle.std.proofs.lemmas.Bool.{cases_eq, cases_lt}
-use Rattle.std.proofs.lemmas.List.{append-nil, length-take-le, length-drop, take_all, take_more, flat_map_more, get_or_append_left, get_or-append_right, take-take}
+use Rattle.std.proofs.lemmas.List.{append-nil, length-take-le, length-drop, take_all, take_more, flat_map_more, get_or_append_left, get_or-append_right}
 use Rattle.std.proofs.lemmas.List.FromFn.{length-range_with_len, get_or-range_with_len}
 use Rattle.std.proofs.Math.Nat.{mul-le-mul_right, add-mul, one-mul}
-use Rattle.vx_arrow_columns.specs.declared.format.Offsets.{Offsets}
-use Rattle.vx_arrow_columns.specs.declared.format.Offsets.TheVariants.{Short, Long}
-use Rattle.vx_arrow_columns.specs.Image.{Part, bit_of, holds_offsets, is_cut, limit_of, offset_at}
+use Rattle.vx_arrow_image.specs.declared.format.Offsets.{Offsets}
+use Rattle.vx_arrow_image.specs.declared.format.Offsets.TheVariants.{Short, Long}
+use Rattle.vx_arrow_image.specs.Image.{Part, bit_of, holds_offsets, is_cut, limit_of, offset_at}
 use Rattle.vx_arrow_columns.specs.Measured.{AreBelow}
 use Rattle.vx_arrow_columns.specs.Picks.{items_len, items_of, pick_at, picks_of, place_of, row_items, row_len}
-use Rattle.vx_arrow_columns.specs.Taken.{AreBits, AreCutAt, AreFixed, AreOffsets, IsByteOf, row_text, texts_of}
+use Rattle.vx_arrow_columns.specs.Taken.{AllAt, AreBits, AreCopied, AreCutAt, AreOffsets, IsByteOf, row_text, texts_of}
 use Rattle.vx_arrow_columns.specs.Written.{PutsBit, PutsOffset}
 use Rattle.vx_arrow_columns.proofs.Bytes.{put_at, put_there, put_front, cut_before}
 use Rattle.vx_arrow_columns.proofs.Columns.{place_some}
 use Rattle.vx_arrow_columns.proofs.Cuts.{len_more, len_all, len_zero}
-use Rattle.vx_arrow_columns.proofs.PickReads.{get_picks, length_picks}
+use Rattle.vx_arrow_columns.proofs.PickReads.{get_picks}
 
 -- ---- the place of a pick
 
@@ -64,12 +64,12 @@ row_place p ps vs add k o h e n f =
     let at = place_some p (get_or (picks_of ps vs add) k None) n f in
     e ∙ ap (option_map (λ i. p.offset + i)) (sym (get_picks ps vs add k h) ∙ at.1.0) ∙ ap Some (sym at.1.1)
 
-pub no_fixed : (p : Part) (q : List (Option ℕ)) (out : List ℕ) → AreFixed p q 0 out
-no_fixed p q out = record { values = λ k i h e. absurd (omega arith) }
+pub none_copied : (w : ℕ) (src : List ℕ) (p : Part) (q : List (Option ℕ)) (out : List ℕ) → AreCopied w src p q 0 out
+none_copied w src p q out = record { values = λ k i h e. absurd (omega arith) }
 
-pub fixed_kept : (p : Part) (q : List (Option ℕ)) (k : ℕ) (out new : List ℕ) → ((n : ℕ) → place_of p (get_or q k None) ≡ Some n → None ≡ Some n) → new ≡ out → AreFixed p q k out → AreFixed p q (k + 1) new
-fixed_kept p q k out new none same b = subst (λ (l : List ℕ). AreFixed p q (k + 1) l) (sym same) (record {
-  values = λ j i below f. elim (cases_eq j k) as (λ _. take p.width (drop (j * p.width) out) ≡ take p.width (drop (i * p.width) p.values)) [
+pub copied_kept : (w : ℕ) (src : List ℕ) (p : Part) (q : List (Option ℕ)) (k : ℕ) (out new : List ℕ) → ((n : ℕ) → place_of p (get_or q k None) ≡ Some n → None ≡ Some n) → new ≡ out → AreCopied w src p q k out → AreCopied w src p q (k + 1) new
+copied_kept w src p q k out new none same b = subst (λ (l : List ℕ). AreCopied w src p q (k + 1) l) (sym same) (record {
+  values = λ j i below f. elim (cases_eq j k) as (λ _. take w (drop (j * w) out) ≡ take w (drop (i * w) src)) [
     | inl here ↦ absurd (none_some i None refl (none i (ap (λ (n : ℕ). place_of p (get_or q n None)) (sym here) ∙ f)))
     | inr other ↦ b.values j i (omega arith) f
   ];
@@ -78,31 +78,31 @@ fixed_kept p q k out new none same b = subst (λ (l : List ℕ). AreFixed p q (k
 pub next_place : (j k w : ℕ) → j < k → j * w + w ≤ k * w
 next_place j k w h = let e : (j + 1) * w ≡ j * w + w = add-mul j 1 w ∙ ap (λ n. j * w + n) (one-mul w) in omega (arith, mul-le-mul_right {m = j + 1} {n = k} w (omega arith))
 
-fixed_some : (p : Part) (q : List (Option ℕ)) (k i : ℕ) (out src : List ℕ) → ((n : ℕ) → place_of p (get_or q k None) ≡ Some n → Some i ≡ Some n) → src ≡ take p.width (drop (i * p.width) p.values) → length src ≡ p.width → k * p.width ≤ length out
-    → AreFixed p q k out → AreFixed p q (k + 1) (put_at out src (k * p.width))
-fixed_some p q k i out src at g long room b = record {
-  values = λ j n below f. elim (cases_eq j k) as (λ _. take p.width (drop (j * p.width) (put_at out src (k * p.width))) ≡ take p.width (drop (n * p.width) p.values)) [
+copied_some : (w : ℕ) (src : List ℕ) (p : Part) (q : List (Option ℕ)) (k i : ℕ) (out own : List ℕ) → ((n : ℕ) → place_of p (get_or q k None) ≡ Some n → Some i ≡ Some n) → own ≡ take w (drop (i * w) src) → length own ≡ w → k * w ≤ length out
+    → AreCopied w src p q k out → AreCopied w src p q (k + 1) (put_at out own (k * w))
+copied_some w src p q k i out own at g long room b = record {
+  values = λ j n below f. elim (cases_eq j k) as (λ _. take w (drop (j * w) (put_at out own (k * w))) ≡ take w (drop (n * w) src)) [
     | inl same ↦
         let there : i ≡ n = same_some i n (Some i) refl (at n (ap (λ (m : ℕ). place_of p (get_or q m None)) (sym same) ∙ f)) in
-        ap (λ m. take p.width (drop (m * p.width) (put_at out src (k * p.width)))) same
-        ∙ ap (λ m. take m (drop (k * p.width) (put_at out src (k * p.width)))) (sym long)
-        ∙ put_there out src (k * p.width) room
-        ∙ g ∙ ap (λ m. take p.width (drop (m * p.width) p.values)) there
-    | inr other ↦ cut_before out (src ++ drop (k * p.width + length src) out) (j * p.width) p.width (k * p.width) (next_place j k p.width (omega arith)) room ∙ b.values j n (omega arith) f
+        ap (λ m. take w (drop (m * w) (put_at out own (k * w)))) same
+        ∙ ap (λ m. take m (drop (k * w) (put_at out own (k * w)))) (sym long)
+        ∙ put_there out own (k * w) room
+        ∙ g ∙ ap (λ m. take w (drop (m * w) src)) there
+    | inr other ↦ cut_before out (own ++ drop (k * w + length own) out) (j * w) w (k * w) (next_place j k w (omega arith)) room ∙ b.values j n (omega arith) f
   ];
 }
 
-pub fixed_put : (p : Part) (q : List (Option ℕ)) (k i m w : ℕ) (out new : List ℕ) → ((n : ℕ) → place_of p (get_or q k None) ≡ Some n → Some i ≡ Some n) → i < p.offset + p.len
-    → m ≡ w → w ≡ p.width → (p.offset + p.len) * p.width ≤ length p.values → k * p.width ≤ length out
-    → new ≡ put_at out (take m (drop (i * w) p.values)) (k * w)
-    → AreFixed p q k out → AreFixed p q (k + 1) new
-fixed_put p q k i m w out new at low size known long room eq b =
-    let fits : i * p.width + p.width ≤ (p.offset + p.len) * p.width = next_place i (p.offset + p.len) p.width low in
-    let src = take p.width (drop (i * p.width) p.values) in
-    let wide : length src ≡ p.width = length-take-le p.width (drop (i * p.width) p.values) (omega (arith, length-drop (i * p.width) p.values)) in
-    subst (λ (l : List ℕ). AreFixed p q (k + 1) l)
-    (sym (eq ∙ ap (λ (n : ℕ). put_at out (take n (drop (i * w) p.values)) (k * w)) (size ∙ known) ∙ ap (λ (n : ℕ). put_at out (take p.width (drop (i * n) p.values)) (k * n)) known))
-    (fixed_some p q k i out src at refl wide room b)
+pub copied_put : (w : ℕ) (src : List ℕ) (p : Part) (q : List (Option ℕ)) (k i m : ℕ) (out new : List ℕ) → ((n : ℕ) → place_of p (get_or q k None) ≡ Some n → Some i ≡ Some n) → i < p.offset + p.len
+    → m ≡ w → (p.offset + p.len) * w ≤ length src → k * w ≤ length out
+    → new ≡ put_at out (take m (drop (i * w) src)) (k * w)
+    → AreCopied w src p q k out → AreCopied w src p q (k + 1) new
+copied_put w src p q k i m out new at low size long room eq b =
+    let fits : i * w + w ≤ (p.offset + p.len) * w = next_place i (p.offset + p.len) w low in
+    let own = take w (drop (i * w) src) in
+    let wide : length own ≡ w = length-take-le w (drop (i * w) src) (omega (arith, length-drop (i * w) src)) in
+    subst (λ (l : List ℕ). AreCopied w src p q (k + 1) l)
+    (sym (eq ∙ ap (λ (n : ℕ). put_at out (take n (drop (i * w) src)) (k * w)) size))
+    (copied_some w src p q k i out own at refl wide room b)
 
 -- ---- bytes of bits
 
@@ -210,31 +210,34 @@ all_texts z p q k at out h t = ap (λ n. take n out) (sym (t.len ∙ len_all z p
 
 -- ---- what is measured
 
--- the first k rows are cut as they should be
-pub record CutTo (z : Offsets) (p : Part) (q : List (Option ℕ)) (count k : ℕ) : Type 0 where
-  pub cut : (j i : ℕ) → j < k → place_of p (get_or q j None) ≡ Some i → is_cut z p count i ≡ true
+-- it holds of each of the first k rows at picks
+pub record AllTo (p : Part) (q : List (Option ℕ)) (f : ℕ → Bool) (k : ℕ) : Type 0 where
+  pub all : (j i : ℕ) → j < k → place_of p (get_or q j None) ≡ Some i → f i ≡ true
 
-pub no_cut : (z : Offsets) (p : Part) (q : List (Option ℕ)) (count : ℕ) → CutTo z p q count 0
-no_cut z p q count = record { cut = λ j i h e. absurd (omega arith) }
+pub none_hold : (p : Part) (q : List (Option ℕ)) (f : ℕ → Bool) → AllTo p q f 0
+none_hold p q f = record { all = λ j i h e. absurd (omega arith) }
 
-pub cut_some : (z : Offsets) (p : Part) (q : List (Option ℕ)) (count k i : ℕ) → place_of p (get_or q k None) ≡ Some i → is_cut z p count i ≡ true → CutTo z p q count k → CutTo z p q count (k + 1)
-cut_some z p q count k i there own c = record {
-  cut = λ j n h e. elim (cases_eq j k) as (λ _. is_cut z p count n ≡ true) [
-    | inl same ↦ subst (λ (m : ℕ). is_cut z p count m ≡ true) (same_some i n _ there (ap (λ (m : ℕ). place_of p (get_or q m None)) (sym same) ∙ e)) own
-    | inr other ↦ c.cut j n (omega arith) e
+pub hold_some : (p : Part) (q : List (Option ℕ)) (f : ℕ → Bool) (k i : ℕ) → place_of p (get_or q k None) ≡ Some i → f i ≡ true → AllTo p q f k → AllTo p q f (k + 1)
+hold_some p q f k i there own c = record {
+  all = λ j n h e. elim (cases_eq j k) as (λ _. f n ≡ true) [
+    | inl same ↦ subst (λ (m : ℕ). f m ≡ true) (same_some i n _ there (ap (λ (m : ℕ). place_of p (get_or q m None)) (sym same) ∙ e)) own
+    | inr other ↦ c.all j n (omega arith) e
   ];
 }
 
-pub cut_none : (z : Offsets) (p : Part) (q : List (Option ℕ)) (count k : ℕ) → place_of p (get_or q k None) ≡ None → CutTo z p q count k → CutTo z p q count (k + 1)
-cut_none z p q count k there c = record {
-  cut = λ j n h e. elim (cases_eq j k) as (λ _. is_cut z p count n ≡ true) [
+pub hold_none : (p : Part) (q : List (Option ℕ)) (f : ℕ → Bool) (k : ℕ) → place_of p (get_or q k None) ≡ None → AllTo p q f k → AllTo p q f (k + 1)
+hold_none p q f k there c = record {
+  all = λ j n h e. elim (cases_eq j k) as (λ _. f n ≡ true) [
     | inl same ↦ absurd (none_some n _ there (ap (λ (m : ℕ). place_of p (get_or q m None)) (sym same) ∙ e))
-    | inr other ↦ c.cut j n (omega arith) e
+    | inr other ↦ c.all j n (omega arith) e
   ];
 }
 
-pub all_cut : (z : Offsets) (p : Part) (q : List (Option ℕ)) (count k : ℕ) → holds_offsets z p ≡ true → length q ≤ k → CutTo z p q count k → AreCutAt z p q count
-all_cut z p q count k held h c = record { held = held; cut = λ j i b e. c.cut j i (omega arith) e }
+pub all_hold : (p : Part) (q : List (Option ℕ)) (f : ℕ → Bool) (k : ℕ) → length q ≤ k → AllTo p q f k → AllAt p q f
+all_hold p q f k h c = record { all = λ j i b e. c.all j i (omega arith) e }
+
+pub all_cut : (z : Offsets) (p : Part) (q : List (Option ℕ)) (count k : ℕ) → holds_offsets z p ≡ true → length q ≤ k → AllTo p q (is_cut z p count) k → AreCutAt z p q count
+all_cut z p q count k held h c = record { held = held; cut = λ j i b e. c.all j i (omega arith) e }
 
 pub items_zero : (z : Offsets) (p : Part) (q : List (Option ℕ)) → items_of z p (take 0 q) ≡ []
 unfolding items_of
@@ -286,7 +289,7 @@ same_below places new last b e = subst (λ (l : List ℕ). AreBelow l last) (sym
 
 -- the first k rows are cut as they should be, and have so many items
 pub record LenTo (z : Offsets) (p : Part) (q : List (Option ℕ)) (count k total : ℕ) : Type 0 where
-  pub cut : CutTo z p q count k
+  pub cut : AllTo p q (is_cut z p count) k
   pub len : total ≡ items_len z p (take k q)
   pub small : total < limit_of z
 
@@ -295,19 +298,19 @@ limit_some Short = lit< tt
 limit_some Long = lit< tt
 
 pub no_len : (z : Offsets) (p : Part) (q : List (Option ℕ)) (count total : ℕ) → total ≡ 0 → LenTo z p q count 0 total
-no_len z p q count total e = record { cut = no_cut z p q count; len = e ∙ sym (len_zero z p q); small = let s = limit_some z in omega arith }
+no_len z p q count total e = record { cut = none_hold p q (is_cut z p count); len = e ∙ sym (len_zero z p q); small = let s = limit_some z in omega arith }
 
 pub len_some : (z : Offsets) (p : Part) (q : List (Option ℕ)) (count k i s e total new : ℕ) → k < length q → place_of p (get_or q k None) ≡ Some i → s ≡ offset_at z p.offsets i → e ≡ offset_at z p.offsets (i + 1)
     → is_cut z p count i ≡ true → new ≡ total + (e - s) → new < limit_of z → LenTo z p q count k total → LenTo z p q count (k + 1) new
 len_some z p q count k i s e total new h there from to own step small t = record {
-  cut = cut_some z p q count k i there own t.cut;
+  cut = hold_some p q (is_cut z p count) k i there own t.cut;
   len = next_len z p q k total new (Some i) h there t.len (row_some z p i s e total new from to step);
   small = small;
 }
 
 pub len_none : (z : Offsets) (p : Part) (q : List (Option ℕ)) (count k total new : ℕ) → k < length q → place_of p (get_or q k None) ≡ None → new ≡ total → LenTo z p q count k total → LenTo z p q count (k + 1) new
 len_none z p q count k total new h there step t = record {
-  cut = cut_none z p q count k there t.cut;
+  cut = hold_none p q (is_cut z p count) k there t.cut;
   len = next_len z p q k total new None h there t.len (row_none z p total new step);
   small = let s = t.small in omega arith;
 }

@@ -1,29 +1,31 @@
 -- The rooms of all nodes, written one after another.
-use Rattle.std.proofs.Common.{zero, suc, ◌≡◌, ℕ, ◌+◌, ◌-◌, ◌<◌, ◌≤◌, ◌≢◌, Bool, true, List, [], ◌∷◌, ◌++◌, length, get_or, set, map, Option, Some, None, ap, ap₂, sym, ◌∙◌, refl, subst, inl, inr, arith, get_or-set_same, get_or-set_other, length-set}
+use Rattle.std.proofs.Common.{zero, suc, ◌≡◌, ℕ, ◌+◌, ◌<◌, ◌≤◌, ◌≢◌, true, false, List, [], ◌∷◌, length, get_or, set, drop, Some, None, ap, ap₂, sym, ◌∙◌, refl, subst, inl, inr, arith, get_or-set_same, get_or-set_other, length-set}
 use Rattle.std.proofs.lemmas.Bool.{cases_eq}
 use Rattle.std.specs.Prelude.{IsSome, is_some}
 use Rattle.std.proofs.lemmas.List.{get_or-map, length-map}
-use Rattle.vx_arrow_columns.specs.declared.image.Need.{Need}
-use Rattle.vx_arrow_columns.specs.declared.image.Room.{Room}
-use Rattle.vx_arrow_columns.specs.declared.image.Node as image
+use Rattle.vx_arrow_image.specs.declared.image.Need.{Need}
+use Rattle.vx_arrow_image.specs.declared.image.Room.{Room}
+use Rattle.vx_arrow_image.specs.declared.image.Node as image
 use Rattle.vx_arrow_columns.specs.declared.places.Places.{Places}
 use Rattle.vx_arrow_columns.specs.declared.plan.Job.{Job}
 use Rattle.vx_arrow_columns.specs.declared.plan.Plan as plans
-use Rattle.vx_arrow_columns.specs.declared.refusal.Refusal.{Refusal}
-use Rattle.vx_arrow_columns.specs.declared.refusal.Refusal.TheVariants as refusals
-use Rattle.vx_arrow_columns.specs.Answer.{AreTaken, HaveRoom, IsPlanRefusal, IsRefusal, IsShort, MeansPicked}
-use Rattle.vx_arrow_columns.specs.Rows.{RowValue}
-use Rattle.vx_arrow_columns.specs.Image.{Part, column_in, part_of, parts_of}
-use Rattle.vx_arrow_columns.specs.Picks.{Picking, need_of, needs_by, picking_of, pickings, picks_of}
-use Rattle.vx_arrow_columns.specs.Planned.{IsPlanned, are_trees, first_len, picking_in}
-use Rattle.vx_arrow_columns.specs.Taken.{AreWithin, IsOwnTaken, IsReadable}
+use Rattle.vx_arrow_image.specs.declared.refusal.Refusal.{Refusal}
+use Rattle.vx_arrow_image.specs.declared.refusal.Refusal.TheVariants as refusals
+use Rattle.vx_arrow_columns.specs.Answer.{AreKeptSound, AreTaken, HaveRoom, IsPlanRefusal, IsRefusal, IsShort, MeansPicked}
+use Rattle.vx_arrow_image.specs.Rows.{RowValue}
+use Rattle.vx_arrow_image.specs.Image.{Part, column_in, part_of, parts_of}
+use Rattle.vx_arrow_columns.specs.Picks.{Picking, need_of, picking_of, pickings, is_union}
+use Rattle.vx_arrow_columns.specs.Planned.{IsPlanned, IsRead, are_trees, first_len, picking_in}
+use Rattle.vx_arrow_columns.specs.Taken.{AreWithin, IsTaken, IsReadable, AreFull}
 use Rattle.vx_arrow_columns.specs.Written.{has_room, written, written_by, written_part}
 use Rattle.vx_arrow_columns.proofs.Plans.{planned_at, planned_need}
-use Rattle.vx_arrow_columns.proofs.Trees.{AllTaken, column_len, picked_column, sound_column}
+use Rattle.vx_arrow_columns.proofs.PickedTrees.{picked_column}
+use Rattle.vx_arrow_columns.proofs.SoundTrees.{sound_column}
+use Rattle.vx_arrow_columns.proofs.Trees.{AllTaken, column_len}
 
 -- the rooms of the nodes before i are written, and the others are large enough
 pub record TakenTo (parts : List Part) (qs : List Picking) (needs : List Need) (i : ℕ) (rooms : List Room) : Type 0 where
-  pub taken : (k : ℕ) (d : Part) (q : Picking) (r : Room) → k < i → IsOwnTaken (get_or parts k d) (written_part (get_or parts k d) (get_or qs k q) (get_or rooms k r)) (get_or qs k q)
+  pub taken : (k : ℕ) (d : Part) (q : Picking) (r : Room) → k < i → IsTaken (get_or parts k d) (written_part (get_or parts k d) (get_or qs k q) (get_or rooms k r)) (get_or qs k q)
   pub room : (k : ℕ) (d : Need) (r : Room) → i ≤ k → k < length rooms → has_room (get_or needs k d) (get_or rooms k r) ≡ true
 
 pub none_taken : (parts : List Part) (qs : List Picking) (needs : List Need) (rooms : List Room) → HaveRoom needs rooms → TakenTo parts qs needs 0 rooms
@@ -35,17 +37,17 @@ any_default (x ∷ xs) zero d e h = refl
 any_default (x ∷ xs) (suc i) d e h = any_default xs i d e (omega arith)
 
 pub one_taken : (parts : List Part) (qs : List Picking) (needs : List Need) (i : ℕ) (rooms : List Room) (room : Room) (p : Part) (q : Picking) (e : Part) (f : Picking) → i < length parts → i < length qs → i < length rooms
-    → get_or parts i e ≡ p → get_or qs i f ≡ q → IsOwnTaken p (written_part p q room) q → TakenTo parts qs needs i rooms → TakenTo parts qs needs (i + 1) (set rooms i room)
+    → get_or parts i e ≡ p → get_or qs i f ≡ q → IsTaken p (written_part p q room) q → TakenTo parts qs needs i rooms → TakenTo parts qs needs (i + 1) (set rooms i room)
 one_taken parts qs needs i rooms room p q e f in_parts in_qs in_rooms at_p at_q own t = record {
-  taken = λ k d g r h. elim (cases_eq k i) as (λ _. IsOwnTaken (get_or parts k d) (written_part (get_or parts k d) (get_or qs k g) (get_or (set rooms i room) k r)) (get_or qs k g)) [
+  taken = λ k d g r h. elim (cases_eq k i) as (λ _. IsTaken (get_or parts k d) (written_part (get_or parts k d) (get_or qs k g) (get_or (set rooms i room) k r)) (get_or qs k g)) [
     | inl same ↦
         let P : get_or parts k d ≡ p = ap (λ n. get_or parts n d) same ∙ any_default parts i d e in_parts ∙ at_p in
         let Q : get_or qs k g ≡ q = ap (λ n. get_or qs n g) same ∙ any_default qs i g f in_qs ∙ at_q in
         let R : get_or (set rooms i room) k r ≡ room = ap (λ n. get_or (set rooms i room) n r) same ∙ get_or-set_same rooms i room r in_rooms in
-        subst (λ (x : Part). IsOwnTaken x (written_part x (get_or qs k g) (get_or (set rooms i room) k r)) (get_or qs k g)) (sym P)
-        (subst (λ (y : Picking). IsOwnTaken p (written_part p y (get_or (set rooms i room) k r)) y) (sym Q)
-        (subst (λ (z : Room). IsOwnTaken p (written_part p q z) q) (sym R) own))
-    | inr other ↦ subst (λ (z : Room). IsOwnTaken (get_or parts k d) (written_part (get_or parts k d) (get_or qs k g) z) (get_or qs k g)) (sym (get_or-set_other rooms i k room r other)) (t.taken k d g r (omega arith))
+        subst (λ (x : Part). IsTaken x (written_part x (get_or qs k g) (get_or (set rooms i room) k r)) (get_or qs k g)) (sym P)
+        (subst (λ (y : Picking). IsTaken p (written_part p y (get_or (set rooms i room) k r)) y) (sym Q)
+        (subst (λ (z : Room). IsTaken p (written_part p q z) q) (sym R) own))
+    | inr other ↦ subst (λ (z : Room). IsTaken (get_or parts k d) (written_part (get_or parts k d) (get_or qs k g) z) (get_or qs k g)) (sym (get_or-set_other rooms i k room r other)) (t.taken k d g r (omega arith))
   ];
   room = λ k d r l b.
       let other : k ≢ i = λ s. absurd (omega arith) in
@@ -71,15 +73,17 @@ some_room [] n h = absurd (omega arith)
 some_room (r ∷ rs) n h = r
 
 pub all_taken : (parts : List Part) (q : Picking) (needs : List Need) (i : ℕ) (rooms : List Room) → are_trees parts 1 ≡ true → length (pickings parts (q ∷ [])) ≡ length parts → length rooms ≡ length parts → length parts ≤ i
+    → ((k : ℕ) (d : Part) (r : Picking) → k < length parts → IsRead (get_or parts k d) (get_or (pickings parts (q ∷ [])) k r) (drop (k + 1) parts))
     → TakenTo parts (pickings parts (q ∷ [])) needs i rooms → AreTaken parts q rooms
-all_taken parts q needs i rooms tree same count all t =
+all_taken parts q needs i rooms tree same count all read t =
     let qs = pickings parts (q ∷ []) in
     record {
       tree = tree;
       len = written_len parts qs rooms same count;
       taken = λ k d e r h.
           let z = some_room rooms k (omega arith) in
-          subst (λ (w : Part). IsOwnTaken (get_or parts k d) w (get_or qs k r)) (sym (written_at parts qs rooms k d e r z same count h)) (t.taken k d r z (omega arith));
+          subst (λ (w : Part). IsTaken (get_or parts k d) w (get_or qs k r)) (sym (written_at parts qs rooms k d e r z same count h)) (t.taken k d r z (omega arith));
+      read = read;
     }
 
 -- ---- a node of a plan
@@ -98,12 +102,21 @@ own_from nodes ps vs plan i lists job own low same at is = record { low = low; j
 part_at : (nodes : List image.Node) (i : ℕ) (d : image.Node) → i < length nodes → get_or (parts_of nodes) i (part_of d) ≡ part_of (get_or nodes i d)
 part_at nodes i d h = get_or-map part_of nodes i d (part_of d) h
 
-pub node_readable : (nodes : List image.Node) (ps vs : List ℕ) (plan : plans.Plan) (i : ℕ) (d : image.Node) (own : Picking) → IsPlanned (parts_of nodes) ps vs plan → IsOwn nodes ps vs plan i own → IsReadable (part_of (get_or nodes i d)) own.picks
-node_readable nodes ps vs plan i d own planned o =
+pub node_readable : (nodes : List image.Node) (ps vs : List ℕ) (plan : plans.Plan) (i : ℕ) (d : image.Node) (own : Picking) → IsPlanned (parts_of nodes) ps vs plan → IsOwn nodes ps vs plan i own → own.kept ≡ false → IsReadable (part_of (get_or nodes i d)) own.picks
+node_readable nodes ps vs plan i d own planned o bare =
     let low = o.low in
+    let read = planned.read i o.job (part_of d) (omega (arith, planned.len, length-map nodes part_of)) in
+    let q : picking_in ps vs plan.lists.items (get_or plan.jobs.items i o.job) ≡ own = ap (picking_in ps vs plan.lists.items) o.at ∙ sym o.is in
     subst (λ (p : Part). IsReadable p own.picks) (part_at nodes i d low)
-    (subst (λ (q : Picking). IsReadable (get_or (parts_of nodes) i (part_of d)) q.picks) (ap (picking_in ps vs plan.lists.items) o.at ∙ sym o.is)
-    (planned.readable i o.job (part_of d) (omega (arith, planned.len, length-map nodes part_of))))
+    (subst (λ (r : Picking). IsReadable (get_or (parts_of nodes) i (part_of d)) r.picks) q
+    (read.readable (ap (λ (r : Picking). r.kept) q ∙ bare)))
+
+-- each node of a plan can be read at its picks
+pub all_read : (parts : List Part) (ps vs : List ℕ) (plan : plans.Plan) → IsPlanned parts ps vs plan
+    → (k : ℕ) (d : Part) (r : Picking) → k < length parts → IsRead (get_or parts k d) (get_or (pickings parts (picking_of ps vs 0 ∷ [])) k r) (drop (k + 1) parts)
+all_read parts ps vs plan planned k d r h =
+    let job : Job = record { list = None; add = 0; end = 0; kept = false } in
+    subst (λ (q : Picking). IsRead (get_or parts k d) q (drop (k + 1) parts)) (sym (planned_at parts ps vs plan k job r planned h)) (planned.read k job d (omega (arith, planned.len)))
 
 pub node_room : (nodes : List image.Node) (ps vs : List ℕ) (plan : plans.Plan) (rooms : List Room) (i : ℕ) (d : image.Node) (n : Need) (r : Room) (own : Picking) → IsPlanned (parts_of nodes) ps vs plan → IsOwn nodes ps vs plan i own
     → has_room (get_or plan.needs.items i n) (get_or rooms i r) ≡ true → has_room (need_of (part_of (get_or nodes i d)) own) (get_or rooms i r) ≡ true
@@ -114,7 +127,7 @@ node_room nodes ps vs plan rooms i d n r own planned o room =
     ∙ ap₂ need_of (part_at nodes i d low) (ap (picking_in ps vs plan.lists.items) o.at ∙ sym o.is))) ∙ room
 
 pub node_taken : (nodes : List image.Node) (ps vs : List ℕ) (plan : plans.Plan) (rooms : List Room) (room : Room) (i : ℕ) (d : image.Node) (own : Picking) → IsPlanned (parts_of nodes) ps vs plan → IsOwn nodes ps vs plan i own → i < length rooms
-    → IsOwnTaken (part_of (get_or nodes i d)) (written_part (part_of (get_or nodes i d)) own room) own → TakenTo (parts_of nodes) (pickings (parts_of nodes) (picking_of ps vs 0 ∷ [])) plan.needs.items i rooms
+    → IsTaken (part_of (get_or nodes i d)) (written_part (part_of (get_or nodes i d)) own room) own → TakenTo (parts_of nodes) (pickings (parts_of nodes) (picking_of ps vs 0 ∷ [])) plan.needs.items i rooms
     → TakenTo (parts_of nodes) (pickings (parts_of nodes) (picking_of ps vs 0 ∷ [])) plan.needs.items (i + 1) (set rooms i room)
 node_taken nodes ps vs plan rooms room i d own planned o in_rooms taken t =
     let parts = parts_of nodes in
@@ -128,26 +141,27 @@ node_taken nodes ps vs plan rooms room i d own planned o in_rooms taken t =
 -- ---- the whole table
 
 every : (parts : List Part) (q : Picking) (rooms : List Room) → AreTaken parts q rooms → AllTaken parts (written parts q rooms) (q ∷ [])
-every parts q rooms a = record { len = a.len; taken = a.taken }
+every parts q rooms a = record { len = a.len; taken = a.taken; inside = λ k d r h own. let read = a.read k d r h in read.inside own }
 
 rows_first : (nodes : List image.Node) (rows : List RowValue) → column_in (parts_of nodes) ≡ Some rows → length rows ≡ first_len nodes
 rows_first [] rows e = absurd (let f : None ≡ Some rows = e in cc)
 rows_first (n ∷ nodes) rows e = column_len (part_of n) (parts_of nodes) rows e
 
-pub means_picked : (nodes : List image.Node) (q : Picking) (rooms : List Room) → AreTaken (parts_of nodes) q rooms → AreWithin q.picks (first_len nodes) → MeansPicked (parts_of nodes) q rooms
-means_picked nodes q rooms a w = record {
+pub means_picked : (nodes : List image.Node) (q : Picking) (rooms : List Room) → q.kept ≡ false → (is_union (parts_of nodes) ≡ true → AreFull q.picks) → AreTaken (parts_of nodes) q rooms → AreWithin q.picks (first_len nodes) → MeansPicked (parts_of nodes) q rooms
+means_picked nodes q rooms own full a w = record {
   within = λ rows e. subst (λ (n : ℕ). AreWithin q.picks n) (sym (rows_first nodes rows e)) w;
-  picked = λ rows e. picked_column (parts_of nodes) (written (parts_of nodes) q rooms) q rows e (every (parts_of nodes) q rooms a);
+  picked = λ rows e. picked_column (parts_of nodes) (written (parts_of nodes) q rooms) q rows own full e (every (parts_of nodes) q rooms a);
 }
 
-pub means_some : (parts : List Part) (q : Picking) (rooms : List Room) → AreTaken parts q rooms → IsSome (column_in (written parts q rooms))
-means_some parts q rooms a = let there = sound_column parts (written parts q rooms) q a.tree (every parts q rooms a) in ap is_some there.1
+pub means_some : (parts : List Part) (q : Picking) (rooms : List Room) → AreTaken parts q rooms → AreKeptSound parts q → IsSome (column_in (written parts q rooms))
+means_some parts q rooms a kept = let there = sound_column parts (written parts q rooms) q a.tree (every parts q rooms a) (record { sound = kept.sound }) in ap is_some there.1
 
 -- ---- refusals
 
-pub refused_by : (nodes : List image.Node) (q : Picking) (rooms : List Room) (refusal : Refusal) → IsPlanRefusal q (first_len nodes) refusal → IsRefusal (parts_of nodes) q rooms refusal
+pub refused_by : (nodes : List image.Node) (q : Picking) (rooms : List Room) (refusal : Refusal) → IsPlanRefusal q (first_len nodes) (is_union (parts_of nodes)) refusal → IsRefusal (parts_of nodes) q rooms refusal
 refused_by nodes q rooms (refusals.NoMeaning node lack) h = tt
 refused_by nodes q rooms refusals.Beyond h = λ rows e w. h (subst (λ (n : ℕ). AreWithin q.picks n) (rows_first nodes rows e) w)
+refused_by nodes q rooms refusals.NullPick h = h
 refused_by nodes q rooms (refusals.Room node) h = absurd h
 refused_by nodes q rooms (refusals.Overflow node) h = tt
 refused_by nodes q rooms refusals.NoMemory h = tt

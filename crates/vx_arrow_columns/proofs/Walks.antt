@@ -1,19 +1,19 @@
 -- Walks over a table, one node at a time.
-use Rattle.std.proofs.Common.{zero, suc, ◌≡◌, ℕ, ◌+◌, ◌-◌, ◌<◌, ◌≤◌, Bool, true, false, List, [], ◌∷◌, ◌++◌, length, get_or, take, drop, map, reverse, Option, Some, None, ap, ap₂, sym, ◌∙◌, refl, subst, inl, inr, arith, append_assoc, length-append}
+use Rattle.std.proofs.Common.{zero, suc, ◌≡◌, ℕ, ◌+◌, ◌-◌, ◌<◌, ◌≤◌, false, cond, List, [], ◌∷◌, ◌++◌, length, get_or, drop, map, reverse, Option, Some, None, ap, ap₂, sym, ◌∙◌, refl, subst, inl, inr, arith, append_assoc, length-append}
 use Rattle.std.specs.Prelude.{replicate}
 use Rattle.std.specs.List.{All}
-use Rattle.std.proofs.lemmas.Bool.{cases_eq, cases_lt}
-use Rattle.std.proofs.lemmas.List.{append-nil, reverse-append, length-replicate, map-append, drop_all, drop_more, get_or_append_left, get_or-append_right, get_or-map, length-map}
+use Rattle.std.proofs.lemmas.Bool.{cases_lt}
+use Rattle.std.proofs.lemmas.List.{reverse-append, length-replicate, map-append, drop_more, get_or_append_left, get_or-append_right, length-map, length-drop}
 use Rattle.std.proofs.lemmas.List.Elements.{All-append, All-replicate, All-weaker, All-get_or, All-push, All-nil, All-cons, All-head, All-tail, All-same}
-use Rattle.vx_arrow_columns.specs.declared.image.Node as image
-use Rattle.vx_arrow_columns.specs.declared.image.Need.{Need}
+use Rattle.vx_arrow_image.specs.declared.image.Node as image
+use Rattle.vx_arrow_image.specs.declared.image.Need.{Need}
 use Rattle.vx_arrow_columns.specs.declared.places.Places.{Places}
 use Rattle.vx_arrow_columns.specs.declared.plan.Job as jobs
 use Rattle.vx_arrow_columns.specs.declared.plan.Walk as walks
-use Rattle.vx_arrow_columns.specs.Image.{Part, part_of}
-use Rattle.vx_arrow_columns.specs.Picks.{Picking, inner, need_of, needs_by, picking_of, pickings}
-use Rattle.vx_arrow_columns.specs.Planned.{IsListed, IsNext, IsSound, IsStart, IsVisited, IsWalking, are_trees, picking_by, picking_in, places_in, valid_in}
-use Rattle.vx_arrow_columns.specs.Taken.{AreWithin, IsReadable}
+use Rattle.vx_arrow_image.specs.Image.{Part, part_of, parts_of}
+use Rattle.vx_arrow_columns.specs.Picks.{Picking, all_rows, below, need_of, needs_by, picking_of, pickings}
+use Rattle.vx_arrow_columns.specs.Planned.{IsListed, IsRead, IsSound, IsStart, IsVisited, IsWalking, are_trees, picking_by, picking_in, places_in, valid_in}
+use Rattle.vx_arrow_columns.specs.Taken.{AreWithin}
 
 -- ---- jobs keep their picks as lists are added
 
@@ -33,7 +33,8 @@ kept_by ps vs ls more (Some k) add h = ap₂ (λ (a : List ℕ) (b : List ℕ). 
 
 pub kept_job : (ps vs : List ℕ) (ls more new : List Places) (job : jobs.Job) → new ≡ ls ++ more → IsListed job (length ls) → picking_in ps vs new job ≡ picking_in ps vs ls job
 unfolding picking_in
-kept_job ps vs ls more new job e h = ap (λ (l : List Places). picking_by ps vs l job.list job.add) e ∙ kept_by ps vs ls more job.list job.add h
+kept_job ps vs ls more new job e h =
+    ap (λ (l : List Places). cond job.kept all_rows (picking_by ps vs l job.list job.add)) e ∙ ap (cond job.kept all_rows) (kept_by ps vs ls more job.list job.add h)
 
 pub kept_jobs : (ps vs : List ℕ) (ls more new : List Places) (js : List jobs.Job) → new ≡ ls ++ more → All (λ job. IsListed job (length ls)) js → map (picking_in ps vs new) js ≡ map (picking_in ps vs ls) js
 kept_jobs ps vs ls more new [] e h = refl
@@ -63,21 +64,21 @@ pub record WalkIs (parts : List Part) (ps vs : List ℕ) (i : ℕ) (w : walks.Wa
   pub needs : needs_by parts (pickings parts (picking_of ps vs 0 ∷ []))
       ≡ w.needs.items ++ needs_by (drop i parts) (pickings (drop i parts) (map (picking_in ps vs w.lists.items) (reverse w.stack.items)))
   pub listed : All (λ job. IsListed job (length w.lists.items)) w.jobs.items
-  pub readable : (k : ℕ) (d : jobs.Job) (e : Part) → k < length w.jobs.items → IsReadable (get_or parts k e) (picking_in ps vs w.lists.items (get_or w.jobs.items k d)).picks
+  pub read : (k : ℕ) (d : jobs.Job) (e : Part) → k < length w.jobs.items → IsRead (get_or parts k e) (picking_in ps vs w.lists.items (get_or w.jobs.items k d)) (drop (k + 1) parts)
   pub walking : IsWalking ps vs w
 
-root_within : (ps vs : List ℕ) (ls : List Places) (end : ℕ) → AreWithin (picking_of ps vs 0).picks end → IsSound ps vs ls (record { list = None; add = 0; end = end })
+root_within : (ps vs : List ℕ) (ls : List Places) (end : ℕ) → AreWithin (picking_of ps vs 0).picks end → IsSound ps vs ls (record { list = None; add = 0; end = end; kept = false })
 unfolding picking_in
 root_within ps vs ls end w = record { listed = λ k e. absurd (let f : None ≡ Some k = e in cc); within = w }
 
-root_is : (ps vs : List ℕ) (ls : List Places) (end : ℕ) → picking_in ps vs ls (record { list = None; add = 0; end = end }) ≡ picking_of ps vs 0
+root_is : (ps vs : List ℕ) (ls : List Places) (end : ℕ) → picking_in ps vs ls (record { list = None; add = 0; end = end; kept = false }) ≡ picking_of ps vs 0
 unfolding picking_in
 root_is ps vs ls end = refl
 
 pub first_walk : (parts : List Part) (ps vs : List ℕ) (end : ℕ) (w : walks.Walk) → 0 < length parts → IsStart end w → AreWithin (picking_of ps vs 0).picks end → WalkIs parts ps vs 0 w
 first_walk parts ps vs end w some s within =
     let J = picking_in ps vs w.lists.items in
-    let root : jobs.Job = record { list = None; add = 0; end = end } in
+    let root : jobs.Job = record { list = None; add = 0; end = end; kept = false } in
     let stack : map J (reverse w.stack.items) ≡ picking_of ps vs 0 ∷ [] = ap (λ (l : List jobs.Job). map J (reverse l)) s.stack ∙ ap (λ (q : Picking). q ∷ []) (root_is ps vs w.lists.items end) in
     record {
       done = ap length s.jobs;
@@ -86,7 +87,7 @@ first_walk parts ps vs end w some s within =
       walk = sym (ap₂ (λ (l : List jobs.Job) (q : List Picking). map J l ++ pickings parts q) s.jobs stack);
       needs = sym (ap₂ (λ (l : List Need) (q : List Picking). l ++ needs_by parts (pickings parts q)) s.needs stack);
       listed = All-same (λ job. IsListed job (length w.lists.items)) w.jobs.items [] s.jobs (All-nil (λ job. IsListed job (length w.lists.items)));
-      readable = λ k d e h. absurd (omega (arith, ap length s.jobs));
+      read = λ k d e h. absurd (omega (arith, ap length s.jobs));
       walking = All-same (IsSound ps vs w.lists.items) w.stack.items (root ∷ []) s.stack (All-cons (IsSound ps vs w.lists.items) root [] (root_within ps vs w.lists.items end within) (All-nil (IsSound ps vs w.lists.items)));
     }
 
@@ -113,9 +114,9 @@ popped_sound ps vs ls stack (r ∷ rest) job e h =
     let inside = popped_sound ps vs ls (rest ++ job ∷ []) rest job refl (All-tail (IsSound ps vs ls) r (rest ++ job ∷ []) all) in
     (All-cons (IsSound ps vs ls) r rest (All-head (IsSound ps vs ls) r (rest ++ job ∷ []) all) inside.0, inside.1)
 
-next_stack : (ps vs : List ℕ) (node : image.Node) (old new : walks.Walk) (v : (behind : ℕ) × IsVisited ps vs node behind old new) → IsWalking ps vs old
+next_stack : (ps vs : List ℕ) (node : image.Node) (old new : walks.Walk) (v : (behind : List image.Node) × IsVisited ps vs node behind old new) → IsWalking ps vs old
     → map (picking_in ps vs new.lists.items) (reverse new.stack.items)
-    ≡ replicate node.children (inner (part_of node) (picking_in ps vs old.lists.items v.1.job)) ++ map (picking_in ps vs old.lists.items) (reverse v.1.rest)
+    ≡ replicate node.children (below (part_of node) (picking_in ps vs old.lists.items v.1.job)) ++ map (picking_in ps vs old.lists.items) (reverse v.1.rest)
 next_stack ps vs node old new v walking =
     let V = v.1 in
     let J = picking_in ps vs old.lists.items in
@@ -125,7 +126,7 @@ next_stack ps vs node old new v walking =
     ap (λ (l : List jobs.Job). map J' (reverse l)) V.stack
     ∙ ap (map J') (reverse-append V.rest (replicate node.children V.next) ∙ ap (λ (l : List jobs.Job). l ++ reverse V.rest) (reverse_many node.children V.next))
     ∙ map-append J' (replicate node.children V.next) (reverse V.rest)
-    ∙ ap₂ ◌++◌ (map_many J' node.children V.next ∙ V.next_is.picks ps vs V.readable.within V.inner_is)
+    ∙ ap₂ ◌++◌ (map_many J' node.children V.next ∙ V.next_is.picks ps vs V.read.within V.inner_is)
     (back ps vs old.lists.items V.next_is.more new.lists.items V.rest V.next_is.grown all)
   where
     back : (ps vs : List ℕ) (ls more new : List Places) (js : List jobs.Job) → new ≡ ls ++ more → All (λ job. IsListed job (length ls)) js
@@ -138,8 +139,8 @@ next_stack ps vs node old new v walking =
             All-same P (reverse (x ∷ xs)) (reverse xs ++ x ∷ []) (reverse-append (x ∷ []) xs)
             (All-append P (reverse xs) (x ∷ []) (turned P xs (All-tail P x xs h)) (All-cons P x [] (All-head P x xs h) (All-nil P)))
 
-pub next_walk : (parts : List Part) (ps vs : List ℕ) (i m : ℕ) (node : image.Node) (d : Part) (behind : ℕ) (old new : walks.Walk) → WalkIs parts ps vs i old → IsVisited ps vs node behind old new
-    → i < length parts → get_or parts i d ≡ part_of node → behind ≡ length parts - i - 1 → m ≡ i + 1 → WalkIs parts ps vs m new
+pub next_walk : (parts : List Part) (ps vs : List ℕ) (i m : ℕ) (node : image.Node) (d : Part) (behind : List image.Node) (old new : walks.Walk) → WalkIs parts ps vs i old → IsVisited ps vs node behind old new
+    → i < length parts → get_or parts i d ≡ part_of node → parts_of behind ≡ drop (i + 1) parts → m ≡ i + 1 → WalkIs parts ps vs m new
 next_walk parts ps vs i m node d behind old new w V low at left step =
     let p = part_of node in
     let J = picking_in ps vs old.lists.items in
@@ -160,6 +161,7 @@ next_walk parts ps vs i m node d behind old new w V low at left step =
     let count : length new.stack.items ≡ length V.rest + node.children = ap length V.stack ∙ length-append V.rest (replicate node.children V.next) ∙ ap (λ n. length V.rest + n) (length-replicate node.children V.next) in
     let was : length old.stack.items ≡ suc (length V.rest) = ap length V.popped ∙ length-append V.rest (V.job ∷ []) ∙ (let e : length V.rest + 1 ≡ suc (length V.rest) = omega arith in e) in
     let fewer = V.few in
+    let rest : length behind ≡ length parts - (i + 1) = sym (length-map behind part_of) ∙ ap length left ∙ length-drop (i + 1) parts in
     let done : length new.jobs.items ≡ i + 1 = ap length V.jobs ∙ length-append old.jobs.items (V.job ∷ []) ∙ ap (λ n. n + 1) w.done in
     record {
       done = done ∙ sym step;
@@ -175,27 +177,29 @@ next_walk parts ps vs i m node d behind old new w V low at left step =
           (All-push (λ job. IsListed job (length new.lists.items)) old.jobs.items V.job
           (All-weaker (λ job. IsListed job (length old.lists.items)) (λ job. IsListed job (length new.lists.items)) (λ j h. still_listed j _ _ longer h) old.jobs.items w.listed)
           (still_listed V.job _ _ longer both.1.listed));
-      readable = λ k g e h. elim (cases_lt k i) as (λ _. IsReadable (get_or parts k e) (J' (get_or new.jobs.items k g)).picks) [
+      read = λ k g e h. elim (cases_lt k i) as (λ _. IsRead (get_or parts k e) (J' (get_or new.jobs.items k g)) (drop (k + 1) parts)) [
         | inl before ↦
             let here : k < length old.jobs.items = omega (arith, w.done) in
             let old_job : get_or new.jobs.items k g ≡ get_or old.jobs.items k g = ap (λ (l : List jobs.Job). get_or l k g) V.jobs ∙ get_or_append_left old.jobs.items (V.job ∷ []) g k here in
-            subst (λ (q : Picking). IsReadable (get_or parts k e) q.picks)
+            subst (λ (q : Picking). IsRead (get_or parts k e) q (drop (k + 1) parts))
             (sym (ap J' old_job ∙ kept_job ps vs old.lists.items more new.lists.items (get_or old.jobs.items k g) grown (All-get_or (λ job. IsListed job (length old.lists.items)) old.jobs.items k g here w.listed)))
-            (w.readable k g e here)
+            (w.read k g e here)
         | inr after ↦
             let now : k ≡ i = omega arith in
             let new_job : get_or new.jobs.items k g ≡ V.job = ap (λ (l : List jobs.Job). get_or l k g) V.jobs ∙ get_or-append_right old.jobs.items (V.job ∷ []) (length old.jobs.items) k g refl (omega (arith, w.done))
             ∙ ap (λ n. get_or (V.job ∷ []) n g) (let z : k - length old.jobs.items ≡ 0 = omega (arith, w.done) in z) in
             let this : get_or parts k e ≡ p = ap (λ n. get_or parts n e) now ∙ any_default parts i e d low ∙ at in
-            subst (λ (q : Picking). IsReadable (get_or parts k e) q.picks) (sym (ap J' new_job ∙ same))
-            (subst (λ (r : Part). IsReadable r (J V.job).picks) (sym this) V.readable)
+            let tail : parts_of behind ≡ drop (k + 1) parts = left ∙ ap (λ n. drop (n + 1) parts) (sym now) in
+            subst (λ (q : Picking). IsRead (get_or parts k e) q (drop (k + 1) parts)) (sym (ap J' new_job ∙ same))
+            (subst (λ (r : Part). IsRead r (J V.job) (drop (k + 1) parts)) (sym this)
+            (subst (λ (l : List Part). IsRead p (J V.job) l) tail V.read))
       ];
       walking = All-same (IsSound ps vs new.lists.items) new.stack.items (V.rest ++ replicate node.children V.next) V.stack
           (All-append (IsSound ps vs new.lists.items) V.rest (replicate node.children V.next)
           (All-weaker (IsSound ps vs old.lists.items) (IsSound ps vs new.lists.items) (λ j s. still_sound ps vs old.lists.items more new.lists.items j grown s) V.rest both.0)
           (All-replicate (IsSound ps vs new.lists.items) node.children V.next (record {
             listed = V.next_is.listed both.1.listed;
-            within = V.next_is.within ps vs both.1.within V.readable.within V.inner_is;
+            within = V.next_is.within ps vs both.1.within V.read.within V.inner_is;
           })));
     }
   where

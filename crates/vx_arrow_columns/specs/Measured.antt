@@ -1,12 +1,12 @@
 -- What the tests of one node at picks find.
-use Rattle.std.specs.Prelude.{ℕ, ◌<◌, ◌≡◌, List, [], length, slice_index_or, Option, Some}
-use Rattle.vx_arrow_columns.specs.declared.format.Format.TheVariants.{Struct}
-use Rattle.vx_arrow_columns.specs.declared.format.Offsets.{Offsets}
+use Rattle.std.specs.Option.{option_map}
+use Rattle.std.specs.Prelude.{ℕ, ◌+◌, ◌^◌, ◌<◌, ◌≡◌, false, List, length, slice_index_or, Option, Some, map}
+use Rattle.vx_arrow_image.specs.declared.format.Offsets.{Offsets}
 use Rattle.vx_arrow_columns.specs.declared.needs.Inner.{Inner}
 use Rattle.vx_arrow_columns.specs.declared.needs.Inner.TheVariants as inners
 use Rattle.vx_arrow_columns.specs.declared.needs.Measure as measures
-use Rattle.vx_arrow_columns.specs.Image.{Part, limit_of}
-use Rattle.vx_arrow_columns.specs.Picks.{Picking, picking_of, picks_of, fixed_item, inner, items_len, items_of, values_len}
+use Rattle.vx_arrow_image.specs.Image.{Part, limit_of}
+use Rattle.vx_arrow_columns.specs.Picks.{Picking, all_rows, below, picking_of, picks_of, fixed_item, items_len, items_of, values_len, inner}
 use Rattle.vx_arrow_columns.specs.Taken.{AreCutAt, AreWithin, IsReadable}
 
 -- n bytes are the texts at picks, and can be counted
@@ -35,15 +35,26 @@ pub record AreItemPlaces (p : Part) (q : List (Option ℕ)) (n : ℕ) (places : 
 -- the picks of the only child are at these places, all below the end
 pub record AreListed (p : Part) (q : Picking) (places valid : List ℕ) (end : ℕ) : Type 0 where
   pub one : p.children ≡ 1
-  pub listed : inner p q ≡ picking_of places valid 0
+  pub listed : below p q ≡ picking_of places valid 0
   pub within : AreWithin (picks_of places valid 0) end
+
+-- picks so far further on
+abbrev pub moved : ℕ → Picking → Picking
+moved by q =
+    record {
+      picks = map (option_map (λ i. by + i)) q.picks;
+      nullable = q.nullable;
+      kept = false;
+    }
 
 -- the picks of the children are these
 abbrev pub IsInner : Part → Picking → Inner → Type 0
 IsInner p q inners.Leaf = p.children ≡ 0
-IsInner p q inners.Same = p.format ≡ Some Struct
+IsInner p q inners.Same =
+    (inner p q ≡ moved p.offset q) × (q.kept ≡ false) × (p.offset + p.len < 2 ^ 60)
 IsInner p q (inners.Listed items) =
     AreListed p q items.list.places.items items.list.valid.items items.end
+IsInner p q inners.Kept = below p q ≡ all_rows
 
 -- so many bytes of values, of a node that has no children
 pub record IsLeaf (p : Part) (values : ℕ) (m : measures.Measure) : Type 0 where

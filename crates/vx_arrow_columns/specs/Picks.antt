@@ -1,17 +1,18 @@
 -- Picks of a column's rows, of its children's, and what the rows at them need.
-use Rattle.std.specs.Prelude.{ℕ, ◌+◌, ◌-◌, ◌*◌, ◌/◌, ◌%◌, ◌^◌, Bool, true, false, ◌&&◌, ◌||◌, List, [], ◌∷◌, ◌++◌, map, length, replicate, slice_index, slice_index_or, ◌==◌, nat_lt, if◌then◌else◌, Option, Some, None}
+use Rattle.std.specs.Prelude.{ℕ, ◌+◌, ◌-◌, ◌*◌, ◌/◌, ◌%◌, ◌^◌, Bool, true, false, ◌&&◌, ◌||◌, List, [], ◌∷◌, ◌++◌, map, length, replicate, slice_index, slice_index_or, nat_lt, if◌then◌else◌, Option, Some, None}
 use Rattle.std.specs.List.{range_with_len, flat_map, sum_by}
 use Rattle.std.specs.Option.{option_map}
-use Rattle.vx_arrow_columns.specs.declared.format.Format.{Format}
-use Rattle.vx_arrow_columns.specs.declared.format.Format.TheVariants.{Nulls, Bits, Fixed, Text, Struct, List as Lists, FixedList}
-use Rattle.vx_arrow_columns.specs.declared.format.Offsets.{Offsets}
-use Rattle.vx_arrow_columns.specs.declared.image.Need as image
-use Rattle.vx_arrow_columns.specs.Image.{Part, is_valid, offset_at, size_of, limit_of}
+use Rattle.vx_arrow_image.specs.declared.format.Format.{Format}
+use Rattle.vx_arrow_image.specs.declared.format.Format.TheVariants.{Nulls, Bits, Fixed, Text, Struct, List as Lists, FixedList, TextView, ListView, Union}
+use Rattle.vx_arrow_image.specs.declared.format.Offsets.{Offsets}
+use Rattle.vx_arrow_image.specs.declared.image.Need as image
+use Rattle.vx_arrow_image.specs.Image.{Part, is_valid, offset_at, size_of, limit_of}
 
--- picks, and whether bits say which of them are null
+-- picks, and whether bits say which of them are null; or all rows as they stand, which are kept
 pub record Picking : Type 0 where
   pub picks : List (Option ℕ)
   pub nullable : Bool
+  pub kept : Bool
 
 abbrev pub has_bits : List ℕ → Bool
 has_bits [] = false
@@ -28,7 +29,11 @@ picks_of places valid add = map (pick_at places valid add) (range_with_len 0 (le
 -- the picks that places and bits of the caller's say
 abbrev pub picking_of : List ℕ → List ℕ → ℕ → Picking
 picking_of places valid add =
-    record { picks = picks_of places valid add; nullable = has_bits valid }
+    record { picks = picks_of places valid add; nullable = has_bits valid; kept = false }
+
+-- the rows of a node that is kept, with all below it
+abbrev pub all_rows : Picking
+all_rows = record { picks = []; nullable = false; kept = true }
 
 -- ---- the picks of the children
 
@@ -75,6 +80,9 @@ inner_picks (Some (Text z)) p q = []
 inner_picks (Some Struct) p q = map (option_map (λ i. p.offset + i)) q
 inner_picks (Some (Lists z)) p q = map Some (items_of z p q)
 inner_picks (Some FixedList) p q = fixed_items p q
+inner_picks (Some TextView) p q = []
+inner_picks (Some (ListView z)) p q = []
+inner_picks (Some Union) p q = map (option_map (λ i. p.offset + i)) q
 
 abbrev pub inner_nullable : Option Format → Bool → Bool
 inner_nullable None b = false
@@ -85,19 +93,59 @@ inner_nullable (Some (Text z)) b = false
 inner_nullable (Some Struct) b = b
 inner_nullable (Some (Lists z)) b = false
 inner_nullable (Some FixedList) b = b
+inner_nullable (Some TextView) b = false
+inner_nullable (Some (ListView z)) b = false
+inner_nullable (Some Union) b = b
 
+-- whether the children of a node are kept
+abbrev pub keeps : Option Format → Bool
+keeps None = false
+keeps (Some Nulls) = false
+keeps (Some Bits) = false
+keeps (Some Fixed) = false
+keeps (Some (Text z)) = false
+keeps (Some Struct) = false
+keeps (Some (Lists z)) = false
+keeps (Some FixedList) = false
+keeps (Some TextView) = true
+keeps (Some (ListView z)) = true
+keeps (Some Union) = false
+
+-- whether the rows are those of a union, which are never null
+abbrev pub tags : Option Format → Bool
+tags None = false
+tags (Some Nulls) = false
+tags (Some Bits) = false
+tags (Some Fixed) = false
+tags (Some (Text z)) = false
+tags (Some Struct) = false
+tags (Some (Lists z)) = false
+tags (Some FixedList) = false
+tags (Some TextView) = false
+tags (Some (ListView z)) = false
+tags (Some Union) = true
+
+abbrev pub is_union : List Part → Bool
+is_union [] = false
+is_union (p ∷ ps) = tags p.format
+
+-- the picks of each child of a node that isn't kept itself
 abbrev pub inner : Part → Picking → Picking
 inner p q =
     record {
       picks = inner_picks p.format p q.picks;
       nullable = inner_nullable p.format q.nullable;
+      kept = keeps p.format;
     }
+
+abbrev pub below : Part → Picking → Picking
+below p q = if q.kept then all_rows else inner p q
 
 -- the picks of each node of a table of trees, of which the first ones have these picks
 abbrev pub pickings : List Part → List Picking → List Picking
 pickings [] qs = []
 pickings (p ∷ ps) [] = []
-pickings (p ∷ ps) (q ∷ qs) = q ∷ pickings ps (replicate p.children (inner p q) ++ qs)
+pickings (p ∷ ps) (q ∷ qs) = q ∷ pickings ps (replicate p.children (below p q) ++ qs)
 
 -- ---- what the rows at picks need
 
@@ -114,6 +162,9 @@ shows_by (Some (Text z)) b = b
 shows_by (Some Struct) b = b
 shows_by (Some (Lists z)) b = b
 shows_by (Some FixedList) b = b
+shows_by (Some TextView) b = b
+shows_by (Some (ListView z)) b = b
+shows_by (Some Union) b = false
 
 abbrev pub shows_valid : Part → Picking → Bool
 shows_valid p q = shows_by p.format (has_bits p.valid || q.nullable)
@@ -127,6 +178,22 @@ offsets_len (Some (Text z)) n = size_of z * (n + 1)
 offsets_len (Some Struct) n = 0
 offsets_len (Some (Lists z)) n = size_of z * (n + 1)
 offsets_len (Some FixedList) n = 0
+offsets_len (Some TextView) n = 0
+offsets_len (Some (ListView z)) n = size_of z * n
+offsets_len (Some Union) n = 0
+
+abbrev pub sizes_len : Option Format → Part → ℕ → ℕ
+sizes_len None p n = 0
+sizes_len (Some Nulls) p n = 0
+sizes_len (Some Bits) p n = 0
+sizes_len (Some Fixed) p n = 0
+sizes_len (Some (Text z)) p n = 0
+sizes_len (Some Struct) p n = 0
+sizes_len (Some (Lists z)) p n = 0
+sizes_len (Some FixedList) p n = 0
+sizes_len (Some TextView) p n = 0
+sizes_len (Some (ListView z)) p n = size_of z * n
+sizes_len (Some Union) p n = p.children
 
 abbrev pub values_len : Option Format → Part → List (Option ℕ) → ℕ
 values_len None p q = 0
@@ -137,17 +204,27 @@ values_len (Some (Text z)) p q = items_len z p q
 values_len (Some Struct) p q = 0
 values_len (Some (Lists z)) p q = 0
 values_len (Some FixedList) p q = 0
+values_len (Some TextView) p q = 16 * length q
+values_len (Some (ListView z)) p q = 0
+values_len (Some Union) p q = length q
 
 -- how many rows a node has at these picks, and how many bytes they are
-abbrev pub need_of : Part → Picking → image.Need
-need_of p q =
+abbrev pub own_need : Part → Picking → image.Need
+own_need p q =
     record {
       len = length q.picks;
       valid = if shows_valid p q then bytes_for (length q.picks) else 0;
       offsets = offsets_len p.format (length q.picks);
       values = values_len p.format p q.picks;
-      sizes = 0;
+      sizes = sizes_len p.format p (length q.picks);
     }
+
+-- no bytes are needed for rows that are kept
+abbrev pub kept_need : Part → image.Need
+kept_need p = record { len = p.len; valid = 0; offsets = 0; values = 0; sizes = 0 }
+
+abbrev pub need_of : Part → Picking → image.Need
+need_of p q = if q.kept then kept_need p else own_need p q
 
 abbrev pub needs_by : List Part → List Picking → List image.Need
 needs_by [] qs = []
@@ -169,6 +246,9 @@ counts_by (Some (Text z)) p q = nat_lt (items_len z p q) (limit_of z)
 counts_by (Some Struct) p q = true
 counts_by (Some (Lists z)) p q = nat_lt (items_len z p q) (limit_of z)
 counts_by (Some FixedList) p q = nat_lt (length q * p.width) (2 ^ 60)
+counts_by (Some TextView) p q = nat_lt (16 * length q) (2 ^ 63)
+counts_by (Some (ListView z)) p q = true
+counts_by (Some Union) p q = true
 
 unfoldable pub is_counted : Part → List (Option ℕ) → Bool
 is_counted p q = nat_lt (length q) (2 ^ 60) && counts_by p.format p q

@@ -1,17 +1,26 @@
 -- Walks over a table, and the plan that they leave.
 use Rattle.std.specs.List.{All}
-use Rattle.std.specs.Prelude.{ℕ, ◌+◌, ◌<◌, ◌≤◌, ◌≡◌, ◌==◌, Bool, true, false, zero, suc, List, [], ◌∷◌, ◌++◌, map, drop, length, replicate, reverse, slice_index_or, Option, Some, None}
-use Rattle.vx_arrow_columns.specs.declared.image.Node as image
+use Rattle.std.specs.Prelude.{ℕ, ◌+◌, ◌<◌, ◌≤◌, ◌≡◌, ◌==◌, Bool, true, false, zero, suc, List, [], ◌∷◌, ◌++◌, map, take, drop, length, replicate, slice_index_or, if◌then◌else◌, Option, Some, None}
+use Rattle.vx_arrow_image.specs.declared.image.Node as image
 use Rattle.vx_arrow_columns.specs.declared.needs.Inner.{Inner}
 use Rattle.vx_arrow_columns.specs.declared.places.Places as places
 use Rattle.vx_arrow_columns.specs.declared.plan.Job as job_type
 use Rattle.vx_arrow_columns.specs.declared.plan.Measured as measured
 use Rattle.vx_arrow_columns.specs.declared.plan.Plan as plans
 use Rattle.vx_arrow_columns.specs.declared.plan.Walk as walks
-use Rattle.vx_arrow_columns.specs.Image.{Part, part_of}
+use Rattle.vx_arrow_image.specs.Image.{Part, part_of, parts_of}
 use Rattle.vx_arrow_columns.specs.Measured.{IsInner}
-use Rattle.vx_arrow_columns.specs.Picks.{Picking, picking_of, inner, need_of, needs_by, needs_of, pickings}
-use Rattle.vx_arrow_columns.specs.Taken.{AreWithin, IsReadable}
+use Rattle.vx_arrow_columns.specs.Picks.{Picking, all_rows, below, picking_of, need_of, needs_of, pickings}
+use Rattle.vx_arrow_columns.specs.Taken.{AreInside, AreWithin, IsReadable}
+
+-- how many rows each tree of a table has
+unfoldable pub tree_lens : List Part → List ℕ
+tree_lens [] = []
+tree_lens (p ∷ ps) = p.len ∷ drop p.children (tree_lens ps)
+
+-- how many rows each child of a node has, which stands before these
+abbrev pub child_lens : Part → List Part → List ℕ
+child_lens p ps = take p.children (tree_lens ps)
 
 -- the list of a job is among so many
 abbrev pub IsListed : job_type.Job → ℕ → Type 0
@@ -29,7 +38,8 @@ picking_by ps vs lists (Some k) add = picking_of (places_in lists k) (valid_in l
 
 -- the picks of a job, where these are the caller's
 unfoldable pub picking_in : List ℕ → List ℕ → List places.Places → job_type.Job → Picking
-picking_in ps vs lists job = picking_by ps vs lists job.list job.add
+picking_in ps vs lists job =
+    if job.kept then all_rows else picking_by ps vs lists job.list job.add
 
 -- the job `next` of a node's children comes from its own, and lists are added at most
 pub record IsNext (node : image.Node) (job : job_type.Job) (inside : Inner)
@@ -44,11 +54,18 @@ pub record IsNext (node : image.Node) (job : job_type.Job) (inside : Inner)
   pub picks : (ps vs : List ℕ) → AreWithin (picking_in ps vs old job).picks node.len
       → IsInner (part_of node) (picking_in ps vs old job) inside
       → replicate node.children (picking_in ps vs new next)
-      ≡ replicate node.children (inner (part_of node) (picking_in ps vs old job))
+      ≡ replicate node.children (below (part_of node) (picking_in ps vs old job))
 
--- the rows at picks can be read, and what they need is this
-pub record IsJobMeasured (p : Part) (q : Picking) (m : measured.Measured) : Type 0 where
-  pub readable : IsReadable p q.picks
+-- the rows at picks can be read, before these nodes, if they aren't kept
+pub record IsRead (p : Part) (q : Picking) (behind : List Part) : Type 0 where
+  pub within : AreWithin q.picks p.len
+  pub readable : q.kept ≡ false → IsReadable p q.picks
+  pub inside : q.kept ≡ false → AreInside p q.picks (child_lens p behind)
+
+-- they can, and what they need is this
+pub record IsJobMeasured (p : Part) (q : Picking) (behind : List Part) (m : measured.Measured)
+    : Type 0 where
+  pub read : IsRead p q behind
   pub need : m.need ≡ need_of p q
   pub children : IsInner p q m.inner
 
@@ -71,23 +88,23 @@ pub record IsStart (end : ℕ) (w : walks.Walk) : Type 0 where
   pub jobs : w.jobs.items ≡ []
   pub lists : w.lists.items ≡ []
   pub needs : w.needs.items ≡ []
-  pub stack : w.stack.items ≡ record { list = None; add = 0; end = end } ∷ []
+  pub stack : w.stack.items ≡ record { list = None; add = 0; end = end; kept = false } ∷ []
 
--- a node that has so many nodes behind it was gone over
-pub record IsVisited (ps vs : List ℕ) (node : image.Node) (behind : ℕ) (old new : walks.Walk)
-    : Type 0 where
+-- a node before these was gone over
+pub record IsVisited (ps vs : List ℕ) (node : image.Node) (behind : List image.Node)
+    (old new : walks.Walk) : Type 0 where
   pub job : job_type.Job
   pub next : job_type.Job
   pub inside : Inner
   pub rest : List job_type.Job
   pub popped : old.stack.items ≡ rest ++ job ∷ []
-  pub few : node.children + length rest ≤ behind
+  pub few : node.children + length rest ≤ length behind
   pub stack : new.stack.items ≡ rest ++ replicate node.children next
   pub jobs : new.jobs.items ≡ old.jobs.items ++ job ∷ []
   pub needs : new.needs.items
       ≡ old.needs.items ++ need_of (part_of node) (picking_in ps vs old.lists.items job) ∷ []
   pub next_is : IsNext node job inside old.lists.items new.lists.items next
-  pub readable : IsReadable (part_of node) (picking_in ps vs old.lists.items job).picks
+  pub read : IsRead (part_of node) (picking_in ps vs old.lists.items job) (parts_of behind)
   pub inner_is : IsInner (part_of node) (picking_in ps vs old.lists.items job) inside
 
 -- a table of whole trees, as many as n
@@ -104,6 +121,7 @@ pub record IsPlanned (parts : List Part) (ps vs : List ℕ) (plan : plans.Plan) 
       ≡ pickings parts (picking_of ps vs 0 ∷ [])
   pub needs : plan.needs.items ≡ needs_of parts (picking_of ps vs 0)
   pub listed : All (λ job. IsListed job (length plan.lists.items)) plan.jobs.items
-  pub readable : (k : ℕ) (d : job_type.Job) (e : Part) → k < length plan.jobs.items
-      → IsReadable (slice_index_or parts k e)
-      (picking_in ps vs plan.lists.items (slice_index_or plan.jobs.items k d)).picks
+  pub read : (k : ℕ) (d : job_type.Job) (e : Part) → k < length plan.jobs.items
+      → IsRead (slice_index_or parts k e)
+      (picking_in ps vs plan.lists.items (slice_index_or plan.jobs.items k d))
+      (drop (k + 1) parts)

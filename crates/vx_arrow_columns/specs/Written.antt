@@ -1,12 +1,12 @@
 -- What is written to the caller's rooms.
 use Rattle.std.specs.Prelude.{◌≡◌, ◌≢◌, ℕ, ◌<◌, Bool, ◌&&◌, nat_le, length, List, [], ◌∷◌, if◌then◌else◌}
-use Rattle.vx_arrow_columns.specs.declared.format.Offsets.{Offsets}
-use Rattle.vx_arrow_columns.specs.declared.image.Need as needed
-use Rattle.vx_arrow_columns.specs.declared.image.Node as image
-use Rattle.vx_arrow_columns.specs.declared.image.Room as rooms
-use Rattle.vx_arrow_columns.specs.Image.{Part, bit_of, offset_at, part_of}
+use Rattle.vx_arrow_image.specs.declared.format.Offsets.{Offsets}
+use Rattle.vx_arrow_image.specs.declared.image.Need as needed
+use Rattle.vx_arrow_image.specs.declared.image.Node as image
+use Rattle.vx_arrow_image.specs.declared.image.Room as rooms
+use Rattle.vx_arrow_image.specs.Image.{Part, bit_of, offset_at, part_of}
 use Rattle.vx_arrow_columns.specs.Picks.{Picking, picking_of, shows_valid, pickings}
-use Rattle.vx_arrow_columns.specs.Taken.{IsOwnTaken, ShowsRows}
+use Rattle.vx_arrow_columns.specs.Taken.{IsOwnTaken, IsTaken, IsViewTaken, ShowsRows}
 
 -- bit j is this one, and the others are as they were
 pub record PutsBit (old new : List ℕ) (j : ℕ) (bit : Bool) : Type 0 where
@@ -19,8 +19,8 @@ pub record PutsOffset (z : Offsets) (old new : List ℕ) (j value : ℕ) : Type 
   pub before : (i : ℕ) → i < j → offset_at z new i ≡ offset_at z old i
 
 -- a node of the same format over other lists, as many rows as picks
-abbrev pub new_part : Part → Picking → List ℕ → List ℕ → List ℕ → Part
-new_part p q valid offsets values =
+abbrev pub new_part : Part → Picking → List ℕ → List ℕ → List ℕ → List ℕ → Part
+new_part p q valid offsets values sizes =
     record {
       format = p.format;
       width = p.width;
@@ -30,12 +30,18 @@ new_part p q valid offsets values =
       valid = valid;
       offsets = offsets;
       values = values;
+      sizes = sizes;
     }
 
 -- and over those of a room
-abbrev pub written_part : Part → Picking → rooms.Room → Part
-written_part p q r =
+abbrev pub own_part : Part → Picking → rooms.Room → Part
+own_part p q r =
     new_part p q (if shows_valid p q then r.valid.now else []) r.offsets.now r.values.now
+    r.sizes.now
+
+-- a node that is kept is the source's
+abbrev pub written_part : Part → Picking → rooms.Room → Part
+written_part p q r = if q.kept then p else own_part p q r
 
 abbrev pub written_by : List Part → List Picking → List rooms.Room → List Part
 written_by [] qs rs = []
@@ -51,7 +57,8 @@ written ps q rs = written_by ps (pickings ps (q ∷ [])) rs
 abbrev pub has_room : needed.Need → rooms.Room → Bool
 has_room n r =
     nat_le n.valid (length r.valid.now)
-    && (nat_le n.offsets (length r.offsets.now) && nat_le n.values (length r.values.now))
+    && (nat_le n.offsets (length r.offsets.now)
+    && (nat_le n.values (length r.values.now) && nat_le n.sizes (length r.sizes.now)))
 
 -- validity is written where the rows have some, and what is written besides stands as it was
 pub record HasValid (p : Part) (q : Picking) (old new : rooms.Room) : Type 0 where
@@ -59,10 +66,22 @@ pub record HasValid (p : Part) (q : Picking) (old new : rooms.Room) : Type 0 whe
   pub long : length new.valid.now ≡ length old.valid.now
   pub offsets : new.offsets ≡ old.offsets
   pub values : new.values ≡ old.values
+  pub sizes : new.sizes ≡ old.sizes
 
 -- the room has the node's rows at picks of the caller's, where its children's rooms have theirs
 abbrev pub IsNodeTaken : image.Node → List ℕ → List ℕ → ℕ → rooms.Room → Type 0
 IsNodeTaken n places valid add room =
     IsOwnTaken (part_of n)
-    (written_part (part_of n) (picking_of places valid add) room)
+    (own_part (part_of n) (picking_of places valid add) room)
     (picking_of places valid add)
+
+-- the same over the very children of the node
+abbrev pub IsViewNodeTaken : image.Node → List ℕ → List ℕ → ℕ → rooms.Room → Type 0
+IsViewNodeTaken n places valid add room =
+    IsViewTaken (part_of n)
+    (own_part (part_of n) (picking_of places valid add) room)
+    (picking_of places valid add)
+
+-- the room has the rows of a node as they are taken
+abbrev pub IsRoomTaken : Part → Picking → rooms.Room → Type 0
+IsRoomTaken p q room = IsTaken p (written_part p q room) q

@@ -1,10 +1,10 @@
 //! What stops at a node.
-ghost use Rattle.std.specs.Prelude.{ℕ};
+ghost use Rattle.std.specs.Prelude.{ℕ, Bool};
 ghost use Rattle.vx_arrow_columns.specs.Answer.{IsPlanRefusal};
 ghost use Rattle.vx_arrow_columns.specs.Picks.{Picking};
 
-use crate::refusal::{Lack, Refusal};
 use std::alloc::AllocFailed;
+use vx_arrow_image::{Lack, Refusal};
 
 /// Why a node's rows at picks are not there.
 #[derive(Clone, Copy)]
@@ -17,7 +17,7 @@ pub(crate) enum Fault {
 impl Fault {
     /// The same of the node with a number.
     pub(crate) fn at(self, node: usize) -> Refusal
-        ensures { (q : Picking) → (len : ℕ) → IsPlanRefusal q len result }
+        ensures { (q : Picking) → (len : ℕ) → (tagging : Bool) → IsPlanRefusal q len tagging result }
     {
         match self {
             Fault::Lacks(lack) => Refusal::NoMeaning { node, lack },

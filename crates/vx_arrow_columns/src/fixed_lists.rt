@@ -1,15 +1,15 @@
 //! The items of lists of a fixed size.
 ghost use Rattle.std.specs.Prelude.{◌≡◌, ◌+◌, ◌*◌, ◌/◌, ◌^◌, ◌<◌, ℕ, IfOk, length};
-ghost use Rattle.vx_arrow_columns.specs.Image.{is_valid, part_of};
+ghost use Rattle.vx_arrow_image.specs.Image.{is_valid, part_of};
 ghost use Rattle.vx_arrow_columns.specs.Measured.{AreItemPlaces};
 ghost use Rattle.vx_arrow_columns.specs.Picks.{fixed_item, fixed_items, has_bits, picks_of};
 ghost use Rattle.vx_arrow_columns.specs.Taken.{AreWithin};
 
-use crate::bits::{is_there, put_bit};
 use crate::faults::Fault;
-use crate::image::Node;
 use crate::places::{Picks, Places};
+use crate::puts::put_bit;
 use std::alloc::Global;
+use vx_arrow_image::{Node, is_there};
 
 // Where item `m` of the lists at the picks stands; none where the pick is null.
 fn item_at(node: &Node, picks: &Picks, m: usize) -> Option<u64>

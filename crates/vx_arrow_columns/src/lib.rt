@@ -5,21 +5,18 @@
 //! the format that the column has.
 #![tactic(auto)]
 
-mod bits;
-mod checking;
+mod copying;
 mod faults;
 mod fixed_lists;
-mod format;
-mod image;
+mod kept;
+mod measuring;
 mod needs;
-mod offsets;
 mod places;
 mod plan;
-mod refusal;
+mod puts;
 mod taking;
+mod unions;
 mod writing;
 
-pub use crate::checking::check;
-pub use crate::image::{Need, Node, Room};
-pub use crate::refusal::{Lack, Refusal};
 pub use crate::taking::{sizes, take};
+pub use vx_arrow_image::{Lack, Need, Node, Refusal, Room, check};

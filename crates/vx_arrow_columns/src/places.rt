@@ -1,12 +1,11 @@
 //! Places of rows.
 ghost use Rattle.std.specs.Prelude.{◌≡◌, ◌+◌, ◌<◌, ◌≤◌, IfSome, Some, [], length, true, false};
 ghost use Rattle.std.specs.Option.{option_map};
-ghost use Rattle.vx_arrow_columns.specs.Image.{is_placed, part_of};
+ghost use Rattle.vx_arrow_image.specs.Image.{is_placed, part_of};
 ghost use Rattle.vx_arrow_columns.specs.Picks.{pick_at, picks_of, place_of};
-ghost use Rattle.vx_arrow_columns.specs.Taken.{AreWithin};
+ghost use Rattle.vx_arrow_columns.specs.Taken.{AreFull, AreWithin};
 
-use crate::bits::is_there;
-use crate::image::Node;
+use vx_arrow_image::{Node, is_there};
 
 /// Picks of a column's rows: places, each `add` further on, and a bit for each, clear at a null
 /// one; without bits none is null.
@@ -95,6 +94,21 @@ pub(crate) fn are_within(picks: &Picks, len: u64) -> bool
             if row >= len {
                 return false;
             }
+        }
+    }
+    true
+}
+
+/// Whether no pick is null.
+pub(crate) fn are_full(picks: &Picks) -> bool
+    ensures full { result ≡ true → AreFull
+        (picks_of picks.now.places.now picks.now.valid.now picks.now.add) }
+    ensures some { result ≡ false → AreFull
+        (picks_of picks.now.places.now picks.now.valid.now picks.now.add) → ⊥ }
+{
+    for k in 0..picks.places.len() {
+        if !is_there(picks.valid, k) {
+            return false;
         }
     }
     true

@@ -1,25 +1,27 @@
 //! Which rows of each node are taken, and what they need.
-ghost use Rattle.std.specs.Prelude.{◌≡◌, ◌+◌, ◌*◌, ◌^◌, ◌<◌, ◌≤◌, ◌++◌, IfErr, IfOk, OnOk, length, replicate};
+ghost use Rattle.std.specs.Prelude.{◌≡◌, ◌+◌, ◌*◌, ◌^◌, ◌<◌, ◌≤◌, ◌++◌, IfErr, IfOk, OnOk, false, length, replicate, true};
 ghost use Rattle.vx_arrow_columns.specs.Answer.{IsPlanRefusal};
-ghost use Rattle.vx_arrow_columns.specs.Image.{format_in, part_of, parts_of};
-ghost use Rattle.vx_arrow_columns.specs.Picks.{need_of, offsets_len, picking_of, picks_of, values_len};
+ghost use Rattle.vx_arrow_image.specs.Image.{format_in, part_of, parts_of};
+ghost use Rattle.vx_arrow_columns.specs.Picks.{is_union, kept_need, offsets_len, own_need, picking_of, picks_of, sizes_len, values_len};
 ghost use Rattle.vx_arrow_columns.specs.Planned.{IsJobMeasured, IsListed, IsNext, IsPlanned, IsStart, IsVisited, IsWalking, first_len, picking_in};
-ghost use Rattle.vx_arrow_columns.specs.Taken.{AreWithin};
+ghost use Rattle.vx_arrow_columns.specs.Taken.{AreFull, AreWithin};
 
 use crate::faults::Fault;
-use crate::format::{Format, format_of};
-use crate::image::{Need, Node};
-use crate::needs::{Inner, measure_node, shows_valid};
-use crate::places::{Picks, Places, are_within};
-use crate::refusal::{Lack, Refusal};
+use crate::measuring::measure_node;
+use crate::needs::{Inner, shows_valid};
+use crate::places::{Picks, Places, are_full, are_within};
+use crate::unions::is_union;
 use std::alloc::Global;
+use vx_arrow_image::{Format, Lack, Need, Node, Refusal, format_of};
 
 /// The picks of a node: the caller's or a list of places, each `add` further on, all below `end`.
+/// None of them where it is kept.
 #[derive(Clone, Copy)]
 pub(crate) struct Job {
     pub(crate) list: Option<usize>,
     pub(crate) add: u64,
     pub(crate) end: u64,
+    pub(crate) kept: bool,
 }
 
 /// The picks of each node, and what its rows at them need.
@@ -38,7 +40,8 @@ pub(crate) fn picks_for<'a>(
     lists: &'a [Places],
     job: Job,
 ) -> Picks<'a>
-    requires { IsListed job (length lists.now) }
+    requires listed { IsListed job (length lists.now) }
+    requires picked { job.kept ≡ false }
     ensures { picking_of result.places.now result.valid.now result.add
         ≡ picking_in places.now valid.now lists.now job }
 {
@@ -67,6 +70,19 @@ fn offsets_len(node: &Node, count: u64) -> u64
     match format_of(node.format) {
         Some(Format::Text(size)) => size.size() * (count + 1),
         Some(Format::List(size)) => size.size() * (count + 1),
+        Some(Format::ListView(size)) => size.size() * count,
+        _ => 0,
+    }
+}
+
+// How many bytes of sizes they need.
+fn sizes_len(node: &Node, count: u64) -> u64
+    requires { count < 2 ^ 60 }
+    ensures { result ≡ sizes_len (format_in node.now.format) (part_of node.now) count }
+{
+    match format_of(node.format) {
+        Some(Format::ListView(size)) => size.size() * count,
+        Some(Format::Union) => node.children,
         _ => 0,
     }
 }
@@ -76,7 +92,7 @@ fn need_for(node: &Node, picks: &Picks, values: u64) -> Need
     requires few { length picks.now.places.now < 2 ^ 60 }
     requires values { values ≡ values_len (format_in node.now.format) (part_of node.now)
         (picks_of picks.now.places.now picks.now.valid.now picks.now.add) }
-    ensures { result ≡ need_of (part_of node.now)
+    ensures { result ≡ own_need (part_of node.now)
         (picking_of picks.now.places.now picks.now.valid.now picks.now.add) }
 {
     let len = picks.places.len() as u64;
@@ -90,6 +106,19 @@ fn need_for(node: &Node, picks: &Picks, values: u64) -> Need
         valid,
         offsets: offsets_len(node, len),
         values,
+        sizes: sizes_len(node, len),
+    }
+}
+
+// What a node needs that is kept.
+fn kept_need(node: &Node) -> Need
+    ensures { result ≡ kept_need (part_of node.now) }
+{
+    Need {
+        len: node.len,
+        valid: 0,
+        offsets: 0,
+        values: 0,
         sizes: 0,
     }
 }
@@ -101,8 +130,8 @@ struct Measured {
     inner: Inner,
 }
 
-// Tests what a node's rows at the picks of a job touch, and says what they need. The node behind it
-// has `items` rows.
+// Tests what a node's rows at the picks of a job touch, before these nodes, and says what they
+// need.
 fn measure_job<'a>(
     alloc: Global,
     places: &'a [u64],
@@ -110,15 +139,21 @@ fn measure_job<'a>(
     lists: &'a [Places],
     node: &Node,
     job: Job,
-    items: u64,
+    behind: &[Node],
 ) -> Result<Measured, Fault>
     requires listed { IsListed job (length lists.now) }
     requires within { AreWithin (picking_in places.now valid.now lists.now job).picks job.end }
     ensures { IfOk result (IsJobMeasured (part_of node.now)
-        (picking_in places.now valid.now lists.now job)) }
+        (picking_in places.now valid.now lists.now job) (parts_of behind.now)) }
 {
+    if job.kept {
+        return Ok(Measured {
+            need: kept_need(node),
+            inner: Inner::Kept,
+        });
+    }
     let picks = picks_for(places, valid, lists, job);
-    let measure = measure_node(alloc, node, &picks, job.end, items)?;
+    let measure = measure_node(alloc, node, &picks, job.end, behind)?;
     Ok(Measured {
         need: need_for(node, &picks, measure.values),
         inner: measure.inner,
@@ -137,7 +172,6 @@ fn sum(a: u64, b: u64) -> u64
 
 // The picks of a node's children, from its own, which are those of a job.
 fn next_job(node: &Node, job: Job, inner: Inner, lists: &mut Vec<Places>) -> Result<Job, Fault>
-    requires { node.now.offset + node.now.len < 2 ^ 60 }
     ensures { IfOk result (IsNext node.now job inner lists.old.items lists.new.items) }
 {
     match inner {
@@ -145,7 +179,14 @@ fn next_job(node: &Node, job: Job, inner: Inner, lists: &mut Vec<Places>) -> Res
         Inner::Same => Ok(Job {
             list: job.list,
             add: sum(job.add, node.offset),
-            end: node.offset + node.len,
+            end: sum(node.offset, node.len),
+            kept: false,
+        }),
+        Inner::Kept => Ok(Job {
+            list: None,
+            add: 0,
+            end: 0,
+            kept: true,
         }),
         Inner::Listed(items) => {
             let list = lists.len();
@@ -154,6 +195,7 @@ fn next_job(node: &Node, job: Job, inner: Inner, lists: &mut Vec<Places>) -> Res
                 list: Some(list),
                 add: 0,
                 end: items.end,
+                kept: false,
             })
         }
     }
@@ -188,6 +230,7 @@ impl Walk {
             list: None,
             add: 0,
             end,
+            kept: false,
         })?;
         Ok(Walk {
             jobs: Vec::new(alloc),
@@ -197,41 +240,30 @@ impl Walk {
         })
     }
 
-    // Goes over a node that has so many nodes behind it, of which the first has `items` rows.
+    // Goes over a node before these.
     fn visit(
         &mut self,
         alloc: Global,
         places: &[u64],
         valid: &[u8],
         node: &Node,
-        behind: usize,
-        items: u64,
+        behind: &[Node],
     ) -> Result<(), Fault>
         requires { IsWalking places.now valid.now self.old }
-        ensures { OnOk result (IsVisited places.now valid.now node.now behind self.old self.new) }
+        ensures { OnOk result (IsVisited places.now valid.now node.now behind.now self.old self.new) }
     {
         let Some(job) = self.stack.pop() else {
             return Err(Fault::Lacks(Lack::Tree));
         };
         let left = self.stack.len();
-        if left > behind || node.children > (behind - left) as u64 {
+        if left > behind.len() || node.children > (behind.len() - left) as u64 {
             return Err(Fault::Lacks(Lack::Tree));
         }
-        let measure = measure_job(alloc, places, valid, &self.lists, node, job, items)?;
+        let measure = measure_job(alloc, places, valid, &self.lists, node, job, behind)?;
         let next = next_job(node, job, measure.inner, &mut self.lists)?;
         self.jobs.push(job)?;
         self.needs.push(measure.need)?;
         push_times(&mut self.stack, next, node.children)
-    }
-}
-
-// How many rows the node behind node `i` has, and 0 where there is none.
-fn len_behind(nodes: &[Node], i: usize) -> u64
-    requires { i < length nodes.now }
-{
-    match nodes.get(i + 1) {
-        Some(node) => node.len,
-        None => 0,
     }
 }
 
@@ -245,31 +277,35 @@ pub(crate) fn plan_of(
     ensures planned { IfOk result (IsPlanned (parts_of nodes.now) places.now valid.now) }
     ensures within { OnOk result (AreWithin (picks_of places.now valid.now 0)
         (first_len nodes.now)) }
+    ensures full { OnOk result (is_union (parts_of nodes.now) ≡ true
+        → AreFull (picks_of places.now valid.now 0)) }
     ensures refused { IfErr result (IsPlanRefusal (picking_of places.now valid.now 0)
-        (first_len nodes.now)) }
+        (first_len nodes.now) (is_union (parts_of nodes.now))) }
 {
     if nodes.len() == 0 {
         return Err(Fault::Lacks(Lack::Tree).at(0));
     }
     let end = nodes[0].len;
-    if !are_within(
-        &Picks {
-            places,
-            valid,
-            add: 0,
-        },
-        end,
-    ) {
+    let picks = Picks {
+        places,
+        valid,
+        add: 0,
+    };
+    if !are_within(&picks, end) {
         return Err(Refusal::Beyond);
+    }
+    if is_union(&nodes[0]) {
+        if !are_full(&picks) {
+            return Err(Refusal::NullPick);
+        }
     }
     let mut walk = match Walk::start(alloc, end) {
         Ok(walk) => walk,
         Err(fault) => return Err(fault.at(0)),
     };
     for i in 0..nodes.len() {
-        let items = len_behind(nodes, i);
-        let behind = nodes.len() - i - 1;
-        if let Err(fault) = walk.visit(alloc, places, valid, &nodes[i], behind, items) {
+        let behind = &nodes[i + 1..];
+        if let Err(fault) = walk.visit(alloc, places, valid, &nodes[i], behind) {
             return Err(fault.at(i));
         }
     }

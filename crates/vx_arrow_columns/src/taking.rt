@@ -1,18 +1,20 @@
 //! What a column's rows at picks need, and the rows themselves.
-ghost use Rattle.std.specs.Prelude.{◌≡◌, IfErr, IfNone, IfSome, OnErr, OnOk, length, IsSome};
-ghost use Rattle.vx_arrow_columns.specs.Answer.{AreTaken, HaveRoom, IsRefusal, IsShort, MeansPicked};
-ghost use Rattle.vx_arrow_columns.specs.Image.{column_in, parts_of};
-ghost use Rattle.vx_arrow_columns.specs.Picks.{needs_of, picking_of};
-ghost use Rattle.vx_arrow_columns.specs.Planned.{IsPlanned};
-ghost use Rattle.vx_arrow_columns.specs.Written.{has_room, written};
+ghost use Rattle.std.specs.Prelude.{◌≡◌, IfErr, IfNone, IfSome, OnErr, OnOk, false, length, IsSome, true};
+ghost use Rattle.vx_arrow_columns.specs.Answer.{AreKeptSound, AreTaken, HaveRoom, IsRefusal, IsShort, MeansPicked};
+ghost use Rattle.vx_arrow_image.specs.Image.{column_in, part_of, parts_of};
+ghost use Rattle.vx_arrow_columns.specs.Picks.{need_of, needs_of, picking_of};
+ghost use Rattle.vx_arrow_columns.specs.Planned.{IsListed, IsPlanned, picking_in};
+ghost use Rattle.vx_arrow_columns.specs.Written.{IsRoomTaken, has_room, written};
+ghost use Rattle.vx_arrow_columns.specs.Taken.{IsReadable};
 
-use crate::image::{Need, Node, Room};
-use crate::plan::{Plan, picks_for, plan_of};
-use crate::refusal::Refusal;
+use crate::places::Places;
+use crate::plan::{Job, Plan, picks_for, plan_of};
 use crate::writing::write_node;
 use std::alloc::Global;
+use vx_arrow_image::{Need, Node, Refusal, Room};
 
-/// Says for each node of a column how many rows and bytes its rows at picks are.
+/// Says for each node of a column how many rows and bytes its rows at picks are. The children of
+/// views are kept as they stand, and need no bytes.
 ///
 /// A pick is a row's number, counted from the first one; it is null where its bit of `valid` is
 /// clear, and then not looked at. No bits: none is null. [`take`] has the refusals. Nothing is
@@ -43,6 +45,7 @@ fn has_room(need: &Need, room: &Room) -> bool
     need.valid <= room.valid.len() as u64
         && need.offsets <= room.offsets.len() as u64
         && need.values <= room.values.len() as u64
+        && need.sizes <= room.sizes.len() as u64
 }
 
 // The first room that is smaller than its need.
@@ -59,6 +62,30 @@ fn first_short(needs: &[Need], rooms: &[Room]) -> Option<usize>
     None
 }
 
+// Writes a node's rows at the picks of a job, or nothing where it is kept.
+fn write_job<'a>(
+    node: &Node,
+    places: &'a [u64],
+    valid: &'a [u8],
+    lists: &'a [Places],
+    job: Job,
+    room: &mut Room,
+)
+    requires listed { IsListed job (length lists.now) }
+    requires readable { (picking_in places.now valid.now lists.now job).kept ≡ false
+        → IsReadable (part_of node.now) (picking_in places.now valid.now lists.now job).picks }
+    requires room { has_room (need_of (part_of node.now)
+        (picking_in places.now valid.now lists.now job)) room.old ≡ true }
+    ensures { IsRoomTaken (part_of node.now)
+        (picking_in places.now valid.now lists.now job) room.new }
+{
+    if job.kept {
+        return;
+    }
+    let own = picks_for(places, valid, lists, job);
+    write_node(node, &own, room);
+}
+
 // Writes the rows of each node.
 fn write_all<'a>(
     nodes: &[Node],
@@ -73,16 +100,25 @@ fn write_all<'a>(
     ensures { AreTaken (parts_of nodes.now) (picking_of places.now valid.now 0) rooms.new }
 {
     for i in 0..nodes.len() {
-        let own = picks_for(places, valid, &plan.lists, plan.jobs[i]);
-        write_node(&nodes[i], &own, &mut rooms[i]);
+        write_job(
+            &nodes[i],
+            places,
+            valid,
+            &plan.lists,
+            plan.jobs[i],
+            &mut rooms[i],
+        );
     }
 }
 
-/// Writes the rows of a column at picks: into each room the lists of a node of the same format.
+/// Writes the rows of a column at picks: into each room the lists of a node of the same format. The
+/// children of views are kept: their nodes stand in the answer as they do in the column, and
+/// nothing is written to their rooms.
 ///
 /// Picks are as [`sizes`] has them. Only what stands at picks is looked at, and a node's own
 /// numbers. Refused with `NoMeaning` where that has none, with `Beyond` where a pick that isn't
-/// null is past the rows, with `Overflow` where rows are too many to be counted, with `Room` where
+/// null is past the rows, with `NullPick` where the column is a union and a pick is null, with
+/// `Overflow` where rows are too many to be counted, with `Room` where
 /// there are not as many rooms as nodes or one is smaller than `sizes` says, and with `NoMemory`.
 /// The rooms are as they were then.
 pub fn take(
@@ -94,7 +130,8 @@ pub fn take(
 ) -> Result<(), Refusal>
     ensures picked { OnOk result (MeansPicked (parts_of nodes.now)
         (picking_of places.now valid.now 0) rooms.new) }
-    ensures sound { OnOk result (IsSome (column_in
+    ensures sound { OnOk result (AreKeptSound (parts_of nodes.now)
+        (picking_of places.now valid.now 0) → IsSome (column_in
         (written (parts_of nodes.now) (picking_of places.now valid.now 0) rooms.new))) }
     ensures refused { IfErr result (IsRefusal (parts_of nodes.now)
         (picking_of places.now valid.now 0) rooms.old) }

@@ -1,16 +1,16 @@
 //! The rows of one node at picks, written.
 ghost use Rattle.std.specs.Prelude.{◌≡◌, ◌+◌, ◌*◌, ◌^◌, ◌<◌, ◌≤◌, ◌/◌, ◌++◌, Some, [], is_some, length, take, true};
-ghost use Rattle.vx_arrow_columns.specs.Image.{format_in, holds_offsets, is_placed, limit_of, part_of, size_of};
+ghost use Rattle.vx_arrow_image.specs.Image.{format_in, holds_offsets, is_placed, limit_of, part_of, size_of};
 ghost use Rattle.vx_arrow_columns.specs.Picks.{items_len, need_of, pick_at, picking_of, picks_of, place_of};
-ghost use Rattle.vx_arrow_columns.specs.Taken.{AreBits, AreCutAt, AreFixed, AreOffsets, AreOrdered, AreWithin, IsByteOf, IsNullable, IsReadable, ShowsRows, texts_of};
-ghost use Rattle.vx_arrow_columns.specs.Written.{HasValid, IsNodeTaken, has_room};
+ghost use Rattle.vx_arrow_columns.specs.Taken.{AreBits, AreCutAt, AreOffsets, AreOrdered, AreWithin, IsByteOf, IsNullable, IsReadable, ShowsRows, texts_of};
+ghost use Rattle.vx_arrow_columns.specs.Written.{HasValid, IsNodeTaken, IsRoomTaken, IsViewNodeTaken, has_room};
 
-use crate::bits::{bit_is, put_bit, put_bytes, with_bit};
-use crate::format::{Format, Offsets, format_of};
-use crate::image::{Node, Room};
+use crate::copying::{write_fixed, write_numbers, write_records};
 use crate::needs::shows_valid;
-use crate::offsets::{cut_at, put_offset};
-use crate::places::{Picks, place, row, row_there};
+use crate::places::{Picks, place};
+use crate::puts::{put_bit, put_bytes, put_offset, with_bit};
+use crate::unions::write_ids;
+use vx_arrow_image::{Format, Node, Offsets, Room, bit_is, cut_at, format_of};
 
 // A bit for each of so many picks from pick `first` on: whether its row is there.
 #[inline(always)]
@@ -64,94 +64,6 @@ fn write_bits(node: &Node, picks: &Picks, out: &mut [u8])
         if let Some(i) = place(node, picks, k) {
             put_bit(out, k, bit_is(node.values, i));
         }
-    }
-}
-
-// Writes the value of the row at each pick, where none is null, of a width that is known
-// beforehand.
-fn write_rows<const W: usize>(node: &Node, picks: &Picks, out: &mut [u8])
-    requires there { picks.now.valid.now ≡ [] }
-    requires width { node.now.width ≡ W }
-    requires placed { is_placed (part_of node.now) ≡ true }
-    requires within { AreWithin
-        (picks_of picks.now.places.now picks.now.valid.now picks.now.add) node.now.len }
-    requires values { (node.now.offset + node.now.len) * node.now.width
-        ≤ length node.now.values.now }
-    requires room { length picks.now.places.now * node.now.width ≤ length out.old }
-    ensures { AreFixed (part_of node.now)
-        (picks_of picks.now.places.now picks.now.valid.now picks.now.add)
-        (length picks.now.places.now) out.new }
-{
-    for k in 0..picks.places.len() {
-        let i = row_there(node, picks, k);
-        put_bytes(out, k * W, &node.values[i * W..i * W + W]);
-    }
-}
-
-// Writes the value of each row at a pick that isn't null, of a width that is known beforehand.
-fn write_records<const W: usize>(node: &Node, picks: &Picks, out: &mut [u8])
-    requires width { node.now.width ≡ W }
-    requires placed { is_placed (part_of node.now) ≡ true }
-    requires within { AreWithin
-        (picks_of picks.now.places.now picks.now.valid.now picks.now.add) node.now.len }
-    requires values { (node.now.offset + node.now.len) * node.now.width
-        ≤ length node.now.values.now }
-    requires room { length picks.now.places.now * node.now.width ≤ length out.old }
-    ensures { AreFixed (part_of node.now)
-        (picks_of picks.now.places.now picks.now.valid.now picks.now.add)
-        (length picks.now.places.now) out.new }
-{
-    if picks.valid.is_empty() {
-        write_rows::<W>(node, picks, out);
-        return;
-    }
-    for k in 0..picks.places.len() {
-        if let Some(i) = row(node, picks, k) {
-            put_bytes(out, k * W, &node.values[i * W..i * W + W]);
-        }
-    }
-}
-
-// The same, of any width.
-fn write_values(node: &Node, picks: &Picks, out: &mut [u8])
-    requires placed { is_placed (part_of node.now) ≡ true }
-    requires within { AreWithin
-        (picks_of picks.now.places.now picks.now.valid.now picks.now.add) node.now.len }
-    requires values { (node.now.offset + node.now.len) * node.now.width
-        ≤ length node.now.values.now }
-    requires room { length picks.now.places.now * node.now.width ≤ length out.old }
-    ensures { AreFixed (part_of node.now)
-        (picks_of picks.now.places.now picks.now.valid.now picks.now.add)
-        (length picks.now.places.now) out.new }
-{
-    let width = node.width as usize;
-    for k in 0..picks.places.len() {
-        if let Some(i) = row(node, picks, k) {
-            put_bytes(out, k * width, &node.values[i * width..i * width + width]);
-        }
-    }
-}
-
-// Writes values of a fixed width.
-fn write_fixed(node: &Node, picks: &Picks, out: &mut [u8])
-    requires placed { is_placed (part_of node.now) ≡ true }
-    requires within { AreWithin
-        (picks_of picks.now.places.now picks.now.valid.now picks.now.add) node.now.len }
-    requires values { (node.now.offset + node.now.len) * node.now.width
-        ≤ length node.now.values.now }
-    requires room { length picks.now.places.now * node.now.width ≤ length out.old }
-    ensures { AreFixed (part_of node.now)
-        (picks_of picks.now.places.now picks.now.valid.now picks.now.add)
-        (length picks.now.places.now) out.new }
-{
-    match node.width {
-        1 => write_records::<1>(node, picks, out),
-        2 => write_records::<2>(node, picks, out),
-        4 => write_records::<4>(node, picks, out),
-        8 => write_records::<8>(node, picks, out),
-        16 => write_records::<16>(node, picks, out),
-        32 => write_records::<32>(node, picks, out),
-        _ => write_values(node, picks, out),
     }
 }
 
@@ -305,14 +217,57 @@ fn write_fixed_list_node(node: &Node, picks: &Picks, room: &mut Room)
     write_valid_of(node, picks, room);
 }
 
-/// Writes what a node's own lists hold of its rows at picks.
-pub(crate) fn write_node(node: &Node, picks: &Picks, room: &mut Room)
+// Writes views of texts.
+fn write_text_view_node(node: &Node, picks: &Picks, room: &mut Room)
+    requires format { format_in node.now.format ≡ Some Format.TextView }
+    requires readable { IsReadable (part_of node.now)
+        (picks_of picks.now.places.now picks.now.valid.now picks.now.add) }
+    requires room { has_room (need_of (part_of node.now)
+        (picking_of picks.now.places.now picks.now.valid.now picks.now.add)) room.old ≡ true }
+    ensures { IsViewNodeTaken node.now
+        picks.now.places.now picks.now.valid.now picks.now.add room.new }
+{
+    write_valid_of(node, picks, room);
+    write_records::<16>(node.values, node, picks, room.values);
+}
+
+// Writes views of lists.
+fn write_list_view_node(size: Offsets, node: &Node, picks: &Picks, room: &mut Room)
+    requires format { format_in node.now.format ≡ Some (Format.ListView size) }
+    requires readable { IsReadable (part_of node.now)
+        (picks_of picks.now.places.now picks.now.valid.now picks.now.add) }
+    requires room { has_room (need_of (part_of node.now)
+        (picking_of picks.now.places.now picks.now.valid.now picks.now.add)) room.old ≡ true }
+    ensures { IsViewNodeTaken node.now
+        picks.now.places.now picks.now.valid.now picks.now.add room.new }
+{
+    write_valid_of(node, picks, room);
+    write_numbers(size, node.offsets, node, picks, room.offsets);
+    write_numbers(size, node.sizes, node, picks, room.sizes);
+}
+
+// Writes a union's own part: the ids of the rows, and those of the children.
+fn write_union_node(node: &Node, picks: &Picks, room: &mut Room)
+    requires format { format_in node.now.format ≡ Some Format.Union }
     requires readable { IsReadable (part_of node.now)
         (picks_of picks.now.places.now picks.now.valid.now picks.now.add) }
     requires room { has_room (need_of (part_of node.now)
         (picking_of picks.now.places.now picks.now.valid.now picks.now.add)) room.old ≡ true }
     ensures { IsNodeTaken node.now
         picks.now.places.now picks.now.valid.now picks.now.add room.new }
+{
+    write_ids(node, picks, room.values);
+    put_bytes(room.sizes, 0, &node.sizes[..node.children as usize]);
+}
+
+/// Writes what a node's own lists hold of its rows at picks.
+pub(crate) fn write_node(node: &Node, picks: &Picks, room: &mut Room)
+    requires readable { IsReadable (part_of node.now)
+        (picks_of picks.now.places.now picks.now.valid.now picks.now.add) }
+    requires room { has_room (need_of (part_of node.now)
+        (picking_of picks.now.places.now picks.now.valid.now picks.now.add)) room.old ≡ true }
+    ensures { IsRoomTaken (part_of node.now)
+        (picking_of picks.now.places.now picks.now.valid.now picks.now.add) room.new }
 {
     match format_of(node.format) {
         Some(Format::Bits) => write_bits_node(node, picks, room),
@@ -321,6 +276,9 @@ pub(crate) fn write_node(node: &Node, picks: &Picks, room: &mut Room)
         Some(Format::Struct) => write_struct_node(node, picks, room),
         Some(Format::List(size)) => write_list_node(size, node, picks, room),
         Some(Format::FixedList) => write_fixed_list_node(node, picks, room),
+        Some(Format::TextView) => write_text_view_node(node, picks, room),
+        Some(Format::ListView(size)) => write_list_view_node(size, node, picks, room),
+        Some(Format::Union) => write_union_node(node, picks, room),
         Some(Format::Nulls) => {}
         None => {}
     }

@@ -1,6 +1,6 @@
 -- The places, and a bit for each.
-use Rattle.std.proofs.Common.{ap, ◌≡◌, ◌*◌, ◌<◌, length, sym, subst, ℕ, ◌∙◌, arith}
-use Rattle.vx_arrow_columns.specs.Image.{part_of}
+use Rattle.std.proofs.Common.{ap, ◌*◌, length, sym, ℕ, ◌∙◌, arith}
+use Rattle.vx_arrow_image.specs.Image.{part_of}
 use Rattle.vx_arrow_columns.specs.Picks.{picks_of}
 use Rattle.vx_arrow_columns.proofs.FixedLists.{item_there, items_are, width_some}
 use Rattle.vx_arrow_columns.proofs.PickReads.{length_picks}

@@ -1,7 +1,7 @@
 -- The sums fit, since the row is valid.
-use Rattle.std.proofs.Common.{◌≡◌, ◌+◌, ◌*◌, ◌/◌, ◌%◌, ◌<◌, ◌≤◌, ◌^◌, true, length, get_or, sym, ◌∙◌, arith}
+use Rattle.std.proofs.Common.{◌≡◌, ◌+◌, ◌/◌, ◌%◌, ◌<◌, true, length, get_or, sym, arith}
 use Rattle.std.proofs.Math.Nat.{mod-lt}
-use Rattle.vx_arrow_columns.specs.Image.{is_valid, part_of}
+use Rattle.vx_arrow_image.specs.Image.{is_valid, part_of}
 use Rattle.vx_arrow_columns.proofs.FixedLists.{item_none, item_some, list_below, some_width}
 use Rattle.vx_arrow_columns.proofs.PickReads.{place_below}
 use Rattle.vx_arrow_columns.proofs.Steps.{next_place}

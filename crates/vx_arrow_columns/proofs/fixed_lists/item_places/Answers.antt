@@ -1,7 +1,7 @@
 -- One place more.
-use Rattle.std.proofs.Common.{◌≡◌, ◌+◌, ◌*◌, ◌<◌, ◌++◌, ◌∷◌, [], Some, length, ap, sym, ◌∙◌, subst, ℕ, arith, rules}
+use Rattle.std.proofs.Common.{◌≡◌, ◌++◌, ◌∷◌, [], length, ap, ◌∙◌, subst, ℕ, arith, rules}
 use Rattle.std.specs.Prelude.{unwrap_or}
-use Rattle.vx_arrow_columns.specs.Image.{part_of}
+use Rattle.vx_arrow_image.specs.Image.{part_of}
 use Rattle.vx_arrow_columns.specs.Measured.{AreItemPlaces}
 use Rattle.vx_arrow_columns.specs.Picks.{picks_of}
 use Rattle.vx_arrow_columns.proofs.FixedLists.{more_items, no_items, width_some}

@@ -1,6 +1,6 @@
 -- The bits so far.
-use Rattle.std.proofs.Common.{◌≡◌, ℕ, ◌<◌, ◌/◌, ◌≤◌, ◌+◌, length}
-use Rattle.vx_arrow_columns.specs.Image.{bit_of, is_valid}
+use Rattle.std.proofs.Common.{◌≡◌, ℕ, ◌<◌, ◌/◌, ◌+◌, length}
+use Rattle.vx_arrow_image.specs.Image.{bit_of, is_valid}
 use Rattle.vx_arrow_columns.proofs.fixed_lists.item_valid.Given as goal
 
 abbrev pub invariant-loop-m : goal.invariant-loop-m

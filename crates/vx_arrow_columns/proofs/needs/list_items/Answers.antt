@@ -1,6 +1,6 @@
 -- The items of one list more.
-use Rattle.std.proofs.Common.{◌≡◌, ◌≤◌, ◌<◌, ◌+◌, ◌^◌, ℕ, true, subst, ap, sym, ◌∙◌, refl, arith, length}
-use Rattle.vx_arrow_columns.specs.Image.{is_cut, part_of, limit_of}
+use Rattle.std.proofs.Common.{◌≤◌, ◌<◌, ap, sym, ◌∙◌, refl, arith, length}
+use Rattle.vx_arrow_image.specs.Image.{part_of, limit_of}
 use Rattle.vx_arrow_columns.specs.Picks.{picks_of}
 use Rattle.vx_arrow_columns.proofs.PickReads.{length_picks}
 use Rattle.vx_arrow_columns.proofs.Steps.{all_cut, at_pick, items_all, limit_few, no_places, places_none, places_some}

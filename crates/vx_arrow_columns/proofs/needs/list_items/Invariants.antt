@@ -1,5 +1,5 @@
 -- The items of the lists so far, tested and counted.
-use Rattle.vx_arrow_columns.specs.Image.{limit_of, part_of}
+use Rattle.vx_arrow_image.specs.Image.{part_of}
 use Rattle.vx_arrow_columns.specs.Picks.{picks_of}
 use Rattle.vx_arrow_columns.proofs.Steps.{ItemsTo}
 use Rattle.vx_arrow_columns.proofs.needs.list_items.Given as goal

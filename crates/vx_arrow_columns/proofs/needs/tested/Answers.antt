@@ -1,6 +1,6 @@
 -- The rows have places.
-use Rattle.std.proofs.Common.{◌≡◌, true, sym, ◌∙◌, arith}
-use Rattle.vx_arrow_columns.specs.Image.{part_of}
+use Rattle.std.proofs.Common.{sym, arith}
+use Rattle.vx_arrow_image.specs.Image.{part_of}
 use Rattle.vx_arrow_columns.proofs.Columns.{placed_by}
 use Rattle.vx_arrow_columns.proofs.needs.tested.Goals as goal
 

@@ -1,7 +1,7 @@
 -- What was tested.
-use Rattle.std.proofs.Common.{◌≡◌, ◌≤◌, ◌<◌, sym, ◌∙◌, arith}
-use Rattle.vx_arrow_columns.specs.Image.{part_of}
-use Rattle.vx_arrow_columns.proofs.Cuts.{cut_from}
+use Rattle.std.proofs.Common.{arith}
+use Rattle.vx_arrow_image.specs.Image.{part_of}
+use Rattle.vx_arrow_image.proofs.CutRows.{cut_from}
 use Rattle.vx_arrow_columns.proofs.needs.tested_cut.Goals as goal
 
 pub returns-clause-cut : goal.returns-clause-cut

@@ -1,6 +1,6 @@
 -- One text more.
-use Rattle.std.proofs.Common.{◌≡◌, ◌≤◌, ◌<◌, ◌^◌, sym, ◌∙◌, refl, arith, length}
-use Rattle.vx_arrow_columns.specs.Image.{part_of, limit_of}
+use Rattle.std.proofs.Common.{◌≤◌, ◌<◌, sym, ◌∙◌, refl, arith, length}
+use Rattle.vx_arrow_image.specs.Image.{part_of}
 use Rattle.vx_arrow_columns.specs.Picks.{picks_of}
 use Rattle.vx_arrow_columns.proofs.PickReads.{length_picks}
 use Rattle.vx_arrow_columns.proofs.Steps.{all_cut, at_pick, len_none, len_some, limit_few, no_len}

@@ -1,6 +1,6 @@
 -- The texts so far, tested and counted.
 use Rattle.std.proofs.Common.{length}
-use Rattle.vx_arrow_columns.specs.Image.{part_of}
+use Rattle.vx_arrow_image.specs.Image.{part_of}
 use Rattle.vx_arrow_columns.specs.Picks.{picks_of}
 use Rattle.vx_arrow_columns.proofs.Steps.{LenTo}
 use Rattle.vx_arrow_columns.proofs.needs.text_len.Given as goal

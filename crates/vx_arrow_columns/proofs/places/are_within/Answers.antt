@@ -1,6 +1,5 @@
 -- All picks were looked at, or one is beyond.
-use Rattle.std.proofs.Common.{◌≡◌, ◌≤◌, ◌+◌, true, get_or, sym, arith, ◌∙◌}
-use Rattle.vx_arrow_columns.specs.Image.{is_valid}
+use Rattle.std.proofs.Common.{sym, arith}
 use Rattle.vx_arrow_columns.proofs.PickReads.{not_within, all_within}
 use Rattle.vx_arrow_columns.proofs.places.are_within.Goals as goal
 

@@ -1,6 +1,6 @@
 -- The sums fit, since the pick is within the rows and these have places.
-use Rattle.std.proofs.Common.{◌≡◌, ◌+◌, ◌<◌, true, arith, get_or}
-use Rattle.vx_arrow_columns.specs.Image.{is_valid, part_of}
+use Rattle.std.proofs.Common.{◌≡◌, true, arith}
+use Rattle.vx_arrow_image.specs.Image.{is_valid, part_of}
 use Rattle.vx_arrow_columns.proofs.PickReads.{place_below, placed_end}
 use Rattle.vx_arrow_columns.proofs.places.row.Goals as goal
 

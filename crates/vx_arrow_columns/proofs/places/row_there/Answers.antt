@@ -1,7 +1,7 @@
 -- The sums fit, since the pick is within the rows and these have places.
-use Rattle.std.proofs.Common.{◌≡◌, ◌+◌, ◌<◌, true, List, ℕ, Some, ap, sym, ◌∙◌, arith, get_or}
+use Rattle.std.proofs.Common.{◌≡◌, ◌+◌, true, List, ℕ, Some, ap, sym, ◌∙◌, arith}
 use Rattle.std.specs.Option.{option_map}
-use Rattle.vx_arrow_columns.specs.Image.{is_valid, part_of}
+use Rattle.vx_arrow_image.specs.Image.{is_valid, part_of}
 use Rattle.vx_arrow_columns.proofs.PickReads.{pick_there, place_below, placed_end}
 use Rattle.vx_arrow_columns.proofs.places.row_there.Goals as goal
 

@@ -1,5 +1,5 @@
 -- The nodes so far.
-use Rattle.vx_arrow_columns.specs.Image.{parts_of}
+use Rattle.vx_arrow_image.specs.Image.{parts_of}
 use Rattle.vx_arrow_columns.proofs.Walks.{WalkIs}
 use Rattle.vx_arrow_columns.proofs.plan.plan_of.Given as goal
 

@@ -1,5 +1,5 @@
 -- One job more.
-use Rattle.std.proofs.Common.{rules, ◌≡◌, ◌+◌, ◌++◌, [], ◌∷◌, ap, sym, ◌∙◌, append_assoc, append-nil, arith}
+use Rattle.std.proofs.Common.{rules, ◌≡◌, ◌++◌, [], ◌∷◌, ap, ◌∙◌, append_assoc, arith}
 use Rattle.std.specs.Prelude.{replicate}
 use Rattle.vx_arrow_columns.proofs.Walks.{many_more}
 use Rattle.vx_arrow_columns.proofs.plan.push_times.Goals as goal

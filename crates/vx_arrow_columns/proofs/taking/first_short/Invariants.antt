@@ -1,7 +1,7 @@
 -- The rooms so far are large enough.
 use Rattle.std.proofs.Common.{◌≡◌, ℕ, ◌<◌, true, get_or}
-use Rattle.vx_arrow_columns.specs.declared.image.Need.{Need}
-use Rattle.vx_arrow_columns.specs.declared.image.Room.{Room}
+use Rattle.vx_arrow_image.specs.declared.image.Need.{Need}
+use Rattle.vx_arrow_image.specs.declared.image.Room.{Room}
 use Rattle.vx_arrow_columns.specs.Written.{has_room}
 use Rattle.vx_arrow_columns.proofs.taking.first_short.Given as goal
 

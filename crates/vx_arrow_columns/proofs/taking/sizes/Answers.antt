@@ -1,7 +1,7 @@
 -- As many needs as nodes.
-use Rattle.std.proofs.Common.{◌≡◌, length, arith}
+use Rattle.std.proofs.Common.{arith}
 use Rattle.std.proofs.lemmas.List.{length-map}
-use Rattle.vx_arrow_columns.specs.Image.{part_of, parts_of}
+use Rattle.vx_arrow_image.specs.Image.{part_of, parts_of}
 use Rattle.vx_arrow_columns.proofs.Plans.{planned_needs}
 use Rattle.vx_arrow_columns.proofs.taking.sizes.Goals as goal
 

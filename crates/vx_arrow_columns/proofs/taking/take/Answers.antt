@@ -1,7 +1,7 @@
 -- What the rooms hold.
-use Rattle.std.proofs.Common.{◌≡◌, ◌∙◌, length, arith}
+use Rattle.std.proofs.Common.{◌∙◌, refl, arith}
 use Rattle.std.proofs.lemmas.List.{length-map}
-use Rattle.vx_arrow_columns.specs.Image.{part_of, parts_of}
+use Rattle.vx_arrow_image.specs.Image.{part_of, parts_of}
 use Rattle.vx_arrow_columns.proofs.Plans.{planned_needs}
 use Rattle.vx_arrow_columns.proofs.Takings.{means_picked, means_some, refused_by, short_of}
 use Rattle.vx_arrow_columns.proofs.taking.take.Goals as goal
@@ -12,10 +12,10 @@ first_short-requires c =
     omega (arith, planned_needs (parts_of nodes) c.args.places.now c.args.valid.now c.in-Ok.plan c.in-Ok.ensures.planned, c.deref.ensures.len, length-map nodes part_of, c.if-rooms-nodes.false)
 
 pub returns-clause-picked : goal.returns-clause-picked
-returns-clause-picked c = means_picked c.args.nodes.now _ _ c.write_all.ensures c.in-Ok.ensures.within
+returns-clause-picked c = means_picked c.args.nodes.now _ _ refl c.in-Ok.ensures.full c.write_all.ensures c.in-Ok.ensures.within
 
 pub returns-clause-sound : goal.returns-clause-sound
-returns-clause-sound c = means_some (parts_of c.args.nodes.now) _ _ c.write_all.ensures
+returns-clause-sound c kept = means_some (parts_of c.args.nodes.now) _ _ c.write_all.ensures kept
 
 pub returns-then-rooms-nodes-clause-refused : goal.returns-then-rooms-nodes-clause-refused
 returns-then-rooms-nodes-clause-refused c same = absurd (c.if-rooms-nodes.true (omega (arith, length-map c.args.nodes.now part_of)))

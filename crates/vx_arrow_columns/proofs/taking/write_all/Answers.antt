@@ -1,21 +1,21 @@
 -- One room more.
-use Rattle.std.proofs.Common.{◌≡◌, ◌<◌, length, refl, sym, arith}
+use Rattle.std.proofs.Common.{◌<◌, length, refl, arith}
 use Rattle.std.proofs.lemmas.List.{length-map}
-use Rattle.vx_arrow_columns.specs.declared.image.Need.{Need}
-use Rattle.vx_arrow_columns.specs.Image.{part_of, parts_of}
+use Rattle.vx_arrow_image.specs.declared.image.Need.{Need}
+use Rattle.vx_arrow_image.specs.Image.{part_of, parts_of}
 use Rattle.vx_arrow_columns.specs.Picks.{picking_of}
 use Rattle.vx_arrow_columns.proofs.Plans.{planned_picks}
-use Rattle.vx_arrow_columns.proofs.Takings.{all_taken, node_readable, node_room, node_taken, own_from}
+use Rattle.vx_arrow_columns.proofs.Takings.{all_read, all_taken, node_readable, node_room, node_taken, own_from}
 use Rattle.vx_arrow_columns.proofs.taking.write_all.Goals as goal
 
-pub write_node-requires-clause-readable : goal.write_node-requires-clause-readable
-write_node-requires-clause-readable c =
-    let own = own_from c.args.nodes.now c.args.places.now c.args.valid.now c.args.plan.now c.loop-i.i c.deref.result.now c.index.result.now _ c.loop-i-test.true c.deref.ensures.value c.index.ensures c.picks_for-own.ensures in
-    node_readable c.args.nodes.now c.args.places.now c.args.valid.now c.args.plan.now c.loop-i.i _ _ c.requires.planned own
+pub write_job-requires-clause-readable : goal.write_job-requires-clause-readable
+write_job-requires-clause-readable c bare =
+    let own = own_from c.args.nodes.now c.args.places.now c.args.valid.now c.args.plan.now c.loop-i.i c.deref.result.now c.index.result.now _ c.loop-i-test.true c.deref.ensures.value c.index.ensures refl in
+    node_readable c.args.nodes.now c.args.places.now c.args.valid.now c.args.plan.now c.loop-i.i _ _ c.requires.planned own bare
 
-pub write_node-requires-clause-room : goal.write_node-requires-clause-room
-write_node-requires-clause-room c =
-    let own = own_from c.args.nodes.now c.args.places.now c.args.valid.now c.args.plan.now c.loop-i.i c.deref.result.now c.index.result.now _ c.loop-i-test.true c.deref.ensures.value c.index.ensures c.picks_for-own.ensures in
+pub write_job-requires-clause-room : goal.write_job-requires-clause-room
+write_job-requires-clause-room c =
+    let own = own_from c.args.nodes.now c.args.places.now c.args.valid.now c.args.plan.now c.loop-i.i c.deref.result.now c.index.result.now _ c.loop-i-test.true c.deref.ensures.value c.index.ensures refl in
     let in_rooms : c.loop-i.i < length c.loop-i.rooms = omega (arith, c.loop-i.auto.rooms, c.requires.rooms, c.loop-i-test.true) in
     node_room c.args.nodes.now c.args.places.now c.args.valid.now c.args.plan.now c.loop-i.rooms c.loop-i.i _ zero_need _ _ c.requires.planned own (c.loop-i.invariant.room c.loop-i.i zero_need _ (omega arith) in_rooms)
   where
@@ -24,13 +24,14 @@ write_node-requires-clause-room c =
 
 pub loop-i-preserved : goal.loop-i-preserved
 loop-i-preserved c =
-    let own = own_from c.args.nodes.now c.args.places.now c.args.valid.now c.args.plan.now c.loop-i.i c.deref.result.now c.index.result.now _ c.loop-i-test.true c.deref.ensures.value c.index.ensures c.picks_for-own.ensures in
+    let own = own_from c.args.nodes.now c.args.places.now c.args.valid.now c.args.plan.now c.loop-i.i c.deref.result.now c.index.result.now _ c.loop-i-test.true c.deref.ensures.value c.index.ensures refl in
     let in_rooms : c.loop-i.i < length c.loop-i.rooms = omega (arith, c.loop-i.auto.rooms, c.requires.rooms, c.loop-i-test.true) in
-    node_taken c.args.nodes.now c.args.places.now c.args.valid.now c.args.plan.now c.loop-i.rooms c.write_node.new.room c.loop-i.i _ _ c.requires.planned own in_rooms c.write_node.ensures c.loop-i.invariant
+    node_taken c.args.nodes.now c.args.places.now c.args.valid.now c.args.plan.now c.loop-i.rooms c.write_job.new.room c.loop-i.i _ _ c.requires.planned own in_rooms c.write_job.ensures c.loop-i.invariant
 
 pub returns : goal.returns
 returns c =
     let nodes = c.args.nodes.now in
     let same = length-map nodes part_of in
     all_taken (parts_of nodes) (picking_of c.args.places.now c.args.valid.now 0) c.args.plan.now.needs.items c.loop-i.i c.loop-i.rooms c.requires.planned.tree
-    (planned_picks (parts_of nodes) c.args.places.now c.args.valid.now c.args.plan.now c.requires.planned) (omega (arith, c.loop-i.auto.rooms, c.requires.rooms)) (omega arith) c.loop-i.invariant
+    (planned_picks (parts_of nodes) c.args.places.now c.args.valid.now c.args.plan.now c.requires.planned) (omega (arith, c.loop-i.auto.rooms, c.requires.rooms)) (omega arith)
+    (all_read (parts_of nodes) c.args.places.now c.args.valid.now c.args.plan.now c.requires.planned) c.loop-i.invariant

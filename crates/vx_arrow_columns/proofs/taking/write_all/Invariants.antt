@@ -1,5 +1,5 @@
 -- The rooms so far are written.
-use Rattle.vx_arrow_columns.specs.Image.{parts_of}
+use Rattle.vx_arrow_image.specs.Image.{parts_of}
 use Rattle.vx_arrow_columns.specs.Picks.{picking_of, pickings}
 use Rattle.std.proofs.Common.{[], ◌∷◌}
 use Rattle.vx_arrow_columns.proofs.Takings.{TakenTo}

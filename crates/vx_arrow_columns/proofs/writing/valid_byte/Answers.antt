@@ -1,7 +1,7 @@
 -- One bit more.
-use Rattle.std.proofs.Common.{◌≡◌, ◌+◌, ◌∙◌, ℕ, ap, sym, refl, subst, arith}
+use Rattle.std.proofs.Common.{◌∙◌, ℕ, ap, refl, subst, arith}
 use Rattle.std.specs.Prelude.{is_some}
-use Rattle.vx_arrow_columns.specs.Image.{part_of}
+use Rattle.vx_arrow_image.specs.Image.{part_of}
 use Rattle.vx_arrow_columns.specs.Picks.{pick_at, place_of}
 use Rattle.vx_arrow_columns.specs.Taken.{IsByteOf}
 use Rattle.vx_arrow_columns.proofs.Steps.{byte_more, no_byte}

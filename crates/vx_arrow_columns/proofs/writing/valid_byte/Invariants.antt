@@ -1,6 +1,6 @@
 -- The bits so far.
 use Rattle.std.specs.Prelude.{is_some}
-use Rattle.vx_arrow_columns.specs.Image.{part_of}
+use Rattle.vx_arrow_image.specs.Image.{part_of}
 use Rattle.vx_arrow_columns.specs.Picks.{pick_at, place_of}
 use Rattle.vx_arrow_columns.specs.Taken.{IsByteOf}
 use Rattle.vx_arrow_columns.proofs.writing.valid_byte.Given as goal

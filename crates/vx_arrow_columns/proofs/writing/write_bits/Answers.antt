@@ -1,6 +1,6 @@
 -- One bit more.
-use Rattle.std.proofs.Common.{◌≡◌, ◌∙◌, sym, arith, length, subst, ℕ}
-use Rattle.vx_arrow_columns.specs.Image.{part_of}
+use Rattle.std.proofs.Common.{arith, subst, ℕ}
+use Rattle.vx_arrow_image.specs.Image.{part_of}
 use Rattle.vx_arrow_columns.specs.Picks.{picks_of}
 use Rattle.vx_arrow_columns.specs.Taken.{AreBits}
 use Rattle.vx_arrow_columns.proofs.Steps.{at_pick, bits_kept, bits_put, no_bits}

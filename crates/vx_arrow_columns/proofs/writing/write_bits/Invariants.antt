@@ -1,5 +1,5 @@
 -- The bits so far.
-use Rattle.vx_arrow_columns.specs.Image.{part_of}
+use Rattle.vx_arrow_image.specs.Image.{part_of}
 use Rattle.vx_arrow_columns.specs.Picks.{picks_of}
 use Rattle.vx_arrow_columns.specs.Taken.{AreBits}
 use Rattle.vx_arrow_columns.proofs.writing.write_bits.Given as goal

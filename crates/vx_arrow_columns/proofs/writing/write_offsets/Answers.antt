@@ -1,8 +1,8 @@
 -- One offset more.
-use Rattle.std.proofs.Common.{◌≡◌, ◌∙◌, ◌≤◌, ◌<◌, ◌+◌, sym, refl, take, length, arith}
-use Rattle.vx_arrow_columns.specs.Image.{part_of}
+use Rattle.std.proofs.Common.{◌≡◌, ◌<◌, ◌+◌, refl, take, length, arith}
+use Rattle.vx_arrow_image.specs.Image.{part_of}
 use Rattle.vx_arrow_columns.specs.Picks.{items_len, picks_of}
-use Rattle.vx_arrow_columns.proofs.Cuts.{len_more, len_within}
+use Rattle.vx_arrow_columns.proofs.Cuts.{len_within}
 use Rattle.vx_arrow_columns.proofs.PickReads.{length_picks}
 use Rattle.vx_arrow_columns.proofs.Steps.{at_pick, first_offset, limit_few, next_len, next_offset, row_none, row_some}
 use Rattle.vx_arrow_columns.proofs.writing.write_offsets.Goals as goal

@@ -1,10 +1,10 @@
 -- What the format's lemma asks for.
-use Rattle.std.proofs.Common.{◌≡◌, ◌≤◌, ◌<◌, ◌*◌, ◌+◌, ◌/◌, ℕ, length, Some, ap, sym, refl, subst, arith}
+use Rattle.std.proofs.Common.{◌≡◌, ◌*◌, ◌+◌, ℕ, length, Some, ap, sym, subst, arith}
 use Rattle.std.proofs.lemmas.Bool.{ltb-true}
-use Rattle.vx_arrow_columns.specs.declared.format.Format.TheVariants.{Bits, Fixed, Text, List as Lists, Struct}
-use Rattle.vx_arrow_columns.specs.Image.{part_of, size_of}
-use Rattle.vx_arrow_columns.specs.Picks.{items_len, picking_of, picks_of}
-use Rattle.vx_arrow_columns.specs.Taken.{AreBits, AreFixed, AreOffsets}
+use Rattle.vx_arrow_image.specs.declared.format.Format.TheVariants.{Text}
+use Rattle.vx_arrow_image.specs.Image.{part_of, size_of}
+use Rattle.vx_arrow_columns.specs.Picks.{picking_of, picks_of}
+use Rattle.vx_arrow_columns.specs.Taken.{AreOffsets}
 use Rattle.vx_arrow_columns.proofs.Cuts.{cut_ordered}
 use Rattle.vx_arrow_columns.proofs.OwnTaken.{counts, held_by, text_taken}
 use Rattle.vx_arrow_columns.proofs.PickReads.{length_picks}
@@ -23,7 +23,7 @@ write_offsets-requires-clause-room c =
     let ps = c.args.picks.now in
     let q = picking_of ps.places.now ps.valid.now ps.add in
     let count = length_picks ps.places.now ps.valid.now ps.add in
-    let r = roomy p q _ _ _ c.requires.room in
+    let r = roomy p q _ _ _ _ c.requires.room in
     let offsets = room_offsets p q (Some (Text c.args.size)) _ c.requires.format r.offsets in
     let same : size_of c.args.size * (length (picks_of ps.places.now ps.valid.now ps.add) + 1) ≡ size_of c.args.size * (length ps.places.now + 1) = ap (λ (n : ℕ). size_of c.args.size * (n + 1)) count in
     omega (arith, ap (λ x. length x.now) c.write_valid_of.ensures.offsets)
@@ -37,7 +37,7 @@ write_texts-requires-clause-room c =
     let ps = c.args.picks.now in
     let q = picking_of ps.places.now ps.valid.now ps.add in
     let count = length_picks ps.places.now ps.valid.now ps.add in
-    let r = roomy p q _ _ _ c.requires.room in
+    let r = roomy p q _ _ _ _ c.requires.room in
     let values = room_values p q (Some (Text c.args.size)) _ c.requires.format r.values in
     omega (arith, ap (λ x. length x.now) c.write_valid_of.ensures.values)
 
@@ -47,10 +47,10 @@ returns c =
     let ps = c.args.picks.now in
     let q = picking_of ps.places.now ps.valid.now ps.add in
     let count = length_picks ps.places.now ps.valid.now ps.add in
-    let r = roomy p q _ _ _ c.requires.room in
+    let r = roomy p q _ _ _ _ c.requires.room in
     let offsets = room_offsets p q (Some (Text c.args.size)) _ c.requires.format r.offsets in
     let values = room_values p q (Some (Text c.args.size)) _ c.requires.format r.values in
-    text_taken c.args.size p q _ _ _ c.requires.format c.requires.readable c.write_valid_of.ensures.shows (held_valid p q _ _ r.valid c.write_valid_of.ensures.long)
+    text_taken c.args.size p q _ _ _ _ c.requires.format c.requires.readable c.write_valid_of.ensures.shows (held_valid p q _ _ r.valid c.write_valid_of.ensures.long)
     (omega (arith, c.write_offsets.auto.out, ap (λ x. length x.now) c.write_valid_of.ensures.offsets))
     (subst (λ (n : ℕ). AreOffsets c.args.size p q.picks n c.write_offsets.new.out) (sym count) c.write_offsets.ensures)
     (omega (arith, c.write_texts.auto.out, ap (λ x. length x.now) c.write_valid_of.ensures.values)) c.write_texts.ensures

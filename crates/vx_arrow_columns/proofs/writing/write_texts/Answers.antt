@@ -1,8 +1,9 @@
 -- One text more.
-use Rattle.std.proofs.Common.{◌≡◌, ◌∙◌, ◌≤◌, ◌<◌, ◌+◌, ◌-◌, sym, refl, take, length, arith}
-use Rattle.vx_arrow_columns.specs.Image.{part_of}
-use Rattle.vx_arrow_columns.specs.Picks.{items_len, picks_of}
-use Rattle.vx_arrow_columns.proofs.Cuts.{cut_end, cut_up, len_within}
+use Rattle.std.proofs.Common.{◌∙◌, ◌<◌, refl, length, arith}
+use Rattle.vx_arrow_image.specs.Image.{part_of}
+use Rattle.vx_arrow_columns.specs.Picks.{picks_of}
+use Rattle.vx_arrow_image.proofs.CutRows.{cut_end, cut_up}
+use Rattle.vx_arrow_columns.proofs.Cuts.{len_within}
 use Rattle.vx_arrow_columns.proofs.PickReads.{length_picks}
 use Rattle.vx_arrow_columns.proofs.Steps.{all_texts, at_pick, next_len, no_texts, row_some, text_kept, text_put}
 use Rattle.vx_arrow_columns.proofs.writing.write_texts.Goals as goal

@@ -1,5 +1,5 @@
 -- The texts so far.
-use Rattle.vx_arrow_columns.specs.Image.{part_of}
+use Rattle.vx_arrow_image.specs.Image.{part_of}
 use Rattle.vx_arrow_columns.specs.Picks.{picks_of}
 use Rattle.vx_arrow_columns.proofs.Steps.{TextsTo}
 use Rattle.vx_arrow_columns.proofs.writing.write_texts.Given as goal

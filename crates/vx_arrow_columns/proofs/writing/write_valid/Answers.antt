@@ -1,6 +1,6 @@
 -- One byte more, and the last one.
-use Rattle.std.proofs.Common.{◌≡◌, ◌+◌, ◌*◌, ◌/◌, ◌%◌, ◌<◌, length, length-set, refl, arith}
-use Rattle.vx_arrow_columns.specs.Image.{part_of}
+use Rattle.std.proofs.Common.{◌*◌, ◌/◌, ◌%◌, length, length-set, refl, arith}
+use Rattle.vx_arrow_image.specs.Image.{part_of}
 use Rattle.vx_arrow_columns.proofs.PickReads.{shown_all}
 use Rattle.vx_arrow_columns.proofs.Steps.{byte_put}
 use Rattle.vx_arrow_columns.proofs.writing.write_valid.Goals as goal

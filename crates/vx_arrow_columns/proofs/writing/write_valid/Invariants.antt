@@ -1,7 +1,7 @@
 -- The bytes so far.
 use Rattle.std.proofs.Common.{◌≡◌, ℕ, ◌<◌, ◌*◌}
 use Rattle.std.specs.Prelude.{is_some}
-use Rattle.vx_arrow_columns.specs.Image.{bit_of, part_of}
+use Rattle.vx_arrow_image.specs.Image.{bit_of, part_of}
 use Rattle.vx_arrow_columns.specs.Picks.{pick_at, place_of}
 use Rattle.vx_arrow_columns.proofs.writing.write_valid.Given as goal
 

@@ -1,6 +1,6 @@
 -- Bits are written, or none are needed.
-use Rattle.std.proofs.Common.{◌≡◌, ◌≤◌, ◌*◌, refl, sym, ◌∙◌, arith, length}
-use Rattle.vx_arrow_columns.specs.Image.{part_of}
+use Rattle.std.proofs.Common.{refl, sym, arith}
+use Rattle.vx_arrow_image.specs.Image.{part_of}
 use Rattle.vx_arrow_columns.specs.Picks.{picking_of}
 use Rattle.vx_arrow_columns.proofs.PickReads.{length_picks}
 use Rattle.vx_arrow_columns.proofs.Rooms.{bits_shown, none_shown, roomy}
@@ -9,7 +9,7 @@ use Rattle.vx_arrow_columns.proofs.writing.write_valid_of.Goals as goal
 pub write_valid-requires-clause-room : goal.write_valid-requires-clause-room
 write_valid-requires-clause-room c =
     let ps = c.args.picks.now in
-    let r = roomy (part_of c.args.node.now) (picking_of ps.places.now ps.valid.now ps.add) _ _ _ c.requires.room in
+    let r = roomy (part_of c.args.node.now) (picking_of ps.places.now ps.valid.now ps.add) _ _ _ _ c.requires.room in
     omega (arith, r.valid (sym c.if-not-shows_valid.ensures), length_picks ps.places.now ps.valid.now ps.add)
 
 pub returns-then-not-shows_valid : goal.returns-then-not-shows_valid
@@ -20,6 +20,7 @@ returns-then-not-shows_valid c =
       long = refl;
       offsets = refl;
       values = refl;
+      sizes = refl;
     }
 
 pub returns : goal.returns
@@ -30,4 +31,5 @@ returns c =
       long = c.write_valid.auto.out;
       offsets = refl;
       values = refl;
+      sizes = refl;
     }

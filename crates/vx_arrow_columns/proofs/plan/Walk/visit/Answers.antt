@@ -1,31 +1,27 @@
 -- The facts of the steps, in order.
-use Rattle.std.proofs.Common.{◌≡◌, ◌≤◌, ◌+◌, ◌++◌, ◌∷◌, [], List, length, ap, sym, subst, ◌∙◌, refl, arith, rules}
+use Rattle.std.proofs.Common.{◌≡◌, ◌≤◌, ◌+◌, ◌++◌, ◌∷◌, [], List, length, ap, subst, ◌∙◌, arith, rules}
 use Rattle.vx_arrow_columns.specs.declared.places.Places.{Places}
-use Rattle.vx_arrow_columns.specs.Image.{part_of}
+use Rattle.vx_arrow_image.specs.Image.{part_of, parts_of}
 use Rattle.std.specs.Prelude.{replicate}
 use Rattle.vx_arrow_columns.specs.declared.plan.Walk.{Walk}
 use Rattle.vx_arrow_columns.specs.Planned.{IsJobMeasured, IsVisited, picking_in}
 use Rattle.vx_arrow_columns.proofs.Measures.{ok_then}
-use Rattle.vx_arrow_columns.proofs.PickReads.{placed_end}
 use Rattle.vx_arrow_columns.proofs.plan.Walk.visit.Goals as goal
-
-pub next_job-requires : goal.next_job-requires
-next_job-requires c = placed_end (part_of c.args.node.now) c.in_ok-measure.ensures.readable.placed
 
 pub returns : goal.returns
 returns c =
     let old = c.args.self.now in
     let node = c.args.node.now in
     let job = c.in-Some.job in
-    let m = subst (λ (l : List Places). IsJobMeasured (part_of node) (picking_in c.args.places.now c.args.valid.now l job) c.in_ok-measure.measure) c.deref.ensures.value c.in_ok-measure.ensures in
+    let m = subst (λ (l : List Places). IsJobMeasured (part_of node) (picking_in c.args.places.now c.args.valid.now l job) (parts_of c.args.behind.now) c.in_ok-measure.measure) c.deref.ensures.value c.in_ok-measure.ensures in
     let rest = c.pop.new.self.items in
     let popped : old.stack.items ≡ rest ++ job ∷ [] = search rules in
     let left : c.len-left.result ≡ length rest = omega (arith, c.len-left.ensures) in
-    let few : node.children + length rest ≤ c.args.behind = omega (arith, c.if-left-behind.false, c.if-node-behind.false) in
+    let few : node.children + length rest ≤ length c.args.behind.now = omega (arith, c.if-left-behind.false, c.if-node-behind.false) in
     let jobs : c.push.new.self.items ≡ old.jobs.items ++ job ∷ [] = search rules in
     let needs : c.push-2.new.self.items ≡ old.needs.items ++ c.in_ok-measure.measure.need ∷ [] = search rules in
     let new : Walk = record { jobs = c.push.new.self; lists = c.next_job.new.lists; needs = c.push-2.new.self; stack = c.push_times.new.stack } in
-    ok_then (c.push_times.new.stack.items ≡ rest ++ replicate node.children c.in_ok-next.next) (IsVisited c.args.places.now c.args.valid.now node c.args.behind old new) _ (λ pushed. record {
+    ok_then (c.push_times.new.stack.items ≡ rest ++ replicate node.children c.in_ok-next.next) (IsVisited c.args.places.now c.args.valid.now node c.args.behind.now old new) _ (λ pushed. record {
       job = job;
       next = c.in_ok-next.next;
       inside = c.in_ok-measure.measure.inner;
@@ -36,6 +32,6 @@ returns c =
       jobs = jobs;
       needs = needs ∙ ap (λ n. old.needs.items ++ n ∷ []) m.need;
       next_is = c.in_ok-next.ensures;
-      readable = m.readable;
+      read = m.read;
       inner_is = m.children;
     }) c.push_times.ensures

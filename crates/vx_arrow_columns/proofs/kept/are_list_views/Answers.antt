@@ -1,0 +1,27 @@
+-- One row more.
+use Rattle.std.proofs.Common.{sym, arith}
+use Rattle.vx_arrow_image.specs.Image.{is_list_view, part_of}
+use Rattle.vx_arrow_columns.specs.Picks.{picks_of}
+use Rattle.vx_arrow_columns.proofs.PickReads.{length_picks}
+use Rattle.vx_arrow_columns.proofs.Steps.{all_hold, at_pick, hold_none, hold_some, none_hold}
+use Rattle.vx_arrow_columns.proofs.kept.are_list_views.Goals as goal
+use Rattle.vx_arrow_columns.proofs.kept.are_list_views.Goals.{in-Some+else-not-is_list_view, in_default}
+
+pub loop-k-init : goal.loop-k-init
+loop-k-init c = none_hold _ _ _
+
+pub loop-k-preserved : goal.loop-k-preserved
+loop-k-preserved c =
+    let p = part_of c.args.node.now in
+    let ps = c.args.picks.now in
+    let k = c.loop-k.k in
+    let q = picks_of ps.places.now ps.valid.now ps.add in
+    elim c.match-place.branch [
+      | in-Some+else-not-is_list_view w ↦ hold_some p q (is_list_view c.args.size (part_of c.args.node.now) c.args.count) k w.in-Some.i (at_pick p ps.places.now ps.valid.now ps.add k _ c.loop-k-test.true w.in-Some.ensures.place) (sym w.if-not-is_list_view.ensures) c.loop-k.invariant
+      | in_default w ↦ hold_none p q (is_list_view c.args.size (part_of c.args.node.now) c.args.count) k (at_pick p ps.places.now ps.valid.now ps.add k _ c.loop-k-test.true w.in_default.ensures.place) c.loop-k.invariant
+    ]
+
+pub returns : goal.returns
+returns c _ =
+    let ps = c.args.picks.now in
+    all_hold (part_of c.args.node.now) (picks_of ps.places.now ps.valid.now ps.add) (is_list_view c.args.size (part_of c.args.node.now) c.args.count) c.loop-k.k (omega (arith, length_picks ps.places.now ps.valid.now ps.add)) c.loop-k.invariant

@@ -1,0 +1,8 @@
+-- The rows so far.
+use Rattle.vx_arrow_image.specs.Image.{is_list_view, part_of}
+use Rattle.vx_arrow_columns.specs.Picks.{picks_of}
+use Rattle.vx_arrow_columns.proofs.Steps.{AllTo}
+use Rattle.vx_arrow_columns.proofs.kept.are_list_views.Given as goal
+
+abbrev pub invariant-loop-k : goal.invariant-loop-k
+invariant-loop-k l = AllTo (part_of l.node) (picks_of l.picks.places.now l.picks.valid.now l.picks.add) (is_list_view l.size (part_of l.node) l.count) l.k

@@ -1,7 +1,0 @@
--- Eight bytes.
-use Rattle.std.proofs.Common.{arith}
-use Rattle.vx_arrow_columns.proofs.OffsetReads.{read_long}
-use Rattle.vx_arrow_columns.proofs.offsets.long_offset.Goals as goal
-
-pub returns : goal.returns
-returns c = read_long c.args.offsets.now c.args.j _ c.requires c.from_le_bytes.ensures

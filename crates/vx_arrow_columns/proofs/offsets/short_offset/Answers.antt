@@ -1,7 +1,0 @@
--- Four bytes.
-use Rattle.std.proofs.Common.{arith}
-use Rattle.vx_arrow_columns.proofs.OffsetReads.{read_short}
-use Rattle.vx_arrow_columns.proofs.offsets.short_offset.Goals as goal
-
-pub returns : goal.returns
-returns c = read_short c.args.offsets.now c.args.j _ c.requires c.from_le_bytes.ensures

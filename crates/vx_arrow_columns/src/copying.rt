@@ -1,0 +1,110 @@
+//! Bytes of one width, copied for each row at picks.
+ghost use Rattle.std.specs.Prelude.{◌≡◌, ◌+◌, ◌*◌, ◌≤◌, [], length, true};
+ghost use Rattle.vx_arrow_image.specs.Image.{is_placed, part_of, size_of};
+ghost use Rattle.vx_arrow_columns.specs.Picks.{picks_of};
+ghost use Rattle.vx_arrow_columns.specs.Taken.{AreCopied, AreWithin};
+
+use crate::places::{Picks, row, row_there};
+use crate::puts::put_bytes;
+use vx_arrow_image::{Node, Offsets};
+
+// Writes the bytes of the row at each pick, where none is null, of a width that is known
+// beforehand.
+fn write_rows<const W: usize>(src: &[u8], node: &Node, picks: &Picks, out: &mut [u8])
+    requires there { picks.now.valid.now ≡ [] }
+    requires placed { is_placed (part_of node.now) ≡ true }
+    requires within { AreWithin
+        (picks_of picks.now.places.now picks.now.valid.now picks.now.add) node.now.len }
+    requires source { (node.now.offset + node.now.len) * W ≤ length src.now }
+    requires room { length picks.now.places.now * W ≤ length out.old }
+    ensures { AreCopied W src.now (part_of node.now)
+        (picks_of picks.now.places.now picks.now.valid.now picks.now.add)
+        (length picks.now.places.now) out.new }
+{
+    for k in 0..picks.places.len() {
+        let i = row_there(node, picks, k);
+        put_bytes(out, k * W, &src[i * W..i * W + W]);
+    }
+}
+
+/// Writes the bytes of each row at a pick that isn't null, of a width that is known beforehand.
+pub(crate) fn write_records<const W: usize>(src: &[u8], node: &Node, picks: &Picks, out: &mut [u8])
+    requires placed { is_placed (part_of node.now) ≡ true }
+    requires within { AreWithin
+        (picks_of picks.now.places.now picks.now.valid.now picks.now.add) node.now.len }
+    requires source { (node.now.offset + node.now.len) * W ≤ length src.now }
+    requires room { length picks.now.places.now * W ≤ length out.old }
+    ensures { AreCopied W src.now (part_of node.now)
+        (picks_of picks.now.places.now picks.now.valid.now picks.now.add)
+        (length picks.now.places.now) out.new }
+{
+    if picks.valid.is_empty() {
+        write_rows::<W>(src, node, picks, out);
+        return;
+    }
+    for k in 0..picks.places.len() {
+        if let Some(i) = row(node, picks, k) {
+            put_bytes(out, k * W, &src[i * W..i * W + W]);
+        }
+    }
+}
+
+// Writes the value of each row at a pick that isn't null, of any width.
+fn write_values(node: &Node, picks: &Picks, out: &mut [u8])
+    requires placed { is_placed (part_of node.now) ≡ true }
+    requires within { AreWithin
+        (picks_of picks.now.places.now picks.now.valid.now picks.now.add) node.now.len }
+    requires values { (node.now.offset + node.now.len) * node.now.width
+        ≤ length node.now.values.now }
+    requires room { length picks.now.places.now * node.now.width ≤ length out.old }
+    ensures { AreCopied node.now.width node.now.values.now (part_of node.now)
+        (picks_of picks.now.places.now picks.now.valid.now picks.now.add)
+        (length picks.now.places.now) out.new }
+{
+    let width = node.width as usize;
+    for k in 0..picks.places.len() {
+        if let Some(i) = row(node, picks, k) {
+            put_bytes(out, k * width, &node.values[i * width..i * width + width]);
+        }
+    }
+}
+
+/// Writes values of a fixed width.
+pub(crate) fn write_fixed(node: &Node, picks: &Picks, out: &mut [u8])
+    requires placed { is_placed (part_of node.now) ≡ true }
+    requires within { AreWithin
+        (picks_of picks.now.places.now picks.now.valid.now picks.now.add) node.now.len }
+    requires values { (node.now.offset + node.now.len) * node.now.width
+        ≤ length node.now.values.now }
+    requires room { length picks.now.places.now * node.now.width ≤ length out.old }
+    ensures { AreCopied node.now.width node.now.values.now (part_of node.now)
+        (picks_of picks.now.places.now picks.now.valid.now picks.now.add)
+        (length picks.now.places.now) out.new }
+{
+    match node.width {
+        1 => write_records::<1>(node.values, node, picks, out),
+        2 => write_records::<2>(node.values, node, picks, out),
+        4 => write_records::<4>(node.values, node, picks, out),
+        8 => write_records::<8>(node.values, node, picks, out),
+        16 => write_records::<16>(node.values, node, picks, out),
+        32 => write_records::<32>(node.values, node, picks, out),
+        _ => write_values(node, picks, out),
+    }
+}
+
+/// Writes a number for each row at a pick that isn't null.
+pub(crate) fn write_numbers(size: Offsets, src: &[u8], node: &Node, picks: &Picks, out: &mut [u8])
+    requires placed { is_placed (part_of node.now) ≡ true }
+    requires within { AreWithin
+        (picks_of picks.now.places.now picks.now.valid.now picks.now.add) node.now.len }
+    requires source { size_of size * (node.now.offset + node.now.len) ≤ length src.now }
+    requires room { size_of size * length picks.now.places.now ≤ length out.old }
+    ensures { AreCopied (size_of size) src.now (part_of node.now)
+        (picks_of picks.now.places.now picks.now.valid.now picks.now.add)
+        (length picks.now.places.now) out.new }
+{
+    match size {
+        Offsets::Short => write_records::<4>(src, node, picks, out),
+        Offsets::Long => write_records::<8>(src, node, picks, out),
+    }
+}

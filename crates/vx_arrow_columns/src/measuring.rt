@@ -1,0 +1,285 @@
+//! What the rows of one node at picks need, by its format.
+ghost use Rattle.std.specs.Prelude.{◌≡◌, ◌+◌, ◌*◌, ◌^◌, ◌<◌, ◌≤◌, IfOk, OnOk, Some, length, true};
+ghost use Rattle.vx_arrow_image.specs.Image.{format_in, is_placed, part_of, parts_of};
+ghost use Rattle.vx_arrow_columns.specs.Measured.{IsLeaf, IsMeasured};
+ghost use Rattle.vx_arrow_columns.specs.Picks.{picking_of, picks_of};
+ghost use Rattle.vx_arrow_columns.specs.Planned.{child_lens};
+ghost use Rattle.vx_arrow_columns.specs.Taken.{AreInside, AreWithin};
+
+use crate::faults::Fault;
+use crate::fixed_lists::fixed_items;
+use crate::kept::{first_len, test_inside};
+use crate::needs::{Inner, Items, Measure, list_items, tested, text_len};
+use crate::places::Picks;
+use crate::unions::measure_union;
+use std::alloc::Global;
+use vx_arrow_image::{Format, Lack, Node, Offsets, holds_starts};
+
+// So many bytes of values, where the node has no children.
+fn leaf(node: &Node, values: u64) -> Result<Measure, Fault>
+    ensures { IfOk result (IsLeaf (part_of node.now) values) }
+{
+    if node.children != 0 {
+        return Err(Fault::Lacks(Lack::Children));
+    }
+    Ok(Measure {
+        values,
+        inner: Inner::Leaf,
+    })
+}
+
+// Of nulls.
+fn measure_nulls(node: &Node, picks: &Picks) -> Result<Measure, Fault>
+    requires format { format_in node.now.format ≡ Some Format.Nulls }
+    requires few { length picks.now.places.now < 2 ^ 60 }
+    requires placed { is_placed (part_of node.now) ≡ true }
+    requires within { AreWithin
+        (picks_of picks.now.places.now picks.now.valid.now picks.now.add) node.now.len }
+    ensures { IfOk result (IsMeasured (part_of node.now)
+        (picking_of picks.now.places.now picks.now.valid.now picks.now.add)) }
+{
+    leaf(node, 0)
+}
+
+// Of bits.
+fn measure_bits(node: &Node, picks: &Picks) -> Result<Measure, Fault>
+    requires format { format_in node.now.format ≡ Some Format.Bits }
+    requires few { length picks.now.places.now < 2 ^ 60 }
+    requires placed { is_placed (part_of node.now) ≡ true }
+    requires within { AreWithin
+        (picks_of picks.now.places.now picks.now.valid.now picks.now.add) node.now.len }
+    ensures { IfOk result (IsMeasured (part_of node.now)
+        (picking_of picks.now.places.now picks.now.valid.now picks.now.add)) }
+{
+    if (node.offset + node.len).div_ceil(8) > node.values.len() as u64 {
+        return Err(Fault::Lacks(Lack::Values));
+    }
+    let values = (picks.places.len() as u64).div_ceil(8);
+    leaf(node, values)
+}
+
+// Of values of a fixed width.
+fn measure_fixed(node: &Node, picks: &Picks) -> Result<Measure, Fault>
+    requires format { format_in node.now.format ≡ Some Format.Fixed }
+    requires few { length picks.now.places.now < 2 ^ 60 }
+    requires placed { is_placed (part_of node.now) ≡ true }
+    requires within { AreWithin
+        (picks_of picks.now.places.now picks.now.valid.now picks.now.add) node.now.len }
+    ensures { IfOk result (IsMeasured (part_of node.now)
+        (picking_of picks.now.places.now picks.now.valid.now picks.now.add)) }
+{
+    let Some(held) = (node.offset + node.len).checked_mul(node.width) else {
+        return Err(Fault::Lacks(Lack::Values));
+    };
+    if held > node.values.len() as u64 {
+        return Err(Fault::Lacks(Lack::Values));
+    }
+    let Some(values) = (picks.places.len() as u64).checked_mul(node.width) else {
+        return Err(Fault::Overflow);
+    };
+    if values >= 1 << 63 {
+        return Err(Fault::Overflow);
+    }
+    leaf(node, values)
+}
+
+// Of texts.
+fn measure_text(size: Offsets, node: &Node, picks: &Picks) -> Result<Measure, Fault>
+    requires format { format_in node.now.format ≡ Some (Format.Text size) }
+    requires few { length picks.now.places.now < 2 ^ 60 }
+    requires placed { is_placed (part_of node.now) ≡ true }
+    requires within { AreWithin
+        (picks_of picks.now.places.now picks.now.valid.now picks.now.add) node.now.len }
+    ensures { IfOk result (IsMeasured (part_of node.now)
+        (picking_of picks.now.places.now picks.now.valid.now picks.now.add)) }
+{
+    let len = text_len(size, node, picks)?;
+    leaf(node, len)
+}
+
+// Of lists.
+fn measure_list(
+    alloc: Global,
+    size: Offsets,
+    node: &Node,
+    picks: &Picks,
+    items: u64,
+) -> Result<Measure, Fault>
+    requires format { format_in node.now.format ≡ Some (Format.List size) }
+    requires few { length picks.now.places.now < 2 ^ 60 }
+    requires placed { is_placed (part_of node.now) ≡ true }
+    requires within { AreWithin
+        (picks_of picks.now.places.now picks.now.valid.now picks.now.add) node.now.len }
+    ensures { IfOk result (IsMeasured (part_of node.now)
+        (picking_of picks.now.places.now picks.now.valid.now picks.now.add)) }
+{
+    if node.children != 1 {
+        return Err(Fault::Lacks(Lack::Children));
+    }
+    let items = list_items(alloc, size, node, picks, items)?;
+    Ok(Measure {
+        values: 0,
+        inner: Inner::Listed(items),
+    })
+}
+
+// Of lists of a fixed size.
+fn measure_fixed_list(
+    alloc: Global,
+    node: &Node,
+    picks: &Picks,
+    items: u64,
+) -> Result<Measure, Fault>
+    requires format { format_in node.now.format ≡ Some Format.FixedList }
+    requires few { length picks.now.places.now < 2 ^ 60 }
+    requires placed { is_placed (part_of node.now) ≡ true }
+    requires within { AreWithin
+        (picks_of picks.now.places.now picks.now.valid.now picks.now.add) node.now.len }
+    ensures { IfOk result (IsMeasured (part_of node.now)
+        (picking_of picks.now.places.now picks.now.valid.now picks.now.add)) }
+{
+    if node.children != 1 {
+        return Err(Fault::Lacks(Lack::Children));
+    }
+    let Some(end) = (node.offset + node.len).checked_mul(node.width) else {
+        return Err(Fault::Lacks(Lack::Length));
+    };
+    if end >= 1 << 60 {
+        return Err(Fault::Lacks(Lack::Length));
+    }
+    if end > items {
+        return Err(Fault::Lacks(Lack::Items));
+    }
+    let Some(count) = (picks.places.len() as u64).checked_mul(node.width) else {
+        return Err(Fault::Overflow);
+    };
+    if count >= 1 << 60 {
+        return Err(Fault::Overflow);
+    }
+    let list = fixed_items(alloc, node, picks, count as usize)?;
+    Ok(Measure {
+        values: 0,
+        inner: Inner::Listed(Items { list, end }),
+    })
+}
+
+// Of a struct.
+fn measure_struct(node: &Node, picks: &Picks) -> Measure
+    requires format { format_in node.now.format ≡ Some Format.Struct }
+    requires few { length picks.now.places.now < 2 ^ 60 }
+    requires placed { is_placed (part_of node.now) ≡ true }
+    requires within { AreWithin
+        (picks_of picks.now.places.now picks.now.valid.now picks.now.add) node.now.len }
+    ensures { IsMeasured (part_of node.now)
+        (picking_of picks.now.places.now picks.now.valid.now picks.now.add) result }
+{
+    Measure {
+        values: 0,
+        inner: Inner::Same,
+    }
+}
+
+// Of views of texts.
+fn measure_text_view(node: &Node, picks: &Picks) -> Result<Measure, Fault>
+    requires format { format_in node.now.format ≡ Some Format.TextView }
+    requires few { length picks.now.places.now < 2 ^ 60 }
+    requires placed { is_placed (part_of node.now) ≡ true }
+    requires within { AreWithin
+        (picks_of picks.now.places.now picks.now.valid.now picks.now.add) node.now.len }
+    ensures { IfOk result (IsMeasured (part_of node.now)
+        (picking_of picks.now.places.now picks.now.valid.now picks.now.add)) }
+{
+    if 16 * (node.offset + node.len) > node.values.len() as u64 {
+        return Err(Fault::Lacks(Lack::Values));
+    }
+    let values = 16 * picks.places.len() as u64;
+    if values >= 1 << 63 {
+        return Err(Fault::Overflow);
+    }
+    Ok(Measure {
+        values,
+        inner: Inner::Kept,
+    })
+}
+
+// Of views of lists.
+fn measure_list_view(size: Offsets, node: &Node, picks: &Picks) -> Result<Measure, Fault>
+    requires format { format_in node.now.format ≡ Some (Format.ListView size) }
+    requires few { length picks.now.places.now < 2 ^ 60 }
+    requires placed { is_placed (part_of node.now) ≡ true }
+    requires within { AreWithin
+        (picks_of picks.now.places.now picks.now.valid.now picks.now.add) node.now.len }
+    ensures { IfOk result (IsMeasured (part_of node.now)
+        (picking_of picks.now.places.now picks.now.valid.now picks.now.add)) }
+{
+    if node.children != 1 {
+        return Err(Fault::Lacks(Lack::Children));
+    }
+    let end = node.offset + node.len;
+    if !holds_starts(size, node.offsets, end) {
+        return Err(Fault::Lacks(Lack::Offsets));
+    }
+    if !holds_starts(size, node.sizes, end) {
+        return Err(Fault::Lacks(Lack::Sizes));
+    }
+    Ok(Measure {
+        values: 0,
+        inner: Inner::Kept,
+    })
+}
+
+// Of a node of this format. Where it is one of lists, its child has `items` rows.
+fn measure_format(
+    alloc: Global,
+    format: Format,
+    node: &Node,
+    picks: &Picks,
+    items: u64,
+) -> Result<Measure, Fault>
+    requires format { format_in node.now.format ≡ Some format }
+    requires few { length picks.now.places.now < 2 ^ 60 }
+    requires placed { is_placed (part_of node.now) ≡ true }
+    requires within { AreWithin
+        (picks_of picks.now.places.now picks.now.valid.now picks.now.add) node.now.len }
+    ensures { IfOk result (IsMeasured (part_of node.now)
+        (picking_of picks.now.places.now picks.now.valid.now picks.now.add)) }
+{
+    match format {
+        Format::Nulls => measure_nulls(node, picks),
+        Format::Bits => measure_bits(node, picks),
+        Format::Fixed => measure_fixed(node, picks),
+        Format::Text(size) => measure_text(size, node, picks),
+        Format::Struct => Ok(measure_struct(node, picks)),
+        Format::List(size) => measure_list(alloc, size, node, picks, items),
+        Format::FixedList => measure_fixed_list(alloc, node, picks, items),
+        Format::TextView => measure_text_view(node, picks),
+        Format::ListView(size) => measure_list_view(size, node, picks),
+        Format::Union => measure_union(node, picks),
+    }
+}
+
+/// Tests what the rows of a node at picks below `end` touch, before these nodes, and says what
+/// they need.
+pub(crate) fn measure_node(
+    alloc: Global,
+    node: &Node,
+    picks: &Picks,
+    end: u64,
+    behind: &[Node],
+) -> Result<Measure, Fault>
+    requires { AreWithin
+        (picks_of picks.now.places.now picks.now.valid.now picks.now.add) end }
+    ensures measured { IfOk result (IsMeasured (part_of node.now)
+        (picking_of picks.now.places.now picks.now.valid.now picks.now.add)) }
+    ensures inside { OnOk result (AreInside (part_of node.now)
+        (picks_of picks.now.places.now picks.now.valid.now picks.now.add)
+        (child_lens (part_of node.now) (parts_of behind.now))) }
+{
+    let format = tested(node, end)?;
+    if picks.places.len() >= 1 << 60 {
+        return Err(Fault::Overflow);
+    }
+    let measure = measure_format(alloc, format, node, picks, first_len(behind))?;
+    test_inside(alloc, format, node, picks, behind)?;
+    Ok(measure)
+}

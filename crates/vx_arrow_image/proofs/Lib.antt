@@ -1,0 +1,5 @@
+pub mod CutRows
+pub mod OffsetReads
+pub mod SoundNodes
+pub mod Stacks
+pub mod ViewTests

@@ -1,0 +1,4 @@
+pub mod Checking
+pub mod Image
+pub mod Messages
+pub mod Rows
