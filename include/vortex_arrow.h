@@ -10,9 +10,10 @@
  * - Proved: where a library call's status is VORTEX_ARROW_DONE, what it wrote means what is said of
  *   it below; at every other status it wrote nothing.
  * - Trusted: an array doesn't say how long its buffers are. The shim takes from `length`, `offset`
- *   and the format how many bytes a buffer must have, and from the last offset how many bytes of
- *   text there are. Where a producer hands in a shorter buffer, it is read past its end. Names,
- *   metadata, flags, dictionaries, the order of the buffers, and what is freed and when are the
+ *   and the format how many bytes a buffer must have, from the last offset how many bytes of text
+ *   there are, and from the last buffer of views how many there are in those that they lead to.
+ *   Where a producer hands in a shorter buffer, it is read past its end. Names, metadata, flags,
+ *   dictionaries, what views lead to, the order of the buffers, and what is freed and when are the
  *   shim's too.
  *
  * What the caller owes, and nothing tests:
@@ -29,11 +30,11 @@
  *
  * Formats: null (n), bools (b), integers and floats (c C s S i I l L e f g), binary of a fixed
  * width (w:N), decimals (d:P,S and d:P,S,W), dates, times, timestamps, durations and intervals
- * (t..), texts and bytes (u U z Z), structs (+s), lists (+l +L), lists of a fixed size (+w:N) and
- * maps (+m), each with an offset, a validity, and a dictionary where it is of integers. An answer
- * has the format of its source. Views (vu vz), views of lists (+vl +vL) and unions (+us: +ud:) are
- * handed to the library; those that it doesn't know are refused by VORTEX_ARROW_FORMAT, as are
- * arrays that are run-end encoded (+r) and formats that Arrow doesn't have. */
+ * (t..), texts and bytes (u U z Z) and views of them (vu vz), structs (+s), lists (+l +L), lists of
+ * a fixed size (+w:N), views of lists (+vl +vL) and maps (+m), each with an offset, a validity, and
+ * a dictionary where it is of integers. An answer has the format of its source. Unions (+us: +ud:)
+ * are handed to the library; where it doesn't know them, they are refused by VORTEX_ARROW_FORMAT,
+ * as are arrays that are run-end encoded (+r) and formats that Arrow doesn't have. */
 #ifndef VORTEX_ARROW_H
 #define VORTEX_ARROW_H
 
@@ -102,6 +103,7 @@ enum {
     VORTEX_ARROW_BROKEN = 6,     /* a step breaks a rule */
     VORTEX_ARROW_LACKING = 7,    /* the image of a step has no meaning */
     VORTEX_ARROW_FORMAT = 8,     /* a format that isn't known */
+    VORTEX_ARROW_NULL_PICK = 9,  /* a null is picked of a union, whose rows are never null */
     /* Of the shim alone: */
     VORTEX_ARROW_SHAPE = 16,     /* a struct isn't what its format says, or is released */
     VORTEX_ARROW_DEPTH = 17,     /* more than VORTEX_ARROW_LEVELS columns in one another */
@@ -189,11 +191,12 @@ typedef struct vortex_arrow_node {
     uint64_t width;  /* of FIXED: bytes a value; of FIXED_LIST: items a row; else 0 */
     uint64_t len;    /* rows */
     uint64_t offset; /* the first of them in the buffers */
-    uint64_t children;
+    uint64_t children; /* of VIEWS: a node for each buffer that they lead to, FIXED of a byte */
     vortex_arrow_bytes valid;   /* bits; no bytes where each row is valid */
     vortex_arrow_bytes offsets; /* of texts, lists, views of lists, dense unions */
-    vortex_arrow_bytes values;  /* FIXED: values; BITS: bits; TEXT: bytes; VIEWS: 16 bytes a row */
-    vortex_arrow_bytes sizes;   /* of views of lists: sizes; of unions: type ids, a byte a row */
+    vortex_arrow_bytes values;  /* FIXED: values; BITS: bits; TEXT: bytes; VIEWS: 16 bytes a row;
+                                 * unions: the id of each row's child, a byte */
+    vortex_arrow_bytes sizes;   /* of views of lists: sizes; of unions: a byte a child, its id */
 } vortex_arrow_node;
 
 typedef struct vortex_arrow_room_bytes {
@@ -219,8 +222,11 @@ enum {
     VORTEX_ARROW_LACKS_CHILDREN = 4, /* as many children as its format has */
     VORTEX_ARROW_LACKS_VALUES = 5,   /* values for all rows */
     VORTEX_ARROW_LACKS_OFFSETS = 6,  /* an offset for each row and one more */
-    VORTEX_ARROW_LACKS_ITEMS = 7,    /* offsets that ascend, and items up to the last */
-    VORTEX_ARROW_LACKS_LENGTH = 8    /* as many rows as its parent asks for */
+    VORTEX_ARROW_LACKS_ITEMS = 7,    /* offsets that ascend, and items up to the last; of views:
+                                      * all that each leads to */
+    VORTEX_ARROW_LACKS_LENGTH = 8,   /* as many rows as its parent asks for */
+    VORTEX_ARROW_LACKS_SIZES = 9,    /* a size for each row, or an id for each child */
+    VORTEX_ARROW_LACKS_ID = 10       /* the id of a child in each row */
 };
 
 /* How many places and bytes of validity the picks need. */
@@ -287,11 +293,12 @@ typedef struct vortex_arrow_error {
  * *error has too, with the place and words; `error` may be null, and so may `out_schema`. A broken
  * step is told before any other fault but a step's own.
  *
- * Schema and array stay the caller's. The answer has memory of its own but for dictionaries and the
- * bytes of views, which it shares with the array: such a child of the array is replaced, in its
- * place, by one of the same rows that is counted, so the array is neither read nor released by
- * others meanwhile. Array and answer are then released in any order. At every status but DONE there
- * is nothing to release: *out_array and *out_schema are marked as released. */
+ * Schema and array stay the caller's. The answer has memory of its own but for dictionaries, the
+ * bytes that views lead to, and what lists are views of, which it shares with the array: each such
+ * array, *array itself or one below it, is replaced, in its place, by one of the same rows that is
+ * counted, so the array is neither read nor released by others meanwhile. Array and answer are then
+ * released in any order. At every status but DONE there is nothing to release: *out_array and
+ * *out_schema are marked as released. */
 uint64_t vortex_select_arrow(const struct ArrowSchema *schema, struct ArrowArray *array,
     const vortex_arrow_step *steps, size_t n_steps, struct ArrowSchema *out_schema,
     struct ArrowArray *out_array, vortex_arrow_error *error);

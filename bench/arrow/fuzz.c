@@ -74,9 +74,10 @@ static void *offsets(input *in, uint64_t end, int is_wide, int64_t *last)
 
 static const char *format_of(input *in, char *room)
 {
-    static const char *const known[] = {"n", "b", "c", "S", "i", "g", "u", "U", "z", "Z", "w:3", "w:0",
-        "d:9,2", "tdD", "tin", "tsu:", "+s", "+l", "+L", "+m", "+w:2", "+w:0", "+w:999999999", "vu",
-        "+vl", "+vL", "+us:0,1", "+ud:0,1", "+r", "C", "I", "+s", "+l", "u"};
+    static const char *const known[] = {"n", "b", "c", "S", "i", "g", "u", "U", "z", "Z", "w:3",
+        "w:0", "d:9,2", "tdD", "tin", "tsu:", "+s", "+l", "+L", "+m", "+w:2", "+w:0",
+        "+w:999999999", "vu", "vz", "+vl", "+vL", "+us:0,1", "+ud:0,1", "+us:5", "+ud:3,0,2", "+r",
+        "C", "I", "+s", "+l", "u"};
     uint8_t byte = next(in);
     size_t k;
     if (byte < 250) {
@@ -89,17 +90,50 @@ static const char *format_of(input *in, char *room)
     return room;
 }
 
+/* The buffers that views lead to, and their lengths, which are true where there is a buffer. */
+static void data_of_views(input *in, struct ArrowArray *array)
+{
+    int64_t k, count = array->n_buffers - 3, *lengths;
+    if (count < 0) {
+        return;
+    }
+    lengths = (int64_t *)made_block((size_t)count * 8);
+    for (k = 0; k < count; k++) {
+        lengths[k] = number(in);
+        array->buffers[k + 2] = buffer(in, (uint64_t)lengths[k], 1);
+    }
+    array->buffers[count + 2] = lengths;
+}
+
+/* How many bytes a value of a buffer has. */
+static uint64_t width_in(const char *format, int64_t k)
+{
+    if (format[0] == '+') {
+        return k == 0 && format[1] == 'u' ? 1 : format[1] == 'v' && format[2] == 'L' ? 8 : 4;
+    }
+    return format[0] && strchr("wdcCsSeiIflLg", format[0]) ? width_of(format) : 16;
+}
+
+static int64_t buffers_of(input *in, const char *format)
+{
+    int is_cut = !strcmp(format, "+l") || !strcmp(format, "+L") || !strcmp(format, "+m");
+    if (format[0] == '+') {
+        return format[1] == 'v' ? 3 : is_cut || format[2] == 'd' ? 2 : 1;
+    }
+    return format[0] == 'n' ? 0 : format[0] == 'v' ? 3 + next(in) % 4
+        : format[0] && strchr("uUzZ", format[0]) ? 3 : 2;
+}
+
 static void column(input *in, struct ArrowSchema *schema, struct ArrowArray *array, int depth)
 {
     char room[16];
     const char *format = format_of(in, room);
     int is_text = format[0] && strchr("uUzZ", format[0]) && !format[1];
     int is_list = !strcmp(format, "+l") || !strcmp(format, "+L") || !strcmp(format, "+m");
+    int is_views = !strcmp(format, "vu") || !strcmp(format, "vz");
     int is_wide = format[0] == 'U' || format[0] == 'Z' || format[1] == 'L';
-    uint64_t end, width = format[0] && strchr("wdcCsSeiIflLg", format[0]) ? width_of(format) : 16;
-    int64_t last = 0, k, children = 0, wanted = format[0] == 'n' ? 0 : is_text || format[0] == 'v'
-        ? 3 : format[0] == '+' && !is_list && format[1] != 'v' ? 1 + (format[2] == 'd') : 2 +
-        (format[1] == 'v');
+    uint64_t end;
+    int64_t last = 0, k, children = 0, wanted = buffers_of(in, format);
     flat_schema(schema, format);
     memset(array, 0, sizeof *array);
     __atomic_add_fetch(&live, 1, __ATOMIC_SEQ_CST);
@@ -111,13 +145,16 @@ static void column(input *in, struct ArrowSchema *schema, struct ArrowArray *arr
     end = (uint64_t)array->length + (uint64_t)array->offset;
     end = array->length < 0 || array->offset < 0 || (int64_t)end < 0 ? UINT64_MAX : end;
     array->buffers = (const void **)made_block((size_t)array->n_buffers * sizeof(void *));
-    for (k = 0; k < array->n_buffers; k++) {
+    for (k = 0; k < array->n_buffers && (!is_views || k < 2); k++) {
         uint64_t bits = end / 8 + (end % 8 != 0);
         array->buffers[k] = k == 0 && format[0] == '+' && format[1] == 'u' ? buffer(in, end, 1)
             : k == 0 ? next(in) % 2 ? NULL : buffer(in, bits, 1)
             : k == 1 && (is_text || is_list) ? offsets(in, end, is_wide, &last)
             : k == 2 && is_text ? buffer(in, last < 0 ? 0 : (uint64_t)last, 1)
-            : buffer(in, format[0] == 'b' ? bits : end, format[0] == 'b' ? 1 : width);
+            : format[0] == 'b' ? buffer(in, bits, 1) : buffer(in, end, width_in(format, k));
+    }
+    if (is_views) {
+        data_of_views(in, array);
     }
     if (format[0] == '+' && depth < 70) {
         children = format[1] == 's' || format[1] == 'u' || next(in) > 250 ? next(in) % 4 : 1;
@@ -158,22 +195,45 @@ static void step_of(input *in, vortex_arrow_step *step)
     step->multipliers.len = step->multipliers.data ? end * 8 : 0;
 }
 
-/* Reads what arrays of ours have, to their last byte. */
+/* Whether what a row of ours leads to is in the children. */
+static int is_within(const struct ArrowSchema *schema, const struct ArrowArray *array, int64_t k)
+{
+    const char *format = schema->format;
+    int is_wide = format[1] && format[2] == 'L';
+    int64_t child = 0, place = 0, size = 1;
+    if (!strncmp(format, "+v", 2) && is_valid(array, k)) {
+        place = offset_at(array->buffers[1], k, is_wide);
+        size = offset_at(array->buffers[2], k, is_wide);
+    } else if (!strncmp(format, "+u", 2)) {
+        child = child_of(format, ((const uint8_t *)array->buffers[0])[k]);
+        place = format[2] == 'd' ? ((const int32_t *)array->buffers[1])[k] : k;
+    } else {
+        return 1;
+    }
+    return child >= 0 && child < array->n_children && place >= 0 && size >= 0 &&
+        place <= array->children[child]->length && size <= array->children[child]->length - place;
+}
+
+/* Reads what arrays of ours have, to their last byte; a column that views of lists lead to is the
+ * source's, which may have no meaning. */
 static uint64_t touch(const struct ArrowSchema *schema, const struct ArrowArray *array, int is_ours)
 {
     text t = {NULL, 0, 0};
     uint64_t sum = (uint64_t)array->length;
     int64_t k;
-    if (is_ours && !schema->dictionary && strcmp(schema->format, "n") && array->length < 5000 &&
-        schema->format[0] != '+' && schema->format[0] != 'v') {
-        for (k = 0; k < array->length; k++) {
+    for (k = 0; is_ours && !schema->dictionary && array->length < 5000 && k < array->length; k++) {
+        if (!is_within(schema, array, k)) {
+            abort();
+        }
+        if (strcmp(schema->format, "n") && schema->format[0] != '+') {
             say_row(&t, schema, array, k);
         }
-        sum += t.len;
-        free(t.data);
     }
+    sum += t.len;
+    free(t.data);
     for (k = 0; k < array->n_children; k++) {
-        sum += touch(schema->children[k], array->children[k], is_ours);
+        sum += touch(schema->children[k], array->children[k],
+            is_ours && strncmp(schema->format, "+v", 2));
     }
     return sum;
 }

@@ -16,12 +16,13 @@ uint64_t vortex_arrow_fault(vortex_arrow_error *error, uint64_t status, const ch
     static const char *const words[] = {"", "the column has no meaning", "a pick is past the rows",
         "a list that is written is too short", "offsets of 32 bits would pass 2^31 - 1",
         "out of memory", "a step breaks a rule", "the step has no meaning",
-        "the format isn't known", "the struct isn't what its format says",
+        "the format isn't known", "a null is picked of a union, whose rows are never null",
+        "the struct isn't what its format says",
         "more than 64 columns stand in one another", "the stream that is read failed"};
     static const char *const causes[] = {"a slice that isn't within the rows",
         "a mask that isn't as long as the rows", "a filter that isn't by bools",
         "indices that are no integers", "pieces that aren't sound", "an index out of bounds"};
-    const char *text = words[status < 9 ? status : status < VORTEX_ARROW_SHAPE ? 0 : status - 7];
+    const char *text = words[status < 10 ? status : status < VORTEX_ARROW_SHAPE ? 0 : status - 6];
     if (status == VORTEX_ARROW_BROKEN && error->cause < sizeof causes / sizeof causes[0]) {
         text = causes[error->cause];
     }
@@ -85,18 +86,38 @@ int vortex_arrow_leaves_nulls(const vortex_arrow_step *steps, size_t n_steps)
 
 /* ---- From arrays to tables of nodes ---- */
 
+/* What a node is made of: an array, or a buffer that the views of its parent lead to. */
 typedef struct source {
-    const struct ArrowSchema *schema;
+    const struct ArrowSchema *schema; /* of a buffer none */
     struct ArrowArray *array;
-    size_t parent;
+    size_t parent, end; /* the node behind those below it */
+    int is_kept; /* the answer shares it, and nothing of it is written */
 } source;
 
 typedef struct table {
     vortex_arrow_node *nodes;
-    source *sources; /* what each node is made of */
-    size_t len, room, n_buffers, n_dictionaries, n_views;
+    source *sources;
+    size_t len, room;
+    uint8_t *ids; /* of the children of unions */
+    size_t n_ids;
+    /* What the answer has: arrays with buffers of their own, these buffers, arrays that it shares,
+     * and those of the latter that views stand in. */
+    size_t n_arrays, n_buffers, n_shared, n_views;
     vortex_arrow_error *error;
 } table;
+
+static int has_views(const vortex_arrow_node *node) { return node->format == VORTEX_ARROW_VIEWS; }
+
+static int is_union(const vortex_arrow_node *node)
+{
+    return node->format == VORTEX_ARROW_SPARSE_UNION || node->format == VORTEX_ARROW_DENSE_UNION;
+}
+
+/* Whether what stands below it is shared with the answer. */
+static int is_list_view(const vortex_arrow_node *node)
+{
+    return node->format == VORTEX_ARROW_LIST_VIEW || node->format == VORTEX_ARROW_LARGE_LIST_VIEW;
+}
 
 /* A fault of a node: its place is the names that lead to it, and `part` behind them. */
 static uint64_t fault_at(const table *t, uint64_t status, size_t node, const char *part)
@@ -107,8 +128,9 @@ static uint64_t fault_at(const table *t, uint64_t status, size_t node, const cha
         way[levels++] = node;
     }
     while (levels-- > 0) {
-        const char *name = t->sources[way[levels]].schema->name;
-        if (name && *name && used < sizeof place) {
+        const struct ArrowSchema *schema = t->sources[way[levels]].schema;
+        const char *name = schema && schema->name ? schema->name : "";
+        if (*name && used < sizeof place) {
             used += (size_t)snprintf(place + used, sizeof place - used, used ? ".%s" : "%s", name);
         }
     }
@@ -149,7 +171,7 @@ static void fill(vortex_arrow_node *node, const void **buffers)
     uint64_t format = node->format, offsets = end;
     int is_text = format == VORTEX_ARROW_TEXT || format == VORTEX_ARROW_LARGE_TEXT;
     int is_list = format == VORTEX_ARROW_LIST || format == VORTEX_ARROW_LARGE_LIST;
-    int is_union = format == VORTEX_ARROW_SPARSE_UNION || format == VORTEX_ARROW_DENSE_UNION;
+    size_t width = has_views(node) ? 16 : is_union(node) ? 1 : node->width;
     size_t wide = format == VORTEX_ARROW_LARGE_TEXT || format == VORTEX_ARROW_LARGE_LIST ||
         format == VORTEX_ARROW_LARGE_LIST_VIEW ? 8 : 4;
     const char *slot = vortex_arrow_slots[format];
@@ -162,13 +184,13 @@ static void fill(vortex_arrow_node *node, const void **buffers)
         } else if (*slot == 'o') {
             node->offsets = bytes_at(*buffers, offsets, wide);
         } else if (*slot == 's') {
-            node->sizes = bytes_at(*buffers, end, is_union ? 1 : wide);
+            node->sizes = bytes_at(*buffers, end, wide);
         } else if (is_text) {
             node->values = bytes_at(*buffers, last_of(node->offsets, wide), 1);
         } else if (format == VORTEX_ARROW_BITS) {
             node->values = bytes_at(*buffers, bits, 1);
         } else {
-            node->values = bytes_at(*buffers, end, format == VORTEX_ARROW_VIEWS ? 16 : node->width);
+            node->values = bytes_at(*buffers, end, width);
         }
     }
 }
@@ -178,17 +200,18 @@ static const char *misfit(const struct ArrowSchema *schema, const struct ArrowAr
     const vortex_arrow_node *node)
 {
     int64_t buffers = (int64_t)strlen(vortex_arrow_slots[node->format]);
-    int family = vortex_arrow_families[node->format], is_views = node->format == VORTEX_ARROW_VIEWS;
+    int family = vortex_arrow_families[node->format];
     if (array->length < 0 || array->offset < 0 || array->offset > INT64_MAX - 1 - array->length) {
         return "length";
     }
-    if ((is_views ? array->n_buffers < 3 : array->n_buffers != buffers) ||
+    if ((has_views(node) ? array->n_buffers < 3 : array->n_buffers != buffers) ||
         array->n_buffers > INT32_MAX || (array->n_buffers && !array->buffers)) {
         return "buffers";
     }
     if (schema->n_children < 0 || schema->n_children != array->n_children ||
         (family >= 0 && family != schema->n_children) ||
-        (schema->n_children && (!schema->children || !array->children))) {
+        (schema->n_children && (!schema->children || !array->children)) ||
+        (is_union(node) && vortex_arrow_ids(schema->format, NULL) != schema->n_children)) {
         return "children";
     }
     if (array->null_count > 0 && *vortex_arrow_slots[node->format] == 'v' && !array->buffers[0]) {
@@ -214,6 +237,19 @@ static int has_room(table *t)
     return nodes && sources;
 }
 
+/* Appends a node, of which the table doesn't yet know where it ends. */
+static uint64_t append(table *t, source from)
+{
+    if (!has_room(t)) {
+        return vortex_arrow_fault(t->error, VORTEX_ARROW_NO_MEMORY, "");
+    }
+    from.is_kept = !from.schema || (from.parent < t->len &&
+        (t->sources[from.parent].is_kept || is_list_view(&t->nodes[from.parent])));
+    memset(&t->nodes[t->len], 0, sizeof t->nodes[0]);
+    t->sources[t->len++] = from;
+    return VORTEX_ARROW_DONE;
+}
+
 /* Whether the lists of a node end past their child's rows. It spares the library their places. */
 static int is_past(const vortex_arrow_node *list, const vortex_arrow_node *child)
 {
@@ -225,26 +261,91 @@ static int is_past(const vortex_arrow_node *list, const vortex_arrow_node *child
         list->offset + list->len > child->len / list->width;
 }
 
+/* The buffers that views lead to, a node each: the array's last buffer tells their lengths. */
+static uint64_t walk_data(table *t, struct ArrowArray *array, size_t parent)
+{
+    int64_t k, count = array->n_buffers - 3, length;
+    const uint8_t *lengths = (const uint8_t *)array->buffers[count + 2];
+    source from = {NULL, array, parent, 0, 0};
+    for (k = 0; k < count; k++) {
+        vortex_arrow_node *node;
+        length = -1;
+        if (lengths) {
+            memcpy(&length, lengths + 8 * k, 8);
+        }
+        if (length < 0) {
+            return fault_at(t, VORTEX_ARROW_SHAPE, parent, "buffers");
+        }
+        if (append(t, from)) {
+            return t->error->status;
+        }
+        node = &t->nodes[t->len - 1];
+        node->format = VORTEX_ARROW_FIXED;
+        node->width = 1;
+        node->values = bytes_at(array->buffers[k + 2], (uint64_t)length, 1);
+        node->len = node->values.len; /* none of a buffer that isn't there */
+        t->sources[t->len - 1].end = t->len;
+    }
+    return VORTEX_ARROW_DONE;
+}
+
+/* Counts what the answer has for a node. */
+static void count_in(table *t, const vortex_arrow_node *node, const source *from)
+{
+    size_t shared = (from->array->dictionary != NULL) + has_views(node) + is_list_view(node);
+    t->n_ids += is_union(node) ? node->children : 0;
+    if (!from->is_kept) {
+        t->n_arrays++;
+        t->n_buffers += (size_t)from->array->n_buffers;
+        t->n_shared += shared;
+        t->n_views += has_views(node);
+    }
+}
+
+static uint64_t walk(table *t, const struct ArrowSchema *schema, struct ArrowArray *array,
+    size_t parent, int level);
+
+/* What stands below a node. */
+static uint64_t walk_below(table *t, size_t at, int level)
+{
+    const struct ArrowSchema *schema = t->sources[at].schema;
+    struct ArrowArray *array = t->sources[at].array;
+    uint64_t status = VORTEX_ARROW_DONE;
+    int64_t k;
+    if (array->dictionary && !vortex_arrow_arrays_in(array->dictionary, level + 1, &status)) {
+        return fault_at(t, status, at, "dictionary");
+    }
+    if (has_views(&t->nodes[at])) {
+        return walk_data(t, array, at);
+    }
+    for (k = 0; k < array->n_children && !status; k++) {
+        status = walk(t, schema->children[k], array->children[k], at, level + 1);
+    }
+    if (!status && array->n_children == 1 && is_past(&t->nodes[at], &t->nodes[at + 1])) {
+        int is_fixed = t->nodes[at].format == VORTEX_ARROW_FIXED_LIST;
+        return fault_at(t, VORTEX_ARROW_NO_MEANING, at, is_fixed ? "length" : "offsets");
+    }
+    return status;
+}
+
 /* Appends the nodes of an array to the table. */
 static uint64_t walk(table *t, const struct ArrowSchema *schema, struct ArrowArray *array,
     size_t parent, int level)
 {
     vortex_arrow_node node;
-    source from = {schema, array, parent};
+    source from = {schema, array, parent, 0, 0};
     const char *part;
     uint64_t status = VORTEX_ARROW_DONE;
     size_t at = t->len;
-    int64_t k;
     memset(&node, 0, sizeof node);
     if (level > VORTEX_ARROW_LEVELS || !schema || !array || !schema->release || !array->release ||
         !schema->format) {
         status = level > VORTEX_ARROW_LEVELS ? VORTEX_ARROW_DEPTH : VORTEX_ARROW_SHAPE;
         return fault_at(t, status, parent, "children");
     }
-    if (!has_room(t)) {
-        return vortex_arrow_fault(t->error, VORTEX_ARROW_NO_MEMORY, "");
+    if (append(t, from)) {
+        return t->error->status;
     }
-    t->sources[t->len++] = from;
     if (!vortex_arrow_parse(schema->format, &node)) {
         return fault_at(t, VORTEX_ARROW_FORMAT, at, schema->format);
     }
@@ -253,25 +354,31 @@ static uint64_t walk(table *t, const struct ArrowSchema *schema, struct ArrowArr
     }
     node.len = (uint64_t)array->length;
     node.offset = (uint64_t)array->offset;
-    node.children = (uint64_t)array->n_children;
+    node.children = (uint64_t)(has_views(&node) ? array->n_buffers - 3 : array->n_children);
     fill(&node, array->buffers);
     t->nodes[at] = node;
-    t->n_buffers += (size_t)array->n_buffers;
-    t->n_views += node.format == VORTEX_ARROW_VIEWS;
-    if (array->dictionary) {
-        t->n_dictionaries++;
-        if (!vortex_arrow_arrays_in(array->dictionary, level + 1, &status)) {
-            return fault_at(t, status, at, "dictionary");
+    count_in(t, &node, &t->sources[at]);
+    status = walk_below(t, at, level);
+    t->sources[at].end = t->len;
+    return status;
+}
+
+/* Has the nodes of unions lead to the ids of their children; 0 where memory runs out. */
+static int lay_ids(table *t)
+{
+    uint8_t *ids;
+    size_t k;
+    if (!t->n_ids) {
+        return 1;
+    }
+    ids = t->ids = (uint8_t *)malloc(t->n_ids);
+    for (k = 0; k < t->len && ids; k++) {
+        if (is_union(&t->nodes[k])) {
+            t->nodes[k].sizes = bytes_at(ids, t->nodes[k].children, 1);
+            ids += vortex_arrow_ids(t->sources[k].schema->format, ids);
         }
     }
-    for (k = 0; k < array->n_children && !status; k++) {
-        status = walk(t, schema->children[k], array->children[k], at, level + 1);
-    }
-    if (!status && node.children == 1 && is_past(&node, &t->nodes[at + 1])) {
-        int is_fixed = node.format == VORTEX_ARROW_FIXED_LIST;
-        return fault_at(t, VORTEX_ARROW_NO_MEANING, at, is_fixed ? "length" : "offsets");
-    }
-    return status;
+    return ids != NULL;
 }
 
 /* ---- From what the library wrote to arrays ---- */
@@ -295,22 +402,28 @@ static uint64_t space_of(const vortex_arrow_need *need, char slot)
     return bytes || slot == 'v' ? ALIGNED(bytes) : 64;
 }
 
+/* What the library writes for a node: of unions also the ids of the children, in no buffer. */
+static const char *written_of(const vortex_arrow_node *node)
+{
+    return node->format == VORTEX_ARROW_SPARSE_UNION ? "ds"
+        : node->format == VORTEX_ARROW_DENSE_UNION ? "dos" : vortex_arrow_slots[node->format];
+}
+
 /* One block for the whole answer; 0 where there isn't that much memory. */
 static int supply_answer(const table *t, const vortex_arrow_need *needs, supply *s)
 {
-    size_t arrays = t->len + t->n_dictionaries + t->n_views;
     uint64_t bytes = t->n_buffers * sizeof(void *) + 64;
     size_t k;
     for (k = 0; k < t->len; k++) {
-        const char *slot = vortex_arrow_slots[t->nodes[k].format];
-        for (; *slot; slot++) {
+        const char *slot = written_of(&t->nodes[k]);
+        for (; *slot && !t->sources[k].is_kept; slot++) {
             if (need_of(&needs[k], *slot) > PTRDIFF_MAX / 4 || bytes > PTRDIFF_MAX / 4) {
                 return 0;
             }
             bytes += space_of(&needs[k], *slot);
         }
     }
-    if (!vortex_arrow_supply(s, t->len, arrays, bytes)) {
+    if (!vortex_arrow_supply(s, t->n_arrays, t->n_arrays + t->n_shared, bytes)) {
         return 0;
     }
     s->of->held = s->arrays;
@@ -324,36 +437,44 @@ static int supply_answer(const table *t, const vortex_arrow_need *needs, supply 
 static void place_buffers(const table *t, size_t node, const vortex_arrow_need *need,
     vortex_arrow_room *room, struct ArrowArray *to, supply *s)
 {
-    const char *slot = vortex_arrow_slots[t->nodes[node].format];
+    const char *slot = written_of(&t->nodes[node]);
     const struct ArrowArray *from = t->sources[node].array;
     int64_t k;
     to->buffers = s->buffers;
-    for (k = 0; k < from->n_buffers; k++) {
-        if (*slot) {
-            vortex_arrow_room_bytes *bytes = room_of(room, *slot);
-            uint64_t space = space_of(need, *slot);
-            bytes->data = s->bytes;
-            bytes->len = need_of(need, *slot);
-            memset(bytes->data + bytes->len, 0, space - bytes->len);
+    for (k = 0; *slot; k++, slot++) {
+        vortex_arrow_room_bytes *bytes = room_of(room, *slot);
+        uint64_t space = space_of(need, *slot);
+        bytes->data = s->bytes;
+        bytes->len = need_of(need, *slot);
+        memset(bytes->data + bytes->len, 0, space - bytes->len);
+        if (k < from->n_buffers) {
             to->buffers[k] = space ? s->bytes : NULL;
-            s->bytes += space;
-            slot++;
-        } else {
-            to->buffers[k] = from->buffers[k];
         }
+        s->bytes += space;
+    }
+    for (; k < from->n_buffers; k++) {
+        to->buffers[k] = from->buffers[k];
     }
     s->buffers += from->n_buffers;
 }
 
-/* Has the answer share a dictionary, or the memory that views lead to. */
+/* Has the answer share a dictionary, what list views lead to, or an array that views stand in. */
 static void hand_on(struct ArrowArray *from, struct ArrowArray *to, supply *s)
 {
     uint64_t status = vortex_arrow_share(from, to);
     s->status = s->status ? s->status : status;
 }
 
-/* Makes the array of a node, and those below it. The answer is the node behind them. */
-static size_t place(const table *t, size_t node, const vortex_arrow_need *needs,
+/* Has the answer hold the memory that views lead to, and not other views into it. */
+static void hold_data(struct ArrowArray *from, struct ArrowArray *to, supply *s)
+{
+    struct ArrowArray *lender = vortex_arrow_lender(from), *held = &s->of->held[s->of->n_held++];
+    hand_on(lender ? lender : from, held, s);
+    ((part *)to->private_data)->lender = held;
+}
+
+/* Makes the array of a node, and those below it. */
+static void place(const table *t, size_t node, const vortex_arrow_need *needs,
     vortex_arrow_room *rooms, struct ArrowArray *to, supply *s)
 {
     struct ArrowArray *from = t->sources[node].array;
@@ -368,8 +489,8 @@ static size_t place(const table *t, size_t node, const vortex_arrow_need *needs,
     }
     to->n_buffers = from->n_buffers;
     place_buffers(t, node, &needs[node], &rooms[node], to, s);
-    if (t->nodes[node].format == VORTEX_ARROW_VIEWS) {
-        hand_on(from, &s->of->held[s->of->n_held++], s);
+    if (has_views(&t->nodes[node])) {
+        hold_data(from, to, s);
     }
     if (from->dictionary) {
         to->dictionary = s->arrays++;
@@ -380,23 +501,41 @@ static size_t place(const table *t, size_t node, const vortex_arrow_need *needs,
     s->pointers += to->n_children;
     for (k = 0; k < to->n_children; k++) {
         to->children[k] = s->arrays++;
-        next = place(t, next, needs, rooms, to->children[k], s);
+        if (t->sources[next].is_kept) {
+            hand_on(from->children[k], to->children[k], s);
+        } else {
+            place(t, next, needs, rooms, to->children[k], s);
+        }
+        next = t->sources[next].end;
     }
-    return next;
 }
 
-/* A fault of the library's that is about a node: the part of it is what it lacks. */
-static uint64_t fault_of_node(const table *t, vortex_arrow_answer answer)
+/* The part of a node that is what it lacks. */
+static const char *part_of(const vortex_arrow_node *node, uint64_t lack)
 {
     static const char *const parts[] = {"", "children", "length", "validity", "children", "values",
-        "offsets", "offsets", "length"};
+        "offsets", "offsets", "length", "sizes", "type ids"};
+    if (lack == VORTEX_ARROW_LACKS_VALUES || lack == VORTEX_ARROW_LACKS_ITEMS) {
+        if (has_views(node)) {
+            return "views";
+        }
+        if (lack == VORTEX_ARROW_LACKS_VALUES && is_union(node)) {
+            return "type ids";
+        }
+    }
+    return lack < sizeof parts / sizeof parts[0] ? parts[lack] : "";
+}
+
+/* A fault of the library's that is about a node. */
+static uint64_t fault_of_node(const table *t, vortex_arrow_answer answer)
+{
     size_t node = answer.node_or_step < t->len ? answer.node_or_step : NO_NODE;
     const char *part = "";
     t->error->cause = answer.what;
-    if (answer.status == VORTEX_ARROW_FORMAT && node != NO_NODE) {
+    if (answer.status == VORTEX_ARROW_FORMAT && node != NO_NODE && t->sources[node].schema) {
         part = t->sources[node].schema->format;
-    } else if (answer.status == VORTEX_ARROW_NO_MEANING && answer.what < 9) {
-        part = parts[answer.what];
+    } else if (answer.status == VORTEX_ARROW_NO_MEANING && node != NO_NODE) {
+        part = part_of(&t->nodes[node], answer.what);
     }
     return fault_at(t, answer.status, node, part);
 }
@@ -442,6 +581,9 @@ uint64_t vortex_arrow_take_rows(const struct ArrowSchema *schema, struct ArrowAr
     memset(&t, 0, sizeof t);
     t.error = error;
     status = walk(&t, schema, array, NO_NODE, 1);
+    if (!status && !lay_ids(&t)) {
+        status = vortex_arrow_fault(error, VORTEX_ARROW_NO_MEMORY, "");
+    }
     if (!status && p) {
         status = take_rows(&t, p, out);
     } else if (!status) {
@@ -450,6 +592,7 @@ uint64_t vortex_arrow_take_rows(const struct ArrowSchema *schema, struct ArrowAr
     }
     free(t.nodes);
     free(t.sources);
+    free(t.ids);
     return status;
 }
 

@@ -43,11 +43,11 @@ static void release_array(struct ArrowArray *array)
     leave(((part *)array->private_data)->of);
 }
 
-/* A block with room for so many parts, arrays, pointers to arrays, and bytes behind them. */
+/* A block with room for so many parts, arrays and pointers to them, and bytes behind them. */
 int vortex_arrow_supply(supply *s, size_t parts, size_t arrays, uint64_t extra)
 {
-    size_t fixed = sizeof(owner) + parts * (sizeof(part) + sizeof(void *)) +
-        arrays * sizeof(struct ArrowArray);
+    size_t fixed = sizeof(owner) + parts * sizeof(part) +
+        arrays * (sizeof(struct ArrowArray) + sizeof(void *));
     memset(s, 0, sizeof *s);
     s->of = (owner *)malloc(fixed + extra);
     if (!s->of) {
@@ -57,7 +57,7 @@ int vortex_arrow_supply(supply *s, size_t parts, size_t arrays, uint64_t extra)
     s->parts = (part *)(s->of + 1);
     s->arrays = (struct ArrowArray *)(s->parts + parts);
     s->pointers = (struct ArrowArray **)(s->arrays + arrays);
-    s->buffers = (const void **)(s->pointers + parts);
+    s->buffers = (const void **)(s->pointers + arrays);
     return 1;
 }
 
@@ -66,9 +66,23 @@ void vortex_arrow_own(supply *s, struct ArrowArray *array, const struct ArrowArr
 {
     s->parts->of = s->of;
     s->parts->shared = shared;
+    s->parts->lender = NULL;
     array->private_data = s->parts++;
     array->release = release_array;
     s->of->count++;
+}
+
+/* The array that our views were taken from, or those that they were taken from; else null. */
+struct ArrowArray *vortex_arrow_lender(const struct ArrowArray *array)
+{
+    while (array && array->release == release_array) {
+        const part *of = (const part *)array->private_data;
+        if (of->lender) {
+            return of->lender;
+        }
+        array = of->shared;
+    }
+    return NULL;
 }
 
 /* How many arrays stand in one that is handed through; 0 at a fault, and *status tells which. */

@@ -6,9 +6,10 @@
 #include <stdlib.h>
 #include <string.h>
 
-/* The buffers of each format, in Arrow's order: validity, offsets, data, sizes or type ids. */
+/* The buffers of each format, in Arrow's order: validity, offsets, data, sizes. Those that views
+ * lead to come behind. */
 const char *const vortex_arrow_slots[] = {"", "vd", "vd", "vod", "vod", "v", "vo", "vo", "v", "vd",
-    "vos", "vos", "s", "so"};
+    "vos", "vos", "d", "do"};
 /* How many children each has; -1 where the schema says it. */
 const int vortex_arrow_families[] = {0, 0, 0, 0, 0, -1, 1, 1, 1, 0, 1, 1, -1, -1};
 
@@ -23,6 +24,29 @@ int vortex_arrow_has_word(const char *words, const char *word)
         at++;
     }
     return 0;
+}
+
+/* How many ids the format of a union lists, each below 128 and there once, or -1 where it isn't such
+ * a list. They are written to `ids`, where that is one. */
+int64_t vortex_arrow_ids(const char *format, uint8_t *ids)
+{
+    const char *at = format + strlen("+us:");
+    uint8_t seen[128] = {0};
+    int64_t count = 0;
+    for (; *at; count++) {
+        char *end;
+        long id = strtol(at, &end, 10);
+        int is_ended = !*end || (*end == ',' && end[1]);
+        if (*at < '0' || *at > '9' || id > 127 || !is_ended || seen[id]) {
+            return -1;
+        }
+        seen[id] = 1;
+        if (ids) {
+            ids[count] = (uint8_t)id;
+        }
+        at = end + (*end == ',');
+    }
+    return count;
 }
 
 /* Formats with numbers or names in them. */
@@ -49,7 +73,8 @@ static int parse_long(const char *text, vortex_arrow_node *node)
         return 1;
     }
     node->format = strncmp(text, "+us:", 4) ? VORTEX_ARROW_DENSE_UNION : VORTEX_ARROW_SPARSE_UNION;
-    return !strncmp(text, "+us:", 4) || !strncmp(text, "+ud:", 4);
+    return (!strncmp(text, "+us:", 4) || !strncmp(text, "+ud:", 4)) &&
+        vortex_arrow_ids(text, NULL) >= 0;
 }
 
 int vortex_arrow_parse(const char *text, vortex_arrow_node *node)

@@ -27,6 +27,7 @@ typedef struct owner {
 typedef struct part {
     owner *of;
     const struct ArrowArray *shared; /* whose memory it has, which of->kept holds; or null */
+    struct ArrowArray *lender; /* of views: the array of of->held that has what they lead to */
 } part;
 
 /* A block that an owner stands at the front of, and what is left of it. */
@@ -48,15 +49,17 @@ uint64_t vortex_arrow_take_rows(const struct ArrowSchema *schema, struct ArrowAr
     const vortex_arrow_picks *p, struct ArrowArray *out, vortex_arrow_error *error);
 
 /* arrow_formats.c: the buffers of each format, in Arrow's order, by a letter each (validity,
- * offsets, data, sizes or type ids), and how many children it has, or -1. */
+ * offsets, data, sizes), and how many children it has, or -1. */
 extern const char *const vortex_arrow_slots[14];
 extern const int vortex_arrow_families[14];
+int64_t vortex_arrow_ids(const char *format, uint8_t *ids);
 int vortex_arrow_parse(const char *text, vortex_arrow_node *node);
 int vortex_arrow_has_word(const char *words, const char *word);
 
 /* arrow_arrays.c */
 int vortex_arrow_supply(supply *s, size_t parts, size_t arrays, uint64_t extra);
 void vortex_arrow_own(supply *s, struct ArrowArray *array, const struct ArrowArray *shared);
+struct ArrowArray *vortex_arrow_lender(const struct ArrowArray *array);
 size_t vortex_arrow_arrays_in(const struct ArrowArray *array, int level, uint64_t *status);
 
 #ifdef __cplusplus

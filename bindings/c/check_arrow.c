@@ -138,6 +138,40 @@ static char *rows_of(const struct ArrowSchema *schema, const struct ArrowArray *
     return t.data;
 }
 
+/* Whether a null is picked of a union, whose rows are never null. */
+static int is_refused(const struct ArrowSchema *schema, const walk *w)
+{
+    size_t k;
+    for (k = 0; k < w->len; k++) {
+        if (w->picks[k] == NONE && !strncmp(schema->format, "+u", 2)) {
+            return 1;
+        }
+    }
+    return 0;
+}
+
+/* Moves a child out of an array, which is then released, and reads both. */
+static void move_child(const struct ArrowSchema *schema, struct ArrowArray *array, uint64_t seed)
+{
+    size_t k = array->n_children ? below((size_t)array->n_children) : 0;
+    struct ArrowArray child;
+    char *wanted, *found;
+    if (!array->n_children) {
+        array->release(array);
+        return;
+    }
+    child = *array->children[k];
+    wanted = rows_of(schema->children[k], &child, NULL, (size_t)child.length);
+    array->children[k]->release = NULL;
+    array->release(array);
+    expect(!array->release, "released", seed);
+    found = rows_of(schema->children[k], &child, NULL, (size_t)child.length);
+    expect(!strcmp(wanted, found), "a moved child", seed);
+    child.release(&child);
+    free(wanted);
+    free(found);
+}
+
 static void round_of(uint64_t seed)
 {
     struct ArrowSchema schema, out_schema;
@@ -151,7 +185,8 @@ static void round_of(uint64_t seed)
     random_walk(&w, (size_t)array.length);
     wanted = rows_of(&schema, &array, w.picks, w.len);
     status = vortex_select_arrow(&schema, &array, w.steps, w.n_steps, &out_schema, &out, &error);
-    expect(status == VORTEX_ARROW_DONE && error.status == status, error.text, seed);
+    expect(status == (is_refused(&schema, &w) ? VORTEX_ARROW_NULL_PICK : VORTEX_ARROW_DONE) &&
+        error.status == status, error.text, seed);
     if (!status) {
         int source_first = below(2) != 0;
         expect(out.length == (int64_t)w.len && out.offset == 0, "length", seed);
@@ -168,8 +203,7 @@ static void round_of(uint64_t seed)
         found = rows_of(&out_schema, &out, NULL, w.len);
         expect(!strcmp(wanted, found), "rows", seed);
         free(found);
-        out.release(&out);
-        expect(!out.release, "released", seed);
+        move_child(&out_schema, &out, seed);
         out_schema.release(&out_schema);
         if (!source_first) {
             array.release(&array);
@@ -263,39 +297,95 @@ static void stream_round(uint64_t seed)
 
 /* ---- Threads ---- */
 
-static void *let_go(void *given)
+typedef struct work {
+    const struct ArrowSchema *schema;
+    struct ArrowArray arrays[50];
+    const char *rows;
+    int wrong;
+} work;
+
+/* Selects all rows of each array, and lets the answer outlive it. */
+static void *select_and_let_go(void *given)
 {
-    struct ArrowArray *arrays = (struct ArrowArray *)given;
+    work *w = (work *)given;
     size_t k;
     for (k = 0; k < 50; k++) {
-        arrays[k].release(&arrays[k]);
+        struct ArrowArray out;
+        char *found;
+        if (vortex_select_arrow(w->schema, &w->arrays[k], NULL, 0, NULL, &out, NULL)) {
+            w->wrong++;
+            continue;
+        }
+        w->arrays[k].release(&w->arrays[k]);
+        found = rows_of(w->schema, &out, NULL, (size_t)out.length);
+        w->wrong += strcmp(found, w->rows) != 0;
+        free(found);
+        out.release(&out);
     }
     return NULL;
 }
 
-/* Arrays that share their memory, which are let go by eight threads. */
+/* Arrays that share their memory, which are selected from and let go by eight threads. */
 static void threads_round(uint64_t seed)
 {
-    static struct ArrowArray arrays[8][50];
+    static work works[8];
     struct ArrowSchema schema;
     struct ArrowArray array;
     pthread_t threads[8];
+    char *rows;
     size_t k, j;
     reseed(seed);
     random_column(&schema, &array, 3);
+    rows = rows_of(&schema, &array, NULL, (size_t)array.length);
     for (k = 0; k < 8; k++) {
+        works[k].schema = &schema;
+        works[k].rows = rows;
+        works[k].wrong = 0;
         for (j = 0; j < 50; j++) {
-            expect(!vortex_arrow_share(&array, &arrays[k][j]), "share", seed);
+            expect(!vortex_arrow_share(&array, &works[k].arrays[j]), "share", seed);
         }
     }
     array.release(&array);
     for (k = 0; k < 8; k++) {
-        pthread_create(&threads[k], NULL, let_go, arrays[k]);
+        pthread_create(&threads[k], NULL, select_and_let_go, &works[k]);
     }
     for (k = 0; k < 8; k++) {
         pthread_join(threads[k], NULL);
+        expect(!works[k].wrong, "rows of threads", seed);
     }
     schema.release(&schema);
+    free(rows);
+}
+
+/* ---- Answers of answers ---- */
+
+/* Each is selected from the one before, which is let go: none of them may keep all others. */
+static void long_chain(const char *format)
+{
+    struct ArrowSchema schema;
+    struct ArrowArray array, out;
+    char *wanted, *found;
+    int links;
+    if (is_left_out(format)) {
+        return;
+    }
+    reseed(7);
+    rows_of_format(&schema, &array, format, 2, 3);
+    wanted = rows_of(&schema, &array, NULL, 3);
+    for (links = 0; links < 100000; links++) {
+        if (vortex_select_arrow(&schema, &array, NULL, 0, NULL, &out, NULL)) {
+            expect(0, "a link", (uint64_t)links);
+            break;
+        }
+        array.release(&array);
+        array = out;
+    }
+    found = rows_of(&schema, &array, NULL, 3);
+    expect(!strcmp(wanted, found), "rows of a long chain", 7);
+    array.release(&array); /* a chain that is kept is longer than the stack is deep */
+    schema.release(&schema);
+    free(wanted);
+    free(found);
 }
 
 /* ---- A struct of a million fields ---- */
@@ -341,33 +431,33 @@ static void many_nodes(void)
     free(array.children);
 }
 
-/* Whether the library knows lists of a fixed size. */
-static int knows_items(void)
+/* Leaves out what the library doesn't know. */
+static void try_formats(void)
 {
+    static const char *const words[] = {"v", "+w", "+v", "+us", "+ud"};
+    static const char *const formats[] = {"vu", "+w:2", "+vl", "+us", "+ud"};
     struct ArrowSchema schema;
     struct ArrowArray array, out;
-    uint64_t status;
-    flat_schema(&schema, "+w:2");
-    start_array(&array, 1, 0);
-    children_of(&schema, &array, 1);
-    flat_schema(schema.children[0], "c");
-    flat_array(array.children[0], "c", 20);
-    status = vortex_select_arrow(&schema, &array, NULL, 0, NULL, &out, NULL);
-    if (!status) {
-        out.release(&out);
+    size_t k;
+    for (k = 0; k < sizeof words / sizeof words[0]; k++) {
+        uint64_t status;
+        rows_of_format(&schema, &array, formats[k], 1, 0);
+        status = vortex_select_arrow(&schema, &array, NULL, 0, NULL, &out, NULL);
+        if (status == VORTEX_ARROW_FORMAT) {
+            printf("skipped, the library doesn't know columns of format %s\n", formats[k]);
+            strcat(strcat(left_out, words[k]), " ");
+        } else if (!status) {
+            out.release(&out);
+        }
+        array.release(&array);
+        schema.release(&schema);
     }
-    array.release(&array);
-    schema.release(&schema);
-    return status != VORTEX_ARROW_FORMAT;
 }
 
 int main(int argc, char **argv)
 {
     uint64_t rounds = argc > 1 ? strtoull(argv[1], NULL, 10) : 20000, seed;
-    if (!knows_items()) {
-        printf("skipped, the library doesn't know lists of a fixed size\n");
-        lists = 2;
-    }
+    try_formats();
     for (seed = 1; seed <= rounds; seed++) {
         round_of(seed);
         if (seed % 10 == 0) {
@@ -380,6 +470,9 @@ int main(int argc, char **argv)
     expect(live_columns() == 0, "all released", 0);
     if (rounds >= 10000) {
         many_nodes();
+        long_chain("vu");
+        long_chain("+vl");
+        long_chain("C");
     }
     printf("c: %d passed, %d failed\n", passed, failed);
     return failed != 0;

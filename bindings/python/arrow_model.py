@@ -8,14 +8,15 @@ import struct
 from array import array
 
 from vortex_select import Bits, Filter, Slice, Take, column
-from vortex_select._building import offsets_of, packed
+from vortex_select._building import is_of, lengths_of, offsets_of, packed, viewed
 from vortex_select._interface import made_array
 from vortex_select._reading import letters_of
-from vortex_select._types import Type, decimal_of
+from vortex_select._types import Type, decimal_of, ids_of
 
 FLAT = """n b c C s S i I l L e f g w:0 w:1 w:3 w:40 d:9,2 d:20,-3 d:38,4,256 d:5,1,32 tdD tdm tts ttm
-ttu ttn tss: tsm:UTC tsu: tsn:Europe/Rome tDs tDn tiM tiD tin u U z Z""".split()
-NESTED = ["+s", "+l", "+L", "+m", "+w:"]
+ttu ttn tss: tsm:UTC tsu: tsn:Europe/Rome tDs tDn tiM tiD tin u U z Z vu vu vz""".split()
+NESTED = ["+s", "+l", "+L", "+m", "+w:", "+vl", "+vL", "+us:", "+ud:"]
+IDS = (("0",), ("7",), ("0", "1"), ("127", "3"), ("0", "1", "2"), ("5", "0", "90"))
 TEXTS = ("", "a", "bo", "ann", "twelve bytes", "thirteen byte", "a text of more than these", "é", "\U0001f600")
 
 
@@ -26,6 +27,10 @@ def random_type(dice, depth):
         if form == "+s":
             names = dice.sample(["a", "b", "id", "", "é", "x y"], dice.randrange(4))
             return Type(form, tuple((name, random_type(dice, depth - 1)) for name in names))
+        if form[:2] == "+u":
+            ids = dice.choice(IDS)
+            fields = tuple((f"f{number}", random_type(dice, depth - 1)) for number in ids)
+            return Type(form + ",".join(ids), fields)
         if form == "+m":
             pair = ("key", random_type(dice, 0)), ("value", random_type(dice, depth - 1))
             return Type(form, (("entries", Type("+s", pair)),))
@@ -57,11 +62,14 @@ def _flat_row(dice, form):
     if form[:2] == "w:":
         return bytes(dice.randrange(256) for _ in range(int(form[2:])))
     text = dice.choice(TEXTS)
-    return {"b": dice.random() < 0.5, "n": None}.get(form, text if form in "uU" else text.encode("utf-16"))
+    data = text if form[-1] in "uU" else text.encode(dice.choice(["utf-8", "utf-16"]))
+    return {"b": dice.random() < 0.5, "n": None}.get(form, data)
 
 
 def random_row(dice, of, may_be_null=True):
     form = of.format
+    if form[:2] == "+u":
+        return random_row(dice, dice.choice(of.children)[1], may_be_null)
     if form == "n" or (may_be_null and dice.random() < 0.2):
         return None
     if of.dictionary is not None:
@@ -96,8 +104,9 @@ def _data(of, rows):
 
 
 class Layout:
-    """Lays rows out: with an offset, rows around them, garbage under nulls, first offsets above 0,
-    and a validity that may be absent where no row is null.
+    """Lays rows out: with an offset, rows around them, garbage under nulls and, where no row reads
+    another's numbers, around the rows, first offsets above 0, lists that are views into one
+    another, and a validity that may be absent where no row is null.
     """
 
     def __init__(self, dice):
@@ -111,16 +120,19 @@ class Layout:
         nulls = sum(row is None for row in rows)
         if of.format == "n":
             return made_array(len(rows), len(rows), before, [])
+        if of.format[:2] == "+u":
+            return made_array(len(rows), 0, before, *self.union(of, every))
         hidden = [random_row(dice, of, False) if row is None else row for row in every]
         is_there = [row is not None for row in every]
         valid = packed(is_there + [dice.random() < 0.5 for _ in range(dice.randrange(9))])
         if all(is_there) and dice.random() < 0.7:
             valid = None
-        buffers, children, inner = self.below(of, hidden)
+        seen = [row is not None and before <= k < before + len(rows) for k, row in enumerate(every)]
+        buffers, children, inner = self.below(of, hidden, seen)
         count = nulls if valid is None else dice.choice([nulls, -1])
         return made_array(len(rows), count, before, [valid, *buffers], children, inner)
 
-    def below(self, of, rows):
+    def below(self, of, rows, seen):
         """The buffers behind the validity, the children and the dictionary."""
         form, dice = of.format, self.dice
         if of.dictionary is not None:
@@ -132,12 +144,61 @@ class Layout:
             front = dice.randbytes(dice.choice([0, 0, 5]))
             offsets = offsets_of([len(front), *map(len, data)], form in "UZ")[1:]
             return [offsets, front + b"".join(data) + dice.randbytes(dice.randrange(4))], [], None
+        if form in ("vu", "vz"):
+            return self.views(rows, seen), [], None
+        if form[:2] == "+v":
+            return (*self.list_views(of, rows, seen), None)
         if form == "+s":
             each = [[row[name] for row in rows] for name, _ in of.children]
             return [], [self.array(child, rows) for (_, child), rows in zip(of.children, each)], None
         if form[:1] == "+":
             return self.lists(of, rows)
         return [_data(of, rows) + dice.randbytes(dice.randrange(4))], [], None
+
+    def views(self, rows, seen):
+        """Views, up to three buffers that they lead to, and how long these are."""
+        dice, views = self.dice, []
+        blocks = [dice.randbytes(dice.choice([0, 5])) for _ in range(dice.randrange(1, 4))]
+        for row, is_seen in zip(rows, seen):
+            data, which = row.encode() if isinstance(row, str) else row, dice.randrange(len(blocks))
+            at = blocks[which].find(data) if dice.random() < 0.5 else -1
+            if at < 0:
+                at = len(blocks[which])
+                blocks[which] += data if len(data) > 12 else b""
+            views.append(viewed(data, which, at) if is_seen else dice.randbytes(16))
+        return [b"".join(views), *blocks, lengths_of(blocks)]
+
+    def list_views(self, of, rows, seen):
+        """Lists in any order, which lie in one another or begin where another ends, if they may."""
+        dice, items, spans = self.dice, [], [None] * len(rows)
+        for k in dice.sample(range(len(rows)), len(rows)):
+            row = rows[k]
+            known = [at for at in range(len(items) + 1) if items[at : at + len(row)] == row]
+            at = dice.choice(known) if known and dice.random() < 0.7 else len(items)
+            common = dice.randrange(min(len(items), len(row)) + 1)
+            if at == len(items) and items[at - common :] == row[:common]:
+                at -= common
+            items += row[len(items) - at :]
+            spans[k] = (at, len(row)) if seen[k] else (dice.choice([-1, 2**31 - 1, 5]),) * 2
+        letter = "q" if of.format == "+vL" else "i"
+        starts, sizes = (array(letter, [span[part] for span in spans]) for part in (0, 1))
+        return [starts, sizes], [self.array(of.children[0][1], items)]
+
+    def union(self, of, rows):
+        """The buffers and the children of a union, of which each row may be in any that it fits."""
+        dice, ids, is_dense = self.dice, ids_of(of.format), of.format[2] == "d"
+        types, offsets, each = bytearray(), array("i"), [[] for _ in ids]
+        for row in rows:
+            fitting = [k for k, (_, child) in enumerate(of.children) if is_of(child, row)]
+            chosen = dice.choice(fitting)
+            for k, below in enumerate(each):
+                for _ in range(dice.choice([0, 0, 1]) if is_dense else k != chosen):
+                    below.append(random_row(dice, of.children[k][1]))
+            types.append(ids[chosen])
+            offsets.append(len(each[chosen]))
+            each[chosen].append(row)
+        children = [self.array(child, below) for (_, child), below in zip(of.children, each)]
+        return [bytes(types), offsets] if is_dense else [bytes(types)], children
 
     def lists(self, of, rows):
         dice, child = self.dice, of.children[0][1]

@@ -4,6 +4,7 @@ import ctypes
 import doctest
 import os
 import random
+import struct
 import threading
 import time
 import unittest
@@ -20,18 +21,36 @@ from vortex_select import BrokenStep, Column, Filter, Slice, Take
 from vortex_select import check, column, from_buffers, select
 from vortex_select import _interface as arrow
 from vortex_select import _columns, _types
-from vortex_select._building import built
+from vortex_select._building import built, viewed
 from vortex_select._types import Type, type_of
 
 CALLS = int(os.environ.get("VORTEX_ARROW_CALLS", "3000"))
 
 
+# A type of each format that the library may not know.
+PROBES = {
+    "+w:": "fixed_size_list<int8, 1>",
+    "v": "utf8_view",
+    "+v": "list_view<int8>",
+    "+us:": "sparse_union<a: int8>",
+    "+ud:": "dense_union<a: int8>",
+}
+UNKNOWN = []
+
+
 def setUpModule():
-    try:
-        select(column([[1]], "fixed_size_list<int8, 1>"), [])
-    except ValueError as why:
-        print(f"skipped, the library doesn't know lists of a fixed size: {why}")
-        arrow_model.NESTED.remove("+w:")
+    for form, name in PROBES.items():
+        try:
+            select(column([], name), [])
+        except ValueError as why:
+            print(f"skipped, the library doesn't know columns of type {name}: {why}")
+            UNKNOWN.append(form)
+    for forms in arrow_model.FLAT, arrow_model.NESTED:
+        forms[:] = [form for form in forms if not form.startswith(tuple(UNKNOWN))]
+
+
+def knows(*forms):
+    return not set(forms) & set(UNKNOWN)
 
 
 class Streamed:
@@ -58,12 +77,19 @@ class Random(unittest.TestCase):
 
     def agrees(self, seed, source, rows, steps, said):
         wanted, broken = after(rows, said)
+        picks, _ = after(list(range(len(rows))), said)
+        is_union = self.type.startswith(("sparse_union", "dense_union"))
         try:
             found = select(source, steps)
         except BrokenStep as why:
             self.assertEqual((why.step, why.cause), broken, seed)
             return
+        except ValueError as why:
+            self.assertIn("a null is picked of a union", str(why), seed)
+            self.assertTrue(is_union and None in picks, seed)
+            return
         self.assertIsNone(broken, seed)
+        self.assertFalse(is_union and None in picks, seed)
         self.assertEqual(len(found), len(wanted), seed)
         self.assertEqual(found.type, self.type, seed)
         self.assertEqual(found.to_pylist(), wanted, seed)
@@ -259,12 +285,101 @@ class Numpy(unittest.TestCase):
             from_buffers("int32", 2, [None, numpy.arange(4, dtype="int32")[::2]])
 
 
+class Shared(unittest.TestCase):
+    """What views and lists that are views lead to is the source's own memory."""
+
+    def test_views(self):
+        if not knows("v"):
+            self.skipTest("no views")
+        data = [b"0123456789abc", b"0123456789abcdef"]
+        views = b"".join(viewed(data[k][k:], k, k) for k in (0, 1)) + viewed(b"0123456789ab", 7, 7)
+        source = from_buffers("binary_view", 3, [None, views, *data])
+        found = select(source, [Take([2, 1, None, 0])])
+        self.assertEqual(found.to_pylist(), [b"0123456789ab", data[1][1:], None, data[0]])
+        first, second = source._chunks[0], found._chunks[0]
+        self.assertEqual([second.buffers[k] for k in (2, 3, 4)], [first.buffers[k] for k in (2, 3, 4)])
+        self.assertNotEqual(second.buffers[1], first.buffers[1])
+        with self.assertRaises(ValueError):
+            from_buffers("binary_view", 3, [None, views[:47], *data])
+        with self.assertRaises(ValueError):
+            from_buffers("binary_view", 3, [None])
+
+    def test_list_views(self):
+        if not knows("+v"):
+            self.skipTest("no views of lists")
+        for name, letter in (("list_view", "i"), ("large_list_view", "q")):
+            starts, sizes = array(letter, [2, 0, 1, 3]), array(letter, [1, 3, 2, 0])
+            items = column([5, 6, 7], "int8")
+            source = from_buffers(f"{name}<int8>", 4, [None, starts, sizes], [items])
+            found = select(source, [Take([0, 2, None, 1, 3])])
+            self.assertEqual(found.to_pylist(), [[7], [6, 7], None, [5, 6, 7], []])
+            below = found._chunks[0].children[0].contents
+            self.assertEqual(below.buffers[1], items._chunks[0].buffers[1])
+            with self.assertRaises(ValueError):
+                from_buffers(f"{name}<int8>", 4, [None, starts, sizes[:3]], [items])
+
+    def unions(self, source, ids):
+        """What holds of both kinds."""
+        self.assertEqual(source.to_pylist(), ["a", None, 3])
+        found = select(source, [Take([2, 1, 0, 0])])
+        self.assertEqual((found.to_pylist(), found.type), ([3, None, "a", "a"], source.type))
+        self.assertIn(ids, found.type)
+        with self.assertRaisesRegex(ValueError, "a null is picked of a union"):
+            select(source, [Take([0, None])])
+        self.assertEqual(select(source, [Take([0, None]), Slice(0, 1)]).to_pylist(), ["a"])
+        # Where a struct is null, nothing is said of its union.
+        below = wrapped(Type("+s", (("u", type_of(source.type)),)), arrow.made_array(
+            3, 0, 0, [None], [arrow.shared(source._chunks[0])]
+        ))
+        found = select(below, [Take([2, None, 1])])
+        self.assertEqual(found.to_pylist(), [{"u": 3}, None, {"u": None}])
+        return select(source, [Take([2, 0, 2])])._chunks[0]
+
+    def test_sparse_unions(self):
+        if not knows("+us:"):
+            self.skipTest("no sparse unions")
+        words, numbers = column(["a", None, "c"]), column([1, 2, 3], "int16")
+        names = "[5,9]<a: utf8, b: int16>"
+        source = from_buffers(f"sparse_union{names}", 3, [b"\5\5\x09"], [words, numbers])
+        found = self.unions(source, "[5,9]")
+        self.assertEqual([found.children[k].contents.length for k in (0, 1)], [3, 3])
+        for wrong in ("[5]<a: utf8, b: int16>", "[128,1]<a: utf8, b: int16>"):
+            with self.assertRaises(ValueError):
+                select(from_buffers("sparse_union" + wrong, 1, [b"\5"], [words, numbers]), [])
+
+    def test_dense_unions(self):
+        if not knows("+ud:"):
+            self.skipTest("no dense unions")
+        words, numbers = column(["a", "b", None]), column([1, 2, 3], "int16")
+        names, offsets = "[5,9]<a: utf8, b: int16>", array("i", [0, 2, 2])
+        source = from_buffers(f"dense_union{names}", 3, [b"\5\5\x09", offsets], [words, numbers])
+        found = self.unions(source, "[5,9]")
+        self.assertEqual([found.children[k].contents.length for k in (0, 1)], [1, 2])
+
+    def test_built_unions(self):
+        """A value is in the first column that it fits."""
+        made = column([1, "a", None, 300, 2.5], "dense_union<b: int8, a: utf8, i: int64, f: float64>")
+        types = ctypes.string_at(made._chunks[0].buffers[0], 5)
+        self.assertEqual(types, bytes([0, 1, 0, 2, 3]))
+        self.assertEqual(made.to_pylist(), [1, "a", None, 300, 2.5])
+        for wrong in (["a", 1.5], [b"a"], [2**15], [[1]], [True]):
+            with self.assertRaises(ValueError):
+                column(wrong, "sparse_union<a: utf8, b: int16>")
+
+
 class Release(unittest.TestCase):
     def setUp(self):
         self.before = held()
-        words = ["a", "bb", None, "a"]
-        self.rows = [{"d": word, "n": k} for k, word in enumerate(words)]
-        self.source = column(self.rows, "struct<d: dictionary<int8, utf8>, n: int32>")
+        words = ["a", "bb", None, "a text that is long"]
+        fields = {"d": "dictionary<int8, utf8>", "n": "int32"}
+        if knows("v"):
+            fields["v"] = "utf8_view"
+        if knows("v", "+v"):
+            fields["l"] = "list_view<utf8_view>"
+        some = [{"d": word, "n": k, "v": word, "l": [word, "another long text"]} for k, word in enumerate(words)]
+        self.rows = [{name: row[name] for name in fields} for row in some]
+        named = ", ".join(f"{name}: {kind}" for name, kind in fields.items())
+        self.source = column(self.rows, f"struct<{named}>")
 
     def tearDown(self):
         self.source = None
@@ -355,8 +470,8 @@ class Hostile(unittest.TestCase):
 
     def test_lengths(self):
         """Lengths and offsets that no buffer can have; the buffers have a byte each."""
-        for form in ("c", "l", "b", "w:1000000000", "u", "Z", "+s", "n", "tin"):
-            buffers = {"u": 3, "Z": 3, "+s": 1, "n": 0}.get(form, 2)
+        for form in ("c", "l", "b", "w:1000000000", "u", "Z", "+s", "n", "tin", "vu"):
+            buffers = {"u": 3, "Z": 3, "vu": 3, "+s": 1, "n": 0}.get(form, 2)
             for length, offset in ((-1, 0), (2**63 - 1, 1), (2**63 - 1, 2**63 - 1), (1, -1), (1, 2**63 - 1)):
                 made = arrow.made_array(length, 0, offset, [None] + [b"x"] * (buffers - 1) if buffers else [])
                 self.refused(Type(form), made, [Slice(0, 1)], (ValueError, BrokenStep))
@@ -388,6 +503,107 @@ class Hostile(unittest.TestCase):
         ):
             made = arrow.made_array(1, 0, 0, buffers, [built(Type("c"), [1, 2])])
             self.refused(Type(form, (("item", Type("c")),)), made)
+
+    def test_wild_views(self):
+        """Views into buffers that aren't there or are too short, and lengths that no buffer has."""
+        if not knows("v"):
+            self.skipTest("no views")
+        data = bytes(range(20))
+
+        def made(view, blocks=(data,), lengths=None):
+            lengths = array("q", map(len, blocks)) if lengths is None else lengths
+            views = struct.pack("<i4sii", *view) + viewed(b"ab", 0, 0)
+            return arrow.made_array(2, 0, 0, [None, views, *blocks, lengths])
+
+        for size, which, at in (
+            (13, 1, 0), (13, -1, 0), (13, 2**31 - 1, 0), (13, 0, 8), (13, 0, -1), (13, 0, 2**31 - 1),
+            (21, 0, 0), (2**31 - 1, 0, 0), (2**31 - 1, 0, 2**31 - 1), (-1, 0, 0), (-(2**31), 0, 0),
+        ):
+            for form in "vu", "vz":
+                self.assertIn("views", self.refused(Type(form), made((size, b"", which, at))))
+                with self.assertRaises(ValueError):
+                    check(wrapped(Type(form), made((size, b"", which, at))))
+                # What isn't picked isn't looked at.
+                found = select(wrapped(Type(form), made((size, b"", which, at))), [Take([1])])
+                self.assertEqual(found.to_pylist(), ["ab" if form == "vu" else b"ab"])
+        self.refused(Type("vz"), made((13, b"", 0, 0), ()))
+        found = select(wrapped(Type("vz"), made((13, b"", 0, 7))), [Take([0])])
+        self.assertEqual(found.to_pylist(), [data[7:]])
+        for length in -1, -(2**63), 2**62, 2**63 - 1:
+            # A length is the producer's word, but a buffer that isn't there has none.
+            self.refused(Type("vu"), made((13, b"", 0, 0), (None,), array("q", [length])))
+        self.refused(Type("vu"), made((13, b"", 0, 0), (data,), array("q", [-(2**63)])))
+        self.refused(Type("vu"), made((13, b"", 0, 0), (data,), b"\xff" * 8))
+        for count in 0, 1, 2:
+            self.refused(Type("vu"), arrow.made_array(0, 0, 0, [None, b"", b""][:count]), ())
+
+    def test_no_lengths(self):
+        """Buffers that views lead to, and nothing that tells their lengths."""
+        if not knows("v"):
+            self.skipTest("no views")
+        views = viewed(b"0123456789abc", 0, 0)
+        self.refused(Type("vz"), arrow.made_array(1, 0, 0, [None, views, b"0123456789abc", None]))
+        none = wrapped(Type("vz"), arrow.made_array(1, 0, 0, [None, viewed(b"ab", 0, 0), None]))
+        self.assertEqual(select(none, [Take([0, 0])]).to_pylist(), [b"ab", b"ab"])
+
+    def test_wild_list_views(self):
+        """Views of lists that pass the two items, or begin before them."""
+        if not knows("+v"):
+            self.skipTest("no views of lists")
+        for form, letter, last in (("+vl", "i", 2**31 - 1), ("+vL", "q", 2**63 - 1)):
+            of = Type(form, (("item", Type("c")),))
+            for start, size in (
+                (0, 3), (2, 1), (3, 0), (-1, 1), (0, -1), (-1, -1), (last, last), (last, 0), (0, last),
+                (1, last), (last, 1), (-last - 1, 0), (-last - 1, -last - 1), (3, -1),
+            ):
+                lists = array(letter, [start, 0]), array(letter, [size, 2])
+                made = arrow.made_array(2, 0, 0, [None, *lists], [built(Type("c"), [1, 2])])
+                source = wrapped(of, made)
+                for call in (lambda: select(source, [Slice(0, 1)]), lambda: check(source)):
+                    with self.assertRaises(ValueError):
+                        call()
+                self.assertEqual(select(source, [Take([1])]).to_pylist(), [[1, 2]])
+                hidden = arrow.made_array(2, 1, 0, [b"\2", *lists], [built(Type("c"), [1, 2])])
+                source = wrapped(of, hidden)
+                check(source)
+                self.assertEqual(select(source, []).to_pylist(), [None, [1, 2]])
+
+    def test_kept(self):
+        """What lists are views of is shared unread, and tested by `check`."""
+        if not knows("+v"):
+            self.skipTest("no views of lists")
+        bad = arrow.made_array(1, 0, 0, [None, array("i", [5, 4]), b"abcd"])
+        made = arrow.made_array(1, 0, 0, [None, array("i", [0]), array("i", [1])], [bad])
+        source = wrapped(Type("+vl", (("item", Type("u")),)), made)
+        self.assertEqual(len(select(source, [Take([0, 0])])), 2)
+        with self.assertRaisesRegex(ValueError, "offsets"):
+            check(source)
+
+    def test_wild_unions(self):
+        """Ids of no child, places past a child's rows, and formats that list no ids. Where unions
+        aren't known, their format is named."""
+        fields = ("a", Type("c")), ("b", Type("u"))
+
+        def below():
+            return [built(Type("c"), [1, 2]), built(Type("u"), ["x", "y"])]
+
+        for number in 2, 6, 127, 128, 255:
+            types = bytes([number, 5])
+            made = arrow.made_array(2, 0, 0, [types], below())
+            said = self.refused(Type("+us:5,7", fields), made)
+            self.assertIn("type ids" if knows("+us:") else "+us:5,7", said)
+            made = arrow.made_array(2, 0, 0, [types, array("i", [0, 0])], below())
+            said = self.refused(Type("+ud:5,7", fields), made)
+            self.assertIn("type ids" if knows("+ud:") else "+ud:5,7", said)
+        for place in -1, 2, 2**31 - 1, -(2**31):
+            made = arrow.made_array(2, 0, 0, [b"\5\7", array("i", [place, 1])], below())
+            said = self.refused(Type("+ud:5,7", fields), made)
+            self.assertIn("" if knows("+ud:") else "+ud:5,7", said)
+        for ids in "0", "0,1,2", "", "0,", ",0", "0,0", "0,128", "0,-1", "0;1", " 0,1", "0,1x", "0," + "9" * 30:
+            self.refused(Type("+us:" + ids, fields), arrow.made_array(1, 0, 0, [b"\0"], below()))
+        short = [built(Type("c"), [1, 2, 3]), built(Type("u"), ["x", "y"])]
+        self.refused(Type("+us:0,1", fields), arrow.made_array(3, 0, 0, [b"\0\0\1"], short), ())
+        self.refused(Type("+us:0,1", fields), arrow.made_array(1, 0, 0, [None, b"\0"], below()))
 
     def test_equal_offsets(self):
         """A million texts of no bytes."""

@@ -8,7 +8,9 @@ from array import array as numbers_of
 
 from ._interface import made_array
 from ._reading import letters_of
-from ._types import Type, decimal_of
+from ._types import Type, decimal_of, ids_of
+
+_MOST = 2**31 - 1
 
 
 def packed(bools) -> bytes:
@@ -59,6 +61,31 @@ def _text(of, rows):
     return [offsets_of(map(len, data), of.format in "UZ"), b"".join(data)], ()
 
 
+def viewed(data, block, at):
+    """A view of some bytes, which stand in it or in a buffer of that number."""
+    if len(data) <= 12:
+        return struct.pack("<i12s", len(data), data)
+    return struct.pack("<i4sii", len(data), data[:4], block, at)
+
+
+def lengths_of(blocks):
+    """The lengths of the buffers that views lead to: the last buffer of an array of views."""
+    return numbers_of("q", [memoryview(block).nbytes for block in blocks])
+
+
+def _views(rows):
+    views, blocks = [], [bytearray()]
+    for row in rows:
+        data = row.encode() if isinstance(row, str) else bytes(row or b"")
+        if len(blocks[-1]) + len(data) > _MOST:
+            blocks.append(bytearray())
+        views.append(viewed(data, len(blocks) - 1, len(blocks[-1])))
+        if len(data) > 12:
+            blocks[-1] += data
+    blocks = [bytes(block) for block in blocks if block]
+    return [b"".join(views), *blocks, lengths_of(blocks)], ()
+
+
 def _list(of, rows):
     lists = [[] if row is None else list(row) for row in rows]
     inner = of.children[0][1]
@@ -66,7 +93,12 @@ def _list(of, rows):
     if of.format == "+m":
         (key, _), (value, _) = inner.children
         items = [item if item is None else {key: item[0], value: item[1]} for item in items]
-    return [offsets_of(map(len, lists), of.format == "+L")], [built(inner, items)]
+    is_wide = of.format in ("+L", "+vL")
+    offsets = offsets_of(map(len, lists), is_wide)
+    if of.format[1] == "v":
+        sizes = numbers_of("q" if is_wide else "i", map(len, lists))
+        return [offsets[:-1], sizes], [built(inner, items)]
+    return [offsets], [built(inner, items)]
 
 
 def _items(of, rows):
@@ -80,6 +112,92 @@ def _items(of, rows):
 def _struct(of, rows):
     kept = [{} if row is None else row for row in rows]
     return [], [built(child, [row.get(name) for row in kept]) for name, child in of.children]
+
+
+def _is_number(form, row):
+    """Whether a row is a number, or so many, as the format has it, and in its range."""
+    letters = letters_of(form)
+    numbers = row if isinstance(row, tuple) else (row,)
+    kind = float if letters in ("e", "f", "d") else int
+    if len(numbers) != len(letters) or any(type(number) is not kind for number in numbers):
+        return False
+    try:
+        struct.pack("<" + letters, *numbers)
+    except (struct.error, OverflowError):
+        return False
+    return True
+
+
+def _is_decimal(form, row):
+    _, scale, bits = decimal_of(form)
+    with decimal.localcontext() as context:
+        context.prec = 100
+        whole = row.scaleb(scale) if isinstance(row, decimal.Decimal) else None
+        return whole is not None and whole == int(whole) and -(2 ** (bits - 1)) <= whole < 2 ** (bits - 1)
+
+
+def _is_list(of, row):
+    if not isinstance(row, list) or (of.format[1] == "w" and len(row) != int(of.format[3:])):
+        return False
+    inner = of.children[0][1]
+    if of.format != "+m":
+        return all(is_of(inner, item) for item in row)
+    (_, key), (_, value) = inner.children
+    return all(
+        isinstance(pair, tuple) and len(pair) == 2 and is_of(key, pair[0]) and is_of(value, pair[1])
+        for pair in row
+    )
+
+
+def is_of(of, row):
+    """Whether a row may be one of a type."""
+    form = of.format
+    if row is None or form == "n":
+        return row is None
+    if of.dictionary is not None:
+        return is_of(of.dictionary, row)
+    if form[:2] == "+u":
+        return any(is_of(child, row) for _, child in of.children)
+    if form == "+s":
+        names = {name for name, _ in of.children}
+        return isinstance(row, dict) and set(row) == names and all(
+            is_of(child, row[name]) for name, child in of.children
+        )
+    if form[:1] == "+":
+        return _is_list(of, row)
+    if letters_of(form):
+        return _is_number(form, row)
+    if form[:2] == "d:":
+        return _is_decimal(form, row)
+    if form[:2] == "w:":
+        return isinstance(row, bytes) and len(row) == int(form[2:])
+    return isinstance(row, {"b": bool, "u": str, "U": str, "vu": str}.get(form, bytes))
+
+
+def _chosen(of, places, rows):
+    """The buffers and children of a union whose rows are in the children of these numbers."""
+    ids, is_dense = ids_of(of.format), of.format[2] == "d"
+    each = [[] for _ in of.children]
+    offsets = numbers_of("i")
+    for place, row in zip(places, rows):
+        offsets.append(len(each[place]))
+        for k, below in enumerate(each):
+            if k == place or not is_dense:
+                below.append(row if k == place else None)
+    types = bytes(ids[place] for place in places)
+    children = [built(child, below) for (_, child), below in zip(of.children, each)]
+    return [types, offsets] if is_dense else [types], children
+
+
+def _union(of, rows):
+    """Each row is in the first child that it may be a row of."""
+    places = []
+    for row in rows:
+        fitting = (k for k, (_, child) in enumerate(of.children) if is_of(child, row))
+        places.append(next(fitting, None))
+        if places[-1] is None:
+            raise ValueError(f"{row!r} is a row of no column below one of type {of}")
+    return _chosen(of, places, rows)
 
 
 def _dictionary(of, rows):
@@ -104,13 +222,18 @@ def built(of: Type, rows):
         if nulls < len(rows):
             raise ValueError("a column of nulls has other values")
         return made_array(len(rows), nulls, 0, [])
+    if form[:2] == "+u":
+        more, children = _union(of, rows)
+        return made_array(len(rows), 0, 0, more, children)
     if of.dictionary is not None:
         more, inner = _dictionary(of, rows)
     elif form == "b":
         more = [packed(rows)]
     elif form in ("u", "U", "z", "Z"):
         more, children = _text(of, rows)
-    elif form in ("+l", "+L", "+m"):
+    elif form in ("vu", "vz"):
+        more, children = _views(rows)
+    elif form in ("+l", "+L", "+m", "+vl", "+vL"):
         more, children = _list(of, rows)
     elif form[:3] == "+w:":
         more, children = _items(of, rows)

@@ -11,7 +11,7 @@ from typing import TYPE_CHECKING, Any, Iterable, List, Optional, Sequence, Tuple
 
 from . import Bits, _bools, _is_masked, _native, _packed, _view_of
 from . import _interface as arrow
-from ._building import built, guessed, packed
+from ._building import built, guessed, lengths_of, packed
 from ._reading import rows, width_of
 from ._types import spelled, type_of
 
@@ -200,7 +200,7 @@ class Column:
 
     def to_pylist(self) -> List[Any]:
         """The rows: numbers (dates and times too), texts, bytes, lists, dicts for structs, lists of
-        pairs for maps, and `None`.
+        pairs for maps, what a union's column has, and `None`.
         """
         return [row for chunk in self._chunks for row in rows(self._schema, chunk, 0, chunk.length)]
 
@@ -299,7 +299,7 @@ def _has_chunks(column):
 
 def column(values: Iterable[Any], type: Optional[str] = None) -> Column:
     """A column of the values, of a type such as `list<utf8>`; without one, of the type of the
-    first value that isn't `None`.
+    first value that isn't `None`. A value of a union is in the first column below that it fits.
 
     >>> column(["a", None], type="utf8").to_pylist()
     ['a', None]
@@ -331,7 +331,14 @@ def _needs(of, buffers, end):
     form, bits = of.format, (end + 7) // 8
     if form == "n":
         return []
+    if form[:2] == "+u":
+        return [("type ids", end), ("offsets", 4 * end)][: 1 + (form[2] == "d")]
     valid = ("validity", bits if buffers and buffers[0] is not None else 0)
+    if form in ("vu", "vz"):
+        return [valid, ("views", 16 * end)] + [("data", 0)] * (len(buffers) - 2)
+    if form in ("+vl", "+vL"):
+        size = (8 if form == "+vL" else 4) * end
+        return [valid, ("offsets", size), ("sizes", size)]
     if form == "b":
         return [valid, ("values", bits)]
     if form in ("u", "U", "z", "Z"):
@@ -355,8 +362,9 @@ def from_buffers(
     offset: int = 0,
 ) -> Column:
     """A column over memory as it stands, which isn't copied: the buffers of Arrow's format, in its
-    order, and the columns below. A buffer that is too short is a `ValueError`. Nobody may write to
-    the memory while the column or what was handed of it is there.
+    order, and the columns below. A buffer that is too short is a `ValueError`. The lengths of the
+    buffers that views lead to aren't among them. Nobody may write to the memory while the column or
+    what was handed of it is there.
 
     >>> from array import array
     >>> from_buffers("int32", 2, [None, array("i", [1, 2, 3])], offset=1).to_pylist()
@@ -386,6 +394,10 @@ def from_buffers(
     nulls = -1 if buffers and buffers[0] is not None else 0
     if of.format == "n":
         nulls = length
+    elif of.format[:2] == "+u":
+        nulls = 0
+    elif of.format in ("vu", "vz"):
+        held.append(arrow.kept(lengths_of(b"" if data is None else data for data in buffers[2:])))
     array = arrow.made_array(length, nulls, offset, held, below, inner)
     return Column(arrow.made_schema(of), [array])
 

@@ -6,7 +6,7 @@ import ctypes
 import decimal
 import struct
 
-from ._types import decimal_of
+from ._types import decimal_of, ids_of
 
 # How `struct` spells values; a letter of Arrow's is the first of a format.
 _NUMBERS = {"c": "b", "C": "B", "s": "h", "S": "H", "i": "i", "I": "I", "l": "q", "L": "Q"}
@@ -129,7 +129,7 @@ def _structs(schema, array, first, count):
 
 
 def _unions(form, schema, array, first, count):
-    ids = [int(number) for number in form[4:].split(",") if number]
+    ids = ids_of(form)
     offsets = range(first, first + count)
     if form[2] == "d":
         offsets = _numbers(_buffer(array, 1), "i", first, count)

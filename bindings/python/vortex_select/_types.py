@@ -62,6 +62,16 @@ def decimal_of(form):
     return precision, scale, bits[0] if bits else 128
 
 
+def ids_of(form):
+    """The ids that the format of a union lists, a byte each."""
+    return bytes(int(number) for number in form[4:].split(",") if number)
+
+
+def _first_ids(children):
+    """The ids of a union's children where a type names none."""
+    return ",".join(map(str, range(len(children))))
+
+
 def _spelled_nested(of):
     form, inner = of.format, [spelled(child) for _, child in of.children]
     named = ", ".join(f"{name}: {text}" for (name, _), text in zip(of.children, inner))
@@ -75,7 +85,9 @@ def _spelled_nested(of):
     if form == "+s":
         return f"struct<{named}>"
     if form[:4] in ("+us:", "+ud:"):
-        return f"{'sparse' if form[2] == 's' else 'dense'}_union<{named}>"
+        ids = form[4:]
+        listed = "" if ids == _first_ids(of.children) else f"[{ids}]"
+        return f"{'sparse' if form[2] == 's' else 'dense'}_union{listed}<{named}>"
     return form
 
 
@@ -158,11 +170,12 @@ class _Parser:
         raise self.fault()
 
     def nested(self, word):
-        if word in ("struct", "sparse_union", "dense_union"):
+        if word == "struct":
+            return Type("+s", self.fields())
+        found = re.match(r"(sparse|dense)_union(?:\[([0-9]+(?:,[0-9]+)*)\])?$", word)
+        if found:
             children = self.fields()
-            if word == "struct":
-                return Type("+s", children)
-            return Type(f"+u{word[0]}:" + ",".join(map(str, range(len(children)))), children)
+            return Type(f"+u{word[0]}:{found.group(2) or _first_ids(children)}", children)
         inner = self.type()
         if word in _LISTS:
             made = Type(_LISTS[word], (("item", inner),))

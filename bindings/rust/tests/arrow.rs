@@ -78,6 +78,81 @@ fn numbers_and_texts_are_those_of_plain_loops() {
     }
 }
 
+/// Whether the library knows the format of a column.
+fn is_known(mut column: Column) -> bool {
+    !matches!(select(&mut column, &[]), Err(Error::Format(_)))
+}
+
+#[test]
+fn views_are_those_of_plain_loops() {
+    let items = || Column::text_views(&[Some("a"), None, Some("a text of a view")]);
+    if !is_known(items()) || !is_known(Column::list_views(&[], items())) {
+        println!("skipped, the library doesn't know views");
+        return;
+    }
+    let mut dice = Dice(88172645463325252);
+    let words = ["", "a", "twelve bytes", "thirteen byte", "a longer text, é"];
+    for _ in 0..5_000 {
+        let len = dice.below(40);
+        let mut row = || (dice.below(5) > 0).then(|| dice.below(5));
+        let rows: Vec<Option<usize>> = (0..len).map(|_| row()).collect();
+        let texts: Vec<_> = rows.iter().map(|row| row.map(|k| words[k])).collect();
+        let ranges: Vec<_> = rows
+            .iter()
+            .map(|row| row.map(|k| k / 2..3 - k % 2))
+            .collect();
+        let (steps, picks) = random_steps(&mut dice, len);
+        let picked = select(&mut Column::text_views(&texts), &steps).unwrap();
+        let wanted = picks.iter().map(|pick| pick.and_then(|k| texts[k]));
+        assert_eq!(picked.to_texts(), Some(wanted.collect()));
+        let picked = select(&mut Column::list_views(&ranges, items()), &steps).unwrap();
+        let wanted = picks
+            .iter()
+            .map(|pick| pick.and_then(|k| ranges[k].clone()));
+        assert_eq!(picked.to_ranges(), Some(wanted.collect()));
+        let below = picked.into_children().pop().unwrap();
+        assert_eq!(below.to_texts(), items().to_texts());
+    }
+}
+
+#[test]
+fn unions_are_those_of_plain_loops() {
+    let words = [Some("a"), None, Some("cd")];
+    let fields = || {
+        let numbers = Column::numbers(&[Some(5), Some(6)]);
+        vec![("word", Column::texts(&words)), ("number", numbers)]
+    };
+    if !is_known(Column::unions(&[], fields())) {
+        println!("skipped, the library doesn't know unions");
+        return;
+    }
+    let mut dice = Dice(88172645463325252);
+    for _ in 0..5_000 {
+        let len = dice.below(40);
+        let mut row = || [(0, 0), (0, 1), (0, 2), (1, 0), (1, 1)][dice.below(5)];
+        let rows: Vec<(usize, usize)> = (0..len).map(|_| row()).collect();
+        let (steps, picks) = random_steps(&mut dice, len);
+        let picked = match select(&mut Column::unions(&rows, fields()), &steps) {
+            Ok(picked) => picked,
+            Err(error) => {
+                assert!(matches!(error, Error::NullPick(_)), "{error}");
+                assert!(picks.contains(&None));
+                continue;
+            }
+        };
+        let chosen = picked.to_chosen().unwrap();
+        let below = picked.into_children();
+        let (texts, numbers) = (below[0].to_texts().unwrap(), below[1].to_numbers().unwrap());
+        assert_eq!(chosen.len(), picks.len());
+        for ((field, place), pick) in chosen.into_iter().zip(picks) {
+            match rows[pick.expect("a row")] {
+                (0, k) => assert_eq!((field, texts[place]), (0, words[k])),
+                (_, k) => assert_eq!((field, numbers[place]), (1, Some(5 + k as i64))),
+            }
+        }
+    }
+}
+
 #[test]
 fn structs_and_lists_keep_their_children() {
     let tags = Column::lists(

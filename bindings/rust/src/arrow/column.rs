@@ -1,6 +1,7 @@
 //! Columns: a schema and an array that belong together.
 use super::interface::{vortex_select_arrow, ArrowArray, ArrowSchema, Fault, Image};
 use super::steps::{packed, Error, Step};
+use super::views;
 use std::ffi::{c_void, CStr, CString};
 use std::ptr::null_mut;
 
@@ -9,8 +10,8 @@ const NULLABLE: i64 = 2;
 /// A column in Arrow's memory: an array, and the schema that says what it is.
 #[derive(Debug)]
 pub struct Column {
-    schema: ArrowSchema,
-    array: ArrowArray,
+    pub(super) schema: ArrowSchema,
+    pub(super) array: ArrowArray,
 }
 
 /// What the structs that are made here lead to.
@@ -75,7 +76,7 @@ unsafe extern "C" fn release_array(array: *mut ArrowArray) {
     }
 }
 
-fn made_schema(format: &str, name: &str, children: Vec<ArrowSchema>) -> ArrowSchema {
+pub(super) fn made_schema(format: &str, name: &str, children: Vec<ArrowSchema>) -> ArrowSchema {
     let mut held = Held::new(Vec::new(), children, [format, name]);
     let mut schema = ArrowSchema::empty();
     schema.format = held.texts[0].as_ptr();
@@ -104,7 +105,7 @@ unsafe extern "C" fn release_renamed(schema: *mut ArrowSchema) {
 }
 
 /// The same schema under another name.
-fn renamed(inner: ArrowSchema, name: &str) -> ArrowSchema {
+pub(super) fn renamed(inner: ArrowSchema, name: &str) -> ArrowSchema {
     let mut schema = ArrowSchema::empty();
     schema.format = inner.format;
     schema.metadata = inner.metadata;
@@ -120,7 +121,7 @@ fn renamed(inner: ArrowSchema, name: &str) -> ArrowSchema {
     schema
 }
 
-fn made_array(
+pub(super) fn made_array(
     len: usize,
     nulls: usize,
     buffers: Vec<Option<Vec<u8>>>,
@@ -140,7 +141,7 @@ fn made_array(
 }
 
 /// The bits of the rows that are there, and how many aren't.
-fn validity<T>(rows: &[Option<T>]) -> (Option<Vec<u8>>, usize) {
+pub(super) fn validity<T>(rows: &[Option<T>]) -> (Option<Vec<u8>>, usize) {
     let nulls = rows.iter().filter(|row| row.is_none()).count();
     let bits = packed(rows.iter().map(Option::is_some));
     (Some(bits).filter(|_| nulls > 0), nulls)
@@ -231,13 +232,13 @@ impl Column {
 }
 
 /// The array of a column, for reading: its buffers are as long as its schema and its length say.
-struct Reader<'a> {
-    array: &'a ArrowArray,
-    format: &'a [u8],
+pub(super) struct Reader<'a> {
+    pub array: &'a ArrowArray,
+    pub format: &'a [u8],
 }
 
 impl<'a> Reader<'a> {
-    fn of(column: &'a Column) -> Self {
+    pub fn of(column: &'a Column) -> Self {
         // SAFETY: a schema's format is a text that a byte 0 ends.
         let format = unsafe { CStr::from_ptr(column.schema.format) };
         Reader {
@@ -250,7 +251,7 @@ impl<'a> Reader<'a> {
     ///
     /// # Safety
     /// The buffer has so many values of the type, or is null.
-    unsafe fn values<T: Copy>(&self, buffer: usize, len: usize) -> &'a [T] {
+    pub unsafe fn values<T: Copy>(&self, buffer: usize, len: usize) -> &'a [T] {
         if len == 0 || buffer >= self.array.n_buffers as usize {
             return &[];
         }
@@ -264,15 +265,15 @@ impl<'a> Reader<'a> {
         unsafe { std::slice::from_raw_parts(place.cast(), len) }
     }
 
-    fn end(&self) -> usize {
+    pub fn end(&self) -> usize {
         (self.array.offset + self.array.length) as usize
     }
 
-    fn rows(&self) -> std::ops::Range<usize> {
+    pub fn rows(&self) -> std::ops::Range<usize> {
         self.array.offset as usize..self.end()
     }
 
-    fn is_there(&self, k: usize) -> bool {
+    pub fn is_there(&self, k: usize) -> bool {
         // SAFETY: validity, where there is any, has a bit for each row.
         let bits: &[u8] = unsafe { self.values(0, self.end().div_ceil(8)) };
         bits.is_empty() || (bits[k / 8] >> (k % 8)) & 1 == 1
@@ -328,10 +329,13 @@ impl Column {
         Some(reader.rows().map(row).collect())
     }
 
-    /// The rows of a column of texts with offsets of 32 bits, and none of another, or where a text
-    /// isn't UTF-8.
+    /// The rows of a column of texts, with offsets of 32 bits or as views, and none of another, or
+    /// where a text isn't UTF-8.
     pub fn to_texts(&self) -> Option<Vec<Option<&str>>> {
         let reader = Reader::of(self);
+        if reader.format == b"vu" {
+            return views::texts(&reader);
+        }
         if reader.format != b"u" {
             return None;
         }
@@ -356,8 +360,8 @@ impl Column {
         Some(rows)
     }
 
-    /// The columns below, moved out: the fields of a struct, the items of lists. Of a struct they
-    /// may have rows before and behind its own.
+    /// The columns below, moved out: the fields of a struct or a union, the items of lists. Of a
+    /// struct they may have rows before and behind its own.
     pub fn into_children(self) -> Vec<Column> {
         // SAFETY: a struct has as many children as it says, and each may be moved out where the
         // parent is released then.
@@ -370,7 +374,8 @@ impl Column {
 
 /// The rows that the steps leave of a column.
 ///
-/// The column stays as it is, but for dictionaries, which it shares with the answer from then on.
+/// The column stays as it is, but for dictionaries and for what views lead to, which it shares with
+/// the answer from then on.
 pub fn select(column: &mut Column, steps: &[Step]) -> Result<Column, Error> {
     // SAFETY: a column's schema and array are as Arrow has them.
     let parts = unsafe { select_arrow(&column.schema, &mut column.array, steps)? };

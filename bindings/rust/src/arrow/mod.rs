@@ -12,6 +12,7 @@
 mod column;
 mod interface;
 mod steps;
+mod views;
 
 pub use column::{select, select_arrow, Column};
 pub use interface::{ArrowArray, ArrowSchema};

@@ -121,6 +121,8 @@ pub enum Error {
     Overflow(String),
     /// The column has a format that isn't known.
     Format(String),
+    /// A null is picked of a union, whose rows are never null.
+    NullPick(String),
     /// Memory is wanting.
     NoMemory,
 }
@@ -153,6 +155,7 @@ impl Fault {
                 },
             },
             8 => Error::Format(text),
+            9 => Error::NullPick(text),
             _ => Error::NoMeaning(text),
         }
     }
@@ -162,9 +165,10 @@ impl fmt::Display for Error {
     fn fmt(&self, f: &mut fmt::Formatter<'_>) -> fmt::Result {
         match self {
             Error::Broken { step, cause } => write!(f, "step {step} breaks a rule: {cause:?}"),
-            Error::NoMeaning(text) | Error::Overflow(text) | Error::Format(text) => {
-                f.write_str(text)
-            }
+            Error::NoMeaning(text)
+            | Error::Overflow(text)
+            | Error::Format(text)
+            | Error::NullPick(text) => f.write_str(text),
             Error::NoMemory => f.write_str("out of memory"),
         }
     }
