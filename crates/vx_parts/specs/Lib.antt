@@ -1,6 +1,6 @@
 pub mod Arrivals
-pub mod Bounds
 pub mod Cuts
 pub mod Own
 pub mod Plan
-pub mod Runs
+pub use Rattle.vx_cuts.specs.Bounds
+pub use Rattle.vx_cuts.specs.Runs

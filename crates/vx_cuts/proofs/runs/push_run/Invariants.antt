@@ -1,8 +1,8 @@
 -- The pieces so far are those of the rows before the one at hand.
 use Rattle.std.proofs.Common.{◌≡◌, ◌-◌, ◌≤◌, ◌++◌}
 use Rattle.std.specs.List.{All, range_with_len}
-use Rattle.vx_parts.specs.Runs.{IsPieceOf, piece_places}
-use Rattle.vx_parts.proofs.runs.push_run.Given as goal
+use Rattle.vx_cuts.specs.Runs.{IsPieceOf, piece_places}
+use Rattle.vx_cuts.proofs.runs.push_run.Given as goal
 
 abbrev pub invariant-loop-at : goal.invariant-loop-at
 invariant-loop-at l = record {

@@ -3,8 +3,8 @@ use Rattle.std.proofs.Common.{◌≡◌, ℕ, zero, suc, ◌+◌, ◌-◌, ◌�
 use Rattle.std.specs.List.{range_with_len}
 use Rattle.std.proofs.lemmas.List.{append_assoc, append-nil}
 use Rattle.std.proofs.lemmas.List.Concat.{flat_map-append}
-use Rattle.vx_parts.specs.Runs.{piece_places}
-use Rattle.vx_parts.specs.declared.runs.Piece.{Piece}
+use Rattle.vx_cuts.specs.Runs.{piece_places}
+use Rattle.vx_cuts.specs.declared.runs.Piece.{Piece}
 
 -- a range, and the one behind it
 range_joined : (a m n b k : ℕ) → a + m ≡ b → m + n ≡ k → range_with_len a m ++ range_with_len b n ≡ range_with_len a k

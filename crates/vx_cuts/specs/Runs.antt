@@ -1,7 +1,7 @@
 -- Runs of rows of the whole, and pieces of parts.
 use Rattle.std.specs.Prelude.{ℕ, ◌+◌, ◌<◌, ◌≤◌, length, List, slice_index}
 use Rattle.std.specs.List.{flat_map, range_with_len}
-use Rattle.vx_parts.specs.declared.runs.Piece.{Piece}
+use Rattle.vx_cuts.specs.declared.runs.Piece.{Piece}
 
 -- the positions of the whole that are in pieces of parts, which begin at these bounds
 abbrev pub piece_places : List ℕ → List Piece → List ℕ

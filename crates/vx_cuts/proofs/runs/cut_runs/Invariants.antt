@@ -2,8 +2,8 @@
 use Rattle.std.proofs.Common.{◌≡◌, take}
 use Rattle.std.specs.List.{All}
 use Rattle.vx_take.specs.Picks.{run_places}
-use Rattle.vx_parts.specs.Runs.{IsPieceOf, piece_places}
-use Rattle.vx_parts.proofs.runs.cut_runs.Given as goal
+use Rattle.vx_cuts.specs.Runs.{IsPieceOf, piece_places}
+use Rattle.vx_cuts.proofs.runs.cut_runs.Given as goal
 
 abbrev pub invariant-loop-run : goal.invariant-loop-run
 invariant-loop-run l = record {

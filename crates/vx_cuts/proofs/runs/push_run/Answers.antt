@@ -2,10 +2,10 @@
 use Rattle.std.proofs.Common.{◌≡◌, ◌+◌, ◌≤◌, ◌-◌, ap, refl, sym, ◌∙◌, subst, arith, slice_index}
 use Rattle.std.specs.List.{All}
 use Rattle.std.proofs.lemmas.List.Elements.{All-push}
-use Rattle.vx_parts.specs.Runs.{IsPieceOf, piece_places}
-use Rattle.vx_parts.specs.declared.runs.Piece.{Piece}
-use Rattle.vx_parts.proofs.RunPieces.{push_piece}
-use Rattle.vx_parts.proofs.runs.push_run.Goals as goal
+use Rattle.vx_cuts.specs.Runs.{IsPieceOf, piece_places}
+use Rattle.vx_cuts.specs.declared.runs.Piece.{Piece}
+use Rattle.vx_cuts.proofs.RunPieces.{push_piece}
+use Rattle.vx_cuts.proofs.runs.push_run.Goals as goal
 
 pub loop-at-preserved : goal.loop-at-preserved
 loop-at-preserved c =

@@ -1,6 +1,6 @@
 -- The position lies between the two bounds.
 use Rattle.std.proofs.Common.{◌-◌, ◌<◌, ◌≤◌, length, slice_index}
-use Rattle.vx_parts.proofs.bounds.part_of.Given as goal
+use Rattle.vx_cuts.proofs.bounds.part_of.Given as goal
 
 abbrev pub invariant-loop-low : goal.invariant-loop-low
 invariant-loop-low l = record {

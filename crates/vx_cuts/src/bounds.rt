@@ -1,7 +1,7 @@
 //! Where each part of a column begins.
 ghost use Rattle.std.specs.Prelude.{◌≡◌, ◌+◌, ◌<◌, ◌≤◌, ◌^◌, IfOk, SomeIff, length, slice_index};
 ghost use Rattle.std.specs.List.{sum};
-ghost use Rattle.vx_parts.specs.Bounds.{AreBounds, bounds_of, end_of};
+ghost use Rattle.vx_cuts.specs.Bounds.{AreBounds, bounds_of, end_of};
 
 use std::alloc::Global;
 use vx_bits::NoMemory;

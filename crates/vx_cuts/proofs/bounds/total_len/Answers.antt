@@ -2,7 +2,7 @@
 use Rattle.std.proofs.Common.{◌≡◌, ◌≤◌, drop, length, ap, arith}
 use Rattle.std.proofs.lemmas.List.{drop_all}
 use Rattle.std.specs.List.{sum}
-use Rattle.vx_parts.proofs.bounds.total_len.Goals as goal
+use Rattle.vx_cuts.proofs.bounds.total_len.Goals as goal
 
 pub returns : goal.returns
 returns c =

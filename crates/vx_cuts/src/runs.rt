@@ -2,8 +2,8 @@
 ghost use Rattle.std.specs.Prelude.{◌≡◌, ◌+◌, ◌-◌, ◌≤◌, ◌++◌, IfOk, OnOk};
 ghost use Rattle.std.specs.List.{All, range_with_len};
 ghost use Rattle.vx_take.specs.Picks.{run_places};
-ghost use Rattle.vx_parts.specs.Bounds.{AreBounds, end_of};
-ghost use Rattle.vx_parts.specs.Runs.{IsPieceOf, piece_places};
+ghost use Rattle.vx_cuts.specs.Bounds.{AreBounds, end_of};
+ghost use Rattle.vx_cuts.specs.Runs.{IsPieceOf, piece_places};
 
 use crate::bounds::part_of;
 use std::alloc::Global;
