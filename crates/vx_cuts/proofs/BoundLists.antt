@@ -1,9 +1,9 @@
 -- The bounds of parts.
-use Rattle.std.proofs.Common.{◌≡◌, ℕ, zero, suc, ◌+◌, ◌-◌, ◌<◌, ◌≤◌, List, [], ◌∷◌, length, map, refl, ap, ◌∙◌, arith}
+use Rattle.std.proofs.Common.{◌≡◌, ℕ, zero, suc, ◌+◌, ◌-◌, ◌<◌, ◌≤◌, List, [], ◌∷◌, length, map, take, refl, ap, ◌∙◌, arith}
 use Rattle.std.specs.Prelude.{slice_index}
 use Rattle.std.specs.List.{sum}
 use Rattle.std.proofs.lemmas.List.{get_or-map}
-use Rattle.std.proofs.lemmas.List.Sums.{sum_by-cons}
+use Rattle.std.proofs.lemmas.List.Sums.{sum_by-cons, sum_by-take-le, sum_by_more}
 use Rattle.vx_cuts.specs.Bounds.{AreBounds, bounds_from, bounds_of, end_of}
 
 pub length-bounds : (start : ℕ) (ns : List ℕ) → length (bounds_from start ns) ≡ length ns + 1
@@ -62,3 +62,22 @@ rise {bounds} b i (suc n) j e l =
 
 pub rises : {bounds : List ℕ} → AreBounds bounds → (i j : ℕ) → i ≤ j → j < length bounds → slice_index bounds i ≤ slice_index bounds j
 rises b i j h l = rise b i (j - i) j (omega arith) l
+
+-- ---- bounds are sums
+
+sum_from : (start : ℕ) (ns : List ℕ) (k : ℕ) → k ≤ length ns → slice_index (bounds_from start ns) k ≡ start + sum (take k ns)
+sum_from start [] zero h = omega arith
+sum_from start [] (suc k) h = absurd (omega arith)
+sum_from start (n ∷ ns) zero h = omega arith
+sum_from start (n ∷ ns) (suc k) h =
+    let more = sum_by-cons (λ (x : ℕ). x) n (take k ns) in
+    omega (arith, sum_from (start + n) ns k (omega arith), more)
+
+pub bound_sum : (ns : List ℕ) (k : ℕ) → k ≤ length ns → slice_index (bounds_of ns) k ≡ sum (take k ns)
+bound_sum ns k h = omega (arith, sum_from 0 ns k h)
+
+pub bound_below : (ns : List ℕ) (k : ℕ) → k ≤ length ns → slice_index (bounds_of ns) k ≤ sum ns
+bound_below ns k h = omega (arith, bound_sum ns k h, sum_by-take-le (λ (x : ℕ). x) ns k)
+
+pub bound_next : (ns : List ℕ) (k : ℕ) → k < length ns → slice_index (bounds_of ns) (k + 1) ≡ slice_index (bounds_of ns) k + slice_index ns k
+bound_next ns k h = omega (arith, bound_sum ns k (omega arith), bound_sum ns (k + 1) (omega arith), sum_by_more (λ (x : ℕ). x) ns k 0 h)

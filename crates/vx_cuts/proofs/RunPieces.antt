@@ -7,7 +7,7 @@ use Rattle.vx_cuts.specs.Runs.{piece_places}
 use Rattle.vx_cuts.specs.declared.runs.Piece.{Piece}
 
 -- a range, and the one behind it
-range_joined : (a m n b k : ℕ) → a + m ≡ b → m + n ≡ k → range_with_len a m ++ range_with_len b n ≡ range_with_len a k
+pub range_joined : (a m n b k : ℕ) → a + m ≡ b → m + n ≡ k → range_with_len a m ++ range_with_len b n ≡ range_with_len a k
 range_joined a zero n b k h e =
     let at : b ≡ a = omega arith in let long : n ≡ k = omega arith in
     ap (λ (x : ℕ). range_with_len x n) at ∙ ap (range_with_len a) long

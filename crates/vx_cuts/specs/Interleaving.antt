@@ -33,11 +33,14 @@ abbrev pub item_in : {X : Type 0} → X → List (List X) → ℕ → ℕ → X
 item_in fill lists part row =
     if part == null_place then fill else slice_index_or (list_at lists part) row fill
 
+-- the item at place k
+abbrev pub item_at : {X : Type 0} → X → List (List X) → List ℕ → List ℕ → ℕ → X
+item_at fill lists parts rows k = item_in fill lists (slice_index parts k) (slice_index rows k)
+
 -- the items at so many places from place `start` on
 abbrev pub items_from : {X : Type 0} → X → List (List X) → List ℕ → List ℕ → ℕ → ℕ → List X
-items_from fill lists parts rows start count = map
-    (λ k. item_in fill lists (slice_index parts k) (slice_index rows k))
-    (range_with_len start count)
+items_from fill lists parts rows start count =
+    map (item_at fill lists parts rows) (range_with_len start count)
 
 -- at all of them
 abbrev pub items_at : {X : Type 0} → X → List (List X) → List ℕ → List ℕ → List X

@@ -1,5 +1,5 @@
 -- Picks of the whole, cut into each part's own, in lists of the caller's.
-use Rattle.std.specs.Prelude.{◌≡◌, ◌≢◌, ℕ, ◌+◌, ◌<◌, ◌≤◌, ◌==◌, ◌&&◌, Bool, false, List, length, map, Option, Some, None, slice_index, slice_index_or, slice_range}
+use Rattle.std.specs.Prelude.{◌≡◌, ◌≢◌, ℕ, ◌+◌, ◌<◌, ◌==◌, ◌&&◌, Bool, false, List, length, Option, Some, None, slice_index, slice_index_or, slice_range}
 use Rattle.vx_take.specs.Picks.{ArePlaces, IsPlace, null_place, picks_of}
 use Rattle.vx_cuts.specs.Bounds.{AreBounds, end_of}
 use Rattle.vx_cuts.specs.Own.{own_before, own_picks}

@@ -1,5 +1,5 @@
 -- A slice of the whole, as each part's own.
-use Rattle.std.specs.Prelude.{◌≡◌, ◌≢◌, ℕ, ◌+◌, ◌-◌, ◌==◌, ◌&&◌, min, List, length, map, nat_le, slice_index, if◌then◌else◌}
+use Rattle.std.specs.Prelude.{◌≡◌, ◌≢◌, ℕ, ◌-◌, ◌==◌, ◌&&◌, min, List, length, map, nat_le, slice_index, if◌then◌else◌}
 use Rattle.std.specs.List.{range_with_len, sum}
 use Rattle.vx_cuts.specs.Bounds.{bounds_of}
 use Rattle.vx_cuts.specs.Runs.{piece_places}

@@ -1,5 +1,5 @@
 //! Bits of several lists, in any order.
-ghost use Rattle.std.specs.Prelude.{◌≡◌, ◌+◌, ◌*◌, ◌<◌, ◌≤◌, ◌++◌, MatchOption, drop, false, length, slice_index_or, true};
+ghost use Rattle.std.specs.Prelude.{◌≡◌, ◌+◌, ◌<◌, ◌≤◌, MatchOption, false, length, slice_index_or, true};
 ghost use Rattle.vx_bits.specs.BitBuffer.{number_of};
 ghost use Rattle.vx_bits.specs.Words.{word_count};
 ghost use Rattle.vx_words.specs.Bits.{words_of};
@@ -71,8 +71,8 @@ fn bit_at(list: &BitRows, row: usize) -> bool
     requires within { row < list.now.len }
     ensures { result ≡ slice_index_or (bits_of list.now) row false }
 {
-    let place = list.at + row;
-    (list.words[place / 64] >> (place % 64)) & 1 == 1
+    let place = list.at as u128 + row as u128;
+    (list.words[(place / 64) as usize] >> (place % 64) as u32) & 1 == 1
 }
 
 // The bit at a place, and a clear one at a null's.
@@ -111,9 +111,8 @@ fn put_words(lists: &[BitRows], parts: &[u64], rows: &[u64], dst: &mut [u64])
     requires held { all_held lists.now ≡ true }
     requires rows { length rows.now ≡ length parts.now }
     requires inside { AreInside (bits_in lists.now) parts.now rows.now }
-    requires room { length parts.now ≤ 64 * length dst.old }
-    ensures { dst.new ≡ words_of (items_at false (bits_in lists.now) parts.now rows.now)
-        ++ drop (word_count (length parts.now)) dst.old }
+    requires room { length dst.old ≡ word_count (length parts.now) }
+    ensures { dst.new ≡ words_of (items_at false (bits_in lists.now) parts.now rows.now) }
 {
     for i in 0..parts.len().div_ceil(64) {
         let count = (parts.len() - 64 * i).min(64);
@@ -141,12 +140,7 @@ fn fault_of(lists: &[BitRows], parts: usize, rows: usize, room: usize) -> u64
 /// 1: `rows` is not as long as `parts`, `dst` is not of as many words as hold a bit for each, or the
 /// words of a list do not hold its bits. 4: a place is no row of the lists, and the number is the
 /// first one's.
-pub fn interleave_bits(
-    lists: &[BitRows],
-    parts: &[u64],
-    rows: &[u64],
-    dst: &mut [u64],
-) -> Answer
+pub fn interleave_bits(lists: &[BitRows], parts: &[u64], rows: &[u64], dst: &mut [u64]) -> Answer
     ensures { AreBitsInterleaved lists.now parts.now rows.now dst.old dst.new result.status
         result.value }
 {

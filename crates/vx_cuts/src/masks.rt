@@ -1,5 +1,5 @@
 //! How many rows of each part a mask of the whole keeps.
-ghost use Rattle.std.specs.Prelude.{◌≡◌, ◌+◌, ◌*◌, ◌^◌, ◌<◌, ◌≤◌, length, map, nat_le};
+ghost use Rattle.std.specs.Prelude.{◌≡◌, ◌+◌, ◌*◌, ◌^◌, ◌<◌, ◌≤◌, length, map};
 ghost use Rattle.std.specs.List.{range_with_len, sum};
 ghost use Rattle.vx_bits.specs.BitBuffer.{true_count_of};
 ghost use Rattle.vx_words.specs.Bits.{bits_at};
@@ -18,32 +18,27 @@ fn count_bits(words: &[u64], at: usize, len: usize) -> usize
     filter_bit_words(words, at, words, at, len, &mut []).value as usize
 }
 
-// Whether the words hold so many bits from bit `at` on.
-fn hold(words: &[u64], at: usize, len: usize) -> bool
-    ensures { result ≡ nat_le (at + len) (64 * length words.now) }
-{
-    at as u128 + len as u128 <= 64 * words.len() as u128
-}
-
 // Why the words hold no mask of parts of these lengths, or `DONE`.
 fn fault_of(words: &[u64], at: usize, lengths: &[usize]) -> u64
     ensures { result ≡ mask_fault words.now at lengths.now }
 {
-    match total_len(lengths) {
-        Some(len) => {
-            if hold(words, at, len) {
-                DONE
-            } else {
-                LENGTHS
-            }
-        }
-        None => LENGTHS,
+    let Some(len) = total_len(lengths) else {
+        return LENGTHS;
+    };
+    let Some(end) = at.checked_add(len) else {
+        return LENGTHS;
+    };
+    if end as u128 <= 64 * words.len() as u128 {
+        DONE
+    } else {
+        LENGTHS
     }
 }
 
 // Writes how many bits of each part are set.
 fn put_kept(words: &[u64], at: usize, lengths: &[usize], left: &mut [usize])
     requires held { at + sum lengths.now ≤ 64 * length words.now }
+    requires counted { at + sum lengths.now < 2 ^ 64 }
     requires room { length left.old ≡ length lengths.now }
     ensures { left.new
         ≡ map (kept_in words.now at lengths.now) (range_with_len 0 (length lengths.now)) }
