@@ -1,5 +1,6 @@
 pub mod Arrivals
 pub mod Cuts
+pub mod Messages
 pub mod Own
 pub mod Plan
 pub use Rattle.vx_cuts.specs.Bounds
