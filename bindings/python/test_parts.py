@@ -137,7 +137,7 @@ class Plans(unittest.TestCase):
         self.assertEqual(put_together(asked, answers).to_pylist(), [5, None, 7, 8])
         with self.assertRaisesRegex(ValueError, "part 2 answers 0 rows, and is asked for 1"):
             put_together(asked, [*answers[:2], answers[1], answers[3]])
-        with self.assertRaisesRegex(ValueError, "part 2 answers a column of type int32, and part 0 one of type int64"):
+        with self.assertRaisesRegex(ValueError, "part 2 answers a column of type int32, and part 0 one of int64"):
             put_together(asked, [*answers[:2], column([8], "int32"), answers[3]])
         with self.assertRaisesRegex(ValueError, "3 answers of 4 parts"):
             put_together(asked, answers[:3])

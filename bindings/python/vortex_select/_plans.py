@@ -281,5 +281,6 @@ def put_together(plan: Plan, answers: Sequence[Any]) -> Column:
     [7, 5]
     """
     found = _Answers(plan, list(answers))
-    whole = Column(schema_of(found.field), [array_of(joined(found.field, found.arrays))])
+    plain = joined(found.field, found.arrays)
+    whole = Column(schema_of(found.field), [array_of(plain)])
     return whole if plan._order is None else select(whole, [plan._order.take()])

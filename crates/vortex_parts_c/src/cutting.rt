@@ -37,8 +37,8 @@ pub extern "C" fn vortex_cut_slice(
     cut_slice(lengths, start, end, starts, ends, left)
 }
 
-/// Counts for each part the rows that a mask of the whole keeps of it. The parts have these lengths,
-/// and the mask's bits are as many as they have rows, from bit `mask_at` of the words on.
+/// Counts for each part the rows that a mask of the whole keeps of it. The parts have these
+/// lengths, and the mask's bits are as many as they have rows, from bit `mask_at` of the words on.
 ///
 /// 1: `left` is not as long as `lengths`, or the words do not hold so many bits.
 #[unsafe(no_mangle)]
@@ -63,8 +63,8 @@ pub extern "C" fn vortex_cut_mask(
 /// are all ones at a null.
 ///
 /// 1: `own`, `parts` and `rows` are not as long as `places`, or `bounds` is not one longer than
-/// `ends`. 4: a pick is past the rows, and the number is the first one's. 6: the bounds do not begin
-/// at 0 and ascend.
+/// `ends`. 4: a pick is past the rows, and the number is the first one's. 6: the bounds do not
+/// begin at 0 and ascend.
 #[unsafe(no_mangle)]
 pub extern "C" fn vortex_cut_picks(
     places: &[u64],

@@ -27,8 +27,8 @@ abbrev pub bit_rooms_fault : List BitRows → ℕ → ℕ → ℕ → ℕ
 bit_rooms_fault lists parts rows room =
     if rows == parts && room == word_count parts && all_held lists then 0 else 1
 
--- the bits at the places are written, a clear one at each null's, and clear bits fill the last word;
--- or the call was refused, and the list is as it was
+-- the bits at the places are written, a clear one at each null's, and clear bits fill the last
+-- word; or the call was refused, and the list is as it was
 pub record AreBitsInterleaved (lists : List BitRows) (parts rows old new : List ℕ)
     (status value : ℕ) : Type 0 where
   pub rooms : bit_rooms_fault lists (length parts) (length rows) (length old) ≢ 0 → status ≡ 1

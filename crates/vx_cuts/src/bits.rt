@@ -133,13 +133,13 @@ fn fault_of(lists: &[BitRows], parts: usize, rows: usize, room: usize) -> u64
     if all_held(lists) { DONE } else { LENGTHS }
 }
 
-/// Writes for each place that bit of that list to `dst`, a clear one at each place that is a null's,
-/// and clear bits to the end of the last word. Place k is row `rows[k]` of list `parts[k]`, or a
-/// null's where that is all ones.
+/// Writes for each place that bit of that list to `dst`, a clear one at each place that is a
+/// null's, and clear bits to the end of the last word. Place k is row `rows[k]` of list `parts[k]`,
+/// or a null's where that is all ones.
 ///
-/// 1: `rows` is not as long as `parts`, `dst` is not of as many words as hold a bit for each, or the
-/// words of a list do not hold its bits. 4: a place is no row of the lists, and the number is the
-/// first one's.
+/// 1: `rows` is not as long as `parts`, `dst` is not of as many words as hold a bit for each, or
+/// the words of a list do not hold its bits. 4: a place is no row of the lists, and the number is
+/// the first one's.
 pub fn interleave_bits(lists: &[BitRows], parts: &[u64], rows: &[u64], dst: &mut [u64]) -> Answer
     ensures { AreBitsInterleaved lists.now parts.now rows.now dst.old dst.new result.status
         result.value }

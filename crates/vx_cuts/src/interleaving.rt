@@ -59,11 +59,11 @@ fn put_items<T: Copy>(lists: &[&[T]], parts: &[u64], rows: &[u64], fill: T, dst:
     }
 }
 
-/// Writes for each place that item of that list to `dst`, and `fill` at each place that is a null's.
-/// Place k is row `rows[k]` of list `parts[k]`, or a null's where that is all ones.
+/// Writes for each place that item of that list to `dst`, and `fill` at each place that is a
+/// null's. Place k is row `rows[k]` of list `parts[k]`, or a null's where that is all ones.
 ///
-/// 1: `rows` and `dst` are not as long as `parts`. 4: a place is no row of the lists, and the number
-/// is the first one's.
+/// 1: `rows` and `dst` are not as long as `parts`. 4: a place is no row of the lists, and the
+/// number is the first one's.
 pub fn interleave_records<T: Copy>(
     lists: &[&[T]],
     parts: &[u64],

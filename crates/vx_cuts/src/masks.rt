@@ -50,8 +50,8 @@ fn put_kept(words: &[u64], at: usize, lengths: &[usize], left: &mut [usize])
     }
 }
 
-/// Counts for each part the rows that a mask of the whole keeps of it. The parts have these lengths,
-/// and the mask's bits are as many as they have rows, from bit `mask_at` of the words on.
+/// Counts for each part the rows that a mask of the whole keeps of it. The parts have these
+/// lengths, and the mask's bits are as many as they have rows, from bit `mask_at` of the words on.
 ///
 /// 1: `left` is not as long as `lengths`, or the words do not hold so many bits.
 pub fn cut_mask(words: &[u64], mask_at: usize, lengths: &[usize], left: &mut [usize]) -> Answer

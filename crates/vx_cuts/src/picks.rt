@@ -63,8 +63,8 @@ fn are_rooms(
 /// are all ones at a null.
 ///
 /// 1: `own`, `parts` and `rows` are not as long as `places`, or `bounds` is not one longer than
-/// `ends`. 4: a pick is past the rows, and the number is the first one's. 6: the bounds do not begin
-/// at 0 and ascend.
+/// `ends`. 4: a pick is past the rows, and the number is the first one's. 6: the bounds do not
+/// begin at 0 and ascend.
 pub fn cut_places(
     places: &[u64],
     bounds: &[usize],
