@@ -14,6 +14,7 @@ from arrow_model import Layout, after, random_row, random_steps, random_type, wr
 from vortex_select import BrokenStep, Column, Filter, FilterEach, Slice, Take
 from vortex_select import _interface as arrow
 from vortex_select import _plans, column, plan, put_together, select
+from vortex_select._building import built
 from vortex_select._types import type_of
 from vortex_select.parts import DamagedPart, LostPart, Processes
 from vortex_select.parts import load, read_column, select_parts, write_column
@@ -112,8 +113,9 @@ class Plans(unittest.TestCase):
 
     def test_nullable_also_where_no_null_is(self):
         of = type_of("int64")
-        parts = [Column(arrow.made_schema(of, flags=0), [vortex_select._building.built(of, rows)]) for rows in ([1, 2], [3])]
-        for steps, flags in (([Take([2, 0])], 0), ([Take([2, None])], 2), ([Take([2, None]), Slice(0, 1)], 2)):
+        parts = [Column(arrow.made_schema(of, flags=0), [built(of, rows)]) for rows in ([1, 2], [3])]
+        null = Take([2, None])
+        for steps, flags in (([Take([2, 0])], 0), ([null], 2), ([null, Slice(0, 1)], 2)):
             asked = plan([2, 1], steps)
             found = put_together(asked, [select(part, asked.steps_of(k)) for k, part in enumerate(parts)])
             self.assertEqual(found._schema.flags, flags)
@@ -137,7 +139,8 @@ class Plans(unittest.TestCase):
         self.assertEqual(put_together(asked, answers).to_pylist(), [5, None, 7, 8])
         with self.assertRaisesRegex(ValueError, "part 2 answers 0 rows, and is asked for 1"):
             put_together(asked, [*answers[:2], answers[1], answers[3]])
-        with self.assertRaisesRegex(ValueError, "part 2 answers a column of type int32, and part 0 one of int64"):
+        unlike = "part 2 answers a column of type int32, and part 0 one of int64"
+        with self.assertRaisesRegex(ValueError, unlike):
             put_together(asked, [*answers[:2], column([8], "int32"), answers[3]])
         with self.assertRaisesRegex(ValueError, "3 answers of 4 parts"):
             put_together(asked, answers[:3])
@@ -190,13 +193,15 @@ class Backends(unittest.TestCase):
         self.assertEqual((found.type, found.to_pylist()), (people.type, rows))
         names = [row and {"name": row["name"]} for row in rows]
         self.assertEqual(read_column(path, ["name"]).to_pylist(), names)
-        self.assertEqual(select_parts(map, [path, people], [Slice(2, 5)], ["name"]).to_pylist(), names[2:] + names[:2])
+        found = select_parts(map, [path, people], [Slice(2, 5)], ["name"])
+        self.assertEqual(found.to_pylist(), names[2:] + names[:2])
         with self.assertRaisesRegex(DamagedPart, "no column 'age'"):
             select_parts(map, [path], [], ["age"])
         path += ".npy"
         with open(path, "wb") as file:
             head = b"{'descr': '<i4', 'fortran_order': False, 'shape': (3,), }".ljust(117) + b"\n"
-            file.write(b"\x93NUMPY\x01\x00" + len(head).to_bytes(2, "little") + head + array("i", [7, 8, 9]).tobytes())
+            file.write(b"\x93NUMPY\x01\x00" + len(head).to_bytes(2, "little") + head)
+            file.write(array("i", [7, 8, 9]).tobytes())
         self.assertEqual(load(path).type, "int32")
         self.assertEqual(select_parts(map, [path, path], [Take([5, 0])]).to_pylist(), [9, 7])
 
@@ -230,16 +235,22 @@ class Backends(unittest.TestCase):
             file.truncate(os.path.getsize(self.paths[3]) - 1)
         with open(self.paths[2], "wb") as file:
             file.write(b"no column")
+        with open(self.paths[0], "r+b") as file:
+            file.seek(40)
+            file.write(b"}")
         with Processes(2) as pool:
             for backend in (map, pool):
-                with self.assertRaisesRegex(DamagedPart, "part .*part3: ValueError: the file has"):
-                    select_parts(backend, self.paths, [Slice(5, 6)], lengths=[3, 0, 1, 4])
-                with self.assertRaisesRegex(DamagedPart, "part .*part2: ValueError: the file holds no column"):
-                    select_parts(backend, self.paths, [Slice(3, 4)], lengths=[3, 0, 1, 4])
-                with self.assertRaisesRegex(DamagedPart, "part .*part0: ValueError: it has 3 rows, and not 2"):
-                    select_parts(backend, self.paths, [Slice(0, 1)], lengths=[2, 0, 1, 4])
+                self.names(backend, "part3: ValueError: the file has", 5, [3, 0, 1, 4])
+                self.names(backend, "part2: ValueError: the file holds no column", 3, [3, 0, 1, 4])
+                self.names(backend, "part0: ValueError: the head of the file is damaged", 0, [3, 0, 1, 4])
+                self.names(backend, "part1: ValueError: it has 0 rows, and not 1", 3, [3, 1, 1, 4])
                 with self.assertRaisesRegex(DamagedPart, "part .*part9: FileNotFoundError"):
-                    select_parts(backend, [self.paths[0] + "/../part9"], [], lengths=[1])
+                    select_parts(backend, [self.paths[0].replace("part0", "part9")], [], lengths=[1])
+
+    def names(self, backend, said, row, lengths):
+        """A row of a damaged part is asked for, and the part is named."""
+        with self.assertRaisesRegex(DamagedPart, "part .*" + said):
+            select_parts(backend, self.paths, [Slice(row, row + 1)], lengths=lengths)
 
 
 if __name__ == "__main__":

@@ -164,7 +164,7 @@ def _one_dictionary(field, pieces):
     try:
         listed = None
         for array in arrays[1:]:
-            if array.buffers and _same_memory(arrays[0], array):
+            if _same_memory(arrays[0], array):
                 continue
             listed = listed or rows(schema, arrays[0], 0, arrays[0].length)
             if rows(schema, array, 0, array.length) != listed:
@@ -178,7 +178,8 @@ def _one_dictionary(field, pieces):
 
 def _same_memory(one, other):
     """Whether two flat arrays are the same rows of the same buffers."""
-    if (one.length, one.offset, one.n_buffers, one.n_children) != (other.length, other.offset, other.n_buffers, 0):
+    sizes = [(each.length, each.offset, each.n_buffers, each.n_children) for each in (one, other)]
+    if sizes[0] != sizes[1] or one.n_children:
         return False
     return all(one.buffers[k] == other.buffers[k] for k in range(one.n_buffers))
 

@@ -8,11 +8,8 @@ back are the rows that it answers.
 
 from __future__ import annotations
 
-import ast
 import collections
 import ctypes
-import json
-import mmap
 import multiprocessing
 import multiprocessing.connection
 import os
@@ -20,10 +17,10 @@ import struct
 from typing import Any, Callable, Dict, Iterable, List, NamedTuple, Optional, Sequence
 
 from . import _interface as arrow
-from ._columns import BrokenStep, Column, _Borrowed, from_buffers, select
-from ._joining import Field, Plain, array_of, field_of, joined, schema_of
+from ._columns import BrokenStep, Column, _Borrowed, select
+from ._files import places_of, read_column, read_npy, write_column
+from ._joining import field_of, schema_of
 from ._plans import HeldFilter, plan, put_together
-from ._types import Type, spelled
 
 __all__ = [
     "DamagedPart",
@@ -58,113 +55,6 @@ class LostPart(Exception):
         return f"part {self.number}: {self.tries} processes ended before they answered"
 
 
-# Files of a column.
-
-_MAGIC = b"VXPART1\n"
-_ALIGN = 64
-
-
-def _laid(plain, buffers):
-    """The tree of an array, where each buffer is its number among all."""
-    own = []
-    for data in plain.buffers:
-        own.append(None if data is None else len(buffers))
-        if data is not None:
-            buffers.append(data)
-    inner = plain.dictionary and _laid(plain.dictionary, buffers)
-    return [plain.length, plain.null_count, own, [_laid(child, buffers) for child in plain.children], inner]
-
-
-def _said(field):
-    meta = None if field.metadata is None else field.metadata.hex()
-    inner = field.dictionary and _said(field.dictionary)
-    return [field.format, field.name, field.flags, meta, list(map(_said, field.children)), inner]
-
-
-def write_column(path: str, column: Any) -> None:
-    """Writes a column, or any object with `__arrow_c_array__`, to a file that `read_column` maps."""
-    if isinstance(column, Column):
-        field, arrays = field_of(column._schema), column._chunks
-    else:
-        column = _Borrowed(column)
-        field, arrays = field_of(column.schema), [column.array]
-    buffers: List[Any] = []
-    tree = _laid(joined(field, arrays), buffers)
-    places, at = [], 0
-    for data in buffers:
-        places.append([at, len(data)])
-        at += len(data) + -len(data) % _ALIGN
-    head = json.dumps([_said(field), tree, places, at]).encode()
-    head += b" " * (-(len(_MAGIC) + 8 + len(head)) % _ALIGN)
-    with open(path, "wb") as file:
-        file.write(_MAGIC + struct.pack("<Q", len(head)) + head)
-        for data in buffers:
-            file.write(data)
-            file.write(bytes(-len(data) % _ALIGN))
-
-
-def _field(said):
-    form, name, flags, meta, children, inner = said
-    meta = None if meta is None else bytes.fromhex(meta)
-    return Field(form, name, flags, meta, tuple(map(_field, children)), inner and _field(inner))
-
-
-def _mapped(tree, views):
-    length, nulls, own, children, inner = tree
-    below = tuple(_mapped(child, views) for child in children)
-    data = tuple(None if k is None else views[k] for k in own)
-    return Plain(length, nulls, data, below, inner and _mapped(inner, views))
-
-
-def _map(path):
-    with open(path, "rb") as file:
-        if not os.fstat(file.fileno()).st_size:
-            raise ValueError("the file is empty")
-        return memoryview(mmap.mmap(file.fileno(), 0, access=mmap.ACCESS_READ))
-
-
-def read_column(path: str, columns: Optional[Sequence[str]] = None) -> Column:
-    """The column of a file, which is mapped and not read; of a struct, these of its fields alone. A
-    file that is cut off, or is no such file, is a `ValueError`.
-    """
-    data = _map(path)
-    if bytes(data[: len(_MAGIC)]) != _MAGIC or len(data) < len(_MAGIC) + 8:
-        raise ValueError("the file holds no column")
-    (size,) = struct.unpack_from("<Q", data, len(_MAGIC))
-    start = len(_MAGIC) + 8 + size
-    if len(data) < start:
-        raise ValueError(f"the file has {len(data)} bytes, and its head {start}")
-    said, tree, places, end = json.loads(bytes(data[start - size : start]))
-    if len(data) != start + end:
-        raise ValueError(f"the file has {len(data)} bytes, and says {start + end}")
-    views = [data[start + at : start + at + long] for at, long in places]
-    field, plain = _field(said), _mapped(tree, views)
-    if columns is not None:
-        numbers = _numbers([child.name for child in field.children], columns)
-        field = field._replace(children=tuple(field.children[k] for k in numbers))
-        plain = plain._replace(children=tuple(plain.children[k] for k in numbers))
-    return Column(schema_of(field), [array_of(plain)])
-
-
-# The types of numpy's files that Arrow has too.
-_DTYPES = {"|u1": "C", "|i1": "c", "<f2": "e", "<f4": "f", "<f8": "g"}
-_DTYPES.update({f"<{kind}{1 << k}": letters[k] for kind, letters in (("i", "csil"), ("u", "CSIL")) for k in (1, 2, 3)})
-
-
-def _read_npy(path):
-    """The numbers of a file of numpy's, which is mapped."""
-    data = _map(path)
-    if bytes(data[:6]) != b"\x93NUMPY" or len(data) < 12:
-        raise ValueError("the file is none of numpy's")
-    wide = data[6] > 1
-    (size,) = struct.unpack_from("<I" if wide else "<H", data, 8)
-    start = (12 if wide else 10) + size
-    said = ast.literal_eval(bytes(data[start - size : start]).decode("latin-1").strip())
-    if said["descr"] not in _DTYPES or len(said["shape"]) != 1:
-        raise ValueError(f"an array of {said['descr']} and shape {said['shape']} is no column")
-    return from_buffers(spelled(Type(_DTYPES[said["descr"]])), said["shape"][0], [None, data[start:]])
-
-
 def load(part: Any) -> Any:
     """The rows of a part: an object with `__arrow_c_array__` as it is, a file of numpy's that ends in
     `.npy`, or else a file of `write_column`.
@@ -172,7 +62,7 @@ def load(part: Any) -> Any:
     if hasattr(part, "__arrow_c_array__"):
         return part
     path = os.fspath(part)
-    return _read_npy(path) if path.endswith(".npy") else read_column(path)
+    return read_npy(path) if path.endswith(".npy") else read_column(path)
 
 
 # What a worker does.
@@ -190,20 +80,13 @@ class Task(NamedTuple):
     steps: Sequence[Any]
 
 
-def _numbers(names, columns):
-    missing = [name for name in columns if name not in names]
-    if missing:
-        raise ValueError(f"there is no column {missing[0]!r}")
-    return [names.index(name) for name in columns]
-
-
 def _chosen(source, columns):
     """A struct of these fields of a struct."""
     column = _Borrowed(source)
     if column.format != "+s":
         raise ValueError(f"a column of format {column.format!r} has no columns")
     field, array = field_of(column.schema), column.array
-    numbers = _numbers([child.name for child in field.children], columns)
+    numbers = places_of([child.name for child in field.children], columns)
     end, place = array.offset + array.length, array.buffers[0]
     valid = ctypes.string_at(place, (end + 7) // 8) if place and end else None
     below = [arrow.shared(array.children[k].contents) for k in numbers]
