@@ -8,10 +8,15 @@ import threading
 import time
 import unittest
 
+import dask
 from distributed import Client, LocalCluster
 
 from vortex_select import BrokenStep, Filter, Slice, Take, column, select
 from vortex_select.parts import DamagedPart, load, select_parts, write_column
+
+# So long after a worker was lost a cluster of Dask gives up its place, even where it runs again and
+# was lost once more.
+dask.config.set({"distributed.deploy.lost-worker-timeout": "1 hour"})
 
 PARTS, ROWS = 8, 3000
 TYPE = "struct<id: int64, amount: uint32, name: utf8>"
@@ -96,12 +101,15 @@ class Dask(unittest.TestCase):
     def test_worker_is_killed(self):
         with Workers(2) as client:
             for seed in range(10):
+                # The nanny of the one before starts another.
+                client.wait_for_workers(2, timeout=60)
                 victim = random.Random(seed).choice(sorted(client.run(os.getpid).values()))
                 killer = threading.Timer(0.2, os.kill, (victim, signal.SIGKILL))
                 killer.start()
                 self.agrees(client, seed, load=slowly)
                 killer.join()
                 self.assertNotIn(victim, client.run(os.getpid).values())
+            client.wait_for_workers(2, timeout=60)
 
     def test_broken_step(self):
         with Workers(2) as client:
