@@ -48,6 +48,8 @@ __all__ = [
     "BrokenStep",
     "Column",
     "Filter",
+    "FilterEach",
+    "Plan",
     "Slice",
     "Take",
     "check",
@@ -60,7 +62,9 @@ __all__ = [
     "from_buffers",
     "made",
     "page",
+    "plan",
     "positions",
+    "put_together",
     "rank",
     "rows",
     "run",
@@ -777,3 +781,4 @@ from ._columns import (  # noqa: E402 - they stand on what is above
     from_buffers,
     select,
 )
+from ._plans import FilterEach, Plan, plan, put_together  # noqa: E402

@@ -12,6 +12,7 @@ from typing import TYPE_CHECKING, Any, Iterable, List, Optional, Sequence, Tuple
 from . import Bits, _bools, _is_masked, _native, _packed, _view_of
 from . import _interface as arrow
 from ._building import built, guessed, lengths_of, packed
+from ._joining import Field, Plain, array_of, field_of, joined, schema_of
 from ._reading import rows, width_of
 from ._types import spelled, type_of
 
@@ -24,6 +25,7 @@ _SLICE, _FILTER, _TAKE = range(3)
 _PAST = 2**64 - 1
 # The numbers of a take's types, by the letter of a buffer's format and by that of Arrow's.
 _PTYPES = {1: (0, 4), 2: (1, 5), 4: (2, 6), 8: (3, 7)}
+_SIZES = (8, 16, 32, 64, 8, 16, 32, 64, 16, 32, 64)
 _FORMATS = {"C": 0, "S": 1, "I": 2, "L": 3, "c": 4, "s": 5, "i": 6, "l": 7, "e": 8, "f": 9, "g": 10}
 
 
@@ -78,6 +80,19 @@ def _listed(values):
     return values, b"" if all(valid) else packed(valid)
 
 
+def _copied(part, start, end):
+    """Bytes of a list, as far as it goes."""
+    end = min(end, part.len)
+    return ctypes.string_at(part.data + start, end - start) if part.data and start < end else b""
+
+
+def _remade(kind, parts):
+    """A step that was pickled, or a part of one."""
+    step = kind.__new__(kind)
+    step._fill(*parts)
+    return step
+
+
 class Slice:
     """The rows from `start` up to `end`."""
 
@@ -106,6 +121,18 @@ class _Listed:
 
     def __repr__(self) -> str:
         return f"{type(self).__name__} of {len(self)}"
+
+    def _window(self, start, length):
+        """What `_fill` takes of so many places from one on, in bytes of its own."""
+        made, size = self._made, _SIZES[self._made.ptype] if self._kind == _TAKE else 1
+        first, end = made.offset + start, made.offset + start + length
+        low = first - first % 8
+        values = _copied(made.values, low * size // 8, (end * size + 7) // 8)
+        valid = _copied(made.valid, low // 8, (end + 7) // 8)
+        return values, valid, length, made.ptype, first % 8
+
+    def __reduce__(self):
+        return _remade, (type(self), self._window(0, len(self)))
 
     def _image(self):
         return self._made
@@ -166,8 +193,7 @@ class Take(_Listed):
         if column.format not in _FORMATS:
             raise TypeError(f"indices can't be a column of format {column.format!r}")
         self._from, ptype = column, _FORMATS[column.format]
-        size = {0: 8, 1: 16, 2: 32, 3: 64}[ptype % 4 if ptype < 8 else ptype - 7]
-        lists = column.list_of(1, size), column.list_of(0, 1)
+        lists = column.list_of(1, _SIZES[ptype]), column.list_of(0, 1)
         self._fill(*lists, column.array.length, ptype, column.array.offset)
 
     def _from_list(self, indices):
@@ -204,6 +230,10 @@ class Column:
         """
         return [row for chunk in self._chunks for row in rows(self._schema, chunk, 0, chunk.length)]
 
+    def __reduce__(self):
+        field = field_of(self._schema)
+        return _unpickled, (field, joined(field, self._chunks))
+
     def __arrow_c_schema__(self) -> Any:
         return arrow.capsule_of(arrow.copied(self._schema))
 
@@ -218,6 +248,10 @@ class Column:
 
     def __arrow_c_stream__(self, requested_schema: Any = None) -> Any:
         return arrow.capsule_of(arrow.stream_of(self._schema, self._chunks))
+
+
+def _unpickled(field: Field, plain: Plain) -> Column:
+    return Column(schema_of(field), [array_of(plain)])
 
 
 def _free(schema, chunks):

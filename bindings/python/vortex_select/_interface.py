@@ -85,8 +85,17 @@ class Fault(ctypes.Structure):
     ]
 
 
+class Composed(ctypes.Structure):
+    """`vortex_arrow_answer`."""
+
+    _fields_ = [(name, ctypes.c_uint64) for name in ("status", "step", "what")]
+
+
 def _declare(library):
     ref, size = ctypes.c_void_p, ctypes.c_size_t
+    for name, kinds in {"count": [ref], "compose": [ref, size, ref, size]}.items():
+        call = getattr(library, "vortex_arrow_" + name)
+        call.argtypes, call.restype = [ctypes.c_uint64, ref, size, *kinds], Composed
     for name, kinds in {
         "vortex_select_arrow": [ref, ref, ref, size, ref, ref, ref],
         "vortex_select_arrow_stream": [ref, ref, size, ref, ref],
@@ -226,6 +235,15 @@ def _below(struct, kind, children, dictionary):
     return listed, children, dictionary
 
 
+def schema_over(form: str, name: str, flags: int, metadata, children, inner) -> Schema:
+    """A schema over those of its children and of its dictionary's values."""
+    struct = Schema(form.encode(), name.encode(), None, flags)
+    if metadata is not None:
+        struct.metadata = ctypes.cast(ctypes.c_char_p(metadata), ctypes.c_void_p)
+    below = _below(struct, Schema, children, inner)
+    return _own(struct, _release_schema, (below, metadata))
+
+
 def made_schema(of: Type, name: str = "", flags: int = NULLABLE, metadata=None) -> Schema:
     """The schema of a type."""
     children = [made_schema(child, called) for called, child in of.children]
@@ -233,11 +251,7 @@ def made_schema(of: Type, name: str = "", flags: int = NULLABLE, metadata=None) 
         # The entries of a map and their keys are never null.
         children[0].flags = children[0].children[0].contents.flags = 0
     inner = None if of.dictionary is None else made_schema(of.dictionary)
-    struct = Schema(of.format.encode(), name.encode(), None, flags)
-    if metadata is not None:
-        struct.metadata = ctypes.cast(ctypes.c_char_p(metadata), ctypes.c_void_p)
-    below = _below(struct, Schema, children, inner)
-    return _own(struct, _release_schema, (below, metadata))
+    return schema_over(of.format, name, flags, metadata, children, inner)
 
 
 class Kept(_Held):

@@ -3,6 +3,5 @@ pub mod Clipped
 pub mod CutRows
 pub mod PickCuts
 pub mod Planned
-pub mod RunPieces
 pub mod Walked
 pub mod Slots

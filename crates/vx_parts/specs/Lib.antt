@@ -1,7 +1,7 @@
 pub mod Arrivals
-pub mod Bounds
 pub mod Cuts
 pub mod Messages
 pub mod Own
 pub mod Plan
-pub mod Runs
+pub use Rattle.vx_cuts.specs.Bounds
+pub use Rattle.vx_cuts.specs.Runs

@@ -3,17 +3,14 @@
 #![tactic(auto)]
 
 mod arriving;
-mod bounds;
 mod cut;
 mod own;
 mod plan;
 mod planning;
-mod runs;
 
 pub use arriving::{ArrivalError, arrange};
-pub use bounds::{bounds_of, part_of, total_len};
 pub use own::{OwnPicks, cut_picks};
 pub use plan::{PartPlan, Plan};
 pub use planning::plan_steps;
-pub use runs::{Piece, cut_runs};
+pub use vx_cuts::{Piece, bounds_of, cut_runs, part_of, total_len};
 pub use vx_interleave::Place;

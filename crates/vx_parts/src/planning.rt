@@ -9,13 +9,13 @@ ghost use Rattle.vx_parts.specs.Bounds.{AreBounds, end_of};
 ghost use Rattle.vx_parts.specs.Cuts.{cut_value};
 ghost use Rattle.vx_parts.specs.Plan.{AreBelow, AreOwn, ArePartsOf, IsPartAt, IsPlan, IsRest, IsTakeOf, own_in, places_in};
 
-use crate::bounds::{bounds_of, total_len};
 use crate::cut::{Cut, left_bounds, own_cuts, prefix_of};
 use crate::own::{OwnPicks, cut_picks};
 use crate::plan::{PartPlan, Plan};
 use std::alloc::Global;
 use vx_bits::NoMemory;
 use vx_column::Nullability;
+use vx_cuts::{bounds_of, total_len};
 use vx_interleave::Place;
 use vx_select::pick_indices;
 use vx_steps::{SelectError, Step, check_steps, compose, takes_nullability};

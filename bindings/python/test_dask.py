@@ -1,0 +1,141 @@
+"""Parts on the workers of a cluster of Dask, of which one is killed in the middle."""
+
+import os
+import random
+import signal
+import tempfile
+import threading
+import time
+import unittest
+
+import dask
+from distributed import Client, LocalCluster
+
+from vortex_select import BrokenStep, Filter, Slice, Take, column, select
+from vortex_select.parts import DamagedPart, load, select_parts, write_column
+
+# So long after a worker was lost a cluster of Dask gives up its place, even where it runs again and
+# was lost once more.
+dask.config.set({"distributed.deploy.lost-worker-timeout": "1 hour"})
+
+PARTS, ROWS = 8, 3000
+TYPE = "struct<id: int64, amount: uint32, name: utf8>"
+
+
+def slowly(path):
+    """Loads a part, and takes so long that its worker can be killed meanwhile."""
+    time.sleep(0.15)
+    return load(path)
+
+
+def counted(path):
+    """Loads a part, and leaves a mark that it was asked."""
+    open(path + ".asked", "a").close()
+    return load(path)
+
+
+class Workers:
+    """So many workers, each a process, on the loopback."""
+
+    def __init__(self, count):
+        self.cluster = LocalCluster(
+            n_workers=count,
+            threads_per_worker=1,
+            processes=True,
+            host="127.0.0.1",
+            dashboard_address=None,
+            silence_logs=50,
+        )
+        self.client = Client(self.cluster)
+
+    def __enter__(self):
+        return self.client
+
+    def __exit__(self, *_):
+        self.client.close()
+        self.cluster.close()
+
+
+class Dask(unittest.TestCase):
+    @classmethod
+    def setUpClass(cls):
+        folder = tempfile.TemporaryDirectory()
+        cls.addClassCleanup(folder.cleanup)
+        dice, cls.paths, rows = random.Random(7), [], []
+        cls.lengths = [0 if k == 3 else ROWS - 100 * k for k in range(PARTS)]
+        for k, length in enumerate(cls.lengths):
+            part = [cls.row(dice, len(rows) + number) for number in range(length)]
+            rows += part
+            cls.paths.append(os.path.join(folder.name, f"part{k}"))
+            write_column(cls.paths[-1], column(part, TYPE))
+        cls.whole = column(rows, TYPE)
+
+    @staticmethod
+    def row(dice, number):
+        if dice.random() < 0.05:
+            return None
+        name = None if dice.random() < 0.1 else "name %d" % dice.randrange(10**6)
+        return {"id": number, "amount": dice.randrange(1000), "name": name}
+
+    def steps(self, dice):
+        mask = [dice.random() < 0.5 for _ in range(sum(self.lengths))]
+        kept = sum(mask)
+        first = [None if dice.random() < 0.1 else dice.randrange(kept) for _ in range(400)]
+        return [Filter(mask), Take(first), Slice(50, 350), Take([dice.randrange(300) for _ in range(200)])]
+
+    def agrees(self, client, seed, **more):
+        steps = self.steps(random.Random(seed))
+        wanted = select(self.whole, steps).to_pylist()
+        found = select_parts(client, self.paths, steps, lengths=self.lengths, **more)
+        self.assertEqual(found.to_pylist(), wanted, seed)
+
+    def test_workers(self):
+        for count in (2, 3):
+            with Workers(count) as client:
+                for seed in range(10):
+                    self.agrees(client, seed)
+                found = select_parts(client, self.paths, [Slice(5, 9)], ["name"])
+                wanted = [row and {"name": row["name"]} for row in self.whole.to_pylist()[5:9]]
+                self.assertEqual(found.to_pylist(), wanted)
+
+    def test_worker_is_killed(self):
+        with Workers(2) as client:
+            for seed in range(10):
+                # The nanny of the one before starts another.
+                client.wait_for_workers(2, timeout=60)
+                victim = random.Random(seed).choice(sorted(client.run(os.getpid).values()))
+                killer = threading.Timer(0.2, os.kill, (victim, signal.SIGKILL))
+                killer.start()
+                self.agrees(client, seed, load=slowly)
+                killer.join()
+                self.assertNotIn(victim, client.run(os.getpid).values())
+            client.wait_for_workers(2, timeout=60)
+
+    def test_broken_step(self):
+        with Workers(2) as client:
+            steps = [*self.steps(random.Random(1)), Slice(10, 201)]
+            with self.assertRaises(BrokenStep) as caught:
+                select_parts(client, self.paths, steps, load=counted, lengths=self.lengths)
+            self.assertEqual((caught.exception.step, caught.exception.cause), (4, "BadRange"))
+            self.assertFalse(any(os.path.exists(path + ".asked") for path in self.paths))
+            select_parts(client, self.paths, steps[:4], load=counted, lengths=self.lengths)
+            asked = [os.path.exists(path + ".asked") for path in self.paths]
+            self.assertEqual(asked, [length > 0 for length in self.lengths])
+
+    def test_damaged(self):
+        path = self.paths[5]
+        with open(path, "rb") as file:
+            data = file.read()
+        try:
+            with open(path, "wb") as file:
+                file.write(data[: len(data) // 2])
+            with Workers(2) as client:
+                with self.assertRaisesRegex(DamagedPart, f"part {path}: ValueError: the file has"):
+                    select_parts(client, self.paths, self.steps(random.Random(1)), lengths=self.lengths)
+        finally:
+            with open(path, "wb") as file:
+                file.write(data)
+
+
+if __name__ == "__main__":
+    unittest.main()

@@ -1,0 +1,9 @@
+pub mod Bits
+pub mod Bounds
+pub mod Interleaving
+pub mod Listed
+pub mod Masks
+pub mod Own
+pub mod Picks
+pub mod Runs
+pub mod Slices
