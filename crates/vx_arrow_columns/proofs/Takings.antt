@@ -143,7 +143,7 @@ node_taken nodes ps vs plan rooms room i d own planned o in_rooms taken t =
 every : (parts : List Part) (q : Picking) (rooms : List Room) → AreTaken parts q rooms → AllTaken parts (written parts q rooms) (q ∷ [])
 every parts q rooms a = record { len = a.len; taken = a.taken; inside = λ k d r h own. let read = a.read k d r h in read.inside own }
 
-pub rows_first : (nodes : List image.Node) (rows : List RowValue) → column_in (parts_of nodes) ≡ Some rows → length rows ≡ first_len nodes
+rows_first : (nodes : List image.Node) (rows : List RowValue) → column_in (parts_of nodes) ≡ Some rows → length rows ≡ first_len nodes
 rows_first [] rows e = absurd (let f : None ≡ Some rows = e in cc)
 rows_first (n ∷ nodes) rows e = column_len (part_of n) (parts_of nodes) rows e
 

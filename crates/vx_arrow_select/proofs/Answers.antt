@@ -20,7 +20,7 @@ use Rattle.vx_arrow.specs.Answer.{IfPicks, walk_in}
 use Rattle.vx_arrow.specs.Image.{StepParts, steps_in}
 use Rattle.vx_arrow.specs.Written.{ArePlaced, AreMarked, AreShown, need_of, place_of}
 use Rattle.vx_arrow_image.specs.Rows as rows
-use Rattle.vx_arrow_image.specs.Image.{is_valid, column_in, parts_of}
+use Rattle.vx_arrow_image.specs.Image.{is_valid, column_in, part_of, parts_of}
 use Rattle.vx_arrow.specs.declared.need.Need.{Need}
 use Rattle.vx_arrow_image.specs.declared.image.Node.{Node}
 use Rattle.vx_arrow_image.specs.declared.image.Room.{Room}
@@ -29,7 +29,7 @@ use Rattle.vx_arrow_columns.specs.Picks.{Picking, picks_of, pick_at}
 use Rattle.vx_arrow_columns.specs.Planned.{first_len}
 use Rattle.vx_arrow_columns.specs.Written.{written}
 use Rattle.vx_arrow_columns.proofs.PickReads.{length_picks, get_picks}
-use Rattle.vx_arrow_columns.proofs.Takings.{rows_first}
+use Rattle.vx_arrow_columns.proofs.Trees.{column_len}
 use Rattle.vx_arrow_select.specs.Rows.{model_row, model_column}
 use Rattle.vx_arrow_select.specs.Selected.{IsAnswer, IsSelected}
 
@@ -124,6 +124,10 @@ answer_by (walk_picks picks) t xs q h =
 is_answer : (t : TypeTree) (xs out : List rows.RowValue) (steps : List StepParts) (found : Option (List rows.RowValue)) → found ≡ Some out → answer_of t (model_column xs) (steps_in steps) ≡ answer_rows (type_after t (steps_in steps)) (model_column out) → IsAnswer t xs steps found
 is_answer t xs out steps found e h = subst (IsAnswer t xs steps) (sym e) h
 
+first_rows : (nodes : List Node) (xs : List rows.RowValue) → column_in (parts_of nodes) ≡ Some xs → length xs ≡ first_len nodes
+first_rows [] xs e = absurd (let f : None ≡ Some xs = e in cc)
+first_rows (n ∷ nodes) xs e = column_len (part_of n) (parts_of nodes) xs e
+
 pub answered : (nodes : List Node) (steps : List StepParts) (q : Picking) (rooms : List Room) → IfPicks (walk_in (first_len nodes) steps) (λ picks. q.picks ≡ picks) → MeansPicked (parts_of nodes) q rooms → IsSelected nodes steps rooms
 answered nodes steps q rooms c m = record {
   picks = q;
@@ -131,5 +135,5 @@ answered nodes steps q rooms c m = record {
   answer = λ xs t e.
       is_answer t xs (rows.picked q.picks xs) steps (column_in (written (parts_of nodes) q rooms)) (m.picked xs e)
       (answer_by (walk (length (model_column xs)) (steps_in steps)) (type_after t (steps_in steps)) xs q.picks
-      (subst (λ (n : ℕ). IfPicks (walk_in n steps) (λ picks. q.picks ≡ picks)) (sym (length-map xs model_row ∙ rows_first nodes xs e)) c));
+      (subst (λ (n : ℕ). IfPicks (walk_in n steps) (λ picks. q.picks ≡ picks)) (sym (length-map xs model_row ∙ first_rows nodes xs e)) c));
 }
