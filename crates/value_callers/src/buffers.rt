@@ -24,11 +24,8 @@ fn list(alloc: Global) -> Result<String, Fail> {
     if buffer.is_empty() {
         return Err("no value".into());
     }
-    let part = buffer.slice(1, buffer.len());
-    list_row(alloc, buffer.as_slice(), part.share().as_slice())
-}
-
-fn list_row(alloc: Global, all: &[i32], cut: &[i32]) -> Result<String, Fail> {
+    let part = buffer.slice(1, buffer.len()).share();
+    let (all, cut) = (buffer.as_slice(), part.as_slice());
     Ok(format!(in alloc; "1 2 3: {all:?}; from 1 up to 3: {cut:?}")?)
 }
 

@@ -14,17 +14,13 @@ pub(crate) fn print_rows(rt: &impl Print) -> Result<(), Fail> {
     print_types(rt)
 }
 
-fn print_bytes(rt: &impl Print, number: i128, bytes: &[u8]) -> Result<(), Fail> {
-    println!(rt; "record of {number}: {bytes:?}")?;
-    Ok(())
-}
-
 /// Records are little-endian, in two's complement.
 fn print_records(rt: &impl Print) -> Result<(), Fail> {
-    print_bytes(rt, 1500, &record_of::<4>(1500))?;
-    print_bytes(rt, -2, &record_of::<2>(-2))?;
-    print_bytes(rt, 300, &record_of::<1>(300))?;
-    print_bytes(rt, -1, &record_of::<8>(-1))
+    println!(rt; "record of 1500: {:?}", record_of::<4>(1500))?;
+    println!(rt; "record of -2: {:?}", record_of::<2>(-2))?;
+    println!(rt; "record of 300: {:?}", record_of::<1>(300))?;
+    println!(rt; "record of -1: {:?}", record_of::<8>(-1))?;
+    Ok(())
 }
 
 /// The number of a record, where the type has such numbers.
@@ -65,19 +61,13 @@ macro_rules! greatest_by {
     };
 }
 
-fn greatest(ptype: PType) -> Option<i128> {
-    if !ptype.is_int() {
-        return None;
-    }
-    Some(match_each_integer_ptype!(ptype, greatest_by))
-}
-
 /// Whether the range of an integer type ends with the greatest number of the Rust type, and holds
 /// -1 just where it is signed.
 fn has_its_range(ptype: PType) -> bool {
-    let Some(greatest) = greatest(ptype) else {
+    if !ptype.is_int() {
         return false;
-    };
+    }
+    let greatest = match_each_integer_ptype!(ptype, greatest_by);
     ptype.is_in_range(greatest)
         && !ptype.is_in_range(greatest.wrapping_add(1))
         && ptype.is_in_range(-1) == ptype.is_signed()
@@ -96,32 +86,20 @@ fn decimal_width(precision: u8, scale: i8, width: u8) -> Result<u8, ColumnError>
     Ok(DecimalDType::try_new(precision, scale, width)?.width())
 }
 
-fn decimal_refusal(precision: u8, scale: i8, width: u8) -> Option<ColumnError> {
-    match decimal_width(precision, scale, width) {
-        Ok(_) => None,
-        Err(error) => Some(error),
-    }
-}
-
 /// The widths of decimal types, and what they refuse.
 fn print_decimals(rt: &impl Print) -> Result<(), Fail> {
     println!(rt; "decimal(4,2,16): {:?}", decimal_width(4, 2, 16))?;
-    println!(rt; "decimal(77,0,32): {:?}", decimal_refusal(77, 0, 32))?;
-    println!(rt; "decimal(3,0,1): {:?}", decimal_refusal(3, 0, 1))?;
-    Ok(())
-}
-
-/// Whether a type is nullable.
-fn print_nullable(rt: &impl Print, name: &str, dtype: &DType) -> Result<(), Fail> {
-    println!(rt; "{name} is nullable: {}", dtype.is_nullable())?;
+    println!(rt; "decimal(77,0,32): {:?}", decimal_width(77, 0, 32).err())?;
+    println!(rt; "decimal(3,0,1): {:?}", decimal_width(3, 0, 1).err())?;
     Ok(())
 }
 
 /// What a type keeps.
 fn print_types(rt: &impl Print) -> Result<(), Fail> {
     let plain = DType::Primitive(PType::U32, Nullability::NonNullable);
-    print_nullable(rt, "u32", &plain)?;
+    println!(rt; "u32 is nullable: {}", plain.is_nullable())?;
     println!(rt; "width of u32: {:?}", plain.share().width())?;
     let nullable = plain.with_nullability(Nullability::NonNullable.or(Nullability::Nullable));
-    print_nullable(rt, "u32?", &nullable)
+    println!(rt; "u32? is nullable: {}", nullable.is_nullable())?;
+    Ok(())
 }

@@ -1,3 +1,4 @@
 pub mod Answer
 pub mod Image
+pub mod Messages
 pub mod Written

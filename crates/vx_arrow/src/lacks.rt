@@ -3,6 +3,8 @@ ghost use Rattle.std.specs.Prelude.{◌≡◌, ◌+◌, ◌*◌, ◌^◌, ◌<�
 ghost use Rattle.vx_arrow.specs.Image.{filter_lack, first_lack, holds_valid, pieces_lack, step_lack, step_parts, take_lack};
 
 use crate::image::{StepImage, StepKind, kind_of, ptype_of};
+use std::error::Error;
+use std::fmt;
 use vx_types::PType;
 
 /// What an image of a step lacks, in the order in which it is looked for.
@@ -32,6 +34,40 @@ pub struct Lacking {
     /// What it lacks.
     pub lack: Lack,
 }
+
+impl fmt::Display for Lack {
+    ghost use Rattle.std.specs.Prelude.{Some};
+    ghost use Rattle.vx_arrow.specs.Messages.{lack_text};
+
+    ghost output = { λ e. Some (lack_text e) };
+
+    fn fmt<W: fmt::Write>(&self, f: &mut fmt::Formatter<W>) -> fmt::Result {
+        match self {
+            Lack::Kind => f.write_str("its kind has no number"),
+            Lack::Type => f.write_str("the type of its numbers has no number"),
+            Lack::Counted => f.write_str("its offset and length are too large"),
+            Lack::Values => f.write_str("its values are too short"),
+            Lack::Valid => f.write_str("its validity is too short"),
+            Lack::Lengths => f.write_str("its lengths are too short"),
+            Lack::Multipliers => f.write_str("its multipliers are too short"),
+        }
+    }
+}
+
+impl Error for Lack {}
+
+impl fmt::Display for Lacking {
+    ghost use Rattle.std.specs.Prelude.{Some};
+    ghost use Rattle.vx_arrow.specs.Messages.{lacking_text};
+
+    ghost output = { λ e. Some (lacking_text e) };
+
+    fn fmt<W: fmt::Write>(&self, f: &mut fmt::Formatter<W>) -> fmt::Result {
+        write!(f, "step {}: {}", self.step, self.lack)
+    }
+}
+
+impl Error for Lacking {}
 
 impl StepImage<'_> {
     /// What the image lacks; none where it has a meaning.

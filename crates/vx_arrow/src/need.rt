@@ -2,6 +2,7 @@
 ghost use Rattle.std.specs.Prelude.{◌≡◌, ◌*◌, ◌≤◌, ◌&&◌, length, nat_le, true};
 ghost use Rattle.vx_arrow.specs.Written.{has_room, need_of};
 
+use std::fmt;
 use vx_types::Nullability;
 
 /// How much room picks need.
@@ -32,5 +33,20 @@ impl Need {
         ensures { result ≡ has_room self.now places valid }
     {
         self.places <= places && self.valid <= valid
+    }
+}
+
+impl fmt::Display for Need {
+    ghost use Rattle.std.specs.Prelude.{Some};
+    ghost use Rattle.vx_arrow.specs.Messages.{need_text};
+
+    ghost output = { λ e. Some (need_text e) };
+
+    fn fmt<W: fmt::Write>(&self, f: &mut fmt::Formatter<W>) -> fmt::Result {
+        write!(
+            f,
+            "places {}, bytes of validity {}",
+            self.places, self.valid
+        )
     }
 }

@@ -2,6 +2,8 @@
 
 use crate::lacks::Lacking;
 use crate::need::Need;
+use std::error::Error;
+use std::fmt;
 use vx_bits::NoMemory;
 use vx_steps::Cause;
 
@@ -33,3 +35,21 @@ impl From<NoMemory> for Refusal {
         Refusal::NoMemory
     }
 }
+
+impl fmt::Display for Refusal {
+    ghost use Rattle.std.specs.Prelude.{Some};
+    ghost use Rattle.vx_arrow.specs.Messages.{refusal_text};
+
+    ghost output = { λ e. Some (refusal_text e) };
+
+    fn fmt<W: fmt::Write>(&self, f: &mut fmt::Formatter<W>) -> fmt::Result {
+        match self {
+            Refusal::Lacking(lacking) => write!(f, "{lacking}"),
+            Refusal::Broken { step, cause } => write!(f, "step {step}: {cause}"),
+            Refusal::Room(need) => write!(f, "too little room for {need}"),
+            Refusal::NoMemory => f.write_str("out of memory"),
+        }
+    }
+}
+
+impl Error for Refusal {}

@@ -18,6 +18,9 @@ use vx_column::{Array, Cell, DType};
 // list of any length: here it ends.
 const TEXT_BYTES: usize = 1 << 31;
 
+// From this length of a text on the rows that are left are added up.
+const LONG: usize = 1 << 26;
+
 const DIGITS: &[u8; 16] = b"0123456789abcdef";
 
 const T: bool = true;
@@ -234,15 +237,51 @@ fn push_row(text: &mut Vec<u8>, dtype: &DType, row: Cell<'_>) -> Result<(), NoMe
     }
 }
 
+// How many bytes a row of text has, as they are stored.
+fn stored_len(column: &Array, i: usize) -> usize
+    requires text { is_text_kind column.now.dtype.kind ≡ true }
+    requires row { i < length column.now.rows }
+{
+    match column.cell_at(i) {
+        Cell::Null => 0,
+        Cell::Bytes(bytes) => bytes.len(),
+        Cell::Bit(_) | Cell::List(_) | Cell::Fields(_) | Cell::Tagged(_) => unreachable!(),
+    }
+}
+
+// Whether the rows from `start` on may be begun behind a text of `len`: each takes at least the
+// bytes that it has stored, so where these are too many some row of them would not.
+fn have_room(column: &Array, start: usize, len: usize) -> bool
+    requires { is_text_kind column.now.dtype.kind ≡ true }
+{
+    let mut end = len;
+    for i in start..column.len() {
+        let bytes = stored_len(column, i);
+        if !has_room(end, bytes) {
+            return false;
+        }
+        end = end.saturating_add(bytes);
+    }
+    true
+}
+
 /// Appends a line for each row of a column of text. Fails only with `NoMemory`, also where the text
-/// would grow past its bound.
+/// would grow past its bound: what is left is added up once the text is long, so that a text that
+/// can't be printed to its end is given up early.
 pub(crate) fn push_texts(text: &mut Vec<u8>, column: &Array) -> Result<(), NoMemory>
     requires { is_text_kind column.now.dtype.kind ≡ true }
     ensures { IsOk result → text.new.items
         ≡ text.old.items ++ lines (row_text column.now.dtype) column.now.rows }
 {
     let dtype = column.dtype();
+    let mut next_test = LONG;
     for i in 0..column.len() {
+        if text.len() >= next_test {
+            if !have_room(column, i, text.len()) {
+                return Err(NoMemory);
+            }
+            next_test = usize::MAX;
+        }
         push_row(text, dtype, column.cell_at(i))?;
         text.push(b'\n')?;
     }
