@@ -57,7 +57,8 @@ IsPlanRefusal q len tagging (refusals.Overflow node) = ⊤
 IsPlanRefusal q len tagging refusals.NoMemory = ⊤
 
 -- why nothing is taken. `Beyond` comes only where some pick is past the rows, `NullPick` only where
--- the column is a union and some pick is null, and `Room` only where there are not as many rooms as nodes or the one that is named is smaller than its need
+-- the column is a union and some pick is null, and `Room` only where there are not as many rooms as
+-- nodes or the one that is named is smaller than its need
 abbrev pub IsRefusal : List Part → Picking → List Room → Refusal → Type 0
 IsRefusal parts q rooms (refusals.NoMeaning node lack) = ⊤
 IsRefusal parts q rooms refusals.Beyond =

@@ -55,7 +55,8 @@ items_len z p q = sum_by (λ o. row_len z p (place_of p o)) q
 abbrev pub row_items : Offsets → Part → Option ℕ → List ℕ
 row_items z p None = []
 row_items z p (Some i) =
-    range_with_len (offset_at z p.offsets i) (offset_at z p.offsets (i + 1) - offset_at z p.offsets i)
+    range_with_len (offset_at z p.offsets i)
+    (offset_at z p.offsets (i + 1) - offset_at z p.offsets i)
 
 -- and of the rows at picks
 unfoldable pub items_of : Offsets → Part → List (Option ℕ) → List ℕ

@@ -17,7 +17,8 @@ pub(crate) enum Fault {
 impl Fault {
     /// The same of the node with a number.
     pub(crate) fn at(self, node: usize) -> Refusal
-        ensures { (q : Picking) → (len : ℕ) → (tagging : Bool) → IsPlanRefusal q len tagging result }
+        ensures { (q : Picking) → (len : ℕ) → (tagging : Bool)
+            → IsPlanRefusal q len tagging result }
     {
         match self {
             Fault::Lacks(lack) => Refusal::NoMeaning { node, lack },

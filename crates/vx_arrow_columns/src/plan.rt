@@ -250,7 +250,8 @@ impl Walk {
         behind: &[Node],
     ) -> Result<(), Fault>
         requires { IsWalking places.now valid.now self.old }
-        ensures { OnOk result (IsVisited places.now valid.now node.now behind.now self.old self.new) }
+        ensures { OnOk result
+            (IsVisited places.now valid.now node.now behind.now self.old self.new) }
     {
         let Some(job) = self.stack.pop() else {
             return Err(Fault::Lacks(Lack::Tree));

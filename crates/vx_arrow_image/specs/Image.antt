@@ -215,7 +215,10 @@ row_bytes (tagged id row) = []
 abbrev pub view_text : Part → List (List RowValue) → ℕ → List ℕ
 view_text p cs i =
     if nat_le (view_len p i) 12 then take (view_len p i) (drop (16 * i + 4) p.values)
-    else flat_map row_bytes (slice_range (slice_index_or cs (view_buffer p i) []) (view_start p i) (view_start p i + view_len p i))
+    else
+    flat_map row_bytes
+    (slice_range (slice_index_or cs (view_buffer p i) []) (view_start p i)
+    (view_start p i + view_len p i))
 
 -- row i, counted from the start of its lists, where it is there
 abbrev pub value_at : Option Format → Part → List (List RowValue) → ℕ → RowValue
@@ -228,12 +231,15 @@ value_at (Some (Text z)) p cs i =
 value_at (Some Struct) p cs i = fields (row_values (map (λ c. slice_index_or c i null) cs))
 value_at (Some (Lists z)) p cs i =
     list (row_values
-    (slice_range (slice_index_or cs 0 []) (offset_at z p.offsets i) (offset_at z p.offsets (i + 1))))
+    (slice_range (slice_index_or cs 0 []) (offset_at z p.offsets i)
+    (offset_at z p.offsets (i + 1))))
 value_at (Some FixedList) p cs i =
     list (row_values (take p.width (drop (i * p.width) (slice_index_or cs 0 []))))
 value_at (Some TextView) p cs i = bytes (view_text p cs i)
 value_at (Some (ListView z)) p cs i =
-    list (row_values (slice_range (slice_index_or cs 0 []) (offset_at z p.offsets i) (offset_at z p.offsets i + offset_at z p.sizes i)))
+    list (row_values
+    (slice_range (slice_index_or cs 0 []) (offset_at z p.offsets i)
+    (offset_at z p.offsets i + offset_at z p.sizes i)))
 value_at (Some Union) p cs i =
     tagged (slice_index p.values i)
     (slice_index_or (slice_index_or cs (child_of (ids_of p) (slice_index p.values i)) []) i null)

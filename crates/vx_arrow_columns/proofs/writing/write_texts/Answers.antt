@@ -1,7 +1,9 @@
 -- One text more.
-use Rattle.std.proofs.Common.{◌∙◌, ◌<◌, refl, length, arith}
-use Rattle.vx_arrow_image.specs.Image.{part_of}
-use Rattle.vx_arrow_columns.specs.Picks.{picks_of}
+use Rattle.std.proofs.Common.{◌∙◌, ◌<◌, refl, length, arith, ◌≡◌, ◌≤◌, ◌+◌, ℕ, List, Some}
+use Rattle.vx_arrow_image.specs.Image.{part_of, Part, offset_at}
+use Rattle.vx_arrow_columns.specs.Picks.{picks_of, pick_at, place_of}
+use Rattle.vx_arrow_image.specs.declared.format.Offsets.{Offsets}
+use Rattle.vx_arrow_columns.specs.Taken.{AreCutAt}
 use Rattle.vx_arrow_image.proofs.CutRows.{cut_end, cut_up}
 use Rattle.vx_arrow_columns.proofs.Cuts.{len_within}
 use Rattle.vx_arrow_columns.proofs.PickReads.{length_picks}
@@ -12,69 +14,37 @@ use Rattle.vx_arrow_columns.proofs.writing.write_texts.Goals.{in-Some, in_defaul
 pub loop-k-init : goal.loop-k-init
 loop-k-init c = no_texts _ _ _ _ _ refl
 
+-- a text that is there is among the bytes
+text_within : (z : Offsets) (p : Part) (ps vs : List ℕ) (add k i s e : ℕ) → AreCutAt z p (picks_of ps vs add) (length p.values) → k < length ps → Some i ≡ place_of p (pick_at ps vs add k) → s ≡ offset_at z p.offsets i → e ≡ offset_at z p.offsets (i + 1)
+    → (s ≤ e) × (e ≤ length p.values)
+text_within z p ps vs add k i s e cut h there from to =
+    let low : k < length (picks_of ps vs add) = omega (arith, length_picks ps vs add) in
+    let own = cut.cut k i low (at_pick p ps vs add k _ h there) in
+    (omega (arith, cut_up z p (length p.values) i own), omega (arith, cut_end z p (length p.values) i own))
+
 pub slice_bounds-put_bytes-count : goal.slice_bounds-put_bytes-count
 slice_bounds-put_bytes-count c =
-    let z = c.args.size in
-    let p = part_of c.args.node.now in
     let ps = c.args.picks.now in
-    let k = c.loop-k.k in
-    let q = picks_of ps.places.now ps.valid.now ps.add in
-    let low : k < length q = omega (arith, length_picks ps.places.now ps.valid.now ps.add) in
-    let there = at_pick p ps.places.now ps.valid.now ps.add k _ c.loop-k-test.true c.in-Some.ensures.place in
-    let own = c.requires.cut.cut k c.in-Some.i low there in
-    let up = cut_up z p (length p.values) c.in-Some.i own in
-    let end = cut_end z p (length p.values) c.in-Some.i own in
-    let from = c.cut_at-cut.ensures.start in
-    let to = c.cut_at-cut.ensures.end in
-    omega arith
+    let w = text_within c.args.size (part_of c.args.node.now) ps.places.now ps.valid.now ps.add c.loop-k.k c.in-Some.i c.cut_at-cut.result.start c.cut_at-cut.result.end c.requires.cut c.loop-k-test.true c.in-Some.ensures.place c.cut_at-cut.ensures.start c.cut_at-cut.ensures.end in
+    omega (arith, w.0, w.1)
 
 pub slice_bounds-put_bytes-start : goal.slice_bounds-put_bytes-start
 slice_bounds-put_bytes-start c =
-    let z = c.args.size in
-    let p = part_of c.args.node.now in
     let ps = c.args.picks.now in
-    let k = c.loop-k.k in
-    let q = picks_of ps.places.now ps.valid.now ps.add in
-    let low : k < length q = omega (arith, length_picks ps.places.now ps.valid.now ps.add) in
-    let there = at_pick p ps.places.now ps.valid.now ps.add k _ c.loop-k-test.true c.in-Some.ensures.place in
-    let own = c.requires.cut.cut k c.in-Some.i low there in
-    let up = cut_up z p (length p.values) c.in-Some.i own in
-    let end = cut_end z p (length p.values) c.in-Some.i own in
-    let from = c.cut_at-cut.ensures.start in
-    let to = c.cut_at-cut.ensures.end in
-    omega arith
+    let w = text_within c.args.size (part_of c.args.node.now) ps.places.now ps.valid.now ps.add c.loop-k.k c.in-Some.i c.cut_at-cut.result.start c.cut_at-cut.result.end c.requires.cut c.loop-k-test.true c.in-Some.ensures.place c.cut_at-cut.ensures.start c.cut_at-cut.ensures.end in
+    omega (arith, w.0, w.1)
 
 pub slice_bounds-put_bytes-end : goal.slice_bounds-put_bytes-end
 slice_bounds-put_bytes-end c =
-    let z = c.args.size in
-    let p = part_of c.args.node.now in
     let ps = c.args.picks.now in
-    let k = c.loop-k.k in
-    let q = picks_of ps.places.now ps.valid.now ps.add in
-    let low : k < length q = omega (arith, length_picks ps.places.now ps.valid.now ps.add) in
-    let there = at_pick p ps.places.now ps.valid.now ps.add k _ c.loop-k-test.true c.in-Some.ensures.place in
-    let own = c.requires.cut.cut k c.in-Some.i low there in
-    let up = cut_up z p (length p.values) c.in-Some.i own in
-    let end = cut_end z p (length p.values) c.in-Some.i own in
-    let from = c.cut_at-cut.ensures.start in
-    let to = c.cut_at-cut.ensures.end in
-    omega arith
+    let w = text_within c.args.size (part_of c.args.node.now) ps.places.now ps.valid.now ps.add c.loop-k.k c.in-Some.i c.cut_at-cut.result.start c.cut_at-cut.result.end c.requires.cut c.loop-k-test.true c.in-Some.ensures.place c.cut_at-cut.ensures.start c.cut_at-cut.ensures.end in
+    omega (arith, w.0, w.1)
 
 pub overflow_sub-at : goal.overflow_sub-at
 overflow_sub-at c =
-    let z = c.args.size in
-    let p = part_of c.args.node.now in
     let ps = c.args.picks.now in
-    let k = c.loop-k.k in
-    let q = picks_of ps.places.now ps.valid.now ps.add in
-    let low : k < length q = omega (arith, length_picks ps.places.now ps.valid.now ps.add) in
-    let there = at_pick p ps.places.now ps.valid.now ps.add k _ c.loop-k-test.true c.in-Some.ensures.place in
-    let own = c.requires.cut.cut k c.in-Some.i low there in
-    let up = cut_up z p (length p.values) c.in-Some.i own in
-    let end = cut_end z p (length p.values) c.in-Some.i own in
-    let from = c.cut_at-cut.ensures.start in
-    let to = c.cut_at-cut.ensures.end in
-    omega arith
+    let w = text_within c.args.size (part_of c.args.node.now) ps.places.now ps.valid.now ps.add c.loop-k.k c.in-Some.i c.cut_at-cut.result.start c.cut_at-cut.result.end c.requires.cut c.loop-k-test.true c.in-Some.ensures.place c.cut_at-cut.ensures.start c.cut_at-cut.ensures.end in
+    omega (arith, w.0, w.1)
 
 pub put_bytes-requires : goal.put_bytes-requires
 put_bytes-requires c =
