@@ -3,13 +3,13 @@ use Rattle.std.proofs.Common.{◌≡◌, ℕ, ◌+◌, ◌-◌, ◌*◌, ◌/◌
 use Rattle.std.specs.Prelude.{is_some, replicate}
 use Rattle.std.specs.Option.{option_map}
 use Rattle.std.proofs.lemmas.Bool.{and_parts, and_from, cases_eq, cases_lt, eq-eqb, le-leb, leb-true}
-use Rattle.std.proofs.lemmas.List.{ext_get_or, get_or-map, length-map, get_or-take, get_or-drop, length-take-le, length-drop, get_or_append_left, get_or-append_right}
+use Rattle.std.proofs.lemmas.List.{ext_get_or, get_or-map, get_or-take, get_or-drop, length-take-le, length-drop, get_or_append_left, get_or-append_right}
 use Rattle.std.proofs.lemmas.List.FromFn.{length-map-range_with_len, get_or-map-range_with_len}
 use Rattle.std.proofs.lemmas.Nat.{div-mul-add, mod-mul-add, div-add-mod'}
 use Rattle.std.proofs.Math.Nat.{mul-le-mul_left, mul-le-mul_right, mod-lt}
 use Rattle.vx_arrow_image.specs.declared.format.Format.{Format}
 use Rattle.vx_arrow_image.specs.declared.format.Format.TheVariants.{FixedList}
-use Rattle.vx_arrow_image.specs.Rows.{RowValue, null, list, row_at, row_values, picked}
+use Rattle.vx_arrow_image.specs.Rows.{RowValue, null, list, row_values}
 use Rattle.vx_arrow_image.specs.Image.{Part, bit_of, holds_valid, is_sound, is_valid, value_at, column_of}
 use Rattle.vx_arrow_columns.specs.Measured.{AreItemPlaces}
 use Rattle.vx_arrow_columns.specs.Picks.{Picking, fixed_item, fixed_items, inner, inner_picks, pick_at, picks_of, tags}

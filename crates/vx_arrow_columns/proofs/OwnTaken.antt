@@ -1,5 +1,5 @@
 -- What a node of each format takes by itself.
-use Rattle.std.proofs.Common.{zero, suc, ◌≡◌, ℕ, ◌+◌, ◌*◌, ◌^◌, ◌<◌, ◌≤◌, Bool, true, false, cond, List, [], ◌∷◌, length, get_or, take, map, Option, Some, None, ap, ap₂, sym, ◌∙◌, refl, subst, arith, ltb, leb, eqb}
+use Rattle.std.proofs.Common.{zero, suc, ◌≡◌, ℕ, ◌+◌, ◌*◌, ◌^◌, ◌<◌, ◌≤◌, Bool, true, false, cond, List, [], ◌∷◌, length, get_or, take, map, Option, Some, None, ap, sym, ◌∙◌, refl, subst, arith, ltb, leb, eqb}
 use Rattle.std.specs.Prelude.{◌||◌, is_some, slice_range, replicate}
 use Rattle.std.specs.Option.{option_map}
 use Rattle.std.specs.List.{list_all}

@@ -1,9 +1,9 @@
 -- What is written has the rows at the picks.
-use Rattle.std.proofs.Common.{zero, suc, ◌≡◌, ℕ, ◌≤◌, Bool, true, false, cond, List, [], ◌∷◌, ◌++◌, length, take, drop, map, Option, Some, ap, ap₂, sym, ◌∙◌, refl, subst, arith, length-append, get_or, ◌<◌, None}
+use Rattle.std.proofs.Common.{zero, suc, ◌≡◌, ℕ, ◌≤◌, Bool, true, false, cond, List, [], ◌∷◌, ◌++◌, length, take, drop, map, Some, ap, ap₂, sym, ◌∙◌, refl, subst, arith, length-append, get_or, ◌<◌, None}
 use Rattle.std.specs.Prelude.{replicate}
 use Rattle.std.specs.Option.{option_and_then}
-use Rattle.std.proofs.lemmas.List.{length-map, length-take-le, length-drop, length-replicate}
-use Rattle.vx_arrow_image.specs.Rows.{RowValue, row_at, picked}
+use Rattle.std.proofs.lemmas.List.{length-drop, length-replicate}
+use Rattle.vx_arrow_image.specs.Rows.{RowValue, picked}
 use Rattle.vx_arrow_image.specs.Image.{Part, is_sound, column_of, with_part, columns_in, column_in, only}
 use Rattle.vx_arrow_columns.specs.Picks.{Picking, all_rows, below, inner, keeps, tags, is_union}
 use Rattle.vx_arrow_columns.specs.Planned.{child_lens}

@@ -4,7 +4,6 @@ use Rattle.std.specs.Prelude.{replicate}
 use Rattle.std.specs.Option.{option_map}
 use Rattle.std.proofs.lemmas.List.{append-nil, drop_all, get_or-map, length-map, map-append, get_or-append_right}
 use Rattle.vx_arrow_image.specs.declared.format.Format.{Format}
-use Rattle.vx_arrow_image.specs.declared.format.Format.TheVariants.{Struct}
 use Rattle.vx_arrow_image.specs.declared.image.Node as image
 use Rattle.vx_arrow_image.specs.declared.image.Need.{Need}
 use Rattle.vx_arrow_image.specs.declared.image.Room.{Room}
@@ -16,7 +15,7 @@ use Rattle.vx_arrow_columns.specs.declared.plan.Job as jobs
 use Rattle.vx_arrow_columns.specs.declared.plan.Plan as plans
 use Rattle.vx_arrow_columns.specs.declared.plan.Walk as walks
 use Rattle.vx_arrow_image.specs.Image.{Part, part_of}
-use Rattle.vx_arrow_columns.specs.Picks.{Picking, all_rows, below, bytes_for, inner, inner_picks, inner_nullable, keeps, kept_need, need_of, needs_by, offsets_len, own_need, sizes_len, picking_of, pickings, picks_of, shows_valid, values_len}
+use Rattle.vx_arrow_columns.specs.Picks.{Picking, all_rows, below, bytes_for, inner, keeps, kept_need, need_of, needs_by, offsets_len, own_need, sizes_len, picking_of, pickings, picks_of, shows_valid, values_len}
 use Rattle.vx_arrow_columns.specs.Planned.{IsJobMeasured, child_lens, IsNext, IsPlanned, are_trees, first_len, picking_by, picking_in, places_in, valid_in}
 use Rattle.vx_arrow_columns.specs.Measured.{IsMeasured, moved}
 use Rattle.vx_arrow_columns.specs.Taken.{AreInside, AreWithin, IsOwnTaken, IsViewTaken, TakenAs}

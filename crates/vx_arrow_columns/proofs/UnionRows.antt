@@ -1,6 +1,6 @@
 -- Rows of unions.
-use Rattle.std.proofs.Common.{◌≡◌, ℕ, ◌+◌, ◌^◌, ◌<◌, ◌≤◌, Bool, true, false, cond, List, [], ◌∷◌, length, get_or, take, map, Option, Some, None, ap, ap₂, sym, ◌∙◌, refl, subst, arith, eqb, inl, inr, set, get_or-set_same, get_or-set_other}
-use Rattle.std.specs.Prelude.{replicate, ◌||◌}
+use Rattle.std.proofs.Common.{◌≡◌, ℕ, ◌+◌, ◌<◌, ◌≤◌, true, false, cond, List, [], ◌∷◌, length, get_or, take, map, Option, Some, None, ap, ap₂, sym, ◌∙◌, refl, subst, arith, eqb, inl, inr, set, get_or-set_same, get_or-set_other}
+use Rattle.std.specs.Prelude.{◌||◌}
 use Rattle.std.specs.List.{list_any}
 use Rattle.std.specs.Option.{option_map}
 use Rattle.std.proofs.lemmas.Bool.{and_from, cases_eq, cases_lt, eq-eqb}
@@ -9,11 +9,11 @@ use Rattle.std.proofs.lemmas.List.Folds.{list_any_at}
 use Rattle.vx_arrow_image.specs.declared.format.Format.{Format}
 use Rattle.vx_arrow_image.specs.declared.format.Format.TheVariants.{Union}
 use Rattle.vx_arrow_image.specs.Rows.{RowValue, null, tagged}
-use Rattle.vx_arrow_image.specs.Image.{Part, child_of, column_of, has_child, ids_of, is_sound, is_valid, row_of, value_at}
+use Rattle.vx_arrow_image.specs.Image.{Part, child_of, has_child, ids_of, is_valid, row_of, value_at}
 use Rattle.vx_arrow_image.proofs.CutRows.{range_all}
 use Rattle.vx_arrow_image.proofs.SoundNodes.{get_column, has_ids, ids_held, length_column, sound_from}
 use Rattle.vx_arrow_columns.specs.Picks.{Picking, inner, inner_picks, place_of, tags, has_bits, shows_by, shows_valid}
-use Rattle.vx_arrow_columns.specs.Taken.{AreAt, AreChildrenAt, AreTagged, IsOwnTaken, IsReadable, id_at}
+use Rattle.vx_arrow_columns.specs.Taken.{AreChildrenAt, AreTagged, IsOwnTaken, IsReadable, id_at}
 use Rattle.vx_arrow_columns.specs.Written.{new_part}
 use Rattle.vx_arrow_columns.proofs.Columns.{placed}
 use Rattle.vx_arrow_columns.proofs.OwnTaken.{few_picks, held_by, long_all}

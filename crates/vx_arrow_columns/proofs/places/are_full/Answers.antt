@@ -1,5 +1,5 @@
 -- All picks were looked at, or one is null.
-use Rattle.std.proofs.Common.{sym, arith, ◌∙◌}
+use Rattle.std.proofs.Common.{sym, arith}
 use Rattle.vx_arrow_columns.proofs.PickReads.{all_full, not_full}
 use Rattle.vx_arrow_columns.proofs.places.are_full.Goals as goal
 

@@ -1,5 +1,5 @@
 -- One row more.
-use Rattle.std.proofs.Common.{sym, ◌≤◌, ◌∙◌, arith}
+use Rattle.std.proofs.Common.{sym, arith}
 use Rattle.vx_arrow_image.specs.Image.{has_child, part_of}
 use Rattle.vx_arrow_image.proofs.SoundNodes.{has_ids}
 use Rattle.vx_arrow_columns.specs.Picks.{picks_of}

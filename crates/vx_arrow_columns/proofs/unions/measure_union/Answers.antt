@@ -1,5 +1,5 @@
 -- There is an id for each row, and it is that of a child.
-use Rattle.std.proofs.Common.{refl, sym, arith}
+use Rattle.std.proofs.Common.{refl, sym}
 use Rattle.vx_arrow_image.specs.Image.{part_of}
 use Rattle.vx_arrow_columns.proofs.Measures.{union_measured}
 use Rattle.vx_arrow_columns.proofs.PickReads.{placed_end}

@@ -1,10 +1,10 @@
 -- What the format's lemma asks for.
-use Rattle.std.proofs.Common.{◌≡◌, ◌≤◌, ◌+◌, ◌-◌, ◌++◌, ℕ, List, length, take, drop, Some, ap, sym, ◌∙◌, refl, subst, arith}
+use Rattle.std.proofs.Common.{◌≡◌, ◌+◌, ℕ, length, take, drop, Some, ap, sym, ◌∙◌, subst, arith}
 use Rattle.std.proofs.lemmas.List.{length-take-le, take_at}
 use Rattle.vx_arrow_image.specs.declared.format.Format.TheVariants.{Union}
 use Rattle.vx_arrow_image.specs.Image.{part_of}
 use Rattle.vx_arrow_image.proofs.SoundNodes.{has_ids}
-use Rattle.vx_arrow_columns.specs.Picks.{picking_of, picks_of}
+use Rattle.vx_arrow_columns.specs.Picks.{picking_of}
 use Rattle.vx_arrow_columns.specs.Taken.{AreTagged}
 use Rattle.vx_arrow_columns.proofs.OwnTaken.{held_by}
 use Rattle.vx_arrow_columns.proofs.PickReads.{length_picks}

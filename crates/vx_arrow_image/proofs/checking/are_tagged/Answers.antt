@@ -1,5 +1,5 @@
 -- All rows were tested, or one has no child's id.
-use Rattle.std.proofs.Common.{◌∙◌, arith, sym}
+use Rattle.std.proofs.Common.{arith, sym}
 use Rattle.vx_arrow_image.specs.Image.{has_child, part_of}
 use Rattle.vx_arrow_image.proofs.CutRows.{range_all}
 use Rattle.vx_arrow_image.proofs.Stacks.{range_falls}
