@@ -6,3 +6,13 @@ pub mod Planned
 pub mod RunPieces
 pub mod Walked
 pub mod Slots
+pub mod PartSlices
+pub mod PutPicks
+pub mod OwnSteps
+pub mod PlannedParts
+pub mod PutWhole
+pub mod PutFaults
+pub mod OwnFit
+pub mod NullsTold
+pub mod AnswerLists
+pub mod WholeFaults

@@ -4,4 +4,5 @@ pub mod Cuts
 pub mod Messages
 pub mod Own
 pub mod Plan
+pub mod Putting
 pub mod Runs

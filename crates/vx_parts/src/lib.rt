@@ -5,15 +5,21 @@
 mod arriving;
 mod bounds;
 mod cut;
+mod error;
 mod own;
 mod plan;
 mod planning;
+mod putting;
 mod runs;
+mod selecting;
 
 pub use arriving::{ArrivalError, arrange};
 pub use bounds::{bounds_of, part_of, total_len};
+pub use error::PutError;
 pub use own::{OwnPicks, cut_picks};
 pub use plan::{PartPlan, Plan};
 pub use planning::plan_steps;
+pub use putting::put_together;
 pub use runs::{Piece, cut_runs};
+pub use selecting::select_parts;
 pub use vx_interleave::Place;
