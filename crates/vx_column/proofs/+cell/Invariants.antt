@@ -52,5 +52,5 @@ decreases-extension::ExtensionArrayReadRow::cell_at l = extension_size l.self.no
 abbrev pub decreases-union_::UnionArrayReadRow::cell_at : goal.decreases-union_::UnionArrayReadRow::cell_at
 decreases-union_::UnionArrayReadRow::cell_at l = union_size l.self.now
 
-abbrev pub decreases-union_::tag_at : goal.decreases-union_::tag_at
-decreases-union_::tag_at l = l.type_ids.now.depth + 1
+abbrev pub decreases-union_check::tag_at : goal.decreases-union_check::tag_at
+decreases-union_check::tag_at l = l.type_ids.now.depth + 1
