@@ -14,5 +14,4 @@ pub mod PutWhole
 pub mod PutFaults
 pub mod OwnFit
 pub mod NullsTold
-pub mod AnswerLists
 pub mod WholeFaults

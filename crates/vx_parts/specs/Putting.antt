@@ -1,6 +1,7 @@
 -- The parts' answers, put together.
 use Rattle.std.specs.Prelude.{◌≡◌, ℕ, ◌+◌, ◌<◌, ◌==◌, length, List, [], ◌∷◌, map, Option, Some, None, IfSome, is_some, true, slice_get, if◌then◌else◌}
 use Rattle.std.specs.List.{list_all, sum}
+use Rattle.std.specs.Option.{option_or}
 use Rattle.vx_types.specs.RowValue.{RowValue, null}
 use Rattle.vx_types.specs.Same.{is_same_type}
 use Rattle.vx_types.specs.TypeTree.{TypeTree, also_nullable}
@@ -18,15 +19,17 @@ use Rattle.vx_parts.specs.declared.plan.Plan.{Plan}
 use Rattle.vx_parts.specs.declared.error.PutError.{PutError}
 use Rattle.vx_parts.specs.declared.error.PutError.TheVariants.{WrongCount, WrongType, WrongLength, WrongOrder, NoMemory}
 
--- why columns aren't the answers of parts from number k on, of this type and of so many rows each:
--- the first that isn't, and of that the type before the rows
+-- why a column isn't the answer of part k, of this type and of n rows
+abbrev pub part_fault : ℕ → TypeTree → ℕ → Column → Option PutError
+part_fault k t n c =
+    if is_same_type c.dtype t then (if length c.rows == n then None else Some (WrongLength k))
+    else Some (WrongType k)
+
+-- the first of the parts from number k on, of so many rows each, whose answer a column isn't
 abbrev pub answer_fault : ℕ → TypeTree → List ℕ → List Column → Option PutError
 answer_fault k t [] answers = None
 answer_fault k t (n ∷ ns) [] = None
-answer_fault k t (n ∷ ns) (c ∷ cs) =
-    if is_same_type c.dtype t then
-    (if length c.rows == n then answer_fault (k + 1) t ns cs else Some (WrongLength k))
-    else Some (WrongType k)
+answer_fault k t (n ∷ ns) (c ∷ cs) = option_or (part_fault k t n c) (answer_fault (k + 1) t ns cs)
 
 -- that they aren't as many as the parts comes before all
 abbrev pub put_fault : TypeTree → List ℕ → List Column → Option PutError

@@ -10,7 +10,7 @@ ghost use Rattle.vx_steps.specs.Step.{StepValue};
 ghost use Rattle.vx_interleave.specs.Places.{joined};
 ghost use Rattle.vx_interleave.specs.Sources.{IsSourceOf, rows_of};
 ghost use Rattle.vx_parts.specs.Plan.{lens_in, order_in};
-ghost use Rattle.vx_parts.specs.Putting.{AreAnswersTo, AreFit, AreNullsTold, IsOrderFor, IsPutFault, answer_fault, put_fault, put_rows, put_type};
+ghost use Rattle.vx_parts.specs.Putting.{AreAnswersTo, AreFit, AreNullsTold, IsOrderFor, IsPutFault, answer_fault, part_fault, put_fault, put_rows, put_type};
 ghost use Rattle.vx_parts.specs.declared.error.PutError.TheVariants.{NoMemory as OutOfMemory};
 
 use crate::error::PutError;
@@ -20,18 +20,27 @@ use vx_bits::NoMemory;
 use vx_column::{Array, Columns, DType};
 use vx_interleave::{are_places, concatenate, interleave};
 
+// Why a column isn't the answer of part `k`, of this type and of `len` rows.
+fn part_fault(k: usize, dtype: &DType, len: usize, answer: &Array) -> Option<PutError>
+    ensures { result ≡ part_fault k (type_of dtype.now) len answer.now }
+{
+    if answer.dtype() != dtype {
+        return Some(PutError::WrongType { part: k });
+    }
+    if answer.len() != len {
+        return Some(PutError::WrongLength { part: k });
+    }
+    None
+}
+
 // Why columns, as many as parts, aren't the answers of the parts.
 fn answer_fault(parts: &[PartPlan], dtype: &DType, answers: &Columns) -> Option<PutError>
     requires { length answers.now ≡ length parts.now }
     ensures { result ≡ answer_fault 0 (type_of dtype.now) (lens_in parts.now) answers.now }
 {
-    for part in 0..parts.len() {
-        let answer = answers.get(part);
-        if answer.dtype() != dtype {
-            return Some(PutError::WrongType { part });
-        }
-        if answer.len() != parts[part].len {
-            return Some(PutError::WrongLength { part });
+    for k in 0..parts.len() {
+        if let Some(fault) = part_fault(k, dtype, parts[k].len, answers.get(k)) {
+            return Some(fault);
         }
     }
     None

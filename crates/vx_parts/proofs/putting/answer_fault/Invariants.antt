@@ -5,6 +5,6 @@ use Rattle.vx_parts.specs.Plan.{lens_in}
 use Rattle.vx_parts.specs.Putting.{answer_fault}
 use Rattle.vx_parts.proofs.putting.answer_fault.Given as goal
 
-abbrev pub invariant-loop-part : goal.invariant-loop-part
-invariant-loop-part l =
-    answer_fault l.part (type_of l.dtype) (drop l.part (lens_in l.parts)) (drop l.part l.answers) ≡ answer_fault 0 (type_of l.dtype) (lens_in l.parts) l.answers
+abbrev pub invariant-loop-k : goal.invariant-loop-k
+invariant-loop-k l =
+    answer_fault l.k (type_of l.dtype) (drop l.k (lens_in l.parts)) (drop l.k l.answers) ≡ answer_fault 0 (type_of l.dtype) (lens_in l.parts) l.answers
