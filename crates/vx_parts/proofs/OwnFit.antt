@@ -88,7 +88,7 @@ module _ (t : TypeTree) (parts : List (List RowValue)) (ss : List StepValue) (pl
         order_case (from_take ss) a.planned.own (order_in plan) a.planned.rest a.planned.parts told,
       )
 
-  -- so they are refused for want of memory alone
+  -- so they are refused only when memory runs out
   pub own_refusal : (e : PutError) → IsPutFault t plan answers e → AreNullsTold plan → e ≡ NoMemory
   own_refusal e fault told = let fit = own_fit told in only_memory t plan answers e fault fit.0 (λ (o : IsPutFault t plan answers WrongOrder). o.1 fit.1)
 

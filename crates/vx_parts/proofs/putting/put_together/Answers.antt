@@ -1,4 +1,4 @@
--- What is put together is the whole's answer, and own answers are refused for want of memory alone.
+-- What is put together is the whole's answer, and own answers are refused only when memory runs out.
 use Rattle.std.proofs.Common.{◌≡◌, None, Some, true, false, sym, ap, ◌∙◌, subst}
 use Rattle.std.specs.List.{All}
 use Rattle.vx_types.specs.DType.{type_of}
