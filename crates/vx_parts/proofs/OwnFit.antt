@@ -1,7 +1,7 @@
 -- What the parts answer by a plan can be put together.
-use Rattle.std.proofs.Common.{◌≡◌, ℕ, ◌+◌, ◌-◌, ◌<◌, ◌⊎◌, inl, inr, Bool, true, false, ◌&&◌, List, [], ◌∷◌, length, map, slice_range, Option, Some, None, refl, sym, ap, ◌∙◌, subst, arith, slice_index}
-use Rattle.std.specs.Prelude.{IfSome, is_some, slice_get}
-use Rattle.std.specs.List.{All, list_all, sum}
+use Rattle.std.proofs.Common.{◌≡◌, ℕ, ◌+◌, ◌<◌, ◌⊎◌, inl, inr, true, List, [], ◌∷◌, length, map, slice_range, Option, Some, None, refl, sym, ap, ◌∙◌, subst, arith, slice_index}
+use Rattle.std.specs.Prelude.{IfSome, is_some}
+use Rattle.std.specs.List.{list_all, sum}
 use Rattle.std.proofs.lemmas.List.{length-map}
 use Rattle.std.proofs.lemmas.List.Elements.{All-nil, All-cons, All-head, All-tail}
 use Rattle.vx_types.specs.Nullability.{either_nullable, is_nullable}
@@ -9,7 +9,7 @@ use Rattle.vx_types.specs.RowValue.{RowValue, null}
 use Rattle.vx_types.specs.TypeTree.{TypeTree}
 use Rattle.vx_types.specs.declared.nullability.Nullability.{Nullability}
 use Rattle.vx_types.specs.declared.nullability.Nullability.TheVariants.{NonNullable, Nullable}
-use Rattle.vx_take.specs.Picks.{at, item_at}
+use Rattle.vx_take.specs.Picks.{item_at}
 use Rattle.vx_model.specs.Column.{Column}
 use Rattle.vx_steps.specs.Step.{StepValue}
 use Rattle.vx_steps.specs.Walk.{walk}
@@ -20,7 +20,7 @@ use Rattle.vx_interleave.specs.declared.place.Place.{Place}
 use Rattle.vx_parts.specs.Bounds.{bounds_of}
 use Rattle.vx_parts.specs.Cuts.{as_step, cuts_of, from_take}
 use Rattle.vx_parts.specs.Plan.{ArePartsOf, IsPlan, IsRest, left_bounds, lens_in, order_in, steps_in}
-use Rattle.vx_parts.specs.Putting.{AllPlaced, AreAnswersTo, AreFit, AreNullsTold, AreOwnUnbroken, IsOrderFor, IsPutFault, put_fault, put_type}
+use Rattle.vx_parts.specs.Putting.{AllPlaced, AreAnswersTo, AreFit, AreNullsTold, AreOwnUnbroken, IsOrderFor, IsPutFault, put_type}
 use Rattle.vx_parts.specs.declared.error.PutError.{PutError}
 use Rattle.vx_parts.specs.declared.error.PutError.TheVariants.{NoMemory, WrongOrder}
 use Rattle.vx_parts.specs.declared.plan.PartPlan.{PartPlan}
@@ -29,7 +29,7 @@ use Rattle.vx_parts.proofs.PickCuts.{cut_long}
 use Rattle.vx_parts.proofs.PlannedParts.{long_left, planned_part}
 use Rattle.vx_parts.proofs.PutFaults.{no_fault, only_memory}
 use Rattle.vx_parts.proofs.PutWhole.{answer_at, long_answers, part_at, rows_at, sound_whole}
-use Rattle.vx_parts.proofs.Walked.{AreSound, apply_all, unbroken_of}
+use Rattle.vx_parts.proofs.Walked.{apply_all, unbroken_of}
 
 -- ---- the order
 

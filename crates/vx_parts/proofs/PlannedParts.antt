@@ -1,5 +1,5 @@
 -- What each part of a plan does to its rows.
-use Rattle.std.proofs.Common.{◌≡◌, ℕ, ◌+◌, ◌-◌, ◌<◌, ◌≤◌, List, [], length, map, slice_range, Option, sym, ap, ap₂, ◌∙◌, subst, arith, slice_index}
+use Rattle.std.proofs.Common.{◌≡◌, ℕ, ◌+◌, ◌-◌, ◌<◌, ◌≤◌, List, length, map, slice_range, Option, sym, ap, ap₂, ◌∙◌, subst, arith, slice_index}
 use Rattle.std.proofs.lemmas.List.{length-map}
 use Rattle.vx_types.specs.RowValue.{RowValue, null}
 use Rattle.vx_types.specs.TypeTree.{TypeTree}
@@ -12,7 +12,7 @@ use Rattle.vx_parts.specs.Plan.{ArePartsOf, left_bounds, lens_in, own_at, steps_
 use Rattle.vx_parts.specs.declared.plan.PartPlan.{PartPlan}
 use Rattle.vx_parts.proofs.BoundLists.{bound_at, bounds_are, end_of_bounds, length-bounds, rises}
 use Rattle.vx_parts.proofs.CutRows.{OwnRows, own_rows, sound_cuts}
-use Rattle.vx_parts.proofs.OwnSteps.{IsPartDone, own_left, part_done}
+use Rattle.vx_parts.proofs.OwnSteps.{own_left, part_done}
 use Rattle.vx_parts.proofs.PartSlices.{part_slice, sum_lengths}
 use Rattle.vx_parts.proofs.Planned.{end_left}
 use Rattle.vx_parts.proofs.Walked.{AreSound, apply_all}

@@ -1,5 +1,5 @@
 -- The parts' answers, put together, are the whole's.
-use Rattle.std.proofs.Common.{◌≡◌, ℕ, zero, suc, ◌+◌, ◌-◌, ◌<◌, List, [], ◌∷◌, length, map, slice_range, Option, Some, None, refl, sym, ap, ◌∙◌, subst, arith, slice_index}
+use Rattle.std.proofs.Common.{◌≡◌, ℕ, zero, suc, ◌+◌, ◌<◌, List, [], ◌∷◌, length, map, slice_range, Option, Some, None, refl, sym, ap, ◌∙◌, subst, arith, slice_index}
 use Rattle.std.specs.Prelude.{IfSome, slice_get}
 use Rattle.std.specs.List.{sum}
 use Rattle.std.proofs.lemmas.List.{length-map}
@@ -13,7 +13,7 @@ use Rattle.vx_steps.specs.Compose.{IsUnbroken}
 use Rattle.vx_interleave.specs.Places.{joined, list_of}
 use Rattle.vx_interleave.specs.Sources.{rows_of}
 use Rattle.vx_interleave.specs.declared.place.Place.{Place}
-use Rattle.vx_parts.specs.Bounds.{bounds_of, end_of}
+use Rattle.vx_parts.specs.Bounds.{bounds_of}
 use Rattle.vx_parts.specs.Cuts.{as_step, carried_by, cuts_of, from_take}
 use Rattle.vx_parts.specs.Plan.{ArePartsOf, IsRest, left_bounds, order_in, own_at, steps_in}
 use Rattle.vx_parts.specs.Putting.{AreAnswersTo, IsPartAnswer, put_rows, put_type}

@@ -1,8 +1,7 @@
 -- The first answer that is at fault, and none before.
-use Rattle.std.proofs.Common.{◌≡◌, length, get_or, sym, ap, ◌∙◌, arith}
+use Rattle.std.proofs.Common.{get_or, sym, ap, ◌∙◌, arith}
 use Rattle.std.proofs.lemmas.List.{get_or-map, length-map}
 use Rattle.vx_types.specs.DType.{type_of}
-use Rattle.vx_model.specs.Column.{Column}
 use Rattle.vx_parts.specs.Plan.{lens_in}
 use Rattle.vx_parts.specs.Putting.{part_fault}
 use Rattle.vx_parts.specs.declared.plan.PartPlan.{PartPlan}

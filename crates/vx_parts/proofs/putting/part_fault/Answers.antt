@@ -1,5 +1,5 @@
 -- The type, and then the length.
-use Rattle.std.proofs.Common.{◌≡◌, sym, ◌∙◌}
+use Rattle.std.proofs.Common.{sym, ◌∙◌}
 use Rattle.vx_types.specs.DType.{type_of}
 use Rattle.vx_parts.proofs.PutFaults.{no_part_fault, other_length, other_type, type_differs, type_fits}
 use Rattle.vx_parts.proofs.putting.part_fault.Goals as goal

@@ -6,7 +6,6 @@ use Rattle.vx_types.specs.TypeTree.{TypeTree}
 use Rattle.vx_interleave.specs.Sources.{IsSourceOf}
 use Rattle.vx_parts.specs.Plan.{lens_in, order_in}
 use Rattle.vx_parts.specs.Putting.{IsOrderFor, put_fault}
-use Rattle.vx_parts.specs.declared.plan.PartPlan.{PartPlan}
 use Rattle.vx_parts.proofs.OwnFit.{own_fit, own_refusal}
 use Rattle.vx_parts.proofs.PutFaults.{put_fault_is, sources_are}
 use Rattle.vx_parts.proofs.PutWhole.{put_whole}

@@ -1,5 +1,5 @@
 -- No null is in the order where none is left.
-use Rattle.std.proofs.Common.{◌≡◌, ℕ, map, sym, ap, ◌∙◌}
+use Rattle.std.proofs.Common.{ℕ, map, sym, ap, ◌∙◌}
 use Rattle.vx_steps.specs.Step.{step_value}
 use Rattle.vx_steps.specs.Walk.{walk}
 use Rattle.vx_parts.specs.Plan.{order_in}

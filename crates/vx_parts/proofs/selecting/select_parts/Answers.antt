@@ -1,12 +1,11 @@
 -- The first broken step, or `NoMemory` where none is broken.
-use Rattle.std.proofs.Common.{◌≡◌, length, map, sym, ap, ◌∙◌, subst}
+use Rattle.std.proofs.Common.{map, sym, ◌∙◌, subst}
 use Rattle.vx_types.specs.DType.{type_of}
 use Rattle.vx_interleave.specs.Places.{joined}
 use Rattle.vx_interleave.specs.Sources.{rows_of}
 use Rattle.vx_steps.specs.Step.{step_value}
 use Rattle.vx_steps.specs.Walk.{walk}
 use Rattle.vx_steps.specs.Answer.{answer_of}
-use Rattle.vx_steps.specs.declared.cause.SelectError.{SelectError}
 use Rattle.vx_parts.proofs.PartSlices.{sum_lengths}
 use Rattle.vx_parts.proofs.Walked.{counted_walk}
 use Rattle.vx_parts.proofs.WholeFaults.{IsNoAnswer, fault_told, memory_told, no_answer}

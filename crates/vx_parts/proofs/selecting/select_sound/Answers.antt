@@ -1,6 +1,5 @@
 -- The parts' own steps break no rule, and what they answer is put together.
-use Rattle.std.proofs.Common.{◌≡◌, ℕ, List, length, map, sym, ap, ◌∙◌, subst}
-use Rattle.std.specs.List.{sum}
+use Rattle.std.proofs.Common.{ℕ, List, map, ◌∙◌, subst}
 use Rattle.vx_interleave.specs.Sources.{rows_of}
 use Rattle.vx_steps.specs.Step.{step_value}
 use Rattle.vx_steps.specs.Walk.{walk}
