@@ -1,2 +1,3 @@
+pub mod AllPlaces
 pub mod Shown
 pub mod TextRows

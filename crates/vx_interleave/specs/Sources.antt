@@ -2,10 +2,10 @@
 use Rattle.std.specs.Prelude.{◌≡◌, Bool, true, false, List, map, Option, Some, None}
 use Rattle.std.specs.List.{All}
 use Rattle.vx_types.specs.Nullability.{is_nullable}
-use Rattle.vx_types.specs.RowValue.{RowValue}
+use Rattle.vx_types.specs.RowValue.{RowValue, null}
 use Rattle.vx_types.specs.TypeTree.{TypeTree}
 use Rattle.vx_model.specs.Column.{Column}
-use Rattle.vx_interleave.specs.Places.{IsPlaceIn}
+use Rattle.vx_interleave.specs.Places.{IsPlaceIn, interleaved, joined}
 use Rattle.vx_interleave.specs.declared.place.Place.{Place}
 
 -- the rows of each column
@@ -24,3 +24,9 @@ IsPlaceFor t lists (Some place) = IsPlaceIn lists place
 
 abbrev pub ArePlacesFor : TypeTree → List (List RowValue) → List (Option Place) → Type 0
 ArePlacesFor t lists order = All (IsPlaceFor t lists) order
+
+-- the places of all rows of the first of these lists, in order
+pub record AreAllPlaces (first lists : List (List RowValue)) (order : List (Option Place))
+    : Type 0 where
+  pub rows : interleaved null lists order ≡ joined first
+  pub places : (t : TypeTree) → ArePlacesFor t lists order

@@ -4,11 +4,15 @@
 mod bools;
 mod gathering;
 mod interleaving;
+mod joining;
 mod place;
+mod placing;
 mod records;
 mod row;
 mod texts;
 mod validity;
 
 pub use interleaving::interleave;
+pub use joining::concatenate;
 pub use place::Place;
+pub use placing::are_places;

@@ -5,3 +5,12 @@ pub mod PickCuts
 pub mod Planned
 pub mod Walked
 pub mod Slots
+pub mod PartSlices
+pub mod PutPicks
+pub mod OwnSteps
+pub mod PlannedParts
+pub mod PutWhole
+pub mod PutFaults
+pub mod OwnFit
+pub mod NullsTold
+pub mod WholeFaults
