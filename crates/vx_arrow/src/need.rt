@@ -45,7 +45,7 @@ impl fmt::Display for Need {
     fn fmt<W: fmt::Write>(&self, f: &mut fmt::Formatter<W>) -> fmt::Result {
         write!(
             f,
-            "{} places and {} bytes of validity",
+            "places {}, bytes of validity {}",
             self.places, self.valid
         )
     }

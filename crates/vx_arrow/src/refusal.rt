@@ -46,7 +46,7 @@ impl fmt::Display for Refusal {
         match self {
             Refusal::Lacking(lacking) => write!(f, "{lacking}"),
             Refusal::Broken { step, cause } => write!(f, "step {step}: {cause}"),
-            Refusal::Room(need) => write!(f, "too little room: {need}"),
+            Refusal::Room(need) => write!(f, "too little room for {need}"),
             Refusal::NoMemory => f.write_str("out of memory"),
         }
     }
