@@ -3,7 +3,10 @@
 import os
 import random
 import signal
+import subprocess
+import sys
 import tempfile
+import textwrap
 import threading
 import time
 import unittest
@@ -121,6 +124,20 @@ class Dask(unittest.TestCase):
             select_parts(client, self.paths, steps[:4], load=counted, lengths=self.lengths)
             asked = [os.path.exists(path + ".asked") for path in self.paths]
             self.assertEqual(asked, [length > 0 for length in self.lengths])
+
+    def test_program(self):
+        """The program of docs/SCALE.md prints what stands below it."""
+        here = os.path.dirname(os.path.abspath(__file__))
+        with open(os.path.join(here, "..", "..", "docs", "SCALE.md")) as file:
+            program, below = file.read().split("```python\n")[1].split("```\n")[:2]
+        wanted = below.strip("\n").split("\n\n")[0]
+        with tempfile.TemporaryDirectory() as folder:
+            path = os.path.join(folder, "program.py")
+            with open(path, "w") as file:
+                file.write(program)
+            words = [sys.executable, "-B", path, folder]
+            found = subprocess.run(words, env={**os.environ, "PYTHONPATH": here}, stdout=subprocess.PIPE, check=True)
+        self.assertEqual(found.stdout.decode().splitlines(), textwrap.dedent(wanted).splitlines())
 
     def test_damaged(self):
         path = self.paths[5]
