@@ -262,15 +262,18 @@ vortex_arrow_answer vortex_arrow_check(const vortex_arrow_node *nodes, size_t n_
 
 /* Says what the rows of a column at the places need, node by node. A place is a row's number, and
  * null where its bit of valid is clear; without bytes there none is. What is not at a place is not
- * looked at, but for each node's own numbers. NO_MEANING: a node, whose number is told, lacks
- * `what`. BEYOND: a place that isn't null is past the rows. ROOM: there are not as many needs as
- * nodes. OVERFLOW: rows or bytes are more than a node's offsets can count. FORMAT, NO_MEMORY. */
+ * looked at, but for each node's own numbers. What stands below views, of texts and of lists, is
+ * kept as it is: it needs no bytes, and but for the numbers of rows nothing of it is looked at.
+ * NO_MEANING: a node, whose number is told, lacks `what`. BEYOND: a place that isn't null is past
+ * the rows. NULL_PICK: the column is a union, and a place is null. ROOM: there are not as many
+ * needs as nodes. OVERFLOW: rows or bytes are more than a node's offsets can count. FORMAT,
+ * NO_MEMORY. */
 vortex_arrow_answer vortex_arrow_sizes(const vortex_arrow_node *nodes, size_t n_nodes,
     const uint64_t *places, size_t n_places, const uint8_t *valid, size_t n_valid,
     vortex_arrow_need *needs, size_t n_needs);
 
-/* Writes the rows at the places, node by node. ROOM: there are not as many rooms as nodes, or one
- * is smaller than its need; and what vortex_arrow_sizes answers. */
+/* Writes the rows at the places, node by node, but nothing of what is kept. ROOM: there are not as
+ * many rooms as nodes, or one is smaller than its need; and what vortex_arrow_sizes answers. */
 vortex_arrow_answer vortex_arrow_take(const vortex_arrow_node *nodes, size_t n_nodes,
     const uint64_t *places, size_t n_places, const uint8_t *valid, size_t n_valid,
     vortex_arrow_room *rooms, size_t n_rooms);
