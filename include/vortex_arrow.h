@@ -32,9 +32,10 @@
  * width (w:N), decimals (d:P,S and d:P,S,W), dates, times, timestamps, durations and intervals
  * (t..), texts and bytes (u U z Z) and views of them (vu vz), structs (+s), lists (+l +L), lists of
  * a fixed size (+w:N), views of lists (+vl +vL) and maps (+m), each with an offset, a validity, and
- * a dictionary where it is of integers. An answer has the format of its source. Unions (+us: +ud:)
- * are handed to the library; where it doesn't know them, they are refused by VORTEX_ARROW_FORMAT,
- * as are arrays that are run-end encoded (+r) and formats that Arrow doesn't have. */
+ * a dictionary where it is of integers; and sparse unions (+us:). An answer has the format of its
+ * source. Dense unions (+ud:) are handed to the library, which refuses by VORTEX_ARROW_FORMAT what
+ * it doesn't know, as are refused arrays that are run-end encoded (+r) and formats that Arrow
+ * doesn't have. */
 #ifndef VORTEX_ARROW_H
 #define VORTEX_ARROW_H
 
@@ -261,15 +262,18 @@ vortex_arrow_answer vortex_arrow_check(const vortex_arrow_node *nodes, size_t n_
 
 /* Says what the rows of a column at the places need, node by node. A place is a row's number, and
  * null where its bit of valid is clear; without bytes there none is. What is not at a place is not
- * looked at, but for each node's own numbers. NO_MEANING: a node, whose number is told, lacks
- * `what`. BEYOND: a place that isn't null is past the rows. ROOM: there are not as many needs as
- * nodes. OVERFLOW: rows or bytes are more than a node's offsets can count. FORMAT, NO_MEMORY. */
+ * looked at, but for each node's own numbers. What stands below views, of texts and of lists, is
+ * kept as it is: it needs no bytes, and but for the numbers of rows nothing of it is looked at.
+ * NO_MEANING: a node, whose number is told, lacks `what`. BEYOND: a place that isn't null is past
+ * the rows. NULL_PICK: the column is a union, and a place is null. ROOM: there are not as many
+ * needs as nodes. OVERFLOW: rows or bytes are more than a node's offsets can count. FORMAT,
+ * NO_MEMORY. */
 vortex_arrow_answer vortex_arrow_sizes(const vortex_arrow_node *nodes, size_t n_nodes,
     const uint64_t *places, size_t n_places, const uint8_t *valid, size_t n_valid,
     vortex_arrow_need *needs, size_t n_needs);
 
-/* Writes the rows at the places, node by node. ROOM: there are not as many rooms as nodes, or one
- * is smaller than its need; and what vortex_arrow_sizes answers. */
+/* Writes the rows at the places, node by node, but nothing of what is kept. ROOM: there are not as
+ * many rooms as nodes, or one is smaller than its need; and what vortex_arrow_sizes answers. */
 vortex_arrow_answer vortex_arrow_take(const vortex_arrow_node *nodes, size_t n_nodes,
     const uint64_t *places, size_t n_places, const uint8_t *valid, size_t n_valid,
     vortex_arrow_room *rooms, size_t n_rooms);

@@ -45,11 +45,28 @@ static uint64_t fault_of_steps(vortex_arrow_error *error, vortex_arrow_answer an
 
 /* ---- Picks ---- */
 
+/* How much room the picks need. A take at the end leaves as many as it has numbers: the library
+ * needn't read them to count them, and compose tests them in any case. */
+static vortex_arrow_answer count_picks(uint64_t len, const vortex_arrow_step *steps, size_t n_steps,
+    vortex_arrow_picks_need *need)
+{
+    const vortex_arrow_step *last = n_steps ? &steps[n_steps - 1] : NULL;
+    vortex_arrow_answer done = {VORTEX_ARROW_DONE, 0, 0};
+    if (!last || last->kind != VORTEX_ARROW_TAKE || last->len > last->values.len) {
+        return vortex_arrow_count(len, steps, n_steps, need);
+    }
+    need->places = last->len;
+    if (vortex_arrow_leaves_nulls(steps, n_steps)) {
+        need->valid = last->len / 8 + (last->len % 8 != 0);
+    }
+    return done;
+}
+
 uint64_t vortex_arrow_pick(uint64_t len, const vortex_arrow_step *steps, size_t n_steps,
     vortex_arrow_picks *p, vortex_arrow_error *error)
 {
     vortex_arrow_picks_need need = {0, 0};
-    vortex_arrow_answer answer = vortex_arrow_count(len, steps, n_steps, &need);
+    vortex_arrow_answer answer = count_picks(len, steps, n_steps, &need);
     p->places = NULL;
     if (answer.status) {
         return fault_of_steps(error, answer);
@@ -63,7 +80,7 @@ uint64_t vortex_arrow_pick(uint64_t len, const vortex_arrow_step *steps, size_t 
     p->len = need.places;
     p->valid = (uint8_t *)(p->places + p->len);
     p->n_valid = need.valid;
-    memset(p->valid, 0, p->n_valid);
+    memset(p->valid, 0xff, p->n_valid); /* valid is what compose doesn't mark */
     answer = vortex_arrow_compose(len, steps, n_steps, p->places, p->len, p->valid, p->n_valid);
     if (answer.status) {
         free(p->places);

@@ -26,8 +26,8 @@ int vortex_arrow_has_word(const char *words, const char *word)
     return 0;
 }
 
-/* How many ids the format of a union lists, each below 128 and there once, or -1 where it isn't such
- * a list. They are written to `ids`, where that is one. */
+/* How many ids the format of a union lists, each below 128 and there once, or -1 where it isn't
+ * such a list. They are written to `ids`, where that is one. */
 int64_t vortex_arrow_ids(const char *format, uint8_t *ids)
 {
     const char *at = format + strlen("+us:");
