@@ -4,9 +4,8 @@ use Rattle.std.specs.Prelude.{slice_index}
 use Rattle.std.proofs.lemmas.List.{length-map}
 use Rattle.vx_mask.proofs.RangeCounts.{count_take-ordered}
 use Rattle.vx_cuts.specs.Bounds.{AreBounds, end_of}
-use Rattle.vx_cuts.proofs.BoundLists.{bound_at}
 use Rattle.vx_parts.specs.Cuts.{CutValue, slice_cut, filter_cut, carried, carried_by}
-pub use Rattle.vx_cuts.proofs.BoundLists.{bounds_are, end_of_bounds, length-bounds, rises}
+pub use Rattle.vx_cuts.proofs.BoundLists.{bound_at, bounds_are, end_of_bounds, length-bounds, rises}
 
 carried-zero : (c : CutValue) → carried c 0 ≡ 0
 carried-zero (slice_cut start end) = omega arith
