@@ -1,14 +1,13 @@
 -- Rows by their cells.
-use Rattle.std.proofs.Common.{◌≡◌, ℕ, zero, suc, ◌+◌, ◌<◌, Bool, true, false, List, [], ◌∷◌, ◌++◌, length, map, get_or, take, subst, Option, None, Some, refl, sym, ap, ap₂, ◌∙◌, arith}
-use Rattle.std.specs.Prelude.{nat_lt, replicate, slice_get, slice_range}
+use Rattle.std.proofs.Common.{◌≡◌, ℕ, zero, suc, ◌+◌, ◌<◌, true, List, [], ◌∷◌, ◌++◌, length, map, get_or, take, subst, Some, refl, sym, ap, ap₂, ◌∙◌, arith}
+use Rattle.std.specs.Prelude.{nat_lt, slice_get}
 use Rattle.std.specs.Cmp.{first_so, second_so}
 use Rattle.std.proofs.lemmas.Bool.Decides.{nat_tests}
-use Rattle.std.specs.List.{All}
 use Rattle.std.proofs.lemmas.List.{length-map, map_more, map_push}
 use Rattle.std.proofs.lemmas.List.Elements.{All-append, All-cons, All-nil}
 use Rattle.std.proofs.lemmas.Simd.{map-map}
-use Rattle.vx_types.specs.RowValue.{RowValue, RowValues, null, list, fields, row_values}
-use Rattle.vx_types.specs.TypeTree.{TypeKind, TypeTree, TypeTrees, fixed_kind, list_kind, map_kind, more_types, no_types, struct_kind, struct_type, types_of}
+use Rattle.vx_types.specs.RowValue.{RowValue, null}
+use Rattle.vx_types.specs.TypeTree.{TypeKind, TypeTree, TypeTrees, struct_kind, struct_type, types_of}
 use Rattle.vx_types.specs.FieldTypes.{FieldTypes}
 use Rattle.vx_types.specs.Nullability.{is_nullable}
 use Rattle.vx_types.specs.declared.nullability.Nullability.{Nullability}
@@ -16,13 +15,11 @@ use Rattle.vx_types.specs.declared.nullability.Nullability.TheVariants.{Nullable
 use Rattle.vx_model.specs.Column.{Column}
 use Rattle.vx_model.specs.Columns.{are_long_past, rows_across, types_in}
 use Rattle.vx_model.specs.Valid.{Valid, stored_rows}
-use Rattle.vx_model.specs.Filler.{filler_row}
-use Rattle.vx_model.specs.Lists.{list_row}
 use Rattle.vx_model.specs.Struct.{fields_row, struct_of}
 use Rattle.vx_column.specs.Cell.{AreFieldsOf, row_of}
 use Rattle.vx_column.specs.declared.cell.Cell.{Cell}
 use Rattle.vx_column.specs.declared.cell.Cell.TheVariants as cells
-use Rattle.vx_interleave.specs.Rows.{AreCellsOf, IsCellOf, IsValidityOf, rows_in, shown_as, stored_as, values_of}
+use Rattle.vx_interleave.specs.Rows.{AreCellsOf, IsCellOf, IsValidityOf, rows_in, shown_as, stored_as}
 use Rattle.vx_interleave.specs.Sources.{IsSourceOf}
 use Rattle.vx_interleave.specs.Structs.{AreFields, field_in}
 use Rattle.vx_interleave.proofs.Shown.{shown}

@@ -1,17 +1,16 @@
 -- Structs whose fields are gathered.
-use Rattle.std.proofs.Common.{◌≡◌, ℕ, zero, suc, ◌+◌, ◌<◌, ◌≤◌, true, false, List, [], ◌∷◌, ◌++◌, length, map, get_or, take, drop, Option, None, Some, refl, sym, ap, ap₂, subst, ◌∙◌, arith}
+use Rattle.std.proofs.Common.{◌≡◌, ℕ, zero, suc, ◌+◌, ◌<◌, true, List, [], ◌∷◌, ◌++◌, length, map, get_or, drop, refl, sym, ap, ap₂, ◌∙◌, arith}
 use Rattle.std.specs.Prelude.{◌==◌, Ok, Result, replicate}
 use Rattle.vx_bits.specs.Results.{ok_unless}
 use Rattle.std.proofs.lemmas.Bool.Decides.{nat_tests}
-use Rattle.std.proofs.lemmas.List.{length-map, length-take-le, take_more}
-use Rattle.vx_types.specs.Nullability.{is_nullable}
-use Rattle.vx_types.specs.RowValue.{RowValue, RowValues, null, fields, row_values, none, more}
+use Rattle.std.proofs.lemmas.List.{length-map}
+use Rattle.vx_types.specs.RowValue.{RowValue, null, fields, row_values, more}
 use Rattle.vx_types.specs.FieldTypes.{FieldTypes}
 use Rattle.vx_types.specs.TypeTree.{TypeTree, types_of, struct_kind}
 use Rattle.vx_types.specs.declared.error.ColumnError.{ColumnError}
 use Rattle.vx_model.specs.Column.{Column}
 use Rattle.vx_model.specs.Columns.{are_long, rows_across, types_in, with_fronts}
-use Rattle.vx_model.specs.Filler.{filler_row, filler_value, filler_values}
+use Rattle.vx_model.specs.Filler.{filler_row, filler_values}
 use Rattle.vx_model.specs.Struct.{StructParts, fields_row, struct_fault}
 use Rattle.vx_model.specs.Valid.{is_fitting}
 use Rattle.vx_model.proofs.StructSteps.{fault-made}

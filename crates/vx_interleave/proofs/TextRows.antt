@@ -1,8 +1,8 @@
 -- Texts of rows, one after another.
-use Rattle.std.proofs.Common.{◌≡◌, ℕ, ◌+◌, ◌<◌, ◌++◌, ◌^◌, List, [], ◌∷◌, length, get_or, map, take, true, None, refl, sym, ap, ap₂, subst, ◌∙◌}
+use Rattle.std.proofs.Common.{◌≡◌, ℕ, ◌+◌, ◌<◌, ◌++◌, ◌^◌, List, [], ◌∷◌, length, get_or, map, take, true, None, sym, ap, ap₂, subst, ◌∙◌}
 use Rattle.std.specs.Prelude.{pos}
-use Rattle.std.proofs.lemmas.List.{map_more, map_push, length-map}
-use Rattle.vx_types.specs.RowValue.{RowValue, bytes}
+use Rattle.std.proofs.lemmas.List.{map_push}
+use Rattle.vx_types.specs.RowValue.{bytes}
 use Rattle.vx_types.specs.TypeTree.{TypeKind, is_int_kind}
 use Rattle.vx_types.specs.declared.text.TextKind.{TextKind}
 use Rattle.vx_types.specs.declared.ptype.PType.TheVariants.{U64}
@@ -12,7 +12,6 @@ use Rattle.vx_model.specs.Records.{RecordParts}
 use Rattle.vx_model.specs.Valid.{Valid, is_fitting, non_nullable, stored_rows}
 use Rattle.vx_model.specs.VarBin.{varbin_column, varbin_fault}
 use Rattle.vx_offsets.specs.Cut.{is_cut}
-use Rattle.vx_text.specs.Building.{AreTexts}
 use Rattle.vx_text.specs.OffsetList.{OffsetList, with_offset}
 use Rattle.vx_text.proofs.BuiltTexts.{built, built_texts, one_text}
 use Rattle.vx_column.specs.Cell.{row_of}

@@ -1,7 +1,7 @@
 -- Nulls alone.
 use Rattle.std.proofs.Common.{ℕ, map, ap, sym, ◌∙◌}
 use Rattle.vx_types.specs.DType.{type_of}
-use Rattle.vx_types.specs.TypeTree.{TypeTree, null_kind}
+use Rattle.vx_types.specs.TypeTree.{null_kind}
 use Rattle.vx_types.specs.declared.dtype.DType.{DType}
 use Rattle.vx_model.specs.Column.{Column}
 use Rattle.vx_model.specs.Null.{null_column}
