@@ -1,8 +1,8 @@
 -- Texts of rows, one after another.
-use Rattle.std.proofs.Common.{◌≡◌, ℕ, ◌+◌, ◌<◌, ◌++◌, ◌^◌, List, [], ◌∷◌, length, get_or, map, take, true, Option, None, refl, sym, ap, ap₂, subst, ◌∙◌}
+use Rattle.std.proofs.Common.{◌≡◌, ℕ, ◌+◌, ◌<◌, ◌++◌, ◌^◌, List, [], ◌∷◌, length, get_or, map, take, true, None, sym, ap, ap₂, subst, ◌∙◌}
 use Rattle.std.specs.Prelude.{pos}
-use Rattle.std.proofs.lemmas.List.{map_more, map_push, length-map}
-use Rattle.vx_types.specs.RowValue.{RowValue, bytes}
+use Rattle.std.proofs.lemmas.List.{map_push}
+use Rattle.vx_types.specs.RowValue.{bytes}
 use Rattle.vx_types.specs.TypeTree.{TypeKind, is_int_kind}
 use Rattle.vx_types.specs.declared.text.TextKind.{TextKind}
 use Rattle.vx_types.specs.declared.ptype.PType.TheVariants.{U64}
@@ -12,29 +12,23 @@ use Rattle.vx_model.specs.Records.{RecordParts}
 use Rattle.vx_model.specs.Valid.{Valid, is_fitting, non_nullable, stored_rows}
 use Rattle.vx_model.specs.VarBin.{varbin_column, varbin_fault}
 use Rattle.vx_offsets.specs.Cut.{is_cut}
-use Rattle.vx_text.specs.Building.{AreTexts}
 use Rattle.vx_text.specs.OffsetList.{OffsetList, with_offset}
 use Rattle.vx_text.proofs.BuiltTexts.{built, built_texts, one_text}
-use Rattle.vx_interleave.specs.Rows.{row_in, rows_in, stored_as}
+use Rattle.vx_column.specs.Cell.{row_of}
+use Rattle.vx_column.specs.declared.cell.Cell.{Cell}
+use Rattle.vx_interleave.specs.Rows.{rows_in, stored_as}
 use Rattle.vx_interleave.specs.Texts.{AreJoined}
-use Rattle.vx_interleave.specs.declared.row.RowRef.{RowRef}
+use Rattle.vx_interleave.proofs.CellRows.{row_more}
 
--- a row more
-pub row_more : {Y : Type 0} (f : RowValue → Y) (refs : List (Option RowRef)) (i : ℕ) (r : Option RowRef) → i < length refs → r ≡ get_or refs i r → map f (rows_in (take (i + 1) refs)) ≡ map f (rows_in (take i refs)) ++ f (row_in r) ∷ []
-row_more f refs i r h is =
-    ap (map f) (map_more row_in refs i r h)
-    ∙ map_push f (rows_in (take i refs)) (row_in (get_or refs i r))
-    ∙ ap (λ (x : Option RowRef). map f (rows_in (take i refs)) ++ f (row_in x) ∷ []) (sym is)
-
-pub next_text : (k : TypeKind) (refs : List (Option RowRef)) (i : ℕ) (r : Option RowRef) (old new : OffsetList) (before more text : List ℕ) → i < length refs → r ≡ get_or refs i r → bytes text ≡ stored_as k (row_in r)
-    → AreJoined k (rows_in (take i refs)) old before → length more < 2 ^ 63 → more ≡ before ++ text → new ≡ with_offset old (length more) → AreJoined k (rows_in (take (i + 1) refs)) new more
-next_text k refs i r old new before more text h at e j short joined is =
+pub next_text : (k : TypeKind) (items : List Cell) (i : ℕ) (cell : Cell) (old new : OffsetList) (before more text : List ℕ) → i < length items → cell ≡ get_or items i cell → bytes text ≡ stored_as k (row_of cell)
+    → AreJoined k (rows_in (take i items)) old before → length more < 2 ^ 63 → more ≡ before ++ text → new ≡ with_offset old (length more) → AreJoined k (rows_in (take (i + 1) items)) new more
+next_text k items i cell old new before more text h at e j short joined is =
     record {
       texts = j.texts ++ text ∷ [];
       cut = one_text U64 old new before more text j.texts j.cut short joined is;
       rows_are =
           map_push bytes j.texts text ∙ ap₂ (λ x y. x ++ y ∷ []) j.rows_are e
-          ∙ sym (row_more (stored_as k) refs i r h at);
+          ∙ sym (row_more (stored_as k) items i cell h at);
     }
 
 -- ---- the column of texts that stand one after another

@@ -1,5 +1,5 @@
 -- Columns whose rows are interleaved, and the places of these rows.
-use Rattle.std.specs.Prelude.{◌≡◌, Bool, true, false, List, map, Option, Some, None}
+use Rattle.std.specs.Prelude.{◌≡◌, true, List, map, Option, Some, None}
 use Rattle.std.specs.List.{All}
 use Rattle.vx_types.specs.Nullability.{is_nullable}
 use Rattle.vx_types.specs.RowValue.{RowValue, null}

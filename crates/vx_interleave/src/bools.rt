@@ -1,23 +1,21 @@
 //! Rows of bools, gathered.
-ghost use Rattle.std.specs.Prelude.{◌≡◌, IfOk, IfSome, map};
-ghost use Rattle.vx_types.specs.DType.{type_of};
+ghost use Rattle.std.specs.Prelude.{◌≡◌, IfOk, map};
 ghost use Rattle.vx_types.specs.RowValue.{bit};
-ghost use Rattle.vx_types.specs.TypeTree.{bool_kind};
-ghost use Rattle.vx_interleave.specs.Rows.{AreRowsOf, IsRowOf, row_in, rows_in, shown_as, stored_as};
+ghost use Rattle.vx_types.specs.TypeTree.{bool_kind, bool_type};
+ghost use Rattle.vx_column.specs.Cell.{row_of};
+ghost use Rattle.vx_interleave.specs.Rows.{AreCellsOf, IsCellOf, rows_in, shown_as, stored_as};
 
-use crate::row::{RowRef, cell_of};
 use crate::validity::validity_of;
 use std::alloc::Global;
 use vx_bits::{BitBuffer, BitBuilder, NoMemory};
-use vx_column::{Array, BoolArray, Cell, DType};
+use vx_column::{Array, BoolArray, Cell, Nullability};
 
 // Whether a row is true; a null isn't.
-fn is_true(dtype: &DType, row: &Option<RowRef<'_>>) -> bool
-    requires of_type { IfSome row.now (IsRowOf (type_of dtype.now)) }
-    requires bools { (type_of dtype.now).kind ≡ bool_kind }
-    ensures { bit result ≡ stored_as bool_kind (row_in row.now) }
+fn is_true(cell: Cell<'_>) -> bool
+    requires { IsCellOf bool_kind cell }
+    ensures { bit result ≡ stored_as bool_kind (row_of cell.entry) }
 {
-    match cell_of(dtype, row) {
+    match cell {
         Cell::Null => false,
         Cell::Bit(bit) => bit,
         _ => unreachable!(),
@@ -25,18 +23,13 @@ fn is_true(dtype: &DType, row: &Option<RowRef<'_>>) -> bool
 }
 
 // Which of the rows are true.
-fn true_bits(
-    alloc: Global,
-    dtype: &DType,
-    rows: &[Option<RowRef<'_>>],
-) -> Result<BitBuffer, NoMemory>
-    requires of_type { AreRowsOf (type_of dtype.now) rows.now }
-    requires bools { (type_of dtype.now).kind ≡ bool_kind }
-    ensures { IfOk result (λ b. map bit b.bits ≡ map (stored_as bool_kind) (rows_in rows.now)) }
+fn true_bits(alloc: Global, cells: &[Cell<'_>]) -> Result<BitBuffer, NoMemory>
+    requires { AreCellsOf bool_kind cells.now }
+    ensures { IfOk result (λ b. map bit b.bits ≡ map (stored_as bool_kind) (rows_in cells.now)) }
 {
-    let mut bits = BitBuilder::with_capacity(alloc, rows.len())?;
-    for row in rows {
-        bits.append(is_true(dtype, row))?;
+    let mut bits = BitBuilder::with_capacity(alloc, cells.len())?;
+    for cell in cells {
+        bits.append(is_true(*cell))?;
     }
     bits.finish()
 }
@@ -44,16 +37,15 @@ fn true_bits(
 /// The rows as a column of bools.
 pub(crate) fn gather_bools(
     alloc: Global,
-    dtype: &DType,
-    rows: &[Option<RowRef<'_>>],
+    nullability: Nullability,
+    cells: &[Cell<'_>],
 ) -> Result<Array, NoMemory>
-    requires of_type { AreRowsOf (type_of dtype.now) rows.now }
-    requires bools { (type_of dtype.now).kind ≡ bool_kind }
-    ensures dtype { IfOk result (λ a. a.dtype ≡ type_of dtype.now) }
+    requires { AreCellsOf bool_kind cells.now }
+    ensures dtype { IfOk result (λ a. a.dtype ≡ bool_type nullability) }
     ensures rows { IfOk result
-        (λ a. a.rows ≡ map (shown_as (type_of dtype.now)) (rows_in rows.now)) }
+        (λ a. a.rows ≡ map (shown_as (bool_type nullability)) (rows_in cells.now)) }
 {
-    let validity = validity_of(alloc, dtype, rows)?;
-    let bits = true_bits(alloc, dtype, rows)?;
+    let validity = validity_of(alloc, nullability, cells)?;
+    let bits = true_bits(alloc, cells)?;
     Ok(BoolArray::of(bits, validity).into_array())
 }

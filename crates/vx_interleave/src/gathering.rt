@@ -1,58 +1,77 @@
 //! Rows gathered, by their type.
-ghost use Rattle.std.specs.Prelude.{◌≡◌, IfOk, map, replicate, true};
+ghost use Rattle.std.specs.Prelude.{◌≡◌, IfOk, map, true};
 ghost use Rattle.vx_types.specs.DType.{type_of};
-ghost use Rattle.vx_types.specs.RowValue.{null};
-ghost use Rattle.vx_types.specs.Scalar.{has_scalars};
-ghost use Rattle.vx_types.specs.TypeTree.{null_kind};
-ghost use Rattle.vx_interleave.specs.Rows.{AreRowsOf, rows_in, shown_as};
+ghost use Rattle.vx_types.specs.TypeTree.{are_carried, extension_type, is_carried, types_of};
+ghost use Rattle.vx_model.specs.Struct.{struct_of};
+ghost use Rattle.vx_interleave.specs.Gathered.{are_gathered, is_gathered};
+ghost use Rattle.vx_interleave.specs.Rows.{AreCellsOf, rows_in, shown_as};
+ghost use Rattle.vx_interleave.specs.Structs.{AreFields};
 
-use crate::bools::gather_bools;
-use crate::records::gather_records;
-use crate::row::{RowRef, cell_of};
-use crate::texts::gather_texts;
+use crate::flat::gather_scalars;
+use crate::structs::{field_cells, gather_structs};
 use std::alloc::Global;
 use vx_bits::NoMemory;
-use vx_column::{Array, Cell, DType, NullArray, RecordType, TextKind};
+use vx_column::{Array, Cell, Columns, DType, ExtDType, ExtensionArray, StructFields};
+use vx_shared::Shared;
 
-// How many rows there are, each of which is null.
-fn null_rows(dtype: &DType, rows: &[Option<RowRef<'_>>]) -> usize
-    requires of_type { AreRowsOf (type_of dtype.now) rows.now }
-    requires nulls { (type_of dtype.now).kind ≡ null_kind }
-    ensures { replicate result null ≡ rows_in rows.now }
+// The rows of the storage, under the extension's name.
+#[tactic(auto, using(crate::proofs::GatheredRows::extensions))]
+fn named(alloc: Global, ext: &Shared<ExtDType>, storage: Array) -> Result<Array, NoMemory>
+    requires { storage.dtype.kind ≡ ext.now.storage.kind }
+    ensures dtype { IfOk result (λ a. a.dtype
+        ≡ extension_type ext.now.name ext.now.storage storage.dtype.nullability) }
+    ensures rows { IfOk result (λ a. a.rows ≡ storage.rows) }
 {
-    let mut len = 0;
-    for row in rows {
-        match cell_of(dtype, row) {
-            Cell::Null => len += 1,
-            _ => unreachable!(),
-        }
+    match ExtensionArray::try_new(ext.share(), storage.into_ref(alloc)?) {
+        Ok(column) => Ok(column.into_array()),
+        Err(_) => unreachable!(),
     }
-    len
 }
 
 /// The rows as a column of the type, with fillers in place of nulls where it has none.
-pub(crate) fn gather(
-    alloc: Global,
-    dtype: &DType,
-    rows: &[Option<RowRef<'_>>],
-) -> Result<Array, NoMemory>
-    requires of_type { AreRowsOf (type_of dtype.now) rows.now }
-    requires scalars { has_scalars (type_of dtype.now).kind ≡ true }
+#[cycle(gather)]
+#[tactic(auto, using(crate::proofs::GatheredRows::inside))]
+pub(crate) fn gather(alloc: Global, dtype: &DType, cells: &[Cell<'_>]) -> Result<Array, NoMemory>
+    requires carried { is_carried (type_of dtype.now) ≡ true }
+    requires gathered { is_gathered (type_of dtype.now).kind ≡ true }
+    requires of_kind { AreCellsOf (type_of dtype.now).kind cells.now }
     ensures dtype { IfOk result (λ a. a.dtype ≡ type_of dtype.now) }
     ensures rows { IfOk result
-        (λ a. a.rows ≡ map (shown_as (type_of dtype.now)) (rows_in rows.now)) }
+        (λ a. a.rows ≡ map (shown_as (type_of dtype.now)) (rows_in cells.now)) }
 {
     match dtype {
-        DType::Null => Ok(NullArray::new(null_rows(dtype, rows)).into_array()),
-        DType::Bool(_) => gather_bools(alloc, dtype, rows),
-        DType::Primitive(ptype, _) => {
-            gather_records(alloc, dtype, RecordType::Primitive(*ptype), rows)
+        DType::Struct(fields, n) => {
+            let columns = gather_fields(alloc, fields, cells)?;
+            gather_structs(alloc, fields, *n, columns, cells)
         }
-        DType::Decimal(decimal, _) => {
-            gather_records(alloc, dtype, RecordType::Decimal(*decimal), rows)
+        DType::Extension(ext, n) => {
+            let storage = ext.storage().with_nullability(*n);
+            named(alloc, ext, gather(alloc, &storage, cells)?)
         }
-        DType::Utf8(_) => gather_texts(alloc, dtype, TextKind::Utf8, rows),
-        DType::Binary(_) => gather_texts(alloc, dtype, TextKind::Binary, rows),
+        _ if dtype.has_scalars() => gather_scalars(alloc, dtype, cells),
         _ => unreachable!(),
     }
+}
+
+// The fields of the rows, each as a column of its type.
+#[cycle(gather)]
+#[tactic(auto, using(crate::proofs::GatheredRows::each_field))]
+fn gather_fields(
+    alloc: Global,
+    fields: &StructFields,
+    cells: &[Cell<'_>],
+) -> Result<Columns, NoMemory>
+    requires carried { are_carried (types_of fields.now.types) ≡ true }
+    requires gathered { are_gathered (types_of fields.now.types) ≡ true }
+    requires of_kind { AreCellsOf (struct_of fields.now) cells.now }
+    ensures { IfOk result (AreFields 0 fields.now.types (rows_in cells.now)) }
+{
+    let types = fields.types();
+    let mut columns = Vec::with_capacity(alloc, types.len())?;
+    for k in 0..types.len() {
+        let dtype = &types[k];
+        let field = field_cells(alloc, fields, k, dtype, cells)?;
+        columns.push(gather(alloc, dtype, &field)?.into_ref(alloc)?)?;
+    }
+    Columns::new(alloc, columns)
 }

@@ -2,7 +2,8 @@
 ghost use Rattle.std.specs.Prelude.{◌≡◌, ◌++◌, IfOk, OnOk, true};
 ghost use Rattle.std.specs.List.{All};
 ghost use Rattle.vx_types.specs.DType.{type_of};
-ghost use Rattle.vx_types.specs.Scalar.{has_scalars};
+ghost use Rattle.vx_types.specs.TypeTree.{is_carried};
+ghost use Rattle.vx_interleave.specs.Gathered.{is_gathered};
 ghost use Rattle.vx_interleave.specs.Places.{joined, places_of};
 ghost use Rattle.vx_interleave.specs.Sources.{AreAllPlaces, IsSourceOf, rows_of};
 
@@ -37,9 +38,11 @@ fn all_places(alloc: Global, columns: &Columns) -> Result<Vec<Option<Place>>, No
 /// The rows of the columns, one column behind another, as a column of this type. The columns are
 /// of any layouts. Fails only with `NoMemory`.
 ///
-/// The columns are of this type, or of the same without nulls. The type is flat or text.
+/// The columns are of this type, or of the same without nulls. The type is flat or text, or of
+/// structs or extensions of such.
 pub fn concatenate(alloc: Global, dtype: &DType, columns: &Columns) -> Result<Array, NoMemory>
-    requires scalars { has_scalars (type_of dtype.now).kind ≡ true }
+    requires carried { is_carried (type_of dtype.now) ≡ true }
+    requires gathered { is_gathered (type_of dtype.now).kind ≡ true }
     requires sources { All (IsSourceOf (type_of dtype.now)) columns.now }
     ensures dtype { IfOk result (λ a. a.dtype ≡ type_of dtype.now) }
     ensures rows { IfOk result (λ a. a.rows ≡ joined (rows_of columns.now)) }

@@ -2,13 +2,15 @@
 #![tactic(auto)]
 
 mod bools;
+mod cells;
+mod flat;
 mod gathering;
 mod interleaving;
 mod joining;
 mod place;
 mod placing;
 mod records;
-mod row;
+mod structs;
 mod texts;
 mod validity;
 

@@ -1,8 +1,6 @@
 //! Rows of text, gathered.
-ghost use Rattle.std.specs.Prelude.{◌≡◌, ◌++◌, ◌<◌, ◌^◌, [], IfOk, IfSome, OnOk, length, map, true};
-ghost use Rattle.vx_types.specs.DType.{type_of};
+ghost use Rattle.std.specs.Prelude.{◌≡◌, ◌++◌, ◌<◌, ◌^◌, [], IfOk, OnOk, length, map, true};
 ghost use Rattle.vx_types.specs.RowValue.{bytes};
-ghost use Rattle.vx_types.specs.Scalar.{is_text_kind};
 ghost use Rattle.vx_types.specs.Text.{text_kind};
 ghost use Rattle.vx_types.specs.declared.ptype.PType.TheVariants.{U64};
 ghost use Rattle.vx_positions.specs.Offsets.{lists_at};
@@ -11,23 +9,24 @@ ghost use Rattle.vx_column.specs.Validity.{valid_of};
 ghost use Rattle.vx_offsets.specs.Cut.{is_cut};
 ghost use Rattle.vx_text.specs.Building.{AreTexts};
 ghost use Rattle.vx_text.specs.OffsetList.{with_offset};
-ghost use Rattle.vx_interleave.specs.Rows.{AreRowsOf, IsRowOf, row_in, rows_in, shown_as, stored_as};
+ghost use Rattle.vx_column.specs.Cell.{row_of};
+ghost use Rattle.vx_interleave.specs.Rows.{AreCellsOf, IsCellOf, rows_in, shown_as, stored_as};
 ghost use Rattle.vx_interleave.specs.Texts.{AreJoined};
 
-use crate::row::{RowRef, cell_of};
 use crate::validity::validity_of;
 use std::alloc::Global;
 use vx_bits::{Buffer, NoMemory};
-use vx_column::{Array, Cell, DType, PType, TextKind, Validity, VarBinArray};
+use vx_column::{Array, Cell, Nullability, PType, TextKind, Validity, VarBinArray};
 use vx_text::Offsets;
 
 // The bytes of a row; none of a null.
-fn text_at<'a>(dtype: &DType, row: &Option<RowRef<'a>>) -> &'a [u8]
-    requires of_type { IfSome row.now (IsRowOf (type_of dtype.now)) }
-    requires text { is_text_kind (type_of dtype.now).kind ≡ true }
-    ensures { bytes result.now ≡ stored_as (type_of dtype.now).kind (row_in row.now) }
+fn text_at<'a>(kind: TextKind, cell: Cell<'a>) -> &'a [u8]
+    requires { IsCellOf (text_kind kind) cell }
+    ensures { bytes result.now ≡ stored_as (text_kind kind) (row_of cell.entry) }
 {
-    match cell_of(dtype, row) {
+    // only the contract speaks of it
+    let _ = kind;
+    match cell {
         Cell::Null => &[],
         Cell::Bytes(bytes) => bytes,
         _ => unreachable!(),
@@ -95,19 +94,14 @@ impl Joined {
 }
 
 // The texts of the rows, one after another.
-fn joined_texts(
-    alloc: Global,
-    dtype: &DType,
-    rows: &[Option<RowRef<'_>>],
-) -> Result<Joined, NoMemory>
-    requires of_type { AreRowsOf (type_of dtype.now) rows.now }
-    requires text { is_text_kind (type_of dtype.now).kind ≡ true }
-    ensures { IfOk result (λ j. AreJoined (type_of dtype.now).kind (rows_in rows.now) j.offsets
-        j.bytes.items) }
+fn joined_texts(alloc: Global, kind: TextKind, cells: &[Cell<'_>]) -> Result<Joined, NoMemory>
+    requires { AreCellsOf (text_kind kind) cells.now }
+    ensures { IfOk result
+        (λ j. AreJoined (text_kind kind) (rows_in cells.now) j.offsets j.bytes.items) }
 {
     let mut joined = Joined::new(alloc)?;
-    for row in rows {
-        joined.push(text_at(dtype, row))?;
+    for cell in cells {
+        joined.push(text_at(kind, *cell))?;
     }
     Ok(joined)
 }
@@ -115,17 +109,18 @@ fn joined_texts(
 /// The rows as a column of texts.
 pub(crate) fn gather_texts(
     alloc: Global,
-    dtype: &DType,
     kind: TextKind,
-    rows: &[Option<RowRef<'_>>],
+    nullability: Nullability,
+    cells: &[Cell<'_>],
 ) -> Result<Array, NoMemory>
-    requires of_type { AreRowsOf (type_of dtype.now) rows.now }
-    requires kind { text_kind kind ≡ (type_of dtype.now).kind }
-    ensures dtype { IfOk result (λ a. a.dtype ≡ type_of dtype.now) }
-    ensures rows { IfOk result
-        (λ a. a.rows ≡ map (shown_as (type_of dtype.now)) (rows_in rows.now)) }
+    requires { AreCellsOf (text_kind kind) cells.now }
+    ensures dtype { IfOk result
+        (λ a. a.dtype ≡ record { kind = text_kind kind; nullability = nullability }) }
+    ensures rows { IfOk result (λ a. a.rows ≡ map
+        (shown_as (record { kind = text_kind kind; nullability = nullability }))
+        (rows_in cells.now)) }
 {
-    let validity = validity_of(alloc, dtype, rows)?;
-    let texts = joined_texts(alloc, dtype, rows)?;
+    let validity = validity_of(alloc, nullability, cells)?;
+    let texts = joined_texts(alloc, kind, cells)?;
     texts.into_array(alloc, kind, validity)
 }

@@ -1,43 +1,35 @@
 //! Which of the rows are valid.
 ghost use Rattle.std.specs.Prelude.{◌≡◌, IfOk, map};
-ghost use Rattle.vx_types.specs.DType.{type_of};
 ghost use Rattle.vx_column.specs.Validity.{valid_of};
-ghost use Rattle.vx_interleave.specs.Rows.{AreRowsOf, IsValidityOf, is_there, rows_in};
+ghost use Rattle.vx_interleave.specs.Rows.{IsValidityOf, is_there, rows_in};
 
-use crate::row::{RowRef, cell_of, is_there};
+use crate::cells::is_there;
 use std::alloc::Global;
 use vx_bits::{BitBuffer, BitBuilder, NoMemory};
-use vx_column::{DType, Nullability, Validity};
+use vx_column::{Cell, Nullability, Validity};
 
 // Whether each row is there.
-fn there_bits(
-    alloc: Global,
-    dtype: &DType,
-    rows: &[Option<RowRef<'_>>],
-) -> Result<BitBuffer, NoMemory>
-    requires { AreRowsOf (type_of dtype.now) rows.now }
+fn there_bits(alloc: Global, cells: &[Cell<'_>]) -> Result<BitBuffer, NoMemory>
     ensures { IfOk result
-        (λ b. b ≡ record { bits = map is_there (rows_in rows.now); offset = 0 }) }
+        (λ b. b ≡ record { bits = map is_there (rows_in cells.now); offset = 0 }) }
 {
-    let mut bits = BitBuilder::with_capacity(alloc, rows.len())?;
-    for row in rows {
-        bits.append(is_there(cell_of(dtype, row)))?;
+    let mut bits = BitBuilder::with_capacity(alloc, cells.len())?;
+    for cell in cells {
+        bits.append(is_there(*cell))?;
     }
     bits.finish()
 }
 
-/// The validity of the rows, as those of the type.
+/// The validity of the rows, as those of a type of this nullability.
 pub(crate) fn validity_of(
     alloc: Global,
-    dtype: &DType,
-    rows: &[Option<RowRef<'_>>],
+    nullability: Nullability,
+    cells: &[Cell<'_>],
 ) -> Result<Validity, NoMemory>
-    requires { AreRowsOf (type_of dtype.now) rows.now }
-    ensures { IfOk result
-        (λ v. IsValidityOf (type_of dtype.now).nullability (rows_in rows.now) (valid_of v)) }
+    ensures { IfOk result (λ v. IsValidityOf nullability (rows_in cells.now) (valid_of v)) }
 {
-    match dtype.nullability() {
+    match nullability {
         Nullability::NonNullable => Ok(Validity::NonNullable),
-        Nullability::Nullable => Validity::from_bits(alloc, there_bits(alloc, dtype, rows)?),
+        Nullability::Nullable => Validity::from_bits(alloc, there_bits(alloc, cells)?),
     }
 }

@@ -5,5 +5,5 @@ use Rattle.vx_types.specs.TypeTree.{bool_kind}
 use Rattle.vx_interleave.specs.Rows.{rows_in, stored_as}
 use Rattle.vx_interleave.proofs.bools.true_bits.Given as goal
 
-abbrev pub invariant-loop-row : goal.invariant-loop-row
-invariant-loop-row l = map bit l.bits ≡ map (stored_as bool_kind) (rows_in (take l.row-index l.rows))
+abbrev pub invariant-loop-cell : goal.invariant-loop-cell
+invariant-loop-cell l = map bit l.bits ≡ map (stored_as bool_kind) (rows_in (take l.cell-index l.cells))
