@@ -2,7 +2,8 @@
 ghost use Rattle.std.specs.Prelude.{◌≡◌, ◌<◌, ◌^◌, IfOk, OnOk, length, map, true};
 ghost use Rattle.std.specs.List.{All, sum};
 ghost use Rattle.vx_types.specs.DType.{type_of};
-ghost use Rattle.vx_types.specs.Scalar.{has_scalars};
+ghost use Rattle.vx_types.specs.TypeTree.{is_carried};
+ghost use Rattle.vx_interleave.specs.Gathered.{is_gathered};
 ghost use Rattle.vx_model.specs.Column.{Column};
 ghost use Rattle.vx_steps.specs.Answer.{answer_of};
 ghost use Rattle.vx_steps.specs.Compose.{IsUnbroken};
@@ -137,7 +138,8 @@ fn select_sound(
     steps: &[Step],
     policy: &Policy,
 ) -> Result<Array, NoMemory>
-    requires scalars { has_scalars (type_of dtype.now).kind ≡ true }
+    requires carried { is_carried (type_of dtype.now) ≡ true }
+    requires gathered { is_gathered (type_of dtype.now).kind ≡ true }
     requires of_type { All (λ (c : Column). c.dtype ≡ type_of dtype.now) parts.now }
     requires len { len ≡ sum (map length (rows_of parts.now)) }
     requires unbroken { IsUnbroken (walk len (map step_value steps.now)) }
@@ -160,7 +162,7 @@ fn select_sound(
 
 /// The answer to the steps of the column whose rows are those of the parts, one behind another: of
 /// each part its own answer to its own steps, put together. The parts are of this type, which is
-/// flat or text, and of any layouts.
+/// flat, text, or structs or extensions of these, and of any layouts.
 ///
 /// `Broken` exactly where a step breaks a rule over the whole, with the first one, even when
 /// memory runs out. `NoMemory` only where none does.
@@ -171,7 +173,8 @@ pub fn select_parts(
     steps: &[Step],
     policy: &Policy,
 ) -> Result<Array, SelectError>
-    requires scalars { has_scalars (type_of dtype.now).kind ≡ true }
+    requires carried { is_carried (type_of dtype.now) ≡ true }
+    requires gathered { is_gathered (type_of dtype.now).kind ≡ true }
     requires of_type { All (λ (c : Column). c.dtype ≡ type_of dtype.now) parts.now }
     requires counted { sum (map length (rows_of parts.now)) < 2 ^ 64 }
     ensures { IsAnswer result (answer_of (type_of dtype.now) (joined (rows_of parts.now))

@@ -2,7 +2,8 @@
 use Rattle.std.proofs.Common.{◌≡◌, None, Some, true, false, sym, ap, ◌∙◌, subst}
 use Rattle.std.specs.List.{All}
 use Rattle.vx_types.specs.DType.{type_of}
-use Rattle.vx_types.specs.TypeTree.{TypeTree}
+use Rattle.vx_types.specs.TypeTree.{TypeTree, is_carried}
+use Rattle.vx_model.proofs.LazyRows.{carried-also}
 use Rattle.vx_interleave.specs.Sources.{IsSourceOf}
 use Rattle.vx_parts.specs.Plan.{lens_in, order_in}
 use Rattle.vx_parts.specs.Putting.{IsOrderFor, put_fault}
@@ -31,6 +32,11 @@ returns-then-not-is_order_for-clause-own c = λ parts steps a told.
     let order = subst (λ (u : TypeTree). IsOrderFor u c.args.answers.now (order_in c.args.plan.now)) (sym c.also_nullable-dtype.ensures) fit.1 in
     let yes = c.is_order_for.ensures.1 order in
     let no : true ≡ false = sym yes ∙ c.if-not-is_order_for.true in cc
+
+pub put_rows-requires-clause-carried : goal.put_rows-requires-clause-carried
+put_rows-requires-clause-carried c =
+    subst (λ (u : TypeTree). is_carried u ≡ true) (sym c.also_nullable-dtype.ensures)
+    (carried-also (type_of c.args.dtype.now) c.args.plan.now.nullability c.requires.carried)
 
 pub put_rows-requires-clause-sources : goal.put_rows-requires-clause-sources
 put_rows-requires-clause-sources c =
