@@ -84,6 +84,7 @@ uint64_t vortex_arrow_pick(uint64_t len, const vortex_arrow_step *steps, size_t 
     answer = vortex_arrow_compose(len, steps, n_steps, p->places, p->len, p->valid, p->n_valid);
     if (answer.status) {
         free(p->places);
+        p->places = NULL;
         return fault_of_steps(error, answer);
     }
     return VORTEX_ARROW_DONE;

@@ -42,7 +42,7 @@ static void expect(int holds, const char *what, uint64_t seed)
 typedef struct walk {
     uint64_t picks[MOST]; /* a row, or NONE */
     size_t len;
-    vortex_arrow_step steps[3];
+    vortex_arrow_step steps[4];
     uint8_t bytes[3][2][MOST];
     size_t n_steps;
 } walk;
@@ -99,6 +99,21 @@ static void add_take(walk *w, vortex_arrow_step *step, uint8_t *numbers, uint8_t
     }
     memcpy(w->picks, picks, sizeof picks);
     w->len = len;
+}
+
+/* The same steps, with one behind them that breaks a rule. */
+static walk broken_walk(const walk *w)
+{
+    static const uint8_t past[] = {MOST + 1};
+    walk broken = *w;
+    vortex_arrow_step *last = &broken.steps[broken.n_steps++];
+    memset(last, 0, sizeof *last);
+    last->kind = below(2) ? VORTEX_ARROW_SLICE : VORTEX_ARROW_TAKE;
+    last->end = MOST + 1;
+    last->len = 1;
+    last->values.data = past;
+    last->values.len = 1;
+    return broken;
 }
 
 static void random_walk(walk *w, size_t rows)
@@ -180,9 +195,15 @@ static void round_of(uint64_t seed)
     walk w;
     char *wanted, *found;
     uint64_t status;
+    walk broken;
     reseed(seed);
     random_column(&schema, &array, 3);
     random_walk(&w, (size_t)array.length);
+    broken = broken_walk(&w);
+    status = vortex_select_arrow(&schema, &array, broken.steps, broken.n_steps, &out_schema, &out,
+        &error);
+    expect(status == VORTEX_ARROW_BROKEN && error.step == w.n_steps && !out.release &&
+        !out_schema.release, "a broken step", seed);
     wanted = rows_of(&schema, &array, w.picks, w.len);
     status = vortex_select_arrow(&schema, &array, w.steps, w.n_steps, &out_schema, &out, &error);
     expect(status == (is_refused(&schema, &w) ? VORTEX_ARROW_NULL_PICK : VORTEX_ARROW_DONE) &&
@@ -248,7 +269,26 @@ static const char *bits_error(struct ArrowArrayStream *stream)
 
 static void bits_release(struct ArrowArrayStream *stream) { stream->release = NULL; }
 
-static void stream_round(uint64_t seed)
+/* The rows that a stream of ours gives, one behind the other, and its end. */
+static void read_stream(struct ArrowArrayStream *stream, const struct ArrowSchema *schema, text *t,
+    uint64_t seed)
+{
+    for (;;) {
+        struct ArrowArray batch;
+        char *some;
+        expect(!stream->get_next(stream, &batch), "next", seed);
+        if (!batch.release) {
+            break;
+        }
+        some = rows_of(schema, &batch, NULL, (size_t)batch.length);
+        say(t, "%s", some);
+        free(some);
+        batch.release(&batch);
+    }
+    stream->release(stream);
+}
+
+static void stream_round(uint64_t seed, int is_broken)
 {
     struct ArrowArrayStream source = {bits_schema, bits_next, bits_error, bits_release, NULL}, out;
     struct ArrowSchema schema;
@@ -256,7 +296,8 @@ static void stream_round(uint64_t seed)
     text wanted = {NULL, 0, 0}, found = {NULL, 0, 0};
     char *rows[3];
     int64_t starts[4] = {0, 0, 0, 0};
-    walk w;
+    walk w, broken;
+    uint64_t status;
     size_t k;
     reseed(seed);
     flat_schema(&schema, "b");
@@ -271,22 +312,16 @@ static void stream_round(uint64_t seed)
         int part = w.picks[k] >= (uint64_t)starts[2] ? 2 : w.picks[k] >= (uint64_t)starts[1];
         say(&wanted, "%c;", w.picks[k] == NONE ? '-' : rows[part][2 * (w.picks[k] - starts[part])]);
     }
-    expect(!vortex_select_arrow_stream(&source, w.steps, w.n_steps, &out, NULL), "stream", seed);
+    broken = is_broken ? broken_walk(&w) : w;
+    status = vortex_select_arrow_stream(&source, broken.steps, broken.n_steps, &out, NULL);
     source.release(&source);
-    for (;;) {
-        struct ArrowArray batch;
-        char *some;
-        expect(!out.get_next(&out, &batch), "next", seed);
-        if (!batch.release) {
-            break;
-        }
-        some = rows_of(&schema, &batch, NULL, (size_t)batch.length);
-        say(&found, "%s", some);
-        free(some);
-        batch.release(&batch);
+    if (is_broken) {
+        expect(status == VORTEX_ARROW_BROKEN && !out.release, "a broken stream", seed);
+    } else {
+        expect(!status, "stream", seed);
+        read_stream(&out, &schema, &found, seed);
+        expect(!strcmp(wanted.data ? wanted.data : "", found.data ? found.data : ""), "rows", seed);
     }
-    out.release(&out);
-    expect(!strcmp(wanted.data ? wanted.data : "", found.data ? found.data : ""), "rows", seed);
     for (k = 0; k < 3; k++) {
         free(rows[k]);
     }
@@ -461,7 +496,8 @@ int main(int argc, char **argv)
     for (seed = 1; seed <= rounds; seed++) {
         round_of(seed);
         if (seed % 10 == 0) {
-            stream_round(seed);
+            stream_round(seed, 0);
+            stream_round(seed, 1);
         }
         if (seed % 500 == 0) {
             threads_round(seed);
