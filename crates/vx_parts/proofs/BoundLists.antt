@@ -6,7 +6,6 @@ use Rattle.vx_mask.proofs.RangeCounts.{count_take-ordered}
 use Rattle.vx_cuts.specs.Bounds.{AreBounds, end_of}
 use Rattle.vx_cuts.proofs.BoundLists.{bound_at}
 use Rattle.vx_parts.specs.Cuts.{CutValue, slice_cut, filter_cut, carried, carried_by}
-
 pub use Rattle.vx_cuts.proofs.BoundLists.{bounds_are, end_of_bounds, length-bounds, rises}
 
 carried-zero : (c : CutValue) → carried c 0 ≡ 0
@@ -44,4 +43,3 @@ pub end_carried : (cs : List CutValue) (bounds : List ℕ) → AreBounds bounds 
 end_carried cs bounds b =
     let last : length (map (carried_by cs) bounds) - 1 ≡ length bounds - 1 = omega (arith, length-map bounds (carried_by cs)) in
     ap (slice_index (map (carried_by cs) bounds)) last ∙ bound_at (carried_by cs) bounds (length bounds - 1) (omega (arith, b.some))
-
