@@ -144,6 +144,71 @@ def _lists(form, field, pieces):
     return (offsets,), (_plain(field.children[0], below),)
 
 
+def _flags(piece):
+    """For each row of a piece whether it is valid."""
+    if not piece.array.buffers[0]:
+        return [True] * piece.count
+    bits = _bits([piece], 0)
+    return [bits[k // 8] >> k % 8 & 1 == 1 for k in range(piece.count)]
+
+
+def _within(start, size, end):
+    """The start of a range that must end at or before the end."""
+    if not 0 <= start <= start + size <= end:
+        raise ValueError("a view of an answer lies outside of what it views")
+    return start
+
+
+def _views(pieces):
+    """Views of texts, over buffers that hold the viewed bytes and no others."""
+    views, full, data, filled = bytearray(), [], [], 0
+    for piece in pieces:
+        own, buffers = bytes(piece.view(1, 16 * piece.first, 16 * piece.count)), piece.array.n_buffers - 3
+        ends = numbers_of("q")
+        ends.frombytes(piece.view(2 + buffers, 0, 8 * buffers))
+        for k, is_valid in enumerate(_flags(piece)):
+            view = own[16 * k : 16 * k + 16]
+            size, _, number, start = (int.from_bytes(view[i : i + 4], "little") for i in (0, 4, 8, 12))
+            if not is_valid:
+                view = bytes(16)
+            elif size > 12:
+                _within(number, 1, buffers)
+                if filled + size >= 1 << 31:
+                    full, data, filled = [*full, b"".join(data)], [], 0
+                data.append(bytes(piece.view(2 + number, _within(start, size, ends[number]), size)))
+                view = view[:8] + len(full).to_bytes(4, "little") + filled.to_bytes(4, "little")
+                filled += size
+            views += view
+    full.append(b"".join(data))
+    return (bytes(views), *full, numbers_of("q", map(len, full)).tobytes()), ()
+
+
+def _list_views(form, field, pieces):
+    """Views of lists, over the items that they view, one list behind another."""
+    letter, size = ("q", 8) if form == "+vL" else ("i", 4)
+    offsets, sizes, below, end = numbers_of(letter), numbers_of(letter), [], 0
+    for piece in pieces:
+        starts, lens = numbers_of(letter), numbers_of(letter)
+        starts.frombytes(piece.view(1, size * piece.first, size * piece.count))
+        lens.frombytes(piece.view(2, size * piece.first, size * piece.count))
+        items = piece.array.children[0].contents.length
+        for k, is_valid in enumerate(_flags(piece)):
+            count = lens[k] if is_valid else 0
+            offsets.append(end)
+            sizes.append(count)
+            if count:
+                below.append(piece.child(0, _within(starts[k], count, items), count))
+            end += count
+    return (offsets.tobytes(), sizes.tobytes()), (_plain(field.children[0], below),)
+
+
+def _union(field, pieces):
+    """A sparse union, which has ids and no validity."""
+    ids = b"".join(piece.view(0, piece.first, piece.count) for piece in pieces)
+    length = sum(piece.count for piece in pieces)
+    return Plain(length, 0, (ids,), _below(field, pieces, 1), None)
+
+
 def _fixed(form, pieces):
     size = width_of(form)
     parts = [piece.view(1, size * piece.first, size * piece.count) for piece in pieces]
@@ -190,13 +255,19 @@ def _plain(field, pieces) -> Plain:
     form, length = field.format, sum(piece.count for piece in pieces)
     if form == "n":
         return Plain(length, length, (), (), None)
-    if form[:1] == "v" or form[:2] in ("+u", "+v", "+r"):
+    if form[:3] == "+us":
+        return _union(field, pieces)
+    if form[:3] == "+ud" or form[:2] == "+r":
         raise NotImplementedError(f"columns of format {form!r} can't be put together")
     valid, inner = _validity(pieces), None
     if form == "b":
         more, below = (_bits(pieces, 1),), ()
     elif form in ("u", "U", "z", "Z"):
         more, below = _texts(form, pieces)
+    elif form in ("vu", "vz"):
+        more, below = _views(pieces)
+    elif form in ("+vl", "+vL"):
+        more, below = _list_views(form, field, pieces)
     elif form in ("+l", "+L", "+m"):
         more, below = _lists(form, field, pieces)
     elif form == "+s":
