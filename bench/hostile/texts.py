@@ -5,6 +5,8 @@ from lists import constant, ramp
 
 LONG = 1_000_000
 WANTING = {'status': 6, 'seconds': 7, 'mib': 3072, 'printed': 0}
+# A column of text is given up once 64 MiB of it are printed.
+EARLY = {**WANTING, 'seconds': 1.5, 'mib': 768}
 
 
 def of_one(values):
@@ -24,13 +26,16 @@ def named(rows):
 
 
 DOCUMENTS = [
+    Document('a text of 12 MB, picked 1,000 times', lambda: {
+        'column': {'layout': 'VarBinView', 'type': 'utf8', 'values': ['w' * 12 * LONG]}, 'steps': [{'take': [0] * 1000}]},
+        **EARLY),
     Document('a text of 4 MB, picked 10,000 times', lambda: {
         'column': {'layout': 'VarBin', 'type': 'utf8', 'values': ['x' * 4 * LONG]}, 'steps': [{'take': [0] * 10_000}]},
-        **WANTING),
+        **EARLY),
     Document('a constant of 1 MB for every row', lambda: {
-        'column': constant('utf8', 'y' * LONG, MOST_ROWS), 'steps': []}, **WANTING),
+        'column': constant('utf8', 'y' * LONG, MOST_ROWS), 'steps': []}, **EARLY),
     Document('a dictionary of one text for every row', lambda: of_one(
-        {'layout': 'VarBinView', 'type': 'utf8', 'values': ['z' * (LONG // 10)]}), **WANTING),
+        {'layout': 'VarBinView', 'type': 'utf8', 'values': ['z' * (LONG // 10)]}), **EARLY),
     Document('a dictionary of one list for every row', lambda: of_one(
         {'layout': 'ListView', 'offsets': [0], 'sizes': [LONG // 10], 'elements': ramp(LONG // 10)}), **WANTING),
     Document('views of views of views, the first', lambda: {
