@@ -15,7 +15,7 @@ import dask
 from distributed import Client, LocalCluster
 
 from vortex_select import BrokenStep, Filter, Slice, Take, column, select
-from vortex_select.parts import DamagedPart, load, select_parts, write_column
+from vortex_select.parts import DamagedPart, load, select_parts, write_column, write_parts
 
 # So long after a worker was lost a cluster of Dask gives up its place, even where it runs again and
 # was lost once more.
@@ -113,6 +113,13 @@ class Dask(unittest.TestCase):
                 killer.join()
                 self.assertNotIn(victim, client.run(os.getpid).values())
             client.wait_for_workers(2, timeout=60)
+
+    def test_answers_in_files(self):
+        with Workers(2) as client, tempfile.TemporaryDirectory() as folder:
+            for seed in range(3):
+                steps = self.steps(random.Random(seed))
+                written = write_parts(client, self.paths, steps, folder, lengths=self.lengths)
+                self.assertEqual(written.column().to_pylist(), select(self.whole, steps).to_pylist())
 
     def test_broken_step(self):
         with Workers(2) as client:

@@ -19,7 +19,7 @@ from vortex_select import _plans, column, plan, put_together, select
 from vortex_select._building import built
 from vortex_select._types import type_of
 from vortex_select.parts import DamagedPart, LostPart, Processes
-from vortex_select.parts import load, read_column, select_parts, write_column
+from vortex_select.parts import load, read_column, select_parts, write_column, write_parts
 
 PLANS = int(os.environ.get("VORTEX_PLANS", "2000"))
 PARTS = [[5, None, 7], [], [8], [9, 10, None, 12]]
@@ -241,6 +241,31 @@ class Backends(unittest.TestCase):
         self.assertEqual((caught.exception.step, caught.exception.cause, asked), (2, "BadRange", []))
         select_parts(counted, self.paths, [Slice(3, 4)], lengths=[3, 0, 1, 4])
         self.assertEqual(asked, [1])
+
+    def test_answers_in_files(self):
+        folder, lengths = os.path.join(self.folder.name, "answers"), [3, 0, 1, 4]
+        with self.assertRaises(FileNotFoundError):
+            write_parts(map, self.paths, [], folder)
+        os.mkdir(folder)
+        with Processes(2) as pool:
+            for backend in (map, pool):
+                written = write_parts(backend, self.paths, self.STEPS, folder)
+                self.assertEqual(written.column().to_pylist(), self.WANTED)
+                self.assertEqual([path is None for path in written.paths], [False, True, True, False])
+        written = write_parts(map, self.paths, [Slice(1, 5)], folder, lengths=lengths)
+        names = [path and os.path.basename(path) for path in written.paths]
+        self.assertEqual(names, ["part0", None, "part2", "part3"])
+        rows = [row for path in written.paths if path for row in read_column(path).to_pylist()]
+        self.assertEqual([rows, written.column().to_pylist()], [[None, 7, 8, 9]] * 2)
+        again = select_parts(map, list(filter(None, written.paths)), [Take([3, 0])])
+        self.assertEqual(again.to_pylist(), [9, None])
+        self.assertEqual(write_parts(map, self.paths, [Slice(4, 4)], folder).column().to_pylist(), [])
+        with self.assertRaises(BrokenStep):
+            write_parts(map, self.paths, [Slice(2, 9)], folder, lengths=lengths)
+        os.remove(self.paths[3])
+        with self.assertRaisesRegex(DamagedPart, "part3: FileNotFoundError"):
+            write_parts(map, self.paths, [], folder, lengths=lengths)
+        self.assertEqual(sorted(os.listdir(folder)), ["part0", "part2", "part3"])
 
     def test_processes(self):
         with Processes(2) as pool:

@@ -3,33 +3,37 @@
 `select_parts` plans the steps by the parts' lengths, has each part answer its own by a backend, and
 puts the answers together. A backend is `map` or what is called like it, `Processes`, or a client of
 Dask. What goes to a worker is a part, its own steps and functions of modules, which pickle; what comes
-back are the rows that it answers.
+back are the rows that it answers, or from `write_parts` the paths of files that hold them.
 """
 
 from __future__ import annotations
 
 import collections
+import contextlib
 import ctypes
 import multiprocessing
 import multiprocessing.connection
 import os
 import struct
+import uuid
 from typing import Any, Callable, Dict, Iterable, List, NamedTuple, Optional, Sequence
 
 from . import _interface as arrow
 from ._columns import BrokenStep, Column, _Borrowed, select
 from ._files import places_of, read_column, read_npy, write_column
 from ._joining import field_of, schema_of
-from ._plans import HeldFilter, plan, put_together
+from ._plans import HeldFilter, Plan, plan, put_together
 
 __all__ = [
     "DamagedPart",
     "LostPart",
     "Processes",
+    "Written",
     "load",
     "read_column",
     "select_parts",
     "write_column",
+    "write_parts",
 ]
 
 
@@ -70,14 +74,15 @@ def load(part: Any) -> Any:
 
 class Task(NamedTuple):
     """What a worker is asked of a part: its rows by `load`, of a struct these fields, which are so
-    many, and what its steps leave of them.
+    many, and what its steps leave of them, in a file where there is a path.
     """
 
     part: Any
     load: Callable[[Any], Any]
-    columns: Optional[Sequence[str]]
-    rows: Optional[int]
-    steps: Sequence[Any]
+    columns: Optional[Sequence[str]] = None
+    rows: Optional[int] = None
+    steps: Sequence[Any] = ()
+    path: Optional[str] = None
 
 
 def _chosen(source, columns):
@@ -147,6 +152,23 @@ def answer_of(task: Task) -> Column:
         return _selected(source if task.columns is None else _chosen(source, task.columns), task.steps)
 
     return _at(task, work)
+
+
+def written_of(task: Task) -> str:
+    """Has a part write what it answers to the task's path, which is given back. The file stands there
+    whole or not at all, also where two workers write it. One that is killed in the middle leaves a file
+    with a longer name.
+    """
+    answer = answer_of(task)
+    beside = f"{task.path}.{uuid.uuid4().hex}"
+    try:
+        write_column(beside, answer)
+        os.replace(beside, task.path)
+    except BaseException:
+        with contextlib.suppress(OSError):
+            os.remove(beside)
+        raise
+    return task.path
 
 
 # Backends.
@@ -251,6 +273,21 @@ def _ran(backend, function, tasks):
     return list(backend(function, tasks))
 
 
+def _asked(backend, parts, steps, columns, load, lengths):
+    """The plan of the steps over parts, and a task for each part that answers rows, by its number. So
+    that an answer has a type, one part is asked at the least.
+    """
+    if not parts:
+        raise ValueError("there are no parts")
+    if lengths is None:
+        lengths = _ran(backend, rows_of, [Task(part, load) for part in parts])
+    if len(lengths) != len(parts):
+        raise ValueError(f"there are {len(lengths)} lengths of {len(parts)} parts")
+    asked = plan(lengths, steps)
+    numbers = [k for k in range(len(parts)) if asked.len_of(k)] or [0]
+    return asked, {k: Task(parts[k], load, columns, lengths[k], asked.steps_of(k)) for k in numbers}
+
+
 def select_parts(
     backend: Any,
     parts: Sequence[Any],
@@ -268,14 +305,40 @@ def select_parts(
     answer are asked. A part that can't be read is a `DamagedPart`.
     """
     parts = list(parts)
-    if not parts:
-        raise ValueError("there are no parts")
-    if lengths is None:
-        lengths = _ran(backend, rows_of, [Task(part, load, None, None, ()) for part in parts])
-    if len(lengths) != len(parts):
-        raise ValueError(f"there are {len(lengths)} lengths of {len(parts)} parts")
-    asked = plan(lengths, steps)
-    numbers = [k for k in range(len(parts)) if asked.len_of(k)] or [0]
-    tasks = [Task(parts[k], load, columns, lengths[k], asked.steps_of(k)) for k in numbers]
-    found = dict(zip(numbers, _ran(backend, answer_of, tasks)))
+    asked, tasks = _asked(backend, parts, steps, columns, load, lengths)
+    found = dict(zip(tasks, _ran(backend, answer_of, list(tasks.values()))))
     return put_together(asked, [found.get(k) for k in range(len(parts))])
+
+
+class Written(NamedTuple):
+    """Files that parts wrote, one for each part or `None` where it answers no row, and the plan by
+    which they are put together. Where no step is a take, the files in their order hold the answer.
+    """
+
+    paths: List[Optional[str]]
+    plan: Plan
+
+    def column(self) -> Column:
+        """The whole answer, of the files, which are mapped."""
+        return put_together(self.plan, [path and read_column(path) for path in self.paths])
+
+
+def write_parts(
+    backend: Any,
+    parts: Sequence[Any],
+    steps: Sequence[Any],
+    folder: Any,
+    columns: Optional[Sequence[str]] = None,
+    load: Callable[[Any], Any] = load,
+    lengths: Optional[Sequence[int]] = None,
+) -> Written:
+    """As `select_parts`, but each part that is asked writes its answer at the worker, for `read_column`,
+    to `part0`, `part1` and so on of a folder that all of them see, and its rows aren't sent. A folder
+    that doesn't exist is an `OSError`.
+    """
+    parts = list(parts)
+    asked, tasks = _asked(backend, parts, steps, columns, load, lengths)
+    folder = os.path.abspath(folder)
+    tasks = {k: task._replace(path=os.path.join(folder, f"part{k}")) for k, task in tasks.items()}
+    found = dict(zip(tasks, _ran(backend, written_of, list(tasks.values()))))
+    return Written([found.get(k) for k in range(len(parts))], asked)

@@ -38,7 +38,8 @@ IsAnswer t xs steps (Some out) =
 
 -- the rooms hold the answer to the steps: where the table means rows, the very rows that `select`
 -- answers, of whatever type they are
-pub record IsSelected (nodes : List Node) (steps : List StepParts) (rooms : List Room) : Type 0 where
+pub record IsSelected (nodes : List Node) (steps : List StepParts) (rooms : List Room)
+    : Type 0 where
   pub picks : Picking
   pub composed : AreComposed (first_len nodes) steps picks
   pub answer : (xs : List rows.RowValue) → (t : TypeTree) → column_in (parts_of nodes) ≡ Some xs

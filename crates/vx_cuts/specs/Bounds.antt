@@ -18,4 +18,5 @@ end_of bounds = slice_index bounds (length bounds - 1)
 pub record AreBounds (bounds : List ℕ) : Type 0 where
   pub some : 0 < length bounds
   pub starts : slice_index bounds 0 ≡ 0
-  pub ascending : (k : ℕ) → k + 1 < length bounds → slice_index bounds k ≤ slice_index bounds (k + 1)
+  pub ascending : (k : ℕ) → k + 1 < length bounds
+      → slice_index bounds k ≤ slice_index bounds (k + 1)

@@ -48,14 +48,8 @@ impl FilterRows for DictArray {
 impl TakeRows for DictArray {
     #[cycle(take)]
     #[tactic(auto, using(vx_model::proofs::LazyRows::lazy_rows))]
-    fn take(
-        &self,
-        alloc: Global,
-        picks: Picks,
-        nullability: Nullability,
-        policy: &Policy,
-    ) -> StepResult {
-        let codes = take_picks(alloc, self.codes(), picks, nullability, policy)?;
+    fn take(&self, alloc: Global, picks: Picks, nulls: Nullability, policy: &Policy) -> StepResult {
+        let codes = take_picks(alloc, self.codes(), picks, nulls, policy)?;
         recoded(alloc, self, codes)
     }
 }

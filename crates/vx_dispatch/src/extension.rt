@@ -43,14 +43,8 @@ impl FilterRows for ExtensionArray {
 
 impl TakeRows for ExtensionArray {
     #[cycle(take)]
-    fn take(
-        &self,
-        alloc: Global,
-        picks: Picks,
-        nullability: Nullability,
-        policy: &Policy,
-    ) -> StepResult {
-        let storage = take_picks(alloc, self.storage(), picks, nullability, policy)?;
+    fn take(&self, alloc: Global, picks: Picks, nulls: Nullability, policy: &Policy) -> StepResult {
+        let storage = take_picks(alloc, self.storage(), picks, nulls, policy)?;
         restored(alloc, self, storage)
     }
 }

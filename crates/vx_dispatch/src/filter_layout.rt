@@ -86,13 +86,7 @@ fn child_picks(
 impl TakeRows for FilterArray {
     #[cycle(take)]
     #[tactic(auto, using(vx_model::proofs::LazyRows::lazy_rows))]
-    fn take(
-        &self,
-        alloc: Global,
-        picks: Picks,
-        nullability: Nullability,
-        policy: &Policy,
-    ) -> StepResult {
+    fn take(&self, alloc: Global, picks: Picks, nulls: Nullability, policy: &Policy) -> StepResult {
         let child = self.child();
         let mask = self.mask();
         if is_materialized(
@@ -102,11 +96,11 @@ impl TakeRows for FilterArray {
             policy.fields(),
         ) {
             let kept = filter(alloc, child, mask, policy)?;
-            return take_picks(alloc, &kept, picks, nullability, policy);
+            return take_picks(alloc, &kept, picks, nulls, policy);
         }
         let positions = child_picks(alloc, self, &picks, policy)?;
         drop(picks);
-        take_picks(alloc, child, positions, nullability, policy)
+        take_picks(alloc, child, positions, nulls, policy)
     }
 }
 

@@ -77,14 +77,8 @@ impl FilterRows for FixedSizeListArray {
 impl TakeRows for FixedSizeListArray {
     #[cycle(take)]
     #[tactic(auto, using(vx_model::proofs::ListRows::fixed_rows))]
-    fn take(
-        &self,
-        alloc: Global,
-        picks: Picks,
-        nullability: Nullability,
-        policy: &Policy,
-    ) -> StepResult {
-        let validity = take_validity(alloc, self.validity(), &picks, nullability, policy)?;
+    fn take(&self, alloc: Global, picks: Picks, nulls: Nullability, policy: &Policy) -> StepResult {
+        let validity = take_validity(alloc, self.validity(), &picks, nulls, policy)?;
         let FixedTakePlan {
             validity,
             runs,

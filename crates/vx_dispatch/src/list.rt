@@ -90,13 +90,7 @@ pub fn take_lists(
 
 impl TakeRows for ListArray {
     #[cycle(take)]
-    fn take(
-        &self,
-        alloc: Global,
-        picks: Picks,
-        nullability: Nullability,
-        policy: &Policy,
-    ) -> StepResult {
-        Ok(take_lists(alloc, self, picks, nullability, policy)?.into_array())
+    fn take(&self, alloc: Global, picks: Picks, nulls: Nullability, policy: &Policy) -> StepResult {
+        Ok(take_lists(alloc, self, picks, nulls, policy)?.into_array())
     }
 }

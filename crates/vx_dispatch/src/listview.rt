@@ -117,13 +117,7 @@ pub(crate) fn take_views(
 
 impl TakeRows for ListViewArray {
     #[cycle(take)]
-    fn take(
-        &self,
-        alloc: Global,
-        picks: Picks,
-        nullability: Nullability,
-        policy: &Policy,
-    ) -> StepResult {
-        Ok(take_views(alloc, self, &picks, nullability, policy)?.into_array())
+    fn take(&self, alloc: Global, picks: Picks, nulls: Nullability, policy: &Policy) -> StepResult {
+        Ok(take_views(alloc, self, &picks, nulls, policy)?.into_array())
     }
 }

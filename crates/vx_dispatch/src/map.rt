@@ -45,14 +45,8 @@ impl FilterRows for MapArray {
 
 impl TakeRows for MapArray {
     #[cycle(take)]
-    fn take(
-        &self,
-        alloc: Global,
-        picks: Picks,
-        nullability: Nullability,
-        policy: &Policy,
-    ) -> StepResult {
-        let entries = listview::take_views(alloc, self.entries(), &picks, nullability, policy)?;
+    fn take(&self, alloc: Global, picks: Picks, nulls: Nullability, policy: &Policy) -> StepResult {
+        let entries = listview::take_views(alloc, self.entries(), &picks, nulls, policy)?;
         Ok(of_entries(entries))
     }
 }

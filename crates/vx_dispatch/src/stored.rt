@@ -43,14 +43,8 @@ impl FilterRows for Stored<'_> {
 
 impl TakeRows for Stored<'_> {
     #[cycle(take)]
-    fn take(
-        &self,
-        alloc: Global,
-        picks: Picks,
-        nullability: Nullability,
-        policy: &Policy,
-    ) -> StepResult {
-        let validity = take_validity(alloc, self.validity(), &picks, nullability, policy)?;
+    fn take(&self, alloc: Global, picks: Picks, nulls: Nullability, policy: &Policy) -> StepResult {
+        let validity = take_validity(alloc, self.validity(), &picks, nulls, policy)?;
         take_stored(alloc, *self, &picks, validity)
     }
 }

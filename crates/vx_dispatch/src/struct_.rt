@@ -66,15 +66,9 @@ impl FilterRows for StructArray {
 impl TakeRows for StructArray {
     #[cycle(take)]
     #[tactic(auto, using(vx_model::proofs::StructSteps::struct_rows))]
-    fn take(
-        &self,
-        alloc: Global,
-        picks: Picks,
-        nullability: Nullability,
-        policy: &Policy,
-    ) -> StepResult {
+    fn take(&self, alloc: Global, picks: Picks, nulls: Nullability, policy: &Policy) -> StepResult {
         let len = picks.len();
-        let validity = take_validity(alloc, self.validity(), &picks, nullability, policy)?;
+        let validity = take_validity(alloc, self.validity(), &picks, nulls, policy)?;
         if picks.bound() == 0 {
             let types = self.struct_fields().types();
             let fields = fillers(alloc, types, len)?;

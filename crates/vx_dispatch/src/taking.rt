@@ -24,16 +24,10 @@ use vx_take::Picks;
 /// A layout whose rows the recursion takes.
 pub(crate) trait TakeRows: Parts {
     // The rows at the picks, as `take_picks` gives them.
-    fn take(
-        &self,
-        alloc: Global,
-        picks: Picks,
-        nullability: Nullability,
-        policy: &Policy,
-    ) -> StepResult
+    fn take(&self, alloc: Global, picks: Picks, nulls: Nullability, policy: &Policy) -> StepResult
         requires bound { picks.bound ≡ length (Self.column self.now).rows }
-        requires there { nullability ≡ NonNullable → AllThere picks.picks }
-        ensures { IfOk result (IsTake (Self.column self.now) picks.picks nullability) };
+        requires there { nulls ≡ NonNullable → AllThere picks.picks }
+        ensures { IfOk result (IsTake (Self.column self.now) picks.picks nulls) };
 }
 
 /// The rows at the picks, in order, and a null at each null. The type is nullable also where

@@ -21,11 +21,13 @@ filters_back (mask ∷ masks) = filters_back masks ++ filter_step (mask_bits mas
 pub record Leaves (start end : ℕ) (masks : List Mask) (items left : List (Option ℕ)) : Type 0 where
   pub ordered : start ≤ end
   pub within : end ≤ length items
-  pub walked : (k : ℕ) → walk_from k (slice_range items start end) (filters_back masks) ≡ walk_picks left
+  pub walked : (k : ℕ)
+      → walk_from k (slice_range items start end) (filters_back masks) ≡ walk_picks left
 
 -- the part of a mask that holds its set positions from number `low` up to `high`, before the other
 -- masks
-pub record IsPartBefore (bits : List Bool) (low high start end : ℕ) (masks more : List Mask) : Type 0 where
+pub record IsPartBefore (bits : List Bool) (low high start end : ℕ) (masks more : List Mask)
+    : Type 0 where
   pub ordered : start ≤ end
   pub within : end ≤ length bits
   pub low_count : true_count_of (take start bits) ≡ low
