@@ -1,4 +1,5 @@
-pub mod Copied
+pub mod Chunks
+mod Copied
 pub mod FirstLack
 pub mod MeantSteps
 pub mod Refusals

@@ -5,7 +5,7 @@ ghost use Rattle.vx_bits.specs.Records.{records_of, width_of};
 ghost use Rattle.vx_types.specs.PType.{width};
 ghost use Rattle.vx_model.specs.Valid.{is_fitting, non_nullable};
 ghost use Rattle.vx_column.specs.Validity.{valid_of};
-ghost use Rattle.vx_arrow.specs.Image.{holds_bits, holds_records, holds_valid, numbers_in, record_at, records_in, valid_in};
+ghost use Rattle.vx_arrow.specs.Image.{holds_bits, holds_records, holds_valid, numbers_in, records_in, valid_in};
 
 use std::alloc::Global;
 use vx_bits::{BitBuffer, Buffer, NoMemory, Records};
@@ -49,16 +49,6 @@ pub(crate) fn validity_in(
     Validity::from_bits(alloc, bits_in(alloc, bytes, offset, len)?)
 }
 
-// Record `k` of the bytes.
-fn record_at<const W: usize>(bytes: &[u8], k: usize) -> [u8; W]
-    requires { k * W + W ≤ length bytes.now }
-    ensures { result ≡ record_at W bytes.now k }
-{
-    let mut record = [0; W];
-    record.copy_from_slice(&bytes[k * W..k * W + W]);
-    record
-}
-
 // The `len` records of the bytes from record `offset` on. Fails only with `NoMemory`.
 fn records_of_width<const W: usize>(
     alloc: Global,
@@ -66,15 +56,13 @@ fn records_of_width<const W: usize>(
     offset: usize,
     len: usize,
 ) -> Result<Buffer<[u8; W]>, NoMemory>
+    requires wide { 0 < W }
     requires counted { offset + len < 2 ^ 63 }
     requires held { holds_records W bytes.now (offset + len) ≡ true }
     ensures { IfOk result (λ r. r ≡ records_in W bytes.now offset len) }
 {
-    let mut records = Vec::with_capacity(alloc, len)?;
-    for k in 0..len {
-        records.push(record_at::<W>(bytes, offset + k))?;
-    }
-    Buffer::from_vec(alloc, records)
+    let (records, _) = bytes.as_chunks::<W>();
+    Buffer::from_vec(alloc, Vec::from_slice(alloc, &records[offset..offset + len])?)
 }
 
 // The same, of the width of a type. Fails only with `NoMemory`.

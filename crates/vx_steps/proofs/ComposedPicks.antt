@@ -157,3 +157,13 @@ takes_nullability-more (x ∷ steps) (suc k) s l is =
 pub if_ok : {T E : Type 0} (P Q : T → Type 0) (r : Result T E) → IfOk r P → ((x : T) → P x → Q x) → IfOk r Q
 if_ok P Q (Ok x) h f = f x h
 if_ok P Q (Err e) h f = h
+
+-- ---- picks of all positions
+
+-- picks are their own among all positions
+pub at-whole : (n : ℕ) (later : List (Option ℕ)) → AreBelow later n → at None (range_picks 0 n) later ≡ later
+at-whole n [] below = refl
+at-whole n (None ∷ later) below = ap (λ l. None ∷ l) (at-whole n later (λ j d l. below (suc j) d (omega arith)))
+at-whole n (Some p ∷ later) below =
+    let low : p < n - 0 = omega (arith, below zero None (omega arith)) in
+    ap₂ (λ x l. x ∷ l) (get_or-map-range_with_len (λ (q : ℕ). Some q) 0 (n - 0) p p None low (omega arith)) (at-whole n later (λ j d l. below (suc j) d (omega arith)))

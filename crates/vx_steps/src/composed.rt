@@ -1,5 +1,5 @@
 //! The picks that the steps so far leave.
-ghost use Rattle.std.specs.Prelude.{◌≡◌, ◌≤◌, ◌<◌, None, IfOk, IfSome, IsSome, length, slice_index_or, slice_range};
+ghost use Rattle.std.specs.Prelude.{◌≡◌, ◌≤◌, ◌<◌, None, IfOk, IfSome, IsSome, IsTrue, length, slice_index_or, slice_range};
 ghost use Rattle.std.specs.List.{All, items_where_true};
 ghost use Rattle.vx_types.specs.declared.nullability.Nullability.TheVariants.{NonNullable};
 ghost use Rattle.vx_mask.specs.Mask.{mask_bits, partial_of};
@@ -9,7 +9,7 @@ ghost use Rattle.vx_pieces.specs.Indices.{index_fault, index_nullability, index_
 ghost use Rattle.vx_column.specs.Truth.{true_bits};
 ghost use Rattle.vx_steps.specs.Step.{step_value};
 ghost use Rattle.vx_steps.specs.Walk.{apply, broken};
-ghost use Rattle.vx_steps.specs.Compose.{bound_of, picks_by_number, picks_in, step_nullability};
+ghost use Rattle.vx_steps.specs.Compose.{bound_of, picks_by_number, picks_in, range_picks, step_nullability};
 
 use crate::span::Span;
 use crate::step::Step;
@@ -76,6 +76,16 @@ impl Composed {
         }
     }
 
+    // Whether it is the range of all positions.
+    fn is_whole(&self) -> bool
+        ensures { IsTrue result → picks_in self.now ≡ range_picks 0 (bound_of self.now) }
+    {
+        match self {
+            Composed::Range(span) => span.start == 0 && span.end == span.bound,
+            Composed::Listed(_) => false,
+        }
+    }
+
     // The picks from number `start` up to `end`.
     fn part(&self, alloc: Global, start: usize, end: usize) -> Result<Picks, NoMemory>
         requires ordered { start ≤ end }
@@ -120,6 +130,23 @@ impl Composed {
             found.push(self.looked_up(later.get(i)))?;
         }
         Ok(found)
+    }
+
+    // The same, where the later picks are no longer needed: they are their own where all positions
+    // stand before them.
+    fn named_by(self, alloc: Global, later: Picks) -> Result<Picks, NoMemory>
+        requires { later.bound ≡ length (picks_in self) }
+        ensures { IfOk result (λ p. p ≡ record {
+          picks = at None (picks_in self) later.picks;
+          bound = bound_of self;
+        }) }
+    {
+        // each is below the bound
+        let _ = later.bound();
+        if self.is_whole() {
+            return Ok(later);
+        }
+        self.each_looked_up(alloc, &later)
     }
 
     // The picks from number `start` up to `end`. A range stays one, and takes no memory.
@@ -188,7 +215,7 @@ impl Composed {
         let later = indices.picks(alloc, self.len())?;
         // each is below the bound
         let _ = later.bound();
-        Ok(Composed::Listed(self.each_looked_up(alloc, &later)?))
+        Ok(Composed::Listed(self.named_by(alloc, later)?))
     }
 
     /// The picks that one step more leaves, where it breaks no rule.

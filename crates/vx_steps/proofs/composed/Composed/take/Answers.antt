@@ -10,4 +10,4 @@ pub returns-clause-there : goal.returns-clause-there
 returns-clause-there c = λ none there.
     let picks = picks_in c.args.self in let later = c.in_ok-later.later.picks in
     let below : AreBelow later (length picks) = subst (AreBelow later) (c.bound.ensures.value ∙ ap (λ p. p.bound) c.in_ok-later.ensures.picks ∙ c.len.ensures) c.bound.ensures.below in
-    subst AllThere (sym (ap (λ p. p.picks) c.in_ok-each_looked_up.ensures)) (there-at picks later there (c.in_ok-later.ensures.there none) below)
+    subst AllThere (sym (ap (λ p. p.picks) c.in_ok-named_by.ensures)) (there-at picks later there (c.in_ok-later.ensures.there none) below)
