@@ -121,20 +121,20 @@ validity::taken_bits-returns-in-Bool t c =
 
 pub dict::DictArrayTakeRows::take-recoded-requires : goal.dict::DictArrayTakeRows::take-recoded-requires
 dict::DictArrayTakeRows::take-recoded-requires t c =
-    let p = c.args.self.now in let codes = c.in_ok-codes.codes in let picks = c.args.picks.picks in let n = c.args.nullability in
+    let p = c.args.self.now in let codes = c.in_ok-codes.codes in let picks = c.args.picks.picks in let n = c.args.nulls in
     let taken : IsTake p.codes picks n codes = rw (c.deref.ensures ∙ c.codes.ensures.value) at c.in_ok-codes.ensures in
     dict_fault-take p codes picks n c.codes.ensures.valid taken
 
 pub dict::DictArrayTakeRows::take-returns : goal.dict::DictArrayTakeRows::take-returns
 dict::DictArrayTakeRows::take-returns t c =
-    let p = c.args.self.now in let codes = c.in_ok-codes.codes in let picks = c.args.picks.picks in let n = c.args.nullability in
+    let p = c.args.self.now in let codes = c.in_ok-codes.codes in let picks = c.args.picks.picks in let n = c.args.nulls in
     let taken : IsTake p.codes picks n codes = rw (c.deref.ensures ∙ c.codes.ensures.value) at c.in_ok-codes.ensures in
     weaker c.recoded.result c.recoded.ensures (λ a is. rw is (is_take-dict p codes picks n c.codes.ensures.valid taken))
 
 -- the rows that the mask keeps are materialized
 pub filter_layout::FilterArrayTakeRows::take-returns-then-is_materialized : goal.filter_layout::FilterArrayTakeRows::take-returns-then-is_materialized
 filter_layout::FilterArrayTakeRows::take-returns-then-is_materialized t c =
-    let p = c.args.self.now in let picks = c.args.picks.picks in let n = c.args.nullability in
+    let p = c.args.self.now in let picks = c.args.picks.picks in let n = c.args.nulls in
     let child = c.deref-then-is_materialized.ensures ∙ c.child-child.ensures.value in
     let cut : IsCut p.child (items_where_true (mask_bits p.mask) p.child.rows) c.in_ok-kept.kept = rw (child, ap mask_bits c.mask-mask.ensures.value) at c.in_ok-kept.ensures.cut in
     weaker c.take_picks.result c.take_picks.ensures (λ a taken. is_step-filter p _ _ a
@@ -144,7 +144,7 @@ filter_layout::FilterArrayTakeRows::take-returns-then-is_materialized t c =
 
 pub filter_layout::FilterArrayTakeRows::take-returns : goal.filter_layout::FilterArrayTakeRows::take-returns
 filter_layout::FilterArrayTakeRows::take-returns t c =
-    let p = c.args.self.now in let picks = c.args.picks.picks in let n = c.args.nullability in
+    let p = c.args.self.now in let picks = c.args.picks.picks in let n = c.args.nulls in
     let child = c.deref-2.ensures ∙ c.child-child.ensures.value in
     weaker c.take_picks-2.result c.take_picks-2.ensures (λ a taken. is_take-filter p picks n a c.child-child.ensures.valid c.child_picks.ensures.below (rw (child, c.in_ok-positions.ensures.picks) at taken))
 
@@ -199,7 +199,7 @@ stored::StoredTakeRows::take-take_stored-requires-clause-left t c =
 pub stored::StoredTakeRows::take-returns : goal.stored::StoredTakeRows::take-returns
 stored::StoredTakeRows::take-returns t c =
     let p = parts_of c.args.self.now in let v = c.validity.ensures in
-    let same = c.in_ok-validity.ensures.left.nullability ∙ ap (λ (x : Valid). either_nullable (nullability_by x) c.args.nullability) v.value in
+    let same = c.in_ok-validity.ensures.left.nullability ∙ ap (λ (x : Valid). either_nullable (nullability_by x) c.args.nulls) v.value in
     weaker c.take_stored.result c.take_stored.ensures (λ a step. record {
       rows = step.rows;
       dtype = step.dtype ∙ ap (λ (n : Nullability). let u : TypeTree = record { kind = p.kind; nullability = n } in u) same;
@@ -277,7 +277,7 @@ runs::take_runs-returns-in_ok-picks-in-None t c =
 pub fixed_size_list::FixedSizeListArrayTakeRows::take-plan_fixed_take-requires : goal.fixed_size_list::FixedSizeListArrayTakeRows::take-plan_fixed_take-requires
 fixed_size_list::FixedSizeListArrayTakeRows::take-plan_fixed_take-requires t c =
     let p = c.args.self.now in let h = c.validity.ensures.valid in let picks = c.args.picks.picks in
-    let w = valid_of c.in_ok-validity.validity in let n = either_nullable (nullability_by p.valid) c.args.nullability in
+    let w = valid_of c.in_ok-validity.validity in let n = either_nullable (nullability_by p.valid) c.args.nulls in
     let m = length (fixed_spans p).spans in let bound = c.requires.bound ∙ rows-fixed p h in
     let left : IsLeft p.valid n (at false (present_bits p.valid m) picks) w = rw (c.validity.ensures.value, bound) at c.in_ok-validity.ensures.left in
     record { bound = omega (arith, bound, spans-fixed p); fitting = fits_take p.valid w n m (fit-fixed p h) picks left }
@@ -286,9 +286,9 @@ pub fixed_size_list::FixedSizeListArrayTakeRows::take-returns-then-len-eq0 : goa
 fixed_size_list::FixedSizeListArrayTakeRows::take-returns-then-len-eq0 t c =
     let p = c.args.self.now in let h = c.validity.ensures.valid in let picks = c.args.picks.picks in
     let w = valid_of c.in_ok-validity.validity in let plan = c.in_ok-validity-2.field-0 in let x = c.in_ok-elements.elements in
-    let n = either_nullable (nullability_by p.valid) c.args.nullability in let fill = filler_row p.elements.dtype in
+    let n = either_nullable (nullability_by p.valid) c.args.nulls in let fill = filler_row p.elements.dtype in
     let q : FixedParts = record { elements = x; size = p.size; len = length picks; valid = w } in
-    let left = left_taken picks c.args.nullability c.validity.ensures.value (c.requires.bound ∙ rows-fixed p h) c.in_ok-validity.ensures.left in
+    let left = left_taken picks c.args.nulls c.validity.ensures.value (c.requires.bound ∙ rows-fixed p h) c.in_ok-validity.ensures.left in
     let none : p.len ≡ 0 = grind (arith, nat_tests, c.len.ensures.value, c.if-len-eq0.true) in
     let typed = c.dtype.ensures.value ∙ ap (λ (k : Column). k.dtype) (c.deref.ensures ∙ c.elements.ensures.value) in
     let rows = c.in_ok-elements.ensures.rows ∙ ap (λ (k : TypeTree). replicate plan.filler (filler_row k)) typed in
@@ -300,9 +300,9 @@ pub fixed_size_list::FixedSizeListArrayTakeRows::take-returns : goal.fixed_size_
 fixed_size_list::FixedSizeListArrayTakeRows::take-returns t c =
     let p = c.args.self.now in let h = c.validity.ensures.valid in let picks = c.args.picks.picks in
     let w = valid_of c.in_ok-validity.validity in let plan = c.in_ok-validity-2.field-0 in let x = c.in_ok-elements-2.elements in
-    let n = either_nullable (nullability_by p.valid) c.args.nullability in
+    let n = either_nullable (nullability_by p.valid) c.args.nulls in
     let q : FixedParts = record { elements = x; size = p.size; len = length picks; valid = w } in
-    let left = left_taken picks c.args.nullability c.validity.ensures.value (c.requires.bound ∙ rows-fixed p h) c.in_ok-validity.ensures.left in
+    let left = left_taken picks c.args.nulls c.validity.ensures.value (c.requires.bound ∙ rows-fixed p h) c.in_ok-validity.ensures.left in
     let some : 0 < p.len = grind (arith, nat_tests, c.len.ensures.value, c.if-len-eq0.false) in
     let taken : IsStep p.elements (in_runs p.elements.rows plan.runs) p.elements.dtype x = rw (c.deref-2.ensures ∙ c.elements-2.ensures.value) at c.in_ok-elements-2.ensures in
     let makes = c.in_ok-validity-2.ensures.lists some in
@@ -313,25 +313,25 @@ fixed_size_list::FixedSizeListArrayTakeRows::take-returns t c =
 
 pub extension::ExtensionArrayTakeRows::take-restored-requires : goal.extension::ExtensionArrayTakeRows::take-restored-requires
 extension::ExtensionArrayTakeRows::take-restored-requires t c =
-    let p = c.args.self.now in let x = c.in_ok-storage.storage in let picks = c.args.picks.picks in let n = c.args.nullability in
+    let p = c.args.self.now in let x = c.in_ok-storage.storage in let picks = c.args.picks.picks in let n = c.args.nulls in
     let taken : IsTake p.storage picks n x = rw (c.deref.ensures ∙ c.storage.ensures.value) at c.in_ok-storage.ensures in
     fault-extension p x c.storage.ensures.valid (ap (λ (t : TypeTree). t.kind) taken.dtype)
 
 pub extension::ExtensionArrayTakeRows::take-returns : goal.extension::ExtensionArrayTakeRows::take-returns
 extension::ExtensionArrayTakeRows::take-returns t c =
-    let p = c.args.self.now in let x = c.in_ok-storage.storage in let picks = c.args.picks.picks in let n = c.args.nullability in
+    let p = c.args.self.now in let x = c.in_ok-storage.storage in let picks = c.args.picks.picks in let n = c.args.nulls in
     let taken : IsTake p.storage picks n x = rw (c.deref.ensures ∙ c.storage.ensures.value) at c.in_ok-storage.ensures in
     weaker c.restored.result c.restored.ensures (λ a is. rw is (is_step-extension p x _ (also_nullable p.storage.dtype n) taken))
 
 pub map::MapArrayTakeRows::take-of_entries-requires : goal.map::MapArrayTakeRows::take-of_entries-requires
 map::MapArrayTakeRows::take-of_entries-requires t c =
-    let p = c.args.self.now in let q = c.in_ok-entries.entries in let picks = c.args.picks.picks in let n = c.args.nullability in
+    let p = c.args.self.now in let q = c.in_ok-entries.entries in let picks = c.args.picks.picks in let n = c.args.nulls in
     let taken : IsTake (listview_column p) picks n (listview_column q) = rw c.entries.ensures.value at c.in_ok-entries.ensures in
     fault-map p q c.entries.ensures.valid (elements-step p q _ (either_nullable (nullability_by p.valid) n) taken)
 
 pub map::MapArrayTakeRows::take-returns : goal.map::MapArrayTakeRows::take-returns
 map::MapArrayTakeRows::take-returns t c =
-    let p = c.args.self.now in let q = c.in_ok-entries.entries in let picks = c.args.picks.picks in let n = c.args.nullability in
+    let p = c.args.self.now in let q = c.in_ok-entries.entries in let picks = c.args.picks.picks in let n = c.args.nulls in
     let taken : IsTake (listview_column p) picks n (listview_column q) = rw c.entries.ensures.value at c.in_ok-entries.ensures in
     rw c.of_entries.ensures (is_step-map p q _ (either_nullable (nullability_by p.valid) n) taken)
 
@@ -352,9 +352,9 @@ pub struct_::StructArrayTakeRows::take-with_parts-requires : goal.struct_::Struc
 struct_::StructArrayTakeRows::take-with_parts-requires t c =
     let p = c.args.self.now in let h = c.validity.ensures.valid in let picks = c.args.picks.picks in
     let w = valid_of c.in_ok-validity.validity in let fields = c.in_ok-fields.fields in
-    let n = either_nullable (nullability_by p.valid) c.args.nullability in
+    let n = either_nullable (nullability_by p.valid) c.args.nulls in
     let q : StructParts = record p { columns = fields; len = length picks; valid = w } in
-    let left = left_taken picks c.args.nullability c.validity.ensures.value (c.requires.bound ∙ rows-struct p h) c.in_ok-validity.ensures.left in
+    let left = left_taken picks c.args.nulls c.validity.ensures.value (c.requires.bound ∙ rows-struct p h) c.in_ok-validity.ensures.left in
     let types : types_in fields ≡ p.types.types = c.in_ok-fields.ensures.types ∙ c.types-types.ensures.value ∙ ap (λ (f : FieldTypes). f.types) (c.deref.ensures ∙ c.struct_fields.ensures.value) in
     rw c.len-len.ensures
     (fault-made q types (rw c.len-len.ensures at c.in_ok-fields.ensures.long) (fits_take p.valid w n p.len (fitting-struct p h) picks left))
@@ -365,7 +365,7 @@ struct_::StructArrayTakeRows::take-returns-then-bound-eq0 t c =
     let w = valid_of c.in_ok-validity.validity in let fields = c.in_ok-fields.fields in
     let q : StructParts = record p { columns = fields; len = length picks; valid = w } in
     let rows : c.args.picks.bound ≡ p.len = c.requires.bound ∙ rows-struct p h in
-    let left = left_taken picks c.args.nullability c.validity.ensures.value rows c.in_ok-validity.ensures.left in
+    let left = left_taken picks c.args.nulls c.validity.ensures.value rows c.in_ok-validity.ensures.left in
     let none : p.len ≡ 0 = grind (arith, nat_tests, rows, c.bound.ensures.value, c.if-bound-eq0.true) in
     let below : AreBelow picks p.len = subst (AreBelow picks) (c.bound.ensures.value ∙ rows) c.bound.ensures.below in
     rw (c.into_array.ensures, c.with_parts.ensures, c.len-len.ensures)
@@ -386,9 +386,9 @@ pub struct_::StructArrayTakeRows::take-with_parts-requires-2 : goal.struct_::Str
 struct_::StructArrayTakeRows::take-with_parts-requires-2 t c =
     let p = c.args.self.now in let h = c.validity.ensures.valid in let picks = c.args.picks.picks in
     let w = valid_of c.in_ok-validity.validity in let fields = c.in_ok-fields-2.fields in
-    let n = either_nullable (nullability_by p.valid) c.args.nullability in
+    let n = either_nullable (nullability_by p.valid) c.args.nulls in
     let q : StructParts = record p { columns = fields; len = length picks; valid = w } in
-    let left = left_taken picks c.args.nullability c.validity.ensures.value (c.requires.bound ∙ rows-struct p h) c.in_ok-validity.ensures.left in
+    let left = left_taken picks c.args.nulls c.validity.ensures.value (c.requires.bound ∙ rows-struct p h) c.in_ok-validity.ensures.left in
     let steps : AreSteps (λ rows. at null rows (firsts_for_nulls picks)) p.columns fields =
     rw (ap (λ (b : BoundedPicks). b.picks) c.in_ok-firsts.ensures, c.fields.ensures.value) at c.in_ok-fields-2.ensures in
     let many : length (firsts_for_nulls picks) ≡ length picks = length-map picks _ in
@@ -403,7 +403,7 @@ struct_::StructArrayTakeRows::take-returns t c =
     let w = valid_of c.in_ok-validity.validity in let fields = c.in_ok-fields-2.fields in
     let q : StructParts = record p { columns = fields; len = length picks; valid = w } in
     let rows : c.args.picks.bound ≡ p.len = c.requires.bound ∙ rows-struct p h in
-    let left = left_taken picks c.args.nullability c.validity.ensures.value rows c.in_ok-validity.ensures.left in
+    let left = left_taken picks c.args.nulls c.validity.ensures.value rows c.in_ok-validity.ensures.left in
     let some : 0 < p.len = grind (arith, nat_tests, rows, c.bound.ensures.value, c.if-bound-eq0.false) in
     let below : AreBelow picks p.len = subst (AreBelow picks) (c.bound.ensures.value ∙ rows) c.bound.ensures.below in
     let steps : AreSteps (λ rows. at null rows (firsts_for_nulls picks)) p.columns fields =
