@@ -69,7 +69,7 @@ pub pext-none : (src mask : ℕ) → mask ≡ 0 → pext src mask ≡ 0
 unfolding pext
 pext-none src mask e = ap number_of (picked_no_word mask (word_bits src 64) e)
 
-pext_below : (src mask : ℕ) → mask < 2 ^ 64 → pext src mask < 2 ^ count_ones mask
+pub pext_below : (src mask : ℕ) → mask < 2 ^ 64 → pext src mask < 2 ^ count_ones mask
 unfolding pext
 pext_below src mask h = let count = count_picked src mask h in let b = number_below (picked_bits src mask) in let same : 2 ^ length (picked_bits src mask) ≡ 2 ^ count_ones mask = ap (λ n. 2 ^ n) count in omega arith
 

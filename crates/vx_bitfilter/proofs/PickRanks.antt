@@ -4,7 +4,7 @@ use Rattle.std.proofs.Common.{◌≡◌, ℕ, zero, suc, ◌+◌, ◌-◌, ◌*�
 use Rattle.std.specs.Int.{bit_at, w64}
 use Rattle.std.specs.Int.RustNames.{count_ones}
 use Rattle.std.proofs.lemmas.Bool.{cases_eq, cases_lt}
-use Rattle.std.proofs.lemmas.Nat.{and_mask, mod-pow-add, mod_below, one_shl, or_comm, or_shifted, pow_pos}
+use Rattle.std.proofs.lemmas.Nat.{and_le_r, and_mask, mod-pow-add, mod_below, one_shl, ones_le_self, or_comm, or_shifted, pow_pos}
 use Rattle.std.proofs.lemmas.Nat.Bits.{bit_at_above, bit_at_and, bit_at-lt, bit_at_lowest, bit_at-suc, bit_at-trailing_zeros}
 use Rattle.std.proofs.Math.Nat.{add-mul-div_right, pow-suc}
 use Rattle.std.proofs.Math.Pow.{pow_mono}
@@ -12,7 +12,9 @@ use lib.Bits.{and_step, and_self}
 use lib.Count.{count_trailing_zeros, under, ones_step, ones-le}
 use Rattle.vx_mask.proofs.WordCounts.{ones_more}
 use Rattle.vx_bitfilter.specs.Pext.{pext}
-use Rattle.vx_bitfilter.proofs.PackedHalves.{packed_of, packed_odd, packed_even, packed_none, only_picked}
+use Rattle.vx_bits.proofs.WordLists.{one_less}
+use Rattle.vx_bitfilter.proofs.PackedBytes.{pext_below}
+use Rattle.vx_bitfilter.proofs.PackedHalves.{fewer_ones, packed_of, packed_odd, packed_even, packed_none, only_picked}
 
 -- a picked bit adds the power of its rank
 one_packed : (n p src mask : ℕ) → p < n → bit_at src p ≡ 1 → bit_at mask p ≡ 1 → packed_of n src mask ≡ 2 ^ count_ones (mask % 2 ^ p) + packed_of n (src - 2 ^ p) mask
@@ -185,3 +187,24 @@ rank_taken src mask packed left some fits v =
   where
     add-one : (n : ℕ) → n + 1 ≡ suc n
     add-one n = omega arith
+
+-- ---- a single pick
+
+-- packs to how many set bits are picked
+pub single_pick : (src mask : ℕ) → mask < 2 ^ 64 → count_ones mask ≤ 1 → count_ones (bit_and src mask) ≡ pext src mask
+single_pick src mask fits one =
+    let left = bit_and src mask in
+    let v = none_by_ranks src mask in
+    let small : left ≤ mask = and_le_r src mask in
+    elim (cases_lt 0 left) [
+      | inl some ↦
+          let t = count_trailing_zeros 64 left in
+          let low = lowest left some (omega arith) in
+          let power = pow_pos (count_ones (mask % 2 ^ t)) in
+          let above = one_packed 64 t left mask low.within low.set (v.picked t low.set) in
+          let below : 2 ^ count_ones mask ≤ 2 ^ 1 = pow_mono one in
+          omega (arith, v.value, above, power, pext_below src mask fits, below, one, fewer_ones 64 src mask fits, one_less 64 left some (omega arith))
+      | inr more ↦
+          let none : left ≡ 0 = omega arith in
+          omega (arith, all_by_ranks src mask 0 left none v, none, ones_le_self left)
+    ]

@@ -14,7 +14,7 @@ pub(crate) fn closed_up(src: u64, mask: u64) -> u64
     }
     let mut packed = src & mask;
     let mut clear = !mask;
-    'places: while clear != 0 {
+    for _ in 0..clear.count_ones() {
         let rest = clear & (clear - 1);
         let below = (clear - 1) - rest;
         packed += packed & below;

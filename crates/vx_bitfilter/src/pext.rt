@@ -6,13 +6,17 @@ use crate::closing::closed_up;
 
 /// The bits of `src` at the set positions of `mask`, packed from bit 0, and zero above them:
 /// Vortex's `pext_fallback`. It takes no memory, and a turn for each set bit that is picked, for
-/// each clear one that is, or for each that isn't picked, whichever are fewest: at most 21.
+/// each clear one that is, or for each that isn't picked, whichever are fewest: at most 21. What a
+/// single pick packs to is how many set bits are picked.
 #[inline]
 pub fn pext_fallback(src: u64, mask: u64) -> u64
     ensures { result ≡ pext src mask }
 {
     let picks = mask.count_ones();
     let set = (src & mask).count_ones();
+    if picks <= 1 {
+        return u64::from(set);
+    }
     let clear = picks - set;
     let rest = 64 - picks;
     if set <= clear && set <= rest {
@@ -32,7 +36,7 @@ fn by_ranks(src: u64, mask: u64) -> u64
 {
     let mut packed: u64 = 0;
     let mut left = src & mask;
-    'bits: while left != 0 {
+    for _ in 0..left.count_ones() {
         let rest = left & (left - 1);
         let below = (left - 1) - rest;
         packed |= 1 << (mask & below).count_ones();

@@ -4,7 +4,7 @@ ghost use Rattle.std.specs.List.{All, items_where_true};
 ghost use Rattle.vx_bits.specs.Words.{word_bits};
 ghost use Rattle.vx_mask.specs.Mask.{at_front};
 
-use crate::pext::pext_fallback;
+use crate::words::append_picked;
 use std::alloc::Global;
 use vx_bits::{BitBuffer, BitBuilder, NoMemory};
 use vx_mask::MaskValues;
@@ -72,8 +72,7 @@ fn words_kept(
     for i in 0..mask.len().div_ceil(64) {
         let picks = mask_words.word(i);
         if picks != 0 {
-            let bits = pext_fallback(src_words.word(i), picks);
-            kept.append_word(bits, picks.count_ones() as usize)?;
+            append_picked(&mut kept, src_words.word(i), picks)?;
         }
     }
     kept.finish()

@@ -1,6 +1,5 @@
 //! The bit filter over words.
-ghost use Rattle.std.specs.Prelude.{◌≡◌, ℕ, ◌+◌, ◌≤◌, IfOk, OnOk, OnErr, length};
-ghost use Rattle.std.specs.Int.RustNames.{count_ones};
+ghost use Rattle.std.specs.Prelude.{◌≡◌, ℕ, ◌+◌, ◌≤◌, ◌++◌, IfOk, OnOk, OnErr, length};
 ghost use Rattle.std.specs.List.{items_where_true};
 ghost use Rattle.vx_bits.specs.BitBuffer.{true_count_of};
 ghost use Rattle.vx_bits.specs.WordReader.{then_told};
@@ -118,21 +117,22 @@ pub fn filter_words<S: WordReader, M: WordReader>(
         let picks = mask.word(i);
         if picks != 0 {
             let word = src.word(i);
-            let bits = packed(word, picks);
-            kept.append_word(bits, picks.count_ones() as usize)?;
+            append_picked(&mut kept, word, picks)?;
         }
     }
     kept.finish()
 }
 
-// The bits that a mask's word picks, packed from bit 0. A full mask takes the word whole.
+/// Appends the bits that a mask's word picks. A full mask takes the word whole. Fails only with
+/// `NoMemory`.
 #[inline(always)]
-fn packed(word: u64, picks: u64) -> u64
-    ensures { word_bits result (count_ones picks)
-        ≡ items_where_true (word_bits picks 64) (word_bits word 64) }
+pub(crate) fn append_picked(kept: &mut BitBuilder, word: u64, picks: u64) -> Result<(), NoMemory>
+    ensures ok { OnOk result (kept.new
+        ≡ kept.old ++ items_where_true (word_bits picks 64) (word_bits word 64)) }
+    ensures err { OnErr result (kept.new ≡ kept.old) }
 {
     if picks == u64::MAX {
-        return word;
+        return kept.append_word(word, 64);
     }
-    pext_fallback(word, picks)
+    kept.append_word(pext_fallback(word, picks), picks.count_ones() as usize)
 }

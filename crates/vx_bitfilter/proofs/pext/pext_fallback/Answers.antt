@@ -1,7 +1,11 @@
-use Rattle.std.proofs.Common.{◌<◌, ◌≤◌, arith, refl}
+use Rattle.std.proofs.Common.{◌<◌, ◌≤◌, ◌∙◌, arith, refl}
 use Rattle.vx_bitfilter.proofs.PackedHalves.{fewer_ones, flipped}
+use Rattle.vx_bitfilter.proofs.PickRanks.{single_pick}
 use Rattle.vx_bitfilter.proofs.pext.pext_fallback.Goals.{else-set-clear-via-then-set-clear+else-set-rest, else-set-clear-via-else-set-clear}
 use Rattle.vx_bitfilter.proofs.pext.pext_fallback.Goals as goal
+
+pub returns-then-picks-le1 : goal.returns-then-picks-le1
+returns-then-picks-le1 c = c.from.ensures ∙ single_pick c.args.src c.args.mask c.ranges.mask.fits c.if-picks-le1.true
 
 pub overflow_sub-clear : goal.overflow_sub-clear
 overflow_sub-clear c = fewer_ones 64 c.args.src c.args.mask c.ranges.mask.fits
