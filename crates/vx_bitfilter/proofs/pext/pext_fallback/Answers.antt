@@ -1,4 +1,4 @@
-use Rattle.std.proofs.Common.{◌<◌, ◌≤◌, ◌∙◌, arith, refl}
+use Rattle.std.proofs.Common.{◌∙◌, arith, refl}
 use Rattle.vx_bitfilter.proofs.PackedHalves.{fewer_ones, flipped}
 use Rattle.vx_bitfilter.proofs.PickRanks.{single_pick}
 use Rattle.vx_bitfilter.proofs.pext.pext_fallback.Goals.{else-set-clear-via-then-set-clear+else-set-rest, else-set-clear-via-else-set-clear}
