@@ -7,12 +7,16 @@ ghost use Rattle.vx_mask.specs.Mask.{at_front};
 use crate::words::append_picked;
 use std::alloc::Global;
 use vx_bits::{BitBuffer, BitBuilder, NoMemory};
-use vx_mask::MaskValues;
+use vx_mask::{Mask, MaskValues};
+
+// Set positions are listed where each has this many rows or more.
+const ROWS_A_PICK: usize = 32;
 
 /// The source's bits at the mask's set positions, from offset 0 on: Vortex's `filter_sparse`. Fails
 /// only with `NoMemory`.
 ///
-/// It walks the set positions, by the mask's indices where it keeps them, else by its words.
+/// It walks the set positions: by the mask's indices where it keeps them, else by a list of them
+/// where at most one row in 32 is selected, else by words.
 pub fn filter_sparse(
     alloc: Global,
     src: &BitBuffer,
@@ -23,6 +27,22 @@ pub fn filter_sparse(
         ≡ at_front (items_where_true mask.now.bits.bits src.now.bits)) }
 {
     match mask.cached_indices() {
+        Some(indices) => bits_at(alloc, src, indices),
+        None => unlisted(alloc, src, mask),
+    }
+}
+
+// The same, where the mask keeps no indices. Few of them are listed first.
+fn unlisted(alloc: Global, src: &BitBuffer, mask: &MaskValues) -> Result<BitBuffer, NoMemory>
+    requires { length src.now.bits ≡ length mask.now.bits.bits }
+    ensures { IfOk result (λ b. b
+        ≡ at_front (items_where_true mask.now.bits.bits src.now.bits)) }
+{
+    if mask.true_count() > mask.len() / ROWS_A_PICK {
+        return words_kept(alloc, src, mask.bits(), mask.true_count());
+    }
+    let listed = Mask::Values(mask.share()).with_indices(alloc)?;
+    match listed.cached_indices() {
         Some(indices) => bits_at(alloc, src, indices),
         None => words_kept(alloc, src, mask.bits(), mask.true_count()),
     }
