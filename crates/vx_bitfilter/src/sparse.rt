@@ -4,7 +4,7 @@ ghost use Rattle.std.specs.List.{All, items_where_true};
 ghost use Rattle.vx_bits.specs.Words.{word_bits};
 ghost use Rattle.vx_mask.specs.Mask.{at_front};
 
-use crate::words::append_picked;
+use crate::words::filter_bitbuffer_by_mask;
 use std::alloc::Global;
 use vx_bits::{BitBuffer, BitBuilder, NoMemory};
 use vx_mask::{Mask, MaskValues};
@@ -39,12 +39,12 @@ fn unlisted(alloc: Global, src: &BitBuffer, mask: &MaskValues) -> Result<BitBuff
         ≡ at_front (items_where_true mask.now.bits.bits src.now.bits)) }
 {
     if mask.true_count() > mask.len() / ROWS_A_PICK {
-        return words_kept(alloc, src, mask.bits(), mask.true_count());
+        return filter_bitbuffer_by_mask(alloc, src, mask.bits(), mask.true_count());
     }
     let listed = Mask::Values(mask.share()).with_indices(alloc)?;
     match listed.cached_indices() {
         Some(indices) => bits_at(alloc, src, indices),
-        None => words_kept(alloc, src, mask.bits(), mask.true_count()),
+        None => filter_bitbuffer_by_mask(alloc, src, mask.bits(), mask.true_count()),
     }
 }
 
@@ -74,26 +74,4 @@ fn word_of(src: &BitBuffer, places: &[usize]) -> u64
         word |= u64::from(src.value(*place)) << k;
     }
     word
-}
-
-// The bits where the mask's are set, word by word. An empty word of the mask is passed over.
-fn words_kept(
-    alloc: Global,
-    src: &BitBuffer,
-    mask: &BitBuffer,
-    true_count: usize,
-) -> Result<BitBuffer, NoMemory>
-    requires { length src.now.bits ≡ length mask.now.bits }
-    ensures { IfOk result (λ b. b ≡ at_front (items_where_true mask.now.bits src.now.bits)) }
-{
-    let src_words = src.words();
-    let mask_words = mask.words();
-    let mut kept = BitBuilder::with_capacity(alloc, true_count)?;
-    for i in 0..mask.len().div_ceil(64) {
-        let picks = mask_words.word(i);
-        if picks != 0 {
-            append_picked(&mut kept, src_words.word(i), picks)?;
-        }
-    }
-    kept.finish()
 }

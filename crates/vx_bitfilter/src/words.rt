@@ -123,10 +123,10 @@ pub fn filter_words<S: WordReader, M: WordReader>(
     kept.finish()
 }
 
-/// Appends the bits that a mask's word picks. A full mask takes the word whole. Fails only with
-/// `NoMemory`.
+// Appends the bits that a mask's word picks. A full mask takes the word whole. Fails only with
+// `NoMemory`.
 #[inline(always)]
-pub(crate) fn append_picked(kept: &mut BitBuilder, word: u64, picks: u64) -> Result<(), NoMemory>
+fn append_picked(kept: &mut BitBuilder, word: u64, picks: u64) -> Result<(), NoMemory>
     ensures ok { OnOk result (kept.new
         ≡ kept.old ++ items_where_true (word_bits picks 64) (word_bits word 64)) }
     ensures err { OnErr result (kept.new ≡ kept.old) }
