@@ -16,6 +16,7 @@ use vx_bits::{BitBuffer, BitBuilder, NoMemory, WordReader, Words};
 /// in their bytes: Vortex's `filter_bitbuffer_by_mask`. Fails only with `NoMemory`.
 ///
 /// `true_count` is the number of the mask's set bits.
+#[inline(always)]
 pub fn filter_bitbuffer_by_mask(
     alloc: Global,
     src: &BitBuffer,
