@@ -1,5 +1,6 @@
-//! Runs calls that select rows of columns, of values behind a decoder, of files, of tables and of
-//! joins, as rows of JSON name them, and judges what each gives by the lines below it.
+//! Runs calls that select rows of columns, of parts of one, of values behind a decoder, of files,
+//! of tables and of joins, as rows of JSON name them, and judges what each gives by the lines below
+//! it.
 #![tactic(auto)]
 
 use called::Calls;
@@ -14,6 +15,7 @@ mod flaky;
 mod joins;
 mod lines;
 mod numbers;
+mod parts;
 mod selecting;
 
 fn main(rt: HostRuntime) -> Result<(), Fail> {

@@ -19,8 +19,8 @@ use Rattle.vx_interleave.specs.Sources.{ArePlacesFor, IsPlaceFor, rows_of}
 use Rattle.vx_interleave.specs.declared.place.Place.{Place}
 use Rattle.vx_parts.specs.Bounds.{bounds_of}
 use Rattle.vx_parts.specs.Cuts.{as_step, cuts_of, from_take}
-use Rattle.vx_parts.specs.Plan.{ArePartsOf, IsPlan, IsRest, left_bounds, lens_in, order_in, steps_in}
-use Rattle.vx_parts.specs.Putting.{AllPlaced, AreAnswersTo, AreFit, AreNullsTold, AreOwnUnbroken, IsOrderFor, IsPutFault, put_type}
+use Rattle.vx_parts.specs.Plan.{AllPlaced, ArePartsOf, IsPlan, IsRest, left_bounds, lens_in, order_in, steps_in}
+use Rattle.vx_parts.specs.Putting.{AreAnswersTo, AreFit, AreOwnUnbroken, IsOrderFor, IsPutFault, put_type}
 use Rattle.vx_parts.specs.declared.error.PutError.{PutError}
 use Rattle.vx_parts.specs.declared.error.PutError.TheVariants.{NoMemory, WrongOrder}
 use Rattle.vx_parts.specs.declared.plan.PartPlan.{PartPlan}
@@ -75,8 +75,8 @@ module _ (t : TypeTree) (parts : List (List RowValue)) (ss : List StepValue) (pl
       ∙ length-map (map (λ p. Some p) (list_of own k)) (item_at null (slice_range kept (slice_index left k) (slice_index left (k + 1)))) ∙ length-map (list_of own k) (λ (p : ℕ). Some p))
       (nulls_of t.nullability plan.nullability (list_all is_some order ≡ true) told) r.cut.places
 
-  pub own_fit : AreNullsTold plan → AreFit t plan answers
-  own_fit told =
+  pub own_fit : AreFit t plan answers
+  own_fit =
       let long : length (lens_in plan.parts.items) ≡ length parts = length-map plan.parts.items (λ (q : PartPlan). q.len) ∙ a.planned.many ∙ length-map parts (length {A = RowValue}) in (
         no_fault t (lens_in plan.parts.items) answers (a.own.many ∙ sym long)
             (λ i h.
@@ -85,12 +85,12 @@ module _ (t : TypeTree) (parts : List (List RowValue)) (ss : List StepValue) (pl
             let part = part_at t parts ss plan answers a a.planned.own a.planned.parts i inside in
             subst (λ (o : Option Column). IfSome o (λ (c : Column). (c.dtype ≡ t) × (length c.rows ≡ slice_index (lens_in plan.parts.items) i))) (sym r.is)
             (r.so.dtype, ap length r.so.rows ∙ part.count)),
-        order_case (from_take ss) a.planned.own (order_in plan) a.planned.rest a.planned.parts told,
+        order_case (from_take ss) a.planned.own (order_in plan) a.planned.rest a.planned.parts a.planned.told,
       )
 
   -- so they are refused only when memory runs out
-  pub own_refusal : (e : PutError) → IsPutFault t plan answers e → AreNullsTold plan → e ≡ NoMemory
-  own_refusal e fault told = let fit = own_fit told in only_memory t plan answers e fault fit.0 (λ (o : IsPutFault t plan answers WrongOrder). o.1 fit.1)
+  pub own_refusal : (e : PutError) → IsPutFault t plan answers e → e ≡ NoMemory
+  own_refusal e fault = let fit = own_fit in only_memory t plan answers e fault fit.0 (λ (o : IsPutFault t plan answers WrongOrder). o.1 fit.1)
 
 -- ---- a part's own steps break no rule
 

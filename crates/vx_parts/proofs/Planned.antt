@@ -3,6 +3,7 @@ use Rattle.std.proofs.Common.{◌≡◌, ℕ, ◌+◌, ◌-◌, ◌<◌, List, [
 use Rattle.std.specs.List.{All, sum}
 use Rattle.std.proofs.lemmas.Bool.{cases_eq}
 use Rattle.std.proofs.lemmas.List.{get_or_push, get_or_append_left, length-drop, length-map, length_push, map_push, take_all}
+use Rattle.vx_types.specs.declared.nullability.Nullability.TheVariants.{NonNullable}
 use Rattle.vx_positions.specs.Positions.{AllThere}
 use Rattle.vx_steps.specs.Step.{StepValue, step_value}
 use Rattle.vx_steps.specs.Walk.{walk}
@@ -12,12 +13,13 @@ use Rattle.vx_interleave.specs.Places.{list_of}
 use Rattle.vx_interleave.specs.declared.place.Place.{Place}
 use Rattle.vx_parts.specs.Bounds.{AreBounds, bounds_of, end_of}
 use Rattle.vx_parts.specs.Cuts.{CutValue, carried_by, cuts_of, from_take}
-use Rattle.vx_parts.specs.Plan.{AreBelow, ArePartsOf, IsPartAt, IsPlan, IsRest, left_bounds, lens_in, order_in, own_in, places_in, steps_in}
+use Rattle.vx_parts.specs.Plan.{AllPlaced, AreBelow, ArePartsOf, IsPartAt, IsPlan, IsRest, left_bounds, lens_in, order_in, own_in, places_in, steps_in}
 use Rattle.vx_parts.specs.declared.own.OwnPicks.{OwnPicks}
 use Rattle.vx_parts.specs.declared.plan.PartPlan.{PartPlan}
 use Rattle.vx_parts.specs.declared.plan.Plan.{Plan}
 use Rattle.vx_parts.proofs.BoundLists.{bounds_are, carried_bounds, end_carried, end_of_bounds, length-bounds}
 use Rattle.vx_parts.proofs.CutRows.{sound_cuts}
+use Rattle.vx_parts.proofs.NullsTold.{takes_from}
 use Rattle.vx_parts.proofs.PickCuts.{own_below}
 use Rattle.vx_parts.proofs.Walked.{AreSound, sound_of, unbroken_of}
 
@@ -96,8 +98,8 @@ sliced_steps steps done ss h = ap (map step_value) (take_all (length steps - don
 
 pub plan_is : (ns : List ℕ) (ss : List StepValue) (plan : Plan) (cs : List CutValue) (bounds left : List ℕ) (rest : Option OwnPicks) → cs ≡ cuts_of ss → bounds ≡ bounds_of ns → left ≡ left_bounds ns ss
     → IsRest left (from_take ss) (own_in rest) (places_in rest) → order_in plan ≡ places_in rest → length plan.parts.items + 1 ≡ length bounds → ArePartsOf cs bounds left (own_in rest) plan.parts.items → plan.nullability ≡ takes_nullability ss
-    → IsPlan ns ss plan
-plan_is ns ss plan cs bounds left rest c b l r o many parts n =
+    → (takes_nullability (from_take ss) ≡ NonNullable → AllPlaced (places_in rest)) → IsPlan ns ss plan
+plan_is ns ss plan cs bounds left rest c b l r o many parts n told =
     record {
       many = omega (arith, many, ap length b, length-bounds 0 ns);
       own = own_in rest;
@@ -106,4 +108,5 @@ plan_is ns ss plan cs bounds left rest c b l r o many parts n =
           (subst (λ (x : List ℕ). ArePartsOf cs x (left_bounds ns ss) (own_in rest) plan.parts.items) b
           (subst (λ (x : List ℕ). ArePartsOf cs bounds x (own_in rest) plan.parts.items) l parts));
       nullability = n;
+      told = λ none. subst AllPlaced (sym o) (told (takes_from ss (sym n ∙ none)));
     }

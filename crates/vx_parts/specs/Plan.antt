@@ -1,6 +1,6 @@
 -- What each part is asked, and in which order its rows stand.
-use Rattle.std.specs.Prelude.{◌≡◌, ℕ, ◌+◌, ◌-◌, ◌<◌, ◌++◌, length, List, [], ◌∷◌, map, Option, Some, None, Vec, slice_index}
-use Rattle.std.specs.List.{All}
+use Rattle.std.specs.Prelude.{◌≡◌, ℕ, ◌+◌, ◌-◌, ◌<◌, ◌++◌, true, length, List, [], ◌∷◌, map, Option, Some, None, Vec, is_some, slice_index}
+use Rattle.std.specs.List.{All, list_all}
 use Rattle.std.specs.Option.{option_map}
 use Rattle.std.specs.declared.alloc.Global.{Global}
 use Rattle.vx_types.specs.declared.nullability.Nullability.TheVariants.{NonNullable}
@@ -102,6 +102,11 @@ places_in rest = option_map (λ (cut : OwnPicks). cut.order.items) rest
 abbrev pub order_in : Plan → Option (List (Option Place))
 order_in plan = option_map (λ (v : Vec (Option Place) Global). v.items) plan.order
 
+-- each row of an order has a place
+abbrev pub AllPlaced : Option (List (Option Place)) → Type 0
+AllPlaced None = Unit {0}
+AllPlaced (Some order) = list_all is_some order ≡ true
+
 -- a plan of these steps over parts of these lengths
 pub record IsPlan (lengths : List ℕ) (steps : List StepValue) (plan : Plan) : Type 0 where
   pub many : length plan.parts.items ≡ length lengths
@@ -111,3 +116,5 @@ pub record IsPlan (lengths : List ℕ) (steps : List StepValue) (plan : Plan) : 
   pub parts : ArePartsOf (cuts_of steps) (bounds_of lengths) (left_bounds lengths steps) own
       plan.parts.items
   pub nullability : plan.nullability ≡ takes_nullability steps
+  -- no row is a null where no take may leave one
+  pub told : plan.nullability ≡ NonNullable → AllPlaced (order_in plan)

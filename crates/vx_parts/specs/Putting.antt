@@ -91,12 +91,3 @@ pub record AreAnswersTo (t : TypeTree) (parts : List (List RowValue)) (steps : L
   pub planned : IsPlan (map length parts) steps plan
   pub unbroken : IsUnbroken (walk (sum (map length parts)) steps)
   pub own : ArePartAnswers t parts (steps_in plan.parts.items) answers
-
--- each row of an order has a place
-abbrev pub AllPlaced : Option (List (Option Place)) → Type 0
-AllPlaced None = Unit {0}
-AllPlaced (Some order) = list_all is_some order ≡ true
-
--- a plan whose steps leave no null has none in its order
-abbrev pub AreNullsTold : Plan → Type 0
-AreNullsTold plan = plan.nullability ≡ NonNullable → AllPlaced (order_in plan)

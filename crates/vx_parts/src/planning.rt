@@ -2,12 +2,14 @@
 ghost use Rattle.std.specs.Prelude.{◌≡◌, ◌+◌, ◌<◌, ◌^◌, IfErr, IfOk, OnOk, Some, length, map};
 ghost use Rattle.std.specs.List.{All, sum};
 ghost use Rattle.std.specs.Option.{option_map};
-ghost use Rattle.vx_steps.specs.Compose.{IsFaultOf, IsUnbroken};
+ghost use Rattle.vx_types.specs.declared.nullability.Nullability.TheVariants.{NonNullable};
+ghost use Rattle.vx_positions.specs.Positions.{AllThere};
+ghost use Rattle.vx_steps.specs.Compose.{IsFaultOf, IsUnbroken, takes_nullability};
 ghost use Rattle.vx_steps.specs.Step.{step_value};
 ghost use Rattle.vx_steps.specs.Walk.{walk, walk_picks};
 ghost use Rattle.vx_parts.specs.Bounds.{AreBounds, end_of};
 ghost use Rattle.vx_parts.specs.Cuts.{cut_value};
-ghost use Rattle.vx_parts.specs.Plan.{AreBelow, AreOwn, ArePartsOf, IsPartAt, IsPlan, IsRest, IsTakeOf, own_in, places_in};
+ghost use Rattle.vx_parts.specs.Plan.{AllPlaced, AreBelow, AreOwn, ArePartsOf, IsPartAt, IsPlan, IsRest, IsTakeOf, own_in, places_in};
 
 use crate::cut::{Cut, left_bounds, own_cuts, prefix_of};
 use crate::own::{OwnPicks, cut_picks};
@@ -26,6 +28,8 @@ fn compose_sound(alloc: Global, len: usize, steps: &[Step]) -> Result<Picks, NoM
     requires { IsUnbroken (walk len (map step_value steps.now)) }
     ensures picks { IfOk result (λ p. walk len (map step_value steps.now) ≡ walk_picks p.picks) }
     ensures bound { IfOk result (λ p. p.bound ≡ len) }
+    ensures there { IfOk result (λ p. takes_nullability (map step_value steps.now) ≡ NonNullable
+        → AllThere p.picks) }
 {
     match compose(alloc, len, steps) {
         Ok(picks) => Ok(picks),
@@ -38,8 +42,10 @@ fn compose_sound(alloc: Global, len: usize, steps: &[Step]) -> Result<Picks, NoM
 fn cut_rest(alloc: Global, left: &[usize], steps: &[Step]) -> Result<Option<OwnPicks>, NoMemory>
     requires bounds { AreBounds left.now }
     requires unbroken { IsUnbroken (walk (end_of left.now) (map step_value steps.now)) }
-    ensures { IfOk result (λ rest. IsRest left.now (map step_value steps.now) (own_in rest)
+    ensures rest { IfOk result (λ rest. IsRest left.now (map step_value steps.now) (own_in rest)
         (places_in rest)) }
+    ensures told { IfOk result (λ rest. takes_nullability (map step_value steps.now) ≡ NonNullable
+        → AllPlaced (places_in rest)) }
 {
     if steps.is_empty() {
         return Ok(None);

@@ -11,7 +11,7 @@ ghost use Rattle.vx_steps.specs.Step.{StepValue};
 ghost use Rattle.vx_interleave.specs.Places.{joined};
 ghost use Rattle.vx_interleave.specs.Sources.{IsSourceOf, rows_of};
 ghost use Rattle.vx_parts.specs.Plan.{lens_in, order_in};
-ghost use Rattle.vx_parts.specs.Putting.{AreAnswersTo, AreFit, AreNullsTold, IsOrderFor, IsPutFault, answer_fault, part_fault, put_fault, put_rows, put_type};
+ghost use Rattle.vx_parts.specs.Putting.{AreAnswersTo, AreFit, IsOrderFor, IsPutFault, answer_fault, part_fault, put_fault, put_rows, put_type};
 ghost use Rattle.vx_parts.specs.declared.error.PutError.TheVariants.{NoMemory as OutOfMemory};
 
 use crate::error::PutError;
@@ -108,8 +108,7 @@ pub fn put_together(
     ensures fit { OnOk result (AreFit (type_of dtype.now) plan.now answers.now) }
     ensures fault { IfErr result (IsPutFault (type_of dtype.now) plan.now answers.now) }
     ensures own { IfErr result (λ e. (parts : List (List RowValue)) → (steps : List StepValue)
-        → AreAnswersTo (type_of dtype.now) parts steps plan.now answers.now
-        → AreNullsTold plan.now → e ≡ OutOfMemory) }
+        → AreAnswersTo (type_of dtype.now) parts steps plan.now answers.now → e ≡ OutOfMemory) }
 {
     if let Some(fault) = put_fault(&plan.parts, dtype, answers) {
         return Err(fault);

@@ -13,7 +13,7 @@ ghost use Rattle.vx_select.specs.Select.{IsAnswer};
 ghost use Rattle.vx_interleave.specs.Places.{joined};
 ghost use Rattle.vx_interleave.specs.Sources.{rows_of};
 ghost use Rattle.vx_parts.specs.Plan.{IsPlan, steps_in};
-ghost use Rattle.vx_parts.specs.Putting.{AreNullsTold, AreOwnUnbroken, ArePartAnswers, IsPartAnswer};
+ghost use Rattle.vx_parts.specs.Putting.{AreOwnUnbroken, ArePartAnswers, IsPartAnswer};
 
 use crate::error::PutError;
 use crate::plan::Plan;
@@ -106,29 +106,6 @@ fn sound_plan(alloc: Global, lengths: &[usize], steps: &[Step]) -> Result<Plan, 
     }
 }
 
-// Composes once more the steps that a plan is of: where none may leave a null, none does.
-fn see_nulls(
-    alloc: Global,
-    plan: &Plan,
-    lengths: &[usize],
-    len: usize,
-    steps: &[Step],
-) -> Result<(), NoMemory>
-    requires planned { IsPlan lengths.now (map step_value steps.now) plan.now }
-    requires len { len ≡ sum lengths.now }
-    requires unbroken { IsUnbroken (walk (sum lengths.now) (map step_value steps.now)) }
-    ensures { OnOk result (AreNullsTold plan.now) }
-{
-    // Only the contract speaks of them.
-    let _ = plan;
-    let _ = lengths;
-    match compose(alloc, len, steps) {
-        Ok(_) => Ok(()),
-        Err(SelectError::NoMemory) => Err(NoMemory),
-        Err(SelectError::Broken { .. }) => unreachable!(),
-    }
-}
-
 // The answer to steps that break no rule over the whole. Fails only with `NoMemory`.
 fn select_sound(
     alloc: Global,
@@ -152,11 +129,7 @@ fn select_sound(
     match put_together(alloc, &plan, dtype, &answers) {
         Ok(answer) => Ok(answer),
         Err(PutError::NoMemory) => Err(NoMemory),
-        Err(_) => {
-            // No plan has such an order, as its steps, composed once more, would show.
-            see_nulls(alloc, &plan, &lengths, len, steps)?;
-            unreachable!()
-        }
+        Err(_) => unreachable!(),
     }
 }
 

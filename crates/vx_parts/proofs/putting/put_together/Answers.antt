@@ -21,15 +21,15 @@ returns-in-Some-clause-fault c =
     put_fault_is t plan answers c.in-Some.fault is
 
 pub returns-in-Some-clause-own : goal.returns-in-Some-clause-own
-returns-in-Some-clause-own c = λ parts steps a told.
+returns-in-Some-clause-own c = λ parts steps a.
     let t = type_of c.args.dtype.now in let plan = c.args.plan.now in let answers = c.args.answers.now in
     let is : put_fault (type_of c.args.dtype.now) (lens_in c.args.plan.now.parts.items) c.args.answers.now ≡ Some c.in-Some.fault =
     ap (λ parts. put_fault t (lens_in parts) answers) (sym c.deref.ensures.value) ∙ sym c.put_fault.ensures ∙ c.in-Some.is in
-    own_refusal t parts steps plan answers a c.in-Some.fault (put_fault_is t plan answers c.in-Some.fault is) told
+    own_refusal t parts steps plan answers a c.in-Some.fault (put_fault_is t plan answers c.in-Some.fault is)
 
 pub returns-then-not-is_order_for-clause-own : goal.returns-then-not-is_order_for-clause-own
-returns-then-not-is_order_for-clause-own c = λ parts steps a told.
-    let fit = own_fit (type_of c.args.dtype.now) parts steps c.args.plan.now c.args.answers.now a told in
+returns-then-not-is_order_for-clause-own c = λ parts steps a.
+    let fit = own_fit (type_of c.args.dtype.now) parts steps c.args.plan.now c.args.answers.now a in
     let order = subst (λ (u : TypeTree). IsOrderFor u c.args.answers.now (order_in c.args.plan.now)) (sym c.also_nullable-dtype.ensures) fit.1 in
     let yes = c.is_order_for.ensures.1 order in
     let no : true ≡ false = sym yes ∙ c.if-not-is_order_for.true in cc
