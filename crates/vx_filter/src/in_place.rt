@@ -56,6 +56,9 @@ pub fn filter_vec<T: Copy>(
     filter_slice(alloc, values.as_slice(), mask, policy)
 }
 
+// From how many values on a run is moved by calls of the C library.
+const LONG: usize = 256;
+
 // Moves the values at the indices, which ascend, to the front, and answers their number.
 fn keep_indices<T: Copy>(values: &mut [T], indices: &[usize]) -> usize
     requires { ascending 0 (length values.old) indices.now ≡ true }
@@ -186,5 +189,56 @@ fn move_down<T: Copy>(values: &mut [T], from: usize, to: usize, count: usize)
             return;
         }
     }
-    values.copy_within(from..from + count, to);
+    if count < LONG {
+        values.copy_within(from..from + count, to);
+    } else {
+        move_long(values, from, to, count);
+    }
+}
+
+// The same of many values, by calls of the C library. Where they move by a few places, those that
+// stand between are turned to the back; else part after part is copied.
+fn move_long<T: Copy>(values: &mut [T], from: usize, to: usize, count: usize)
+    requires down { to ≤ from }
+    requires within { from + count ≤ length values.old }
+    ensures front { take (to + count) values.new
+        ≡ take to values.old ++ take count (drop from values.old) }
+    ensures after { drop (from + count) values.new ≡ drop (from + count) values.old }
+{
+    let gap = from - to;
+    if gap >= LONG {
+        copy_parts(values, from, to, count);
+    } else if gap > 0 {
+        values[to..from + count].rotate_left(gap);
+    }
+}
+
+// The same, where a part is copied to where none of it stands.
+fn copy_parts<T: Copy>(values: &mut [T], from: usize, to: usize, count: usize)
+    requires down { to < from }
+    requires within { from + count ≤ length values.old }
+    ensures front { take (to + count) values.new
+        ≡ take to values.old ++ take count (drop from values.old) }
+    ensures after { drop (from + count) values.new ≡ drop (from + count) values.old }
+{
+    let gap = from - to;
+    let mut moved = 0;
+    'part: while moved < count {
+        let part = gap.min(count - moved);
+        copy_down(values, from + moved, to + moved, part);
+        moved += part;
+    }
+}
+
+// Copies `count` values from `from` on to `to` on, all of them below.
+#[inline(always)]
+fn copy_down<T: Copy>(values: &mut [T], from: usize, to: usize, count: usize)
+    requires down { to + count ≤ from }
+    requires within { from + count ≤ length values.old }
+    ensures front { take (to + count) values.new
+        ≡ take to values.old ++ take count (drop from values.old) }
+    ensures after { drop from values.new ≡ drop from values.old }
+{
+    let (front, back) = values.split_at_mut(from);
+    front[to..to + count].copy_from_slice(&back[..count]);
 }

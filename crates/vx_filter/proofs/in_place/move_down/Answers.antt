@@ -25,8 +25,8 @@ returns-in-Some-clause-after g c =
     let block = c.copy_from_slice.ensures.after ∙ c.in-Some.ensures.cases.same ∙ ap (take 16) behind in
     (block_put values _ (drop c.args.from values) c.args.to c.args.count (c.args.from + c.args.count) block (omega (arith, c.in-Some.ensures.cases.enough, ap length behind)) c.if-count-le16.true (omega arith) (omega arith)).after
 
-pub returns-clause-after : goal.returns-clause-after
-returns-clause-after g c =
+pub returns-then-count-lt-LONG-clause-after : goal.returns-then-count-lt-LONG-clause-after
+returns-then-count-lt-LONG-clause-after g c =
     let values = c.args.values.now in
     let n = c.args.from + c.args.count - c.args.from in
     let here = ap (drop (c.args.to + n)) c.copy_within.ensures.after ∙ drop_pasted values (drop c.args.from values) c.args.to n (omega arith) (omega (arith, length-drop c.args.from values)) in
