@@ -10,6 +10,7 @@ ghost use Rattle.vx_mask.specs.Positions.{ascending, run_positions, positions, s
 use crate::choice::{is_dense, useful_indices, useful_slices};
 use crate::ladder::filter_slice;
 use std::alloc::Global;
+use std::mem::size_of_val;
 use vx_bits::{BitBuffer, NoMemory};
 use vx_mask::{MaskValues, Policy};
 
@@ -57,7 +58,10 @@ pub fn filter_vec<T: Copy>(
 }
 
 // From how many values on a run is moved by calls of the C library.
-const LONG: usize = 256;
+const LONG: usize = 1024;
+
+// How many bytes of the stack a block of so many values may take.
+const BLOCK_BYTES: usize = 16 * LONG;
 
 // Moves the values at the indices, which ascend, to the front, and answers their number.
 fn keep_indices<T: Copy>(values: &mut [T], indices: &[usize]) -> usize
@@ -117,7 +121,7 @@ pub fn keep_picked<T: Copy>(values: &mut [T], kept: usize, base: usize, word: u6
     ensures { IsWordKept values.old values.new kept base word result }
 {
     if word == u64::MAX {
-        move_64(values, base, kept);
+        move_block::<T, 64>(values, base, kept);
         kept + 64
     } else if word != 0 {
         keep_word(values, kept, base, word)
@@ -157,18 +161,18 @@ fn move_one<T: Copy>(values: &mut [T], from: usize, to: usize)
     values[to] = values[from];
 }
 
-// Moves 64 values from `from` on to `to` on. They are copied out first, since the two may overlap.
+// Moves N values from `from` on to `to` on. They are copied out first, since the two may overlap.
 #[inline(always)]
-fn move_64<T: Copy>(values: &mut [T], from: usize, to: usize)
-    requires from { from + 64 ≤ length values.old }
-    requires to { to + 64 ≤ length values.old }
-    ensures front { take (to + 64) values.new
-        ≡ take to values.old ++ take 64 (drop from values.old) }
-    ensures after { drop (to + 64) values.new ≡ drop (to + 64) values.old }
+fn move_block<T: Copy, const N: usize>(values: &mut [T], from: usize, to: usize)
+    requires from { from + N ≤ length values.old }
+    requires to { to + N ≤ length values.old }
+    ensures front { take (to + N) values.new
+        ≡ take to values.old ++ take N (drop from values.old) }
+    ensures after { drop (to + N) values.new ≡ drop (to + N) values.old }
 {
-    if let Some(block) = values[from..].first_chunk::<64>() {
+    if let Some(block) = values[from..].first_chunk::<N>() {
         let block = *block;
-        values[to..to + 64].copy_from_slice(&block);
+        values[to..to + N].copy_from_slice(&block);
     }
 }
 
@@ -190,16 +194,30 @@ fn move_down<T: Copy>(values: &mut [T], from: usize, to: usize, count: usize)
         }
     }
     if count < LONG {
-        values.copy_within(from..from + count, to);
+        move_items(values, from, to, count);
     } else {
         move_long(values, from, to, count);
     }
 }
 
-// The same of many values, by calls of the C library. Where they move by a few places, those that
-// stand between are turned to the back; else part after part is copied.
+// The same, item after item.
+#[inline(always)]
+fn move_items<T: Copy>(values: &mut [T], from: usize, to: usize, count: usize)
+    requires down { to ≤ from }
+    requires within { from + count ≤ length values.old }
+    ensures front { take (to + count) values.new
+        ≡ take to values.old ++ take count (drop from values.old) }
+    ensures after { drop (from + count) values.new ≡ drop (from + count) values.old }
+{
+    values.copy_within(from..from + count, to);
+}
+
+// The same of many values, by calls of the C library: in parts that don't overlap where they go,
+// else, but for wide values, in blocks that are copied out first.
+#[inline(never)]
 fn move_long<T: Copy>(values: &mut [T], from: usize, to: usize, count: usize)
     requires down { to ≤ from }
+    requires long { 1024 ≤ count }
     requires within { from + count ≤ length values.old }
     ensures front { take (to + count) values.new
         ≡ take to values.old ++ take count (drop from values.old) }
@@ -208,12 +226,16 @@ fn move_long<T: Copy>(values: &mut [T], from: usize, to: usize, count: usize)
     let gap = from - to;
     if gap >= LONG {
         copy_parts(values, from, to, count);
-    } else if gap > 0 {
-        values[to..from + count].rotate_left(gap);
+    } else if gap == 0 {
+        return;
+    } else if size_of_val(&values[..LONG]) <= BLOCK_BYTES {
+        move_blocks(values, from, to, count);
+    } else {
+        move_items(values, from, to, count);
     }
 }
 
-// The same, where a part is copied to where none of it stands.
+// The same in parts, each copied to where none of it stands.
 fn copy_parts<T: Copy>(values: &mut [T], from: usize, to: usize, count: usize)
     requires down { to < from }
     requires within { from + count ≤ length values.old }
@@ -241,4 +263,20 @@ fn copy_down<T: Copy>(values: &mut [T], from: usize, to: usize, count: usize)
 {
     let (front, back) = values.split_at_mut(from);
     front[to..to + count].copy_from_slice(&back[..count]);
+}
+
+// The same as `move_long`, in blocks that are copied out first.
+fn move_blocks<T: Copy>(values: &mut [T], from: usize, to: usize, count: usize)
+    requires down { to ≤ from }
+    requires within { from + count ≤ length values.old }
+    ensures front { take (to + count) values.new
+        ≡ take to values.old ++ take count (drop from values.old) }
+    ensures after { drop (from + count) values.new ≡ drop (from + count) values.old }
+{
+    let mut moved = 0;
+    'block: while count - moved >= LONG {
+        move_block::<T, LONG>(values, from + moved, to + moved);
+        moved += LONG;
+    }
+    move_items(values, from + moved, to + moved, count - moved);
 }
