@@ -1,9 +1,12 @@
 pub mod BitPuts
+pub mod Buffers
 pub mod Bytes
 pub mod Columns
 pub mod Cuts
+pub mod Lacking
 pub mod FixedLists
 pub mod KeptRows
+pub mod Meant
 pub mod Measures
 pub mod OffsetPuts
 pub mod OwnTaken
@@ -13,6 +16,7 @@ pub mod Plans
 pub mod Rooms
 pub mod RowsAt
 pub mod SoundTrees
+pub mod SoundWalks
 pub mod Steps
 pub mod Takings
 pub mod Trees

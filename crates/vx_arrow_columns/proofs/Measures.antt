@@ -1,9 +1,9 @@
 -- What each format's tests find.
-use Rattle.std.proofs.Common.{◌≡◌, ℕ, ◌+◌, ◌*◌, ◌/◌, ◌^◌, ◌<◌, ◌≤◌, Bool, true, false, List, [], ◌∷◌, ◌++◌, length, get_or, take, drop, map, Option, Some, None, ap, ap₂, sym, ◌∙◌, refl, subst, arith, append_assoc, length-append}
+use Rattle.std.proofs.Common.{◌≡◌, ℕ, ◌+◌, ◌*◌, ◌/◌, ◌^◌, ◌<◌, ◌≤◌, Bool, true, false, List, [], ◌∷◌, length, get_or, take, drop, map, Option, Some, None, ap, ap₂, sym, ◌∙◌, refl, subst, arith}
 use Rattle.std.specs.Prelude.{Result, Ok, Err, IfOk, OnOk}
 use Rattle.std.specs.Option.{option_map}
 use Rattle.std.proofs.lemmas.Bool.{lt-ltb}
-use Rattle.std.proofs.lemmas.List.{drop_more, get_or-map, length-map, take_at}
+use Rattle.std.proofs.lemmas.List.{get_or-map, length-map}
 use Rattle.vx_arrow_image.specs.declared.format.Format.{Format}
 use Rattle.vx_arrow_image.specs.declared.format.Format.TheVariants.{Nulls, Bits, Fixed, Text, List as Lists, FixedList, Struct, TextView, ListView, Union}
 use Rattle.vx_arrow_image.specs.declared.format.Offsets.{Offsets}
@@ -12,10 +12,11 @@ use Rattle.vx_arrow_columns.specs.declared.needs.Inner.TheVariants as inners
 use Rattle.vx_arrow_columns.specs.declared.needs.Items.{Items}
 use Rattle.vx_arrow_columns.specs.declared.needs.Measure.{Measure}
 use Rattle.vx_arrow_image.specs.declared.image.Node as image
-use Rattle.vx_arrow_image.specs.Image.{Part, holds_starts, is_list_view, is_placed, limit_of, part_of, parts_of, has_child, holds_ids}
+use Rattle.vx_arrow_image.specs.Image.{Part, holds_starts, is_list_view, is_placed, limit_of, parts_of, has_child, holds_ids}
 use Rattle.vx_arrow_columns.specs.Measured.{AreBelow, AreItems, AreListed, IsInner, IsLeaf, IsMeasured, IsTextLen, moved}
 use Rattle.vx_arrow_columns.specs.Picks.{Picking, all_rows, below, counts_by, fixed_items, has_bits, inner, inner_nullable, inner_picks, keeps, items_of, picking_of, picks_of, values_len}
 use Rattle.vx_arrow_columns.specs.Planned.{child_lens, first_len, tree_lens}
+use Rattle.vx_arrow_columns.specs.Sound.{AsksBelow, HoldsBelow, IsSoundAt}
 use Rattle.vx_arrow_columns.specs.Taken.{AllAt, AreInside, AreWithin, Holds, IsReadable, is_inside}
 use Rattle.vx_arrow_columns.proofs.FixedLists.{items_within}
 use Rattle.vx_arrow_columns.proofs.OwnTaken.{counted_from}
@@ -38,11 +39,16 @@ readable p ps vs add f format few placed within counted held = record {
   held = subst (λ (g : Option Format). Holds g p (picks_of ps vs add)) (sym format) held;
 }
 
+-- what a sound node's children have, by its format
+pub below_by : (p : Part) (q : List (Option ℕ)) (lens : List ℕ) (f : Format) → p.format ≡ Some f → IsSoundAt p q lens → HoldsBelow (Some f) p q lens
+below_by p q lens f format s = subst (λ (g : Option Format). HoldsBelow g p q lens) format s.below
+
 leaf_measured : (p : Part) (q : Picking) (f : Format) (values : ℕ) (m : Measure) → p.format ≡ Some f → IsReadable p q.picks → values ≡ values_len (Some f) p q.picks → IsLeaf p values m → IsMeasured p q m
 leaf_measured p q f values m format r same l = record {
   readable = r;
   values = l.values_are ∙ same ∙ ap (λ (g : Option Format). values_len g p q.picks) (sym format);
   children = subst (λ (i : Inner). IsInner p q i) (sym l.inner_is) l.leaf;
+  asks = λ lens s. subst (λ (i : Inner). AsksBelow p lens i) (sym l.inner_is) tt;
 }
 
 pub nulls_measured : (p : Part) (ps vs : List ℕ) (add : ℕ) (m : Measure) → p.format ≡ Some Nulls → length ps < 2 ^ 60 → is_placed p ≡ true → AreWithin (picks_of ps vs add) p.len → IsLeaf p 0 m → IsMeasured p (picking_of ps vs add) m
@@ -83,6 +89,7 @@ text_view_measured p ps vs add n format few placed within held size small =
       readable = readable p ps vs add TextView format few placed within (lt-ltb _ _ (subst (λ (k : ℕ). k < 2 ^ 63) same small)) held;
       values = same ∙ ap (λ (g : Option Format). values_len g p q) (sym format);
       children = kept_inner p (picking_of ps vs add) TextView format refl refl refl;
+      asks = λ lens s. tt;
     }
 
 pub list_view_measured : (z : Offsets) (p : Part) (ps vs : List ℕ) (add : ℕ) → p.format ≡ Some (ListView z) → length ps < 2 ^ 60 → is_placed p ≡ true → AreWithin (picks_of ps vs add) p.len → p.children ≡ 1
@@ -91,6 +98,7 @@ list_view_measured z p ps vs add format few placed within one offsets sizes = re
   readable = readable p ps vs add (ListView z) format few placed within refl (one, offsets, sizes);
   values = ap (λ (g : Option Format). values_len g p (picks_of ps vs add)) (sym format);
   children = kept_inner p (picking_of ps vs add) (ListView z) format refl refl refl;
+  asks = λ lens s. tt;
 }
 
 moved_inner : (p : Part) (q : Picking) (f : Format) → p.format ≡ Some f → inner_picks (Some f) p q.picks ≡ map (option_map (λ i. p.offset + i)) q.picks → inner_nullable (Some f) q.nullable ≡ q.nullable → keeps (Some f) ≡ false → inner p q ≡ moved p.offset q
@@ -103,6 +111,7 @@ union_measured p ps vs add n format few placed within held ids size = record {
   readable = readable p ps vs add Union format few placed within refl (held, ids);
   values = size ∙ sym (length_picks ps vs add) ∙ ap (λ (g : Option Format). values_len g p (picks_of ps vs add)) (sym format);
   children = (moved_inner p (picking_of ps vs add) Union format refl refl refl, refl, placed_end p placed);
+  asks = λ lens s. below_by p (picks_of ps vs add) lens Union format s;
 }
 
 pub struct_measured : (p : Part) (ps vs : List ℕ) (add : ℕ) (m : Measure) → p.format ≡ Some Struct → length ps < 2 ^ 60 → is_placed p ≡ true → AreWithin (picks_of ps vs add) p.len
@@ -111,6 +120,7 @@ struct_measured p ps vs add m format few placed within none same = record {
   readable = readable p ps vs add Struct format few placed within refl tt;
   values = none ∙ ap (λ (g : Option Format). values_len g p (picks_of ps vs add)) (sym format);
   children = subst (λ (i : Inner). IsInner p (picking_of ps vs add) i) (sym same) (moved_inner p (picking_of ps vs add) Struct format refl refl refl, refl, placed_end p placed);
+  asks = λ lens s. subst (λ (i : Inner). AsksBelow p lens i) (sym same) (below_by p (picks_of ps vs add) lens Struct format s);
 }
 
 pub items_listed : (z : Offsets) (p : Part) (q : Picking) (places : List ℕ) → p.format ≡ Some (Lists z) → places ≡ items_of z p q.picks → inner p q ≡ picking_of places [] 0
@@ -119,7 +129,7 @@ items_listed z p q places format items =
     (ap (λ (g : Option Format). inner_picks g p q.picks) format ∙ ap (λ (l : List ℕ). map Some l) (sym items) ∙ sym (all_picks places))
     (ap (λ (g : Option Format). inner_nullable g q.nullable) format) (ap keeps format)
 
-below_within : (places : List ℕ) (end : ℕ) → AreBelow places end → AreWithin (picks_of places [] 0) end
+pub below_within : (places : List ℕ) (end : ℕ) → AreBelow places end → AreWithin (picks_of places [] 0) end
 below_within places end b = record {
   below = λ k i h e.
       let all = all_picks places in
@@ -139,11 +149,12 @@ list_measured z p ps vs add items format few placed within one are none = record
   readable = readable p ps vs add (Lists z) format few placed within (lt-ltb _ _ are.small) (one, are.cut);
   values = ap (λ (g : Option Format). values_len g p (picks_of ps vs add)) (sym format);
   children = bare_listed p (picking_of ps vs add) items.list.places.items items.list.valid.items items.end one none (items_listed z p (picking_of ps vs add) items.list.places.items format are.items) (below_within items.list.places.items items.end are.below);
+  asks = λ lens s. are.reached (get_or lens 0 0) (below_by p (picks_of ps vs add) lens (Lists z) format s);
 }
 
 pub fixed_list_measured : (p : Part) (ps vs : List ℕ) (add n : ℕ) (items : Items) → p.format ≡ Some FixedList → length ps < 2 ^ 60 → is_placed p ≡ true → AreWithin (picks_of ps vs add) p.len → p.children ≡ 1
     → (p.offset + p.len) * p.width < 2 ^ 60 → n ≡ length ps * p.width → n < 2 ^ 60
-    → picks_of items.list.places.items items.list.valid.items 0 ≡ fixed_items p (picks_of ps vs add) → has_bits items.list.valid.items ≡ has_bits vs → (p.offset + p.len) * p.width ≤ items.end
+    → picks_of items.list.places.items items.list.valid.items 0 ≡ fixed_items p (picks_of ps vs add) → has_bits items.list.valid.items ≡ has_bits vs → items.end ≡ (p.offset + p.len) * p.width
     → IsMeasured p (picking_of ps vs add) (record { values = 0; inner = inners.Listed items })
 fixed_list_measured p ps vs add n items format few placed within one held size small are bits far =
     let q = picks_of ps vs add in
@@ -154,8 +165,9 @@ fixed_list_measured p ps vs add n items format few placed within one held size s
       children = record {
         one = one;
         listed = same_picking _ _ (ap (λ (g : Option Format). inner_picks g p q) format ∙ sym are) (ap (λ (g : Option Format). inner_nullable g (has_bits vs)) format ∙ sym bits) (ap keeps format);
-        within = subst (λ (l : List (Option ℕ)). AreWithin l items.end) (sym are) (items_within p q items.end within far);
+        within = subst (λ (l : List (Option ℕ)). AreWithin l items.end) (sym are) (items_within p q items.end within (omega arith));
       };
+      asks = λ lens s. let low : (p.offset + p.len) * p.width ≤ get_or lens 0 0 = below_by p q lens FixedList format s in omega arith;
     }
 
 -- ---- what kept children are reached by
@@ -179,7 +191,7 @@ none_inside p q lens f format e = record { all = λ k i h at. bare_inside p.form
 pub inside_from : (p : Part) (q : List (Option ℕ)) (lens : List ℕ) (f : Format) → p.format ≡ Some f → AllAt p q (is_inside (Some f) p lens) → AreInside p q lens
 inside_from p q lens f format a = subst (λ (g : Option Format). AllAt p q (is_inside g p lens)) (sym format) a
 
-one_len : (p : Part) (nodes : List image.Node) → p.children ≡ 1 → get_or (child_lens p (parts_of nodes)) 0 0 ≡ first_len nodes
+pub one_len : (p : Part) (nodes : List image.Node) → p.children ≡ 1 → get_or (child_lens p (parts_of nodes)) 0 0 ≡ first_len nodes
 unfolding tree_lens
 one_len p [] one = ap (λ n. get_or (take n []) 0 0) one
 one_len p (n ∷ nodes) one = ap (λ m. get_or (take m (n.len ∷ drop n.children (tree_lens (parts_of nodes)))) 0 0) one
@@ -187,33 +199,3 @@ one_len p (n ∷ nodes) one = ap (λ m. get_or (take m (n.len ∷ drop n.childre
 pub list_views_inside : (z : Offsets) (p : Part) (q : List (Option ℕ)) (nodes : List image.Node) (count : ℕ) → p.format ≡ Some (ListView z) → p.children ≡ 1 → count ≡ first_len nodes → AllAt p q (is_list_view z p count) → AreInside p q (child_lens p (parts_of nodes))
 list_views_inside z p q nodes count format one e a =
     inside_from p q (child_lens p (parts_of nodes)) (ListView z) format (subst (λ (n : ℕ). AllAt p q (is_list_view z p n)) (e ∙ sym (one_len p nodes one)) a)
-
--- the first k trees of the nodes have so many rows
-pub record LensTo (nodes : List image.Node) (k : ℕ) (lens : List ℕ) : Type 0 where
-  pub len : length lens ≡ k
-  pub are : lens ++ tree_lens (drop k (parts_of nodes)) ≡ tree_lens (parts_of nodes)
-
-pub first_lens : (nodes : List image.Node) (lens : List ℕ) → lens ≡ [] → LensTo nodes 0 lens
-first_lens nodes lens e = record { len = ap length e; are = ap (λ (l : List ℕ). l ++ tree_lens (parts_of nodes)) e }
-
-leaf_lens : (p : Part) (ps : List Part) → p.children ≡ 0 → tree_lens (p ∷ ps) ≡ p.len ∷ tree_lens ps
-unfolding tree_lens
-leaf_lens p ps e = ap (λ n. p.len ∷ drop n (tree_lens ps)) e
-
-pub more_lens : (nodes : List image.Node) (k : ℕ) (d : image.Node) (lens new : List ℕ) → k < length nodes → (get_or nodes k d).children ≡ 0 → new ≡ lens ++ (get_or nodes k d).len ∷ [] → LensTo nodes k lens → LensTo nodes (k + 1) new
-more_lens nodes k d lens new h leaf pushed t =
-    let parts = parts_of nodes in
-    let n = get_or nodes k d in
-    let low : k < length parts = omega (arith, length-map nodes part_of) in
-    let split : drop k parts ≡ part_of n ∷ drop (k + 1) parts = drop_more parts k (part_of d) low ∙ ap (λ (p : Part). p ∷ drop (k + 1) parts) (get_or-map part_of nodes k d (part_of d) h) in
-    record {
-      len = ap length pushed ∙ length-append lens (n.len ∷ []) ∙ ap (λ m. m + 1) t.len;
-      are = ap (λ (l : List ℕ). l ++ tree_lens (drop (k + 1) parts)) pushed
-          ∙ append_assoc lens (n.len ∷ []) (tree_lens (drop (k + 1) parts))
-          ∙ ap (λ (l : List ℕ). lens ++ l) (sym (ap tree_lens split ∙ leaf_lens (part_of n) (drop (k + 1) parts) leaf))
-          ∙ t.are;
-    }
-
-pub all_lens : (p : Part) (nodes : List image.Node) (k : ℕ) (lens : List ℕ) → k ≡ p.children → LensTo nodes k lens → lens ≡ child_lens p (parts_of nodes)
-all_lens p nodes k lens e t =
-    sym (take_at lens (tree_lens (drop k (parts_of nodes))) p.children (t.len ∙ e)) ∙ ap (take p.children) t.are

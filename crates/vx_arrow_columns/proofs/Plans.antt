@@ -1,7 +1,9 @@
 -- The jobs of children, and the plan at the end of a walk.
-use Rattle.std.proofs.Common.{zero, suc, ◌≡◌, ℕ, ◌+◌, ◌-◌, ◌^◌, ◌<◌, ◌≤◌, Bool, true, false, cond, List, [], ◌∷◌, ◌++◌, length, get_or, drop, map, reverse, Option, Some, None, ap, ap₂, sym, ◌∙◌, refl, subst, arith, length-append}
+use Rattle.std.proofs.Common.{zero, suc, ◌≡◌, ℕ, ◌+◌, ◌-◌, ◌^◌, ◌<◌, ◌≤◌, leb, Bool, true, false, cond, List, [], ◌∷◌, ◌++◌, length, get_or, drop, map, reverse, Option, Some, None, ap, ap₂, sym, ◌∙◌, refl, subst, arith, length-append}
 use Rattle.std.specs.Prelude.{replicate}
+use Rattle.std.specs.List.{list_all}
 use Rattle.std.specs.Option.{option_map}
+use Rattle.std.proofs.lemmas.Bool.{and_parts, leb-true}
 use Rattle.std.proofs.lemmas.List.{append-nil, drop_all, get_or-map, length-map, map-append, get_or-append_right}
 use Rattle.vx_arrow_image.specs.declared.format.Format.{Format}
 use Rattle.vx_arrow_image.specs.declared.image.Node as image
@@ -22,6 +24,7 @@ use Rattle.vx_arrow_columns.specs.Taken.{AreInside, AreWithin, IsOwnTaken, IsVie
 use Rattle.vx_arrow_columns.specs.Written.{IsRoomTaken}
 use Rattle.vx_arrow_columns.proofs.Measures.{same_picking}
 use Rattle.vx_arrow_columns.proofs.PickReads.{length_picks, moved_picks}
+use Rattle.vx_arrow_columns.proofs.Trees.{empty}
 use Rattle.vx_arrow_columns.proofs.Walks.{WalkIs}
 
 -- ---- the same picks, further on
@@ -47,7 +50,7 @@ back : (by j : ℕ) (x : Option ℕ) → option_map (λ i. by + i) x ≡ Some j 
 back by j None e = absurd (let f : None ≡ Some j = e in cc)
 back by j (Some x) e = (x, (refl, (let f : Some (by + x) ≡ Some j = e in cc)))
 
-moved_within : (q r : List (Option ℕ)) (by n m : ℕ) → r ≡ map (option_map (λ i. by + i)) q → AreWithin q n → by + n ≤ m → AreWithin r m
+pub moved_within : (q r : List (Option ℕ)) (by n m : ℕ) → r ≡ map (option_map (λ i. by + i)) q → AreWithin q n → by + n ≤ m → AreWithin r m
 moved_within q r by n m is within far = record {
   below = λ k j h e.
       let f = option_map (λ (i : ℕ). by + i) in
@@ -60,6 +63,11 @@ moved_within q r by n m is within far = record {
 same_below : (p : Part) (q r : Picking) → inner p q ≡ moved p.offset q → q.kept ≡ false → r ≡ moved p.offset q → r ≡ below p q
 same_below p q r is own e = e ∙ sym is ∙ sym (ap (λ b. cond b all_rows (inner p q)) own)
 
+pub long_at : (n : ℕ) (lens : List ℕ) (j : ℕ) → list_all (λ l. leb n l) lens ≡ true → j < length lens → n ≤ get_or lens j 0
+long_at n [] j h low = absurd (omega arith)
+long_at n (l ∷ lens) zero h low = leb-true _ _ (and_parts _ _ h).0
+long_at n (l ∷ lens) (suc j) h low = long_at n lens j (and_parts _ _ h).1 (omega arith)
+
 pub next_same : (node : image.Node) (job next : jobs.Job) (old : List Places) → next.list ≡ job.list → next.kept ≡ false → (job.add + node.offset < 2 ^ 64 → next.add ≡ job.add + node.offset) → (node.offset + node.len < 2 ^ 64 → next.end ≡ node.offset + node.len)
     → IsNext node job inners.Same old old next
 next_same node job next old same bare sum end = record {
@@ -70,6 +78,7 @@ next_same node job next old same bare sum end = record {
       let is = moved_in ps vs old job next node.offset node.len same bare in_order.1 w in_order.2 sum in
       moved_within (picking_in ps vs old job).picks (picking_in ps vs old next).picks node.offset node.len next.end (ap (λ (q : Picking). q.picks) is) w (let last = end (omega (arith, in_order.2)) in omega arith);
   picks = λ ps vs w in_order. ap (replicate node.children) (same_below (part_of node) (picking_in ps vs old job) (picking_in ps vs old next) in_order.0 in_order.1 (moved_in ps vs old job next node.offset node.len same bare in_order.1 w in_order.2 sum));
+  far = λ ps vs lens count in_order long j h. let last = end (omega (arith, in_order.2)) in let low = long_at (node.offset + node.len) lens j long (omega arith) in omega arith;
 }
 
 -- ---- children that are kept
@@ -81,13 +90,14 @@ kept_in ps vs ls job e = ap (λ b. cond b all_rows (picking_by ps vs ls job.list
 pub none_within : (n : ℕ) → AreWithin all_rows.picks n
 none_within n = record { below = λ k i h e. absurd (omega arith) }
 
-pub next_kept : (node : image.Node) (job next : jobs.Job) (old : List Places) → next.list ≡ None → next.kept ≡ true → IsNext node job inners.Kept old old next
-next_kept node job next old bare kept = record {
+pub next_kept : (node : image.Node) (job next : jobs.Job) (old : List Places) → next.list ≡ None → next.end ≡ 0 → next.kept ≡ true → IsNext node job inners.Kept old old next
+next_kept node job next old bare none kept = record {
   more = [];
   grown = sym (append-nil old);
   listed = λ h k e. absurd (let f : None ≡ Some k = sym bare ∙ e in cc);
   within = λ ps vs below w are. subst (λ (q : Picking). AreWithin q.picks next.end) (sym (kept_in ps vs old next kept)) (none_within next.end);
   picks = λ ps vs w are. ap (replicate node.children) (kept_in ps vs old next kept ∙ sym are);
+  far = λ ps vs lens count are long j h. omega arith;
 }
 
 -- a node of a job that is kept
@@ -103,6 +113,7 @@ kept_measured node behind ps vs ls job n kept e =
       };
       need = e ∙ sym (ap (need_of (part_of node)) is);
       children = ap (below (part_of node)) is;
+      asks = λ lens s. tt;
     }
 
 -- and one of a job that is not
@@ -111,7 +122,7 @@ pub own_measured : (p : Part) (ps vs : List ℕ) (add : ℕ) (own : Picking) (be
 own_measured p ps vs add own behind n m e is inside need =
     let r = is.readable in
     subst (λ (q : Picking). IsJobMeasured p q behind (record { need = n; inner = m.inner })) e
-    (record { read = record { within = r.within; readable = λ f. r; inside = λ f. inside }; need = need; children = is.children })
+    (record { read = record { within = r.within; readable = λ f. r; inside = λ f. inside }; need = need; children = is.children; asks = λ lens s. is.asks lens (s refl) })
 
 -- ---- rooms
 
@@ -151,13 +162,10 @@ next_listed node job next old new items e list none end bare = record {
       subst (λ (q : Picking). AreWithin q.picks next.end) (sym (listed_in ps vs old new items.list next e list none bare))
       (subst (λ (n : ℕ). AreWithin (picking_of items.list.places.items items.list.valid.items 0).picks n) (sym end) are.within);
   picks = λ ps vs w are. ap (replicate node.children) (listed_in ps vs old new items.list next e list none bare ∙ sym are.listed);
+  far = λ ps vs lens count are long j h. let first : j ≡ 0 = omega (arith, are.one) in let same = ap (λ (k : ℕ). get_or lens k 0) first in omega arith;
 }
 
 -- ---- the end of a walk
-
-empty : {X : Type 0} (xs : List X) → length xs ≡ 0 → xs ≡ []
-empty [] e = refl
-empty (x ∷ xs) e = absurd (omega arith)
 
 pub plan_done : (parts : List Part) (ps vs : List ℕ) (i : ℕ) (w : walks.Walk) → WalkIs parts ps vs i w → i ≡ length parts
     → IsPlanned parts ps vs (record { jobs = w.jobs; lists = w.lists; needs = w.needs })

@@ -12,6 +12,7 @@ use Rattle.std.proofs.Math.Nat.{mul-le-mul_right, add-mul, one-mul}
 use Rattle.vx_arrow_image.specs.declared.format.Offsets.{Offsets}
 use Rattle.vx_arrow_image.specs.declared.format.Offsets.TheVariants.{Short, Long}
 use Rattle.vx_arrow_image.specs.Image.{Part, bit_of, holds_offsets, is_cut, limit_of, offset_at}
+use Rattle.vx_arrow_image.proofs.CutRows.{cut_end, cut_from, cut_small, cut_up}
 use Rattle.vx_arrow_columns.specs.Measured.{AreBelow}
 use Rattle.vx_arrow_columns.specs.Picks.{items_len, items_of, pick_at, picks_of, place_of, row_items, row_len}
 use Rattle.vx_arrow_columns.specs.Taken.{AllAt, AreBits, AreCopied, AreCutAt, AreOffsets, IsByteOf, row_text, texts_of}
@@ -239,11 +240,21 @@ all_hold p q f k h c = record { all = λ j i b e. c.all j i (omega arith) e }
 pub all_cut : (z : Offsets) (p : Part) (q : List (Option ℕ)) (count k : ℕ) → holds_offsets z p ≡ true → length q ≤ k → AllTo p q (is_cut z p count) k → AreCutAt z p q count
 all_cut z p q count k held h c = record { held = held; cut = λ j i b e. c.all j i (omega arith) e }
 
+-- cuts among few items are cuts
+pub cut_any : (z : Offsets) (p : Part) (q : List (Option ℕ)) (count : ℕ) → AreCutAt z p q count → AreCutAt z p q (limit_of z)
+cut_any z p q count c = record {
+  held = c.held;
+  cut = λ k i h e.
+      let own = c.cut k i h e in
+      let small = cut_small z p count i own in
+      cut_from z p (limit_of z) i (cut_up z p count i own) small (omega arith);
+}
+
 pub items_zero : (z : Offsets) (p : Part) (q : List (Option ℕ)) → items_of z p (take 0 q) ≡ []
 unfolding items_of
 items_zero z p q = refl
 
-items_more : (z : Offsets) (p : Part) (q : List (Option ℕ)) (k : ℕ) → k < length q → items_of z p (take (k + 1) q) ≡ items_of z p (take k q) ++ row_items z p (place_of p (get_or q k None))
+pub items_more : (z : Offsets) (p : Part) (q : List (Option ℕ)) (k : ℕ) → k < length q → items_of z p (take (k + 1) q) ≡ items_of z p (take k q) ++ row_items z p (place_of p (get_or q k None))
 unfolding items_of
 items_more z p q k h =
     let f = λ (o : Option ℕ). row_items z p (place_of p o) in
@@ -315,30 +326,37 @@ len_none z p q count k total new h there step t = record {
   small = let s = t.small in omega arith;
 }
 
--- and their items are these places, below `last`
-pub record ItemsTo (z : Offsets) (p : Part) (q : List (Option ℕ)) (k total : ℕ) (places : List ℕ) (last : ℕ) : Type 0 where
-  pub lens : LenTo z p q (limit_of z) k total
+-- and their items are these places, below `last`, which is no further than they reach
+pub record ItemsTo (z : Offsets) (p : Part) (q : List (Option ℕ)) (count k total : ℕ) (places : List ℕ) (last : ℕ) : Type 0 where
+  pub lens : LenTo z p q count k total
   pub items : places ≡ items_of z p (take k q)
   pub below : AreBelow places last
+  pub reached : (n : ℕ) → AllTo p q (is_cut z p n) k → last ≤ n
 
-pub no_places : (z : Offsets) (p : Part) (q : List (Option ℕ)) (total : ℕ) (places : List ℕ) (last : ℕ) → total ≡ 0 → places ≡ [] → ItemsTo z p q 0 total places last
-no_places z p q total places last e none = record { lens = no_len z p q (limit_of z) total e; items = none ∙ sym (items_zero z p q); below = none_below places last none }
+pub no_places : (z : Offsets) (p : Part) (q : List (Option ℕ)) (count total : ℕ) (places : List ℕ) (last : ℕ) → total ≡ 0 → last ≡ 0 → places ≡ [] → ItemsTo z p q count 0 total places last
+no_places z p q count total places last e first none = record { lens = no_len z p q count total e; items = none ∙ sym (items_zero z p q); below = none_below places last none; reached = λ n a. omega arith }
 
-pub places_some : (z : Offsets) (p : Part) (q : List (Option ℕ)) (k i s e total new : ℕ) (places more : List ℕ) (last last' : ℕ) → k < length q → place_of p (get_or q k None) ≡ Some i → s ≡ offset_at z p.offsets i → e ≡ offset_at z p.offsets (i + 1)
-    → is_cut z p (limit_of z) i ≡ true → new ≡ total + (e - s) → new < limit_of z → more ≡ places ++ range_with_len s (e - s) → last ≤ last' → e ≤ last'
-    → ItemsTo z p q k total places last → ItemsTo z p q (k + 1) new more last'
-places_some z p q k i s e total new places more last last' h there from to own step small pushed up end t = record {
-  lens = len_some z p q (limit_of z) k i s e total new h there from to own step small t.lens;
+-- it holds of fewer
+all_before : (p : Part) (q : List (Option ℕ)) (f : ℕ → Bool) (k : ℕ) → AllTo p q f (k + 1) → AllTo p q f k
+all_before p q f k a = record { all = λ j i h e. a.all j i (omega arith) e }
+
+pub places_some : (z : Offsets) (p : Part) (q : List (Option ℕ)) (count k i s e total new : ℕ) (places more : List ℕ) (last last' : ℕ) → k < length q → place_of p (get_or q k None) ≡ Some i → s ≡ offset_at z p.offsets i → e ≡ offset_at z p.offsets (i + 1)
+    → is_cut z p count i ≡ true → new ≡ total + (e - s) → new < limit_of z → more ≡ places ++ range_with_len s (e - s) → last ≤ last' → e ≤ last' → ((n : ℕ) → last ≤ n → e ≤ n → last' ≤ n)
+    → ItemsTo z p q count k total places last → ItemsTo z p q count (k + 1) new more last'
+places_some z p q count k i s e total new places more last last' h there from to own step small pushed up end least t = record {
+  lens = len_some z p q count k i s e total new h there from to own step small t.lens;
   items = items_some z p q k i s e places more h there from to t.items pushed;
   below = more_below places more s e last last' t.below pushed up end;
+  reached = λ n a. least n (t.reached n (all_before p q (is_cut z p n) k a)) (let c = cut_end z p n i (a.all k i (omega arith) there) in omega arith);
 }
 
-pub places_none : (z : Offsets) (p : Part) (q : List (Option ℕ)) (k total new : ℕ) (places more : List ℕ) (last last' : ℕ) → k < length q → place_of p (get_or q k None) ≡ None → new ≡ total → more ≡ places → last' ≡ last
-    → ItemsTo z p q k total places last → ItemsTo z p q (k + 1) new more last'
-places_none z p q k total new places more last last' h there step same e t = record {
-  lens = len_none z p q (limit_of z) k total new h there step t.lens;
+pub places_none : (z : Offsets) (p : Part) (q : List (Option ℕ)) (count k total new : ℕ) (places more : List ℕ) (last last' : ℕ) → k < length q → place_of p (get_or q k None) ≡ None → new ≡ total → more ≡ places → last' ≡ last
+    → ItemsTo z p q count k total places last → ItemsTo z p q count (k + 1) new more last'
+places_none z p q count k total new places more last last' h there step same e t = record {
+  lens = len_none z p q count k total new h there step t.lens;
   items = items_none z p q k places more h there t.items same;
   below = subst (λ (n : ℕ). AreBelow more n) (sym e) (same_below places more last t.below same);
+  reached = λ n a. let r = t.reached n (all_before p q (is_cut z p n) k a) in omega arith;
 }
 
 pub limit_few : (z : Offsets) → limit_of z ≤ 2 ^ 60

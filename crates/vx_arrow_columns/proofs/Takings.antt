@@ -11,7 +11,7 @@ use Rattle.vx_arrow_columns.specs.declared.plan.Job.{Job}
 use Rattle.vx_arrow_columns.specs.declared.plan.Plan as plans
 use Rattle.vx_arrow_image.specs.declared.refusal.Refusal.{Refusal}
 use Rattle.vx_arrow_image.specs.declared.refusal.Refusal.TheVariants as refusals
-use Rattle.vx_arrow_columns.specs.Answer.{AreKeptSound, AreTaken, HaveRoom, IsPlanRefusal, IsRefusal, IsShort, MeansPicked}
+use Rattle.vx_arrow_columns.specs.Answer.{AreKeptSound, AreTaken, HaveRoom, IsPlanRefusal, IsRefusalBy, IsShort, MeansPicked}
 use Rattle.vx_arrow_image.specs.Rows.{RowValue}
 use Rattle.vx_arrow_image.specs.Image.{Part, column_in, part_of, parts_of}
 use Rattle.vx_arrow_columns.specs.Picks.{Picking, need_of, picking_of, pickings, is_union}
@@ -143,7 +143,7 @@ node_taken nodes ps vs plan rooms room i d own planned o in_rooms taken t =
 every : (parts : List Part) (q : Picking) (rooms : List Room) → AreTaken parts q rooms → AllTaken parts (written parts q rooms) (q ∷ [])
 every parts q rooms a = record { len = a.len; taken = a.taken; inside = λ k d r h own. let read = a.read k d r h in read.inside own }
 
-rows_first : (nodes : List image.Node) (rows : List RowValue) → column_in (parts_of nodes) ≡ Some rows → length rows ≡ first_len nodes
+pub rows_first : (nodes : List image.Node) (rows : List RowValue) → column_in (parts_of nodes) ≡ Some rows → length rows ≡ first_len nodes
 rows_first [] rows e = absurd (let f : None ≡ Some rows = e in cc)
 rows_first (n ∷ nodes) rows e = column_len (part_of n) (parts_of nodes) rows e
 
@@ -158,13 +158,14 @@ means_some parts q rooms a kept = let there = sound_column parts (written parts 
 
 -- ---- refusals
 
-pub refused_by : (nodes : List image.Node) (q : Picking) (rooms : List Room) (refusal : Refusal) → IsPlanRefusal q (first_len nodes) (is_union (parts_of nodes)) refusal → IsRefusal (parts_of nodes) q rooms refusal
-refused_by nodes q rooms (refusals.NoMeaning node lack) h = tt
-refused_by nodes q rooms refusals.Beyond h = λ rows e w. h (subst (λ (n : ℕ). AreWithin q.picks n) (rows_first nodes rows e) w)
-refused_by nodes q rooms refusals.NullPick h = h
-refused_by nodes q rooms (refusals.Room node) h = absurd h
-refused_by nodes q rooms (refusals.Overflow node) h = tt
-refused_by nodes q rooms refusals.NoMemory h = tt
+-- what a plan's refusal says, whatever is short
+pub refused_by : (nodes : List image.Node) (q : Picking) (short : ℕ → Type 0) (refusal : Refusal) → IsPlanRefusal (parts_of nodes) q (first_len nodes) refusal → IsRefusalBy (parts_of nodes) q short refusal
+refused_by nodes q short (refusals.NoMeaning node lack) h = h
+refused_by nodes q short refusals.Beyond h = λ rows e w. h (subst (λ (n : ℕ). AreWithin q.picks n) (rows_first nodes rows e) w)
+refused_by nodes q short refusals.NullPick h = h
+refused_by nodes q short (refusals.Room node) h = absurd h
+refused_by nodes q short (refusals.Overflow node) h = h
+refused_by nodes q short refusals.NoMemory h = tt
 
 pub short_of : (needs all : List Need) (rooms : List Room) (k : ℕ) → needs ≡ all → IsShort needs rooms k → IsShort all rooms k
 short_of needs all rooms k e s = subst (λ (n : List Need). IsShort n rooms k) e s

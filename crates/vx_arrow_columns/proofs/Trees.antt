@@ -39,13 +39,17 @@ open_from p ps ds (Some cs) e f = record { columns = cs; rest = e; joined = join
 pub opened : (p : Part) (ps : List Part) (ds : List (List RowValue)) → columns_in (p ∷ ps) ≡ Some ds → Opened p ps ds
 opened p ps ds f = open_from p ps ds (columns_in ps) refl f
 
+pub empty : {X : Type 0} (xs : List X) → length xs ≡ 0 → xs ≡ []
+empty [] e = refl
+empty (x ∷ xs) e = absurd (omega arith)
+
 -- ---- how many rows the trees of a table have
 
 pub lens_more : (p : Part) (ps : List Part) → tree_lens (p ∷ ps) ≡ p.len ∷ drop p.children (tree_lens ps)
 unfolding tree_lens
 lens_more p ps = refl
 
-no_lens : (n : ℕ) → n ≡ 0 → length (tree_lens []) ≡ n
+pub no_lens : (n : ℕ) → n ≡ 0 → length (tree_lens []) ≡ n
 unfolding tree_lens
 no_lens n e = sym e
 
@@ -60,7 +64,7 @@ unfolding tree_lens
 empty_lens cs e = ap (map length) (sym e)
 
 -- the columns that a table means have as many rows
-columns_lens : (ps : List Part) (cs : List (List RowValue)) → columns_in ps ≡ Some cs → map length cs ≡ tree_lens ps
+pub columns_lens : (ps : List Part) (cs : List (List RowValue)) → columns_in ps ≡ Some cs → map length cs ≡ tree_lens ps
 columns_lens [] cs e = empty_lens cs (let f : Some [] ≡ Some cs = e in cc)
 columns_lens (p ∷ ps) cs e =
     let op = opened p ps cs e in
@@ -83,10 +87,10 @@ pub record AllTaken (ps ws : List Part) (qs : List Picking) : Type 0 where
 pub record KeptSound (ps : List Part) (qs : List Picking) : Type 0 where
   pub sound : (k : ℕ) (d : Part) (r : Picking) → k < length ps → (get_or (pickings ps qs) k r).kept ≡ true → is_sound (get_or ps k d) (child_lens (get_or ps k d) (drop (k + 1) ps)) ≡ true
 
-drop_next : (p : Part) (ps : List Part) (k : ℕ) → drop (suc k + 1) (p ∷ ps) ≡ drop (k + 1) ps
+pub drop_next : (p : Part) (ps : List Part) (k : ℕ) → drop (suc k + 1) (p ∷ ps) ≡ drop (k + 1) ps
 drop_next p ps k = ap (λ n. drop n (p ∷ ps)) (let e : suc k + 1 ≡ suc (k + 1) = omega arith in e)
 
-drop_first : (p : Part) (ps : List Part) → drop (0 + 1) (p ∷ ps) ≡ ps
+pub drop_first : (p : Part) (ps : List Part) → drop (0 + 1) (p ∷ ps) ≡ ps
 drop_first p ps = ap (λ n. drop n (p ∷ ps)) (let e : 0 + 1 ≡ suc 0 = omega arith in e)
 
 pub behind : (p w : Part) (ps ws : List Part) (q : Picking) (qs : List Picking) → AllTaken (p ∷ ps) (w ∷ ws) (q ∷ qs) → AllTaken ps ws (replicate p.children (below p q) ++ qs)

@@ -98,7 +98,7 @@ push_many {X} (suc n) x = ap (λ (l : List X). x ∷ l) (push_many n x)
 pub many_more : {X : Type 0} (n m : ℕ) (x : X) → m ≡ suc n → replicate n x ++ x ∷ [] ≡ replicate m x
 many_more n m x e = push_many n x ∙ ap (λ k. replicate k x) (sym e)
 
-reverse_many : {X : Type 0} (n : ℕ) (x : X) → reverse (replicate n x) ≡ replicate n x
+pub reverse_many : {X : Type 0} (n : ℕ) (x : X) → reverse (replicate n x) ≡ replicate n x
 reverse_many zero x = refl
 reverse_many {X} (suc n) x = reverse-append (x ∷ []) (replicate n x) ∙ ap (λ (l : List X). l ++ x ∷ []) (reverse_many n x) ∙ push_many n x
 

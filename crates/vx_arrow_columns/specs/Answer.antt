@@ -1,5 +1,5 @@
 -- What the rooms hold after a take.
-use Rattle.std.specs.Prelude.{ℕ, Bool, ◌<◌, ◌≡◌, true, false, List, [], ◌∷◌, ◌+◌, drop, length, slice_index_or, Some, ⊤}
+use Rattle.std.specs.Prelude.{ℕ, ◌<◌, ◌≡◌, true, false, List, [], ◌∷◌, ◌+◌, drop, length, slice_index_or, Option, Some, None, ⊤}
 use Rattle.vx_arrow_image.specs.declared.image.Need.{Need}
 use Rattle.vx_arrow_image.specs.declared.image.Room.{Room}
 use Rattle.vx_arrow_image.specs.declared.refusal.Refusal.{Refusal}
@@ -8,6 +8,7 @@ use Rattle.vx_arrow_image.specs.Rows.{RowValue, picked}
 use Rattle.vx_arrow_image.specs.Image.{Part, column_in, is_sound}
 use Rattle.vx_arrow_columns.specs.Picks.{Picking, needs_of, pickings, is_union}
 use Rattle.vx_arrow_columns.specs.Planned.{IsRead, are_trees, child_lens}
+use Rattle.vx_arrow_columns.specs.Reached.{AreSoundAt, IsUncounted}
 use Rattle.vx_arrow_columns.specs.Taken.{AreFull, AreWithin, IsTaken}
 use Rattle.vx_arrow_columns.specs.Written.{has_room, written}
 
@@ -47,24 +48,44 @@ pub record MeansPicked (parts : List Part) (q : Picking) (rooms : List Room) : T
   pub picked : (rows : List RowValue) → column_in parts ≡ Some rows
       → column_in (written parts q rooms) ≡ Some (picked q.picks rows)
 
--- why there is no plan: of the refusals that name no room, what `Beyond` and `NullPick` say
-abbrev pub IsPlanRefusal : Picking → ℕ → Bool → Refusal → Type 0
-IsPlanRefusal q len tagging (refusals.NoMeaning node lack) = ⊤
-IsPlanRefusal q len tagging refusals.Beyond = AreWithin q.picks len → ⊥
-IsPlanRefusal q len tagging refusals.NullPick = (tagging ≡ true) × (AreFull q.picks → ⊥)
-IsPlanRefusal q len tagging (refusals.Room node) = ⊥
-IsPlanRefusal q len tagging (refusals.Overflow node) = ⊤
-IsPlanRefusal q len tagging refusals.NoMemory = ⊤
+-- why no rows at picks are read, where the first node has n rows: `NoMeaning` comes only where some
+-- node isn't sound at its picks, `Overflow` only where the rows of the node that is named can't be
+-- counted, `Beyond` only where some pick is past the rows, and `NullPick` only where the column is a
+-- union and some pick is null
+abbrev pub IsPlanRefusal : List Part → Picking → ℕ → Refusal → Type 0
+IsPlanRefusal parts q n (refusals.NoMeaning node lack) = AreSoundAt parts q → ⊥
+IsPlanRefusal parts q n refusals.Beyond = AreWithin q.picks n → ⊥
+IsPlanRefusal parts q n refusals.NullPick = (is_union parts ≡ true) × (AreFull q.picks → ⊥)
+IsPlanRefusal parts q n (refusals.Room node) = ⊥
+IsPlanRefusal parts q n (refusals.Overflow node) = IsUncounted parts q node
+IsPlanRefusal parts q n refusals.NoMemory = ⊤
 
--- why nothing is taken. `Beyond` comes only where some pick is past the rows, `NullPick` only where
--- the column is a union and some pick is null, and `Room` only where there are not as many rooms as
--- nodes or the one that is named is smaller than its need
-abbrev pub IsRefusal : List Part → Picking → List Room → Refusal → Type 0
-IsRefusal parts q rooms (refusals.NoMeaning node lack) = ⊤
-IsRefusal parts q rooms refusals.Beyond =
+-- the same of a column, and what `Room` says of a node
+abbrev pub IsRefusalBy : List Part → Picking → (ℕ → Type 0) → Refusal → Type 0
+IsRefusalBy parts q short (refusals.NoMeaning node lack) = AreSoundAt parts q → ⊥
+IsRefusalBy parts q short refusals.Beyond =
     (rows : List RowValue) → column_in parts ≡ Some rows → AreWithin q.picks (length rows) → ⊥
-IsRefusal parts q rooms refusals.NullPick = (is_union parts ≡ true) × (AreFull q.picks → ⊥)
-IsRefusal parts q rooms (refusals.Room node) =
-    length rooms ≡ length parts → IsShort (needs_of parts q) rooms node
-IsRefusal parts q rooms (refusals.Overflow node) = ⊤
-IsRefusal parts q rooms refusals.NoMemory = ⊤
+IsRefusalBy parts q short refusals.NullPick = (is_union parts ≡ true) × (AreFull q.picks → ⊥)
+IsRefusalBy parts q short (refusals.Room node) = short node
+IsRefusalBy parts q short (refusals.Overflow node) = IsUncounted parts q node
+IsRefusalBy parts q short refusals.NoMemory = ⊤
+
+-- why nothing is taken: `Room` comes only where there are not as many rooms as nodes, or the one
+-- that is named is smaller than its need
+abbrev pub IsRefusal : List Part → Picking → List Room → Refusal → Type 0
+IsRefusal parts q rooms =
+    IsRefusalBy parts q (λ node. length rooms ≡ length parts
+    → IsShort (needs_of parts q) rooms node)
+
+-- why no needs are told: `Room` comes only where there are not as many of them as nodes
+abbrev pub IsNeedRefusal : List Part → Picking → ℕ → Refusal → Type 0
+IsNeedRefusal parts q count = IsRefusalBy parts q (λ node. count ≡ length parts → ⊥)
+
+-- `NoMeaning` comes only where the table means no column
+abbrev pub IsUnmeant : Option (List RowValue) → Refusal → Type 0
+IsUnmeant column (refusals.NoMeaning node lack) = column ≡ None
+IsUnmeant column refusals.Beyond = ⊤
+IsUnmeant column refusals.NullPick = ⊤
+IsUnmeant column (refusals.Room node) = ⊤
+IsUnmeant column (refusals.Overflow node) = ⊤
+IsUnmeant column refusals.NoMemory = ⊤

@@ -1,6 +1,9 @@
 pub mod Answer
+pub mod Asked
 pub mod Measured
-pub mod Planned
 pub mod Picks
+pub mod Planned
+pub mod Reached
+pub mod Sound
 pub mod Taken
 pub mod Written

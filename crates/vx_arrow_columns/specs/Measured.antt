@@ -1,12 +1,13 @@
 -- What the tests of one node at picks find.
 use Rattle.std.specs.Option.{option_map}
-use Rattle.std.specs.Prelude.{ℕ, ◌+◌, ◌^◌, ◌<◌, ◌≡◌, false, List, length, slice_index_or, Option, Some, map}
+use Rattle.std.specs.Prelude.{ℕ, ◌+◌, ◌^◌, ◌<◌, ◌≤◌, ◌≡◌, false, List, length, slice_index_or, Option, Some, map}
 use Rattle.vx_arrow_image.specs.declared.format.Offsets.{Offsets}
 use Rattle.vx_arrow_columns.specs.declared.needs.Inner.{Inner}
 use Rattle.vx_arrow_columns.specs.declared.needs.Inner.TheVariants as inners
 use Rattle.vx_arrow_columns.specs.declared.needs.Measure as measures
 use Rattle.vx_arrow_image.specs.Image.{Part, limit_of}
 use Rattle.vx_arrow_columns.specs.Picks.{Picking, all_rows, below, picking_of, picks_of, fixed_item, items_len, items_of, values_len, inner}
+use Rattle.vx_arrow_columns.specs.Sound.{AsksBelow, IsSoundAt}
 use Rattle.vx_arrow_columns.specs.Taken.{AreCutAt, AreWithin, IsReadable}
 
 -- n bytes are the texts at picks, and can be counted
@@ -26,6 +27,7 @@ pub record AreItems (z : Offsets) (p : Part) (q : List (Option ℕ)) (places : L
   pub items : places ≡ items_of z p q
   pub small : items_len z p q < limit_of z
   pub below : AreBelow places end
+  pub reached : (n : ℕ) → AreCutAt z p q n → end ≤ n
 
 -- these are the places of n items of lists of a fixed size, where they are there
 pub record AreItemPlaces (p : Part) (q : List (Option ℕ)) (n : ℕ) (places : List ℕ) : Type 0 where
@@ -67,3 +69,4 @@ pub record IsMeasured (p : Part) (q : Picking) (m : measures.Measure) : Type 0 w
   pub readable : IsReadable p q.picks
   pub values : m.values ≡ values_len p.format p q.picks
   pub children : IsInner p q m.inner
+  pub asks : (lens : List ℕ) → IsSoundAt p q.picks lens → AsksBelow p lens m.inner

@@ -11,6 +11,7 @@ use Rattle.vx_arrow_columns.specs.declared.plan.Walk as walks
 use Rattle.vx_arrow_image.specs.Image.{Part, part_of, parts_of}
 use Rattle.vx_arrow_columns.specs.Measured.{IsInner}
 use Rattle.vx_arrow_columns.specs.Picks.{Picking, all_rows, below, picking_of, need_of, needs_of, pickings}
+use Rattle.vx_arrow_columns.specs.Sound.{AsksBelow, IsSoundAt}
 use Rattle.vx_arrow_columns.specs.Taken.{AreInside, AreWithin, IsReadable}
 
 -- how many rows each tree of a table has
@@ -55,6 +56,10 @@ pub record IsNext (node : image.Node) (job : job_type.Job) (inside : Inner)
       → IsInner (part_of node) (picking_in ps vs old job) inside
       → replicate node.children (picking_in ps vs new next)
       ≡ replicate node.children (below (part_of node) (picking_in ps vs old job))
+  pub far : (ps vs : List ℕ) (lens : List ℕ) → length lens ≡ node.children
+      → IsInner (part_of node) (picking_in ps vs old job) inside
+      → AsksBelow (part_of node) lens inside
+      → (j : ℕ) → j < node.children → next.end ≤ slice_index_or lens j 0
 
 -- the rows at picks can be read, before these nodes, if they aren't kept
 pub record IsRead (p : Part) (q : Picking) (behind : List Part) : Type 0 where
@@ -68,6 +73,8 @@ pub record IsJobMeasured (p : Part) (q : Picking) (behind : List Part) (m : meas
   pub read : IsRead p q behind
   pub need : m.need ≡ need_of p q
   pub children : IsInner p q m.inner
+  pub asks : (lens : List ℕ) → (q.kept ≡ false → IsSoundAt p q.picks lens)
+      → AsksBelow p lens m.inner
 
 -- how many rows the first node has
 abbrev pub first_len : List image.Node → ℕ
@@ -106,6 +113,9 @@ pub record IsVisited (ps vs : List ℕ) (node : image.Node) (behind : List image
   pub next_is : IsNext node job inside old.lists.items new.lists.items next
   pub read : IsRead (part_of node) (picking_in ps vs old.lists.items job) (parts_of behind)
   pub inner_is : IsInner (part_of node) (picking_in ps vs old.lists.items job) inside
+  pub asks : (lens : List ℕ) → ((picking_in ps vs old.lists.items job).kept ≡ false
+      → IsSoundAt (part_of node) (picking_in ps vs old.lists.items job).picks lens)
+      → AsksBelow (part_of node) lens inside
 
 -- a table of whole trees, as many as n
 abbrev pub are_trees : List Part → ℕ → Bool

@@ -1,12 +1,15 @@
 -- What is written to the caller's rooms.
-use Rattle.std.specs.Prelude.{◌≡◌, ◌≢◌, ℕ, ◌<◌, Bool, ◌&&◌, nat_le, length, List, [], ◌∷◌, if◌then◌else◌}
+use Rattle.std.specs.Prelude.{◌≡◌, ◌≢◌, ℕ, ◌<◌, Bool, ◌&&◌, true, nat_le, length, List, Some, [], ◌∷◌, if◌then◌else◌}
+use Rattle.vx_arrow_image.specs.declared.format.Format.{Format}
 use Rattle.vx_arrow_image.specs.declared.format.Offsets.{Offsets}
 use Rattle.vx_arrow_image.specs.declared.image.Need as needed
 use Rattle.vx_arrow_image.specs.declared.image.Node as image
 use Rattle.vx_arrow_image.specs.declared.image.Room as rooms
-use Rattle.vx_arrow_image.specs.Image.{Part, bit_of, offset_at, part_of}
-use Rattle.vx_arrow_columns.specs.Picks.{Picking, picking_of, shows_valid, pickings}
-use Rattle.vx_arrow_columns.specs.Taken.{IsOwnTaken, IsTaken, IsViewTaken, ShowsRows}
+use Rattle.vx_arrow_image.specs.Image.{Part, bit_of, format_in, offset_at, part_of}
+use Rattle.vx_arrow_columns.specs.declared.places.Picks as places
+use Rattle.vx_arrow_columns.specs.Asked.{the_picking, the_picks}
+use Rattle.vx_arrow_columns.specs.Picks.{Picking, need_of, shows_valid, pickings}
+use Rattle.vx_arrow_columns.specs.Taken.{IsOwnTaken, IsReadable, IsTaken, IsViewTaken, ShowsRows}
 
 -- bit j is this one, and the others are as they were
 pub record PutsBit (old new : List ℕ) (j : ℕ) (bit : Bool) : Type 0 where
@@ -68,19 +71,22 @@ pub record HasValid (p : Part) (q : Picking) (old new : rooms.Room) : Type 0 whe
   pub values : new.values ≡ old.values
   pub sizes : new.sizes ≡ old.sizes
 
--- the room has the node's rows at picks of the caller's, where its children's rooms have theirs
-abbrev pub IsNodeTaken : image.Node → List ℕ → List ℕ → ℕ → rooms.Room → Type 0
-IsNodeTaken n places valid add room =
-    IsOwnTaken (part_of n)
-    (own_part (part_of n) (picking_of places valid add) room)
-    (picking_of places valid add)
+-- the rows of a node at picks can be read, and the room is as large as their need
+pub record IsRoomed (f : Format) (n : image.Node) (q : places.Picks) (r : rooms.Room)
+    : Type 0 where
+  pub format : format_in n.format ≡ Some f
+  pub readable : IsReadable (part_of n) (the_picks q)
+  pub room : has_room (need_of (part_of n) (the_picking q)) r ≡ true
+
+-- the room has the node's rows at picks, where its children's rooms have theirs
+abbrev pub IsNodeTaken : image.Node → places.Picks → rooms.Room → Type 0
+IsNodeTaken n q room =
+    IsOwnTaken (part_of n) (own_part (part_of n) (the_picking q) room) (the_picking q)
 
 -- the same over the very children of the node
-abbrev pub IsViewNodeTaken : image.Node → List ℕ → List ℕ → ℕ → rooms.Room → Type 0
-IsViewNodeTaken n places valid add room =
-    IsViewTaken (part_of n)
-    (own_part (part_of n) (picking_of places valid add) room)
-    (picking_of places valid add)
+abbrev pub IsViewNodeTaken : image.Node → places.Picks → rooms.Room → Type 0
+IsViewNodeTaken n q room =
+    IsViewTaken (part_of n) (own_part (part_of n) (the_picking q) room) (the_picking q)
 
 -- the room has the rows of a node as they are taken
 abbrev pub IsRoomTaken : Part → Picking → rooms.Room → Type 0

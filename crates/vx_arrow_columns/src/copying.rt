@@ -1,6 +1,7 @@
 //! Bytes of one width, copied for each row at picks.
 ghost use Rattle.std.specs.Prelude.{◌≡◌, ◌+◌, ◌*◌, ◌≤◌, [], length, true};
 ghost use Rattle.vx_arrow_image.specs.Image.{is_placed, part_of, size_of};
+ghost use Rattle.vx_arrow_columns.specs.Asked.{the_picks};
 ghost use Rattle.vx_arrow_columns.specs.Picks.{picks_of};
 ghost use Rattle.vx_arrow_columns.specs.Taken.{AreCopied, AreWithin};
 
@@ -13,12 +14,10 @@ use vx_arrow_image::{Node, Offsets};
 fn write_rows<const W: usize>(src: &[u8], node: &Node, picks: &Picks, out: &mut [u8])
     requires there { picks.now.valid.now ≡ [] }
     requires placed { is_placed (part_of node.now) ≡ true }
-    requires within { AreWithin
-        (picks_of picks.now.places.now picks.now.valid.now picks.now.add) node.now.len }
+    requires within { AreWithin (the_picks picks.now) node.now.len }
     requires source { (node.now.offset + node.now.len) * W ≤ length src.now }
     requires room { length picks.now.places.now * W ≤ length out.old }
-    ensures { AreCopied W src.now (part_of node.now)
-        (picks_of picks.now.places.now picks.now.valid.now picks.now.add)
+    ensures { AreCopied W src.now (part_of node.now) (the_picks picks.now)
         (length picks.now.places.now) out.new }
 {
     for k in 0..picks.places.len() {
@@ -30,12 +29,10 @@ fn write_rows<const W: usize>(src: &[u8], node: &Node, picks: &Picks, out: &mut 
 /// Writes the bytes of each row at a pick that isn't null, of a width that is known beforehand.
 pub(crate) fn write_records<const W: usize>(src: &[u8], node: &Node, picks: &Picks, out: &mut [u8])
     requires placed { is_placed (part_of node.now) ≡ true }
-    requires within { AreWithin
-        (picks_of picks.now.places.now picks.now.valid.now picks.now.add) node.now.len }
+    requires within { AreWithin (the_picks picks.now) node.now.len }
     requires source { (node.now.offset + node.now.len) * W ≤ length src.now }
     requires room { length picks.now.places.now * W ≤ length out.old }
-    ensures { AreCopied W src.now (part_of node.now)
-        (picks_of picks.now.places.now picks.now.valid.now picks.now.add)
+    ensures { AreCopied W src.now (part_of node.now) (the_picks picks.now)
         (length picks.now.places.now) out.new }
 {
     if picks.valid.is_empty() {
@@ -52,13 +49,11 @@ pub(crate) fn write_records<const W: usize>(src: &[u8], node: &Node, picks: &Pic
 // Writes the value of each row at a pick that isn't null, of any width.
 fn write_values(node: &Node, picks: &Picks, out: &mut [u8])
     requires placed { is_placed (part_of node.now) ≡ true }
-    requires within { AreWithin
-        (picks_of picks.now.places.now picks.now.valid.now picks.now.add) node.now.len }
+    requires within { AreWithin (the_picks picks.now) node.now.len }
     requires values { (node.now.offset + node.now.len) * node.now.width
         ≤ length node.now.values.now }
     requires room { length picks.now.places.now * node.now.width ≤ length out.old }
-    ensures { AreCopied node.now.width node.now.values.now (part_of node.now)
-        (picks_of picks.now.places.now picks.now.valid.now picks.now.add)
+    ensures { AreCopied node.now.width node.now.values.now (part_of node.now) (the_picks picks.now)
         (length picks.now.places.now) out.new }
 {
     let width = node.width as usize;
@@ -72,13 +67,11 @@ fn write_values(node: &Node, picks: &Picks, out: &mut [u8])
 /// Writes values of a fixed width.
 pub(crate) fn write_fixed(node: &Node, picks: &Picks, out: &mut [u8])
     requires placed { is_placed (part_of node.now) ≡ true }
-    requires within { AreWithin
-        (picks_of picks.now.places.now picks.now.valid.now picks.now.add) node.now.len }
+    requires within { AreWithin (the_picks picks.now) node.now.len }
     requires values { (node.now.offset + node.now.len) * node.now.width
         ≤ length node.now.values.now }
     requires room { length picks.now.places.now * node.now.width ≤ length out.old }
-    ensures { AreCopied node.now.width node.now.values.now (part_of node.now)
-        (picks_of picks.now.places.now picks.now.valid.now picks.now.add)
+    ensures { AreCopied node.now.width node.now.values.now (part_of node.now) (the_picks picks.now)
         (length picks.now.places.now) out.new }
 {
     match node.width {
@@ -95,12 +88,10 @@ pub(crate) fn write_fixed(node: &Node, picks: &Picks, out: &mut [u8])
 /// Writes a number for each row at a pick that isn't null.
 pub(crate) fn write_numbers(size: Offsets, src: &[u8], node: &Node, picks: &Picks, out: &mut [u8])
     requires placed { is_placed (part_of node.now) ≡ true }
-    requires within { AreWithin
-        (picks_of picks.now.places.now picks.now.valid.now picks.now.add) node.now.len }
+    requires within { AreWithin (the_picks picks.now) node.now.len }
     requires source { size_of size * (node.now.offset + node.now.len) ≤ length src.now }
     requires room { size_of size * length picks.now.places.now ≤ length out.old }
-    ensures { AreCopied (size_of size) src.now (part_of node.now)
-        (picks_of picks.now.places.now picks.now.valid.now picks.now.add)
+    ensures { AreCopied (size_of size) src.now (part_of node.now) (the_picks picks.now)
         (length picks.now.places.now) out.new }
 {
     match size {

@@ -1,7 +1,6 @@
 //! What stops at a node.
-ghost use Rattle.std.specs.Prelude.{ℕ, Bool};
-ghost use Rattle.vx_arrow_columns.specs.Answer.{IsPlanRefusal};
-ghost use Rattle.vx_arrow_columns.specs.Picks.{Picking};
+ghost use Rattle.std.specs.Prelude.{◌≡◌};
+ghost use Rattle.vx_arrow_columns.specs.Sound.{refusal_at};
 
 use std::alloc::AllocFailed;
 use vx_arrow_image::{Lack, Refusal};
@@ -17,8 +16,7 @@ pub(crate) enum Fault {
 impl Fault {
     /// The same of the node with a number.
     pub(crate) fn at(self, node: usize) -> Refusal
-        ensures { (q : Picking) → (len : ℕ) → (tagging : Bool)
-            → IsPlanRefusal q len tagging result }
+        ensures { result ≡ refusal_at self node }
     {
         match self {
             Fault::Lacks(lack) => Refusal::NoMeaning { node, lack },
@@ -29,6 +27,11 @@ impl Fault {
 }
 
 impl<T: Drop> From<AllocFailed<T>> for Fault {
+    ghost use Rattle.std.specs.Prelude.{◌≡◌};
+    ghost use Rattle.vx_arrow_columns.specs.declared.faults.Fault.TheVariants.{NoMemory as OutOfMemory};
+
+    ghost from_gives = { λ _ e. e ≡ OutOfMemory };
+
     fn from(_error: AllocFailed<T>) -> Fault {
         Fault::NoMemory
     }

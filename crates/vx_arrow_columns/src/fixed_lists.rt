@@ -1,8 +1,10 @@
 //! The items of lists of a fixed size.
-ghost use Rattle.std.specs.Prelude.{◌≡◌, ◌+◌, ◌*◌, ◌/◌, ◌^◌, ◌<◌, ℕ, IfOk, length};
+ghost use Rattle.std.specs.Prelude.{◌≡◌, ◌+◌, ◌*◌, ◌/◌, ◌^◌, ◌<◌, ℕ, IfErr, IfOk, length};
 ghost use Rattle.vx_arrow_image.specs.Image.{is_valid, part_of};
+ghost use Rattle.vx_arrow_columns.specs.Asked.{the_picks};
 ghost use Rattle.vx_arrow_columns.specs.Measured.{AreItemPlaces};
 ghost use Rattle.vx_arrow_columns.specs.Picks.{fixed_item, fixed_items, has_bits, picks_of};
+ghost use Rattle.vx_arrow_columns.specs.Sound.{IsFault};
 ghost use Rattle.vx_arrow_columns.specs.Taken.{AreWithin};
 
 use crate::faults::Fault;
@@ -15,11 +17,9 @@ use vx_arrow_image::{Node, is_there};
 fn item_at(node: &Node, picks: &Picks, m: usize) -> Option<u64>
     requires width { 0 < node.now.width }
     requires index { m < length picks.now.places.now * node.now.width }
-    requires within { AreWithin
-        (picks_of picks.now.places.now picks.now.valid.now picks.now.add) node.now.len }
+    requires within { AreWithin (the_picks picks.now) node.now.len }
     requires end { (node.now.offset + node.now.len) * node.now.width < 2 ^ 60 }
-    ensures { result ≡ fixed_item (part_of node.now)
-        (picks_of picks.now.places.now picks.now.valid.now picks.now.add) m }
+    ensures { result ≡ fixed_item (part_of node.now) (the_picks picks.now) m }
 {
     let width = node.width as usize;
     let k = m / width;
@@ -33,11 +33,11 @@ fn item_at(node: &Node, picks: &Picks, m: usize) -> Option<u64>
 // The places of so many items, 0 for a null one.
 fn item_places(alloc: Global, node: &Node, picks: &Picks, count: usize) -> Result<Vec<u64>, Fault>
     requires count { count ≡ length picks.now.places.now * node.now.width }
-    requires within { AreWithin
-        (picks_of picks.now.places.now picks.now.valid.now picks.now.add) node.now.len }
+    requires within { AreWithin (the_picks picks.now) node.now.len }
     requires end { (node.now.offset + node.now.len) * node.now.width < 2 ^ 60 }
-    ensures { IfOk result (λ v. AreItemPlaces (part_of node.now)
-        (picks_of picks.now.places.now picks.now.valid.now picks.now.add) count v.items) }
+    ensures places { IfOk result (λ v. AreItemPlaces (part_of node.now)
+        (the_picks picks.now) count v.items) }
+    ensures fault { IfErr result (IsFault ⊥ ⊥) }
 {
     let mut places = Vec::new(alloc);
     for m in 0..count {
@@ -53,6 +53,7 @@ fn item_valid(alloc: Global, valid: &[u8], width: usize, count: usize) -> Result
     ensures bits { IfOk result (λ v. (m : ℕ) → m < count
         → is_valid v.items m ≡ is_valid valid.now (m / width)) }
     ensures some { IfOk result (λ v. has_bits v.items ≡ has_bits valid.now) }
+    ensures fault { IfErr result (IsFault ⊥ ⊥) }
 {
     if valid.is_empty() {
         return Ok(Vec::new(alloc));
@@ -74,13 +75,13 @@ pub(crate) fn fixed_items(
     count: usize,
 ) -> Result<Places, Fault>
     requires count { count ≡ length picks.now.places.now * node.now.width }
-    requires within { AreWithin
-        (picks_of picks.now.places.now picks.now.valid.now picks.now.add) node.now.len }
+    requires within { AreWithin (the_picks picks.now) node.now.len }
     requires end { (node.now.offset + node.now.len) * node.now.width < 2 ^ 60 }
     ensures items { IfOk result (λ l. picks_of l.places.items l.valid.items 0
         ≡ fixed_items (part_of node.now)
-        (picks_of picks.now.places.now picks.now.valid.now picks.now.add)) }
+        (the_picks picks.now)) }
     ensures nullable { IfOk result (λ l. has_bits l.valid.items ≡ has_bits picks.now.valid.now) }
+    ensures fault { IfErr result (IsFault ⊥ ⊥) }
 {
     let places = item_places(alloc, node, picks, count)?;
     let valid = item_valid(alloc, picks.valid, node.width as usize, count)?;

@@ -1,8 +1,9 @@
 //! What rows at picks reach in children that are kept.
-ghost use Rattle.std.specs.Prelude.{◌≡◌, ◌+◌, ◌*◌, ◌^◌, ◌<◌, ◌≤◌, IfOk, OnOk, Some, length, true};
+ghost use Rattle.std.specs.Prelude.{◌≡◌, ◌+◌, ◌*◌, ◌≤◌, IfErr, IfOk, OnOk, Some, false, length, true};
 ghost use Rattle.vx_arrow_image.specs.Image.{format_in, holds_starts, is_list_view, is_placed, is_view, part_of, parts_of};
-ghost use Rattle.vx_arrow_columns.specs.Picks.{picks_of};
+ghost use Rattle.vx_arrow_columns.specs.Asked.{the_picks};
 ghost use Rattle.vx_arrow_columns.specs.Planned.{child_lens, first_len};
+ghost use Rattle.vx_arrow_columns.specs.Sound.{IsBelowFault, IsFault};
 ghost use Rattle.vx_arrow_columns.specs.Taken.{AllAt, AreInside, AreWithin, IsReadable};
 
 use crate::faults::Fault;
@@ -22,17 +23,23 @@ pub(crate) fn first_len(nodes: &[Node]) -> u64
 
 // How many bytes each buffer of views of texts has, which are the first of these nodes.
 fn buffer_lens(alloc: Global, node: &Node, behind: &[Node]) -> Result<Vec<u64>, Fault>
-    ensures { IfOk result (λ v. v.items ≡ child_lens (part_of node.now) (parts_of behind.now)) }
+    ensures lens { IfOk result
+        (λ v. v.items ≡ child_lens (part_of node.now) (parts_of behind.now)) }
+    ensures fault { IfErr result (IsFault ⊥ ⊥) }
 {
-    if node.children > behind.len() as u64 {
-        return Err(Fault::Lacks(Lack::Tree));
-    }
     let mut lens = Vec::new(alloc);
-    for i in 0..node.children as usize {
-        if behind[i].children != 0 {
-            return Err(Fault::Lacks(Lack::Children));
+    // How many trees of the last buffer's are still to come.
+    let mut open = 0;
+    for i in 0..behind.len() {
+        let below = behind[i].children;
+        if open > 0 {
+            open = below.saturating_add(open - 1);
+        } else if lens.len() as u64 == node.children {
+            return Ok(lens);
+        } else {
+            lens.push(behind[i].len)?;
+            open = below;
         }
-        lens.push(behind[i].len)?;
     }
     Ok(lens)
 }
@@ -40,12 +47,12 @@ fn buffer_lens(alloc: Global, node: &Node, behind: &[Node]) -> Result<Vec<u64>, 
 // Whether the texts at the picks lie within buffers of so many bytes.
 fn are_views(node: &Node, picks: &Picks, lens: &[u64]) -> bool
     requires placed { is_placed (part_of node.now) ≡ true }
-    requires within { AreWithin
-        (picks_of picks.now.places.now picks.now.valid.now picks.now.add) node.now.len }
+    requires within { AreWithin (the_picks picks.now) node.now.len }
     requires held { 16 * (node.now.offset + node.now.len) ≤ length node.now.values.now }
-    ensures { result ≡ true → AllAt (part_of node.now)
-        (picks_of picks.now.places.now picks.now.valid.now picks.now.add)
+    ensures all { result ≡ true → AllAt (part_of node.now) (the_picks picks.now)
         (is_view (part_of node.now) lens.now) }
+    ensures some { result ≡ false → AllAt (part_of node.now) (the_picks picks.now)
+        (is_view (part_of node.now) lens.now) → ⊥ }
 {
     for k in 0..picks.places.len() {
         if let Some(i) = place(node, picks, k) {
@@ -60,15 +67,15 @@ fn are_views(node: &Node, picks: &Picks, lens: &[u64]) -> bool
 // Whether the items of the lists at the picks are among so many.
 fn are_list_views(size: Offsets, node: &Node, picks: &Picks, count: u64) -> bool
     requires placed { is_placed (part_of node.now) ≡ true }
-    requires within { AreWithin
-        (picks_of picks.now.places.now picks.now.valid.now picks.now.add) node.now.len }
+    requires within { AreWithin (the_picks picks.now) node.now.len }
     requires offsets { holds_starts size node.now.offsets.now (node.now.offset + node.now.len)
         ≡ true }
     requires sizes { holds_starts size node.now.sizes.now (node.now.offset + node.now.len)
         ≡ true }
-    ensures { result ≡ true → AllAt (part_of node.now)
-        (picks_of picks.now.places.now picks.now.valid.now picks.now.add)
+    ensures all { result ≡ true → AllAt (part_of node.now) (the_picks picks.now)
         (is_list_view size (part_of node.now) count) }
+    ensures some { result ≡ false → AllAt (part_of node.now) (the_picks picks.now)
+        (is_list_view size (part_of node.now) count) → ⊥ }
 {
     for k in 0..picks.places.len() {
         if let Some(i) = place(node, picks, k) {
@@ -83,10 +90,10 @@ fn are_list_views(size: Offsets, node: &Node, picks: &Picks, count: u64) -> bool
 // Tests the texts at the picks.
 fn test_views(alloc: Global, node: &Node, picks: &Picks, behind: &[Node]) -> Result<(), Fault>
     requires format { format_in node.now.format ≡ Some Format.TextView }
-    requires readable { IsReadable (part_of node.now)
-        (picks_of picks.now.places.now picks.now.valid.now picks.now.add) }
-    ensures { OnOk result (AreInside (part_of node.now)
-        (picks_of picks.now.places.now picks.now.valid.now picks.now.add)
+    requires readable { IsReadable (part_of node.now) (the_picks picks.now) }
+    ensures inside { OnOk result (AreInside (part_of node.now) (the_picks picks.now)
+        (child_lens (part_of node.now) (parts_of behind.now))) }
+    ensures fault { IfErr result (IsBelowFault (part_of node.now) (the_picks picks.now)
         (child_lens (part_of node.now) (parts_of behind.now))) }
 {
     let lens = buffer_lens(alloc, node, behind)?;
@@ -99,10 +106,10 @@ fn test_views(alloc: Global, node: &Node, picks: &Picks, behind: &[Node]) -> Res
 // Tests the lists at the picks.
 fn test_list_views(size: Offsets, node: &Node, picks: &Picks, behind: &[Node]) -> Result<(), Fault>
     requires format { format_in node.now.format ≡ Some (Format.ListView size) }
-    requires readable { IsReadable (part_of node.now)
-        (picks_of picks.now.places.now picks.now.valid.now picks.now.add) }
-    ensures { OnOk result (AreInside (part_of node.now)
-        (picks_of picks.now.places.now picks.now.valid.now picks.now.add)
+    requires readable { IsReadable (part_of node.now) (the_picks picks.now) }
+    ensures inside { OnOk result (AreInside (part_of node.now) (the_picks picks.now)
+        (child_lens (part_of node.now) (parts_of behind.now))) }
+    ensures fault { IfErr result (IsBelowFault (part_of node.now) (the_picks picks.now)
         (child_lens (part_of node.now) (parts_of behind.now))) }
 {
     if !are_list_views(size, node, picks, first_len(behind)) {
@@ -121,10 +128,10 @@ pub(crate) fn test_inside(
     behind: &[Node],
 ) -> Result<(), Fault>
     requires format { format_in node.now.format ≡ Some format }
-    requires readable { IsReadable (part_of node.now)
-        (picks_of picks.now.places.now picks.now.valid.now picks.now.add) }
-    ensures { OnOk result (AreInside (part_of node.now)
-        (picks_of picks.now.places.now picks.now.valid.now picks.now.add)
+    requires readable { IsReadable (part_of node.now) (the_picks picks.now) }
+    ensures inside { OnOk result (AreInside (part_of node.now) (the_picks picks.now)
+        (child_lens (part_of node.now) (parts_of behind.now))) }
+    ensures fault { IfErr result (IsBelowFault (part_of node.now) (the_picks picks.now)
         (child_lens (part_of node.now) (parts_of behind.now))) }
 {
     match format {

@@ -1,9 +1,10 @@
 //! What the rows of one node at picks need, by its format.
-ghost use Rattle.std.specs.Prelude.{◌≡◌, ◌+◌, ◌*◌, ◌^◌, ◌<◌, ◌≤◌, IfOk, OnOk, Some, length, true};
-ghost use Rattle.vx_arrow_image.specs.Image.{format_in, is_placed, part_of, parts_of};
+ghost use Rattle.std.specs.Prelude.{◌≡◌, IfErr, IfOk, OnOk};
+ghost use Rattle.vx_arrow_image.specs.Image.{part_of, parts_of};
+ghost use Rattle.vx_arrow_columns.specs.Asked.{IsAsked, the_picking, the_picks};
 ghost use Rattle.vx_arrow_columns.specs.Measured.{IsLeaf, IsMeasured};
-ghost use Rattle.vx_arrow_columns.specs.Picks.{picking_of, picks_of};
 ghost use Rattle.vx_arrow_columns.specs.Planned.{child_lens};
+ghost use Rattle.vx_arrow_columns.specs.Sound.{IsAskedFault, IsFault, IsNodeFault, IsOwnFault};
 ghost use Rattle.vx_arrow_columns.specs.Taken.{AreInside, AreWithin};
 
 use crate::faults::Fault;
@@ -17,7 +18,8 @@ use vx_arrow_image::{Format, Lack, Node, Offsets, holds_starts};
 
 // So many bytes of values, where the node has no children.
 fn leaf(node: &Node, values: u64) -> Result<Measure, Fault>
-    ensures { IfOk result (IsLeaf (part_of node.now) values) }
+    ensures leaf { IfOk result (IsLeaf (part_of node.now) values) }
+    ensures fault { IfErr result (IsFault (node.now.children ≡ 0 → ⊥) ⊥) }
 {
     if node.children != 0 {
         return Err(Fault::Lacks(Lack::Children));
@@ -30,26 +32,18 @@ fn leaf(node: &Node, values: u64) -> Result<Measure, Fault>
 
 // Of nulls.
 fn measure_nulls(node: &Node, picks: &Picks) -> Result<Measure, Fault>
-    requires format { format_in node.now.format ≡ Some Format.Nulls }
-    requires few { length picks.now.places.now < 2 ^ 60 }
-    requires placed { is_placed (part_of node.now) ≡ true }
-    requires within { AreWithin
-        (picks_of picks.now.places.now picks.now.valid.now picks.now.add) node.now.len }
-    ensures { IfOk result (IsMeasured (part_of node.now)
-        (picking_of picks.now.places.now picks.now.valid.now picks.now.add)) }
+    requires { IsAsked Format.Nulls node.now picks.now }
+    ensures measured { IfOk result (IsMeasured (part_of node.now) (the_picking picks.now)) }
+    ensures fault { IfErr result (IsOwnFault (part_of node.now) (the_picks picks.now)) }
 {
     leaf(node, 0)
 }
 
 // Of bits.
 fn measure_bits(node: &Node, picks: &Picks) -> Result<Measure, Fault>
-    requires format { format_in node.now.format ≡ Some Format.Bits }
-    requires few { length picks.now.places.now < 2 ^ 60 }
-    requires placed { is_placed (part_of node.now) ≡ true }
-    requires within { AreWithin
-        (picks_of picks.now.places.now picks.now.valid.now picks.now.add) node.now.len }
-    ensures { IfOk result (IsMeasured (part_of node.now)
-        (picking_of picks.now.places.now picks.now.valid.now picks.now.add)) }
+    requires { IsAsked Format.Bits node.now picks.now }
+    ensures measured { IfOk result (IsMeasured (part_of node.now) (the_picking picks.now)) }
+    ensures fault { IfErr result (IsOwnFault (part_of node.now) (the_picks picks.now)) }
 {
     if (node.offset + node.len).div_ceil(8) > node.values.len() as u64 {
         return Err(Fault::Lacks(Lack::Values));
@@ -60,13 +54,9 @@ fn measure_bits(node: &Node, picks: &Picks) -> Result<Measure, Fault>
 
 // Of values of a fixed width.
 fn measure_fixed(node: &Node, picks: &Picks) -> Result<Measure, Fault>
-    requires format { format_in node.now.format ≡ Some Format.Fixed }
-    requires few { length picks.now.places.now < 2 ^ 60 }
-    requires placed { is_placed (part_of node.now) ≡ true }
-    requires within { AreWithin
-        (picks_of picks.now.places.now picks.now.valid.now picks.now.add) node.now.len }
-    ensures { IfOk result (IsMeasured (part_of node.now)
-        (picking_of picks.now.places.now picks.now.valid.now picks.now.add)) }
+    requires { IsAsked Format.Fixed node.now picks.now }
+    ensures measured { IfOk result (IsMeasured (part_of node.now) (the_picking picks.now)) }
+    ensures fault { IfErr result (IsOwnFault (part_of node.now) (the_picks picks.now)) }
 {
     let Some(held) = (node.offset + node.len).checked_mul(node.width) else {
         return Err(Fault::Lacks(Lack::Values));
@@ -85,13 +75,9 @@ fn measure_fixed(node: &Node, picks: &Picks) -> Result<Measure, Fault>
 
 // Of texts.
 fn measure_text(size: Offsets, node: &Node, picks: &Picks) -> Result<Measure, Fault>
-    requires format { format_in node.now.format ≡ Some (Format.Text size) }
-    requires few { length picks.now.places.now < 2 ^ 60 }
-    requires placed { is_placed (part_of node.now) ≡ true }
-    requires within { AreWithin
-        (picks_of picks.now.places.now picks.now.valid.now picks.now.add) node.now.len }
-    ensures { IfOk result (IsMeasured (part_of node.now)
-        (picking_of picks.now.places.now picks.now.valid.now picks.now.add)) }
+    requires { IsAsked (Format.Text size) node.now picks.now }
+    ensures measured { IfOk result (IsMeasured (part_of node.now) (the_picking picks.now)) }
+    ensures fault { IfErr result (IsOwnFault (part_of node.now) (the_picks picks.now)) }
 {
     let len = text_len(size, node, picks)?;
     leaf(node, len)
@@ -103,20 +89,17 @@ fn measure_list(
     size: Offsets,
     node: &Node,
     picks: &Picks,
-    items: u64,
+    behind: &[Node],
 ) -> Result<Measure, Fault>
-    requires format { format_in node.now.format ≡ Some (Format.List size) }
-    requires few { length picks.now.places.now < 2 ^ 60 }
-    requires placed { is_placed (part_of node.now) ≡ true }
-    requires within { AreWithin
-        (picks_of picks.now.places.now picks.now.valid.now picks.now.add) node.now.len }
-    ensures { IfOk result (IsMeasured (part_of node.now)
-        (picking_of picks.now.places.now picks.now.valid.now picks.now.add)) }
+    requires { IsAsked (Format.List size) node.now picks.now }
+    ensures measured { IfOk result (IsMeasured (part_of node.now) (the_picking picks.now)) }
+    ensures fault { IfErr result (IsNodeFault (part_of node.now) (the_picks picks.now)
+        (child_lens (part_of node.now) (parts_of behind.now))) }
 {
     if node.children != 1 {
         return Err(Fault::Lacks(Lack::Children));
     }
-    let items = list_items(alloc, size, node, picks, items)?;
+    let items = list_items(alloc, size, node, picks, first_len(behind))?;
     Ok(Measure {
         values: 0,
         inner: Inner::Listed(items),
@@ -128,15 +111,12 @@ fn measure_fixed_list(
     alloc: Global,
     node: &Node,
     picks: &Picks,
-    items: u64,
+    behind: &[Node],
 ) -> Result<Measure, Fault>
-    requires format { format_in node.now.format ≡ Some Format.FixedList }
-    requires few { length picks.now.places.now < 2 ^ 60 }
-    requires placed { is_placed (part_of node.now) ≡ true }
-    requires within { AreWithin
-        (picks_of picks.now.places.now picks.now.valid.now picks.now.add) node.now.len }
-    ensures { IfOk result (IsMeasured (part_of node.now)
-        (picking_of picks.now.places.now picks.now.valid.now picks.now.add)) }
+    requires { IsAsked Format.FixedList node.now picks.now }
+    ensures measured { IfOk result (IsMeasured (part_of node.now) (the_picking picks.now)) }
+    ensures fault { IfErr result (IsNodeFault (part_of node.now) (the_picks picks.now)
+        (child_lens (part_of node.now) (parts_of behind.now))) }
 {
     if node.children != 1 {
         return Err(Fault::Lacks(Lack::Children));
@@ -147,7 +127,7 @@ fn measure_fixed_list(
     if end >= 1 << 60 {
         return Err(Fault::Lacks(Lack::Length));
     }
-    if end > items {
+    if end > first_len(behind) {
         return Err(Fault::Lacks(Lack::Items));
     }
     let Some(count) = (picks.places.len() as u64).checked_mul(node.width) else {
@@ -165,13 +145,8 @@ fn measure_fixed_list(
 
 // Of a struct.
 fn measure_struct(node: &Node, picks: &Picks) -> Measure
-    requires format { format_in node.now.format ≡ Some Format.Struct }
-    requires few { length picks.now.places.now < 2 ^ 60 }
-    requires placed { is_placed (part_of node.now) ≡ true }
-    requires within { AreWithin
-        (picks_of picks.now.places.now picks.now.valid.now picks.now.add) node.now.len }
-    ensures { IsMeasured (part_of node.now)
-        (picking_of picks.now.places.now picks.now.valid.now picks.now.add) result }
+    requires { IsAsked Format.Struct node.now picks.now }
+    ensures { IsMeasured (part_of node.now) (the_picking picks.now) result }
 {
     Measure {
         values: 0,
@@ -181,13 +156,9 @@ fn measure_struct(node: &Node, picks: &Picks) -> Measure
 
 // Of views of texts.
 fn measure_text_view(node: &Node, picks: &Picks) -> Result<Measure, Fault>
-    requires format { format_in node.now.format ≡ Some Format.TextView }
-    requires few { length picks.now.places.now < 2 ^ 60 }
-    requires placed { is_placed (part_of node.now) ≡ true }
-    requires within { AreWithin
-        (picks_of picks.now.places.now picks.now.valid.now picks.now.add) node.now.len }
-    ensures { IfOk result (IsMeasured (part_of node.now)
-        (picking_of picks.now.places.now picks.now.valid.now picks.now.add)) }
+    requires { IsAsked Format.TextView node.now picks.now }
+    ensures measured { IfOk result (IsMeasured (part_of node.now) (the_picking picks.now)) }
+    ensures fault { IfErr result (IsOwnFault (part_of node.now) (the_picks picks.now)) }
 {
     if 16 * (node.offset + node.len) > node.values.len() as u64 {
         return Err(Fault::Lacks(Lack::Values));
@@ -204,13 +175,9 @@ fn measure_text_view(node: &Node, picks: &Picks) -> Result<Measure, Fault>
 
 // Of views of lists.
 fn measure_list_view(size: Offsets, node: &Node, picks: &Picks) -> Result<Measure, Fault>
-    requires format { format_in node.now.format ≡ Some (Format.ListView size) }
-    requires few { length picks.now.places.now < 2 ^ 60 }
-    requires placed { is_placed (part_of node.now) ≡ true }
-    requires within { AreWithin
-        (picks_of picks.now.places.now picks.now.valid.now picks.now.add) node.now.len }
-    ensures { IfOk result (IsMeasured (part_of node.now)
-        (picking_of picks.now.places.now picks.now.valid.now picks.now.add)) }
+    requires { IsAsked (Format.ListView size) node.now picks.now }
+    ensures measured { IfOk result (IsMeasured (part_of node.now) (the_picking picks.now)) }
+    ensures fault { IfErr result (IsOwnFault (part_of node.now) (the_picks picks.now)) }
 {
     if node.children != 1 {
         return Err(Fault::Lacks(Lack::Children));
@@ -228,21 +195,18 @@ fn measure_list_view(size: Offsets, node: &Node, picks: &Picks) -> Result<Measur
     })
 }
 
-// Of a node of this format. Where it is one of lists, its child has `items` rows.
+// Of a node of this format, before these nodes.
 fn measure_format(
     alloc: Global,
     format: Format,
     node: &Node,
     picks: &Picks,
-    items: u64,
+    behind: &[Node],
 ) -> Result<Measure, Fault>
-    requires format { format_in node.now.format ≡ Some format }
-    requires few { length picks.now.places.now < 2 ^ 60 }
-    requires placed { is_placed (part_of node.now) ≡ true }
-    requires within { AreWithin
-        (picks_of picks.now.places.now picks.now.valid.now picks.now.add) node.now.len }
-    ensures { IfOk result (IsMeasured (part_of node.now)
-        (picking_of picks.now.places.now picks.now.valid.now picks.now.add)) }
+    requires { IsAsked format node.now picks.now }
+    ensures measured { IfOk result (IsMeasured (part_of node.now) (the_picking picks.now)) }
+    ensures fault { IfErr result (IsNodeFault (part_of node.now) (the_picks picks.now)
+        (child_lens (part_of node.now) (parts_of behind.now))) }
 {
     match format {
         Format::Nulls => measure_nulls(node, picks),
@@ -250,8 +214,8 @@ fn measure_format(
         Format::Fixed => measure_fixed(node, picks),
         Format::Text(size) => measure_text(size, node, picks),
         Format::Struct => Ok(measure_struct(node, picks)),
-        Format::List(size) => measure_list(alloc, size, node, picks, items),
-        Format::FixedList => measure_fixed_list(alloc, node, picks, items),
+        Format::List(size) => measure_list(alloc, size, node, picks, behind),
+        Format::FixedList => measure_fixed_list(alloc, node, picks, behind),
         Format::TextView => measure_text_view(node, picks),
         Format::ListView(size) => measure_list_view(size, node, picks),
         Format::Union => measure_union(node, picks),
@@ -267,19 +231,18 @@ pub(crate) fn measure_node(
     end: u64,
     behind: &[Node],
 ) -> Result<Measure, Fault>
-    requires { AreWithin
-        (picks_of picks.now.places.now picks.now.valid.now picks.now.add) end }
-    ensures measured { IfOk result (IsMeasured (part_of node.now)
-        (picking_of picks.now.places.now picks.now.valid.now picks.now.add)) }
-    ensures inside { OnOk result (AreInside (part_of node.now)
-        (picks_of picks.now.places.now picks.now.valid.now picks.now.add)
+    requires { AreWithin (the_picks picks.now) end }
+    ensures measured { IfOk result (IsMeasured (part_of node.now) (the_picking picks.now)) }
+    ensures inside { OnOk result (AreInside (part_of node.now) (the_picks picks.now)
         (child_lens (part_of node.now) (parts_of behind.now))) }
+    ensures fault { IfErr result (IsAskedFault (part_of node.now) (the_picks picks.now)
+        (child_lens (part_of node.now) (parts_of behind.now)) end) }
 {
     let format = tested(node, end)?;
     if picks.places.len() >= 1 << 60 {
         return Err(Fault::Overflow);
     }
-    let measure = measure_format(alloc, format, node, picks, first_len(behind))?;
+    let measure = measure_format(alloc, format, node, picks, behind)?;
     test_inside(alloc, format, node, picks, behind)?;
     Ok(measure)
 }

@@ -1,10 +1,12 @@
 //! What the rows of one node at picks need.
-ghost use Rattle.std.specs.Prelude.{◌≡◌, ◌+◌, ◌-◌, ◌*◌, ◌^◌, ◌<◌, ◌≤◌, ◌++◌, ℕ, IfOk, OnOk, Some, [], length, slice_index_or, true};
+ghost use Rattle.std.specs.Prelude.{◌≡◌, ◌+◌, ◌-◌, ◌<◌, ◌≤◌, ◌++◌, ℕ, IfErr, IfOk, OnOk, Some, [], false, length, true};
 ghost use Rattle.std.specs.List.{range_with_len};
 ghost use Rattle.vx_arrow_image.specs.Image.{format_in, holds_offsets, is_cut, is_placed, limit_of, offset_at, part_of};
+ghost use Rattle.vx_arrow_columns.specs.Asked.{IsAsked, the_picking, the_picks};
 ghost use Rattle.vx_arrow_columns.specs.Measured.{AreItems, IsTextLen};
-ghost use Rattle.vx_arrow_columns.specs.Picks.{picking_of, picks_of, shows_valid};
-ghost use Rattle.vx_arrow_columns.specs.Taken.{AreWithin};
+ghost use Rattle.vx_arrow_columns.specs.Picks.{items_len, shows_valid};
+ghost use Rattle.vx_arrow_columns.specs.Sound.{IsFault, IsTestFault};
+ghost use Rattle.vx_arrow_columns.specs.Taken.{AreCutAt};
 
 use crate::faults::Fault;
 use crate::places::{Picks, Places, place};
@@ -42,8 +44,7 @@ pub(crate) struct Measure {
 
 /// Whether bits of validity are written for these rows.
 pub(crate) fn shows_valid(node: &Node, picks: &Picks) -> bool
-    ensures { result ≡ shows_valid (part_of node.now)
-        (picking_of picks.now.places.now picks.now.valid.now picks.now.add) }
+    ensures { result ≡ shows_valid (part_of node.now) (the_picking picks.now) }
 {
     match format_of(node.format) {
         Some(Format::Nulls | Format::Union) => false,
@@ -56,6 +57,7 @@ pub(crate) fn tested(node: &Node, end: u64) -> Result<Format, Fault>
     ensures format { IfOk result (λ f. format_in node.now.format ≡ Some f) }
     ensures placed { OnOk result (is_placed (part_of node.now) ≡ true) }
     ensures long { OnOk result (end ≤ node.now.len) }
+    ensures fault { IfErr result (IsTestFault (part_of node.now) end) }
 {
     let Some(format) = format_of(node.format) else {
         return Err(Fault::Lacks(Lack::Format));
@@ -85,28 +87,16 @@ fn tested_cut(size: Offsets, node: &Node, i: usize, count: u64) -> Result<Cut, F
     ensures ordered { IfOk result (λ r. r.start ≤ r.end) }
     ensures small { IfOk result (λ r. r.end < limit_of size) }
     ensures cut { OnOk result (is_cut size (part_of node.now) count i ≡ true) }
+    ensures fault { IfErr result (IsFault (is_cut size (part_of node.now) count i ≡ false) ⊥) }
 {
     let cut = cut_at(size, node, i);
-    if cut.start > cut.end || cut.end >= size.limit() || cut.end > count {
+    if cut.start > cut.end {
         return Err(Fault::Lacks(Lack::Items));
     }
-    Ok(cut)
-}
-
-// The same of a list, whose items are among `items`: they are listed one by one, and so tested
-// before.
-fn listed_cut(size: Offsets, node: &Node, i: usize, items: u64) -> Result<Cut, Fault>
-    requires held { holds_offsets size (part_of node.now) ≡ true }
-    requires from { node.now.offset ≤ i }
-    requires below { i < node.now.offset + node.now.len }
-    ensures start { IfOk result (λ r. r.start ≡ offset_at size node.now.offsets.now i) }
-    ensures end { IfOk result (λ r. r.end ≡ offset_at size node.now.offsets.now (i + 1)) }
-    ensures ordered { IfOk result (λ r. r.start ≤ r.end) }
-    ensures small { IfOk result (λ r. r.end < limit_of size) }
-    ensures cut { OnOk result (is_cut size (part_of node.now) (limit_of size) i ≡ true) }
-{
-    let cut = tested_cut(size, node, i, size.limit())?;
-    if cut.end > items {
+    if cut.end >= size.limit() {
+        return Err(Fault::Lacks(Lack::Items));
+    }
+    if cut.end > count {
         return Err(Fault::Lacks(Lack::Items));
     }
     Ok(cut)
@@ -114,12 +104,11 @@ fn listed_cut(size: Offsets, node: &Node, i: usize, items: u64) -> Result<Cut, F
 
 /// How many bytes the texts at the picks have together.
 pub(crate) fn text_len(size: Offsets, node: &Node, picks: &Picks) -> Result<u64, Fault>
-    requires placed { is_placed (part_of node.now) ≡ true }
-    requires within { AreWithin
-        (picks_of picks.now.places.now picks.now.valid.now picks.now.add) node.now.len }
-    requires few { node.now.offset + node.now.len < 2 ^ 60 }
-    ensures { IfOk result (IsTextLen size (part_of node.now)
-        (picks_of picks.now.places.now picks.now.valid.now picks.now.add)) }
+    requires { IsAsked (Format.Text size) node.now picks.now }
+    ensures len { IfOk result (IsTextLen size (part_of node.now) (the_picks picks.now)) }
+    ensures fault { IfErr result (IsFault
+        (AreCutAt size (part_of node.now) (the_picks picks.now) (length node.now.values.now) → ⊥)
+        (limit_of size ≤ items_len size (part_of node.now) (the_picks picks.now))) }
 {
     if !holds_offsets(size, node) {
         return Err(Fault::Lacks(Lack::Offsets));
@@ -140,8 +129,9 @@ pub(crate) fn text_len(size: Offsets, node: &Node, picks: &Picks) -> Result<u64,
 // Pushes the places from `start` to `end`.
 fn push_range(places: &mut Vec<u64>, start: u64, end: u64) -> Result<(), Fault>
     requires { start ≤ end }
-    ensures { OnOk result
+    ensures pushed { OnOk result
         (places.new.items ≡ places.old.items ++ range_with_len start (end - start)) }
+    ensures fault { IfErr result (IsFault ⊥ ⊥) }
 {
     for place in start..end {
         places.push(place)?;
@@ -153,6 +143,7 @@ fn push_range(places: &mut Vec<u64>, start: u64, end: u64) -> Result<(), Fault>
 fn greater(a: u64, b: u64) -> u64
     ensures first { a ≤ result }
     ensures second { b ≤ result }
+    ensures least { (n : ℕ) → a ≤ n → b ≤ n → result ≤ n }
 {
     if a < b { b } else { a }
 }
@@ -165,14 +156,13 @@ pub(crate) fn list_items(
     picks: &Picks,
     items: u64,
 ) -> Result<Items, Fault>
-    requires placed { is_placed (part_of node.now) ≡ true }
-    requires within { AreWithin
-        (picks_of picks.now.places.now picks.now.valid.now picks.now.add) node.now.len }
-    requires few { node.now.offset + node.now.len < 2 ^ 60 }
-    ensures items { IfOk result (λ items. AreItems size (part_of node.now)
-        (picks_of picks.now.places.now picks.now.valid.now picks.now.add)
+    requires { IsAsked (Format.List size) node.now picks.now }
+    ensures items { IfOk result (λ items. AreItems size (part_of node.now) (the_picks picks.now)
         items.list.places.items items.end) }
     ensures there { IfOk result (λ items. items.list.valid.items ≡ []) }
+    ensures fault { IfErr result (IsFault
+        (AreCutAt size (part_of node.now) (the_picks picks.now) items → ⊥)
+        (limit_of size ≤ items_len size (part_of node.now) (the_picks picks.now))) }
 {
     if !holds_offsets(size, node) {
         return Err(Fault::Lacks(Lack::Offsets));
@@ -182,7 +172,7 @@ pub(crate) fn list_items(
     let mut total = 0;
     for k in 0..picks.places.len() {
         if let Some(i) = place(node, picks, k) {
-            let cut = listed_cut(size, node, i, items)?;
+            let cut = tested_cut(size, node, i, items)?;
             total += cut.end - cut.start;
             if total >= size.limit() {
                 return Err(Fault::Overflow);

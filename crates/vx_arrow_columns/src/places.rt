@@ -2,6 +2,7 @@
 ghost use Rattle.std.specs.Prelude.{◌≡◌, ◌+◌, ◌<◌, ◌≤◌, IfSome, Some, [], length, true, false};
 ghost use Rattle.std.specs.Option.{option_map};
 ghost use Rattle.vx_arrow_image.specs.Image.{is_placed, part_of};
+ghost use Rattle.vx_arrow_columns.specs.Asked.{the_picks};
 ghost use Rattle.vx_arrow_columns.specs.Picks.{pick_at, picks_of, place_of};
 ghost use Rattle.vx_arrow_columns.specs.Taken.{AreFull, AreWithin};
 
@@ -28,8 +29,7 @@ pub(crate) struct Places {
 pub(crate) fn row(node: &Node, picks: &Picks, k: usize) -> Option<usize>
     requires index { k < length picks.now.places.now }
     requires placed { is_placed (part_of node.now) ≡ true }
-    requires within { AreWithin
-        (picks_of picks.now.places.now picks.now.valid.now picks.now.add) node.now.len }
+    requires within { AreWithin (the_picks picks.now) node.now.len }
     ensures row { result ≡ option_map (λ i. node.now.offset + i)
         (pick_at picks.now.places.now picks.now.valid.now picks.now.add k) }
     ensures below { IfSome result (λ i. i < node.now.offset + node.now.len) }
@@ -47,8 +47,7 @@ pub(crate) fn row_there(node: &Node, picks: &Picks, k: usize) -> usize
     requires there { picks.now.valid.now ≡ [] }
     requires index { k < length picks.now.places.now }
     requires placed { is_placed (part_of node.now) ≡ true }
-    requires within { AreWithin
-        (picks_of picks.now.places.now picks.now.valid.now picks.now.add) node.now.len }
+    requires within { AreWithin (the_picks picks.now) node.now.len }
     ensures row { Some result ≡ option_map (λ i. node.now.offset + i)
         (pick_at picks.now.places.now picks.now.valid.now picks.now.add k) }
     ensures below { result < node.now.offset + node.now.len }
@@ -61,8 +60,7 @@ pub(crate) fn row_there(node: &Node, picks: &Picks, k: usize) -> usize
 pub(crate) fn place(node: &Node, picks: &Picks, k: usize) -> Option<usize>
     requires index { k < length picks.now.places.now }
     requires placed { is_placed (part_of node.now) ≡ true }
-    requires within { AreWithin
-        (picks_of picks.now.places.now picks.now.valid.now picks.now.add) node.now.len }
+    requires within { AreWithin (the_picks picks.now) node.now.len }
     ensures place { result ≡ place_of (part_of node.now)
         (pick_at picks.now.places.now picks.now.valid.now picks.now.add k) }
     ensures below { IfSome result (λ i. i < node.now.offset + node.now.len) }
@@ -81,10 +79,8 @@ pub(crate) fn place(node: &Node, picks: &Picks, k: usize) -> Option<usize>
 
 /// Whether each pick is null or below the length.
 pub(crate) fn are_within(picks: &Picks, len: u64) -> bool
-    ensures within { result ≡ true → AreWithin
-        (picks_of picks.now.places.now picks.now.valid.now picks.now.add) len }
-    ensures beyond { result ≡ false → AreWithin
-        (picks_of picks.now.places.now picks.now.valid.now picks.now.add) len → ⊥ }
+    ensures within { result ≡ true → AreWithin (the_picks picks.now) len }
+    ensures beyond { result ≡ false → AreWithin (the_picks picks.now) len → ⊥ }
 {
     for k in 0..picks.places.len() {
         if is_there(picks.valid, k) {
@@ -101,10 +97,8 @@ pub(crate) fn are_within(picks: &Picks, len: u64) -> bool
 
 /// Whether no pick is null.
 pub(crate) fn are_full(picks: &Picks) -> bool
-    ensures full { result ≡ true → AreFull
-        (picks_of picks.now.places.now picks.now.valid.now picks.now.add) }
-    ensures some { result ≡ false → AreFull
-        (picks_of picks.now.places.now picks.now.valid.now picks.now.add) → ⊥ }
+    ensures full { result ≡ true → AreFull (the_picks picks.now) }
+    ensures some { result ≡ false → AreFull (the_picks picks.now) → ⊥ }
 {
     for k in 0..picks.places.len() {
         if !is_there(picks.valid, k) {

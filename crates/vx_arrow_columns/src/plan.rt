@@ -1,9 +1,12 @@
 //! Which rows of each node are taken, and what they need.
 ghost use Rattle.std.specs.Prelude.{◌≡◌, ◌+◌, ◌*◌, ◌^◌, ◌<◌, ◌≤◌, ◌++◌, IfErr, IfOk, OnOk, false, length, replicate, true};
-ghost use Rattle.vx_arrow_columns.specs.Answer.{IsPlanRefusal};
-ghost use Rattle.vx_arrow_image.specs.Image.{format_in, part_of, parts_of};
+ghost use Rattle.vx_arrow_columns.specs.Answer.{IsPlanRefusal, IsUnmeant};
+ghost use Rattle.vx_arrow_image.specs.Image.{column_in, format_in, part_of, parts_of};
+ghost use Rattle.vx_arrow_columns.specs.Asked.{the_picking, the_picks};
 ghost use Rattle.vx_arrow_columns.specs.Picks.{is_union, kept_need, offsets_len, own_need, picking_of, picks_of, sizes_len, values_len};
-ghost use Rattle.vx_arrow_columns.specs.Planned.{IsJobMeasured, IsListed, IsNext, IsPlanned, IsStart, IsVisited, IsWalking, first_len, picking_in};
+ghost use Rattle.vx_arrow_columns.specs.Planned.{IsJobMeasured, IsListed, IsNext, IsPlanned, IsStart, IsVisited, IsWalking, child_lens, first_len, picking_in};
+ghost use Rattle.vx_arrow_columns.specs.Reached.{IsVisitFault};
+ghost use Rattle.vx_arrow_columns.specs.Sound.{IsFault, IsJobFault};
 ghost use Rattle.vx_arrow_columns.specs.Taken.{AreFull, AreWithin};
 
 use crate::faults::Fault;
@@ -91,9 +94,8 @@ fn sizes_len(node: &Node, count: u64) -> u64
 fn need_for(node: &Node, picks: &Picks, values: u64) -> Need
     requires few { length picks.now.places.now < 2 ^ 60 }
     requires values { values ≡ values_len (format_in node.now.format) (part_of node.now)
-        (picks_of picks.now.places.now picks.now.valid.now picks.now.add) }
-    ensures { result ≡ own_need (part_of node.now)
-        (picking_of picks.now.places.now picks.now.valid.now picks.now.add) }
+        (the_picks picks.now) }
+    ensures { result ≡ own_need (part_of node.now) (the_picking picks.now) }
 {
     let len = picks.places.len() as u64;
     let valid = if shows_valid(node, picks) {
@@ -143,8 +145,11 @@ fn measure_job<'a>(
 ) -> Result<Measured, Fault>
     requires listed { IsListed job (length lists.now) }
     requires within { AreWithin (picking_in places.now valid.now lists.now job).picks job.end }
-    ensures { IfOk result (IsJobMeasured (part_of node.now)
+    ensures measured { IfOk result (IsJobMeasured (part_of node.now)
         (picking_in places.now valid.now lists.now job) (parts_of behind.now)) }
+    ensures fault { IfErr result (IsJobFault (part_of node.now)
+        (picking_in places.now valid.now lists.now job)
+        (child_lens (part_of node.now) (parts_of behind.now)) job.end) }
 {
     if job.kept {
         return Ok(Measured {
@@ -172,7 +177,8 @@ fn sum(a: u64, b: u64) -> u64
 
 // The picks of a node's children, from its own, which are those of a job.
 fn next_job(node: &Node, job: Job, inner: Inner, lists: &mut Vec<Places>) -> Result<Job, Fault>
-    ensures { IfOk result (IsNext node.now job inner lists.old.items lists.new.items) }
+    ensures next { IfOk result (IsNext node.now job inner lists.old.items lists.new.items) }
+    ensures fault { IfErr result (IsFault ⊥ ⊥) }
 {
     match inner {
         Inner::Leaf => Ok(job),
@@ -212,7 +218,8 @@ struct Walk {
 
 // Pushes a job so many times.
 fn push_times(stack: &mut Vec<Job>, job: Job, times: u64) -> Result<(), Fault>
-    ensures { OnOk result (stack.new.items ≡ stack.old.items ++ replicate times job) }
+    ensures pushed { OnOk result (stack.new.items ≡ stack.old.items ++ replicate times job) }
+    ensures fault { IfErr result (IsFault ⊥ ⊥) }
 {
     for pushed in 0..times {
         stack.push(job)?;
@@ -223,7 +230,8 @@ fn push_times(stack: &mut Vec<Job>, job: Job, times: u64) -> Result<(), Fault>
 impl Walk {
     // Before the first node: the caller's picks, all below `end`.
     fn start(alloc: Global, end: u64) -> Result<Walk, Fault>
-        ensures { IfOk result (IsStart end) }
+        ensures start { IfOk result (IsStart end) }
+        ensures fault { IfErr result (IsFault ⊥ ⊥) }
     {
         let mut stack = Vec::new(alloc);
         stack.push(Job {
@@ -250,8 +258,10 @@ impl Walk {
         behind: &[Node],
     ) -> Result<(), Fault>
         requires { IsWalking places.now valid.now self.old }
-        ensures { OnOk result
+        ensures visited { OnOk result
             (IsVisited places.now valid.now node.now behind.now self.old self.new) }
+        ensures fault { IfErr result
+            (IsVisitFault places.now valid.now node.now behind.now self.old) }
     {
         let Some(job) = self.stack.pop() else {
             return Err(Fault::Lacks(Lack::Tree));
@@ -280,8 +290,9 @@ pub(crate) fn plan_of(
         (first_len nodes.now)) }
     ensures full { OnOk result (is_union (parts_of nodes.now) ≡ true
         → AreFull (picks_of places.now valid.now 0)) }
-    ensures refused { IfErr result (IsPlanRefusal (picking_of places.now valid.now 0)
-        (first_len nodes.now) (is_union (parts_of nodes.now))) }
+    ensures refused { IfErr result (IsPlanRefusal (parts_of nodes.now)
+        (picking_of places.now valid.now 0) (first_len nodes.now)) }
+    ensures meant { IfErr result (IsUnmeant (column_in (parts_of nodes.now))) }
 {
     if nodes.len() == 0 {
         return Err(Fault::Lacks(Lack::Tree).at(0));

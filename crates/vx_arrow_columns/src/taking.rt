@@ -1,6 +1,6 @@
 //! What a column's rows at picks need, and the rows themselves.
 ghost use Rattle.std.specs.Prelude.{◌≡◌, IfErr, IfNone, IfSome, OnErr, OnOk, false, length, IsSome, true};
-ghost use Rattle.vx_arrow_columns.specs.Answer.{AreKeptSound, AreTaken, HaveRoom, IsRefusal, IsShort, MeansPicked};
+ghost use Rattle.vx_arrow_columns.specs.Answer.{AreKeptSound, AreTaken, HaveRoom, IsNeedRefusal, IsRefusal, IsShort, IsUnmeant, MeansPicked};
 ghost use Rattle.vx_arrow_image.specs.Image.{column_in, part_of, parts_of};
 ghost use Rattle.vx_arrow_columns.specs.Picks.{need_of, needs_of, picking_of};
 ghost use Rattle.vx_arrow_columns.specs.Planned.{IsListed, IsPlanned, picking_in};
@@ -28,6 +28,9 @@ pub fn sizes(
 ) -> Result<(), Refusal>
     ensures needs { OnOk result
         (needs.new ≡ needs_of (parts_of nodes.now) (picking_of places.now valid.now 0)) }
+    ensures refused { IfErr result (IsNeedRefusal (parts_of nodes.now)
+        (picking_of places.now valid.now 0) (length needs.old)) }
+    ensures meant { IfErr result (IsUnmeant (column_in (parts_of nodes.now))) }
     ensures kept { OnErr result (needs.new ≡ needs.old) }
 {
     if needs.len() != nodes.len() {
@@ -135,6 +138,7 @@ pub fn take(
         (written (parts_of nodes.now) (picking_of places.now valid.now 0) rooms.new))) }
     ensures refused { IfErr result (IsRefusal (parts_of nodes.now)
         (picking_of places.now valid.now 0) rooms.old) }
+    ensures meant { IfErr result (IsUnmeant (column_in (parts_of nodes.now))) }
     ensures kept { OnErr result (rooms.new ≡ rooms.old) }
 {
     if rooms.len() != nodes.len() {

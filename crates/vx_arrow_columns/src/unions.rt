@@ -1,8 +1,10 @@
 //! The ids of a union's rows at picks.
-ghost use Rattle.std.specs.Prelude.{◌≡◌, ◌+◌, ◌^◌, ◌<◌, ◌≤◌, ◌++◌, IfOk, Some, drop, length, take, true};
+ghost use Rattle.std.specs.Prelude.{◌≡◌, ◌+◌, ◌^◌, ◌<◌, ◌≤◌, ◌++◌, IfErr, IfOk, Some, false, drop, length, take, true};
 ghost use Rattle.vx_arrow_image.specs.Image.{format_in, has_child, holds_ids, ids_of, is_placed, part_of};
+ghost use Rattle.vx_arrow_columns.specs.Asked.{IsAsked, the_picking, the_picks};
 ghost use Rattle.vx_arrow_columns.specs.Measured.{IsMeasured};
-ghost use Rattle.vx_arrow_columns.specs.Picks.{pick_at, picking_of, picks_of, tags};
+ghost use Rattle.vx_arrow_columns.specs.Picks.{pick_at, tags};
+ghost use Rattle.vx_arrow_columns.specs.Sound.{IsOwnFault};
 ghost use Rattle.vx_arrow_columns.specs.Taken.{AllAt, AreTagged, AreWithin, id_at};
 
 use crate::faults::Fault;
@@ -23,12 +25,12 @@ pub(crate) fn is_union(node: &Node) -> bool
 // Whether each row at the picks has the id of a child.
 fn are_tagged(node: &Node, picks: &Picks) -> bool
     requires placed { is_placed (part_of node.now) ≡ true }
-    requires within { AreWithin
-        (picks_of picks.now.places.now picks.now.valid.now picks.now.add) node.now.len }
+    requires within { AreWithin (the_picks picks.now) node.now.len }
     requires held { holds_ids (part_of node.now) ≡ true }
-    ensures { result ≡ true → AllAt (part_of node.now)
-        (picks_of picks.now.places.now picks.now.valid.now picks.now.add)
+    ensures all { result ≡ true → AllAt (part_of node.now) (the_picks picks.now)
         (has_child (part_of node.now)) }
+    ensures some { result ≡ false → AllAt (part_of node.now) (the_picks picks.now)
+        (has_child (part_of node.now)) → ⊥ }
 {
     for k in 0..picks.places.len() {
         if let Some(i) = place(node, picks, k) {
@@ -42,13 +44,9 @@ fn are_tagged(node: &Node, picks: &Picks) -> bool
 
 /// What the rows of a union at picks need.
 pub(crate) fn measure_union(node: &Node, picks: &Picks) -> Result<Measure, Fault>
-    requires format { format_in node.now.format ≡ Some Format.Union }
-    requires few { length picks.now.places.now < 2 ^ 60 }
-    requires placed { is_placed (part_of node.now) ≡ true }
-    requires within { AreWithin
-        (picks_of picks.now.places.now picks.now.valid.now picks.now.add) node.now.len }
-    ensures { IfOk result (IsMeasured (part_of node.now)
-        (picking_of picks.now.places.now picks.now.valid.now picks.now.add)) }
+    requires { IsAsked Format.Union node.now picks.now }
+    ensures measured { IfOk result (IsMeasured (part_of node.now) (the_picking picks.now)) }
+    ensures fault { IfErr result (IsOwnFault (part_of node.now) (the_picks picks.now)) }
 {
     if !holds_ids(node) {
         return Err(Fault::Lacks(ids_lack(node)));
@@ -66,8 +64,7 @@ pub(crate) fn measure_union(node: &Node, picks: &Picks) -> Result<Measure, Fault
 fn id_at(node: &Node, picks: &Picks, k: usize) -> u8
     requires index { k < length picks.now.places.now }
     requires placed { is_placed (part_of node.now) ≡ true }
-    requires within { AreWithin
-        (picks_of picks.now.places.now picks.now.valid.now picks.now.add) node.now.len }
+    requires within { AreWithin (the_picks picks.now) node.now.len }
     requires held { holds_ids (part_of node.now) ≡ true }
     ensures { result ≡ id_at (part_of node.now)
         (pick_at picks.now.places.now picks.now.valid.now picks.now.add k) }
@@ -81,12 +78,10 @@ fn id_at(node: &Node, picks: &Picks, k: usize) -> u8
 /// Writes the id of the row at each pick.
 pub(crate) fn write_ids(node: &Node, picks: &Picks, out: &mut [u8])
     requires placed { is_placed (part_of node.now) ≡ true }
-    requires within { AreWithin
-        (picks_of picks.now.places.now picks.now.valid.now picks.now.add) node.now.len }
+    requires within { AreWithin (the_picks picks.now) node.now.len }
     requires held { holds_ids (part_of node.now) ≡ true }
     requires room { length picks.now.places.now ≤ length out.old }
-    ensures { AreTagged (part_of node.now)
-        (picks_of picks.now.places.now picks.now.valid.now picks.now.add)
+    ensures { AreTagged (part_of node.now) (the_picks picks.now)
         (length picks.now.places.now) out.new }
 {
     for k in 0..picks.places.len() {

@@ -1,9 +1,10 @@
 //! The rows of one node at picks, written.
 ghost use Rattle.std.specs.Prelude.{◌≡◌, ◌+◌, ◌*◌, ◌^◌, ◌<◌, ◌≤◌, ◌/◌, ◌++◌, Some, [], is_some, length, take, true};
 ghost use Rattle.vx_arrow_image.specs.Image.{format_in, holds_offsets, is_placed, limit_of, part_of, size_of};
+ghost use Rattle.vx_arrow_columns.specs.Asked.{the_picking, the_picks};
 ghost use Rattle.vx_arrow_columns.specs.Picks.{items_len, need_of, pick_at, picking_of, picks_of, place_of};
 ghost use Rattle.vx_arrow_columns.specs.Taken.{AreBits, AreCutAt, AreOffsets, AreOrdered, AreWithin, IsByteOf, IsNullable, IsReadable, ShowsRows, texts_of};
-ghost use Rattle.vx_arrow_columns.specs.Written.{HasValid, IsNodeTaken, IsRoomTaken, IsViewNodeTaken, has_room};
+ghost use Rattle.vx_arrow_columns.specs.Written.{HasValid, IsNodeTaken, IsRoomTaken, IsRoomed, IsViewNodeTaken, has_room};
 
 use crate::copying::{write_fixed, write_numbers, write_records};
 use crate::needs::shows_valid;
@@ -16,8 +17,7 @@ use vx_arrow_image::{Format, Node, Offsets, Room, bit_is, cut_at, format_of};
 #[inline(always)]
 fn valid_byte(node: &Node, picks: &Picks, first: usize, count: usize) -> u8
     requires placed { is_placed (part_of node.now) ≡ true }
-    requires within { AreWithin
-        (picks_of picks.now.places.now picks.now.valid.now picks.now.add) node.now.len }
+    requires within { AreWithin (the_picks picks.now) node.now.len }
     requires index { first + count ≤ length picks.now.places.now }
     requires few { count ≤ 8 }
     ensures { IsByteOf (λ k. is_some (place_of (part_of node.now)
@@ -33,11 +33,9 @@ fn valid_byte(node: &Node, picks: &Picks, first: usize, count: usize) -> u8
 // Writes a bit for each pick: whether its row is there.
 fn write_valid(node: &Node, picks: &Picks, out: &mut [u8])
     requires placed { is_placed (part_of node.now) ≡ true }
-    requires within { AreWithin
-        (picks_of picks.now.places.now picks.now.valid.now picks.now.add) node.now.len }
+    requires within { AreWithin (the_picks picks.now) node.now.len }
     requires room { length picks.now.places.now ≤ 8 * length out.old }
-    ensures { ShowsRows (part_of node.now)
-        (picks_of picks.now.places.now picks.now.valid.now picks.now.add) out.new }
+    ensures { ShowsRows (part_of node.now) (the_picks picks.now) out.new }
 {
     let count = picks.places.len();
     let full = count / 8;
@@ -53,11 +51,9 @@ fn write_valid(node: &Node, picks: &Picks, out: &mut [u8])
 // Writes the bit of each row that is there.
 fn write_bits(node: &Node, picks: &Picks, out: &mut [u8])
     requires placed { is_placed (part_of node.now) ≡ true }
-    requires within { AreWithin
-        (picks_of picks.now.places.now picks.now.valid.now picks.now.add) node.now.len }
+    requires within { AreWithin (the_picks picks.now) node.now.len }
     requires room { length picks.now.places.now ≤ 8 * length out.old }
-    ensures { AreBits (part_of node.now)
-        (picks_of picks.now.places.now picks.now.valid.now picks.now.add)
+    ensures { AreBits (part_of node.now) (the_picks picks.now)
         (length picks.now.places.now) out.new }
 {
     for k in 0..picks.places.len() {
@@ -70,15 +66,11 @@ fn write_bits(node: &Node, picks: &Picks, out: &mut [u8])
 // Writes where the items of each row begin and end among those of all rows.
 fn write_offsets(size: Offsets, node: &Node, picks: &Picks, out: &mut [u8])
     requires placed { is_placed (part_of node.now) ≡ true }
-    requires within { AreWithin
-        (picks_of picks.now.places.now picks.now.valid.now picks.now.add) node.now.len }
-    requires ordered { AreOrdered size (part_of node.now)
-        (picks_of picks.now.places.now picks.now.valid.now picks.now.add) }
-    requires counted { items_len size (part_of node.now)
-        (picks_of picks.now.places.now picks.now.valid.now picks.now.add) < limit_of size }
+    requires within { AreWithin (the_picks picks.now) node.now.len }
+    requires ordered { AreOrdered size (part_of node.now) (the_picks picks.now) }
+    requires counted { items_len size (part_of node.now) (the_picks picks.now) < limit_of size }
     requires room { size_of size * (length picks.now.places.now + 1) ≤ length out.old }
-    ensures { AreOffsets size (part_of node.now)
-        (picks_of picks.now.places.now picks.now.valid.now picks.now.add)
+    ensures { AreOffsets size (part_of node.now) (the_picks picks.now)
         (length picks.now.places.now) out.new }
 {
     let mut at = 0;
@@ -95,17 +87,13 @@ fn write_offsets(size: Offsets, node: &Node, picks: &Picks, out: &mut [u8])
 // Writes the bytes of the texts of all rows, one behind another.
 fn write_texts(size: Offsets, node: &Node, picks: &Picks, out: &mut [u8])
     requires placed { is_placed (part_of node.now) ≡ true }
-    requires within { AreWithin
-        (picks_of picks.now.places.now picks.now.valid.now picks.now.add) node.now.len }
-    requires cut { AreCutAt size (part_of node.now)
-        (picks_of picks.now.places.now picks.now.valid.now picks.now.add)
+    requires within { AreWithin (the_picks picks.now) node.now.len }
+    requires cut { AreCutAt size (part_of node.now) (the_picks picks.now)
         (length node.now.values.now) }
-    requires room { items_len size (part_of node.now)
-        (picks_of picks.now.places.now picks.now.valid.now picks.now.add) ≤ length out.old }
-    ensures { take (items_len size (part_of node.now)
-        (picks_of picks.now.places.now picks.now.valid.now picks.now.add)) out.new
+    requires room { items_len size (part_of node.now) (the_picks picks.now) ≤ length out.old }
+    ensures { take (items_len size (part_of node.now) (the_picks picks.now)) out.new
         ≡ texts_of size (part_of node.now)
-        (picks_of picks.now.places.now picks.now.valid.now picks.now.add) }
+        (the_picks picks.now) }
 {
     let mut at = 0;
     for k in 0..picks.places.len() {
@@ -120,13 +108,10 @@ fn write_texts(size: Offsets, node: &Node, picks: &Picks, out: &mut [u8])
 // Writes validity, where the rows have some.
 fn write_valid_of(node: &Node, picks: &Picks, room: &mut Room)
     requires placed { is_placed (part_of node.now) ≡ true }
-    requires within { AreWithin
-        (picks_of picks.now.places.now picks.now.valid.now picks.now.add) node.now.len }
+    requires within { AreWithin (the_picks picks.now) node.now.len }
     requires nullable { IsNullable (format_in node.now.format) }
-    requires room { has_room (need_of (part_of node.now)
-        (picking_of picks.now.places.now picks.now.valid.now picks.now.add)) room.old ≡ true }
-    ensures { HasValid (part_of node.now)
-        (picking_of picks.now.places.now picks.now.valid.now picks.now.add) room.old room.new }
+    requires room { has_room (need_of (part_of node.now) (the_picking picks.now)) room.old ≡ true }
+    ensures { HasValid (part_of node.now) (the_picking picks.now) room.old room.new }
 {
     if !shows_valid(node, picks) {
         return;
@@ -136,13 +121,8 @@ fn write_valid_of(node: &Node, picks: &Picks, room: &mut Room)
 
 // Writes bits.
 fn write_bits_node(node: &Node, picks: &Picks, room: &mut Room)
-    requires format { format_in node.now.format ≡ Some Format.Bits }
-    requires readable { IsReadable (part_of node.now)
-        (picks_of picks.now.places.now picks.now.valid.now picks.now.add) }
-    requires room { has_room (need_of (part_of node.now)
-        (picking_of picks.now.places.now picks.now.valid.now picks.now.add)) room.old ≡ true }
-    ensures { IsNodeTaken node.now
-        picks.now.places.now picks.now.valid.now picks.now.add room.new }
+    requires { IsRoomed Format.Bits node.now picks.now room.old }
+    ensures { IsNodeTaken node.now picks.now room.new }
 {
     write_valid_of(node, picks, room);
     write_bits(node, picks, room.values);
@@ -150,13 +130,8 @@ fn write_bits_node(node: &Node, picks: &Picks, room: &mut Room)
 
 // Writes values of a fixed width.
 fn write_fixed_node(node: &Node, picks: &Picks, room: &mut Room)
-    requires format { format_in node.now.format ≡ Some Format.Fixed }
-    requires readable { IsReadable (part_of node.now)
-        (picks_of picks.now.places.now picks.now.valid.now picks.now.add) }
-    requires room { has_room (need_of (part_of node.now)
-        (picking_of picks.now.places.now picks.now.valid.now picks.now.add)) room.old ≡ true }
-    ensures { IsNodeTaken node.now
-        picks.now.places.now picks.now.valid.now picks.now.add room.new }
+    requires { IsRoomed Format.Fixed node.now picks.now room.old }
+    ensures { IsNodeTaken node.now picks.now room.new }
 {
     write_valid_of(node, picks, room);
     write_fixed(node, picks, room.values);
@@ -164,13 +139,8 @@ fn write_fixed_node(node: &Node, picks: &Picks, room: &mut Room)
 
 // Writes texts.
 fn write_text_node(size: Offsets, node: &Node, picks: &Picks, room: &mut Room)
-    requires format { format_in node.now.format ≡ Some (Format.Text size) }
-    requires readable { IsReadable (part_of node.now)
-        (picks_of picks.now.places.now picks.now.valid.now picks.now.add) }
-    requires room { has_room (need_of (part_of node.now)
-        (picking_of picks.now.places.now picks.now.valid.now picks.now.add)) room.old ≡ true }
-    ensures { IsNodeTaken node.now
-        picks.now.places.now picks.now.valid.now picks.now.add room.new }
+    requires { IsRoomed (Format.Text size) node.now picks.now room.old }
+    ensures { IsNodeTaken node.now picks.now room.new }
 {
     write_valid_of(node, picks, room);
     write_offsets(size, node, picks, room.offsets);
@@ -179,13 +149,8 @@ fn write_text_node(size: Offsets, node: &Node, picks: &Picks, room: &mut Room)
 
 // Writes the lists' own part: where the items of each begin and end.
 fn write_list_node(size: Offsets, node: &Node, picks: &Picks, room: &mut Room)
-    requires format { format_in node.now.format ≡ Some (Format.List size) }
-    requires readable { IsReadable (part_of node.now)
-        (picks_of picks.now.places.now picks.now.valid.now picks.now.add) }
-    requires room { has_room (need_of (part_of node.now)
-        (picking_of picks.now.places.now picks.now.valid.now picks.now.add)) room.old ≡ true }
-    ensures { IsNodeTaken node.now
-        picks.now.places.now picks.now.valid.now picks.now.add room.new }
+    requires { IsRoomed (Format.List size) node.now picks.now room.old }
+    ensures { IsNodeTaken node.now picks.now room.new }
 {
     write_valid_of(node, picks, room);
     write_offsets(size, node, picks, room.offsets);
@@ -193,39 +158,24 @@ fn write_list_node(size: Offsets, node: &Node, picks: &Picks, room: &mut Room)
 
 // Writes a struct's own part.
 fn write_struct_node(node: &Node, picks: &Picks, room: &mut Room)
-    requires format { format_in node.now.format ≡ Some Format.Struct }
-    requires readable { IsReadable (part_of node.now)
-        (picks_of picks.now.places.now picks.now.valid.now picks.now.add) }
-    requires room { has_room (need_of (part_of node.now)
-        (picking_of picks.now.places.now picks.now.valid.now picks.now.add)) room.old ≡ true }
-    ensures { IsNodeTaken node.now
-        picks.now.places.now picks.now.valid.now picks.now.add room.new }
+    requires { IsRoomed Format.Struct node.now picks.now room.old }
+    ensures { IsNodeTaken node.now picks.now room.new }
 {
     write_valid_of(node, picks, room);
 }
 
 // Writes the own part of lists of a fixed size.
 fn write_fixed_list_node(node: &Node, picks: &Picks, room: &mut Room)
-    requires format { format_in node.now.format ≡ Some Format.FixedList }
-    requires readable { IsReadable (part_of node.now)
-        (picks_of picks.now.places.now picks.now.valid.now picks.now.add) }
-    requires room { has_room (need_of (part_of node.now)
-        (picking_of picks.now.places.now picks.now.valid.now picks.now.add)) room.old ≡ true }
-    ensures { IsNodeTaken node.now
-        picks.now.places.now picks.now.valid.now picks.now.add room.new }
+    requires { IsRoomed Format.FixedList node.now picks.now room.old }
+    ensures { IsNodeTaken node.now picks.now room.new }
 {
     write_valid_of(node, picks, room);
 }
 
 // Writes views of texts.
 fn write_text_view_node(node: &Node, picks: &Picks, room: &mut Room)
-    requires format { format_in node.now.format ≡ Some Format.TextView }
-    requires readable { IsReadable (part_of node.now)
-        (picks_of picks.now.places.now picks.now.valid.now picks.now.add) }
-    requires room { has_room (need_of (part_of node.now)
-        (picking_of picks.now.places.now picks.now.valid.now picks.now.add)) room.old ≡ true }
-    ensures { IsViewNodeTaken node.now
-        picks.now.places.now picks.now.valid.now picks.now.add room.new }
+    requires { IsRoomed Format.TextView node.now picks.now room.old }
+    ensures { IsViewNodeTaken node.now picks.now room.new }
 {
     write_valid_of(node, picks, room);
     write_records::<16>(node.values, node, picks, room.values);
@@ -233,13 +183,8 @@ fn write_text_view_node(node: &Node, picks: &Picks, room: &mut Room)
 
 // Writes views of lists.
 fn write_list_view_node(size: Offsets, node: &Node, picks: &Picks, room: &mut Room)
-    requires format { format_in node.now.format ≡ Some (Format.ListView size) }
-    requires readable { IsReadable (part_of node.now)
-        (picks_of picks.now.places.now picks.now.valid.now picks.now.add) }
-    requires room { has_room (need_of (part_of node.now)
-        (picking_of picks.now.places.now picks.now.valid.now picks.now.add)) room.old ≡ true }
-    ensures { IsViewNodeTaken node.now
-        picks.now.places.now picks.now.valid.now picks.now.add room.new }
+    requires { IsRoomed (Format.ListView size) node.now picks.now room.old }
+    ensures { IsViewNodeTaken node.now picks.now room.new }
 {
     write_valid_of(node, picks, room);
     write_numbers(size, node.offsets, node, picks, room.offsets);
@@ -248,13 +193,8 @@ fn write_list_view_node(size: Offsets, node: &Node, picks: &Picks, room: &mut Ro
 
 // Writes a union's own part: the ids of the rows, and those of the children.
 fn write_union_node(node: &Node, picks: &Picks, room: &mut Room)
-    requires format { format_in node.now.format ≡ Some Format.Union }
-    requires readable { IsReadable (part_of node.now)
-        (picks_of picks.now.places.now picks.now.valid.now picks.now.add) }
-    requires room { has_room (need_of (part_of node.now)
-        (picking_of picks.now.places.now picks.now.valid.now picks.now.add)) room.old ≡ true }
-    ensures { IsNodeTaken node.now
-        picks.now.places.now picks.now.valid.now picks.now.add room.new }
+    requires { IsRoomed Format.Union node.now picks.now room.old }
+    ensures { IsNodeTaken node.now picks.now room.new }
 {
     write_ids(node, picks, room.values);
     put_bytes(room.sizes, 0, &node.sizes[..node.children as usize]);
@@ -262,12 +202,9 @@ fn write_union_node(node: &Node, picks: &Picks, room: &mut Room)
 
 /// Writes what a node's own lists hold of its rows at picks.
 pub(crate) fn write_node(node: &Node, picks: &Picks, room: &mut Room)
-    requires readable { IsReadable (part_of node.now)
-        (picks_of picks.now.places.now picks.now.valid.now picks.now.add) }
-    requires room { has_room (need_of (part_of node.now)
-        (picking_of picks.now.places.now picks.now.valid.now picks.now.add)) room.old ≡ true }
-    ensures { IsRoomTaken (part_of node.now)
-        (picking_of picks.now.places.now picks.now.valid.now picks.now.add) room.new }
+    requires readable { IsReadable (part_of node.now) (the_picks picks.now) }
+    requires room { has_room (need_of (part_of node.now) (the_picking picks.now)) room.old ≡ true }
+    ensures { IsRoomTaken (part_of node.now) (the_picking picks.now) room.new }
 {
     match format_of(node.format) {
         Some(Format::Bits) => write_bits_node(node, picks, room),

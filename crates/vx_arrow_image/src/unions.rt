@@ -1,6 +1,7 @@
 //! Sparse unions: whose child's row each row is.
-ghost use Rattle.std.specs.Prelude.{◌≡◌, ◌==◌, ◌+◌, ◌^◌, ◌<◌, ◌≤◌, length};
+ghost use Rattle.std.specs.Prelude.{◌≡◌, ◌==◌, ◌+◌, ◌^◌, ◌<◌, ◌≤◌, false, length};
 ghost use Rattle.std.specs.List.{list_any};
+ghost use Rattle.vx_arrow_image.specs.Checking.{LacksIds};
 ghost use Rattle.vx_arrow_image.specs.Image.{has_child, holds_ids, part_of};
 
 use crate::image::Node;
@@ -41,7 +42,9 @@ pub fn holds_ids(node: &Node) -> bool
 }
 
 /// What a union lacks that has not.
-pub fn ids_lack(node: &Node) -> Lack {
+pub fn ids_lack(node: &Node) -> Lack
+    ensures { holds_ids (part_of node.now) ≡ false → LacksIds (part_of node.now) result }
+{
     if !node.valid.is_empty() {
         return Lack::Valid;
     }

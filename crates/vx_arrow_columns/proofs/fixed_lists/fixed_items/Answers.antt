@@ -13,5 +13,5 @@ pub returns-clause-items : goal.returns-clause-items
 returns-clause-items c =
     let ps = c.args.picks.now in
     let p = part_of c.args.node.now in
-    items_are p (picks_of ps.places.now ps.valid.now ps.add) c.args.count _ _ (c.requires.count ∙ ap (λ (n : ℕ). n * p.width) (sym (length_picks ps.places.now ps.valid.now ps.add))) c.in_ok-places.ensures
+    items_are p (picks_of ps.places.now ps.valid.now ps.add) c.args.count _ _ (c.requires.count ∙ ap (λ (n : ℕ). n * p.width) (sym (length_picks ps.places.now ps.valid.now ps.add))) c.in_ok-places.ensures.places
     (λ m h. c.in_ok-valid.ensures.bits m h ∙ sym (item_there p ps.places.now ps.valid.now ps.add m (omega (arith, c.requires.count))))

@@ -20,5 +20,5 @@ loop-m-preserved c =
     more_items (part_of c.args.node.now) (picks_of ps.places.now ps.valid.now ps.add) c.loop-m.m c.unwrap_or-place.result c.loop-m.places.items _
     (λ y e. c.unwrap_or-place.ensures ∙ ap (λ o. unwrap_or o 0) (c.item_at.ensures ∙ e)) pushed c.loop-m.invariant
 
-pub returns : goal.returns
-returns c = subst (λ (n : ℕ). AreItemPlaces (part_of c.args.node.now) (picks_of c.args.picks.now.places.now c.args.picks.now.valid.now c.args.picks.now.add) n c.loop-m.places.items) (omega arith) c.loop-m.invariant
+pub returns-clause-places : goal.returns-clause-places
+returns-clause-places c = subst (λ (n : ℕ). AreItemPlaces (part_of c.args.node.now) (picks_of c.args.picks.now.places.now c.args.picks.now.valid.now c.args.picks.now.add) n c.loop-m.places.items) (omega arith) c.loop-m.invariant

@@ -2,6 +2,7 @@
 use Rattle.std.proofs.Common.{sym, arith}
 use Rattle.vx_arrow_image.specs.Image.{is_view, part_of}
 use Rattle.vx_arrow_columns.specs.Picks.{picks_of}
+use Rattle.vx_arrow_columns.proofs.Lacking.{not_at}
 use Rattle.vx_arrow_columns.proofs.PickReads.{length_picks}
 use Rattle.vx_arrow_columns.proofs.Steps.{all_hold, at_pick, hold_none, hold_some, none_hold}
 use Rattle.vx_arrow_columns.proofs.kept.are_views.Goals as goal
@@ -21,7 +22,12 @@ loop-k-preserved c =
       | in_default w ↦ hold_none p q (is_view (part_of c.args.node.now) c.args.lens.now) k (at_pick p ps.places.now ps.valid.now ps.add k _ c.loop-k-test.true w.in_default.ensures.place) c.loop-k.invariant
     ]
 
-pub returns : goal.returns
-returns c _ =
+pub returns-clause-all : goal.returns-clause-all
+returns-clause-all c _ =
     let ps = c.args.picks.now in
     all_hold (part_of c.args.node.now) (picks_of ps.places.now ps.valid.now ps.add) (is_view (part_of c.args.node.now) c.args.lens.now) c.loop-k.k (omega (arith, length_picks ps.places.now ps.valid.now ps.add)) c.loop-k.invariant
+
+pub returns-then-not-is_view-clause-some : goal.returns-then-not-is_view-clause-some
+returns-then-not-is_view-clause-some c _ =
+    let ps = c.args.picks.now in
+    not_at (part_of c.args.node.now) ps.places.now ps.valid.now ps.add (is_view (part_of c.args.node.now) c.args.lens.now) c.loop-k.k c.in-Some.i c.loop-k-test.true c.in-Some.ensures.place (sym c.if-not-is_view.ensures)

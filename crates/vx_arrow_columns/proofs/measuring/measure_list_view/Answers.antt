@@ -14,7 +14,7 @@ holds_starts-requires c = let end = placed_end (part_of c.args.node.now) c.requi
 pub holds_starts-requires-2 : goal.holds_starts-requires-2
 holds_starts-requires-2 c = let end = placed_end (part_of c.args.node.now) c.requires.placed in omega arith
 
-pub returns : goal.returns
-returns c =
+pub returns-clause-measured : goal.returns-clause-measured
+returns-clause-measured c =
     let ps = c.args.picks.now in
     list_view_measured c.args.size (part_of c.args.node.now) ps.places.now ps.valid.now ps.add c.requires.format c.requires.few c.requires.placed c.requires.within (omega arith) (sym c.if-not-holds_starts.ensures) (sym c.if-not-holds_starts-2.ensures)

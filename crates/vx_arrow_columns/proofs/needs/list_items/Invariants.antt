@@ -5,4 +5,4 @@ use Rattle.vx_arrow_columns.proofs.Steps.{ItemsTo}
 use Rattle.vx_arrow_columns.proofs.needs.list_items.Given as goal
 
 abbrev pub invariant-loop-k : goal.invariant-loop-k
-invariant-loop-k l = ItemsTo l.size (part_of l.node) (picks_of l.picks.places.now l.picks.valid.now l.picks.add) l.k l.total l.places.items l.last
+invariant-loop-k l = ItemsTo l.size (part_of l.node) (picks_of l.picks.places.now l.picks.valid.now l.picks.add) l.items l.k l.total l.places.items l.last

@@ -2,7 +2,9 @@
 use Rattle.std.proofs.Common.{◌≤◌, ◌<◌, sym, ◌∙◌, refl, arith, length}
 use Rattle.vx_arrow_image.specs.Image.{part_of}
 use Rattle.vx_arrow_columns.specs.Picks.{picks_of}
-use Rattle.vx_arrow_columns.proofs.PickReads.{length_picks}
+use Rattle.std.proofs.lemmas.Result.{err_from_is_err_and}
+use Rattle.vx_arrow_columns.proofs.Lacking.{fault_weaker, not_cut, too_long}
+use Rattle.vx_arrow_columns.proofs.PickReads.{length_picks, placed_end}
 use Rattle.vx_arrow_columns.proofs.Steps.{all_cut, at_pick, len_none, len_some, limit_few, no_len}
 use Rattle.vx_arrow_columns.proofs.Cuts.{len_all}
 use Rattle.vx_arrow_columns.proofs.needs.text_len.Goals as goal
@@ -31,8 +33,8 @@ loop-k-preserved c =
           (at_pick p ps.places.now ps.valid.now ps.add c.loop-k.k _ c.loop-k-test.true w.in_default.ensures.place) w.total-is c.loop-k.invariant
     ]
 
-pub returns : goal.returns
-returns c =
+pub returns-clause-len : goal.returns-clause-len
+returns-clause-len c =
     let p = part_of c.args.node.now in
     let ps = c.args.picks.now in
     let q = picks_of ps.places.now ps.valid.now ps.add in
@@ -43,3 +45,19 @@ returns c =
       len = t.len ∙ len_all c.args.size p q c.loop-k.k all;
       small = t.small;
     }
+
+pub holds_offsets-requires : goal.holds_offsets-requires
+holds_offsets-requires c = placed_end (part_of c.args.node.now) c.requires.placed
+
+pub returns-in_err-cut-clause-fault : goal.returns-in_err-cut-clause-fault
+returns-in_err-cut-clause-fault c =
+    let ps = c.args.picks.now in
+    let node = c.args.node.now in
+    let r = err_from_is_err_and c.from_residual.result c.from_residual.ensures.1 in
+    rw (r.1, r.2) (fault_weaker _ _ _ _ _ (λ other. not_cut c.args.size (part_of node) ps.places.now ps.valid.now ps.add (length node.values.now) c.loop-k.k c.in-Some.i c.loop-k-test.true c.in-Some.ensures.place other) (λ b. absurd b) c.in_err-cut.ensures.fault)
+
+pub returns-then-total-limit-clause-fault : goal.returns-then-total-limit-clause-fault
+returns-then-total-limit-clause-fault c =
+    let ps = c.args.picks.now in
+    too_long c.args.size (part_of c.args.node.now) ps.places.now ps.valid.now ps.add c.loop-k.k c.in-Some.i c.in_ok-cut.cut.start c.in_ok-cut.cut.end c.loop-k.total c.loop-k-test.true c.in-Some.ensures.place c.in_ok-cut.ensures.start c.in_ok-cut.ensures.end
+    c.loop-k.invariant.len (omega (arith, c.if-total-limit.true, c.limit.ensures))

@@ -21,7 +21,7 @@ pub returns-then-rooms-nodes-clause-refused : goal.returns-then-rooms-nodes-clau
 returns-then-rooms-nodes-clause-refused c same = absurd (c.if-rooms-nodes.true (omega (arith, length-map c.args.nodes.now part_of)))
 
 pub returns-in-Err-clause-refused : goal.returns-in-Err-clause-refused
-returns-in-Err-clause-refused c = refused_by c.args.nodes.now _ c.args.rooms.now _ c.in-Err.ensures.refused
+returns-in-Err-clause-refused c = refused_by c.args.nodes.now _ _ _ c.in-Err.ensures.refused
 
 pub returns-in-Some-clause-refused : goal.returns-in-Some-clause-refused
 returns-in-Some-clause-refused c same = short_of c.deref.result.now _ c.args.rooms.now _ (c.deref.ensures.value ∙ c.in-Ok.ensures.planned.needs) c.in-Some.ensures.short

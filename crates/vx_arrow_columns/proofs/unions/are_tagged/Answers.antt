@@ -3,6 +3,7 @@ use Rattle.std.proofs.Common.{sym, arith}
 use Rattle.vx_arrow_image.specs.Image.{has_child, part_of}
 use Rattle.vx_arrow_image.proofs.SoundNodes.{has_ids}
 use Rattle.vx_arrow_columns.specs.Picks.{picks_of}
+use Rattle.vx_arrow_columns.proofs.Lacking.{not_at}
 use Rattle.vx_arrow_columns.proofs.PickReads.{length_picks}
 use Rattle.vx_arrow_columns.proofs.Steps.{all_hold, at_pick, hold_none, hold_some, none_hold}
 use Rattle.vx_arrow_columns.proofs.unions.are_tagged.Goals as goal
@@ -28,7 +29,12 @@ loop-k-preserved c =
       | in_default w ↦ hold_none p q (has_child p) k (at_pick p ps.places.now ps.valid.now ps.add k _ c.loop-k-test.true w.in_default.ensures.place) c.loop-k.invariant
     ]
 
-pub returns : goal.returns
-returns c _ =
+pub returns-clause-all : goal.returns-clause-all
+returns-clause-all c _ =
     let ps = c.args.picks.now in
     all_hold (part_of c.args.node.now) (picks_of ps.places.now ps.valid.now ps.add) (has_child (part_of c.args.node.now)) c.loop-k.k (omega (arith, length_picks ps.places.now ps.valid.now ps.add)) c.loop-k.invariant
+
+pub returns-then-not-has_child-clause-some : goal.returns-then-not-has_child-clause-some
+returns-then-not-has_child-clause-some c _ =
+    let ps = c.args.picks.now in
+    not_at (part_of c.args.node.now) ps.places.now ps.valid.now ps.add (has_child (part_of c.args.node.now)) c.loop-k.k c.in-Some.i c.loop-k-test.true c.in-Some.ensures.place (sym c.if-not-has_child.ensures)

@@ -5,15 +5,17 @@ use Rattle.vx_arrow_image.specs.Image.{part_of, parts_of}
 use Rattle.std.specs.Prelude.{replicate}
 use Rattle.vx_arrow_columns.specs.declared.plan.Walk.{Walk}
 use Rattle.vx_arrow_columns.specs.Planned.{IsJobMeasured, IsVisited, picking_in}
+use Rattle.std.proofs.lemmas.Result.{err_from_is_err_and}
 use Rattle.vx_arrow_columns.proofs.Measures.{ok_then}
+use Rattle.vx_arrow_columns.proofs.SoundWalks.{job_refused}
 use Rattle.vx_arrow_columns.proofs.plan.Walk.visit.Goals as goal
 
-pub returns : goal.returns
-returns c =
+pub returns-clause-visited : goal.returns-clause-visited
+returns-clause-visited c =
     let old = c.args.self.now in
     let node = c.args.node.now in
     let job = c.in-Some.job in
-    let m = subst (λ (l : List Places). IsJobMeasured (part_of node) (picking_in c.args.places.now c.args.valid.now l job) (parts_of c.args.behind.now) c.in_ok-measure.measure) c.deref.ensures.value c.in_ok-measure.ensures in
+    let m = subst (λ (l : List Places). IsJobMeasured (part_of node) (picking_in c.args.places.now c.args.valid.now l job) (parts_of c.args.behind.now) c.in_ok-measure.measure) c.deref.ensures.value c.in_ok-measure.ensures.measured in
     let rest = c.pop.new.self.items in
     let popped : old.stack.items ≡ rest ++ job ∷ [] = search rules in
     let left : c.len-left.result ≡ length rest = omega (arith, c.len-left.ensures) in
@@ -31,7 +33,16 @@ returns c =
       stack = pushed;
       jobs = jobs;
       needs = needs ∙ ap (λ n. old.needs.items ++ n ∷ []) m.need;
-      next_is = c.in_ok-next.ensures;
+      next_is = c.in_ok-next.ensures.next;
       read = m.read;
       inner_is = m.children;
-    }) c.push_times.ensures
+      asks = m.asks;
+    }) c.push_times.ensures.pushed
+
+pub returns-in_err-measure-clause-fault : goal.returns-in_err-measure-clause-fault
+returns-in_err-measure-clause-fault c =
+    let old = c.args.self.now in
+    let rest = c.pop.new.self.items in
+    let popped : old.stack.items ≡ rest ++ c.in-Some.job ∷ [] = search rules in
+    let r = err_from_is_err_and c.from_residual.result c.from_residual.ensures.1 in
+    rw (r.1, r.2) (job_refused c.args.places.now c.args.valid.now c.args.node.now c.args.behind.now old c.deref.result.now rest c.in-Some.job _ c.deref.ensures.value popped c.in_err-measure.ensures.fault)
