@@ -103,7 +103,19 @@ pub(crate) fn push_parts(lines: &mut String, alloc: Global, row: &Value) -> Resu
     push_asked(lines, &plan)?;
     push_order(lines, &plan)?;
     if row.get("answers").is_some() {
-        return push_put(lines, alloc, &plan, &parts, &columns_at(alloc, row, "answers")?);
+        return push_put(
+            lines,
+            alloc,
+            &plan,
+            &parts,
+            &columns_at(alloc, row, "answers")?,
+        );
     }
-    push_put(lines, alloc, &plan, &parts, &answers_of(alloc, row, &parts, &plan)?)
+    push_put(
+        lines,
+        alloc,
+        &plan,
+        &parts,
+        &answers_of(alloc, row, &parts, &plan)?,
+    )
 }

@@ -62,7 +62,10 @@ fn records_of_width<const W: usize>(
     ensures { IfOk result (λ r. r ≡ records_in W bytes.now offset len) }
 {
     let (records, _) = bytes.as_chunks::<W>();
-    Buffer::from_vec(alloc, Vec::from_slice(alloc, &records[offset..offset + len])?)
+    Buffer::from_vec(
+        alloc,
+        Vec::from_slice(alloc, &records[offset..offset + len])?,
+    )
 }
 
 // The same, of the width of a type. Fails only with `NoMemory`.
