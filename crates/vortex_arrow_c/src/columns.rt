@@ -3,6 +3,7 @@ ghost use Rattle.std.specs.Prelude.{◌≡◌, ◌≢◌, IsSome, None};
 ghost use Rattle.vx_arrow_columns.specs.Answer.{AreKeptSound, MeansPicked};
 ghost use Rattle.vx_arrow_image.specs.Image.{column_in, parts_of};
 ghost use Rattle.vx_arrow_columns.specs.Picks.{needs_of, picking_of};
+ghost use Rattle.vx_arrow_columns.specs.Reached.{IsUncounted};
 ghost use Rattle.vx_arrow_columns.specs.Written.{written};
 
 use crate::answer::Answer;
@@ -24,6 +25,10 @@ pub extern "C" fn vortex_arrow_sizes(
 ) -> Answer
     ensures needs { result.status ≡ 0
         → needs.new ≡ needs_of (parts_of nodes.now) (picking_of places.now valid.now 0) }
+    ensures meaning { result.status ≡ 1 → column_in (parts_of nodes.now) ≡ None }
+    ensures format { result.status ≡ 8 → column_in (parts_of nodes.now) ≡ None }
+    ensures counted { result.status ≡ 4 → IsUncounted (parts_of nodes.now)
+        (picking_of places.now valid.now 0) result.node_or_step }
     ensures kept { result.status ≢ 0 → needs.new ≡ needs.old }
 {
     Answer::of(sizes(alloc, nodes, places, valid, needs))
@@ -58,6 +63,10 @@ pub extern "C" fn vortex_arrow_take(
     ensures sound { result.status ≡ 0 → AreKeptSound (parts_of nodes.now)
         (picking_of places.now valid.now 0) → IsSome (column_in
         (written (parts_of nodes.now) (picking_of places.now valid.now 0) rooms.new)) }
+    ensures meaning { result.status ≡ 1 → column_in (parts_of nodes.now) ≡ None }
+    ensures format { result.status ≡ 8 → column_in (parts_of nodes.now) ≡ None }
+    ensures counted { result.status ≡ 4 → IsUncounted (parts_of nodes.now)
+        (picking_of places.now valid.now 0) result.node_or_step }
     ensures kept { result.status ≢ 0 → rooms.new ≡ rooms.old }
 {
     Answer::of(take(alloc, nodes, places, valid, rooms))

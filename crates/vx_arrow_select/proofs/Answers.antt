@@ -25,13 +25,13 @@ use Rattle.vx_arrow.specs.declared.need.Need.{Need}
 use Rattle.vx_arrow_image.specs.declared.image.Node.{Node}
 use Rattle.vx_arrow_image.specs.declared.image.Room.{Room}
 use Rattle.vx_arrow_columns.specs.Answer.{MeansPicked}
-use Rattle.vx_arrow_columns.specs.Picks.{Picking, picks_of, pick_at}
+use Rattle.vx_arrow_columns.specs.Picks.{Picking, picking_of, picks_of, pick_at}
 use Rattle.vx_arrow_columns.specs.Planned.{first_len}
 use Rattle.vx_arrow_columns.specs.Written.{written}
 use Rattle.vx_arrow_columns.proofs.PickReads.{length_picks, get_picks}
 use Rattle.vx_arrow_columns.proofs.Trees.{column_len}
 use Rattle.vx_arrow_select.specs.Rows.{model_row, model_column}
-use Rattle.vx_arrow_select.specs.Selected.{IsAnswer, IsSelected}
+use Rattle.vx_arrow_select.specs.Selected.{AreComposed, IsAnswer, IsSelected}
 
 -- ---- the model's rows at picks
 
@@ -137,3 +137,10 @@ answered nodes steps q rooms c m = record {
       (answer_by (walk (length (model_column xs)) (steps_in steps)) (type_after t (steps_in steps)) xs q.picks
       (subst (λ (n : ℕ). IfPicks (walk_in n steps) (λ picks. q.picks ≡ picks)) (sym (length-map xs model_row ∙ first_rows nodes xs e)) c));
 }
+
+-- the same picks, by lists that are equal
+pub composed_by : (n m : ℕ) (steps : List StepParts) (places ps valid vs : List ℕ) → n ≡ m → ps ≡ places → vs ≡ valid → AreComposed n steps (picking_of places valid 0) → AreComposed m steps (picking_of ps vs 0)
+composed_by n m steps places ps valid vs e f g h =
+    subst (λ (k : ℕ). AreComposed k steps (picking_of ps vs 0)) e
+    (subst (λ (l : List ℕ). AreComposed n steps (picking_of l vs 0)) (sym f)
+    (subst (λ (l : List ℕ). AreComposed n steps (picking_of places l 0)) (sym g) h))

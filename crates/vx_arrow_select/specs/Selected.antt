@@ -1,5 +1,5 @@
 -- What steps leave of a column in memory.
-use Rattle.std.specs.Prelude.{◌≡◌, ℕ, List, Option, Some, None}
+use Rattle.std.specs.Prelude.{◌≡◌, ⊤, ℕ, List, Option, Some, None}
 use Rattle.vx_types.specs.TypeTree.{TypeTree}
 use Rattle.vx_steps.specs.Answer.{answer_of, answer_rows, type_after}
 use Rattle.vx_arrow.specs.Answer.{AreMeant, IfPicks, IsBroken, walk_in}
@@ -9,7 +9,9 @@ use Rattle.vx_arrow.specs.declared.refusal.Refusal.TheVariants as step_refusals
 use Rattle.vx_arrow_image.specs.declared.image.Need.{Need}
 use Rattle.vx_arrow_image.specs.declared.image.Node.{Node}
 use Rattle.vx_arrow_image.specs.declared.image.Room.{Room}
+use Rattle.vx_arrow_image.specs.declared.refusal.Refusal as columns
 use Rattle.vx_arrow_image.specs.Rows as rows
+use Rattle.vx_arrow_columns.specs.Answer as column_unmeant
 use Rattle.vx_arrow_image.specs.Image.{column_in, parts_of}
 use Rattle.vx_arrow_columns.specs.Picks.{Picking, needs_of}
 use Rattle.vx_arrow_columns.specs.Planned.{first_len}
@@ -52,7 +54,21 @@ IsStepFault n steps (step_refusals.Broken k cause) = IsBroken n steps k cause
 IsStepFault n steps (step_refusals.Room need) = AreMeant steps
 IsStepFault n steps step_refusals.NoMemory = AreMeant steps
 
--- of the refusals by the steps
-abbrev pub IsFault : List Node → List StepParts → Refusal → Type 0
-IsFault nodes steps (Steps refusal) = IsStepFault (first_len nodes) steps refusal
-IsFault nodes steps (Column refusal) = AreMeant steps
+-- each image of a step has a meaning, none is broken, and this holds of the picks that they leave
+pub record ArePicked (nodes : List Node) (steps : List StepParts) (P : Picking → Type 0)
+    : Type 0 where
+  pub meant : AreMeant steps
+  pub picks : Picking
+  pub composed : AreComposed (first_len nodes) steps picks
+  pub holds : P picks
+
+-- why there are no rows: by the steps, or why the column is refused at the picks that they leave
+abbrev pub IsFault : List Node → List StepParts → (Picking → columns.Refusal → Type 0) → Refusal
+    → Type 0
+IsFault nodes steps R (Steps refusal) = IsStepFault (first_len nodes) steps refusal
+IsFault nodes steps R (Column refusal) = ArePicked nodes steps (λ picks. R picks refusal)
+
+-- a column is said to have no meaning only where the table means none
+abbrev pub IsUnmeant : Option (List rows.RowValue) → Refusal → Type 0
+IsUnmeant column (Steps refusal) = ⊤
+IsUnmeant column (Column refusal) = column_unmeant.IsUnmeant column refusal

@@ -2,9 +2,11 @@
 ghost use Rattle.std.specs.Prelude.{◌≡◌, IfErr, IfOk, OnErr, OnOk, length, map};
 ghost use Rattle.vx_arrow.specs.Answer.{AreMeant, HasNeed};
 ghost use Rattle.vx_arrow.specs.Image.{step_parts};
+ghost use Rattle.vx_arrow_image.specs.Image.{column_in, parts_of};
+ghost use Rattle.vx_arrow_columns.specs.Answer.{IsNeedRefusal, IsRefusal};
 ghost use Rattle.vx_arrow_columns.specs.Picks.{picking_of};
 ghost use Rattle.vx_arrow_columns.specs.Planned.{first_len};
-ghost use Rattle.vx_arrow_select.specs.Selected.{AreComposed, AreNeeds, IsFault, IsStepFault, IsSelected};
+ghost use Rattle.vx_arrow_select.specs.Selected.{AreComposed, AreNeeds, IsFault, IsStepFault, IsSelected, IsUnmeant};
 
 use crate::refusal::Refusal;
 use std::alloc::Global;
@@ -73,7 +75,9 @@ pub fn room_for(
     needs: &mut [Need],
 ) -> Result<(), Refusal>
     ensures needs { OnOk result (AreNeeds nodes.now (map step_parts steps.now) needs.new) }
-    ensures fault { IfErr result (IsFault nodes.now (map step_parts steps.now)) }
+    ensures fault { IfErr result (IsFault nodes.now (map step_parts steps.now)
+        (λ picks. IsNeedRefusal (parts_of nodes.now) picks (length needs.old))) }
+    ensures meant { IfErr result (IsUnmeant (column_in (parts_of nodes.now))) }
     ensures kept { OnErr result (needs.new ≡ needs.old) }
 {
     let picks = composed(alloc, len_of(nodes), steps)?;
@@ -92,7 +96,9 @@ pub fn select(
 ) -> Result<(), Refusal>
     ensures answer { OnOk result
         (IsSelected nodes.now (map step_parts steps.now) rooms.new) }
-    ensures fault { IfErr result (IsFault nodes.now (map step_parts steps.now)) }
+    ensures fault { IfErr result (IsFault nodes.now (map step_parts steps.now)
+        (λ picks. IsRefusal (parts_of nodes.now) picks rooms.old)) }
+    ensures meant { IfErr result (IsUnmeant (column_in (parts_of nodes.now))) }
     ensures kept { OnErr result (rooms.new ≡ rooms.old) }
 {
     let picks = composed(alloc, len_of(nodes), steps)?;
