@@ -19,7 +19,7 @@ use Rattle.vx_arrow_image.proofs.SoundNodes.{sound_fits, sound_from}
 use Rattle.vx_arrow_columns.proofs.Columns.{placed, place_some, same_column}
 use Rattle.vx_arrow_columns.proofs.OwnTaken.{few_picks, held_by}
 use Rattle.vx_arrow_columns.proofs.RowsAt.{first_at, picked_at}
-use Rattle.vx_arrow_columns.proofs.PickReads.{get_picks, length_picks}
+use Rattle.vx_arrow_columns.proofs.PickReads.{get_picks, length_picks, place_below}
 use Rattle.vx_arrow_columns.proofs.Steps.{next_place}
 
 pub length_items : (p : Part) (q : List (Option ℕ)) → length (fixed_items p q) ≡ length q * p.width
@@ -187,3 +187,17 @@ one_bit old new m b f put e are j h = elim (cases_eq j m) as (λ _. bit_of new j
 -- rows of some width are fewer than their items
 pub some_width : (a b w : ℕ) → 0 < w → (a + b) * w < 2 ^ 60 → a + b < 2 ^ 60
 some_width a b w h e = let far = mul-le-mul_left {m = 1} {n = w} (a + b) (omega arith) in omega arith
+
+-- where item m stands
+pub record ItemFits (offset len width at m : ℕ) : Type 0 where
+  pub row : at < offset + len
+  pub small : offset + len < 2 ^ 60
+  pub next : at * width + width ≤ (offset + len) * width
+  pub rest : m % width < width
+
+pub item_fits : (offset len width : ℕ) (ps vs : List ℕ) (add m : ℕ) → 0 < width → m < length ps * width → AreWithin (picks_of ps vs add) len → (offset + len) * width < 2 ^ 60 → is_valid vs (m / width) ≡ true
+    → ItemFits offset len width (offset + (add + get_or ps (m / width) 0)) m
+item_fits offset len width ps vs add m some index within end there =
+    let below = place_below ps vs add len (m / width) within (list_below (length ps) width m index) there in
+    let low : offset + (add + get_or ps (m / width) 0) < offset + len = omega arith in
+    record { row = low; small = some_width offset len width some end; next = next_place (offset + (add + get_or ps (m / width) 0)) (offset + len) width low; rest = mod-lt m some }

@@ -1,18 +1,17 @@
 -- Why the rows of a node at picks are not there.
-use Rattle.std.proofs.Common.{◌≡◌, ℕ, ◌+◌, ◌-◌, ◌*◌, ◌^◌, ◌<◌, ◌≤◌, Bool, true, false, List, length, take, ltb, Option, Some, ap, sym, ◌∙◌, refl, subst, arith}
+use Rattle.std.proofs.Common.{◌≡◌, ℕ, ◌+◌, ◌*◌, ◌^◌, ◌<◌, ◌≤◌, Bool, true, false, List, length, ltb, Option, Some, ap, sym, ◌∙◌, subst, arith}
 use Rattle.std.specs.Prelude.{Result, Ok, Err, IfErr}
 use Rattle.std.proofs.lemmas.Bool.{and_left, and_parts, and_right, le-ltb}
 use Rattle.vx_arrow_image.specs.declared.format.Format.{Format}
 use Rattle.vx_arrow_image.specs.declared.format.Offsets.{Offsets}
 use Rattle.vx_arrow_columns.specs.declared.faults.Fault.{Fault}
 use Rattle.vx_arrow_columns.specs.declared.faults.Fault.TheVariants as faults
-use Rattle.vx_arrow_image.specs.Image.{Part, holds_valid, is_cut, is_placed, limit_of, offset_at}
-use Rattle.vx_arrow_columns.specs.Picks.{Picking, counts_by, is_counted, items_len, pick_at, picks_of, place_of}
+use Rattle.vx_arrow_image.specs.Image.{Part, holds_valid, is_cut, is_placed}
+use Rattle.vx_arrow_columns.specs.Picks.{Picking, counts_by, is_counted, pick_at, picks_of, place_of}
 use Rattle.vx_arrow_columns.specs.Sound.{HoldsBelow, IsAskedFault, IsFault, IsJobFault, IsNodeFault, IsOwnFault, IsSoundAt}
 use Rattle.vx_arrow_columns.specs.Taken.{AllAt, AreCutAt, Holds}
-use Rattle.vx_arrow_columns.proofs.Cuts.{len_within}
 use Rattle.vx_arrow_columns.proofs.PickReads.{length_picks}
-use Rattle.vx_arrow_columns.proofs.Steps.{at_pick, next_len, row_some}
+use Rattle.vx_arrow_columns.proofs.Steps.{at_pick}
 
 pub err_weaker : {T E : Type 0} (P Q : E → Type 0) (r : Result T E) → ((e : E) → P e → Q e) → IfErr r P → IfErr r Q
 err_weaker P Q (Ok x) f h = h
@@ -67,15 +66,6 @@ not_at p ps vs add f k i low there other a = differ (f i) (a.all k i (omega (ari
 
 pub not_cut : (z : Offsets) (p : Part) (ps vs : List ℕ) (add count k i : ℕ) → k < length ps → Some i ≡ place_of p (pick_at ps vs add k) → is_cut z p count i ≡ false → AreCutAt z p (picks_of ps vs add) count → ⊥
 not_cut z p ps vs add count k i low there other a = not_at p ps vs add (is_cut z p count) k i low there other (record { all = a.cut })
-
--- the items so far, and those of one row more, are too many
-pub too_long : (z : Offsets) (p : Part) (ps vs : List ℕ) (add k i s e total : ℕ) → k < length ps → Some i ≡ place_of p (pick_at ps vs add k) → s ≡ offset_at z p.offsets i → e ≡ offset_at z p.offsets (i + 1) → total ≡ items_len z p (take k (picks_of ps vs add)) → limit_of z ≤ total + (e - s)
-    → limit_of z ≤ items_len z p (picks_of ps vs add)
-too_long z p ps vs add k i s e total low there from to was many =
-    let q = picks_of ps vs add in
-    let few : k < length q = omega (arith, length_picks ps vs add) in
-    let next = next_len z p q k total (total + (e - s)) (Some i) few (at_pick p ps vs add k (Some i) low there) was (row_some z p i s e total (total + (e - s)) from to refl) in
-    omega (arith, len_within z p q k few)
 
 -- the picks of a node are those of a job that is not kept
 pub job_fault : (p : Part) (q own : Picking) (lens : List ℕ) (end : ℕ) (e : Fault) → q ≡ own → q.kept ≡ false → IsAskedFault p q.picks lens end e → IsJobFault p own lens end e

@@ -7,6 +7,7 @@ pub mod Lacking
 pub mod FixedLists
 pub mod KeptRows
 pub mod Meant
+pub mod MeasureSteps
 pub mod Measures
 pub mod OffsetPuts
 pub mod OwnTaken

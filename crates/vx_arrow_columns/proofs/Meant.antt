@@ -25,7 +25,7 @@ use Rattle.vx_arrow_columns.proofs.FixedLists.{items_within}
 use Rattle.vx_arrow_columns.proofs.Measures.{below_within}
 use Rattle.vx_arrow_columns.proofs.PickReads.{all_picks, placed_end}
 use Rattle.vx_arrow_columns.proofs.Plans.{long_at, moved_within, none_within}
-use Rattle.vx_arrow_columns.proofs.Steps.{cut_any, items_all, items_more, items_zero, more_below, none_below, same_below}
+use Rattle.vx_arrow_columns.proofs.MeasureSteps.{cut_any, items_all, items_more, items_zero, more_below, none_below, same_below}
 use Rattle.vx_arrow_columns.proofs.Trees.{child_columns, columns_lens, drop_first, drop_next, lens_more, no_lens, only_some, opened}
 
 -- ---- one node

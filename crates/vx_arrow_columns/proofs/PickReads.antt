@@ -105,3 +105,7 @@ moved_picks ps vs a m by n w few e =
     ∙ moved_pick (is_valid vs k) m a by (get_or ps k 0) (λ there. let low = place_below ps vs a n k w below there in let s = e (omega arith) in omega arith)
     ∙ ap f (sym (get_picks ps vs a k below))
     ∙ sym (get_or-map f (picks_of ps vs a) k None None (omega (arith, length_picks ps vs a))))
+
+-- the row of a pick that is there has a place
+pub row_fits : (p : Part) (ps vs : List ℕ) (add k : ℕ) → is_placed p ≡ true → AreWithin (picks_of ps vs add) p.len → k < length ps → is_valid vs k ≡ true → (add + get_or ps k 0 < p.len) × (p.offset + p.len < 2 ^ 60)
+row_fits p ps vs add k placed within low there = (place_below ps vs add p.len k within low there, placed_end p placed)

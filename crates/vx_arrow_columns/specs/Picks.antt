@@ -86,45 +86,21 @@ inner_picks (Some (ListView z)) p q = []
 inner_picks (Some Union) p q = map (option_map (λ i. p.offset + i)) q
 
 abbrev pub inner_nullable : Option Format → Bool → Bool
-inner_nullable None b = false
-inner_nullable (Some Nulls) b = false
-inner_nullable (Some Bits) b = false
-inner_nullable (Some Fixed) b = false
-inner_nullable (Some (Text z)) b = false
 inner_nullable (Some Struct) b = b
-inner_nullable (Some (Lists z)) b = false
 inner_nullable (Some FixedList) b = b
-inner_nullable (Some TextView) b = false
-inner_nullable (Some (ListView z)) b = false
 inner_nullable (Some Union) b = b
+inner_nullable f b = false
 
 -- whether the children of a node are kept
 abbrev pub keeps : Option Format → Bool
-keeps None = false
-keeps (Some Nulls) = false
-keeps (Some Bits) = false
-keeps (Some Fixed) = false
-keeps (Some (Text z)) = false
-keeps (Some Struct) = false
-keeps (Some (Lists z)) = false
-keeps (Some FixedList) = false
 keeps (Some TextView) = true
 keeps (Some (ListView z)) = true
-keeps (Some Union) = false
+keeps f = false
 
 -- whether the rows are those of a union, which are never null
 abbrev pub tags : Option Format → Bool
-tags None = false
-tags (Some Nulls) = false
-tags (Some Bits) = false
-tags (Some Fixed) = false
-tags (Some (Text z)) = false
-tags (Some Struct) = false
-tags (Some (Lists z)) = false
-tags (Some FixedList) = false
-tags (Some TextView) = false
-tags (Some (ListView z)) = false
 tags (Some Union) = true
+tags f = false
 
 abbrev pub is_union : List Part → Bool
 is_union [] = false
@@ -155,17 +131,9 @@ bytes_for n = (n + 7) / 8
 
 -- whether bits of validity are written: where the column or the picks have some
 abbrev pub shows_by : Option Format → Bool → Bool
-shows_by None b = b
 shows_by (Some Nulls) b = false
-shows_by (Some Bits) b = b
-shows_by (Some Fixed) b = b
-shows_by (Some (Text z)) b = b
-shows_by (Some Struct) b = b
-shows_by (Some (Lists z)) b = b
-shows_by (Some FixedList) b = b
-shows_by (Some TextView) b = b
-shows_by (Some (ListView z)) b = b
 shows_by (Some Union) b = false
+shows_by f b = b
 
 abbrev pub shows_valid : Part → Picking → Bool
 shows_valid p q = shows_by p.format (has_bits p.valid || q.nullable)

@@ -1,7 +1,7 @@
 -- The rows so far.
 use Rattle.vx_arrow_image.specs.Image.{is_list_view, part_of}
 use Rattle.vx_arrow_columns.specs.Picks.{picks_of}
-use Rattle.vx_arrow_columns.proofs.Steps.{AllTo}
+use Rattle.vx_arrow_columns.proofs.MeasureSteps.{AllTo}
 use Rattle.vx_arrow_columns.proofs.kept.are_list_views.Given as goal
 
 abbrev pub invariant-loop-k : goal.invariant-loop-k

@@ -23,13 +23,7 @@ pub returns-clause-fault : goal.returns-clause-fault
 returns-clause-fault c = leaf_fault (part_of c.args.node.now) (the_picks c.args.picks.now) Fixed c.leaf.result c.requires.format (λ h. h.0) c.leaf.ensures.fault
 
 pub returns-in_default-checked_mul-clause-fault : goal.returns-in_default-checked_mul-clause-fault
-returns-in_default-checked_mul-clause-fault c =
-    let ps = c.args.picks.now in
-    let node = c.args.node.now in
-    many_wide (part_of node) ps.places.now ps.valid.now ps.add Fixed node.width (2 ^ 63) c.requires.format refl (omega (arith, c.in_default-checked_mul.ensures))
+returns-in_default-checked_mul-clause-fault c = let ps = c.args.picks.now in many_wide (part_of c.args.node.now) ps.places.now ps.valid.now ps.add Fixed c.args.node.now.width (2 ^ 63) c.requires.format refl (omega (arith, c.in_default-checked_mul.ensures))
 
 pub returns-then-values-clause-fault : goal.returns-then-values-clause-fault
-returns-then-values-clause-fault c =
-    let ps = c.args.picks.now in
-    let node = c.args.node.now in
-    many_wide (part_of node) ps.places.now ps.valid.now ps.add Fixed node.width (2 ^ 63) c.requires.format refl (omega (arith, c.in-Some-checked_mul.ensures.1, c.if-values.true))
+returns-then-values-clause-fault c = let ps = c.args.picks.now in many_wide (part_of c.args.node.now) ps.places.now ps.valid.now ps.add Fixed c.args.node.now.width (2 ^ 63) c.requires.format refl (omega (arith, c.in-Some-checked_mul.ensures.1, c.if-values.true))

@@ -34,13 +34,7 @@ returns-then-end-first_len-clause-fault c =
     omega (arith, one_len p nodes h.0, c.first_len.ensures, c.in-Some.ensures.1, c.if-end-first_len.true))
 
 pub returns-in_default-checked_mul-clause-fault : goal.returns-in_default-checked_mul-clause-fault
-returns-in_default-checked_mul-clause-fault c =
-    let ps = c.args.picks.now in
-    let node = c.args.node.now in
-    many_wide (part_of node) ps.places.now ps.valid.now ps.add FixedList node.width (2 ^ 60) c.requires.format refl (omega (arith, c.in_default-checked_mul.ensures))
+returns-in_default-checked_mul-clause-fault c = let ps = c.args.picks.now in many_wide (part_of c.args.node.now) ps.places.now ps.valid.now ps.add FixedList c.args.node.now.width (2 ^ 60) c.requires.format refl (omega (arith, c.in_default-checked_mul.ensures))
 
 pub returns-then-count-clause-fault : goal.returns-then-count-clause-fault
-returns-then-count-clause-fault c =
-    let ps = c.args.picks.now in
-    let node = c.args.node.now in
-    many_wide (part_of node) ps.places.now ps.valid.now ps.add FixedList node.width (2 ^ 60) c.requires.format refl (omega (arith, c.in-Some-checked_mul.ensures.1, c.if-count.true))
+returns-then-count-clause-fault c = let ps = c.args.picks.now in many_wide (part_of c.args.node.now) ps.places.now ps.valid.now ps.add FixedList c.args.node.now.width (2 ^ 60) c.requires.format refl (omega (arith, c.in-Some-checked_mul.ensures.1, c.if-count.true))

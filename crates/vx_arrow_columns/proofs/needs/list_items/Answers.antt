@@ -3,9 +3,10 @@ use Rattle.std.proofs.Common.{◌≤◌, ◌<◌, ap, sym, ◌∙◌, refl, arit
 use Rattle.vx_arrow_image.specs.Image.{part_of}
 use Rattle.vx_arrow_columns.specs.Picks.{picks_of}
 use Rattle.std.proofs.lemmas.Result.{err_from_is_err_and}
-use Rattle.vx_arrow_columns.proofs.Lacking.{fault_weaker, not_cut, too_long}
+use Rattle.vx_arrow_columns.proofs.Lacking.{fault_weaker, not_cut}
 use Rattle.vx_arrow_columns.proofs.PickReads.{length_picks, placed_end}
-use Rattle.vx_arrow_columns.proofs.Steps.{all_cut, at_pick, cut_any, items_all, limit_few, no_places, places_none, places_some}
+use Rattle.vx_arrow_columns.proofs.Steps.{len_after, at_pick}
+use Rattle.vx_arrow_columns.proofs.MeasureSteps.{all_cut, cut_any, items_all, limit_few, no_places, places_none, places_some}
 use Rattle.vx_arrow_columns.proofs.Cuts.{len_all}
 use Rattle.vx_arrow_columns.proofs.needs.list_items.Goals as goal
 use Rattle.vx_arrow_columns.proofs.needs.list_items.Goals.{in-Some+in_ok-cut+else-total-limit+in_ok-push_range, in_default}
@@ -64,5 +65,5 @@ returns-in_err-cut-clause-fault c =
 pub returns-then-total-limit-clause-fault : goal.returns-then-total-limit-clause-fault
 returns-then-total-limit-clause-fault c =
     let ps = c.args.picks.now in
-    too_long c.args.size (part_of c.args.node.now) ps.places.now ps.valid.now ps.add c.loop-k.k c.in-Some.i c.in_ok-cut.cut.start c.in_ok-cut.cut.end c.loop-k.total c.loop-k-test.true c.in-Some.ensures.place c.in_ok-cut.ensures.start c.in_ok-cut.ensures.end
-    c.loop-k.invariant.lens.len (omega (arith, c.if-total-limit.true, c.limit.ensures))
+    let new = len_after c.args.size (part_of c.args.node.now) ps.places.now ps.valid.now ps.add c.loop-k.k c.in-Some.i _ _ c.loop-k.total _ c.loop-k-test.true c.in-Some.ensures.place c.in_ok-cut.ensures.start c.in_ok-cut.ensures.end refl c.loop-k.invariant.lens.len in
+    omega (arith, c.if-total-limit.true, c.limit.ensures)

@@ -1,7 +1,7 @@
 -- The items of the lists so far, tested and counted.
 use Rattle.vx_arrow_image.specs.Image.{part_of}
 use Rattle.vx_arrow_columns.specs.Picks.{picks_of}
-use Rattle.vx_arrow_columns.proofs.Steps.{ItemsTo}
+use Rattle.vx_arrow_columns.proofs.MeasureSteps.{ItemsTo}
 use Rattle.vx_arrow_columns.proofs.needs.list_items.Given as goal
 
 abbrev pub invariant-loop-k : goal.invariant-loop-k

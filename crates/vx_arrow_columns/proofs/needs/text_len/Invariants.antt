@@ -2,7 +2,7 @@
 use Rattle.std.proofs.Common.{length}
 use Rattle.vx_arrow_image.specs.Image.{part_of}
 use Rattle.vx_arrow_columns.specs.Picks.{picks_of}
-use Rattle.vx_arrow_columns.proofs.Steps.{LenTo}
+use Rattle.vx_arrow_columns.proofs.MeasureSteps.{LenTo}
 use Rattle.vx_arrow_columns.proofs.needs.text_len.Given as goal
 
 abbrev pub invariant-loop-k : goal.invariant-loop-k

@@ -5,7 +5,8 @@ use Rattle.vx_arrow_image.proofs.SoundNodes.{has_ids}
 use Rattle.vx_arrow_columns.specs.Picks.{picks_of}
 use Rattle.vx_arrow_columns.proofs.Lacking.{not_at}
 use Rattle.vx_arrow_columns.proofs.PickReads.{length_picks}
-use Rattle.vx_arrow_columns.proofs.Steps.{all_hold, at_pick, hold_none, hold_some, none_hold}
+use Rattle.vx_arrow_columns.proofs.Steps.{at_pick}
+use Rattle.vx_arrow_columns.proofs.MeasureSteps.{all_hold, hold_none, hold_some, none_hold}
 use Rattle.vx_arrow_columns.proofs.unions.are_tagged.Goals as goal
 use Rattle.vx_arrow_columns.proofs.unions.are_tagged.Goals.{in-Some+else-not-has_child, in_default}
 

@@ -1,32 +1,17 @@
 -- What the format's lemma asks for.
-use Rattle.std.proofs.Common.{ℕ, length, Some, ap, sym, subst, arith}
-use Rattle.vx_arrow_image.specs.declared.format.Format.TheVariants.{Bits}
+use Rattle.std.proofs.Common.{ℕ, sym, subst, arith}
 use Rattle.vx_arrow_image.specs.Image.{part_of}
-use Rattle.vx_arrow_columns.specs.Picks.{picking_of}
+use Rattle.vx_arrow_columns.specs.Asked.{the_picking, the_picks}
 use Rattle.vx_arrow_columns.specs.Taken.{AreBits}
 use Rattle.vx_arrow_columns.proofs.OwnTaken.{bits_taken}
-use Rattle.vx_arrow_columns.proofs.PickReads.{length_picks}
-use Rattle.vx_arrow_columns.proofs.Rooms.{held_valid, room_values, roomy}
+use Rattle.vx_arrow_columns.proofs.Rooms.{left}
 use Rattle.vx_arrow_columns.proofs.writing.write_bits_node.Goals as goal
 
 pub write_bits-requires-clause-room : goal.write_bits-requires-clause-room
-write_bits-requires-clause-room c =
-    let p = part_of c.args.node.now in
-    let ps = c.args.picks.now in
-    let q = picking_of ps.places.now ps.valid.now ps.add in
-    let count = length_picks ps.places.now ps.valid.now ps.add in
-    let r = roomy p q _ _ _ _ c.requires.room in
-    let values = room_values p q (Some Bits) _ c.requires.format r.values in
-    omega (arith, ap (λ x. length x.now) c.write_valid_of.ensures.values)
+write_bits-requires-clause-room c = let l = left _ _ _ _ _ c.requires c.write_valid_of.ensures in omega (arith, l.values, l.count)
 
 pub returns : goal.returns
 returns c =
-    let p = part_of c.args.node.now in
-    let ps = c.args.picks.now in
-    let q = picking_of ps.places.now ps.valid.now ps.add in
-    let count = length_picks ps.places.now ps.valid.now ps.add in
-    let r = roomy p q _ _ _ _ c.requires.room in
-    let values = room_values p q (Some Bits) _ c.requires.format r.values in
-    bits_taken p q _ _ _ _ c.requires.format c.requires.readable c.write_valid_of.ensures.shows (held_valid p q _ _ r.valid c.write_valid_of.ensures.long)
-    (omega (arith, c.write_bits.auto.out, ap (λ x. length x.now) c.write_valid_of.ensures.values))
-    (subst (λ (n : ℕ). AreBits p q.picks n c.write_bits.new.out) (sym count) c.write_bits.ensures)
+    let l = left _ _ _ _ _ c.requires c.write_valid_of.ensures in
+    bits_taken (part_of c.args.node.now) (the_picking c.args.picks.now) _ _ _ _ c.requires.format c.requires.readable l.shows l.valid (omega (arith, c.write_bits.auto.out, l.values))
+    (subst (λ (n : ℕ). AreBits (part_of c.args.node.now) (the_picks c.args.picks.now) n c.write_bits.new.out) (sym l.count) c.write_bits.ensures)

@@ -4,7 +4,8 @@ use Rattle.vx_arrow_image.specs.Image.{part_of}
 use Rattle.vx_arrow_columns.specs.Picks.{items_len, picks_of}
 use Rattle.vx_arrow_columns.proofs.Cuts.{len_within}
 use Rattle.vx_arrow_columns.proofs.PickReads.{length_picks}
-use Rattle.vx_arrow_columns.proofs.Steps.{at_pick, first_offset, limit_few, next_len, next_offset, row_none, row_some}
+use Rattle.vx_arrow_columns.proofs.Steps.{len_after, at_pick, first_offset, next_len, next_offset, row_none, row_some}
+use Rattle.vx_arrow_columns.proofs.MeasureSteps.{limit_few}
 use Rattle.vx_arrow_columns.proofs.writing.write_offsets.Goals as goal
 use Rattle.vx_arrow_columns.proofs.writing.write_offsets.Goals.{in-Some, in_default}
 
@@ -21,24 +22,16 @@ overflow_sub-at c =
 
 pub overflow_add-at : goal.overflow_add-at
 overflow_add-at c =
-    let z = c.args.size in
-    let p = part_of c.args.node.now in
     let ps = c.args.picks.now in
-    let q = picks_of ps.places.now ps.valid.now ps.add in
-    let low : c.loop-k.k < length q = omega (arith, length_picks ps.places.now ps.valid.now ps.add) in
-    let there = at_pick p ps.places.now ps.valid.now ps.add c.loop-k.k _ c.loop-k-test.true c.in-Some.ensures.place in
-    let new = next_len z p q c.loop-k.k c.loop-k.at _ _ low there c.loop-k.invariant.len (row_some z p c.in-Some.i _ _ c.loop-k.at _ c.cut_at-cut.ensures.start c.cut_at-cut.ensures.end refl) in
-    let within = len_within z p q c.loop-k.k low in
-    let counted = c.requires.counted in
-    let few = limit_few z in
-    omega arith
+    let new = len_after c.args.size (part_of c.args.node.now) ps.places.now ps.valid.now ps.add c.loop-k.k c.in-Some.i _ _ c.loop-k.at _ c.loop-k-test.true c.in-Some.ensures.place c.cut_at-cut.ensures.start c.cut_at-cut.ensures.end refl c.loop-k.invariant.len in
+    omega (arith, c.requires.counted, limit_few c.args.size)
 
 pub put_offset-requires-in-loop-k-clause-small : goal.put_offset-requires-in-loop-k-clause-small
 put_offset-requires-in-loop-k-clause-small c =
     let z = c.args.size in
+    let k = c.loop-k.k in
     let p = part_of c.args.node.now in
     let ps = c.args.picks.now in
-    let k = c.loop-k.k in
     let q = picks_of ps.places.now ps.valid.now ps.add in
     let low : k < length q = omega (arith, length_picks ps.places.now ps.valid.now ps.add) in
     let new : c.match-place.at ≡ items_len z p (take (k + 1) q) = elim c.match-place.branch [

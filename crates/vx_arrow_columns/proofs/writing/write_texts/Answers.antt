@@ -7,7 +7,7 @@ use Rattle.vx_arrow_columns.specs.Taken.{AreCutAt}
 use Rattle.vx_arrow_image.proofs.CutRows.{cut_end, cut_up}
 use Rattle.vx_arrow_columns.proofs.Cuts.{len_within}
 use Rattle.vx_arrow_columns.proofs.PickReads.{length_picks}
-use Rattle.vx_arrow_columns.proofs.Steps.{all_texts, at_pick, next_len, no_texts, row_some, text_kept, text_put}
+use Rattle.vx_arrow_columns.proofs.Steps.{len_after, all_texts, at_pick, next_len, no_texts, row_some, text_kept, text_put}
 use Rattle.vx_arrow_columns.proofs.writing.write_texts.Goals as goal
 use Rattle.vx_arrow_columns.proofs.writing.write_texts.Goals.{in-Some, in_default}
 
@@ -23,47 +23,23 @@ text_within z p ps vs add k i s e cut h there from to =
     (omega (arith, cut_up z p (length p.values) i own), omega (arith, cut_end z p (length p.values) i own))
 
 pub slice_bounds-put_bytes-count : goal.slice_bounds-put_bytes-count
-slice_bounds-put_bytes-count c =
-    let ps = c.args.picks.now in
-    let w = text_within c.args.size (part_of c.args.node.now) ps.places.now ps.valid.now ps.add c.loop-k.k c.in-Some.i c.cut_at-cut.result.start c.cut_at-cut.result.end c.requires.cut c.loop-k-test.true c.in-Some.ensures.place c.cut_at-cut.ensures.start c.cut_at-cut.ensures.end in
-    omega (arith, w.0, w.1)
+slice_bounds-put_bytes-count c = let ps = c.args.picks.now in let w = text_within c.args.size (part_of c.args.node.now) ps.places.now ps.valid.now ps.add c.loop-k.k c.in-Some.i _ _ c.requires.cut c.loop-k-test.true c.in-Some.ensures.place c.cut_at-cut.ensures.start c.cut_at-cut.ensures.end in omega (arith, w.0, w.1)
 
 pub slice_bounds-put_bytes-start : goal.slice_bounds-put_bytes-start
-slice_bounds-put_bytes-start c =
-    let ps = c.args.picks.now in
-    let w = text_within c.args.size (part_of c.args.node.now) ps.places.now ps.valid.now ps.add c.loop-k.k c.in-Some.i c.cut_at-cut.result.start c.cut_at-cut.result.end c.requires.cut c.loop-k-test.true c.in-Some.ensures.place c.cut_at-cut.ensures.start c.cut_at-cut.ensures.end in
-    omega (arith, w.0, w.1)
+slice_bounds-put_bytes-start c = let ps = c.args.picks.now in let w = text_within c.args.size (part_of c.args.node.now) ps.places.now ps.valid.now ps.add c.loop-k.k c.in-Some.i _ _ c.requires.cut c.loop-k-test.true c.in-Some.ensures.place c.cut_at-cut.ensures.start c.cut_at-cut.ensures.end in omega (arith, w.0, w.1)
 
 pub slice_bounds-put_bytes-end : goal.slice_bounds-put_bytes-end
-slice_bounds-put_bytes-end c =
-    let ps = c.args.picks.now in
-    let w = text_within c.args.size (part_of c.args.node.now) ps.places.now ps.valid.now ps.add c.loop-k.k c.in-Some.i c.cut_at-cut.result.start c.cut_at-cut.result.end c.requires.cut c.loop-k-test.true c.in-Some.ensures.place c.cut_at-cut.ensures.start c.cut_at-cut.ensures.end in
-    omega (arith, w.0, w.1)
+slice_bounds-put_bytes-end c = let ps = c.args.picks.now in let w = text_within c.args.size (part_of c.args.node.now) ps.places.now ps.valid.now ps.add c.loop-k.k c.in-Some.i _ _ c.requires.cut c.loop-k-test.true c.in-Some.ensures.place c.cut_at-cut.ensures.start c.cut_at-cut.ensures.end in omega (arith, w.0, w.1)
 
 pub overflow_sub-at : goal.overflow_sub-at
-overflow_sub-at c =
-    let ps = c.args.picks.now in
-    let w = text_within c.args.size (part_of c.args.node.now) ps.places.now ps.valid.now ps.add c.loop-k.k c.in-Some.i c.cut_at-cut.result.start c.cut_at-cut.result.end c.requires.cut c.loop-k-test.true c.in-Some.ensures.place c.cut_at-cut.ensures.start c.cut_at-cut.ensures.end in
-    omega (arith, w.0, w.1)
+overflow_sub-at c = let ps = c.args.picks.now in let w = text_within c.args.size (part_of c.args.node.now) ps.places.now ps.valid.now ps.add c.loop-k.k c.in-Some.i _ _ c.requires.cut c.loop-k-test.true c.in-Some.ensures.place c.cut_at-cut.ensures.start c.cut_at-cut.ensures.end in omega (arith, w.0, w.1)
 
 pub put_bytes-requires : goal.put_bytes-requires
 put_bytes-requires c =
-    let z = c.args.size in
-    let p = part_of c.args.node.now in
     let ps = c.args.picks.now in
-    let k = c.loop-k.k in
-    let q = picks_of ps.places.now ps.valid.now ps.add in
-    let low : k < length q = omega (arith, length_picks ps.places.now ps.valid.now ps.add) in
-    let there = at_pick p ps.places.now ps.valid.now ps.add k _ c.loop-k-test.true c.in-Some.ensures.place in
-    let own = c.requires.cut.cut k c.in-Some.i low there in
-    let up = cut_up z p (length p.values) c.in-Some.i own in
-    let end = cut_end z p (length p.values) c.in-Some.i own in
-    let from = c.cut_at-cut.ensures.start in
-    let to = c.cut_at-cut.ensures.end in
-    let new = next_len z p q k c.loop-k.at _ _ low there c.loop-k.invariant.len (row_some z p c.in-Some.i _ _ c.loop-k.at _ from to refl) in
-    let within = len_within z p q k low in
-    let room = c.requires.room in
-    omega (arith, c.loop-k.auto.out)
+    let w = text_within c.args.size (part_of c.args.node.now) ps.places.now ps.valid.now ps.add c.loop-k.k c.in-Some.i _ _ c.requires.cut c.loop-k-test.true c.in-Some.ensures.place c.cut_at-cut.ensures.start c.cut_at-cut.ensures.end in
+    let new = len_after c.args.size (part_of c.args.node.now) ps.places.now ps.valid.now ps.add c.loop-k.k c.in-Some.i _ _ c.loop-k.at _ c.loop-k-test.true c.in-Some.ensures.place c.cut_at-cut.ensures.start c.cut_at-cut.ensures.end refl c.loop-k.invariant.len in
+    omega (arith, w.0, w.1, c.requires.room, c.loop-k.auto.out)
 
 pub loop-k-preserved : goal.loop-k-preserved
 loop-k-preserved c =
