@@ -1,6 +1,11 @@
 pub mod AllPlaces
 pub mod CellRows
 pub mod FieldRows
+pub mod FixedSpans
 pub mod GatheredRows
+pub mod JoinedRows
+pub mod ListCells
 pub mod Shown
+pub mod ShownRows
 pub mod TextRows
+pub mod ViewSpans

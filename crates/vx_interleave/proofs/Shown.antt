@@ -1,6 +1,6 @@
 -- Rows under their validity.
 use Rattle.std.proofs.Common.{◌≡◌, ℕ, Bool, true, List, [], ◌∷◌, length, map, refl, sym, ap, ◌∙◌}
-use Rattle.std.specs.Prelude.{IfOk, Result, Ok, Err}
+use Rattle.std.specs.Prelude.{IfOk, OnOk, Result, Ok, Err}
 use Rattle.std.proofs.lemmas.List.{length-map}
 use Rattle.vx_types.specs.RowValue.{RowValue, null, bit, bytes, list, fields, tagged}
 use Rattle.vx_types.specs.TypeTree.{TypeKind}
@@ -49,3 +49,7 @@ nulls Nullable rows v is = ap nullability_by is
 pub if_ok : {T E : Type 0} (P Q : T → Type 0) (r : Result T E) → IfOk r P → ((x : T) → P x → Q x) → IfOk r Q
 if_ok P Q (Ok x) h f = f x h
 if_ok P Q (Err e) h f = h
+
+pub on_ok : {T E : Type 0} (P Q : Type 0) (r : Result T E) → OnOk r P → (P → Q) → OnOk r Q
+on_ok P Q (Ok x) h f = f h
+on_ok P Q (Err e) h f = h

@@ -1,4 +1,5 @@
 pub mod Gathered
+pub mod Lists
 pub mod Places
 pub mod Rows
 pub mod Sources

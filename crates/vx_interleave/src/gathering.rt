@@ -8,6 +8,7 @@ ghost use Rattle.vx_interleave.specs.Rows.{AreCellsOf, rows_in, shown_as};
 ghost use Rattle.vx_interleave.specs.Structs.{AreFields};
 
 use crate::flat::gather_scalars;
+use crate::lists::{gather_lists, joined_lists};
 use crate::structs::{field_cells, gather_structs};
 use std::alloc::Global;
 use vx_bits::NoMemory;
@@ -40,6 +41,11 @@ pub(crate) fn gather(alloc: Global, dtype: &DType, cells: &[Cell<'_>]) -> Result
         (λ a. a.rows ≡ map (shown_as (type_of dtype.now)) (rows_in cells.now)) }
 {
     match dtype {
+        DType::List(element, n) => {
+            let lists = joined_lists(alloc, dtype, element.dtype(), cells)?;
+            let elements = gather(alloc, element.dtype(), &lists.cells)?;
+            gather_lists(alloc, *n, lists.starts, elements, cells)
+        }
         DType::Struct(fields, n) => {
             let columns = gather_fields(alloc, fields, cells)?;
             gather_structs(alloc, fields, *n, columns, cells)

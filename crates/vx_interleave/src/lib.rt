@@ -7,6 +7,8 @@ mod flat;
 mod gathering;
 mod interleaving;
 mod joining;
+mod lists;
+mod numbers;
 mod place;
 mod placing;
 mod records;
