@@ -128,3 +128,12 @@ no_list (cells.Tagged v) h = refl
 
 pub adds_none_as : (t : TypeTree) (rows : List RowValue) (items : List Cell) → rows ≡ [] → AddsRows t rows items items
 adds_none_as t rows items e = subst (λ (l : List RowValue). AddsRows t l items items) (sym e) (adds_none t items items refl)
+
+-- and stands for as many fillers as a list of one size has elements
+pub no_fixed : (t : TypeTree) (size : ℕ) (c : Cell) → ((l : ListCell) → c ≡ cells.List l → ⊥) → replicate size (filler_row t) ≡ elements_of t size (row_of c)
+no_fixed t size cells.Null h = refl
+no_fixed t size (cells.Bit b) h = refl
+no_fixed t size (cells.Bytes b) h = refl
+no_fixed t size (cells.List l) h = absurd (h l refl)
+no_fixed t size (cells.Fields f) h = refl
+no_fixed t size (cells.Tagged v) h = refl

@@ -1,7 +1,8 @@
 -- Rows under their validity.
-use Rattle.std.proofs.Common.{◌≡◌, ℕ, Bool, true, List, [], ◌∷◌, length, map, refl, sym, ap, ◌∙◌}
+use Rattle.std.proofs.Common.{◌≡◌, ℕ, Bool, true, List, [], ◌∷◌, length, map, refl, sym, ap, ◌∙◌, Option, None}
 use Rattle.std.specs.Prelude.{IfOk, OnOk, Result, Ok, Err}
 use Rattle.std.proofs.lemmas.List.{length-map}
+use Rattle.vx_bits.specs.Results.{ok_unless}
 use Rattle.vx_types.specs.RowValue.{RowValue, null, bit, bytes, list, fields, tagged}
 use Rattle.vx_types.specs.TypeTree.{TypeKind}
 use Rattle.vx_types.specs.declared.nullability.Nullability.{Nullability}
@@ -53,3 +54,11 @@ if_ok P Q (Err e) h f = h
 pub on_ok : {T E : Type 0} (P Q : Type 0) (r : Result T E) → OnOk r P → (P → Q) → OnOk r Q
 on_ok P Q (Ok x) h f = f h
 on_ok P Q (Err e) h f = h
+
+-- ---- what a constructor makes of parts without a fault
+
+pub one_value : {T E : Type 0} (r : Result T E) (f : Option E) (x y : T) → r ≡ ok_unless f x → f ≡ None → r ≡ Ok y → y ≡ x
+one_value r f x y told none is = let made : Ok y ≡ ok_unless None x = sym is ∙ told ∙ ap (λ g. ok_unless g x) none in cc
+
+pub no_error : {T E : Type 0} (r : Result T E) (f : Option E) (x : T) (e : E) → r ≡ ok_unless f x → f ≡ None → r ≡ Err e → ⊥
+no_error r f x e told none is = let made : Err e ≡ ok_unless None x = sym is ∙ told ∙ ap (λ g. ok_unless g x) none in cc

@@ -7,12 +7,14 @@ ghost use Rattle.vx_interleave.specs.Gathered.{are_gathered, is_gathered};
 ghost use Rattle.vx_interleave.specs.Rows.{AreCellsOf, rows_in, shown_as};
 ghost use Rattle.vx_interleave.specs.Structs.{AreFields};
 
+use crate::fixed_lists::{gather_fixed, joined_fixed};
 use crate::flat::gather_scalars;
 use crate::lists::{gather_lists, joined_lists};
+use crate::maps::gather_maps;
 use crate::structs::{field_cells, gather_structs};
 use std::alloc::Global;
 use vx_bits::NoMemory;
-use vx_column::{Array, Cell, Columns, DType, ExtDType, ExtensionArray, StructFields};
+use vx_column::{Array, Cell, Columns, DType, ExtDType, ExtensionArray, Nullability, StructFields};
 use vx_shared::Shared;
 
 // The rows of the storage, under the extension's name.
@@ -45,6 +47,19 @@ pub(crate) fn gather(alloc: Global, dtype: &DType, cells: &[Cell<'_>]) -> Result
             let lists = joined_lists(alloc, dtype, element.dtype(), cells)?;
             let elements = gather(alloc, element.dtype(), &lists.cells)?;
             gather_lists(alloc, *n, lists.starts, elements, cells)
+        }
+        DType::FixedSizeList(element, size, n) => {
+            let lists = joined_fixed(alloc, dtype, element.dtype(), *size, cells)?;
+            let elements = gather(alloc, element.dtype(), &lists)?;
+            gather_fixed(alloc, *size, *n, elements, cells)
+        }
+        DType::Map(fields, _) => {
+            let entry = DType::Struct(fields.share(), Nullability::NonNullable);
+            let maps = joined_lists(alloc, dtype, &entry, cells)?;
+            let columns = gather_fields(alloc, fields, &maps.cells)?;
+            let n = Nullability::NonNullable;
+            let entries = gather_structs(alloc, fields, n, columns, &maps.cells)?;
+            gather_maps(alloc, dtype, maps.starts, entries, cells)
         }
         DType::Struct(fields, n) => {
             let columns = gather_fields(alloc, fields, cells)?;

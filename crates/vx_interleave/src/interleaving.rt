@@ -55,7 +55,7 @@ fn cells_at<'a>(
 /// that is none. The columns are of any layouts. Fails only with `NoMemory`.
 ///
 /// The columns are of this type, or of the same without nulls, and where it has none there is a
-/// row at each place. The type is flat or text, or of lists, structs or extensions of such.
+/// row at each place. The type is flat or text, or of lists, maps, structs or extensions of such.
 pub fn interleave(
     alloc: Global,
     dtype: &DType,

@@ -39,7 +39,7 @@ fn all_places(alloc: Global, columns: &Columns) -> Result<Vec<Option<Place>>, No
 /// of any layouts. Fails only with `NoMemory`.
 ///
 /// The columns are of this type, or of the same without nulls. The type is flat or text, or of
-/// lists, structs or extensions of such.
+/// lists, maps, structs or extensions of such.
 pub fn concatenate(alloc: Global, dtype: &DType, columns: &Columns) -> Result<Array, NoMemory>
     requires carried { is_carried (type_of dtype.now) ≡ true }
     requires gathered { is_gathered (type_of dtype.now).kind ≡ true }

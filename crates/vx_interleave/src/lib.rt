@@ -3,11 +3,13 @@
 
 mod bools;
 mod cells;
+mod fixed_lists;
 mod flat;
 mod gathering;
 mod interleaving;
 mod joining;
 mod lists;
+mod maps;
 mod numbers;
 mod place;
 mod placing;
