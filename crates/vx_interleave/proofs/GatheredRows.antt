@@ -12,7 +12,6 @@ use Rattle.vx_types.specs.declared.dtype.DType.{DType}
 use Rattle.vx_types.specs.declared.nullability.Nullability.{Nullability}
 use Rattle.vx_types.specs.declared.nullability.Nullability.TheVariants.{NonNullable, Nullable}
 use Rattle.vx_model.specs.Column.{Column}
-use Rattle.vx_interleave.specs.Gathered.{are_gathered, is_gathered}
 use Rattle.vx_interleave.specs.Rows.{shown_as}
 use Rattle.vx_interleave.specs.Structs.{AreFields, field_in}
 use Rattle.vx_interleave.proofs.FieldRows.{fields_append, fields_none}
@@ -67,11 +66,6 @@ type_at [] k d h = absurd (omega arith)
 type_at (e ∷ ds) zero d h = refl
 type_at (e ∷ ds) (suc k) d h = type_at ds k d (omega arith)
 
-pub gathered_get : (ds : List DType) (k : ℕ) (d : DType) → are_gathered (types_of (map type_of ds)) ≡ true → k < length ds → is_gathered (type_of (get_or ds k d)).kind ≡ true
-gathered_get [] k d h l = absurd (omega arith)
-gathered_get (e ∷ ds) zero d h l = first_so (is_gathered (type_of e).kind) (are_gathered (types_of (map type_of ds))) h
-gathered_get (e ∷ ds) (suc k) d h l = gathered_get ds k d (second_so (is_gathered (type_of e).kind) (are_gathered (types_of (map type_of ds))) h) (omega arith)
-
 -- the columns of the first fields, and one more
 pub fields_more : (ds : List DType) (k : ℕ) (d : DType) (rows : List RowValue) (cs : List Column) (c : Column) → k < length ds → AreFields 0 (map type_of (take k ds)) rows cs → c.dtype ≡ type_of (get_or ds k d) → c.rows ≡ map (field_in (type_of (get_or ds k d)) k) rows → AreFields 0 (map type_of (take (k + 1) ds)) rows (cs ++ c ∷ [])
 fields_more ds k d rows cs c h all dtype is =
@@ -80,4 +74,4 @@ fields_more ds k d rows cs c h all dtype is =
     subst (λ (us : List TypeTree). AreFields 0 us rows (cs ++ c ∷ [])) (sym (map_more type_of ds k d h))
     (fields_append 0 (map type_of (take k ds)) rows cs t c all dtype (is ∙ ap (λ n. map (field_in t n) rows) long))
 
-pub ruleset each_field = (fields_none, fields_more, type_at, gathered_get, dtypes_all, carried_get, shallow_get)
+pub ruleset each_field = (fields_none, fields_more, type_at, dtypes_all, carried_get, shallow_get)

@@ -1,11 +1,16 @@
 pub mod AllPlaces
 pub mod CellRows
+pub mod CountedTags
 pub mod FieldRows
 pub mod FixedSpans
 pub mod GatheredRows
 pub mod JoinedRows
 pub mod ListCells
+pub mod MadeUnions
 pub mod Shown
 pub mod ShownRows
 pub mod TextRows
+pub mod UnionRows
+pub mod VariantKinds
+pub mod VariantRows
 pub mod ViewSpans

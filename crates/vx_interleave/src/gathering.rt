@@ -3,18 +3,21 @@ ghost use Rattle.std.specs.Prelude.{◌≡◌, IfOk, map, true};
 ghost use Rattle.vx_types.specs.DType.{type_of};
 ghost use Rattle.vx_types.specs.TypeTree.{are_carried, extension_type, is_carried, types_of};
 ghost use Rattle.vx_model.specs.Struct.{struct_of};
-ghost use Rattle.vx_interleave.specs.Gathered.{are_gathered, is_gathered};
 ghost use Rattle.vx_interleave.specs.Rows.{AreCellsOf, rows_in, shown_as};
 ghost use Rattle.vx_interleave.specs.Structs.{AreFields};
+ghost use Rattle.vx_interleave.specs.Unions.{AreVariants, union_of, variant_rows};
 
 use crate::fixed_lists::{gather_fixed, joined_fixed};
 use crate::flat::gather_scalars;
 use crate::lists::{gather_lists, joined_lists};
 use crate::maps::gather_maps;
 use crate::structs::{field_cells, gather_structs};
+use crate::unions::{gather_unions, variant_cells};
 use std::alloc::Global;
 use vx_bits::NoMemory;
-use vx_column::{Array, Cell, Columns, DType, ExtDType, ExtensionArray, Nullability, StructFields};
+use vx_column::{
+    Array, Cell, Columns, DType, ExtDType, ExtensionArray, Nullability, StructFields, UnionVariants,
+};
 use vx_shared::Shared;
 
 // The rows of the storage, under the extension's name.
@@ -36,7 +39,6 @@ fn named(alloc: Global, ext: &Shared<ExtDType>, storage: Array) -> Result<Array,
 #[tactic(auto, using(crate::proofs::GatheredRows::inside))]
 pub(crate) fn gather(alloc: Global, dtype: &DType, cells: &[Cell<'_>]) -> Result<Array, NoMemory>
     requires carried { is_carried (type_of dtype.now) ≡ true }
-    requires gathered { is_gathered (type_of dtype.now).kind ≡ true }
     requires of_kind { AreCellsOf (type_of dtype.now).kind cells.now }
     ensures dtype { IfOk result (λ a. a.dtype ≡ type_of dtype.now) }
     ensures rows { IfOk result
@@ -65,6 +67,10 @@ pub(crate) fn gather(alloc: Global, dtype: &DType, cells: &[Cell<'_>]) -> Result
             let columns = gather_fields(alloc, fields, cells)?;
             gather_structs(alloc, fields, *n, columns, cells)
         }
+        DType::Union(variants, n) => {
+            let columns = gather_variants(alloc, variants, *n, cells)?;
+            gather_unions(alloc, variants, *n, columns, cells)
+        }
         DType::Extension(ext, n) => {
             let storage = ext.storage().with_nullability(*n);
             named(alloc, ext, gather(alloc, &storage, cells)?)
@@ -83,7 +89,6 @@ fn gather_fields(
     cells: &[Cell<'_>],
 ) -> Result<Columns, NoMemory>
     requires carried { are_carried (types_of fields.now.types) ≡ true }
-    requires gathered { are_gathered (types_of fields.now.types) ≡ true }
     requires of_kind { AreCellsOf (struct_of fields.now) cells.now }
     ensures { IfOk result (AreFields 0 fields.now.types (rows_in cells.now)) }
 {
@@ -93,6 +98,31 @@ fn gather_fields(
         let dtype = &types[k];
         let field = field_cells(alloc, fields, k, dtype, cells)?;
         columns.push(gather(alloc, dtype, &field)?.into_ref(alloc)?)?;
+    }
+    Columns::new(alloc, columns)
+}
+
+// The rows of each variant, as a column of its type.
+#[cycle(gather)]
+#[tactic(auto, using(crate::proofs::VariantKinds::each_variant))]
+fn gather_variants(
+    alloc: Global,
+    variants: &UnionVariants,
+    nullability: Nullability,
+    cells: &[Cell<'_>],
+) -> Result<Columns, NoMemory>
+    requires carried { are_carried (types_of variants.now.types) ≡ true }
+    requires of_kind { AreCellsOf (union_of variants.now) cells.now }
+    ensures { IfOk result (AreVariants variants.now.ids variants.now.types
+        (variant_rows variants.now nullability (rows_in cells.now))) }
+{
+    let ids = variants.ids();
+    let types = variants.types();
+    let mut columns = Vec::with_capacity(alloc, types.len())?;
+    for k in 0..types.len() {
+        let dtype = &types[k];
+        let rows = variant_cells(alloc, variants, nullability, ids[k], dtype, cells)?;
+        columns.push(gather(alloc, dtype, &rows)?.into_ref(alloc)?)?;
     }
     Columns::new(alloc, columns)
 }

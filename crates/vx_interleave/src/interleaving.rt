@@ -4,7 +4,6 @@ ghost use Rattle.std.specs.List.{All};
 ghost use Rattle.vx_types.specs.DType.{type_of};
 ghost use Rattle.vx_types.specs.RowValue.{null};
 ghost use Rattle.vx_types.specs.TypeTree.{is_carried};
-ghost use Rattle.vx_interleave.specs.Gathered.{is_gathered};
 ghost use Rattle.vx_interleave.specs.Places.{interleaved, placed};
 ghost use Rattle.vx_column.specs.Cell.{row_of};
 ghost use Rattle.vx_interleave.specs.Rows.{AreCellsOf, IsCellOf, rows_in, shown_as};
@@ -55,7 +54,7 @@ fn cells_at<'a>(
 /// that is none. The columns are of any layouts. Fails only with `NoMemory`.
 ///
 /// The columns are of this type, or of the same without nulls, and where it has none there is a
-/// row at each place. The type is flat or text, or of lists, maps, structs or extensions of such.
+/// row at each place.
 pub fn interleave(
     alloc: Global,
     dtype: &DType,
@@ -63,7 +62,6 @@ pub fn interleave(
     order: &[Option<Place>],
 ) -> Result<Array, NoMemory>
     requires carried { is_carried (type_of dtype.now) ≡ true }
-    requires gathered { is_gathered (type_of dtype.now).kind ≡ true }
     requires sources { All (IsSourceOf (type_of dtype.now)) columns.now }
     requires places { ArePlacesFor (type_of dtype.now) (rows_of columns.now) order.now }
     ensures dtype { IfOk result (λ a. a.dtype ≡ type_of dtype.now) }

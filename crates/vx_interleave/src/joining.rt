@@ -3,7 +3,6 @@ ghost use Rattle.std.specs.Prelude.{◌≡◌, ◌++◌, IfOk, OnOk, true};
 ghost use Rattle.std.specs.List.{All};
 ghost use Rattle.vx_types.specs.DType.{type_of};
 ghost use Rattle.vx_types.specs.TypeTree.{is_carried};
-ghost use Rattle.vx_interleave.specs.Gathered.{is_gathered};
 ghost use Rattle.vx_interleave.specs.Places.{joined, places_of};
 ghost use Rattle.vx_interleave.specs.Sources.{AreAllPlaces, IsSourceOf, rows_of};
 
@@ -38,11 +37,9 @@ fn all_places(alloc: Global, columns: &Columns) -> Result<Vec<Option<Place>>, No
 /// The rows of the columns, one column behind another, as a column of this type. The columns are
 /// of any layouts. Fails only with `NoMemory`.
 ///
-/// The columns are of this type, or of the same without nulls. The type is flat or text, or of
-/// lists, maps, structs or extensions of such.
+/// The columns are of this type, or of the same without nulls.
 pub fn concatenate(alloc: Global, dtype: &DType, columns: &Columns) -> Result<Array, NoMemory>
     requires carried { is_carried (type_of dtype.now) ≡ true }
-    requires gathered { is_gathered (type_of dtype.now).kind ≡ true }
     requires sources { All (IsSourceOf (type_of dtype.now)) columns.now }
     ensures dtype { IfOk result (λ a. a.dtype ≡ type_of dtype.now) }
     ensures rows { IfOk result (λ a. a.rows ≡ joined (rows_of columns.now)) }

@@ -15,7 +15,9 @@ mod place;
 mod placing;
 mod records;
 mod structs;
+mod tags;
 mod texts;
+mod unions;
 mod validity;
 
 pub use interleaving::interleave;

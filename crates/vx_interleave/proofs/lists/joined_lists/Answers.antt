@@ -23,4 +23,4 @@ loop-cell-preserved c =
     subst (λ (lists : List (List RowValue)). JoinsLists t lists more c.push_list.new.cells.items)
     (sym (row_more elements_in items i c.cell-item.result c.loop-cell-test.true c.cell-item.is))
     (joins_more t (map elements_in (rows_in (take i items))) (elements_in (row_of c.cell-item.result)) starts more elements c.push_list.new.cells.items c.loop-cell.invariant c.in_ok-push_list.ensures
-    (ap (λ (o : OffsetList). o.numbers) c.in_ok-push_number.ensures ∙ ap (λ n. starts ++ n ∷ []) many))
+    (ap (λ (o : OffsetList). o.numbers) c.in_ok-push_number.ensures.numbers ∙ ap (λ n. starts ++ n ∷ []) many))

@@ -11,7 +11,7 @@ use Rattle.vx_interleave.proofs.maps.map_sizes.Goals as goal
 pub loop-cell-preserved : goal.loop-cell-preserved
 loop-cell-preserved c =
     let items = c.args.cells.now in let i = c.loop-cell.cell-index in
-    ap (λ (o : OffsetList). o.numbers) c.in_ok-push_number.ensures
+    ap (λ (o : OffsetList). o.numbers) c.in_ok-push_number.ensures.numbers
     ∙ ap₂ (λ (l : List ℕ) (n : ℕ). l ++ n ∷ []) c.loop-cell.invariant c.list_len.ensures
     ∙ sym (map_push length (map elements_in (rows_in (take i items))) (elements_in (row_of c.cell-item.result)))
     ∙ ap (map length) (sym (row_more elements_in items i c.cell-item.result c.loop-cell-test.true c.cell-item.is))
