@@ -5,7 +5,6 @@ ghost use Rattle.std.specs.List.{All};
 ghost use Rattle.vx_types.specs.DType.{type_of};
 ghost use Rattle.vx_types.specs.RowValue.{RowValue};
 ghost use Rattle.vx_types.specs.TypeTree.{is_carried};
-ghost use Rattle.vx_interleave.specs.Gathered.{is_gathered};
 ghost use Rattle.vx_steps.specs.Answer.{answer_of, answer_rows};
 ghost use Rattle.vx_steps.specs.Step.{StepValue};
 ghost use Rattle.vx_interleave.specs.Places.{joined};
@@ -70,7 +69,6 @@ fn is_order_for(plan: &Plan, dtype: &DType, answers: &Columns) -> bool
 // The rows at the places of the plan's order; where there is none, one answer behind another.
 fn put_rows(alloc: Global, plan: &Plan, dtype: &DType, answers: &Columns) -> Result<Array, NoMemory>
     requires carried { is_carried (type_of dtype.now) ≡ true }
-    requires gathered { is_gathered (type_of dtype.now).kind ≡ true }
     requires sources { All (IsSourceOf (type_of dtype.now)) answers.now }
     requires order { IsOrderFor (type_of dtype.now) answers.now (order_in plan.now) }
     ensures dtype { IfOk result (λ a. a.dtype ≡ type_of dtype.now) }
@@ -83,8 +81,7 @@ fn put_rows(alloc: Global, plan: &Plan, dtype: &DType, answers: &Columns) -> Res
 }
 
 /// The answer of the whole, of what each part answered to its own steps: column `k` of `answers`
-/// is that of part `k`, of any layout. `dtype` is the type of the parts: flat, text, or structs or
-/// extensions of these.
+/// is that of part `k`, of any layout. `dtype` is the type of the parts.
 ///
 /// `WrongCount` exactly where there are not as many columns as parts; else `WrongType` or
 /// `WrongLength` exactly where one isn't of the parts' type or hasn't as many rows as the plan
@@ -99,7 +96,6 @@ pub fn put_together(
     answers: &Columns,
 ) -> Result<Array, PutError>
     requires carried { is_carried (type_of dtype.now) ≡ true }
-    requires gathered { is_gathered (type_of dtype.now).kind ≡ true }
     ensures dtype { IfOk result (λ a. a.dtype ≡ put_type (type_of dtype.now) plan.now) }
     ensures rows { IfOk result (λ a. a.rows ≡ put_rows (order_in plan.now) (rows_of answers.now)) }
     ensures whole { IfOk result (λ a. (parts : List (List RowValue)) → (steps : List StepValue)

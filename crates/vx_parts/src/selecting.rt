@@ -3,7 +3,6 @@ ghost use Rattle.std.specs.Prelude.{◌≡◌, ◌<◌, ◌^◌, IfOk, OnOk, len
 ghost use Rattle.std.specs.List.{All, sum};
 ghost use Rattle.vx_types.specs.DType.{type_of};
 ghost use Rattle.vx_types.specs.TypeTree.{is_carried};
-ghost use Rattle.vx_interleave.specs.Gathered.{is_gathered};
 ghost use Rattle.vx_model.specs.Column.{Column};
 ghost use Rattle.vx_steps.specs.Answer.{answer_of};
 ghost use Rattle.vx_steps.specs.Compose.{IsUnbroken};
@@ -116,7 +115,6 @@ fn select_sound(
     policy: &Policy,
 ) -> Result<Array, NoMemory>
     requires carried { is_carried (type_of dtype.now) ≡ true }
-    requires gathered { is_gathered (type_of dtype.now).kind ≡ true }
     requires of_type { All (λ (c : Column). c.dtype ≡ type_of dtype.now) parts.now }
     requires len { len ≡ sum (map length (rows_of parts.now)) }
     requires unbroken { IsUnbroken (walk len (map step_value steps.now)) }
@@ -134,8 +132,8 @@ fn select_sound(
 }
 
 /// The answer to the steps of the column whose rows are those of the parts, one behind another: of
-/// each part its own answer to its own steps, put together. The parts are of this type, which is
-/// flat, text, or structs or extensions of these, and of any layouts.
+/// each part its own answer to its own steps, put together. The parts are of this type, and of any
+/// layouts.
 ///
 /// `Broken` exactly where a step breaks a rule over the whole, with the first one, even when
 /// memory runs out. `NoMemory` only where none does.
@@ -147,7 +145,6 @@ pub fn select_parts(
     policy: &Policy,
 ) -> Result<Array, SelectError>
     requires carried { is_carried (type_of dtype.now) ≡ true }
-    requires gathered { is_gathered (type_of dtype.now).kind ≡ true }
     requires of_type { All (λ (c : Column). c.dtype ≡ type_of dtype.now) parts.now }
     requires counted { sum (map length (rows_of parts.now)) < 2 ^ 64 }
     ensures { IsAnswer result (answer_of (type_of dtype.now) (joined (rows_of parts.now))

@@ -4,7 +4,6 @@ use Rattle.std.specs.List.{All}
 use Rattle.vx_types.specs.DType.{type_of}
 use Rattle.vx_types.specs.TypeTree.{TypeTree, is_carried}
 use Rattle.vx_model.proofs.LazyRows.{carried-also}
-use Rattle.vx_interleave.specs.Gathered.{is_gathered}
 use Rattle.vx_interleave.specs.Sources.{IsSourceOf}
 use Rattle.vx_parts.specs.Plan.{lens_in, order_in}
 use Rattle.vx_parts.specs.Putting.{IsOrderFor, put_fault}
@@ -38,9 +37,6 @@ pub put_rows-requires-clause-carried : goal.put_rows-requires-clause-carried
 put_rows-requires-clause-carried c =
     subst (λ (u : TypeTree). is_carried u ≡ true) (sym c.also_nullable-dtype.ensures)
     (carried-also (type_of c.args.dtype.now) c.args.plan.now.nullability c.requires.carried)
-
-pub put_rows-requires-clause-gathered : goal.put_rows-requires-clause-gathered
-put_rows-requires-clause-gathered c = ap (λ (u : TypeTree). is_gathered u.kind) c.also_nullable-dtype.ensures ∙ c.requires.gathered
 
 pub put_rows-requires-clause-sources : goal.put_rows-requires-clause-sources
 put_rows-requires-clause-sources c =
