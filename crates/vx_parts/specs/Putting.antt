@@ -1,11 +1,10 @@
 -- The parts' answers, put together.
-use Rattle.std.specs.Prelude.{◌≡◌, ℕ, ◌+◌, ◌<◌, ◌==◌, length, List, [], ◌∷◌, map, Option, Some, None, IfSome, is_some, true, slice_get, if◌then◌else◌}
-use Rattle.std.specs.List.{list_all, sum}
+use Rattle.std.specs.Prelude.{◌≡◌, ℕ, ◌+◌, ◌<◌, ◌==◌, length, List, [], ◌∷◌, map, Option, Some, None, IfSome, slice_get, if◌then◌else◌}
+use Rattle.std.specs.List.{sum}
 use Rattle.std.specs.Option.{option_or}
 use Rattle.vx_types.specs.RowValue.{RowValue, null}
 use Rattle.vx_types.specs.Same.{is_same_type}
 use Rattle.vx_types.specs.TypeTree.{TypeTree, also_nullable}
-use Rattle.vx_types.specs.declared.nullability.Nullability.TheVariants.{NonNullable}
 use Rattle.vx_model.specs.Column.{Column}
 use Rattle.vx_steps.specs.Answer.{answer_of, answer_rows}
 use Rattle.vx_steps.specs.Compose.{IsUnbroken}
