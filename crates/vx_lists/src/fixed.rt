@@ -173,10 +173,9 @@ fn fixed_runs(alloc: Global, size: usize, rows: usize, picks: &Picks) -> Result<
 {
     let len = picks.len();
     let mut runs = Vec::with_capacity(alloc, len)?;
-    let mut end = 0;
     for k in 0..len {
         let run = fixed_run(picks.get(k), size, rows);
-        end = push_run(&mut runs, end, run);
+        push_run(&mut runs, run, true);
     }
     Ok(Runs::from_vec(runs))
 }

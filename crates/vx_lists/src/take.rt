@@ -26,9 +26,9 @@ pub struct ListTake {
 /// The lists at the picks, in order, empty at a null and where `present` says that the row of a
 /// pick is null.
 ///
-/// The offsets are running sums of the lengths of the lists that are taken. Runs that lie one
-/// behind the other are joined, and there is none of an empty list. More elements than
-/// `usize::MAX` give `NoMemory`. Fails only with `NoMemory`.
+/// The offsets are running sums of the lengths of the lists that are taken. The runs of picks of
+/// which each is the row behind the one before are joined, and there is none of an empty list. More
+/// elements than `usize::MAX` give `NoMemory`. Fails only with `NoMemory`.
 pub fn take_lists(
     alloc: Global,
     offsets: &[u64],
@@ -102,13 +102,14 @@ fn taken(
     let mut sums = Vec::with_capacity(alloc, room)?;
     let mut runs = Vec::with_capacity(alloc, len)?;
     let mut total = 0;
-    let mut end = 0;
+    let mut next = 0;
     sums.push_reserved(0);
     for k in 0..len {
         let pick = shown_pick(picks, present, k);
         let run = picked_run(offsets, pick);
         total = sum_of(total, run.1)?;
-        end = push_run(&mut runs, end, run);
+        push_run(&mut runs, run, pick == Some(next));
+        next = row_behind(pick, next);
         sums.push_reserved(total);
     }
     Ok(ListTake {
@@ -141,6 +142,15 @@ fn shown_pick(picks: &Picks, present: Option<&BitBuffer>, k: usize) -> Option<us
     }
 }
 
+// The row behind a pick; at a null the one that it was before.
+#[inline(always)]
+fn row_behind(pick: Option<usize>, before: usize) -> usize {
+    match pick {
+        Some(row) => row.saturating_add(1),
+        None => before,
+    }
+}
+
 // The elements of a picked list: their start, and how many they are. None at a null.
 #[inline(always)]
 fn picked_run(offsets: &[u64], pick: Option<usize>) -> (usize, usize)
@@ -160,10 +170,9 @@ fn picked_run(offsets: &[u64], pick: Option<usize>) -> (usize, usize)
 }
 
 /// Puts a run behind others, for which there is room: joined with the last one where it begins at
-/// its end. Gives where the last one ends then; a run that doesn't begin at `end`, which is given
-/// so, isn't compared with it.
+/// its end and may be. An empty run isn't put there.
 #[inline(always)]
-pub(crate) fn push_run(runs: &mut Vec<(usize, usize)>, end: usize, run: (usize, usize)) -> usize
+pub(crate) fn push_run(runs: &mut Vec<(usize, usize)>, run: (usize, usize), may_join: bool)
     requires room { vec_len runs.old < vec_capacity runs.old }
     requires ends { All (λ r. r.0 + r.1 < 2 ^ 64) runs.old.items }
     requires next_end { run.0 + run.1 < 2 ^ 64 }
@@ -174,13 +183,12 @@ pub(crate) fn push_run(runs: &mut Vec<(usize, usize)>, end: usize, run: (usize, 
     ensures count { vec_len runs.new ≤ vec_len runs.old + 1 }
     ensures capacity { vec_capacity runs.new ≡ vec_capacity runs.old }
 {
-    if run.0 == end {
+    if may_join {
         if join_last(runs, run) {
-            return run.0 + run.1;
+            return;
         }
     }
     put_if(runs, run, run.1 != 0);
-    if run.1 == 0 { end } else { run.0 + run.1 }
 }
 
 // Joins a run with the last one where it begins at its end, and answers whether it does.

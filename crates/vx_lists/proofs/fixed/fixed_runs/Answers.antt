@@ -18,10 +18,10 @@ loop-k-preserved c =
     let more : map run_of (take (c.loop-k.k + 1) picks) ≡ done ++ run_of pick ∷ [] = ap (map run_of) (take_more picks c.loop-k.k None within) ∙ map-append run_of (take c.loop-k.k picks) (pick ∷ []) in
     record {
       places =
-          c.push_run-end.ensures.places
+          c.push_run.ensures.places
           ∙ ap₂ (λ l (r : ℕ × ℕ). l ++ range_with_len r.0 r.1) v.places (c.fixed_run-run.ensures.value ∙ ap run_of c.get.ensures.value)
           ∙ sym (places_more done (run_of pick)) ∙ ap run_places (sym more);
-      inside = c.push_run-end.ensures.inside (c.args.rows * c.args.size) c.fixed_run-run.ensures.inside v.inside;
-      count = omega (arith, c.push_run-end.ensures.count, v.count);
-      room = c.push_run-end.ensures.capacity ∙ v.room;
+      inside = c.push_run.ensures.inside (c.args.rows * c.args.size) c.fixed_run-run.ensures.inside v.inside;
+      count = omega (arith, c.push_run.ensures.count, v.count);
+      room = c.push_run.ensures.capacity ∙ v.room;
     }

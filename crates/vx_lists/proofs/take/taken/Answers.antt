@@ -13,11 +13,11 @@ loop-k-preserved c =
     let shown = shown_by (option_copied c.args.present) c.args.picks.now.picks in
     let within : c.loop-k.k < length shown = omega (arith, c.loop-k-test.true, c.len-len.ensures, length-shown_by (option_copied c.args.present) c.args.picks.now.picks c.requires.long) in
     record {
-      taken = pick_taken offsets shown c.loop-k.k c.shown_pick-pick.result _ _ _ _ _ _ c.picked_run-run.result within c.shown_pick-pick.ensures.value c.picked_run-run.ensures.value c.picked_run-run.ensures.length c.in_ok-total.ensures c.push_reserved-in-loop-k.ensures.items c.push_run-end.ensures.places (c.push_run-end.ensures.inside (last_offset offsets) c.picked_run-run.ensures.inside v.taken.inside) v.taken;
+      taken = pick_taken offsets shown c.loop-k.k c.shown_pick-pick.result _ _ _ _ _ _ c.picked_run-run.result within c.shown_pick-pick.ensures.value c.picked_run-run.ensures.value c.picked_run-run.ensures.length c.in_ok-total.ensures c.push_reserved-in-loop-k.ensures.items c.push_run.ensures.places (c.push_run.ensures.inside (last_offset offsets) c.picked_run-run.ensures.inside v.taken.inside) v.taken;
       count = omega (arith, c.push_reserved-in-loop-k.ensures.len, v.count);
       room = c.push_reserved-in-loop-k.ensures.capacity ∙ v.room;
-      run_count = omega (arith, c.push_run-end.ensures.count, v.run_count);
-      run_room = c.push_run-end.ensures.capacity ∙ v.run_room;
+      run_count = omega (arith, c.push_run.ensures.count, v.run_count);
+      run_room = c.push_run.ensures.capacity ∙ v.run_room;
     }
 
 pub returns : goal.returns
