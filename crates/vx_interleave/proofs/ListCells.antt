@@ -129,6 +129,10 @@ no_list (cells.Tagged v) h = refl
 pub adds_none_as : (t : TypeTree) (rows : List RowValue) (items : List Cell) → rows ≡ [] → AddsRows t rows items items
 adds_none_as t rows items e = subst (λ (l : List RowValue). AddsRows t l items items) (sym e) (adds_none t items items refl)
 
+-- the elements of a list, whatever its size
+pub fixed_list : (t : TypeTree) (size : ℕ) (c : Cell) (l : ListCell) → c ≡ cells.List l → elements_in (row_of c) ≡ elements_of t size (row_of c)
+fixed_list t size c l is = ap (λ (x : Cell). elements_in (row_of x)) is ∙ ap (λ (x : Cell). elements_of t size (row_of x)) (sym is)
+
 -- and stands for as many fillers as a list of one size has elements
 pub no_fixed : (t : TypeTree) (size : ℕ) (c : Cell) → ((l : ListCell) → c ≡ cells.List l → ⊥) → replicate size (filler_row t) ≡ elements_of t size (row_of c)
 no_fixed t size cells.Null h = refl

@@ -1,6 +1,6 @@
 -- Columns of unions, of ids, places and the variants' rows.
-use Rattle.std.proofs.Common.{◌≡◌, ℕ, suc, Bool, true, false, List, [], ◌∷◌, ◌++◌, length, map, Option, None, Some, refl, sym, ap, ap₂, ◌∙◌, arith}
-use Rattle.std.specs.Prelude.{pos, if◌then◌else◌}
+use Rattle.std.proofs.Common.{◌≡◌, ℕ, suc, true, List, [], ◌∷◌, ◌++◌, length, map, Option, None, Some, refl, sym, ap, ap₂, ◌∙◌, arith}
+use Rattle.std.specs.Prelude.{pos}
 use Rattle.std.specs.List.{list_all}
 use Rattle.std.proofs.lemmas.Bool.Decides.{nat_tests}
 use Rattle.std.proofs.lemmas.List.{length-map}
@@ -9,7 +9,6 @@ use Rattle.vx_types.specs.RowValue.{RowValue}
 use Rattle.vx_types.specs.Same.{are_same_types}
 use Rattle.vx_types.specs.SameLaws.{kind_decides}
 use Rattle.vx_types.specs.TypeTree.{TypeKind, TypeTree, primitive_type, struct_kind, types_of, union_type}
-use Rattle.vx_types.specs.declared.error.ColumnError.TheVariants.{WrongType, WrongLength, BadOffsets, BadTypeId}
 use Rattle.vx_types.specs.declared.nullability.Nullability.{Nullability}
 use Rattle.vx_types.specs.declared.ptype.PType.TheVariants.{U8}
 use Rattle.vx_positions.specs.Offsets.{offset_positions}
@@ -20,6 +19,7 @@ use Rattle.vx_model.specs.Numbers.{integer_by, integers_of, number_in}
 use Rattle.vx_model.specs.Records.{RecordParts}
 use Rattle.vx_model.specs.Union.{UnionParts, are_inside, are_known, are_union_types, have_rows, is_known, is_union_long, rows_at, tagged_rows, tags_of, union_column, union_fault}
 use Rattle.vx_model.specs.VarBin.{are_integers}
+use Rattle.vx_offsets.proofs.Cuts.{positions_back}
 use Rattle.vx_interleave.specs.Tags.{id_row, places_after, rows_under, tag_in}
 use Rattle.vx_interleave.specs.Unions.{AreVariants}
 use Rattle.vx_interleave.proofs.VariantRows.{AreRowsUnder, known-made, places-made, rows-made, tags-made}
@@ -47,20 +47,9 @@ variants_append (v ∷ ids) (u ∷ ts) rows (d ∷ cs) id t c h dtype is = (h.0,
 
 -- ---- the column of unions
 
-no_fault : (a b c d : Bool) → a ≡ true → b ≡ true → c ≡ true → d ≡ true → (if a then (if b then (if c then (if d then None else Some BadTypeId) else Some BadOffsets) else Some WrongLength) else Some WrongType) ≡ None
-no_fault true true true true h i j k = refl
-no_fault true true true false h i j k = cc
-no_fault true true false d h i j k = cc
-no_fault true false c d h i j k = cc
-no_fault false b c d h i j k = cc
-
 length-places : (before tags : List (Option ℕ)) → length (places_after before tags) ≡ length tags
 length-places before [] = refl
 length-places before (t ∷ tags) = ap suc (length-places (before ++ t ∷ []) tags)
-
-positions_back : (os : List ℕ) → offset_positions (map pos os) ≡ os
-positions_back [] = refl
-positions_back (a ∷ os) = ap (λ l. a ∷ l) (positions_back os)
 
 -- what the ids, the places and the variants' columns are of rows
 pub record MakesUnions (ids : Column) (o : RecordParts) (v : VariantTypes) (cs : List Column) (n : Nullability) (rows : List RowValue) : Type 0 where
@@ -102,7 +91,7 @@ module _ (ids : Column) (o : RecordParts) (v : VariantTypes) (cs : List Column) 
   known = ap (list_all (is_known v.ids)) tags-are ∙ known-made v.ids rows makes.under
 
   pub union_sound : union_fault parts ≡ None
-  union_sound = no_fault (are_union_types parts) (is_union_long (Some o) cs (length ids.rows)) (are_inside parts (Some o)) (are_known parts) types long inside known
+  union_sound = rw (types, long, inside, known) refl
 
   pub union_made : (union_column parts).rows ≡ rows
   union_made =

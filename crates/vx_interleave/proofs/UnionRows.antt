@@ -2,7 +2,6 @@
 use Rattle.std.proofs.Common.{◌≡◌, ℕ, suc, ◌+◌, ◌<◌, Bool, true, false, List, [], ◌∷◌, ◌++◌, length, map, get_or, take, Option, None, Some, refl, sym, ap, subst, ◌∙◌, arith}
 use Rattle.std.specs.Prelude.{◌==◌, ◌||◌, if◌then◌else◌}
 use Rattle.std.specs.List.{list_any}
-use Rattle.std.proofs.lemmas.Bool.Decides.{nat_tests}
 use Rattle.std.proofs.lemmas.List.{map_push}
 use Rattle.std.proofs.lemmas.Simd.{map-map}
 use Rattle.vx_types.specs.FieldTypes.{VariantTypes}
@@ -21,6 +20,7 @@ use Rattle.vx_column.specs.declared.cell.Cell.{Cell}
 use Rattle.vx_column.specs.declared.cell.Cell.TheVariants as cells
 use Rattle.vx_column.specs.declared.cell.TaggedCell.{TaggedCell}
 use Rattle.vx_column.proofs.VariantCounts.{first-variant, many-variants}
+use Rattle.vx_offsets.proofs.Cuts.{equal, same}
 use Rattle.vx_interleave.specs.Lists.{AddsRows, AreShown}
 use Rattle.vx_interleave.specs.Rows.{AreCellsOf, IsCellOf, IsValidityOf, is_there, rows_in, shown_as}
 use Rattle.vx_interleave.specs.Sources.{IsSourceOf}
@@ -33,7 +33,7 @@ use Rattle.vx_interleave.proofs.VariantRows.{AreRowsUnder, IsRowUnder, under-app
 -- ---- the first variant's row
 
 known-here : (id : ℕ) (ids : List ℕ) → list_any (λ v. v == id) (id ∷ ids) ≡ true
-known-here id ids = let same : (id == id) ≡ true = grind (arith, nat_tests) in rw same refl
+known-here id ids = rw (same id) refl
 
 first-known : (ids : List ℕ) (ts : List TypeTree) → 0 < length ids → length ids ≡ length ts → IsRowUnder ids (first_filler ids (types_of ts))
 first-known [] ts h l = absurd (omega arith)
@@ -47,7 +47,7 @@ first-tag (id ∷ ids) (t ∷ ts) h l = refl
 
 tag-is : (id : ℕ) (t : Option ℕ) → is_tag id t ≡ true → t ≡ Some id
 tag-is id None h = cc
-tag-is id (Some v) h = let same : v ≡ id = grind (arith, nat_tests) in ap Some same
+tag-is id (Some v) h = ap Some (equal v id h)
 
 some-tag : (a b : ℕ) → Some a ≡ Some b → a ≡ b
 some-tag a b h = cc

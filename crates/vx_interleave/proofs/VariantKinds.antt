@@ -16,15 +16,13 @@ use Rattle.vx_types.specs.declared.error.ColumnError.TheVariants.{BadTypeId, Wro
 use Rattle.vx_model.specs.Column.{Column}
 use Rattle.vx_column.specs.Cell.{type_by_id, variant_type}
 use Rattle.vx_column.proofs.VariantCounts.{many-variants}
+use Rattle.vx_offsets.proofs.Cuts.{same}
 use Rattle.vx_interleave.specs.Tags.{rows_under}
 use Rattle.vx_interleave.specs.Unions.{AreVariants, union_of}
 use Rattle.vx_interleave.proofs.GatheredRows.{carried_get, dtypes_all, shallow_get}
 use Rattle.vx_interleave.proofs.MadeUnions.{variants_append, variants_none}
 
 -- ---- the type of an id
-
-same-id : (i : ℕ) → (i == i) ≡ true
-same-id i = grind (arith, nat_tests)
 
 first-no : (a b : Bool) → (a || b) ≡ false → a ≡ false
 first-no true b h = h
@@ -45,7 +43,7 @@ other-id id (i ∷ ids) (suc k) l h = other-id id ids k (omega arith) (second-no
 type-by : (ids : List ℕ) (ds : List DType) (k : ℕ) (d : DType) → are_distinct ids ≡ true → k < length ds → length ids ≡ length ds → type_by_id ids (types_of (map type_of ds)) (get_or ids k 0) ≡ Some (type_of (get_or ds k d))
 type-by ids [] k d apart l many = absurd (omega arith)
 type-by [] (e ∷ ds) k d apart l many = absurd (omega arith)
-type-by (id ∷ ids) (e ∷ ds) zero d apart l many = rw (same-id id) refl
+type-by (id ∷ ids) (e ∷ ds) zero d apart l many = rw (same id) refl
 type-by (id ∷ ids) (e ∷ ds) (suc k) d apart l many =
     let none : list_any (λ y. nat_eq y id) ids ≡ false = not-true (list_any (λ y. nat_eq y id) ids) (first_so (not (list_any (λ y. nat_eq y id) ids)) (are_distinct ids) apart) in
     let other : (id == get_or ids k 0) ≡ false = other-id id ids k (omega arith) none in
@@ -74,12 +72,13 @@ module _ (v : VariantTypes) (ids : List ℕ) (ds : List DType) (sound : variants
       ∙ ap (λ is. type_by_id is (types_of (map type_of ds)) (get_or ids k 0)) (sym listed)
       ∙ type-by ids ds k d (ap are_distinct listed ∙ apart v sound) h many
 
-  pub variants_more : (k : ℕ) (d : DType) (rows : List RowValue) (cs : List Column) (c : Column) → k < length ds → AreVariants (take k ids) (map type_of (take k ds)) rows cs → c.dtype ≡ type_of (get_or ds k d) → c.rows ≡ rows_under (get_or ids k 0) rows → AreVariants (take (k + 1) ids) (map type_of (take (k + 1) ds)) rows (cs ++ c ∷ [])
-  variants_more k d rows cs c h all dtype is =
+  pub variants_more : (k : ℕ) (d : DType) (rows : List RowValue) (cs new : List Column) (c : Column) → k < length ds → AreVariants (take k ids) (map type_of (take k ds)) rows cs → c.dtype ≡ type_of (get_or ds k d) → c.rows ≡ rows_under (get_or ids k 0) rows → new ≡ cs ++ c ∷ [] → AreVariants (take (k + 1) ids) (map type_of (take (k + 1) ds)) rows new
+  variants_more k d rows cs new c h all dtype is e =
       let inside : k < length ids = variant_below k h in
-      subst (λ (us : List TypeTree). AreVariants (take (k + 1) ids) us rows (cs ++ c ∷ [])) (sym (map_more type_of ds k d h))
+      subst (λ (l : List Column). AreVariants (take (k + 1) ids) (map type_of (take (k + 1) ds)) rows l) (sym e)
+      (subst (λ (us : List TypeTree). AreVariants (take (k + 1) ids) us rows (cs ++ c ∷ [])) (sym (map_more type_of ds k d h))
       (subst (λ (is : List ℕ). AreVariants is (map type_of (take k ds) ++ type_of (get_or ds k d) ∷ []) rows (cs ++ c ∷ [])) (sym (take_more ids k 0 inside))
-      (variants_append (take k ids) (map type_of (take k ds)) rows cs (get_or ids k 0) (type_of (get_or ds k d)) c all dtype is))
+      (variants_append (take k ids) (map type_of (take k ds)) rows cs (get_or ids k 0) (type_of (get_or ds k d)) c all dtype is)))
 
   pub variants_all : (k : ℕ) (rows : List RowValue) (cs : List Column) → length ds ≤ k → AreVariants (take k ids) (map type_of (take k ds)) rows cs → AreVariants v.ids v.types rows cs
   variants_all k rows cs h all =

@@ -16,6 +16,7 @@ use Rattle.vx_positions.specs.Positions.{is_position, position_of, positions_of}
 use Rattle.vx_model.specs.Column.{Column}
 use Rattle.vx_model.specs.Numbers.{number_in}
 use Rattle.vx_model.specs.Union.{has_place, have_rows, is_known, row_by_id, rows_at, tagged_rows}
+use Rattle.vx_offsets.proofs.Cuts.{equal, same}
 use Rattle.vx_interleave.specs.Tags.{id_row, is_tag, place_after, places_after, row_in, rows_under, tag_in}
 use Rattle.vx_interleave.specs.Unions.{AreVariants}
 
@@ -26,11 +27,8 @@ under-append id xs ys =
     ap (map row_in) (filter-append (λ (x : RowValue). is_tag id (tag_in x)) xs ys)
     ∙ map-append row_in (filter (λ (x : RowValue). is_tag id (tag_in x)) xs) (filter (λ (x : RowValue). is_tag id (tag_in x)) ys)
 
-same-id : (i : ℕ) → (i == i) ≡ true
-same-id i = grind (arith, nat_tests)
-
 under-here : (id : ℕ) (x : RowValue) (rows : List RowValue) → rows_under id (tagged id x ∷ rows) ≡ x ∷ rows_under id rows
-under-here id x rows = rw (same-id id) refl
+under-here id x rows = rw (same id) refl
 
 count-under : (id : ℕ) (rows : List RowValue) → count_by (λ (x : RowValue). is_tag id (tag_in x)) rows ≡ count_by (is_tag id) (map tag_in rows)
 count-under id [] = refl
@@ -63,9 +61,6 @@ found-below id x front back =
 
 -- ---- the variant of an id
 
-eq-of : (v id : ℕ) → (v == id) ≡ true → v ≡ id
-eq-of v id h = grind (arith, nat_tests)
-
 is-place : (n p : ℕ) → p < n → is_position n (pos p) ≡ true
 is-place n p l = grind (arith, ints, nat_tests)
 
@@ -77,7 +72,7 @@ module _ (rows : List RowValue) (id place : ℕ) where
   by-id (v ∷ vs) (t ∷ ts) (c ∷ cs) h k = by (v == id) refl k (λ known. by-id vs ts cs h.1 known)
     where
       by : (b : Bool) → (v == id) ≡ b → (b || list_any (λ v. v == id) vs) ≡ true → (list_any (λ v. v == id) vs ≡ true → row_by_id vs (map (λ (c : Column). get_or c.rows place null) cs) id ≡ get_or (rows_under id rows) place null) → (if b then get_or c.rows place null else row_by_id vs (map (λ (c : Column). get_or c.rows place null) cs) id) ≡ get_or (rows_under id rows) place null
-      by true e k others = ap (λ l. get_or l place null) (h.0.1 ∙ ap (λ n. rows_under n rows) (eq-of v id e))
+      by true e k others = ap (λ l. get_or l place null) (h.0.1 ∙ ap (λ n. rows_under n rows) (equal v id e))
       by false e k others = others k
 
   place-by-id : (vs : List ℕ) (ts : List TypeTree) (cs : List Column) → AreVariants vs ts rows cs → place < length (rows_under id rows) → has_place vs cs id (pos place) ≡ true
@@ -88,7 +83,7 @@ module _ (rows : List RowValue) (id place : ℕ) where
     where
       by : (b : Bool) → (v == id) ≡ b → has_place vs cs id (pos place) ≡ true → (if b then is_position (length c.rows) (pos place) else has_place vs cs id (pos place)) ≡ true
       by true e others =
-          let many : length c.rows ≡ length (rows_under id rows) = ap length (h.0.1 ∙ ap (λ n. rows_under n rows) (eq-of v id e)) in
+          let many : length c.rows ≡ length (rows_under id rows) = ap length (h.0.1 ∙ ap (λ n. rows_under n rows) (equal v id e)) in
           is-place (length c.rows) place (omega (arith, many, k))
       by false e others = others
 

@@ -1,6 +1,6 @@
 -- List views of lists that stand one after another.
-use Rattle.std.proofs.Common.{◌≡◌, ℕ, suc, ◌+◌, ◌≤◌, Bool, true, false, List, [], ◌∷◌, ◌++◌, length, map, None, Some, refl, ap, ap₂, ◌∙◌, arith}
-use Rattle.std.specs.Prelude.{pos, nat_le, int_le, if◌then◌else◌}
+use Rattle.std.proofs.Common.{◌≡◌, ℕ, ◌+◌, ◌≤◌, true, List, [], ◌∷◌, ◌++◌, length, map, None, refl, ap, ap₂, ◌∙◌, arith}
+use Rattle.std.specs.Prelude.{pos, nat_le, int_le}
 use Rattle.std.specs.List.{list_all, sum_by}
 use Rattle.std.proofs.lemmas.Bool.{le-leb}
 use Rattle.std.proofs.lemmas.Bool.Decides.{nat_tests}
@@ -9,41 +9,32 @@ use Rattle.std.proofs.lemmas.List.{length-map, length-append}
 use Rattle.std.proofs.lemmas.List.Concat.{length-flat_map}
 use Rattle.std.proofs.lemmas.List.Sums.{sum_by-cons}
 use Rattle.vx_types.specs.RowValue.{RowValue}
-use Rattle.vx_types.specs.declared.error.ColumnError.TheVariants.{WrongType, WrongLength, BadValidity, BadOffsets, BadSizes}
 use Rattle.vx_positions.specs.Offsets.{offset_positions, spans}
 use Rattle.vx_model.specs.ListView.{ListViewParts, are_views, are_view_types, are_as_many, are_sizes, is_natural, listview_fault, view_spans}
 use Rattle.vx_model.specs.Numbers.{integer_by, integers_of}
 use Rattle.vx_model.specs.Valid.{is_fitting}
 use Rattle.vx_model.specs.VarBin.{are_integers}
 use Rattle.vx_offsets.proofs.Cuts.{positions_back}
+use Rattle.vx_lists.proofs.MadeLists.{length-offsets_of}
 use Rattle.vx_lists.specs.Sums.{concat_lists, offsets_of, sums_from}
 
 -- ---- where lists begin
-
--- the first of two lists that end alike
-abbrev head : ℕ → List ℕ → ℕ
-head d [] = d
-head d (x ∷ xs) = x
-
-abbrev tail : List ℕ → List ℕ
-tail [] = []
-tail (x ∷ xs) = xs
 
 pub views-spans : (s : ℕ) (starts : List ℕ) (lists : List (List RowValue)) (e : ℕ) → starts ++ e ∷ [] ≡ s ∷ sums_from s (map length lists) → view_spans starts (map length lists) ≡ spans (s ∷ sums_from s (map length lists))
 views-spans s [] [] e h = refl
 views-spans s (a ∷ starts) [] e h = absurd (omega (arith, ap length h, length-append (a ∷ starts) (e ∷ [])))
 views-spans s [] (l ∷ lists) e h = absurd (omega (arith, ap length h))
 views-spans s (a ∷ starts) (l ∷ lists) e h =
-    let here : a ≡ s = ap (head 0) h in
-    let rest : starts ++ e ∷ [] ≡ (s + length l) ∷ sums_from (s + length l) (map length lists) = ap tail h in
+    let here : a ≡ s = cc in
+    let rest : starts ++ e ∷ [] ≡ (s + length l) ∷ sums_from (s + length l) (map length lists) = cc in
     ap₂ ◌∷◌ (ap (λ n. (n, n + length l)) here) (views-spans (s + length l) starts lists e rest)
 
 pub views-within : (s : ℕ) (starts : List ℕ) (lists : List (List RowValue)) (e n : ℕ) → starts ++ e ∷ [] ≡ s ∷ sums_from s (map length lists) → s + sum_by length lists ≤ n → are_views starts (map length lists) n ≡ true
 views-within s [] lists e n h le = refl
 views-within s (a ∷ starts) [] e n h le = refl
 views-within s (a ∷ starts) (l ∷ lists) e n h le =
-    let here : a ≡ s = ap (head 0) h in
-    let rest : starts ++ e ∷ [] ≡ (s + length l) ∷ sums_from (s + length l) (map length lists) = ap tail h in
+    let here : a ≡ s = cc in
+    let rest : starts ++ e ∷ [] ≡ (s + length l) ∷ sums_from (s + length l) (map length lists) = cc in
     let all = sum_by-cons length l lists in
     let inside : nat_le (a + length l) n ≡ true = le-leb (a + length l) n (omega arith) in
     rw (inside, views-within (s + length l) starts lists e n rest (omega arith)) refl
@@ -52,21 +43,9 @@ naturals : (xs : List ℕ) → list_all is_natural (map pos xs) ≡ true
 naturals [] = refl
 naturals (x ∷ xs) = let here : int_le (pos 0) (pos x) ≡ true = grind (arith, ints) in rw (here, naturals xs) refl
 
-no_fault : (a b c d e : Bool) → a ≡ true → b ≡ true → c ≡ true → d ≡ true → e ≡ true → (if a then (if b then (if c then (if d then (if e then None else Some BadSizes) else Some BadOffsets) else Some BadValidity) else Some WrongLength) else Some WrongType) ≡ None
-no_fault true true true true true h i j k l = refl
-no_fault true true true true false h i j k l = cc
-no_fault true true true false e h i j k l = cc
-no_fault true true false d e h i j k l = cc
-no_fault true false c d e h i j k l = cc
-no_fault false b c d e h i j k l = cc
-
-length-sums : (start : ℕ) (lengths : List ℕ) → length (sums_from start lengths) ≡ length lengths
-length-sums start [] = refl
-length-sums start (n ∷ lengths) = ap suc (length-sums (start + n) lengths)
-
 module _ (p : ListViewParts) (starts : List ℕ) (lists : List (List RowValue)) (offsets_int : are_integers p.offsets ≡ true) (sizes_int : are_integers p.sizes ≡ true) (offsets : integers_of p.offsets ≡ map pos starts) (sizes : integers_of p.sizes ≡ map pos (map length lists)) (sums : starts ++ length p.elements.rows ∷ [] ≡ offsets_of (map length lists)) (rows : p.elements.rows ≡ concat_lists lists) where
   as_many : length starts ≡ length lists
-  as_many = omega (arith, ap length sums, length-append starts (length p.elements.rows ∷ []), length-sums 0 (map length lists), length-map lists (length {A = RowValue}))
+  as_many = omega (arith, ap length sums, length-append starts (length p.elements.rows ∷ []), length-offsets_of (map length lists), length-map lists (length {A = RowValue}))
 
   count_offsets : length p.offsets.records ≡ length lists
   count_offsets = omega (arith, as_many, length-map p.offsets.records (integer_by p.offsets.kind), ap length offsets, length-map starts pos)
@@ -89,6 +68,6 @@ module _ (p : ListViewParts) (starts : List ℕ) (lists : List (List RowValue)) 
   views_sound fits =
       let types : are_view_types p ≡ true = rw (offsets_int, sizes_int) refl in
       let many : are_as_many p ≡ true = (let n = count_offsets in let m = count_sizes in grind (arith, nat_tests)) in
-      no_fault (are_view_types p) (are_as_many p) (is_fitting p.valid (length p.offsets.records)) (list_all is_natural (integers_of p.offsets)) (are_sizes (integers_of p.offsets) (integers_of p.sizes) (length p.elements.rows)) types many
-      (ap (is_fitting p.valid) count_offsets ∙ fits)
-      (ap (list_all is_natural) offsets ∙ naturals starts) within
+      let fit : is_fitting p.valid (length p.offsets.records) ≡ true = ap (is_fitting p.valid) count_offsets ∙ fits in
+      let natural : list_all is_natural (integers_of p.offsets) ≡ true = ap (list_all is_natural) offsets ∙ naturals starts in
+      rw (types, many, fit, natural, within) refl

@@ -11,7 +11,7 @@ ghost use Rattle.vx_lists.specs.Sums.{concat_lists};
 ghost use Rattle.vx_interleave.specs.Lists.{AddsRows, JoinsFixed, elements_of};
 ghost use Rattle.vx_interleave.specs.Rows.{AreCellsOf, IsCellOf, rows_in, shown_as};
 
-use crate::lists::{no_memory, push_rows};
+use crate::lists::{list_len, no_memory, push_list};
 use crate::validity::validity_of;
 use std::alloc::Global;
 use vx_bits::NoMemory;
@@ -47,15 +47,13 @@ fn push_fixed<'a>(
     ensures size { OnOk result
         (length (elements_of (type_of dtype.now) size (row_of cell.entry)) ≡ size) }
 {
-    // only the contract speaks of it
-    let _ = lists;
     match cell {
-        Cell::List(list) => {
+        Cell::List(_) => {
             // it has as many, which no clause of `cell_at` says
-            if list.end - list.start != size {
+            if list_len(lists, cell) != size {
                 return Err(NoMemory);
             }
-            push_rows(cells, dtype, list.elements, list.start, list.end)
+            push_list(cells, lists, dtype, cell)
         }
         _ => push_nulls(cells, dtype, size),
     }

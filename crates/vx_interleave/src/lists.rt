@@ -27,8 +27,8 @@ pub(crate) fn no_memory(fault: ColumnError) -> NoMemory
     }
 }
 
-/// Appends the rows of a column from `start` up to `end`.
-pub(crate) fn push_rows<'a>(
+// Appends the rows of a column from `start` up to `end`.
+fn push_rows<'a>(
     cells: &mut Vec<Cell<'a>>,
     dtype: &DType,
     column: &'a Array,
@@ -47,8 +47,8 @@ pub(crate) fn push_rows<'a>(
     Ok(())
 }
 
-// Appends the elements of a list, which are of type `dtype`; none of a null.
-fn push_list<'a>(
+/// Appends the elements of a list, which are of type `dtype`; none of a null.
+pub(crate) fn push_list<'a>(
     cells: &mut Vec<Cell<'a>>,
     lists: &DType,
     dtype: &DType,

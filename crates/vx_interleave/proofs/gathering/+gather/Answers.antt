@@ -1,11 +1,11 @@
 -- One variant more.
-use Rattle.std.proofs.Common.{◌+◌, List, map, Some, take, sym, ap, subst, ◌∙◌}
+use Rattle.std.proofs.Common.{List, map, Some, sym, ap, ◌∙◌}
 use Rattle.vx_types.specs.DType.{type_of}
 use Rattle.vx_types.specs.declared.dtype.DType.{DType}
 use Rattle.vx_model.specs.Column.{Column}
 use Rattle.vx_column.specs.declared.cell.Cell.{Cell}
 use Rattle.vx_interleave.specs.Rows.{rows_in, shown_as}
-use Rattle.vx_interleave.specs.Unions.{AreVariants, variant_rows}
+use Rattle.vx_interleave.specs.Unions.{variant_rows}
 use Rattle.vx_interleave.proofs.VariantKinds.{variant_at, variants_more}
 use Rattle.vx_interleave.proofs.gathering.+gather.Goals as goal
 
@@ -17,11 +17,10 @@ gather_variants-variant_cells-requires-clause-variant t c =
 
 pub gather_variants-loop-k-preserved : goal.gather_variants-loop-k-preserved
 gather_variants-loop-k-preserved t c =
-    let v = c.args.variants.now in let ids = c.ids-ids.result.now in let types = c.types-types.result.now in let k = c.loop-k.k in
-    let shown = shown_as (type_of c.index-types-k.result) in
-    subst (λ (cs : List Column). AreVariants (take (k + 1) ids) (map type_of (take (k + 1) types)) (variant_rows v c.args.nullability (rows_in c.args.cells.now)) cs) (sym c.in_ok-push.ensures.items)
-    (variants_more v ids types c.ids-ids.ensures.valid c.ids-ids.ensures.value c.types-types.ensures.value
-    k c.index-types-k.result (variant_rows v c.args.nullability (rows_in c.args.cells.now)) c.loop-k.columns.items c.in_ok-into_ref.field-0 c.loop-k-test.true c.loop-k.invariant
+    let rows = variant_rows c.args.variants.now c.args.nullability (rows_in c.args.cells.now) in let shown = shown_as (type_of c.index-types-k.result) in
+    variants_more c.args.variants.now c.ids-ids.result.now c.types-types.result.now c.ids-ids.ensures.valid c.ids-ids.ensures.value c.types-types.ensures.value
+    c.loop-k.k c.index-types-k.result rows c.loop-k.columns.items c.push.new.self.items c.in_ok-into_ref.field-0 c.loop-k-test.true c.loop-k.invariant
     (ap (λ (a : Column). a.dtype) c.in_ok-into_ref.ensures ∙ c.in_ok-gather.ensures.dtype ∙ ap type_of c.index-types-k.is)
     (ap (λ (a : Column). a.rows) c.in_ok-into_ref.ensures ∙ c.in_ok-gather.ensures.rows
-    ∙ ap (λ (l : List Cell). map shown (rows_in l)) c.deref.ensures.value ∙ c.in_ok-rows.ensures.rows))
+    ∙ ap (λ (l : List Cell). map shown (rows_in l)) c.deref.ensures.value ∙ c.in_ok-rows.ensures.rows)
+    c.in_ok-push.ensures.items
