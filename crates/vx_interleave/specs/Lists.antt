@@ -5,7 +5,8 @@ use Rattle.vx_types.specs.RowValue.{RowValue, list}
 use Rattle.vx_types.specs.TypeTree.{TypeTree}
 use Rattle.vx_model.specs.Filler.{filler_row}
 use Rattle.vx_column.specs.declared.cell.Cell.{Cell}
-use Rattle.vx_lists.specs.Sums.{concat_lists, offsets_of}
+use Rattle.vx_lists.specs.Sums.{offsets_of}
+use Rattle.vx_interleave.specs.Places.{joined}
 use Rattle.vx_interleave.specs.Rows.{AreCellsOf, rows_in, shown_as, values_of}
 
 -- the elements of a list; none of a null
@@ -31,17 +32,17 @@ AddsRows t more old new =
 -- cells show the elements of lists, and lists begin at these places among them
 pub record JoinsLists (t : TypeTree) (lists : List (List RowValue)) (starts : List ℕ)
     (cells : List Cell) : Type 0 where
-  pub elements : AreShown t (concat_lists lists) cells
+  pub elements : AreShown t (joined lists) cells
   pub sums : starts ++ length cells ∷ [] ≡ offsets_of (map length lists)
 
 -- rows are the elements of lists, which begin at these places among them
 pub record CutsLists (lists : List (List RowValue)) (starts : List ℕ) (elements : List RowValue)
     : Type 0 where
-  pub elements_are : elements ≡ concat_lists lists
+  pub elements_are : elements ≡ joined lists
   pub sums : starts ++ length elements ∷ [] ≡ offsets_of (map length lists)
 
 -- cells show the elements of lists of one size
 pub record JoinsFixed (t : TypeTree) (size : ℕ) (lists : List (List RowValue)) (cells : List Cell)
     : Type 0 where
-  pub elements : AreShown t (concat_lists lists) cells
+  pub elements : AreShown t (joined lists) cells
   pub sizes : All (λ (l : List RowValue). length l ≡ size) lists

@@ -7,7 +7,7 @@ ghost use Rattle.vx_model.specs.Filler.{filler_row};
 ghost use Rattle.vx_model.specs.FixedSizeList.{fixed_of};
 ghost use Rattle.vx_model.specs.Lists.{elements_type};
 ghost use Rattle.vx_column.specs.Cell.{row_of};
-ghost use Rattle.vx_lists.specs.Sums.{concat_lists};
+ghost use Rattle.vx_interleave.specs.Places.{joined};
 ghost use Rattle.vx_interleave.specs.Lists.{AddsRows, JoinsFixed, elements_of};
 ghost use Rattle.vx_interleave.specs.Rows.{AreCellsOf, IsCellOf, rows_in, shown_as};
 
@@ -90,7 +90,7 @@ pub(crate) fn gather_fixed(
 ) -> Result<Array, NoMemory>
     requires of_kind { AreCellsOf (fixed_of elements.dtype size) cells.now }
     requires rows { elements.rows
-        ≡ concat_lists (map (elements_of elements.dtype size) (rows_in cells.now)) }
+        ≡ joined (map (elements_of elements.dtype size) (rows_in cells.now)) }
     requires sizes { All (λ l. length l ≡ size)
         (map (elements_of elements.dtype size) (rows_in cells.now)) }
     ensures dtype { IfOk result (λ a. a.dtype ≡ fixed_type elements.dtype size nullability) }
