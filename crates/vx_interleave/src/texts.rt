@@ -13,6 +13,7 @@ ghost use Rattle.vx_column.specs.Cell.{row_of};
 ghost use Rattle.vx_interleave.specs.Rows.{AreCellsOf, IsCellOf, rows_in, shown_as, stored_as};
 ghost use Rattle.vx_interleave.specs.Texts.{AreJoined};
 
+use crate::numbers::push_number;
 use crate::validity::validity_of;
 use std::alloc::Global;
 use vx_bits::{Buffer, NoMemory};
@@ -62,11 +63,7 @@ impl Joined {
             ≡ with_offset self.old.offsets (length self.new.bytes.items)) }
     {
         self.bytes.extend_from_slice(text)?;
-        let end = self.bytes.len();
-        if end > isize::MAX as usize {
-            return Err(NoMemory);
-        }
-        self.offsets.push(end)
+        push_number(&mut self.offsets, self.bytes.len())
     }
 
     // The column of these texts, each null where the validity says no.
