@@ -1,8 +1,8 @@
 -- What a take leaves of lists.
-use Rattle.std.proofs.Common.{◌≡◌, ℕ, zero, suc, ◌+◌, ◌^◌, ◌<◌, ◌≤◌, Bool, true, false, cond, List, [], ◌∷◌, ◌++◌, length, get_or, map, set, take, drop, replicate, None, Some, Option, refl, sym, ap, ap₂, subst, ◌∙◌, Ok, Err, Result, IfOk, add-one, arith, append_assoc}
+use Rattle.std.proofs.Common.{◌≡◌, ℕ, zero, suc, ◌+◌, ◌<◌, ◌≤◌, Bool, true, false, cond, List, [], ◌∷◌, ◌++◌, length, get_or, map, take, drop, replicate, None, Some, Option, refl, sym, ap, ap₂, subst, ◌∙◌, Ok, Err, Result, IfOk, add-one, arith, append_assoc}
 use Rattle.std.specs.Prelude.{IfSome}
 use Rattle.std.specs.List.{All, range_with_len, slice_get, sum_by}
-use Rattle.std.proofs.lemmas.List.{get_or-map, length-append, length-map, length-set, map-append, take_all, take_more, take_more_set}
+use Rattle.std.proofs.lemmas.List.{get_or-map, length-append, length-map, map-append, take_all, take_more}
 use Rattle.std.proofs.lemmas.List.Elements.{All-cons, All-nil, All-tail}
 use Rattle.std.proofs.lemmas.List.FromFn.{length-range_with_len}
 use Rattle.std.proofs.lemmas.List.Sums.{sum_by-cons, sum_by_push}
@@ -13,7 +13,7 @@ use Rattle.vx_take.specs.Picks.{AreBelow, at, in_runs, item_at, run_places}
 use Rattle.vx_positions.specs.Offsets.{items_in, lists_at}
 use Rattle.vx_lists.specs.Lists.{AreOffsets, last_offset, row_count, span_at}
 use Rattle.vx_lists.specs.Sums.{concat_lists, offsets_of, sums_from}
-use Rattle.vx_lists.specs.Takes.{IsPutBehind, IsTake, TakesLists, picked_length, picked_run, shown_by, shown_picks}
+use Rattle.vx_lists.specs.Takes.{IsTake, TakesLists, picked_length, picked_run, shown_by, shown_picks}
 use Rattle.vx_lists.proofs.Joined.{cut_again, length_row, row_of, sums_more}
 use Rattle.vx_lists.proofs.Spans.{range_cut, spans_of_rows}
 
@@ -89,26 +89,6 @@ places_joined runs start n next m h =
     ∙ sym (append_assoc (run_places runs) (range_with_len start n) (range_with_len next m))
     ∙ ap (λ l. l ++ range_with_len next m) (sym (places_more runs (start, n)))
 
--- another last one
-pub All-changed : {X : Type 0} (P : X → Type 0) (xs : List X) (x y : X) → All P (xs ++ x ∷ []) → P y → All P (xs ++ y ∷ [])
-All-changed P [] x y h p = All-cons P y [] p (All-nil P)
-All-changed P (z ∷ xs) x y h p = All-cons P z (xs ++ y ∷ []) (h 0 z (omega arith)) (All-changed P xs x y (All-tail P z (xs ++ x ∷ []) h) p)
-
--- so the last run grows by one that begins at its end
-pub last_joined : (runs new : List (ℕ × ℕ)) (k : ℕ) (last run : ℕ × ℕ) → length runs ≡ k + 1 → last ≡ get_or runs k last → last.0 + last.1 ≡ run.0 → new ≡ set runs k (last.0, last.1 + run.1) → IsPutBehind runs new run
-last_joined runs new k last run long is joint put =
-    let front = take k runs in
-    let old : runs ≡ front ++ last ∷ [] = sym (take_all (k + 1) runs (omega arith)) ∙ take_more runs k last (omega arith) ∙ ap (λ (r : ℕ × ℕ). front ++ r ∷ []) (sym is) in
-    let joined = set runs k (last.0, last.1 + run.1) in
-    let now : new ≡ front ++ (last.0, last.1 + run.1) ∷ [] = put ∙ sym (take_all (k + 1) joined (omega (arith, length-set runs k (last.0, last.1 + run.1)))) ∙ take_more_set runs k (last.0, last.1 + run.1) (omega arith) in
-    record {
-      places = ap run_places now ∙ places_joined front last.0 last.1 run.0 run.1 joint ∙ ap (λ (l : List (ℕ × ℕ)). run_places l ++ range_with_len run.0 run.1) (sym old);
-      inside = λ n next h.
-          let before = subst (λ (l : List (ℕ × ℕ)). All (λ r. r.0 + r.1 ≤ n) l) old h in
-          subst (λ (l : List (ℕ × ℕ)). All (λ r. r.0 + r.1 ≤ n) l) (sym now)
-          (All-changed (λ (r : ℕ × ℕ). r.0 + r.1 ≤ n) front last (last.0, last.1 + run.1) before (omega arith));
-    }
-
 pub length-places : (runs : List (ℕ × ℕ)) → length (run_places runs) ≡ sum_by (λ run. run.1) runs
 length-places [] = refl
 length-places (run ∷ runs) =
@@ -134,6 +114,11 @@ module _ {X : Type 0} where
 pub All-more : {X : Type 0} (P : X → Type 0) (xs : List X) (x : X) → All P xs → P x → All P (xs ++ x ∷ [])
 All-more P [] x h p = All-cons P x [] p (All-nil P)
 All-more P (y ∷ xs) x h p = All-cons P y (xs ++ x ∷ []) (h 0 y (omega arith)) (All-more P xs x (All-tail P y xs h) p)
+
+-- another last one
+pub All-changed : {X : Type 0} (P : X → Type 0) (xs : List X) (x y : X) → All P (xs ++ x ∷ []) → P y → All P (xs ++ y ∷ [])
+All-changed P [] x y h p = All-cons P y [] p (All-nil P)
+All-changed P (z ∷ xs) x y h p = All-cons P z (xs ++ y ∷ []) (h 0 z (omega arith)) (All-changed P xs x y (All-tail P z (xs ++ x ∷ []) h) p)
 
 -- ---- the picked lists
 
@@ -197,25 +182,25 @@ picked_all_inside offsets (pick ∷ picks) are h =
 
 -- ---- a take, pick by pick
 
--- what was put out for these picks: the sums and the runs
-pub record AreTaken (offsets : List ℕ) (picks : List (Option ℕ)) (put : List ℕ) (total : ℕ) (runs : List (ℕ × ℕ)) : Type 0 where
+-- what was put out for these picks: the sums, the runs and the last one
+pub record AreTaken (offsets : List ℕ) (picks : List (Option ℕ)) (put : List ℕ) (total : ℕ) (runs : List (ℕ × ℕ)) (last : ℕ × ℕ) : Type 0 where
   pub sums : put ≡ offsets_of (map (picked_length offsets) picks)
   pub all : total ≡ sum_by (picked_length offsets) picks
-  pub places : run_places runs ≡ run_places (map (picked_run offsets) picks)
-  pub inside : All (λ run. run.0 + run.1 ≤ last_offset offsets) runs
+  pub places : run_places (runs ++ last ∷ []) ≡ run_places (map (picked_run offsets) picks)
+  pub inside : All (λ run. run.0 + run.1 ≤ last_offset offsets) (runs ++ last ∷ [])
 
 -- nothing yet
-pub none_taken : (offsets sums : List ℕ) → sums ≡ 0 ∷ [] → AreTaken offsets [] sums 0 []
+pub none_taken : (offsets sums : List ℕ) → sums ≡ 0 ∷ [] → AreTaken offsets [] sums 0 [] (0, 0)
 none_taken offsets sums e = record {
   sums = e;
   all = refl;
   places = refl;
-  inside = All-nil (λ (run : ℕ × ℕ). run.0 + run.1 ≤ last_offset offsets);
+  inside = All-cons (λ (run : ℕ × ℕ). run.0 + run.1 ≤ last_offset offsets) (0, 0) [] (omega arith) (All-nil (λ (run : ℕ × ℕ). run.0 + run.1 ≤ last_offset offsets));
 }
 
 -- one more pick
-taken_more : (offsets : List ℕ) (picks : List (Option ℕ)) (pick : Option ℕ) (old new : List ℕ) (total sum : ℕ) (runs next : List (ℕ × ℕ)) (run : ℕ × ℕ) → run ≡ picked_run offsets pick → run.1 ≡ picked_length offsets pick → sum ≡ total + run.1 → new ≡ old ++ sum ∷ [] → run_places next ≡ run_places runs ++ range_with_len run.0 run.1 → All (λ r. r.0 + r.1 ≤ last_offset offsets) next → AreTaken offsets picks old total runs → AreTaken offsets (picks ++ pick ∷ []) new sum next
-taken_more offsets picks pick old new total sum runs next run is long e f g inside v =
+taken_more : (offsets : List ℕ) (picks : List (Option ℕ)) (pick : Option ℕ) (old new : List ℕ) (total sum : ℕ) (runs next : List (ℕ × ℕ)) (last run end : ℕ × ℕ) → run ≡ picked_run offsets pick → run.1 ≡ picked_length offsets pick → sum ≡ total + run.1 → new ≡ old ++ sum ∷ [] → run_places (next ++ end ∷ []) ≡ run_places (runs ++ last ∷ []) ++ range_with_len run.0 run.1 → All (λ r. r.0 + r.1 ≤ last_offset offsets) (next ++ end ∷ []) → AreTaken offsets picks old total runs last → AreTaken offsets (picks ++ pick ∷ []) new sum next end
+taken_more offsets picks pick old new total sum runs next last run end is long e f g inside v =
     let length_of = picked_length offsets in
     let whole : sum ≡ 0 + sum_by length_of picks + length_of pick = omega (arith, e, long, v.all) in
     record {
@@ -225,24 +210,20 @@ taken_more offsets picks pick old new total sum runs next run is long e f g insi
       inside = inside;
     }
 
-pub pick_taken : (offsets : List ℕ) (shown : List (Option ℕ)) (k : ℕ) (pick : Option ℕ) (old new : List ℕ) (total sum : ℕ) (runs next : List (ℕ × ℕ)) (run : ℕ × ℕ) → k < length shown → pick ≡ get_or shown k None → run ≡ picked_run offsets pick → run.1 ≡ picked_length offsets pick → sum ≡ total + run.1 → new ≡ old ++ sum ∷ [] → run_places next ≡ run_places runs ++ range_with_len run.0 run.1 → All (λ r. r.0 + r.1 ≤ last_offset offsets) next → AreTaken offsets (take k shown) old total runs → AreTaken offsets (take (k + 1) shown) new sum next
-pick_taken offsets shown k pick old new total sum runs next run h at is long e f g inside v =
+pub pick_taken : (offsets : List ℕ) (shown : List (Option ℕ)) (k : ℕ) (pick : Option ℕ) (old new : List ℕ) (total sum : ℕ) (runs next : List (ℕ × ℕ)) (last run end : ℕ × ℕ) → k < length shown → pick ≡ get_or shown k None → run ≡ picked_run offsets pick → run.1 ≡ picked_length offsets pick → sum ≡ total + run.1 → new ≡ old ++ sum ∷ [] → run_places (next ++ end ∷ []) ≡ run_places (runs ++ last ∷ []) ++ range_with_len run.0 run.1 → All (λ r. r.0 + r.1 ≤ last_offset offsets) (next ++ end ∷ []) → AreTaken offsets (take k shown) old total runs last → AreTaken offsets (take (k + 1) shown) new sum next end
+pick_taken offsets shown k pick old new total sum runs next last run end h at is long e f g inside v =
     let more = ap (λ o. take k shown ++ o ∷ []) at ∙ sym (take_more shown k None h) in
-    subst (λ (l : List (Option ℕ)). AreTaken offsets l new sum next) more (taken_more offsets (take k shown) pick old new total sum runs next run is long e f g inside v)
+    subst (λ (l : List (Option ℕ)). AreTaken offsets l new sum next end) more (taken_more offsets (take k shown) pick old new total sum runs next last run end is long e f g inside v)
 
 -- all picks
-pub taken_all : (offsets : List ℕ) (shown : List (Option ℕ)) (k : ℕ) (sums : List ℕ) (total : ℕ) (runs : List (ℕ × ℕ)) → length shown ≤ k → AreTaken offsets (take k shown) sums total runs → IsTake offsets shown sums runs
-taken_all offsets shown k sums total runs h v =
+pub taken_all : (offsets : List ℕ) (shown : List (Option ℕ)) (k : ℕ) (sums : List ℕ) (total : ℕ) (runs all : List (ℕ × ℕ)) (last : ℕ × ℕ) → length shown ≤ k → run_places all ≡ run_places (runs ++ last ∷ []) → ((n : ℕ) → All (λ r. r.0 + r.1 ≤ n) (runs ++ last ∷ []) → All (λ r. r.0 + r.1 ≤ n) all) → AreTaken offsets (take k shown) sums total runs last → IsTake offsets shown sums all
+taken_all offsets shown k sums total runs all last h e inside v =
     let whole = take_all k shown h in
     record {
       sums = v.sums ∙ ap (λ l. offsets_of (map (picked_length offsets) l)) whole;
-      places = v.places ∙ ap (λ l. run_places (map (picked_run offsets) l)) whole;
-      inside = v.inside;
+      places = e ∙ v.places ∙ ap (λ l. run_places (map (picked_run offsets) l)) whole;
+      inside = inside (last_offset offsets) v.inside;
     }
-
--- runs that lie within what 64 bits count
-pub counted_runs : (runs : List (ℕ × ℕ)) (end : ℕ) → end < 2 ^ 64 → All (λ r. r.0 + r.1 ≤ end) runs → All (λ r. r.0 + r.1 < 2 ^ 64) runs
-counted_runs runs end h inside k d p = let one : (get_or runs k d).0 + (get_or runs k d).1 ≤ end = inside k d p in omega arith
 
 -- ---- what a take tells
 

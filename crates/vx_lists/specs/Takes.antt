@@ -1,6 +1,6 @@
 -- What a take leaves of lists.
-use Rattle.std.specs.Prelude.{◌≡◌, ℕ, ◌+◌, ◌≤◌, Bool, List, [], ◌∷◌, ◌++◌, length, map, slice_index, Option, None, Some, if◌then◌else◌}
-use Rattle.std.specs.List.{All, range_with_len}
+use Rattle.std.specs.Prelude.{◌≡◌, ℕ, ◌+◌, ◌≤◌, Bool, List, [], ◌∷◌, length, map, slice_index, Option, None, Some, if◌then◌else◌}
+use Rattle.std.specs.List.{All}
 use Rattle.vx_bits.specs.BitBuffer.{PlacedBits}
 use Rattle.vx_types.specs.RowValue.{RowValue}
 use Rattle.vx_take.specs.Picks.{BoundedPicks, at, in_runs, run_places}
@@ -48,9 +48,3 @@ pub record IsTake (offsets : List ℕ) (picks : List (Option ℕ)) (new_offsets 
   pub sums : new_offsets ≡ offsets_of (map (picked_length offsets) picks)
   pub places : run_places runs ≡ run_places (map (picked_run offsets) picks)
   pub inside : All (λ run. run.0 + run.1 ≤ last_offset offsets) runs
-
--- a run's places stand behind those of runs, and it lies before any end before which they lie
-pub record IsPutBehind (old new : List (ℕ × ℕ)) (run : ℕ × ℕ) : Type 0 where
-  pub places : run_places new ≡ run_places old ++ range_with_len run.0 run.1
-  pub inside : (n : ℕ) → run.0 + run.1 ≤ n → All (λ r. r.0 + r.1 ≤ n) old
-      → All (λ r. r.0 + r.1 ≤ n) new

@@ -7,7 +7,7 @@ ghost use Rattle.vx_take.specs.Picks.{run_places};
 ghost use Rattle.vx_lists.specs.Fixed.{FiltersFixed, TakesFixed, fixed_run, repeat_bits, scaled_run};
 
 use crate::element_mask::runs_of;
-use crate::take::push_run;
+use crate::take::{push_last, push_run};
 use std::alloc::Global;
 use vx_bits::NoMemory;
 use vx_mask::{Mask, MaskError, MaskValues, Policy};
@@ -172,11 +172,13 @@ fn fixed_runs(alloc: Global, size: usize, rows: usize, picks: &Picks) -> Result<
     ensures inside { IfOk result (λ runs. All (λ run. run.0 + run.1 ≤ rows * size) runs) }
 {
     let len = picks.len();
-    let mut runs = Vec::with_capacity(alloc, len)?;
+    let mut runs = Vec::with_capacity(alloc, len.checked_add(1).ok_or(NoMemory)?)?;
+    let mut last = (0, 0);
     for k in 0..len {
         let run = fixed_run(picks.get(k), size, rows);
-        push_run(&mut runs, run, true);
+        last = push_run(&mut runs, last, run, true);
     }
+    push_last(&mut runs, last);
     Ok(Runs::from_vec(runs))
 }
 

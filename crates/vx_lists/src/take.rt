@@ -1,12 +1,12 @@
 //! A take of lists: new offsets, and the runs of the elements that they cut.
-ghost use Rattle.std.specs.Prelude.{◌≡◌, ℕ, ◌+◌, ◌^◌, ◌<◌, ◌≤◌, ◌++◌, [], ◌∷◌, IfOk, IfSome, None, false, true, length, map, replicate, slice_index_or, vec_len, vec_capacity, if◌then◌else◌};
+ghost use Rattle.std.specs.Prelude.{◌≡◌, ℕ, ◌+◌, ◌^◌, ◌<◌, ◌≤◌, ◌++◌, [], ◌∷◌, IfOk, IfSome, None, length, map, replicate, slice_index_or, vec_len, vec_capacity, if◌then◌else◌};
 ghost use Rattle.std.specs.List.{All, range_with_len, sum_by};
 ghost use Rattle.std.specs.Option.{option_copied};
 ghost use Rattle.vx_mask.specs.Mask.{mask_bits};
 ghost use Rattle.vx_take.specs.Picks.{run_places};
 ghost use Rattle.vx_lists.specs.Lists.{AreOffsets, last_offset, row_count};
 ghost use Rattle.vx_lists.specs.Sums.{offsets_of};
-ghost use Rattle.vx_lists.specs.Takes.{FitsOffsets, IsPutBehind, IsTake, TakesLists, picked_length, picked_run, shown_by, shown_picks};
+ghost use Rattle.vx_lists.specs.Takes.{FitsOffsets, IsTake, TakesLists, picked_length, picked_run, shown_by, shown_picks};
 
 use std::alloc::Global;
 use vx_bits::{BitBuffer, NoMemory};
@@ -100,18 +100,20 @@ fn taken(
     let len = picks.len();
     let room = len.checked_add(1).ok_or(NoMemory)?;
     let mut sums = Vec::with_capacity(alloc, room)?;
-    let mut runs = Vec::with_capacity(alloc, len)?;
+    let mut runs = Vec::with_capacity(alloc, room)?;
     let mut total = 0;
+    let mut last = (0, 0);
     let mut next = 0;
     sums.push_reserved(0);
     for k in 0..len {
         let pick = shown_pick(picks, present, k);
         let run = picked_run(offsets, pick);
         total = sum_of(total, run.1)?;
-        push_run(&mut runs, run, pick == Some(next));
+        last = push_run(&mut runs, last, run, pick == Some(next));
         next = row_behind(pick, next);
         sums.push_reserved(total);
     }
+    push_last(&mut runs, last);
     Ok(ListTake {
         offsets: sums,
         runs: Runs::from_vec(runs),
@@ -169,48 +171,34 @@ fn picked_run(offsets: &[u64], pick: Option<usize>) -> (usize, usize)
     }
 }
 
-/// Puts a run behind others, for which there is room: joined with the last one where it begins at
-/// its end and may be. An empty run isn't put there.
+/// Puts a run behind the last one: joined with it where it begins at its end and may be, else the
+/// last one goes to the runs before it, for which there is room. Gives the run that is the last one
+/// then.
 #[inline(always)]
-pub(crate) fn push_run(runs: &mut Vec<(usize, usize)>, run: (usize, usize), may_join: bool)
+pub(crate) fn push_run(
+    runs: &mut Vec<(usize, usize)>,
+    last: (usize, usize),
+    run: (usize, usize),
+    may_join: bool,
+) -> (usize, usize)
     requires room { vec_len runs.old < vec_capacity runs.old }
-    requires ends { All (λ r. r.0 + r.1 < 2 ^ 64) runs.old.items }
+    requires end { last.0 + last.1 < 2 ^ 64 }
     requires next_end { run.0 + run.1 < 2 ^ 64 }
-    ensures places { run_places runs.new.items
-        ≡ run_places runs.old.items ++ range_with_len run.0 run.1 }
+    ensures places { run_places (runs.new.items ++ result ∷ [])
+        ≡ run_places (runs.old.items ++ last ∷ []) ++ range_with_len run.0 run.1 }
     ensures inside { (n : ℕ) → run.0 + run.1 ≤ n
-        → All (λ r. r.0 + r.1 ≤ n) runs.old.items → All (λ r. r.0 + r.1 ≤ n) runs.new.items }
+        → All (λ r. r.0 + r.1 ≤ n) (runs.old.items ++ last ∷ [])
+        → All (λ r. r.0 + r.1 ≤ n) (runs.new.items ++ result ∷ []) }
     ensures count { vec_len runs.new ≤ vec_len runs.old + 1 }
     ensures capacity { vec_capacity runs.new ≡ vec_capacity runs.old }
 {
     if may_join {
-        if join_last(runs, run) {
-            return;
+        if last.0 + last.1 == run.0 {
+            return (last.0, last.1 + run.1);
         }
     }
-    put_if(runs, run, run.1 != 0);
-}
-
-// Joins a run with the last one where it begins at its end, and answers whether it does.
-#[inline(always)]
-fn join_last(runs: &mut Vec<(usize, usize)>, run: (usize, usize)) -> bool
-    requires ends { All (λ r. r.0 + r.1 < 2 ^ 64) runs.old.items }
-    requires next_end { run.0 + run.1 < 2 ^ 64 }
-    ensures joined { result ≡ true → IsPutBehind runs.old.items runs.new.items run }
-    ensures apart { result ≡ false → runs.new.items ≡ runs.old.items }
-    ensures count { vec_len runs.new ≡ vec_len runs.old }
-    ensures capacity { vec_capacity runs.new ≡ vec_capacity runs.old }
-{
-    let count = runs.len();
-    if count == 0 {
-        return false;
-    }
-    let last = runs[count - 1];
-    if last.0 + last.1 != run.0 {
-        return false;
-    }
-    runs[count - 1] = (last.0, last.1 + run.1);
-    true
+    put_if(runs, last, run.1 != 0 && last.1 != 0);
+    if run.1 == 0 { last } else { run }
 }
 
 // Puts a run behind others, or not. It is written in any case and then cut off, since which lists
@@ -226,4 +214,19 @@ fn put_if(runs: &mut Vec<(usize, usize)>, run: (usize, usize), stays: bool)
     let count = runs.len();
     runs.push_reserved(run);
     runs.truncate(count + usize::from(stays));
+}
+
+/// Puts the last run behind the runs before it, where it has elements.
+#[inline(always)]
+pub(crate) fn push_last(runs: &mut Vec<(usize, usize)>, last: (usize, usize))
+    requires { vec_len runs.old < vec_capacity runs.old }
+    ensures places { run_places runs.new.items ≡ run_places (runs.old.items ++ last ∷ []) }
+    ensures inside { (n : ℕ) → All (λ r. r.0 + r.1 ≤ n) (runs.old.items ++ last ∷ [])
+        → All (λ r. r.0 + r.1 ≤ n) runs.new.items }
+    ensures count { vec_len runs.new ≤ vec_len runs.old + 1 }
+    ensures capacity { vec_capacity runs.new ≡ vec_capacity runs.old }
+{
+    if last.1 != 0 {
+        runs.push_reserved(last);
+    }
 }

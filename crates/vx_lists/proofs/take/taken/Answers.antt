@@ -13,15 +13,15 @@ loop-k-preserved c =
     let shown = shown_by (option_copied c.args.present) c.args.picks.now.picks in
     let within : c.loop-k.k < length shown = omega (arith, c.loop-k-test.true, c.len-len.ensures, length-shown_by (option_copied c.args.present) c.args.picks.now.picks c.requires.long) in
     record {
-      taken = pick_taken offsets shown c.loop-k.k c.shown_pick-pick.result _ _ _ _ _ _ c.picked_run-run.result within c.shown_pick-pick.ensures.value c.picked_run-run.ensures.value c.picked_run-run.ensures.length c.in_ok-total.ensures c.push_reserved-in-loop-k.ensures.items c.push_run.ensures.places (c.push_run.ensures.inside (last_offset offsets) c.picked_run-run.ensures.inside v.taken.inside) v.taken;
+      taken = pick_taken offsets shown c.loop-k.k c.shown_pick-pick.result _ _ _ _ _ _ _ c.picked_run-run.result _ within c.shown_pick-pick.ensures.value c.picked_run-run.ensures.value c.picked_run-run.ensures.length c.in_ok-total.ensures c.push_reserved-in-loop-k.ensures.items c.push_run-last.ensures.places (c.push_run-last.ensures.inside (last_offset offsets) c.picked_run-run.ensures.inside v.taken.inside) v.taken;
       count = omega (arith, c.push_reserved-in-loop-k.ensures.len, v.count);
       room = c.push_reserved-in-loop-k.ensures.capacity ∙ v.room;
-      run_count = omega (arith, c.push_run.ensures.count, v.run_count);
-      run_room = c.push_run.ensures.capacity ∙ v.run_room;
+      run_count = omega (arith, c.push_run-last.ensures.count, v.run_count);
+      run_room = c.push_run-last.ensures.capacity ∙ v.run_room;
     }
 
 pub returns : goal.returns
 returns c =
     let shown = shown_by (option_copied c.args.present) c.args.picks.now.picks in
     let ended : length shown ≤ c.loop-k.k = omega (arith, c.loop-k-test.false, c.len-len.ensures, length-shown_by (option_copied c.args.present) c.args.picks.now.picks c.requires.long) in
-    rw c.from_vec.ensures (taken_all c.args.offsets.now shown c.loop-k.k _ _ _ ended c.loop-k.invariant.taken)
+    taken_all c.args.offsets.now shown c.loop-k.k _ _ _ _ _ ended (rw c.from_vec.ensures c.push_last.ensures.places) (rw c.from_vec.ensures c.push_last.ensures.inside) c.loop-k.invariant.taken
