@@ -1,12 +1,11 @@
 -- Rows at composed picks are the answer.
-use Rattle.std.proofs.Common.{◌≡◌, ◌≢◌, ℕ, zero, suc, ◌+◌, ◌<◌, Bool, true, false, List, [], ◌∷◌, ◌++◌, length, map, take, drop, get_or, Option, Some, None, refl, sym, ap, ap₂, ◌∙◌, subst, arith}
+use Rattle.std.proofs.Common.{◌≡◌, ℕ, zero, suc, ◌+◌, ◌<◌, Bool, true, false, List, [], ◌∷◌, ◌++◌, length, map, take, drop, get_or, Option, Some, None, refl, sym, ap, ap₂, ◌∙◌, subst, arith}
 use Rattle.std.specs.Prelude.{is_some, if◌then◌else◌}
-use Rattle.std.specs.List.{list_all, range_with_len}
 use Rattle.std.proofs.lemmas.List.{append-nil, ext_get_or, get_or-map, length-map}
 use Rattle.std.proofs.Math.ListN.{drop_of_length-le}
 use Rattle.std.proofs.Math.Seq.{take-length}
 use Rattle.std.proofs.lemmas.List.Sums.{AllPass-from_list_all}
-use Rattle.std.proofs.lemmas.List.FromFn.{get_or-map-range_with_len, length-map-range_with_len}
+use Rattle.std.proofs.lemmas.List.FromFn.{get_or-map-range_with_len}
 use Rattle.vx_bits.specs.BitBuffer.{bits_of, bit_of}
 use Rattle.vx_positions.specs.Positions.{AllThere}
 use Rattle.vx_types.specs.RowValue as model
@@ -18,14 +17,14 @@ use Rattle.vx_steps.specs.Walk.{Walk, walk, walk_fault, walk_picks}
 use Rattle.vx_steps.specs.Answer.{answer_of, answer_of_walk, answer_rows, type_after}
 use Rattle.vx_arrow.specs.Answer.{IfPicks, walk_in}
 use Rattle.vx_arrow.specs.Image.{StepParts, steps_in}
-use Rattle.vx_arrow.specs.Written.{ArePlaced, AreMarked, AreShown, need_of, place_of}
+use Rattle.vx_arrow.specs.Written.{ArePlaced, AreShown, need_of, place_of}
 use Rattle.vx_arrow_image.specs.Rows as rows
 use Rattle.vx_arrow_image.specs.Image.{is_valid, column_in, part_of, parts_of}
 use Rattle.vx_arrow.specs.declared.need.Need.{Need}
 use Rattle.vx_arrow_image.specs.declared.image.Node.{Node}
 use Rattle.vx_arrow_image.specs.declared.image.Room.{Room}
 use Rattle.vx_arrow_columns.specs.Answer.{MeansPicked}
-use Rattle.vx_arrow_columns.specs.Picks.{Picking, picking_of, picks_of, pick_at}
+use Rattle.vx_arrow_columns.specs.Picks.{Picking, picking_of, picks_of}
 use Rattle.vx_arrow_columns.specs.Planned.{first_len}
 use Rattle.vx_arrow_columns.specs.Written.{written}
 use Rattle.vx_arrow_columns.proofs.PickReads.{length_picks, get_picks}
