@@ -1,8 +1,9 @@
 -- What picks are, and where their rows stand.
-use Rattle.std.proofs.Common.{map, ◌≡◌, ℕ, ◌+◌, ◌*◌, ◌^◌, ◌<◌, ◌≤◌, Bool, true, false, cond, List, [], ◌∷◌, length, get_or, Option, Some, None, arith, ap, ◌∙◌, sym, refl, inl, inr}
+use Rattle.std.proofs.Common.{map, ◌≡◌, ℕ, ◌+◌, ◌*◌, ◌^◌, ◌<◌, ◌≤◌, Bool, true, false, cond, List, [], ◌∷◌, length, nat_lt, zero, suc, get_or, Option, Some, None, arith, ap, ◌∙◌, sym, refl, inl, inr}
 use Rattle.std.specs.Prelude.{is_some}
+use Rattle.std.specs.List.{list_all}
 use Rattle.std.specs.Option.{option_map}
-use Rattle.std.proofs.lemmas.Bool.{cases_eq, and_parts, ltb-true}
+use Rattle.std.proofs.lemmas.Bool.{cases_eq, and_parts, lt-ltb, ltb-true}
 use Rattle.std.proofs.lemmas.List.{ext_get_or, get_or-map, length-map}
 use Rattle.std.proofs.lemmas.List.FromFn.{length-map-range_with_len, get_or-map-range_with_len}
 use Rattle.vx_arrow_image.specs.Image.{Part, is_placed, is_valid, bit_of}
@@ -50,6 +51,27 @@ within_next ps vs add n k old here j i h e = elim (cases_eq j k) as (λ _. i < n
       omega (arith, is.1)
   | inr other ↦ old j i (omega arith) e
 ]
+
+-- places that are all below, where no pick is null
+below_each : (ps : List ℕ) (n j : ℕ) → list_all (λ p. nat_lt p n) ps ≡ true → j < length ps → get_or ps j 0 < n
+below_each [] n j h l = absurd (omega arith)
+below_each (p ∷ ps) n zero h l = ltb-true p n (and_parts (nat_lt p n) (list_all (λ q. nat_lt q n) ps) h).0
+below_each (p ∷ ps) n (suc j) h l = below_each ps n j (and_parts (nat_lt p n) (list_all (λ q. nat_lt q n) ps) h).1 (omega arith)
+
+each_below : (ps : List ℕ) (n : ℕ) → ((j : ℕ) → j < length ps → get_or ps j 0 < n) → list_all (λ p. nat_lt p n) ps ≡ true
+each_below [] n h = refl
+each_below (p ∷ ps) n h =
+    let low : nat_lt p n ≡ true = lt-ltb p n (h zero (omega arith)) in
+    rw (low, each_below ps n (λ j l. h (suc j) (omega arith))) refl
+
+pub below_within : (ps : List ℕ) (n : ℕ) → list_all (λ p. nat_lt p n) ps ≡ true → AreWithin (picks_of ps [] 0) n
+below_within ps n h = all_within ps [] 0 n (length ps) (omega arith) (λ j i l e.
+    let is = pick_is ps [] 0 j i true refl e in
+    let low = below_each ps n j h l in
+    omega (arith, is.1))
+
+pub within_below : (ps : List ℕ) (n : ℕ) → AreWithin (picks_of ps [] 0) n → list_all (λ p. nat_lt p n) ps ≡ true
+within_below ps n w = each_below ps n (λ j l. let low = place_below ps [] 0 n j w l refl in omega arith)
 
 pub all_full : (ps vs : List ℕ) (add m : ℕ) → length ps ≤ m → ((j : ℕ) → j < m → is_valid vs j ≡ true) → AreFull (picks_of ps vs add)
 all_full ps vs add m long h = record {

@@ -133,8 +133,11 @@ fn push_range(places: &mut Vec<u64>, start: u64, end: u64) -> Result<(), Fault>
         (places.new.items ≡ places.old.items ++ range_with_len start (end - start)) }
     ensures fault { IfErr result (IsFault ⊥ ⊥) }
 {
+    if places.reserve((end - start) as usize).is_err() {
+        return Err(Fault::NoMemory);
+    }
     for place in start..end {
-        places.push(place)?;
+        places.push_reserved(place);
     }
     Ok(())
 }

@@ -1,5 +1,6 @@
 //! Places of rows.
-ghost use Rattle.std.specs.Prelude.{◌≡◌, ◌+◌, ◌<◌, ◌≤◌, IfSome, Some, [], length, true, false};
+ghost use Rattle.std.specs.Prelude.{◌≡◌, ◌+◌, ◌<◌, ◌≤◌, IfSome, Some, [], length, nat_lt, true, false};
+ghost use Rattle.std.specs.List.{list_all};
 ghost use Rattle.std.specs.Option.{option_map};
 ghost use Rattle.vx_arrow_image.specs.Image.{is_placed, part_of};
 ghost use Rattle.vx_arrow_columns.specs.Asked.{the_picks};
@@ -79,6 +80,29 @@ pub(crate) fn place(node: &Node, picks: &Picks, k: usize) -> Option<usize>
 
 /// Whether each pick is null or below the length.
 pub(crate) fn are_within(picks: &Picks, len: u64) -> bool
+    ensures within { result ≡ true → AreWithin (the_picks picks.now) len }
+    ensures beyond { result ≡ false → AreWithin (the_picks picks.now) len → ⊥ }
+{
+    if picks.valid.is_empty() && picks.add == 0 {
+        are_all_below(picks.places, len)
+    } else {
+        are_below_or_null(picks, len)
+    }
+}
+
+// Whether all places are below the length: each is looked at, so that no branch waits for one.
+fn are_all_below(places: &[u64], len: u64) -> bool
+    ensures { result ≡ list_all (λ p. nat_lt p len) places.now }
+{
+    let mut are_below = true;
+    for place in places {
+        are_below = are_below & (*place < len);
+    }
+    are_below
+}
+
+// The same of picks with a bit each, or further on.
+fn are_below_or_null(picks: &Picks, len: u64) -> bool
     ensures within { result ≡ true → AreWithin (the_picks picks.now) len }
     ensures beyond { result ≡ false → AreWithin (the_picks picks.now) len → ⊥ }
 {

@@ -1,5 +1,5 @@
 -- One place more.
-use Rattle.std.proofs.Common.{rules, ◌≡◌, ◌+◌, ◌-◌, ◌++◌, ap, sym, ◌∙◌, append_assoc, arith, [], ◌∷◌}
+use Rattle.std.proofs.Common.{◌≡◌, ◌+◌, ◌-◌, ◌++◌, ap, sym, ◌∙◌, append_assoc, arith, [], ◌∷◌}
 use Rattle.std.specs.List.{range_with_len}
 use Rattle.vx_arrow_columns.proofs.Cuts.{range_more}
 use Rattle.vx_arrow_columns.proofs.needs.push_range.Goals as goal
@@ -11,5 +11,5 @@ loop-place-preserved c =
     let low = c.loop-place.auto.place in
     let next : c.loop-place.place + 1 - s ≡ c.loop-place.place - s + 1 = omega arith in
     let more = ap (range_with_len s) next ∙ range_more s (c.loop-place.place - s) c.loop-place.place (omega arith) in
-    let pushed : c.push.new.self.items ≡ c.loop-place.places.items ++ c.loop-place.place ∷ [] = search rules in
-    pushed ∙ ap (λ l. l ++ c.loop-place.place ∷ []) before ∙ append_assoc c.args.places.now.items (range_with_len s (c.loop-place.place - s)) (c.loop-place.place ∷ []) ∙ ap (λ l. c.args.places.now.items ++ l) (sym more)
+    let items = c.push_reserved.ensures.items ∙ ap (λ l. l ++ c.loop-place.place ∷ []) before.0 ∙ append_assoc c.args.places.now.items (range_with_len s (c.loop-place.place - s)) (c.loop-place.place ∷ []) ∙ ap (λ l. c.args.places.now.items ++ l) (sym more) in
+    (items, omega (arith, before.1, c.loop-place-test.true, c.push_reserved.ensures.len, c.push_reserved.ensures.capacity))
