@@ -2,6 +2,7 @@
 steps as a document.
 """
 
+import decimal
 import json
 import os
 import random
@@ -38,6 +39,8 @@ def some(of):
         return {name: None for name, _ in of.children}
     if form[:2] == "+w":
         return [None] * int(form[3:])
+    if form[:2] == "d:":
+        return decimal.Decimal(0)
     return [] if form[0] == "+" else SOME.get(form, 0)
 
 
@@ -86,7 +89,7 @@ def maps_of(of, rows, valid):
         "layout": "Struct",
         "len": len(items),
         "names": [key, value],
-        "fields": [document_of(of_key, fields[0]), document_of(of_value, fields[1])],
+        "fields": [{**document_of(of_key, fields[0]), "validity": "NonNullable"}, document_of(of_value, fields[1])],
     }
     starts, sizes = [], list(map(len, rows))
     for size in sizes:
