@@ -333,8 +333,8 @@ def write_parts(
     lengths: Optional[Sequence[int]] = None,
 ) -> Written:
     """As `select_parts`, but each part that is asked writes its answer at the worker, for `read_column`,
-    to `part0`, `part1` and so on of a folder that all of them see, and its rows aren't sent. A folder
-    that doesn't exist is an `OSError`.
+    to `part0`, `part1` and so on of a folder that all of them see, and its rows aren't sent. What else
+    lies in the folder stays. A folder that doesn't exist is an `OSError`.
     """
     parts = list(parts)
     asked, tasks = _asked(backend, parts, steps, columns, load, lengths)
