@@ -2,6 +2,7 @@
 
 use crate::arguments::{column_at, number_at};
 use crate::lines::push_shown;
+use crate::sources::bools_of;
 use serde_json::Value;
 use std::alloc::Global;
 use std::test::Fail;
@@ -63,6 +64,14 @@ fn push_read(
     }
 }
 
+/// The column that is read: the one that stands there, or bools with the bits of their validity.
+fn column_read(alloc: Global, row: &Value) -> Result<Array, Fail> {
+    if row.get("bits").is_some() {
+        return Ok(bools_of(alloc, row)??.into_array());
+    }
+    column_at(alloc, row, "column")
+}
+
 /// Appends what a reader gives of the row `at`, or of each row where none is named.
 pub(crate) fn push_reads(
     lines: &mut String,
@@ -70,7 +79,7 @@ pub(crate) fn push_reads(
     row: &Value,
     call: &str,
 ) -> Result<(), Fail> {
-    let column = column_at(alloc, row, "column")?;
+    let column = column_read(alloc, row)?;
     if row.get("at").is_some() {
         return push_read(lines, alloc, &column, number_at(row, "at")?, call);
     }

@@ -7,10 +7,10 @@ use std::alloc::Global;
 use std::test::Fail;
 use vx_bits::Buffer;
 use vx_column::{
-    Array, BinaryView, ColumnError, InlineBytes, PrimitiveArray, TextKind, Validity,
+    Array, BinaryView, BoolArray, ColumnError, InlineBytes, PrimitiveArray, TextKind, Validity,
     VarBinViewArray, mask_of,
 };
-use vx_json::{hex_values_of, list_member, ptype_named};
+use vx_json::{bits_in, hex_values_of, list_member, ptype_named};
 use vx_pieces::PiecewiseSequence;
 use vx_shared::Shared;
 
@@ -40,6 +40,14 @@ pub(crate) fn push_whole(
         "mask_of" => push_mask(lines, "= ", &mask_of(alloc, &column)?),
         _ => push_shown(lines, &plain_len(&column, range_at(row)?)?),
     }
+}
+
+/// Bools that are valid where a bit is set, of which the first stands third in its byte, or why
+/// they make no column.
+pub(crate) fn bools_of(alloc: Global, row: &Value) -> Result<Result<BoolArray, ColumnError>, Fail> {
+    let values = bits_in(alloc, text_at(row, "values").as_bytes(), 0)?;
+    let valid = bits_in(alloc, text_at(row, "bits").as_bytes(), 2)?;
+    Ok(BoolArray::try_new(values, Validity::from_bits(alloc, valid)?))
 }
 
 /// Why records of four bytes make no column of numbers.
@@ -76,6 +84,7 @@ pub(crate) fn constructor_fault(
     name: &str,
 ) -> Result<Option<ColumnError>, Fail> {
     match name {
+        "Bool" => Ok(bools_of(alloc, row)?.err()),
         "Primitive" => primitive_fault(alloc, row),
         "VarBinView" => inlined_fault(alloc, number_at(row, "len")?),
         "PiecewiseSequence" => sequence_fault(alloc, row),
