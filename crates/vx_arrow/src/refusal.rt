@@ -25,17 +25,6 @@ pub enum Refusal {
     NoMemory,
 }
 
-impl From<NoMemory> for Refusal {
-    ghost use Rattle.std.specs.Prelude.{◌≡◌};
-    ghost use Rattle.vx_arrow.specs.declared.refusal.Refusal.TheVariants.{NoMemory as OutOfMemory};
-
-    ghost from_gives = { λ _ e. e ≡ OutOfMemory };
-
-    fn from(_: NoMemory) -> Refusal {
-        Refusal::NoMemory
-    }
-}
-
 impl fmt::Display for Refusal {
     ghost use Rattle.std.specs.Prelude.{Some};
     ghost use Rattle.vx_arrow.specs.Messages.{refusal_text};
@@ -53,3 +42,14 @@ impl fmt::Display for Refusal {
 }
 
 impl Error for Refusal {}
+
+impl From<NoMemory> for Refusal {
+    ghost use Rattle.std.specs.Prelude.{◌≡◌};
+    ghost use Rattle.vx_arrow.specs.declared.refusal.Refusal.TheVariants.{NoMemory as OutOfMemory};
+
+    ghost from_gives = { λ _ e. e ≡ OutOfMemory };
+
+    fn from(_: NoMemory) -> Refusal {
+        Refusal::NoMemory
+    }
+}

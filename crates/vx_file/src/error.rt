@@ -29,6 +29,39 @@ pub enum FileError {
     NoMemory,
 }
 
+impl fmt::Display for FileError {
+    ghost use Rattle.std.specs.Prelude.{Some};
+    ghost use Rattle.vx_file.specs.Messages.{file_error_text};
+
+    ghost output = { λ e. Some (file_error_text e) };
+
+    fn fmt<W: fmt::Write>(&self, f: &mut fmt::Formatter<W>) -> fmt::Result {
+        match self {
+            FileError::ReadFault => f.write_str("a block could not be read"),
+            FileError::BadHeader => f.write_str("block 0 is no header"),
+            FileError::Damaged { block } => write!(f, "block {block} is damaged"),
+            FileError::Broken { step, cause } => write!(f, "step {step}: {cause}"),
+            FileError::NoMemory => f.write_str("out of memory"),
+        }
+    }
+}
+
+impl Error for FileError {}
+
+impl From<SelectError> for FileError {
+    ghost use Rattle.std.specs.Prelude.{◌≡◌};
+    ghost use Rattle.vx_file.specs.Errors.{of_select};
+
+    ghost from_gives = { λ x e. e ≡ of_select x };
+
+    fn from(error: SelectError) -> FileError {
+        match error {
+            SelectError::Broken { step, cause } => FileError::Broken { step, cause },
+            SelectError::NoMemory => FileError::NoMemory,
+        }
+    }
+}
+
 impl From<NoMemory> for FileError {
     ghost use Rattle.std.specs.Prelude.{◌≡◌};
     ghost use Rattle.vx_file.specs.declared.error.FileError.TheVariants.{NoMemory as OutOfMemory};
@@ -50,36 +83,3 @@ impl From<AllocError> for FileError {
         FileError::NoMemory
     }
 }
-
-impl From<SelectError> for FileError {
-    ghost use Rattle.std.specs.Prelude.{◌≡◌};
-    ghost use Rattle.vx_file.specs.Errors.{of_select};
-
-    ghost from_gives = { λ x e. e ≡ of_select x };
-
-    fn from(error: SelectError) -> FileError {
-        match error {
-            SelectError::Broken { step, cause } => FileError::Broken { step, cause },
-            SelectError::NoMemory => FileError::NoMemory,
-        }
-    }
-}
-
-impl fmt::Display for FileError {
-    ghost use Rattle.std.specs.Prelude.{Some};
-    ghost use Rattle.vx_file.specs.Messages.{file_error_text};
-
-    ghost output = { λ e. Some (file_error_text e) };
-
-    fn fmt<W: fmt::Write>(&self, f: &mut fmt::Formatter<W>) -> fmt::Result {
-        match self {
-            FileError::ReadFault => f.write_str("a block could not be read"),
-            FileError::BadHeader => f.write_str("block 0 is no header"),
-            FileError::Damaged { block } => write!(f, "block {block} is damaged"),
-            FileError::Broken { step, cause } => write!(f, "step {step}: {cause}"),
-            FileError::NoMemory => f.write_str("out of memory"),
-        }
-    }
-}
-
-impl Error for FileError {}

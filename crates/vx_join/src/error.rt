@@ -23,17 +23,6 @@ pub enum JoinError {
     NoMemory,
 }
 
-impl From<NoMemory> for JoinError {
-    ghost use Rattle.std.specs.Prelude.{◌≡◌};
-    ghost use Rattle.vx_join.specs.declared.error.JoinError.TheVariants.{NoMemory as OutOfMemory};
-
-    ghost from_gives = { λ _ e. e ≡ OutOfMemory };
-
-    fn from(_: NoMemory) -> JoinError {
-        JoinError::NoMemory
-    }
-}
-
 impl fmt::Display for JoinError {
     ghost use Rattle.std.specs.Prelude.{Some};
     ghost use Rattle.vx_join.specs.Messages.{join_error_text};
@@ -51,3 +40,14 @@ impl fmt::Display for JoinError {
 }
 
 impl Error for JoinError {}
+
+impl From<NoMemory> for JoinError {
+    ghost use Rattle.std.specs.Prelude.{◌≡◌};
+    ghost use Rattle.vx_join.specs.declared.error.JoinError.TheVariants.{NoMemory as OutOfMemory};
+
+    ghost from_gives = { λ _ e. e ≡ OutOfMemory };
+
+    fn from(_: NoMemory) -> JoinError {
+        JoinError::NoMemory
+    }
+}

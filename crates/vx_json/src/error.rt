@@ -17,44 +17,6 @@ pub enum DocError {
     NoMemory,
 }
 
-impl From<NoMemory> for DocError {
-    ghost from_gives = { λ _ e. e ≡ OutOfMemory };
-
-    fn from(_: NoMemory) -> Self {
-        DocError::NoMemory
-    }
-}
-
-impl From<AllocError> for DocError {
-    ghost from_gives = { λ _ e. e ≡ OutOfMemory };
-
-    fn from(_: AllocError) -> Self {
-        DocError::NoMemory
-    }
-}
-
-/// What is no mask is malformed.
-impl From<MaskError> for DocError {
-    ghost use Rattle.vx_json.specs.Meaning.{mask_refusal};
-
-    ghost from_gives = { λ x e. e ≡ mask_refusal x };
-
-    fn from(error: MaskError) -> Self {
-        match error {
-            MaskError::NoMemory => DocError::NoMemory,
-            _ => DocError::Malformed,
-        }
-    }
-}
-
-impl<T: Drop> From<AllocFailed<T>> for DocError {
-    ghost from_gives = { λ _ e. e ≡ OutOfMemory };
-
-    fn from(_: AllocFailed<T>) -> Self {
-        DocError::NoMemory
-    }
-}
-
 impl fmt::Display for DocError {
     ghost use Rattle.std.specs.Prelude.{Some};
     ghost use Rattle.vx_json.specs.Messages.{doc_error_text};
@@ -70,3 +32,41 @@ impl fmt::Display for DocError {
 }
 
 impl Error for DocError {}
+
+/// What is no mask is malformed.
+impl From<MaskError> for DocError {
+    ghost use Rattle.vx_json.specs.Meaning.{mask_refusal};
+
+    ghost from_gives = { λ x e. e ≡ mask_refusal x };
+
+    fn from(error: MaskError) -> Self {
+        match error {
+            MaskError::NoMemory => DocError::NoMemory,
+            _ => DocError::Malformed,
+        }
+    }
+}
+
+impl From<NoMemory> for DocError {
+    ghost from_gives = { λ _ e. e ≡ OutOfMemory };
+
+    fn from(_: NoMemory) -> Self {
+        DocError::NoMemory
+    }
+}
+
+impl<T: Drop> From<AllocFailed<T>> for DocError {
+    ghost from_gives = { λ _ e. e ≡ OutOfMemory };
+
+    fn from(_: AllocFailed<T>) -> Self {
+        DocError::NoMemory
+    }
+}
+
+impl From<AllocError> for DocError {
+    ghost from_gives = { λ _ e. e ≡ OutOfMemory };
+
+    fn from(_: AllocError) -> Self {
+        DocError::NoMemory
+    }
+}

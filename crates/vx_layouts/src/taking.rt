@@ -40,17 +40,6 @@ pub enum TakeError {
     NoMemory,
 }
 
-impl From<NoMemory> for TakeError {
-    ghost use Rattle.std.specs.Prelude.{◌≡◌};
-    ghost use Rattle.vx_layouts.specs.declared.taking.TakeError.TheVariants.{NoMemory as OutOfMemory};
-
-    ghost from_gives = { λ _ e. e ≡ OutOfMemory };
-
-    fn from(_: NoMemory) -> TakeError {
-        TakeError::NoMemory
-    }
-}
-
 impl fmt::Display for TakeError {
     ghost use Rattle.std.specs.Prelude.{Some};
     ghost use Rattle.vx_layouts.specs.Messages.{take_error_text};
@@ -68,6 +57,17 @@ impl fmt::Display for TakeError {
 }
 
 impl Error for TakeError {}
+
+impl From<NoMemory> for TakeError {
+    ghost use Rattle.std.specs.Prelude.{◌≡◌};
+    ghost use Rattle.vx_layouts.specs.declared.taking.TakeError.TheVariants.{NoMemory as OutOfMemory};
+
+    ghost from_gives = { λ _ e. e ≡ OutOfMemory };
+
+    fn from(_: NoMemory) -> TakeError {
+        TakeError::NoMemory
+    }
+}
 
 /// Why a take from a column by these indices isn't one; none where it is. It takes no memory.
 pub(crate) fn take_fault(array: &Array, indices: &Indices) -> Option<TakeError>

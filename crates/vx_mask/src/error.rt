@@ -21,17 +21,6 @@ pub enum MaskError {
     NoMemory,
 }
 
-impl From<NoMemory> for MaskError {
-    ghost use Rattle.std.specs.Prelude.{◌≡◌};
-    ghost use Rattle.vx_mask.specs.declared.error.MaskError.TheVariants.{NoMemory as OutOfMemory};
-
-    ghost from_gives = { λ _ e. e ≡ OutOfMemory };
-
-    fn from(_error: NoMemory) -> MaskError {
-        MaskError::NoMemory
-    }
-}
-
 impl fmt::Display for MaskError {
     ghost use Rattle.std.specs.Prelude.{Some};
     ghost use Rattle.vx_mask.specs.Messages.{mask_error_text};
@@ -50,3 +39,14 @@ impl fmt::Display for MaskError {
 }
 
 impl Error for MaskError {}
+
+impl From<NoMemory> for MaskError {
+    ghost use Rattle.std.specs.Prelude.{◌≡◌};
+    ghost use Rattle.vx_mask.specs.declared.error.MaskError.TheVariants.{NoMemory as OutOfMemory};
+
+    ghost from_gives = { λ _ e. e ≡ OutOfMemory };
+
+    fn from(_error: NoMemory) -> MaskError {
+        MaskError::NoMemory
+    }
+}

@@ -35,17 +35,6 @@ pub enum PackedError {
     NoMemory,
 }
 
-impl From<NoMemory> for PackedError {
-    ghost use Rattle.std.specs.Prelude.{◌≡◌};
-    ghost use Rattle.vx_packed.specs.declared.fault.PackedError.TheVariants.{NoMemory as OutOfMemory};
-
-    ghost from_gives = { λ _ e. e ≡ OutOfMemory };
-
-    fn from(_: NoMemory) -> PackedError {
-        PackedError::NoMemory
-    }
-}
-
 impl fmt::Display for PackedFault {
     ghost use Rattle.std.specs.Prelude.{Some};
     ghost use Rattle.vx_packed.specs.Messages.{packed_fault_text};
@@ -81,3 +70,14 @@ impl fmt::Display for PackedError {
 }
 
 impl Error for PackedError {}
+
+impl From<NoMemory> for PackedError {
+    ghost use Rattle.std.specs.Prelude.{◌≡◌};
+    ghost use Rattle.vx_packed.specs.declared.fault.PackedError.TheVariants.{NoMemory as OutOfMemory};
+
+    ghost from_gives = { λ _ e. e ≡ OutOfMemory };
+
+    fn from(_: NoMemory) -> PackedError {
+        PackedError::NoMemory
+    }
+}

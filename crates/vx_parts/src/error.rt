@@ -25,17 +25,6 @@ pub enum PutError {
     NoMemory,
 }
 
-impl From<NoMemory> for PutError {
-    ghost use Rattle.std.specs.Prelude.{◌≡◌};
-    ghost use Rattle.vx_parts.specs.declared.error.PutError.TheVariants.{NoMemory as OutOfMemory};
-
-    ghost from_gives = { λ _ e. e ≡ OutOfMemory };
-
-    fn from(_: NoMemory) -> PutError {
-        PutError::NoMemory
-    }
-}
-
 impl fmt::Display for PutError {
     ghost use Rattle.std.specs.Prelude.{Some};
     ghost use Rattle.vx_parts.specs.Messages.{put_error_text};
@@ -59,3 +48,14 @@ impl fmt::Display for PutError {
 }
 
 impl Error for PutError {}
+
+impl From<NoMemory> for PutError {
+    ghost use Rattle.std.specs.Prelude.{◌≡◌};
+    ghost use Rattle.vx_parts.specs.declared.error.PutError.TheVariants.{NoMemory as OutOfMemory};
+
+    ghost from_gives = { λ _ e. e ≡ OutOfMemory };
+
+    fn from(_: NoMemory) -> PutError {
+        PutError::NoMemory
+    }
+}

@@ -4,10 +4,6 @@ use std::error::Error;
 use std::fmt;
 use vx_bits::NoMemory;
 
-/// A piecewise sequence isn't sound, and nothing else.
-#[derive(Debug, Clone, Copy, PartialEq, Eq)]
-pub struct BadPieces;
-
 /// What the calls of a piecewise sequence refuse.
 #[derive(Debug, Clone, Copy, PartialEq, Eq)]
 pub enum PiecesError {
@@ -22,16 +18,9 @@ pub enum PiecesError {
     NoMemory,
 }
 
-impl From<NoMemory> for PiecesError {
-    ghost use Rattle.std.specs.Prelude.{◌≡◌};
-    ghost use Rattle.vx_pieces.specs.declared.error.PiecesError.TheVariants.{NoMemory as OutOfMemory};
-
-    ghost from_gives = { λ _ e. e ≡ OutOfMemory };
-
-    fn from(_: NoMemory) -> PiecesError {
-        PiecesError::NoMemory
-    }
-}
+/// A piecewise sequence isn't sound, and nothing else.
+#[derive(Debug, Clone, Copy, PartialEq, Eq)]
+pub struct BadPieces;
 
 impl fmt::Display for PiecesError {
     ghost use Rattle.std.specs.Prelude.{Some};
@@ -62,3 +51,14 @@ impl fmt::Display for BadPieces {
 }
 
 impl Error for BadPieces {}
+
+impl From<NoMemory> for PiecesError {
+    ghost use Rattle.std.specs.Prelude.{◌≡◌};
+    ghost use Rattle.vx_pieces.specs.declared.error.PiecesError.TheVariants.{NoMemory as OutOfMemory};
+
+    ghost from_gives = { λ _ e. e ≡ OutOfMemory };
+
+    fn from(_: NoMemory) -> PiecesError {
+        PiecesError::NoMemory
+    }
+}

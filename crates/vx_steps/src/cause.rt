@@ -4,6 +4,20 @@ use std::error::Error;
 use std::fmt;
 use vx_bits::NoMemory;
 
+/// Why a list of steps has no answer.
+#[derive(Debug, Clone, Copy, PartialEq, Eq)]
+pub enum SelectError {
+    /// The first step that breaks a rule, and its cause.
+    Broken {
+        /// The step's number, counted from 0.
+        step: usize,
+        /// The rule that it breaks.
+        cause: Cause,
+    },
+    /// Out of memory, though no step breaks a rule.
+    NoMemory,
+}
+
 /// The rule that a step breaks, with what the step asked for and what was there. All counts are
 /// rows.
 #[derive(Debug, Clone, Copy, PartialEq, Eq)]
@@ -39,30 +53,21 @@ pub enum Cause {
     },
 }
 
-/// Why a list of steps has no answer.
-#[derive(Debug, Clone, Copy, PartialEq, Eq)]
-pub enum SelectError {
-    /// The first step that breaks a rule, and its cause.
-    Broken {
-        /// The step's number, counted from 0.
-        step: usize,
-        /// The rule that it breaks.
-        cause: Cause,
-    },
-    /// Out of memory, though no step breaks a rule.
-    NoMemory,
-}
+impl fmt::Display for SelectError {
+    ghost use Rattle.std.specs.Prelude.{Some};
+    ghost use Rattle.vx_steps.specs.Messages.{select_error_text};
 
-impl From<NoMemory> for SelectError {
-    ghost use Rattle.std.specs.Prelude.{◌≡◌};
-    ghost use Rattle.vx_steps.specs.declared.cause.SelectError.TheVariants.{NoMemory as OutOfMemory};
+    ghost output = { λ e. Some (select_error_text e) };
 
-    ghost from_gives = { λ _ e. e ≡ OutOfMemory };
-
-    fn from(_: NoMemory) -> SelectError {
-        SelectError::NoMemory
+    fn fmt<W: fmt::Write>(&self, f: &mut fmt::Formatter<W>) -> fmt::Result {
+        match self {
+            SelectError::Broken { step, cause } => write!(f, "step {step}: {cause}"),
+            SelectError::NoMemory => f.write_str("out of memory"),
+        }
     }
 }
+
+impl Error for SelectError {}
 
 impl fmt::Display for Cause {
     ghost use Rattle.std.specs.Prelude.{Some};
@@ -84,18 +89,13 @@ impl fmt::Display for Cause {
 
 impl Error for Cause {}
 
-impl fmt::Display for SelectError {
-    ghost use Rattle.std.specs.Prelude.{Some};
-    ghost use Rattle.vx_steps.specs.Messages.{select_error_text};
+impl From<NoMemory> for SelectError {
+    ghost use Rattle.std.specs.Prelude.{◌≡◌};
+    ghost use Rattle.vx_steps.specs.declared.cause.SelectError.TheVariants.{NoMemory as OutOfMemory};
 
-    ghost output = { λ e. Some (select_error_text e) };
+    ghost from_gives = { λ _ e. e ≡ OutOfMemory };
 
-    fn fmt<W: fmt::Write>(&self, f: &mut fmt::Formatter<W>) -> fmt::Result {
-        match self {
-            SelectError::Broken { step, cause } => write!(f, "step {step}: {cause}"),
-            SelectError::NoMemory => f.write_str("out of memory"),
-        }
+    fn from(_: NoMemory) -> SelectError {
+        SelectError::NoMemory
     }
 }
-
-impl Error for SelectError {}

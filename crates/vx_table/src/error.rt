@@ -5,18 +5,6 @@ use std::fmt;
 use vx_bits::NoMemory;
 use vx_select::{Cause, SelectError};
 
-/// Why names and columns are no table.
-#[derive(Debug, Clone, Copy, PartialEq, Eq)]
-pub enum TableError {
-    /// There aren't as many names as columns.
-    WrongCount,
-    /// A column hasn't as many rows as the table.
-    WrongLength {
-        /// The first such column.
-        column: usize,
-    },
-}
-
 /// Why there is no page.
 #[derive(Debug, Clone, Copy, PartialEq, Eq)]
 pub enum PageError {
@@ -37,6 +25,52 @@ pub enum PageError {
     /// Out of memory, though none of these is so.
     NoMemory,
 }
+
+/// Why names and columns are no table.
+#[derive(Debug, Clone, Copy, PartialEq, Eq)]
+pub enum TableError {
+    /// There aren't as many names as columns.
+    WrongCount,
+    /// A column hasn't as many rows as the table.
+    WrongLength {
+        /// The first such column.
+        column: usize,
+    },
+}
+
+impl fmt::Display for PageError {
+    ghost use Rattle.std.specs.Prelude.{Some};
+    ghost use Rattle.vx_table.specs.Messages.{page_error_text};
+
+    ghost output = { λ e. Some (page_error_text e) };
+
+    fn fmt<W: fmt::Write>(&self, f: &mut fmt::Formatter<W>) -> fmt::Result {
+        match self {
+            PageError::NoColumn { index } => write!(f, "there is no column {index}"),
+            PageError::EmptyPage => f.write_str("a page has no rows"),
+            PageError::Broken { step, cause } => write!(f, "step {step}: {cause}"),
+            PageError::NoMemory => f.write_str("out of memory"),
+        }
+    }
+}
+
+impl Error for PageError {}
+
+impl fmt::Display for TableError {
+    ghost use Rattle.std.specs.Prelude.{Some};
+    ghost use Rattle.vx_table.specs.Messages.{table_error_text};
+
+    ghost output = { λ e. Some (table_error_text e) };
+
+    fn fmt<W: fmt::Write>(&self, f: &mut fmt::Formatter<W>) -> fmt::Result {
+        match self {
+            TableError::WrongCount => f.write_str("there are not as many names as columns"),
+            TableError::WrongLength { column } => write!(f, "column {column} has another length"),
+        }
+    }
+}
+
+impl Error for TableError {}
 
 impl From<NoMemory> for PageError {
     ghost use Rattle.std.specs.Prelude.{◌≡◌};
@@ -62,37 +96,3 @@ impl From<SelectError> for PageError {
         }
     }
 }
-
-impl fmt::Display for TableError {
-    ghost use Rattle.std.specs.Prelude.{Some};
-    ghost use Rattle.vx_table.specs.Messages.{table_error_text};
-
-    ghost output = { λ e. Some (table_error_text e) };
-
-    fn fmt<W: fmt::Write>(&self, f: &mut fmt::Formatter<W>) -> fmt::Result {
-        match self {
-            TableError::WrongCount => f.write_str("there are not as many names as columns"),
-            TableError::WrongLength { column } => write!(f, "column {column} has another length"),
-        }
-    }
-}
-
-impl Error for TableError {}
-
-impl fmt::Display for PageError {
-    ghost use Rattle.std.specs.Prelude.{Some};
-    ghost use Rattle.vx_table.specs.Messages.{page_error_text};
-
-    ghost output = { λ e. Some (page_error_text e) };
-
-    fn fmt<W: fmt::Write>(&self, f: &mut fmt::Formatter<W>) -> fmt::Result {
-        match self {
-            PageError::NoColumn { index } => write!(f, "there is no column {index}"),
-            PageError::EmptyPage => f.write_str("a page has no rows"),
-            PageError::Broken { step, cause } => write!(f, "step {step}: {cause}"),
-            PageError::NoMemory => f.write_str("out of memory"),
-        }
-    }
-}
-
-impl Error for PageError {}

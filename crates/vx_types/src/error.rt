@@ -31,17 +31,6 @@ pub enum ColumnError {
     NoMemory,
 }
 
-impl From<NoMemory> for ColumnError {
-    ghost use Rattle.std.specs.Prelude.{◌≡◌};
-    ghost use Rattle.vx_types.specs.declared.error.ColumnError.TheVariants.{NoMemory as OutOfMemory};
-
-    ghost from_gives = { λ _ e. e ≡ OutOfMemory };
-
-    fn from(_: NoMemory) -> ColumnError {
-        ColumnError::NoMemory
-    }
-}
-
 impl fmt::Display for ColumnError {
     ghost use Rattle.std.specs.Prelude.{Some};
     ghost use Rattle.vx_types.specs.Messages.{column_error_text};
@@ -67,3 +56,14 @@ impl fmt::Display for ColumnError {
 }
 
 impl Error for ColumnError {}
+
+impl From<NoMemory> for ColumnError {
+    ghost use Rattle.std.specs.Prelude.{◌≡◌};
+    ghost use Rattle.vx_types.specs.declared.error.ColumnError.TheVariants.{NoMemory as OutOfMemory};
+
+    ghost from_gives = { λ _ e. e ≡ OutOfMemory };
+
+    fn from(_: NoMemory) -> ColumnError {
+        ColumnError::NoMemory
+    }
+}
