@@ -77,6 +77,16 @@ impl BoolArray {
         &self.validity
     }
 
+    /// Another handle to the same column. It takes no memory.
+    pub fn share(&self) -> BoolArray
+        ensures { result ≡ self.now }
+    {
+        BoolArray {
+            bits: self.bits.share(),
+            validity: self.validity.share(),
+        }
+    }
+
     /// A column of bits with a validity that fits: what a step leaves. It takes no memory.
     pub fn of(bits: BitBuffer, validity: Validity) -> BoolArray
         requires { is_fitting (valid_of validity) (length bits.bits) ≡ true }
@@ -85,16 +95,6 @@ impl BoolArray {
         match BoolArray::try_new(bits, validity) {
             Ok(array) => array,
             Err(_) => unreachable!(),
-        }
-    }
-
-    /// Another handle to the same column. It takes no memory.
-    pub fn share(&self) -> BoolArray
-        ensures { result ≡ self.now }
-    {
-        BoolArray {
-            bits: self.bits.share(),
-            validity: self.validity.share(),
         }
     }
 

@@ -78,26 +78,6 @@ impl FixedSizeListArray {
         })
     }
 
-    /// Other sound parts, of which the elements have the same type: what a step leaves. It takes no
-    /// memory, and doesn't test what it requires; `try_new` does.
-    pub fn with_parts(
-        &self,
-        elements: ArrayRef,
-        validity: Validity,
-        len: usize,
-    ) -> FixedSizeListArray
-        requires valid { fixed_fault (fixed_parts elements self.now.size len validity) ≡ None }
-        requires dtype { elements.dtype ≡ self.now.elements.dtype }
-        ensures { result ≡ fixed_parts elements self.now.size len validity }
-    {
-        FixedSizeListArray {
-            elements: self.elements.with_column(elements),
-            list_size: self.list_size,
-            len,
-            validity,
-        }
-    }
-
     /// The column that has the elements of all rows.
     pub fn elements(&self) -> &ArrayRef
         ensures { IsPart (fixed_fault self.now) result.now self.now.elements }
@@ -126,6 +106,26 @@ impl FixedSizeListArray {
         ensures rows { result ≡ length (fixed_spans self.now).spans }
     {
         self.len
+    }
+
+    /// Other sound parts, of which the elements have the same type: what a step leaves. It takes no
+    /// memory, and doesn't test what it requires; `try_new` does.
+    pub fn with_parts(
+        &self,
+        elements: ArrayRef,
+        validity: Validity,
+        len: usize,
+    ) -> FixedSizeListArray
+        requires valid { fixed_fault (fixed_parts elements self.now.size len validity) ≡ None }
+        requires dtype { elements.dtype ≡ self.now.elements.dtype }
+        ensures { result ≡ fixed_parts elements self.now.size len validity }
+    {
+        FixedSizeListArray {
+            elements: self.elements.with_column(elements),
+            list_size: self.list_size,
+            len,
+            validity,
+        }
     }
 
     /// Where the elements of row `i` begin and end, of a null row too. It takes no memory.

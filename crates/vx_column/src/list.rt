@@ -109,18 +109,18 @@ impl ListArray {
         self.elements.column()
     }
 
-    /// Where the elements of each row begin, and where those of the last end.
-    pub fn offsets(&self) -> &PrimitiveArray
-        ensures { IsPart (list_fault self.now) result.now self.now.offsets }
-    {
-        &self.offsets
-    }
-
     /// Which rows are valid.
     pub fn validity(&self) -> &Validity
         ensures { IsPart (list_fault self.now) (valid_of result.now) self.now.valid }
     {
         &self.validity
+    }
+
+    /// Where the elements of each row begin, and where those of the last end.
+    pub fn offsets(&self) -> &PrimitiveArray
+        ensures { IsPart (list_fault self.now) result.now self.now.offsets }
+    {
+        &self.offsets
     }
 
     /// How many rows it has.

@@ -24,19 +24,6 @@ pub enum Stored<'a> {
 }
 
 impl<'a> Stored<'a> {
-    /// How many rows it has.
-    #[tactic(auto, using(vx_model::proofs::Layouts::stored_items, vx_model::proofs::Texts::text_items))]
-    pub fn len(self) -> usize
-        ensures { result ≡ length (parts_of self.entry).items }
-    {
-        match self {
-            Stored::Bits(array) => array.bits().len(),
-            Stored::Records(array) => array.values().len(),
-            Stored::Texts(array) => array.rows(),
-            Stored::Views(array) => array.views().len(),
-        }
-    }
-
     /// Which rows are valid.
     #[tactic(auto, using(vx_model::proofs::Layouts::stored_items, vx_model::proofs::Texts::text_items))]
     pub fn validity(self) -> &'a Validity
@@ -49,6 +36,19 @@ impl<'a> Stored<'a> {
             Stored::Records(array) => array.validity(),
             Stored::Texts(array) => array.validity(),
             Stored::Views(array) => array.validity(),
+        }
+    }
+
+    /// How many rows it has.
+    #[tactic(auto, using(vx_model::proofs::Layouts::stored_items, vx_model::proofs::Texts::text_items))]
+    pub fn len(self) -> usize
+        ensures { result ≡ length (parts_of self.entry).items }
+    {
+        match self {
+            Stored::Bits(array) => array.bits().len(),
+            Stored::Records(array) => array.values().len(),
+            Stored::Texts(array) => array.rows(),
+            Stored::Views(array) => array.views().len(),
         }
     }
 }

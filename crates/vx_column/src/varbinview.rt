@@ -58,6 +58,13 @@ fn are_views(views: &[BinaryView], buffers: &[Buffer<u8>]) -> bool
 }
 
 impl VarBinViewArray {
+    /// What its rows are.
+    pub fn kind(&self) -> TextKind
+        ensures { result ≡ self.now.kind }
+    {
+        self.kind
+    }
+
     /// A column with one row a view. It takes no memory.
     ///
     /// `BadValidity` exactly where the validity can't be that of so many rows. Else `BadViews`
@@ -100,13 +107,6 @@ impl VarBinViewArray {
             buffers,
             validity,
         }
-    }
-
-    /// What its rows are.
-    pub fn kind(&self) -> TextKind
-        ensures { result ≡ self.now.kind }
-    {
-        self.kind
     }
 
     /// Its views, one a row, null rows too.

@@ -19,6 +19,13 @@ pub struct StdSource<R: Read> {
     faults: u64,
 }
 
+/// A std writer. It doesn't tell its bytes.
+#[derive(Drop)]
+pub struct StdSink<W: Write> {
+    writer: W,
+    faults: u64,
+}
+
 impl<R: Read> Model for StdSource<R> {
     ghost use Rattle.vx_io.specs.Standard.{ReaderState};
 
@@ -27,12 +34,29 @@ impl<R: Read> Model for StdSource<R> {
     ghost view = { λ s. record { reader = s.reader; faults = s.faults } };
 }
 
+impl<W: Write> Model for StdSink<W> {
+    ghost use Rattle.vx_io.specs.Standard.{WriterState};
+
+    ghost Value = { WriterState W };
+
+    ghost view = { λ s. record { writer = s.writer; faults = s.faults } };
+}
+
 impl<R: Read> StdSource<R> {
     /// A source of what the reader gives.
     pub fn new(reader: R) -> StdSource<R>
         ensures { result ≡ record { reader = reader; faults = 0 } }
     {
         StdSource { reader, faults: 0 }
+    }
+}
+
+impl<W: Write> StdSink<W> {
+    /// A sink that hands all to the writer.
+    pub fn new(writer: W) -> StdSink<W>
+        ensures { result ≡ record { writer = writer; faults = 0 } }
+    {
+        StdSink { writer, faults: 0 }
     }
 }
 
@@ -72,30 +96,6 @@ impl<R: Read> Source for StdSource<R> {
     }
 }
 
-/// A std writer. It doesn't tell its bytes.
-#[derive(Drop)]
-pub struct StdSink<W: Write> {
-    writer: W,
-    faults: u64,
-}
-
-impl<W: Write> Model for StdSink<W> {
-    ghost use Rattle.vx_io.specs.Standard.{WriterState};
-
-    ghost Value = { WriterState W };
-
-    ghost view = { λ s. record { writer = s.writer; faults = s.faults } };
-}
-
-impl<W: Write> StdSink<W> {
-    /// A sink that hands all to the writer.
-    pub fn new(writer: W) -> StdSink<W>
-        ensures { result ≡ record { writer = writer; faults = 0 } }
-    {
-        StdSink { writer, faults: 0 }
-    }
-}
-
 impl<W: Write> Sink for StdSink<W> {
     ghost use Rattle.std.specs.Prelude.{None};
 
@@ -112,10 +112,10 @@ impl<W: Write> Sink for StdSink<W> {
         ensures some { IfOk result (λ n. 0 < length piece.now → 0 < n) }
 
         // The bytes go to the writer, where it tells them.
-        ensures written { IfOk result (λ n.
-            Appends (W.contents self.old.writer) (W.contents self.new.writer) (take n piece.now)) }
         ensures kept { OnErr result
             (Keeps (W.contents self.old.writer) (W.contents self.new.writer)) }
+        ensures written { IfOk result (λ n.
+            Appends (W.contents self.old.writer) (W.contents self.new.writer) (take n piece.now)) }
 
         ensures no_fault { OnOk result (self.new.faults ≡ self.old.faults) }
         ensures fault { OnErr result (self.new.faults ≡ next_count self.old.faults) }

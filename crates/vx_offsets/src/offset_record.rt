@@ -21,35 +21,19 @@ pub trait OffsetRecord: Copy {
         ensures back { read result ≡ offset };
 }
 
-impl OffsetRecord for [u8; 1] {
-    ghost use Rattle.std.specs.Int.{from_le_bytes, to_le_bytes, w8};
+impl OffsetRecord for [u8; 8] {
+    ghost use Rattle.std.specs.Int.{from_le_bytes, to_le_bytes, w64};
     ghost use Rattle.std.specs.Prelude.{◌^◌};
 
-    ghost spelled = { to_le_bytes w8 };
+    ghost spelled = { to_le_bytes w64 };
 
-    ghost read = { from_le_bytes w8 };
+    ghost read = { from_le_bytes w64 };
 
-    ghost limit = { 2 ^ 8 };
-
-    #[inline(always)]
-    fn written(offset: u64) -> [u8; 1] {
-        (offset as u8).to_le_bytes()
-    }
-}
-
-impl OffsetRecord for [u8; 2] {
-    ghost use Rattle.std.specs.Int.{from_le_bytes, to_le_bytes, w16};
-    ghost use Rattle.std.specs.Prelude.{◌^◌};
-
-    ghost spelled = { to_le_bytes w16 };
-
-    ghost read = { from_le_bytes w16 };
-
-    ghost limit = { 2 ^ 16 };
+    ghost limit = { 2 ^ 64 };
 
     #[inline(always)]
-    fn written(offset: u64) -> [u8; 2] {
-        (offset as u16).to_le_bytes()
+    fn written(offset: u64) -> [u8; 8] {
+        offset.to_le_bytes()
     }
 }
 
@@ -69,18 +53,34 @@ impl OffsetRecord for [u8; 4] {
     }
 }
 
-impl OffsetRecord for [u8; 8] {
-    ghost use Rattle.std.specs.Int.{from_le_bytes, to_le_bytes, w64};
+impl OffsetRecord for [u8; 2] {
+    ghost use Rattle.std.specs.Int.{from_le_bytes, to_le_bytes, w16};
     ghost use Rattle.std.specs.Prelude.{◌^◌};
 
-    ghost spelled = { to_le_bytes w64 };
+    ghost spelled = { to_le_bytes w16 };
 
-    ghost read = { from_le_bytes w64 };
+    ghost read = { from_le_bytes w16 };
 
-    ghost limit = { 2 ^ 64 };
+    ghost limit = { 2 ^ 16 };
 
     #[inline(always)]
-    fn written(offset: u64) -> [u8; 8] {
-        offset.to_le_bytes()
+    fn written(offset: u64) -> [u8; 2] {
+        (offset as u16).to_le_bytes()
+    }
+}
+
+impl OffsetRecord for [u8; 1] {
+    ghost use Rattle.std.specs.Int.{from_le_bytes, to_le_bytes, w8};
+    ghost use Rattle.std.specs.Prelude.{◌^◌};
+
+    ghost spelled = { to_le_bytes w8 };
+
+    ghost read = { from_le_bytes w8 };
+
+    ghost limit = { 2 ^ 8 };
+
+    #[inline(always)]
+    fn written(offset: u64) -> [u8; 1] {
+        (offset as u8).to_le_bytes()
     }
 }

@@ -94,10 +94,10 @@ impl PType {
     {
         match self {
             PType::U8 | PType::U16 | PType::U32 | PType::U64 => 0,
-            PType::I8 => -128,
-            PType::I16 => -32768,
-            PType::I32 => -2147483648,
-            PType::I64 => -9223372036854775808,
+            PType::I8 => i8::MIN as i128,
+            PType::I16 => i16::MIN as i128,
+            PType::I32 => i32::MIN as i128,
+            PType::I64 => i64::MIN as i128,
             PType::F16 | PType::F32 | PType::F64 => unreachable!(),
         }
     }
@@ -108,14 +108,14 @@ impl PType {
         ensures { result ≡ greatest self }
     {
         match self {
-            PType::U8 => 255,
-            PType::U16 => 65535,
-            PType::U32 => 4294967295,
-            PType::U64 => 18446744073709551615,
-            PType::I8 => 127,
-            PType::I16 => 32767,
-            PType::I32 => 2147483647,
-            PType::I64 => 9223372036854775807,
+            PType::U8 => u8::MAX as i128,
+            PType::U16 => u16::MAX as i128,
+            PType::U32 => u32::MAX as i128,
+            PType::U64 => u64::MAX as i128,
+            PType::I8 => i8::MAX as i128,
+            PType::I16 => i16::MAX as i128,
+            PType::I32 => i32::MAX as i128,
+            PType::I64 => i64::MAX as i128,
             PType::F16 | PType::F32 | PType::F64 => unreachable!(),
         }
     }

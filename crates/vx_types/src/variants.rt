@@ -97,12 +97,12 @@ impl UnionVariants {
         }
     }
 
-    /// The variants' ids, in order.
-    pub fn ids(&self) -> &[u8]
-        ensures value { result.now ≡ self.now.ids }
+    /// The variants' types, in order.
+    pub fn types(&self) -> &[DType]
+        ensures value { map type_of result.now ≡ self.now.types }
         ensures valid { variants_fault self.now ≡ None }
     {
-        &self.ids
+        &self.types
     }
 
     /// The variants' names, in order.
@@ -113,12 +113,12 @@ impl UnionVariants {
         &self.names
     }
 
-    /// The variants' types, in order.
-    pub fn types(&self) -> &[DType]
-        ensures value { map type_of result.now ≡ self.now.types }
+    /// The variants' ids, in order.
+    pub fn ids(&self) -> &[u8]
+        ensures value { result.now ≡ self.now.ids }
         ensures valid { variants_fault self.now ≡ None }
     {
-        &self.types
+        &self.ids
     }
 
     /// Whether ids, names and types are the same, in order.

@@ -20,6 +20,23 @@ fn put_item<T: Copy>(dst: &mut [T], to: usize, src: &[T], from: usize)
     dst[to] = src[from];
 }
 
+// Copies the items of a word's rows, eight at a time: those at set bits stand one behind another,
+// and what is written over is none of them.
+#[inline(always)]
+fn put_rows<T: Copy>(dst: &mut [T], to: usize, src: &[T], from: usize, word: u64) -> usize
+    requires from { from + 64 ≤ length src.now }
+    requires to { to + 64 ≤ length dst.old }
+    ensures { AreRowsPut src.now from word 64 dst.old dst.new to result }
+{
+    let mut next = to;
+    let mut left = word;
+    for eight in 0..8 {
+        next = put_eight(dst, next, src, from + 8 * eight, left);
+        left >>= 8;
+    }
+    next
+}
+
 // Copies a row's item, and goes on behind it where the lowest bit is set: else the next item is
 // written over it.
 #[inline(always)]
@@ -63,22 +80,6 @@ fn put_eight<T: Copy>(dst: &mut [T], to: usize, src: &[T], from: usize, bits: u6
 {
     let next = put_four(dst, to, src, from, bits);
     put_four(dst, next, src, from + 4, bits >> 4)
-}
-
-// The same of a word's rows, eight at a time.
-#[inline(always)]
-fn put_rows<T: Copy>(dst: &mut [T], to: usize, src: &[T], from: usize, word: u64) -> usize
-    requires from { from + 64 ≤ length src.now }
-    requires to { to + 64 ≤ length dst.old }
-    ensures { AreRowsPut src.now from word 64 dst.old dst.new to result }
-{
-    let mut next = to;
-    let mut left = word;
-    for eight in 0..8 {
-        next = put_eight(dst, next, src, from + 8 * eight, left);
-        left >>= 8;
-    }
-    next
 }
 
 // Copies the items that a word picks behind those that are kept, and answers how many are kept
