@@ -11,6 +11,9 @@ use vx_print::text_of;
 /// What a step gives: nothing where it is left to the caller.
 pub(crate) type Answer = Option<Array>;
 
+/// The rows that a step gives.
+pub(crate) type Rows = Result<Array, Fail>;
+
 /// What a take gives, which may be refused.
 pub(crate) type Taken = Result<Answer, TakeError>;
 

@@ -7,6 +7,7 @@ ghost use Rattle.vx_model.specs.VarBinView.{view_texts};
 ghost use Rattle.vx_offsets.specs.Fits.{FitsTake};
 
 use crate::arguments::{indices_at, mask_at, range_at, validity_at};
+use crate::lines::Rows;
 use crate::slices::Range;
 use callers::{check_slice, some_of};
 use serde_json::Value;
@@ -65,22 +66,12 @@ fn check_picks(picks: &Picks, validity: &Validity, rows: usize) -> Result<(), Fa
     Ok(())
 }
 
-fn taken_texts(
-    alloc: Global,
-    texts: &VarBinArray,
-    picks: &Picks,
-    validity: &Validity,
-) -> Result<Array, Fail> {
+fn taken_texts(alloc: Global, texts: &VarBinArray, picks: &Picks, validity: &Validity) -> Rows {
     check_picks(picks, validity, text_count(texts))?;
     Ok(take_varbin_picks(alloc, texts, picks, validity.share())?.into_array())
 }
 
-fn taken_views(
-    alloc: Global,
-    texts: &VarBinArray,
-    picks: &Picks,
-    validity: &Validity,
-) -> Result<Array, Fail> {
+fn taken_views(alloc: Global, texts: &VarBinArray, picks: &Picks, validity: &Validity) -> Rows {
     check_picks(picks, validity, text_count(texts))?;
     if texts.last_offset() > 2147483647 {
         return Err("texts past what a view reaches".into());
@@ -88,49 +79,30 @@ fn taken_views(
     Ok(take_views(alloc, texts, picks, validity.share())?.into_array())
 }
 
-fn gathered(
-    alloc: Global,
-    texts: &VarBinViewArray,
-    picks: &Picks,
-    validity: &Validity,
-) -> Result<Array, Fail> {
+fn gathered(alloc: Global, texts: &VarBinViewArray, picks: &Picks, validity: &Validity) -> Rows {
     check_picks(picks, validity, view_count(texts))?;
     Ok(gather_views(alloc, texts, picks, validity.share())?.into_array())
 }
 
-fn cut_texts(texts: &VarBinArray, (start, end): Range, validity: &Validity) -> Result<Array, Fail> {
+fn cut_texts(texts: &VarBinArray, (start, end): Range, validity: &Validity) -> Rows {
     check_slice(start, end, text_count(texts))?;
     check_fitting(validity, end - start)?;
     Ok(slice_varbin(texts, start, end, validity.share()).into_array())
 }
 
-fn cut_views(
-    texts: &VarBinViewArray,
-    (start, end): Range,
-    validity: &Validity,
-) -> Result<Array, Fail> {
+fn cut_views(texts: &VarBinViewArray, (start, end): Range, validity: &Validity) -> Rows {
     check_slice(start, end, view_count(texts))?;
     check_fitting(validity, end - start)?;
     Ok(slice_views(texts, start, end, validity.share()).into_array())
 }
 
-fn kept_texts(
-    alloc: Global,
-    texts: &VarBinArray,
-    mask: &Mask,
-    validity: &Validity,
-) -> Result<Array, Fail> {
+fn kept_texts(alloc: Global, texts: &VarBinArray, mask: &Mask, validity: &Validity) -> Rows {
     let mask = some_of(mask, text_count(texts))?;
     check_fitting(validity, mask.true_count())?;
     Ok(filter_varbin(alloc, texts, mask, &Policy::vortex(), validity.share())?.into_array())
 }
 
-fn kept_views(
-    alloc: Global,
-    texts: &VarBinViewArray,
-    mask: &Mask,
-    validity: &Validity,
-) -> Result<Array, Fail> {
+fn kept_views(alloc: Global, texts: &VarBinViewArray, mask: &Mask, validity: &Validity) -> Rows {
     let mask = some_of(mask, view_count(texts))?;
     check_fitting(validity, mask.true_count())?;
     Ok(filter_views(alloc, texts, mask, &Policy::vortex(), validity.share())?.into_array())
@@ -142,7 +114,7 @@ fn text_take(
     column: &Array,
     (picks, validity): (&Picks, &Validity),
     call: &str,
-) -> Result<Array, Fail> {
+) -> Rows {
     match (call, column.layout()) {
         ("take_varbin_picks", Layout::VarBin(texts)) => taken_texts(alloc, texts, picks, validity),
         ("take_views", Layout::VarBin(texts)) => taken_views(alloc, texts, picks, validity),
@@ -152,12 +124,7 @@ fn text_take(
 }
 
 /// A step over texts by the function that a row names.
-pub(crate) fn text_step(
-    alloc: Global,
-    row: &Value,
-    column: &Array,
-    call: &str,
-) -> Result<Array, Fail> {
+pub(crate) fn text_step(alloc: Global, row: &Value, column: &Array, call: &str) -> Rows {
     let validity = &validity_at(alloc, row)?;
     match (call, column.layout()) {
         ("slice_varbin", Layout::VarBin(texts)) => cut_texts(texts, range_at(row)?, validity),

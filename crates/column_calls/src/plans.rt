@@ -1,11 +1,13 @@
 //! Plans over columns of lists.
-ghost use Rattle.std.specs.Prelude.{◌≡◌, length};
+ghost use Rattle.std.specs.Prelude.{◌≡◌, ◌≤◌, length, true, IfOk};
 ghost use Rattle.vx_model.specs.List.{list_spans};
 ghost use Rattle.vx_model.specs.ListView.{listview_spans};
+ghost use Rattle.vx_model.specs.Valid.{is_fitting};
+ghost use Rattle.vx_column.specs.Validity.{valid_of};
 
 use crate::arguments::{column_at, indices_at, mask_at, policy_at, range_at, validity_at};
 use crate::lines::{push_column, push_mask, push_part, push_shown};
-use callers::check_slice;
+use callers::{check_slice, some_of};
 use serde_json::Value;
 use std::alloc::Global;
 use std::test::Fail;
@@ -24,6 +26,30 @@ fn picks_at(alloc: Global, row: &Value, len: usize) -> Result<Picks, Fail> {
         None => Ok(indices.picks(alloc, len)?),
         Some(_) => Err("a pick past the lists".into()),
     }
+}
+
+/// That the validity fits so many rows.
+fn check_fitting(validity: &Validity, rows: usize) -> Result<(), Fail>
+    ensures { IfOk result (λ _. is_fitting (valid_of validity.now) rows ≡ true) }
+{
+    if !validity.is_fitting(rows) {
+        return Err("another number of rows".into());
+    }
+    Ok(())
+}
+
+/// The picks among so many lists, and the validity of the rows at them.
+fn take_at(alloc: Global, row: &Value, len: usize) -> Result<(Picks, Validity), Fail>
+    ensures bound { IfOk result (λ t. t.0.bound ≤ len) }
+    ensures fitting { IfOk result
+        (λ t. is_fitting (valid_of t.1) (length t.0.picks) ≡ true) }
+{
+    let (picks, validity) = (picks_at(alloc, row, len)?, validity_at(alloc, row)?);
+    if picks.bound() > len {
+        return Err("a pick past the lists".into());
+    }
+    check_fitting(&validity, picks.len())?;
+    Ok((picks, validity))
 }
 
 /// Appends the numbers of a column, behind its name.
@@ -57,30 +83,13 @@ fn views_in(array: &ListViewArray) -> usize
 
 fn list_filter(alloc: Global, row: &Value, array: &ListArray) -> Result<ListFilterPlan, Fail> {
     let (mask, validity) = (mask_at(alloc, row)?, validity_at(alloc, row)?);
-    let policy = policy_at(row)?;
-    let Some(mask) = mask.values() else {
-        return Err("no list, or each".into());
-    };
-    if mask.len() != lists_in(array) {
-        return Err("another number of lists".into());
-    }
-    if !validity.is_fitting(mask.true_count()) {
-        return Err("another number of rows".into());
-    }
-    Ok(plan_list_filter(alloc, array, mask, &policy, validity)?)
+    let mask = some_of(&mask, lists_in(array))?;
+    check_fitting(&validity, mask.true_count())?;
+    Ok(plan_list_filter(alloc, array, mask, &policy_at(row)?, validity)?)
 }
 
 fn list_take(alloc: Global, row: &Value, array: &ListArray) -> Result<ListTakePlan, Fail> {
-    let (picks, validity) = (
-        picks_at(alloc, row, lists_in(array))?,
-        validity_at(alloc, row)?,
-    );
-    if picks.bound() > lists_in(array) {
-        return Err("a pick past the lists".into());
-    }
-    if !validity.is_fitting(picks.len()) {
-        return Err("another number of rows".into());
-    }
+    let (picks, validity) = take_at(alloc, row, lists_in(array))?;
     Ok(plan_list_take(alloc, array, &picks, validity)?)
 }
 
@@ -122,30 +131,13 @@ fn push_list_plan(
 
 fn view_filter(alloc: Global, row: &Value, array: &ListViewArray) -> Result<ViewPlan, Fail> {
     let (mask, validity) = (mask_at(alloc, row)?, validity_at(alloc, row)?);
-    let policy = policy_at(row)?;
-    let Some(mask) = mask.values() else {
-        return Err("no list, or each".into());
-    };
-    if mask.len() != views_in(array) {
-        return Err("another number of lists".into());
-    }
-    if !validity.is_fitting(mask.true_count()) {
-        return Err("another number of rows".into());
-    }
-    Ok(plan_view_filter(alloc, array, mask, &policy, validity)?)
+    let mask = some_of(&mask, views_in(array))?;
+    check_fitting(&validity, mask.true_count())?;
+    Ok(plan_view_filter(alloc, array, mask, &policy_at(row)?, validity)?)
 }
 
 fn view_take(alloc: Global, row: &Value, array: &ListViewArray) -> Result<ViewPlan, Fail> {
-    let (picks, validity) = (
-        picks_at(alloc, row, views_in(array))?,
-        validity_at(alloc, row)?,
-    );
-    if picks.bound() > views_in(array) {
-        return Err("a pick past the lists".into());
-    }
-    if !validity.is_fitting(picks.len()) {
-        return Err("another number of rows".into());
-    }
+    let (picks, validity) = take_at(alloc, row, views_in(array))?;
     Ok(plan_view_take(alloc, array, &picks, validity)?)
 }
 
@@ -185,17 +177,9 @@ fn fixed_filter(
     array: &FixedSizeListArray,
 ) -> Result<FixedFilterPlan, Fail> {
     let (mask, validity) = (mask_at(alloc, row)?, validity_at(alloc, row)?);
-    let policy = policy_at(row)?;
-    let Some(mask) = mask.values() else {
-        return Err("no list, or each".into());
-    };
-    if mask.len() != array.len() {
-        return Err("another number of lists".into());
-    }
-    if !validity.is_fitting(mask.true_count()) {
-        return Err("another number of rows".into());
-    }
-    Ok(plan_fixed_filter(alloc, array, mask, &policy, validity)?)
+    let mask = some_of(&mask, array.len())?;
+    check_fitting(&validity, mask.true_count())?;
+    Ok(plan_fixed_filter(alloc, array, mask, &policy_at(row)?, validity)?)
 }
 
 fn fixed_take(
@@ -203,13 +187,7 @@ fn fixed_take(
     row: &Value,
     array: &FixedSizeListArray,
 ) -> Result<FixedTakePlan, Fail> {
-    let (picks, validity) = (picks_at(alloc, row, array.len())?, validity_at(alloc, row)?);
-    if picks.bound() > array.len() {
-        return Err("a pick past the lists".into());
-    }
-    if !validity.is_fitting(picks.len()) {
-        return Err("another number of rows".into());
-    }
+    let (picks, validity) = take_at(alloc, row, array.len())?;
     Ok(plan_fixed_take(alloc, array, &picks, validity)?)
 }
 

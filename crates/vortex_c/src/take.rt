@@ -11,16 +11,10 @@ use vx_words::{Answer, Record16, Record32, take_records};
 /// set. 3: `dst` is too small, and the number is how many indices there are. 4: an index that is
 /// not null is out of bounds, and the number is the first one's place.
 #[unsafe(no_mangle)]
-pub extern "C" fn vortex_take_1(
-    src: &[u8],
-    indices: &[u64],
-    valid: &[u64],
-    dst: &mut [u8],
-) -> Answer
-    ensures { IsTaken 0 src.now indices.now valid.now dst.old dst.new
-        result.status result.value }
+pub extern "C" fn vortex_take_1(src: &[u8], idx: &[u64], valid: &[u64], dst: &mut [u8]) -> Answer
+    ensures { IsTaken 0 src.now idx.now valid.now dst.old dst.new result.status result.value }
 {
-    take_records(src, indices, valid, 0, dst)
+    take_records(src, idx, valid, 0, dst)
 }
 
 /// Writes the records of 2 bytes at the indices to the front of `dst`, in order, and zeros at each
@@ -31,16 +25,10 @@ pub extern "C" fn vortex_take_1(
 /// set. 3: `dst` is too small, and the number is how many indices there are. 4: an index that is
 /// not null is out of bounds, and the number is the first one's place.
 #[unsafe(no_mangle)]
-pub extern "C" fn vortex_take_2(
-    src: &[u16],
-    indices: &[u64],
-    valid: &[u64],
-    dst: &mut [u16],
-) -> Answer
-    ensures { IsTaken 0 src.now indices.now valid.now dst.old dst.new
-        result.status result.value }
+pub extern "C" fn vortex_take_2(src: &[u16], idx: &[u64], valid: &[u64], dst: &mut [u16]) -> Answer
+    ensures { IsTaken 0 src.now idx.now valid.now dst.old dst.new result.status result.value }
 {
-    take_records(src, indices, valid, 0, dst)
+    take_records(src, idx, valid, 0, dst)
 }
 
 /// Writes the records of 4 bytes at the indices to the front of `dst`, in order, and zeros at each
@@ -51,16 +39,10 @@ pub extern "C" fn vortex_take_2(
 /// set. 3: `dst` is too small, and the number is how many indices there are. 4: an index that is
 /// not null is out of bounds, and the number is the first one's place.
 #[unsafe(no_mangle)]
-pub extern "C" fn vortex_take_4(
-    src: &[u32],
-    indices: &[u64],
-    valid: &[u64],
-    dst: &mut [u32],
-) -> Answer
-    ensures { IsTaken 0 src.now indices.now valid.now dst.old dst.new
-        result.status result.value }
+pub extern "C" fn vortex_take_4(src: &[u32], idx: &[u64], valid: &[u64], dst: &mut [u32]) -> Answer
+    ensures { IsTaken 0 src.now idx.now valid.now dst.old dst.new result.status result.value }
 {
-    take_records(src, indices, valid, 0, dst)
+    take_records(src, idx, valid, 0, dst)
 }
 
 /// Writes the records of 8 bytes at the indices to the front of `dst`, in order, and zeros at each
@@ -71,16 +53,10 @@ pub extern "C" fn vortex_take_4(
 /// set. 3: `dst` is too small, and the number is how many indices there are. 4: an index that is
 /// not null is out of bounds, and the number is the first one's place.
 #[unsafe(no_mangle)]
-pub extern "C" fn vortex_take_8(
-    src: &[u64],
-    indices: &[u64],
-    valid: &[u64],
-    dst: &mut [u64],
-) -> Answer
-    ensures { IsTaken 0 src.now indices.now valid.now dst.old dst.new
-        result.status result.value }
+pub extern "C" fn vortex_take_8(src: &[u64], idx: &[u64], valid: &[u64], dst: &mut [u64]) -> Answer
+    ensures { IsTaken 0 src.now idx.now valid.now dst.old dst.new result.status result.value }
 {
-    take_records(src, indices, valid, 0, dst)
+    take_records(src, idx, valid, 0, dst)
 }
 
 /// Writes the records of 16 bytes at the indices to the front of `dst`, in order, and zeros at each
@@ -93,14 +69,14 @@ pub extern "C" fn vortex_take_8(
 #[unsafe(no_mangle)]
 pub extern "C" fn vortex_take_16(
     src: &[Record16],
-    indices: &[u64],
+    idx: &[u64],
     valid: &[u64],
     dst: &mut [Record16],
 ) -> Answer
-    ensures { IsTaken (record { low = 0; high = 0 }) src.now indices.now valid.now dst.old dst.new
+    ensures { IsTaken (record { low = 0; high = 0 }) src.now idx.now valid.now dst.old dst.new
         result.status result.value }
 {
-    take_records(src, indices, valid, Record16::ZERO, dst)
+    take_records(src, idx, valid, Record16::ZERO, dst)
 }
 
 /// Writes the records of 32 bytes at the indices to the front of `dst`, in order, and zeros at each
@@ -113,12 +89,12 @@ pub extern "C" fn vortex_take_16(
 #[unsafe(no_mangle)]
 pub extern "C" fn vortex_take_32(
     src: &[Record32],
-    indices: &[u64],
+    idx: &[u64],
     valid: &[u64],
     dst: &mut [Record32],
 ) -> Answer
-    ensures { IsTaken (record { a = 0; b = 0; c = 0; d = 0 }) src.now indices.now valid.now dst.old
+    ensures { IsTaken (record { a = 0; b = 0; c = 0; d = 0 }) src.now idx.now valid.now dst.old
         dst.new result.status result.value }
 {
-    take_records(src, indices, valid, Record32::ZERO, dst)
+    take_records(src, idx, valid, Record32::ZERO, dst)
 }

@@ -9,7 +9,7 @@ mod step;
 mod text;
 
 pub use bits::{bools, mask, validity};
-pub use native::NativePType;
+pub use native::{NativePType, RecordWidth};
 pub use nested::{lists, structs};
 pub use primitive::{constant, nullable_numbers, numbers, records};
 pub use step::{filter, indices, slice, take};

@@ -31,11 +31,6 @@ pub trait NativePType<const W: usize>: Copy {
     fn to_record(self) -> [u8; W]
         ensures value { result ≡ record_of self }
         ensures number { number ptype (record_of self) ≡ integer self };
-
-    /// These records, as ones of their width.
-    fn records(buffer: Buffer<[u8; W]>) -> Records
-        ensures records { records_of result ≡ buffer.entry }
-        ensures width { width_of result ≡ W };
 }
 
 impl NativePType<1> for u8 {
@@ -56,12 +51,24 @@ impl NativePType<1> for u8 {
     fn to_record(self) -> [u8; 1] {
         self.to_le_bytes()
     }
+}
 
-    fn records(buffer: Buffer<[u8; 1]>) -> Records
-        ensures records { records_of result ≡ buffer }
-        ensures width { width_of result ≡ 1 }
-    {
-        Records::W1(buffer)
+impl NativePType<1> for i8 {
+    ghost use Rattle.std.specs.Int.{cast_unsigned, to_le_bytes, w8};
+    ghost use Rattle.vx_types.specs.declared.ptype.PType.TheVariants.{I8};
+
+    ghost ptype = { I8 };
+
+    ghost integer = { λ z. z };
+
+    ghost record_of = { λ z. to_le_bytes w8 (cast_unsigned w8 z) };
+
+    fn ptype() -> PType {
+        PType::I8
+    }
+
+    fn to_record(self) -> [u8; 1] {
+        self.to_le_bytes()
     }
 }
 
@@ -83,12 +90,24 @@ impl NativePType<2> for u16 {
     fn to_record(self) -> [u8; 2] {
         self.to_le_bytes()
     }
+}
 
-    fn records(buffer: Buffer<[u8; 2]>) -> Records
-        ensures records { records_of result ≡ buffer }
-        ensures width { width_of result ≡ 2 }
-    {
-        Records::W2(buffer)
+impl NativePType<2> for i16 {
+    ghost use Rattle.std.specs.Int.{cast_unsigned, to_le_bytes, w16};
+    ghost use Rattle.vx_types.specs.declared.ptype.PType.TheVariants.{I16};
+
+    ghost ptype = { I16 };
+
+    ghost integer = { λ z. z };
+
+    ghost record_of = { λ z. to_le_bytes w16 (cast_unsigned w16 z) };
+
+    fn ptype() -> PType {
+        PType::I16
+    }
+
+    fn to_record(self) -> [u8; 2] {
+        self.to_le_bytes()
     }
 }
 
@@ -110,12 +129,24 @@ impl NativePType<4> for u32 {
     fn to_record(self) -> [u8; 4] {
         self.to_le_bytes()
     }
+}
 
-    fn records(buffer: Buffer<[u8; 4]>) -> Records
-        ensures records { records_of result ≡ buffer }
-        ensures width { width_of result ≡ 4 }
-    {
-        Records::W4(buffer)
+impl NativePType<4> for i32 {
+    ghost use Rattle.std.specs.Int.{cast_unsigned, to_le_bytes, w32};
+    ghost use Rattle.vx_types.specs.declared.ptype.PType.TheVariants.{I32};
+
+    ghost ptype = { I32 };
+
+    ghost integer = { λ z. z };
+
+    ghost record_of = { λ z. to_le_bytes w32 (cast_unsigned w32 z) };
+
+    fn ptype() -> PType {
+        PType::I32
+    }
+
+    fn to_record(self) -> [u8; 4] {
+        self.to_le_bytes()
     }
 }
 
@@ -137,91 +168,6 @@ impl NativePType<8> for u64 {
     fn to_record(self) -> [u8; 8] {
         self.to_le_bytes()
     }
-
-    fn records(buffer: Buffer<[u8; 8]>) -> Records
-        ensures records { records_of result ≡ buffer }
-        ensures width { width_of result ≡ 8 }
-    {
-        Records::W8(buffer)
-    }
-}
-
-impl NativePType<1> for i8 {
-    ghost use Rattle.std.specs.Int.{cast_unsigned, to_le_bytes, w8};
-    ghost use Rattle.vx_types.specs.declared.ptype.PType.TheVariants.{I8};
-
-    ghost ptype = { I8 };
-
-    ghost integer = { λ z. z };
-
-    ghost record_of = { λ z. to_le_bytes w8 (cast_unsigned w8 z) };
-
-    fn ptype() -> PType {
-        PType::I8
-    }
-
-    fn to_record(self) -> [u8; 1] {
-        self.to_le_bytes()
-    }
-
-    fn records(buffer: Buffer<[u8; 1]>) -> Records
-        ensures records { records_of result ≡ buffer }
-        ensures width { width_of result ≡ 1 }
-    {
-        Records::W1(buffer)
-    }
-}
-
-impl NativePType<2> for i16 {
-    ghost use Rattle.std.specs.Int.{cast_unsigned, to_le_bytes, w16};
-    ghost use Rattle.vx_types.specs.declared.ptype.PType.TheVariants.{I16};
-
-    ghost ptype = { I16 };
-
-    ghost integer = { λ z. z };
-
-    ghost record_of = { λ z. to_le_bytes w16 (cast_unsigned w16 z) };
-
-    fn ptype() -> PType {
-        PType::I16
-    }
-
-    fn to_record(self) -> [u8; 2] {
-        self.to_le_bytes()
-    }
-
-    fn records(buffer: Buffer<[u8; 2]>) -> Records
-        ensures records { records_of result ≡ buffer }
-        ensures width { width_of result ≡ 2 }
-    {
-        Records::W2(buffer)
-    }
-}
-
-impl NativePType<4> for i32 {
-    ghost use Rattle.std.specs.Int.{cast_unsigned, to_le_bytes, w32};
-    ghost use Rattle.vx_types.specs.declared.ptype.PType.TheVariants.{I32};
-
-    ghost ptype = { I32 };
-
-    ghost integer = { λ z. z };
-
-    ghost record_of = { λ z. to_le_bytes w32 (cast_unsigned w32 z) };
-
-    fn ptype() -> PType {
-        PType::I32
-    }
-
-    fn to_record(self) -> [u8; 4] {
-        self.to_le_bytes()
-    }
-
-    fn records(buffer: Buffer<[u8; 4]>) -> Records
-        ensures records { records_of result ≡ buffer }
-        ensures width { width_of result ≡ 4 }
-    {
-        Records::W4(buffer)
-    }
 }
 
 impl NativePType<8> for i64 {
@@ -240,13 +186,6 @@ impl NativePType<8> for i64 {
 
     fn to_record(self) -> [u8; 8] {
         self.to_le_bytes()
-    }
-
-    fn records(buffer: Buffer<[u8; 8]>) -> Records
-        ensures records { records_of result ≡ buffer }
-        ensures width { width_of result ≡ 8 }
-    {
-        Records::W8(buffer)
     }
 }
 
@@ -269,7 +208,44 @@ impl NativePType<8> for usize {
     fn to_record(self) -> [u8; 8] {
         self.to_le_bytes()
     }
+}
 
+/// Records of `W` bytes, where [`Records`] has that width.
+pub trait RecordWidth<const W: usize>: Copy {
+    /// These records, as ones of their width.
+    fn records(buffer: Buffer<[u8; W]>) -> Records
+        ensures records { records_of result ≡ buffer.entry }
+        ensures width { width_of result ≡ W };
+}
+
+impl RecordWidth<1> for [u8; 1] {
+    fn records(buffer: Buffer<[u8; 1]>) -> Records
+        ensures records { records_of result ≡ buffer }
+        ensures width { width_of result ≡ 1 }
+    {
+        Records::W1(buffer)
+    }
+}
+
+impl RecordWidth<2> for [u8; 2] {
+    fn records(buffer: Buffer<[u8; 2]>) -> Records
+        ensures records { records_of result ≡ buffer }
+        ensures width { width_of result ≡ 2 }
+    {
+        Records::W2(buffer)
+    }
+}
+
+impl RecordWidth<4> for [u8; 4] {
+    fn records(buffer: Buffer<[u8; 4]>) -> Records
+        ensures records { records_of result ≡ buffer }
+        ensures width { width_of result ≡ 4 }
+    {
+        Records::W4(buffer)
+    }
+}
+
+impl RecordWidth<8> for [u8; 8] {
     fn records(buffer: Buffer<[u8; 8]>) -> Records
         ensures records { records_of result ≡ buffer }
         ensures width { width_of result ≡ 8 }

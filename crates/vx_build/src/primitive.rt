@@ -12,7 +12,7 @@ ghost use Rattle.vx_model.specs.Valid.{shown_rows};
 ghost use Rattle.vx_build.specs.Rows.{row_or_null};
 
 use crate::bits::presence;
-use crate::native::NativePType;
+use crate::native::{NativePType, RecordWidth};
 use std::alloc::Global;
 use vx_bits::{Buffer, NoMemory, Records};
 use vx_column::{
@@ -24,6 +24,8 @@ pub fn records<T: NativePType<W>, const W: usize>(
     alloc: Global,
     numbers: &[T],
 ) -> Result<Records, NoMemory>
+where
+    [u8; W]: RecordWidth<W>,
     ensures records { IfOk result (λ r. records_of r ≡ map (T.record_of) numbers.now) }
     ensures width { IfOk result (λ r. width_of r ≡ W) }
     ensures numbers { IfOk result
@@ -35,7 +37,7 @@ pub fn records<T: NativePType<W>, const W: usize>(
     for number in numbers {
         records.push_reserved(number.to_record());
     }
-    Ok(T::records(Buffer::from_vec(alloc, records)?))
+    Ok(<[u8; W]>::records(Buffer::from_vec(alloc, records)?))
 }
 
 /// The column of these numbers, none of them null. Fails only with `NoMemory`.
@@ -43,6 +45,8 @@ pub fn numbers<T: NativePType<W>, const W: usize>(
     alloc: Global,
     values: &[T],
 ) -> Result<Array, NoMemory>
+where
+    [u8; W]: RecordWidth<W>,
     ensures dtype { IfOk result (λ c. c.dtype
         ≡ record { kind = primitive_kind (T.ptype); nullability = NonNullable }) }
     ensures rows { IfOk result (λ c. c.rows ≡ map (λ n. bytes (T.record_of n)) values.now) }
@@ -73,6 +77,8 @@ fn records_or_zeros<T: NativePType<W>, const W: usize>(
     alloc: Global,
     numbers: &[Option<T>],
 ) -> Result<Records, NoMemory>
+where
+    [u8; W]: RecordWidth<W>,
     ensures len { IfOk result (λ r. length (records_of r) ≡ length numbers.now) }
     ensures width { IfOk result (λ r. width_of r ≡ W) }
     ensures rows { IfOk result
@@ -88,7 +94,7 @@ fn records_or_zeros<T: NativePType<W>, const W: usize>(
     for number in numbers {
         records.push_reserved(record_or_zeros(*number));
     }
-    Ok(T::records(Buffer::from_vec(alloc, records)?))
+    Ok(<[u8; W]>::records(Buffer::from_vec(alloc, records)?))
 }
 
 /// The column of these numbers, null where there is none. Fails only with `NoMemory`.
@@ -96,6 +102,8 @@ pub fn nullable_numbers<T: NativePType<W>, const W: usize>(
     alloc: Global,
     values: &[Option<T>],
 ) -> Result<Array, NoMemory>
+where
+    [u8; W]: RecordWidth<W>,
     ensures dtype { IfOk result (λ c. c.dtype
         ≡ record { kind = primitive_kind (T.ptype); nullability = Nullable }) }
     ensures rows { IfOk result
