@@ -129,16 +129,16 @@ fn push_list_plan(
     }
 }
 
+fn view_take(alloc: Global, row: &Value, array: &ListViewArray) -> Result<ViewPlan, Fail> {
+    let (picks, validity) = take_at(alloc, row, views_in(array))?;
+    Ok(plan_view_take(alloc, array, &picks, validity)?)
+}
+
 fn view_filter(alloc: Global, row: &Value, array: &ListViewArray) -> Result<ViewPlan, Fail> {
     let (mask, validity) = (mask_at(alloc, row)?, validity_at(alloc, row)?);
     let mask = some_of(&mask, views_in(array))?;
     check_fitting(&validity, mask.true_count())?;
     Ok(plan_view_filter(alloc, array, mask, &policy_at(row)?, validity)?)
-}
-
-fn view_take(alloc: Global, row: &Value, array: &ListViewArray) -> Result<ViewPlan, Fail> {
-    let (picks, validity) = take_at(alloc, row, views_in(array))?;
-    Ok(plan_view_take(alloc, array, &picks, validity)?)
 }
 
 fn push_views(

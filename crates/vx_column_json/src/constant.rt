@@ -14,6 +14,18 @@ use vx_json::{
     ptype_named, text_member, text_of, value_of,
 };
 
+/// The members of an object with a decimal type.
+const DECIMAL_MEMBERS: [&str; 8] = [
+    "layout",
+    "type",
+    "precision",
+    "scale",
+    "width",
+    "nullable",
+    "value",
+    "len",
+];
+
 /// Whether null rows are allowed: as the object says, or else as is usual.
 #[tactic(auto, unfolding(crate::specs::Constant::nullable_or))]
 fn nullable_or(usual: bool, value: &Value) -> Result<bool, DocError>
@@ -125,18 +137,6 @@ fn constant_by_type(alloc: Global, dtype: DType, value: &Value) -> Result<Array,
     let row = row_in(alloc, &dtype, member(value, "value")?)?;
     constant_made(dtype, row, len)
 }
-
-/// The members of an object with a decimal type.
-const DECIMAL_MEMBERS: [&str; 8] = [
-    "layout",
-    "type",
-    "precision",
-    "scale",
-    "width",
-    "nullable",
-    "value",
-    "len",
-];
 
 /// Whether it has no other members than an object with a type of this name may have.
 #[tactic(auto, unfolding(crate::specs::Constant::is_constant_closed))]

@@ -19,6 +19,9 @@ use vx_json::{
     text_member, values_of,
 };
 
+/// The members of an object that lists its values.
+const LISTED: [&str; 4] = ["layout", "type", "values", "validity"];
+
 /// The column of these records. `Malformed` where the validity can't be theirs.
 #[tactic(auto, unfolding(crate::specs::Made::made))]
 fn primitive_made(ptype: PType, values: Records, validity: Validity) -> Result<Array, DocError>
@@ -92,7 +95,7 @@ pub fn primitive_by(
     ensures { Gives (λ c. c) result (primitive_by (view value.now) (option_map valid_of stated)) }
 {
     let ptype = ptype_named(text_member(value, "type")?)?;
-    if is_closed(value, &["layout", "type", "values", "validity"]) {
+    if is_closed(value, &LISTED) {
         primitive_by_items(alloc, ptype, stated, list_member(value, "values")?)
     } else if is_closed(value, &["layout", "type", "ramp", "validity"]) {
         let values = ramp_listed(alloc, ptype, value)?;

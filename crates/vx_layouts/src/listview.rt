@@ -21,9 +21,9 @@ pub fn filter_listview(
     requires { length selection_mask.now.bits.bits ≡ length (listview_column array.now).rows }
     ensures { IfOk result (IsFilterOf listview_column array.now selection_mask.now.bits.bits) }
 {
+    let elements = array.elements().share();
     let policy = Policy::vortex();
     let validity = filter_validity(alloc, array.validity(), selection_mask, &policy)?;
     let plan = plan_view_filter(alloc, array, selection_mask, &policy, validity)?;
-    let elements = array.elements().share();
     Ok(array.with_parts(elements, plan.offsets, plan.sizes, plan.validity))
 }

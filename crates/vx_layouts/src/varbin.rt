@@ -39,11 +39,7 @@ impl VarBinSlice for VarBin {
         array: ArrayView<'_, VarBin>,
         start: usize,
         end: usize,
-    ) -> Result<Array, NoMemory>
-        requires ordered { start ≤ end }
-        requires within { end ≤ length array.array.now.rows }
-        ensures { IfOk result (IsSlice array.entry.array.now start end) }
-    {
+    ) -> Result<Array, NoMemory> {
         slice(alloc, array.array(), start, end)
     }
 }

@@ -20,7 +20,7 @@ pub fn filter_varbinview(
     requires { length selection_mask.now.bits.bits ≡ length (views_column array.now).rows }
     ensures { IfOk result (IsFilterOf views_column array.now selection_mask.now.bits.bits) }
 {
-    let policy = Policy::vortex();
-    let validity = filter_validity(alloc, array.validity(), selection_mask, &policy)?;
-    filter_views(alloc, array, selection_mask, &policy, validity)
+    let vortex = &Policy::vortex();
+    let validity = filter_validity(alloc, array.validity(), selection_mask, vortex)?;
+    filter_views(alloc, array, selection_mask, vortex, validity)
 }

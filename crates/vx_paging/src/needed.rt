@@ -57,12 +57,7 @@ impl Needed {
     }
 
     // What a mask leaves them of.
-    fn before_mask(
-        self,
-        alloc: Global,
-        mask: &Mask,
-        readers: Readers<'_>,
-    ) -> Result<Needed, NoMemory>
+    fn before_mask(self, alloc: Global, mask: &Mask, readers: Readers) -> Result<Needed, NoMemory>
         requires ordered { self.start ≤ self.end }
         requires within { self.end ≤ true_count_of (mask_bits mask.now) }
         ensures { IfOk result (λ n. IsPartBefore (mask_bits mask.now) self.start self.end
@@ -84,7 +79,7 @@ impl Needed {
         self,
         alloc: Global,
         column: &Array,
-        readers: Readers<'_>,
+        readers: Readers,
     ) -> Result<Needed, NoMemory>
         requires ordered { self.start ≤ self.end }
         requires within { self.end ≤ true_count_of (true_bits column.now) }
@@ -96,7 +91,7 @@ impl Needed {
     }
 
     // What a step that is no take leaves them of.
-    fn before(self, alloc: Global, step: &Step, readers: Readers<'_>) -> Result<Needed, NoMemory>
+    fn before(self, alloc: Global, step: &Step, readers: Readers) -> Result<Needed, NoMemory>
         requires cut { is_take (step_value step.now) ≡ false }
         requires ordered { self.start ≤ self.end }
         requires within { self.end ≤ rows_left (step_value step.now) }
@@ -143,7 +138,7 @@ fn needed_by(
     steps: &[Step],
     start: usize,
     end: usize,
-    readers: Readers<'_>,
+    readers: Readers,
 ) -> Result<Needed, NoMemory>
     requires unbroken { IsUnbroken (walk len (map step_value steps.now)) }
     requires cut { list_any is_take (map step_value steps.now) ≡ false }
@@ -197,7 +192,7 @@ pub fn page_picks(
     steps: &[Step],
     start: usize,
     end: usize,
-    readers: Readers<'_>,
+    readers: Readers,
 ) -> Result<Picks, SelectError>
     requires { start ≤ end }
     ensures picks { IfOk result
