@@ -27,11 +27,11 @@ pub(crate) fn push_view(
     row: &Value,
     layout: &str,
 ) -> Result<(), Fail> {
-    let column = column_at(alloc, row, "column")?;
+    let column = &column_at(alloc, row, "column")?;
     match layout {
-        "Bool" => push_view_as::<Bool>(lines, &column),
-        "Primitive" => push_view_as::<Primitive>(lines, &column),
-        "Constant" => push_view_as::<Constant>(lines, &column),
+        "Bool" => push_view_as::<Bool>(lines, column),
+        "Primitive" => push_view_as::<Primitive>(lines, column),
+        "Constant" => push_view_as::<Constant>(lines, column),
         _ => Err("no such layout".into()),
     }
 }

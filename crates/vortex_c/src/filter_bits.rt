@@ -18,8 +18,8 @@ pub extern "C" fn vortex_filter_bits(
     rows: usize,
     dst: &mut [u64],
 ) -> Answer
-    ensures { AreBitsFiltered src.now src_at mask.now mask_at rows dst.old dst.new
-        result.status result.value }
+    ensures { AreBitsFiltered src.now src_at mask.now mask_at rows
+        dst.old dst.new result.status result.value }
 {
     filter_bit_words(src, src_at, mask, mask_at, rows, dst)
 }

@@ -21,8 +21,8 @@ pub extern "C" fn vortex_take_bits(
     valid: &[u64],
     dst: &mut [u64],
 ) -> Answer
-    ensures { AreBitsTaken src.now src_at len indices.now valid.now dst.old dst.new
-        result.status result.value }
+    ensures { AreBitsTaken src.now src_at len indices.now valid.now
+        dst.old dst.new result.status result.value }
 {
     take_bit_words(src, src_at, len, indices, valid, dst)
 }

@@ -31,8 +31,8 @@ pub extern "C" fn vortex_cut_slice(
     ends: &mut [usize],
     left: &mut [usize],
 ) -> Answer
-    ensures { IsSliceCut lengths.now start end starts.old starts.new ends.old ends.new left.old
-        left.new result.status result.value }
+    ensures { IsSliceCut lengths.now start end starts.old starts.new ends.old ends.new
+        left.old left.new result.status result.value }
 {
     cut_slice(lengths, start, end, starts, ends, left)
 }
@@ -74,8 +74,8 @@ pub extern "C" fn vortex_cut_picks(
     parts: &mut [u64],
     rows: &mut [u64],
 ) -> Answer
-    ensures { ArePicksCut places.now bounds.now own.old own.new ends.old ends.new parts.old
-        parts.new rows.old rows.new result.status result.value }
+    ensures { ArePicksCut places.now bounds.now own.old own.new ends.old ends.new
+        parts.old parts.new rows.old rows.new result.status result.value }
 {
     cut_places(places, bounds, own, ends, parts, rows)
 }

@@ -26,19 +26,6 @@ struct Joined {
 }
 
 impl Joined {
-    // No text yet.
-    #[tactic(auto, using(vx_text::proofs::BuiltTexts::no_text_yet))]
-    fn new(alloc: Global) -> Result<Joined, NoMemory>
-        ensures { IfOk result (λ j. AreTexts I32 j.offsets j.text.items []) }
-    {
-        let mut offsets = Offsets::new(alloc, PType::I32);
-        offsets.push(0)?;
-        Ok(Joined {
-            offsets,
-            text: Vec::new(alloc),
-        })
-    }
-
     // Appends a text.
     fn push(&mut self, text: &str) -> Result<(), NoMemory>
         ensures short { OnOk result (length self.new.text.items < 2 ^ 63) }
@@ -52,6 +39,19 @@ impl Joined {
             return Err(NoMemory);
         }
         self.offsets.push(end)
+    }
+
+    // No text yet.
+    #[tactic(auto, using(vx_text::proofs::BuiltTexts::no_text_yet))]
+    fn new(alloc: Global) -> Result<Joined, NoMemory>
+        ensures { IfOk result (λ j. AreTexts I32 j.offsets j.text.items []) }
+    {
+        let mut offsets = Offsets::new(alloc, PType::I32);
+        offsets.push(0)?;
+        Ok(Joined {
+            offsets,
+            text: Vec::new(alloc),
+        })
     }
 
     // The column of these texts, each null where the validity says no.

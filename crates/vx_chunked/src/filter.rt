@@ -120,8 +120,7 @@ fn filter_by<T: Record, D: ChunkDecoder<T>, C: Cursor<T>>(
     requires spare { chunks_touched offset (length mask.now.bits.bits) ≤ D.spare decoder.old }
     ensures value { IfOk result (λ kept. map Some kept.items
         ≡ map (λ p. slice_get (D.values decoder.old) (offset + p)) (set_of mask.now.bits.bits)) }
-    ensures told { OnOk result (D.calls decoder.new
-        ≡ then_told (D.calls decoder.old)
+    ensures told { OnOk result (D.calls decoder.new ≡ then_told (D.calls decoder.old)
         (asked offset (set_of mask.now.bits.bits) (sparse_limit_of policy.now T.WIDTH)
         (chunks_touched offset (length mask.now.bits.bits)))) }
     ensures untold { OnErr result (D.calls decoder.new ≡ D.calls decoder.old) }

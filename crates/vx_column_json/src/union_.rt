@@ -143,7 +143,8 @@ fn union_with(
     variants: Shared<UnionVariants>,
     children: Columns,
 ) -> Result<UnionArray, ColumnError>
-    ensures { result ≡ ok_unless (union_fault (union_parts type_ids offsets variants children))
+    ensures { result
+        ≡ ok_unless (union_fault (union_parts type_ids offsets variants children))
         (union_parts type_ids offsets variants children) }
 {
     match offsets {

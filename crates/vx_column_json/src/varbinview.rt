@@ -41,8 +41,8 @@ fn views_by_buffers(
     stated: Option<Validity>,
     value: &Value,
 ) -> Result<VarBinViewArray, DocError>
-    ensures { Gives (λ a. a) result
-        (views_by_buffers kind (option_map valid_of stated) (view value.now)) }
+    ensures { Gives (λ a. a) result (views_by_buffers kind
+        (option_map valid_of stated) (view value.now)) }
 {
     let views = views_in(alloc, list_member(value, "views")?)?;
     let buffers = byte_lists_in(alloc, list_member(value, "buffers")?)?;
@@ -58,7 +58,8 @@ pub fn views_array(
     value: &Value,
     stated: Option<Validity>,
 ) -> Result<VarBinViewArray, DocError>
-    ensures { Gives (λ a. a) result (views_array (view value.now) (option_map valid_of stated)) }
+    ensures { Gives (λ a. a) result
+        (views_array (view value.now) (option_map valid_of stated)) }
 {
     let kind = text_kind_named(text_member(value, "type")?)?;
     if is_closed(value, &["layout", "type", "values", "validity"]) {

@@ -17,6 +17,25 @@ use vx_column::{Columns, Nullability};
 use vx_mask::{Mask, Policy};
 use vx_take::Picks;
 
+/// The rows of each column at the set positions of a mask that is as long.
+#[cycle(filter)]
+#[tactic(auto, using(crate::proofs::EachColumn::each_column))]
+pub(crate) fn filter_each(
+    alloc: Global,
+    columns: &Columns,
+    mask: &Mask,
+    policy: &Policy,
+) -> Result<Columns, NoMemory>
+    requires { are_long (length (mask_bits mask.now)) columns.now ≡ true }
+    ensures { IfOk result (AreCuts (items_where_true (mask_bits mask.now)) columns.now) }
+{
+    let mut cut = Vec::with_capacity(alloc, columns.len())?;
+    for column in columns.as_slice() {
+        cut.push(filter(alloc, column, mask, policy)?.into_ref(alloc)?)?;
+    }
+    Columns::new(alloc, cut)
+}
+
 /// The rows from `start` up to `end` of each column, of `len` rows.
 #[cycle(slice)]
 #[tactic(auto, using(crate::proofs::EachColumn::each_column))]
@@ -37,25 +56,6 @@ pub(crate) fn slice_each(
     let mut cut = Vec::with_capacity(alloc, columns.len())?;
     for column in columns.as_slice() {
         cut.push(slice(alloc, column, start, end)?.into_ref(alloc)?)?;
-    }
-    Columns::new(alloc, cut)
-}
-
-/// The rows of each column at the set positions of a mask that is as long.
-#[cycle(filter)]
-#[tactic(auto, using(crate::proofs::EachColumn::each_column))]
-pub(crate) fn filter_each(
-    alloc: Global,
-    columns: &Columns,
-    mask: &Mask,
-    policy: &Policy,
-) -> Result<Columns, NoMemory>
-    requires { are_long (length (mask_bits mask.now)) columns.now ≡ true }
-    ensures { IfOk result (AreCuts (items_where_true (mask_bits mask.now)) columns.now) }
-{
-    let mut cut = Vec::with_capacity(alloc, columns.len())?;
-    for column in columns.as_slice() {
-        cut.push(filter(alloc, column, mask, policy)?.into_ref(alloc)?)?;
     }
     Columns::new(alloc, cut)
 }

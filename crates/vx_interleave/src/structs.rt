@@ -56,6 +56,26 @@ pub(crate) fn field_cells<'a>(
     Ok(field)
 }
 
+/// The rows, whose fields are gathered, as a column of structs.
+pub(crate) fn gather_structs(
+    alloc: Global,
+    fields: &Shared<StructFields>,
+    nullability: Nullability,
+    columns: Columns,
+    cells: &[Cell<'_>],
+) -> Result<Array, NoMemory>
+    requires columns { AreFields 0 fields.now.types (rows_in cells.now) columns }
+    requires of_kind { AreCellsOf (struct_of fields.now) cells.now }
+    ensures dtype { IfOk result
+        (λ a. a.dtype ≡ struct_type fields.now.names fields.now.types nullability) }
+    ensures rows { IfOk result (λ a. a.rows ≡ map
+        (shown_as (struct_type fields.now.names fields.now.types nullability))
+        (rows_in cells.now)) }
+{
+    let validity = validity_of(alloc, nullability, cells)?;
+    Ok(structs(columns, fields, cells.len(), validity))
+}
+
 // The structs of these columns.
 fn structs(columns: Columns, fields: &Shared<StructFields>, len: usize, validity: Validity) -> Array
     requires types { types_in columns ≡ fields.now.types }
@@ -67,24 +87,4 @@ fn structs(columns: Columns, fields: &Shared<StructFields>, len: usize, validity
         Ok(structs) => structs.into_array(),
         Err(_) => unreachable!(),
     }
-}
-
-/// The rows, whose fields are gathered, as a column of structs.
-pub(crate) fn gather_structs(
-    alloc: Global,
-    fields: &Shared<StructFields>,
-    nullability: Nullability,
-    columns: Columns,
-    cells: &[Cell<'_>],
-) -> Result<Array, NoMemory>
-    requires of_kind { AreCellsOf (struct_of fields.now) cells.now }
-    requires columns { AreFields 0 fields.now.types (rows_in cells.now) columns }
-    ensures dtype { IfOk result
-        (λ a. a.dtype ≡ struct_type fields.now.names fields.now.types nullability) }
-    ensures rows { IfOk result (λ a. a.rows ≡ map
-        (shown_as (struct_type fields.now.names fields.now.types nullability))
-        (rows_in cells.now)) }
-{
-    let validity = validity_of(alloc, nullability, cells)?;
-    Ok(structs(columns, fields, cells.len(), validity))
 }

@@ -74,8 +74,8 @@ impl Joined {
         validity: Validity,
     ) -> Result<Array, NoMemory>
         requires cut { is_cut self.offsets.numbers (length self.bytes.items) ≡ true }
-        requires fitting { is_fitting (valid_of validity)
-            (length (lists_at self.offsets.numbers self.bytes.items)) ≡ true }
+        requires fitting { is_fitting (valid_of validity) (length
+            (lists_at self.offsets.numbers self.bytes.items)) ≡ true }
         ensures dtype { IfOk result (λ c. c.dtype ≡ record {
           kind = text_kind kind;
           nullability = nullability_by (valid_of validity);

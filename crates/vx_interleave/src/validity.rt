@@ -8,18 +8,6 @@ use std::alloc::Global;
 use vx_bits::{BitBuffer, BitBuilder, NoMemory};
 use vx_column::{Cell, Nullability, Validity};
 
-// Whether each row is there.
-fn there_bits(alloc: Global, cells: &[Cell<'_>]) -> Result<BitBuffer, NoMemory>
-    ensures { IfOk result
-        (λ b. b ≡ record { bits = map is_there (rows_in cells.now); offset = 0 }) }
-{
-    let mut bits = BitBuilder::with_capacity(alloc, cells.len())?;
-    for cell in cells {
-        bits.append(is_there(*cell))?;
-    }
-    bits.finish()
-}
-
 /// The validity of the rows, as those of a type of this nullability.
 pub(crate) fn validity_of(
     alloc: Global,
@@ -32,4 +20,16 @@ pub(crate) fn validity_of(
         Nullability::NonNullable => Ok(Validity::NonNullable),
         Nullability::Nullable => Validity::from_bits(alloc, there_bits(alloc, cells)?),
     }
+}
+
+// Whether each row is there.
+fn there_bits(alloc: Global, cells: &[Cell<'_>]) -> Result<BitBuffer, NoMemory>
+    ensures { IfOk result
+        (λ b. b ≡ record { bits = map is_there (rows_in cells.now); offset = 0 }) }
+{
+    let mut bits = BitBuilder::with_capacity(alloc, cells.len())?;
+    for cell in cells {
+        bits.append(is_there(*cell))?;
+    }
+    bits.finish()
 }

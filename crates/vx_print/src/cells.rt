@@ -147,8 +147,8 @@ fn put_joined(column: &Array, start: usize, end: usize, dst: &mut [u8; ROOM]) ->
     requires block { end ≤ start + BLOCK }
     requires within { end ≤ length column.now.rows }
     ensures within { result ≤ ROOM }
-    ensures put { drop result dst.new
-        ≡ comma_list (map (row_text column.now.dtype) (slice_range column.now.rows start end)) }
+    ensures put { drop result dst.new ≡ comma_list
+        (map (row_text column.now.dtype) (slice_range column.now.rows start end)) }
 {
     match column.plain_records() {
         Some(records) => put_elements(column.dtype(), records, start, end, dst),

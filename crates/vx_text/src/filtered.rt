@@ -108,7 +108,8 @@ pub fn filter_varbin(
     policy: &Policy,
     validity: Validity,
 ) -> Result<VarBinArray, NoMemory>
-    requires { FitsFilter (length (varbin_texts array.now).texts) mask.now (valid_of validity) }
+    requires { FitsFilter
+        (length (varbin_texts array.now).texts) mask.now (valid_of validity) }
     ensures { let bits = mask.now.bits.bits in
         IfOk result (LeavesTexts array.now
         (kept_texts (present_bits (valid_of validity) (true_count_of bits))

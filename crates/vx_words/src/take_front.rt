@@ -17,8 +17,8 @@ pub fn take_records_front<T: Copy>(
     fill: T,
     dst: &mut [T],
 ) -> Answer
-    ensures { IsFrontTaken fill src.now indices.now valid.now dst.old dst.new result.status
-        result.value }
+    ensures { IsFrontTaken fill src.now indices.now valid.now dst.old dst.new
+        result.status result.value }
 {
     let fault = fault_of_take(indices.len(), valid, dst.len());
     if fault != DONE {

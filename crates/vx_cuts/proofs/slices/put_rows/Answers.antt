@@ -6,10 +6,8 @@ use Rattle.vx_cuts.proofs.Filled.{filled_all, filled_more}
 use Rattle.vx_cuts.proofs.slices.put_rows.Goals as goal
 
 pub loop-k-init : goal.loop-k-init
-loop-k-init c = record {
-  so = λ j h. absurd (omega arith);
-  past = omega (arith, (bounds_are c.args.lengths.now).starts);
-}
+loop-k-init c =
+    record { so = λ j h. absurd (omega arith); past = omega (arith, (bounds_are c.args.lengths.now).starts) }
 
 pub loop-k-preserved : goal.loop-k-preserved
 loop-k-preserved c =
