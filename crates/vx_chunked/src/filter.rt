@@ -209,8 +209,8 @@ pub fn filter_chunked_mask<T: Record, D: ChunkDecoder<T>>(
     mask: &Mask,
     policy: &Policy,
 ) -> Result<Vec<T>, NoMemory>
-    requires offset { offset < 1024 }
     requires within { offset + length (mask_bits mask.now) ≤ length (D.values decoder.old) }
+    requires offset { offset < 1024 }
     requires spare { chunks_touched offset (length (mask_bits mask.now)) ≤ D.spare decoder.old }
     ensures value { IfOk result (λ kept. map Some kept.items
         ≡ map (λ p. slice_get (D.values decoder.old) (offset + p))

@@ -37,18 +37,18 @@ impl Model for StepList {
 }
 
 impl StepList {
-    /// The list of these steps. It takes no memory.
-    pub fn from_vec(values: Vec<Step>) -> StepList
-        ensures { result ≡ values.items }
-    {
-        StepList { steps: values }
-    }
-
     /// The steps, in order.
     pub fn as_slice(&self) -> &[Step]
         ensures { result.now ≡ self.now }
     {
         self.steps.as_slice()
+    }
+
+    /// The list of these steps. It takes no memory.
+    pub fn from_vec(values: Vec<Step>) -> StepList
+        ensures { result ≡ values.items }
+    {
+        StepList { steps: values }
     }
 }
 

@@ -66,13 +66,6 @@ impl MemoryBlocks {
         })
     }
 
-    /// The first reads: the numbers of the blocks, in order.
-    pub fn reads(&self) -> &[usize]
-        ensures { result.now ≡ self.now.kept }
-    {
-        self.made.as_slice()
-    }
-
     /// The first reads, without the reader. It takes no memory.
     pub fn into_reads(self) -> ReadLog
         ensures { result ≡ self.kept }
@@ -80,6 +73,13 @@ impl MemoryBlocks {
         ReadLog {
             made: Some(self.made),
         }
+    }
+
+    /// The first reads: the numbers of the blocks, in order.
+    pub fn reads(&self) -> &[usize]
+        ensures { result.now ≡ self.now.kept }
+    {
+        self.made.as_slice()
     }
 
     // Notes a call for a block.

@@ -22,13 +22,6 @@ impl Model for ReadLog {
 }
 
 impl ReadLog {
-    /// No reads. It takes no memory.
-    pub fn new() -> ReadLog
-        ensures { result ≡ [] }
-    {
-        ReadLog { made: None }
-    }
-
     /// The numbers of the blocks, in order.
     pub fn reads(&self) -> &[usize]
         ensures { result.now ≡ self.now }
@@ -37,5 +30,12 @@ impl ReadLog {
             Some(made) => made.as_slice(),
             None => &[],
         }
+    }
+
+    /// No reads. It takes no memory.
+    pub fn new() -> ReadLog
+        ensures { result ≡ [] }
+    {
+        ReadLog { made: None }
     }
 }

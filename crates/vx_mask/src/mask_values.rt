@@ -221,6 +221,23 @@ impl MaskValues {
         }
     }
 
+    /// The same mask with slices beside it: those that it has, or else its maximal runs.
+    pub(crate) fn keep_slices(&self, alloc: Global) -> Result<MaskValues, NoMemory>
+        ensures { IfOk result (λ m. m ≡ keep_slices self.now) }
+    {
+        let slices = match &self.slices {
+            Some(slices) => slices.share(),
+            None => Buffer::from_vec(alloc, runs_of(alloc, &self.bits)?)?,
+        };
+        Ok(MaskValues {
+            slices: Some(slices),
+            bits: self.bits.share(),
+            true_count: self.true_count,
+            indices: shared(&self.indices),
+            blocks: shared(&self.blocks),
+        })
+    }
+
     /// The same mask with its set positions beside it.
     pub(crate) fn keep_indices(&self, alloc: Global) -> Result<MaskValues, NoMemory>
         ensures { IfOk result (λ m. m ≡ keep_indices self.now) }
@@ -234,23 +251,6 @@ impl MaskValues {
             true_count: self.true_count,
             indices: Some(indices),
             slices: shared(&self.slices),
-            blocks: shared(&self.blocks),
-        })
-    }
-
-    /// The same mask with slices beside it: those that it has, or else its maximal runs.
-    pub(crate) fn keep_slices(&self, alloc: Global) -> Result<MaskValues, NoMemory>
-        ensures { IfOk result (λ m. m ≡ keep_slices self.now) }
-    {
-        let slices = match &self.slices {
-            Some(slices) => slices.share(),
-            None => Buffer::from_vec(alloc, runs_of(alloc, &self.bits)?)?,
-        };
-        Ok(MaskValues {
-            bits: self.bits.share(),
-            true_count: self.true_count,
-            indices: shared(&self.indices),
-            slices: Some(slices),
             blocks: shared(&self.blocks),
         })
     }

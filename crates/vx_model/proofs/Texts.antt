@@ -196,14 +196,14 @@ view-views p i d h l = each (is_view p.buffers) p.views i (sound-views p h) l
 fit-views : (p : ViewParts) → views_fault p ≡ None → is_fitting p.valid (length (view_texts p).texts) ≡ true
 fit-views p h = ap (is_fitting p.valid) (texts-views p) ∙ fitting-views p h
 
-pub length-views : (p : ViewParts) → views_fault p ≡ None → length (views_column p).rows ≡ length p.views
-length-views p h = length-text (view_texts p) (fit-views p h) ∙ texts-views p
-
 pub shown-views : (p : ViewParts) (i : ℕ) (t : List ℕ) → views_fault p ≡ None → i < length (view_texts p).texts → is_present p.valid i ≡ true → t ≡ get_or (view_texts p).texts i [] → bytes t ≡ get_or (views_column p).rows i null
 shown-views p i t h l there is = shown-text (view_texts p) i t (fit-views p h) l there is
 
 pub hidden-views : (p : ViewParts) (i : ℕ) → views_fault p ≡ None → i < length (view_texts p).texts → is_present p.valid i ≡ false → null ≡ get_or (views_column p).rows i null
 hidden-views p i h l gone = hidden-text (view_texts p) i (fit-views p h) l gone
+
+pub length-views : (p : ViewParts) → views_fault p ≡ None → length (views_column p).rows ≡ length p.views
+length-views p h = length-text (view_texts p) (fit-views p h) ∙ texts-views p
 
 pub rows-views : (p : ViewParts) → views_fault p ≡ None → length (views_column p).rows ≡ length (view_texts p).texts
 rows-views p h = length-views p h ∙ sym (texts-views p)
