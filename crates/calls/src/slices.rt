@@ -32,6 +32,23 @@ fn texts<V: VarBinSlice>(alloc: Global, column: &Array, range: Range) -> Result<
     Ok(Some(V::_slice(alloc, view, start, end)?))
 }
 
+fn reduced_by(alloc: Global, column: &Array, range: Range, layout: &str) -> Result<Answer, Fail> {
+    match layout {
+        "Bool" => reduced::<Bool>(alloc, column, range),
+        "VarBin" => reduced::<VarBin>(alloc, column, range),
+        "VarBinView" => reduced::<VarBinView>(alloc, column, range),
+        "List" => reduced::<List>(alloc, column, range),
+        "ListView" => reduced::<ListView>(alloc, column, range),
+        "FixedSizeList" => reduced::<FixedSizeList>(alloc, column, range),
+        "Map" => reduced::<Map>(alloc, column, range),
+        "Struct" => reduced::<Struct>(alloc, column, range),
+        "Union" => reduced::<Union>(alloc, column, range),
+        "Extension" => reduced::<Extension>(alloc, column, range),
+        "Dict" => reduced::<Dict>(alloc, column, range),
+        _ => Err("no such slice".into()),
+    }
+}
+
 /// A slice through the trait and the layout that a row names.
 pub(crate) fn sliced_as(
     alloc: Global,
@@ -40,17 +57,7 @@ pub(crate) fn sliced_as(
     call: (&str, &str),
 ) -> Result<Answer, Fail> {
     match call {
-        ("SliceReduce", "Bool") => reduced::<Bool>(alloc, column, range),
-        ("SliceReduce", "VarBin") => reduced::<VarBin>(alloc, column, range),
-        ("SliceReduce", "VarBinView") => reduced::<VarBinView>(alloc, column, range),
-        ("SliceReduce", "List") => reduced::<List>(alloc, column, range),
-        ("SliceReduce", "ListView") => reduced::<ListView>(alloc, column, range),
-        ("SliceReduce", "FixedSizeList") => reduced::<FixedSizeList>(alloc, column, range),
-        ("SliceReduce", "Map") => reduced::<Map>(alloc, column, range),
-        ("SliceReduce", "Struct") => reduced::<Struct>(alloc, column, range),
-        ("SliceReduce", "Union") => reduced::<Union>(alloc, column, range),
-        ("SliceReduce", "Extension") => reduced::<Extension>(alloc, column, range),
-        ("SliceReduce", "Dict") => reduced::<Dict>(alloc, column, range),
+        ("SliceReduce", layout) => reduced_by(alloc, column, range, layout),
         ("SliceKernel", "Map") => executed::<Map>(alloc, column, range),
         ("VarBinSlice", "VarBin") => texts::<VarBin>(alloc, column, range),
         _ => Err("no such slice".into()),

@@ -93,8 +93,8 @@ pub extern "C" fn vortex_take_32(
     valid: &[u64],
     dst: &mut [Record32],
 ) -> Answer
-    ensures { IsTaken (record { a = 0; b = 0; c = 0; d = 0 }) src.now idx.now valid.now dst.old
-        dst.new result.status result.value }
+    ensures { IsTaken (record { a = 0; b = 0; c = 0; d = 0 })
+        src.now idx.now valid.now dst.old dst.new result.status result.value }
 {
     take_records(src, idx, valid, Record32::ZERO, dst)
 }

@@ -1,23 +1,16 @@
 -- Texts that are put out one after another.
 use Rattle.std.proofs.Common.{◌≡◌, ℕ, ◌+◌, ◌^◌, ◌<◌, ◌++◌, List, [], ◌∷◌, length, get_or, map, take, true, refl, sym, ap, ap₂, subst, ◌∙◌}
-use Rattle.std.specs.Prelude.{Option, None}
+use Rattle.std.specs.Prelude.{Option}
 use Rattle.vx_types.specs.declared.ptype.PType.TheVariants.{I32}
-use Rattle.vx_offsets.specs.Cut.{is_cut}
 use Rattle.vx_text.specs.Building.{AreTexts}
 use Rattle.vx_text.specs.OffsetList.{OffsetList, with_offset}
-use Rattle.vx_text.proofs.BuiltTexts.{built, built_texts, one_text}
+use Rattle.vx_text.proofs.BuiltTexts.{one_text}
 use Rattle.std.proofs.lemmas.List.{length-map, map_more}
 use Rattle.std.proofs.lemmas.Simd.{map-map}
-use Rattle.std.specs.Prelude.{is_some, pos}
+use Rattle.std.specs.Prelude.{is_some}
 use Rattle.vx_types.specs.RowValue.{bytes}
-use Rattle.vx_types.specs.TypeTree.{is_int_kind}
-use Rattle.vx_types.specs.declared.text.TextKind.TheVariants.{Utf8}
-use Rattle.vx_positions.specs.Offsets.{lists_at}
 use Rattle.vx_model.specs.Bool.{bits_column}
-use Rattle.vx_model.specs.Numbers.{integers_of}
-use Rattle.vx_model.specs.Records.{RecordParts}
 use Rattle.vx_model.specs.Valid.{Valid, by_column, is_fitting, non_nullable, stored_rows}
-use Rattle.vx_model.specs.VarBin.{varbin_column, varbin_fault}
 use Rattle.vx_model.proofs.ShownRows.{shown_rows-all}
 use Rattle.vx_build.specs.Rows.{bytes_or_none, row_or_null}
 use Rattle.vx_build.proofs.Shown.{fits_some, shown_texts, stored_some}
@@ -28,19 +21,6 @@ next_text xs text_of i d old new before more text l e are short joined is =
     subst (λ (t : List (List ℕ)). AreTexts I32 new more t)
     (ap (λ t. map text_of (take i xs) ++ t ∷ []) e ∙ sym (map_more text_of xs i d l))
     (one_text I32 old new before more text (map text_of (take i xs)) are short joined is)
-
--- ---- the column of texts that stand one after another
-
-module _ (o : RecordParts) (b text : List ℕ) (v : Valid) (numbers : List ℕ) (same : b ≡ text) (read : integers_of o ≡ map pos numbers) where
-  pub text_sound : is_int_kind o.kind ≡ true → o.valid ≡ non_nullable → is_cut numbers (length text) ≡ true → is_fitting v (length (lists_at numbers text)) ≡ true → varbin_fault (record { kind = Utf8; offsets = o; bytes = b; valid = v }) ≡ None
-  text_sound int there cut fit =
-      subst (λ (x : List ℕ). varbin_fault (record { kind = Utf8; offsets = o; bytes = x; valid = v }) ≡ None) (sym same)
-      (built Utf8 o text v numbers read int there cut fit)
-
-  pub text_rows : (varbin_column (record { kind = Utf8; offsets = o; bytes = b; valid = v })).rows ≡ stored_rows v (map bytes (lists_at numbers text))
-  text_rows =
-      ap (λ (ts : List (List ℕ)). stored_rows v (map bytes ts))
-      (built_texts Utf8 o b v numbers read ∙ ap (lists_at numbers) same)
 
 -- none of them null
 pub rows_of_texts : {X : Type 0} (f : X → List ℕ) (xs : List X) (texts : List (List ℕ)) → texts ≡ map f xs → stored_rows non_nullable (map bytes texts) ≡ map (λ x. bytes (f x)) xs

@@ -25,10 +25,10 @@ impl Parts for ExtensionArray {
     ghost column = { extension_column };
 }
 
-impl SliceRows for ExtensionArray {
-    #[cycle(slice)]
-    fn slice(&self, alloc: Global, start: usize, end: usize) -> StepResult {
-        let storage = slice(alloc, self.storage(), start, end)?;
+impl TakeRows for ExtensionArray {
+    #[cycle(take)]
+    fn take(&self, alloc: Global, picks: Picks, nulls: Nullability, policy: &Policy) -> StepResult {
+        let storage = take_picks(alloc, self.storage(), picks, nulls, policy)?;
         restored(alloc, self, storage)
     }
 }
@@ -41,10 +41,10 @@ impl FilterRows for ExtensionArray {
     }
 }
 
-impl TakeRows for ExtensionArray {
-    #[cycle(take)]
-    fn take(&self, alloc: Global, picks: Picks, nulls: Nullability, policy: &Policy) -> StepResult {
-        let storage = take_picks(alloc, self.storage(), picks, nulls, policy)?;
+impl SliceRows for ExtensionArray {
+    #[cycle(slice)]
+    fn slice(&self, alloc: Global, start: usize, end: usize) -> StepResult {
+        let storage = slice(alloc, self.storage(), start, end)?;
         restored(alloc, self, storage)
     }
 }

@@ -105,8 +105,8 @@ pub(crate) fn take_views(
     nullability: Nullability,
     policy: &Policy,
 ) -> Result<ListViewArray, NoMemory>
-    requires bound { picks.now.bound ≡ length (listview_column array.now).rows }
     requires there { nullability ≡ NonNullable → AllThere picks.now.picks }
+    requires bound { picks.now.bound ≡ length (listview_column array.now).rows }
     ensures { IfOk result (λ a.
         IsTake (listview_column array.now) picks.now.picks nullability (listview_column a)) }
 {

@@ -1,12 +1,13 @@
 -- One row that stands where none is shown, and the same row many times.
-use Rattle.std.proofs.Common.{◌≡◌, ℕ, zero, suc, ◌+◌, ◌-◌, ◌*◌, ◌<◌, ◌≤◌, true, false, List, [], ◌∷◌, ◌++◌, map, length, get_or, take, slice_range, None, Some, refl, sym, ap, ap₂, ◌∙◌, arith}
+use Rattle.std.proofs.Common.{◌≡◌, ℕ, zero, suc, ◌+◌, ◌-◌, ◌*◌, ◌<◌, true, false, List, [], ◌∷◌, ◌++◌, map, length, get_or, take, slice_range, None, Some, refl, sym, ap, ap₂, ◌∙◌, arith}
 use Rattle.std.specs.Prelude.{◌==◌, not, pos, replicate, Option, Result, Ok, if◌then◌else◌}
 use Rattle.vx_bits.specs.Results.{ok_unless}
 use Rattle.std.specs.Int.{w8, from_le_bytes}
 use Rattle.std.specs.List.{list_all}
 use Rattle.std.specs.Cmp.{first_so, second_so}
 use Rattle.std.proofs.lemmas.Bool.Decides.{nat_tests}
-use Rattle.std.proofs.lemmas.List.{length-replicate, map_more, take_all, take-replicate}
+use Rattle.std.proofs.lemmas.List.{length-replicate, map_more, take-replicate}
+use Rattle.vx_types.proofs.Carried.{carried-storage, carried_get, dtypes_all, shallow_get, storage-nullability}
 use Rattle.vx_types.specs.DType.{type_of}
 use Rattle.vx_types.specs.FieldTypes.{FieldTypes, VariantTypes}
 use Rattle.vx_types.specs.Nullability.{is_nullable}
@@ -16,7 +17,7 @@ use Rattle.vx_types.specs.Scalar.{scalar_fault}
 use Rattle.vx_types.specs.Variants.{variants_fault}
 use Rattle.vx_types.specs.declared.error.ColumnError.{ColumnError}
 use Rattle.vx_types.specs.SameLaws.{kind_decides}
-use Rattle.vx_types.specs.TypeTree.{TypeKind, TypeTree, also_nullable, are_carried, are_entries, fixed_type, is_carried, is_carried_as, list_type, map_type, null_kind, nullability_as, primitive_kind, primitive_type, struct_kind, struct_type, type_size, types_of, types_size, union_type, with_nullability}
+use Rattle.vx_types.specs.TypeTree.{TypeKind, TypeTree, also_nullable, are_carried, are_entries, fixed_type, is_carried, list_type, map_type, primitive_kind, primitive_type, struct_kind, struct_type, types_of, union_type}
 use Rattle.vx_types.specs.declared.dtype.DType.{DType}
 use Rattle.vx_types.specs.declared.nullability.Nullability.{Nullability}
 use Rattle.vx_types.specs.declared.nullability.Nullability.TheVariants.{NonNullable, Nullable}
@@ -304,39 +305,9 @@ fillers_across n (t ∷ ts) [] h = absurd h
 fillers_across n (t ∷ ts) (x ∷ xs) h =
     ap₂ with_fronts h.0.1 (fillers_across n ts xs h.1) ∙ fronts-replicate n (filler_row t) (map filler_row ts)
 
-pub dtypes_all : (ds : List DType) (k : ℕ) → length ds ≤ k → take k ds ≡ ds
-dtypes_all ds k h = take_all k ds h
-
--- each type is one that a column may have
-pub carried_get : (ds : List DType) (k : ℕ) (d : DType) → are_carried (types_of (map type_of ds)) ≡ true → k < length ds → is_carried (type_of (get_or ds k d)) ≡ true
-carried_get [] k d h l = absurd (omega arith)
-carried_get (e ∷ ds) zero d h l = first_so (is_carried (type_of e)) (are_carried (types_of (map type_of ds))) h
-carried_get (e ∷ ds) (suc k) d h l = carried_get ds k d (second_so (is_carried (type_of e)) (are_carried (types_of (map type_of ds))) h) (omega arith)
-
--- and nests no deeper than all of them
-pub shallow_get : (ds : List DType) (k : ℕ) (d : DType) → k < length ds → type_size (type_of (get_or ds k d)) ≤ types_size (types_of (map type_of ds))
-shallow_get [] k d l = absurd (omega arith)
-shallow_get (e ∷ ds) zero d l = omega arith
-shallow_get (e ∷ ds) (suc k) d l = omega (arith, shallow_get ds k d (omega arith))
-
 pub ruleset each_filler = (fillers_none, fillers_more, fillers_types, fillers_long, fillers_across, dtypes_all, carried_get, shallow_get)
 
 -- ---- types inside a type that a column may have
-
-pub carried-storage : (t : TypeTree) (n : Nullability) → is_carried (record { kind = t.kind; nullability = n }) ≡ true → is_carried (with_nullability t n) ≡ true
-carried-storage t n h = by t.kind n h
-  where
-    by : (k : TypeKind) (n : Nullability) → is_carried_as k n ≡ true → is_carried_as k (nullability_as k n) ≡ true
-    by null_kind n h = refl
-    by k n h = h
-
-pub storage-nullability : (t : TypeTree) (n : Nullability) → is_carried (record { kind = t.kind; nullability = n }) ≡ true → nullability_as t.kind n ≡ n
-storage-nullability t n h = by t.kind n h
-  where
-    by : (k : TypeKind) (n : Nullability) → is_carried_as k n ≡ true → nullability_as k n ≡ n
-    by null_kind Nullable h = refl
-    by null_kind NonNullable h = cc
-    by k n h = refl
 
 pub carried-entries : (names : List (List ℕ)) (ts : List TypeTree) (n : Nullability) → is_carried (map_type names ts n) ≡ true → are_carried (types_of ts) ≡ true
 carried-entries names ts n h = second_so (are_entries (types_of ts)) (are_carried (types_of ts)) h

@@ -6,6 +6,7 @@ use Rattle.std.specs.List.{list_any}
 use Rattle.std.proofs.lemmas.Bool.{not-true}
 use Rattle.std.proofs.lemmas.Bool.Decides.{nat_tests}
 use Rattle.std.proofs.lemmas.List.{length-map, map_more, take_all, take_more}
+use Rattle.vx_types.proofs.Carried.{carried_get, dtypes_all, shallow_get}
 use Rattle.vx_types.specs.DType.{type_of}
 use Rattle.vx_types.specs.FieldTypes.{VariantTypes}
 use Rattle.vx_types.specs.RowValue.{RowValue}
@@ -19,7 +20,6 @@ use Rattle.vx_column.proofs.VariantCounts.{many-variants}
 use Rattle.vx_offsets.proofs.Cuts.{same}
 use Rattle.vx_interleave.specs.Tags.{rows_under}
 use Rattle.vx_interleave.specs.Unions.{AreVariants, union_of}
-use Rattle.vx_interleave.proofs.GatheredRows.{carried_get, dtypes_all, shallow_get}
 use Rattle.vx_interleave.proofs.MadeUnions.{variants_append, variants_none}
 
 -- ---- the type of an id

@@ -57,9 +57,9 @@ pub(crate) fn join_columns(
     right: &[Array],
     right_len: usize,
 ) -> Result<Found, NoMemory>
+    requires alike { AreAlike (types_of left.now) (types_of right.now) }
     requires left { AreLong left_len left.now }
     requires right { AreLong right_len right.now }
-    requires alike { AreAlike (types_of left.now) (types_of right.now) }
     ensures left { IfOk result (λ found. found.left.items ≡ lefts (pairs rows_match
         (rows_from (rows_of left.now) 0 left_len) (rows_from (rows_of right.now) 0 right_len))) }
     ensures right { IfOk result (λ found. found.right.items ≡ rights (pairs rows_match

@@ -41,8 +41,8 @@ pub fn slice_union(
     start: usize,
     end: usize,
 ) -> Result<UnionArray, NoMemory>
-    requires ordered { start ≤ end }
     requires within { end ≤ length (union_column array.now).rows }
+    requires ordered { start ≤ end }
     ensures cut { IfOk result
         (λ a. IsSlice (union_column array.now) start end (union_column a)) }
     ensures parts { IfOk result (IsUnionSlice array.now start end) }

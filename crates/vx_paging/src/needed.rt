@@ -197,9 +197,9 @@ pub fn page_picks(
     requires { start ≤ end }
     ensures picks { IfOk result
         (λ p. IsPartOf (walk len (map step_value steps.now)) start end p.picks) }
-    ensures bound { IfOk result (λ p. p.bound ≡ len) }
     ensures there { IfOk result (λ p. takes_nullability (map step_value steps.now) ≡ NonNullable
         → AllThere p.picks) }
+    ensures bound { IfOk result (λ p. p.bound ≡ len) }
     ensures counted { OnOk result (IsCounted (walk len (map step_value steps.now))) }
     ensures fault { IfErr result (IsFaultOf (walk len (map step_value steps.now))) }
 {

@@ -6,4 +6,5 @@ pub mod OffsetLists
 pub mod PickedRows
 pub mod RunEnds
 pub mod RunTexts
+pub mod TextColumns
 pub mod TextViews

@@ -37,8 +37,8 @@ pub fn filter_views(
     policy: &Policy,
     validity: Validity,
 ) -> Result<VarBinViewArray, NoMemory>
-    requires { FitsFilter (length (view_texts array.now).texts)
-        mask.now (valid_of validity) }
+    requires { FitsFilter (length (view_texts array.now).texts) mask.now
+        (valid_of validity) }
     ensures { IfOk result (LeavesViews array.now.kind array.now.buffers
         (items_where_true mask.now.bits.bits (view_texts array.now).texts)
         (valid_of validity)) }

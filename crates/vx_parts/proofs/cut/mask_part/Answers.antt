@@ -17,8 +17,7 @@ returns-in-AllTrue c =
 
 pub returns-in-AllFalse : goal.returns-in-AllFalse
 returns-in-AllFalse c =
-    let n = c.in-AllFalse.field-0 in
-    let same : mask_bits c.args.mask.now ≡ replicate n false = ap mask_bits c.in-AllFalse.is in
+    let n = c.in-AllFalse.field-0 in let same : mask_bits c.args.mask.now ≡ replicate n false = ap mask_bits c.in-AllFalse.is in
     let count : c.len.result ≡ n = c.len.ensures ∙ ap length same ∙ length-replicate n false in
     let end : c.min-end.result ≡ min c.args.high n = omega (arith, c.min-end.ensures, count) in
     clipped-alike n false c.args.low c.args.high c.min-start.result c.min-end.result end c.min-start.ensures

@@ -2,16 +2,17 @@
 use Rattle.std.proofs.Common.{ap, ◌∙◌}
 use Rattle.vx_model.specs.Column.{Column}
 use Rattle.vx_model.specs.VarBin.{VarBinParts, varbin_column}
-use Rattle.vx_build.proofs.TextLists.{text_rows, text_sound}
+use Rattle.vx_types.specs.declared.text.TextKind.TheVariants.{Utf8}
+use Rattle.vx_text.proofs.TextColumns.{text_rows, text_sound}
 use Rattle.vx_build.proofs.text.Joined.into_array.Goals as goal
 
 pub of-requires : goal.of-requires
 of-requires c =
     let ends = c.in_ok-ends.ensures in
-    text_sound c.in_ok-ends.ends _ c.args.self.text.items _ c.args.self.offsets.numbers c.in_ok-bytes.ensures ends.numbers ends.int ends.valid c.requires.cut c.requires.fitting
+    text_sound Utf8 c.in_ok-ends.ends _ c.args.self.text.items _ c.args.self.offsets.numbers c.in_ok-bytes.ensures ends.numbers ends.int ends.valid c.requires.cut c.requires.fitting
 
 pub returns-clause-rows : goal.returns-clause-rows
 returns-clause-rows c =
     ap (λ (k : Column). k.rows) c.into_array.ensures
     ∙ ap (λ (p : VarBinParts). (varbin_column p).rows) c.of.ensures
-    ∙ text_rows c.in_ok-ends.ends _ c.args.self.text.items _ c.args.self.offsets.numbers c.in_ok-bytes.ensures c.in_ok-ends.ensures.numbers
+    ∙ text_rows Utf8 c.in_ok-ends.ends _ c.args.self.text.items _ c.args.self.offsets.numbers c.in_ok-bytes.ensures c.in_ok-ends.ensures.numbers

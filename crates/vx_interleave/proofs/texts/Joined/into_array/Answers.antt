@@ -2,7 +2,7 @@
 use Rattle.std.proofs.Common.{ap, ◌∙◌}
 use Rattle.vx_model.specs.Column.{Column}
 use Rattle.vx_model.specs.VarBin.{VarBinParts, varbin_column}
-use Rattle.vx_interleave.proofs.TextRows.{text_rows, text_sound}
+use Rattle.vx_text.proofs.TextColumns.{text_rows, text_sound}
 use Rattle.vx_interleave.proofs.texts.Joined.into_array.Goals as goal
 
 pub of-requires : goal.of-requires
