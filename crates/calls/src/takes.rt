@@ -20,6 +20,22 @@ fn reduced<V: TakeReduce>(alloc: Global, column: &Array, indices: &Indices) -> R
     Ok(V::take(alloc, view_of::<V>(column)?, indices))
 }
 
+fn reduced_by(
+    alloc: Global,
+    column: &Array,
+    indices: &Indices,
+    layout: &str,
+) -> Result<Taken, Fail> {
+    match layout {
+        "ListView" => reduced::<ListView>(alloc, column, indices),
+        "Map" => reduced::<Map>(alloc, column, indices),
+        "Struct" => reduced::<Struct>(alloc, column, indices),
+        "Union" => reduced::<Union>(alloc, column, indices),
+        "Extension" => reduced::<Extension>(alloc, column, indices),
+        _ => Err("no such take".into()),
+    }
+}
+
 fn executed<V: TakeExecute>(
     alloc: Global,
     column: &Array,
@@ -37,11 +53,7 @@ pub(crate) fn taken_as(
     call: (&str, &str),
 ) -> Result<Taken, Fail> {
     match call {
-        ("TakeReduce", "ListView") => reduced::<ListView>(alloc, column, indices),
-        ("TakeReduce", "Map") => reduced::<Map>(alloc, column, indices),
-        ("TakeReduce", "Struct") => reduced::<Struct>(alloc, column, indices),
-        ("TakeReduce", "Union") => reduced::<Union>(alloc, column, indices),
-        ("TakeReduce", "Extension") => reduced::<Extension>(alloc, column, indices),
+        ("TakeReduce", layout) => reduced_by(alloc, column, indices, layout),
         ("TakeExecute", "Null") => executed::<Null>(alloc, column, indices),
         ("TakeExecute", "Bool") => executed::<Bool>(alloc, column, indices),
         ("TakeExecute", "Primitive") => executed::<Primitive>(alloc, column, indices),

@@ -73,8 +73,8 @@ pub extern "C" fn vortex_take_16(
     valid: &[u64],
     dst: &mut [Record16],
 ) -> Answer
-    ensures { IsTaken (record { low = 0; high = 0 }) src.now idx.now valid.now dst.old dst.new
-        result.status result.value }
+    ensures { IsTaken (record { low = 0; high = 0 })
+        src.now idx.now valid.now dst.old dst.new result.status result.value }
 {
     take_records(src, idx, valid, Record16::ZERO, dst)
 }

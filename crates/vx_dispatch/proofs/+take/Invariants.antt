@@ -15,8 +15,14 @@ use Rattle.vx_model.specs.Extension.{extension_size}
 use Rattle.vx_model.specs.Union.{union_size}
 use Rattle.vx_dispatch.proofs.+take.Given as goal
 
+abbrev pub decreases-extension::ExtensionArrayTakeRows::take : goal.decreases-extension::ExtensionArrayTakeRows::take
+decreases-extension::ExtensionArrayTakeRows::take l = extension_size l.self.now
+
 abbrev pub decreases-map::MapArrayTakeRows::take : goal.decreases-map::MapArrayTakeRows::take
 decreases-map::MapArrayTakeRows::take l = valid_size l.self.now.valid + 2
+
+abbrev pub decreases-listview::take_views : goal.decreases-listview::take_views
+decreases-listview::take_views l = valid_size l.array.now.valid + 1
 
 abbrev pub decreases-dict::DictArrayTakeBits::bits : goal.decreases-dict::DictArrayTakeBits::bits
 decreases-dict::DictArrayTakeBits::bits l = dict_size l.self.now
@@ -58,12 +64,6 @@ decreases-runs::take_runs l = l.array.now.depth + 1
 abbrev pub decreases-fixed_size_list::FixedSizeListArrayTakeRows::take : goal.decreases-fixed_size_list::FixedSizeListArrayTakeRows::take
 decreases-fixed_size_list::FixedSizeListArrayTakeRows::take l =
     max l.self.now.elements.depth (valid_size l.self.now.valid) + 2
-
-abbrev pub decreases-listview::take_views : goal.decreases-listview::take_views
-decreases-listview::take_views l = valid_size l.array.now.valid + 1
-
-abbrev pub decreases-extension::ExtensionArrayTakeRows::take : goal.decreases-extension::ExtensionArrayTakeRows::take
-decreases-extension::ExtensionArrayTakeRows::take l = extension_size l.self.now
 
 abbrev pub decreases-struct_::StructArrayTakeRows::take : goal.decreases-struct_::StructArrayTakeRows::take
 decreases-struct_::StructArrayTakeRows::take l = max (columns_depth l.self.now.columns) (valid_size l.self.now.valid) + 2
