@@ -32,7 +32,7 @@ fn texts<V: VarBinSlice>(alloc: Global, column: &Array, range: Range) -> Result<
     Ok(Some(V::_slice(alloc, view, start, end)?))
 }
 
-fn reduced_by(alloc: Global, column: &Array, range: Range, layout: &str) -> Result<Answer, Fail> {
+fn reduced_as(alloc: Global, column: &Array, range: Range, layout: &str) -> Result<Answer, Fail> {
     match layout {
         "Bool" => reduced::<Bool>(alloc, column, range),
         "VarBin" => reduced::<VarBin>(alloc, column, range),
@@ -57,7 +57,7 @@ pub(crate) fn sliced_as(
     call: (&str, &str),
 ) -> Result<Answer, Fail> {
     match call {
-        ("SliceReduce", layout) => reduced_by(alloc, column, range, layout),
+        ("SliceReduce", layout) => reduced_as(alloc, column, range, layout),
         ("SliceKernel", "Map") => executed::<Map>(alloc, column, range),
         ("VarBinSlice", "VarBin") => texts::<VarBin>(alloc, column, range),
         _ => Err("no such slice".into()),

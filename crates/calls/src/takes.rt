@@ -20,7 +20,7 @@ fn reduced<V: TakeReduce>(alloc: Global, column: &Array, indices: &Indices) -> R
     Ok(V::take(alloc, view_of::<V>(column)?, indices))
 }
 
-fn reduced_by(
+fn reduced_as(
     alloc: Global,
     column: &Array,
     indices: &Indices,
@@ -53,7 +53,7 @@ pub(crate) fn taken_as(
     call: (&str, &str),
 ) -> Result<Taken, Fail> {
     match call {
-        ("TakeReduce", layout) => reduced_by(alloc, column, indices, layout),
+        ("TakeReduce", layout) => reduced_as(alloc, column, indices, layout),
         ("TakeExecute", "Null") => executed::<Null>(alloc, column, indices),
         ("TakeExecute", "Bool") => executed::<Bool>(alloc, column, indices),
         ("TakeExecute", "Primitive") => executed::<Primitive>(alloc, column, indices),
