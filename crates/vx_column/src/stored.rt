@@ -27,9 +27,9 @@ impl<'a> Stored<'a> {
     /// Which rows are valid.
     #[tactic(auto, using(vx_model::proofs::Layouts::stored_items, vx_model::proofs::Texts::text_items))]
     pub fn validity(self) -> &'a Validity
+        ensures value { valid_of result.now ≡ (parts_of self.entry).valid }
         ensures fitting { is_fitting (parts_of self.entry).valid
             (length (parts_of self.entry).items) ≡ true }
-        ensures value { valid_of result.now ≡ (parts_of self.entry).valid }
     {
         match self {
             Stored::Bits(array) => array.validity(),
