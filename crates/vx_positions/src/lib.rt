@@ -6,6 +6,8 @@ mod by_type;
 mod numbers;
 mod offsets;
 mod positions;
+mod present;
+mod shown;
 mod stored;
 
 pub use numbers::Numbers;

@@ -2,7 +2,6 @@
 ghost use Rattle.std.specs.Prelude.{◌≡◌, ◌<◌, None, length, true, slice_index_or};
 ghost use Rattle.vx_types.specs.PType.{is_int, width};
 
-use vx_bits::BitBuffer;
 use vx_types::PType;
 
 /// A list of numbers, of which some may be missing.
@@ -52,40 +51,5 @@ impl<const W: usize> Numbers for Present<'_, W> {
     #[tactic(auto, using(crate::proofs::NumberLists::numbers))]
     fn number(&self, i: usize) -> Option<i128> {
         Some(self.ptype.number(&self.records[i]))
-    }
-}
-
-/// Records of an integer type, which are valid where a bit is set.
-#[derive(Clone, Copy)]
-pub(crate) struct Shown<'a, const W: usize> {
-    pub(crate) ptype: PType,
-    pub(crate) records: &'a [[u8; W]],
-    pub(crate) bits: &'a BitBuffer,
-    ghost int: { is_int ptype ≡ true },
-    ghost width: { W ≡ width ptype },
-    ghost long: { length bits.now.bits ≡ length records.now },
-}
-
-impl<const W: usize> Numbers for Shown<'_, W> {
-    ghost use Rattle.vx_positions.specs.Stored.{shown_numbers};
-
-    ghost numbers = { λ s. shown_numbers s.ptype s.bits.now.bits s.records.now };
-
-    ghost nullable = { λ s. true };
-
-    #[inline(always)]
-    #[tactic(auto, using(crate::proofs::NumberLists::numbers))]
-    fn len(&self) -> usize {
-        self.records.len()
-    }
-
-    #[inline(always)]
-    #[tactic(auto, using(crate::proofs::NumberLists::numbers))]
-    fn number(&self, i: usize) -> Option<i128> {
-        if self.bits.value(i) {
-            Some(self.ptype.number(&self.records[i]))
-        } else {
-            None
-        }
     }
 }

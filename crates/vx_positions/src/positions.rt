@@ -16,9 +16,9 @@ pub fn is_position(number: i128, len: usize) -> bool
     0 <= number && number < len as i128
 }
 
-// The number, where there is one that is none of `len` positions.
+/// The number, where there is one that is none of `len` positions.
 #[inline(always)]
-fn bad_number(number: Option<i128>, len: usize) -> Option<i128>
+pub(crate) fn bad_number(number: Option<i128>, len: usize) -> Option<i128>
     ensures { result ≡ bad_number len number }
 {
     number.filter(|number| !is_position(*number, len))
@@ -50,9 +50,9 @@ pub fn position(number: i128, len: usize) -> usize
     number as usize
 }
 
-// The position that a number names, none where it is missing.
+/// The position that a number names, none where it is missing.
 #[inline(always)]
-fn position_of(number: Option<i128>, len: usize) -> Option<usize>
+pub(crate) fn position_of(number: Option<i128>, len: usize) -> Option<usize>
     requires { IfSome number (λ z. is_position len z ≡ true) }
     ensures value { result ≡ option_map position_of number }
     ensures below { IfSome result (λ p. p < len) }

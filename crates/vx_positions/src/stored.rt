@@ -6,47 +6,12 @@ ghost use Rattle.vx_positions.specs.Positions.{AllThere, first_bad, positions_of
 ghost use Rattle.vx_positions.specs.Stored.{present_numbers, shown_numbers};
 
 use crate::by_type;
-use crate::numbers::{Present, Shown};
-use crate::positions::{first_bad, picks_of};
+use crate::present::{first_bad_present_of_width, picks_present_of_width};
+use crate::shown::{first_bad_shown_of_width, picks_shown_of_width};
 use std::alloc::Global;
 use vx_bits::{BitBuffer, NoMemory, Records};
 use vx_take::Picks;
 use vx_types::PType;
-
-#[inline(always)]
-fn first_bad_present_of_width<const W: usize>(
-    ptype: PType,
-    records: &[[u8; W]],
-    len: usize,
-) -> Option<i128>
-    requires int { is_int ptype ≡ true }
-    requires width { W ≡ width ptype }
-    ensures { result ≡ first_bad len (present_numbers ptype records.now) }
-{
-    first_bad(&Present::<W> { ptype, records }, len)
-}
-
-#[inline(always)]
-fn first_bad_shown_of_width<const W: usize>(
-    ptype: PType,
-    records: &[[u8; W]],
-    bits: &BitBuffer,
-    len: usize,
-) -> Option<i128>
-    requires int { is_int ptype ≡ true }
-    requires width { W ≡ width ptype }
-    requires long { length bits.now.bits ≡ length records.now }
-    ensures { result ≡ first_bad len (shown_numbers ptype bits.now.bits records.now) }
-{
-    first_bad(
-        &Shown::<W> {
-            ptype,
-            records,
-            bits,
-        },
-        len,
-    )
-}
 
 /// The first number that is none of `len` positions, of records that are all there.
 pub fn first_bad_present(ptype: PType, values: &Records, len: usize) -> Option<i128>
@@ -66,51 +31,6 @@ pub fn first_bad_shown(ptype: PType, values: &Records, bits: &BitBuffer, len: us
         (shown_numbers ptype bits.now.bits (records_of values.now)) }
 {
     by_type!(ptype, values, first_bad_shown_of_width, bits, len)
-}
-
-#[inline(always)]
-fn picks_present_of_width<const W: usize>(
-    ptype: PType,
-    records: &[[u8; W]],
-    alloc: Global,
-    len: usize,
-) -> Result<Picks, NoMemory>
-    requires int { is_int ptype ≡ true }
-    requires width { W ≡ width ptype }
-    requires sound { first_bad len (present_numbers ptype records.now) ≡ None }
-    ensures picks { IfOk result (λ p. p
-        ≡ record { picks = positions_of (present_numbers ptype records.now); bound = len }) }
-    ensures there { IfOk result (λ p. AllThere p.picks) }
-{
-    picks_of(alloc, &Present::<W> { ptype, records }, len)
-}
-
-#[inline(always)]
-fn picks_shown_of_width<const W: usize>(
-    ptype: PType,
-    records: &[[u8; W]],
-    alloc: Global,
-    bits: &BitBuffer,
-    len: usize,
-) -> Result<Picks, NoMemory>
-    requires int { is_int ptype ≡ true }
-    requires width { W ≡ width ptype }
-    requires long { length bits.now.bits ≡ length records.now }
-    requires sound { first_bad len (shown_numbers ptype bits.now.bits records.now) ≡ None }
-    ensures { IfOk result (λ p. p ≡ record {
-      picks = positions_of (shown_numbers ptype bits.now.bits records.now);
-      bound = len;
-    }) }
-{
-    picks_of(
-        alloc,
-        &Shown::<W> {
-            ptype,
-            records,
-            bits,
-        },
-        len,
-    )
 }
 
 /// The positions that the numbers name, of records that are all there. Fails only with `NoMemory`.
