@@ -1,5 +1,5 @@
 //! Columns, masks, indices and steps from what a caller has: lists of numbers, of bools, of texts.
 pub use vx_build::{
-    NativePType, bools, constant, filter, indices, lists, mask, nullable_numbers, nullable_texts,
-    numbers, records, slice, structs, take, texts, validity,
+    NativePType, RecordWidth, bools, constant, filter, indices, lists, mask, nullable_numbers,
+    nullable_texts, numbers, records, slice, structs, take, texts, validity,
 };
