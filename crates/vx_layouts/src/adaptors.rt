@@ -85,10 +85,10 @@ impl<V: TakeExecute> TakeExecuteAdaptor<V> {
         parent: ArrayView<'_, Dict>,
         child_idx: usize,
     ) -> Answer<TakeError>
+        ensures others { child_idx ≢ 1 → result ≡ Ok None }
         ensures values { child_idx ≡ 1 → (codes : Codes)
             → parent.entry.array.now.codes ≡ Some codes
             → AnswersCodes array.entry.array.now codes V.declines result }
-        ensures others { child_idx ≢ 1 → result ≡ Ok None }
     {
         if child_idx != VALUES {
             return Ok(None);
