@@ -86,7 +86,8 @@ pub extern "C" fn vortex_filter_32(
     at: usize,
     dst: &mut [Record32],
 ) -> Answer
-    ensures { IsFiltered src.now words.now at dst.old dst.new result.status result.value }
+    ensures { IsFiltered src.now words.now at
+        dst.old dst.new result.status result.value }
 {
     filter_records(src, words, at, dst, 32)
 }

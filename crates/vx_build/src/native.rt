@@ -219,25 +219,37 @@ pub trait RecordWidth<const W: usize>: Copy {
 }
 
 impl RecordWidth<1> for [u8; 1] {
-    fn records(buffer: Buffer<[u8; 1]>) -> Records {
+    fn records(buffer: Buffer<[u8; 1]>) -> Records
+        ensures records { records_of result ≡ buffer }
+        ensures width { width_of result ≡ 1 }
+    {
         Records::W1(buffer)
     }
 }
 
 impl RecordWidth<2> for [u8; 2] {
-    fn records(buffer: Buffer<[u8; 2]>) -> Records {
+    fn records(buffer: Buffer<[u8; 2]>) -> Records
+        ensures records { records_of result ≡ buffer }
+        ensures width { width_of result ≡ 2 }
+    {
         Records::W2(buffer)
     }
 }
 
 impl RecordWidth<4> for [u8; 4] {
-    fn records(buffer: Buffer<[u8; 4]>) -> Records {
+    fn records(buffer: Buffer<[u8; 4]>) -> Records
+        ensures records { records_of result ≡ buffer }
+        ensures width { width_of result ≡ 4 }
+    {
         Records::W4(buffer)
     }
 }
 
 impl RecordWidth<8> for [u8; 8] {
-    fn records(buffer: Buffer<[u8; 8]>) -> Records {
+    fn records(buffer: Buffer<[u8; 8]>) -> Records
+        ensures records { records_of result ≡ buffer }
+        ensures width { width_of result ≡ 8 }
+    {
         Records::W8(buffer)
     }
 }

@@ -19,9 +19,9 @@ impl Model for JoinIndices {
 
     ghost Value = { JoinValue };
 
-    ghost coded = { coded_join };
-
     ghost view = { λ j. record { left = j.left; right = j.right } };
+
+    ghost coded = { coded_join };
 }
 
 impl JoinIndices {

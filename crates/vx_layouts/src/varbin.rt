@@ -39,7 +39,11 @@ impl VarBinSlice for VarBin {
         array: ArrayView<'_, VarBin>,
         start: usize,
         end: usize,
-    ) -> Result<Array, NoMemory> {
+    ) -> Result<Array, NoMemory>
+        requires ordered { start ≤ end }
+        requires within { end ≤ length array.array.now.rows }
+        ensures { IfOk result (IsSlice array.entry.array.now start end) }
+    {
         slice(alloc, array.array(), start, end)
     }
 }
