@@ -31,9 +31,9 @@ impl Model for ChunkShape {
 
     ghost Value = { ShapeValue };
 
-    ghost view = { λ s. shape_of s.dtype s.offset s.len s.validity };
-
     ghost coded = { coded_shape };
+
+    ghost view = { λ s. shape_of s.dtype s.offset s.len s.validity };
 
     ghost invariant = { λ s. shape_fault (shape_of s.dtype s.offset s.len s.validity) ≡ None };
 }
