@@ -1,4 +1,5 @@
 pub mod CutRows
+pub mod DenseTests
 pub mod OffsetReads
 pub mod SoundNodes
 pub mod Stacks

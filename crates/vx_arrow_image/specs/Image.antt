@@ -4,7 +4,7 @@ use Rattle.std.specs.Int.{bit_at, from_le_bytes, w32, w64}
 use Rattle.std.specs.List.{range_with_len, list_all, list_any, flat_map}
 use Rattle.std.specs.Option.{option_and_then}
 use Rattle.vx_arrow_image.specs.declared.format.Format.{Format}
-use Rattle.vx_arrow_image.specs.declared.format.Format.TheVariants.{Nulls, Bits, Fixed, Text, Struct, List as Lists, FixedList, TextView, ListView, Union}
+use Rattle.vx_arrow_image.specs.declared.format.Format.TheVariants.{Nulls, Bits, Fixed, Text, Struct, List as Lists, FixedList, TextView, ListView, Union, DenseUnion}
 use Rattle.vx_arrow_image.specs.declared.format.Offsets.{Offsets}
 use Rattle.vx_arrow_image.specs.declared.format.Offsets.TheVariants.{Short, Long}
 use Rattle.vx_arrow_image.specs.declared.image.Node as image
@@ -37,6 +37,7 @@ format_in n =
     else if n == 10 then Some (ListView Short)
     else if n == 11 then Some (ListView Long)
     else if n == 12 then Some Union
+    else if n == 13 then Some DenseUnion
     else None
 
 abbrev pub part_of : image.Node → Part
@@ -127,6 +128,16 @@ child_of (x ∷ xs) id = if x == id then 0 else child_of xs id + 1
 unfoldable pub has_child : Part → ℕ → Bool
 has_child p i = list_any (λ x. x == slice_index p.values i) (ids_of p)
 
+-- the row that row i of a dense union is of its child
+abbrev pub dense_start : Part → ℕ → ℕ
+dense_start p i = offset_at Short p.offsets i
+
+-- it is there, in children that have so many rows
+unfoldable pub is_dense : Part → List ℕ → ℕ → Bool
+is_dense p lens i =
+    nat_lt (dense_start p i) (2 ^ 31)
+    && nat_lt (dense_start p i) (slice_index lens (child_of (ids_of p) (slice_index p.values i)))
+
 -- ---- which nodes are sound
 
 abbrev pub holds_valid : List ℕ → ℕ → Bool
@@ -196,6 +207,10 @@ fits (Some Union) p lens =
     holds_ids p
     && (list_all (λ n. nat_le (p.offset + p.len) n) lens
     && list_all (has_child p) (range_with_len p.offset p.len))
+fits (Some DenseUnion) p lens =
+    holds_ids p
+    && (holds_starts Short p.offsets (p.offset + p.len)
+    && list_all (is_dense p lens) (range_with_len p.offset p.len))
 
 unfoldable pub is_sound : Part → List ℕ → Bool
 is_sound p lens = is_placed p && fits p.format p lens
@@ -243,6 +258,10 @@ value_at (Some (ListView z)) p cs i =
 value_at (Some Union) p cs i =
     tagged (slice_index p.values i)
     (slice_index_or (slice_index_or cs (child_of (ids_of p) (slice_index p.values i)) []) i null)
+value_at (Some DenseUnion) p cs i =
+    tagged (slice_index p.values i)
+    (slice_index_or (slice_index_or cs (child_of (ids_of p) (slice_index p.values i)) [])
+    (dense_start p i) null)
 
 abbrev pub row_of : Part → List (List RowValue) → ℕ → RowValue
 row_of p cs i = if is_valid p.valid i then value_at p.format p cs i else null

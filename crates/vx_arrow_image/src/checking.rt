@@ -2,9 +2,10 @@
 ghost use Rattle.std.specs.Prelude.{◌≡◌, ◌+◌, ◌*◌, ◌^◌, ◌<◌, ◌≤◌, IfErr, IsSome, MatchOption, OnOk, Some, length, nat_le, true, false};
 ghost use Rattle.std.specs.List.{list_all, range_with_len};
 ghost use Rattle.vx_arrow_image.specs.Checking.{IsUnsound};
-ghost use Rattle.vx_arrow_image.specs.Image.{all_valid, are_cut, column_in, fits, has_child, holds_offsets, if_valid, is_cut, is_list_view, is_placed, is_sound, is_view, part_of, parts_of, size_of};
+ghost use Rattle.vx_arrow_image.specs.Image.{all_valid, are_cut, column_in, fits, has_child, holds_offsets, if_valid, is_cut, is_dense, is_list_view, is_placed, is_sound, is_view, part_of, parts_of, size_of};
 
 use crate::bits::{holds_valid, is_there};
+use crate::dense::is_dense;
 use crate::format::{Format, Offsets, format_of};
 use crate::image::Node;
 use crate::offsets::{cut_at, holds_offsets};
@@ -211,6 +212,38 @@ fn union_fits(node: &Node, lens: &[u64]) -> bool
     all_long(lens, node.offset + node.len) && are_tagged(node)
 }
 
+// Whether each row of a dense union is in its child.
+fn are_dense(node: &Node, lens: &[u64]) -> bool
+    requires few { node.now.offset + node.now.len < 2 ^ 60 }
+    requires ids { node.now.children ≤ length node.now.sizes.now }
+    requires held { node.now.offset + node.now.len ≤ length node.now.values.now }
+    requires offsets { 4 * (node.now.offset + node.now.len) ≤ length node.now.offsets.now }
+    ensures { result ≡ list_all (is_dense (part_of node.now) lens.now)
+        (range_with_len node.now.offset node.now.len) }
+{
+    let start = node.offset as usize;
+    for i in start..start + node.len as usize {
+        if !is_dense(node, lens, i) {
+            return false;
+        }
+    }
+    true
+}
+
+// Whether the rows of a dense union are there in its children, which have so many.
+fn dense_fits(node: &Node, lens: &[u64]) -> bool
+    requires { node.now.offset + node.now.len < 2 ^ 60 }
+    ensures { result ≡ fits (Some Format.DenseUnion) (part_of node.now) lens.now }
+{
+    if !holds_ids(node) {
+        return false;
+    }
+    if !holds_starts(Offsets::Short, node.offsets, node.offset + node.len) {
+        return false;
+    }
+    are_dense(node, lens)
+}
+
 // Whether a node's lists and children, which have so many rows, are long enough.
 fn fits(format: Format, node: &Node, lens: &[u64]) -> bool
     requires { node.now.offset + node.now.len < 2 ^ 60 }
@@ -227,6 +260,7 @@ fn fits(format: Format, node: &Node, lens: &[u64]) -> bool
         Format::TextView => views_fit(node, lens),
         Format::ListView(size) => list_views_fit(size, node, lens),
         Format::Union => union_fits(node, lens),
+        Format::DenseUnion => dense_fits(node, lens),
         Format::List(size) => {
             let count = if lens.is_empty() { 0 } else { lens[0] };
             node.children == 1 && are_cut(size, node, count)
@@ -245,6 +279,23 @@ fn union_lacks(node: &Node, lens: &[u64]) -> Lack
         Lack::Id
     } else {
         Lack::Length
+    }
+}
+
+// What a dense union lacks that doesn't fit.
+fn dense_lacks(node: &Node) -> Lack
+    requires { node.now.offset + node.now.len < 2 ^ 60 }
+{
+    if !holds_ids(node) {
+        return ids_lack(node);
+    }
+    if !holds_starts(Offsets::Short, node.offsets, node.offset + node.len) {
+        return Lack::Offsets;
+    }
+    if are_tagged(node) {
+        Lack::Items
+    } else {
+        Lack::Id
     }
 }
 
@@ -278,6 +329,7 @@ fn unfit(format: Format, node: &Node, lens: &[u64]) -> Lack
         }
         Format::ListView(size) => list_views_lack(size, node),
         Format::Union => union_lacks(node, lens),
+        Format::DenseUnion => dense_lacks(node),
     }
 }
 

@@ -22,6 +22,7 @@ pub enum Format {
     TextView,
     ListView(Offsets),
     Union,
+    DenseUnion,
 }
 
 impl Offsets {
@@ -64,6 +65,7 @@ pub fn format_of(code: u64) -> Option<Format>
         10 => Some(Format::ListView(Offsets::Short)),
         11 => Some(Format::ListView(Offsets::Long)),
         12 => Some(Format::Union),
+        13 => Some(Format::DenseUnion),
         _ => None,
     }
 }

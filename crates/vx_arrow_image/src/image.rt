@@ -10,7 +10,8 @@
 pub struct Node<'a> {
     /// 0 nulls, 1 bits, 2 values of a fixed width, 3 texts with offsets of 4 bytes, 4 with such of
     /// 8, 5 a struct, 6 lists with offsets of 4 bytes, 7 with such of 8, 8 lists of a fixed size,
-    /// 9 views of texts, 10 views of lists with offsets of 4 bytes, 11 with such of 8.
+    /// 9 views of texts, 10 views of lists with offsets of 4 bytes, 11 with such of 8, 12 a sparse
+    /// union, 13 a dense one.
     pub format: u64,
     /// Of values of a fixed width: how many bytes one has. Of lists of a fixed size: how many
     /// items.
@@ -25,13 +26,14 @@ pub struct Node<'a> {
     /// A bit for each row, clear at a null. Of no bytes where no row is null.
     pub valid: &'a [u8],
     /// Of texts and lists: where each row's items begin, and behind the last one where they end. Of
-    /// views of lists: where each row's items begin.
+    /// views of lists: where each row's items begin. Of dense unions: which of its child's rows
+    /// each row is.
     pub offsets: &'a [u8],
     /// The values, the bits, the bytes of texts, or 16 bytes a view of a text: how many bytes it
     /// has (4 bytes), and then these, up to 12, or 4 that are not looked at, the number of a buffer
-    /// (4) and where they begin there (4).
+    /// (4) and where they begin there (4). Of unions: the id of each row's child, a byte.
     pub values: &'a [u8],
-    /// Of views of lists: how many items each row has.
+    /// Of views of lists: how many items each row has. Of unions: the id of each child, a byte.
     pub sizes: &'a [u8],
 }
 

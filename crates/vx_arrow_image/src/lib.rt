@@ -6,6 +6,7 @@
 
 mod bits;
 mod checking;
+mod dense;
 mod format;
 mod image;
 mod offsets;
@@ -15,6 +16,7 @@ mod views;
 
 pub use crate::bits::{bit_is, holds_valid, is_there};
 pub use crate::checking::check;
+pub use crate::dense::{child_of, is_dense, start_of};
 pub use crate::format::{Format, Offsets, format_of};
 pub use crate::image::{Need, Node, Room};
 pub use crate::offsets::{Cut, cut_at, holds_offsets};

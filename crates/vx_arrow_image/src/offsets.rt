@@ -5,9 +5,9 @@ ghost use Rattle.vx_arrow_image.specs.Image.{holds_offsets, offset_at, part_of, 
 use crate::format::Offsets;
 use crate::image::Node;
 
-// Offset `j` of four bytes.
+/// Offset `j` of four bytes.
 #[inline(always)]
-fn short_offset(offsets: &[u8], j: usize) -> u32
+pub(crate) fn short_offset(offsets: &[u8], j: usize) -> u32
     requires { 4 * j + 4 ≤ length offsets.now }
     ensures { result ≡ offset_at Offsets.Short offsets.now j }
 {
