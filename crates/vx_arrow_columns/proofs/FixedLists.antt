@@ -12,12 +12,12 @@ use Rattle.vx_arrow_image.specs.declared.format.Format.TheVariants.{FixedList}
 use Rattle.vx_arrow_image.specs.Rows.{RowValue, null, list, row_values}
 use Rattle.vx_arrow_image.specs.Image.{Part, bit_of, holds_valid, is_sound, is_valid, value_at, column_of}
 use Rattle.vx_arrow_columns.specs.Measured.{AreItemPlaces}
-use Rattle.vx_arrow_columns.specs.Picks.{Picking, fixed_item, fixed_items, inner, inner_picks, pick_at, picks_of, tags}
+use Rattle.vx_arrow_columns.specs.Picks.{Picking, inners_by, fixed_item, fixed_items, inner, inner_picks, pick_at, picks_of, tags}
 use Rattle.vx_arrow_columns.specs.Taken.{AreWithin, IsOwnTaken, IsReadable, ShowsRows, AreAt}
 use Rattle.vx_arrow_columns.specs.Written.{PutsBit, new_part}
 use Rattle.vx_arrow_image.proofs.SoundNodes.{sound_fits, sound_from}
 use Rattle.vx_arrow_columns.proofs.Columns.{placed, place_some, same_column}
-use Rattle.vx_arrow_columns.proofs.OwnTaken.{few_picks, held_by}
+use Rattle.vx_arrow_columns.proofs.OwnTaken.{few_picks, held_by, own_taken}
 use Rattle.vx_arrow_columns.proofs.RowsAt.{first_at, picked_at}
 use Rattle.vx_arrow_columns.proofs.PickReads.{get_picks, length_picks, place_below}
 use Rattle.vx_arrow_columns.proofs.Steps.{next_place}
@@ -62,7 +62,7 @@ fixed_list_taken p q v o x s format r shows valid =
     let count : length (inner p q).picks ≡ length q.picks * p.width = ap length is ∙ length_items p q.picks in
     let same : 0 + length q.picks ≡ length q.picks = omega arith in
     let room : (0 + length q.picks) * p.width ≤ length (inner p q).picks = subst (λ (n : ℕ). n * p.width ≤ length (inner p q).picks) (sym same) (omega arith) in
-    record {
+    own_taken p w q (ap (λ (y : Option Format). inners_by y p q) format) (record {
       children = refl;
       len = refl;
       sound = subst (λ (n : ℕ). is_sound w (replicate n (length (inner p q).picks)) ≡ true) (sym one)
@@ -76,7 +76,7 @@ fixed_list_taken p q v o x s format r shows valid =
           ap (λ (y : Option Format). value_at y w ds k) format
           ∙ ap (λ (l : List RowValue). list (row_values l)) (fixed_cell p q.picks c (get_or ds 0 []) k back.0 (subst (λ (l : List (Option ℕ)). AreAt true l c (get_or ds 0 [])) is (first_at (inner p q).picks p.children cs ds one children)) h back.1.0 (r.within.below k back.0 h back.1.0) wide ∙ ap (λ (m : ℕ). take p.width (drop (m * p.width) c)) (sym back.1.1))
           ∙ ap (λ (y : Option Format). value_at y p cs n) (sym format)));
-    }
+    })
 
 -- ---- the places of items
 
@@ -136,7 +136,7 @@ more_items p q n x places new own pushed are =
     length_push [] y = refl
     length_push (z ∷ xs) y = omega (arith, length_push xs y)
 
-item_pick : (places valid : List ℕ) (m : ℕ) (o : Option ℕ) → is_valid valid m ≡ is_some o → ((x : ℕ) → o ≡ Some x → get_or places m 0 ≡ x) → pick_at places valid 0 m ≡ o
+pub item_pick : (places valid : List ℕ) (m : ℕ) (o : Option ℕ) → is_valid valid m ≡ is_some o → ((x : ℕ) → o ≡ Some x → get_or places m 0 ≡ x) → pick_at places valid 0 m ≡ o
 item_pick places valid m None bits is = ap (λ b. cond b (Some (0 + get_or places m 0)) None) bits
 item_pick places valid m (Some x) bits is = ap (λ b. cond b (Some (0 + get_or places m 0)) None) bits ∙ ap Some (let e = is x refl in let f : 0 + get_or places m 0 ≡ x = omega arith in f)
 

@@ -4,6 +4,9 @@ pub mod Bytes
 pub mod Columns
 pub mod Cuts
 pub mod Lacking
+pub mod DenseItems
+pub mod DenseRows
+pub mod DenseSteps
 pub mod FixedLists
 pub mod KeptRows
 pub mod Meant

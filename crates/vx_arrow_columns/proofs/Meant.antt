@@ -3,30 +3,31 @@ use Rattle.std.proofs.Common.{zero, suc, ◌≡◌, ℕ, ◌+◌, ◌*◌, ◌^�
 use Rattle.std.specs.Prelude.{replicate, ⊤}
 use Rattle.std.specs.Option.{option_map}
 use Rattle.std.proofs.lemmas.Bool.{and_parts, eqb-true, leb-true}
-use Rattle.std.proofs.lemmas.List.{append-nil, get_or-drop, get_or-take, length-drop, length-map, length-take-le}
+use Rattle.std.proofs.lemmas.List.{append-nil, get_or-drop, get_or-replicate, get_or-take, length-drop, length-map, length-replicate, length-take-le}
 use Rattle.vx_arrow_image.specs.declared.format.Format.{Format}
-use Rattle.vx_arrow_image.specs.declared.format.Format.TheVariants.{Nulls, Bits, Fixed, Text, Struct, List as Lists, FixedList, TextView, ListView, Union}
+use Rattle.vx_arrow_image.specs.declared.format.Format.TheVariants.{Nulls, Bits, Fixed, Text, Struct, List as Lists, FixedList, TextView, ListView, Union, DenseUnion}
 use Rattle.vx_arrow_image.specs.declared.format.Offsets.{Offsets}
 use Rattle.vx_arrow_image.specs.declared.refusal.Refusal.{Refusal}
 use Rattle.vx_arrow_image.specs.declared.refusal.Refusal.TheVariants as refusals
 use Rattle.vx_arrow_image.specs.Rows.{RowValue}
-use Rattle.vx_arrow_image.specs.Image.{Part, all_valid, are_cut, column_in, columns_in, fits, has_child, holds_offsets, if_valid, is_list_view, is_sound, is_valid, is_view, offset_at}
+use Rattle.vx_arrow_image.specs.Image.{Part, all_valid, are_cut, column_in, columns_in, fits, has_child, holds_offsets, if_valid, is_dense, is_list_view, is_sound, is_valid, is_view, offset_at}
 use Rattle.vx_arrow_image.proofs.CutRows.{are_cut_at, cut_end, range_at}
-use Rattle.vx_arrow_image.proofs.SoundNodes.{sound_fits, sound_placed}
+use Rattle.vx_arrow_image.proofs.SoundNodes.{has_ids, sound_fits, sound_placed}
 use Rattle.vx_arrow_columns.specs.Answer.{IsPlanRefusal, IsUnmeant}
 use Rattle.vx_arrow_columns.specs.Measured.{AreBelow}
-use Rattle.vx_arrow_columns.specs.Picks.{Picking, all_rows, below, fixed_items, inner, inner_picks, items_of, pickings, place_of, row_items}
+use Rattle.vx_arrow_columns.specs.Picks.{Picking, all_rows, belows, fixed_items, inner, inner_picks, inners, items_of, pickings, place_of, row_items, splits}
 use Rattle.vx_arrow_columns.specs.Planned.{are_trees, child_lens, tree_lens}
 use Rattle.vx_arrow_columns.specs.Reached.{AreSoundAt}
 use Rattle.vx_arrow_columns.specs.Sound.{HoldsBelow, IsSoundAt}
 use Rattle.vx_arrow_columns.specs.Taken.{AllAt, AreCutAt, AreWithin, Holds}
 use Rattle.vx_arrow_columns.proofs.Columns.{place_between}
+use Rattle.vx_arrow_columns.proofs.DenseItems.{dense_below, dense_tagged, splits_dense}
 use Rattle.vx_arrow_columns.proofs.FixedLists.{items_within}
 use Rattle.vx_arrow_columns.proofs.Measures.{below_within}
 use Rattle.vx_arrow_columns.proofs.PickReads.{all_picks, placed_end}
 use Rattle.vx_arrow_columns.proofs.Plans.{long_at, moved_within, none_within}
 use Rattle.vx_arrow_columns.proofs.MeasureSteps.{cut_any, items_all, items_more, items_zero, more_below, none_below, same_below}
-use Rattle.vx_arrow_columns.proofs.Trees.{child_columns, columns_lens, drop_first, drop_next, lens_more, no_lens, only_some, opened}
+use Rattle.vx_arrow_columns.proofs.Trees.{belows_len, child_columns, columns_lens, drop_first, drop_next, inners_same, lens_more, no_lens, nth_split, only_some, opened}
 
 -- ---- one node
 
@@ -60,38 +61,47 @@ record Fits (f : Option Format) (p : Part) (q : List (Option ℕ)) (lens : List 
   held : Holds f p q
   below : HoldsBelow f p q lens
 
-fits_at : (f : Option Format) (p : Part) (q : List (Option ℕ)) (lens : List ℕ) → AreWithin q p.len → get_or lens 0 0 < 2 ^ 60 → fits f p lens ≡ true → Fits f p q lens
-fits_at None p q lens w few a = absurd (let f : false ≡ true = a in cc)
-fits_at (Some Nulls) p q lens w few a = record { held = eqb-true _ _ a; below = tt }
-fits_at (Some Bits) p q lens w few a = let b = and_parts _ _ a in record { held = (eqb-true _ _ b.0, leb-true _ _ b.1); below = tt }
-fits_at (Some Fixed) p q lens w few a = let b = and_parts _ _ a in record { held = (eqb-true _ _ b.0, leb-true _ _ b.1); below = tt }
-fits_at (Some (Text z)) p q lens w few a = let b = and_parts _ _ a in record { held = (eqb-true _ _ b.0, cuts_at z p q (length p.values) w b.1); below = tt }
-fits_at (Some Struct) p q lens w few a = record { held = tt; below = a }
-fits_at (Some (Lists z)) p q lens w few a =
+fits_at : (f : Option Format) (p : Part) (q : List (Option ℕ)) (lens : List ℕ) → AreWithin q p.len → get_or lens 0 0 < 2 ^ 60 → length lens ≤ p.children → fits f p lens ≡ true → Fits f p q lens
+fits_at None p q lens w few count a = absurd (let f : false ≡ true = a in cc)
+fits_at (Some Nulls) p q lens w few count a = record { held = eqb-true _ _ a; below = tt }
+fits_at (Some Bits) p q lens w few count a = let b = and_parts _ _ a in record { held = (eqb-true _ _ b.0, leb-true _ _ b.1); below = tt }
+fits_at (Some Fixed) p q lens w few count a = let b = and_parts _ _ a in record { held = (eqb-true _ _ b.0, leb-true _ _ b.1); below = tt }
+fits_at (Some (Text z)) p q lens w few count a = let b = and_parts _ _ a in record { held = (eqb-true _ _ b.0, cuts_at z p q (length p.values) w b.1); below = tt }
+fits_at (Some Struct) p q lens w few count a = record { held = tt; below = a }
+fits_at (Some (Lists z)) p q lens w few count a =
     let b = and_parts _ _ a in
     let cut = cuts_at z p q (get_or lens 0 0) w b.1 in
     record { held = (eqb-true _ _ b.0, cut_any z p q (get_or lens 0 0) cut); below = cut }
-fits_at (Some FixedList) p q lens w few a =
+fits_at (Some FixedList) p q lens w few count a =
     let b = and_parts _ _ a in
     let low : (p.offset + p.len) * p.width ≤ get_or lens 0 0 = leb-true _ _ b.1 in
     record { held = (eqb-true _ _ b.0, omega arith); below = low }
-fits_at (Some TextView) p q lens w few a = let b = and_parts _ _ a in record { held = leb-true _ _ b.0; below = valid_at p q (is_view p lens) w b.1 }
-fits_at (Some (ListView z)) p q lens w few a =
+fits_at (Some TextView) p q lens w few count a = let b = and_parts _ _ a in record { held = leb-true _ _ b.0; below = valid_at p q (is_view p lens) w b.1 }
+fits_at (Some (ListView z)) p q lens w few count a =
     let b = and_parts _ _ a in
     let d = and_parts _ _ b.1 in
     let e = and_parts _ _ d.1 in
     record { held = (eqb-true _ _ b.0, d.0, e.0); below = valid_at p q (is_list_view z p (get_or lens 0 0)) w e.1 }
-fits_at (Some Union) p q lens w few a =
+fits_at (Some Union) p q lens w few count a =
     let b = and_parts _ _ a in
     let d = and_parts _ _ b.1 in
     record {
       held = (b.0, record { all = λ k i h e. let between = place_between p q k i w h e in range_at (has_child p) p.offset p.len i d.1 between.0 between.1 });
       below = d.0;
     }
+fits_at (Some DenseUnion) p q lens w few count a =
+    let b = and_parts _ _ a in
+    let d = and_parts _ _ b.1 in
+    let has = has_ids p b.0 in
+    let there = λ (k i : ℕ) (h : k < length q) (e : place_of p (get_or q k None) ≡ Some i). let between = place_between p q k i w h e in range_at (is_dense p lens) p.offset p.len i d.1 between.0 between.1 in
+    record {
+      held = (b.0, d.0, record { all = λ k i h e. dense_tagged p lens i has.ids count (there k i h e) });
+      below = record { all = there };
+    }
 
-sound_there : (p : Part) (q : List (Option ℕ)) (lens : List ℕ) → is_sound p lens ≡ true → AreWithin q p.len → get_or lens 0 0 < 2 ^ 60 → IsSoundAt p q lens
-sound_there p q lens s w few =
-    let f = fits_at p.format p q lens w few (sound_fits p lens p.format refl s) in
+sound_there : (p : Part) (q : List (Option ℕ)) (lens : List ℕ) → is_sound p lens ≡ true → AreWithin q p.len → get_or lens 0 0 < 2 ^ 60 → length lens ≤ p.children → IsSoundAt p q lens
+sound_there p q lens s w few count =
+    let f = fits_at p.format p q lens w few count (sound_fits p lens p.format refl s) in
     record { placed = sound_placed p lens s; held = f.held; below = f.below }
 
 -- ---- the picks of its children
@@ -127,11 +137,30 @@ inner_by (Some FixedList) p q lens j few held b w h count =
     subst (λ (n : ℕ). AreWithin (fixed_items p q) (get_or lens n 0)) (sym first) (items_within p q (get_or lens 0 0) w b)
 inner_by (Some TextView) p q lens j few held b w h count = none_within (get_or lens j 0)
 inner_by (Some (ListView z)) p q lens j few held b w h count = none_within (get_or lens j 0)
+inner_by (Some DenseUnion) p q lens j few held b w h count = none_within (get_or lens j 0)
 inner_by (Some Union) p q lens j few held b w h count = moved_within q (map (option_map (λ i. p.offset + i)) q) p.offset p.len (get_or lens j 0) refl w (long_at (p.offset + p.len) lens j b (omega arith))
 
-below_rows : (b : Bool) (p : Part) (q : Picking) (lens : List ℕ) (j : ℕ) → IsSoundAt p q.picks lens → AreWithin q.picks p.len → j < p.children → p.children ≡ length lens → AreWithin (cond b all_rows (inner p q)).picks (get_or lens j 0)
-below_rows true p q lens j s w h count = none_within (get_or lens j 0)
-below_rows false p q lens j s w h count = inner_by p.format p q.picks lens j (placed_end p s.placed) s.held s.below w h count
+-- the picks of child j
+below_at : (p : Part) (q : Picking) (lens : List ℕ) (j : ℕ) (d : Picking) → IsSoundAt p q.picks lens → AreWithin q.picks p.len → j < p.children → p.children ≡ length lens → AreWithin (get_or (belows p q) j d).picks (get_or lens j 0)
+below_at p q lens j d s w h count = go q.kept
+  where
+    same : (x : Picking) → AreWithin x.picks (get_or lens j 0) → AreWithin (get_or (replicate p.children x) j d).picks (get_or lens j 0)
+    same x a = subst (λ (y : Picking). AreWithin y.picks (get_or lens j 0)) (sym (get_or-replicate p.children j x d (omega (arith, length-replicate p.children x)))) a
+
+    own : (b : Bool) → splits p.format ≡ b → AreWithin (get_or (inners p q) j d).picks (get_or lens j 0)
+    own false e =
+        subst (λ (l : List Picking). AreWithin (get_or l j d).picks (get_or lens j 0)) (sym (inners_same p q e))
+        (same (inner p q) (inner_by p.format p q.picks lens j (placed_end p s.placed) s.held s.below w h count))
+    own true e =
+        let format = splits_dense p.format e in
+        let held : Holds (Some DenseUnion) p q.picks = subst (λ (f : Option Format). Holds f p q.picks) format s.held in
+        let below : HoldsBelow (Some DenseUnion) p q.picks lens = subst (λ (f : Option Format). HoldsBelow f p q.picks lens) format s.below in
+        let has = has_ids p held.0 in
+        subst (λ (y : Picking). AreWithin y.picks (get_or lens j 0)) (sym (nth_split p q j d e h)) (dense_below p q.picks lens j has.bare below)
+
+    go : (b : Bool) → AreWithin (get_or (cond b (replicate p.children all_rows) (inners p q)) j d).picks (get_or lens j 0)
+    go true = same all_rows (none_within (get_or lens j 0))
+    go false = own (splits p.format) refl
 
 -- ---- the whole table
 
@@ -142,10 +171,10 @@ AllWithin [] (n ∷ lens) = ⊥
 AllWithin (q ∷ qs) [] = ⊥
 AllWithin (q ∷ qs) (n ∷ lens) = AreWithin q.picks n × AllWithin qs lens
 
-within_many : (c : ℕ) (b : Picking) (qs : List Picking) (lens : List ℕ) → c ≤ length lens → ((j : ℕ) → j < c → AreWithin b.picks (get_or lens j 0)) → AllWithin qs (drop c lens) → AllWithin (replicate c b ++ qs) lens
-within_many zero b qs lens few h a = a
-within_many (suc c) b qs [] few h a = absurd (omega arith)
-within_many (suc c) b qs (n ∷ lens) few h a = (h 0 (omega arith), within_many c b qs lens (omega arith) (λ j low. h (suc j) (omega arith)) a)
+within_all : (bs qs : List Picking) (lens : List ℕ) → length bs ≤ length lens → ((j : ℕ) (d : Picking) → j < length bs → AreWithin (get_or bs j d).picks (get_or lens j 0)) → AllWithin qs (drop (length bs) lens) → AllWithin (bs ++ qs) lens
+within_all [] qs lens few h a = a
+within_all (b ∷ bs) qs [] few h a = absurd (omega arith)
+within_all (b ∷ bs) qs (n ∷ lens) few h a = (h 0 b (omega arith), within_all bs qs lens (omega arith) (λ j d low. h (suc j) d (omega arith)) a)
 
 -- the trees of a table that means columns have fewer rows than 2^60
 lens_small : (ps : List Part) (cs : List (List RowValue)) (j : ℕ) → columns_in ps ≡ Some cs → j < length (tree_lens ps) → get_or (tree_lens ps) j 0 < 2 ^ 60
@@ -180,15 +209,10 @@ all_sound : (ps : List Part) (qs : List Picking) (cs : List (List RowValue)) (k 
     → IsSoundAt (get_or ps k d) (get_or (pickings ps qs) k r).picks (child_lens (get_or ps k d) (drop (k + 1) ps))
 all_sound [] qs cs k d r e w h = absurd (omega arith)
 all_sound (p ∷ ps) [] cs k d r e w h = absurd (subst (AllWithin []) (lens_more p ps) w)
-all_sound (p ∷ ps) (q ∷ qs) cs k d r e w h = go (λ j low. let op = opened p ps cs e in all_sound ps (replicate p.children (below p q) ++ qs) op.columns j d r op.rest next low) k h
+all_sound (p ∷ ps) (q ∷ qs) cs k d r e w h = go (λ j low. let op = opened p ps cs e in all_sound ps (belows p q ++ qs) op.columns j d r op.rest next low) k h
   where
     both : AreWithin q.picks p.len × AllWithin qs (drop p.children (tree_lens ps))
     both = subst (AllWithin (q ∷ qs)) (lens_more p ps) w
-
-    own : IsSoundAt p q.picks (child_lens p ps)
-    own =
-        let op = opened p ps cs e in
-        sound_there p q.picks (child_lens p ps) (ap (is_sound p) (child_columns p ps op.columns op.rest) ∙ op.joined.sound) both.0 (first_small p ps op.columns op.rest)
 
     few : p.children ≤ length (tree_lens ps)
     few =
@@ -196,15 +220,26 @@ all_sound (p ∷ ps) (q ∷ qs) cs k d r e w h = go (λ j low. let op = opened p
         let enough = op.joined.enough in
         omega (arith, ap length (columns_lens ps op.columns op.rest), length-map op.columns (length {A = RowValue}))
 
-    next : AllWithin (replicate p.children (below p q) ++ qs) (tree_lens ps)
-    next = within_many p.children (below p q) qs (tree_lens ps) few
-        (λ j low. subst (λ (n : ℕ). AreWithin (below p q).picks n) (get_or-take p.children (tree_lens ps) j 0 low) (below_rows q.kept p q (child_lens p ps) j own both.0 low (sym (length-take-le p.children (tree_lens ps) few)))) both.1
+    own : IsSoundAt p q.picks (child_lens p ps)
+    own =
+        let op = opened p ps cs e in
+        sound_there p q.picks (child_lens p ps) (ap (is_sound p) (child_columns p ps op.columns op.rest) ∙ op.joined.sound) both.0 (first_small p ps op.columns op.rest) (omega (arith, length-take-le p.children (tree_lens ps) few))
 
-    go : ((j : ℕ) → j < length ps → IsSoundAt (get_or ps j d) (get_or (pickings ps (replicate p.children (below p q) ++ qs)) j r).picks (child_lens (get_or ps j d) (drop (j + 1) ps)))
+    next : AllWithin (belows p q ++ qs) (tree_lens ps)
+    next =
+        let count = belows_len p q in
+        let size : p.children ≡ length (child_lens p ps) = sym (length-take-le p.children (tree_lens ps) few) in
+        within_all (belows p q) qs (tree_lens ps) (omega (arith, count, few))
+        (λ j d low.
+        let here : j < p.children = omega (arith, count) in
+        subst (λ (n : ℕ). AreWithin (get_or (belows p q) j d).picks n) (get_or-take p.children (tree_lens ps) j 0 here) (below_at p q (child_lens p ps) j d own both.0 here size))
+        (subst (λ (n : ℕ). AllWithin qs (drop n (tree_lens ps))) (sym count) both.1)
+
+    go : ((j : ℕ) → j < length ps → IsSoundAt (get_or ps j d) (get_or (pickings ps (belows p q ++ qs)) j r).picks (child_lens (get_or ps j d) (drop (j + 1) ps)))
         → (k : ℕ) → k < length (p ∷ ps) → IsSoundAt (get_or (p ∷ ps) k d) (get_or (pickings (p ∷ ps) (q ∷ qs)) k r).picks (child_lens (get_or (p ∷ ps) k d) (drop (k + 1) (p ∷ ps)))
     go rest zero low = subst (λ (l : List Part). IsSoundAt p q.picks (child_lens p l)) (sym (drop_first p ps)) own
     go rest (suc k) low =
-        subst (λ (l : List Part). IsSoundAt (get_or ps k d) (get_or (pickings ps (replicate p.children (below p q) ++ qs)) k r).picks (child_lens (get_or ps k d) l)) (sym (drop_next p ps k))
+        subst (λ (l : List Part). IsSoundAt (get_or ps k d) (get_or (pickings ps (belows p q ++ qs)) k r).picks (child_lens (get_or ps k d) l)) (sym (drop_next p ps k))
         (rest k (omega arith))
 
 pub sound_at : (parts : List Part) (q : Picking) (rows : List RowValue) → column_in parts ≡ Some rows → AreWithin q.picks (length rows) → AreSoundAt parts q

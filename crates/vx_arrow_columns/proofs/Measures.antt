@@ -1,23 +1,26 @@
 -- What each format's tests find.
 use Rattle.std.proofs.Common.{◌≡◌, ℕ, ◌+◌, ◌*◌, ◌/◌, ◌^◌, ◌<◌, ◌≤◌, Bool, true, false, List, [], ◌∷◌, length, get_or, take, drop, map, Option, Some, None, ap, ap₂, sym, ◌∙◌, refl, subst, arith}
-use Rattle.std.specs.Prelude.{Result, Ok, Err, IfOk, OnOk}
+use Rattle.std.specs.Prelude.{Result, Ok, Err, IfOk, OnOk, replicate}
 use Rattle.std.specs.Option.{option_map}
 use Rattle.std.proofs.lemmas.Bool.{lt-ltb}
 use Rattle.std.proofs.lemmas.List.{get_or-map, length-map}
 use Rattle.vx_arrow_image.specs.declared.format.Format.{Format}
-use Rattle.vx_arrow_image.specs.declared.format.Format.TheVariants.{Nulls, Bits, Fixed, Text, List as Lists, FixedList, Struct, TextView, ListView, Union}
+use Rattle.vx_arrow_image.specs.declared.format.Format.TheVariants.{Nulls, Bits, Fixed, Text, List as Lists, FixedList, Struct, TextView, ListView, Union, DenseUnion}
 use Rattle.vx_arrow_image.specs.declared.format.Offsets.{Offsets}
+use Rattle.vx_arrow_image.specs.declared.format.Offsets.TheVariants.{Short}
 use Rattle.vx_arrow_columns.specs.declared.needs.Inner.{Inner}
 use Rattle.vx_arrow_columns.specs.declared.needs.Inner.TheVariants as inners
 use Rattle.vx_arrow_columns.specs.declared.needs.Items.{Items}
 use Rattle.vx_arrow_columns.specs.declared.needs.Measure.{Measure}
 use Rattle.vx_arrow_image.specs.declared.image.Node as image
 use Rattle.vx_arrow_image.specs.Image.{Part, holds_starts, is_list_view, is_placed, limit_of, parts_of, has_child, holds_ids}
-use Rattle.vx_arrow_columns.specs.Measured.{AreBelow, AreItems, AreListed, IsInner, IsLeaf, IsMeasured, IsTextLen, moved}
-use Rattle.vx_arrow_columns.specs.Picks.{Picking, all_rows, below, counts_by, fixed_items, has_bits, inner, inner_nullable, inner_picks, keeps, items_of, picking_of, picks_of, values_len}
+use Rattle.vx_arrow_columns.specs.Measured.{AreBelow, AreDenseItems, AreItems, AreListed, IsInner, IsLeaf, IsMeasured, IsTextLen, moved}
+use Rattle.vx_arrow_columns.specs.Picks.{Picking, all_rows, below, counts_by, fixed_items, has_bits, inner, inner_nullable, inner_picks, inners_by, keeps, splits, items_of, picking_of, picks_of, values_len}
 use Rattle.vx_arrow_columns.specs.Planned.{child_lens, first_len, tree_lens}
 use Rattle.vx_arrow_columns.specs.Sound.{AsksBelow, HoldsBelow, IsSoundAt}
 use Rattle.vx_arrow_columns.specs.Taken.{AllAt, AreInside, AreWithin, Holds, IsReadable, is_inside}
+use Rattle.vx_arrow_image.proofs.SoundNodes.{has_ids}
+use Rattle.vx_arrow_columns.proofs.DenseItems.{dense_below}
 use Rattle.vx_arrow_columns.proofs.FixedLists.{items_within}
 use Rattle.vx_arrow_columns.proofs.OwnTaken.{counted_from}
 use Rattle.vx_arrow_columns.proofs.PickReads.{all_picks, length_picks, placed_end}
@@ -88,7 +91,7 @@ text_view_measured p ps vs add n format few placed within held size small =
     record {
       readable = readable p ps vs add TextView format few placed within (lt-ltb _ _ (subst (λ (k : ℕ). k < 2 ^ 63) same small)) held;
       values = same ∙ ap (λ (g : Option Format). values_len g p q) (sym format);
-      children = kept_inner p (picking_of ps vs add) TextView format refl refl refl;
+      children = ap (λ (g : Option Format). inners_by g p (picking_of ps vs add)) format ∙ ap (replicate p.children) (kept_inner p (picking_of ps vs add) TextView format refl refl refl);
       asks = λ lens s. tt;
     }
 
@@ -97,7 +100,7 @@ pub list_view_measured : (z : Offsets) (p : Part) (ps vs : List ℕ) (add : ℕ)
 list_view_measured z p ps vs add format few placed within one offsets sizes = record {
   readable = readable p ps vs add (ListView z) format few placed within refl (one, offsets, sizes);
   values = ap (λ (g : Option Format). values_len g p (picks_of ps vs add)) (sym format);
-  children = kept_inner p (picking_of ps vs add) (ListView z) format refl refl refl;
+  children = ap (λ (g : Option Format). inners_by g p (picking_of ps vs add)) format ∙ ap (replicate p.children) (kept_inner p (picking_of ps vs add) (ListView z) format refl refl refl);
   asks = λ lens s. tt;
 }
 
@@ -110,16 +113,30 @@ pub union_measured : (p : Part) (ps vs : List ℕ) (add n : ℕ) → p.format �
 union_measured p ps vs add n format few placed within held ids size = record {
   readable = readable p ps vs add Union format few placed within refl (held, ids);
   values = size ∙ sym (length_picks ps vs add) ∙ ap (λ (g : Option Format). values_len g p (picks_of ps vs add)) (sym format);
-  children = (moved_inner p (picking_of ps vs add) Union format refl refl refl, refl, placed_end p placed);
+  children = (moved_inner p (picking_of ps vs add) Union format refl refl refl, refl, placed_end p placed, ap splits format);
   asks = λ lens s. below_by p (picks_of ps vs add) lens Union format s;
 }
+
+pub dense_measured : (p : Part) (ps vs : List ℕ) (add n : ℕ) (items : List Items) (inside : Inner) → p.format ≡ Some DenseUnion → length ps < 2 ^ 60 → is_placed p ≡ true → AreWithin (picks_of ps vs add) p.len → holds_ids p ≡ true
+    → holds_starts Short p.offsets (p.offset + p.len) ≡ true → AllAt p (picks_of ps vs add) (has_child p) → n ≡ length ps → n < 2 ^ 31 → AreDenseItems p (picking_of ps vs add) p.children items → IsInner p (picking_of ps vs add) inside
+    → ((lens : List ℕ) → ((j : ℕ) (d : Items) → j < length items → (get_or items j d).end ≤ get_or lens j 0) → AsksBelow p lens inside) → IsMeasured p (picking_of ps vs add) (record { values = n; inner = inside })
+dense_measured p ps vs add n items inside format few placed within held starts ids size small are is asks =
+    let q = picks_of ps vs add in
+    let same : n ≡ length q = size ∙ sym (length_picks ps vs add) in
+    let has = has_ids p held in
+    record {
+      readable = readable p ps vs add DenseUnion format few placed within (lt-ltb _ _ (subst (λ (k : ℕ). k < 2 ^ 31) same small)) (held, starts, ids);
+      values = same ∙ ap (λ (g : Option Format). values_len g p q) (sym format);
+      children = is;
+      asks = λ lens s. asks lens (λ j d h. let item = are.are j d (omega (arith, are.len)) in item.reached (get_or lens j 0) (dense_below p q lens j has.bare (below_by p q lens DenseUnion format s)));
+    }
 
 pub struct_measured : (p : Part) (ps vs : List ℕ) (add : ℕ) (m : Measure) → p.format ≡ Some Struct → length ps < 2 ^ 60 → is_placed p ≡ true → AreWithin (picks_of ps vs add) p.len
     → m.values ≡ 0 → m.inner ≡ inners.Same → IsMeasured p (picking_of ps vs add) m
 struct_measured p ps vs add m format few placed within none same = record {
   readable = readable p ps vs add Struct format few placed within refl tt;
   values = none ∙ ap (λ (g : Option Format). values_len g p (picks_of ps vs add)) (sym format);
-  children = subst (λ (i : Inner). IsInner p (picking_of ps vs add) i) (sym same) (moved_inner p (picking_of ps vs add) Struct format refl refl refl, refl, placed_end p placed);
+  children = subst (λ (i : Inner). IsInner p (picking_of ps vs add) i) (sym same) (moved_inner p (picking_of ps vs add) Struct format refl refl refl, refl, placed_end p placed, ap splits format);
   asks = λ lens s. subst (λ (i : Inner). AsksBelow p lens i) (sym same) (below_by p (picks_of ps vs add) lens Struct format s);
 }
 
@@ -140,15 +157,15 @@ below_within places end b = record {
       omega arith;
 }
 
-bare_listed : (p : Part) (q : Picking) (places valid : List ℕ) (end : ℕ) → p.children ≡ 1 → valid ≡ [] → below p q ≡ picking_of places [] 0 → AreWithin (picks_of places [] 0) end → AreListed p q places valid end
-bare_listed p q places valid end one none listed within = subst (λ (v : List ℕ). AreListed p q places v end) (sym none) (record { one = one; listed = listed; within = within })
+bare_listed : (p : Part) (q : Picking) (places valid : List ℕ) (end : ℕ) → p.children ≡ 1 → splits p.format ≡ false → valid ≡ [] → below p q ≡ picking_of places [] 0 → AreWithin (picks_of places [] 0) end → AreListed p q places valid end
+bare_listed p q places valid end one same none listed within = subst (λ (v : List ℕ). AreListed p q places v end) (sym none) (record { one = one; same = same; listed = listed; within = within })
 
 pub list_measured : (z : Offsets) (p : Part) (ps vs : List ℕ) (add : ℕ) (items : Items) → p.format ≡ Some (Lists z) → length ps < 2 ^ 60 → is_placed p ≡ true → AreWithin (picks_of ps vs add) p.len → p.children ≡ 1
     → AreItems z p (picks_of ps vs add) items.list.places.items items.end → items.list.valid.items ≡ [] → IsMeasured p (picking_of ps vs add) (record { values = 0; inner = inners.Listed items })
 list_measured z p ps vs add items format few placed within one are none = record {
   readable = readable p ps vs add (Lists z) format few placed within (lt-ltb _ _ are.small) (one, are.cut);
   values = ap (λ (g : Option Format). values_len g p (picks_of ps vs add)) (sym format);
-  children = bare_listed p (picking_of ps vs add) items.list.places.items items.list.valid.items items.end one none (items_listed z p (picking_of ps vs add) items.list.places.items format are.items) (below_within items.list.places.items items.end are.below);
+  children = bare_listed p (picking_of ps vs add) items.list.places.items items.list.valid.items items.end one (ap splits format) none (items_listed z p (picking_of ps vs add) items.list.places.items format are.items) (below_within items.list.places.items items.end are.below);
   asks = λ lens s. are.reached (get_or lens 0 0) (below_by p (picks_of ps vs add) lens (Lists z) format s);
 }
 
@@ -164,6 +181,7 @@ fixed_list_measured p ps vs add n items format few placed within one held size s
       values = ap (λ (g : Option Format). values_len g p q) (sym format);
       children = record {
         one = one;
+        same = ap splits format;
         listed = same_picking _ _ (ap (λ (g : Option Format). inner_picks g p q) format ∙ sym are) (ap (λ (g : Option Format). inner_nullable g (has_bits vs)) format ∙ sym bits) (ap keeps format);
         within = subst (λ (l : List (Option ℕ)). AreWithin l items.end) (sym are) (items_within p q items.end within (omega arith));
       };
@@ -182,6 +200,7 @@ bare_inside (Some Struct) p lens i e = refl
 bare_inside (Some (Lists z)) p lens i e = refl
 bare_inside (Some FixedList) p lens i e = refl
 bare_inside (Some Union) p lens i e = refl
+bare_inside (Some DenseUnion) p lens i e = refl
 bare_inside (Some TextView) p lens i e = absurd (let f : true ≡ false = e in cc)
 bare_inside (Some (ListView z)) p lens i e = absurd (let f : true ≡ false = e in cc)
 

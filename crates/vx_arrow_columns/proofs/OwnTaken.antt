@@ -4,20 +4,21 @@ use Rattle.std.specs.Prelude.{◌||◌, is_some, slice_range, replicate}
 use Rattle.std.specs.Option.{option_map}
 use Rattle.std.specs.List.{list_all}
 use Rattle.std.proofs.lemmas.Bool.{and_parts, and_from, or_parts, lt-ltb, le-leb, ltb-true, eq-eqb}
-use Rattle.std.proofs.lemmas.List.{ext_get_or, get_or-map, length-map}
+use Rattle.std.proofs.lemmas.List.{ext_get_or, get_or-map, length-map, length-replicate}
 use Rattle.vx_arrow_image.specs.declared.format.Format.{Format}
-use Rattle.vx_arrow_image.specs.declared.format.Format.TheVariants.{Nulls, Bits, Fixed, Text, List as Lists, FixedList, Struct, TextView, ListView, Union}
+use Rattle.vx_arrow_image.specs.declared.format.Format.TheVariants.{Nulls, Bits, Fixed, Text, List as Lists, FixedList, Struct, TextView, ListView, Union, DenseUnion}
 use Rattle.vx_arrow_image.specs.declared.format.Offsets.{Offsets}
 use Rattle.vx_arrow_image.specs.Rows.{RowValue, null, bit, bytes, list, fields, row_values, row_at, picked}
 use Rattle.vx_arrow_image.specs.Image.{Part, is_valid, fits, holds_valid, is_sound, value_at, row_of, column_of, offset_at, are_cut, size_of}
-use Rattle.vx_arrow_columns.specs.Picks.{Picking, bytes_for, has_bits, inner, inner_picks, is_counted, counts_by, items_len, items_of, picks_of, place_of, shows_by, shows_valid, tags}
-use Rattle.vx_arrow_columns.specs.Taken.{AreBits, AreCopied, AreOffsets, Holds, IsNullable, IsOwnTaken, IsReadable, ShowsRows, texts_of, AreAt, AreChildrenAt}
+use Rattle.vx_arrow_columns.specs.Picks.{Picking, bytes_for, has_bits, inner, inner_picks, inners, inners_by, is_counted, counts_by, items_len, items_of, picks_of, place_of, shows_by, shows_valid, tags}
+use Rattle.vx_arrow_columns.specs.Taken.{AreBits, AreCopied, AreOffsets, Holds, IsNullable, IsOwnTaken, IsReadable, ShowsRows, texts_of, AreAt}
 use Rattle.vx_arrow_columns.specs.Written.{new_part}
 use Rattle.vx_arrow_image.proofs.CutRows.{are_cut_at}
 use Rattle.vx_arrow_image.proofs.SoundNodes.{get_column, length_column, sound_fits, sound_from}
 use Rattle.vx_arrow_columns.proofs.Columns.{same_column, placed, holds_bits, place_some, place_between}
 use Rattle.vx_arrow_columns.proofs.Cuts.{items_count, list_cell, new_cuts, text_cell}
-use Rattle.vx_arrow_columns.proofs.RowsAt.{first_at, picked_at, some_at}
+use Rattle.vx_arrow_columns.proofs.Trees.{inners_leaf}
+use Rattle.vx_arrow_columns.proofs.RowsAt.{AreSameAt, first_at, picked_at, some_at}
 use Rattle.vx_arrow_columns.proofs.PickReads.{get_picks, length_picks, pick_there}
 
 -- ---- validity
@@ -54,6 +55,7 @@ nullable_shows (Some FixedList) b h = refl
 nullable_shows (Some TextView) b h = refl
 nullable_shows (Some (ListView z)) b h = refl
 nullable_shows (Some Union) b h = absurd h
+nullable_shows (Some DenseUnion) b h = absurd h
 
 pub few_picks : (p : Part) (q : List (Option ℕ)) → is_counted p q ≡ true → length q < 2 ^ 60
 unfolding is_counted
@@ -72,6 +74,41 @@ held_by p q f e r = subst (λ (g : Option Format). Holds g p q) e r.held
 
 -- ---- nodes with no children
 
+-- w has the rows of p at the picks, where each child has those of the same ones
+pub record IsSameTaken (p w : Part) (q : Picking) : Type 0 where
+  pub children : w.children ≡ p.children
+  pub len : w.len ≡ length q.picks
+  pub sound : is_sound w (replicate p.children (length (inner p q).picks)) ≡ true
+  pub column : (cs ds : List (List RowValue)) → AreSameAt (inner p q).picks p.children cs ds
+      → is_sound p (map length cs) ≡ true
+      → AreAt (tags p.format) q.picks (column_of p cs) (column_of w ds)
+
+same_at : (n j : ℕ) (i d : Picking) → j < n → get_or (replicate n i) j d ≡ i
+same_at zero j i d h = absurd (omega arith)
+same_at (suc n) zero i d h = refl
+same_at (suc n) (suc j) i d h = same_at n j i d (omega arith)
+
+same_lens : (n : ℕ) (i : Picking) → map (λ (k : Picking). length k.picks) (replicate n i) ≡ replicate n (length i.picks)
+same_lens zero i = refl
+same_lens (suc n) i = ap (λ l. length i.picks ∷ l) (same_lens n i)
+
+pub own_taken : (p w : Part) (q : Picking) → inners p q ≡ replicate p.children (inner p q) → IsSameTaken p w q → IsOwnTaken p w q
+own_taken p w q same t =
+    let n = p.children in
+    let i = inner p q in
+    record {
+      children = t.children;
+      len = t.len;
+      sound = ap (λ (l : List Picking). is_sound w (map (λ (k : Picking). length k.picks) l)) same ∙ ap (is_sound w) (same_lens n i) ∙ t.sound;
+      column = λ cs ds a sound.
+          let size : length (inners p q) ≡ n = ap length same ∙ length-replicate n i in
+          t.column cs ds (record {
+            old_len = a.old_len ∙ size;
+            new_len = a.new_len ∙ size;
+            at = λ j h. subst (λ (x : Picking). AreAt true x.picks (get_or cs j []) (get_or ds j [])) (ap (λ (l : List Picking). get_or l j i) same ∙ same_at n j i i h) (a.at j i (omega arith));
+          }) sound;
+    }
+
 no_children : (p : Part) → p.children ≡ 0 → (cs : List (List RowValue)) → length cs ≡ p.children → cs ≡ []
 no_children p e [] h = refl
 no_children p e (c ∷ cs) h = absurd (omega arith)
@@ -83,7 +120,7 @@ leaf_taken : (p : Part) (q : Picking) (v o x s : List ℕ) (f : Format) → p.fo
 leaf_taken p q v o x s f format leaf r shows valid fit values =
     let w = new_part p q v o x s in
     let i = inner p q in
-    record {
+    own_taken p w q (inners_leaf p q leaf) (record {
       children = refl;
       len = refl;
       sound = subst (λ (n : ℕ). is_sound w (replicate n (length i.picks)) ≡ true) (sym leaf) (sound_from w [] (Some f) format (placed w refl (few_picks p q.picks r.counted) valid) fit);
@@ -95,7 +132,7 @@ leaf_taken p q v o x s f format leaf r shows valid fit values =
           ∙ same_column p w [] [] q.picks refl refl shows r.within (λ k n h e.
           ap (λ (y : Option Format). value_at y w [] k) format ∙ values k n h e ∙ ap (λ (y : Option Format). value_at y p [] n) (sym format))
           ∙ sym (ap (λ (l : List (List RowValue)). picked q.picks (column_of p l)) none));
-    }
+    })
 
 pub bits_taken : (p : Part) (q : Picking) (v o x s : List ℕ) → p.format ≡ Some Bits → IsReadable p q.picks → ShowsRows p q.picks v → holds_valid v (length q.picks) ≡ true
     → bytes_for (length q.picks) ≤ length x → AreBits p q.picks (length q.picks) x → IsOwnTaken p (new_part p q v o x s) q
@@ -140,7 +177,7 @@ nulls_taken p q o x s format r =
     let w = new_part p q [] o x s in
     let leaf = held_by p q.picks (Some Nulls) format r in
     let i = inner p q in
-    record {
+    own_taken p w q (ap (λ (y : Option Format). inners_by y p q) format) (record {
       children = refl;
       len = refl;
       sound = subst (λ (n : ℕ). is_sound w (replicate n (length i.picks)) ≡ true) (sym leaf) (sound_from w [] (Some Nulls) format (placed w refl (few_picks p q.picks r.counted) refl) (eq-eqb _ _ leaf));
@@ -149,11 +186,11 @@ nulls_taken p q o x s format r =
           let below : k < length q.picks = omega (arith, length_column w ds) in
           get_column w ds k below ∙ null_row w ds (0 + k) format
           ∙ sym (get_or-map (row_at (column_of p cs)) q.picks k None null below ∙ null_at p cs (get_or q.picks k None) format (λ n e. r.within.below k n below e))));
-    }
+    })
 
 -- ---- structs
 
-cells : (cs ds : List (List RowValue)) (q : List (Option ℕ)) (n k i : ℕ) → k < length q → get_or q k None ≡ Some i → AreChildrenAt q n cs ds
+cells : (cs ds : List (List RowValue)) (q : List (Option ℕ)) (n k i : ℕ) → k < length q → get_or q k None ≡ Some i → AreSameAt q n cs ds
     → map (λ c. get_or c k null) ds ≡ map (λ c. get_or c i null) cs
 cells cs ds q n k i h e a =
     let old = a.old_len in
@@ -175,7 +212,7 @@ struct_taken p q v o x s format r shows valid =
     let f = option_map (λ (i : ℕ). p.offset + i) in
     let is : (inner p q).picks ≡ map f q.picks = ap (λ (y : Option Format). inner_picks y p q.picks) format in
     let count : length (inner p q).picks ≡ length q.picks = ap length is ∙ length-map q.picks f in
-    record {
+    own_taken p w q (ap (λ (y : Option Format). inners_by y p q) format) (record {
       children = refl;
       len = refl;
       sound = sound_from w _ (Some Struct) format (placed w refl (few_picks p q.picks r.counted) valid) (long_all (0 + length q.picks) (length (inner p q).picks) p.children (omega arith));
@@ -185,7 +222,7 @@ struct_taken p q v o x s format r shows valid =
           ap (λ (y : Option Format). value_at y w ds k) format
           ∙ ap (λ l. fields (row_values l)) (cells cs ds (inner p q).picks p.children k n (omega arith) at children)
           ∙ ap (λ (y : Option Format). value_at y p cs n) (sym format)));
-    }
+    })
 
 -- ---- lists
 
@@ -199,7 +236,7 @@ list_taken z p q v o x s format r shows valid long offs =
     let places = items_of z p q.picks in
     let is : (inner p q).picks ≡ map Some places = ap (λ (y : Option Format). inner_picks y p q.picks) format in
     let count : length (inner p q).picks ≡ items_len z p q.picks = ap length is ∙ length-map places Some ∙ items_count z p q.picks in
-    record {
+    own_taken p w q (ap (λ (y : Option Format). inners_by y p q) format) (record {
       children = refl;
       len = refl;
       sound = subst (λ (n : ℕ). is_sound w (replicate n (length (inner p q).picks)) ≡ true) (sym one)
@@ -217,7 +254,7 @@ list_taken z p q v o x s format r shows valid long offs =
           ∙ ap (λ (l : List RowValue). list (row_values (slice_range l (offset_at z o k) (offset_at z o (k + 1))))) all
           ∙ ap (λ (l : List RowValue). list (row_values l)) (list_cell z p q.picks c k i (offset_at z o k) (offset_at z o (k + 1)) h e cut (offs.ends k (omega arith)) (offs.ends (k + 1) (omega arith)))
           ∙ ap (λ (y : Option Format). value_at y p cs i) (sym format)));
-    }
+    })
 
 -- the same with whatever bits there are, since none are looked at
 pub nulls_node : (p : Part) (q : Picking) (v o x s : List ℕ) → p.format ≡ Some Nulls → IsReadable p q.picks → IsOwnTaken p (new_part p q (cond (shows_valid p q) v []) o x s) q

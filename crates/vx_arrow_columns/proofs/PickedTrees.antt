@@ -2,15 +2,15 @@
 use Rattle.std.proofs.Common.{zero, suc, ◌≡◌, ℕ, ◌≤◌, Bool, true, false, cond, List, [], ◌∷◌, ◌++◌, length, take, drop, map, Some, ap, ap₂, sym, ◌∙◌, refl, subst, arith, length-append, get_or, ◌<◌, None}
 use Rattle.std.specs.Prelude.{replicate}
 use Rattle.std.specs.Option.{option_and_then}
-use Rattle.std.proofs.lemmas.List.{length-drop, length-replicate}
+use Rattle.std.proofs.lemmas.List.{length-drop}
 use Rattle.vx_arrow_image.specs.Rows.{RowValue, picked}
 use Rattle.vx_arrow_image.specs.Image.{Part, is_sound, column_of, with_part, columns_in, column_in, only}
-use Rattle.vx_arrow_columns.specs.Picks.{Picking, all_rows, below, inner, keeps, tags, is_union}
+use Rattle.vx_arrow_columns.specs.Picks.{Picking, all_rows, belows, inner, inners, keeps, tags, is_union}
 use Rattle.vx_arrow_columns.specs.Planned.{child_lens}
 use Rattle.vx_arrow_columns.specs.Taken.{AreInside, IsOwnTaken, IsTaken, IsViewTaken, TakenAs, AreAt, AreChildrenAt, AreFull}
 use Rattle.vx_arrow_image.proofs.SoundNodes.{with_part_is}
 use Rattle.vx_arrow_columns.proofs.RowsAt.{exact, looser, picked_at}
-use Rattle.vx_arrow_columns.proofs.Trees.{AllTaken, Joined, behind, child_columns, first_inside, only_some, opened}
+use Rattle.vx_arrow_columns.proofs.Trees.{inners_same, kept_same, NoneKept, belows_len, none_kept, AllTaken, Joined, behind, child_columns, first_inside, only_some, opened}
 
 -- ---- columns over columns
 
@@ -40,12 +40,15 @@ EachAt (q ∷ qs) [] ds = ⊥
 EachAt (q ∷ qs) (c ∷ cs) [] = ⊥
 EachAt (q ∷ qs) (c ∷ cs) (d ∷ ds) = ColumnAt q.kept true q c d × EachAt qs cs ds
 
-each_split : (n : ℕ) (i : Picking) (qs : List Picking) (cs ds : List (List RowValue)) → EachAt (replicate n i ++ qs) cs ds → EachAt (replicate n i) (take n cs) (take n ds) × EachAt qs (drop n cs) (drop n ds)
+each_split : (is qs : List Picking) (n : ℕ) (cs ds : List (List RowValue)) → length is ≡ n → EachAt (is ++ qs) cs ds → EachAt is (take n cs) (take n ds) × EachAt qs (drop n cs) (drop n ds)
 unfolding EachAt
-each_split zero i qs cs ds h = (tt, h)
-each_split (suc n) i qs [] ds h = absurd h
-each_split (suc n) i qs (c ∷ cs) [] h = absurd h
-each_split (suc n) i qs (c ∷ cs) (d ∷ ds) h = let both = each_split n i qs cs ds h.1 in ((h.0, both.0), both.1)
+each_split is qs n cs ds e h = subst (λ (m : ℕ). EachAt is (take m cs) (take m ds) × EachAt qs (drop m cs) (drop m ds)) e (go is cs ds h)
+  where
+    go : (is : List Picking) (cs ds : List (List RowValue)) → EachAt (is ++ qs) cs ds → EachAt is (take (length is) cs) (take (length is) ds) × EachAt qs (drop (length is) cs) (drop (length is) ds)
+    go [] cs ds h = (tt, h)
+    go (i ∷ is) [] ds h = absurd h
+    go (i ∷ is) (c ∷ cs) [] h = absurd h
+    go (i ∷ is) (c ∷ cs) (d ∷ ds) h = let both = go is cs ds h.1 in ((h.0, both.0), both.1)
 
 each_len : (qs : List Picking) (cs ds : List (List RowValue)) → EachAt qs cs ds → (length cs ≡ length qs) × (length ds ≡ length qs)
 unfolding EachAt
@@ -65,28 +68,29 @@ each_kept (suc n) i [] ds e h = absurd h
 each_kept (suc n) i (c ∷ cs) [] e h = absurd h
 each_kept (suc n) i (c ∷ cs) (d ∷ ds) e h = ap₂ ◌∷◌ (kept_column i.kept true i c d e h.0) (each_kept n i cs ds e h.1)
 
-child_at : (n : ℕ) (i : Picking) (cs ds : List (List RowValue)) (j : ℕ) → i.kept ≡ false → EachAt (replicate n i) cs ds → j < n → AreAt true i.picks (get_or cs j []) (get_or ds j [])
+child_at : (is : List Picking) (cs ds : List (List RowValue)) (j : ℕ) (d : Picking) → (get_or is j d).kept ≡ false → EachAt is cs ds → j < length is → AreAt true (get_or is j d).picks (get_or cs j []) (get_or ds j [])
 unfolding EachAt
-child_at zero i cs ds j e h low = absurd (omega arith)
-child_at (suc n) i [] ds j e h low = absurd h
-child_at (suc n) i (c ∷ cs) [] j e h low = absurd h
-child_at (suc n) i (c ∷ cs) (d ∷ ds) zero e h low = own_column i.kept true i c d e h.0
-child_at (suc n) i (c ∷ cs) (d ∷ ds) (suc j) e h low = child_at n i cs ds j e h.1 (omega arith)
+child_at [] cs ds j k e h low = absurd (omega arith)
+child_at (i ∷ is) [] ds j k e h low = absurd h
+child_at (i ∷ is) (c ∷ cs) [] j k e h low = absurd h
+child_at (i ∷ is) (c ∷ cs) (d ∷ ds) zero k e h low = own_column i.kept true i c d e h.0
+child_at (i ∷ is) (c ∷ cs) (d ∷ ds) (suc j) k e h low = child_at is cs ds j k e h.1 (omega arith)
 
-children_at : (n : ℕ) (i : Picking) (cs ds : List (List RowValue)) → i.kept ≡ false → EachAt (replicate n i) cs ds → AreChildrenAt i.picks n cs ds
-children_at n i cs ds e h =
-    let both = each_len (replicate n i) cs ds h in
-    let size = length-replicate n i in
-    record { old_len = both.0 ∙ size; new_len = both.1 ∙ size; at = λ j low. child_at n i cs ds j e h low }
+children_at : (is : List Picking) (cs ds : List (List RowValue)) → NoneKept is → EachAt is cs ds → AreChildrenAt is cs ds
+children_at is cs ds e h =
+    let both = each_len is cs ds h in
+    record { old_len = both.0; new_len = both.1; at = λ j k low. child_at is cs ds j k (e j k low) h low }
 
-children_lens : (n : ℕ) (i : Picking) (cs ds : List (List RowValue)) → i.kept ≡ false → EachAt (replicate n i) cs ds → map length ds ≡ replicate n (length i.picks)
+children_lens : (is : List Picking) (cs ds : List (List RowValue)) → NoneKept is → EachAt is cs ds → map length ds ≡ map (λ (i : Picking). length i.picks) is
 unfolding EachAt
-children_lens zero i [] [] e h = refl
-children_lens zero i [] (d ∷ ds) e h = absurd h
-children_lens zero i (c ∷ cs) ds e h = absurd h
-children_lens (suc n) i [] ds e h = absurd h
-children_lens (suc n) i (c ∷ cs) [] e h = absurd h
-children_lens (suc n) i (c ∷ cs) (d ∷ ds) e h = let own = own_column i.kept true i c d e h.0 in ap₂ ◌∷◌ own.len (children_lens n i cs ds e h.1)
+children_lens [] [] [] e h = refl
+children_lens [] [] (d ∷ ds) e h = absurd h
+children_lens [] (c ∷ cs) ds e h = absurd h
+children_lens (i ∷ is) [] ds e h = absurd h
+children_lens (i ∷ is) (c ∷ cs) [] e h = absurd h
+children_lens (i ∷ is) (c ∷ cs) (d ∷ ds) e h =
+    let own = own_column i.kept true i c d (e 0 i (omega arith)) h.0 in
+    ap₂ ◌∷◌ own.len (children_lens is cs ds (λ j k low. e (suc j) k (omega arith)) h.1)
 
 -- ---- one node
 
@@ -111,22 +115,26 @@ view_picked p w q cs ds own v front inside = record {
       (picked_at (tags p.format) q.picks (column_of p cs) (column_of w ds) (ap (column_of w) front ∙ v.column cs));
 }
 
-own_picked : (p w : Part) (q : Picking) (cs ds : List (List RowValue)) → q.kept ≡ false → IsOwnTaken p w q → AreChildrenAt (inner p q).picks p.children cs ds → map length ds ≡ replicate p.children (length (inner p q).picks) → is_sound p (map length cs) ≡ true → NodePicked p w q cs ds
+own_picked : (p w : Part) (q : Picking) (cs ds : List (List RowValue)) → q.kept ≡ false → IsOwnTaken p w q → AreChildrenAt (inners p q) cs ds → map length ds ≡ map (λ (i : Picking). length i.picks) (inners p q) → is_sound p (map length cs) ≡ true → NodePicked p w q cs ds
 own_picked p w q cs ds own t at lens sound = record {
   children = t.children;
   sound = ap (is_sound w) lens ∙ t.sound;
   column = subst (λ (b : Bool). ColumnAt b (tags p.format) q (column_of p cs) (column_of w ds)) (sym own) (t.column cs ds at sound);
 }
 
-node_picked : (p w : Part) (q : Picking) (cs ds : List (List RowValue)) (k e : Bool) → q.kept ≡ k → keeps p.format ≡ e → TakenAs k e p w q → EachAt (replicate p.children (below p q)) cs ds → is_sound p (map length cs) ≡ true
+node_picked : (p w : Part) (q : Picking) (cs ds : List (List RowValue)) (k e : Bool) → q.kept ≡ k → keeps p.format ≡ e → TakenAs k e p w q → EachAt (belows p q) cs ds → is_sound p (map length cs) ≡ true
     → (q.kept ≡ false → AreInside p q.picks (map length cs)) → NodePicked p w q cs ds
-node_picked p w q cs ds true e own keeping t each sound inside = kept_picked p w q cs ds own t (each_kept p.children (below p q) cs ds (ap (λ b. (cond b all_rows (inner p q)).kept) own) each) sound
-node_picked p w q cs ds false true own keeping t each sound inside = view_picked p w q cs ds own t (each_kept p.children (below p q) cs ds (ap (λ b. (cond b all_rows (inner p q)).kept) own ∙ keeping) each) (inside own)
+node_picked p w q cs ds true e own keeping t each sound inside =
+    let is : belows p q ≡ replicate p.children all_rows = ap (λ b. cond b (replicate p.children all_rows) (inners p q)) own in
+    kept_picked p w q cs ds own t (each_kept p.children all_rows cs ds refl (subst (λ (l : List Picking). EachAt l cs ds) is each)) sound
+node_picked p w q cs ds false true own keeping t each sound inside =
+    let is : belows p q ≡ replicate p.children (inner p q) = ap (λ b. cond b (replicate p.children all_rows) (inners p q)) own ∙ inners_same p q (kept_same p keeping) in
+    view_picked p w q cs ds own t (each_kept p.children (inner p q) cs ds keeping (subst (λ (l : List Picking). EachAt l cs ds) is each)) (inside own)
 node_picked p w q cs ds false false own keeping t each sound inside =
-    let is : below p q ≡ inner p q = ap (λ b. cond b all_rows (inner p q)) own in
-    let bare : (below p q).kept ≡ false = ap (λ (i : Picking). i.kept) is ∙ keeping in
-    own_picked p w q cs ds own t (subst (λ (i : Picking). AreChildrenAt i.picks p.children cs ds) is (children_at p.children (below p q) cs ds bare each))
-    (children_lens p.children (below p q) cs ds bare each ∙ ap (λ (i : Picking). replicate p.children (length i.picks)) is) sound
+    let is : belows p q ≡ inners p q = ap (λ b. cond b (replicate p.children all_rows) (inners p q)) own in
+    let here = subst (λ (l : List Picking). EachAt l cs ds) is each in
+    let bare = none_kept p q keeping in
+    own_picked p w q cs ds own t (children_at (inners p q) cs ds bare here) (children_lens (inners p q) cs ds bare here) sound
 
 -- ---- trees
 
@@ -145,18 +153,18 @@ record FirstPicked (p : Part) (ws : List Part) (q : Picking) (qs : List Picking)
   each : EachAt (q ∷ qs) cs (own ∷ others)
 
 first_picked : (p w : Part) (ps ws : List Part) (q : Picking) (qs : List Picking) (ks cs : List (List RowValue)) → IsTaken p w q → (q.kept ≡ false → AreInside p q.picks (child_lens p ps)) → columns_in ps ≡ Some ks → Joined p ks cs
-    → PickedTo ws (replicate p.children (below p q) ++ qs) ks → FirstPicked p (w ∷ ws) q qs cs
+    → PickedTo ws (belows p q ++ qs) ks → FirstPicked p (w ∷ ws) q qs cs
 unfolding EachAt
 first_picked p w ps ws q qs ks cs own inside rest j to =
     let n = p.children in
     let ds = to.columns in
-    let split = each_split n (below p q) qs ks ds to.each in
+    let split = each_split (belows p q) qs n ks ds (belows_len p q) to.each in
     let node = node_picked p w q (take n ks) (take n ds) q.kept (keeps p.format) refl refl own split.0 j.sound
     (λ (f : q.kept ≡ false). subst (λ (l : List ℕ). AreInside p q.picks l) (child_columns p ps ks rest) (inside f)) in
     let same : w.children ≡ n = node.children in
     let front : take w.children ds ≡ take n ds = ap (λ m. take m ds) same in
-    let both = each_len (replicate n (below p q) ++ qs) ks ds to.each in
-    let many : n ≤ length ds = omega (arith, both.1, length-append (replicate n (below p q)) qs, length-replicate n (below p q)) in
+    let both = each_len (belows p q ++ qs) ks ds to.each in
+    let many : n ≤ length ds = omega (arith, both.1, length-append (belows p q) qs, belows_len p q) in
     let head : get_or cs 0 [] ≡ column_of p (take n ks) = ap (λ (l : List (List RowValue)). get_or l 0 []) j.whole in
     record {
       own = column_of w (take n ds);
@@ -185,8 +193,8 @@ picked_trees (p ∷ ps) (w ∷ ws) (q ∷ qs) cs count e a =
     let op = opened p ps cs e in
     let enough = op.joined.enough in
     let n = p.children in
-    let to = picked_trees ps ws (replicate n (below p q) ++ qs) op.columns
-    (omega (arith, length-append (replicate n (below p q)) qs, length-replicate n (below p q), ap length op.joined.whole, length-drop n op.columns)) op.rest (behind p w ps ws q qs a) in
+    let to = picked_trees ps ws (belows p q ++ qs) op.columns
+    (omega (arith, length-append (belows p q) qs, belows_len p q, ap length op.joined.whole, length-drop n op.columns)) op.rest (behind p w ps ws q qs a) in
     let first = first_picked p w ps ws q qs op.columns cs (a.taken 0 p w q (omega arith)) (first_inside p w ps ws q qs a) op.rest op.joined to in
     record { columns = first.own ∷ first.others; are = first.are; each = first.each }
 
@@ -203,8 +211,8 @@ picked_column (p ∷ ps) (w ∷ ws) q rows own full e a =
     let op = opened p ps cs (only_some (columns_in (p ∷ ps)) rows e) in
     let enough = op.joined.enough in
     let n = p.children in
-    let to = picked_trees ps ws (replicate n (below p q) ++ []) op.columns
-    (omega (arith, length-append (replicate n (below p q)) [], length-replicate n (below p q), ap length op.joined.whole, length-drop n op.columns)) op.rest (behind p w ps ws q [] a) in
+    let to = picked_trees ps ws (belows p q ++ []) op.columns
+    (omega (arith, length-append (belows p q) [], belows_len p q, ap length op.joined.whole, length-drop n op.columns)) op.rest (behind p w ps ws q [] a) in
     let first = first_picked p w ps ws q [] op.columns cs (a.taken 0 p w q (omega arith)) (first_inside p w ps ws q [] a) op.rest op.joined to in
     let at = own_column q.kept (tags p.format) q rows first.own own first.first in
     ap only (first.are ∙ ap (λ (l : List (List RowValue)). Some (first.own ∷ l)) (alone q rows first.own first.others first.each))

@@ -1,11 +1,15 @@
 -- The jobs of children, and the plan at the end of a walk.
-use Rattle.std.proofs.Common.{zero, suc, ◌≡◌, ℕ, ◌+◌, ◌-◌, ◌^◌, ◌<◌, ◌≤◌, leb, Bool, true, false, cond, List, [], ◌∷◌, ◌++◌, length, get_or, drop, map, reverse, Option, Some, None, ap, ap₂, sym, ◌∙◌, refl, subst, arith, length-append}
+use Rattle.std.proofs.Common.{zero, suc, ◌≡◌, ℕ, ◌+◌, ◌-◌, ◌^◌, ◌<◌, ◌≤◌, leb, Bool, true, false, cond, List, [], ◌∷◌, ◌++◌, length, get_or, drop, map, reverse, Option, Some, None, ap, ap₂, sym, ◌∙◌, refl, subst, arith, append_assoc, length-append}
 use Rattle.std.specs.Prelude.{replicate}
-use Rattle.std.specs.List.{list_all}
+use Rattle.std.proofs.lemmas.List.Elements.{All-replicate}
+use Rattle.vx_arrow_columns.specs.declared.needs.Inner.{Inner}
+use Rattle.std.specs.List.{list_all, range_with_len}
 use Rattle.std.specs.Option.{option_map}
 use Rattle.std.proofs.lemmas.Bool.{and_parts, leb-true}
-use Rattle.std.proofs.lemmas.List.{append-nil, drop_all, get_or-map, length-map, map-append, get_or-append_right}
+use Rattle.std.proofs.lemmas.List.{append-nil, drop_all, ext_get_or, get_or-map, length-map, map-append, get_or-append_right, length-replicate, reverse-append}
+use Rattle.std.proofs.lemmas.List.FromFn.{get_or-map-range_with_len, length-map-range_with_len}
 use Rattle.vx_arrow_image.specs.declared.format.Format.{Format}
+use Rattle.vx_arrow_image.specs.declared.format.Format.TheVariants.{DenseUnion}
 use Rattle.vx_arrow_image.specs.declared.image.Node as image
 use Rattle.vx_arrow_image.specs.declared.image.Need.{Need}
 use Rattle.vx_arrow_image.specs.declared.image.Room.{Room}
@@ -17,15 +21,16 @@ use Rattle.vx_arrow_columns.specs.declared.plan.Job as jobs
 use Rattle.vx_arrow_columns.specs.declared.plan.Plan as plans
 use Rattle.vx_arrow_columns.specs.declared.plan.Walk as walks
 use Rattle.vx_arrow_image.specs.Image.{Part, part_of}
-use Rattle.vx_arrow_columns.specs.Picks.{Picking, all_rows, below, bytes_for, inner, keeps, kept_need, need_of, needs_by, offsets_len, own_need, sizes_len, picking_of, pickings, picks_of, shows_valid, values_len}
-use Rattle.vx_arrow_columns.specs.Planned.{IsJobMeasured, child_lens, IsNext, IsPlanned, are_trees, first_len, picking_by, picking_in, places_in, valid_in}
-use Rattle.vx_arrow_columns.specs.Measured.{IsMeasured, moved}
+use Rattle.vx_arrow_columns.specs.Picks.{Picking, all_rows, below, belows, bytes_for, dense_picking, dense_rows, inner, inners, inners_by, keeps, kept_need, need_of, needs_by, offsets_len, own_need, sizes_len, picking_of, pickings, picks_of, shows_valid, values_len}
+use Rattle.vx_arrow_columns.specs.Planned.{AreNexts, AreSplitJobs, HasEach, IsJobMeasured, IsListedJob, IsPushed, IsSound, child_lens, IsNext, IsPlanned, are_trees, first_len, picking_by, picking_in, places_in, valid_in}
+use Rattle.vx_arrow_columns.specs.Measured.{AreDenseItems, IsInner, IsMeasured, moved}
+use Rattle.vx_arrow_columns.specs.Sound.{AsksBelow}
 use Rattle.vx_arrow_columns.specs.Taken.{AreInside, AreWithin, IsOwnTaken, IsViewTaken, TakenAs}
 use Rattle.vx_arrow_columns.specs.Written.{IsRoomTaken}
 use Rattle.vx_arrow_columns.proofs.Measures.{same_picking}
 use Rattle.vx_arrow_columns.proofs.PickReads.{length_picks, moved_picks}
-use Rattle.vx_arrow_columns.proofs.Trees.{empty}
-use Rattle.vx_arrow_columns.proofs.Walks.{WalkIs}
+use Rattle.vx_arrow_columns.proofs.Trees.{belows_len, empty, same_belows}
+use Rattle.vx_arrow_columns.proofs.Walks.{WalkIs, grown_len, kept_job, reverse_many, still_listed}
 
 -- ---- the same picks, further on
 
@@ -77,8 +82,22 @@ next_same node job next old same bare sum end = record {
   within = λ ps vs below w in_order.
       let is = moved_in ps vs old job next node.offset node.len same bare in_order.1 w in_order.2 sum in
       moved_within (picking_in ps vs old job).picks (picking_in ps vs old next).picks node.offset node.len next.end (ap (λ (q : Picking). q.picks) is) w (let last = end (omega (arith, in_order.2)) in omega arith);
-  picks = λ ps vs w in_order. ap (replicate node.children) (same_below (part_of node) (picking_in ps vs old job) (picking_in ps vs old next) in_order.0 in_order.1 (moved_in ps vs old job next node.offset node.len same bare in_order.1 w in_order.2 sum));
+  picks = λ ps vs w in_order. ap (replicate node.children) (same_below (part_of node) (picking_in ps vs old job) (picking_in ps vs old next) in_order.0 in_order.1 (moved_in ps vs old job next node.offset node.len same bare in_order.1 w in_order.2 sum)) ∙ same_belows (part_of node) (picking_in ps vs old job) in_order.3;
   far = λ ps vs lens count in_order long j h. let last = end (omega (arith, in_order.2)) in let low = long_at (node.offset + node.len) lens j long (omega arith) in omega arith;
+}
+
+-- ---- no children
+
+pub next_leaf : (node : image.Node) (job : jobs.Job) (old : List Places) → IsNext node job inners.Leaf old old job
+next_leaf node job old = record {
+  more = [];
+  grown = sym (append-nil old);
+  listed = λ h. h;
+  within = λ ps vs below w none. below;
+  picks = λ ps vs w none.
+      let q = picking_in ps vs old job in
+      empty (replicate node.children q) (length-replicate node.children q ∙ none) ∙ sym (empty (belows (part_of node) q) (belows_len (part_of node) q ∙ none));
+  far = λ ps vs lens count none long j h. absurd (omega arith);
 }
 
 -- ---- children that are kept
@@ -96,7 +115,7 @@ next_kept node job next old bare none kept = record {
   grown = sym (append-nil old);
   listed = λ h k e. absurd (let f : None ≡ Some k = sym bare ∙ e in cc);
   within = λ ps vs below w are. subst (λ (q : Picking). AreWithin q.picks next.end) (sym (kept_in ps vs old next kept)) (none_within next.end);
-  picks = λ ps vs w are. ap (replicate node.children) (kept_in ps vs old next kept ∙ sym are);
+  picks = λ ps vs w are. ap (replicate node.children) (kept_in ps vs old next kept) ∙ sym are;
   far = λ ps vs lens count are long j h. omega arith;
 }
 
@@ -112,7 +131,7 @@ kept_measured node behind ps vs ls job n kept e =
         inside = λ f. absurd (not_own f);
       };
       need = e ∙ sym (ap (need_of (part_of node)) is);
-      children = ap (below (part_of node)) is;
+      children = ap (belows (part_of node)) is;
       asks = λ lens s. tt;
     }
 
@@ -152,18 +171,172 @@ listed_in ps vs ls new x next e list none bare =
     (ap (λ (l : List Places). places_in l (length ls)) e ∙ last_list ls x (λ (y : Places). y.places.items))
     (ap (λ (l : List Places). valid_in l (length ls)) e ∙ last_list ls x (λ (y : Places). y.valid.items))
 
-pub next_listed : (node : image.Node) (job next : jobs.Job) (old new : List Places) (items : Items) → new ≡ old ++ items.list ∷ [] → next.list ≡ Some (length old) → next.add ≡ 0 → next.end ≡ items.end → next.kept ≡ false
-    → IsNext node job (inners.Listed items) old new next
-next_listed node job next old new items e list none end bare = record {
+pub list_pushed : (old new : List Places) (items : Items) (next : jobs.Job) → new ≡ old ++ items.list ∷ [] → next.list ≡ Some (length old) → next.add ≡ 0 → next.end ≡ items.end → next.kept ≡ false → IsListedJob new next items
+list_pushed old new items next e list none end bare = record {
+  listed = λ k f. let at : Some (length old) ≡ Some k = sym list ∙ f in let here : length old ≡ k = cc in omega (arith, ap length e, length-append old (items.list ∷ []));
+  picks = λ ps vs. listed_in ps vs old new items.list next e list none bare;
+  end = end;
+}
+
+pub next_listed : (node : image.Node) (job next : jobs.Job) (old new : List Places) (items : Items) → new ≡ old ++ items.list ∷ [] → IsListedJob new next items → IsNext node job (inners.Listed items) old new next
+next_listed node job next old new items e own = record {
   more = items.list ∷ [];
   grown = e;
-  listed = λ h k f. let at : Some (length old) ≡ Some k = sym list ∙ f in let here : length old ≡ k = cc in omega (arith, ap length e, length-append old (items.list ∷ []));
+  listed = λ h. own.listed;
   within = λ ps vs below w are.
-      subst (λ (q : Picking). AreWithin q.picks next.end) (sym (listed_in ps vs old new items.list next e list none bare))
-      (subst (λ (n : ℕ). AreWithin (picking_of items.list.places.items items.list.valid.items 0).picks n) (sym end) are.within);
-  picks = λ ps vs w are. ap (replicate node.children) (listed_in ps vs old new items.list next e list none bare ∙ sym are.listed);
-  far = λ ps vs lens count are long j h. let first : j ≡ 0 = omega (arith, are.one) in let same = ap (λ (k : ℕ). get_or lens k 0) first in omega arith;
+      subst (λ (q : Picking). AreWithin q.picks next.end) (sym (own.picks ps vs))
+      (subst (λ (n : ℕ). AreWithin (picking_of items.list.places.items items.list.valid.items 0).picks n) (sym own.end) are.within);
+  picks = λ ps vs w are. ap (replicate node.children) (own.picks ps vs ∙ sym are.listed) ∙ same_belows (part_of node) (picking_in ps vs old job) are.same;
+  far = λ ps vs lens count are long j h. let first : j ≡ 0 = omega (arith, are.one) in let same = ap (λ (k : ℕ). get_or lens k 0) first in omega (arith, own.end);
 }
+
+-- ---- the jobs of all children
+
+nth_same : (n j : ℕ) (x d : jobs.Job) → j < n → get_or (replicate n x) j d ≡ x
+nth_same zero j x d h = absurd (omega arith)
+nth_same (suc n) zero x d h = refl
+nth_same (suc n) (suc j) x d h = nth_same n j x d (omega arith)
+
+map_same : {X Y : Type 0} (f : X → Y) (n : ℕ) (x : X) → map f (replicate n x) ≡ replicate n (f x)
+map_same f zero x = refl
+map_same f (suc n) x = ap (λ l. f x ∷ l) (map_same f n x)
+
+-- the same one for each child
+pub nexts_of : (node : image.Node) (job next : jobs.Job) (inside : Inner) (old new : List Places) → IsNext node job inside old new next → AreNexts node job inside old new (replicate node.children next)
+nexts_of node job next inside old new n =
+    let c = node.children in
+    record {
+      more = n.more;
+      grown = n.grown;
+      count = length-replicate c next;
+      sound = λ ps vs s w are. All-replicate (IsSound ps vs new) c next (record { listed = n.listed s.listed; within = n.within ps vs s.within w are });
+      picks = λ ps vs w are. map_same (picking_in ps vs new) c next ∙ n.picks ps vs w are;
+      far = λ ps vs lens count are asks j d h. let low = n.far ps vs lens count are asks j h in let same = ap (λ (x : jobs.Job). x.end) (nth_same c j next d h) in omega arith;
+    }
+
+pub next_is : (node : image.Node) (job next n : jobs.Job) (inside i : Inner) (old new l : List Places) → inside ≡ i → new ≡ l → next ≡ n → IsNext node job i old l n → IsNext node job inside old new next
+next_is node job next n inside i old new l a b e is =
+    subst (λ (x : Inner). IsNext node job x old new next) (sym a)
+    (subst (λ (x : List Places). IsNext node job i old x next) (sym b) (subst (λ (x : jobs.Job). IsNext node job i old l x) (sym e) is))
+
+pub pushed_same : (node : image.Node) (job next : jobs.Job) (inside : Inner) (old new : List Places) (stack pushed : List jobs.Job) → IsNext node job inside old new next → pushed ≡ stack ++ replicate node.children next → IsPushed node job inside old new stack pushed
+pushed_same node job next inside old new stack pushed n e = record {
+  nexts = replicate node.children next;
+  stack_is = e ∙ ap (λ l. stack ++ l) (sym (reverse_many node.children next));
+  nexts_are = nexts_of node job next inside old new n;
+}
+
+-- ---- a job of its own for each child
+
+still_own : (ls more new : List Places) (job : jobs.Job) (i : Items) → new ≡ ls ++ more → IsListedJob ls job i → IsListedJob new job i
+still_own ls more new job i e s = record {
+  listed = still_listed job (length ls) (length new) (grown_len ls more new e) s.listed;
+  picks = λ ps vs. kept_job ps vs ls more new job e s.listed ∙ s.picks ps vs;
+  end = s.end;
+}
+
+-- the picks that were popped have their jobs
+pub record SplitsTo (all left : List Items) (old new : List Places) (stack pushed : List jobs.Job) : Type 0 where
+  pub done : List Items
+  pub cut : all ≡ left ++ done
+  pub are : AreSplitJobs done old new stack pushed
+
+pub no_splits : (items : List Items) (lists : List Places) (stack : List jobs.Job) → SplitsTo items items lists lists stack stack
+no_splits items lists stack = record {
+  done = [];
+  cut = sym (append-nil items);
+  are = record {
+    nexts = [];
+    more = [];
+    grown = sym (append-nil lists);
+    stack_is = sym (append-nil stack);
+    count = refl;
+    are = λ j d e h. absurd (omega arith);
+  };
+}
+
+pub more_splits : (all left rest : List Items) (last : Items) (old mid new : List Places) (stack before after : List jobs.Job) (next : jobs.Job) → left ≡ rest ++ last ∷ [] → new ≡ mid ++ last.list ∷ [] → IsListedJob new next last → after ≡ before ++ next ∷ []
+    → SplitsTo all left old mid stack before → SplitsTo all rest old new stack after
+more_splits all left rest last old mid new stack before after next popped grown own pushed s =
+    let J = s.are in
+    record {
+      done = last ∷ s.done;
+      cut = s.cut ∙ ap (λ l. l ++ s.done) popped ∙ append_assoc rest (last ∷ []) s.done;
+      are = record {
+        nexts = next ∷ J.nexts;
+        more = J.more ++ last.list ∷ [];
+        grown = grown ∙ ap (λ l. l ++ last.list ∷ []) J.grown ∙ append_assoc old J.more (last.list ∷ []);
+        stack_is = pushed ∙ ap (λ l. l ++ next ∷ []) J.stack_is ∙ append_assoc stack (reverse J.nexts) (next ∷ []) ∙ ap (λ l. stack ++ l) (sym (reverse-append (next ∷ []) J.nexts));
+        count = ap suc J.count;
+        are = λ j d e h. go J.nexts s.done d e (λ k low. still_own mid (last.list ∷ []) new (get_or J.nexts k d) (get_or s.done k e) grown (J.are k d e low)) j h;
+      };
+    }
+  where
+    go : (nexts : List jobs.Job) (done : List Items) (d : jobs.Job) (e : Items) → ((k : ℕ) → k < length done → IsListedJob new (get_or nexts k d) (get_or done k e)) → (j : ℕ) → j < length (last ∷ done) → IsListedJob new (get_or (next ∷ nexts) j d) (get_or (last ∷ done) j e)
+    go nexts done d e behind zero h = own
+    go nexts done d e behind (suc j) h = behind j (omega arith)
+
+pub all_splits : (all left : List Items) (old new : List Places) (stack pushed : List jobs.Job) → length left ≡ 0 → SplitsTo all left old new stack pushed → AreSplitJobs all old new stack pushed
+all_splits all left old new stack pushed none s = subst (λ (l : List Items). AreSplitJobs l old new stack pushed) (sym (s.cut ∙ ap (λ l. l ++ s.done) (empty left none))) s.are
+
+pub each_of : (p : Part) (q : Picking) (inside : Inner) → IsInner p q inside → HasEach inside p.children
+each_of p q inners.Leaf is = tt
+each_of p q inners.Same is = tt
+each_of p q (inners.Listed items) is = tt
+each_of p q inners.Kept is = tt
+each_of p q (inners.Split items) is = is.2.len
+
+some_of : {X : Type 0} (xs : List X) (j : ℕ) → j < length xs → X
+some_of [] j h = absurd (omega arith)
+some_of (x ∷ xs) j h = x
+
+-- the picks of each child of a dense union
+abbrev pub SplitInner : Part → Picking → List Items → Type 0
+SplitInner p q items = (q.kept ≡ false) × (p.format ≡ Some DenseUnion) × AreDenseItems p q p.children items
+
+pub pushed_split : (node : image.Node) (job : jobs.Job) (inside : Inner) (items : List Items) (old new : List Places) (stack pushed : List jobs.Job) → length items ≡ node.children → ((ps vs : List ℕ) → IsInner (part_of node) (picking_in ps vs old job) inside → SplitInner (part_of node) (picking_in ps vs old job) items)
+    → ((lens : List ℕ) → AsksBelow (part_of node) lens inside → (j : ℕ) (d : Items) → j < length items → (get_or items j d).end ≤ get_or lens j 0) → AreSplitJobs items old new stack pushed → IsPushed node job inside old new stack pushed
+pushed_split node job inside items old new stack pushed each inner_is asks_are A =
+    let p = part_of node in
+    let n = node.children in
+    record {
+      nexts = A.nexts;
+      stack_is = A.stack_is;
+      nexts_are = record {
+        more = A.more;
+        grown = A.grown;
+        count = A.count ∙ each;
+        sound = λ ps vs s w is j d h.
+            let low : j < length items = omega (arith, A.count) in
+            let e = some_of items j low in
+            let own = A.are j d e low in
+            let item = (inner_is ps vs is).2.are j e (omega (arith, each)) in
+            record {
+              listed = own.listed;
+              within = subst (λ (q : Picking). AreWithin q.picks (get_or A.nexts j d).end) (sym (own.picks ps vs ∙ item.picks)) (subst (λ (m : ℕ). AreWithin (dense_rows p (picking_in ps vs old job).picks j) m) (sym own.end) item.within);
+            };
+        picks = λ ps vs w is.
+            let q = picking_in ps vs old job in
+            let J = picking_in ps vs new in
+            let split = inner_is ps vs is in
+            let belows_are : belows p q ≡ map (dense_picking p q) (range_with_len 0 n) = ap (λ b. cond b (replicate n all_rows) (inners p q)) split.0 ∙ ap (λ (f : Option Format). inners_by f p q) split.1 in
+            let size : length (map J A.nexts) ≡ n = length-map A.nexts J ∙ A.count ∙ each in
+            ext_get_or all_rows (map J A.nexts) (map (dense_picking p q) (range_with_len 0 n)) (size ∙ sym (length-map-range_with_len (dense_picking p q) 0 n)) (λ j h.
+            let low : j < n = omega (arith, size) in
+            let here : j < length items = omega (arith, each) in
+            let e = some_of items j here in
+            let own = A.are j job e here in
+            let item = split.2.are j e low in
+            get_or-map J A.nexts j job all_rows (omega (arith, A.count)) ∙ own.picks ps vs ∙ item.picks
+            ∙ sym (get_or-map-range_with_len (dense_picking p q) 0 n j j all_rows low (let z : 0 + j ≡ j = omega arith in z)))
+            ∙ sym belows_are;
+        far = λ ps vs lens count is asks j d h.
+            let low : j < length items = omega (arith, each) in
+            let e = some_of items j low in
+            let own = A.are j d e low in
+            omega (arith, own.end, asks_are lens asks j e low);
+      };
+    }
 
 -- ---- the end of a walk
 

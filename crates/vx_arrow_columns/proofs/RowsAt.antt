@@ -2,7 +2,7 @@
 use Rattle.std.proofs.Common.{◌≡◌, ℕ, ◌<◌, Bool, true, false, List, [], length, get_or, map, Option, Some, None, ap, sym, ◌∙◌, refl, arith}
 use Rattle.std.proofs.lemmas.List.{ext_get_or, get_or-map, length-map}
 use Rattle.vx_arrow_image.specs.Rows.{RowValue, null, row_at, picked}
-use Rattle.vx_arrow_columns.specs.Taken.{AreAt, AreChildrenAt, AreFull}
+use Rattle.vx_arrow_columns.specs.Taken.{AreAt, AreFull}
 
 pub picked_at : (b : Bool) (q : List (Option ℕ)) (rows new : List RowValue) → new ≡ picked q rows → AreAt b q rows new
 picked_at b q rows new e = record {
@@ -35,5 +35,11 @@ some_at places rows new a = exact true (map Some places) rows new a (λ e. recor
       let f : Some (get_or places k 0) ≡ None = sym there ∙ none in cc;
 })
 
-pub first_at : (q : List (Option ℕ)) (n : ℕ) (cs ds : List (List RowValue)) → n ≡ 1 → AreChildrenAt q n cs ds → AreAt true q (get_or cs 0 []) (get_or ds 0 [])
+-- each child's rows are at the same picks
+pub record AreSameAt (q : List (Option ℕ)) (n : ℕ) (cs ds : List (List RowValue)) : Type 0 where
+  pub old_len : length cs ≡ n
+  pub new_len : length ds ≡ n
+  pub at : (j : ℕ) → j < n → AreAt true q (get_or cs j []) (get_or ds j [])
+
+pub first_at : (q : List (Option ℕ)) (n : ℕ) (cs ds : List (List RowValue)) → n ≡ 1 → AreSameAt q n cs ds → AreAt true q (get_or cs 0 []) (get_or ds 0 [])
 first_at q n cs ds one a = a.at 0 (omega arith)

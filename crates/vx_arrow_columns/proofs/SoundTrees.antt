@@ -3,14 +3,14 @@ use Rattle.std.proofs.Common.{zero, suc, ◌≡◌, ℕ, ◌+◌, ◌≤◌, Boo
 use Rattle.std.specs.Prelude.{replicate}
 use Rattle.std.specs.Option.{option_and_then}
 use Rattle.std.proofs.lemmas.Bool.{eqb-true}
-use Rattle.std.proofs.lemmas.List.{length-map, length-drop, take-map, drop-map, drop-drop, length-replicate}
+use Rattle.std.proofs.lemmas.List.{length-map, length-drop, take-map, drop-map, drop-drop}
 use Rattle.vx_arrow_image.specs.Rows.{RowValue}
 use Rattle.vx_arrow_image.specs.Image.{Part, is_sound, column_of, with_part, columns_in, column_in, only}
-use Rattle.vx_arrow_columns.specs.Picks.{Picking, all_rows, below, inner, keeps}
+use Rattle.vx_arrow_columns.specs.Picks.{Picking, all_rows, belows, inner, inners, keeps}
 use Rattle.vx_arrow_columns.specs.Planned.{are_trees, child_lens, tree_lens}
 use Rattle.vx_arrow_columns.specs.Taken.{AreInside, IsOwnTaken, IsViewTaken, TakenAs}
 use Rattle.vx_arrow_image.proofs.SoundNodes.{length_column, with_part_is}
-use Rattle.vx_arrow_columns.proofs.Trees.{AllTaken, KeptSound, behind, first_inside, first_sound, kept_behind, lens_len, lens_more}
+use Rattle.vx_arrow_columns.proofs.Trees.{inners_same, kept_same, AllTaken, KeptSound, NoneKept, behind, belows_len, first_inside, first_sound, kept_behind, lens_len, lens_more, none_kept}
 
 -- ---- how many rows are written
 
@@ -38,25 +38,37 @@ same_lens false ls = refl
 lens_none : (i : Picking) (ls : List ℕ) → [] ≡ lens_by i 0 ls
 lens_none i ls = same_lens i.kept []
 
-lens_front : (n : ℕ) (i : Picking) (qs : List Picking) (ls : List ℕ) → n ≤ length ls → take n (lens_at (replicate n i ++ qs) ls) ≡ lens_by i n ls
+-- the children of one node have the same picks
+lens_same : (n : ℕ) (i : Picking) (ls : List ℕ) → n ≤ length ls → lens_at (replicate n i) ls ≡ lens_by i n ls
 unfolding lens_at
-lens_front zero i qs ls h = lens_none i ls
-lens_front (suc n) i qs ls h =
-    ap (λ l. cond i.kept (get_or ls 0 0) (length i.picks) ∷ l) (lens_front n i qs (drop 1 ls) (omega (arith, length-drop 1 ls)))
+lens_same zero i ls h = lens_none i ls
+lens_same (suc n) i ls h =
+    ap (λ l. cond i.kept (get_or ls 0 0) (length i.picks) ∷ l) (lens_same n i (drop 1 ls) (omega (arith, length-drop 1 ls)))
     ∙ lens_some i n ls h
 
-lens_back : (n : ℕ) (i : Picking) (qs : List Picking) (ls : List ℕ) → drop n (lens_at (replicate n i ++ qs) ls) ≡ lens_at qs (drop n ls)
+lens_front : (is qs : List Picking) (n : ℕ) (ls : List ℕ) → length is ≡ n → take n (lens_at (is ++ qs) ls) ≡ lens_at is ls
 unfolding lens_at
-lens_back zero i qs ls = refl
-lens_back (suc n) i qs ls = lens_back n i qs (drop 1 ls) ∙ ap (lens_at qs) (drop-drop n 1 ls ∙ ap (λ m. drop m ls) (let e : 1 + n ≡ suc n = omega arith in e))
+lens_front is qs n ls e = sym (ap (λ m. take m (lens_at (is ++ qs) ls)) e) ∙ go is ls
+  where
+    go : (is : List Picking) (ls : List ℕ) → take (length is) (lens_at (is ++ qs) ls) ≡ lens_at is ls
+    go [] ls = refl
+    go (i ∷ is) ls = ap (λ l. cond i.kept (get_or ls 0 0) (length i.picks) ∷ l) (go is (drop 1 ls))
+
+lens_back : (is qs : List Picking) (n : ℕ) (ls : List ℕ) → length is ≡ n → drop n (lens_at (is ++ qs) ls) ≡ lens_at qs (drop n ls)
+unfolding lens_at
+lens_back is qs n ls e = sym (ap (λ m. drop m (lens_at (is ++ qs) ls)) e) ∙ go is ls ∙ ap (λ m. lens_at qs (drop m ls)) e
+  where
+    go : (is : List Picking) (ls : List ℕ) → drop (length is) (lens_at (is ++ qs) ls) ≡ lens_at qs (drop (length is) ls)
+    go [] ls = refl
+    go (i ∷ is) ls = go is (drop 1 ls) ∙ ap (lens_at qs) (drop-drop (length is) 1 ls ∙ ap (λ m. drop m ls) (let f : 1 + length is ≡ suc (length is) = omega arith in f))
 
 length_at : (qs : List Picking) (ls : List ℕ) → length (lens_at qs ls) ≡ length qs
 unfolding lens_at
 length_at [] ls = refl
 length_at (q ∷ qs) ls = omega (arith, length_at qs (drop 1 ls))
 
-next_trees : (n : ℕ) (i : Picking) (qs : List Picking) (ps : List Part) → are_trees ps (n + length qs) ≡ true → are_trees ps (length (replicate n i ++ qs)) ≡ true
-next_trees n i qs ps t = ap (are_trees ps) (length-append (replicate n i) qs ∙ ap (λ m. m + length qs) (length-replicate n i)) ∙ t
+next_trees : (is qs : List Picking) (n : ℕ) (ps : List Part) → length is ≡ n → are_trees ps (n + length qs) ≡ true → are_trees ps (length (is ++ qs)) ≡ true
+next_trees is qs n ps e t = ap (are_trees ps) (length-append is qs ∙ ap (λ m. m + length qs) e) ∙ t
 
 pub record Sound (ws : List Part) (qs : List Picking) (ls : List ℕ) : Type 0 where
   pub columns : List (List RowValue)
@@ -71,36 +83,44 @@ no_pickings (q ∷ qs) ls e = absurd (omega arith)
 -- a written node over its children's rows, which are as many as they should be
 record NodeSound (p w : Part) (ps : List Part) (q : Picking) : Type 0 where
   children : w.children ≡ p.children
-  sound : is_sound w (lens_by (below p q) p.children (tree_lens ps)) ≡ true
+  sound : is_sound w (lens_at (belows p q) (tree_lens ps)) ≡ true
   len : w.len ≡ cond q.kept p.len (length q.picks)
 
-kept_sound : (p w : Part) (ps : List Part) (q : Picking) → q.kept ≡ true → w ≡ p → is_sound p (child_lens p ps) ≡ true → NodeSound p w ps q
-kept_sound p w ps q own same sound = record {
+kept_sound : (p w : Part) (ps : List Part) (q : Picking) → p.children ≤ length (tree_lens ps) → q.kept ≡ true → w ≡ p → is_sound p (child_lens p ps) ≡ true → NodeSound p w ps q
+kept_sound p w ps q few own same sound = record {
   children = ap (λ (x : Part). x.children) same;
-  sound = ap₂ (λ (x : Part) (b : Bool). is_sound x (lens_by (cond b all_rows (inner p q)) p.children (tree_lens ps))) same own ∙ sound;
+  sound = ap₂ (λ (x : Part) (b : Bool). is_sound x (lens_at (cond b (replicate p.children all_rows) (inners p q)) (tree_lens ps))) same own
+      ∙ ap (is_sound p) (lens_same p.children all_rows (tree_lens ps) few) ∙ sound;
   len = ap (λ (x : Part). x.len) same ∙ sym (ap (λ b. cond b p.len (length q.picks)) own);
 }
 
-view_sound : (p w : Part) (ps : List Part) (q : Picking) → q.kept ≡ false → keeps p.format ≡ true → IsViewTaken p w q → AreInside p q.picks (child_lens p ps) → NodeSound p w ps q
-view_sound p w ps q own keeping v inside = record {
+view_sound : (p w : Part) (ps : List Part) (q : Picking) → p.children ≤ length (tree_lens ps) → q.kept ≡ false → keeps p.format ≡ true → IsViewTaken p w q → AreInside p q.picks (child_lens p ps) → NodeSound p w ps q
+view_sound p w ps q few own keeping v inside = record {
   children = v.children;
-  sound = ap (λ b. is_sound w (lens_by (cond b all_rows (inner p q)) p.children (tree_lens ps))) own
+  sound = ap (λ b. is_sound w (lens_at (cond b (replicate p.children all_rows) (inners p q)) (tree_lens ps))) own
+      ∙ ap (λ (l : List Picking). is_sound w (lens_at l (tree_lens ps))) (inners_same p q (kept_same p keeping)) ∙ ap (is_sound w) (lens_same p.children (inner p q) (tree_lens ps) few)
       ∙ ap (λ b. is_sound w (cond b (take p.children (tree_lens ps)) (replicate p.children (length (inner p q).picks)))) keeping ∙ v.sound (child_lens p ps) inside;
   len = v.len ∙ sym (ap (λ b. cond b p.len (length q.picks)) own);
 }
 
+-- children that aren't kept have as many rows as picks
+lens_own : (is : List Picking) (ls : List ℕ) → NoneKept is → lens_at is ls ≡ map (λ (i : Picking). length i.picks) is
+unfolding lens_at
+lens_own [] ls e = refl
+lens_own (i ∷ is) ls e = ap₂ ◌∷◌ (ap (λ b. cond b (get_or ls 0 0) (length i.picks)) (e 0 i (omega arith))) (lens_own is (drop 1 ls) (λ j d h. e (suc j) d (omega arith)))
+
 own_sound : (p w : Part) (ps : List Part) (q : Picking) → q.kept ≡ false → keeps p.format ≡ false → IsOwnTaken p w q → NodeSound p w ps q
 own_sound p w ps q own keeping t = record {
   children = t.children;
-  sound = ap (λ b. is_sound w (lens_by (cond b all_rows (inner p q)) p.children (tree_lens ps))) own
-      ∙ ap (λ b. is_sound w (cond b (take p.children (tree_lens ps)) (replicate p.children (length (inner p q).picks)))) keeping ∙ t.sound;
+  sound = ap (λ b. is_sound w (lens_at (cond b (replicate p.children all_rows) (inners p q)) (tree_lens ps))) own
+      ∙ ap (is_sound w) (lens_own (inners p q) (tree_lens ps) (none_kept p q keeping)) ∙ t.sound;
   len = t.len ∙ sym (ap (λ b. cond b p.len (length q.picks)) own);
 }
 
-node_sound : (p w : Part) (ps : List Part) (q : Picking) (k e : Bool) → q.kept ≡ k → keeps p.format ≡ e → TakenAs k e p w q → (q.kept ≡ true → is_sound p (child_lens p ps) ≡ true) → (q.kept ≡ false → AreInside p q.picks (child_lens p ps)) → NodeSound p w ps q
-node_sound p w ps q true e own keeping t sound inside = kept_sound p w ps q own t (sound own)
-node_sound p w ps q false true own keeping t sound inside = view_sound p w ps q own keeping t (inside own)
-node_sound p w ps q false false own keeping t sound inside = own_sound p w ps q own keeping t
+node_sound : (p w : Part) (ps : List Part) (q : Picking) (k e : Bool) → p.children ≤ length (tree_lens ps) → q.kept ≡ k → keeps p.format ≡ e → TakenAs k e p w q → (q.kept ≡ true → is_sound p (child_lens p ps) ≡ true) → (q.kept ≡ false → AreInside p q.picks (child_lens p ps)) → NodeSound p w ps q
+node_sound p w ps q true e few own keeping t sound inside = kept_sound p w ps q few own t (sound own)
+node_sound p w ps q false true few own keeping t sound inside = view_sound p w ps q few own keeping t (inside own)
+node_sound p w ps q false false few own keeping t sound inside = own_sound p w ps q own keeping t
 
 at_more : (q : Picking) (qs : List Picking) (l : ℕ) (ls : List ℕ) → cond q.kept l (length q.picks) ∷ lens_at qs ls ≡ lens_at (q ∷ qs) (l ∷ ls)
 unfolding lens_at
@@ -113,21 +133,22 @@ sound_trees [] (w ∷ ws) qs t a s = absurd (omega (arith, a.len))
 sound_trees (p ∷ ps) [] qs t a s = absurd (omega (arith, a.len))
 sound_trees (p ∷ ps) (w ∷ ws) [] t a s = absurd (let f : false ≡ true = t in cc)
 sound_trees (p ∷ ps) (w ∷ ws) (q ∷ qs) t a kept =
-    let i = below p q in
+    let is = belows p q in
+    let size = belows_len p q in
     let n = p.children in
     let ls = tree_lens ps in
-    let next = replicate n i ++ qs in
+    let next = is ++ qs in
     let trees : are_trees ps (n + length qs) ≡ true = t in
     let many : length ls ≡ n + length qs = lens_len ps (n + length qs) trees in
-    let s = sound_trees ps ws next (next_trees n i qs ps trees) (behind p w ps ws q qs a) (kept_behind p ps q qs kept) in
-    let own = node_sound p w ps q q.kept (keeps p.format) refl refl (a.taken 0 p w q (omega arith)) (first_sound p ps q qs kept) (first_inside p w ps ws q qs a) in
+    let s = sound_trees ps ws next (next_trees is qs n ps size trees) (behind p w ps ws q qs a) (kept_behind p ps q qs kept) in
+    let own = node_sound p w ps q q.kept (keeps p.format) (omega arith) refl refl (a.taken 0 p w q (omega arith)) (first_sound p ps q qs kept) (first_inside p w ps ws q qs a) in
     let same = own.children in
-    let front : map length (take w.children s.columns) ≡ lens_by i n ls
-    = sym (take-map length w.children s.columns) ∙ ap₂ (λ (m : ℕ) (l : List ℕ). take m l) same s.lens ∙ lens_front n i qs ls (omega arith) in
+    let front : map length (take w.children s.columns) ≡ lens_at is ls
+    = sym (take-map length w.children s.columns) ∙ ap₂ (λ (m : ℕ) (l : List ℕ). take m l) same s.lens ∙ lens_front is qs n ls size in
     let back : map length (drop w.children s.columns) ≡ lens_at qs (drop n ls)
-    = sym (drop-map length w.children s.columns) ∙ ap₂ (λ (m : ℕ) (l : List ℕ). drop m l) same s.lens ∙ lens_back n i qs ls in
+    = sym (drop-map length w.children s.columns) ∙ ap₂ (λ (m : ℕ) (l : List ℕ). drop m l) same s.lens ∙ lens_back is qs n ls size in
     let count : length s.columns ≡ n + length qs
-    = sym (length-map s.columns length) ∙ ap length s.lens ∙ length_at next ls ∙ length-append (replicate n i) qs ∙ ap (λ m. m + length qs) (length-replicate n i) in
+    = sym (length-map s.columns length) ∙ ap length s.lens ∙ length_at next ls ∙ length-append is qs ∙ ap (λ m. m + length qs) size in
     record {
       columns = column_of w (take w.children s.columns) ∷ drop w.children s.columns;
       are = ap (option_and_then (with_part w)) s.are ∙ with_part_is w s.columns (omega arith) (ap (is_sound w) front ∙ own.sound);

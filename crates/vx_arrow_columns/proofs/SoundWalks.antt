@@ -1,6 +1,6 @@
 -- Walks over a table, and what it has to hold where its rows at picks have a meaning.
 use Rattle.std.proofs.Common.{zero, suc, ◌≡◌, ℕ, ◌+◌, ◌-◌, ◌<◌, ◌≤◌, true, false, List, [], ◌∷◌, ◌++◌, length, get_or, take, drop, map, reverse, None, ap, ap₂, sym, ◌∙◌, refl, subst, arith}
-use Rattle.std.specs.Prelude.{replicate, ⊤}
+use Rattle.std.specs.Prelude.{⊤}
 use Rattle.std.proofs.lemmas.Bool.{eqb-true}
 use Rattle.std.proofs.lemmas.List.{drop_more, get_or-append_right, get_or-take, length-append, length-map, length-take-le, reverse-append}
 use Rattle.vx_arrow_image.specs.declared.image.Node as image
@@ -18,7 +18,7 @@ use Rattle.vx_arrow_columns.specs.Planned.{IsStart, IsVisited, are_trees, child_
 use Rattle.vx_arrow_columns.specs.Reached.{AreSoundAt, IsVisitFault}
 use Rattle.vx_arrow_columns.specs.Sound.{IsFault, IsJobFault, IsSoundAt, refusal_at}
 use Rattle.vx_arrow_columns.proofs.Trees.{empty, lens_len, lens_more}
-use Rattle.vx_arrow_columns.proofs.Walks.{WalkIs, next_walk, reverse_many}
+use Rattle.vx_arrow_columns.proofs.Walks.{WalkIs, next_walk, turned_stack}
 
 -- ---- what trees are asked for
 
@@ -28,10 +28,11 @@ AreLong [] lens = ⊤
 AreLong (j ∷ js) [] = ⊥
 AreLong (j ∷ js) (n ∷ lens) = (j.end ≤ n) × AreLong js lens
 
-long_many : (c : ℕ) (next : jobs.Job) (js : List jobs.Job) (lens : List ℕ) → c ≤ length lens → ((j : ℕ) → j < c → next.end ≤ get_or lens j 0) → AreLong js (drop c lens) → AreLong (replicate c next ++ js) lens
-long_many zero next js lens few h a = a
-long_many (suc c) next js [] few h a = absurd (omega arith)
-long_many (suc c) next js (n ∷ lens) few h a = (h 0 (omega arith), long_many c next js lens (omega arith) (λ j low. h (suc j) (omega arith)) a)
+long_many : (js rest : List jobs.Job) (c : ℕ) (lens : List ℕ) → length js ≡ c → c ≤ length lens → ((j : ℕ) (d : jobs.Job) → j < c → (get_or js j d).end ≤ get_or lens j 0) → AreLong rest (drop c lens) → AreLong (js ++ rest) lens
+long_many js rest zero lens e few h a = subst (λ (l : List jobs.Job). AreLong (l ++ rest) lens) (sym (empty js e)) a
+long_many [] rest (suc c) lens e few h a = absurd (omega arith)
+long_many (x ∷ js) rest (suc c) [] e few h a = absurd (omega arith)
+long_many (x ∷ js) rest (suc c) (n ∷ lens) e few h a = (h 0 x (omega arith), long_many js rest c lens (omega arith) (omega arith) (λ j d low. h (suc j) d (omega arith)) a)
 
 trees_few : (ps : List Part) (n : ℕ) → are_trees ps n ≡ true → n ≤ length ps
 trees_few [] n t = omega (arith, eqb-true _ _ t)
@@ -127,10 +128,10 @@ next_fits parts ps vs i node d behind old new f V low at left = record {
       let count : length L ≡ p.children + length V.rest = lens_len (drop (i + 1) parts) (p.children + length V.rest) (trees_now parts ps vs i old p d V.rest V.job f.is low at V.popped s) in
       let few : p.children ≤ length L = omega arith in
       let asks = V.asks (take p.children L) (sound_now parts ps vs i old p d V.rest V.job f.is low at V.popped s) in
-      let far : (j : ℕ) → j < p.children → V.next.end ≤ get_or L j 0 =
-      λ j h. subst (λ (n : ℕ). V.next.end ≤ n) (get_or-take p.children L j 0 h) (V.next_is.far ps vs (take p.children L) (length-take-le p.children L few) V.inner_is asks j h) in
-      let turned : reverse new.stack.items ≡ replicate p.children V.next ++ reverse V.rest = ap reverse V.stack ∙ reverse-append V.rest (replicate p.children V.next) ∙ ap (λ (l : List jobs.Job). l ++ reverse V.rest) (reverse_many p.children V.next) in
-      subst (λ (l : List jobs.Job). AreLong l L) (sym turned) (long_many p.children V.next (reverse V.rest) L few far (long_now parts ps vs i old p d V.rest V.job f low at V.popped s).1);
+      let N = V.nexts_are in
+      let far : (j : ℕ) (d : jobs.Job) → j < p.children → (get_or V.nexts j d).end ≤ get_or L j 0 =
+      λ j d h. subst (λ (n : ℕ). (get_or V.nexts j d).end ≤ n) (get_or-take p.children L j 0 h) (N.far ps vs (take p.children L) (length-take-le p.children L few) V.inner_is asks j d h) in
+      subst (λ (l : List jobs.Job). AreLong l L) (sym (turned_stack new.stack.items V.rest V.nexts V.stack)) (long_many V.nexts (reverse V.rest) p.children L N.count few far (long_now parts ps vs i old p d V.rest V.job f low at V.popped s).1);
 }
 
 -- ---- why a walk stops

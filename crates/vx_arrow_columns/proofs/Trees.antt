@@ -1,12 +1,16 @@
 -- Tables of whole trees whose nodes are each taken.
 use Rattle.std.proofs.Common.{zero, suc, ◌≡◌, ℕ, ◌+◌, ◌<◌, ◌≤◌, Bool, true, false, cond, List, [], ◌∷◌, ◌++◌, length, get_or, take, drop, map, Option, Some, None, ap, ap₂, sym, ◌∙◌, refl, subst, arith}
 use Rattle.std.specs.Prelude.{replicate}
+use Rattle.std.specs.List.{range_with_len}
 use Rattle.std.specs.Option.{option_and_then}
+use Rattle.std.proofs.lemmas.List.FromFn.{get_or-map-range_with_len, length-map-range_with_len}
+use Rattle.vx_arrow_image.specs.declared.format.Format.{Format}
+use Rattle.vx_arrow_image.specs.declared.format.Format.TheVariants.{DenseUnion}
 use Rattle.std.proofs.lemmas.Bool.{and_parts, leb-true, eqb-true}
-use Rattle.std.proofs.lemmas.List.{length-drop, take-map, drop-map}
+use Rattle.std.proofs.lemmas.List.{length-drop, length-replicate, take-map, drop-map}
 use Rattle.vx_arrow_image.specs.Rows.{RowValue}
 use Rattle.vx_arrow_image.specs.Image.{Part, is_sound, column_of, with_part, columns_in, column_in, only}
-use Rattle.vx_arrow_columns.specs.Picks.{Picking, below, pickings}
+use Rattle.vx_arrow_columns.specs.Picks.{Picking, all_rows, below, belows, dense_picking, inner, inners, inners_by, keeps, pickings, splits}
 use Rattle.vx_arrow_columns.specs.Planned.{are_trees, child_lens, tree_lens}
 use Rattle.vx_arrow_columns.specs.Taken.{AreInside, IsTaken}
 use Rattle.vx_arrow_image.proofs.SoundNodes.{length_column}
@@ -75,6 +79,77 @@ columns_lens (p ∷ ps) cs e =
 pub child_columns : (p : Part) (ps : List Part) (cs : List (List RowValue)) → columns_in ps ≡ Some cs → child_lens p ps ≡ map length (take p.children cs)
 child_columns p ps cs e = ap (take p.children) (sym (columns_lens ps cs e)) ∙ take-map length p.children cs
 
+-- ---- the picks of children
+
+inners_len : (p : Part) (q : Picking) → length (inners p q) ≡ p.children
+inners_len p q = go p.format
+  where
+    go : (f : Option Format) → length (inners_by f p q) ≡ p.children
+    go (Some DenseUnion) = length-map-range_with_len (dense_picking p q) 0 p.children
+    go f = length-replicate p.children (inner p q)
+
+pub belows_len : (p : Part) (q : Picking) → length (belows p q) ≡ p.children
+belows_len p q = go q.kept
+  where
+    go : (b : Bool) → length (cond b (replicate p.children all_rows) (inners p q)) ≡ p.children
+    go true = length-replicate p.children all_rows
+    go false = inners_len p q
+
+pub inners_leaf : (p : Part) (q : Picking) → p.children ≡ 0 → inners p q ≡ replicate p.children (inner p q)
+inners_leaf p q e = empty (inners p q) (inners_len p q ∙ e) ∙ sym (empty (replicate p.children (inner p q)) (length-replicate p.children (inner p q) ∙ e))
+
+-- all children have the same picks but those of dense unions
+pub inners_same : (p : Part) (q : Picking) → splits p.format ≡ false → inners p q ≡ replicate p.children (inner p q)
+inners_same p q e = go p.format e
+  where
+    go : (f : Option Format) → splits f ≡ false → inners_by f p q ≡ replicate p.children (inner p q)
+    go (Some DenseUnion) e = absurd (let g : true ≡ false = e in cc)
+    go f e = refl
+
+-- views have no picks of their own for each child
+pub kept_same : (p : Part) → keeps p.format ≡ true → splits p.format ≡ false
+kept_same p e = go p.format e
+  where
+    go : (f : Option Format) → keeps f ≡ true → splits f ≡ false
+    go (Some DenseUnion) e = absurd (let g : false ≡ true = e in cc)
+    go f e = refl
+
+pub same_belows : (p : Part) (q : Picking) → splits p.format ≡ false → replicate p.children (below p q) ≡ belows p q
+same_belows p q e = go q.kept
+  where
+    go : (b : Bool) → replicate p.children (cond b all_rows (inner p q)) ≡ cond b (replicate p.children all_rows) (inners p q)
+    go true = refl
+    go false = sym (inners_same p q e)
+
+-- none of these is kept
+abbrev pub NoneKept : List Picking → Type 0
+NoneKept is = (j : ℕ) (d : Picking) → j < length is → (get_or is j d).kept ≡ false
+
+same_kept : (n j : ℕ) (i d : Picking) → j < n → (get_or (replicate n i) j d).kept ≡ i.kept
+same_kept zero j i d h = absurd (omega arith)
+same_kept (suc n) zero i d h = refl
+same_kept (suc n) (suc j) i d h = same_kept n j i d (omega arith)
+
+pub inners_split : (p : Part) (q : Picking) → splits p.format ≡ true → inners p q ≡ map (dense_picking p q) (range_with_len 0 p.children)
+inners_split p q e = go p.format e
+  where
+    go : (f : Option Format) → splits f ≡ true → inners_by f p q ≡ map (dense_picking p q) (range_with_len 0 p.children)
+    go (Some DenseUnion) e = refl
+    go f e = absurd (let g : false ≡ true = e in cc)
+
+pub nth_split : (p : Part) (q : Picking) (j : ℕ) (d : Picking) → splits p.format ≡ true → j < p.children → get_or (inners p q) j d ≡ dense_picking p q j
+nth_split p q j d e low =
+    ap (λ (l : List Picking). get_or l j d) (inners_split p q e) ∙ get_or-map-range_with_len (dense_picking p q) 0 p.children j j d low (let z : 0 + j ≡ j = omega arith in z)
+
+pub none_kept : (p : Part) (q : Picking) → keeps p.format ≡ false → NoneKept (inners p q)
+none_kept p q e j d h = go (splits p.format) refl
+  where
+    go : (b : Bool) → splits p.format ≡ b → (get_or (inners p q) j d).kept ≡ false
+    go false f =
+        let same = inners_same p q f in
+        ap (λ (l : List Picking). (get_or l j d).kept) same ∙ same_kept p.children j (inner p q) d (omega (arith, ap length same, length-replicate p.children (inner p q))) ∙ e
+    go true f = ap (λ (i : Picking). i.kept) (nth_split p q j d f (omega (arith, inners_len p q)))
+
 -- ---- each node taken
 
 pub record AllTaken (ps ws : List Part) (qs : List Picking) : Type 0 where
@@ -93,16 +168,16 @@ drop_next p ps k = ap (λ n. drop n (p ∷ ps)) (let e : suc k + 1 ≡ suc (k + 
 pub drop_first : (p : Part) (ps : List Part) → drop (0 + 1) (p ∷ ps) ≡ ps
 drop_first p ps = ap (λ n. drop n (p ∷ ps)) (let e : 0 + 1 ≡ suc 0 = omega arith in e)
 
-pub behind : (p w : Part) (ps ws : List Part) (q : Picking) (qs : List Picking) → AllTaken (p ∷ ps) (w ∷ ws) (q ∷ qs) → AllTaken ps ws (replicate p.children (below p q) ++ qs)
+pub behind : (p w : Part) (ps ws : List Part) (q : Picking) (qs : List Picking) → AllTaken (p ∷ ps) (w ∷ ws) (q ∷ qs) → AllTaken ps ws (belows p q ++ qs)
 behind p w ps ws q qs a = record {
   len = omega (arith, a.len);
   taken = λ k d e r h. a.taken (suc k) d e r (omega arith);
   inside = λ k d r h own.
-      let next = replicate p.children (below p q) ++ qs in
+      let next = belows p q ++ qs in
       subst (λ (l : List Part). AreInside (get_or ps k d) (get_or (pickings ps next) k r).picks (child_lens (get_or ps k d) l)) (drop_next p ps k) (a.inside (suc k) d r (omega arith) own);
 }
 
-pub kept_behind : (p : Part) (ps : List Part) (q : Picking) (qs : List Picking) → KeptSound (p ∷ ps) (q ∷ qs) → KeptSound ps (replicate p.children (below p q) ++ qs)
+pub kept_behind : (p : Part) (ps : List Part) (q : Picking) (qs : List Picking) → KeptSound (p ∷ ps) (q ∷ qs) → KeptSound ps (belows p q ++ qs)
 kept_behind p ps q qs s = record {
   sound = λ k d r h own. ap (λ (l : List Part). is_sound (get_or ps k d) (child_lens (get_or ps k d) l)) (sym (drop_next p ps k)) ∙ s.sound (suc k) d r (omega arith) own;
 }

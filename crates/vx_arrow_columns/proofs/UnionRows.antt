@@ -12,18 +12,19 @@ use Rattle.vx_arrow_image.specs.Rows.{RowValue, null, tagged}
 use Rattle.vx_arrow_image.specs.Image.{Part, child_of, has_child, ids_of, is_valid, row_of, value_at}
 use Rattle.vx_arrow_image.proofs.CutRows.{range_all}
 use Rattle.vx_arrow_image.proofs.SoundNodes.{get_column, has_ids, ids_held, length_column, sound_from}
-use Rattle.vx_arrow_columns.specs.Picks.{Picking, inner, inner_picks, place_of, tags, has_bits, shows_by, shows_valid}
-use Rattle.vx_arrow_columns.specs.Taken.{AreChildrenAt, AreTagged, IsOwnTaken, IsReadable, id_at}
+use Rattle.vx_arrow_columns.specs.Picks.{Picking, inners_by, inner, inner_picks, place_of, tags, has_bits, shows_by, shows_valid}
+use Rattle.vx_arrow_columns.specs.Taken.{AreTagged, IsOwnTaken, IsReadable, id_at}
 use Rattle.vx_arrow_columns.specs.Written.{new_part}
 use Rattle.vx_arrow_columns.proofs.Columns.{placed}
-use Rattle.vx_arrow_columns.proofs.OwnTaken.{few_picks, held_by, long_all}
+use Rattle.vx_arrow_columns.proofs.RowsAt.{AreSameAt}
+use Rattle.vx_arrow_columns.proofs.OwnTaken.{few_picks, held_by, long_all, own_taken}
 
-no_bits : (v : List ℕ) → length v ≡ 0 → v ≡ []
+pub no_bits : (v : List ℕ) → length v ≡ 0 → v ≡ []
 no_bits [] e = refl
 no_bits (b ∷ bs) e = absurd (omega arith)
 
 -- without a validity each row is there
-bare_place : (p : Part) (i : ℕ) → length p.valid ≡ 0 → place_of p (Some i) ≡ Some (p.offset + i)
+pub bare_place : (p : Part) (i : ℕ) → length p.valid ≡ 0 → place_of p (Some i) ≡ Some (p.offset + i)
 bare_place p i e = ap (λ (v : List ℕ). cond (is_valid v (p.offset + i)) (Some (p.offset + i)) None) (no_bits p.valid e)
 
 bare_row : (p : Part) (cs : List (List RowValue)) (i : ℕ) → p.format ≡ Some Union → length p.valid ≡ 0 → row_of p cs i ≡ value_at (Some Union) p cs i
@@ -35,7 +36,7 @@ first_id p some ids =
     let n = p.children in
     list_any_at (λ x. eqb x (get_or p.sizes 0 0)) (take n p.sizes) 0 0 (omega (arith, length-take-le n p.sizes ids)) (eq-eqb _ _ (get_or-take n p.sizes 0 0 some))
 
-child_there : (p : Part) (i : ℕ) → has_child p i ≡ true → list_any (λ x. eqb x (get_or p.values i 0)) (ids_of p) ≡ true
+pub child_there : (p : Part) (i : ℕ) → has_child p i ≡ true → list_any (λ x. eqb x (get_or p.values i 0)) (ids_of p) ≡ true
 unfolding has_child
 child_there p i h = h
 
@@ -48,7 +49,7 @@ id_known p q k None some ids bare h = first_id p some ids
 id_known p q k (Some i) some ids bare h = child_there p (p.offset + i) (h (p.offset + i) (bare_place p i bare))
 
 -- a child's row at a pick, or that of no child
-child_row : (q : List (Option ℕ)) (n j k i : ℕ) (cs ds : List (List RowValue)) → AreChildrenAt q n cs ds → k < length q → get_or q k None ≡ Some i → get_or (get_or ds j []) k null ≡ get_or (get_or cs j []) i null
+child_row : (q : List (Option ℕ)) (n j k i : ℕ) (cs ds : List (List RowValue)) → AreSameAt q n cs ds → k < length q → get_or q k None ≡ Some i → get_or (get_or ds j []) k null ≡ get_or (get_or cs j []) i null
 child_row q n j k i cs ds a h e =
     let old = a.old_len in
     let new = a.new_len in
@@ -66,7 +67,7 @@ union_taken p q o x s format r room_x room_s are ids =
     let f = option_map (λ (i : ℕ). p.offset + i) in
     let is : (inner p q).picks ≡ map f q.picks = ap (λ (y : Option Format). inner_picks y p q.picks) format in
     let count : length (inner p q).picks ≡ length q.picks = ap length is ∙ length-map q.picks f in
-    record {
+    own_taken p w q (ap (λ (y : Option Format). inners_by y p q) format) (record {
       children = refl;
       len = refl;
       sound = sound_from w _ (Some Union) format (placed w refl (few_picks p q.picks r.counted) refl)
@@ -88,7 +89,7 @@ union_taken p q o x s format r room_x room_s are ids =
             ∙ sym (get_column p cs i low ∙ bare_row p cs (p.offset + i) format has.bare);
         nulls = λ loose. absurd (let g : true ≡ false = sym (ap tags format) ∙ loose in cc);
       };
-    }
+    })
 
 -- the same with whatever bits there are, since none are looked at
 pub union_node : (p : Part) (q : Picking) (v o x s : List ℕ) → p.format ≡ Some Union → IsReadable p q.picks → length q.picks ≤ length x → p.children ≤ length s → AreTagged p q.picks (length q.picks) x → take p.children s ≡ ids_of p

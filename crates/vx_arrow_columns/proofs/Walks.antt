@@ -3,15 +3,15 @@ use Rattle.std.proofs.Common.{zero, suc, ◌≡◌, ℕ, ◌+◌, ◌-◌, ◌<�
 use Rattle.std.specs.Prelude.{replicate}
 use Rattle.std.specs.List.{All}
 use Rattle.std.proofs.lemmas.Bool.{cases_lt}
-use Rattle.std.proofs.lemmas.List.{reverse-append, length-replicate, map-append, drop_more, get_or_append_left, get_or-append_right, length-map, length-drop}
-use Rattle.std.proofs.lemmas.List.Elements.{All-append, All-replicate, All-weaker, All-get_or, All-push, All-nil, All-cons, All-head, All-tail, All-same}
+use Rattle.std.proofs.lemmas.List.{length-reverse, reverse-append, reverse-reverse, map-append, drop_more, get_or_append_left, get_or-append_right, length-map, length-drop}
+use Rattle.std.proofs.lemmas.List.Elements.{All-append, All-weaker, All-get_or, All-push, All-nil, All-cons, All-head, All-tail, All-same}
 use Rattle.vx_arrow_image.specs.declared.image.Node as image
 use Rattle.vx_arrow_image.specs.declared.image.Need.{Need}
 use Rattle.vx_arrow_columns.specs.declared.places.Places.{Places}
 use Rattle.vx_arrow_columns.specs.declared.plan.Job as jobs
 use Rattle.vx_arrow_columns.specs.declared.plan.Walk as walks
 use Rattle.vx_arrow_image.specs.Image.{Part, part_of, parts_of}
-use Rattle.vx_arrow_columns.specs.Picks.{Picking, all_rows, below, need_of, needs_by, picking_of, pickings}
+use Rattle.vx_arrow_columns.specs.Picks.{Picking, all_rows, belows, need_of, needs_by, picking_of, pickings}
 use Rattle.vx_arrow_columns.specs.Planned.{IsListed, IsRead, IsSound, IsStart, IsVisited, IsWalking, are_trees, picking_by, picking_in, places_in, valid_in}
 use Rattle.vx_arrow_columns.specs.Taken.{AreWithin}
 
@@ -114,30 +114,29 @@ popped_sound ps vs ls stack (r ∷ rest) job e h =
     let inside = popped_sound ps vs ls (rest ++ job ∷ []) rest job refl (All-tail (IsSound ps vs ls) r (rest ++ job ∷ []) all) in
     (All-cons (IsSound ps vs ls) r rest (All-head (IsSound ps vs ls) r (rest ++ job ∷ []) all) inside.0, inside.1)
 
+turned : {X : Type 0} (P : X → Type 0) (xs : List X) → All P xs → All P (reverse xs)
+turned P [] h = h
+turned {X} P (x ∷ xs) h =
+    All-same P (reverse (x ∷ xs)) (reverse xs ++ x ∷ []) (reverse-append (x ∷ []) xs)
+    (All-append P (reverse xs) (x ∷ []) (turned P xs (All-tail P x xs h)) (All-cons P x [] (All-head P x xs h) (All-nil P)))
+
+-- the next jobs stand before the others
+pub turned_stack : (stack rest nexts : List jobs.Job) → stack ≡ rest ++ reverse nexts → reverse stack ≡ nexts ++ reverse rest
+turned_stack stack rest nexts e = ap reverse e ∙ reverse-append rest (reverse nexts) ∙ ap (λ (l : List jobs.Job). l ++ reverse rest) (reverse-reverse nexts)
+
 next_stack : (ps vs : List ℕ) (node : image.Node) (old new : walks.Walk) (v : (behind : List image.Node) × IsVisited ps vs node behind old new) → IsWalking ps vs old
     → map (picking_in ps vs new.lists.items) (reverse new.stack.items)
-    ≡ replicate node.children (below (part_of node) (picking_in ps vs old.lists.items v.1.job)) ++ map (picking_in ps vs old.lists.items) (reverse v.1.rest)
+    ≡ belows (part_of node) (picking_in ps vs old.lists.items v.1.job) ++ map (picking_in ps vs old.lists.items) (reverse v.1.rest)
 next_stack ps vs node old new v walking =
     let V = v.1 in
-    let J = picking_in ps vs old.lists.items in
+    let N = V.nexts_are in
     let J' = picking_in ps vs new.lists.items in
     let both = popped_sound ps vs old.lists.items old.stack.items V.rest V.job V.popped walking in
     let all = All-weaker (IsSound ps vs old.lists.items) (λ job. IsListed job (length old.lists.items)) (λ j s. s.listed) V.rest both.0 in
-    ap (λ (l : List jobs.Job). map J' (reverse l)) V.stack
-    ∙ ap (map J') (reverse-append V.rest (replicate node.children V.next) ∙ ap (λ (l : List jobs.Job). l ++ reverse V.rest) (reverse_many node.children V.next))
-    ∙ map-append J' (replicate node.children V.next) (reverse V.rest)
-    ∙ ap₂ ◌++◌ (map_many J' node.children V.next ∙ V.next_is.picks ps vs V.read.within V.inner_is)
-    (back ps vs old.lists.items V.next_is.more new.lists.items V.rest V.next_is.grown all)
-  where
-    back : (ps vs : List ℕ) (ls more new : List Places) (js : List jobs.Job) → new ≡ ls ++ more → All (λ job. IsListed job (length ls)) js
-        → map (picking_in ps vs new) (reverse js) ≡ map (picking_in ps vs ls) (reverse js)
-    back ps vs ls more new js e h = kept_jobs ps vs ls more new (reverse js) e (turned (λ job. IsListed job (length ls)) js h)
-      where
-        turned : {X : Type 0} (P : X → Type 0) (xs : List X) → All P xs → All P (reverse xs)
-        turned P [] h = h
-        turned {X} P (x ∷ xs) h =
-            All-same P (reverse (x ∷ xs)) (reverse xs ++ x ∷ []) (reverse-append (x ∷ []) xs)
-            (All-append P (reverse xs) (x ∷ []) (turned P xs (All-tail P x xs h)) (All-cons P x [] (All-head P x xs h) (All-nil P)))
+    ap (map J') (turned_stack new.stack.items V.rest V.nexts V.stack)
+    ∙ map-append J' V.nexts (reverse V.rest)
+    ∙ ap₂ ◌++◌ (N.picks ps vs V.read.within V.inner_is)
+    (kept_jobs ps vs old.lists.items N.more new.lists.items (reverse V.rest) N.grown (turned (λ job. IsListed job (length old.lists.items)) V.rest all))
 
 pub next_walk : (parts : List Part) (ps vs : List ℕ) (i m : ℕ) (node : image.Node) (d : Part) (behind : List image.Node) (old new : walks.Walk) → WalkIs parts ps vs i old → IsVisited ps vs node behind old new
     → i < length parts → get_or parts i d ≡ part_of node → parts_of behind ≡ drop (i + 1) parts → m ≡ i + 1 → WalkIs parts ps vs m new
@@ -145,8 +144,8 @@ next_walk parts ps vs i m node d behind old new w V low at left step =
     let p = part_of node in
     let J = picking_in ps vs old.lists.items in
     let J' = picking_in ps vs new.lists.items in
-    let grown = V.next_is.grown in
-    let more = V.next_is.more in
+    let grown = V.nexts_are.grown in
+    let more = V.nexts_are.more in
     let both = popped_sound ps vs old.lists.items old.stack.items V.rest V.job V.popped w.walking in
     let longer = grown_len old.lists.items more new.lists.items grown in
     let split : drop i parts ≡ p ∷ drop m parts = drop_more parts i d low ∙ ap₂ (λ (q : Part) (n : ℕ). q ∷ drop n parts) at (sym step) in
@@ -158,7 +157,7 @@ next_walk parts ps vs i m node d behind old new w V low at left step =
     ∙ ap₂ (λ (l : List Picking) (q : Picking). l ++ q ∷ []) (kept_jobs ps vs old.lists.items more new.lists.items old.jobs.items grown w.listed) same in
     let to_come : pickings (drop i parts) (map J (reverse old.stack.items)) ≡ J V.job ∷ pickings (drop m parts) (map J' (reverse new.stack.items)) =
     ap₂ (λ (l : List Part) (s : List jobs.Job). pickings l (map J s)) split top ∙ ap (λ (q : List Picking). J V.job ∷ pickings (drop m parts) q) (sym next) in
-    let count : length new.stack.items ≡ length V.rest + node.children = ap length V.stack ∙ length-append V.rest (replicate node.children V.next) ∙ ap (λ n. length V.rest + n) (length-replicate node.children V.next) in
+    let count : length new.stack.items ≡ length V.rest + node.children = ap length V.stack ∙ length-append V.rest (reverse V.nexts) ∙ ap (λ n. length V.rest + n) (length-reverse V.nexts ∙ V.nexts_are.count) in
     let was : length old.stack.items ≡ suc (length V.rest) = ap length V.popped ∙ length-append V.rest (V.job ∷ []) ∙ (let e : length V.rest + 1 ≡ suc (length V.rest) = omega arith in e) in
     let fewer = V.few in
     let rest : length behind ≡ length parts - (i + 1) = sym (length-map behind part_of) ∙ ap length left ∙ length-drop (i + 1) parts in
@@ -194,13 +193,10 @@ next_walk parts ps vs i m node d behind old new w V low at left step =
             (subst (λ (r : Part). IsRead r (J V.job) (drop (k + 1) parts)) (sym this)
             (subst (λ (l : List Part). IsRead p (J V.job) l) tail V.read))
       ];
-      walking = All-same (IsSound ps vs new.lists.items) new.stack.items (V.rest ++ replicate node.children V.next) V.stack
-          (All-append (IsSound ps vs new.lists.items) V.rest (replicate node.children V.next)
+      walking = All-same (IsSound ps vs new.lists.items) new.stack.items (V.rest ++ reverse V.nexts) V.stack
+          (All-append (IsSound ps vs new.lists.items) V.rest (reverse V.nexts)
           (All-weaker (IsSound ps vs old.lists.items) (IsSound ps vs new.lists.items) (λ j s. still_sound ps vs old.lists.items more new.lists.items j grown s) V.rest both.0)
-          (All-replicate (IsSound ps vs new.lists.items) node.children V.next (record {
-            listed = V.next_is.listed both.1.listed;
-            within = V.next_is.within ps vs both.1.within V.read.within V.inner_is;
-          })));
+          (turned (IsSound ps vs new.lists.items) V.nexts (V.nexts_are.sound ps vs both.1 V.read.within V.inner_is)));
     }
   where
     any_default : {X : Type 0} (xs : List X) (i : ℕ) (d e : X) → i < length xs → get_or xs i d ≡ get_or xs i e

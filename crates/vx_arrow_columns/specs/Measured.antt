@@ -1,12 +1,15 @@
 -- What the tests of one node at picks find.
 use Rattle.std.specs.Option.{option_map}
-use Rattle.std.specs.Prelude.{ℕ, ◌+◌, ◌^◌, ◌<◌, ◌≤◌, ◌≡◌, false, List, length, slice_index_or, Option, Some, map}
+use Rattle.std.specs.Prelude.{ℕ, ◌+◌, ◌^◌, ◌<◌, ◌≤◌, ◌≡◌, false, List, length, slice_index_or, Option, Some, None, is_some, map, replicate}
+use Rattle.vx_arrow_image.specs.declared.format.Format.TheVariants.{DenseUnion}
 use Rattle.vx_arrow_image.specs.declared.format.Offsets.{Offsets}
 use Rattle.vx_arrow_columns.specs.declared.needs.Inner.{Inner}
 use Rattle.vx_arrow_columns.specs.declared.needs.Inner.TheVariants as inners
+use Rattle.vx_arrow_columns.specs.declared.dense.Rows as dense
+use Rattle.vx_arrow_columns.specs.declared.needs.Items as items_type
 use Rattle.vx_arrow_columns.specs.declared.needs.Measure as measures
-use Rattle.vx_arrow_image.specs.Image.{Part, limit_of}
-use Rattle.vx_arrow_columns.specs.Picks.{Picking, all_rows, below, picking_of, picks_of, fixed_item, items_len, items_of, values_len, inner}
+use Rattle.vx_arrow_image.specs.Image.{Part, is_valid, limit_of}
+use Rattle.vx_arrow_columns.specs.Picks.{Picking, all_rows, below, belows, dense_picking, splits, dense_rows, has_bits, picking_of, picks_of, fixed_item, items_len, items_of, values_len, inner}
 use Rattle.vx_arrow_columns.specs.Sound.{AsksBelow, IsSoundAt}
 use Rattle.vx_arrow_columns.specs.Taken.{AreCutAt, AreWithin, IsReadable}
 
@@ -34,9 +37,48 @@ pub record AreItemPlaces (p : Part) (q : List (Option ℕ)) (n : ℕ) (places : 
   pub len : length places ≡ n
   pub are : (m x : ℕ) → m < n → fixed_item p q m ≡ Some x → slice_index_or places m 0 ≡ x
 
+-- the end of places that were below `end`, with one more
+pub record IsEndAfter (end : ℕ) (place : Option ℕ) (after : ℕ) : Type 0 where
+  pub none : place ≡ None → after ≡ end
+  pub up : end ≤ after
+  pub above : (x : ℕ) → place ≡ Some x → x < after
+  pub least : (n : ℕ) → end ≤ n → ((x : ℕ) → place ≡ Some x → x < n) → after ≤ n
+
+-- these places are those of a list of picks, 0 for a null one, below an end that they reach
+pub record ArePlaced (l : List (Option ℕ)) (places : List ℕ) (end : ℕ) : Type 0 where
+  pub len : length places ≡ length l
+  pub are : (m x : ℕ) → m < length l → slice_index_or l m None ≡ Some x
+      → slice_index_or places m 0 ≡ x
+  pub within : AreWithin l end
+  pub reached : (n : ℕ) → AreWithin l n → end ≤ n
+
+-- these are the places of the rows of child j of a dense union at picks
+abbrev pub AreRowsOf : Part → List (Option ℕ) → ℕ → dense.Rows → Type 0
+AreRowsOf p q j r = ArePlaced (dense_rows p q j) r.places.items r.end
+
+-- these bits say which of them are there; there are none where the picks have none
+pub record AreShownOf (p : Part) (q : List (Option ℕ)) (j : ℕ) (valid bits : List ℕ)
+    : Type 0 where
+  pub some : has_bits bits ≡ has_bits valid
+  pub shows : (m : ℕ) → m < length (dense_rows p q j)
+      → is_valid bits m ≡ is_some (slice_index_or (dense_rows p q j) m None)
+
+-- these are the picks of one child, below an end
+pub record IsDenseItem (p : Part) (q : Picking) (j : ℕ) (i : items_type.Items) : Type 0 where
+  pub picks : picking_of i.list.places.items i.list.valid.items 0 ≡ dense_picking p q j
+  pub within : AreWithin (dense_rows p q.picks j) i.end
+  pub reached : (n : ℕ) → AreWithin (dense_rows p q.picks j) n → i.end ≤ n
+
+-- these are the picks of the first n children
+pub record AreDenseItems (p : Part) (q : Picking) (n : ℕ) (items : List items_type.Items)
+    : Type 0 where
+  pub len : length items ≡ n
+  pub are : (j : ℕ) (d : items_type.Items) → j < n → IsDenseItem p q j (slice_index_or items j d)
+
 -- the picks of the only child are at these places, all below the end
 pub record AreListed (p : Part) (q : Picking) (places valid : List ℕ) (end : ℕ) : Type 0 where
   pub one : p.children ≡ 1
+  pub same : splits p.format ≡ false
   pub listed : below p q ≡ picking_of places valid 0
   pub within : AreWithin (picks_of places valid 0) end
 
@@ -53,10 +95,15 @@ moved by q =
 abbrev pub IsInner : Part → Picking → Inner → Type 0
 IsInner p q inners.Leaf = p.children ≡ 0
 IsInner p q inners.Same =
-    (inner p q ≡ moved p.offset q) × (q.kept ≡ false) × (p.offset + p.len < 2 ^ 60)
+    (inner p q ≡ moved p.offset q)
+    × (q.kept ≡ false)
+    × (p.offset + p.len < 2 ^ 60)
+    × (splits p.format ≡ false)
 IsInner p q (inners.Listed items) =
     AreListed p q items.list.places.items items.list.valid.items items.end
-IsInner p q inners.Kept = below p q ≡ all_rows
+IsInner p q (inners.Split items) =
+    (q.kept ≡ false) × (p.format ≡ Some DenseUnion) × AreDenseItems p q p.children items.items
+IsInner p q inners.Kept = belows p q ≡ replicate p.children all_rows
 
 -- so many bytes of values, of a node that has no children
 pub record IsLeaf (p : Part) (values : ℕ) (m : measures.Measure) : Type 0 where

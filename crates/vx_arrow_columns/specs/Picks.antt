@@ -1,12 +1,12 @@
 -- Picks of a column's rows, of its children's, and what the rows at them need.
-use Rattle.std.specs.Prelude.{ℕ, ◌+◌, ◌-◌, ◌*◌, ◌/◌, ◌%◌, ◌^◌, Bool, true, false, ◌&&◌, ◌||◌, List, [], ◌∷◌, ◌++◌, map, length, replicate, slice_index, slice_index_or, nat_lt, if◌then◌else◌, Option, Some, None}
+use Rattle.std.specs.Prelude.{ℕ, ◌+◌, ◌-◌, ◌*◌, ◌/◌, ◌%◌, ◌^◌, Bool, true, false, ◌&&◌, ◌||◌, List, [], ◌∷◌, ◌++◌, map, length, replicate, slice_index, slice_index_or, nat_lt, ◌==◌, if◌then◌else◌, Option, Some, None}
 use Rattle.std.specs.List.{range_with_len, flat_map, sum_by}
 use Rattle.std.specs.Option.{option_map}
 use Rattle.vx_arrow_image.specs.declared.format.Format.{Format}
-use Rattle.vx_arrow_image.specs.declared.format.Format.TheVariants.{Nulls, Bits, Fixed, Text, Struct, List as Lists, FixedList, TextView, ListView, Union}
+use Rattle.vx_arrow_image.specs.declared.format.Format.TheVariants.{Nulls, Bits, Fixed, Text, Struct, List as Lists, FixedList, TextView, ListView, Union, DenseUnion}
 use Rattle.vx_arrow_image.specs.declared.format.Offsets.{Offsets}
 use Rattle.vx_arrow_image.specs.declared.image.Need as image
-use Rattle.vx_arrow_image.specs.Image.{Part, is_valid, offset_at, size_of, limit_of}
+use Rattle.vx_arrow_image.specs.Image.{Part, child_of, dense_start, ids_of, is_valid, offset_at, size_of, limit_of}
 
 -- picks, and whether bits say which of them are null; or all rows as they stand, which are kept
 pub record Picking : Type 0 where
@@ -84,6 +84,7 @@ inner_picks (Some FixedList) p q = fixed_items p q
 inner_picks (Some TextView) p q = []
 inner_picks (Some (ListView z)) p q = []
 inner_picks (Some Union) p q = map (option_map (λ i. p.offset + i)) q
+inner_picks (Some DenseUnion) p q = []
 
 abbrev pub inner_nullable : Option Format → Bool → Bool
 inner_nullable (Some Struct) b = b
@@ -97,9 +98,15 @@ keeps (Some TextView) = true
 keeps (Some (ListView z)) = true
 keeps f = false
 
+-- whether each child has picks of its own
+abbrev pub splits : Option Format → Bool
+splits (Some DenseUnion) = true
+splits f = false
+
 -- whether the rows are those of a union, which are never null
 abbrev pub tags : Option Format → Bool
 tags (Some Union) = true
+tags (Some DenseUnion) = true
 tags f = false
 
 abbrev pub is_union : List Part → Bool
@@ -118,11 +125,43 @@ inner p q =
 abbrev pub below : Part → Picking → Picking
 below p q = if q.kept then all_rows else inner p q
 
+-- which child of a dense union the row at a pick stands in: the first, where the pick is null
+abbrev pub dense_child : Part → Option ℕ → ℕ
+dense_child p None = 0
+dense_child p (Some i) = child_of (ids_of p) (slice_index p.values (p.offset + i))
+
+-- and which row of it that is
+abbrev pub dense_item : Part → Option ℕ → Option ℕ
+dense_item p o = option_map (λ i. dense_start p (p.offset + i)) o
+
+abbrev pub dense_row : Part → ℕ → Option ℕ → List (Option ℕ)
+dense_row p j o = if dense_child p o == j then dense_item p o ∷ [] else []
+
+-- the rows of child j that the rows at picks stand in
+unfoldable pub dense_rows : Part → List (Option ℕ) → ℕ → List (Option ℕ)
+dense_rows p q j = flat_map (dense_row p j) q
+
+abbrev pub dense_picking : Part → Picking → ℕ → Picking
+dense_picking p q j =
+    record { picks = dense_rows p q.picks j; nullable = q.nullable; kept = false }
+
+-- the picks of each child: its own, in a dense union, and else the same for all
+abbrev pub inners_by : Option Format → Part → Picking → List Picking
+inners_by (Some DenseUnion) p q = map (dense_picking p q) (range_with_len 0 p.children)
+inners_by f p q = replicate p.children (inner p q)
+
+abbrev pub inners : Part → Picking → List Picking
+inners p q = inners_by p.format p q
+
+-- and of the children of any node
+abbrev pub belows : Part → Picking → List Picking
+belows p q = if q.kept then replicate p.children all_rows else inners p q
+
 -- the picks of each node of a table of trees, of which the first ones have these picks
 abbrev pub pickings : List Part → List Picking → List Picking
 pickings [] qs = []
 pickings (p ∷ ps) [] = []
-pickings (p ∷ ps) (q ∷ qs) = q ∷ pickings ps (replicate p.children (below p q) ++ qs)
+pickings (p ∷ ps) (q ∷ qs) = q ∷ pickings ps (belows p q ++ qs)
 
 -- ---- what the rows at picks need
 
@@ -133,6 +172,7 @@ bytes_for n = (n + 7) / 8
 abbrev pub shows_by : Option Format → Bool → Bool
 shows_by (Some Nulls) b = false
 shows_by (Some Union) b = false
+shows_by (Some DenseUnion) b = false
 shows_by f b = b
 
 abbrev pub shows_valid : Part → Picking → Bool
@@ -150,6 +190,7 @@ offsets_len (Some FixedList) n = 0
 offsets_len (Some TextView) n = 0
 offsets_len (Some (ListView z)) n = size_of z * n
 offsets_len (Some Union) n = 0
+offsets_len (Some DenseUnion) n = 4 * n
 
 abbrev pub sizes_len : Option Format → Part → ℕ → ℕ
 sizes_len None p n = 0
@@ -163,6 +204,7 @@ sizes_len (Some FixedList) p n = 0
 sizes_len (Some TextView) p n = 0
 sizes_len (Some (ListView z)) p n = size_of z * n
 sizes_len (Some Union) p n = p.children
+sizes_len (Some DenseUnion) p n = p.children
 
 abbrev pub values_len : Option Format → Part → List (Option ℕ) → ℕ
 values_len None p q = 0
@@ -176,6 +218,7 @@ values_len (Some FixedList) p q = 0
 values_len (Some TextView) p q = 16 * length q
 values_len (Some (ListView z)) p q = 0
 values_len (Some Union) p q = length q
+values_len (Some DenseUnion) p q = length q
 
 -- how many rows a node has at these picks, and how many bytes they are
 abbrev pub own_need : Part → Picking → image.Need
@@ -218,6 +261,7 @@ counts_by (Some FixedList) p q = nat_lt (length q * p.width) (2 ^ 60)
 counts_by (Some TextView) p q = nat_lt (16 * length q) (2 ^ 63)
 counts_by (Some (ListView z)) p q = true
 counts_by (Some Union) p q = true
+counts_by (Some DenseUnion) p q = nat_lt (length q) (2 ^ 31)
 
 unfoldable pub is_counted : Part → List (Option ℕ) → Bool
 is_counted p q = nat_lt (length q) (2 ^ 60) && counts_by p.format p q

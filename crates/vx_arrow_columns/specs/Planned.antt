@@ -1,8 +1,10 @@
 -- Walks over a table, and the plan that they leave.
 use Rattle.std.specs.List.{All}
-use Rattle.std.specs.Prelude.{ℕ, ◌+◌, ◌<◌, ◌≤◌, ◌≡◌, ◌==◌, Bool, true, false, zero, suc, List, [], ◌∷◌, ◌++◌, map, take, drop, length, replicate, slice_index_or, if◌then◌else◌, Option, Some, None}
+use Rattle.std.specs.Prelude.{ℕ, ◌+◌, ◌<◌, ◌≤◌, ◌≡◌, ◌==◌, ⊤, Bool, true, false, zero, suc, List, [], ◌∷◌, ◌++◌, map, take, drop, length, replicate, reverse, slice_index_or, if◌then◌else◌, Option, Some, None}
 use Rattle.vx_arrow_image.specs.declared.image.Node as image
+use Rattle.vx_arrow_columns.specs.declared.needs.Items as items_type
 use Rattle.vx_arrow_columns.specs.declared.needs.Inner.{Inner}
+use Rattle.vx_arrow_columns.specs.declared.needs.Inner.TheVariants as inners
 use Rattle.vx_arrow_columns.specs.declared.places.Places as places
 use Rattle.vx_arrow_columns.specs.declared.plan.Job as job_type
 use Rattle.vx_arrow_columns.specs.declared.plan.Measured as measured
@@ -10,7 +12,7 @@ use Rattle.vx_arrow_columns.specs.declared.plan.Plan as plans
 use Rattle.vx_arrow_columns.specs.declared.plan.Walk as walks
 use Rattle.vx_arrow_image.specs.Image.{Part, part_of, parts_of}
 use Rattle.vx_arrow_columns.specs.Measured.{IsInner}
-use Rattle.vx_arrow_columns.specs.Picks.{Picking, all_rows, below, picking_of, need_of, needs_of, pickings}
+use Rattle.vx_arrow_columns.specs.Picks.{Picking, all_rows, belows, picking_of, need_of, needs_of, pickings}
 use Rattle.vx_arrow_columns.specs.Sound.{AsksBelow, IsSoundAt}
 use Rattle.vx_arrow_columns.specs.Taken.{AreInside, AreWithin, IsReadable}
 
@@ -42,6 +44,11 @@ unfoldable pub picking_in : List ℕ → List ℕ → List places.Places → job
 picking_in ps vs lists job =
     if job.kept then all_rows else picking_by ps vs lists job.list job.add
 
+-- a job whose list is there, and whose picks are below its end
+pub record IsSound (ps vs : List ℕ) (lists : List places.Places) (job : job_type.Job) : Type 0 where
+  pub listed : IsListed job (length lists)
+  pub within : AreWithin (picking_in ps vs lists job).picks job.end
+
 -- the job `next` of a node's children comes from its own, and lists are added at most
 pub record IsNext (node : image.Node) (job : job_type.Job) (inside : Inner)
     (old new : List places.Places) (next : job_type.Job) : Type 0 where
@@ -55,11 +62,60 @@ pub record IsNext (node : image.Node) (job : job_type.Job) (inside : Inner)
   pub picks : (ps vs : List ℕ) → AreWithin (picking_in ps vs old job).picks node.len
       → IsInner (part_of node) (picking_in ps vs old job) inside
       → replicate node.children (picking_in ps vs new next)
-      ≡ replicate node.children (below (part_of node) (picking_in ps vs old job))
+      ≡ belows (part_of node) (picking_in ps vs old job)
   pub far : (ps vs : List ℕ) (lens : List ℕ) → length lens ≡ node.children
       → IsInner (part_of node) (picking_in ps vs old job) inside
       → AsksBelow (part_of node) lens inside
       → (j : ℕ) → j < node.children → next.end ≤ slice_index_or lens j 0
+
+-- the job of picks of its own
+pub record IsListedJob (lists : List places.Places) (job : job_type.Job) (i : items_type.Items)
+    : Type 0 where
+  pub listed : IsListed job (length lists)
+  pub picks : (ps vs : List ℕ) → picking_in ps vs lists job
+      ≡ picking_of i.list.places.items i.list.valid.items 0
+  pub end : job.end ≡ i.end
+
+-- the jobs `nexts` of a node's children, in order, come from its own, and lists are added at most
+pub record AreNexts (node : image.Node) (job : job_type.Job) (inside : Inner)
+    (old new : List places.Places) (nexts : List job_type.Job) : Type 0 where
+  pub more : List places.Places
+  pub grown : new ≡ old ++ more
+  pub count : length nexts ≡ node.children
+  pub sound : (ps vs : List ℕ) → IsSound ps vs old job
+      → AreWithin (picking_in ps vs old job).picks node.len
+      → IsInner (part_of node) (picking_in ps vs old job) inside
+      → All (IsSound ps vs new) nexts
+  pub picks : (ps vs : List ℕ) → AreWithin (picking_in ps vs old job).picks node.len
+      → IsInner (part_of node) (picking_in ps vs old job) inside
+      → map (picking_in ps vs new) nexts ≡ belows (part_of node) (picking_in ps vs old job)
+  pub far : (ps vs : List ℕ) (lens : List ℕ) → length lens ≡ node.children
+      → IsInner (part_of node) (picking_in ps vs old job) inside
+      → AsksBelow (part_of node) lens inside → (j : ℕ) (d : job_type.Job) → j < node.children
+      → (slice_index_or nexts j d).end ≤ slice_index_or lens j 0
+
+-- the jobs of these picks are pushed, the first child's last, and their lists
+pub record AreSplitJobs (items : List items_type.Items) (old new : List places.Places)
+    (stack pushed : List job_type.Job) : Type 0 where
+  pub nexts : List job_type.Job
+  pub more : List places.Places
+  pub grown : new ≡ old ++ more
+  pub stack_is : pushed ≡ stack ++ reverse nexts
+  pub count : length nexts ≡ length items
+  pub are : (j : ℕ) (d : job_type.Job) (e : items_type.Items) → j < length items
+      → IsListedJob new (slice_index_or nexts j d) (slice_index_or items j e)
+
+-- there are picks for each of so many children, where each has its own
+abbrev pub HasEach : Inner → ℕ → Type 0
+HasEach (inners.Split items) n = length items.items ≡ n
+HasEach inside n = ⊤
+
+-- the jobs of a node's children are pushed
+pub record IsPushed (node : image.Node) (job : job_type.Job) (inside : Inner)
+    (old new : List places.Places) (stack pushed : List job_type.Job) : Type 0 where
+  pub nexts : List job_type.Job
+  pub stack_is : pushed ≡ stack ++ reverse nexts
+  pub nexts_are : AreNexts node job inside old new nexts
 
 -- the rows at picks can be read, before these nodes, if they aren't kept
 pub record IsRead (p : Part) (q : Picking) (behind : List Part) : Type 0 where
@@ -81,11 +137,6 @@ abbrev pub first_len : List image.Node → ℕ
 first_len [] = 0
 first_len (n ∷ nodes) = n.len
 
--- a job whose list is there, and whose picks are below its end
-pub record IsSound (ps vs : List ℕ) (lists : List places.Places) (job : job_type.Job) : Type 0 where
-  pub listed : IsListed job (length lists)
-  pub within : AreWithin (picking_in ps vs lists job).picks job.end
-
 -- the jobs to come are sound
 abbrev pub IsWalking : List ℕ → List ℕ → walks.Walk → Type 0
 IsWalking ps vs w = All (IsSound ps vs w.lists.items) w.stack.items
@@ -101,16 +152,16 @@ pub record IsStart (end : ℕ) (w : walks.Walk) : Type 0 where
 pub record IsVisited (ps vs : List ℕ) (node : image.Node) (behind : List image.Node)
     (old new : walks.Walk) : Type 0 where
   pub job : job_type.Job
-  pub next : job_type.Job
+  pub nexts : List job_type.Job
   pub inside : Inner
   pub rest : List job_type.Job
   pub popped : old.stack.items ≡ rest ++ job ∷ []
   pub few : node.children + length rest ≤ length behind
-  pub stack : new.stack.items ≡ rest ++ replicate node.children next
+  pub stack : new.stack.items ≡ rest ++ reverse nexts
   pub jobs : new.jobs.items ≡ old.jobs.items ++ job ∷ []
   pub needs : new.needs.items
       ≡ old.needs.items ++ need_of (part_of node) (picking_in ps vs old.lists.items job) ∷ []
-  pub next_is : IsNext node job inside old.lists.items new.lists.items next
+  pub nexts_are : AreNexts node job inside old.lists.items new.lists.items nexts
   pub read : IsRead (part_of node) (picking_in ps vs old.lists.items job) (parts_of behind)
   pub inner_is : IsInner (part_of node) (picking_in ps vs old.lists.items job) inside
   pub asks : (lens : List ℕ) → ((picking_in ps vs old.lists.items job).kept ≡ false

@@ -1,13 +1,14 @@
 -- What a node has to hold for its rows at picks to have a meaning, and what a fault says of it.
 use Rattle.std.specs.List.{list_all}
-use Rattle.std.specs.Prelude.{ℕ, ◌+◌, ◌*◌, ◌≤◌, ◌≡◌, ⊤, true, false, List, nat_le, slice_index, Option, Some, None}
+use Rattle.std.specs.Prelude.{ℕ, ◌+◌, ◌*◌, ◌<◌, ◌≤◌, ◌≡◌, ⊤, true, false, List, length, nat_le, slice_index, slice_index_or, Option, Some, None}
 use Rattle.vx_arrow_image.specs.declared.format.Format.{Format}
-use Rattle.vx_arrow_image.specs.declared.format.Format.TheVariants.{Nulls, Bits, Fixed, Text, Struct, List as Lists, FixedList, TextView, ListView, Union}
+use Rattle.vx_arrow_image.specs.declared.format.Format.TheVariants.{Nulls, Bits, Fixed, Text, Struct, List as Lists, FixedList, TextView, ListView, Union, DenseUnion}
 use Rattle.vx_arrow_image.specs.declared.refusal.Refusal.{Refusal}
 use Rattle.vx_arrow_image.specs.declared.refusal.Refusal.TheVariants as refusals
-use Rattle.vx_arrow_image.specs.Image.{Part, is_list_view, is_placed, is_view}
+use Rattle.vx_arrow_image.specs.Image.{Part, is_dense, is_list_view, is_placed, is_view}
 use Rattle.vx_arrow_columns.specs.declared.faults.Fault.{Fault}
 use Rattle.vx_arrow_columns.specs.declared.faults.Fault.TheVariants as faults
+use Rattle.vx_arrow_columns.specs.declared.needs.Items as items_type
 use Rattle.vx_arrow_columns.specs.declared.needs.Inner.{Inner}
 use Rattle.vx_arrow_columns.specs.declared.needs.Inner.TheVariants as inners
 use Rattle.vx_arrow_columns.specs.Picks.{Picking, is_counted}
@@ -26,6 +27,7 @@ HoldsBelow (Some FixedList) p q lens = (p.offset + p.len) * p.width ≤ slice_in
 HoldsBelow (Some TextView) p q lens = AllAt p q (is_view p lens)
 HoldsBelow (Some (ListView z)) p q lens = AllAt p q (is_list_view z p (slice_index lens 0))
 HoldsBelow (Some Union) p q lens = list_all (λ n. nat_le (p.offset + p.len) n) lens ≡ true
+HoldsBelow (Some DenseUnion) p q lens = AllAt p q (is_dense p lens)
 
 -- a node is sound over children that have so many rows, as far as its rows at picks go
 pub record IsSoundAt (p : Part) (q : List (Option ℕ)) (lens : List ℕ) : Type 0 where
@@ -72,6 +74,9 @@ abbrev pub AsksBelow : Part → List ℕ → Inner → Type 0
 AsksBelow p lens inners.Leaf = ⊤
 AsksBelow p lens inners.Same = list_all (λ n. nat_le (p.offset + p.len) n) lens ≡ true
 AsksBelow p lens (inners.Listed items) = items.end ≤ slice_index lens 0
+AsksBelow p lens (inners.Split items) =
+    (j : ℕ) (d : items_type.Items) → j < length items.items
+    → (slice_index_or items.items j d).end ≤ slice_index lens j
 AsksBelow p lens inners.Kept = ⊤
 
 -- of a node at the picks of a job whose parent asks for so many rows

@@ -1,13 +1,14 @@
 -- What a node has to hold for its rows at picks, and what is taken of it.
-use Rattle.std.specs.Prelude.{ℕ, ◌+◌, ◌*◌, ◌^◌, ◌<◌, ◌≤◌, ◌≡◌, ◌==◌, ⊤, Bool, true, List, [], map, take, drop, length, replicate, slice_index_or, slice_range, Option, Some, None, is_some, slice_index, false}
+use Rattle.std.specs.Prelude.{ℕ, ◌+◌, ◌*◌, ◌^◌, ◌<◌, ◌≤◌, ◌≡◌, ◌==◌, ⊤, Bool, true, List, [], map, take, drop, length, slice_index_or, slice_range, Option, Some, None, is_some, slice_index, false}
 use Rattle.std.specs.Int.{bit_at}
 use Rattle.std.specs.List.{flat_map}
 use Rattle.vx_arrow_image.specs.declared.format.Format.{Format}
-use Rattle.vx_arrow_image.specs.declared.format.Format.TheVariants.{Nulls, Bits, Fixed, Text, Struct, List as Lists, FixedList, TextView, ListView, Union}
+use Rattle.vx_arrow_image.specs.declared.format.Format.TheVariants.{Nulls, Bits, Fixed, Text, Struct, List as Lists, FixedList, TextView, ListView, Union, DenseUnion}
 use Rattle.vx_arrow_image.specs.declared.format.Offsets.{Offsets}
+use Rattle.vx_arrow_image.specs.declared.format.Offsets.TheVariants.{Short}
 use Rattle.vx_arrow_image.specs.Rows.{RowValue, null, picked}
 use Rattle.vx_arrow_image.specs.Image.{Part, bit_of, is_valid, is_placed, holds_offsets, holds_starts, is_cut, is_list_view, is_view, limit_of, offset_at, is_sound, column_of, has_child, holds_ids}
-use Rattle.vx_arrow_columns.specs.Picks.{Picking, place_of, inner, is_counted, items_len, keeps, tags}
+use Rattle.vx_arrow_columns.specs.Picks.{Picking, dense_child, dense_rows, place_of, inners, is_counted, items_len, keeps, tags}
 
 -- each pick is null or below n
 pub record AreWithin (picks : List (Option ℕ)) (n : ℕ) : Type 0 where
@@ -46,6 +47,10 @@ Holds (Some (ListView z)) p q =
     × (holds_starts z p.offsets (p.offset + p.len) ≡ true)
     × (holds_starts z p.sizes (p.offset + p.len) ≡ true)
 Holds (Some Union) p q = (holds_ids p ≡ true) × AllAt p q (has_child p)
+Holds (Some DenseUnion) p q =
+    (holds_ids p ≡ true)
+    × (holds_starts Short p.offsets (p.offset + p.len) ≡ true)
+    × AllAt p q (has_child p)
 
 -- the rows of a node at picks can be read and written, where its children have theirs
 pub record IsReadable (p : Part) (q : List (Option ℕ)) : Type 0 where
@@ -67,6 +72,7 @@ IsNullable (Some FixedList) = ⊤
 IsNullable (Some TextView) = ⊤
 IsNullable (Some (ListView z)) = ⊤
 IsNullable (Some Union) = ⊥
+IsNullable (Some DenseUnion) = ⊥
 
 -- what row i reaches lies within children that have so many rows, where these are kept
 abbrev pub is_inside : Option Format → Part → List ℕ → ℕ → Bool
@@ -81,6 +87,7 @@ is_inside (Some FixedList) p lens i = true
 is_inside (Some TextView) p lens i = is_view p lens i
 is_inside (Some (ListView z)) p lens i = is_list_view z p (slice_index lens 0) i
 is_inside (Some Union) p lens i = true
+is_inside (Some DenseUnion) p lens i = true
 
 -- what the rows at picks reach does
 abbrev pub AreInside : Part → List (Option ℕ) → List ℕ → Type 0
@@ -130,6 +137,11 @@ id_at p (Some i) = slice_index p.values (p.offset + i)
 pub record AreTagged (p : Part) (q : List (Option ℕ)) (n : ℕ) (out : List ℕ) : Type 0 where
   pub ids : (k : ℕ) → k < n → slice_index out k ≡ id_at p (slice_index_or q k None)
 
+-- where the row of each pick of a dense union stands: behind the rows of its child before it
+pub record AreDense (p : Part) (q : List (Option ℕ)) (n : ℕ) (out : List ℕ) : Type 0 where
+  pub starts : (k : ℕ) → k < n → offset_at Short out k
+      ≡ length (dense_rows p (take k q) (dense_child p (slice_index_or q k None)))
+
 -- these are a column's rows at picks: null where a pick is, or any there, where they are loose
 pub record AreAt (loose : Bool) (q : List (Option ℕ)) (rows new : List RowValue) : Type 0 where
   pub len : length new ≡ length q
@@ -138,11 +150,12 @@ pub record AreAt (loose : Bool) (q : List (Option ℕ)) (rows new : List RowValu
   pub nulls : loose ≡ false → (k : ℕ) → k < length q → slice_index_or q k None ≡ None
       → slice_index_or new k null ≡ null
 
--- each child's rows are at these picks
-pub record AreChildrenAt (q : List (Option ℕ)) (n : ℕ) (cs ds : List (List RowValue)) : Type 0 where
-  pub old_len : length cs ≡ n
-  pub new_len : length ds ≡ n
-  pub at : (j : ℕ) → j < n → AreAt true q (slice_index_or cs j []) (slice_index_or ds j [])
+-- each child's rows are at its picks
+pub record AreChildrenAt (qs : List Picking) (cs ds : List (List RowValue)) : Type 0 where
+  pub old_len : length cs ≡ length qs
+  pub new_len : length ds ≡ length qs
+  pub at : (j : ℕ) (q : Picking) → j < length qs
+      → AreAt true (slice_index_or qs j q).picks (slice_index_or cs j []) (slice_index_or ds j [])
 
 -- no pick is null
 pub record AreFull (q : List (Option ℕ)) : Type 0 where
@@ -152,8 +165,8 @@ pub record AreFull (q : List (Option ℕ)) : Type 0 where
 pub record IsOwnTaken (p w : Part) (q : Picking) : Type 0 where
   pub children : w.children ≡ p.children
   pub len : w.len ≡ length q.picks
-  pub sound : is_sound w (replicate p.children (length (inner p q).picks)) ≡ true
-  pub column : (cs ds : List (List RowValue)) → AreChildrenAt (inner p q).picks p.children cs ds
+  pub sound : is_sound w (map (λ (i : Picking). length i.picks) (inners p q)) ≡ true
+  pub column : (cs ds : List (List RowValue)) → AreChildrenAt (inners p q) cs ds
       → is_sound p (map length cs) ≡ true
       → AreAt (tags p.format) q.picks (column_of p cs) (column_of w ds)
 

@@ -144,6 +144,7 @@ pub(crate) fn test_inside(
         | Format::Struct
         | Format::List(_)
         | Format::FixedList
-        | Format::Union => Ok(()),
+        | Format::Union
+        | Format::DenseUnion => Ok(()),
     }
 }

@@ -6,6 +6,7 @@
 #![tactic(auto)]
 
 mod copying;
+mod dense;
 mod faults;
 mod fixed_lists;
 mod kept;

@@ -7,6 +7,7 @@ ghost use Rattle.vx_arrow_columns.specs.Planned.{child_lens};
 ghost use Rattle.vx_arrow_columns.specs.Sound.{IsAskedFault, IsFault, IsNodeFault, IsOwnFault};
 ghost use Rattle.vx_arrow_columns.specs.Taken.{AreInside, AreWithin};
 
+use crate::dense::measure_dense;
 use crate::faults::Fault;
 use crate::fixed_lists::fixed_items;
 use crate::kept::{first_len, test_inside};
@@ -143,17 +144,6 @@ fn measure_fixed_list(
     })
 }
 
-// Of a struct.
-fn measure_struct(node: &Node, picks: &Picks) -> Measure
-    requires { IsAsked Format.Struct node.now picks.now }
-    ensures { IsMeasured (part_of node.now) (the_picking picks.now) result }
-{
-    Measure {
-        values: 0,
-        inner: Inner::Same,
-    }
-}
-
 // Of views of texts.
 fn measure_text_view(node: &Node, picks: &Picks) -> Result<Measure, Fault>
     requires { IsAsked Format.TextView node.now picks.now }
@@ -213,12 +203,16 @@ fn measure_format(
         Format::Bits => measure_bits(node, picks),
         Format::Fixed => measure_fixed(node, picks),
         Format::Text(size) => measure_text(size, node, picks),
-        Format::Struct => Ok(measure_struct(node, picks)),
+        Format::Struct => Ok(Measure {
+            values: 0,
+            inner: Inner::Same,
+        }),
         Format::List(size) => measure_list(alloc, size, node, picks, behind),
         Format::FixedList => measure_fixed_list(alloc, node, picks, behind),
         Format::TextView => measure_text_view(node, picks),
         Format::ListView(size) => measure_list_view(size, node, picks),
         Format::Union => measure_union(node, picks),
+        Format::DenseUnion => measure_dense(alloc, node, picks),
     }
 }
 

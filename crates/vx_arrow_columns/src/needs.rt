@@ -31,6 +31,8 @@ pub(crate) enum Inner {
     Same,
     // These, of the only child.
     Listed(Items),
+    // These, of each child its own.
+    Split(Vec<Items>),
     // All, as they stand.
     Kept,
 }
@@ -47,7 +49,7 @@ pub(crate) fn shows_valid(node: &Node, picks: &Picks) -> bool
     ensures { result ≡ shows_valid (part_of node.now) (the_picking picks.now) }
 {
     match format_of(node.format) {
-        Some(Format::Nulls | Format::Union) => false,
+        Some(Format::Nulls | Format::Union | Format::DenseUnion) => false,
         _ => !node.valid.is_empty() || !picks.valid.is_empty(),
     }
 }
@@ -142,8 +144,8 @@ fn push_range(places: &mut Vec<u64>, start: u64, end: u64) -> Result<(), Fault>
     Ok(())
 }
 
-// The greater of two numbers.
-fn greater(a: u64, b: u64) -> u64
+/// The greater of two numbers.
+pub(crate) fn greater(a: u64, b: u64) -> u64
     ensures first { a ≤ result }
     ensures second { b ≤ result }
     ensures least { (n : ℕ) → a ≤ n → b ≤ n → result ≤ n }

@@ -1,17 +1,17 @@
 //! Which rows of each node are taken, and what they need.
-ghost use Rattle.std.specs.Prelude.{◌≡◌, ◌+◌, ◌*◌, ◌^◌, ◌<◌, ◌≤◌, ◌++◌, IfErr, IfOk, OnOk, false, length, replicate, true};
+ghost use Rattle.std.specs.Prelude.{◌≡◌, ◌+◌, ◌*◌, ◌^◌, ◌<◌, ◌≤◌, ◌∷◌, [], ◌++◌, IfErr, IfOk, OnOk, false, length, replicate, true};
 ghost use Rattle.vx_arrow_columns.specs.Answer.{IsPlanRefusal, IsUnmeant};
 ghost use Rattle.vx_arrow_image.specs.Image.{column_in, format_in, part_of, parts_of};
 ghost use Rattle.vx_arrow_columns.specs.Asked.{the_picking, the_picks};
 ghost use Rattle.vx_arrow_columns.specs.Picks.{is_union, kept_need, offsets_len, own_need, picking_of, picks_of, sizes_len, values_len};
-ghost use Rattle.vx_arrow_columns.specs.Planned.{IsJobMeasured, IsListed, IsNext, IsPlanned, IsStart, IsVisited, IsWalking, child_lens, first_len, picking_in};
+ghost use Rattle.vx_arrow_columns.specs.Planned.{AreSplitJobs, HasEach, IsJobMeasured, IsListed, IsListedJob, IsPlanned, IsPushed, IsStart, IsVisited, IsWalking, child_lens, first_len, picking_in};
 ghost use Rattle.vx_arrow_columns.specs.Reached.{IsVisitFault};
 ghost use Rattle.vx_arrow_columns.specs.Sound.{IsFault, IsJobFault};
 ghost use Rattle.vx_arrow_columns.specs.Taken.{AreFull, AreWithin};
 
 use crate::faults::Fault;
 use crate::measuring::measure_node;
-use crate::needs::{Inner, shows_valid};
+use crate::needs::{Inner, Items, shows_valid};
 use crate::places::{Picks, Places, are_full, are_within};
 use crate::unions::is_union;
 use std::alloc::Global;
@@ -74,6 +74,7 @@ fn offsets_len(node: &Node, count: u64) -> u64
         Some(Format::Text(size)) => size.size() * (count + 1),
         Some(Format::List(size)) => size.size() * (count + 1),
         Some(Format::ListView(size)) => size.size() * count,
+        Some(Format::DenseUnion) => 4 * count,
         _ => 0,
     }
 }
@@ -85,7 +86,7 @@ fn sizes_len(node: &Node, count: u64) -> u64
 {
     match format_of(node.format) {
         Some(Format::ListView(size)) => size.size() * count,
-        Some(Format::Union) => node.children,
+        Some(Format::Union | Format::DenseUnion) => node.children,
         _ => 0,
     }
 }
@@ -165,46 +166,72 @@ fn measure_job<'a>(
     })
 }
 
-// The sum of two numbers, where it fits.
-fn sum(a: u64, b: u64) -> u64
-    ensures { a + b < 2 ^ 64 → result ≡ a + b }
-{
-    match a.checked_add(b) {
-        Some(total) => total,
-        None => a,
-    }
-}
-
-// The picks of a node's children, from its own, which are those of a job.
-fn next_job(node: &Node, job: Job, inner: Inner, lists: &mut Vec<Places>) -> Result<Job, Fault>
-    ensures next { IfOk result (IsNext node.now job inner lists.old.items lists.new.items) }
+// Keeps a list of places, and gives the job of a child that has them.
+fn listed_job(lists: &mut Vec<Places>, items: Items) -> Result<Job, Fault>
+    ensures job { IfOk result (λ job. IsListedJob lists.new.items job items) }
+    ensures kept { OnOk result (lists.new.items ≡ lists.old.items ++ items.list ∷ []) }
     ensures fault { IfErr result (IsFault ⊥ ⊥) }
 {
-    match inner {
-        Inner::Leaf => Ok(job),
-        Inner::Same => Ok(Job {
+    let list = lists.len();
+    lists.push(items.list)?;
+    Ok(Job {
+        list: Some(list),
+        add: 0,
+        end: items.end,
+        kept: false,
+    })
+}
+
+// Pushes a job for each child, which has picks of its own, the first child's last.
+fn push_splits(
+    stack: &mut Vec<Job>,
+    lists: &mut Vec<Places>,
+    mut items: Vec<Items>,
+) -> Result<(), Fault>
+    ensures pushed { OnOk result (AreSplitJobs items.items lists.old.items lists.new.items
+        stack.old.items stack.new.items) }
+    ensures fault { IfErr result (IsFault ⊥ ⊥) }
+{
+    for popped in 0..items.len() {
+        if let Some(last) = items.pop() {
+            let next = listed_job(lists, last)?;
+            stack.push(next)?;
+        }
+    }
+    Ok(())
+}
+
+// Pushes the jobs of a node's children, from its own.
+fn push_inner(
+    stack: &mut Vec<Job>,
+    lists: &mut Vec<Places>,
+    node: &Node,
+    job: Job,
+    inner: Inner,
+) -> Result<(), Fault>
+    requires { HasEach inner node.now.children }
+    ensures pushed { OnOk result (IsPushed node.now job inner lists.old.items lists.new.items
+        stack.old.items stack.new.items) }
+    ensures fault { IfErr result (IsFault ⊥ ⊥) }
+{
+    let next = match inner {
+        Inner::Leaf => job,
+        Inner::Same => Job {
             list: job.list,
-            add: sum(job.add, node.offset),
-            end: sum(node.offset, node.len),
+            add: job.add.saturating_add(node.offset),
+            end: node.offset.saturating_add(node.len),
             kept: false,
-        }),
-        Inner::Kept => Ok(Job {
+        },
+        Inner::Kept => Job {
             list: None,
             add: 0,
             end: 0,
             kept: true,
-        }),
-        Inner::Listed(items) => {
-            let list = lists.len();
-            lists.push(items.list)?;
-            Ok(Job {
-                list: Some(list),
-                add: 0,
-                end: items.end,
-                kept: false,
-            })
-        }
-    }
+        },
+        Inner::Listed(items) => listed_job(lists, items)?,
+        Inner::Split(items) => return push_splits(stack, lists, items),
+    };
+    push_times(stack, next, node.children)
 }
 
 // A walk over a table: the nodes that were seen, and the jobs of those to come, the next one last.
@@ -271,10 +298,9 @@ impl Walk {
             return Err(Fault::Lacks(Lack::Tree));
         }
         let measure = measure_job(alloc, places, valid, &self.lists, node, job, behind)?;
-        let next = next_job(node, job, measure.inner, &mut self.lists)?;
         self.jobs.push(job)?;
         self.needs.push(measure.need)?;
-        push_times(&mut self.stack, next, node.children)
+        push_inner(&mut self.stack, &mut self.lists, node, job, measure.inner)
     }
 }
 

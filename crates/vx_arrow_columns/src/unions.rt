@@ -17,13 +17,13 @@ pub(crate) fn is_union(node: &Node) -> bool
     ensures { result ≡ tags (format_in node.now.format) }
 {
     match format_of(node.format) {
-        Some(Format::Union) => true,
+        Some(Format::Union | Format::DenseUnion) => true,
         _ => false,
     }
 }
 
-// Whether each row at the picks has the id of a child.
-fn are_tagged(node: &Node, picks: &Picks) -> bool
+/// Whether each row at the picks has the id of a child.
+pub(crate) fn are_tagged(node: &Node, picks: &Picks) -> bool
     requires placed { is_placed (part_of node.now) ≡ true }
     requires within { AreWithin (the_picks picks.now) node.now.len }
     requires held { holds_ids (part_of node.now) ≡ true }
@@ -60,8 +60,8 @@ pub(crate) fn measure_union(node: &Node, picks: &Picks) -> Result<Measure, Fault
     })
 }
 
-// The id of the row at pick `k`.
-fn id_at(node: &Node, picks: &Picks, k: usize) -> u8
+/// The id of the row at pick `k`.
+pub(crate) fn id_at(node: &Node, picks: &Picks, k: usize) -> u8
     requires index { k < length picks.now.places.now }
     requires placed { is_placed (part_of node.now) ≡ true }
     requires within { AreWithin (the_picks picks.now) node.now.len }

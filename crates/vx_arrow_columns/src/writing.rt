@@ -7,6 +7,7 @@ ghost use Rattle.vx_arrow_columns.specs.Taken.{AreBits, AreCutAt, AreOffsets, Ar
 ghost use Rattle.vx_arrow_columns.specs.Written.{HasValid, IsNodeTaken, IsRoomTaken, IsRoomed, IsViewNodeTaken, has_room};
 
 use crate::copying::{write_fixed, write_numbers, write_records};
+use crate::dense::write_starts;
 use crate::needs::shows_valid;
 use crate::places::{Picks, place};
 use crate::puts::{put_bit, put_bytes, put_offset, with_bit};
@@ -200,6 +201,16 @@ fn write_union_node(node: &Node, picks: &Picks, room: &mut Room)
     put_bytes(room.sizes, 0, &node.sizes[..node.children as usize]);
 }
 
+// Writes a dense union's own part: the ids of the rows, where these stand, and the children's ids.
+fn write_dense_node(node: &Node, picks: &Picks, room: &mut Room)
+    requires { IsRoomed Format.DenseUnion node.now picks.now room.old }
+    ensures { IsNodeTaken node.now picks.now room.new }
+{
+    write_ids(node, picks, room.values);
+    write_starts(node, picks, room.offsets);
+    put_bytes(room.sizes, 0, &node.sizes[..node.children as usize]);
+}
+
 /// Writes what a node's own lists hold of its rows at picks.
 pub(crate) fn write_node(node: &Node, picks: &Picks, room: &mut Room)
     requires readable { IsReadable (part_of node.now) (the_picks picks.now) }
@@ -216,6 +227,7 @@ pub(crate) fn write_node(node: &Node, picks: &Picks, room: &mut Room)
         Some(Format::TextView) => write_text_view_node(node, picks, room),
         Some(Format::ListView(size)) => write_list_view_node(size, node, picks, room),
         Some(Format::Union) => write_union_node(node, picks, room),
+        Some(Format::DenseUnion) => write_dense_node(node, picks, room),
         Some(Format::Nulls) => {}
         None => {}
     }

@@ -1,0 +1,13 @@
+-- A struct has no values of its own.
+use Rattle.std.proofs.Common.{refl, subst, ◌≡◌}
+use Rattle.std.specs.Prelude.{Some}
+use Rattle.vx_arrow_image.specs.declared.format.Format.{Format}
+use Rattle.vx_arrow_image.specs.Image.{format_in, part_of}
+use Rattle.vx_arrow_columns.proofs.Measures.{struct_measured}
+use Rattle.vx_arrow_columns.proofs.measuring.measure_format.Goals as goal
+
+pub returns-in-Struct-clause-measured : goal.returns-in-Struct-clause-measured
+returns-in-Struct-clause-measured c =
+    let ps = c.args.picks.now in
+    let format = subst (λ (f : Format). format_in c.args.node.now.format ≡ Some f) c.in-Struct.is c.requires.format in
+    struct_measured (part_of c.args.node.now) ps.places.now ps.valid.now ps.add _ format c.requires.few c.requires.placed c.requires.within refl refl
