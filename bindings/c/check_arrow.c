@@ -165,6 +165,23 @@ static int is_refused(const struct ArrowSchema *schema, const walk *w)
     return 0;
 }
 
+/* Whether of each child of a dense union there are just the rows that its ids name, in order. What
+ * lists are views of is the source's own. */
+static int is_packed(const struct ArrowSchema *schema, const struct ArrowArray *array)
+{
+    int is_dense = !strncmp(schema->format, "+ud:", 4), ok = 1;
+    int64_t counts[128] = {0}, child, k;
+    for (k = 0; k < array->length && is_dense; k++) {
+        child = child_of(schema->format, ((const uint8_t *)array->buffers[0])[k]);
+        ok &= child >= 0 && ((const int32_t *)array->buffers[1])[k] == counts[child]++;
+    }
+    for (k = 0; k < array->n_children && strncmp(schema->format, "+v", 2); k++) {
+        ok &= !is_dense || array->children[k]->length == counts[k];
+        ok &= is_packed(schema->children[k], array->children[k]);
+    }
+    return ok;
+}
+
 /* Moves a child out of an array, which is then released, and reads both. */
 static void move_child(const struct ArrowSchema *schema, struct ArrowArray *array, uint64_t seed)
 {
@@ -211,6 +228,7 @@ static void round_of(uint64_t seed)
     if (!status) {
         int source_first = below(2) != 0;
         expect(out.length == (int64_t)w.len && out.offset == 0, "length", seed);
+        expect(is_packed(&out_schema, &out), "packed", seed);
         expect(vortex_arrow_share(&out, &again) == VORTEX_ARROW_DONE, "share", seed);
         if (source_first) {
             array.release(&array);

@@ -78,18 +78,9 @@ fn numbers_and_texts_are_those_of_plain_loops() {
     }
 }
 
-/// Whether the library knows the format of a column.
-fn is_known(mut column: Column) -> bool {
-    !matches!(select(&mut column, &[]), Err(Error::Format(_)))
-}
-
 #[test]
 fn views_are_those_of_plain_loops() {
     let items = || Column::text_views(&[Some("a"), None, Some("a text of a view")]);
-    if !is_known(items()) || !is_known(Column::list_views(&[], items())) {
-        println!("skipped, the library doesn't know views");
-        return;
-    }
     let mut dice = Dice(88172645463325252);
     let words = ["", "a", "twelve bytes", "thirteen byte", "a longer text, é"];
     for _ in 0..5_000 {
@@ -122,10 +113,6 @@ fn unions_are_those_of_plain_loops() {
         let numbers = Column::numbers(&[Some(5), Some(6)]);
         vec![("word", Column::texts(&words)), ("number", numbers)]
     };
-    if !is_known(Column::unions(&[], fields())) {
-        println!("skipped, the library doesn't know unions");
-        return;
-    }
     let mut dice = Dice(88172645463325252);
     for _ in 0..5_000 {
         let len = dice.below(40);
