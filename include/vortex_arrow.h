@@ -32,9 +32,9 @@
  * width (w:N), decimals (d:P,S and d:P,S,W), dates, times, timestamps, durations and intervals
  * (t..), texts and bytes (u U z Z) and views of them (vu vz), structs (+s), lists (+l +L), lists of
  * a fixed size (+w:N), views of lists (+vl +vL) and maps (+m), each with an offset, a validity, and
- * a dictionary where it is of integers; and sparse unions (+us:). An answer has the format of its
- * source. Dense unions (+ud:) are handed to the library, which refuses by VORTEX_ARROW_FORMAT what
- * it doesn't know, as are refused arrays that are run-end encoded (+r) and formats that Arrow
+ * a dictionary where it is of integers; and unions, sparse (+us:) and dense (+ud:). An answer has
+ * the format of its source, and of a dense union just the rows that its ids name, in order. Arrays
+ * that are run-end encoded (+r) are refused by VORTEX_ARROW_FORMAT, as are formats that Arrow
  * doesn't have. */
 #ifndef VORTEX_ARROW_H
 #define VORTEX_ARROW_H
