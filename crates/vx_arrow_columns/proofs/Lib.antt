@@ -19,6 +19,7 @@ pub mod PickedTrees
 pub mod Plans
 pub mod Rooms
 pub mod RowsAt
+pub mod Runs
 pub mod SoundTrees
 pub mod SoundWalks
 pub mod Steps

@@ -13,7 +13,7 @@ use Rattle.vx_arrow_image.specs.Image.{Part, bit_of, offset_at}
 use Rattle.vx_arrow_columns.specs.Picks.{items_len, pick_at, picks_of, place_of, row_len}
 use Rattle.vx_arrow_columns.specs.Taken.{AreBits, AreCopied, AreOffsets, IsByteOf, row_text, texts_of}
 use Rattle.vx_arrow_columns.specs.Written.{PutsBit, PutsOffset}
-use Rattle.vx_arrow_columns.proofs.Bytes.{put_at, put_there, put_front, cut_before}
+use Rattle.vx_arrow_columns.proofs.Bytes.{put_at, put_there, put_front, put_within, cut_before, cut_within}
 use Rattle.vx_arrow_columns.proofs.Columns.{place_some}
 use Rattle.vx_arrow_columns.proofs.Cuts.{len_more, len_all, len_within, len_zero}
 use Rattle.vx_arrow_columns.proofs.PickReads.{get_picks, length_picks}
@@ -100,6 +100,35 @@ copied_put w src p q k i m out new at low size long room eq b =
     subst (λ (l : List ℕ). AreCopied w src p q (k + 1) l)
     (sym (eq ∙ ap (λ (n : ℕ). put_at out (take n (drop (i * w) src)) (k * w)) size))
     (copied_some w src p q k i out own at refl wide room b)
+
+copied_rest : (w : ℕ) (src : List ℕ) (p : Part) (q : List (Option ℕ)) (k i count : ℕ) (out own : List ℕ) → ((j n : ℕ) → j < count → place_of p (get_or q (k + j) None) ≡ Some n → n ≡ i + j)
+    → own ≡ take (count * w) (drop (i * w) src) → length own ≡ count * w → k * w ≤ length out → AreCopied w src p q k out → AreCopied w src p q (k + count) (put_at out own (k * w))
+copied_rest w src p q k i count out own at g long room b = record {
+  values = λ j n below f. elim (cases_lt j k) as (λ _. take w (drop (j * w) (put_at out own (k * w))) ≡ take w (drop (n * w) src)) [
+    | inl low ↦ cut_before out (own ++ drop (k * w + length own) out) (j * w) w (k * w) (next_place j k w low) room ∙ b.values j n low f
+    | inr high ↦
+        let d = j - k in
+        let here : j ≡ k + d = omega arith in
+        let there : n ≡ i + d = at d n (omega arith) (ap (λ (m : ℕ). place_of p (get_or q m None)) (sym here) ∙ f) in
+        let within : d * w + w ≤ count * w = next_place d count w (omega arith) in
+        ap (λ m. take w (drop m (put_at out own (k * w)))) (ap (λ m. m * w) here ∙ add-mul k d w)
+        ∙ put_within out own (k * w) (d * w) w room (omega arith)
+        ∙ ap (λ (l : List ℕ). take w (drop (d * w) l)) g
+        ∙ cut_within src (i * w) (d * w) w (count * w) within
+        ∙ ap (λ m. take w (drop m src)) (sym (ap (λ m. m * w) there ∙ add-mul i d w))
+  ];
+}
+
+-- rows that stand one behind another, put at once
+pub copied_run : (w : ℕ) (src : List ℕ) (p : Part) (q : List (Option ℕ)) (k i m count : ℕ) (out new : List ℕ) → ((j n : ℕ) → j < count → place_of p (get_or q (k + j) None) ≡ Some n → n ≡ i + j)
+    → m ≡ count * w → i * w + count * w ≤ length src → k * w ≤ length out → new ≡ put_at out (take m (drop (i * w) src)) (k * w)
+    → AreCopied w src p q k out → AreCopied w src p q (k + count) new
+copied_run w src p q k i m count out new at size long room eq b =
+    let own = take (count * w) (drop (i * w) src) in
+    let wide : length own ≡ count * w = length-take-le (count * w) (drop (i * w) src) (omega (arith, length-drop (i * w) src)) in
+    subst (λ (l : List ℕ). AreCopied w src p q (k + count) l)
+    (sym (eq ∙ ap (λ (n : ℕ). put_at out (take n (drop (i * w) src)) (k * w)) size))
+    (copied_rest w src p q k i count out own at refl wide room b)
 
 -- ---- bytes of bits
 

@@ -1,5 +1,5 @@
 -- The picks of a call, and what is asked of a node at them.
-use Rattle.std.specs.Prelude.{ℕ, ◌<◌, ◌^◌, ◌≡◌, true, List, length, Option, Some}
+use Rattle.std.specs.Prelude.{ℕ, ◌+◌, ◌*◌, ◌<◌, ◌≤◌, ◌^◌, ◌≡◌, true, List, [], length, Option, Some}
 use Rattle.vx_arrow_image.specs.declared.format.Format.{Format}
 use Rattle.vx_arrow_image.specs.declared.image.Node as image
 use Rattle.vx_arrow_columns.specs.declared.places.Picks as places
@@ -19,3 +19,12 @@ pub record IsAsked (f : Format) (n : image.Node) (q : places.Picks) : Type 0 whe
   pub few : length q.places.now < 2 ^ 60
   pub placed : is_placed (part_of n) ≡ true
   pub within : AreWithin (the_picks q) n.len
+
+-- no pick is null, and there are w bytes for each row and room for those at the picks
+pub record AreRows (w : ℕ) (src : List ℕ) (n : image.Node) (q : places.Picks) (out : List ℕ)
+    : Type 0 where
+  pub there : q.valid.now ≡ []
+  pub placed : is_placed (part_of n) ≡ true
+  pub within : AreWithin (the_picks q) n.len
+  pub source : (n.offset + n.len) * w ≤ length src
+  pub room : length q.places.now * w ≤ length out

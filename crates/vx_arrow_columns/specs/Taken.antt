@@ -109,6 +109,11 @@ pub record AreBits (p : Part) (q : List (Option ℕ)) (n : ℕ) (out : List ℕ)
   pub values : (k i : ℕ) → k < n → place_of p (slice_index_or q k None) ≡ Some i
       → bit_of out k ≡ bit_of p.values i
 
+-- n places from place k on that follow one another
+abbrev pub IsRun : List ℕ → ℕ → ℕ → Type 0
+IsRun places k n = (j : ℕ) → j < n
+    → slice_index_or places (k + j) 0 ≡ slice_index_or places k 0 + j
+
 -- w bytes of the source for each
 pub record AreCopied (w : ℕ) (src : List ℕ) (p : Part) (q : List (Option ℕ)) (n : ℕ)
     (out : List ℕ) : Type 0 where

@@ -3,7 +3,7 @@ ghost use Rattle.std.specs.Prelude.{◌≡◌, ◌+◌, ◌*◌, ◌^◌, ◌<�
 ghost use Rattle.vx_arrow_columns.specs.Answer.{IsPlanRefusal, IsUnmeant};
 ghost use Rattle.vx_arrow_image.specs.Image.{column_in, format_in, part_of, parts_of};
 ghost use Rattle.vx_arrow_columns.specs.Asked.{the_picking, the_picks};
-ghost use Rattle.vx_arrow_columns.specs.Picks.{is_union, kept_need, offsets_len, own_need, picking_of, picks_of, sizes_len, values_len};
+ghost use Rattle.vx_arrow_columns.specs.Picks.{is_union, offsets_len, own_need, picking_of, picks_of, sizes_len, values_len};
 ghost use Rattle.vx_arrow_columns.specs.Planned.{AreSplitJobs, HasEach, IsJobMeasured, IsListed, IsListedJob, IsPlanned, IsPushed, IsStart, IsVisited, IsWalking, child_lens, first_len, picking_in};
 ghost use Rattle.vx_arrow_columns.specs.Reached.{IsVisitFault};
 ghost use Rattle.vx_arrow_columns.specs.Sound.{IsFault, IsJobFault};
@@ -113,19 +113,6 @@ fn need_for(node: &Node, picks: &Picks, values: u64) -> Need
     }
 }
 
-// What a node needs that is kept.
-fn kept_need(node: &Node) -> Need
-    ensures { result ≡ kept_need (part_of node.now) }
-{
-    Need {
-        len: node.len,
-        valid: 0,
-        offsets: 0,
-        values: 0,
-        sizes: 0,
-    }
-}
-
 // What a node's rows at the picks of a job need, and which rows its children's are.
 #[derive(Drop)]
 struct Measured {
@@ -154,7 +141,13 @@ fn measure_job<'a>(
 {
     if job.kept {
         return Ok(Measured {
-            need: kept_need(node),
+            need: Need {
+                len: node.len,
+                valid: 0,
+                offsets: 0,
+                values: 0,
+                sizes: 0,
+            },
             inner: Inner::Kept,
         });
     }

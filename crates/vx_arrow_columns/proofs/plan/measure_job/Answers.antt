@@ -9,7 +9,7 @@ use Rattle.vx_arrow_columns.proofs.Plans.{kept_measured, own_measured}
 use Rattle.vx_arrow_columns.proofs.plan.measure_job.Goals as goal
 
 pub returns-then-job-clause-measured : goal.returns-then-job-clause-measured
-returns-then-job-clause-measured c = kept_measured c.args.node.now (parts_of c.args.behind.now) c.args.places.now c.args.valid.now c.args.lists.now c.args.job _ c.if-job.true c.kept_need.ensures
+returns-then-job-clause-measured c = kept_measured c.args.node.now (parts_of c.args.behind.now) c.args.places.now c.args.valid.now c.args.lists.now c.args.job _ c.if-job.true refl
 
 pub returns-clause-measured : goal.returns-clause-measured
 returns-clause-measured c =
