@@ -1,12 +1,13 @@
 -- Places and bits, written one after another.
-use Rattle.std.proofs.Common.{◌≡◌, ℕ, ◌+◌, ◌*◌, ◌/◌, ◌%◌, ◌<◌, ◌≤◌, ◌≢◌, Bool, List, [], ◌∷◌, ◌++◌, length, get_or, take, drop, set, map, eqb, Option, None, refl, ap, subst, ◌∙◌, sym, inl, inr, arith, get_or-set_same, get_or-set_other, length-take-le, append_assoc, drop-cons, add-one}
+use Rattle.std.proofs.Common.{◌≡◌, ℕ, ◌+◌, ◌-◌, ◌*◌, ◌/◌, ◌%◌, ◌<◌, ◌≤◌, ◌≢◌, Bool, List, [], ◌∷◌, ◌++◌, length, get_or, take, drop, set, map, eqb, Option, None, refl, ap, subst, ◌∙◌, sym, inl, inr, arith, get_or-set_same, get_or-set_other, length-take-le, append_assoc, drop-cons, add-one}
 use Rattle.std.specs.Prelude.{is_some}
 use Rattle.std.specs.Int.{bit_at}
-use Rattle.std.proofs.lemmas.Bool.{cases_eq}
+use Rattle.std.proofs.lemmas.Bool.{cases_eq, cases_lt}
+use Rattle.std.proofs.lemmas.Nat.Bits.{bit_at-zero}
 use Rattle.std.proofs.lemmas.List.{same_lists, length-map, get_or-map, map_push, take_more, set_at}
 use Rattle.vx_bits.specs.BitBuffer.{bit_of}
 use Rattle.vx_bits.proofs.BitLists.{bit_in, length_bits}
-use Rattle.vx_arrow.specs.Written.{AreMarked, IsMarked, place_of}
+use Rattle.vx_arrow.specs.Written.{AreMarked, IsByteOf, IsMarked, place_of}
 
 -- ---- one bit
 
@@ -47,6 +48,38 @@ all_marked picks old new k e m =
           bit_in new 0 (length picks) j d below ∙ ap (bit_of new) at ∙ m.marks j (omega arith) ∙ sym (get_or-map is_some picks j None d below));
       rest = λ j h. m.rest j (omega arith);
     }
+
+-- ---- bytes of picks
+
+pub no_byte : (picks : List (Option ℕ)) (first byte : ℕ) → byte ≡ 0 → IsByteOf picks first 0 byte
+no_byte picks first byte e = record { bits = λ i h. absurd (omega arith); rest = λ i h. ap (λ n. bit_at n i) e ∙ bit_at-zero i }
+
+pub byte_more : (picks : List (Option ℕ)) (first j old new : ℕ) (bit : Bool) → eqb (bit_at new j) 1 ≡ bit → bit ≡ is_some (get_or picks (first + j) None) → ((i : ℕ) → i ≢ j → bit_at new i ≡ bit_at old i) → IsByteOf picks first j old → IsByteOf picks first (j + 1) new
+byte_more picks first j old new bit set is others b = record {
+  bits = λ i h. elim (cases_eq i j) as (λ _. eqb (bit_at new i) 1 ≡ is_some (get_or picks (first + i) None)) [
+    | inl same ↦ ap (λ n. eqb (bit_at new n) 1) same ∙ set ∙ is ∙ ap (λ n. is_some (get_or picks (first + n) None)) (sym same)
+    | inr other ↦ ap (λ n. eqb n 1) (others i other) ∙ b.bits i (omega arith)
+  ];
+  rest = λ i h. others i (λ e. omega arith) ∙ b.rest i (omega arith);
+}
+
+-- a byte more is written
+pub byte_put : (picks : List (Option ℕ)) (old out : List ℕ) (b byte : ℕ) → Marked picks old out (8 * b) → IsByteOf picks (8 * b) 8 byte → b < length out → Marked picks old (set out b byte) (8 * (b + 1))
+byte_put picks old out b byte m own room = record {
+  marks = λ j h. elim (cases_lt j (8 * b)) as (λ _. bit_of (set out b byte) j ≡ is_some (get_or picks j None)) [
+    | inl low ↦ other j (λ e. omega arith) ∙ m.marks j low
+    | inr high ↦
+        let here : j / 8 ≡ b = omega arith in
+        let at : j % 8 ≡ j - 8 * b = omega arith in
+        ap (λ q. eqb (bit_at (get_or (set out b byte) q 0) (j % 8)) 1) here
+        ∙ ap (λ y. eqb (bit_at y (j % 8)) 1) (get_or-set_same out b byte 0 room)
+        ∙ ap (λ r. eqb (bit_at byte r) 1) at ∙ own.bits (j - 8 * b) (omega arith) ∙ ap (λ n. is_some (get_or picks n None)) (omega arith)
+  ];
+  rest = λ j h. other j (λ e. omega arith) ∙ m.rest j (omega arith);
+}
+  where
+    other : (j : ℕ) → (j / 8 ≡ b → ⊥) → bit_of (set out b byte) j ≡ bit_of out j
+    other j ne = ap (λ y. eqb (bit_at y (j % 8)) 1) (get_or-set_other out b (j / 8) byte 0 ne)
 
 -- ---- places of picks
 

@@ -1,5 +1,6 @@
 -- Picks in lists of the caller's.
-use Rattle.std.specs.Prelude.{◌≡◌, ◌≢◌, ℕ, ◌+◌, ◌/◌, ◌≤◌, ◌&&◌, nat_le, length, List, map, drop, ◌++◌, Bool, Option, Some, None, is_some}
+use Rattle.std.specs.Prelude.{◌≡◌, ◌≢◌, ◌==◌, ℕ, ◌+◌, ◌/◌, ◌<◌, ◌≤◌, ◌&&◌, nat_le, length, List, map, drop, slice_index_or, ◌++◌, Bool, Option, Some, None, is_some}
+use Rattle.std.specs.Int.{bit_at}
 use Rattle.vx_bits.specs.BitBuffer.{bit_of, bits_of}
 use Rattle.vx_positions.specs.Positions.{AllThere}
 use Rattle.vx_types.specs.declared.nullability.Nullability.{Nullability}
@@ -31,6 +32,11 @@ ArePlaced picks old new = new ≡ map place_of picks ++ drop (length picks) old
 pub record IsMarked (old new : List ℕ) (j : ℕ) (bit : Bool) : Type 0 where
   pub mark : bit_of new j ≡ bit
   pub others : (i : ℕ) → i ≢ j → bit_of new i ≡ bit_of old i
+
+-- the first n bits of the byte say which picks from `first` on are not null, and the others are clear
+pub record IsByteOf (picks : List (Option ℕ)) (first n byte : ℕ) : Type 0 where
+  pub bits : (i : ℕ) → i < n → (bit_at byte i == 1) ≡ is_some (slice_index_or picks (first + i) None)
+  pub rest : (i : ℕ) → n ≤ i → bit_at byte i ≡ 0
 
 -- the first bits say which picks are not null, and the others are as they were
 pub record AreMarked (picks : List (Option ℕ)) (old new : List ℕ) : Type 0 where
