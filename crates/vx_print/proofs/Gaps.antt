@@ -49,14 +49,26 @@ element_more f bs xs s i d h l =
     joined_behind bs (map f part) (f (get_or xs i d)) (eqb i s) (first_by i s (length (map f part)) long h)
     ∙ sym (ap (λ l. bs ++ comma_list l) (ap (map f) (slice-more xs s i d h l) ∙ map_push f part (get_or xs i d)))
 
--- the same of a column's row, by what was appended: a gap, and then the text of a row
-pub row_behind : (k : Column) (bs : List ℕ) (s i : ℕ) (before text new : List ℕ) (t : TypeTree) (x : RowValue) → s ≤ i → i < length k.rows → before ≡ bs ++ comma_list (map (row_text k.dtype) (slice_range k.rows s i)) → text ≡ before ++ gap (eqb i s) → t ≡ k.dtype → x ≡ get_or k.rows i null → new ≡ text ++ row_text t x → new ≡ bs ++ comma_list (map (row_text k.dtype) (slice_range k.rows s (i + 1)))
-row_behind k bs s i before text new t x h l so_far next type row more =
+-- the same of a column's row, by what was appended: a gap, and then the text of the row
+pub row_appended : (k : Column) (bs : List ℕ) (s i : ℕ) (before text new : List ℕ) → s ≤ i → i < length k.rows → before ≡ bs ++ comma_list (map (row_text k.dtype) (slice_range k.rows s i)) → text ≡ before ++ gap (eqb i s) → new ≡ text ++ row_text k.dtype (get_or k.rows i null) → new ≡ bs ++ comma_list (map (row_text k.dtype) (slice_range k.rows s (i + 1)))
+row_appended k bs s i before text new h l so_far next more =
     let f = row_text k.dtype in
     more
-    ∙ ap₂ (λ (u : TypeTree) (y : RowValue). text ++ row_text u y) type row
     ∙ ap (λ l. l ++ f (get_or k.rows i null)) (next ∙ ap (λ l. l ++ gap (eqb i s)) so_far)
     ∙ element_more f bs k.rows s i null h l
+
+-- the same of a row of this type that was read
+pub row_behind : (k : Column) (bs : List ℕ) (s i : ℕ) (before text new : List ℕ) (t : TypeTree) (x : RowValue) → s ≤ i → i < length k.rows → before ≡ bs ++ comma_list (map (row_text k.dtype) (slice_range k.rows s i)) → text ≡ before ++ gap (eqb i s) → t ≡ k.dtype → x ≡ get_or k.rows i null → new ≡ text ++ row_text t x → new ≡ bs ++ comma_list (map (row_text k.dtype) (slice_range k.rows s (i + 1)))
+row_behind k bs s i before text new t x h l so_far next type row more =
+    row_appended k bs s i before text new h l so_far next (more ∙ ap₂ (λ (u : TypeTree) (y : RowValue). text ++ row_text u y) type row)
+
+-- a list of one row is the row
+pub one_row : (k : Column) (i : ℕ) → i < length k.rows → comma_list (map (row_text k.dtype) (slice_range k.rows i (i + 1))) ≡ row_text k.dtype (get_or k.rows i null)
+one_row k i h =
+    let f = row_text k.dtype in
+    let none : i - i ≡ 0 = omega arith in
+    ap (λ l. comma_list (map f l)) (slice-more k.rows i i null (omega arith) h ∙ ap (λ (n : ℕ). take n (drop i k.rows) ++ get_or k.rows i null ∷ []) none)
+    ∙ append-nil (f (get_or k.rows i null))
 
 -- a text in front of those that are there
 joined-front : (t : List ℕ) (ts : List (List ℕ)) (b : Bool) → IsFirst b (length ts) → t ++ (gap b ++ comma_list ts) ≡ comma_list (t ∷ ts)
@@ -96,3 +108,5 @@ elements_more f bs xs s m e b first h k within =
     ap (λ l. l ++ comma_list next) (append_assoc bs (comma_list here) (gap b))
     ∙ append_assoc bs (comma_list here ++ gap b) (comma_list next)
     ∙ ap (λ l. bs ++ l) (joined-append here next b is (omega arith) ∙ ap comma_list (sym (map-append f (slice_range xs s m) (slice_range xs m e)) ∙ ap (map f) (slices_meet xs s m e h (omega arith))))
+
+pub ruleset alone = (one_row)

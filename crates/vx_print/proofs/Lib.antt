@@ -6,4 +6,5 @@ pub mod Gaps
 pub mod Labels
 pub mod Lines
 pub mod Quotes
+pub mod Spans
 pub mod Widths

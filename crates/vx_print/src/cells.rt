@@ -1,9 +1,10 @@
 //! Rows of flat types, read as cells and written by blocks: each block from its last row back to
 //! its first.
-ghost use Rattle.std.specs.Prelude.{◌≡◌, ◌+◌, ◌≤◌, ◌++◌, codes, decimal, length, drop, map, IsOk};
-ghost use Rattle.std.specs.Prelude.{slice_range, true};
+ghost use Rattle.std.specs.Prelude.{◌≡◌, ◌+◌, ◌<◌, ◌≤◌, ◌++◌, codes, decimal, length, drop, map};
+ghost use Rattle.std.specs.Prelude.{slice_index_or, slice_range, true, IsOk};
 ghost use Rattle.vx_types.specs.DType.{type_of};
 ghost use Rattle.vx_types.specs.PType.{width};
+ghost use Rattle.vx_types.specs.RowValue.{null};
 ghost use Rattle.vx_types.specs.TypeTree.{is_flat};
 ghost use Rattle.vx_column.specs.Cell.{row_of, IsOfType};
 ghost use Rattle.vx_print.specs.Text.{comma_list, lines, primitive_text, row_text};
@@ -11,6 +12,7 @@ ghost use Rattle.vx_print.specs.Text.{comma_list, lines, primitive_text, row_tex
 use crate::joined::{push_next, put_gap};
 use crate::record_lists::put_elements;
 use crate::row::{BLOCK, ROOM, ROW, put_hex, put_number, put_unsigned, put_word};
+use crate::texts::has_room;
 use vx_bits::NoMemory;
 use vx_column::{Array, Cell, DType, PType};
 
@@ -156,6 +158,26 @@ fn put_joined(column: &Array, start: usize, end: usize, dst: &mut [u8; ROOM]) ->
     }
 }
 
+// Appends at most a block of them, by way of `dst`. It is no loop, so that a short list costs none.
+fn push_block(
+    text: &mut Vec<u8>,
+    dst: &mut [u8; ROOM],
+    column: &Array,
+    start: usize,
+    end: usize,
+) -> Result<(), NoMemory>
+    requires flat { is_flat column.now.dtype ≡ true }
+    requires ordered { start ≤ end }
+    requires block { end ≤ start + BLOCK }
+    requires within { end ≤ length column.now.rows }
+    ensures { IsOk result → text.new.items ≡ text.old.items
+        ++ comma_list (map (row_text column.now.dtype) (slice_range column.now.rows start end)) }
+{
+    let at = put_joined(column, start, end, dst);
+    text.extend_from_slice(&dst[at..])?;
+    Ok(())
+}
+
 /// Appends the rows from `start` up to `end` of a column of flat type, with `, ` between them, by
 /// way of `dst`. Fails only with `NoMemory`, also where the text would grow past its bound.
 pub(crate) fn push_joined(
@@ -171,12 +193,38 @@ pub(crate) fn push_joined(
     ensures { IsOk result → text.new.items ≡ text.old.items
         ++ comma_list (map (row_text column.now.dtype) (slice_range column.now.rows start end)) }
 {
+    if !has_room(text.len(), 0) {
+        return Err(NoMemory);
+    }
+    if end - start <= BLOCK {
+        return push_block(text, dst, column, start, end);
+    }
     for k in 0..(end - start).div_ceil(BLOCK) {
         let from = start + BLOCK * k;
         let to = from + (end - from).min(BLOCK);
         push_next(text, k == 0)?;
-        let at = put_joined(column, from, to, dst);
-        text.extend_from_slice(&dst[at..])?;
+        push_block(text, dst, column, from, to)?;
     }
+    Ok(())
+}
+
+/// Appends row `i` of a column of flat type, by way of `dst`. Fails only with `NoMemory`, also
+/// where the text would grow past its bound.
+pub(crate) fn push_flat(
+    text: &mut Vec<u8>,
+    dst: &mut [u8; ROOM],
+    column: &Array,
+    i: usize,
+) -> Result<(), NoMemory>
+    requires flat { is_flat column.now.dtype ≡ true }
+    requires row { i < length column.now.rows }
+    ensures { IsOk result → text.new.items ≡ text.old.items
+        ++ row_text column.now.dtype (slice_index_or column.now.rows i null) }
+{
+    if !has_room(text.len(), 0) {
+        return Err(NoMemory);
+    }
+    let at = put_row(column.dtype(), column.cell_at(i), dst, ROOM);
+    text.extend_from_slice(&dst[at..])?;
     Ok(())
 }

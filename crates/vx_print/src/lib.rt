@@ -6,6 +6,7 @@ mod bits;
 mod calls;
 mod cells;
 mod joined;
+mod lists;
 mod name_labels;
 mod nested;
 mod reads;

@@ -6,12 +6,14 @@ ghost use Rattle.vx_types.specs.DType.{type_of};
 ghost use Rattle.vx_types.specs.Fields.{names_of};
 ghost use Rattle.vx_types.specs.RowValue.{null};
 ghost use Rattle.vx_model.specs.Columns.{are_long_past};
+ghost use Rattle.vx_model.specs.List.{list_column};
 ghost use Rattle.vx_column.specs.Cell.{row_of, IsOfType};
 ghost use Rattle.vx_print.specs.Fields.{texts_at, AreLabels};
 ghost use Rattle.vx_print.specs.Text.{field_names, comma_list, with_labels, lines, name_label, row_text};
 
-use crate::cells::{push_id, push_joined};
+use crate::cells::{push_flat, push_id, push_joined};
 use crate::joined::push_next;
+use crate::lists::span_of;
 use crate::name_labels::{labels_of, push_label};
 use crate::row::ROOM;
 use crate::stored::{names_in, push_stored, storage_of};
@@ -20,7 +22,7 @@ use crate::types::push_word;
 use std::alloc::Global;
 use std::rc::RcStr;
 use vx_bits::NoMemory;
-use vx_column::{Array, ArrayRef, Cell, DType, FieldsCell, LayoutName, ListCell, TaggedCell};
+use vx_column::{Array, ArrayRef, Cell, DType, FieldsCell, LayoutName, ListArray, TaggedCell};
 
 // How many bytes an element takes at least, with what stands between two.
 const ELEMENT: usize = 3;
@@ -97,25 +99,86 @@ fn push_elements(
     check_room(text.len(), column, start, end)?;
     for i in start..end {
         push_next(text, i == start)?;
-        push_row(text, dst, &[], column.dtype(), column.cell_at(i))?;
+        push_at(text, dst, &[], column, i)?;
     }
     Ok(())
 }
 
-// Appends a list.
+// Appends a list: the rows from `start` up to `end`.
 #[cycle(nested)]
-fn push_list(text: &mut Vec<u8>, dst: &mut [u8; ROOM], list: ListCell<'_>) -> Result<(), NoMemory>
-    requires ordered { list.start ≤ list.end }
-    requires within { list.end ≤ length list.elements.now.rows }
+fn push_list(
+    text: &mut Vec<u8>,
+    dst: &mut [u8; ROOM],
+    elements: &Array,
+    start: usize,
+    end: usize,
+) -> Result<(), NoMemory>
+    requires ordered { start ≤ end }
+    requires within { end ≤ length elements.now.rows }
     ensures { IsOk result → text.new.items ≡ text.old.items ++ (codes "["
-        ++ comma_list (map (row_text list.entry.elements.now.dtype)
-        (slice_range list.entry.elements.now.rows list.entry.start list.entry.end))
-        ++ codes "]") }
+        ++ comma_list (map (row_text elements.now.dtype)
+        (slice_range elements.now.rows start end)) ++ codes "]") }
 {
     text.push(b'[')?;
-    push_elements(text, dst, storage_of(list.elements), list.start, list.end)?;
+    push_elements(text, dst, storage_of(elements), start, end)?;
     text.push(b']')?;
     Ok(())
+}
+
+// Appends row `i` of layout `List`, which is begun only where the text that is there is within its
+// bound. It is read by its offsets.
+#[cycle(nested)]
+#[tactic(auto, using(vx_column::proofs::Cells::there, crate::proofs::Spans::list_texts))]
+fn push_list_at(
+    text: &mut Vec<u8>,
+    dst: &mut [u8; ROOM],
+    lists: &ListArray,
+    i: usize,
+) -> Result<(), NoMemory>
+    requires { i < length (list_column lists.now).rows }
+    ensures { IsOk result → text.new.items ≡ text.old.items
+        ++ row_text (list_column lists.now).dtype
+        (slice_index_or (list_column lists.now).rows i null) }
+{
+    if !has_room(text.len(), 0) {
+        return Err(NoMemory);
+    }
+    if !lists.validity().is_valid_at(i) {
+        return push_word(text, b"null");
+    }
+    let (start, end) = span_of(lists, i);
+    push_list(text, dst, lists.elements(), start, end)
+}
+
+// Appends row `i`, which is begun only where the text that is there is within its bound. It is read
+// as a cell only where its layout tells no quicker way. The labels are those of its first fields,
+// where it is a struct.
+#[cycle(nested)]
+#[tactic(auto, using(crate::proofs::Gaps::alone, crate::proofs::Spans::as_lists))]
+fn push_at(
+    text: &mut Vec<u8>,
+    dst: &mut [u8; ROOM],
+    labels: &[Vec<u8>],
+    column: &Array,
+    i: usize,
+) -> Result<(), NoMemory>
+    requires row { i < length column.now.rows }
+    requires labels { AreLabels (field_names column.now.dtype.kind) (map (λ l. l.items) labels.now) }
+    ensures { IsOk result → text.new.items ≡ text.old.items
+        ++ row_text column.now.dtype (slice_index_or column.now.rows i null) }
+{
+    if column.dtype().is_flat() {
+        return push_flat(text, dst, column, i);
+    }
+    if column.dtype().has_scalars() {
+        // its length fits, so that one more than `i` does
+        let _ = column.len();
+        return push_listed(text, column, i, i + 1);
+    }
+    match column.as_list() {
+        Some(lists) => push_list_at(text, dst, lists, i),
+        None => push_row(text, dst, labels, column.dtype(), column.cell_at(i)),
+    }
 }
 
 // Appends row `i` of each of these columns, behind its name where it has one, with `, ` between
@@ -136,8 +199,7 @@ fn push_fields(
 {
     for k in 0..columns.len() {
         push_label(text, names, labels, k)?;
-        let column = &columns[k];
-        push_row(text, dst, &[], column.dtype(), column.cell_at(i))?;
+        push_at(text, dst, &[], &columns[k], i)?;
     }
     Ok(())
 }
@@ -176,9 +238,8 @@ fn push_tagged(
         ++ row_text tagged.entry.column.now.dtype
         (slice_index_or tagged.entry.column.now.rows tagged.entry.row null)) }
 {
-    let column = tagged.column;
     push_id(text, dst, tagged.id)?;
-    push_row(text, dst, &[], column.dtype(), column.cell_at(tagged.row))
+    push_at(text, dst, &[], tagged.column, tagged.row)
 }
 
 // Appends a row of this type, which is begun only where the text that is there is within its bound.
@@ -206,7 +267,7 @@ fn push_row(
         Cell::Bit(true) => push_word(text, b"true"),
         Cell::Bit(false) => push_word(text, b"false"),
         Cell::Bytes(bytes) => push_stored(text, dst, dtype, bytes),
-        Cell::List(list) => push_list(text, dst, list),
+        Cell::List(list) => push_list(text, dst, list.elements, list.start, list.end),
         Cell::Fields(fields) => push_struct(text, dst, names_in(dtype), labels, fields),
         Cell::Tagged(tagged) => push_tagged(text, dst, tagged),
     }
@@ -219,11 +280,10 @@ pub(crate) fn push_nested(alloc: Global, text: &mut Vec<u8>, column: &Array) -> 
         ≡ text.old.items ++ lines (row_text column.now.dtype) column.now.rows }
 {
     let mut dst = [0; ROOM];
-    let dtype = column.dtype();
-    let labels = labels_of(alloc, names_in(dtype))?;
+    let labels = labels_of(alloc, names_in(column.dtype()))?;
     check_room(text.len(), column, 0, column.len())?;
     for i in 0..column.len() {
-        push_row(text, &mut dst, labels.as_slice(), dtype, column.cell_at(i))?;
+        push_at(text, &mut dst, labels.as_slice(), column, i)?;
         text.push(b'\n')?;
     }
     Ok(())

@@ -11,14 +11,14 @@ use Rattle.vx_column.specs.declared.cell.Cell.{Cell}
 use Rattle.vx_print.specs.Fields.{texts_at}
 use Rattle.vx_print.specs.Text.{gap, comma_list, with_labels, name_label, row_text}
 use Rattle.vx_print.proofs.Elements.{fields_text}
-use Rattle.vx_print.proofs.Gaps.{row_behind}
+use Rattle.vx_print.proofs.Gaps.{row_appended}
 use Rattle.vx_print.proofs.Labels.{field_more, length-fields}
 use Rattle.vx_print.proofs.nested.+nested.Goals as goal
 
 pub push_elements-loop-i-preserved : goal.push_elements-loop-i-preserved
 push_elements-loop-i-preserved t c =
     let s = c.loop-i in
-    row_behind c.args.column.now c.args.text.now.items c.args.start s.i s.text.items c.push_next.new.text.items c.push_row.new.text.items _ (row_of c.cell_at.result) (omega arith) (omega arith) s.invariant (c.in_ok-push_next.ensures refl) c.dtype-in-loop-i.ensures.value c.cell_at.ensures.row (c.in_ok-push_row.ensures refl)
+    row_appended c.args.column.now c.args.text.now.items c.args.start s.i s.text.items c.push_next.new.text.items c.push_at.new.text.items (omega arith) (omega arith) s.invariant (c.in_ok-push_next.ensures refl) (c.in_ok-push_at.ensures refl)
 
 pub push_fields-loop-k-preserved : goal.push_fields-loop-k-preserved
 push_fields-loop-k-preserved t c =
@@ -36,9 +36,8 @@ push_fields-loop-k-preserved t c =
     c.in_ok-push_label.ensures refl
     ∙ ap (λ l. l ++ (gap (eqb k 0) ++ get_or names k [])) c.loop-k.invariant
     ∙ sym (append_assoc before (gap (eqb k 0)) (get_or names k [])) in
-    c.in_ok-push_row.ensures refl
-    ∙ ap (λ d. text ++ row_text d (row_of c.cell_at.result)) (c.dtype.ensures.value ∙ ap (λ (v : Column). v.dtype) c.deref.ensures)
-    ∙ ap (λ x. text ++ row_text u.dtype x) (c.cell_at.ensures.row ∙ ap (λ (v : Column). get_or v.rows i null) c.deref-in-loop-k.ensures)
+    c.in_ok-push_at.ensures refl
+    ∙ ap (λ (v : Column). text ++ row_text v.dtype (get_or v.rows i null)) c.deref.ensures
     ∙ ap (λ l. l ++ row_text u.dtype (get_or u.rows i null)) label
     ∙ ap (λ (v : Column). front ++ row_text v.dtype (get_or v.rows i null)) c.index-columns-k.is
     ∙ field_more names cs i init k u lt

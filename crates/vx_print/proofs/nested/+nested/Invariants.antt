@@ -18,19 +18,25 @@ invariant-push_fields-loop-k l =
     l.text.items ≡ l.initial.text.items ++ comma_list (take l.k (with_labels (map name_label (names_of l.names)) (texts_at l.columns l.i)))
 
 abbrev pub decreases-push_elements : goal.decreases-push_elements
-decreases-push_elements l = 3 * l.column.now.depth
+decreases-push_elements l = 4 * l.column.now.depth + 1
 
 abbrev pub decreases-push_list : goal.decreases-push_list
-decreases-push_list l = 3 * l.list.elements.now.depth + 1
+decreases-push_list l = 4 * l.elements.now.depth + 2
+
+abbrev pub decreases-push_list_at : goal.decreases-push_list_at
+decreases-push_list_at l = 4 * l.lists.now.elements.depth + 3
+
+abbrev pub decreases-push_at : goal.decreases-push_at
+decreases-push_at l = 4 * l.column.now.depth
 
 abbrev pub decreases-push_fields : goal.decreases-push_fields
-decreases-push_fields l = 3 * columns_depth l.columns.now
+decreases-push_fields l = 4 * columns_depth l.columns.now + 1
 
 abbrev pub decreases-push_struct : goal.decreases-push_struct
-decreases-push_struct l = 3 * columns_depth l.fields.columns.now + 1
+decreases-push_struct l = 4 * columns_depth l.fields.columns.now + 2
 
 abbrev pub decreases-push_tagged : goal.decreases-push_tagged
-decreases-push_tagged l = 3 * l.tagged.column.now.depth
+decreases-push_tagged l = 4 * l.tagged.column.now.depth + 1
 
 abbrev pub decreases-push_row : goal.decreases-push_row
-decreases-push_row l = 3 * cell_depth l.row + 2
+decreases-push_row l = 4 * cell_depth l.row + 3
