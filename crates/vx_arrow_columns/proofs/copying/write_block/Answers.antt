@@ -56,8 +56,8 @@ returns-then-is_run g c =
     let bytes = run_bytes g.row.W i 8 (p.offset + p.len) (length c.args.src.now) end r.source in
     let before = mul-le-mul_right {m = c.args.from} {n = length ps.places.now} g.row.W (omega arith) in
     let all : AreCopied g.row.W c.args.src.now p q (c.args.from + 8) c.put_bytes.new.bytes =
-        copied_run g.row.W c.args.src.now p q c.args.from i _ 8 c.args.out.now _ (run_rows p ps.places.now ps.valid.now ps.add c.args.from i 8 r.there fits at run)
-        (omega (arith, add-mul i 8 g.row.W)) (omega (arith, add-mul i 8 g.row.W, bytes)) (omega (arith, r.room, before)) c.put_bytes.ensures c.requires.before in
+    copied_run g.row.W c.args.src.now p q c.args.from i _ 8 c.args.out.now _ (run_rows p ps.places.now ps.valid.now ps.add c.args.from i 8 r.there fits at run)
+    (omega (arith, add-mul i 8 g.row.W)) (omega (arith, add-mul i 8 g.row.W, bytes)) (omega (arith, r.room, before)) c.put_bytes.ensures c.requires.before in
     subst (λ (n : ℕ). AreCopied g.row.W c.args.src.now p q n c.put_bytes.new.bytes) (omega (arith, c.if-to-from-eq8.true)) all
 
 pub slice_bounds-put_bytes-end-in-loop-k : goal.slice_bounds-put_bytes-end-in-loop-k
