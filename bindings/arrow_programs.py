@@ -21,7 +21,7 @@ def programs():
 
 
 def run_python(program, folder, library):
-    environment = dict(os.environ, PYTHONPATH=str(HERE / "python"), PYTHONDONTWRITEBYTECODE="1")
+    environment = dict(os.environ, PYTHONPATH=str(HERE / "python" / "src"), PYTHONDONTWRITEBYTECODE="1")
     environment["VORTEX_SELECT_LIBRARY"] = str(folder / "libvortex_select.so")
     return subprocess.run([sys.executable, "-c", program], env=environment, stdout=subprocess.PIPE)
 
@@ -31,7 +31,7 @@ def run_c(program, folder, library):
     source.write_text(program)
     made = folder / "arrow_program"
     words = ["cc", "-std=c99", "-Wall", "-Wextra", "-Wno-missing-field-initializers", "-Werror"]
-    words += ["-I", HERE.parent / "include", source, *(HERE / "c" / name for name in SHIM)]
+    words += ["-I", HERE.parent / "include", source, *(HERE.parent / "shim" / name for name in SHIM)]
     subprocess.run([*words, library, "-o", made], check=True)
     return subprocess.run([made], stdout=subprocess.PIPE)
 
@@ -42,7 +42,7 @@ def run_rust(program, folder, library):
     (caller / "src" / "main.rs").write_text("#![forbid(unsafe_code)]\n" + program)
     (caller / "Cargo.toml").write_text(
         '[package]\nname = "arrow_caller"\nversion = "0.0.0"\nedition = "2021"\n[dependencies]\n'
-        f'vortex-select-sys = {{ path = "{HERE / "rust"}", features = ["arrow"] }}\n[workspace]\n'
+        f'vortex-select-sys = {{ path = "{HERE / "rust" / "vortex-select-sys"}", features = ["arrow"] }}\n[workspace]\n'
     )
     words = ["cargo", "run", "--offline", "--quiet"]
     return subprocess.run(words, cwd=caller, stdout=subprocess.PIPE)

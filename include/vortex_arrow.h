@@ -1,6 +1,6 @@
 /* Row selection over columns in Arrow's memory: link with libvortex_arrow_c.a and the memory of
- * bindings/c/memory.c, and for the calls over `struct ArrowArray` with the shim, which is arrow.c,
- * arrow_arrays.c, arrow_formats.c and arrow_stream.c of bindings/c.
+ * shim/memory.c, and for the calls over `struct ArrowArray` with the shim, which is arrow.c,
+ * arrow_arrays.c, arrow_formats.c and arrow_stream.c of shim.
  *
  * There are two layers. The library is proved: it sees a column as a table of nodes, each with its
  * lists of bytes and their lengths, and reads and writes nothing outside of them, whatever they

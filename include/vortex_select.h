@@ -1,5 +1,5 @@
 /* Row selection by the proved kernels of this repository: link with libvortex_c.a, and for
- * vortex_program with libvortex_rows_c.a and bindings/c/memory.c.
+ * vortex_program with libvortex_rows_c.a and shim/memory.c.
  *
  * Each call answers a status and a number. A call whose status is not VORTEX_DONE is refused and
  * writes nothing; its number is 0 but where VORTEX_ROOM or VORTEX_INDEX says what it is.

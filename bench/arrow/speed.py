@@ -10,7 +10,7 @@ import time
 
 import numpy
 
-sys.path.insert(0, str(pathlib.Path(__file__).resolve().parents[2] / "bindings" / "python"))
+sys.path.insert(0, str(pathlib.Path(__file__).resolve().parents[2] / "bindings" / "python" / "src"))
 from vortex_select import Filter, Slice, Take, from_buffers, select  # noqa: E402
 
 ROWS, RUNS = 1_000_000, 7

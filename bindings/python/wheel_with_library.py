@@ -36,7 +36,7 @@ def metadata():
 
 
 def contents(info):
-    package = HERE / "vortex_select"
+    package = HERE / "src" / "vortex_select"
     files = {f"vortex_select/{path.name}": path.read_bytes() for path in package.glob("*.py*")}
     files = {name: data for name, data in files.items() if name.endswith((".py", "py.typed"))}
     files["vortex_select/py.typed"] = b""

@@ -1,4 +1,4 @@
-/* Loaded in front of the C library by bench/faults: makes one call of the program fail, which calls
+/* Loaded in front of the C library by tests/faults: makes one call of the program fail, which calls
    are counted from the beginning of main on. The environment says which, and where the counts go.
 
    FAULTS_KIND   0 a growth of memory, 1 a read of standard input, 2 a write to standard output,

@@ -1,5 +1,5 @@
 /* Row selection over the batches of an Arrow stream, end to end. C99 and C++11. */
-#include "arrow_parts.h"
+#include "internal.h"
 
 #include <errno.h>
 #include <stdio.h>

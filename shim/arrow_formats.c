@@ -1,6 +1,6 @@
 /* What Arrow's format strings say of an array: how it is laid out, and how many bytes a value has.
  * C99 and C++11. */
-#include "arrow_parts.h"
+#include "internal.h"
 
 #include <stdio.h>
 #include <stdlib.h>

@@ -122,14 +122,14 @@ fn run(tool: &str, words: Vec<PathBuf>) {
     }
 }
 
-/// Builds the shim over Arrow's interface, whose sources are in `bindings/c`, or takes the prebuilt
+/// Builds the shim over Arrow's interface, whose sources are in `shim`, or takes the prebuilt
 /// one where there are none.
 fn link_shim(root: &Path) {
     const SHIM: &str = "vortex_arrow_shim";
-    let sources = root.join("bindings/c");
+    let sources = root.join("shim");
     if !sources.join("arrow.c").exists() {
         let Some(folder) = env::var_os("VORTEX_SELECT_LIB_DIR") else {
-            fail("the shim's sources, bindings/c/arrow.c, are not beside this crate".into());
+            fail("the shim's sources, shim/arrow.c, are not beside this crate".into());
         };
         let folder = prebuilt(folder.into(), SHIM);
         println!("cargo:rustc-link-search=native={}", folder.display());
@@ -168,7 +168,7 @@ fn link_shim(root: &Path) {
 
 fn main() {
     let here = env::var_os("CARGO_MANIFEST_DIR").expect("cargo sets it");
-    let root = Path::new(&here).join("../..");
+    let root = Path::new(&here).join("../../..");
     println!("cargo:rerun-if-env-changed=VORTEX_SELECT_LIB_DIR");
     println!("cargo:rerun-if-changed=build.rs");
     let has = |feature: &str| env::var_os(format!("CARGO_FEATURE_{feature}")).is_some();

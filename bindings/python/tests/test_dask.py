@@ -135,7 +135,7 @@ class Dask(unittest.TestCase):
     def test_program(self):
         """The program of docs/SCALE.md prints what stands below it."""
         here = os.path.dirname(os.path.abspath(__file__))
-        with open(os.path.join(here, "..", "..", "docs", "SCALE.md")) as file:
+        with open(os.path.join(here, "..", "..", "..", "docs", "SCALE.md")) as file:
             program, below = file.read().split("```python\n")[1].split("```\n")[:2]
         wanted = below.strip("\n").split("\n\n")[0]
         with tempfile.TemporaryDirectory() as folder:
@@ -143,7 +143,7 @@ class Dask(unittest.TestCase):
             with open(path, "w") as file:
                 file.write(program)
             words = [sys.executable, "-B", path, folder]
-            found = subprocess.run(words, env={**os.environ, "PYTHONPATH": here}, stdout=subprocess.PIPE, check=True)
+            found = subprocess.run(words, env=os.environ, stdout=subprocess.PIPE, check=True)
         self.assertEqual(found.stdout.decode().splitlines(), textwrap.dedent(wanted).splitlines())
 
     def test_damaged(self):

@@ -1,6 +1,6 @@
 /* Row selection over columns that Arrow's C Data Interface describes: makes tables of nodes for the
  * calls of libvortex_arrow_c.a, and arrays of what they write. C99 and C++11. */
-#include "arrow_parts.h"
+#include "internal.h"
 
 #include <stdio.h>
 #include <stdlib.h>

@@ -339,12 +339,12 @@ class Made(unittest.TestCase):
         parts = vortex_select.__version__.split(".")
         version = sum(int(part) * 1000 ** (2 - k) for k, part in enumerate(parts))
         self.assertEqual(vortex_select._calls.vortex_version(), version)
-        root = pathlib.Path(__file__).resolve().parents[1]
-        for file in "python/pyproject.toml", "rust/Cargo.toml":
+        root = pathlib.Path(__file__).resolve().parents[2]
+        for file in "python/pyproject.toml", "rust/vortex-select-sys/Cargo.toml":
             self.assertIn(f'\nversion = "{vortex_select.__version__}"\n', (root / file).read_text())
 
 
-EXAMPLES = pathlib.Path(__file__).resolve().parents[2] / "examples"
+EXAMPLES = pathlib.Path(__file__).resolve().parents[3] / "examples"
 HAS_PROGRAM = hasattr(vortex_select._calls, "vortex_program")
 
 

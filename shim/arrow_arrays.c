@@ -1,5 +1,5 @@
 /* Arrays and schemas that are released by us: who owns what, and what is shared. C99 and C++11. */
-#include "arrow_parts.h"
+#include "internal.h"
 
 #include <stdlib.h>
 #include <string.h>

@@ -1,6 +1,6 @@
 /* What the parts of the shim have in common. Nothing here is for callers. */
-#ifndef VORTEX_ARROW_PARTS_H
-#define VORTEX_ARROW_PARTS_H
+#ifndef VORTEX_INTERNAL_H
+#define VORTEX_INTERNAL_H
 
 #include "vortex_arrow.h"
 

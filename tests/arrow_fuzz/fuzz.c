@@ -2,12 +2,12 @@
  * the bytes that the shim takes them to have, or none where that is much: so what is read beyond a
  * buffer is an error of the shim or the library. An answer is read whole, and released.
  *
- * Build: bench/arrow/build_fuzz. */
+ * Build: tests/arrow_fuzz/build. */
 #include <stdio.h>
 #include <stdlib.h>
 #include <string.h>
 
-#include "../../bindings/c/random_arrow.h"
+#include "../../bindings/c/tests/random_arrow.h"
 
 #define MOST_BYTES 65536
 
