@@ -1,41 +1,52 @@
-/* Row selection over columns in Arrow's memory: link with libvortex_arrow_c.a and the memory of
- * shim/memory.c, and for the calls over `struct ArrowArray` with the shim, which is arrow.c,
- * arrow_arrays.c, arrow_formats.c and arrow_stream.c of shim.
+/* Row selection over columns in Arrow's memory. Link libvortex_arrow_c.a and shim/memory.c. For the
+ * calls over `struct ArrowArray` also link the shim, which is shim/arrow*.c.
  *
- * There are two layers. The library is proved: it sees a column as a table of nodes, each with its
- * lists of bytes and their lengths, and reads and writes nothing outside of them, whatever they
- * hold. Over it stands the shim in C, which is tested and not proved: it makes such a table of what
- * Arrow's C Data Interface describes, and an array of what the library writes.
+ * There are two layers:
  *
- * - Proved: where a library call's status is VORTEX_ARROW_DONE, what it wrote means what is said of
- *   it below; at every other status it wrote nothing.
- * - Trusted: an array doesn't say how long its buffers are. The shim takes from `length`, `offset`
- *   and the format how many bytes a buffer must have, from the last offset how many bytes of text
- *   there are, and from the last buffer of views how many there are in those that they lead to.
- *   Where a producer hands in a shorter buffer, it is read past its end. Names, metadata, flags,
- *   dictionaries, what views lead to, the order of the buffers, and what is freed and when are the
- *   shim's too.
+ * - The library is proved. A column is a table of nodes, each with its buffers and their lengths.
+ *   The library reads and writes nothing outside of these buffers, whatever they hold.
+ * - The shim, in C, is tested and not proved. It makes a table of nodes from a `struct ArrowArray`,
+ *   and an array from what the library writes.
  *
- * What the caller owes, and nothing tests:
+ * Proved: at status VORTEX_ARROW_DONE a call of the library wrote what is said of it here. At every
+ * other status it wrote nothing.
  *
- * - Structs. They are as Arrow's C Data Interface has them: formats and names end with a byte 0,
- *   pointers lead to as many children and buffers as `n_children` and `n_buffers` say, and metadata
- *   is whole.
- * - Lists of the library's calls, and those of a step: as in vortex_select.h, a pointer leads to so
- *   many items, below 2^63 bytes, and a list that is written overlaps no other list.
- * - Threads. Until a call is back no other thread writes to what it reads, and none touches the
- *   structs that it was given. Answers may be released in any order and by any thread.
- * - Memory, signals, forks, stack, processor: as in vortex_select.h. The calls take memory, so none
- *   of them is made in a signal handler. The shim recurses VORTEX_ARROW_LEVELS deep at most.
+ * Trusted: an array doesn't say how long its buffers are. The shim computes these lengths:
  *
- * Formats: null (n), bools (b), integers and floats (c C s S i I l L e f g), binary of a fixed
- * width (w:N), decimals (d:P,S and d:P,S,W), dates, times, timestamps, durations and intervals
- * (t..), texts and bytes (u U z Z) and views of them (vu vz), structs (+s), lists (+l +L), lists of
- * a fixed size (+w:N), views of lists (+vl +vL) and maps (+m), each with an offset, a validity, and
- * a dictionary where it is of integers; and unions, sparse (+us:) and dense (+ud:). An answer has
- * the format of its source, and of a dense union just the rows that its ids name, in order. Arrays
- * that are run-end encoded (+r) are refused by VORTEX_ARROW_FORMAT, as are formats that Arrow
- * doesn't have. */
+ * - of most buffers from `length`, `offset` and the format;
+ * - of the bytes of strings from the last offset;
+ * - of the data buffers of views from the last buffer, which lists their lengths.
+ *
+ * If a producer's buffer is shorter than that, the shim reads past its end. The shim is trusted
+ * too for names, metadata, flags, dictionaries, the order of buffers, and what is freed and when.
+ *
+ * The caller must ensure the following, which nothing tests:
+ *
+ * - Structs. They follow Arrow's C Data Interface: formats and names are terminated by a 0 byte,
+ *   `children` and `buffers` have as many pointers as `n_children` and `n_buffers` say, and
+ *   metadata has as many bytes as its lengths say.
+ * - Lists of the library's calls, and those of a step. They are as in vortex_select.h: a pointer
+ *   leads to as many items as its length says, a list has less than 2^63 bytes, and a list that is
+ *   written overlaps no other list.
+ * - Threads. Until a call returns no other thread writes to what it reads, and no other thread uses
+ *   the structs that it was given. Answers may be released in any order and by any thread.
+ * - Memory, signals, forks, stack, processor. They are as in vortex_select.h. The calls allocate,
+ *   so a signal handler must not make them. The shim recurses at most VORTEX_ARROW_LEVELS deep.
+ *
+ * Formats:
+ *
+ * - null (n), bools (b), integers and floats (c C s S i I l L e f g);
+ * - binary of a fixed width (w:N), decimals (d:P,S and d:P,S,W);
+ * - dates, times, timestamps, durations and intervals (t..);
+ * - strings and binary (u U z Z), and views of them (vu vz);
+ * - structs (+s), lists (+l +L), lists of a fixed size (+w:N), list views (+vl +vL), maps (+m);
+ * - unions, sparse (+us:) and dense (+ud:);
+ * - a dictionary of any of these, if the format is of integers.
+ *
+ * Each may have an offset, and each but a null and a union a validity. An answer has the format of
+ * its source. A dense union's children have exactly the rows that its type ids name, in order. The
+ * status for run-end encoded arrays (+r) and for formats that Arrow doesn't have is
+ * VORTEX_ARROW_FORMAT. */
 #ifndef VORTEX_ARROW_H
 #define VORTEX_ARROW_H
 
@@ -93,25 +104,31 @@ struct ArrowArrayStream {
 
 #endif /* ARROW_C_STREAM_INTERFACE */
 
-/* How a call ended. */
+/* The version of this header. The shim's is what vortex_arrow_version returns. It is a million
+ * times the major number, plus a thousand times the minor one, plus the patch number. */
+#define VORTEX_ARROW_VERSION 1000
+
+uint32_t vortex_arrow_version(void);
+
+/* Statuses. */
 enum {
     VORTEX_ARROW_DONE = 0,
-    VORTEX_ARROW_NO_MEANING = 1, /* a node of the column has no meaning */
-    VORTEX_ARROW_BEYOND = 2,     /* a pick is past the rows */
-    VORTEX_ARROW_ROOM = 3,       /* a list that is written is too short */
+    VORTEX_ARROW_NO_MEANING = 1, /* a node of the column isn't valid */
+    VORTEX_ARROW_BEYOND = 2,     /* a place is past the rows */
+    VORTEX_ARROW_ROOM = 3,       /* an output list is too short */
     VORTEX_ARROW_OVERFLOW = 4,   /* offsets of 32 bits would pass 2^31 - 1 */
     VORTEX_ARROW_NO_MEMORY = 5,
-    VORTEX_ARROW_BROKEN = 6,     /* a step breaks a rule */
-    VORTEX_ARROW_LACKING = 7,    /* the image of a step has no meaning */
-    VORTEX_ARROW_FORMAT = 8,     /* a format that isn't known */
-    VORTEX_ARROW_NULL_PICK = 9,  /* a null is picked of a union, whose rows are never null */
+    VORTEX_ARROW_BROKEN = 6,     /* an invalid step */
+    VORTEX_ARROW_LACKING = 7,    /* a malformed step */
+    VORTEX_ARROW_FORMAT = 8,     /* an unknown format */
+    VORTEX_ARROW_NULL_PICK = 9,  /* a null is selected of a union, whose rows are never null */
     /* Of the shim alone: */
-    VORTEX_ARROW_SHAPE = 16,     /* a struct isn't what its format says, or is released */
-    VORTEX_ARROW_DEPTH = 17,     /* more than VORTEX_ARROW_LEVELS columns in one another */
-    VORTEX_ARROW_SOURCE = 18     /* the stream that is read failed */
+    VORTEX_ARROW_SHAPE = 16,     /* a struct doesn't match its format, or is released */
+    VORTEX_ARROW_DEPTH = 17,     /* more than VORTEX_ARROW_LEVELS or VORTEX_ARROW_NODES */
+    VORTEX_ARROW_SOURCE = 18     /* the source stream failed */
 };
 
-/* The steps. */
+/* Steps. */
 
 enum {
     VORTEX_ARROW_SLICE = 0,
@@ -120,7 +137,7 @@ enum {
     VORTEX_ARROW_TAKE_PIECES = 3
 };
 
-/* The types of a take's numbers. */
+/* The types of a take's indices. */
 enum {
     VORTEX_ARROW_U8 = 0,
     VORTEX_ARROW_U16 = 1,
@@ -140,33 +157,33 @@ typedef struct vortex_arrow_bytes {
     size_t len;
 } vortex_arrow_bytes;
 
-/* One step. A field that its kind doesn't name plays no part. Bits are numbered from the lowest of
- * each byte on, numbers are little-endian, and lists may be longer than is needed. */
+/* One step. Its kind says which fields count. Bits are numbered from the lowest of each byte,
+ * numbers are little-endian, and lists may be longer than needed. */
 typedef struct vortex_arrow_step {
     uint64_t kind;
     uint64_t start;  /* of a slice: the first row */
     uint64_t end;    /* of a slice: the row after the last one */
-    uint64_t ptype;  /* of a take: the type of its numbers */
-    uint64_t offset; /* where the bits, numbers or pieces begin in their lists */
-    uint64_t len;    /* how many bits, numbers or pieces there are */
-    uint64_t declared; /* of pieces: how many numbers they are said to have */
-    vortex_arrow_bytes values; /* bits of a filter, numbers of a take, starts of pieces (64 bits) */
-    vortex_arrow_bytes valid;  /* a bit for each, clear at a null; no bytes where none is null */
-    vortex_arrow_bytes lengths;     /* of pieces: how many numbers each has (64 bits) */
-    vortex_arrow_bytes multipliers; /* of pieces: how far apart they are (64 bits) */
+    uint64_t ptype;  /* of a take: the type of its indices */
+    uint64_t offset; /* the first bit, index or range in its list */
+    uint64_t len;    /* how many bits, indices or ranges there are */
+    uint64_t declared; /* of ranges: how many indices they have together */
+    vortex_arrow_bytes values; /* bits of a filter, indices of a take, starts of ranges (64 bits) */
+    vortex_arrow_bytes valid;  /* a validity bit for each; empty if none is null */
+    vortex_arrow_bytes lengths;     /* of ranges: how many indices each has (64 bits) */
+    vortex_arrow_bytes multipliers; /* of ranges: how far apart they are (64 bits) */
 } vortex_arrow_step;
 
-/* The rules that a step breaks. */
+/* Why a step is invalid. */
 enum {
     VORTEX_ARROW_BAD_RANGE = 0,       /* a slice begins past its end, or ends past the rows */
     VORTEX_ARROW_BAD_MASK = 1,        /* a filter isn't as long as the rows */
-    VORTEX_ARROW_NOT_BOOL = 2,        /* a filter isn't by bools */
-    VORTEX_ARROW_INVALID_INDICES = 3, /* a take's numbers are no integers */
-    VORTEX_ARROW_BAD_PIECES = 4,      /* a take's pieces aren't sound */
+    VORTEX_ARROW_NOT_BOOL = 2,        /* a filter isn't of bools */
+    VORTEX_ARROW_INVALID_INDICES = 3, /* a take's indices aren't integers */
+    VORTEX_ARROW_BAD_PIECES = 4,      /* a take's ranges aren't valid */
     VORTEX_ARROW_OUT_OF_BOUNDS = 5    /* an index is negative, or not below the rows */
 };
 
-/* The library: tables of nodes, over lists that are borrowed for the time of the call. */
+/* The library. A call borrows the lists that it is given until it returns. */
 
 /* Formats of nodes. */
 enum {
@@ -186,18 +203,18 @@ enum {
     VORTEX_ARROW_DENSE_UNION = 13
 };
 
-/* A node of a column. Its children stand behind it, the first one first, each with its own. */
+/* A node of a column. Its children follow it in order, each with its own descendants. */
 typedef struct vortex_arrow_node {
     uint64_t format;
     uint64_t width;  /* of FIXED: bytes a value; of FIXED_LIST: items a row; else 0 */
     uint64_t len;    /* rows */
-    uint64_t offset; /* the first of them in the buffers */
-    uint64_t children; /* of VIEWS: a node for each buffer that they lead to, FIXED of a byte */
-    vortex_arrow_bytes valid;   /* bits; no bytes where each row is valid */
-    vortex_arrow_bytes offsets; /* of texts, lists, views of lists, dense unions */
+    uint64_t offset; /* the first row in the buffers */
+    uint64_t children; /* of VIEWS: a FIXED node of width 1 for each data buffer */
+    vortex_arrow_bytes valid;   /* validity bits; empty if no row is null */
+    vortex_arrow_bytes offsets; /* of strings, lists, list views, dense unions */
     vortex_arrow_bytes values;  /* FIXED: values; BITS: bits; TEXT: bytes; VIEWS: 16 bytes a row;
-                                 * unions: the id of each row's child, a byte */
-    vortex_arrow_bytes sizes;   /* of views of lists: sizes; of unions: a byte a child, its id */
+                                 * unions: a type id a row, a byte each */
+    vortex_arrow_bytes sizes;   /* of list views: sizes; of unions: a type id a child */
 } vortex_arrow_node;
 
 typedef struct vortex_arrow_room_bytes {
@@ -205,128 +222,159 @@ typedef struct vortex_arrow_room_bytes {
     size_t len;
 } vortex_arrow_room_bytes;
 
-/* What the answer's node is written to. */
+/* The output buffers of a node. */
 typedef struct vortex_arrow_room {
     vortex_arrow_room_bytes valid, offsets, values, sizes;
 } vortex_arrow_room;
 
-/* How many rows the answer's node has, and how many bytes it needs. */
+/* How many rows a node of the answer has, and the sizes that its output buffers must have. */
 typedef struct vortex_arrow_need {
     uint64_t len, valid, offsets, values, sizes;
 } vortex_arrow_need;
 
-/* What a node lacks that has no meaning. */
+/* What an invalid node lacks. */
 enum {
     VORTEX_ARROW_LACKS_TREE = 1,     /* nodes are left over, or too few */
-    VORTEX_ARROW_LACKS_ROWS = 2,     /* fewer than 2^60 rows, those before the first one counted */
-    VORTEX_ARROW_LACKS_VALID = 3,    /* a bit of validity for each row */
+    VORTEX_ARROW_LACKS_ROWS = 2,     /* offset + length below 2^60 */
+    VORTEX_ARROW_LACKS_VALID = 3,    /* a validity bit for each row */
     VORTEX_ARROW_LACKS_CHILDREN = 4, /* as many children as its format has */
     VORTEX_ARROW_LACKS_VALUES = 5,   /* values for all rows */
-    VORTEX_ARROW_LACKS_OFFSETS = 6,  /* an offset for each row and one more */
-    VORTEX_ARROW_LACKS_ITEMS = 7,    /* offsets that ascend, and items up to the last; of views:
-                                      * all that each leads to */
-    VORTEX_ARROW_LACKS_LENGTH = 8,   /* as many rows as its parent asks for */
-    VORTEX_ARROW_LACKS_SIZES = 9,    /* a size for each row, or an id for each child */
-    VORTEX_ARROW_LACKS_ID = 10       /* the id of a child in each row */
+    VORTEX_ARROW_LACKS_OFFSETS = 6,  /* an offset for each row, and one more */
+    VORTEX_ARROW_LACKS_ITEMS = 7,    /* offsets that ascend, and items up to the last offset; of
+                                      * views: a data buffer, and the bytes that they name there */
+    VORTEX_ARROW_LACKS_LENGTH = 8,   /* as many rows as its parent needs */
+    VORTEX_ARROW_LACKS_SIZES = 9,    /* a size for each row, or a type id for each child */
+    VORTEX_ARROW_LACKS_ID = 10,      /* the type id of a child in each row */
+    /* Of the shim alone: */
+    VORTEX_ARROW_LACKS_CODES = 16    /* dictionary codes from 0 to below the dictionary's length */
 };
 
-/* How many places and bytes of validity the picks need. */
+/* How many places, and how many bytes of validity, the rows need that steps select. */
 typedef struct vortex_arrow_picks_need {
     uint64_t places, valid;
 } vortex_arrow_picks_need;
 
-/* A status; the node or the step that it is about; and what that lacks, or the rule it breaks. */
+/* A status, the node or step that it is about, and what that node lacks or why that step is
+ * invalid. */
 typedef struct vortex_arrow_answer {
     uint64_t status, node_or_step, what;
 } vortex_arrow_answer;
 
-/* What the call writes to, as a table of rooms or a list of places, is as it was where its status
- * isn't DONE. */
-
-/* Says how much room the picks need that the steps leave of `len` rows. LACKING: the image of a
- * step, whose number is told, has no meaning (`what` 0 no kind, 1 no type, 2 lengths that pass
- * INT64_MAX, 3 values too short, 4 validity too short, 5 lengths too short, 6 multipliers too
- * short). BROKEN: a step breaks a rule, and `what` is its number. NO_MEMORY. */
+/* Returns in *need how many places and how many bytes of validity vortex_arrow_compose writes.
+ *
+ * - LACKING: a step is malformed. `node_or_step` is its number, and `what` is 0 for an unknown
+ * kind,   1 for an unknown type, 2 for lengths past INT64_MAX, 3 for too few values, 4 for too
+ * little   validity, 5 for too few lengths, and 6 for too few multipliers.
+ * - BROKEN: a step is invalid. `node_or_step` is its number, and `what` says why.
+ * - NO_MEMORY. */
 vortex_arrow_answer vortex_arrow_count(uint64_t len, const vortex_arrow_step *steps, size_t n_steps,
     vortex_arrow_picks_need *need);
 
-/* Writes for each row that the steps leave of `len` rows its place among these, 0 at a null, and to
- * valid a bit that is clear at a null, where a take may leave nulls. ROOM: there are fewer places
- * or bytes than vortex_arrow_count says; and what that answers. */
+/* Writes the row number of each row that the steps select of `len` rows, and 0 for a null. If
+ * vortex_arrow_count says that they need validity, it also writes a bit for each to `valid`, which
+ * is clear for a null. Places and bits after these keep what they hold.
+ *
+ * - ROOM: there are fewer places or bytes than vortex_arrow_count says.
+ * - The statuses of vortex_arrow_count. */
 vortex_arrow_answer vortex_arrow_compose(uint64_t len, const vortex_arrow_step *steps,
     size_t n_steps, uint64_t *places, size_t n_places, uint8_t *valid, size_t n_valid);
 
-/* Tests a whole table: DONE where it means a column, else NO_MEANING or FORMAT with a node that
- * lacks something, or NO_MEMORY. */
+/* Tests every row of a table. The status is DONE if the table is a valid column. It is NO_MEANING
+ * or FORMAT, with an invalid node, if it isn't. It may be NO_MEMORY in either case. */
 vortex_arrow_answer vortex_arrow_check(const vortex_arrow_node *nodes, size_t n_nodes);
 
-/* Says what the rows of a column at the places need, node by node. A place is a row's number, and
- * null where its bit of valid is clear; without bytes there none is. What is not at a place is not
- * looked at, but for each node's own numbers. What stands below views, of texts and of lists, is
- * kept as it is: it needs no bytes, and but for the numbers of rows nothing of it is looked at.
- * NO_MEANING: a node, whose number is told, lacks `what`. BEYOND: a place that isn't null is past
- * the rows. NULL_PICK: the column is a union, and a place is null. ROOM: there are not as many
- * needs as nodes. OVERFLOW: rows or bytes are more than a node's offsets can count. FORMAT,
- * NO_MEMORY. */
+/* Returns the sizes of a column's rows at these places, node by node. A place is a row number. It
+ * is null if its bit of `valid` is clear, and if `valid` is empty, no place is null.
+ *
+ * Only the rows at the places are tested, and the numbers and the lengths of each node. The
+ * children of views and of list views are kept: they need no bytes, and only their lengths are
+ * tested.
+ *
+ * - NO_MEANING: `node_or_step` is an invalid node, and `what` is what it lacks.
+ * - BEYOND: a place that isn't null is past the rows.
+ * - NULL_PICK: the column is a union, and a place is null.
+ * - ROOM: there are not as many needs as nodes.
+ * - OVERFLOW: the node has more rows or bytes than its offsets can count.
+ * - FORMAT and NO_MEMORY. */
 vortex_arrow_answer vortex_arrow_sizes(const vortex_arrow_node *nodes, size_t n_nodes,
     const uint64_t *places, size_t n_places, const uint8_t *valid, size_t n_valid,
     vortex_arrow_need *needs, size_t n_needs);
 
-/* Writes the rows at the places, node by node, but nothing of what is kept. ROOM: there are not as
- * many rooms as nodes, or one is smaller than its need; and what vortex_arrow_sizes answers. */
+/* Writes the rows at the places, node by node, without the nodes that are kept. What it leaves
+ * under a null isn't specified: the source's bytes, or what the output buffer held.
+ *
+ * - ROOM: there are not as many rooms as nodes, or one is smaller than vortex_arrow_sizes says.
+ * - The statuses of vortex_arrow_sizes. */
 vortex_arrow_answer vortex_arrow_take(const vortex_arrow_node *nodes, size_t n_nodes,
     const uint64_t *places, size_t n_places, const uint8_t *valid, size_t n_valid,
     vortex_arrow_room *rooms, size_t n_rooms);
 
-/* The shim: columns as Arrow's C Data Interface hands them over. */
+/* The shim. */
 
-/* How many columns may stand in one another, dictionaries counted. */
+/* How many levels of columns there may be, and how many columns one call visits. Children and
+ * dictionaries count for both. A column that two parents share counts twice. */
 #define VORTEX_ARROW_LEVELS 64
+#define VORTEX_ARROW_NODES 65536
 
 /* What went wrong. */
 typedef struct vortex_arrow_error {
     uint64_t status;
     uint64_t step;   /* of BROKEN and LACKING: the step's number, from 0 */
-    uint64_t cause;  /* of BROKEN: the rule; of LACKING and NO_MEANING: the library's number */
-    char place[120]; /* the column, by names from the top, and the buffer: "tags.item offsets" */
-    char text[240];  /* all of it in words */
+    uint64_t cause;  /* of BROKEN: why; of LACKING and NO_MEANING: what is lacking */
+    char place[120]; /* the names that lead to the column, and the buffer: "tags.item offsets" */
+    char text[240];  /* the place and the words */
 } vortex_arrow_error;
 
-/* Selects rows: *out_schema and *out_array become a column of the rows that the steps leave of the
- * array, of its type, nullable also where a take's numbers are. The answer is the status, which
- * *error has too, with the place and words; `error` may be null, and so may `out_schema`. A broken
- * step is told before any other fault but a step's own.
+/* Returns the rows that the steps select. *out_array and *out_schema become a column of the array's
+ * type, which is nullable too if the indices of a take have a validity. `out_schema` and `error`
+ * may be null. The return value is the status, which *error has too. An invalid step is reported
+ * before any other fault except a malformed step.
  *
- * Schema and array stay the caller's. The answer has memory of its own but for dictionaries, the
- * bytes that views lead to, and what lists are views of, which it shares with the array: each such
- * array, *array itself or one below it, is replaced, in its place, by one of the same rows that is
- * counted, so the array is neither read nor released by others meanwhile. Array and answer are then
- * released in any order. At every status but DONE there is nothing to release: *out_array and
- * *out_schema are marked as released. */
+ * Of the array, these are tested: each node's numbers and lengths, the rows that are selected, and
+ * the dictionary codes of those. Rows that aren't selected, dictionaries, and the children of list
+ * views are not tested. If the producer isn't trusted, call vortex_arrow_check_array first.
+ *
+ * The schema and the array stay the caller's. NOTE: this modifies the array. If *array, or a child,
+ * has a dictionary, views or list views, the part that the answer shares is replaced in place by a
+ * reference-counted equivalent. So no other thread may read or release the array during the call.
+ * Dictionaries, the data buffers of views, and the children of list views are shared. All else of
+ * the answer has memory of its own. Array and answer may be released in any order.
+ *
+ * Each byte of this memory is written: under a null, in the bits after the last row, and in the
+ * bytes after the rows there are zeros. Offsets of strings and lists are valid there, as are the
+ * type ids and offsets of unions. Children of a struct that is null in the source have its rows.
+ *
+ * At every status except DONE, *out_array and *out_schema are marked as released. */
 uint64_t vortex_select_arrow(const struct ArrowSchema *schema, struct ArrowArray *array,
     const vortex_arrow_step *steps, size_t n_steps, struct ArrowSchema *out_schema,
     struct ArrowArray *out_array, vortex_arrow_error *error);
 
-/* Tests a whole column, which vortex_select_arrow doesn't: that looks at the picked rows alone. For
- * those who don't trust their producer; the lengths of the buffers stay trusted. The answer is the
- * status, as above. */
+/* Tests every row of a column, of its children and of its dictionaries: shapes, offsets, views,
+ * type ids, and the dictionary codes of rows that aren't null. Whether strings are UTF-8, and what
+ * the format says of values such as dates and decimals, isn't tested. The lengths of buffers stay
+ * trusted. The return value is the status, as above. */
 uint64_t vortex_arrow_check_array(const struct ArrowSchema *schema, struct ArrowArray *array,
     vortex_arrow_error *error);
 
-/* Selects rows of a stream: the steps go over the rows of all its batches, end to end. The stream
- * is read to its end, and stays the caller's, who releases it. *out gives the answer: a batch for
- * each longest run of picks within one batch, so at most one for each where the picks ascend, and
- * one without rows where no row is picked. Its schema is nullable also where a take's numbers are.
- * A fault of a batch is told by its get_next, as EINVAL, ENOMEM or EOVERFLOW. */
+/* Selects rows of a stream. The steps apply to the rows of all its batches, as if they were one
+ * column. The source is read to its end. It stays the caller's, who releases it.
+ *
+ * *out returns a batch for each longest run of selected rows that are of one batch of the source.
+ * So there is at most one for each if the rows ascend, and one without rows if no row is selected.
+ * Its schema is nullable too if the indices of a take have a validity. If a batch has a fault,
+ * get_next returns EINVAL, ENOMEM or EOVERFLOW. If the source fails, the status is SOURCE. */
 uint64_t vortex_select_arrow_stream(struct ArrowArrayStream *source, const vortex_arrow_step *steps,
     size_t n_steps, struct ArrowArrayStream *out, vortex_arrow_error *error);
 
-/* Makes *out an array of the same rows in the same memory, to be released on its own. Where the
- * array isn't counted yet, it is replaced by one that is. The answer is DONE, SHAPE, DEPTH or
- * NO_MEMORY. */
+/* Makes *out another reference to the rows that *array has now, to be released on its own. If
+ * *array isn't reference-counted yet, it is replaced in place by an equivalent that is. If its
+ * holder then changes `length`, `offset` and `null_count`, the next call shares these rows. The
+ * return value is DONE, SHAPE, DEPTH or NO_MEMORY. At SHAPE the array is released, or a child of it
+ * is. */
 uint64_t vortex_arrow_share(struct ArrowArray *array, struct ArrowArray *out);
 
-/* Makes *out a copy of the schema. The answer is DONE, SHAPE, DEPTH or NO_MEMORY. */
+/* Makes *out a copy of the schema. The return value is DONE, SHAPE, DEPTH or NO_MEMORY. Metadata
+ * with a negative count or length is SHAPE. */
 uint64_t vortex_arrow_copy_schema(const struct ArrowSchema *schema, struct ArrowSchema *out);
 
 #ifdef __cplusplus

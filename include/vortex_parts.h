@@ -27,6 +27,10 @@ enum {
     VORTEX_TOO_MANY = 7  /* the parts have more rows than 64 bits count */
 };
 
+/* Returns the version of this library, which is VORTEX_VERSION of vortex_select.h if the header is of
+ * the same version. */
+uint32_t vortex_parts_version(void);
+
 /* What stands for a null among places, parts and rows. */
 #define VORTEX_NULL UINT64_MAX
 

@@ -1,25 +1,32 @@
-/* Arrays and schemas that are released by us: who owns what, and what is shared. C99 and C++11. */
+/* Arrays and schemas that the shim releases: who owns the memory, and what is shared. C99 and
+ * C++11. */
 #include "internal.h"
 
 #include <stdlib.h>
 #include <string.h>
 
-/* C99 has no atomic numbers; gcc and clang, which the library is for, have these. */
+/* C99 has no atomic integers. gcc and clang, which the library is for, have these. */
 #define COUNT_UP(count) ((void)__atomic_add_fetch(&(count), 1, __ATOMIC_RELAXED))
 #define COUNT_DOWN(count) __atomic_sub_fetch(&(count), 1, __ATOMIC_ACQ_REL)
 
 /* ---- Arrays ---- */
 
+static void release_held(owner *o)
+{
+    size_t k;
+    for (k = 0; k < o->n_held; k++) {
+        if (o->held[k].release) {
+            o->held[k].release(&o->held[k]);
+        }
+    }
+}
+
+/* Frees an owner that nothing counts on any more, and then each that it counted on. */
 static void leave(owner *o)
 {
     while (o && !COUNT_DOWN(o->count)) {
         owner *kept = o->kept;
-        size_t k;
-        for (k = 0; k < o->n_held; k++) {
-            if (o->held[k].release) {
-                o->held[k].release(&o->held[k]);
-            }
-        }
+        release_held(o);
         free(o);
         o = kept;
     }
@@ -43,7 +50,8 @@ static void release_array(struct ArrowArray *array)
     leave(((part *)array->private_data)->of);
 }
 
-/* A block with room for so many parts, arrays and pointers to them, and bytes behind them. */
+/* Allocates a block with room for so many parts, arrays and pointers to them, and bytes after them.
+ * Returns 0 where memory runs out. */
 int vortex_arrow_supply(supply *s, size_t parts, size_t arrays, uint64_t extra)
 {
     size_t fixed = sizeof(owner) + parts * sizeof(part) +
@@ -61,18 +69,20 @@ int vortex_arrow_supply(supply *s, size_t parts, size_t arrays, uint64_t extra)
     return 1;
 }
 
-/* Has an array lead to the owner of the supply. */
-void vortex_arrow_own(supply *s, struct ArrowArray *array, const struct ArrowArray *shared)
+/* Makes an array one of the shim's, which counts on the owner of the supply. */
+void vortex_arrow_own(supply *s, struct ArrowArray *array, const struct ArrowArray *shared,
+    owner *root)
 {
     s->parts->of = s->of;
     s->parts->shared = shared;
+    s->parts->root = root;
     s->parts->lender = NULL;
     array->private_data = s->parts++;
     array->release = release_array;
     s->of->count++;
 }
 
-/* The array that our views were taken from, or those that they were taken from; else null. */
+/* Returns the array that holds the data buffers of views that the shim took, or null. */
 struct ArrowArray *vortex_arrow_lender(const struct ArrowArray *array)
 {
     while (array && array->release == release_array) {
@@ -85,19 +95,22 @@ struct ArrowArray *vortex_arrow_lender(const struct ArrowArray *array)
     return NULL;
 }
 
-/* How many arrays stand in one that is handed through; 0 at a fault, and *status tells which. */
-size_t vortex_arrow_arrays_in(const struct ArrowArray *array, int level, uint64_t *status)
+/* Returns how many arrays an array and its descendants are. `*left` is how many more the call may
+ * visit. Returns 0 at a fault, and *status is its status. */
+size_t vortex_arrow_arrays_in(const struct ArrowArray *array, int level, size_t *left,
+    uint64_t *status)
 {
     size_t count = 1;
     int64_t k;
-    *status = level > VORTEX_ARROW_LEVELS ? VORTEX_ARROW_DEPTH : VORTEX_ARROW_SHAPE;
-    if (level > VORTEX_ARROW_LEVELS || !array || !array->release || array->n_children < 0 ||
+    *status = level > VORTEX_ARROW_LEVELS || !*left ? VORTEX_ARROW_DEPTH : VORTEX_ARROW_SHAPE;
+    if (*status == VORTEX_ARROW_DEPTH || !array || !array->release || array->n_children < 0 ||
         (array->n_children && !array->children)) {
         return 0;
     }
+    --*left;
     for (k = -1; k < array->n_children; k++) {
         const struct ArrowArray *child = k < 0 ? array->dictionary : array->children[k];
-        size_t more = k < 0 && !child ? 0 : vortex_arrow_arrays_in(child, level + 1, status);
+        size_t more = k < 0 && !child ? 0 : vortex_arrow_arrays_in(child, level + 1, left, status);
         if (!more && (k >= 0 || child)) {
             return 0;
         }
@@ -107,23 +120,50 @@ size_t vortex_arrow_arrays_in(const struct ArrowArray *array, int level, uint64_
     return count;
 }
 
-/* Makes an array, and those below it, of the rows and the memory of another. */
-static void mirror(supply *s, const struct ArrowArray *from, struct ArrowArray *to)
+/* ---- Sharing ---- */
+
+/* Returns the part of an array that uses the memory of another, or null. */
+static const part *part_of(const struct ArrowArray *array)
 {
+    const part *of = array->release == release_array ? (const part *)array->private_data : NULL;
+    return of && of->shared ? of : NULL;
+}
+
+/* Whether an array and its descendants use memory that this owner holds: by their roots, or by what
+ * their own owners keep. */
+static int is_held_by(const struct ArrowArray *array, const owner *by, int is_root)
+{
+    const part *of = part_of(array);
+    int is_held = of && (is_root ? of->root : of->of->kept) == by;
+    int64_t k;
+    if (is_held && array->dictionary) {
+        is_held = is_held_by(array->dictionary, by, is_root);
+    }
+    for (k = 0; k < array->n_children && is_held; k++) {
+        is_held = is_held_by(array->children[k], by, is_root);
+    }
+    return is_held;
+}
+
+/* Makes an array, and its descendants, of the same rows in the same memory as another. Its numbers
+ * are those that the other has now, which may be a slice of what it was made of. */
+static void mirror(supply *s, const struct ArrowArray *from, struct ArrowArray *to, owner *kept)
+{
+    const part *of = part_of(from);
     int64_t k;
     *to = *from;
-    vortex_arrow_own(s, to, from);
+    vortex_arrow_own(s, to, of ? of->shared : from, of ? of->root : kept);
     if (from->n_children) {
         to->children = s->pointers;
         s->pointers += from->n_children;
     }
     for (k = 0; k < from->n_children; k++) {
         to->children[k] = s->arrays++;
-        mirror(s, from->children[k], to->children[k]);
+        mirror(s, from->children[k], to->children[k], kept);
     }
     if (from->dictionary) {
         to->dictionary = s->arrays++;
-        mirror(s, from->dictionary, to->dictionary);
+        mirror(s, from->dictionary, to->dictionary, kept);
     }
 }
 
@@ -132,7 +172,7 @@ static uint64_t mirrored(const struct ArrowArray *from, owner *kept, struct Arro
 {
     supply s;
     uint64_t status;
-    size_t arrays = vortex_arrow_arrays_in(from, 1, &status);
+    size_t left = VORTEX_ARROW_NODES, arrays = vortex_arrow_arrays_in(from, 1, &left, &status);
     if (status) {
         return status;
     }
@@ -141,24 +181,40 @@ static uint64_t mirrored(const struct ArrowArray *from, owner *kept, struct Arro
     }
     COUNT_UP(kept->count);
     s.of->kept = kept;
-    mirror(&s, from, out);
+    mirror(&s, from, out, kept);
     return VORTEX_ARROW_DONE;
 }
 
-uint64_t vortex_arrow_share(struct ArrowArray *array, struct ArrowArray *out)
+/* Shares an array that is counted already. It counts on the root if that holds all of it: so long
+ * chains of shares and answers keep nothing in between. */
+static uint64_t share_counted(const struct ArrowArray *array, struct ArrowArray *out)
 {
-    struct ArrowArray counted, second;
-    part *of = array->release == release_array ? (part *)array->private_data : NULL;
-    supply s;
+    const part *of = part_of(array);
+    owner *kept = of->of->kept;
+    size_t left = VORTEX_ARROW_NODES;
+    struct ArrowArray second;
     uint64_t status;
-    out->release = NULL;
-    if (of && of->shared) {
-        status = mirrored(of->shared, of->of->kept, &second);
-        if (!status) {
-            *out = second;
-        }
+    if (!vortex_arrow_arrays_in(array, 1, &left, &status)) {
         return status;
     }
+    if (is_held_by(array, of->root, 1)) {
+        kept = of->root;
+    } else if (!is_held_by(array, kept, 0)) {
+        return VORTEX_ARROW_SHAPE; /* its holder put another child in */
+    }
+    status = mirrored(array, kept, &second);
+    if (!status) {
+        *out = second;
+    }
+    return status;
+}
+
+/* Moves an array to an owner, and replaces it by one that is counted. */
+static uint64_t share_first(struct ArrowArray *array, struct ArrowArray *out)
+{
+    struct ArrowArray counted, second;
+    supply s;
+    uint64_t status;
     if (!vortex_arrow_supply(&s, 0, 1, 0)) {
         return VORTEX_ARROW_NO_MEMORY;
     }
@@ -171,13 +227,22 @@ uint64_t vortex_arrow_share(struct ArrowArray *array, struct ArrowArray *out)
     }
     status = mirrored(s.arrays, s.of, &second);
     if (status) {
-        counted.release(&counted); /* holds nothing yet, so the array stays as it is */
+        counted.release(&counted); /* the owner holds nothing yet, so *array stays as it is */
         return status;
     }
     s.of->n_held = 1;
     *array = counted;
     *out = second;
     return VORTEX_ARROW_DONE;
+}
+
+uint64_t vortex_arrow_share(struct ArrowArray *array, struct ArrowArray *out)
+{
+    out->release = NULL;
+    if (!array || !array->release) {
+        return VORTEX_ARROW_SHAPE;
+    }
+    return part_of(array) ? share_counted(array, out) : share_first(array, out);
 }
 
 /* ---- Schemas ---- */
@@ -200,19 +265,29 @@ static void release_schema(struct ArrowSchema *schema)
     free(schema->private_data);
 }
 
-/* How many bytes metadata has: a count of pairs, and each text with its length before it. */
+/* Reads an integer of metadata, which is in native order and needn't be aligned. */
+static int32_t metadata_number(const char *metadata, size_t at)
+{
+    int32_t number;
+    memcpy(&number, metadata + at, sizeof number);
+    return number;
+}
+
+/* Returns how many bytes metadata has: a count of pairs, and before each string its length. Returns
+ * SIZE_MAX where one of these is negative. */
 static size_t metadata_size(const char *metadata)
 {
-    int32_t pairs = 0, len;
-    size_t size = sizeof pairs;
-    int64_t k;
-    if (!metadata) {
-        return 0;
+    int64_t pairs = metadata ? metadata_number(metadata, 0) : 0, k;
+    size_t size = metadata ? sizeof(int32_t) : 0;
+    if (pairs < 0) {
+        return SIZE_MAX;
     }
-    memcpy(&pairs, metadata, sizeof pairs);
-    for (k = 0; k < 2 * (int64_t)pairs; k++) {
-        memcpy(&len, metadata + size, sizeof len);
-        size += sizeof len + (len > 0 ? (size_t)len : 0);
+    for (k = 0; k < 2 * pairs; k++) {
+        int32_t len = metadata_number(metadata, size);
+        if (len < 0) {
+            return SIZE_MAX;
+        }
+        size += sizeof len + (size_t)len;
     }
     return size;
 }
@@ -228,59 +303,76 @@ static const char *copy_text(char **at, const char *text, size_t size)
     return copy;
 }
 
-/* Copies a schema without what is below it; its block has room for that. */
+/* Sets the pointers of a copy to its children and its dictionary. */
+static void link_below(const struct ArrowSchema *from, struct ArrowSchema *to,
+    struct ArrowSchema *below, struct ArrowSchema **pointers)
+{
+    int64_t k;
+    to->children = from->n_children ? pointers : NULL;
+    for (k = 0; k < from->n_children; k++) {
+        pointers[k] = below + k;
+    }
+    to->dictionary = from->dictionary ? below + from->n_children : NULL;
+}
+
+/* Copies a schema. Its block has room for its children and its dictionary, which aren't copied. */
 static uint64_t copy_node(const struct ArrowSchema *from, struct ArrowSchema *to)
 {
     size_t below = (size_t)from->n_children + (from->dictionary != NULL);
     size_t metadata = metadata_size(from->metadata), format = strlen(from->format) + 1;
     size_t name = from->name ? strlen(from->name) + 1 : 0;
     size_t each = sizeof(struct ArrowSchema) + sizeof(struct ArrowSchema *);
-    struct ArrowSchema *schemas = below < SIZE_MAX / 4 / each
-        ? (struct ArrowSchema *)calloc(1, below * each + metadata + format + name) : NULL;
-    char *text = (char *)schemas + below * each;
-    int64_t k;
+    struct ArrowSchema *schemas;
+    char *text;
+    if (metadata == SIZE_MAX) {
+        return VORTEX_ARROW_SHAPE;
+    }
+    schemas = (struct ArrowSchema *)calloc(1, below * each + metadata + format + name);
     if (!schemas) {
         return VORTEX_ARROW_NO_MEMORY;
     }
+    text = (char *)schemas + below * each;
     *to = *from;
     to->private_data = schemas;
     to->release = release_schema;
     to->metadata = copy_text(&text, from->metadata, metadata);
     to->format = copy_text(&text, from->format, format);
     to->name = copy_text(&text, from->name, name);
-    to->children = from->n_children ? (struct ArrowSchema **)(schemas + below) : NULL;
-    for (k = 0; k < from->n_children; k++) {
-        to->children[k] = schemas + k;
-    }
-    to->dictionary = from->dictionary ? schemas + from->n_children : NULL;
+    link_below(from, to, schemas, (struct ArrowSchema **)(schemas + below));
     return VORTEX_ARROW_DONE;
 }
 
-static uint64_t copy_schema(const struct ArrowSchema *from, struct ArrowSchema *to, int level)
+static uint64_t copy_schema(const struct ArrowSchema *from, struct ArrowSchema *to, int level,
+    size_t *left)
 {
     uint64_t status;
     int64_t k;
-    if (level > VORTEX_ARROW_LEVELS) {
+    if (level > VORTEX_ARROW_LEVELS || !*left) {
         return VORTEX_ARROW_DEPTH;
     }
     if (!from || !from->release || !from->format || from->n_children < 0 ||
         (from->n_children && !from->children)) {
         return VORTEX_ARROW_SHAPE;
     }
+    --*left;
+    if ((uint64_t)from->n_children > *left) {
+        return VORTEX_ARROW_DEPTH;
+    }
     status = copy_node(from, to);
     for (k = 0; k < from->n_children && !status; k++) {
-        status = copy_schema(from->children[k], to->children[k], level + 1);
+        status = copy_schema(from->children[k], to->children[k], level + 1, left);
     }
     return status || !from->dictionary ? status
-        : copy_schema(from->dictionary, to->dictionary, level + 1);
+        : copy_schema(from->dictionary, to->dictionary, level + 1, left);
 }
 
 uint64_t vortex_arrow_copy_schema(const struct ArrowSchema *schema, struct ArrowSchema *out)
 {
     struct ArrowSchema copy;
+    size_t left = VORTEX_ARROW_NODES;
     uint64_t status;
     memset(&copy, 0, sizeof copy);
-    status = copy_schema(schema, &copy, 1);
+    status = copy_schema(schema, &copy, 1, &left);
     if (status && copy.release) {
         copy.release(&copy);
     }

@@ -1,18 +1,18 @@
-/* What Arrow's format strings say of an array: how it is laid out, and how many bytes a value has.
- * C99 and C++11. */
+/* Arrow's format strings: the layout that each names, and how many bytes a value has. C99 and
+ * C++11. */
 #include "internal.h"
 
 #include <stdio.h>
 #include <stdlib.h>
 #include <string.h>
 
-/* The buffers of each format, in Arrow's order: validity, offsets, data, sizes. Those that views
- * lead to come behind. */
+/* The data buffers of views follow these. */
 const char *const vortex_arrow_slots[] = {"", "vd", "vd", "vod", "vod", "v", "vo", "vo", "v", "vd",
     "vos", "vos", "d", "do"};
-/* How many children each has; -1 where the schema says it. */
+/* -1: the schema says how many. */
 const int vortex_arrow_families[] = {0, 0, 0, 0, 0, -1, 1, 1, 1, 0, 1, 1, -1, -1};
 
+/* Whether `words`, which spaces separate, has this word. */
 int vortex_arrow_has_word(const char *words, const char *word)
 {
     size_t len = strlen(word);
@@ -26,8 +26,40 @@ int vortex_arrow_has_word(const char *words, const char *word)
     return 0;
 }
 
-/* How many ids the format of a union lists, each below 128 and there once, or -1 where it isn't
- * such a list. They are written to `ids`, where that is one. */
+int vortex_arrow_has_views(const vortex_arrow_node *node)
+{
+    return node->format == VORTEX_ARROW_VIEWS;
+}
+
+int vortex_arrow_is_union(const vortex_arrow_node *node)
+{
+    return node->format == VORTEX_ARROW_SPARSE_UNION || node->format == VORTEX_ARROW_DENSE_UNION;
+}
+
+int vortex_arrow_is_list(const vortex_arrow_node *node)
+{
+    return node->format == VORTEX_ARROW_LIST || node->format == VORTEX_ARROW_LARGE_LIST;
+}
+
+/* Whether the answer shares its child with the source. */
+int vortex_arrow_is_list_view(const vortex_arrow_node *node)
+{
+    return node->format == VORTEX_ARROW_LIST_VIEW || node->format == VORTEX_ARROW_LARGE_LIST_VIEW;
+}
+
+/* How many bytes an offset of its format has. */
+size_t vortex_arrow_offset_width(const vortex_arrow_node *node)
+{
+    switch (node->format) {
+    case VORTEX_ARROW_LARGE_TEXT:
+    case VORTEX_ARROW_LARGE_LIST:
+    case VORTEX_ARROW_LARGE_LIST_VIEW: return 8;
+    default: return 4;
+    }
+}
+
+/* Returns how many type ids the format of a union lists, and writes them to `ids` unless that is
+ * null. Returns -1 unless each id is below 128 and listed once. */
 int64_t vortex_arrow_ids(const char *format, uint8_t *ids)
 {
     const char *at = format + strlen("+us:");
@@ -49,7 +81,7 @@ int64_t vortex_arrow_ids(const char *format, uint8_t *ids)
     return count;
 }
 
-/* Formats with numbers or names in them. */
+/* Parses formats that have parameters. */
 static int parse_long(const char *text, vortex_arrow_node *node)
 {
     char first[10], second[10];
@@ -77,6 +109,7 @@ static int parse_long(const char *text, vortex_arrow_node *node)
         vortex_arrow_ids(text, NULL) >= 0;
 }
 
+/* Writes the layout and the width of a format to the node. Returns 0 for an unknown format. */
 int vortex_arrow_parse(const char *text, vortex_arrow_node *node)
 {
     static const struct {

@@ -1,4 +1,4 @@
-/* Row selection over the batches of an Arrow stream, end to end. C99 and C++11. */
+/* Row selection over the batches of an Arrow stream, as if they were one column. C99 and C++11. */
 #include "internal.h"
 
 #include <errno.h>
@@ -6,15 +6,15 @@
 #include <stdlib.h>
 #include <string.h>
 
-/* What a stream of ours gives, and what it has read. */
+/* The private data of a stream of the shim. */
 typedef struct selected {
     struct ArrowSchema schema;
     struct ArrowArray *batches;
-    uint64_t *starts; /* the number of each batch's first row, and of all rows behind them */
+    uint64_t *starts; /* the number of each batch's first row, and the number of all rows */
     size_t n_batches;
     vortex_arrow_picks picks;
-    size_t next;    /* the first pick that wasn't given */
-    int was_given; /* a batch was */
+    size_t next;   /* the first pick that isn't returned yet */
+    int was_given; /* whether a batch was returned */
     vortex_arrow_error error;
 } selected;
 
@@ -51,7 +51,7 @@ static int is_there(const selected *s, size_t k)
     return !s->picks.n_valid || (s->picks.valid[k / 8] >> k % 8 & 1);
 }
 
-/* The batch that a row is in. */
+/* Returns the batch that a row is in. */
 static size_t batch_of(const selected *s, uint64_t row)
 {
     size_t low = 0, high = s->n_batches;
@@ -66,22 +66,31 @@ static size_t batch_of(const selected *s, uint64_t row)
     return low;
 }
 
-/* The picks from `next` on that are of one batch, or null; *batch is that. */
-static size_t run_of(const selected *s, size_t *batch)
+/* Returns the first pick from `k` on that isn't null. */
+static size_t first_there(const selected *s, size_t k)
 {
-    size_t k = s->next;
     while (k < s->picks.len && !is_there(s, k)) {
         k++;
     }
-    *batch = k < s->picks.len ? batch_of(s, s->picks.places[k]) : 0;
-    while (k < s->picks.len && (!is_there(s, k) || (s->picks.places[k] >= s->starts[*batch] &&
-        s->picks.places[k] < s->starts[*batch + 1]))) {
-        k++;
+    return k;
+}
+
+/* Returns how many picks from `next` on are null or of one batch, which is *batch. */
+static size_t run_of(const selected *s, size_t *batch)
+{
+    size_t k, len = s->picks.len, first = first_there(s, s->next);
+    *batch = first < len ? batch_of(s, s->picks.places[first]) : 0;
+    for (k = first; k < len; k++) {
+        uint64_t place = s->picks.places[k];
+        if (is_there(s, k) && (place < s->starts[*batch] || place >= s->starts[*batch + 1])) {
+            break;
+        }
     }
     return k - s->next;
 }
 
-/* A run of picks, as places within their batch. */
+/* Makes picks of a run of picks, with places within their batch. Returns 0 where memory runs out.
+ * */
 static int cut(const selected *s, size_t batch, size_t len, vortex_arrow_picks *to)
 {
     size_t k;
@@ -148,19 +157,19 @@ static uint64_t source_fault(struct ArrowArrayStream *source, vortex_arrow_error
     const char *said = source->get_last_error(source);
     vortex_arrow_fault(error, VORTEX_ARROW_SOURCE, "");
     if (said) {
-        snprintf(error->text, sizeof error->text, "the stream that is read failed: %s", said);
+        snprintf(error->text, sizeof error->text, "the source stream failed: %s", said);
     }
     return VORTEX_ARROW_SOURCE;
 }
 
+/* Makes room for one more batch. There is room up to the next power of two. */
 static int has_room(selected *s)
 {
-    size_t room = s->n_batches + 2;
+    size_t room = s->n_batches ? 2 * s->n_batches : 1;
     void *batches, *starts;
-    if (s->n_batches & (s->n_batches - 1)) { /* there is room up to the next power of two */
+    if (s->n_batches & (s->n_batches - 1)) {
         return 1;
     }
-    room = s->n_batches ? 2 * s->n_batches : 1;
     batches = realloc(s->batches, room * sizeof *s->batches);
     s->batches = batches ? (struct ArrowArray *)batches : s->batches;
     starts = realloc(s->starts, (room + 1) * sizeof *s->starts);
@@ -168,34 +177,67 @@ static int has_room(selected *s)
     return batches && starts;
 }
 
-/* Reads the source to its end. */
-static uint64_t read_all(struct ArrowArrayStream *source, selected *s, vortex_arrow_error *error)
+/* Appends a batch, or releases it at a fault. */
+static uint64_t add_batch(selected *s, struct ArrowArray *batch, vortex_arrow_error *error)
 {
-    uint64_t rows = 0;
+    uint64_t rows = s->n_batches ? s->starts[s->n_batches] : 0;
+    if (batch->length < 0 || batch->length > INT64_MAX - (int64_t)rows) {
+        batch->release(batch);
+        return vortex_arrow_fault(error, VORTEX_ARROW_SHAPE, "length");
+    }
+    if (!has_room(s)) {
+        batch->release(batch);
+        return vortex_arrow_fault(error, VORTEX_ARROW_NO_MEMORY, "");
+    }
+    s->starts[s->n_batches] = rows;
+    s->batches[s->n_batches++] = *batch;
+    s->starts[s->n_batches] = rows + (uint64_t)batch->length;
+    return VORTEX_ARROW_DONE;
+}
+
+/* Reads the schema of the source. */
+static uint64_t read_schema(struct ArrowArrayStream *source, selected *s, vortex_arrow_error *error)
+{
     if (source->get_schema(source, &s->schema)) {
         s->schema.release = NULL;
         return source_fault(source, error);
     }
-    for (;;) {
+    return s->schema.release ? (uint64_t)VORTEX_ARROW_DONE
+        : vortex_arrow_fault(error, VORTEX_ARROW_SHAPE, "schema");
+}
+
+/* Reads the batches of the source. */
+static uint64_t read_batches(struct ArrowArrayStream *source, selected *s,
+    vortex_arrow_error *error)
+{
+    uint64_t status = VORTEX_ARROW_DONE;
+    while (!status) {
         struct ArrowArray batch;
         batch.release = NULL;
         if (source->get_next(source, &batch)) {
             return source_fault(source, error);
         }
         if (!batch.release) {
-            return VORTEX_ARROW_DONE;
+            break;
         }
-        if (!has_room(s) || batch.length < 0 || batch.length > INT64_MAX - (int64_t)rows) {
-            int is_long = batch.length < 0 || batch.length > INT64_MAX - (int64_t)rows;
-            batch.release(&batch);
-            return vortex_arrow_fault(error,
-                is_long ? VORTEX_ARROW_SHAPE : VORTEX_ARROW_NO_MEMORY, is_long ? "length" : "");
-        }
-        s->starts[s->n_batches] = rows;
-        s->batches[s->n_batches++] = batch;
-        rows += (uint64_t)batch.length;
-        s->starts[s->n_batches] = rows;
+        status = add_batch(s, &batch, error);
     }
+    return status;
+}
+
+/* Reads the source to its end, and composes the steps over its rows. */
+static uint64_t read_all(struct ArrowArrayStream *source, const vortex_arrow_step *steps,
+    size_t n_steps, selected *s, vortex_arrow_error *error)
+{
+    uint64_t rows;
+    if (!source || !source->release) {
+        return vortex_arrow_fault(error, VORTEX_ARROW_SHAPE, "release");
+    }
+    if (read_schema(source, s, error) || read_batches(source, s, error)) {
+        return error->status;
+    }
+    rows = s->n_batches ? s->starts[s->n_batches] : 0;
+    return vortex_arrow_pick(rows, steps, n_steps, &s->picks, error);
 }
 
 uint64_t vortex_select_arrow_stream(struct ArrowArrayStream *source, const vortex_arrow_step *steps,
@@ -212,12 +254,7 @@ uint64_t vortex_select_arrow_stream(struct ArrowArrayStream *source, const vorte
     if (!s) {
         return vortex_arrow_fault(error, VORTEX_ARROW_NO_MEMORY, "");
     }
-    status = source->release ? read_all(source, s, error)
-        : vortex_arrow_fault(error, VORTEX_ARROW_SHAPE, "release");
-    if (!status) {
-        uint64_t rows = s->n_batches ? s->starts[s->n_batches] : 0;
-        status = vortex_arrow_pick(rows, steps, n_steps, &s->picks, error);
-    }
+    status = read_all(source, steps, n_steps, s, error);
     if (status) {
         drop(s);
         return status;

@@ -1,36 +1,44 @@
-/* What the parts of the shim have in common. Nothing here is for callers. */
+/* What the files of the shim share. Nothing here is for callers. */
 #ifndef VORTEX_INTERNAL_H
 #define VORTEX_INTERNAL_H
 
 #include "vortex_arrow.h"
 
+/* A shared library that contains the shim doesn't export what is marked so. */
+#if defined(__GNUC__)
+#define VORTEX_HIDDEN __attribute__((visibility("hidden")))
+#else
+#define VORTEX_HIDDEN
+#endif
+
 #ifdef __cplusplus
 extern "C" {
 #endif
 
-/* The rows that steps pick: places and bits in one block, which is freed by its first pointer. */
+/* The rows that steps select: places and validity bits in one block. Free `places`. */
 typedef struct vortex_arrow_picks {
     uint64_t *places;
     uint8_t *valid;
     size_t len, n_valid;
 } vortex_arrow_picks;
 
-/* What arrays of ours lead to: freed with the last of them. */
+/* The memory that arrays of the shim point to. It is freed with the last of these arrays. */
 typedef struct owner {
     size_t count;
-    struct owner *kept;      /* left then */
-    struct ArrowArray *held; /* released then */
+    struct owner *kept;      /* an owner that this one counts on, or null */
+    struct ArrowArray *held; /* arrays that are released with this owner */
     size_t n_held;
 } owner;
 
-/* What an array of ours has as its private data. */
+/* The private data of an array of the shim. */
 typedef struct part {
     owner *of;
-    const struct ArrowArray *shared; /* whose memory it has, which of->kept holds; or null */
-    struct ArrowArray *lender; /* of views: the array of of->held that has what they lead to */
+    const struct ArrowArray *shared; /* the array whose memory it uses, or null for its own */
+    owner *root; /* what holds that array: of->kept, or an owner that of->kept counts on */
+    struct ArrowArray *lender; /* of views: the array of of->held that holds their data buffers */
 } part;
 
-/* A block that an owner stands at the front of, and what is left of it. */
+/* One block of memory with an owner at its start, and what is left of it. */
 typedef struct supply {
     owner *of;
     part *parts;
@@ -40,27 +48,85 @@ typedef struct supply {
     uint64_t status;
 } supply;
 
+/* Where a node comes from: an array, or a data buffer of its parent's views. */
+typedef struct source {
+    const struct ArrowSchema *schema; /* null for a data buffer */
+    struct ArrowArray *array;
+    size_t parent, end; /* `end` is the node after the last of its descendants */
+    int level;
+    int is_kept; /* the answer shares it, so nothing is written for it */
+} source;
+
+/* The nodes of a column. */
+typedef struct table {
+    vortex_arrow_node *nodes;
+    source *sources;
+    size_t len, room;
+    uint8_t *ids; /* the type ids of unions */
+    size_t n_ids;
+    /* What the answer needs: arrays with buffers of their own, these buffers, arrays that it shares
+     * with the source, and how many of these hold the data buffers of views. */
+    size_t n_arrays, n_buffers, n_shared, n_views;
+    size_t *left; /* how many more columns the call may visit */
+    const struct table *outer; /* of a dictionary: the table of the column that has it */
+    size_t outer_node;
+    vortex_arrow_error *error;
+} table;
+
+#define VORTEX_NO_NODE ((size_t)-1)
+
+/* arrow_faults.c */
+VORTEX_HIDDEN uint64_t vortex_arrow_fault(vortex_arrow_error *error, uint64_t status,
+    const char *place);
+VORTEX_HIDDEN uint64_t vortex_arrow_fault_of_steps(vortex_arrow_error *error,
+    vortex_arrow_answer answer);
+VORTEX_HIDDEN uint64_t vortex_arrow_fault_at(const table *t, uint64_t status, size_t node,
+    const char *part);
+VORTEX_HIDDEN uint64_t vortex_arrow_fault_of_node(const table *t, vortex_arrow_answer answer);
+
 /* arrow.c */
-uint64_t vortex_arrow_fault(vortex_arrow_error *error, uint64_t status, const char *place);
-uint64_t vortex_arrow_pick(uint64_t len, const vortex_arrow_step *steps, size_t n_steps,
-    vortex_arrow_picks *p, vortex_arrow_error *error);
-int vortex_arrow_leaves_nulls(const vortex_arrow_step *steps, size_t n_steps);
-uint64_t vortex_arrow_take_rows(const struct ArrowSchema *schema, struct ArrowArray *array,
-    const vortex_arrow_picks *p, struct ArrowArray *out, vortex_arrow_error *error);
+VORTEX_HIDDEN uint64_t vortex_arrow_pick(uint64_t len, const vortex_arrow_step *steps,
+    size_t n_steps, vortex_arrow_picks *p, vortex_arrow_error *error);
+VORTEX_HIDDEN int vortex_arrow_leaves_nulls(const vortex_arrow_step *steps, size_t n_steps);
+VORTEX_HIDDEN uint64_t vortex_arrow_take_rows(const struct ArrowSchema *schema,
+    struct ArrowArray *array, const vortex_arrow_picks *p, struct ArrowArray *out,
+    vortex_arrow_error *error);
 
 /* arrow_formats.c: the buffers of each format, in Arrow's order, by a letter each (validity,
  * offsets, data, sizes), and how many children it has, or -1. */
-extern const char *const vortex_arrow_slots[14];
-extern const int vortex_arrow_families[14];
-int64_t vortex_arrow_ids(const char *format, uint8_t *ids);
-int vortex_arrow_parse(const char *text, vortex_arrow_node *node);
-int vortex_arrow_has_word(const char *words, const char *word);
+extern VORTEX_HIDDEN const char *const vortex_arrow_slots[14];
+extern VORTEX_HIDDEN const int vortex_arrow_families[14];
+VORTEX_HIDDEN int64_t vortex_arrow_ids(const char *format, uint8_t *ids);
+VORTEX_HIDDEN int vortex_arrow_parse(const char *text, vortex_arrow_node *node);
+VORTEX_HIDDEN int vortex_arrow_has_word(const char *words, const char *word);
+VORTEX_HIDDEN int vortex_arrow_has_views(const vortex_arrow_node *node);
+VORTEX_HIDDEN int vortex_arrow_is_union(const vortex_arrow_node *node);
+VORTEX_HIDDEN int vortex_arrow_is_list(const vortex_arrow_node *node);
+VORTEX_HIDDEN int vortex_arrow_is_list_view(const vortex_arrow_node *node);
+VORTEX_HIDDEN size_t vortex_arrow_offset_width(const vortex_arrow_node *node);
+
+/* arrow_table.c */
+VORTEX_HIDDEN uint64_t vortex_arrow_walk(table *t, const struct ArrowSchema *schema,
+    struct ArrowArray *array, int level);
+VORTEX_HIDDEN void vortex_arrow_drop_table(table *t);
+
+/* arrow_answer.c */
+VORTEX_HIDDEN uint64_t vortex_arrow_answer_rows(const table *t, const vortex_arrow_picks *p,
+    struct ArrowArray *out);
+
+/* arrow_contents.c */
+VORTEX_HIDDEN size_t vortex_arrow_long_lists(const table *t, const vortex_arrow_picks *p);
+VORTEX_HIDDEN void vortex_arrow_clear_nulls(const vortex_arrow_node *node,
+    const vortex_arrow_need *need, const vortex_arrow_room *room);
+VORTEX_HIDDEN int vortex_arrow_has_codes(const source *from, const vortex_arrow_node *node);
 
 /* arrow_arrays.c */
-int vortex_arrow_supply(supply *s, size_t parts, size_t arrays, uint64_t extra);
-void vortex_arrow_own(supply *s, struct ArrowArray *array, const struct ArrowArray *shared);
-struct ArrowArray *vortex_arrow_lender(const struct ArrowArray *array);
-size_t vortex_arrow_arrays_in(const struct ArrowArray *array, int level, uint64_t *status);
+VORTEX_HIDDEN int vortex_arrow_supply(supply *s, size_t parts, size_t arrays, uint64_t extra);
+VORTEX_HIDDEN void vortex_arrow_own(supply *s, struct ArrowArray *array,
+    const struct ArrowArray *shared, owner *root);
+VORTEX_HIDDEN struct ArrowArray *vortex_arrow_lender(const struct ArrowArray *array);
+VORTEX_HIDDEN size_t vortex_arrow_arrays_in(const struct ArrowArray *array, int level, size_t *left,
+    uint64_t *status);
 
 #ifdef __cplusplus
 }

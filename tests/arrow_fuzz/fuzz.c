@@ -1,6 +1,7 @@
-/* Selects from arrays whose lengths, offsets, counts and formats are wild, in buffers that have just
- * the bytes that the shim takes them to have, or none where that is much: so what is read beyond a
- * buffer is an error of the shim or the library. An answer is read whole, and released.
+/* Checks arrays, and selects from them, whose lengths, offsets, counts and formats are wild. Their
+ * buffers have exactly the bytes that the shim takes them to have, or none if that is much: so to
+ * read past a buffer is a fault of the shim or the library. An answer is read whole, and so is a
+ * source that passes the check, with its dictionaries.
  *
  * Build: tests/arrow_fuzz/build. */
 #include <stdio.h>
@@ -214,70 +215,117 @@ static int is_within(const struct ArrowSchema *schema, const struct ArrowArray *
         place <= array->children[child]->length && size <= array->children[child]->length - place;
 }
 
-/* Reads what arrays of ours have, to their last byte; a column that views of lists lead to is the
- * source's, which may have no meaning. */
-static uint64_t touch(const struct ArrowSchema *schema, const struct ArrowArray *array, int is_ours)
+/* Reads a row, or looks at what it leads to. */
+static void touch_row(text *t, const struct ArrowSchema *schema, const struct ArrowArray *array,
+    int64_t k)
+{
+    if (schema->dictionary) {
+        int64_t code = is_valid(array, k) ? code_at(schema->format, array->buffers[1], k) : 0;
+        if (code < 0 || (code >= array->dictionary->length && is_valid(array, k))) {
+            abort();
+        }
+    } else if (!is_within(schema, array, k)) {
+        abort();
+    } else if (strcmp(schema->format, "n") && schema->format[0] != '+') {
+        say_row(t, schema, array, k - array->offset);
+    }
+}
+
+/* How far what is below an array may be read: nowhere, but for what the answer shares with the
+ * source, or everywhere. */
+enum { NOTHING, OWN, ALL };
+
+/* Reads an array to its last byte. What is shared with a source may not be valid, unless that
+ * passed the check. */
+static uint64_t touch(const struct ArrowSchema *schema, const struct ArrowArray *array, int what)
 {
     text t = {NULL, 0, 0};
     uint64_t sum = (uint64_t)array->length;
+    int is_short = array->length < 5000 && array->offset < 5000;
+    int below = what == OWN && !strncmp(schema->format, "+v", 2) ? NOTHING : what;
     int64_t k;
-    for (k = 0; is_ours && !schema->dictionary && array->length < 5000 && k < array->length; k++) {
-        if (!is_within(schema, array, k)) {
-            abort();
-        }
-        if (strcmp(schema->format, "n") && schema->format[0] != '+') {
-            say_row(&t, schema, array, k);
-        }
+    for (k = 0; what != NOTHING && is_short && k < array->length; k++) {
+        touch_row(&t, schema, array, array->offset + k);
     }
     sum += t.len;
     free(t.data);
     for (k = 0; k < array->n_children; k++) {
-        sum += touch(schema->children[k], array->children[k],
-            is_ours && strncmp(schema->format, "+v", 2));
+        sum += touch(schema->children[k], array->children[k], below);
+    }
+    if (schema->dictionary && what == ALL) {
+        sum += touch(schema->dictionary, array->dictionary, what);
     }
     return sum;
 }
 
 static volatile uint64_t seen; /* so that no reading is left out */
 
+/* Selects from an array, and reads the answer. */
+static void select_from(input *in, const struct ArrowSchema *schema, struct ArrowArray *array,
+    const vortex_arrow_step *steps, size_t n_steps, int what)
+{
+    struct ArrowSchema out_schema;
+    struct ArrowArray out, again;
+    vortex_arrow_error error;
+    if (vortex_select_arrow(schema, array, steps, n_steps, &out_schema, &out, &error)) {
+        if (out.release || out_schema.release || !error.text[0]) {
+            abort();
+        }
+        return;
+    }
+    seen = seen + touch(&out_schema, &out, what);
+    if (!vortex_arrow_share(&out, &again)) {
+        out.release(&out);
+        seen = seen + touch(&out_schema, &again, what);
+        out = again;
+    }
+    out_schema.release(&out_schema);
+    if (next(in) % 2) {
+        array->release(array);
+    }
+    out.release(&out);
+}
+
+static void free_step(const vortex_arrow_step *step)
+{
+    free((void *)(uintptr_t)step->values.data);
+    free((void *)(uintptr_t)step->valid.data);
+    free((void *)(uintptr_t)step->lengths.data);
+    free((void *)(uintptr_t)step->multipliers.data);
+}
+
+/* Checks an array, and reads it whole if it is valid. */
+static int is_valid_column(const struct ArrowSchema *schema, struct ArrowArray *array)
+{
+    vortex_arrow_error error;
+    if (!vortex_arrow_check_array(schema, array, &error)) {
+        seen = seen + touch(schema, array, ALL);
+    } else if (!error.text[0]) {
+        abort();
+    }
+    return !error.status;
+}
+
 int LLVMFuzzerTestOneInput(const uint8_t *data, size_t len);
 
 int LLVMFuzzerTestOneInput(const uint8_t *data, size_t len)
 {
     input in = {data, len};
-    struct ArrowSchema schema, out_schema;
-    struct ArrowArray array, out, again;
+    struct ArrowSchema schema;
+    struct ArrowArray array;
     vortex_arrow_step steps[3];
-    vortex_arrow_error error;
     size_t k, n_steps = next(&in) % 4;
     for (k = 0; k < n_steps; k++) {
         step_of(&in, &steps[k]);
     }
     column(&in, &schema, &array, 1);
-    if (!vortex_select_arrow(&schema, &array, steps, n_steps, &out_schema, &out, &error)) {
-        seen = seen + touch(&out_schema, &out, 1);
-        if (!vortex_arrow_share(&out, &again)) {
-            out.release(&out);
-            seen = seen + touch(&out_schema, &again, 1);
-            out = again;
-        }
-        out_schema.release(&out_schema);
-        if (next(&in) % 2) {
-            array.release(&array);
-        }
-        out.release(&out);
-    } else if (out.release || out_schema.release || !error.text[0]) {
-        abort();
-    }
+    select_from(&in, &schema, &array, steps, n_steps, is_valid_column(&schema, &array) ? ALL : OWN);
     if (array.release) {
         array.release(&array);
     }
     schema.release(&schema);
     for (k = 0; k < n_steps; k++) {
-        free((void *)(uintptr_t)steps[k].values.data);
-        free((void *)(uintptr_t)steps[k].valid.data);
-        free((void *)(uintptr_t)steps[k].lengths.data);
-        free((void *)(uintptr_t)steps[k].multipliers.data);
+        free_step(&steps[k]);
     }
     if (live_columns()) {
         abort();

@@ -10,9 +10,8 @@
 #include <string.h>
 #include <time.h>
 
-#include "random_arrow.h"
-
-#define MOST 64
+#include "expect.h"
+#include "random_steps.h"
 
 /* How long a call may take at the most. */
 #if defined(__SANITIZE_ADDRESS__)
@@ -25,114 +24,6 @@
 #ifndef SECONDS
 #define SECONDS 3
 #endif
-
-static int passed, failed;
-
-static void expect(int holds, const char *what, uint64_t seed)
-{
-    passed += holds;
-    failed += !holds;
-    if (!holds && failed < 20) {
-        printf("c: not so: %s, seed %llu\n", what, (unsigned long long)seed);
-    }
-}
-
-/* ---- Steps, and the picks that they leave ---- */
-
-typedef struct walk {
-    uint64_t picks[MOST]; /* a row, or NONE */
-    size_t len;
-    vortex_arrow_step steps[4];
-    uint8_t bytes[3][2][MOST];
-    size_t n_steps;
-} walk;
-
-#define NONE UINT64_MAX
-
-static void add_slice(walk *w, vortex_arrow_step *step)
-{
-    size_t start = below(w->len + 1), len = below(w->len - start + 1);
-    step->kind = VORTEX_ARROW_SLICE;
-    step->start = start;
-    step->end = start + len;
-    memmove(w->picks, w->picks + start, len * sizeof w->picks[0]);
-    w->len = len;
-}
-
-static void add_filter(walk *w, vortex_arrow_step *step, uint8_t *bits)
-{
-    size_t k, kept = 0, at = below(9);
-    step->kind = VORTEX_ARROW_FILTER;
-    step->offset = at;
-    step->len = w->len;
-    step->values.data = bits;
-    step->values.len = (at + w->len + 7) / 8;
-    for (k = 0; k < step->values.len; k++) {
-        bits[k] = (uint8_t)roll();
-    }
-    for (k = 0; k < w->len; k++) {
-        if (is_set(bits, at + k)) {
-            w->picks[kept++] = w->picks[k];
-        }
-    }
-    w->len = kept;
-}
-
-static void add_take(walk *w, vortex_arrow_step *step, uint8_t *numbers, uint8_t *valid)
-{
-    uint64_t picks[MOST];
-    size_t k, len = w->len ? below(40) : 0;
-    step->kind = VORTEX_ARROW_TAKE;
-    step->ptype = VORTEX_ARROW_U8;
-    step->len = len;
-    step->values.data = numbers;
-    step->values.len = len;
-    if (len && below(2)) {
-        step->valid.data = valid;
-        step->valid.len = (len + 7) / 8;
-    }
-    for (k = 0; k < len; k++) {
-        int is_there = below(4) != 0 || !step->valid.len;
-        numbers[k] = is_there ? (uint8_t)below(w->len) : (uint8_t)roll();
-        valid[k / 8] = (uint8_t)((k % 8 ? valid[k / 8] : 0) | is_there << k % 8);
-        picks[k] = is_there ? w->picks[numbers[k]] : NONE;
-    }
-    memcpy(w->picks, picks, sizeof picks);
-    w->len = len;
-}
-
-/* The same steps, with one behind them that breaks a rule. */
-static walk broken_walk(const walk *w)
-{
-    static const uint8_t past[] = {MOST + 1};
-    walk broken = *w;
-    vortex_arrow_step *last = &broken.steps[broken.n_steps++];
-    memset(last, 0, sizeof *last);
-    last->kind = below(2) ? VORTEX_ARROW_SLICE : VORTEX_ARROW_TAKE;
-    last->end = MOST + 1;
-    last->len = 1;
-    last->values.data = past;
-    last->values.len = 1;
-    return broken;
-}
-
-static void random_walk(walk *w, size_t rows)
-{
-    size_t k;
-    memset(w, 0, sizeof *w);
-    for (k = 0; k < rows; k++) {
-        w->picks[k] = k;
-    }
-    w->len = rows;
-    w->n_steps = below(4);
-    for (k = 0; k < w->n_steps; k++) {
-        switch (below(3)) {
-        case 0: add_slice(w, &w->steps[k]); break;
-        case 1: add_filter(w, &w->steps[k], w->bytes[k][0]); break;
-        default: add_take(w, &w->steps[k], w->bytes[k][0], w->bytes[k][1]); break;
-        }
-    }
-}
 
 /* ---- Rounds ---- */
 
@@ -204,49 +95,68 @@ static void move_child(const struct ArrowSchema *schema, struct ArrowArray *arra
     free(found);
 }
 
+/* Reads an answer, whose rows are wanted, and releases it and its source, in either order. */
+static void read_answer(struct ArrowSchema *schema, struct ArrowArray *out,
+    struct ArrowArray *source, const char *wanted, uint64_t seed)
+{
+    struct ArrowArray again;
+    int source_first = below(2) != 0;
+    char *found;
+    expect(out->offset == 0 && is_packed(schema, out), "packed", seed);
+    expect(vortex_arrow_share(out, &again) == VORTEX_ARROW_DONE, "share", seed);
+    if (source_first) {
+        source->release(source);
+    }
+    if (below(2)) {
+        out->release(out);
+        *out = again;
+    } else {
+        again.release(&again);
+    }
+    found = rows_of(schema, out, NULL, (size_t)out->length);
+    expect(!strcmp(wanted, found), "rows", seed);
+    free(found);
+    move_child(schema, out, seed);
+    schema->release(schema);
+    if (!source_first) {
+        source->release(source);
+    }
+}
+
+/* A step that is invalid is reported, and nothing is selected. */
+static void try_broken(const struct ArrowSchema *schema, struct ArrowArray *array, const walk *w,
+    uint64_t seed)
+{
+    walk broken = broken_walk(w);
+    struct ArrowSchema out_schema;
+    struct ArrowArray out;
+    vortex_arrow_error error;
+    uint64_t status = vortex_select_arrow(schema, array, broken.steps, broken.n_steps, &out_schema,
+        &out, &error);
+    expect(status == VORTEX_ARROW_BROKEN && error.step == w->n_steps && !out.release &&
+        !out_schema.release, "a broken step", seed);
+}
+
 static void round_of(uint64_t seed)
 {
     struct ArrowSchema schema, out_schema;
-    struct ArrowArray array, out, again;
+    struct ArrowArray array, out;
     vortex_arrow_error error;
-    walk w;
-    char *wanted, *found;
+    char *wanted;
     uint64_t status;
-    walk broken;
+    walk w;
     reseed(seed);
     random_column(&schema, &array, 3);
     random_walk(&w, (size_t)array.length);
-    broken = broken_walk(&w);
-    status = vortex_select_arrow(&schema, &array, broken.steps, broken.n_steps, &out_schema, &out,
-        &error);
-    expect(status == VORTEX_ARROW_BROKEN && error.step == w.n_steps && !out.release &&
-        !out_schema.release, "a broken step", seed);
+    expect(!vortex_arrow_check_array(&schema, &array, NULL), "check", seed);
+    try_broken(&schema, &array, &w, seed);
     wanted = rows_of(&schema, &array, w.picks, w.len);
     status = vortex_select_arrow(&schema, &array, w.steps, w.n_steps, &out_schema, &out, &error);
     expect(status == (is_refused(&schema, &w) ? VORTEX_ARROW_NULL_PICK : VORTEX_ARROW_DONE) &&
         error.status == status, error.text, seed);
     if (!status) {
-        int source_first = below(2) != 0;
-        expect(out.length == (int64_t)w.len && out.offset == 0, "length", seed);
-        expect(is_packed(&out_schema, &out), "packed", seed);
-        expect(vortex_arrow_share(&out, &again) == VORTEX_ARROW_DONE, "share", seed);
-        if (source_first) {
-            array.release(&array);
-        }
-        if (below(2)) {
-            out.release(&out);
-            out = again;
-        } else {
-            again.release(&again);
-        }
-        found = rows_of(&out_schema, &out, NULL, w.len);
-        expect(!strcmp(wanted, found), "rows", seed);
-        free(found);
-        move_child(&out_schema, &out, seed);
-        out_schema.release(&out_schema);
-        if (!source_first) {
-            array.release(&array);
-        }
+        expect(out.length == (int64_t)w.len, "length", seed);
+        read_answer(&out_schema, &out, &array, wanted, seed);
     } else {
         array.release(&array);
     }
@@ -441,15 +351,15 @@ static void long_chain(const char *format)
     free(found);
 }
 
-/* ---- A struct of a million fields ---- */
+/* ---- A struct of many fields ---- */
 
 static void keep_schema(struct ArrowSchema *schema) { schema->release = NULL; }
 static void keep_array(struct ArrowArray *array) { array->release = NULL; }
 
-/* All fields are one and the same: nothing of them is handed through, so none is replaced. */
+/* All fields are one and the same. Nothing of them is shared, so none is replaced. */
 static void many_nodes(void)
 {
-    const int64_t fields = 1000000;
+    const int64_t fields = 60000;
     struct ArrowSchema schema, field = {"C", "", NULL, 2, 0, NULL, NULL, keep_schema, NULL};
     struct ArrowArray array, out;
     const uint8_t byte = 7;
@@ -472,14 +382,13 @@ static void many_nodes(void)
         array.children[k] = &values;
     }
     status = vortex_select_arrow(&schema, &array, NULL, 0, NULL, &out, NULL);
-    expect(status == VORTEX_ARROW_DONE || status == VORTEX_ARROW_NO_MEMORY, "a million fields", 0);
+    expect(status == VORTEX_ARROW_DONE || status == VORTEX_ARROW_NO_MEMORY, "many fields", 0);
     if (!status) {
         const uint8_t *last = (const uint8_t *)out.children[fields - 1]->buffers[1];
-        expect(out.n_children == fields && *last == byte, "the last of a million fields", 0);
+        expect(out.n_children == fields && *last == byte, "the last of many fields", 0);
         out.release(&out);
     }
-    printf("a million fields: %.2f seconds\n", (double)(clock() - start) / CLOCKS_PER_SEC);
-    expect((double)(clock() - start) / CLOCKS_PER_SEC < SECONDS, "a million fields in time", 0);
+    expect((double)(clock() - start) / CLOCKS_PER_SEC < SECONDS, "many fields in time", 0);
     free(schema.children);
     free(array.children);
 }
@@ -528,6 +437,5 @@ int main(int argc, char **argv)
         long_chain("+vl");
         long_chain("C");
     }
-    printf("c: %d passed, %d failed\n", passed, failed);
-    return failed != 0;
+    return report();
 }

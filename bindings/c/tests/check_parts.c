@@ -213,6 +213,7 @@ int main(int count, char **words)
 {
     long k, tries = count > 1 ? atol(words[1]) : 20000;
     size_t i, j;
+    expect(vortex_parts_version() == VORTEX_VERSION, "the library's version is the header's");
     for (i = 0; i < PARTS; i++) {
         for (j = 0; j < sizeof bytes[i]; j++) {
             bytes[i][j] = (uint8_t)draw(256);

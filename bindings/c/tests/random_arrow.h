@@ -278,20 +278,26 @@ static void flat_array(struct ArrowArray *array, const char *format, int64_t len
 static void random_rows(struct ArrowSchema *schema, struct ArrowArray *array, int depth,
     int64_t length);
 
+/* Codes of any integer type. Those of nulls, and before the offset, are any bytes. */
 static void dictionary_rows(struct ArrowSchema *schema, struct ArrowArray *array, int depth,
     int64_t length)
 {
-    size_t k, end;
+    static const char *const formats[] = {"c", "C", "s", "S", "i", "I", "l", "L"};
+    const char *format = formats[below(8)];
+    size_t width = width_of(format), k, end;
     uint8_t *codes;
-    flat_schema(schema, "C");
-    flat_array(array, "C", length);
+    flat_schema(schema, format);
+    flat_array(array, format, length);
     schema->dictionary = (struct ArrowSchema *)made_block(sizeof(struct ArrowSchema));
     array->dictionary = (struct ArrowArray *)made_block(sizeof(struct ArrowArray));
     random_rows(schema->dictionary, array->dictionary, depth - 1, 5);
     codes = (uint8_t *)(uintptr_t)array->buffers[1];
     end = (size_t)(array->length + array->offset);
     for (k = 0; k < end; k++) {
-        codes[k] %= 5;
+        if (is_read(array, k)) {
+            memset(codes + k * width, 0, width);
+            codes[k * width] = (uint8_t)below(5);
+        }
     }
 }
 
@@ -459,6 +465,18 @@ static int64_t offset_at(const void *offsets, int64_t k, int is_wide)
     return is_wide ? ((const int64_t *)offsets)[k] : ((const int32_t *)offsets)[k];
 }
 
+/* The code of a row, whose integer type the format names. */
+static int64_t code_at(const char *format, const void *codes, int64_t k)
+{
+    size_t width = width_of(format);
+    uint64_t code = 0;
+    memcpy(&code, (const uint8_t *)codes + k * (int64_t)width, width);
+    if (strchr("csi", format[0]) && code >> (8 * width - 1)) {
+        code |= UINT64_MAX << (8 * width);
+    }
+    return (int64_t)code;
+}
+
 static void say_row(text *t, const struct ArrowSchema *schema, const struct ArrowArray *array,
     int64_t row);
 
@@ -466,9 +484,11 @@ static void say_text(text *t, const char *format, const struct ArrowArray *array
 {
     int is_wide = format[0] == 'U' || format[0] == 'Z';
     int64_t start = offset_at(array->buffers[1], at, is_wide);
+    int64_t size = offset_at(array->buffers[1], at + 1, is_wide) - start;
     say(t, "\"");
-    say_bytes(t, (const uint8_t *)array->buffers[2] + start,
-        (size_t)(offset_at(array->buffers[1], at + 1, is_wide) - start));
+    if (size) {
+        say_bytes(t, (const uint8_t *)array->buffers[2] + start, (size_t)size);
+    }
 }
 
 static void say_view(text *t, const struct ArrowArray *array, int64_t at)
@@ -537,7 +557,7 @@ static void say_row(text *t, const struct ArrowSchema *schema, const struct Arro
     } else if (format[0] == 'n' || !is_valid(array, at)) {
         say(t, "-");
     } else if (schema->dictionary) {
-        say_row(t, schema->dictionary, array->dictionary, ((const uint8_t *)array->buffers[1])[at]);
+        say_row(t, schema->dictionary, array->dictionary, code_at(format, array->buffers[1], at));
     } else if (format[0] == 'b') {
         say(t, "%d", is_set((const uint8_t *)array->buffers[1], (size_t)at));
     } else if (format[0] == 'v') {
@@ -555,7 +575,9 @@ static void say_row(text *t, const struct ArrowSchema *schema, const struct Arro
         say_items(t, schema, array, at);
     } else {
         size_t width = !strcmp(format, "tdD") ? 4 : width_of(format[0] == 't' ? "l" : format);
-        say_bytes(t, (const uint8_t *)array->buffers[1] + at * (int64_t)width, width);
+        if (width) {
+            say_bytes(t, (const uint8_t *)array->buffers[1] + at * (int64_t)width, width);
+        }
     }
 }
 
