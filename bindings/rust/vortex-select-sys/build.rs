@@ -1,5 +1,5 @@
-//! Links the static libraries: those in the folder that `VORTEX_SELECT_LIB_DIR` names, or else those
-//! of this repository, which `rt lib` builds where they are older than what they are made of.
+//! Links the static libraries: those in the folder that `VORTEX_SELECT_LIB_DIR` names, or else
+//! those of this repository, which `rt lib` builds if they are older than their sources.
 use std::env;
 use std::fs;
 use std::path::{Path, PathBuf};
@@ -11,8 +11,8 @@ fn fail(why: String) -> ! {
     exit(1)
 }
 
-/// The crate and those that it stands on, as `crates.txt` lists them.
-fn with_those_below(list: &str, name: &str) -> Vec<String> {
+/// Returns the crate and its dependencies, as `crates.txt` lists them.
+fn with_dependencies(list: &str, name: &str) -> Vec<String> {
     let line_of = |name: &str| {
         let is_named = |line: &&str| line.split([':', ' ']).next() == Some(name);
         list.lines().find(is_named)
@@ -21,8 +21,8 @@ fn with_those_below(list: &str, name: &str) -> Vec<String> {
     let mut next = 0;
     while next < found.len() {
         let line = line_of(&found[next]).unwrap_or_default();
-        let below = line.split_once(':').map_or("", |(_, below)| below);
-        for other in below.split_whitespace() {
+        let needed = line.split_once(':').map_or("", |(_, needed)| needed);
+        for other in needed.split_whitespace() {
             if line_of(other).is_some() && !found.iter().any(|name| name == other) {
                 found.push(other.to_string());
             }
@@ -32,7 +32,7 @@ fn with_those_below(list: &str, name: &str) -> Vec<String> {
     found
 }
 
-/// When a file, or the newest one below a folder, was written.
+/// Returns when a file, or the newest file in a folder, was written.
 fn written_at(path: &Path) -> Option<SystemTime> {
     if !path.is_dir() {
         return fs::metadata(path).and_then(|is| is.modified()).ok();
@@ -43,11 +43,11 @@ fn written_at(path: &Path) -> Option<SystemTime> {
         .max()
 }
 
-/// What the library is made of.
+/// Returns the sources of the library.
 fn sources(root: &Path, name: &str) -> Vec<PathBuf> {
     let list = root.join("crates.txt");
     let text = fs::read_to_string(&list).unwrap_or_default();
-    let folders = with_those_below(&text, name).into_iter().flat_map(|name| {
+    let folders = with_dependencies(&text, name).into_iter().flat_map(|name| {
         let parts = ["src", "specs", "proofs"].into_iter();
         parts.map(move |part| root.join("crates").join(&name).join(part))
     });
@@ -73,7 +73,7 @@ fn build(folder: &Path, library: &Path) {
     }
 }
 
-/// The folder of the library, which is built there if it isn't newer than its sources.
+/// Returns the folder of the library, and builds the library if a source is newer.
 fn built(root: &Path, name: &str) -> PathBuf {
     let folder = root.join("crates").join(name);
     if !folder.exists() {
@@ -113,7 +113,7 @@ fn prebuilt(folder: PathBuf, name: &str) -> PathBuf {
     folder
 }
 
-/// Runs a tool of C, which must succeed.
+/// Runs a tool of C, and fails if it does.
 fn run(tool: &str, words: Vec<PathBuf>) {
     match Command::new(tool).args(&words).status() {
         Ok(status) if status.success() => (),
@@ -122,46 +122,57 @@ fn run(tool: &str, words: Vec<PathBuf>) {
     }
 }
 
-/// Builds the shim over Arrow's interface, whose sources are in `shim`, or takes the prebuilt
-/// one where there are none.
+const SHIM: &str = "vortex_arrow_shim";
+
+/// Returns the C files of the shim: those of `shim` whose names begin with `arrow`.
+fn shim_sources(folder: &Path) -> Vec<PathBuf> {
+    let is_source = |path: &PathBuf| {
+        let name = path
+            .file_name()
+            .map_or("".into(), |name| name.to_string_lossy());
+        name.starts_with("arrow") && name.ends_with(".c")
+    };
+    let entries = fs::read_dir(folder).into_iter().flatten().flatten();
+    let mut found: Vec<PathBuf> = entries
+        .map(|entry| entry.path())
+        .filter(is_source)
+        .collect();
+    found.sort();
+    found
+}
+
+/// Compiles one file of the shim, and returns its object.
+fn compiled(root: &Path, source: &Path, out: &Path) -> PathBuf {
+    let object = out.join(source.with_extension("o").file_name().expect("a name"));
+    let flags = ["-std=c99", "-O2", "-fPIC", "-c", "-I"].map(PathBuf::from);
+    let files = [
+        root.join("include"),
+        source.into(),
+        "-o".into(),
+        object.clone(),
+    ];
+    run("cc", flags.into_iter().chain(files).collect());
+    object
+}
+
+/// Links the shim over Arrow's interface: built from `shim`, or prebuilt if the sources are
+/// missing.
 fn link_shim(root: &Path) {
-    const SHIM: &str = "vortex_arrow_shim";
-    let sources = root.join("shim");
-    if !sources.join("arrow.c").exists() {
-        let Some(folder) = env::var_os("VORTEX_SELECT_LIB_DIR") else {
-            fail("the shim's sources, shim/arrow.c, are not beside this crate".into());
-        };
-        let folder = prebuilt(folder.into(), SHIM);
-        println!("cargo:rustc-link-search=native={}", folder.display());
-        println!("cargo:rustc-link-lib=static={SHIM}");
-        return;
+    let sources = shim_sources(&root.join("shim"));
+    let out = match (sources.is_empty(), env::var_os("VORTEX_SELECT_LIB_DIR")) {
+        (false, _) => PathBuf::from(env::var_os("OUT_DIR").expect("cargo sets it")),
+        (true, Some(folder)) => prebuilt(folder.into(), SHIM),
+        (true, None) => fail("the shim's sources, shim/arrow*.c, are not beside this crate".into()),
+    };
+    if !sources.is_empty() {
+        let library = out.join(format!("lib{SHIM}.a"));
+        let _ = fs::remove_file(&library);
+        let objects = sources.iter().map(|source| compiled(root, source, &out));
+        let words = ["rcs".into(), library].into_iter().chain(objects).collect();
+        run("ar", words);
+        println!("cargo:rerun-if-changed={}", root.join("shim").display());
+        println!("cargo:rerun-if-changed={}", root.join("include").display());
     }
-    let out = PathBuf::from(env::var_os("OUT_DIR").expect("cargo sets it"));
-    let library = out.join(format!("lib{SHIM}.a"));
-    let mut objects = Vec::new();
-    for name in ["arrow", "arrow_arrays", "arrow_formats", "arrow_stream"] {
-        let (source, object) = (
-            sources.join(format!("{name}.c")),
-            out.join(format!("{name}.o")),
-        );
-        let mut words: Vec<PathBuf> = ["-std=c99", "-O2", "-fPIC", "-c", "-I"]
-            .map(PathBuf::from)
-            .into();
-        words.extend([
-            root.join("include"),
-            source.clone(),
-            "-o".into(),
-            object.clone(),
-        ]);
-        run("cc", words);
-        println!("cargo:rerun-if-changed={}", source.display());
-        objects.push(object);
-    }
-    let _ = fs::remove_file(&library);
-    run(
-        "ar",
-        [vec!["rcs".into(), library.clone()], objects].concat(),
-    );
     println!("cargo:rustc-link-search=native={}", out.display());
     println!("cargo:rustc-link-lib=static={SHIM}");
 }
@@ -178,6 +189,7 @@ fn main() {
     let wanted = [
         ("vortex_rows_c", has("ROWS")),
         ("vortex_arrow_c", has("ARROW")),
+        ("vortex_parts_c", has("PARTS")),
         ("vortex_c", true),
     ];
     for (name, _) in wanted.into_iter().filter(|(_, is_wanted)| *is_wanted) {

@@ -1,4 +1,4 @@
-//! The memory that the program takes, from that of Rust.
+//! The memory that the libraries allocate, by Rust's allocator.
 use std::alloc::{alloc, dealloc, realloc, Layout};
 use std::ptr::null_mut;
 
@@ -9,8 +9,8 @@ pub struct Block {
     place: *mut u8,
 }
 
-// The library says a block's size when it grows, and not when it is let go: the bytes before each
-// block hold it.
+// The library passes the size of a block when it grows, and not when it is freed: the bytes before
+// each block hold it.
 const HEAD: usize = 16;
 
 const NONE: Block = Block {
@@ -22,15 +22,15 @@ fn layout(size: usize) -> Option<Layout> {
     Layout::from_size_align(size.checked_add(HEAD)?, HEAD).ok()
 }
 
-/// The block behind the head of a piece of memory that is `size` bytes longer than it, or none.
+/// Returns the block behind the head of memory that has a head and `size` bytes, or none.
 ///
 /// # Safety
-/// The place is null, or that of so much memory, aligned for a head.
+/// The pointer is null, or leads to so much memory, aligned for a head.
 unsafe fn block_of(whole: *mut u8, size: usize) -> Block {
     if whole.is_null() {
         return NONE;
     }
-    // SAFETY: the memory has a head, which is longer than a number and aligned for it.
+    // SAFETY: the memory has a head, which is long enough and aligned for a number.
     unsafe { whole.cast::<usize>().write(size) };
     Block {
         is_there: 1,
@@ -39,20 +39,20 @@ unsafe fn block_of(whole: *mut u8, size: usize) -> Block {
     }
 }
 
-/// The head of a block, and the layout that it was taken by.
+/// Returns the head of a block, and the layout that it was allocated by.
 ///
 /// # Safety
-/// The place is that of a block that `block_of` made and that wasn't let go.
+/// The pointer leads to a block that `block_of` made and that isn't freed.
 unsafe fn whole_of(place: *mut u8) -> (*mut u8, Option<Layout>) {
-    // SAFETY: a block has a head before it, in which its size stands.
+    // SAFETY: a block has a head before it, which holds its size.
     let whole = unsafe { place.sub(HEAD) };
     // SAFETY: as above.
     let size = unsafe { whole.cast::<usize>().read() };
     (whole, layout(size))
 }
 
-// SAFETY of the names: no other item of a link has them, but where the caller links memory of its
-// own, and then the linker says so. The program's library calls them by these types.
+// SAFETY of the names: no other item of a link has them. If a caller links another allocator, the
+// linker reports it. The libraries call the functions by these types.
 #[no_mangle]
 unsafe extern "C" fn rattle_alloc(size: usize, _align: usize) -> Block {
     match layout(size) {
@@ -64,10 +64,10 @@ unsafe extern "C" fn rattle_alloc(size: usize, _align: usize) -> Block {
 
 #[no_mangle]
 unsafe extern "C" fn rattle_dealloc(place: *mut u8) {
-    // SAFETY: the library lets go of a block that it was given, once.
+    // SAFETY: the library frees a block that it was given, once.
     let (whole, taken) = unsafe { whole_of(place) };
     if let Some(layout) = taken {
-        // SAFETY: the memory was taken by this layout.
+        // SAFETY: the memory was allocated by this layout.
         unsafe { dealloc(whole, layout) };
     }
 }
@@ -79,10 +79,11 @@ unsafe extern "C" fn rattle_realloc(
     size: usize,
     _align: usize,
 ) -> Block {
-    // SAFETY: the library lets a block grow that it was given and has not let go.
+    // SAFETY: the library grows a block that it was given and has not freed.
     let (whole, taken) = unsafe { whole_of(place) };
     match (taken, layout(size)) {
-        // SAFETY: the memory was taken by the old layout; the new one is as aligned, and not empty.
+        // SAFETY: the memory was allocated by the old layout; the new one has the same alignment
+        // and isn't empty.
         (Some(old), Some(new)) => unsafe { block_of(realloc(whole, old, new.size()), size) },
         _ => NONE,
     }

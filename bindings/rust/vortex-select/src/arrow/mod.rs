@@ -1,0 +1,36 @@
+//! Selection over columns in Arrow's memory, by Arrow's C Data Interface.
+//!
+//! ```
+//! use vortex_select::arrow::{select, Column, Error, Step};
+//!
+//! let mut names = Column::texts(&[Some("ann"), None, Some("bo"), Some("cy")]);
+//! let steps = [Step::filter(&[true, true, false, true]), Step::take_or_null(&[Some(2), None])];
+//! let picked = select(&mut names, &steps)?;
+//! assert_eq!(picked.to_texts(), Some(vec![Some("cy"), None]));
+//! # Ok::<(), Error>(())
+//! ```
+mod building;
+mod column;
+mod empty;
+mod error;
+mod formats;
+mod held;
+mod interface;
+mod layout;
+mod metadata;
+mod node;
+mod parts;
+mod picks;
+mod reading;
+mod steps;
+mod stream;
+mod views;
+
+pub use column::{select, select_arrow, Column};
+pub use error::{Cause, Error};
+pub use interface::{ArrowArray, ArrowArrayStream, ArrowSchema};
+pub use node::Node;
+pub use parts::{Buffer, Field};
+pub use picks::{picks, Picks};
+pub use steps::{Number, Step};
+pub use stream::{select_stream, Stream};

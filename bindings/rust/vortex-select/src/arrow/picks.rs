@@ -1,0 +1,67 @@
+//! Which rows steps leave, without a column.
+use super::error::Error;
+use super::steps::Step;
+use vortex_select_sys::arrow::{self as sys, status, Answer, PicksNeed};
+
+/// The rows that steps leave, in order.
+#[derive(Clone, Debug, PartialEq, Eq)]
+pub struct Picks {
+    /// The number of each row, 0 at a null.
+    pub places: Vec<u64>,
+    /// A bit for each row, clear at a null; `None` if no take may leave nulls.
+    pub valid: Option<Vec<u8>>,
+}
+
+fn done(answer: Answer) -> Result<(), Error> {
+    if answer.status == status::DONE {
+        return Ok(());
+    }
+    Err(Error::of(
+        answer.status,
+        answer.node_or_step,
+        answer.what,
+        String::new(),
+    ))
+}
+
+/// Returns a list of zeros, or an error if it can't be allocated.
+fn zeros<T: Clone + Default>(len: u64) -> Result<Vec<T>, Error> {
+    let len = usize::try_from(len).map_err(|_| Error::NoMemory)?;
+    let mut list = Vec::new();
+    list.try_reserve_exact(len).map_err(|_| Error::NoMemory)?;
+    list.resize(len, T::default());
+    Ok(list)
+}
+
+/// Returns the rows that the steps leave of `len` rows.
+///
+/// ```
+/// use vortex_select::arrow::{picks, Step};
+///
+/// let left = picks(4, &[Step::slice(1, 4), Step::take(&[2, 0])])?;
+/// assert_eq!((left.places, left.valid), (vec![3, 1], None));
+/// # Ok::<(), vortex_select::arrow::Error>(())
+/// ```
+pub fn picks(len: u64, steps: &[Step]) -> Result<Picks, Error> {
+    let images: Vec<sys::Step> = steps.iter().map(Step::image).collect();
+    let (list, count) = (images.as_ptr(), images.len());
+    let mut need = PicksNeed::default();
+    // SAFETY: the lists of the steps are borrowed, and `need` is written alone.
+    done(unsafe { sys::vortex_arrow_count(len, list, count, &mut need) })?;
+    let mut places: Vec<u64> = zeros(need.places)?;
+    let mut valid: Vec<u8> = zeros(need.valid)?;
+    // The call clears the bits of nulls, and leaves the others as they are.
+    valid.fill(0xff);
+    let (p, n) = (places.as_mut_ptr(), places.len());
+    let (v, m) = (valid.as_mut_ptr(), valid.len());
+    // SAFETY: both lists are as long as is said and are written alone.
+    done(unsafe { sys::vortex_arrow_compose(len, list, count, p, n, v, m) })?;
+    if let Some(last) = valid.last_mut().filter(|_| places.len() % 8 > 0) {
+        *last &= (1 << (places.len() % 8)) - 1;
+    }
+    let is_nullable = steps.iter().any(Step::leaves_nulls);
+    Ok(Picks {
+        places,
+        valid: Some(valid).filter(|_| is_nullable),
+    })
+}

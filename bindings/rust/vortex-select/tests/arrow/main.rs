@@ -1,0 +1,14 @@
+//! Columns in Arrow's memory.
+#![cfg(feature = "arrow")]
+mod building;
+mod children;
+mod errors;
+mod hostile;
+mod loops;
+mod nodes;
+mod parts;
+mod raw;
+mod release;
+mod steps;
+mod streams;
+mod threads;
