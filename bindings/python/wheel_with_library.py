@@ -1,18 +1,22 @@
-"""Builds the wheel of `vortex_select`, with the shared library in it.
+"""Builds the wheel of `vortex_select` for the Python that runs this, with its native module in it.
 
-The library is the file that VORTEX_SELECT_LIBRARY names, or else the one that `bindings/check`
-builds. Nothing but Python's standard library is needed.
+The native module is the one that `bindings/python/build` builds. Nothing but Python's standard library
+is needed.
 """
 
 import base64
 import hashlib
-import os
 import pathlib
 import re
+import sys
+import sysconfig
 import zipfile
 
 HERE = pathlib.Path(__file__).resolve().parent
-TAG = "py3-none-linux_x86_64"
+PACKAGE = HERE / "src" / "vortex_select"
+PYTHON = "cp%d%d" % sys.version_info[:2]
+TAG = f"{PYTHON}-{PYTHON}-linux_x86_64"
+NATIVE = "_native" + sysconfig.get_config_var("EXT_SUFFIX")
 
 
 def said(name):
@@ -21,26 +25,26 @@ def said(name):
     return re.search(rf'^{name} = "(.*)"$', text.split("[project]")[1], re.M).group(1)
 
 
-def library():
-    path = os.environ.get("VORTEX_SELECT_LIBRARY", HERE.parent / "out" / "libvortex_select.so")
-    if not pathlib.Path(path).is_file():
-        raise SystemExit(f"there is no {path}: run bindings/check, or name one by VORTEX_SELECT_LIBRARY")
-    return pathlib.Path(path).read_bytes()
+def native():
+    path = PACKAGE / NATIVE
+    if not path.is_file():
+        raise SystemExit(f"expected {path}, found none: run bindings/python/build")
+    return path.read_bytes()
 
 
 def metadata():
     lines = ["Metadata-Version: 2.1", f"Name: {said('name')}", f"Version: {said('version')}"]
-    lines += [f"Summary: {said('description')}", "License: Apache-2.0"]
+    lines += [f"Summary: {said('description')}", "License: Apache-2.0", "License-File: LICENSE"]
     lines += [f"Requires-Python: {said('requires-python')}", ""]
     return "\n".join(lines).encode()
 
 
 def contents(info):
-    package = HERE / "src" / "vortex_select"
-    files = {f"vortex_select/{path.name}": path.read_bytes() for path in package.glob("*.py*")}
-    files = {name: data for name, data in files.items() if name.endswith((".py", "py.typed"))}
-    files["vortex_select/py.typed"] = b""
-    files["vortex_select/libvortex_select.so"] = library()
+    kinds = (".py", ".pyi", "py.typed")
+    files = {path.name: path.read_bytes() for path in PACKAGE.iterdir() if path.name.endswith(kinds)}
+    files = {f"vortex_select/{name}": data for name, data in files.items()}
+    files[f"vortex_select/{NATIVE}"] = native()
+    files[f"{info}/LICENSE"] = (HERE.parent.parent / "LICENSE").read_bytes()
     files[f"{info}/METADATA"] = metadata()
     wheel = ["Wheel-Version: 1.0", "Generator: wheel_with_library", "Root-Is-Purelib: false"]
     files[f"{info}/WHEEL"] = "\n".join([*wheel, f"Tag: {TAG}", ""]).encode()

@@ -7,9 +7,10 @@ import random
 import struct
 from array import array
 
+from producer import column_of, made_array
 from vortex_select import Bits, Filter, Slice, Take, column
+from vortex_select._arrays import field_of_type
 from vortex_select._building import is_of, lengths_of, offsets_of, packed, viewed
-from vortex_select._interface import made_array
 from vortex_select._reading import letters_of
 from vortex_select._types import Type, decimal_of, ids_of
 
@@ -189,7 +190,7 @@ class Layout:
         dice, ids, is_dense = self.dice, ids_of(of.format), of.format[2] == "d"
         types, offsets, each = bytearray(), array("i"), [[] for _ in ids]
         for row in rows:
-            fitting = [k for k, (_, child) in enumerate(of.children) if is_of(child, row)]
+            fitting = [k for k, (_, child) in enumerate(of.children) if is_of(field_of_type(child), row)]
             chosen = dice.choice(fitting)
             for k, below in enumerate(each):
                 for _ in range(dice.choice([0, 0, 1]) if is_dense else k != chosen):
@@ -282,10 +283,7 @@ def _take(dice, indices):
 
 def wrapped(of, made, **more):
     """A column of an array."""
-    from vortex_select import Column
-    from vortex_select._interface import made_schema
-
-    return Column(made_schema(of, **more), [made])
+    return column_of(of, made, **more)
 
 
 def after(rows, steps):

@@ -15,13 +15,16 @@ try:
 except ImportError:
     numpy = None
 
+import producer as arrow
 from arrow_model import Layout, after, random_row, random_steps, random_type, wrapped
 from vortex_select import BrokenStep, Column, Filter, Slice, Take
 from vortex_select import check, column, from_buffers, select
-from vortex_select import _interface as arrow
-from vortex_select import _columns, _types
-from vortex_select._building import built, viewed
+from vortex_select import _native, _steps, _types, columns, kernels
+from vortex_select._arrays import Field, field_of_type
+from vortex_select._building import built as built_array
+from vortex_select._building import viewed
 from vortex_select._types import Type, type_of
+from vortex_select.columns import column_over
 
 CALLS = int(os.environ.get("VORTEX_ARROW_CALLS", "3000"))
 
@@ -37,8 +40,25 @@ class Streamed:
 
 
 def held():
-    """How many structs are handed out and not yet released."""
-    return len(arrow._kept), len(arrow._handed), len(arrow._streams)
+    """How many structs and arrays aren't released yet."""
+    return len(arrow.alive), _native.alive()
+
+
+def built(of, rows):
+    """An array of rows, as the producer hands it over."""
+    return arrow.made_of(built_array(field_of_type(of), rows).node)
+
+
+def joined(of, chunks):
+    """A column of several arrays."""
+    return column_over([wrapped(of, chunk)._chunks[0] for chunk in chunks])
+
+
+class NoBatches(Streamed):
+    """A stream of a type, without a batch."""
+
+    def __arrow_c_stream__(self, requested_schema=None):
+        return _native.stream_capsule(self.of._chunks[0], [])
 
 
 class Random(unittest.TestCase):
@@ -58,7 +78,7 @@ class Random(unittest.TestCase):
             self.assertEqual((why.step, why.cause), broken, seed)
             return
         except ValueError as why:
-            self.assertIn("a null is picked of a union", str(why), seed)
+            self.assertIn("a null is selected of a union", str(why), seed)
             self.assertTrue(is_union and None in picks, seed)
             return
         self.assertIsNone(broken, seed)
@@ -90,7 +110,7 @@ class Random(unittest.TestCase):
             ]
             rows = [row for part in parts for row in part]
             chunks = [Layout(dice).array(of, part) for part in parts]
-            source = Streamed(Column(arrow.made_schema(of), chunks))
+            source = Streamed(joined(of, chunks))
             self.type = str(of)
             self.agrees(seed, source, rows, *random_steps(dice, len(rows)))
 
@@ -107,7 +127,7 @@ class Answers(unittest.TestCase):
     people = [{"id": 5, "tags": ["a"]}, None, {"id": 7, "tags": []}]
 
     def test_examples(self):
-        for module in _columns, _types:
+        for module in _types, columns, kernels:
             failed, tried = doctest.testmod(module, extraglobs={"column": column, "select": select})
             self.assertTrue(tried and not failed, module)
 
@@ -116,18 +136,18 @@ class Answers(unittest.TestCase):
         said = (1).to_bytes(4, "little") + (3).to_bytes(4, "little") + b"key" + (1).to_bytes(4, "little") + b"v"
         of = type_of("struct<id: int64, tags: list<utf8>>")
         for steps, flags in (([Slice(0, 1)], 0), ([Take([0, 0])], 0), ([Take([0, None])], 2)):
-            source = Column(arrow.made_schema(of, "people", 0, said), [built(of, [{"id": 1, "tags": None}])])
-            answer = select(source, steps)
-            made = answer._schema
-            self.assertEqual((made.name, made.flags, made.format), (b"people", flags, b"+s"))
-            self.assertEqual(ctypes.string_at(made.metadata, len(said)), said)
-            child = made.children[1].contents
-            self.assertEqual((child.name, child.flags), (b"tags", 2))
-            self.assertEqual(child.children[0].contents.name, b"item")
+            made = built(of, [{"id": 1, "tags": None}])
+            source = wrapped(of, made, name="people", flags=0, metadata=said)
+            answer = select(source, steps)._field()
+            self.assertEqual((answer.name, answer.flags, answer.format), ("people", flags, "+s"))
+            self.assertEqual(answer.metadata, said)
+            child = answer.children[1]
+            self.assertEqual((child.name, child.flags), ("tags", 2))
+            self.assertEqual(child.children[0].name, "item")
 
     def test_flags_of_no_rows(self):
         made = select(column([], "int8"), [Take([None]), Slice(0, 0)])
-        self.assertEqual((made._schema.flags & 2, made.to_pylist()), (2, []))
+        self.assertEqual((made._field().flags & 2, made.to_pylist()), (2, []))
 
     def test_nulls(self):
         """A null that later steps drop refuses nothing."""
@@ -220,23 +240,10 @@ class Answers(unittest.TestCase):
         self.assertEqual(select(items, [Take([0, 0])]).to_pylist(), [[4], [4]])
 
     def test_empty_stream(self):
-        none = Streamed(Column(arrow.made_schema(Type("u")), []))
+        none = NoBatches(column([], "utf8"))
         made = select(none, [Slice(0, 0)])
         self.assertEqual((made.to_pylist(), made.type), ([], "utf8"))
         self.assertEqual(select(made, []).to_pylist(), [])
-
-    def test_null_buffer_of_pointers(self):
-        """Struct and array that were released already."""
-        source = column([1])
-        schema, made = source.__arrow_c_array__()
-        arrow.release(arrow.held_by(made, arrow.Array))
-
-        class Spent:
-            def __arrow_c_array__(self, requested_schema=None):
-                return schema, made
-
-        with self.assertRaises(ValueError):
-            select(Spent(), [])
 
 
 @unittest.skipUnless(numpy, "there is no numpy")
@@ -245,7 +252,7 @@ class Numpy(unittest.TestCase):
         """numpy's arrays are taken as they stand, and an answer's memory is read as one."""
         numbers = numpy.arange(1000, dtype="int32")
         source = from_buffers("int32", 1000, [None, numbers])
-        self.assertEqual(source._chunks[0].buffers[1], numbers.ctypes.data)
+        self.assertEqual(source._chunks[0].node.places[1], numbers.ctypes.data)
         found = select(source, [Filter(numbers % 2 == 1), Take(numpy.array([3, 0], dtype="uint8"))])
         self.assertEqual(found.to_pylist(), [7, 1])
         with self.assertRaises(TypeError):
@@ -267,9 +274,9 @@ class Shared(unittest.TestCase):
         source = from_buffers("binary_view", 3, [None, views, *data])
         found = select(source, [Take([2, 1, None, 0])])
         self.assertEqual(found.to_pylist(), [b"0123456789ab", data[1][1:], None, data[0]])
-        first, second = source._chunks[0], found._chunks[0]
-        self.assertEqual([second.buffers[k] for k in (2, 3, 4)], [first.buffers[k] for k in (2, 3, 4)])
-        self.assertNotEqual(second.buffers[1], first.buffers[1])
+        first, second = source._chunks[0].node.places, found._chunks[0].node.places
+        self.assertEqual(second[2:5], first[2:5])
+        self.assertNotEqual(second[1], first[1])
         with self.assertRaises(ValueError):
             from_buffers("binary_view", 3, [None, views[:47], *data])
         with self.assertRaises(ValueError):
@@ -282,8 +289,8 @@ class Shared(unittest.TestCase):
             source = from_buffers(f"{name}<int8>", 4, [None, starts, sizes], [items])
             found = select(source, [Take([0, 2, None, 1, 3])])
             self.assertEqual(found.to_pylist(), [[7], [6, 7], None, [5, 6, 7], []])
-            below = found._chunks[0].children[0].contents
-            self.assertEqual(below.buffers[1], items._chunks[0].buffers[1])
+            below = found._chunks[0].node.children[0]
+            self.assertEqual(below.places[1], items._chunks[0].node.places[1])
             with self.assertRaises(ValueError):
                 from_buffers(f"{name}<int8>", 4, [None, starts, sizes[:3]], [items])
 
@@ -293,23 +300,23 @@ class Shared(unittest.TestCase):
         found = select(source, [Take([2, 1, 0, 0])])
         self.assertEqual((found.to_pylist(), found.type), ([3, None, "a", "a"], source.type))
         self.assertIn(ids, found.type)
-        with self.assertRaisesRegex(ValueError, "a null is picked of a union"):
+        with self.assertRaisesRegex(ValueError, "a null is selected of a union"):
             select(source, [Take([0, None])])
         self.assertEqual(select(source, [Take([0, None]), Slice(0, 1)]).to_pylist(), ["a"])
         # Where a struct is null, nothing is said of its union.
         below = wrapped(Type("+s", (("u", type_of(source.type)),)), arrow.made_array(
-            3, 0, 0, [None], [arrow.shared(source._chunks[0])]
+            3, 0, 0, [None], [arrow.made_of(source._chunks[0].node)]
         ))
         found = select(below, [Take([2, None, 1])])
         self.assertEqual(found.to_pylist(), [{"u": 3}, None, {"u": None}])
-        return select(source, [Take([2, 0, 2])])._chunks[0]
+        return select(source, [Take([2, 0, 2])])._chunks[0].node
 
     def test_sparse_unions(self):
         words, numbers = column(["a", None, "c"]), column([1, 2, 3], "int16")
         names = "[5,9]<a: utf8, b: int16>"
         source = from_buffers(f"sparse_union{names}", 3, [b"\5\5\x09"], [words, numbers])
         found = self.unions(source, "[5,9]")
-        self.assertEqual([found.children[k].contents.length for k in (0, 1)], [3, 3])
+        self.assertEqual([found.children[k].length for k in (0, 1)], [3, 3])
         for wrong in ("[5]<a: utf8, b: int16>", "[128,1]<a: utf8, b: int16>"):
             with self.assertRaises(ValueError):
                 select(from_buffers("sparse_union" + wrong, 1, [b"\5"], [words, numbers]), [])
@@ -319,13 +326,13 @@ class Shared(unittest.TestCase):
         names, offsets = "[5,9]<a: utf8, b: int16>", array("i", [0, 2, 2])
         source = from_buffers(f"dense_union{names}", 3, [b"\5\5\x09", offsets], [words, numbers])
         found = self.unions(source, "[5,9]")
-        self.assertEqual([found.children[k].contents.length for k in (0, 1)], [1, 2])
+        self.assertEqual([found.children[k].length for k in (0, 1)], [1, 2])
 
     def test_built_unions(self):
         """A value is in the first column that it fits."""
         made = column([1, "a", None, 300, 2.5], "dense_union<b: int8, a: utf8, i: int64, f: float64>")
-        types = ctypes.string_at(made._chunks[0].buffers[0], 5)
-        self.assertEqual(types, bytes([0, 1, 0, 2, 3]))
+        types = made._chunks[0].node.buffers[0]
+        self.assertEqual(bytes(types), bytes([0, 1, 0, 2, 3]))
         self.assertEqual(made.to_pylist(), [1, "a", None, 300, 2.5])
         for wrong in (["a", 1.5], [b"a"], [2**15], [[1]], [True]):
             with self.assertRaises(ValueError):
@@ -359,32 +366,26 @@ class Release(unittest.TestCase):
         del made
         self.assertEqual(again.to_pylist(), [self.rows[1]])
 
-    def test_moved(self):
-        """Children and dictionaries that are moved out outlive what they were in."""
+    def test_children(self):
+        """Children and dictionaries that are taken out outlive what they were in."""
         made = select(self.source, [Slice(0, 3)])
         self.source = None
-        child, inner = arrow.Array(), arrow.Array()
-        place = made._chunks[0].children[0].contents
-        ctypes.memmove(ctypes.addressof(child), ctypes.addressof(place), ctypes.sizeof(child))
-        place.release = None
-        ctypes.memmove(ctypes.addressof(inner), child.dictionary, ctypes.sizeof(inner))
-        child.dictionary.contents.release = None
-        del made
-        codes = arrow.Schema(b"c")
-        from vortex_select._reading import rows
+        first = column_over(made._chunks[0].split()[:1])
+        self.assertEqual(first.to_pylist(), ["a", "bb", None])
+        values = first._chunks[0].node.dictionary
+        del made, first
+        self.assertEqual([bytes(values.buffers[2])[:3], values.length], [b"abb", 3])
 
-        self.assertEqual(rows(codes, child, 0, 2), [0, 1])
-        arrow.release(child)
-        self.assertEqual(rows(arrow.Schema(b"u"), inner, 0, 2), ["a", "bb"])
-        arrow.release(inner)
-
-    def test_twice(self):
-        made = select(self.source, [Slice(0, 3)])
-        array = made._chunks[0]
-        call = array.release
-        arrow.release(array)
-        arrow.RELEASE(call)(ctypes.addressof(array))
-        self.assertIsNone(array.release)
+    def test_consumed(self):
+        """A capsule is taken once, and a second time is an error."""
+        schema, made = self.source.__arrow_c_array__()
+        taken = _native.array_from_capsules(schema, made)
+        self.assertEqual(column_over([taken]).to_pylist(), self.rows)
+        with self.assertRaisesRegex(ValueError, "released"):
+            _native.array_from_capsules(schema, made)
+        fresh = self.source.__arrow_c_array__()
+        with self.assertRaisesRegex(ValueError, "released"):
+            _native.array_from_capsules(schema, fresh[1])
 
     def test_threads(self):
         """A hundred answers share one dictionary, and go away in eight threads."""
@@ -415,23 +416,11 @@ class Hostile(unittest.TestCase):
     """Each call is back within a second, with a status."""
 
     def refused(self, of, made, steps=(Slice(0, 1),), kind=ValueError):
-        source, start = wrapped(of, made), time.monotonic()
+        start = time.monotonic()
         with self.assertRaises(kind) as why:
-            select(source, list(steps))
+            select(wrapped(of, made), list(steps))
         self.assertLess(time.monotonic() - start, 1)
         return str(why.exception)
-
-    def status(self, schema, made):
-        out, fault, start = arrow.Array(), arrow.Fault(), time.monotonic()
-        places = [ctypes.addressof(struct) for struct in (schema, made)]
-        more = [ctypes.addressof(struct) for struct in (out, fault)]
-        status = arrow.calls().vortex_select_arrow(*places, None, 0, None, *more)
-        self.assertLess(time.monotonic() - start, 1)
-        self.assertEqual(status == 0, out.release is not None)
-        arrow.release(out)
-        _free_deep(schema)
-        _free_deep(made)
-        return status, fault.place.decode()
 
     def test_lengths(self):
         """Lengths and offsets that no buffer can have; the buffers have a byte each."""
@@ -579,22 +568,25 @@ class Hostile(unittest.TestCase):
         found = select(wrapped(Type("u"), made), [Slice(0, 10**6), Take(array("i", range(0, 10**6, 999)))])
         self.assertEqual(found.to_pylist(), [""] * len(found))
 
-    def test_deep_lists(self):
-        for levels, wanted in ((10_000, 17), (64, 17), (63, 0)):
-            made, schema = built(Type("c"), [1]), arrow.made_schema(Type("c"))
-            for _ in range(levels):
-                made = arrow.made_array(1, 0, 0, [None, array("i", [0, 1])], [made])
-                inner, schema = schema, arrow.made_schema(Type("+l"))
-                arrow._kept[schema.private_data] += arrow._below(schema, arrow.Schema, [inner], None)
-            self.assertEqual(self.status(schema, made)[0], wanted)
-
-    def test_deep_dictionaries(self):
-        made, schema = built(Type("c"), [1]), arrow.made_schema(Type("c"))
-        for _ in range(1_000):
-            made = arrow.made_array(1, 0, 0, [None, b"\0"], (), made)
-            inner, schema = schema, arrow.made_schema(Type("c"))
-            schema.dictionary = ctypes.pointer(inner)
-        self.assertEqual(self.status(schema, made), (17, "dictionary"))
+    def test_deep(self):
+        """Columns that are nested deeper than the library goes, by lists and by dictionaries."""
+        for levels, is_refused in ((200, True), (64, True), (63, False)):
+            for form in "+l", "c":
+                made, field = built(Type("c"), [1]), field_of_type(Type("c"))
+                for _ in range(levels):
+                    if form == "+l":
+                        offsets = array("i", [0, 1])
+                        made = arrow.made_array(1, 0, 0, [None, offsets], [made])
+                        field = Field("+l", "", 2, None, (field,), None)
+                    else:
+                        made = arrow.made_array(1, 0, 0, [None, b"\0"], (), made)
+                        field = Field("c", "", 2, None, (), field)
+                source = arrow.Produced(field, made)
+                if is_refused:
+                    with self.assertRaisesRegex(ValueError, "nested|levels|columns stand"):
+                        select(source, [])
+                else:
+                    self.assertEqual(len(select(source, [])), 1)
 
     def test_shapes(self):
         """Counts of buffers and children that aren't those of the format."""
@@ -649,17 +641,6 @@ class Hostile(unittest.TestCase):
         of = type_of("struct<id: int8, tags: list<utf8>>")
         made = arrow.made_array(1, 0, 0, [None], [built(Type("c"), [1]), lists])
         self.assertIn("tags.item offsets", self.refused(of, made))
-
-
-def _free_deep(struct):
-    """Releases from the top down, each by itself, so that no recursion is as deep."""
-    while struct is not None:
-        kept = arrow._kept.get(struct.private_data)
-        below = struct.children[0].contents if struct.n_children else None
-        below = struct.dictionary.contents if struct.dictionary else below
-        struct.n_children, struct.dictionary = 0, None
-        arrow.release(struct)
-        struct, _ = below, kept
 
 
 if __name__ == "__main__":

@@ -10,11 +10,12 @@ import textwrap
 import threading
 import time
 import unittest
+from functools import partial
 
 import dask
 from distributed import Client, LocalCluster
 
-from vortex_select import BrokenStep, Filter, Slice, Take, column, select
+from vortex_select import BrokenStep, Filter, FilterEach, Slice, Take, column, select
 from vortex_select.parts import DamagedPart, load, select_parts, write_column, write_parts
 
 # So long after a worker was lost a cluster of Dask gives up its place, even where it runs again and
@@ -32,9 +33,15 @@ def slowly(path):
 
 
 def counted(path):
-    """Loads a part, and leaves a mark that it was asked."""
-    open(path + ".asked", "a").close()
+    """Loads a part, and adds a byte to a file beside it."""
+    with open(path + ".asked", "ab") as file:
+        file.write(b".")
     return load(path)
+
+
+def large(rows):
+    """A mask of the rows whose amount is above 900."""
+    return [row is not None and row["amount"] > 900 for row in rows.to_pylist()]
 
 
 class Workers:
@@ -84,7 +91,8 @@ class Dask(unittest.TestCase):
         mask = [dice.random() < 0.5 for _ in range(sum(self.lengths))]
         kept = sum(mask)
         first = [None if dice.random() < 0.1 else dice.randrange(kept) for _ in range(400)]
-        return [Filter(mask), Take(first), Slice(50, 350), Take([dice.randrange(300) for _ in range(200)])]
+        last = [dice.randrange(300) for _ in range(200)]
+        return [Filter(mask), Take(first), Slice(50, 350), Take(last)]
 
     def agrees(self, client, seed, **more):
         steps = self.steps(random.Random(seed))
@@ -119,18 +127,66 @@ class Dask(unittest.TestCase):
             for seed in range(3):
                 steps = self.steps(random.Random(seed))
                 written = write_parts(client, self.paths, steps, folder, lengths=self.lengths)
-                self.assertEqual(written.column().to_pylist(), select(self.whole, steps).to_pylist())
+                wanted = select(self.whole, steps).to_pylist()
+                self.assertEqual(written.column().to_pylist(), wanted)
 
-    def test_broken_step(self):
+    def times(self, call):
+        """Return how often each part was asked while a call ran."""
+        marks = [path + ".asked" for path in self.paths]
+        try:
+            call()
+            return [os.path.getsize(mark) if os.path.exists(mark) else 0 for mark in marks]
+        finally:
+            for mark in filter(os.path.exists, marks):
+                os.remove(mark)
+
+    def test_tasks(self):
+        """A part has one task, or two without lengths, or none if it is trusted and has no row."""
+        some = [length > 0 for length in self.lengths]
+        lengths, trusted = {"lengths": self.lengths}, {"lengths": self.lengths, "trusted": True}
         with Workers(2) as client:
-            steps = [*self.steps(random.Random(1)), Slice(10, 201)]
-            with self.assertRaises(BrokenStep) as caught:
-                select_parts(client, self.paths, steps, load=counted, lengths=self.lengths)
-            self.assertEqual((caught.exception.step, caught.exception.cause), (4, "BadRange"))
-            self.assertFalse(any(os.path.exists(path + ".asked") for path in self.paths))
-            select_parts(client, self.paths, steps[:4], load=counted, lengths=self.lengths)
-            asked = [os.path.exists(path + ".asked") for path in self.paths]
-            self.assertEqual(asked, [length > 0 for length in self.lengths])
+            steps = self.steps(random.Random(1))
+            twice = [1 + each for each in some]
+            for more, wanted in ((lengths, [1] * PARTS), (trusted, some), ({}, twice)):
+                run = partial(select_parts, client, self.paths, steps, load=counted, **more)
+                asked = self.times(run)
+                self.assertEqual(asked, wanted)
+            broken = [*steps, Slice(10, 201)]
+            for more, wanted in ((lengths, 1), (trusted, 0), ({}, 1)):
+                asked = self.times(lambda: self.breaks(client, broken, load=counted, **more))
+                self.assertEqual(asked, [wanted] * PARTS)
+
+    def breaks(self, client, steps, **more):
+        with self.assertRaises(BrokenStep) as caught:
+            select_parts(client, self.paths, steps, **more)
+        self.assertEqual((caught.exception.step, caught.exception.cause), (4, "BadRange"))
+
+    def test_parts_that_are_not_asked_for_rows(self):
+        """Lengths and masks are verified at the workers, also of parts that return no row."""
+        lengths = [*self.lengths[:-1], 7]
+        kept = [sum(large(self.whole_part(k))) for k in range(PARTS)]
+        with Workers(2) as client:
+            found = select_parts(client, self.paths, [FilterEach(kept, large), Slice(0, 1)])
+            first = next(row for row in self.whole.to_pylist() if row and row["amount"] > 900)
+            self.assertEqual(found.to_pylist(), [first])
+            for words, steps, said in (
+                (
+                    f"part7: ValueError: it has {self.lengths[7]} rows, expected 7",
+                    [Slice(0, 1)],
+                    lengths,
+                ),
+                (
+                    f"part7: ValueError: its own mask keeps {kept[7]} rows, expected 0",
+                    [FilterEach([*kept[:7], 0], large), Slice(0, 1)],
+                    None,
+                ),
+            ):
+                with self.assertRaisesRegex(DamagedPart, words):
+                    select_parts(client, self.paths, steps, lengths=said)
+
+    def whole_part(self, k):
+        start = sum(self.lengths[:k])
+        return select(self.whole, [Slice(start, start + self.lengths[k])])
 
     def test_program(self):
         """The program of docs/SCALE.md prints what stands below it."""
@@ -155,7 +211,8 @@ class Dask(unittest.TestCase):
                 file.write(data[: len(data) // 2])
             with Workers(2) as client:
                 with self.assertRaisesRegex(DamagedPart, f"part {path}: ValueError: the file has"):
-                    select_parts(client, self.paths, self.steps(random.Random(1)), lengths=self.lengths)
+                    steps = self.steps(random.Random(1))
+                    select_parts(client, self.paths, steps, lengths=self.lengths)
         finally:
             with open(path, "wb") as file:
                 file.write(data)

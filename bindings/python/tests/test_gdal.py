@@ -11,8 +11,9 @@ import unittest
 from osgeo import gdal, ogr
 
 from arrow_model import after, random_steps
-from vortex_select import BrokenStep, Filter, Slice, Take, select
-from vortex_select import _interface as arrow
+from producer import Stream, capsule
+from vortex_select import BrokenStep, Filter, Slice, Take, _native, select
+from vortex_select.columns import column_over
 
 LISTS = int(os.environ.get("VORTEX_GDAL_LISTS", "100"))
 ROWS = 1_000
@@ -37,26 +38,22 @@ class Layer:
         self.layer, self.batch = layer, batch
 
     def __arrow_c_stream__(self, requested_schema=None):
-        stream = arrow.Stream()
+        stream = Stream()
         said = (ctypes.c_char_p * 2)(f"MAX_FEATURES_IN_BATCH={self.batch}".encode(), None)
         if not open_stream(int(self.layer.this), ctypes.addressof(stream), said):
             raise ValueError(gdal.GetLastErrorMsg())
-        return arrow.capsule_of(stream)
+        return capsule(stream)
 
 
 class Batch:
     """The first batch of a layer."""
 
     def __init__(self, layer):
-        capsule = layer.__arrow_c_stream__()
-        self.schema, chunks = arrow.read_of(arrow.held_by(capsule, arrow.Stream))
-        self.array = chunks[0]
-        for chunk in chunks[1:]:
-            arrow.release(chunk)
+        _, batches = _native.read_stream(layer.__arrow_c_stream__())
+        self.column = column_over(batches[:1])
 
     def __arrow_c_array__(self, requested_schema=None):
-        array = arrow.shared(self.array)
-        return arrow.capsule_of(arrow.copied(self.schema)), arrow.capsule_of(array)
+        return self.column.__arrow_c_array__()
 
 
 # A field's name, its type and subtype, a value, and how it is read from a feature.
@@ -199,12 +196,9 @@ class _Field:
         self.batch, self.name = Batch(Layer(layer, ROWS)), name
 
     def __arrow_c_array__(self, requested_schema=None):
-        schema = self.batch.schema
-        names = [schema.children[k].contents.name.decode() for k in range(schema.n_children)]
-        k = names.index(self.name)
-        child = arrow.copied(schema.children[k].contents)
-        array = arrow.shared(self.batch.array.children[k].contents)
-        return arrow.capsule_of(child), arrow.capsule_of(array)
+        array = self.batch.column._chunks[0]
+        names = [child.name for child in array.node.children]
+        return array.split()[names.index(self.name)].capsules()
 
 
 if __name__ == "__main__":

@@ -124,7 +124,7 @@ def step_of(kind, said):
     return {"take": said[0]} if fits else None
 
 
-@unittest.skipUnless(hasattr(vortex_select._calls, "vortex_program"), "the library of the program isn't linked")
+@unittest.skipUnless(vortex_select._native.HAS_PROGRAM, "the library of the program isn't linked")
 class SameRows(unittest.TestCase):
     def printed(self, of, rows, steps):
         document = {"column": document_of(of, rows), "steps": steps}

@@ -85,26 +85,23 @@ class Random(unittest.TestCase):
             self.assertEqual(items_of(answer, width), taken)
 
     def test_blocks(self):
-        of = vortex_select._Indices
-        whole, of.BLOCK = of.BLOCK, 64
-        self.addCleanup(setattr, of, "BLOCK", whole)
-        for _ in range(CALLS // 10):
-            values = array("I", range(self.dice.randrange(1, 300)))
-            indices = [self.dice.randrange(len(values)) for _ in range(self.dice.randrange(400))]
-            there = [self.dice.random() < 0.7 for _ in indices]
-            listed, valid = self.indices_of(indices), self.mask_of(there)
-            taken = vortex_select.take(values, listed, valid).tolist()
+        """Lists of indices around the sizes at which they are copied block by block."""
+        block, values = 1 << 17, array("I", range(251))
+        bits = [i % 3 == 0 for i in values]
+        for count in (block - 1, block, block + 1, 2 * block + 65):
+            indices = [i * 7919 % 251 for i in range(count)]
+            there = [i % 5 != 0 for i in range(count)]
+            listed = array(self.dice.choice("BHIQhiq"), indices)
+            taken = vortex_select.take(values, listed, there).tolist()
             self.assertEqual(taken, [t * i for i, t in zip(indices, there)])
-            bits = [i % 3 == 0 for i in values]
-            taken = vortex_select.take_bits(bools_of(bits), len(bits), indices, there)
+            taken = vortex_select.take_bits(bools_of(bits), len(bits), listed, there)
             self.assertEqual(bytes(taken), bits_of([t and bits[i] for i, t in zip(indices, there)]))
-            if indices:
-                place = self.dice.randrange(len(indices))
-                indices[place] = len(values)
+            for place in (0, count - 1, min(block, count - 1)):
+                wrong = indices[:place] + [len(values)] + indices[place + 1 :]
                 with self.assertRaisesRegex(IndexError, f"index {place} of"):
-                    vortex_select.take(values, indices)
+                    vortex_select.take(values, wrong)
                 with self.assertRaisesRegex(IndexError, f"index {place} of"):
-                    vortex_select.take_bits(bools_of(bits), len(bits), indices)
+                    vortex_select.take_bits(bools_of(bits), len(bits), wrong)
 
     def placed(self, rows):
         at = self.dice.randrange(130)
@@ -175,12 +172,23 @@ class Refused(unittest.TestCase):
             self.assertEqual((answer.format, answer.tolist()), (kind, [0]))
         longs = (ctypes.c_int * 3)(1, -2, 3)
         self.assertEqual(vortex_select.filter(longs, b"\x06").tolist(), [-2, 3])
-        pairs = (Pair * 2)(Pair(1, 2), Pair(3, 4))
-        self.assertEqual(vortex_select.filter(pairs, b"\x02").cast("i").tolist(), [3, 4])
+
+    def test_ctypes_records(self):
+        """Their formats don't tell all bytes: a bit field or a union may hide an object."""
+        for records in (Pair * 2)(Pair(1, 2), Pair(3, 4)), Pair(), (Pair * 2 * 1)(), (Either * 2)(), Hidden():
+            for call in vortex_select.filter, vortex_select.filter_in_place:
+                with self.assertRaises(TypeError):
+                    call(records, b"\x02")
 
 
 class Pair(ctypes.Structure):
     _fields_ = [("a", ctypes.c_int), ("b", ctypes.c_int)]
+
+
+class Hidden(ctypes.Structure):
+    """Two words of which the first may be an object behind bit fields."""
+
+    _fields_ = [("low", ctypes.c_uint64, 32), ("high", ctypes.c_uint64, 32), ("b", ctypes.c_uint64)]
 
 
 class Swapped(ctypes.BigEndianStructure):
@@ -218,7 +226,7 @@ class Hostile(unittest.TestCase):
 
     def test_indices_of_another_type(self):
         values = array("Q", range(9))
-        eights = [array("d", [1.0]), (Pair * 1)(), (Swapped * 1)(), (ctypes.c_char * 8)()]
+        eights = [array("d", [1.0]), (ctypes.c_double * 1)(), (ctypes.c_char * 8)()]
         eights += [bools_of([True, False]), memoryview(bytes(16)).cast("B", (2, 8))]
         eights += ["1", b"1".decode(), [1.0], ["1"], [None], [True], 1, None, vortex_select.Bits(b"a", 8)]
         for indices in eights:
@@ -338,14 +346,15 @@ class Made(unittest.TestCase):
     def test_version(self):
         parts = vortex_select.__version__.split(".")
         version = sum(int(part) * 1000 ** (2 - k) for k, part in enumerate(parts))
-        self.assertEqual(vortex_select._calls.vortex_version(), version)
+        self.assertEqual(vortex_select._native.version(), version)
         root = pathlib.Path(__file__).resolve().parents[2]
-        for file in "python/pyproject.toml", "rust/vortex-select-sys/Cargo.toml":
+        crates = "rust/vortex-select/Cargo.toml", "rust/vortex-select-sys/Cargo.toml"
+        for file in ("python/pyproject.toml", *crates):
             self.assertIn(f'\nversion = "{vortex_select.__version__}"\n', (root / file).read_text())
 
 
 EXAMPLES = pathlib.Path(__file__).resolve().parents[3] / "examples"
-HAS_PROGRAM = hasattr(vortex_select._calls, "vortex_program")
+HAS_PROGRAM = vortex_select._native.HAS_PROGRAM
 
 
 @unittest.skipUnless(HAS_PROGRAM, "the library of the program isn't linked")

@@ -6,7 +6,8 @@ import decimal
 import struct
 from array import array as numbers_of
 
-from ._interface import made_array
+from ._arrays import Array, Field, array_over
+from ._native import pack
 from ._reading import letters_of
 from ._types import Type, decimal_of, ids_of
 
@@ -14,9 +15,8 @@ _MOST = 2**31 - 1
 
 
 def packed(bools) -> bytes:
-    """A bit for each of the bools, the lowest of each byte first."""
-    digits = "".join("1" if value else "0" for value in bools)
-    return int(digits[::-1] or "0", 2).to_bytes((len(digits) + 7) // 8, "little")
+    """Return a bit for each of the bools, the lowest of each byte first."""
+    return pack(bytes(map(bool, bools)))
 
 
 def _number(form, value):
@@ -88,10 +88,10 @@ def _views(rows):
 
 def _list(of, rows):
     lists = [[] if row is None else list(row) for row in rows]
-    inner = of.children[0][1]
+    inner = of.children[0]
     items = [item for row in lists for item in row]
     if of.format == "+m":
-        (key, _), (value, _) = inner.children
+        key, value = (child.name for child in inner.children)
         items = [item if item is None else {key: item[0], value: item[1]} for item in items]
     is_wide = of.format in ("+L", "+vL")
     offsets = offsets_of(map(len, lists), is_wide)
@@ -106,12 +106,12 @@ def _items(of, rows):
     lists = [[None] * size if row is None else list(row) for row in rows]
     if any(len(row) != size for row in lists):
         raise ValueError(f"not all rows have {size} items")
-    return [], [built(of.children[0][1], [item for row in lists for item in row])]
+    return [], [built(of.children[0], [item for row in lists for item in row])]
 
 
 def _struct(of, rows):
     kept = [{} if row is None else row for row in rows]
-    return [], [built(child, [row.get(name) for row in kept]) for name, child in of.children]
+    return [], [built(child, [row.get(child.name) for row in kept]) for child in of.children]
 
 
 def _is_number(form, row):
@@ -139,10 +139,10 @@ def _is_decimal(form, row):
 def _is_list(of, row):
     if not isinstance(row, list) or (of.format[1] == "w" and len(row) != int(of.format[3:])):
         return False
-    inner = of.children[0][1]
+    inner = of.children[0]
     if of.format != "+m":
         return all(is_of(inner, item) for item in row)
-    (_, key), (_, value) = inner.children
+    key, value = inner.children
     return all(
         isinstance(pair, tuple) and len(pair) == 2 and is_of(key, pair[0]) and is_of(value, pair[1])
         for pair in row
@@ -157,11 +157,11 @@ def is_of(of, row):
     if of.dictionary is not None:
         return is_of(of.dictionary, row)
     if form[:2] == "+u":
-        return any(is_of(child, row) for _, child in of.children)
+        return any(is_of(child, row) for child in of.children)
     if form == "+s":
-        names = {name for name, _ in of.children}
+        names = {child.name for child in of.children}
         return isinstance(row, dict) and set(row) == names and all(
-            is_of(child, row[name]) for name, child in of.children
+            is_of(child, row[child.name]) for child in of.children
         )
     if form[:1] == "+":
         return _is_list(of, row)
@@ -185,7 +185,7 @@ def _chosen(of, places, rows):
             if k == place or not is_dense:
                 below.append(row if k == place else None)
     types = bytes(ids[place] for place in places)
-    children = [built(child, below) for (_, child), below in zip(of.children, each)]
+    children = [built(child, below) for child, below in zip(of.children, each)]
     return [types, offsets] if is_dense else [types], children
 
 
@@ -193,10 +193,10 @@ def _union(of, rows):
     """Each row is in the first child that it may be a row of."""
     places = []
     for row in rows:
-        fitting = (k for k, (_, child) in enumerate(of.children) if is_of(child, row))
+        fitting = (k for k, child in enumerate(of.children) if is_of(child, row))
         places.append(next(fitting, None))
         if places[-1] is None:
-            raise ValueError(f"{row!r} is a row of no column below one of type {of}")
+            raise ValueError(f"value {row!r} matches no child type of {of.type()}")
     return _chosen(of, places, rows)
 
 
@@ -212,19 +212,19 @@ def _dictionary(of, rows):
     return [_fixed(of.format, codes)], built(of.dictionary, values)
 
 
-def built(of: Type, rows):
-    """An array of the rows, of a type."""
+def built(of: Field, rows) -> Array:
+    """Return an array of the rows, of the type of a field."""
     form, rows = of.format, list(rows)
     nulls = sum(row is None for row in rows)
     valid = [packed(row is not None for row in rows) if nulls else None]
     inner, children = None, ()
     if form == "n":
         if nulls < len(rows):
-            raise ValueError("a column of nulls has other values")
-        return made_array(len(rows), nulls, 0, [])
+            raise ValueError("type null: expected None alone")
+        return array_over(of, (len(rows), nulls, 0), [])
     if form[:2] == "+u":
         more, children = _union(of, rows)
-        return made_array(len(rows), 0, 0, more, children)
+        return array_over(of, (len(rows), 0, 0), more, children)
     if of.dictionary is not None:
         more, inner = _dictionary(of, rows)
     elif form == "b":
@@ -241,7 +241,7 @@ def built(of: Type, rows):
         more, children = _struct(of, rows)
     else:
         more = [_fixed(form, rows)]
-    return made_array(len(rows), nulls, 0, valid + more, children, inner)
+    return array_over(of, (len(rows), nulls, 0), valid + more, children, inner)
 
 
 _SCALARS = {bool: "b", int: "l", float: "g", str: "u", bytes: "z"}

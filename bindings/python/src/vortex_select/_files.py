@@ -1,137 +1,198 @@
-"""Files of a column, which are mapped and not read."""
+"""Files of columns, which are mapped: `write_column`, `read_column`, and numpy's."""
 
 from __future__ import annotations
 
-import ast
-import json
+import contextlib
 import mmap
 import os
-import struct
+import uuid
 import zlib
-from typing import Any, List, Optional, Sequence
+from array import array as numbers_of
+from typing import Any, List, NamedTuple, Optional, Sequence
 
-from ._columns import Column, _Borrowed, _needs, _size, from_buffers
-from ._joining import Field, Plain, array_of, field_of, joined, schema_of
-from ._types import Type, spelled
+from ._heads import ALIGN, Head, Node, Span, head_in, packed_head
+from ._arrays import Field, Plain
+from ._layouts import layout_of
+from ._npy import npy_in
+from ._sources import chosen_field, column_of, places_of, source_of
+from .columns import Column, check, from_buffers
 
-_MAGIC = b"VXPART1\n"
-_BEFORE = len(_MAGIC) + 16
-_ALIGN = 64
+
+# Writing.
 
 
-def _laid(plain, buffers):
-    """The tree of an array, where each buffer is its number among all."""
-    own = []
+def _placed(plain: Plain, buffers: List[Any]) -> Node:
+    """Return an array whose buffers are their numbers in a list, to which they are appended."""
+    own: List[Optional[int]] = []
     for data in plain.buffers:
         own.append(None if data is None else len(buffers))
         if data is not None:
             buffers.append(data)
-    inner = plain.dictionary and _laid(plain.dictionary, buffers)
-    return [plain.length, plain.null_count, own, [_laid(child, buffers) for child in plain.children], inner]
+    children = tuple(_placed(child, buffers) for child in plain.children)
+    inner = None if plain.dictionary is None else _placed(plain.dictionary, buffers)
+    return Node(plain.length, tuple(own), children, inner)
 
 
-def _said(field):
-    meta = None if field.metadata is None else field.metadata.hex()
-    inner = field.dictionary and _said(field.dictionary)
-    return [field.format, field.name, field.flags, meta, list(map(_said, field.children)), inner]
-
-
-def write_column(path: str, column: Any) -> None:
-    """Writes a column, or any object with `__arrow_c_array__`, to a file that `read_column` maps."""
-    if isinstance(column, Column):
-        field, arrays = field_of(column._schema), column._chunks
-    else:
-        column = _Borrowed(column)
-        field, arrays = field_of(column.schema), [column.array]
-    buffers: List[Any] = []
-    tree = _laid(joined(field, arrays), buffers)
-    places, at = [], 0
+def _spans(buffers: Sequence[Any]) -> List[Span]:
+    spans, at = [], 0
     for data in buffers:
-        places.append([at, len(data)])
-        at += len(data) + -len(data) % _ALIGN
-    head = json.dumps([_said(field), tree, places, at]).encode()
-    head += b" " * (-(_BEFORE + len(head)) % _ALIGN)
-    with open(path, "wb") as file:
-        file.write(_MAGIC + struct.pack("<QQ", len(head), zlib.crc32(head)) + head)
-        for data in buffers:
-            file.write(data)
-            file.write(bytes(-len(data) % _ALIGN))
+        spans.append(Span(at, len(data), zlib.crc32(data)))
+        at += len(data) + -len(data) % ALIGN
+    return spans
 
 
-def _field(said):
-    form, name, flags, meta, children, inner = said
-    meta = None if meta is None else bytes.fromhex(meta)
-    return Field(form, name, flags, meta, tuple(map(_field, children)), inner and _field(inner))
+def _written(file: Any, head: bytes, buffers: Sequence[Any]) -> None:
+    file.write(head)
+    for data in buffers:
+        file.write(data)
+        file.write(bytes(-len(data) % ALIGN))
 
 
-def _mapped(field, tree, views):
-    """The array of a tree; a `ValueError` where a buffer is shorter than it must be."""
-    length, nulls, own, children, inner = tree
-    data = tuple(None if k is None else views[k] for k in own)
-    for buffer, (name, size) in zip(data, _needs(field, data, length)):
-        if _size(buffer) < size:
-            raise ValueError(f"{name}: {_size(buffer)} bytes, where {size} are needed")
-    below = tuple(_mapped(one, child, views) for one, child in zip(field.children, children))
-    return Plain(length, nulls, data, below, inner and _mapped(field.dictionary, inner, views))
+def write_column(path: Any, column: Any) -> None:
+    """Write a column to a file, which `read_column` maps.
+
+    The file is written beside the path and renamed, so a reader has the old file or the new one.
+
+    Args:
+        path: Where the file will be. A file that is there is replaced.
+        column: A `Column`, or any object with `__arrow_c_array__`.
+
+    Raises:
+        OSError: The file can't be written. Then the path is as it was.
+        NotImplementedError: The column is encoded by runs.
+    """
+    source, buffers = source_of(column), []  # type: ignore[var-annotated]
+    node = _placed(source.plain(), buffers)
+    spans = _spans(buffers)
+    size = sum(span.size + -span.size % ALIGN for span in spans)
+    head = packed_head(Head(source.field, node, spans, size))
+    path = os.fsdecode(path)
+    beside = f"{path}.{uuid.uuid4().hex}"
+    try:
+        with open(beside, "xb") as file:
+            _written(file, head, buffers)
+        os.replace(beside, path)
+    except BaseException:
+        with contextlib.suppress(OSError):
+            os.remove(beside)
+        raise
 
 
-def _map(path):
+# Reading.
+
+
+def _map(path: Any) -> memoryview:
     with open(path, "rb") as file:
         if not os.fstat(file.fileno()).st_size:
             raise ValueError("the file is empty")
         return memoryview(mmap.mmap(file.fileno(), 0, access=mmap.ACCESS_READ))
 
 
-def places_of(names, columns):
-    """Which of the names the columns are; a `ValueError` where one is none of them."""
-    missing = [name for name in columns if name not in names]
-    if missing:
-        raise ValueError(f"there is no column {missing[0]!r}")
-    return [names.index(name) for name in columns]
+class _Body:
+    """The buffers of a mapped file, of which each one that is asked for is tested."""
+
+    def __init__(self, data: memoryview, spans: Sequence[Span], trusted: bool):
+        self.data, self.spans, self.trusted = data, spans, trusted
+
+    def buffer(self, number: int) -> memoryview:
+        at, size, crc = self.spans[number]
+        view = self.data[at : at + size]
+        if not self.trusted and zlib.crc32(view) != crc:
+            raise ValueError(f"buffer {number} of the file is damaged: its checksum differs")
+        return view
+
+    def array(self, field: Field, node: Node) -> Plain:
+        """Return an array of a type, whose buffers are as long as their contents ask for."""
+        layout = layout_of(field.format)
+        buffers = [None if k is None else self.buffer(k) for k in node.buffers]
+        if layout.offset_bits:
+            _need_last(buffers, node, layout.offset_bits // 8)
+        if layout.has_views:
+            _need_lengths(buffers[2:])
+        children = tuple(self.array(*pair) for pair in zip(field.children, node.children))
+        inner = None
+        if field.dictionary is not None and node.dictionary is not None:
+            inner = self.array(field.dictionary, node.dictionary)
+        return Plain(node.length, _nulls(field.format, node), tuple(buffers), children, inner)
 
 
-def read_column(path: str, columns: Optional[Sequence[str]] = None) -> Column:
-    """The column of a file, which is mapped and not read; of a struct, these of its fields alone. A
-    file that is cut off, is no such file, or whose head is damaged is a `ValueError`. What the rows
-    hold is looked at by who selects them.
-    """
+def _nulls(form: str, node: Node) -> int:
+    """Return the count of nulls, or -1 if the validity says it."""
+    if form == "n":
+        return node.length
+    return -1 if layout_of(form).has_validity and node.buffers[0] is not None else 0
+
+
+def _need_last(buffers: Sequence[Any], node: Node, size: int) -> None:
+    """Fail if the last offset of strings is past their bytes, or of lists past their items."""
+    last = int.from_bytes(buffers[1][size * node.length :][:size], "little", signed=True)
+    end = node.children[0].length if node.children else len(buffers[2])
+    if not 0 <= last <= end:
+        raise ValueError(f"offsets: the last is {last}, expected 0 to {end}")
+
+
+def _need_lengths(buffers: Sequence[Any]) -> None:
+    """Fail if the last of these buffers isn't the lengths of the others."""
+    *data, told = buffers
+    if bytes(told) != numbers_of("q", map(len, data)).tobytes():
+        raise ValueError("the lengths of the data buffers of views are not as the buffers are")
+
+
+class Mapped(NamedTuple):
+    """A file whose head was read: of a struct, these fields alone."""
+
+    field: Field
+    node: Node
+    spans: Sequence[Span]
+    data: memoryview
+
+    def column(self, trusted: bool) -> Column:
+        """Return the column of the file."""
+        plain = _Body(self.data, self.spans, trusted).array(self.field, self.node)
+        column = column_of(self.field, plain)
+        if not trusted:
+            check(column)
+        return column
+
+
+def mapped(path: Any, columns: Optional[Sequence[str]] = None) -> Mapped:
+    """Map a file of `write_column`, and read its head alone."""
     data = _map(path)
-    if bytes(data[: len(_MAGIC)]) != _MAGIC or len(data) < _BEFORE:
-        raise ValueError("the file holds no column")
-    size, check = struct.unpack_from("<QQ", data, len(_MAGIC))
-    start = _BEFORE + size
-    if len(data) < start:
-        raise ValueError(f"the file has {len(data)} bytes, and its head {start}")
-    if zlib.crc32(data[_BEFORE:start]) != check:
-        raise ValueError("the head of the file is damaged")
-    said, tree, places, end = json.loads(bytes(data[_BEFORE:start]))
-    if len(data) != start + end:
-        raise ValueError(f"the file has {len(data)} bytes, and says {start + end}")
-    views = [data[start + at : start + at + long] for at, long in places]
-    field = _field(said)
-    plain = _mapped(field, tree, views)
+    head, start = head_in(data)
+    field, node = head.field, head.node
     if columns is not None:
-        numbers = places_of([child.name for child in field.children], columns)
-        field = field._replace(children=tuple(field.children[k] for k in numbers))
-        plain = plain._replace(children=tuple(plain.children[k] for k in numbers))
-    return Column(schema_of(field), [array_of(plain)])
+        field = chosen_field(head.field, columns)
+        numbers = places_of([child.name for child in head.field.children], columns)
+        node = node._replace(children=tuple(node.children[k] for k in numbers))
+    return Mapped(field, node, head.spans, data[start:])
 
 
-# The types of numpy's files that Arrow has too.
-_DTYPES = {"|u1": "C", "|i1": "c", "<f2": "e", "<f4": "f", "<f8": "g"}
-for _kind, _letters in ("i", "sil"), ("u", "SIL"):
-    _DTYPES.update({f"<{_kind}{2 << k}": letter for k, letter in enumerate(_letters)})
+def read_column(
+    path: Any, columns: Optional[Sequence[str]] = None, trusted: bool = False
+) -> Column:
+    """Return the column of a file of `write_column`. The file is mapped.
+
+    The head of the file is always tested. The checksums of the buffers and the column itself
+    (`check`) are tested unless the file is trusted; both read all bytes of the columns.
+
+    Args:
+        path: The file. While the column lives, no one may write to the file in place.
+        columns: Of a struct, the fields that are read.
+        trusted: Whether the bytes behind the head are believed.
+
+    Raises:
+        OSError: The file can't be opened.
+        ValueError: The file is cut off or damaged, is no such file, or lacks one of the columns.
+    """
+    return mapped(path, columns).column(trusted)
 
 
-def read_npy(path):
-    """The numbers of a file of numpy's, which is mapped."""
-    data = _map(path)
-    if bytes(data[:6]) != b"\x93NUMPY" or len(data) < 12:
-        raise ValueError("the file is none of numpy's")
-    wide = data[6] > 1
-    (size,) = struct.unpack_from("<I" if wide else "<H", data, 8)
-    start = (12 if wide else 10) + size
-    said = ast.literal_eval(bytes(data[start - size : start]).decode("latin-1").strip())
-    if said["descr"] not in _DTYPES or len(said["shape"]) != 1:
-        raise ValueError(f"an array of {said['descr']} and shape {said['shape']} is no column")
-    return from_buffers(spelled(Type(_DTYPES[said["descr"]])), said["shape"][0], [None, data[start:]])
+def read_npy(path: Any) -> Column:
+    """Return the numbers of an `.npy` file of one dimension. The file is mapped.
+
+    Raises:
+        OSError: The file can't be opened.
+        ValueError: The file is cut off, is no such file, or its numbers have no type of Arrow.
+    """
+    type, count, data = npy_in(_map(path))
+    return from_buffers(type, count, [None, data])

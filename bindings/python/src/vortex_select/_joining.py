@@ -1,109 +1,138 @@
-"""Columns end to end: the buffers of several arrays as those of one, and a column as plain bytes."""
+"""Columns as plain bytes, and the buffers of several arrays end to end."""
 
 from __future__ import annotations
 
-import ctypes
 from array import array as numbers_of
-from typing import Any, NamedTuple, Optional, Tuple
+from typing import Any, List, NamedTuple, Optional, Sequence, Tuple
 
-from . import _interface as arrow
+from ._arrays import NULLABLE, Array, Field, Plain, Tree
 from ._reading import rows, width_of
+from ._types import ids_of, spelled
 
-NULLABLE = arrow.NULLABLE
-
-
-class Field(NamedTuple):
-    """What a schema says, as values that pickle."""
-
-    format: str
-    name: str
-    flags: int
-    metadata: Optional[bytes]
-    children: Tuple[Field, ...]
-    dictionary: Optional[Field]
+# A buffer that views lead to has fewer bytes, since its places are numbers of 31 bits.
+MOST_VIEWED = 1 << 31
 
 
-class Plain(NamedTuple):
-    """The buffers of an array without an offset, as values that pickle."""
-
-    length: int
-    null_count: int
-    buffers: Tuple[Any, ...]
-    children: Tuple[Plain, ...]
-    dictionary: Optional[Plain]
+def _alike(field: Field) -> Field:
+    """Return a type without what columns of one type may differ in."""
+    inner = None if field.dictionary is None else _alike(field.dictionary)
+    children = tuple(_alike(child)._replace(name=child.name) for child in field.children)
+    return Field(field.format, "", field.flags & NULLABLE, None, children, inner)
 
 
-def _metadata(place):
-    """The bytes of a schema's metadata: a count of pairs, and each text behind its length."""
-    if not place:
-        return None
-    size, texts = 4, 2 * int.from_bytes(ctypes.string_at(place, 4), "little", signed=True)
-    for _ in range(texts):
-        size += 4 + int.from_bytes(ctypes.string_at(place + size, 4), "little", signed=True)
-    return ctypes.string_at(place, size)
+def _not_null(field: Field, path: str = "") -> List[str]:
+    """Return the places of what is not nullable in a type."""
+    found = [] if field.flags & NULLABLE else [path or "."]
+    for child in field.children:
+        found += _not_null(child, f"{path}.{child.name}")
+    return found
 
 
-def field_of(schema) -> Field:
-    """What a schema says."""
-    children = [schema.children[k].contents for k in range(schema.n_children)]
-    return Field(
-        schema.format.decode(),
-        (schema.name or b"").decode(),
-        schema.flags,
-        _metadata(schema.metadata),
-        tuple(map(field_of, children)),
-        field_of(schema.dictionary.contents) if schema.dictionary else None,
-    )
+def _spelled(field: Field) -> str:
+    """Return the text of a type, and what in it is not nullable."""
+    names = _not_null(field)
+    text = spelled(field.type())
+    if names == ["."]:
+        return text + " not null"
+    return f"{text} (not null: {', '.join(names)})" if names else text
 
 
-def schema_of(field: Field):
-    """The schema that says it."""
-    children = [schema_of(child) for child in field.children]
-    inner = None if field.dictionary is None else schema_of(field.dictionary)
-    said = field.format, field.name, field.flags, field.metadata
-    return arrow.schema_over(*said, children, inner)
-
-
-def array_of(plain: Plain):
-    """The array of these buffers."""
-    children = [array_of(child) for child in plain.children]
-    inner = None if plain.dictionary is None else array_of(plain.dictionary)
-    return arrow.made_array(plain.length, plain.null_count, 0, plain.buffers, children, inner)
+def difference(one: Field, other: Field) -> Optional[Tuple[str, str]]:
+    """Return the texts of two types, or `None` if columns of them can be put together."""
+    return None if _alike(one) == _alike(other) else (_spelled(one), _spelled(other))
 
 
 class _Piece(NamedTuple):
-    """Rows of an array that stand one after another: the first one, offset counted, and how many."""
+    """Consecutive rows of an array: the first one, the offset included, and their number.
 
-    array: Any
+    All memory of an array is read by its methods.
+    """
+
+    tree: Tree
     first: int
-    count: int
+    length: int
 
-    def child(self, k, first, count):
-        below = self.array.children[k].contents
+    @property
+    def n_buffers(self) -> int:
+        """The number of buffers."""
+        return len(self.tree.buffers)
+
+    def has(self, k: int) -> bool:
+        """Return whether a buffer is there."""
+        return k < self.n_buffers and self.tree.buffers[k] is not None
+
+    def child_rows(self, k: int) -> int:
+        """Return how many rows a child has."""
+        return self.tree.children[k].length
+
+    def child(self, k: int, first: int, count: int) -> _Piece:
+        """Return rows of a child.
+
+        Raises:
+            ValueError: The child doesn't have them.
+        """
+        below = self.tree.children[k]
+        first = _within(first, count, below.length, "rows of a child")
         return _Piece(below, below.offset + first, count)
 
-    def view(self, k, start, size):
-        """The bytes of a buffer, where they are."""
-        place = self.array.buffers[k]
+    def view(self, k: int, start: int, size: int) -> Any:
+        """Return bytes of a buffer, which aren't copied."""
         if not size:
             return b""
-        if not place:
-            raise ValueError("a buffer of an answer isn't there")
-        return (ctypes.c_char * size).from_address(place + start)
+        data = self.tree.buffers[k] if k < self.n_buffers else None
+        if data is None or not 0 <= start <= start + size <= len(data):
+            raise ValueError(f"buffer {k} of an array does not have {size} bytes from {start} on")
+        return data[start : start + size]
+
+    def numbers(self, k: int, letter: str, first: int, count: int) -> numbers_of:
+        """Return numbers of a buffer, of a type of the module `array`."""
+        found = numbers_of(letter)
+        found.frombytes(self.view(k, found.itemsize * first, found.itemsize * count))
+        return found
+
+    def dictionary(self) -> _Piece:
+        """Return all rows of the dictionary."""
+        inner = self.tree.dictionary
+        assert inner is not None
+        return _Piece(inner, inner.offset, inner.length)
+
+    def is_same_memory(self, other: _Piece) -> bool:
+        """Return whether two flat arrays are the same rows of the same buffers."""
+        one, two = self.tree, other.tree
+        if (self.first, self.length) != (other.first, other.length):
+            return False
+        if one.children or one.dictionary or two.children or two.dictionary:
+            return False
+        return one.places == two.places
+
+    def texts(self) -> str:
+        """Return the rows as a text, which is another one for other rows."""
+        return repr(rows(self.tree, 0, self.tree.length))
 
 
-def _bits(pieces, k, missing=0):
-    """Bits end to end. Of a buffer that isn't there each bit is as is said."""
+def piece_of(array: Array) -> _Piece:
+    """Return all rows of an array."""
+    tree = Tree(array.node)
+    return _Piece(tree, tree.offset, tree.length)
+
+
+def _within(start: int, size: int, end: int, what: str) -> int:
+    """Return the start of a range.
+
+    Raises:
+        ValueError: The range ends after `end`.
+    """
+    if not 0 <= start <= start + size <= end:
+        raise ValueError(f"{what}: {start} to {start + size} is outside of 0 to {end}")
+    return start
+
+
+def _bits(pieces: Sequence[_Piece], k: int, missing: int = 0) -> bytes:
+    """Return bits end to end. The bits of a buffer that is absent are all `missing`."""
     out, held, count = [], 0, 0
     for piece in pieces:
-        if piece.array.buffers[k]:
-            low, high = piece.first // 8, (piece.first + piece.count + 7) // 8
-            number = int.from_bytes(piece.view(k, low, high - low), "little") >> piece.first % 8
-            number &= (1 << piece.count) - 1
-        else:
-            number = missing * ((1 << piece.count) - 1)
-        held |= number << count
-        count += piece.count
+        held |= _number_of(piece, k, missing) << count
+        count += piece.length
         whole = count // 8
         data = held.to_bytes((count + 7) // 8, "little")
         out.append(data[:whole])
@@ -112,175 +141,214 @@ def _bits(pieces, k, missing=0):
     return b"".join(out)
 
 
-def _validity(pieces):
-    if any(piece.array.n_buffers and piece.array.buffers[0] for piece in pieces):
-        return _bits(pieces, 0, 1)
-    return None
+def _number_of(piece: _Piece, k: int, missing: int) -> int:
+    """Return the bits of a piece as a number, the first row lowest."""
+    ones = (1 << piece.length) - 1
+    if not piece.has(k):
+        return missing * ones
+    low, high = piece.first // 8, (piece.first + piece.length + 7) // 8
+    return int.from_bytes(piece.view(k, low, high - low), "little") >> piece.first % 8 & ones
 
 
-def _offsets(pieces, is_wide):
-    """The offsets of the rows end to end, and of each piece its first and last offset."""
-    letter, size = ("q", 8) if is_wide else ("i", 4)
+def _validity(pieces: Sequence[_Piece]) -> Optional[bytes]:
+    return _bits(pieces, 0, 1) if any(piece.has(0) for piece in pieces) else None
+
+
+def _are_valid(piece: _Piece) -> List[bool]:
+    """Return for each row of a piece whether it is valid."""
+    bits = _bits([piece], 0, 1)
+    return [bits[k // 8] >> k % 8 & 1 == 1 for k in range(piece.length)]
+
+
+Parts = Tuple[Tuple[Any, ...], Tuple[Plain, ...]]
+Spans = List[Tuple[int, int]]
+
+
+def _offsets(pieces: Sequence[_Piece], is_wide: bool) -> Tuple[bytes, Spans]:
+    """Return offsets end to end, and the first and the last offset of each piece."""
+    letter = "q" if is_wide else "i"
     offsets, spans = numbers_of(letter, [0]), []
     for piece in pieces:
-        own = numbers_of(letter)
-        own.frombytes(piece.view(1, size * piece.first, size * (piece.count + 1)))
+        own = piece.numbers(1, letter, piece.first, piece.length + 1)
         spans.append((own[0], own[-1]))
         moved = offsets[-1] - own[0]
         del own[0]
-        offsets.extend(own if not moved else numbers_of(letter, [at + moved for at in own]))
+        try:
+            offsets.extend(own if not moved else numbers_of(letter, [at + moved for at in own]))
+        except OverflowError:
+            raise OverflowError(f"expected offsets below 2^{63 if is_wide else 31}") from None
     return offsets.tobytes(), spans
 
 
-def _texts(form, pieces):
+def _strings(form: str, pieces: Sequence[_Piece]) -> Parts:
     offsets, spans = _offsets(pieces, form in "UZ")
-    parts = [piece.view(2, start, end - start) for piece, (start, end) in zip(pieces, spans)]
-    return (offsets, b"".join(parts)), ()
+    data = [piece.view(2, start, end - start) for piece, (start, end) in zip(pieces, spans)]
+    return (offsets, b"".join(data)), ()
 
 
-def _lists(form, field, pieces):
+def _lists(form: str, field: Field, pieces: Sequence[_Piece]) -> Parts:
     offsets, spans = _offsets(pieces, form == "+L")
     below = [piece.child(0, start, end - start) for piece, (start, end) in zip(pieces, spans)]
     return (offsets,), (_plain(field.children[0], below),)
 
 
-def _flags(piece):
-    """For each row of a piece whether it is valid."""
-    if not piece.array.buffers[0]:
-        return [True] * piece.count
-    bits = _bits([piece], 0)
-    return [bits[k // 8] >> k % 8 & 1 == 1 for k in range(piece.count)]
+class _Viewed:
+    """The bytes that views lead to, in buffers of less than 2 GiB."""
+
+    def __init__(self) -> None:
+        self.full, self.data, self.filled = [], [], 0  # type: ignore[var-annotated]
+
+    def add(self, data: bytes) -> bytes:
+        """Return the end of a view of some bytes, which are added: the buffer and the place."""
+        if self.filled + len(data) >= MOST_VIEWED:
+            self.full.append(b"".join(self.data))
+            self.data, self.filled = [], 0
+        place = len(self.full).to_bytes(4, "little") + self.filled.to_bytes(4, "little")
+        self.data.append(data)
+        self.filled += len(data)
+        return place
+
+    def buffers(self) -> Tuple[bytes, ...]:
+        """Return the buffers, and behind them one with their lengths."""
+        full = [*self.full, b"".join(self.data)]
+        return (*full, numbers_of("q", map(len, full)).tobytes())
 
 
-def _within(start, size, end):
-    """The start of a range that must end at or before the end."""
-    if not 0 <= start <= start + size <= end:
-        raise ValueError("a view of an answer lies outside of what it views")
-    return start
+def _viewed_by(piece: _Piece, view: bytes, ends: Sequence[int]) -> bytes:
+    """Return the bytes that a view of more than 12 leads to."""
+    size, _, number, start = (int.from_bytes(view[i : i + 4], "little") for i in (0, 4, 8, 12))
+    _within(number, 1, len(ends), "the buffer of a view")
+    return bytes(piece.view(2 + number, _within(start, size, ends[number], "a view"), size))
 
 
-def _views(pieces):
-    """Views of texts, over buffers that hold the viewed bytes and no others."""
-    views, full, data, filled = bytearray(), [], [], 0
+def _views(pieces: Sequence[_Piece]) -> Parts:
+    """Return views of strings, over buffers with the viewed bytes and no others."""
+    views, viewed = bytearray(), _Viewed()
     for piece in pieces:
-        own, buffers = bytes(piece.view(1, 16 * piece.first, 16 * piece.count)), piece.array.n_buffers - 3
-        ends = numbers_of("q")
-        ends.frombytes(piece.view(2 + buffers, 0, 8 * buffers))
-        for k, is_valid in enumerate(_flags(piece)):
-            view = own[16 * k : 16 * k + 16]
-            size, _, number, start = (int.from_bytes(view[i : i + 4], "little") for i in (0, 4, 8, 12))
-            if not is_valid:
-                view = bytes(16)
-            elif size > 12:
-                _within(number, 1, buffers)
-                if filled + size >= 1 << 31:
-                    full, data, filled = [*full, b"".join(data)], [], 0
-                data.append(bytes(piece.view(2 + number, _within(start, size, ends[number]), size)))
-                view = view[:8] + len(full).to_bytes(4, "little") + filled.to_bytes(4, "little")
-                filled += size
+        own = bytes(piece.view(1, 16 * piece.first, 16 * piece.length))
+        buffers = piece.n_buffers - 3
+        ends = piece.numbers(2 + buffers, "q", 0, buffers)
+        for k, is_valid in enumerate(_are_valid(piece)):
+            view = own[16 * k : 16 * k + 16] if is_valid else bytes(16)
+            if int.from_bytes(view[:4], "little") > 12:
+                view = view[:8] + viewed.add(_viewed_by(piece, view, ends))
             views += view
-    full.append(b"".join(data))
-    return (bytes(views), *full, numbers_of("q", map(len, full)).tobytes()), ()
+    return (bytes(views), *viewed.buffers()), ()
 
 
-def _list_views(form, field, pieces):
-    """Views of lists, over the items that they view, one list behind another."""
-    letter, size = ("q", 8) if form == "+vL" else ("i", 4)
+def _list_views(form: str, field: Field, pieces: Sequence[_Piece]) -> Parts:
+    """Return views of lists, whose items are in the order of the lists."""
+    letter = "q" if form == "+vL" else "i"
     offsets, sizes, below, end = numbers_of(letter), numbers_of(letter), [], 0
     for piece in pieces:
-        starts, lens = numbers_of(letter), numbers_of(letter)
-        starts.frombytes(piece.view(1, size * piece.first, size * piece.count))
-        lens.frombytes(piece.view(2, size * piece.first, size * piece.count))
-        items = piece.array.children[0].contents.length
-        for k, is_valid in enumerate(_flags(piece)):
-            count = lens[k] if is_valid else 0
+        starts, lens = (piece.numbers(k, letter, piece.first, piece.length) for k in (1, 2))
+        for start, size, is_valid in zip(starts, lens, _are_valid(piece)):
+            count = size if is_valid else 0
             offsets.append(end)
             sizes.append(count)
             if count:
-                below.append(piece.child(0, _within(starts[k], count, items), count))
+                below.append(piece.child(0, start, count))
             end += count
     return (offsets.tobytes(), sizes.tobytes()), (_plain(field.children[0], below),)
 
 
-def _union(field, pieces):
-    """A sparse union, which has ids and no validity."""
-    ids = b"".join(piece.view(0, piece.first, piece.count) for piece in pieces)
-    length = sum(piece.count for piece in pieces)
+def _union(field: Field, pieces: Sequence[_Piece]) -> Plain:
+    """Return a sparse union, which has type ids and no validity."""
+    ids = b"".join(piece.view(0, piece.first, piece.length) for piece in pieces)
+    length = sum(piece.length for piece in pieces)
     return Plain(length, 0, (ids,), _below(field, pieces, 1), None)
 
 
-def _fixed(form, pieces):
+def _dense_union(field: Field, pieces: Sequence[_Piece]) -> Plain:
+    """Return a dense union, each child of which has the rows of its type id, in order."""
+    known = ids_of(field.format)
+    ids = b"".join(piece.view(0, piece.first, piece.length) for piece in pieces)
+    below: List[List[_Piece]] = [[] for _ in known]
+    offsets, ends = numbers_of("i"), [0] * len(known)
+    for piece in pieces:
+        own = bytes(piece.view(0, piece.first, piece.length))
+        for type_id, row in zip(own, piece.numbers(1, "i", piece.first, piece.length)):
+            if type_id not in known:
+                raise ValueError(f"type id {type_id} names no child")
+            k = known.index(type_id)
+            below[k].append(piece.child(k, row, 1))
+            offsets.append(ends[k])
+            ends[k] += 1
+    children = tuple(_plain(child, rows) for child, rows in zip(field.children, below))
+    return Plain(len(ids), 0, (ids, offsets.tobytes()), children, None)
+
+
+def _fixed(form: str, pieces: Sequence[_Piece]) -> Parts:
     size = width_of(form)
-    parts = [piece.view(1, size * piece.first, size * piece.count) for piece in pieces]
-    return (b"".join(parts),), ()
+    values = [piece.view(1, size * piece.first, size * piece.length) for piece in pieces]
+    return (b"".join(values),), ()
 
 
-def _below(field, pieces, times):
+def _below(field: Field, pieces: Sequence[_Piece], times: int) -> Tuple[Plain, ...]:
+    """Return the children of which so many rows belong to each row."""
+    spans = [(piece, times * piece.first, times * piece.length) for piece in pieces]
     return tuple(
-        _plain(child, [piece.child(k, times * piece.first, times * piece.count) for piece in pieces])
+        _plain(child, [piece.child(k, first, count) for piece, first, count in spans])
         for k, child in enumerate(field.children)
     )
 
 
-def _one_dictionary(field, pieces):
-    """The dictionary that all pieces have: their codes speak of one and no other."""
-    arrays = [piece.array.dictionary.contents for piece in pieces]
-    schema = schema_of(field.dictionary)
-    try:
-        listed = None
-        for array in arrays[1:]:
-            if _same_memory(arrays[0], array):
-                continue
-            listed = listed or rows(schema, arrays[0], 0, arrays[0].length)
-            if rows(schema, array, 0, array.length) != listed:
-                raise ValueError("answers with different dictionaries can't be put together")
-    finally:
-        arrow.release(schema)
-    if not arrays:
-        return _plain(field.dictionary, [])
-    return _plain(field.dictionary, [_Piece(arrays[0], arrays[0].offset, arrays[0].length)])
+def _one_dictionary(field: Field, pieces: Sequence[_Piece]) -> Plain:
+    """Return the dictionary that all pieces have, since their codes are kept as they are."""
+    if not pieces:
+        return _plain(field, [])
+    first, *others = [piece.dictionary() for piece in pieces]
+    others = [other for other in others if not first.is_same_memory(other)]
+    texts = first.texts() if others else ""
+    if any(other.texts() != texts for other in others):
+        raise ValueError("columns with different dictionaries can't be put together")
+    return _plain(field, [first])
 
 
-def _same_memory(one, other):
-    """Whether two flat arrays are the same rows of the same buffers."""
-    sizes = [(each.length, each.offset, each.n_buffers, each.n_children) for each in (one, other)]
-    if sizes[0] != sizes[1] or one.n_children:
-        return False
-    return all(one.buffers[k] == other.buffers[k] for k in range(one.n_buffers))
+def _parts(field: Field, pieces: Sequence[_Piece]) -> Parts:
+    """Return the buffers behind the validity, and the children."""
+    form = field.format
+    if form == "b":
+        return (_bits(pieces, 1),), ()
+    if form in ("u", "U", "z", "Z"):
+        return _strings(form, pieces)
+    if form in ("vu", "vz"):
+        return _views(pieces)
+    if form in ("+vl", "+vL"):
+        return _list_views(form, field, pieces)
+    if form in ("+l", "+L", "+m"):
+        return _lists(form, field, pieces)
+    if form == "+s":
+        return (), _below(field, pieces, 1)
+    if form[:3] == "+w:":
+        return (), _below(field, pieces, int(form[3:]))
+    return _fixed(form, pieces)
 
 
-def _plain(field, pieces) -> Plain:
-    """The rows of the pieces end to end."""
-    pieces = [piece for piece in pieces if piece.count]
-    form, length = field.format, sum(piece.count for piece in pieces)
+def _plain(field: Field, pieces: Sequence[_Piece]) -> Plain:
+    """Return the rows of pieces end to end."""
+    pieces = [piece for piece in pieces if piece.length]
+    form, length = field.format, sum(piece.length for piece in pieces)
     if form == "n":
         return Plain(length, length, (), (), None)
     if form[:3] == "+us":
         return _union(field, pieces)
-    if form[:3] == "+ud" or form[:2] == "+r":
+    if form[:3] == "+ud":
+        return _dense_union(field, pieces)
+    if form[:2] == "+r":
         raise NotImplementedError(f"columns of format {form!r} can't be put together")
-    valid, inner = _validity(pieces), None
-    if form == "b":
-        more, below = (_bits(pieces, 1),), ()
-    elif form in ("u", "U", "z", "Z"):
-        more, below = _texts(form, pieces)
-    elif form in ("vu", "vz"):
-        more, below = _views(pieces)
-    elif form in ("+vl", "+vL"):
-        more, below = _list_views(form, field, pieces)
-    elif form in ("+l", "+L", "+m"):
-        more, below = _lists(form, field, pieces)
-    elif form == "+s":
-        more, below = (), _below(field, pieces, 1)
-    elif form[:3] == "+w:":
-        more, below = (), _below(field, pieces, int(form[3:]))
-    else:
-        more, below = _fixed(form, pieces)
-    if field.dictionary is not None:
-        inner = _one_dictionary(field, pieces)
+    valid = _validity(pieces)
+    more, below = _parts(field, pieces)
+    inner = None if field.dictionary is None else _one_dictionary(field.dictionary, pieces)
     return Plain(length, 0 if valid is None else -1, (valid, *more), below, inner)
 
 
-def joined(field: Field, arrays) -> Plain:
-    """The rows of arrays of one type end to end, in memory of their own."""
-    return _plain(field, [_Piece(array, array.offset, array.length) for array in arrays])
+def joined(field: Field, arrays: Sequence[Any]) -> Plain:
+    """Return the rows of arrays of one type end to end, in memory of their own.
+
+    Raises:
+        ValueError: The arrays have different dictionaries, or lead outside of their memory.
+        NotImplementedError: The type is encoded by runs.
+        OverflowError: The arrays have more items than their offsets can count.
+    """
+    return _plain(field, [piece_of(array) for array in arrays])

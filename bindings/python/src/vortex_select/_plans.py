@@ -1,26 +1,30 @@
-"""Steps over a column that is cut into parts: what each part is asked, and its answers put together."""
+"""Steps over a column in parts: what each part does, and how the parts' rows are put together."""
 
 from __future__ import annotations
 
-import ctypes
 from array import array as numbers_of
 from typing import Any, Callable, List, Optional, Sequence, Tuple, Union
 
 from . import _cuts as cuts
-from . import _interface as arrow
-from . import _whole_words, positions
-from ._columns import CAUSES, BrokenStep, Column, Filter, Slice, Take, _Borrowed, _images, select
-from ._joining import array_of, field_of, joined, schema_of
-from ._types import spelled
+from . import _native
+from ._buffers import whole_words
+from ._joining import difference, joined
+from ._sources import Source, column_of, source_of
+from ._steps import CAUSES, BrokenStep, Filter, Slice, Take, called, images_of
+from .columns import Column, select
+from .kernels import positions
 
-_BROKEN, _NO_MEMORY = 6, 5
 _RANGE, _MASK = 0, 1
 
 
 class FilterEach:
-    """A filter by masks that the parts hold themselves: `kept` has for each part how many of the rows
-    that the steps before it leave of this part it keeps. `mask` gives the mask where the part is: it is
-    called with the column of these rows, and returns what `Filter` takes.
+    """A filter by masks that the parts hold themselves.
+
+    Args:
+        kept: For each part, how many of its rows the mask keeps. Rows that earlier steps drop
+            don't count.
+        mask: A function that is called where the part is, with a column of the rows that earlier
+            steps leave of it. It returns what `Filter` takes.
     """
 
     def __init__(self, kept: Sequence[int], mask: Callable[[Column], Any]):
@@ -28,41 +32,56 @@ class FilterEach:
 
 
 class HeldFilter:
-    """What a part is asked for a `FilterEach`: a filter by its own mask, which keeps so many rows."""
+    """The step of a part for a `FilterEach`: a filter of so many rows by the part's own mask."""
 
-    def __init__(self, mask: Callable[[Column], Any], kept: int):
-        self.mask, self.kept = mask, kept
+    def __init__(self, mask: Callable[[Column], Any], kept: int, rows: int):
+        self.mask, self.kept, self.rows = mask, kept, rows
 
-    def of(self, column: Column) -> Filter:
-        """The filter of a column by its mask."""
-        return Filter(self.mask(column))
+    def after(self, column: Column) -> Column:
+        """Return the rows that the mask keeps.
+
+        Raises:
+            ValueError: The mask keeps another number of rows than was said.
+        """
+        kept = select(column, [Filter(self.mask(column))])
+        if len(kept) != self.kept:
+            raise ValueError(f"its own mask keeps {len(kept)} rows, expected {self.kept}")
+        return kept
 
 
 Step = Union[Slice, Filter, Take, FilterEach]
+Place = Optional[Tuple[int, int]]
 
 
 class Plan:
-    """What each part is asked, and in which order its answers' rows stand."""
+    """The steps of each part, and the order of the rows that the parts return."""
 
-    def __init__(self, steps, lengths, order=None):
+    def __init__(
+        self, steps: List[List[Any]], lengths: Sequence[int], order: Optional[_Order] = None
+    ):
         self._steps, self._lengths, self._order = steps, lengths, order
 
     def __len__(self) -> int:
-        """How many parts there are."""
+        """Return the number of parts."""
         return len(self._lengths)
 
     def steps_of(self, k: int) -> List[Any]:
-        """The steps of part `k`, for `select`: slices, filters, and where rows are picked one take."""
+        """Return the steps of part `k`, for `select`: slices, filters, and at most one take."""
         return list(self._steps[k])
 
     def len_of(self, k: int) -> int:
-        """How many rows part `k` answers."""
+        """Return how many rows part `k` returns."""
         return self._lengths[k]
 
+    def is_verified_by(self, k: int) -> bool:
+        """Return whether part `k` has a mask of its own, whose count it alone can verify."""
+        return any(isinstance(step, HeldFilter) and step.rows for step in self._steps[k])
+
     @property
-    def order(self) -> Optional[List[Optional[Tuple[int, int]]]]:
-        """For each row of the answer its part and its row among what this part answers, or `None` for
-        a null; none at all where the answers stand one behind another.
+    def order(self) -> Optional[List[Place]]:
+        """The part and the part's row of each row of the result, or `None` for a null.
+
+        It is `None` if the parts' rows stand in the order of the parts.
         """
         if self._order is None:
             return None
@@ -71,13 +90,15 @@ class Plan:
 
 
 class _Order:
-    """Where the rows of an answer stand: parts and rows, and the bits that are clear at nulls."""
+    """The part and the row of each row of a result, and bits that are clear at nulls."""
 
-    def __init__(self, parts, rows, ends, valid):
+    def __init__(
+        self, parts: Sequence[int], rows: Sequence[int], ends: Sequence[int], valid: bytes
+    ):
         self.parts, self.rows, self.ends, self.valid = parts, rows, ends, valid
 
-    def take(self):
-        """The step that puts the rows of answers that stand end to end in order."""
+    def take(self) -> Take:
+        """Return the step that orders the rows of the parts, which are end to end."""
         first = numbers_of("Q", [0])
         first.extend(self.ends)
         if self.valid:
@@ -90,35 +111,41 @@ class _Order:
         return step
 
 
-def _broken(step, cause):
+def _broken(step: int, cause: int) -> BrokenStep:
     return BrokenStep(step, CAUSES[cause])
 
 
-def _mask_of(step):
-    """The words of a filter's mask, and the bit at which it begins there."""
+Lengths = numbers_of
+
+
+def _mask_of(step: Filter) -> Tuple[Any, int]:
+    """Return the words of a filter's mask, and the bit at which it begins there."""
     values, valid, length, _, at = step._window(0, len(step))
     if valid:
         both = int.from_bytes(values, "little") & int.from_bytes(valid, "little")
         values = both.to_bytes(len(values), "little")
-    return _whole_words(values), at
+    return whole_words(values), at
 
 
-def _remade_filter(step, start, length):
+def _remade_filter(step: Filter, start: int, length: int) -> Filter:
+    """Return a filter by a part of a mask."""
     part = Filter.__new__(Filter)
     part._fill(*step._window(start, length))
     return part
 
 
-def _cut_slice(number, step, lengths):
-    image = step._image()
-    cut = cuts.slice_cut(lengths, image.start, image.end)
+def _cut_slice(number: int, step: Slice, lengths: Lengths) -> Tuple[List[Any], Lengths]:
+    """Return each part's own slice, and how many rows each keeps."""
+    _, start, end, *_ = step._image()
+    cut = cuts.slice_cut(lengths, start, end)
     if cut is None:
         raise _broken(number, _RANGE)
     starts, ends, left = cut
     return [Slice(*rows) for rows in zip(starts, ends)], left
 
 
-def _cut_filter(number, step, lengths):
+def _cut_filter(number: int, step: Filter, lengths: Lengths) -> Tuple[List[Any], Lengths]:
+    """Return each part's own filter, and how many rows each keeps."""
     if len(step) != sum(lengths):
         raise _broken(number, _MASK)
     words, at = _mask_of(step)
@@ -127,45 +154,38 @@ def _cut_filter(number, step, lengths):
     return own, cuts.mask_cut(words, at, lengths)
 
 
-def _cut_each(number, step, lengths):
+def _cut_each(number: int, step: FilterEach, lengths: Lengths) -> Tuple[List[Any], Lengths]:
+    """Return the filter of each part by its own mask, and how many rows each keeps."""
     kept = numbers_of("Q", step.kept)
     if len(kept) != len(lengths) or any(count > rows for count, rows in zip(kept, lengths)):
         raise _broken(number, _MASK)
-    return [HeldFilter(step.mask, count) for count in kept], kept
+    return [HeldFilter(step.mask, *pair) for pair in zip(kept, lengths)], kept
 
 
-_CUTS = {Slice: _cut_slice, Filter: _cut_filter, FilterEach: _cut_each}
+_CUTS: Any = {Slice: _cut_slice, Filter: _cut_filter, FilterEach: _cut_each}
 
 
-def _composed(number, rows, steps):
-    """The places that steps leave of so many rows, and bits that are clear at nulls where a take may
-    leave some. The first of the steps has this number.
+def _composed(number: int, rows: int, steps: Sequence[Any]) -> Tuple[numbers_of, bytes]:
+    """Return the rows that steps select, and bits that are clear at nulls.
+
+    The bits are empty if no take may leave a null.
+
+    Args:
+        number: The number of the first of the steps.
+        rows: How many rows there are.
+        steps: The steps, of which the first is a take.
     """
-    need, images = (ctypes.c_uint64 * 2)(), _images(steps)
-    given = rows, ctypes.addressof(images), len(steps)
-    _picked(number, arrow.calls().vortex_arrow_count(*given, ctypes.addressof(need)))
-    places = cuts.zeros(need[0])
-    valid = bytearray(need[1])
-    lists = [_address(places), len(places), _address(valid), len(valid)]
-    _picked(number, arrow.calls().vortex_arrow_compose(*given, *lists))
-    return places, bytes(valid)
+    try:
+        data, valid = called(_native.compose, rows, images_of(steps))
+    except BrokenStep as why:
+        raise BrokenStep(number + why.step, why.cause) from None
+    places = numbers_of("Q")
+    places.frombytes(data)
+    return places, valid
 
 
-def _address(data):
-    return ctypes.addressof((ctypes.c_char * 1).from_buffer(data)) if len(data) else 0
-
-
-def _picked(number, answer):
-    if answer.status == _BROKEN:
-        raise _broken(number + answer.step, answer.what)
-    if answer.status == _NO_MEMORY:
-        raise MemoryError("the picks of the steps")
-    if answer.status:
-        raise ValueError(f"step {number + answer.step} has no meaning")
-
-
-def _mark_nulls(places, valid):
-    """Writes all ones where a bit is clear."""
+def _mark_nulls(places: numbers_of, valid: bytes) -> None:
+    """Write `NULL` where a bit is clear."""
     if not valid:
         return
     rows = len(places)
@@ -174,8 +194,15 @@ def _mark_nulls(places, valid):
         places[row] = cuts.NULL
 
 
-def _picks(each, left, number, steps):
-    """The plan where steps from this number on pick rows, of which parts have so many left."""
+def _picks(each: List[List[Any]], left: Lengths, number: int, steps: Sequence[Any]) -> Plan:
+    """Return the plan whose steps from a take on are composed to one take of each part.
+
+    Args:
+        each: The steps of each part before it.
+        left: How many rows these leave of each part.
+        number: The number of the take.
+        steps: The take, and the steps after it.
+    """
     places, valid = _composed(number, sum(left), steps)
     _mark_nulls(places, valid)
     own, ends, parts, rows = cuts.picks_cut(places, cuts.bounds_of(left))
@@ -188,9 +215,19 @@ def _picks(each, left, number, steps):
 
 
 def plan(lengths: Sequence[int], steps: Sequence[Step] = ()) -> Plan:
-    """What each of the parts of a column is asked, and how the answers are put together, so that they
-    are what `select` answers of the whole to the steps. The parts have these lengths, and no row is
-    read. A step that breaks a rule is a `BrokenStep`, by its number among these steps.
+    """Return what each part of a column does, so that the parts' rows make the rows of `select`.
+
+    No row is read. A part whose `Plan.len_of` is 0 needn't be asked, unless its own masks are to be
+    verified (`Plan.is_verified_by`).
+
+    Args:
+        lengths: The number of rows of each part. The numbers are believed.
+        steps: The steps over the whole column.
+
+    Raises:
+        BrokenStep: A step is invalid. The exception has its number among the steps.
+        ValueError: A `FilterEach` follows a take.
+        OverflowError: The parts have more rows than 64 bits count, or a length is negative.
 
     >>> asked = plan([3, 0, 2], [Slice(1, 5), Take([3, None, 0])])
     >>> asked.order
@@ -206,7 +243,7 @@ def plan(lengths: Sequence[int], steps: Sequence[Step] = ()) -> Plan:
     for number, step in enumerate(steps):
         if isinstance(step, Take):
             if any(isinstance(late, FilterEach) for late in steps[number:]):
-                raise ValueError("behind a take a filter is by one mask, and not by the parts' own")
+                raise ValueError("after a take, a filter must be by one mask, found a FilterEach")
             return _picks(each, left, number, steps[number:])
         own, left = _CUTS[type(step)](number, step, left)
         for asked, one in zip(each, own):
@@ -214,73 +251,53 @@ def plan(lengths: Sequence[int], steps: Sequence[Step] = ()) -> Plan:
     return Plan(each, left)
 
 
-class _Answers:
-    """The answers of parts, each a field and its arrays, which are held."""
-
-    def __init__(self, plan, answers):
-        if len(answers) != len(plan):
-            raise ValueError(f"there are {len(answers)} answers of {len(plan)} parts")
-        self.field, self.arrays, self._held = None, [], []
-        for k, answer in enumerate(answers):
-            if answer is None and not plan.len_of(k):
-                continue
-            field, arrays = self.read(answer, k)
-            rows = sum(array.length for array in arrays)
-            if rows != plan.len_of(k):
-                raise ValueError(f"part {k} answers {rows} rows, and is asked for {plan.len_of(k)}")
-            if self.field is None:
-                self.field, self.first = field, k
-            self.need_alike(field, k)
-            self.arrays += arrays
-        if self.field is None:
-            raise ValueError("no part answers")
-
-    def read(self, answer, k):
-        if isinstance(answer, Column):
-            self._held.append(answer)
-            return field_of(answer._schema), answer._chunks
-        if not hasattr(answer, "__arrow_c_array__"):
-            raise TypeError(f"part {k} answers a {type(answer).__name__}, and no column of Arrow's")
-        self._held.append(_Borrowed(answer))
-        return field_of(self._held[-1].schema), [self._held[-1].array]
-
-    def need_alike(self, field, k):
-        if _type(field) != _type(self.field):
-            types = [_spelled(one) for one in (field, self.field)]
-            raise ValueError(
-                f"part {k} answers a column of type {types[0]}, and part {self.first} one of {types[1]}"
-            )
-
-
-def _type(field):
-    """A type, and what in it is nullable."""
-    inner = field.dictionary and _type(field.dictionary)
-    below = tuple((child.name, _type(child)) for child in field.children)
-    return field.format, field.flags & arrow.NULLABLE, below, inner
-
-
-def _spelled(field):
-    schema = schema_of(field)
-    try:
-        return spelled(arrow.type_in(schema)) + ("" if field.flags & arrow.NULLABLE else " not null")
-    finally:
-        arrow.release(schema)
+def _answered(asked: Plan, answers: Sequence[Any]) -> List[Tuple[int, Source]]:
+    """Return the rows of the parts that returned some, each with the part's number."""
+    if len(answers) != len(asked):
+        raise ValueError(f"expected an answer of each of {len(asked)} parts, found {len(answers)}")
+    found = []
+    for k, answer in enumerate(answers):
+        if answer is None and not asked.len_of(k):
+            continue
+        try:
+            source = source_of(answer)
+        except TypeError as why:
+            raise TypeError(f"part {k}: {why}") from None
+        if len(source) != asked.len_of(k):
+            raise ValueError(f"part {k} returned {len(source)} rows, expected {asked.len_of(k)}")
+        found.append((k, source))
+    if not found:
+        raise ValueError("no part returned rows, so the result has no type")
+    return found
 
 
 def put_together(plan: Plan, answers: Sequence[Any]) -> Column:
-    """The answers of all parts, in the order of the parts, as the answer of the whole. Each is a column
-    or any object with `__arrow_c_array__`, or `None` where the part is asked for no row.
+    """Return the result of the steps, of what the parts returned.
 
-    An answer of another type, or of more or fewer rows than are asked for, is a `ValueError` that names
-    the part; so are answers whose dictionaries differ.
+    Args:
+        plan: The plan of the steps.
+        answers: For each part a column, or any object with `__arrow_c_array__`. It may be `None`
+            if the part returns no row.
 
-    >>> from ._columns import column
+    Raises:
+        ValueError: A part returned other than the planned number of rows, or another type than the
+            first part, or another dictionary. The message has the part's number.
+        TypeError: An answer is not a column.
+        NotImplementedError: The column has a dense union or is encoded by runs.
+
+    >>> from vortex_select import column
     >>> asked = plan([2, 1], [Take([2, 0])])
-    >>> answers = [select(part, asked.steps_of(k)) for k, part in enumerate([column([5, 6]), column([7])])]
+    >>> parts = [column([5, 6]), column([7])]
+    >>> answers = [select(part, asked.steps_of(k)) for k, part in enumerate(parts)]
     >>> put_together(asked, answers).to_pylist()
     [7, 5]
     """
-    found = _Answers(plan, list(answers))
-    plain = joined(found.field, found.arrays)
-    whole = Column(schema_of(found.field), [array_of(plain)])
+    found = _answered(plan, list(answers))
+    first, source = found[0]
+    for k, other in found[1:]:
+        said = difference(other.field, source.field)
+        if said:
+            raise ValueError(f"part {k} returned {said[0]}, and part {first} {said[1]}")
+    plain = joined(source.field, [array for _, other in found for array in other.arrays])
+    whole = column_of(source.field, plain)
     return whole if plan._order is None else select(whole, [plan._order.take()])

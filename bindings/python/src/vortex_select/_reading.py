@@ -2,7 +2,6 @@
 
 from __future__ import annotations
 
-import ctypes
 import decimal
 import struct
 
@@ -13,22 +12,25 @@ _NUMBERS = {"c": "b", "C": "B", "s": "h", "S": "H", "i": "i", "I": "I", "l": "q"
 _NUMBERS.update({"e": "e", "f": "f", "g": "d", "tiM": "i", "tiD": "ii", "tin": "iiq"})
 
 
-def _buffer(array, k):
-    return array.buffers[k] or 0
+def _cut(data, start, size):
+    """Return bytes of a buffer; a `ValueError` where they lead outside of it."""
+    if not size:
+        return b""
+    found = 0 if data is None else data.nbytes
+    if not 0 <= start <= start + size <= found:
+        raise ValueError(f"a row leads outside of its buffer: {size} bytes at {start} of {found}")
+    return bytes(data[start : start + size])
 
 
-def _numbers(place, letters, first, count):
-    """Values from number `first` on; those of several letters as tuples."""
+def _numbers(data, letters, first, count):
+    """Return values from number `first` on; those of several letters as tuples."""
     size = struct.calcsize("<" + letters)
-    data = ctypes.string_at(place + first * size, count * size) if count else b""
-    found = list(struct.iter_unpack("<" + letters, data))
+    found = list(struct.iter_unpack("<" + letters, _cut(data, first * size, count * size)))
     return found if len(letters) > 1 else [value for value, in found]
 
 
-def _bits(place, first, count):
-    if not count:
-        return []
-    data = ctypes.string_at(place + first // 8, (first % 8 + count + 7) // 8)
+def _bits(data, first, count):
+    data = _cut(data, first // 8, (first % 8 + count + 7) // 8 if count else 0)
     return [data[k // 8] >> k % 8 & 1 == 1 for k in range(first % 8, first % 8 + count)]
 
 
@@ -51,113 +53,142 @@ def width_of(form):
     raise ValueError(f"values of format {form!r} have no fixed width here")
 
 
-def _decimals(form, place, first, count):
+def _decimals(form, data, first, count):
     _, scale, bits = decimal_of(form)
     size = bits // 8
-    data = ctypes.string_at(place + first * size, count * size) if count else b""
+    data = _cut(data, first * size, count * size)
     for k in range(count):
         number = int.from_bytes(data[k * size : k * size + size], "little", signed=True)
         digits = tuple(map(int, str(abs(number))))
         yield decimal.Decimal((int(number < 0), digits, -scale))
 
 
-def _flat(form, array, first, count):
-    place = _buffer(array, 1) if array.n_buffers > 1 else 0
+def _flat(tree, first, count):
+    form, data = tree.format, tree.buffers[1] if len(tree.buffers) > 1 else None
     letters = letters_of(form)
     if form == "n":
         return [None] * count
     if form == "b":
-        return _bits(place, first, count)
+        return _bits(data, first, count)
     if letters:
-        return _numbers(place, letters, first, count)
+        return _numbers(data, letters, first, count)
     if form[:2] == "d:":
-        return list(_decimals(form, place, first, count))
+        return list(_decimals(form, data, first, count))
     if form[:2] == "w:":
         size = int(form[2:])
-        data = ctypes.string_at(place + first * size, count * size) if count * size else b""
+        data = _cut(data, first * size, count * size)
         return [data[k * size : k * size + size] for k in range(count)]
     raise NotImplementedError(f"rows of format {form!r} can't be read")
 
 
-def _texts(form, array, first, count, there):
-    offsets = _numbers(_buffer(array, 1), "i" if form in "uz" else "q", first, count + (count > 0))
+def _texts(tree, first, count, there):
+    letter = "i" if tree.format in "uz" else "q"
+    offsets = _numbers(tree.buffers[1], letter, first, count + (count > 0))
     for k in range(count):
-        data = b""
-        if there[k] and offsets[k] < offsets[k + 1]:
-            data = ctypes.string_at(_buffer(array, 2) + offsets[k], offsets[k + 1] - offsets[k])
-        yield data
+        is_empty = not there[k] or offsets[k] == offsets[k + 1]
+        yield b"" if is_empty else _cut(tree.buffers[2], offsets[k], offsets[k + 1] - offsets[k])
 
 
-def _views(array, first, count, there):
+def _views(tree, first, count, there):
+    views, blocks = _cut(tree.buffers[1], 16 * first, 16 * count), tree.buffers[2:-1]
     for k in range(count):
-        place = _buffer(array, 1) + 16 * (first + k)
-        size, _, which, offset = struct.unpack("<iiii", ctypes.string_at(place, 16))
+        view = views[16 * k : 16 * k + 16]
+        size, _, which, offset = struct.unpack("<iiii", view)
         if not there[k]:
             yield b""
-        elif size <= 12:
-            yield ctypes.string_at(place + 4, size)
+        elif 0 <= size <= 12:
+            yield view[4 : 4 + size]
+        elif 0 <= which < len(blocks):
+            yield _cut(blocks[which], offset, size)
         else:
-            yield ctypes.string_at(_buffer(array, 2 + which) + offset, size)
+            raise ValueError(f"a view leads to buffer {which} of {len(blocks)}")
 
 
-def _spans(form, array, first, count):
-    """Where the items of each row begin and end."""
+def _spans(tree, first, count):
+    """Return where the items of each row begin and end."""
+    form = tree.format
     if form[:3] == "+w:":
         size = int(form[3:])
         return [((first + k) * size, (first + k + 1) * size) for k in range(count)]
     letter = "q" if form in ("+L", "+vL") else "i"
     if form[:2] == "+v":
-        starts = _numbers(_buffer(array, 1), letter, first, count)
-        sizes = _numbers(_buffer(array, 2), letter, first, count)
+        starts = _numbers(tree.buffers[1], letter, first, count)
+        sizes = _numbers(tree.buffers[2], letter, first, count)
         return [(start, start + size) for start, size in zip(starts, sizes)]
-    offsets = _numbers(_buffer(array, 1), letter, first, count + (count > 0))
+    offsets = _numbers(tree.buffers[1], letter, first, count + (count > 0))
     return list(zip(offsets, offsets[1:]))
 
 
-def _lists(form, schema, array, first, count, there):
-    child = schema.children[0].contents, array.children[0].contents
-    for (start, end), is_there in zip(_spans(form, array, first, count), there):
-        items = rows(*child, start, end - start) if is_there else []
-        yield [tuple(item.values()) for item in items] if form == "+m" else items
+def _lists(tree, first, count, there):
+    is_map = tree.format == "+m"
+    for (start, end), is_there in zip(_spans(tree, first, count), there):
+        items = rows(tree.children[0], start, end - start) if is_there else []
+        yield [tuple(item.values()) for item in items] if is_map else items
 
 
-def _structs(schema, array, first, count):
-    parts = range(schema.n_children)
-    names = [(schema.children[k].contents.name or b"").decode() for k in parts]
-    each = [rows(schema.children[k].contents, array.children[k].contents, first, count) for k in parts]
-    return [dict(zip(names, values)) for values in zip(*each)] if each else [{} for _ in range(count)]
+def _runs(there):
+    """Return the runs of rows that are valid, each a start and an end."""
+    runs, start = [], None
+    for k, is_there in enumerate([*there, False]):
+        if is_there and start is None:
+            start = k
+        elif not is_there and start is not None:
+            runs.append((start, k))
+            start = None
+    return runs
 
 
-def _unions(form, schema, array, first, count):
-    ids = ids_of(form)
+def _structs(tree, first, count, there):
+    """Read the children where the struct is valid: what is under a null may be anything."""
+    names, found = [child.name for child in tree.children], [None] * count
+    for start, end in _runs(there):
+        each = [rows(child, first + start, end - start) for child in tree.children]
+        made = [dict(zip(names, values)) for values in zip(*each)]
+        found[start:end] = made if each else [{} for _ in range(end - start)]
+    return found
+
+
+def _unions(tree, first, count):
+    ids = ids_of(tree.format)
     offsets = range(first, first + count)
-    if form[2] == "d":
-        offsets = _numbers(_buffer(array, 1), "i", first, count)
-    for which, offset in zip(_numbers(_buffer(array, 0), "b", first, count), offsets):
-        k = ids.index(which)
-        yield rows(schema.children[k].contents, array.children[k].contents, offset, 1)[0]
+    if tree.format[2] == "d":
+        offsets = _numbers(tree.buffers[1], "i", first, count)
+    for which, offset in zip(_numbers(tree.buffers[0], "B", first, count), offsets):
+        if which not in ids:
+            raise ValueError(f"type id {which} names no child")
+        yield rows(tree.children[ids.index(which)], offset, 1)[0]
 
 
-def rows(schema, array, at, count):
-    """So many rows of an array from row `at` on."""
-    form, first = schema.format.decode(), array.offset + at
+def _coded(tree, first, count, there):
+    """Return the values of a dictionary at its codes."""
+    codes = _flat(tree, first, count)
+    return [rows(tree.dictionary, code, 1)[0] if ok else None for code, ok in zip(codes, there)]
+
+
+def rows(tree, at, count):
+    """Return `count` rows of a tree from row `at` on.
+
+    Raises:
+        ValueError: a row leads outside of a buffer or a child.
+    """
+    form, first = tree.format, tree.offset + at
+    if not 0 <= at <= at + count <= tree.length:
+        raise ValueError(f"rows {at} to {at + count} lead outside of {tree.length} rows")
     if form[:2] == "+u":
-        return list(_unions(form, schema, array, first, count))
+        return list(_unions(tree, first, count))
     there = [True] * count
-    if array.n_buffers and _buffer(array, 0):
-        there = _bits(_buffer(array, 0), first, count)
-    if schema.dictionary:
-        values = schema.dictionary.contents, array.dictionary.contents
-        codes = _flat(form, array, first, count)
-        found = [rows(*values, code, 1)[0] if ok else None for code, ok in zip(codes, there)]
+    if tree.buffers and tree.buffers[0] is not None:
+        there = _bits(tree.buffers[0], first, count)
+    if tree.dictionary is not None:
+        found = _coded(tree, first, count, there)
     elif form in ("u", "U", "z", "Z", "vu", "vz"):
-        views = _views(array, first, count, there)
-        found = views if form[0] == "v" else _texts(form, array, first, count, there)
+        read = _views if form[0] == "v" else _texts
+        found = read(tree, first, count, there)
         found = [data if form[-1] in "zZ" else data.decode() for data in found]
     elif form == "+s":
-        found = _structs(schema, array, first, count)
+        found = _structs(tree, first, count, there)
     elif form[:1] == "+":
-        found = _lists(form, schema, array, first, count, there)
+        found = _lists(tree, first, count, there)
     else:
-        found = _flat(form, array, first, count)
+        found = _flat(tree, first, count)
     return [row if ok else None for row, ok in zip(found, there)]

@@ -43,6 +43,8 @@ _NAMES = {form: name for name, form in _FLAT.items()}
 _UNITS = {"s": "s", "ms": "m", "us": "u", "ns": "n"}
 _LISTS = {"list": "+l", "large_list": "+L", "list_view": "+vl", "large_list_view": "+vL"}
 _INDICES = "cCsSiIlL"
+# How deep types may be nested, dictionaries counted, as in the C library.
+LEVELS = 64
 
 
 class Type(NamedTuple):
@@ -121,10 +123,10 @@ class _Parser:
     """Reads a type from a text, from the left."""
 
     def __init__(self, text):
-        self.text, self.at = text, 0
+        self.text, self.at, self.level = text, 0, 0
 
     def fault(self):
-        return ValueError(f"{self.text!r} is no type: see its character {self.at}")
+        return ValueError(f"unknown type {self.text!r} (position {self.at})")
 
     def is_next(self, mark):
         while self.text[self.at : self.at + 1].isspace():
@@ -145,6 +147,14 @@ class _Parser:
         return int(found.group(1))
 
     def type(self):
+        self.level += 1
+        if self.level > LEVELS:
+            raise ValueError(f"a type of more than {LEVELS} levels")
+        found = self.type_here()
+        self.level -= 1
+        return found
+
+    def type_here(self):
         found = _WORD.match(self.text, self.at)
         if not found:
             raise self.fault()

@@ -1,0 +1,382 @@
+//! Arrays: columns in Arrow's memory that objects of Python own.
+use crate::capsules::{capsule, held_in};
+use crate::gil;
+use crate::memory::Held;
+use crate::steps::{raised, Steps, Written};
+use pyo3::exceptions::PyValueError;
+use pyo3::ffi;
+use pyo3::prelude::*;
+use pyo3::types::{PyBytes, PyString, PyTuple};
+use pyo3::AsPyPointer;
+use std::mem::ManuallyDrop;
+use std::os::raw::{c_int, c_void};
+use std::sync::atomic::{AtomicUsize, Ordering};
+use std::sync::{Arc, Mutex, MutexGuard, PoisonError};
+use vortex_select::arrow::{self, ArrowArray, ArrowArrayStream, ArrowSchema, Column, Field, Stream};
+
+/// A column, released when the last object that leads to it goes away.
+///
+/// It is counted from the start: the first share of an array replaces it by one that is, and no
+/// later share changes anything of it. So what a `Node` leads to stays at its place.
+struct Owned(ManuallyDrop<Mutex<Column>>);
+
+/// How many columns are owned, for tests of leaks.
+static ALIVE: AtomicUsize = AtomicUsize::new(0);
+
+/// How many arrays aren't released yet.
+#[pyfunction]
+pub fn alive() -> usize {
+    ALIVE.load(Ordering::Relaxed)
+}
+
+impl Owned {
+    fn of(mut column: Column) -> PyResult<Arc<Self>> {
+        drop(column.share().map_err(raised)?);
+        ALIVE.fetch_add(1, Ordering::Relaxed);
+        Ok(Arc::new(Owned(ManuallyDrop::new(Mutex::new(column)))))
+    }
+
+    fn lock(&self) -> MutexGuard<'_, Column> {
+        self.0.lock().unwrap_or_else(PoisonError::into_inner)
+    }
+}
+
+impl Drop for Owned {
+    fn drop(&mut self) {
+        ALIVE.fetch_sub(1, Ordering::Relaxed);
+        // SAFETY: this is the only place that takes the column out.
+        let column = unsafe { ManuallyDrop::take(&mut self.0) };
+        if gil::is_held() {
+            // SAFETY: the GIL is held. Releasing an array of somebody else's may run any code.
+            unsafe { gil::keeping_exception(|| drop(column)) }
+        } else {
+            drop(column);
+        }
+    }
+}
+
+/// A column of one array: a schema, an array, and who owns them.
+#[pyclass(frozen, module = "vortex_select._native")]
+pub struct Array {
+    of: Arc<Owned>,
+    length: usize,
+}
+
+impl Array {
+    pub fn new(column: Column) -> PyResult<Self> {
+        let length = column.len();
+        Ok(Array { of: Owned::of(column)?, length })
+    }
+
+    /// A column of the same rows in the same memory.
+    fn shared(&self) -> PyResult<Column> {
+        self.of.lock().share().map_err(raised)
+    }
+}
+
+#[pymethods]
+impl Array {
+    fn __len__(&self) -> usize {
+        self.length
+    }
+
+    /// The schema and the array, to be read.
+    #[getter]
+    fn node(&self) -> Node {
+        let column = self.of.lock();
+        // SAFETY: the structs stay at their places for as long as `of` is there, which the node
+        // has, and nothing changes them.
+        let node = unsafe { std::mem::transmute::<arrow::Node<'_>, arrow::Node<'static>>(column.node()) };
+        Node { node, of: self.of.clone() }
+    }
+
+    /// Test the whole column.
+    fn check(&self, py: Python<'_>) -> PyResult<()> {
+        let mut column = self.shared()?;
+        gil::without(py, || column.check()).map_err(raised)
+    }
+
+    /// The children, each with the rows of this column: fields of a struct, items of lists.
+    fn split(&self) -> PyResult<Vec<Array>> {
+        let children = self.shared()?.into_children();
+        children.into_iter().map(Array::new).collect()
+    }
+
+    /// The same column under another name and with other flags.
+    fn described(&self, name: &str, flags: i64) -> PyResult<Array> {
+        Array::new(self.shared()?.described(name, flags).map_err(raised)?)
+    }
+
+    /// Capsules with a schema and an array of the same rows in the same memory.
+    fn capsules(&self, py: Python<'_>) -> PyResult<(PyObject, PyObject)> {
+        let (schema, array) = self.shared()?.into_raw();
+        Ok((capsule(py, schema)?, capsule(py, array)?))
+    }
+
+    /// A capsule with a copy of the schema.
+    fn schema_capsule(&self, py: Python<'_>) -> PyResult<PyObject> {
+        let schema = self.of.lock().copy_schema().map_err(raised)?;
+        capsule(py, schema)
+    }
+}
+
+/// A schema and an array, or a child or the dictionary of such, to be read.
+#[pyclass(frozen, module = "vortex_select._native")]
+pub struct Node {
+    node: arrow::Node<'static>,
+    of: Arc<Owned>,
+}
+
+impl Node {
+    fn below(&self, node: arrow::Node<'static>) -> Node {
+        Node { node, of: self.of.clone() }
+    }
+}
+
+#[pymethods]
+impl Node {
+    #[getter]
+    fn format(&self) -> &str {
+        self.node.format()
+    }
+
+    #[getter]
+    fn name<'p>(&self, py: Python<'p>) -> &'p PyString {
+        PyString::new(py, &self.node.name())
+    }
+
+    #[getter]
+    fn flags(&self) -> i64 {
+        self.node.flags()
+    }
+
+    #[getter]
+    fn metadata<'p>(&self, py: Python<'p>) -> Option<&'p PyBytes> {
+        self.node.metadata().map(|bytes| PyBytes::new(py, bytes))
+    }
+
+    #[getter]
+    fn length(&self) -> usize {
+        self.node.len()
+    }
+
+    #[getter]
+    fn offset(&self) -> usize {
+        self.node.offset()
+    }
+
+    #[getter]
+    fn null_count(&self) -> i64 {
+        self.node.null_count()
+    }
+
+    /// The buffers as memoryviews, each as long as the format and the rows ask for.
+    #[getter]
+    fn buffers<'p>(&self, py: Python<'p>) -> PyResult<&'p PyTuple> {
+        let buffers = self.node.buffers().map_err(raised)?;
+        let mut views = Vec::with_capacity(buffers.len());
+        for bytes in buffers {
+            views.push(bytes.map(|bytes| self.view(py, bytes)).transpose()?);
+        }
+        Ok(PyTuple::new(py, views))
+    }
+
+    /// Where the buffers are, to tell whether two nodes have the same ones.
+    #[getter]
+    fn places<'p>(&self, py: Python<'p>) -> PyResult<&'p PyTuple> {
+        let buffers = self.node.buffers().map_err(raised)?;
+        let place = |bytes: Option<&[u8]>| bytes.map_or(0, |bytes| bytes.as_ptr() as usize);
+        Ok(PyTuple::new(py, buffers.into_iter().map(place)))
+    }
+
+    #[getter]
+    fn children(&self) -> Vec<Node> {
+        self.node.children().into_iter().map(|node| self.below(node)).collect()
+    }
+
+    #[getter]
+    fn dictionary(&self) -> Option<Node> {
+        self.node.dictionary().map(|node| self.below(node))
+    }
+}
+
+impl Node {
+    fn view(&self, py: Python<'_>, bytes: &'static [u8]) -> PyResult<PyObject> {
+        let buffer = Py::new(py, Buffer { bytes, _of: self.of.clone() })?;
+        // SAFETY: the buffer is an object of Python, and the result a new reference or null.
+        unsafe { PyObject::from_owned_ptr_or_err(py, ffi::PyMemoryView_FromObject(buffer.as_ptr())) }
+    }
+}
+
+/// A buffer of an array, which whoever reads it keeps.
+#[pyclass(frozen, module = "vortex_select._native")]
+pub struct Buffer {
+    bytes: &'static [u8], // for as long as `_of` is there
+    _of: Arc<Owned>,
+}
+
+#[pymethods]
+impl Buffer {
+    unsafe fn __getbuffer__(
+        slf: &PyCell<Self>,
+        view: *mut ffi::Py_buffer,
+        flags: c_int,
+    ) -> PyResult<()> {
+        let bytes = slf.borrow().bytes;
+        let place = bytes.as_ptr() as *mut c_void;
+        let (size, read_only) = (bytes.len() as ffi::Py_ssize_t, 1);
+        // SAFETY: the view keeps the object, which keeps the memory; nobody may write to it.
+        let status = unsafe {
+            ffi::PyBuffer_FillInfo(view, slf.as_ptr(), place, size, read_only, flags)
+        };
+        if status != 0 {
+            return Err(PyErr::fetch(slf.py()));
+        }
+        Ok(())
+    }
+}
+
+/// Format, name, flags and metadata.
+type Written4 = (String, String, i64, Option<Vec<u8>>);
+
+fn field_of(written: Written4) -> Field {
+    let (format, name, flags, metadata) = written;
+    Field { format, name, flags, metadata }
+}
+
+/// An array over buffers of Python's objects, each of which is acquired once and held.
+#[pyfunction]
+pub fn build(
+    field: Written4,
+    rows: (usize, i64, usize),
+    buffers: Vec<Option<&PyAny>>,
+    children: Vec<PyRef<'_, Array>>,
+    dictionary: Option<PyRef<'_, Array>>,
+) -> PyResult<Array> {
+    let mut held: Vec<Option<Box<dyn arrow::Buffer>>> = Vec::with_capacity(buffers.len());
+    for buffer in buffers {
+        let buffer = buffer.map(Held::read).transpose()?;
+        held.push(buffer.map(|buffer| Box::new(buffer) as Box<dyn arrow::Buffer>));
+    }
+    let (length, null_count, offset) = rows;
+    let children = children.iter().map(|child| child.shared()).collect::<PyResult<_>>()?;
+    let inner = dictionary.map(|inner| inner.shared()).transpose()?;
+    let field = field_of(field);
+    let made = Column::from_parts(field, length, null_count, offset, held, children, inner);
+    Array::new(made.map_err(raised)?)
+}
+
+/// An array out of two capsules that somebody made, which are consumed.
+#[pyfunction]
+pub fn array_from_capsules(schema: &PyAny, array: &PyAny) -> PyResult<Array> {
+    let (schema, array) = (held_in::<ArrowSchema>(schema)?, held_in::<ArrowArray>(array)?);
+    // SAFETY: whoever hands over capsules vouches for what Arrow's interface asks of the structs.
+    Array::new(unsafe { Column::from_raw(schema, array) })
+}
+
+/// The rows that the steps leave of an array.
+#[pyfunction]
+pub fn select(py: Python<'_>, array: &Array, steps: Vec<Written<'_>>) -> PyResult<Array> {
+    let (mut source, steps) = (array.shared()?, Steps::of(&steps)?);
+    let list = steps.list();
+    let answer = gil::without(py, || arrow::select(&mut source, &list));
+    Array::new(answer.map_err(raised)?)
+}
+
+/// The places that the steps leave of so many rows, as numbers of 64 bits, and the bits that are
+/// clear at nulls, or none where no take has a validity.
+#[pyfunction]
+pub fn compose<'p>(
+    py: Python<'p>,
+    rows: u64,
+    steps: Vec<Written<'_>>,
+) -> PyResult<(&'p PyBytes, &'p PyBytes)> {
+    let steps = Steps::of(&steps)?;
+    let list = steps.list();
+    let picks = gil::without(py, || arrow::picks(rows, &list)).map_err(raised)?;
+    let bytes = PyBytes::new_with(py, 8 * picks.places.len(), |to: &mut [u8]| {
+        for (to, place) in to.chunks_exact_mut(8).zip(&picks.places) {
+            to.copy_from_slice(&place.to_le_bytes());
+        }
+        Ok(())
+    })?;
+    Ok((bytes, PyBytes::new(py, picks.valid.as_deref().unwrap_or(&[]))))
+}
+
+/// What a stream gives: an array of no rows that has its schema, and its batches.
+fn read_all(mut stream: Stream) -> Result<(Column, Vec<Column>), arrow::Error> {
+    let empty = stream.empty()?;
+    let mut batches = Vec::new();
+    while let Some(batch) = stream.next()? {
+        batches.push(batch);
+    }
+    Ok((empty, batches))
+}
+
+type Batches = (Array, Vec<Array>);
+
+fn arrays((empty, batches): (Column, Vec<Column>)) -> PyResult<Batches> {
+    let batches = batches.into_iter().map(Array::new).collect::<PyResult<_>>()?;
+    Ok((Array::new(empty)?, batches))
+}
+
+fn stream_in(capsule: &PyAny) -> PyResult<Stream> {
+    let stream = held_in::<ArrowArrayStream>(capsule)?;
+    // SAFETY: as in `array_from_capsules`.
+    Ok(unsafe { Stream::from_raw(stream) })
+}
+
+/// The batches of a stream that somebody made, which is consumed.
+///
+/// The GIL is held, since the stream may be Python's.
+#[pyfunction]
+pub fn read_stream(py: Python<'_>, capsule: &PyAny) -> PyResult<Batches> {
+    let found = read_all(stream_in(capsule)?);
+    py.check_signals()?;
+    arrays(found.map_err(raised)?)
+}
+
+fn selected(mut source: Stream, steps: &Steps) -> Result<(Column, Vec<Column>), arrow::Error> {
+    read_all(arrow::select_stream(&mut source, &steps.list())?)
+}
+
+/// The rows that the steps leave of the batches of a stream, end to end. The stream is consumed.
+#[pyfunction]
+pub fn select_stream(py: Python<'_>, capsule: &PyAny, steps: Vec<Written<'_>>) -> PyResult<Batches> {
+    let (source, steps) = (stream_in(capsule)?, Steps::of(&steps)?);
+    let found = selected(source, &steps);
+    py.check_signals()?;
+    arrays(found.map_err(raised)?)
+}
+
+/// A stream of the arrays; `schema_of` has the schema.
+fn stream_of(schema_of: &Array, chunks: &[PyRef<'_, Array>]) -> PyResult<Stream> {
+    let chunks = chunks.iter().map(|chunk| chunk.shared()).collect::<PyResult<_>>()?;
+    Stream::of(&schema_of.of.lock(), chunks).map_err(raised)
+}
+
+/// The rows that the steps leave of several arrays of one type, end to end.
+#[pyfunction]
+pub fn select_chunks(
+    py: Python<'_>,
+    schema_of: &Array,
+    chunks: Vec<PyRef<'_, Array>>,
+    steps: Vec<Written<'_>>,
+) -> PyResult<Batches> {
+    let (source, steps) = (stream_of(schema_of, &chunks)?, Steps::of(&steps)?);
+    let found = gil::without(py, || selected(source, &steps));
+    arrays(found.map_err(raised)?)
+}
+
+/// A capsule with a stream of arrays in the memory of these.
+#[pyfunction]
+pub fn stream_capsule(
+    py: Python<'_>,
+    schema_of: &Array,
+    chunks: Vec<PyRef<'_, Array>>,
+) -> PyResult<PyObject> {
+    if chunks.iter().any(|chunk| chunk.length > i64::MAX as usize) {
+        return Err(PyValueError::new_err("a batch has 2^63 rows or more"));
+    }
+    capsule(py, stream_of(schema_of, &chunks)?.into_raw())
+}

@@ -1,0 +1,12 @@
+//! The whole program over memory.
+use crate::gil::without;
+use pyo3::prelude::*;
+use pyo3::types::PyBytes;
+
+/// What the program returns for its arguments and its standard input: a status and a text.
+#[pyfunction]
+pub fn program(py: Python<'_>, words: Vec<String>, document: Vec<u8>) -> (u8, &PyBytes) {
+    let words: Vec<&str> = words.iter().map(String::as_str).collect();
+    let answer = without(py, || vortex_select::run(&words, &document));
+    (answer.status, PyBytes::new(py, &answer.text))
+}
