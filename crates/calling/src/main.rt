@@ -2,6 +2,7 @@
 //! in memory and of values behind a decoder of its own, and prints what it is given.
 #![tactic(auto)]
 
+mod built;
 mod chunks;
 mod columns;
 mod error;
@@ -21,6 +22,7 @@ use std::test::Fail;
 
 fn main(rt: HostRuntime) -> Result<(), Fail> {
     first::print_picked(&rt, rt.alloc())?;
+    built::print_built(&rt, rt.alloc())?;
     people::print_people(&rt, rt.alloc())?;
     selecting::print_refusals(&rt, rt.alloc())?;
     selecting::print_answers(&rt, rt.alloc())?;

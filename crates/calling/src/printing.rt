@@ -2,7 +2,15 @@
 use std::alloc::Global;
 use std::io;
 use std::test::Fail;
-use vortex_select::{Array, Call, Cause, Row};
+use vortex_select::{Array, Call, Cause, Row, text_of};
+
+/// The type of a column, and a line for each row.
+pub(crate) fn print_column(rt: &impl Print, alloc: Global, column: &Array) -> Result<(), Fail> {
+    match std::str::from_utf8(&text_of(alloc, column)?) {
+        Ok(text) => Ok(print!(rt; "{text}")?),
+        Err(_) => Err("no text".into()),
+    }
+}
 
 /// The numbers of a column of integer type, from row to row.
 pub(crate) fn print_numbers(rt: &impl Print, column: &Array) -> Result<(), Fail> {

@@ -5,7 +5,7 @@ use crate::constructors::constructor_fault;
 use crate::filters::{filtered_as, filtered_by};
 use crate::lines::{Taken, push_fault, push_taken};
 use crate::offsets::push_offsets;
-use crate::slices::sliced_as;
+use crate::slices::{cut_union, sliced_as};
 use crate::takes::{adapted, taken_as, taken_by};
 use crate::texts::{push_text_view, text_step};
 use crate::whole::{filler, packed, push_columns, push_view};
@@ -43,7 +43,10 @@ fn given(alloc: Global, row: &Value, column: &Array, call: &str) -> Result<Taken
         "column" => Ok(Ok(Some(column.share()))),
         "filler" => Ok(Ok(Some(filler(alloc, row, column)?))),
         "pack_union" => Ok(Ok(Some(packed(alloc, row, column)?))),
-        "take" | "take_varbin" => taken_by(alloc, column, &indices_at(alloc, row)?, call),
+        "take" | "take_varbin" | "take_list" | "take_union" => {
+            taken_by(alloc, column, &indices_at(alloc, row)?, call)
+        }
+        "slice_union" => Ok(Ok(Some(cut_union(alloc, column, range_at(row)?)?))),
         "filter_varbinview"
         | "filter_listview"
         | "filter_fixed_size_list"

@@ -1,15 +1,15 @@
 //! Slices: through the traits of layouts, and of any layout.
 
 use crate::arguments::view_of;
-use crate::lines::Answer;
+use crate::lines::{Answer, Rows};
 use callers::check_slice;
 use std::alloc::Global;
 use std::test::Fail;
-use vx_column::Array;
 use vx_column::vtables::{
     Bool, Dict, Extension, FixedSizeList, List, ListView, Map, Struct, Union, VarBin, VarBinView,
 };
-use vx_layouts::{SliceKernel, SliceReduce, VarBinSlice, slice};
+use vx_column::{Array, Layout};
+use vx_layouts::{SliceKernel, SliceReduce, VarBinSlice, slice, slice_union};
 
 /// Where a slice begins and ends.
 pub(crate) type Range = (usize, usize);
@@ -68,4 +68,13 @@ pub(crate) fn sliced_as(
 pub(crate) fn cut(alloc: Global, column: &Array, (start, end): Range) -> Result<Array, Fail> {
     check_slice(start, end, column.len())?;
     Ok(slice(alloc, column, start, end)?)
+}
+
+/// The rows of a union between, in its form.
+pub(crate) fn cut_union(alloc: Global, column: &Array, (start, end): Range) -> Rows {
+    let Layout::Union(array) = column.layout() else {
+        return Err("no union".into());
+    };
+    check_slice(start, end, array.share().into_array().len())?;
+    Ok(slice_union(alloc, array, start, end)?.into_array())
 }

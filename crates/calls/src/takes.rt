@@ -11,7 +11,8 @@ use vx_column::vtables::{
 };
 use vx_column::{Array, Layout};
 use vx_layouts::{
-    TakeError, TakeExecute, TakeExecuteAdaptor, TakeReduce, TakeReduceAdaptor, take, take_varbin,
+    TakeError, TakeExecute, TakeExecuteAdaptor, TakeReduce, TakeReduceAdaptor, take, take_list,
+    take_union, take_varbin,
 };
 use vx_mask::Policy;
 use vx_pieces::Indices;
@@ -70,23 +71,27 @@ pub(crate) fn taken_as(
     }
 }
 
+/// The rows that a take gives, or why there are none.
+type Rows = Result<Array, TakeError>;
+
 /// A take of a column of any layout.
-pub(crate) fn taken_rows(
-    alloc: Global,
-    column: &Array,
-    indices: &Indices,
-) -> Result<Array, TakeError> {
+pub(crate) fn taken_rows(alloc: Global, column: &Array, indices: &Indices) -> Rows {
     take(alloc, column, indices, &Policy::vortex())
 }
 
-/// A take of texts, by offsets.
-fn taken_texts(alloc: Global, column: &Array, indices: &Indices) -> Result<Taken, Fail> {
-    let Layout::VarBin(texts) = column.layout() else {
-        return Err("no texts by offsets".into());
-    };
-    match take_varbin(alloc, texts, indices) {
-        Ok(taken) => Ok(Ok(Some(taken.into_array()))),
-        Err(error) => Ok(Err(error)),
+/// A take by a function of one layout.
+fn taken_alone(alloc: Global, column: &Array, indices: &Indices, call: &str) -> Result<Rows, Fail> {
+    match (call, column.layout()) {
+        ("take_varbin", Layout::VarBin(array)) => {
+            Ok(take_varbin(alloc, array, indices).map(|taken| taken.into_array()))
+        }
+        ("take_list", Layout::List(array)) => {
+            Ok(take_list(alloc, array, indices).map(|taken| taken.into_array()))
+        }
+        ("take_union", Layout::Union(array)) => {
+            Ok(take_union(alloc, array, indices).map(|taken| taken.into_array()))
+        }
+        _ => Err("no such take".into()),
     }
 }
 
@@ -97,12 +102,13 @@ pub(crate) fn taken_by(
     indices: &Indices,
     call: &str,
 ) -> Result<Taken, Fail> {
-    match call {
-        "take_varbin" => taken_texts(alloc, column, indices),
-        _ => match taken_rows(alloc, column, indices) {
-            Ok(rows) => Ok(Ok(Some(rows))),
-            Err(error) => Ok(Err(error)),
-        },
+    let taken = match call {
+        "take" => taken_rows(alloc, column, indices),
+        _ => taken_alone(alloc, column, indices, call)?,
+    };
+    match taken {
+        Ok(rows) => Ok(Ok(Some(rows))),
+        Err(error) => Ok(Err(error)),
     }
 }
 

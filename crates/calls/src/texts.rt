@@ -13,7 +13,10 @@ use callers::{check_slice, some_of};
 use serde_json::Value;
 use std::alloc::Global;
 use std::test::Fail;
-use vx_column::{Array, BinaryView, Layout, Validity, VarBinArray, VarBinViewArray};
+use vx_column::{
+    Array, BinaryView, ConstantArray, DType, Layout, Validity, VarBinArray, VarBinViewArray,
+};
+use vx_layouts::execute_texts;
 use vx_mask::{Mask, Policy};
 use vx_take::Picks;
 use vx_text::{
@@ -108,6 +111,14 @@ fn kept_views(alloc: Global, texts: &VarBinViewArray, mask: &Mask, validity: &Va
     Ok(filter_views(alloc, texts, mask, &Policy::vortex(), validity.share())?.into_array())
 }
 
+/// The texts that a constant stands for, one after another.
+fn copies(alloc: Global, texts: &ConstantArray) -> Rows {
+    match texts.scalar().dtype() {
+        DType::Utf8(_) | DType::Binary(_) => Ok(execute_texts(alloc, texts)?.into_array()),
+        _ => Err("a constant that is no text".into()),
+    }
+}
+
 /// A take by the function that a row names.
 fn text_take(
     alloc: Global,
@@ -135,6 +146,7 @@ pub(crate) fn text_step(alloc: Global, row: &Value, column: &Array, call: &str) 
         ("filter_views", Layout::VarBinView(texts)) => {
             kept_views(alloc, texts, &mask_at(alloc, row)?, validity)
         }
+        ("execute_texts", Layout::Constant(texts)) => copies(alloc, texts),
         _ => {
             let picks = picks_at(alloc, row, column.len())?;
             text_take(alloc, column, (&picks, validity), call)

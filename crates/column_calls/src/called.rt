@@ -4,6 +4,7 @@ use crate::arguments::text_at;
 use crate::kept::push_kept;
 use crate::lines::push_shown;
 use crate::lists::push_lists;
+use crate::memory::push_in_memory;
 use crate::pieces::push_pieces;
 use crate::plans::push_plan;
 use crate::readers::push_reads;
@@ -23,7 +24,7 @@ fn push_call(lines: &mut String, alloc: Global, row: &Value, call: &str) -> Resu
             push_reads(lines, alloc, row, call)
         }
         "try_new" => push_shown(lines, &constructor_fault(alloc, row, text_at(row, "as"))?),
-        "is_flat" | "into_ref" | "slice_plain" | "true_rows" | "mask_of" => {
+        "is_flat" | "into_ref" | "slice_plain" | "true_rows" | "mask_of" | "decimal" => {
             push_whole(lines, alloc, row, call)
         }
         "check_steps" | "compose" | "picks" => push_steps(lines, alloc, row, call),
@@ -32,6 +33,7 @@ fn push_call(lines: &mut String, alloc: Global, row: &Value, call: &str) -> Resu
         "element_mask" | "filter_lists" | "take_lists" => {
             push_lists(lines, alloc, (call, text_at(row, "lists")))
         }
+        "arrow_select" => push_in_memory(lines, alloc, row),
         "from_no_memory" => push_shown(lines, &SelectError::from(NoMemory)),
         _ => push_pieces(lines, alloc, row, call),
     }

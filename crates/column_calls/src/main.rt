@@ -11,6 +11,7 @@ mod called;
 mod kept;
 mod lines;
 mod lists;
+mod memory;
 mod pieces;
 mod plans;
 mod readers;

@@ -7,8 +7,8 @@ use std::alloc::Global;
 use std::test::Fail;
 use vx_bits::Buffer;
 use vx_column::{
-    Array, BinaryView, BoolArray, ColumnError, InlineBytes, PrimitiveArray, TextKind, Validity,
-    VarBinViewArray, mask_of,
+    Array, BinaryView, BoolArray, ColumnError, DecimalDType, InlineBytes, Layout, PrimitiveArray,
+    TextKind, Validity, VarBinViewArray, mask_of,
 };
 use vx_json::{bits_in, hex_values_of, list_member, ptype_named};
 use vx_pieces::PiecewiseSequence;
@@ -25,6 +25,14 @@ fn plain_len(column: &Array, (start, end): (usize, usize)) -> Result<Option<usiz
     }
 }
 
+/// The type of a column of decimals.
+fn decimal_of(column: &Array) -> Result<DecimalDType, Fail> {
+    match column.layout() {
+        Layout::Decimal(array) => Ok(array.decimal()),
+        _ => Err("no decimals".into()),
+    }
+}
+
 /// Appends what a call gives of a whole column.
 pub(crate) fn push_whole(
     lines: &mut String,
@@ -36,6 +44,7 @@ pub(crate) fn push_whole(
     match call {
         "is_flat" => push_shown(lines, &column.is_flat()),
         "into_ref" => push_shown(lines, &column.into_ref(alloc)?.len()),
+        "decimal" => push_shown(lines, &decimal_of(&column)?),
         "true_rows" => push_shown(lines, &column.true_rows()),
         "mask_of" => push_mask(lines, "= ", &mask_of(alloc, &column)?),
         _ => push_shown(lines, &plain_len(&column, range_at(row)?)?),

@@ -5,6 +5,7 @@ use crate::chunked::push_chunked;
 use crate::files::push_file;
 use crate::joins::push_join;
 use crate::lines::push_made;
+use crate::parted::push_whole;
 use crate::parts::push_parts;
 use crate::selecting::push_selected;
 use callers::Ask;
@@ -42,6 +43,7 @@ fn push_call(lines: &mut String, alloc: Global, row: &Value, call: &str) -> Resu
         "try_new" => push_made(lines, alloc, &made_at(alloc, row, "table")?),
         "page" => push_page(lines, alloc, row),
         "put_together" => push_parts(lines, alloc, row),
+        "select_parts" | "cut_runs" | "arrange" => push_whole(lines, alloc, row, call),
         "select" | "select_fused" => push_selected(lines, alloc, row, call),
         "ChunkShape" | "select_chunked" => push_chunked(lines, alloc, row, call),
         "open_file" | "select_file" | "read_block" | "block_len" | "reads" => {

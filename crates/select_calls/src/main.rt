@@ -15,6 +15,7 @@ mod flaky;
 mod joins;
 mod lines;
 mod numbers;
+mod parted;
 mod parts;
 mod selecting;
 

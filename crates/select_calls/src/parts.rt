@@ -1,28 +1,14 @@
 //! Steps over a column that lies in parts: the plan, the parts' answers, and these put together.
 
 use crate::arguments::{policy_at, steps_at};
-use crate::lines::{push_column, push_part, push_shown};
+use crate::lines::{push_column, push_shown};
+use crate::parted::{columns_at, lengths_of};
 use serde_json::Value;
 use std::alloc::Global;
 use std::test::Fail;
-use vx_document::columns_member;
 use vx_parts::{Plan, PutError, plan_steps, put_together, total_len};
 use vx_select::{SelectError, select};
 use vx_table::Columns;
-
-/// The columns of this name.
-fn columns_at(alloc: Global, row: &Value, name: &str) -> Result<Columns, Fail> {
-    Ok(Columns::new(alloc, columns_member(alloc, row, name)?)?)
-}
-
-/// How many rows each of the columns has.
-fn lengths_of(alloc: Global, columns: &Columns) -> Result<Vec<usize>, Fail> {
-    let mut lengths = Vec::new(alloc);
-    for column in columns.as_slice() {
-        lengths.push(column.len())?;
-    }
-    Ok(lengths)
-}
 
 /// The plan of the steps over parts of these lengths, or the step that is broken.
 fn plan_of(
@@ -52,8 +38,13 @@ fn answers_of(alloc: Global, row: &Value, parts: &Columns, plan: &Plan) -> Resul
 
 /// Appends how many steps each part is asked, and how many rows they leave.
 fn push_asked(lines: &mut String, plan: &Plan) -> Result<(), Fail> {
-    for part in plan.parts.as_slice() {
-        writeln!(lines, "=: {} steps, {} rows", part.steps.len(), part.len)?;
+    for k in 0..plan.parts.len() {
+        writeln!(
+            lines,
+            "=: {} steps, {} rows",
+            plan.steps_of(k).len(),
+            plan.len_of(k)
+        )?;
     }
     Ok(())
 }

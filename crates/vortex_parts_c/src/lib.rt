@@ -7,3 +7,4 @@
 
 mod cutting;
 mod interleaving;
+mod version;

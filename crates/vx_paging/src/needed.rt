@@ -183,7 +183,9 @@ fn has_take(steps: &[Step]) -> bool
 
 /// Of the picks that the steps leave of `len` rows those from number `start` up to `end`, as far
 /// as there are any. Where no step is a take, the last of these slices is brought to the front, so
-/// that of each mask that part alone is read that holds the page.
+/// that only the part of each mask that holds the page is composed. To find it, a rank reads the
+/// mask's words up to its end, unless the mask keeps indices or block counts; a column of bools is
+/// read whole.
 ///
 /// Refuses as [`compose_part`] does.
 pub fn page_picks(

@@ -86,9 +86,9 @@ fn put_rows(alloc: Global, plan: &Plan, dtype: &DType, answers: &Columns) -> Res
 /// `WrongCount` exactly where there are not as many columns as parts; else `WrongType` or
 /// `WrongLength` exactly where one isn't of the parts' type or hasn't as many rows as the plan
 /// says, with the first part; else `WrongOrder` exactly where the plan's order names a row that
-/// isn't there, or a null though the plan's steps leave none. `NoMemory` only where none of these
-/// is so: what the parts of a plan of [`plan_steps`](crate::plan_steps) answer is refused for no
-/// other reason.
+/// isn't there, or a null though neither the parts' type nor the plan's steps have nulls.
+/// `NoMemory` only where none of these is so: what the parts of a plan of
+/// [`plan_steps`](crate::plan_steps) answer is refused for no other reason.
 pub fn put_together(
     alloc: Global,
     plan: &Plan,
