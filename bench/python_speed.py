@@ -1,6 +1,6 @@
 """Prints times of filters and takes of 16,777,216 values beside numpy's `compress` and `take`.
 
-usage: VORTEX_SELECT_LIBRARY=../out/libvortex_select.so python3 speed.py   (it needs numpy)
+usage: PYTHONPATH=bindings/python/src python3 bench/python_speed.py    (after bindings/python/build; needs numpy)
 """
 
 import time

@@ -1,6 +1,6 @@
-"""Runs the programs of docs/ARROW.md, and compares what each prints with what stands below it.
+"""Runs the programs of docs/ARROW.md and the README, and compares their output with the page.
 
-usage: arrow_programs.py FOLDER LIBRARY, with libvortex_select.so in the folder
+usage: arrow_programs.py FOLDER LIBRARY    (after bindings/python/build)
 """
 
 import os
@@ -10,19 +10,21 @@ import subprocess
 import sys
 
 HERE = pathlib.Path(__file__).resolve().parent
-SHIM = ["arrow.c", "arrow_arrays.c", "arrow_formats.c", "arrow_stream.c", "memory.c"]
+SHIM = sorted((HERE.parent / "shim").glob("*.c"))
 
 
 def programs():
     """The language of each program, its text, and what it prints."""
-    page = (HERE.parent / "docs" / "ARROW.md").read_text()
-    for language, program, printed in re.findall(r"```(\w+)\n([\s\S]*?)```\n\n((?:    .*\n)+)", page):
-        yield language, program, re.sub("(?m)^    ", "", printed)
+    top = HERE.parent
+    for page, languages in (top / "docs" / "ARROW.md", "python c rust"), (top / "README.md", "python"):
+        form = r"```(\w+)\n([\s\S]*?)```\n\n((?:    .*\n)+)"
+        for language, program, printed in re.findall(form, page.read_text()):
+            if language in languages.split():
+                yield language, program, re.sub("(?m)^    ", "", printed)
 
 
 def run_python(program, folder, library):
     environment = dict(os.environ, PYTHONPATH=str(HERE / "python" / "src"), PYTHONDONTWRITEBYTECODE="1")
-    environment["VORTEX_SELECT_LIBRARY"] = str(folder / "libvortex_select.so")
     return subprocess.run([sys.executable, "-c", program], env=environment, stdout=subprocess.PIPE)
 
 
@@ -31,7 +33,7 @@ def run_c(program, folder, library):
     source.write_text(program)
     made = folder / "arrow_program"
     words = ["cc", "-std=c99", "-Wall", "-Wextra", "-Wno-missing-field-initializers", "-Werror"]
-    words += ["-I", HERE.parent / "include", source, *(HERE.parent / "shim" / name for name in SHIM)]
+    words += ["-I", HERE.parent / "include", source, *SHIM]
     subprocess.run([*words, library, "-o", made], check=True)
     return subprocess.run([made], stdout=subprocess.PIPE)
 
@@ -42,7 +44,7 @@ def run_rust(program, folder, library):
     (caller / "src" / "main.rs").write_text("#![forbid(unsafe_code)]\n" + program)
     (caller / "Cargo.toml").write_text(
         '[package]\nname = "arrow_caller"\nversion = "0.0.0"\nedition = "2021"\n[dependencies]\n'
-        f'vortex-select-sys = {{ path = "{HERE / "rust" / "vortex-select-sys"}", features = ["arrow"] }}\n[workspace]\n'
+        f'vortex-select = {{ path = "{HERE / "rust" / "vortex-select"}", features = ["arrow"] }}\n[workspace]\n'
     )
     words = ["cargo", "run", "--offline", "--quiet"]
     return subprocess.run(words, cwd=caller, stdout=subprocess.PIPE)
@@ -59,7 +61,7 @@ def main():
         if not agrees:
             print(done.returncode, done.stdout.decode())
         seen.append(language)
-    if sorted(seen) != sorted(calls):
+    if sorted(seen) != sorted([*calls, "python"]):
         print(f"languages {seen} ... FAIL")
 
 

@@ -1,7 +1,7 @@
 """Times `vortex_select.select` over columns of a million numbers beside numpy's own indexing: for each
 step milliseconds (the least of some runs), from the step's list to the whole answer.
 
-usage: VORTEX_SELECT_LIBRARY=bindings/out/libvortex_select.so python3 bench/arrow/speed.py
+usage: python3 bench/arrow/speed.py    (after bindings/python/build)
 """
 
 import pathlib
