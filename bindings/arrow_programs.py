@@ -17,7 +17,7 @@ def programs():
     """The language of each program, its text, and what it prints."""
     top = HERE.parent
     for page, languages in (top / "docs" / "ARROW.md", "python c rust"), (top / "README.md", "python"):
-        form = r"```(\w+)\n([\s\S]*?)```\n\n((?:    .*\n)+)"
+        form = r"```(\w+)\n((?:(?!```)[\s\S])*)```\n\n((?:    .*\n)+)"
         for language, program, printed in re.findall(form, page.read_text()):
             if language in languages.split():
                 yield language, program, re.sub("(?m)^    ", "", printed)

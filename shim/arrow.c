@@ -27,6 +27,14 @@ static vortex_arrow_answer count_picks(uint64_t len, const vortex_arrow_step *st
 }
 
 /* Composes the steps. */
+static int has_takes(const vortex_arrow_step *steps, size_t n_steps)
+{
+    size_t k;
+    for (k = 0; k < n_steps && steps[k].kind < VORTEX_ARROW_TAKE; k++) {
+    }
+    return k < n_steps;
+}
+
 uint64_t vortex_arrow_pick(uint64_t len, const vortex_arrow_step *steps, size_t n_steps,
     vortex_arrow_picks *p, vortex_arrow_error *error)
 {
@@ -45,6 +53,7 @@ uint64_t vortex_arrow_pick(uint64_t len, const vortex_arrow_step *steps, size_t 
     p->len = need.places;
     p->valid = (uint8_t *)(p->places + p->len);
     p->n_valid = need.valid;
+    p->may_repeat = has_takes(steps, n_steps);
     memset(p->valid, 0xff, p->n_valid); /* compose clears the bits of nulls */
     answer = vortex_arrow_compose(len, steps, n_steps, p->places, p->len, p->valid, p->n_valid);
     if (answer.status) {

@@ -181,6 +181,24 @@ static uint64_t items_at(const uint8_t *offsets)
     return ends[0] < ends[1] ? (uint64_t)((int64_t)ends[1] - ends[0]) : 0;
 }
 
+/* Returns at least the number of items of the lists at the places, nulls counted. A list whose offsets
+ * descend counts as one of 2^31 items or more. */
+static uint64_t most_items(const vortex_arrow_node *node, const vortex_arrow_picks *p, uint64_t add)
+{
+    const uint8_t *offsets = node->offsets.data + 4 * (node->offset + add);
+    const uint64_t *places = p->places, rows = node->len > add ? node->len - add : 0;
+    uint64_t items = 0;
+    size_t k, len = p->len;
+    for (k = 0; k < len; k++) {
+        uint64_t ends;
+        if (places[k] < rows) {
+            memcpy(&ends, offsets + 4 * places[k], sizeof ends);
+            items += (uint32_t)((ends >> 32) - ends);
+        }
+    }
+    return items;
+}
+
 /* Whether the lists at the places, each `add` rows further on, have more items than offsets of 32
  * bits can count. Places past the rows are left to the library. */
 static int are_long(const vortex_arrow_node *node, const vortex_arrow_picks *p, uint64_t add)
@@ -188,7 +206,7 @@ static int are_long(const vortex_arrow_node *node, const vortex_arrow_picks *p, 
     const uint8_t *valid = node->valid.len ? node->valid.data : NULL, *picked = p->valid;
     const uint64_t *places = p->places, rows = node->len, offset = node->offset;
     uint64_t items = 0;
-    size_t k, len = node->offsets.len / 4 > offset + rows ? p->len : 0, has_nulls = p->n_valid;
+    size_t k, len = p->len, has_nulls = p->n_valid;
     for (k = 0; k < len && items <= INT32_MAX; k++) {
         uint64_t place = places[k] + add, at = offset + place;
         if (place < rows && (!has_nulls || is_set(picked, k)) && (!valid || is_set(valid, at))) {
@@ -220,11 +238,12 @@ size_t vortex_arrow_long_lists(const table *t, const vortex_arrow_picks *p)
 {
     uint64_t add;
     size_t k;
-    for (k = 0; k < t->len; k++) {
+    for (k = 0; k < t->len && p->may_repeat; k++) {
+        const vortex_arrow_node *node = &t->nodes[k];
         /* Each list has at most as many items as the child has rows. */
-        if (t->nodes[k].format == VORTEX_ARROW_LIST && p->len &&
-            t->nodes[k + 1].len > INT32_MAX / p->len && shift_of(t, k, &add) &&
-            are_long(&t->nodes[k], p, add)) {
+        if (node->format == VORTEX_ARROW_LIST && p->len && t->nodes[k + 1].len > INT32_MAX / p->len &&
+            node->offsets.len / 4 > node->offset + node->len && shift_of(t, k, &add) &&
+            most_items(node, p, add) > INT32_MAX && are_long(node, p, add)) {
             return k;
         }
     }

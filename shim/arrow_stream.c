@@ -95,6 +95,7 @@ static int cut(const selected *s, size_t batch, size_t len, vortex_arrow_picks *
 {
     size_t k;
     to->len = len;
+    to->may_repeat = s->picks.may_repeat;
     to->n_valid = s->picks.n_valid ? (len + 7) / 8 : 0;
     to->places = (uint64_t *)calloc(1, 8 * len + to->n_valid + 8);
     if (!to->places) {

@@ -20,6 +20,7 @@ typedef struct vortex_arrow_picks {
     uint64_t *places;
     uint8_t *valid;
     size_t len, n_valid;
+    int may_repeat; /* whether a take was among the steps; else the places ascend */
 } vortex_arrow_picks;
 
 /* The memory that arrays of the shim point to. It is freed with the last of these arrays. */

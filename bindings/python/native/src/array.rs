@@ -12,18 +12,20 @@ use std::mem::ManuallyDrop;
 use std::os::raw::{c_int, c_void};
 use std::sync::atomic::{AtomicUsize, Ordering};
 use std::sync::{Arc, Mutex, MutexGuard, PoisonError};
-use vortex_select::arrow::{self, ArrowArray, ArrowArrayStream, ArrowSchema, Column, Field, Stream};
+use vortex_select::arrow::{
+    self, ArrowArray, ArrowArrayStream, ArrowSchema, Column, Field, Stream,
+};
 
-/// A column, released when the last object that leads to it goes away.
+/// A column that is released when its last owner is dropped.
 ///
-/// It is counted from the start: the first share of an array replaces it by one that is, and no
-/// later share changes anything of it. So what a `Node` leads to stays at its place.
+/// The array is reference-counted from the start: the first share replaces an array by one that is,
+/// and later shares change nothing. So what a `Node` points to stays at its place.
 struct Owned(ManuallyDrop<Mutex<Column>>);
 
-/// How many columns are owned, for tests of leaks.
+/// The number of columns that are alive, for tests of leaks.
 static ALIVE: AtomicUsize = AtomicUsize::new(0);
 
-/// How many arrays aren't released yet.
+/// Returns the number of arrays that aren't released yet.
 #[pyfunction]
 pub fn alive() -> usize {
     ALIVE.load(Ordering::Relaxed)
@@ -55,7 +57,7 @@ impl Drop for Owned {
     }
 }
 
-/// A column of one array: a schema, an array, and who owns them.
+/// A column of one array.
 #[pyclass(frozen, module = "vortex_select._native")]
 pub struct Array {
     of: Arc<Owned>,
@@ -65,10 +67,13 @@ pub struct Array {
 impl Array {
     pub fn new(column: Column) -> PyResult<Self> {
         let length = column.len();
-        Ok(Array { of: Owned::of(column)?, length })
+        Ok(Array {
+            of: Owned::of(column)?,
+            length,
+        })
     }
 
-    /// A column of the same rows in the same memory.
+    /// Returns a column of the same rows in the same memory.
     fn shared(&self) -> PyResult<Column> {
         self.of.lock().share().map_err(raised)
     }
@@ -80,47 +85,51 @@ impl Array {
         self.length
     }
 
-    /// The schema and the array, to be read.
+    /// Returns the schema and the array for reading.
     #[getter]
     fn node(&self) -> Node {
         let column = self.of.lock();
         // SAFETY: the structs stay at their places for as long as `of` is there, which the node
         // has, and nothing changes them.
-        let node = unsafe { std::mem::transmute::<arrow::Node<'_>, arrow::Node<'static>>(column.node()) };
-        Node { node, of: self.of.clone() }
+        let node =
+            unsafe { std::mem::transmute::<arrow::Node<'_>, arrow::Node<'static>>(column.node()) };
+        Node {
+            node,
+            of: self.of.clone(),
+        }
     }
 
-    /// Test the whole column.
+    /// Tests the whole column.
     fn check(&self, py: Python<'_>) -> PyResult<()> {
         let mut column = self.shared()?;
         gil::without(py, || column.check()).map_err(raised)
     }
 
-    /// The children, each with the rows of this column: fields of a struct, items of lists.
+    /// Returns the children: those of a struct have the struct's own rows.
     fn split(&self) -> PyResult<Vec<Array>> {
         let children = self.shared()?.into_children();
         children.into_iter().map(Array::new).collect()
     }
 
-    /// The same column under another name and with other flags.
+    /// Returns the column under another name and with other flags.
     fn described(&self, name: &str, flags: i64) -> PyResult<Array> {
         Array::new(self.shared()?.described(name, flags).map_err(raised)?)
     }
 
-    /// Capsules with a schema and an array of the same rows in the same memory.
+    /// Returns capsules with a schema and an array of the same rows in the same memory.
     fn capsules(&self, py: Python<'_>) -> PyResult<(PyObject, PyObject)> {
         let (schema, array) = self.shared()?.into_raw();
         Ok((capsule(py, schema)?, capsule(py, array)?))
     }
 
-    /// A capsule with a copy of the schema.
+    /// Returns a capsule with a copy of the schema.
     fn schema_capsule(&self, py: Python<'_>) -> PyResult<PyObject> {
         let schema = self.of.lock().copy_schema().map_err(raised)?;
         capsule(py, schema)
     }
 }
 
-/// A schema and an array, or a child or the dictionary of such, to be read.
+/// A schema and an array for reading, or a child or the dictionary of such.
 #[pyclass(frozen, module = "vortex_select._native")]
 pub struct Node {
     node: arrow::Node<'static>,
@@ -129,7 +138,10 @@ pub struct Node {
 
 impl Node {
     fn below(&self, node: arrow::Node<'static>) -> Node {
-        Node { node, of: self.of.clone() }
+        Node {
+            node,
+            of: self.of.clone(),
+        }
     }
 }
 
@@ -170,7 +182,7 @@ impl Node {
         self.node.null_count()
     }
 
-    /// The buffers as memoryviews, each as long as the format and the rows ask for.
+    /// Returns the buffers as memoryviews, each as long as the format and the rows need.
     #[getter]
     fn buffers<'p>(&self, py: Python<'p>) -> PyResult<&'p PyTuple> {
         let buffers = self.node.buffers().map_err(raised)?;
@@ -181,7 +193,7 @@ impl Node {
         Ok(PyTuple::new(py, views))
     }
 
-    /// Where the buffers are, to tell whether two nodes have the same ones.
+    /// Returns the addresses of the buffers, by which two nodes are compared.
     #[getter]
     fn places<'p>(&self, py: Python<'p>) -> PyResult<&'p PyTuple> {
         let buffers = self.node.buffers().map_err(raised)?;
@@ -191,7 +203,11 @@ impl Node {
 
     #[getter]
     fn children(&self) -> Vec<Node> {
-        self.node.children().into_iter().map(|node| self.below(node)).collect()
+        self.node
+            .children()
+            .into_iter()
+            .map(|node| self.below(node))
+            .collect()
     }
 
     #[getter]
@@ -202,13 +218,21 @@ impl Node {
 
 impl Node {
     fn view(&self, py: Python<'_>, bytes: &'static [u8]) -> PyResult<PyObject> {
-        let buffer = Py::new(py, Buffer { bytes, _of: self.of.clone() })?;
+        let buffer = Py::new(
+            py,
+            Buffer {
+                bytes,
+                _of: self.of.clone(),
+            },
+        )?;
         // SAFETY: the buffer is an object of Python, and the result a new reference or null.
-        unsafe { PyObject::from_owned_ptr_or_err(py, ffi::PyMemoryView_FromObject(buffer.as_ptr())) }
+        unsafe {
+            PyObject::from_owned_ptr_or_err(py, ffi::PyMemoryView_FromObject(buffer.as_ptr()))
+        }
     }
 }
 
-/// A buffer of an array, which whoever reads it keeps.
+/// A buffer of an array. Its memoryviews keep the array alive.
 #[pyclass(frozen, module = "vortex_select._native")]
 pub struct Buffer {
     bytes: &'static [u8], // for as long as `_of` is there
@@ -226,9 +250,8 @@ impl Buffer {
         let place = bytes.as_ptr() as *mut c_void;
         let (size, read_only) = (bytes.len() as ffi::Py_ssize_t, 1);
         // SAFETY: the view keeps the object, which keeps the memory; nobody may write to it.
-        let status = unsafe {
-            ffi::PyBuffer_FillInfo(view, slf.as_ptr(), place, size, read_only, flags)
-        };
+        let status =
+            unsafe { ffi::PyBuffer_FillInfo(view, slf.as_ptr(), place, size, read_only, flags) };
         if status != 0 {
             return Err(PyErr::fetch(slf.py()));
         }
@@ -236,15 +259,20 @@ impl Buffer {
     }
 }
 
-/// Format, name, flags and metadata.
+/// A field as Python writes it: format, name, flags and metadata.
 type Written4 = (String, String, i64, Option<Vec<u8>>);
 
 fn field_of(written: Written4) -> Field {
     let (format, name, flags, metadata) = written;
-    Field { format, name, flags, metadata }
+    Field {
+        format,
+        name,
+        flags,
+        metadata,
+    }
 }
 
-/// An array over buffers of Python's objects, each of which is acquired once and held.
+/// Returns an array over buffers of Python objects. Each buffer is acquired once and held.
 #[pyfunction]
 pub fn build(
     field: Written4,
@@ -259,22 +287,28 @@ pub fn build(
         held.push(buffer.map(|buffer| Box::new(buffer) as Box<dyn arrow::Buffer>));
     }
     let (length, null_count, offset) = rows;
-    let children = children.iter().map(|child| child.shared()).collect::<PyResult<_>>()?;
+    let children = children
+        .iter()
+        .map(|child| child.shared())
+        .collect::<PyResult<_>>()?;
     let inner = dictionary.map(|inner| inner.shared()).transpose()?;
     let field = field_of(field);
     let made = Column::from_parts(field, length, null_count, offset, held, children, inner);
     Array::new(made.map_err(raised)?)
 }
 
-/// An array out of two capsules that somebody made, which are consumed.
+/// Returns the array of two capsules, which are consumed.
 #[pyfunction]
 pub fn array_from_capsules(schema: &PyAny, array: &PyAny) -> PyResult<Array> {
-    let (schema, array) = (held_in::<ArrowSchema>(schema)?, held_in::<ArrowArray>(array)?);
+    let (schema, array) = (
+        held_in::<ArrowSchema>(schema)?,
+        held_in::<ArrowArray>(array)?,
+    );
     // SAFETY: whoever hands over capsules vouches for what Arrow's interface asks of the structs.
     Array::new(unsafe { Column::from_raw(schema, array) })
 }
 
-/// The rows that the steps leave of an array.
+/// Returns the rows that the steps leave of an array.
 #[pyfunction]
 pub fn select(py: Python<'_>, array: &Array, steps: Vec<Written<'_>>) -> PyResult<Array> {
     let (mut source, steps) = (array.shared()?, Steps::of(&steps)?);
@@ -283,8 +317,8 @@ pub fn select(py: Python<'_>, array: &Array, steps: Vec<Written<'_>>) -> PyResul
     Array::new(answer.map_err(raised)?)
 }
 
-/// The places that the steps leave of so many rows, as numbers of 64 bits, and the bits that are
-/// clear at nulls, or none where no take has a validity.
+/// Returns the row numbers that the steps leave of `rows` rows, 64 bits each, and a validity
+/// bitmap, empty if no take has one.
 #[pyfunction]
 pub fn compose<'p>(
     py: Python<'p>,
@@ -300,10 +334,13 @@ pub fn compose<'p>(
         }
         Ok(())
     })?;
-    Ok((bytes, PyBytes::new(py, picks.valid.as_deref().unwrap_or(&[]))))
+    Ok((
+        bytes,
+        PyBytes::new(py, picks.valid.as_deref().unwrap_or(&[])),
+    ))
 }
 
-/// What a stream gives: an array of no rows that has its schema, and its batches.
+/// Reads a stream to its end: returns an array without rows that has its schema, and its batches.
 fn read_all(mut stream: Stream) -> Result<(Column, Vec<Column>), arrow::Error> {
     let empty = stream.empty()?;
     let mut batches = Vec::new();
@@ -316,7 +353,10 @@ fn read_all(mut stream: Stream) -> Result<(Column, Vec<Column>), arrow::Error> {
 type Batches = (Array, Vec<Array>);
 
 fn arrays((empty, batches): (Column, Vec<Column>)) -> PyResult<Batches> {
-    let batches = batches.into_iter().map(Array::new).collect::<PyResult<_>>()?;
+    let batches = batches
+        .into_iter()
+        .map(Array::new)
+        .collect::<PyResult<_>>()?;
     Ok((Array::new(empty)?, batches))
 }
 
@@ -326,9 +366,9 @@ fn stream_in(capsule: &PyAny) -> PyResult<Stream> {
     Ok(unsafe { Stream::from_raw(stream) })
 }
 
-/// The batches of a stream that somebody made, which is consumed.
+/// Returns the batches of a stream, which is consumed.
 ///
-/// The GIL is held, since the stream may be Python's.
+/// The GIL is held, since the stream may run Python code.
 #[pyfunction]
 pub fn read_stream(py: Python<'_>, capsule: &PyAny) -> PyResult<Batches> {
     let found = read_all(stream_in(capsule)?);
@@ -340,22 +380,30 @@ fn selected(mut source: Stream, steps: &Steps) -> Result<(Column, Vec<Column>), 
     read_all(arrow::select_stream(&mut source, &steps.list())?)
 }
 
-/// The rows that the steps leave of the batches of a stream, end to end. The stream is consumed.
+/// Returns the rows that the steps leave of the batches of a stream, end to end. The stream is
+/// consumed.
 #[pyfunction]
-pub fn select_stream(py: Python<'_>, capsule: &PyAny, steps: Vec<Written<'_>>) -> PyResult<Batches> {
+pub fn select_stream(
+    py: Python<'_>,
+    capsule: &PyAny,
+    steps: Vec<Written<'_>>,
+) -> PyResult<Batches> {
     let (source, steps) = (stream_in(capsule)?, Steps::of(&steps)?);
     let found = selected(source, &steps);
     py.check_signals()?;
     arrays(found.map_err(raised)?)
 }
 
-/// A stream of the arrays; `schema_of` has the schema.
+/// Returns a stream of the arrays; `schema_of` has the schema.
 fn stream_of(schema_of: &Array, chunks: &[PyRef<'_, Array>]) -> PyResult<Stream> {
-    let chunks = chunks.iter().map(|chunk| chunk.shared()).collect::<PyResult<_>>()?;
+    let chunks = chunks
+        .iter()
+        .map(|chunk| chunk.shared())
+        .collect::<PyResult<_>>()?;
     Stream::of(&schema_of.of.lock(), chunks).map_err(raised)
 }
 
-/// The rows that the steps leave of several arrays of one type, end to end.
+/// Returns the rows that the steps leave of several arrays of one type, end to end.
 #[pyfunction]
 pub fn select_chunks(
     py: Python<'_>,
@@ -368,7 +416,7 @@ pub fn select_chunks(
     arrays(found.map_err(raised)?)
 }
 
-/// A capsule with a stream of arrays in the memory of these.
+/// Returns a capsule with a stream of arrays in the memory of these.
 #[pyfunction]
 pub fn stream_capsule(
     py: Python<'_>,

@@ -59,10 +59,11 @@ unsafe extern "C" fn dropped<T: Struct>(capsule: *mut ffi::PyObject) {
     T::drop_of(capsule);
 }
 
-/// A capsule with a struct, which is released with the capsule unless somebody moves it out.
+/// Returns a capsule with a struct. The struct is released with the capsule, unless a consumer
+/// moves it out.
 pub fn capsule<T: Struct>(py: Python<'_>, held: T) -> PyResult<PyObject> {
     let place = Box::into_raw(Box::new(held));
-    // SAFETY: the place leads to a struct that the capsule owns from now on, and the name is static.
+    // SAFETY: the place leads to a struct that the capsule owns from now on. The name is static.
     let made = unsafe { ffi::PyCapsule_New(place.cast(), name_of::<T>(), Some(dropped::<T>)) };
     if made.is_null() {
         // SAFETY: no capsule was made, so the box is still ours.
@@ -73,26 +74,32 @@ pub fn capsule<T: Struct>(py: Python<'_>, held: T) -> PyResult<PyObject> {
     Ok(unsafe { PyObject::from_owned_ptr(py, made) })
 }
 
-/// The struct in a capsule that somebody made, to be moved out.
+/// Returns the struct in a capsule of a producer, to be moved out.
 ///
 /// # Errors
-/// `TypeError` where the object isn't such a capsule, `ValueError` where its struct is released, so
-/// that somebody has moved it out already.
+/// `TypeError` if the object isn't such a capsule. `ValueError` if its struct is released, so that
+/// a consumer has moved it out before.
 pub fn held_in<T: Struct>(object: &PyAny) -> PyResult<*mut T> {
     let name = name_of::<T>();
     // SAFETY: the object is alive, and the name ends with a byte 0.
     let (is_valid, called) = unsafe {
-        (ffi::PyCapsule_IsValid(object.as_ptr(), name) != 0, CStr::from_ptr(name))
+        (
+            ffi::PyCapsule_IsValid(object.as_ptr(), name) != 0,
+            CStr::from_ptr(name),
+        )
     };
     if !is_valid {
         let found = object.get_type().name().unwrap_or("object").to_string();
-        return Err(PyTypeError::new_err(format!("expected a capsule {called:?}, got {found}")));
+        return Err(PyTypeError::new_err(format!(
+            "expected a capsule {called:?}, got {found}"
+        )));
     }
     // SAFETY: the capsule is valid under this name, so its pointer isn't null.
     let place = unsafe { ffi::PyCapsule_GetPointer(object.as_ptr(), name) }.cast::<T>();
     // SAFETY: a capsule of this name leads to such a struct, and the GIL is held.
     if unsafe { (*place).is_released() } {
-        let text = format!("the capsule {called:?} holds a released struct: it was consumed before");
+        let text =
+            format!("the capsule {called:?} holds a released struct: it was consumed before");
         return Err(PyValueError::new_err(text));
     }
     Ok(place)

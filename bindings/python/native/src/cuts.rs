@@ -9,7 +9,9 @@ fn done(answer: Answer) -> PyResult<()> {
     match answer.status {
         DONE => Ok(()),
         raw::TOO_MANY => Err(PyOverflowError::new_err("the parts have 2^64 rows or more")),
-        status => Err(PyValueError::new_err(format!("lists of parts: status {status}"))),
+        status => Err(PyValueError::new_err(format!(
+            "lists of parts: status {status}"
+        ))),
     }
 }
 
@@ -33,7 +35,11 @@ pub fn cut_slice(
     out: (&PyAny, &PyAny, &PyAny),
 ) -> PyResult<bool> {
     let lengths = Source::of(lengths, 8)?;
-    let (starts, ends, left) = (Target::of(out.0, 8)?, Target::of(out.1, 8)?, Target::of(out.2, 8)?);
+    let (starts, ends, left) = (
+        Target::of(out.0, 8)?,
+        Target::of(out.1, 8)?,
+        Target::of(out.2, 8)?,
+    );
     // SAFETY: as in `cut_bounds`.
     let answer = unsafe {
         raw::vortex_cut_slice(

@@ -22,7 +22,7 @@ mod calls {
     }
 }
 
-/// Whether this thread holds the GIL, so that it may call the interpreter.
+/// Returns whether this thread holds the GIL, so that it may call the interpreter.
 ///
 /// `PyGILState_Check` can't be asked: it is always true once a subinterpreter was made.
 pub fn is_held() -> bool {
@@ -33,13 +33,13 @@ pub fn is_held() -> bool {
     }
 }
 
-/// Whether the interpreter runs and isn't about to end.
+/// Returns whether the interpreter is running and not ending.
 pub fn is_running() -> bool {
     // SAFETY: the call reads a number, and may be made by any thread at any time.
     unsafe { calls::Py_IsInitialized() != 0 }
 }
 
-/// The GIL as this thread gave it up.
+/// The thread state of a thread that released the GIL.
 struct Released {
     state: *mut ffi::PyThreadState,
     is_waiting: bool,

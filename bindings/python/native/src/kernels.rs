@@ -15,30 +15,37 @@ use vortex_select_sys::kernels::{Answer, Record16, Record32};
 const BITS_PAST: u64 = 2;
 const ROOM: u64 = 3;
 
-/// How many indices are copied at a time: a multiple of 64, so that a block's validity begins with
-/// a word, and 1 MiB, which a second-level cache holds.
+/// The number of indices that are copied at a time. It is a multiple of 64, so that a block's
+/// validity begins with a word, and a block is 1 MiB, which a second-level cache holds.
 const BLOCK: usize = 1 << 17;
 
-/// The value of a call that is done.
+/// Returns the value of a call, or the exception of its status.
 fn done(answer: Answer) -> PyResult<u64> {
     match answer.status {
         raw::DONE => Ok(answer.value),
         BITS_PAST => Err(PyValueError::new_err("a bit past the rows is set")),
         raw::LENGTHS => Err(PyValueError::new_err("the lengths of the lists disagree")),
         status => {
-            let text = format!("the kernel returned status {status}, value {}", answer.value);
+            let text = format!(
+                "the kernel returned status {status}, value {}",
+                answer.value
+            );
             Err(PyValueError::new_err(text))
         }
     }
 }
 
-/// How many items a call that was given no room asks for.
+/// Returns how many items a call that was given no output needs.
 fn wanted(answer: Answer) -> PyResult<usize> {
-    let count = if answer.status == ROOM { answer.value } else { done(answer)? };
+    let count = if answer.status == ROOM {
+        answer.value
+    } else {
+        done(answer)?
+    };
     Ok(count as usize)
 }
 
-/// Bytes that nobody else knows of yet.
+/// Returns a new bytearray, whose bytes aren't written yet.
 pub fn new_bytes(py: Python<'_>, len: usize) -> PyResult<&PyByteArray> {
     let len = ffi::Py_ssize_t::try_from(len)
         .map_err(|_| PyErr::new::<pyo3::exceptions::PyMemoryError, _>("out of memory"))?;
@@ -51,12 +58,36 @@ macro_rules! of_width {
     ($width:expr, $_1:ident $_2:ident $_4:ident $_8:ident $_16:ident $_32:ident,
         |$call:ident, $item:ident| $body:expr) => {
         match $width {
-            1 => { use raw::$_1 as $call; type $item = u8; $body }
-            2 => { use raw::$_2 as $call; type $item = u16; $body }
-            4 => { use raw::$_4 as $call; type $item = u32; $body }
-            8 => { use raw::$_8 as $call; type $item = u64; $body }
-            16 => { use raw::$_16 as $call; type $item = Record16; $body }
-            32 => { use raw::$_32 as $call; type $item = Record32; $body }
+            1 => {
+                use raw::$_1 as $call;
+                type $item = u8;
+                $body
+            }
+            2 => {
+                use raw::$_2 as $call;
+                type $item = u16;
+                $body
+            }
+            4 => {
+                use raw::$_4 as $call;
+                type $item = u32;
+                $body
+            }
+            8 => {
+                use raw::$_8 as $call;
+                type $item = u64;
+                $body
+            }
+            16 => {
+                use raw::$_16 as $call;
+                type $item = Record16;
+                $body
+            }
+            32 => {
+                use raw::$_32 as $call;
+                type $item = Record32;
+                $body
+            }
             width => Err(PyValueError::new_err(format!(
                 "items of {width} bytes: expected 1, 2, 4, 8, 16 or 32"
             ))),
@@ -64,7 +95,7 @@ macro_rules! of_width {
     };
 }
 
-/// The items at the set bits of a mask that begins at bit `at` of the words.
+/// Returns the items at the set bits of a mask that begins at bit `at` of the words.
 #[pyfunction]
 pub fn filter<'p>(
     py: Python<'p>,
@@ -106,8 +137,8 @@ pub fn filter_in_place(
     })
 }
 
-/// A list of native integers, of which blocks are copied as numbers of 64 bits. A negative number
-/// becomes one that is 2^63 or more, so past every list.
+/// A list of native integers, copied in blocks as numbers of 64 bits. A negative number becomes one
+/// of 2^63 or more, which is out of bounds of every list.
 struct Indices {
     list: Source,
     is_signed: bool,
@@ -121,7 +152,11 @@ impl Indices {
         }
         let list = Source::of(object, width)?;
         let block = Vec::new();
-        Ok(Indices { list, is_signed, block })
+        Ok(Indices {
+            list,
+            is_signed,
+            block,
+        })
     }
 
     fn widened<T: Copy>(&mut self, start: usize, count: usize, wide: impl Fn(T) -> u64) {
@@ -160,24 +195,31 @@ impl Indices {
     }
 }
 
-/// The words of the validity of picks, or none where all are valid.
+/// The validity bitmap of indices; `None` if all are valid.
 struct Valid(Option<Source>);
 
 impl Valid {
     fn of(object: Option<&PyAny>, picks: usize) -> PyResult<Self> {
         let words = object.map(|object| Source::of(object, 8)).transpose()?;
-        let has_all = words.as_ref().map_or(true, |words| words.len() >= picks.div_ceil(64));
+        let has_all = words
+            .as_ref()
+            .map_or(true, |words| words.len() >= picks.div_ceil(64));
         if !has_all {
-            return Err(PyValueError::new_err("the validity is shorter than the indices"));
+            return Err(PyValueError::new_err(
+                "the validity is shorter than the indices",
+            ));
         }
         Ok(Valid(words))
     }
 
-    /// The words of picks from one on, which is a multiple of 64.
+    /// Returns the words of `count` indices from `start` on, which is a multiple of 64.
     fn part(&self, start: usize, count: usize) -> (*const u64, usize) {
         self.0.as_ref().map_or((null(), 0), |words| {
             // SAFETY: there is a word for each 64 picks.
-            (unsafe { words.place::<u64>().add(start / 64) }, count.div_ceil(64))
+            (
+                unsafe { words.place::<u64>().add(start / 64) },
+                count.div_ceil(64),
+            )
         })
     }
 }
@@ -186,7 +228,7 @@ fn past(place: usize) -> PyErr {
     PyIndexError::new_err(format!("index {place} of the list is out of bounds"))
 }
 
-/// The items at the indices, and zeros where the bit of `valid` is clear.
+/// Returns the items at the indices, and zeros where the bit of `valid` is clear.
 #[pyfunction]
 pub fn take<'p>(
     py: Python<'p>,
@@ -230,7 +272,7 @@ pub fn take<'p>(
     })
 }
 
-/// The bits at the set bits of a mask, as whole words, and their number.
+/// Returns the bits at the set bits of a mask, as whole words, and their number.
 #[pyfunction]
 pub fn filter_bits<'p>(
     py: Python<'p>,
@@ -253,7 +295,7 @@ pub fn filter_bits<'p>(
     Ok((kept, count))
 }
 
-/// The bits at the indices, as whole words, and clear ones where `valid` is clear.
+/// Returns the bits at the indices, as whole words, and clear bits where `valid` is clear.
 #[pyfunction]
 pub fn take_bits<'p>(
     py: Python<'p>,
@@ -284,7 +326,13 @@ pub fn take_bits<'p>(
             }
             start += count;
         }
-        (Answer { status: raw::DONE, value: 0 }, start)
+        (
+            Answer {
+                status: raw::DONE,
+                value: 0,
+            },
+            start,
+        )
     });
     if answer.status == raw::INDEX {
         return Err(past(start + answer.value as usize));
@@ -293,7 +341,7 @@ pub fn take_bits<'p>(
     Ok(taken)
 }
 
-/// The rows that a mask selects, as numbers of 64 bits.
+/// Returns the rows that a mask selects, as numbers of 64 bits.
 #[pyfunction]
 pub fn positions<'p>(py: Python<'p>, words: &PyAny, rows: usize) -> PyResult<&'p PyByteArray> {
     let mask = Source::of(words, 8)?;
@@ -304,11 +352,13 @@ pub fn positions<'p>(py: Python<'p>, words: &PyAny, rows: usize) -> PyResult<&'p
     let dst = Target::of(found, 8)?;
     let (d, room) = (dst.place::<u64>(), dst.len());
     // SAFETY: as above, and nobody else knows of what is written.
-    done(without(py, || unsafe { raw::vortex_positions(w, m, rows, d, room) }))?;
+    done(without(py, || unsafe {
+        raw::vortex_positions(w, m, rows, d, room)
+    }))?;
     Ok(found)
 }
 
-/// The runs of rows that a mask selects, as a start and an end each.
+/// Returns the runs of rows that a mask selects, each a start and an end.
 #[pyfunction]
 pub fn runs<'p>(py: Python<'p>, words: &PyAny, rows: usize) -> PyResult<&'p PyByteArray> {
     let mask = Source::of(words, 8)?;
@@ -319,11 +369,13 @@ pub fn runs<'p>(py: Python<'p>, words: &PyAny, rows: usize) -> PyResult<&'p PyBy
     let dst = Target::of(found, 16)?;
     let (d, room) = (dst.place(), dst.len());
     // SAFETY: as above, and nobody else knows of what is written.
-    done(without(py, || unsafe { raw::vortex_runs(w, m, rows, d, room) }))?;
+    done(without(py, || unsafe {
+        raw::vortex_runs(w, m, rows, d, room)
+    }))?;
     Ok(found)
 }
 
-/// The `k`-th row that a mask selects, from 0.
+/// Returns the `k`-th row that a mask selects, from 0.
 #[pyfunction]
 pub fn rank(words: &PyAny, rows: usize, k: u64) -> PyResult<u64> {
     let mask = Source::of(words, 8)?;
@@ -336,19 +388,21 @@ pub fn rank(words: &PyAny, rows: usize, k: u64) -> PyResult<u64> {
     done(answer)
 }
 
-/// How many rows before row `p` a mask selects.
+/// Returns how many rows before row `p` a mask selects.
 #[pyfunction]
 pub fn count_before(words: &PyAny, rows: usize, p: u64) -> PyResult<u64> {
     let mask = Source::of(words, 8)?;
     // SAFETY: the place leads to so many words.
     let answer = unsafe { raw::vortex_count_before(mask.place(), mask.len(), rows, p as usize) };
     if answer.status == raw::INDEX {
-        return Err(PyIndexError::new_err(format!("row {p}: there are {rows} rows")));
+        return Err(PyIndexError::new_err(format!(
+            "row {p}: there are {rows} rows"
+        )));
     }
     done(answer)
 }
 
-/// A bit for each byte, set where the byte isn't 0, the lowest bit of each byte first.
+/// Packs bools of a byte each into bits, the lowest bit of each byte first.
 #[pyfunction]
 pub fn pack<'p>(py: Python<'p>, bools: &PyAny) -> PyResult<&'p PyBytes> {
     let list = Source::of(bools, 1)?;
@@ -364,7 +418,7 @@ pub fn pack<'p>(py: Python<'p>, bools: &PyAny) -> PyResult<&'p PyBytes> {
     })
 }
 
-/// The version of the library that is linked.
+/// Returns the version of the library.
 #[pyfunction]
 pub fn version() -> u32 {
     vortex_select::version()

@@ -1,6 +1,6 @@
 //! The native part of the Python module `vortex_select`: owners of memory, and calls.
 //!
-//! What may go wrong with memory is here and in the crate `vortex-select`, which is safe: the Python
+//! All unsafe code is here and in the crate `vortex-select`, whose functions are safe. The Python
 //! code above it reads buffers by memoryviews, whose bounds were tested when they were made.
 #![allow(unexpected_cfgs)] // those of PyO3
 
@@ -23,7 +23,7 @@ extern "C" {
     fn PyInterpreterState_Get() -> *mut ffi::PyInterpreterState;
 }
 
-/// Whether this is an interpreter beside the first one of the process.
+/// Returns whether this isn't the main interpreter of the process.
 fn is_subinterpreter() -> bool {
     // SAFETY: a module is made by a thread that runs an interpreter and holds its GIL.
     unsafe { PyInterpreterState_Get() != ffi::PyInterpreterState_Main() }

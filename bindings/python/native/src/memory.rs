@@ -10,7 +10,8 @@ use std::os::raw::{c_int, c_void};
 use std::ptr::{copy_nonoverlapping, null_mut};
 use std::sync::Mutex;
 
-/// A buffer of an object, which stays at its place and keeps its size until this is dropped.
+/// A buffer of an object, acquired by the buffer protocol. Its memory stays at its place and keeps
+/// its size until this is dropped.
 pub struct Held(Option<Box<ffi::Py_buffer>>);
 
 // SAFETY: the memory may be read by any thread, and a view is released by a thread with the GIL.
@@ -28,15 +29,15 @@ impl Held {
         Ok(Held(Some(view)))
     }
 
-    /// The bytes of an object, to be read.
+    /// Acquires the bytes of an object for reading.
     ///
     /// # Errors
-    /// `BufferError` where they aren't contiguous, `TypeError` where the object has no buffer.
+    /// `BufferError` if they aren't contiguous, `TypeError` if the object has no buffer.
     pub fn read(object: &PyAny) -> PyResult<Self> {
         Held::of(object, ffi::PyBUF_SIMPLE)
     }
 
-    /// The bytes of an object, to be written.
+    /// Acquires the bytes of an object for writing.
     pub fn write(object: &PyAny) -> PyResult<Self> {
         Held::of(object, ffi::PyBUF_WRITABLE)
     }
@@ -90,11 +91,14 @@ struct Left(Box<ffi::Py_buffer>);
 // SAFETY: only a thread with the GIL uses what the view leads to.
 unsafe impl Send for Left {}
 
-/// Views that threads without the GIL dropped.
+/// The views that were dropped by threads without the GIL.
 static LEFT: Mutex<Vec<Left>> = Mutex::new(Vec::new());
 
 extern "C" {
-    fn Py_AddPendingCall(call: unsafe extern "C" fn(*mut c_void) -> c_int, of: *mut c_void) -> c_int;
+    fn Py_AddPendingCall(
+        call: unsafe extern "C" fn(*mut c_void) -> c_int,
+        of: *mut c_void,
+    ) -> c_int;
 }
 
 /// Has the interpreter release a view as soon as it can. Once it has ended, the view is leaked.
@@ -118,7 +122,7 @@ unsafe extern "C" fn release_left(_: *mut c_void) -> c_int {
     0
 }
 
-/// A list that a kernel reads: a buffer, or its copy where it isn't aligned for its items.
+/// A list that a kernel reads: a buffer, or its copy if it isn't aligned for its items.
 pub struct Source {
     held: Held,
     copy: Vec<[u64; 4]>,
@@ -126,7 +130,7 @@ pub struct Source {
 }
 
 impl Source {
-    /// The whole items of so many bytes each in an object's buffer.
+    /// Acquires the whole items of `width` bytes in an object's buffer.
     pub fn of(object: &PyAny, width: usize) -> PyResult<Self> {
         let held = Held::read(object)?;
         let mut copy = Vec::new();
@@ -162,10 +166,10 @@ pub struct Target {
 }
 
 impl Target {
-    /// The whole items of so many bytes each in an object's buffer.
+    /// Acquires the whole items of `width` bytes in an object's buffer.
     ///
     /// # Errors
-    /// `ValueError` where it isn't aligned for its items; as for `Held::write`.
+    /// `ValueError` if it isn't aligned for its items, and those of `Held::write`.
     pub fn of(object: &PyAny, width: usize) -> PyResult<Self> {
         let held = Held::write(object)?;
         let align = width.min(8);

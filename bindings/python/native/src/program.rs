@@ -3,7 +3,7 @@ use crate::gil::without;
 use pyo3::prelude::*;
 use pyo3::types::PyBytes;
 
-/// What the program returns for its arguments and its standard input: a status and a text.
+/// Runs the program with arguments and a standard input: returns its status and its output.
 #[pyfunction]
 pub fn program(py: Python<'_>, words: Vec<String>, document: Vec<u8>) -> (u8, &PyBytes) {
     let words: Vec<&str> = words.iter().map(String::as_str).collect();

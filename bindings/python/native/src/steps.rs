@@ -14,7 +14,16 @@ create_exception!(
 );
 
 /// A step as Python writes it: kind, start, end, number type, offset, length, values, validity.
-pub type Written<'p> = (u8, u64, u64, u8, usize, usize, Option<&'p PyAny>, Option<&'p PyAny>);
+pub type Written<'p> = (
+    u8,
+    u64,
+    u64,
+    u8,
+    usize,
+    usize,
+    Option<&'p PyAny>,
+    Option<&'p PyAny>,
+);
 
 const NUMBERS: [Number; 11] = [
     Number::U8,
@@ -30,7 +39,7 @@ const NUMBERS: [Number; 11] = [
     Number::F64,
 ];
 
-/// A step and the buffers that its lists are in.
+/// A step, and the buffers of its lists.
 struct Listed {
     kind: u8,
     start: u64,
@@ -81,12 +90,16 @@ impl Listed {
     }
 }
 
-/// The steps of a call, and the buffers that they are in.
+/// The steps of a call.
 pub struct Steps(Vec<Listed>);
 
 impl Steps {
     pub fn of(steps: &[Written]) -> PyResult<Self> {
-        steps.iter().map(Listed::of).collect::<PyResult<_>>().map(Steps)
+        steps
+            .iter()
+            .map(Listed::of)
+            .collect::<PyResult<_>>()
+            .map(Steps)
     }
 
     pub fn list(&self) -> Vec<Step<'_>> {
@@ -104,7 +117,7 @@ fn number_of(cause: Cause) -> u64 {
     }
 }
 
-/// The exception of an error.
+/// Returns the exception of an error.
 pub fn raised(error: Error) -> PyErr {
     let text = error.to_string();
     match error {
