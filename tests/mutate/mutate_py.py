@@ -1,6 +1,9 @@
 """Plants one small bug at a time in the Python module, by its syntax tree.
 
-usage: mutate_py.py FOLDER LIST [SEED]    (FOLDER: bindings/python/src/vortex_select; LIST: what is written)
+usage: mutate_py.py FOLDER LIST [SEED [MOST]]
+
+FOLDER is bindings/python/src/vortex_select, or a copy of some files of it. LIST is what is written: all mutants,
+or a random sample of MOST.
 """
 
 import ast
@@ -258,32 +261,44 @@ class Maker(ast.NodeVisitor):
             self.visit(node.value)
 
 
+def made_of(folder):
+    """Return all mutants of the files of a folder, some of which may not compile, and their texts."""
+    texts = {path.name: path.read_text() for path in sorted(folder.glob("*.py"))}
+    made = [m for name, text in texts.items() for m in Maker(name, text).made]
+    made.sort(key=lambda m: (m["file"], m["start"], m["end"], m["new"]))
+    for number, m in enumerate(made):
+        m["id"] = f"p{number:04}"
+    return made, texts
+
+
+def dumped_of(data, name):
+    """Return the text of a syntax tree, or None if the file doesn't compile."""
+    try:
+        compile(data, name, "exec")
+        return ast.dump(compile(data, name, "exec", ast.PyCF_ONLY_AST))
+    except (SyntaxError, ValueError):
+        return None
+
+
 def main():
     folder, listed = pathlib.Path(sys.argv[1]), pathlib.Path(sys.argv[2])
     seed = int(sys.argv[3]) if len(sys.argv) > 3 else 20261201
-    every, seen = [], set()
-    for path in sorted(folder.glob("*.py")):
-        text = path.read_text()
-        original = ast.dump(ast.parse(text))
-        for m in Maker(path.name, text).made:
-            data = text.encode()
-            changed = data[: m["start"]] + m["new"].encode() + data[m["end"] :]
-            try:
-                tree = compile(changed, path.name, "exec", ast.PyCF_ONLY_AST)
-                compile(changed, path.name, "exec")
-            except (SyntaxError, ValueError):
-                continue
-            dumped = ast.dump(tree)
-            if dumped == original or (path.name, dumped) in seen:
-                continue
-            seen.add((path.name, dumped))
-            every.append(m)
-    every.sort(key=lambda m: (m["file"], m["start"], m["end"], m["new"]))
-    for number, m in enumerate(every):
-        m["id"] = f"p{number:04}"
-    random.Random(seed).shuffle(every)
-    listed.write_text("".join(json.dumps(m) + "\n" for m in every))
-    print(len(every), "mutants")
+    most = int(sys.argv[4]) if len(sys.argv) > 4 else 10**9
+    made, texts = made_of(folder)
+    random.Random(seed).shuffle(made)
+    seen = {(name, dumped_of(text.encode(), name)) for name, text in texts.items()}
+    kept = []
+    for m in made:
+        data = texts[m["file"]].encode()
+        changed = data[: m["start"]] + m["new"].encode() + data[m["end"] :]
+        dumped = dumped_of(changed, m["file"])
+        if dumped is not None and (m["file"], dumped) not in seen and len(kept) < most:
+            seen.add((m["file"], dumped))
+            kept.append(m)
+        if len(kept) == most:
+            break
+    listed.write_text("".join(json.dumps(m) + "\n" for m in kept))
+    print(len(kept), "mutants")
 
 
 main()

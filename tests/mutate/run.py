@@ -9,15 +9,20 @@ mutants that survived in that log are taken. `original` as the only ID runs the 
 
 Stages of c, in bindings/c/tests: quick (the tests of the shim, with 300 random columns), bytes (answers over
 memory with other contents), sanitized (quick under clang's sanitizers), threads (2,000 random columns under
-its thread sanitizer), long (20,000 random columns).
+its thread sanitizer), long (20,000 random columns), valgrind (quick under valgrind, with 60 random columns).
 Stages of py: the names of test modules, or of tests in them, with a count of random calls after a colon.
-Stages of rust: the names of the crate's integration tests, and doc (the examples in comments).
+The native module must be built (`bindings/python/build`): it is copied with the package.
+Stages of rust: the names of the crate's integration tests, doc (the examples in comments) and valgrind (the
+test `arrow` under valgrind). Names are joined by `+`. A count of random calls may follow a colon, and then the
+slowest tests are left out.
 """
 
 import argparse
+import fnmatch
 import json
 import os
 import pathlib
+import re
 import resource
 import shutil
 import signal
@@ -31,6 +36,7 @@ C_KINDS = {
     "sanitized": ["clang", "-O1", PATTERN, "-fsanitize=address,undefined", "-fno-sanitize-recover=all"],
     "threads": ["clang", "-O1", "-fsanitize=thread"],
 }
+SLOW = "deep_columns", "too_many_columns"  # tests of Rust
 C_TESTS = [(f"check_arrow_{name}",) for name in ("faults", "contents", "dictionaries", "shared", "streams")]
 
 
@@ -122,13 +128,13 @@ class C:
         self.built.add(out)
         return out
 
-    def each(self, kind, programs, cpu):
-        """Runs programs until one fails."""
+    def each(self, kind, programs, cpu, before=()):
+        """Runs programs until one fails. `before` are the words before a program."""
         used = 0
         for name, *words in programs:
             env = {"TSAN_OPTIONS": "halt_on_error=1", "ASAN_OPTIONS": "allocator_may_return_null=1"}
-            memory = 4 << 30 if kind == "plain" else None
-            status, said, more = ran([self.program(kind, name), *words], self.work, cpu, env, memory)
+            memory = 4 << 30 if kind == "plain" and not before else None
+            status, said, more = ran([*before, self.program(kind, name), *words], self.work, cpu, env, memory)
             used += more
             if status:
                 return status, f"{name}: {said}", used
@@ -157,6 +163,8 @@ class C:
             return self.each("threads", [("check_arrow", 2000)], 60)
         if stage == "long":
             return self.each("plain", [("check_arrow", 20000)], 90)
+        if stage == "valgrind":
+            return self.each("plain", [*C_TESTS, ("check_arrow", 60)], 120, ["valgrind", "-q", "--error-exitcode=9"])
         raise SystemExit(f"no stage {stage}")
 
 
@@ -164,13 +172,15 @@ class Py:
     """The module's tests, over a copy of the module of which one file is changed."""
 
     def __init__(self, options):
-        self.work, self.library = options.work, options.library
-        self.module = options.repo / "bindings/python"
-        self.tests, self.package = self.work / "tests", self.work / "src/vortex_select"
+        self.work, self.source = options.work, options.repo / "bindings/python/src/vortex_select"
+        module = self.work / "bindings/python"
+        self.tests, self.package = module / "tests", module / "src/vortex_select"
         if self.work.exists():
             shutil.rmtree(self.work)
-        shutil.copytree(self.module, self.work, ignore=shutil.ignore_patterns("__pycache__"))
-        self.source = self.module / "src/vortex_select"
+        # The package is copied with its built module. Tests read pages.
+        for name in "bindings/python/src", "bindings/python/tests", "docs":
+            ignored = shutil.ignore_patterns("__pycache__")
+            shutil.copytree(options.repo / name, self.work / name, ignore=ignored)
         self.dirty, self.cpu, self.wall = None, options.cpu, options.wall
 
     def plant(self, mutant):
@@ -185,11 +195,10 @@ class Py:
 
     def run(self, stage):
         names, _, calls = stage.partition(":")
-        env = {"PYTHONPATH": str(self.work / "src")}
-        if self.library:
-            env["VORTEX_SELECT_LIBRARY"] = str(self.library)
+        env = {"PYTHONPATH": str(self.package.parent)}
         if calls:
             env.update(VORTEX_ARROW_CALLS=calls, VORTEX_PLANS=calls, VORTEX_CALLS=calls)
+            env.update(VORTEX_BORDER_SECONDS="0.3", VORTEX_DAMAGE="400")
         words = ["python3", "-B", "-m", "unittest", "-f", *names.split("+")]
         return ran(words, self.tests, self.cpu, env, 4 << 30, self.wall)
 
@@ -209,7 +218,7 @@ class Rust:
         for path in (self.crate / "src").rglob("*.rs"):
             os.utime(path)
         self.dirty = None
-        self.calls = options.count or 20000
+        self.cargo = ["cargo", "test", "--offline", "--features", self.features]
 
     def plant(self, mutant):
         if self.dirty:
@@ -223,26 +232,54 @@ class Rust:
             (self.crate / "src" / mutant["file"]).write_text(changed)
 
     def run(self, stage):
-        env = {"VORTEX_SELECT_LIB_DIR": str(self.libs), "VORTEX_CALLS": str(self.calls), "CARGO_BUILD_JOBS": "1",
-               "CARGO_TARGET_DIR": str(self.work / "target"), "RUST_TEST_THREADS": "1"}
+        names, _, calls = stage.partition(":")
+        env, skipped = self.environment(), []
+        if calls:
+            env.update(VORTEX_CALLS=calls, VORTEX_ARROW_CALLS=calls)
+            skipped = [word for name in SLOW for word in ("--skip", name)]
+        if names == "valgrind":
+            return self.valgrind(env, skipped)
+        words = self.cargo + [word for name in names.split("+")
+                              for word in (["--doc"] if name == "doc" else ["--test", name])]
+        used = 0
+        if names != "doc":
+            status, said, used = ran([*words, "--quiet", "--no-run"], self.crate, 300, env, None, 1200)
+            if status:
+                raise Ended("uncompiled " + said)
+        status, said, more = ran([*words, "--quiet", "--", *skipped], self.crate, 60, env, None, 600)
+        return status, said, used + more
+
+    def environment(self):
+        env = {"VORTEX_SELECT_LIB_DIR": str(self.libs), "CARGO_BUILD_JOBS": "1", "RUST_TEST_THREADS": "1",
+               "CARGO_TARGET_DIR": str(self.work / "target")}
         for name in ("DEV", "TEST"):
             env[f"CARGO_PROFILE_{name}_OPT_LEVEL"] = "0"
             env[f"CARGO_PROFILE_{name}_DEBUG"] = "0"
-        words = ["--doc"] if stage == "doc" else ["--test", stage]
-        base = ["cargo", "test", "--offline", "--quiet", "--features", self.features, *words]
-        used = 0
-        if stage != "doc":
-            status, said, used = ran([*base, "--no-run"], self.crate, 300, env, None, 1200)
-            if status:
-                raise Ended("uncompiled " + said)
-        status, said, more = ran(base, self.crate, 60, env, None, 600)
+        return env
+
+    def valgrind(self, env, skipped):
+        """The tests of columns under valgrind, where a leak fails."""
+        words = [*self.cargo, "--test", "arrow", "--no-run"]
+        status, said, used = ran(words, self.crate, 300, env, None, 1200)
+        program = re.search(r"Executable .*\((.*)\)", said)
+        if status or not program:
+            raise Ended("uncompiled " + said)
+        leaks = "definite,indirect"
+        words = ["valgrind", "-q", "--leak-check=full", f"--show-leak-kinds={leaks}",
+                 f"--errors-for-leak-kinds={leaks}", "--error-exitcode=9", program.group(1)]
+        status, said, more = ran([*words, *skipped], self.crate, 300, env, None, 900)
         return status, said, used + more
+
+
+def stages_of(of_file, name):
+    """The stages of the first pattern that a file's name matches."""
+    return next(stages for pattern, stages in of_file.items() if fnmatch.fnmatch(name, pattern)).split(",")
 
 
 def main():
     parser = argparse.ArgumentParser()
     parser.add_argument("kind", choices=["c", "py", "rust"])
-    for word in "repo", "list", "log", "work", "library", "libs":
+    for word in "repo", "list", "log", "work", "libs":
         parser.add_argument("--" + word, type=lambda text: pathlib.Path(text).absolute())
     parser.add_argument("--stages", required=True)
     parser.add_argument("--survivors", type=pathlib.Path)
@@ -250,12 +287,12 @@ def main():
     parser.add_argument("--minutes", type=float, default=1e9)
     parser.add_argument("--arrow", type=lambda text: text.split(","))
     parser.add_argument("--count", type=int, default=0)
-    parser.add_argument("--most", type=int, default=10**9)
+    parser.add_argument("--most", type=int, default=10**9, help="how many mutants that compile")
     parser.add_argument("--features", default="arrow")
     parser.add_argument("--crate", default="vortex-select", help="of rust: the folder in bindings/rust")
     parser.add_argument("--cpu", type=int, default=240, help="processor seconds of a Python stage at the most")
     parser.add_argument("--wall", type=int, default=900, help="seconds of a Python stage at the most")
-    parser.add_argument("--by-file", action="store_true", help="stages are FILE=a,b;FILE=c;*=d")
+    parser.add_argument("--by-file", action="store_true", help="stages are PATTERN=a,b;PATTERN=c;*=d")
     options = parser.parse_args()
     stop = time.time() + 60 * options.minutes
     options.work.mkdir(parents=True, exist_ok=True)
@@ -278,19 +315,19 @@ def main():
         lines = map(json.loads, options.survivors.read_text().splitlines())
         left = {line["id"] for line in lines if line["end"] == "survived"}
         mutants = [m for m in mutants if m["id"] in left]
-    known = set()
-    if options.log.exists():
-        known = {json.loads(line)["id"] for line in options.log.read_text().splitlines()}
+    made = [json.loads(line) for line in options.log.read_text().splitlines()] if options.log.exists() else []
+    known = {line["id"] for line in made}
+    left = options.most - sum(line["end"] != "uncompiled" for line in made)
     with open(options.log, "a") as log:
-        for m in mutants[: options.most]:
+        for m in mutants:
             if m["id"] in known:
                 continue
-            if time.time() > stop:
+            if time.time() > stop or left <= 0:
                 break
             made, used = {"id": m["id"], "file": m["file"], "line": m["line"], "end": "survived", "stages": {}}, 0
             try:
                 subject.plant(m)
-                for stage in of_file.get(m["file"], of_file.get("*")).split(","):
+                for stage in stages_of(of_file, m["file"]):
                     status, said, used = subject.run(stage)
                     made["stages"][stage] = [status, round(used, 1)]
                     if status:
@@ -298,6 +335,7 @@ def main():
                         break
             except Ended as why:
                 made["end"], made["said"] = str(why).split()[0], str(why)[-300:]
+            left -= made["end"] != "uncompiled"
             log.write(json.dumps(made) + "\n")
             log.flush()
     subject.plant(None)

@@ -82,16 +82,65 @@ static void clears(void)
 {
     static const char *const formats[] = {"c", "s", "i", "l", "w:16", "w:3"};
     static const size_t sizes[] = {1, 2, 4, 8, 16, 3};
-    static const size_t rows[] = {1, 7, 8, 9, 63, 64, 65, 128, 200};
+    static const size_t rows[] = {1, 7, 8, 9, 63, 64, 65, 128, 200, 511, 512};
     size_t k, r;
     int kind;
     for (k = 0; k < 6; k++) {
-        for (r = 0; r < 9; r++) {
+        for (r = 0; r < 11; r++) {
             for (kind = 0; kind < 4; kind++) {
                 clear_rows(formats[k], sizes[k], rows[r], kind);
             }
         }
     }
+}
+
+/* A view that is null is all zeros, whatever the source has there. */
+static void clear_views(void)
+{
+    static const uint8_t valid[] = {0x05}, zeros[16];
+    static const int64_t lengths[] = {20};
+    uint8_t views[3][16] = {{2, 0, 0, 0, 'a', 'b'}, {13, 0, 0, 0}, {1, 0, 0, 0, 'c'}};
+    struct ArrowArray out;
+    column c;
+    make(&c, "vu", "v", 3, 4);
+    c.buffers[0] = valid;
+    c.buffers[1] = views;
+    c.buffers[2] = "\0\0\0\0efghijklmnopqrst";
+    c.buffers[3] = lengths;
+    expect(!vortex_select_arrow(&c.schema, &c.array, NULL, 0, NULL, &out, NULL), "views", 0);
+    expect(!memcmp((const uint8_t *)out.buffers[1] + 16, zeros, 16), "a null's view", 0);
+    expect(!memcmp(out.buffers[1], views[0], 16), "the view before it", 0);
+    expect(!memcmp((const uint8_t *)out.buffers[1] + 32, views[2], 16), "the view after it", 0);
+    out.release(&out);
+    c.array.release(&c.array);
+}
+
+/* So are a null's bit, and the offset and the size of a list view. */
+static void clear_bits_and_lists(void)
+{
+    static const uint8_t valid[] = {0x05}, bits[] = {0x07};
+    static const int32_t offsets[] = {1, 3, 2}, sizes[] = {1, 2, 3};
+    struct ArrowArray out;
+    column c, child;
+    make(&c, "b", "b", 3, 2);
+    c.buffers[0] = valid;
+    c.buffers[1] = bits;
+    expect(!vortex_select_arrow(&c.schema, &c.array, NULL, 0, NULL, &out, NULL), "bits", 0);
+    expect(*(const uint8_t *)out.buffers[1] == 0x05, "a null's bit", 0);
+    out.release(&out);
+    make(&c, "+vl", "l", 3, 3);
+    c.buffers[0] = valid;
+    c.buffers[1] = offsets;
+    c.buffers[2] = sizes;
+    make(&child, "n", "item", 5, 0);
+    add_child(&c, &child);
+    expect(!vortex_select_arrow(&c.schema, &c.array, NULL, 0, NULL, &out, NULL), "lists", 0);
+    expect(!((const int32_t *)out.buffers[1])[1], "the offset of a null", 0);
+    expect(!((const int32_t *)out.buffers[2])[1], "the size of a null", 0);
+    expect(((const int32_t *)out.buffers[1])[2] == 2, "the offset of a list", 0);
+    expect(((const int32_t *)out.buffers[2])[2] == 3, "the size of a list", 0);
+    out.release(&out);
+    c.array.release(&c.array);
 }
 
 /* ---- Long lists ---- */
@@ -185,6 +234,8 @@ int main(void)
 {
     widths();
     clears();
+    clear_views();
+    clear_bits_and_lists();
     long_lists();
     long_lists_below("+s");
     long_lists_below("+us:0");

@@ -285,6 +285,36 @@ static void list_lengths(void)
     expect_both(&list, VORTEX_ARROW_NO_MEANING, "w length", "an offset past the child");
 }
 
+/* Widths are decimal numbers, of one digit or more. */
+static void widths(void)
+{
+    static const char *const formats[] = {"w:9", "w:10", "w:190", "w:010"};
+    static const char *const lists[] = {"+w:9", "+w:10", "+w:190", "+w:010"};
+    static const int64_t wide[] = {9, 10, 190, 10};
+    static uint8_t bytes[380];
+    column c, item;
+    struct ArrowArray out;
+    size_t k;
+    for (k = 0; k < 380; k++) {
+        bytes[k] = (uint8_t)(k * 7 % 251);
+    }
+    for (k = 0; k < 4; k++) {
+        make(&c, formats[k], "c", 2, 2);
+        c.buffers[1] = bytes;
+        expect(!vortex_select_arrow(&c.schema, &c.array, NULL, 0, NULL, &out, NULL), "bytes", k);
+        expect(!memcmp(out.buffers[1], bytes, 2 * (size_t)wide[k]), "values of a width", k);
+        out.release(&out);
+        make(&c, lists[k], "c", 2, 1);
+        make(&item, "n", "item", 2 * wide[k], 0);
+        add_child(&c, &item);
+        expect(!vortex_select_arrow(&c.schema, &c.array, NULL, 0, NULL, &out, NULL), "lists", k);
+        expect(out.children[0]->length == 2 * wide[k], "items of a width", k);
+        out.release(&out);
+        item.array.length--;
+        expect_both(&c, VORTEX_ARROW_NO_MEANING, "c length", "an item too few");
+    }
+}
+
 /* ---- Views ---- */
 
 static void views(void)
@@ -347,6 +377,17 @@ static void names(void)
     expect(!strcmp(error.place, "buffers"), "no names", 0);
     expect(!strcmp(error.text, "buffers: the struct doesn't match its format, or is released"),
         "the words", 0);
+}
+
+/* The signs of a format in a name stay as they are. */
+static void signs_in_names(void)
+{
+    vortex_arrow_error error;
+    column c;
+    make(&c, "i", "100%d %s%%", 1, 1);
+    expect(check(&c, &error) == VORTEX_ARROW_SHAPE, "a name with signs", 0);
+    expect(!strcmp(error.place, "100%d %s%% buffers"), "its place", 0);
+    expect(!strncmp(error.text, "100%d %s%% buffers: ", 20), "its text", 0);
 }
 
 /* As many columns one in another; dictionaries count. */
@@ -572,8 +613,10 @@ int main(void)
     string_offsets();
     past_the_bytes();
     list_lengths();
+    widths();
     views();
     names();
+    signs_in_names();
     depths();
     flags_and_metadata();
     released_twice();

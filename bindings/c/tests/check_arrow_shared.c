@@ -113,6 +113,56 @@ static void moved(void)
     released = 0;
 }
 
+/* So is the first of two children, where the second one is still the array's. */
+static void first_moved(void)
+{
+    struct ArrowArray out, again, *kept;
+    column top, x, y, other;
+    make(&top, "+s", "top", 5, 1);
+    make(&x, "l", "x", 5, 2);
+    make(&y, "l", "y", 5, 2);
+    make(&other, "l", "x", 5, 2);
+    x.buffers[1] = y.buffers[1] = other.buffers[1] = values;
+    add_child(&top, &x);
+    add_child(&top, &y);
+    expect(!vortex_arrow_share(&top.array, &out), "a struct of two", 0);
+    kept = out.children[0];
+    out.children[0] = &other.array;
+    expect(vortex_arrow_share(&out, &again) == VORTEX_ARROW_SHAPE && !again.release, "first", 0);
+    out.children[0] = kept;
+    expect(!vortex_arrow_share(&out, &again), "it is back", 0);
+    again.release(&again);
+    out.release(&out);
+    top.array.release(&top.array);
+    expect(released == 3, "all are released, once each", (uint64_t)released);
+    released = 0;
+}
+
+/* So is a dictionary. */
+static void dictionary_moved(void)
+{
+    static const uint8_t zeros[5];
+    struct ArrowArray out, again, *kept;
+    column codes, words, other;
+    make(&codes, "C", "k", 5, 2);
+    codes.buffers[1] = zeros;
+    make(&words, "l", "", 5, 2);
+    make(&other, "l", "", 5, 2);
+    words.buffers[1] = other.buffers[1] = values;
+    set_dictionary(&codes, &words);
+    expect(!vortex_arrow_share(&codes.array, &out), "codes", 0);
+    kept = out.dictionary;
+    out.dictionary = &other.array;
+    expect(vortex_arrow_share(&out, &again) == VORTEX_ARROW_SHAPE && !again.release, "words", 0);
+    out.dictionary = kept;
+    expect(!vortex_arrow_share(&out, &again), "they are back", 0);
+    again.release(&again);
+    out.release(&out);
+    codes.array.release(&codes.array);
+    expect(released == 2, "all are released, once each", (uint64_t)released);
+    released = 0;
+}
+
 /* An answer whose child is the source's, and whose own memory another owner holds. */
 static void shared_answer(void)
 {
@@ -190,6 +240,8 @@ int main(void)
     sliced();
     sliced_below();
     moved();
+    first_moved();
+    dictionary_moved();
     shared_answer();
     for (by_share = 0; by_share < 2; by_share++) {
         chain("vu", by_share);

@@ -14,6 +14,7 @@ typedef struct feed {
     int fails_at; /* 0: the schema; k: batch k - 1, or the end; -1: none */
     const char *words;
     const char *format;
+    int64_t flags;
 } feed;
 
 static int feed_schema(struct ArrowArrayStream *stream, struct ArrowSchema *out)
@@ -27,7 +28,7 @@ static int feed_schema(struct ArrowArrayStream *stream, struct ArrowSchema *out)
     make(&c, f->format, "x", 0, 0);
     *out = c.schema;
     out->children = NULL;
-    out->flags = 0;
+    out->flags = f->flags;
     return 0;
 }
 
@@ -162,6 +163,28 @@ static void rows(void)
     expect_rows(&long_run, 1, of_one, 10, ARROW_FLAG_NULLABLE);
 }
 
+/* A take with nulls adds one flag to those of the source. */
+static void flags(void)
+{
+    static const uint64_t indices[] = {0};
+    static const uint8_t null[] = {0};
+    const int64_t ordered = ARROW_FLAG_DICTIONARY_ORDERED | ARROW_FLAG_MAP_KEYS_SORTED;
+    vortex_arrow_step step = take_of(indices, 1, null);
+    struct ArrowArrayStream source, out;
+    struct ArrowSchema schema;
+    feed f;
+    int is_taken;
+    for (is_taken = 0; is_taken < 2; is_taken++) {
+        int64_t wanted = ordered | (is_taken ? ARROW_FLAG_NULLABLE : 0);
+        source = start(&f, BATCHES, -1, NULL);
+        f.flags = ordered;
+        expect(!vortex_select_arrow_stream(&source, &step, (size_t)is_taken, &out, NULL), "f", 0);
+        expect(!out.get_schema(&out, &schema) && schema.flags == wanted, "flags", (uint64_t)wanted);
+        schema.release(&schema);
+        out.release(&out);
+    }
+}
+
 /* Without batches there are no rows, and no array that a null could be made of. */
 static void no_batches(void)
 {
@@ -289,6 +312,7 @@ int main(void)
     released_twice();
     overflow();
     rows();
+    flags();
     no_batches();
     wrong_batches();
     wrong_sources();

@@ -21,6 +21,11 @@ IDS = (("0",), ("7",), ("0", "1"), ("127", "3"), ("0", "1", "2"), ("5", "0", "90
 TEXTS = ("", "a", "bo", "ann", "twelve bytes", "thirteen byte", "a text of more than these", "é", "\U0001f600")
 
 
+def random_bytes(dice, count):
+    """Return bytes, as `randbytes` of Python 3.9 does."""
+    return dice.getrandbits(8 * count).to_bytes(count, "little") if count else b""
+
+
 def random_type(dice, depth):
     """A type that is nested so deep at the most."""
     if depth and dice.random() < 0.6:
@@ -139,12 +144,12 @@ class Layout:
         if of.dictionary is not None:
             return self.dictionary(of, rows)
         if form == "b":
-            return [packed(rows) + dice.randbytes(dice.randrange(3))], [], None
+            return [packed(rows) + random_bytes(dice, dice.randrange(3))], [], None
         if form in ("u", "U", "z", "Z"):
             data = [row.encode() if isinstance(row, str) else row for row in rows]
-            front = dice.randbytes(dice.choice([0, 0, 5]))
+            front = random_bytes(dice, dice.choice([0, 0, 5]))
             offsets = offsets_of([len(front), *map(len, data)], form in "UZ")[1:]
-            return [offsets, front + b"".join(data) + dice.randbytes(dice.randrange(4))], [], None
+            return [offsets, front + b"".join(data) + random_bytes(dice, dice.randrange(4))], [], None
         if form in ("vu", "vz"):
             return self.views(rows, seen), [], None
         if form[:2] == "+v":
@@ -154,19 +159,19 @@ class Layout:
             return [], [self.array(child, rows) for (_, child), rows in zip(of.children, each)], None
         if form[:1] == "+":
             return self.lists(of, rows)
-        return [_data(of, rows) + dice.randbytes(dice.randrange(4))], [], None
+        return [_data(of, rows) + random_bytes(dice, dice.randrange(4))], [], None
 
     def views(self, rows, seen):
         """Views, up to three buffers that they lead to, and how long these are."""
         dice, views = self.dice, []
-        blocks = [dice.randbytes(dice.choice([0, 5])) for _ in range(dice.randrange(1, 4))]
+        blocks = [random_bytes(dice, dice.choice([0, 5])) for _ in range(dice.randrange(1, 4))]
         for row, is_seen in zip(rows, seen):
             data, which = row.encode() if isinstance(row, str) else row, dice.randrange(len(blocks))
             at = blocks[which].find(data) if dice.random() < 0.5 else -1
             if at < 0:
                 at = len(blocks[which])
                 blocks[which] += data if len(data) > 12 else b""
-            views.append(viewed(data, which, at) if is_seen else dice.randbytes(16))
+            views.append(viewed(data, which, at) if is_seen else random_bytes(dice, 16))
         return [b"".join(views), *blocks, lengths_of(blocks)]
 
     def list_views(self, of, rows, seen):

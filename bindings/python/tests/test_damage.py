@@ -158,8 +158,8 @@ def tried(path, trusted):
 
 
 def tried_as_part(path):
-    """Select all rows of a file. It may say that it has more rows than there is memory for."""
-    with contextlib.suppress(DamagedPart, MemoryError):
+    """Select all rows of a file."""
+    with contextlib.suppress(DamagedPart):
         select_parts(map, [path])
 
 

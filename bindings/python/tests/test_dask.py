@@ -18,9 +18,16 @@ from distributed import Client, LocalCluster
 from vortex_select import BrokenStep, Filter, FilterEach, Slice, Take, column, select
 from vortex_select.parts import DamagedPart, load, select_parts, write_column, write_parts
 
-# So long after a worker was lost a cluster of Dask gives up its place, even where it runs again and
-# was lost once more.
-dask.config.set({"distributed.deploy.lost-worker-timeout": "1 hour"})
+# Workers of a loaded machine may take minutes to start or to answer. So long after a worker was
+# lost, a cluster gives up its place, even where it runs again and was lost once more.
+dask.config.set(
+    {
+        "distributed.comm.timeouts.connect": "2 minutes",
+        "distributed.comm.timeouts.tcp": "10 minutes",
+        "distributed.deploy.lost-worker-timeout": "1 hour",
+        "distributed.scheduler.worker-ttl": "1 hour",
+    }
+)
 
 PARTS, ROWS = 8, 3000
 TYPE = "struct<id: int64, amount: uint32, name: utf8>"
@@ -42,6 +49,14 @@ def counted(path):
 def large(rows):
     """A mask of the rows whose amount is above 900."""
     return [row is not None and row["amount"] > 900 for row in rows.to_pylist()]
+
+
+def processes(client):
+    """Return the processes of the workers that answer.
+
+    The cluster may not know yet that a worker was killed.
+    """
+    return sorted(client.run(os.getpid, on_error="ignore").values())
 
 
 class Workers:
@@ -113,14 +128,14 @@ class Dask(unittest.TestCase):
         with Workers(2) as client:
             for seed in range(10):
                 # The nanny of the one before starts another.
-                client.wait_for_workers(2, timeout=60)
-                victim = random.Random(seed).choice(sorted(client.run(os.getpid).values()))
+                client.wait_for_workers(2, timeout=600)
+                victim = random.Random(seed).choice(processes(client))
                 killer = threading.Timer(0.2, os.kill, (victim, signal.SIGKILL))
                 killer.start()
                 self.agrees(client, seed, load=slowly)
                 killer.join()
-                self.assertNotIn(victim, client.run(os.getpid).values())
-            client.wait_for_workers(2, timeout=60)
+                self.assertNotIn(victim, processes(client))
+            client.wait_for_workers(2, timeout=600)
 
     def test_answers_in_files(self):
         with Workers(2) as client, tempfile.TemporaryDirectory() as folder:

@@ -14,8 +14,10 @@ from pathlib import Path
 import file_model
 from file_model import field, file_of, put_back, taken_apart
 from vortex_select import Slice, check, column, select
+from vortex_select._arrays import Plain
 from vortex_select._sources import column_of, source_of
-from vortex_select.parts import read_column, write_column
+from vortex_select.columns import column_over
+from vortex_select.parts import DamagedPart, read_column, select_parts, write_column
 
 
 class Files(unittest.TestCase):
@@ -48,6 +50,25 @@ class Written(Files):
                 self.assertEqual(select(found, [Slice(1, 2)]).to_pylist(), rows[1:2])
                 copy = pickle.loads(pickle.dumps(found))
                 self.assertEqual((copy.type, copy.to_pylist()), (type, rows))
+                for row in rows:
+                    write_column(self.path, column([row], type))
+                    self.assertEqual(read_column(self.path).to_pylist(), [row])
+
+    def test_counts_of_nulls(self):
+        """A count that isn't 0 is told, or -1 where the validity says it."""
+        for type, rows, wanted in (
+            ("int8", [1, 2], 0),
+            ("int8", [1, None], -1),
+            ("utf8_view", ["a", None], -1),
+            ("struct<>", [{}, None], -1),
+            ("struct<>", [{}, {}], 0),
+            ("null", [None, None], 2),
+            ("sparse_union<a: int8>", [1, None], 0),
+            ("dense_union<a: int8>", [1, None], 0),
+        ):
+            write_column(self.path, column(rows, type))
+            (array,) = source_of(read_column(self.path)).arrays
+            self.assertEqual(array.node.null_count, wanted, type)
 
     def test_no_rows(self):
         for type, _ in file_model.EACH:
@@ -74,6 +95,12 @@ class Written(Files):
         whole = column(["a", None, "c", "d"], "utf8")
         write_column(self.path, select(whole, [Slice(1, 3)]))
         self.assertEqual(read_column(self.path).to_pylist(), [None, "c"])
+        columns = [whole, column([], "utf8"), column(["e"], "utf8")]
+        several = column_over([array for each in columns for array in source_of(each).arrays])
+        write_column(self.path, several)
+        self.assertEqual(read_column(self.path).to_pylist(), ["a", None, "c", "d", "e"])
+        found = select_parts(map, [several, self.path], [Slice(2, 7)])
+        self.assertEqual(found.to_pylist(), ["c", "d", "e", "a", None])
 
     def test_bytes_of_a_file(self):
         """The format of docs/PARTS.md, from a writer and for a reader of its own."""
@@ -87,7 +114,8 @@ class Written(Files):
         self.assertEqual((len(body), os.path.getsize(self.path) % 64), (128, 0))
         here = Path(__file__).resolve().parent
         page = (here / "../../../docs/PARTS.md").resolve().read_text()
-        self.assertEqual(json.loads(page.split("```json\n")[1].split("```")[0]), head)
+        text = Path(self.path).read_bytes()[24 : -len(body)].decode()
+        self.assertEqual(page.split("```json\n")[1].split("```")[0].strip(), text.strip(" "))
         self.put(file_of(field("s"), [2, [None, 0], [], None], [struct.pack("<hh", 7, -8)]))
         found = read_column(self.path)
         self.assertEqual((found.type, found.to_pylist()), ("int16", [7, -8]))
@@ -354,8 +382,17 @@ class Hostile(Files):
             ("utf8", ["ab"], (1, 1), [None, None, 1], "expected a number"),
             ("list<int8>", [[1, 2]], (1, 2, 0, 0), 1, "offsets: the last is 2, expected 0 to 1"),
             ("list<int8>", [[1, 2]], (0, 4), [], "expected a list of 1, found a list of 0"),
+            ("large_list<int8>", [[1, 2]], (1, 2, 0, 0), 1, "the last is 2, expected 0 to 1"),
+            ("map<int8, int8>", [[(1, 2)]], (1, 2, 0, 0), 0, "the last is 1, expected 0 to 0"),
             ("list<int8>", [[1, 2]], (1, 2), [], "expected a list of 1, found a list of 0"),
             ("list_view<int8>", [[1]], (1, 0), 2, "'[+]vl': expected 8 bytes, found 4"),
+            ("utf8_view", ["a"], (1, 0), 2, "views of format 'vu': expected 32 bytes, found 16"),
+            ("bool", [True], (1, 0), 9, "values of format 'b': expected 2 bytes, found 1"),
+            ("large_utf8", ["a"], (1, 0), 2, "offsets of format 'U': expected 24 bytes, found 16"),
+            ("large_list<int8>", [[1]], (1, 0), 2, "'[+]L': expected 24 bytes, found 16"),
+            ("large_list_view<int8>", [[1]], (1, 0), 2, "expected 16 bytes, found 8"),
+            ("sparse_union<a: int8>", [1], (1, 0), 2, "type ids of .*: expected 2 bytes, found 1"),
+            ("dense_union<a: int8>", [1], (1, 0), 2, "type ids of .*: expected 2 bytes, found 1"),
             ("utf8_view", ["a" * 20], (1, 1), [None, 0], "expected at least 3, found 2"),
             ("utf8_view", ["a" * 20], (1, 1), [None, 0, 2], "lengths of the data buffers"),
             ("utf8_view", ["a" * 20], (1, 1), [None, 0, 1, 1, 2], "lengths of the data buffers"),
@@ -376,8 +413,29 @@ class Hostile(Files):
             ("dictionary<int8, utf8>", ["a"], (1, 3, 0), 2, "offsets of format 'u'"),
         ):
             self.changed(type, rows, self.at(*path, value), words)
+        for type, rows, form, size in (
+            ("utf8", ["a"], "u", 4),
+            ("binary", [b"a"], "z", 4),
+            ("large_utf8", ["a"], "U", 8),
+            ("large_binary", [b"a"], "Z", 8),
+            ("list<int8>", [[1]], "[+]l", 4),
+            ("large_list<int8>", [[1]], "[+]L", 8),
+            ("map<int8, int8>", [[(1, 2)]], "[+]m", 4),
+        ):
+            words = f"offsets of format '{form}': expected {10 * size} bytes, found {2 * size}"
+            self.changed(type, rows, self.at(1, 0, 9), words)
+            words = f"offsets of format '{form}': expected {2 * size} bytes, found {2 * size - 1}"
+            self.changed(type, rows, self.at(2, 0, 1, 2 * size - 1), words)
+        for form in ("list_view", "large_list_view"):
+            change = self.at(2, 1, 1, 1)
+            self.changed(f"{form}<int8>", [[1]], change, "sizes of format '[+]v.': expected . byt")
+        words = "offsets of .*: expected 4 bytes, found 3"
+        self.changed("dense_union<a: int8>", [1], self.at(2, 1, 1, 3), words)
         for type, rows, path, value, words in (
             ("utf8", ["ab"], (2, 1, 1), 1, "offsets: the last is 2, expected 0 to 1"),
+            ("large_utf8", ["ab"], (2, 1, 1), 1, "offsets: the last is 2, expected 0 to 1"),
+            ("binary", [b"", b"abc"], (2, 1, 1), 2, "offsets: the last is 3, expected 0 to 2"),
+            ("large_binary", [b"", b"abc"], (2, 1, 1), 2, "the last is 3, expected 0 to 2"),
             ("utf8_view", ["a" * 20], (2, 1, 1), 19, "lengths of the data buffers"),
         ):
             self.changed(type, rows, self.at(*path, value), words, (True,))
@@ -398,6 +456,93 @@ class Hostile(Files):
             (field("+vl", children=child), [1, [None, 0, 1], items(2), None], [one, one, b"x"], ""),
         ):
             self.refused(words, file_of(of, node, buffers))
+
+    def test_contents_of_trusted_files(self):
+        """A read that leads outside of the buffers fails, also if the file is trusted."""
+        offsets, child = struct.pack("<ii", 3, 1), [field("c")]
+        items = [5, [None, 0], [], None]
+        for of, node, buffers, words in (
+            (
+                field("u"),
+                [1, [None, 0, 1], [], None],
+                [offsets, b"abcde"],
+                "buffer 2 of an array does not have -2 bytes from 3 on",
+            ),
+            (
+                field("+l", children=child),
+                [1, [None, 1], [items], None],
+                [b"abcde", offsets],
+                "rows of a child: 3 to 1 is outside of 0 to 5",
+            ),
+            (
+                field("vu"),
+                [1, [None, 1, 0, 2], [], None],
+                [b"x" * 20, struct.pack("<i4sii", 20, b"xxxx", 1, 0), struct.pack("<q", 20)],
+                "the buffer of a view: 1 to 2 is outside of 0 to 1",
+            ),
+            (
+                field("vu"),
+                [1, [None, 1, 0, 2], [], None],
+                [b"x" * 20, struct.pack("<i4sii", 20, b"xxxx", 0, 1), struct.pack("<q", 20)],
+                "a view: 1 to 21 is outside of 0 to 20",
+            ),
+            (
+                field("+ud:3", children=child),
+                [1, [1, 2], [items], None],
+                [b"abcde", b"\5", bytes(4)],
+                "type id 5 names no child",
+            ),
+            (
+                field("+ud:3", children=child),
+                [1, [1, 2], [items], None],
+                [b"abcde", b"\3", struct.pack("<i", 5)],
+                "rows of a child: 5 to 6 is outside of 0 to 5",
+            ),
+        ):
+            self.put(file_of(of, node, buffers))
+            self.refused("", trusted=False)
+            found = read_column(self.path, trusted=True)
+            with self.assertRaisesRegex(ValueError, words):
+                pickle.dumps(found)
+
+    def test_widths(self):
+        """Eight rows need as many bytes as a row has bits."""
+        for bits, forms in (
+            (8, "c C"),
+            (16, "s S e"),
+            (32, "i I f tdD tts ttm tiM"),
+            (64, "l L g tdm ttu ttn tDs tDm tDu tDn tss: tsm:UTC tsu:a:b tsn: tiD"),
+            (128, "tin d:5,1 d:5,-1,128 w:16"),
+            (24, "w:3"),
+            (32, "d:5,1,32"),
+            (64, "d:5,1,64"),
+            (256, "d:5,1,256"),
+            (1, "b"),
+        ):
+            for form in forms.split():
+                for short in (0, 1):
+                    node = [8, [None, 0], [], None]
+                    data = file_of(field(form), node, [bytes(bits - short)])
+                    if short:
+                        words = f"'{form}': expected {bits} bytes, found {bits - 1}"
+                        self.refused("values of format " + words, data)
+                    else:
+                        self.put(data)
+                        self.assertEqual(len(read_column(self.path)), 8, form)
+
+    def test_offsets_below_zero(self):
+        for form, letter in (("u", "i"), ("U", "q")):
+            offsets = struct.pack("<2" + letter, 0, -1)
+            data = file_of(field(form), [1, [None, 0, 1], [], None], [offsets, b"abc"])
+            for trusted in (False, True):
+                self.refused("offsets: the last is -1, expected 0 to 3", data, trusted=trusted)
+
+    def test_type_ids(self):
+        """The greatest type id is 127."""
+        node = [1, [0], [[1, [None, 1], [], None]], None]
+        self.put(file_of(field("+us:127", children=[field("c", "a")]), node, [b"\x7f", b"\5"]))
+        found = read_column(self.path)
+        self.assertEqual((found.type, found.to_pylist()), ("sparse_union[127]<a: int8>", [5]))
 
     def test_longer_buffers(self):
         """Bytes behind what the rows need have no meaning."""
@@ -439,6 +584,51 @@ class Hostile(Files):
             else:
                 self.put(data)
                 self.assertEqual(read_column(self.path, []).type, "struct<>")
+
+    def test_rows_without_bytes(self):
+        """Few bytes may not say that they have more rows than there is memory for."""
+        for form, own in (("n", ()), ("+s", [None]), ("w:0", [None, 0])):
+            buffers = [b""] * (form == "w:0")
+            for count in (2**24 + 1, 2**32, 2**59, 2**60 - 1):
+                data = file_of(field(form), [count, list(own), [], None], buffers)
+                for trusted in (False, True):
+                    words = f"0 bytes: expected at most 16777216 rows, found {count}"
+                    self.refused(words, data, trusted=trusted)
+                for steps in ([], [Slice(0, 1)]):
+                    with self.assertRaisesRegex(DamagedPart, f"rows, found {count}"):
+                        select_parts(map, [self.path], steps)
+            self.put(file_of(field(form), [2**24, list(own), [], None], buffers))
+            found = select_parts(map, [self.path], [Slice(2**24 - 1, 2**24)])
+            self.assertEqual(len(found), 1)
+
+    def test_rows_without_bytes_below_others(self):
+        """A body of 2^21 + 64 bytes may have 2^24 + 512 rows, also in children and dictionaries."""
+        bools, count = field("b", "b"), 2**24 + 8
+        of, bits = field("+s", children=[field("n", "a"), bools]), bytes(count // 8)
+        values = [count, [None, 0], [], None]
+        for more, is_read in ((0, True), (504, True), (505, False)):
+            node = [count, [None], [[count + more, [], [], None], values], None]
+            data = file_of(of, node, [bits])
+            if is_read:
+                self.put(data)
+                found = select(read_column(self.path, trusted=True), [Slice(count - 1, count)])
+                self.assertEqual(found.to_pylist(), [{"a": None, "b": False}])
+            else:
+                self.refused("at most 16777728 rows, found 16777729", data, trusted=True)
+        node = [1, [None, 0], [], [2**24 + 1, [], [], None]]
+        data = file_of(field("c", dictionary=field("n")), node, [b"\0"])
+        self.refused("rows, found 16777217", data)
+        of, node = field("+w:2", children=[field("n")]), [2**23 + 1, [None], [], None]
+        node[2] = [[2**24 + 2, [], [], None]]
+        self.refused("rows, found 16777218", file_of(of, node, []))
+
+    def test_writing_more_rows_than_can_be_read(self):
+        rows, of = 2**24, source_of(column([None], "null")).field
+        write_column(self.path, column_of(of, Plain(rows, rows, ())))
+        self.assertEqual(len(read_column(self.path)), rows)
+        with self.assertRaisesRegex(ValueError, "at most 16777216 rows, found 16777217"):
+            write_column(self.path, column_of(of, Plain(rows + 1, rows + 1, ())))
+        self.assertEqual(len(read_column(self.path)), rows)
 
     def test_writing_what_can_not_be_read(self):
         source = source_of(column([1], "int8"))
@@ -513,6 +703,9 @@ class Npy(Files):
             ("a fortran_order that is a bool", self.said(order="0"), (1, 0)),
             ("expected a header of descr", "{'descr': '<i4', 'shape': (3,)}", (1, 0)),
             ("expected a header of descr", "[1]", (1, 0)),
+            ("expected a header of descr", "7", (1, 0)),
+            ("expected a header of descr", "{'descr', 'fortran_order', 'shape'}", (1, 0)),
+            ("expected a header of descr", "['descr', 'fortran_order', 'shape']", (1, 0)),
             ("expected a header of descr", self.said().strip()[:-1] + "'more': 1}", (1, 0)),
             ("not a literal: SyntaxError", "{", (1, 0)),
             ("not a literal: SyntaxError", "", (1, 0)),

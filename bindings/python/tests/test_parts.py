@@ -10,13 +10,14 @@ import time
 import unittest
 from array import array
 
+import producer
 import vortex_select.parts
 from arrow_model import Layout, after, random_row, random_steps, random_type, wrapped
 from vortex_select import BrokenStep, Filter, FilterEach, Slice, Take
 from vortex_select import _joining, _plans, column, from_buffers, plan, put_together, select
 from vortex_select._arrays import Plain, field_of_type
 from vortex_select._building import built
-from vortex_select._sources import column_of, source_of
+from vortex_select._sources import chosen, column_of, source_of
 from vortex_select._types import Type, type_of
 from vortex_select.columns import column_over
 from vortex_select.parts import DamagedPart, LostPart, Processes
@@ -197,6 +198,65 @@ class Plans(unittest.TestCase):
             self.assertEqual(lengths, [n * size for n in counts])
         self.assertEqual(before, 2**31)
 
+    def test_causes(self):
+        """A broken step has its cause, before a take and after it."""
+        for steps, told in (
+            ([Slice(0, 5)], (0, "BadRange")),
+            ([Slice(3, 2)], (0, "BadRange")),
+            ([Slice(1, 4), Slice(0, 4)], (1, "BadRange")),
+            ([Filter([True] * 3)], (0, "BadMask")),
+            ([Slice(1, 4), Filter([True] * 4)], (1, "BadMask")),
+            ([FilterEach([1], odd)], (0, "BadMask")),
+            ([FilterEach([1, 2, 0], odd)], (0, "BadMask")),
+            ([Slice(1, 4), Take([3])], (1, "OutOfBounds")),
+            ([Take([0]), Filter([True] * 2)], (1, "BadMask")),
+            ([Slice(1, 4), Take([0]), Slice(0, 2)], (2, "BadRange")),
+        ):
+            with self.assertRaises(BrokenStep) as caught:
+                plan([3, 1], steps)
+            self.assertEqual((caught.exception.step, caught.exception.cause), told)
+
+    def test_lengths_of_buffers(self):
+        """Each buffer is as long as its rows need, to the byte."""
+        for rows, size in ((0, 0), (1, 1), (7, 1), (8, 1), (9, 2), (16, 2), (17, 3)):
+            parts = [column([True] * (rows // 2), "bool"), column([None] * (rows % 2), "bool")]
+            parts.append(parts[0])
+            found = put_together(plan(list(map(len, parts))), parts)
+            valid, values = source_of(found).plain().buffers
+            self.assertEqual(valid and len(valid), size if rows % 2 else None)
+            self.assertEqual(len(values), size)
+        for type, rows, sizes in (
+            ("int16", [1, 2, 3], [6]),
+            ("decimal256(40, 0)", [1, 2, 3], [96]),
+            ("fixed_size_binary(3)", [b"abc"] * 3, [9]),
+            ("utf8", ["a", "", "bc"], [16, 3]),
+            ("large_binary", [b"a", b"", b"bc"], [32, 3]),
+            ("utf8_view", ["a", "", "b" * 13], [48, 13, 8]),
+            ("list<int8>", [[1], [], [2, 3]], [16]),
+            ("large_list<int8>", [[1], [], [2, 3]], [32]),
+            ("list_view<int8>", [[1], [], [2, 3]], [12, 12]),
+            ("large_list_view<int8>", [[1], [], [2, 3]], [24, 24]),
+            ("map<int8, int8>", [[(1, 2)], [], []], [16]),
+            ("dictionary<int32, utf8>", ["a", "a", "b"], [12]),
+        ):
+            plain = source_of(put_together(plan([3]), [column(rows, type)])).plain()
+            self.assertEqual([len(data) for data in plain.buffers[1:]], sizes, type)
+            self.assertIsNone(plain.buffers[0], type)
+        for form, sizes in (("sparse", [3]), ("dense", [3, 12])):
+            rows = column([1, True, 2], form + "_union<a: bool, b: int8>")
+            plain = source_of(put_together(plan([3]), [rows])).plain()
+            self.assertEqual([len(data) for data in plain.buffers], sizes, form)
+
+    def test_long_views(self):
+        """Views of more than 2^24 bytes, and of bytes behind so many."""
+        texts = ["%d" % k * (2**24 + k) for k in range(3)] + ["once more than 12"]
+        parts = [column(texts[:2], "utf8_view"), column(texts[2:], "utf8_view")]
+        found = put_together(plan([2, 2]), parts).to_pylist()
+        self.assertEqual(list(map(len, found)), list(map(len, texts)))
+        self.assertTrue(found == texts)
+        again = pickle.loads(pickle.dumps(put_together(plan([2, 2]), parts)))
+        self.assertTrue(again.to_pylist() == texts)
+
     def test_counts_of_nulls(self):
         """A count is known where there is no validity, and else is to be counted."""
         for rows, type, wanted in (
@@ -266,6 +326,21 @@ class Plans(unittest.TestCase):
         lists = [file_column(2**40, True) for _ in range(2)]
         self.assertEqual(len(put_together(plan([1, 1]), lists)), 2)
 
+    def test_formats_that_are_not_known(self):
+        """A column that is encoded by runs is refused, also as a child."""
+        items = built(field_of_type(type_of("int32")), [1])
+        ends = [producer.made_of(items.node)] * 2
+        pair = (("run_ends", Type("i")), ("values", Type("i")))
+        of, made = Type("+r", pair), producer.made_array(1, 0, 0, [], ends)
+        below = Type("+s", (("a", of),)), producer.made_array(1, 0, 0, [None], [made])
+        for found in (wrapped(of, made), wrapped(*below)):
+            with self.assertRaisesRegex(ValueError, r"a format of Arrow, found \"\+r\""):
+                put_together(plan([1]), [found])
+            with tempfile.TemporaryDirectory() as folder:
+                with self.assertRaisesRegex(ValueError, r"a format of Arrow, found \"\+r\""):
+                    write_column(os.path.join(folder, "column"), found)
+                self.assertEqual(os.listdir(folder), [])
+
     def test_no_result(self):
         with self.assertRaisesRegex(ValueError, "no part returned rows"):
             put_together(plan([0, 0]), [None, None])
@@ -312,6 +387,21 @@ def once(path):
 def never(path):
     """Ends its process."""
     os.kill(os.getpid(), signal.SIGKILL)
+
+
+def ends_noted(path):
+    """Ends its process, whose id it adds to a file."""
+    with open(path, "a") as file:
+        file.write(f"{os.getpid()}\n")
+    os.kill(os.getpid(), signal.SIGKILL)
+
+
+def waits_or_fails(path):
+    """Fails without a path. With one it makes a file, but not before two minutes are over."""
+    if path is None:
+        raise ValueError("it fails")
+    time.sleep(120)
+    open(path, "w").close()
 
 
 class Backends(unittest.TestCase):
@@ -532,6 +622,11 @@ class Backends(unittest.TestCase):
             of = from_buffers("struct<id: utf8, name: utf8>", 2, [valid], [names] * 2, offset=1)
             wanted = [name and {"name": name} for name in wanted]
             self.assertEqual(select_parts(map, [of], [], ["name"]).to_pylist(), wanted)
+        for valid, count in ((None, 0), (b"\x0b", -1)):
+            for at in (0, 1):
+                of = from_buffers("struct<a: utf8, b: utf8>", 2, [valid], [names] * 2, offset=at)
+                (array,) = chosen(of, ["b"])._chunks
+                self.assertEqual(array.node.null_count, count)
         numbers = column(range(64), "int8")
         for length in (56, 58):
             two, valid = "struct<id: int8, name: int8>", b"\xff" * 8
@@ -574,12 +669,46 @@ class Backends(unittest.TestCase):
     def test_faults_pickle(self):
         """A fault that a worker found is the same where it is raised."""
         for fault, words, told in (
+            (BrokenStep(2, "BadMask"), "step 2: BadMask", {"step": 2, "cause": "BadMask"}),
+            (BrokenStep(0, "NotBool", "a text"), "a text", {"step": 0, "cause": "NotBool"}),
             (DamagedPart("x", "why"), "part x: why", {"part": "x", "why": "why"}),
             (LostPart(3, 2), "part 3: 2 processes ended", {"number": 3, "tries": 2}),
         ):
             copy = pickle.loads(pickle.dumps(fault))
             self.assertEqual((type(copy), vars(copy)), (type(fault), told))
+            self.assertEqual((copy.args, str(copy)), (fault.args, str(fault)))
+            if not isinstance(fault, BrokenStep):
+                self.assertEqual(fault.args, tuple(told.values()))
             self.assertIn(words, str(copy))
+
+    def need_gone(self, processes):
+        """Fail unless processes have ended and were waited for."""
+        for process in processes:
+            with self.assertRaises(ProcessLookupError):
+                os.kill(process, 0)
+
+    def test_no_process_is_left(self):
+        """Idle and busy processes are ended, and those that ended are waited for."""
+        path = os.path.join(self.folder.name, "processes")
+        with Processes(2) as pool:
+            processes = set(pool.map(process_of, range(4)))
+            with self.assertRaises(LostPart):
+                pool.map(ends_noted, [path])
+            with open(path) as file:
+                lost = set(map(int, file))
+            self.assertEqual(len(lost), 3)
+            self.need_gone(processes | lost)
+            processes = set(pool.map(process_of, range(4)))
+        self.need_gone(processes)
+
+    def test_fault_ends_busy_processes(self):
+        """If a task fails, the tasks that run aren't waited for."""
+        path = os.path.join(self.folder.name, "late")
+        with Processes(2) as pool:
+            with self.assertRaisesRegex(ValueError, "it fails"):
+                pool.map(waits_or_fails, [path, None])
+            self.assertEqual((pool._idle, pool._busy), ([], {}))
+        self.assertFalse(os.path.exists(path))
 
     def test_so_many_processes(self):
         """At most so many processes run, and fewer if there are fewer parts."""

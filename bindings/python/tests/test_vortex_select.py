@@ -12,6 +12,7 @@ import unittest
 from array import array
 
 import vortex_select
+from arrow_model import random_bytes
 
 CALLS = int(os.environ.get("VORTEX_CALLS", "3000"))
 
@@ -28,7 +29,7 @@ def items_of(data, width):
 
 
 def random_input(dice, width):
-    data = dice.randbytes(width * dice.choice([0, 1, 63, 64, 65, dice.randrange(400)]))
+    data = random_bytes(dice, width * dice.choice([0, 1, 63, 64, 65, dice.randrange(400)]))
     given = dice.choice([bytes, bytearray, memoryview, lambda d: memoryview(b"x" + d)[1:]])(data)
     return given, items_of(data, width)
 

@@ -4,7 +4,9 @@ from __future__ import annotations
 
 from typing import Any, List, NamedTuple, Optional, Sequence, Tuple
 
-from ._native import Array, Node, array_from_capsules, build
+from ._native import Array as Array
+from ._native import Node as Node
+from ._native import array_from_capsules, build
 from ._types import Type
 
 NULLABLE = 2
@@ -93,7 +95,8 @@ def borrowed(column: Any) -> Array:
     """Return the array that an object hands over by `__arrow_c_array__`."""
     own = getattr(column, "_single", None)
     if own is not None and type(column).__module__ == "vortex_select.columns":
-        return own()
+        array: Array = own()
+        return array
     capsules = column.__arrow_c_array__()
     if not isinstance(capsules, tuple) or len(capsules) != 2:
         raise TypeError("__arrow_c_array__: expected a tuple of two capsules")
@@ -103,7 +106,9 @@ def borrowed(column: Any) -> Array:
 class Tree:
     """A node whose parts are looked up once: buffers are memoryviews, or None."""
 
-    __slots__ = ("format", "name", "length", "offset", "buffers", "places", "children", "dictionary")
+    __slots__ = (
+        "format", "name", "length", "offset", "buffers", "places", "children", "dictionary"
+    )
 
     def __init__(self, node: Node):
         self.format, self.name = node.format, node.name

@@ -14,7 +14,7 @@ from typing import TYPE_CHECKING, Any, Iterable, List, Optional, Tuple, Union
 from . import _native
 
 if TYPE_CHECKING:
-    from typing_extensions import Buffer
+    from _typeshed import ReadableBuffer as Buffer
 
     Mask = Union[Buffer, List[bool], Tuple[bool, ...], "Bits"]
     Indices = Union[Buffer, Iterable[int]]
@@ -141,7 +141,9 @@ class Bits:
         self.length, self.at = number(length, "length"), number(at, "at")
         if self.at + self.length > 8 * view.nbytes:
             found = 8 * view.nbytes
-            raise ValueError(f"bits: expected {self.length} from bit {self.at} on, got {found} in all")
+            raise ValueError(
+                f"bits: expected {self.length} from bit {self.at} on, got {found} in all"
+            )
         self._data = view
 
     def __len__(self) -> int:

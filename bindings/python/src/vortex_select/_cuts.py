@@ -11,6 +11,7 @@ NULL = 2**64 - 1
 
 
 def zeros(count: int) -> numbers_of[int]:
+    """Return so many numbers of 64 bits, all of them 0."""
     return numbers_of("Q", bytes(8 * count))
 
 

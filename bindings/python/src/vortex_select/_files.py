@@ -59,7 +59,8 @@ def write_column(path: Any, column: Any) -> None:
 
     Raises:
         OSError: The file can't be written. Then the path is as it was.
-        NotImplementedError: The column is encoded by runs.
+        ValueError: The column is of a format that isn't known, such as run-end encoding, or
+            `read_column` would refuse the file, as one of more than 2^24 nulls alone.
     """
     source, buffers = source_of(column), []  # type: ignore[var-annotated]
     node = _placed(source.plain(), buffers)

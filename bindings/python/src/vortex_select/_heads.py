@@ -15,6 +15,9 @@ BEFORE = len(MAGIC) + 16
 ALIGN = 64
 LEVELS = 64
 NODES = 65_536
+# An array may have so many rows, or eight for each byte of the body. Nulls, and other rows that
+# need no byte of a file, need memory where they are selected.
+ROWS = 1 << 24
 _PAST = 1 << 60
 
 
@@ -125,8 +128,8 @@ def _metadata(value: Any) -> Optional[bytes]:
 class _Parser:
     """Reads nested lists, of which it counts the nodes and the levels."""
 
-    def __init__(self, spans: Sequence[Span]):
-        self.nodes, self.spans = 0, spans
+    def __init__(self, spans: Sequence[Span], size: int):
+        self.nodes, self.spans, self.size = 0, spans, size
 
     def field(self, value: Any, level: int = 1) -> Field:
         """Return a type, of which each node has what its format needs."""
@@ -152,6 +155,7 @@ class _Parser:
         length = _number(length, _PAST, "a length")
         numbers = self.buffers(own, layout, field.format)
         self.need_sizes(numbers, layout, field.format, length)
+        self.need_rows_bounded(length)
         if (inner is None) != (field.dictionary is None):
             raise ValueError("expected a dictionary exactly where the type has one")
         what = f"children of an array of format {field.format!r}"
@@ -183,6 +187,13 @@ class _Parser:
             if number is not None and size < need:
                 what = f"{slot.name} of format {form!r}"
                 raise ValueError(f"{what}: expected {need} bytes, found {size}")
+
+    def need_rows_bounded(self, length: int) -> None:
+        """Fail if an array has more rows than a body of this length may have."""
+        most = max(ROWS, 8 * self.size)
+        if length > most:
+            of = f"an array in a body of {self.size} bytes"
+            raise ValueError(f"{of}: expected at most {most} rows, found {length}")
 
 
 def _span(value: Any, size: int) -> Span:
@@ -219,7 +230,7 @@ def parsed_head(text: bytes) -> Head:
     field, node, spans, size = _list(value, 4, "the head")
     size = _number(size, _PAST, "the length of the body")
     places = [_span(one, size) for one in _list(spans, None, "the buffers")]
-    parser = _Parser(places)
+    parser = _Parser(places, size)
     of = parser.field(field)
     return Head(of, parser.node(node, of), places, size)
 

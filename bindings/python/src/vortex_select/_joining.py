@@ -84,7 +84,7 @@ class _Piece(NamedTuple):
             raise ValueError(f"buffer {k} of an array does not have {size} bytes from {start} on")
         return data[start : start + size]
 
-    def numbers(self, k: int, letter: str, first: int, count: int) -> numbers_of:
+    def numbers(self, k: int, letter: str, first: int, count: int) -> numbers_of[Any]:
         """Return numbers of a buffer, of a type of the module `array`."""
         found = numbers_of(letter)
         found.frombytes(self.view(k, found.itemsize * first, found.itemsize * count))
@@ -335,8 +335,6 @@ def _plain(field: Field, pieces: Sequence[_Piece]) -> Plain:
         return _union(field, pieces)
     if form[:3] == "+ud":
         return _dense_union(field, pieces)
-    if form[:2] == "+r":
-        raise NotImplementedError(f"columns of format {form!r} can't be put together")
     valid = _validity(pieces)
     more, below = _parts(field, pieces)
     inner = None if field.dictionary is None else _one_dictionary(field.dictionary, pieces)
@@ -347,8 +345,8 @@ def joined(field: Field, arrays: Sequence[Any]) -> Plain:
     """Return the rows of arrays of one type end to end, in memory of their own.
 
     Raises:
-        ValueError: The arrays have different dictionaries, or lead outside of their memory.
-        NotImplementedError: The type is encoded by runs.
+        ValueError: The arrays have different dictionaries, lead outside of their memory, or are of
+            a format that isn't known.
         OverflowError: The arrays have more items than their offsets can count.
     """
     return _plain(field, [piece_of(array) for array in arrays])

@@ -115,7 +115,8 @@ def _broken(step: int, cause: int) -> BrokenStep:
     return BrokenStep(step, CAUSES[cause])
 
 
-Lengths = numbers_of
+# The step of each part, and how many rows each keeps.
+_Cut = Tuple[List[Any], "numbers_of[int]"]
 
 
 def _mask_of(step: Filter) -> Tuple[Any, int]:
@@ -134,7 +135,7 @@ def _remade_filter(step: Filter, start: int, length: int) -> Filter:
     return part
 
 
-def _cut_slice(number: int, step: Slice, lengths: Lengths) -> Tuple[List[Any], Lengths]:
+def _cut_slice(number: int, step: Slice, lengths: numbers_of[int]) -> _Cut:
     """Return each part's own slice, and how many rows each keeps."""
     _, start, end, *_ = step._image()
     cut = cuts.slice_cut(lengths, start, end)
@@ -144,7 +145,7 @@ def _cut_slice(number: int, step: Slice, lengths: Lengths) -> Tuple[List[Any], L
     return [Slice(*rows) for rows in zip(starts, ends)], left
 
 
-def _cut_filter(number: int, step: Filter, lengths: Lengths) -> Tuple[List[Any], Lengths]:
+def _cut_filter(number: int, step: Filter, lengths: numbers_of[int]) -> _Cut:
     """Return each part's own filter, and how many rows each keeps."""
     if len(step) != sum(lengths):
         raise _broken(number, _MASK)
@@ -154,7 +155,7 @@ def _cut_filter(number: int, step: Filter, lengths: Lengths) -> Tuple[List[Any],
     return own, cuts.mask_cut(words, at, lengths)
 
 
-def _cut_each(number: int, step: FilterEach, lengths: Lengths) -> Tuple[List[Any], Lengths]:
+def _cut_each(number: int, step: FilterEach, lengths: numbers_of[int]) -> _Cut:
     """Return the filter of each part by its own mask, and how many rows each keeps."""
     kept = numbers_of("Q", step.kept)
     if len(kept) != len(lengths) or any(count > rows for count, rows in zip(kept, lengths)):
@@ -165,7 +166,7 @@ def _cut_each(number: int, step: FilterEach, lengths: Lengths) -> Tuple[List[Any
 _CUTS: Any = {Slice: _cut_slice, Filter: _cut_filter, FilterEach: _cut_each}
 
 
-def _composed(number: int, rows: int, steps: Sequence[Any]) -> Tuple[numbers_of, bytes]:
+def _composed(number: int, rows: int, steps: Sequence[Any]) -> Tuple[numbers_of[int], bytes]:
     """Return the rows that steps select, and bits that are clear at nulls.
 
     The bits are empty if no take may leave a null.
@@ -184,7 +185,7 @@ def _composed(number: int, rows: int, steps: Sequence[Any]) -> Tuple[numbers_of,
     return places, valid
 
 
-def _mark_nulls(places: numbers_of, valid: bytes) -> None:
+def _mark_nulls(places: numbers_of[int], valid: bytes) -> None:
     """Write `NULL` where a bit is clear."""
     if not valid:
         return
@@ -194,7 +195,7 @@ def _mark_nulls(places: numbers_of, valid: bytes) -> None:
         places[row] = cuts.NULL
 
 
-def _picks(each: List[List[Any]], left: Lengths, number: int, steps: Sequence[Any]) -> Plan:
+def _picks(each: List[List[Any]], left: numbers_of[int], number: int, steps: Sequence[Any]) -> Plan:
     """Return the plan whose steps from a take on are composed to one take of each part.
 
     Args:
@@ -281,9 +282,9 @@ def put_together(plan: Plan, answers: Sequence[Any]) -> Column:
 
     Raises:
         ValueError: A part returned other than the planned number of rows, or another type than the
-            first part, or another dictionary. The message has the part's number.
+            first part, or another dictionary. The message has the part's number. Or the column is
+            of a format that isn't known, such as run-end encoding.
         TypeError: An answer is not a column.
-        NotImplementedError: The column has a dense union or is encoded by runs.
 
     >>> from vortex_select import column
     >>> asked = plan([2, 1], [Take([2, 0])])

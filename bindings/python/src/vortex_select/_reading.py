@@ -1,48 +1,54 @@
-"""Reads the rows of arrays, as the text of Arrow's columnar format has them."""
+"""Reads the rows of arrays, as Arrow's columnar format defines them."""
 
 from __future__ import annotations
 
 import decimal
 import struct
+from typing import Any, Iterator, List, Optional, Sequence, Tuple
 
+from ._arrays import Tree
 from ._types import decimal_of, ids_of
 
-# How `struct` spells values; a letter of Arrow's is the first of a format.
+# The formats of `struct` by the formats of Arrow.
 _NUMBERS = {"c": "b", "C": "B", "s": "h", "S": "H", "i": "i", "I": "I", "l": "q", "L": "Q"}
 _NUMBERS.update({"e": "e", "f": "f", "g": "d", "tiM": "i", "tiD": "ii", "tin": "iiq"})
 
 
-def _cut(data, start, size):
-    """Return bytes of a buffer; a `ValueError` where they lead outside of it."""
+def _cut(data: Optional[memoryview], start: int, size: int) -> bytes:
+    """Return bytes of a buffer.
+
+    Raises:
+        ValueError: they lead outside of it.
+    """
     if not size:
         return b""
     found = 0 if data is None else data.nbytes
-    if not 0 <= start <= start + size <= found:
+    if data is None or not 0 <= start <= start + size <= found:
         raise ValueError(f"a row leads outside of its buffer: {size} bytes at {start} of {found}")
     return bytes(data[start : start + size])
 
 
-def _numbers(data, letters, first, count):
+def _numbers(data: Optional[memoryview], letters: str, first: int, count: int) -> List[Any]:
     """Return values from number `first` on; those of several letters as tuples."""
     size = struct.calcsize("<" + letters)
     found = list(struct.iter_unpack("<" + letters, _cut(data, first * size, count * size)))
     return found if len(letters) > 1 else [value for value, in found]
 
 
-def _bits(data, first, count):
-    data = _cut(data, first // 8, (first % 8 + count + 7) // 8 if count else 0)
-    return [data[k // 8] >> k % 8 & 1 == 1 for k in range(first % 8, first % 8 + count)]
+def _bits(data: Optional[memoryview], first: int, count: int) -> List[bool]:
+    bits = _cut(data, first // 8, (first % 8 + count + 7) // 8 if count else 0)
+    return [bits[k // 8] >> k % 8 & 1 == 1 for k in range(first % 8, first % 8 + count)]
 
 
-def letters_of(form):
-    """How `struct` spells a value of a fixed width that is a number, or none."""
+def letters_of(form: str) -> Optional[str]:
+    """Return the format by which `struct` reads a number, or None for values of another kind."""
     if form[:2] in ("td", "tt", "ts", "tD"):
         return "i" if form in ("tdD", "tts", "ttm") else "q"
     return _NUMBERS.get(form)
 
 
-def width_of(form):
-    """How many bytes a value of a fixed width has."""
+def width_of(form: str) -> int:
+    """Return how many bytes a value of a fixed width has."""
     letters = letters_of(form)
     if letters:
         return struct.calcsize("<" + letters)
@@ -53,17 +59,19 @@ def width_of(form):
     raise ValueError(f"values of format {form!r} have no fixed width here")
 
 
-def _decimals(form, data, first, count):
+def _decimals(
+    form: str, data: Optional[memoryview], first: int, count: int
+) -> Iterator[decimal.Decimal]:
     _, scale, bits = decimal_of(form)
     size = bits // 8
-    data = _cut(data, first * size, count * size)
+    values = _cut(data, first * size, count * size)
     for k in range(count):
-        number = int.from_bytes(data[k * size : k * size + size], "little", signed=True)
+        number = int.from_bytes(values[k * size : k * size + size], "little", signed=True)
         digits = tuple(map(int, str(abs(number))))
         yield decimal.Decimal((int(number < 0), digits, -scale))
 
 
-def _flat(tree, first, count):
+def _flat(tree: Tree, first: int, count: int) -> List[Any]:
     form, data = tree.format, tree.buffers[1] if len(tree.buffers) > 1 else None
     letters = letters_of(form)
     if form == "n":
@@ -76,12 +84,12 @@ def _flat(tree, first, count):
         return list(_decimals(form, data, first, count))
     if form[:2] == "w:":
         size = int(form[2:])
-        data = _cut(data, first * size, count * size)
-        return [data[k * size : k * size + size] for k in range(count)]
+        values = _cut(data, first * size, count * size)
+        return [values[k * size : k * size + size] for k in range(count)]
     raise NotImplementedError(f"rows of format {form!r} can't be read")
 
 
-def _texts(tree, first, count, there):
+def _texts(tree: Tree, first: int, count: int, there: Sequence[bool]) -> Iterator[bytes]:
     letter = "i" if tree.format in "uz" else "q"
     offsets = _numbers(tree.buffers[1], letter, first, count + (count > 0))
     for k in range(count):
@@ -89,7 +97,7 @@ def _texts(tree, first, count, there):
         yield b"" if is_empty else _cut(tree.buffers[2], offsets[k], offsets[k + 1] - offsets[k])
 
 
-def _views(tree, first, count, there):
+def _views(tree: Tree, first: int, count: int, there: Sequence[bool]) -> Iterator[bytes]:
     views, blocks = _cut(tree.buffers[1], 16 * first, 16 * count), tree.buffers[2:-1]
     for k in range(count):
         view = views[16 * k : 16 * k + 16]
@@ -104,7 +112,7 @@ def _views(tree, first, count, there):
             raise ValueError(f"a view leads to buffer {which} of {len(blocks)}")
 
 
-def _spans(tree, first, count):
+def _spans(tree: Tree, first: int, count: int) -> List[Tuple[int, int]]:
     """Return where the items of each row begin and end."""
     form = tree.format
     if form[:3] == "+w:":
@@ -119,16 +127,16 @@ def _spans(tree, first, count):
     return list(zip(offsets, offsets[1:]))
 
 
-def _lists(tree, first, count, there):
-    is_map = tree.format == "+m"
+def _lists(tree: Tree, first: int, count: int, there: Sequence[bool]) -> Iterator[List[Any]]:
+    read = _pairs if tree.format == "+m" else rows
     for (start, end), is_there in zip(_spans(tree, first, count), there):
-        items = rows(tree.children[0], start, end - start) if is_there else []
-        yield [tuple(item.values()) for item in items] if is_map else items
+        yield read(tree.children[0], start, end - start) if is_there else []
 
 
-def _runs(there):
+def _runs(there: Sequence[bool]) -> List[Tuple[int, int]]:
     """Return the runs of rows that are valid, each a start and an end."""
-    runs, start = [], None
+    runs: List[Tuple[int, int]] = []
+    start: Optional[int] = None
     for k, is_there in enumerate([*there, False]):
         if is_there and start is None:
             start = k
@@ -138,19 +146,32 @@ def _runs(there):
     return runs
 
 
-def _structs(tree, first, count, there):
+def _records(
+    tree: Tree, first: int, count: int, there: Sequence[bool]
+) -> List[Optional[Tuple[Any, ...]]]:
     """Read the children where the struct is valid: what is under a null may be anything."""
-    names, found = [child.name for child in tree.children], [None] * count
+    found: List[Optional[Tuple[Any, ...]]] = [None] * count
     for start, end in _runs(there):
         each = [rows(child, first + start, end - start) for child in tree.children]
-        made = [dict(zip(names, values)) for values in zip(*each)]
-        found[start:end] = made if each else [{} for _ in range(end - start)]
+        found[start:end] = zip(*each) if each else [()] * (end - start)
     return found
 
 
-def _unions(tree, first, count):
+def _structs(tree: Tree, first: int, count: int, there: Sequence[bool]) -> List[Any]:
+    names = [child.name for child in tree.children]
+    records = _records(tree, first, count, there)
+    return [None if record is None else dict(zip(names, record)) for record in records]
+
+
+def _pairs(entries: Tree, at: int, count: int) -> List[Optional[Tuple[Any, ...]]]:
+    """Return the pairs of a map from entry `at` on, and None for an entry that is null."""
+    first, there = _opened(entries, at, count)
+    return _records(entries, first, count, there)
+
+
+def _unions(tree: Tree, first: int, count: int) -> Iterator[Any]:
     ids = ids_of(tree.format)
-    offsets = range(first, first + count)
+    offsets: Sequence[int] = range(first, first + count)
     if tree.format[2] == "d":
         offsets = _numbers(tree.buffers[1], "i", first, count)
     for which, offset in zip(_numbers(tree.buffers[0], "B", first, count), offsets):
@@ -159,36 +180,44 @@ def _unions(tree, first, count):
         yield rows(tree.children[ids.index(which)], offset, 1)[0]
 
 
-def _coded(tree, first, count, there):
-    """Return the values of a dictionary at its codes."""
+def _coded(
+    values: Tree, tree: Tree, first: int, count: int, there: Sequence[bool]
+) -> List[Any]:
+    """Return the values of a dictionary at the codes of a tree."""
     codes = _flat(tree, first, count)
-    return [rows(tree.dictionary, code, 1)[0] if ok else None for code, ok in zip(codes, there)]
+    return [rows(values, code, 1)[0] if ok else None for code, ok in zip(codes, there)]
 
 
-def rows(tree, at, count):
+def _opened(tree: Tree, at: int, count: int) -> Tuple[int, List[bool]]:
+    """Return where `count` rows from row `at` on begin in the buffers, and which are valid."""
+    if not 0 <= at <= at + count <= tree.length:
+        raise ValueError(f"rows {at} to {at + count} lead outside of {tree.length} rows")
+    first = tree.offset + at
+    if tree.format[:2] == "+u" or not tree.buffers or tree.buffers[0] is None:
+        return first, [True] * count
+    return first, _bits(tree.buffers[0], first, count)
+
+
+def rows(tree: Tree, at: int, count: int) -> List[Any]:
     """Return `count` rows of a tree from row `at` on.
 
     Raises:
         ValueError: a row leads outside of a buffer or a child.
     """
-    form, first = tree.format, tree.offset + at
-    if not 0 <= at <= at + count <= tree.length:
-        raise ValueError(f"rows {at} to {at + count} lead outside of {tree.length} rows")
+    form = tree.format
+    first, there = _opened(tree, at, count)
     if form[:2] == "+u":
         return list(_unions(tree, first, count))
-    there = [True] * count
-    if tree.buffers and tree.buffers[0] is not None:
-        there = _bits(tree.buffers[0], first, count)
     if tree.dictionary is not None:
-        found = _coded(tree, first, count, there)
+        found = _coded(tree.dictionary, tree, first, count, there)
     elif form in ("u", "U", "z", "Z", "vu", "vz"):
         read = _views if form[0] == "v" else _texts
-        found = read(tree, first, count, there)
-        found = [data if form[-1] in "zZ" else data.decode() for data in found]
+        data = read(tree, first, count, there)
+        found = [each if form[-1] in "zZ" else each.decode() for each in data]
     elif form == "+s":
         found = _structs(tree, first, count, there)
     elif form[:1] == "+":
-        found = _lists(tree, first, count, there)
+        found = list(_lists(tree, first, count, there))
     else:
         found = _flat(tree, first, count)
     return [row if ok else None for row, ok in zip(found, there)]

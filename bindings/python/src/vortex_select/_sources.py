@@ -69,7 +69,7 @@ def chosen(column: Any, columns: Sequence[str]) -> Column:
 def _chosen_array(field: Field, array: Array, numbers: Sequence[int]) -> Array:
     """Return a struct of some children, which have the struct's own rows from their start on."""
     node, children = array.node, array.split()
-    valid = node.buffers[0]
+    valid: Any = node.buffers[0]
     if valid is not None and node.offset:
         bits = int.from_bytes(valid, "little") >> node.offset & (1 << node.length) - 1
         valid = bits.to_bytes((node.length + 7) // 8, "little")

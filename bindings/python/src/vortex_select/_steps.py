@@ -3,7 +3,7 @@
 from __future__ import annotations
 
 from array import array as numbers_of
-from typing import Any, List, Optional, Sequence, Tuple, Union
+from typing import Any, List, Optional, Sequence, Tuple, Type, Union
 
 from . import _native
 from ._arrays import Array, Node, borrowed
@@ -56,7 +56,7 @@ def _copied(part: Any, start: int, end: int) -> bytes:
     return bytes(memoryview(part)[start:end])
 
 
-def _remade(kind: type, parts: Tuple[Any, ...]) -> Any:
+def _remade(kind: Type[_Listed], parts: Tuple[Any, ...]) -> Any:
     """Return a step that was pickled, or a part of one."""
     step = kind.__new__(kind)
     step._fill(*parts)

@@ -3,7 +3,7 @@
 from __future__ import annotations
 
 import re
-from typing import NamedTuple, Optional, Tuple
+from typing import List, NamedTuple, Optional, Sequence, Tuple
 
 _FLAT = {
     "null": "n",
@@ -58,23 +58,23 @@ class Type(NamedTuple):
         return spelled(self)
 
 
-def decimal_of(form):
-    """The precision, the scale and the bits of a decimal's format."""
+def decimal_of(form: str) -> Tuple[int, int, int]:
+    """Return the precision, the scale and the bits of a decimal's format."""
     precision, scale, *bits = map(int, form[2:].split(","))
     return precision, scale, bits[0] if bits else 128
 
 
-def ids_of(form):
-    """The ids that the format of a union lists, a byte each."""
+def ids_of(form: str) -> bytes:
+    """Return the type ids that the format of a union lists, a byte each."""
     return bytes(int(number) for number in form[4:].split(",") if number)
 
 
-def _first_ids(children):
-    """The ids of a union's children where a type names none."""
+def _first_ids(children: Sequence[Tuple[str, Type]]) -> str:
+    """Return the type ids of a union's children where a type lists none."""
     return ",".join(map(str, range(len(children))))
 
 
-def _spelled_nested(of):
+def _spelled_nested(of: Type) -> str:
     form, inner = of.format, [spelled(child) for _, child in of.children]
     named = ", ".join(f"{name}: {text}" for (name, _), text in zip(of.children, inner))
     for name, nested in _LISTS.items():
@@ -94,7 +94,7 @@ def _spelled_nested(of):
 
 
 def spelled(of: Type) -> str:
-    """The text of a type.
+    """Return the text of a type.
 
     >>> spelled(Type("+l", (("item", Type("u")),)))
     'list<utf8>'
@@ -122,31 +122,31 @@ _WORD = re.compile(r"\s*([a-z_0-9]+(\[[^\]]*\]|\([^)]*\))?)")
 class _Parser:
     """Reads a type from a text, from the left."""
 
-    def __init__(self, text):
+    def __init__(self, text: str):
         self.text, self.at, self.level = text, 0, 0
 
-    def fault(self):
+    def fault(self) -> ValueError:
         return ValueError(f"unknown type {self.text!r} (position {self.at})")
 
-    def is_next(self, mark):
+    def is_next(self, mark: str) -> bool:
         while self.text[self.at : self.at + 1].isspace():
             self.at += 1
         found = self.text.startswith(mark, self.at)
         self.at += len(mark) if found else 0
         return found
 
-    def need(self, mark):
+    def need(self, mark: str) -> None:
         if not self.is_next(mark):
             raise self.fault()
 
-    def number(self):
+    def number(self) -> int:
         found = re.compile(r"\s*([0-9]+)").match(self.text, self.at)
         if not found:
             raise self.fault()
         self.at = found.end()
         return int(found.group(1))
 
-    def type(self):
+    def type(self) -> Type:
         self.level += 1
         if self.level > LEVELS:
             raise ValueError(f"a type of more than {LEVELS} levels")
@@ -154,7 +154,7 @@ class _Parser:
         self.level -= 1
         return found
 
-    def type_here(self):
+    def type_here(self) -> Type:
         found = _WORD.match(self.text, self.at)
         if not found:
             raise self.fault()
@@ -165,8 +165,8 @@ class _Parser:
             return self.nested(word)
         return Type(self.format(word))
 
-    def format(self, word):
-        """The format of a type that has numbers or a unit."""
+    def format(self, word: str) -> str:
+        """Return the format of a type that has numbers or a unit."""
         found = re.match(r"decimal(32|64|128|256)\(([0-9]+),\s*(-?[0-9]+)\)$", word)
         if found:
             bits, precision, scale = found.groups()
@@ -179,7 +179,7 @@ class _Parser:
             return f"ts{_UNITS[found.group(1)]}:{found.group(2) or ''}"
         raise self.fault()
 
-    def nested(self, word):
+    def nested(self, word: str) -> Type:
         if word == "struct":
             return Type("+s", self.fields())
         found = re.match(r"(sparse|dense)_union(?:\[([0-9]+(?:,[0-9]+)*)\])?$", word)
@@ -205,8 +205,8 @@ class _Parser:
         self.need(">")
         return made
 
-    def fields(self):
-        fields = []
+    def fields(self) -> Tuple[Tuple[str, Type], ...]:
+        fields: List[Tuple[str, Type]] = []
         while not self.is_next(">"):
             if fields:
                 self.need(",")
@@ -219,7 +219,10 @@ class _Parser:
 
 
 def type_of(text: str) -> Type:
-    """The type that a text names.
+    """Return the type that a text names.
+
+    Raises:
+        ValueError: the text isn't a type; it names the position where reading ended.
 
     >>> type_of("struct<id: int64, tags: list<utf8>>").children[0]
     ('id', Type(format='l', children=(), dictionary=None))

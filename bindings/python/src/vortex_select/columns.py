@@ -2,7 +2,7 @@
 
 from __future__ import annotations
 
-from typing import TYPE_CHECKING, Any, Iterable, List, Optional, Sequence, Tuple
+from typing import TYPE_CHECKING, Any, Dict, Iterable, List, Optional, Sequence, Tuple
 
 from . import _native
 from ._arrays import (
@@ -16,7 +16,7 @@ from ._arrays import (
     field_of,
     field_of_type,
 )
-from ._buffers import view_of, whole
+from ._buffers import Bits, view_of, whole
 from ._building import built, guessed, lengths_of
 from ._joining import joined
 from ._reading import rows
@@ -24,7 +24,7 @@ from ._steps import Step, called, images_of
 from ._types import Type, spelled, type_of
 
 if TYPE_CHECKING:
-    from typing_extensions import Buffer
+    from _typeshed import ReadableBuffer as Buffer
 
 
 class Column:
@@ -54,7 +54,8 @@ class Column:
         """Return the rows as values of Python.
 
         Numbers (dates and times too), strings, bytes, lists, dicts for structs, lists of pairs for
-        maps, for unions the value of the row's child, and `None` for nulls.
+        maps, for unions the value of the row's child, and `None` for nulls. Of several children
+        of a struct with one name, a dict has the last.
 
         Raises:
             ValueError: a row leads outside of the column's memory.
@@ -136,7 +137,7 @@ def select(column: Any, steps: Sequence[Step] = ()) -> Column:
 
 
 def check(column: Any) -> None:
-    """Test a whole column, any object with `__arrow_c_array__`.
+    """Test a whole column: a `Column`, or any object with `__arrow_c_array__`.
 
     `select` tests the selected rows alone. The lengths of another producer's buffers can't be
     tested: the Arrow interface doesn't tell them.
@@ -147,7 +148,9 @@ def check(column: Any) -> None:
     >>> from vortex_select import column
     >>> check(column(["a", None]))
     """
-    borrowed(column).check()
+    chunks = column._chunks if isinstance(column, Column) else [borrowed(column)]
+    for chunk in chunks:
+        chunk.check()
 
 
 def column(values: Iterable[Any], type: Optional[str] = None) -> Column:
@@ -157,6 +160,10 @@ def column(values: Iterable[Any], type: Optional[str] = None) -> Column:
         values: numbers, strings, bytes, lists, dicts, and `None` for nulls.
         type: such as `list<utf8>`; by default that of the first value that isn't `None`. Union
             values go to the first child type that accepts them.
+
+    Raises:
+        ValueError: a value doesn't fit the type.
+        TypeError: a value is of another kind, or gives no type.
 
     >>> column(["a", None], type="utf8").to_pylist()
     ['a', None]
@@ -180,11 +187,47 @@ def _child_of(expected: Type, child: Any, what: str) -> Array:
     return array
 
 
+def _described(array: Array, field: Field) -> Array:
+    """Return an array with the name and the flags of a field."""
+    return array.described(field.name, field.flags)
+
+
+def _with_fields(entries: Array, field: Field) -> Array:
+    """Return the entries of a map, with a key and a value of the fields that the map has."""
+    node = entries.node
+    valid = node.buffers[0]
+    bits = None if valid is None else Bits(valid, node.length, node.offset).words()
+    children = list(map(_described, entries.split(), field.children))
+    return array_over(field, (node.length, 0 if bits is None else -1, 0), [bits], children)
+
+
+def _children_of(of: Type, field: Field, children: List[Any]) -> List[Array]:
+    """Return the arrays of the children, with the names and flags of the type."""
+    expected = of.children
+    if len(children) != len(expected):
+        raise ValueError(f"type {of}: expected {len(expected)} children, got {len(children)}")
+    arrays = [
+        _child_of(child, given, f"child {name!r}")
+        for (name, child), given in zip(expected, children)
+    ]
+    arrays = list(map(_described, arrays, field.children))
+    if of.format == "+m":
+        arrays = [_with_fields(arrays[0], field.children[0])]
+    return arrays
+
+
+def _null_count(form: str, length: int, views: List[Optional[memoryview]]) -> int:
+    """Return how many rows are null, or -1 if that isn't known."""
+    if form == "n":
+        return length
+    has_validity = form[:2] != "+u" and bool(views) and views[0] is not None
+    return -1 if has_validity else 0
+
 
 # The buffers that say where rows are, by the format.
-_PLACES = {
-    **dict.fromkeys(["u", "U", "z", "Z", "+l", "+L", "+m", "vu", "vz"], (1,)),
-    **dict.fromkeys(["+vl", "+vL"], (1, 2)),
+_PLACES: Dict[str, Tuple[int, ...]] = {
+    **{form: (1,) for form in ("u", "U", "z", "Z", "+l", "+L", "+m", "vu", "vz")},
+    **{form: (1, 2) for form in ("+vl", "+vL")},
 }
 
 
@@ -237,25 +280,15 @@ def from_buffers(
         raise ValueError(f"expected a length and an offset from 0 on, got {length} and {offset}")
     views = [None if data is None else view_of(data, "a buffer") for data in list(buffers)]
     _with_fixed_places(of.format, views)
-    below, expected = list(children), of.children
-    if len(below) != len(expected):
-        raise ValueError(f"type {of}: expected {len(expected)} children, got {len(below)}")
-    arrays = [
-        _child_of(child, given, f"child {name!r}") for (name, child), given in zip(expected, below)
-    ]
     field = field_of_type(of)
-    arrays = [
-        array.described(child.name, child.flags) for array, child in zip(arrays, field.children)
-    ]
+    arrays = _children_of(of, field, list(children))
     if (of.dictionary is None) != (dictionary is None):
         raise ValueError("a dictionary: expected for a type dictionary<..>, and for no other")
     inner = None if of.dictionary is None else _child_of(of.dictionary, dictionary, "dictionary")
     if of.format in ("vu", "vz"):
         views.append(memoryview(lengths_of(b"" if data is None else data for data in views[2:])))
-    nulls = length if of.format == "n" else -1 if views and views[0] is not None else 0
-    if of.format[:2] == "+u":
-        nulls = 0
-    array = array_over(field, (length, nulls, offset), views, arrays, inner)
+    numbers = length, _null_count(of.format, length, views), offset
+    array = array_over(field, numbers, views, arrays, inner)
     if not trusted:
         array.check()
     return column_over([array])

@@ -19,7 +19,7 @@ from ._buffers import (
 )
 
 if TYPE_CHECKING:
-    from typing_extensions import Buffer
+    from _typeshed import ReadableBuffer as Buffer
 
     from ._buffers import Indices, Mask
 
@@ -41,7 +41,9 @@ class _Values:
             raise ValueError(f"values: expected items of {_WIDTHS} bytes, got {self.width}")
         if self.view.nbytes % self.width:
             found = self.view.nbytes
-            raise ValueError(f"values: expected whole items of {self.width} bytes, got {found} bytes")
+            raise ValueError(
+                f"values: expected whole items of {self.width} bytes, got {found} bytes"
+            )
         self.type = letter or "B"
         self.rows = self.view.nbytes // self.width
 

@@ -168,7 +168,7 @@ def _work(task: Task) -> Done:
     if task.rows is not None and part.rows != task.rows:
         raise ValueError(f"it has {part.rows} rows, expected {task.rows}")
     result = None if task.steps is None else _selected(part.column(), task.steps)
-    return Done(part.rows, part.field._replace(metadata=None), result)
+    return Done(part.rows, part.field, result)
 
 
 def done(task: Task) -> Done:
@@ -326,7 +326,8 @@ def _result(said: Tuple[bool, Any]) -> Any:
 def _ran(backend: Any, function: Callable[[Task], Done], tasks: List[Task]) -> List[Done]:
     """Return the results of a function over tasks, by a backend."""
     if hasattr(backend, "submit") and hasattr(backend, "gather"):
-        return backend.gather(backend.map(function, tasks, pure=False))
+        found: List[Done] = backend.gather(backend.map(function, tasks, pure=False))
+        return found
     if isinstance(backend, Processes):
         return backend.map(function, tasks)
     return list(backend(function, tasks))

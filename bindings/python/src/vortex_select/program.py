@@ -8,7 +8,7 @@ from . import _native
 from ._buffers import view_of
 
 if TYPE_CHECKING:
-    from typing_extensions import Buffer
+    from _typeshed import ReadableBuffer as Buffer
 
 
 class Answer(NamedTuple):

@@ -83,6 +83,9 @@ fn slices_and_bounds_are_those_of_plain_loops() {
         assert_eq!(cut.left.iter().sum::<usize>(), end - start);
         let plain = plain_slice(&lengths, start, end);
         assert_eq!(cut.left, plain.left);
+        for (k, left) in cut.left.iter().enumerate() {
+            assert_eq!(cut.ends[k] - cut.starts[k], *left);
+        }
         for k in (0..lengths.len()).filter(|k| plain.left[*k] > 0) {
             assert_eq!(
                 (cut.starts[k], cut.ends[k]),
@@ -138,6 +141,13 @@ fn picks_are_cut_as_by_plain_loops() {
             Err(Error::OutOfBounds { place })
         );
     }
+}
+
+#[test]
+fn nulls_need_no_part() {
+    let cut = cut_picks(&[NULL, NULL], &[0]);
+    assert_eq!(cut, Ok(plain_picks(&[], &[NULL, NULL])));
+    assert_eq!(cut.unwrap().own, []);
 }
 
 #[test]

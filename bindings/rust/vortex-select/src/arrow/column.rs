@@ -102,10 +102,6 @@ impl Column {
         };
         // SAFETY: the array isn't released, and nothing else reads it meanwhile.
         done(unsafe { sys::vortex_arrow_share(&mut self.array.0, &mut shared.array.0) })?;
-        // An array that was sliced in its place is shared with the rows that it has now.
-        shared.array.0.length = self.array.0.length;
-        shared.array.0.offset = self.array.0.offset;
-        shared.array.0.null_count = self.array.0.null_count;
         Ok(shared)
     }
 

@@ -50,15 +50,10 @@ pub fn picks(len: u64, steps: &[Step]) -> Result<Picks, Error> {
     done(unsafe { sys::vortex_arrow_count(len, list, count, &mut need) })?;
     let mut places: Vec<u64> = zeros(need.places)?;
     let mut valid: Vec<u8> = zeros(need.valid)?;
-    // The call clears the bits of nulls, and leaves the others as they are.
-    valid.fill(0xff);
     let (p, n) = (places.as_mut_ptr(), places.len());
     let (v, m) = (valid.as_mut_ptr(), valid.len());
     // SAFETY: both lists are as long as is said and are written alone.
     done(unsafe { sys::vortex_arrow_compose(len, list, count, p, n, v, m) })?;
-    if let Some(last) = valid.last_mut().filter(|_| places.len() % 8 > 0) {
-        *last &= (1 << (places.len() % 8)) - 1;
-    }
     let is_nullable = steps.iter().any(Step::leaves_nulls);
     Ok(Picks {
         places,

@@ -57,6 +57,7 @@ fn lists_of_a_step_that_are_too_short_are_named() {
     lacking(Step::take_numbers(Number::U16, &[0; 4], 1, 2, None));
     lacking(Step::take_numbers(Number::U8, &[0; 9], 0, 9, Some(&[0xff])));
     lacking(Step::take_numbers(Number::U8, &[0; 2], 0, 2, Some(&[])));
+    lacking(Step::take_numbers(Number::U8, &[0; 2], 1, 0, Some(&[])));
     lacking(Step::take_numbers(
         Number::U64,
         &[0; 8],

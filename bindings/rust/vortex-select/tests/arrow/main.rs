@@ -2,6 +2,7 @@
 #![cfg(feature = "arrow")]
 mod building;
 mod children;
+mod empty;
 mod errors;
 mod hostile;
 mod loops;

@@ -213,6 +213,18 @@ fn metadata_with_negative_numbers_is_none() {
 }
 
 #[test]
+fn a_list_of_buffers_that_is_null_is_refused() {
+    let structs = || Column::structs(1, vec![("age", Column::numbers(&[Some(1)]))]);
+    for column in [structs(), Column::numbers(&[Some(1)])] {
+        let column = with_array(column, |array| array.buffers = std::ptr::null_mut());
+        assert_eq!(
+            column.node().buffers().unwrap_err().to_string(),
+            "buffers: expected a list, found null"
+        );
+    }
+}
+
+#[test]
 fn validity_has_a_bit_for_each_row() {
     let rows: Vec<_> = (0..17)
         .map(|k| if k % 3 == 0 { None } else { Some(k) })

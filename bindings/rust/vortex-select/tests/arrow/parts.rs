@@ -430,12 +430,14 @@ fn fields_are_tested() {
             ("é".into(), 6, Some(&whole[..]))
         );
     }
-    for len in 0..whole.len() {
-        let text = shape(named("a", Some(whole[..len].to_vec())));
-        assert_eq!(
-            text,
-            "metadata: expected a count and as many pairs, found fewer bytes"
-        );
+    for whole in [whole, pairs(&[("key", "value")])] {
+        for len in 0..whole.len() {
+            let text = shape(named("a", Some(whole[..len].to_vec())));
+            assert_eq!(
+                text,
+                "metadata: expected a count and as many pairs, found fewer bytes"
+            );
+        }
     }
     for hostile in [
         narrow(&[-1]),
@@ -587,6 +589,35 @@ unsafe impl Buffer for Changing {
     }
 }
 
+/// No bytes, which may change.
+struct Null;
+
+// SAFETY: no bytes are readable at any place.
+unsafe impl Buffer for Null {
+    fn data(&self) -> *const u8 {
+        std::ptr::null()
+    }
+
+    fn size(&self) -> usize {
+        0
+    }
+
+    fn may_change(&self) -> bool {
+        true
+    }
+}
+
+#[test]
+fn a_null_buffer_that_may_change_stays_null() {
+    let made = |len| {
+        let buffers: Vec<Option<Box<dyn Buffer>>> = vec![None, Some(Box::new(Null)), None];
+        Column::from_parts(field("u"), len, 0, 0, buffers, Vec::new(), None)
+    };
+    assert_eq!(shape(made(1)), "offsets: expected 8 bytes, found null");
+    let empty = made(0).unwrap();
+    assert!(empty.node().buffers().unwrap().iter().all(Option::is_none));
+}
+
 #[test]
 fn buffers_that_lead_to_others_may_change_later() {
     for (format, parts, children) in formats() {
@@ -614,4 +645,21 @@ fn buffers_that_lead_to_others_may_change_later() {
             assert_eq!(found, wanted.as_deref(), "{format} {k}");
         }
     }
+}
+
+#[test]
+fn the_length_of_one_data_buffer_may_change_later() {
+    let shared = |bytes: Vec<u8>| Arc::new(bytes.into_iter().map(AtomicU8::new).collect());
+    let boxed = |of: &Arc<Vec<AtomicU8>>| -> Option<Box<dyn Buffer>> {
+        Some(Box::new(Changing(of.clone())))
+    };
+    let (views, data, lengths) = (shared(vec![0; 16]), shared(vec![1; 7]), shared(wide(&[7])));
+    let buffers = vec![None, boxed(&views), boxed(&data), boxed(&lengths)];
+    let column = Column::from_parts(field("vu"), 1, 0, 0, buffers, Vec::new(), None).unwrap();
+    for byte in lengths.iter() {
+        byte.store(0xff, Ordering::SeqCst);
+    }
+    let found = column.node().buffers().unwrap();
+    assert_eq!(found[3], Some(&wide(&[7])[..]));
+    assert_eq!(found[2].map(<[u8]>::len), Some(7));
 }

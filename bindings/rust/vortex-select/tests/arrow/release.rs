@@ -1,5 +1,5 @@
 //! What is made is released once, and in a loop where it is nested.
-use crate::raw::{array_of, foreign, schema_of};
+use crate::raw::{array_of, foreign, schema_of, with_array};
 use std::sync::atomic::{AtomicUsize, Ordering};
 use std::sync::Arc;
 use vortex_select::arrow::{select, ArrowArray, ArrowSchema, Buffer, Column, Error, Field, Step};
@@ -110,6 +110,18 @@ fn shared_memory_is_dropped_with_its_last_column() {
 }
 
 #[test]
+fn a_column_that_is_sliced_in_its_place_is_shared_so() {
+    let column = Column::numbers(&[Some(1), None, Some(3), Some(4)]);
+    let mut column = with_array(column, |array| {
+        array.offset = 1;
+        array.length = 2;
+    });
+    let shared = column.share().unwrap();
+    assert_eq!(shared.to_numbers(), Some(vec![None, Some(3)]));
+    assert_eq!(column.to_numbers(), Some(vec![None, Some(3)]));
+}
+
+#[test]
 fn a_renamed_column_of_another_producer_is_released() {
     let count = Arc::new(AtomicUsize::new(0));
     let column = Column::structs(3, vec![("x", foreign(nested(&count)))]);
@@ -203,9 +215,14 @@ fn released_columns_are_refused() {
     assert!(column.node().dictionary().is_none() && column.node().children().is_empty());
     assert_eq!((column.to_numbers(), column.to_texts()), (None, None));
     assert!(column.into_children().is_empty());
-    let (mut schema, _) = Column::numbers(&[Some(1)]).into_raw();
+    let (mut schema, mut array) = Column::numbers(&[Some(1)]).into_raw();
+    // SAFETY: the array is a column's, and the schema is released.
+    let mut half = unsafe { Column::from_raw(&mut ArrowSchema::empty(), &mut array) };
+    let found = |name: &str| Error::Shape(format!("expected a column, found a released {name}"));
+    assert_eq!(half.check().unwrap_err(), found("schema"));
     // SAFETY: the schema is a column's, and the array is released.
     let mut half = unsafe { Column::from_raw(&mut schema, &mut ArrowArray::empty()) };
+    assert_eq!(half.check().unwrap_err(), found("array"));
     assert!(half.is_released());
     is_refused(select(&mut half, &[]).err());
     is_refused(half.share().err());

@@ -119,4 +119,6 @@ fn picks_are_places_with_bits() {
     let left = picks(3, &[Step::take_or_null(&[])]).unwrap();
     assert_eq!((left.places, left.valid), (vec![], Some(vec![])));
     assert_eq!(picks(0, &[]).unwrap().places, []);
+    let left = picks(3, &[Step::filter_bits(&[7], 0, 3, Some(&[5]))]).unwrap();
+    assert_eq!((left.places, left.valid), (vec![0, 2], None));
 }

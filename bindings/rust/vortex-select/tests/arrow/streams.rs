@@ -289,6 +289,9 @@ fn functions_that_are_missing_are_faults() {
     };
     assert!(without(|fields| fields.get_next = None).next().is_err());
     assert!(without(|fields| fields.get_schema = None).schema().is_err());
+    assert!(without(|fields| fields.get_last_error = None)
+        .schema()
+        .is_err());
     assert!(select_stream(&mut without(|fields| fields.get_next = None), &[]).is_err());
     assert!(select_stream(&mut without(|fields| fields.get_schema = None), &[]).is_err());
 }
