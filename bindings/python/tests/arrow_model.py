@@ -26,6 +26,18 @@ def random_bytes(dice, count):
     return dice.getrandbits(8 * count).to_bytes(count, "little") if count else b""
 
 
+def _holds_nulls_alone(of):
+    return of.format == "n" or (of.dictionary is not None and _holds_nulls_alone(of.dictionary))
+
+
+def random_key(dice):
+    """A type of a map's keys, which are never null."""
+    while True:
+        of = random_type(dice, 0)
+        if not _holds_nulls_alone(of):
+            return of
+
+
 def random_type(dice, depth):
     """A type that is nested so deep at the most."""
     if depth and dice.random() < 0.6:
@@ -38,7 +50,7 @@ def random_type(dice, depth):
             fields = tuple((f"f{number}", random_type(dice, depth - 1)) for number in ids)
             return Type(form + ",".join(ids), fields)
         if form == "+m":
-            pair = ("key", random_type(dice, 0)), ("value", random_type(dice, depth - 1))
+            pair = ("key", random_key(dice)), ("value", random_type(dice, depth - 1))
             return Type(form, (("entries", Type("+s", pair)),))
         if form == "+w:":
             form += str(dice.randrange(4))
