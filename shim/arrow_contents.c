@@ -185,10 +185,15 @@ static uint64_t items_at(const uint8_t *offsets)
  * descend counts as one of 2^31 items or more. */
 static uint64_t most_items(const vortex_arrow_node *node, const vortex_arrow_picks *p, uint64_t add)
 {
-    const uint8_t *offsets = node->offsets.data + 4 * (node->offset + add);
-    const uint64_t *places = p->places, rows = node->len > add ? node->len - add : 0;
-    uint64_t items = 0;
+    const uint8_t *offsets;
+    const uint64_t *places = p->places;
+    uint64_t items = 0, rows;
     size_t k, len = p->len;
+    if (add >= node->len) { /* the places are past the rows, which the library finds */
+        return 0;
+    }
+    offsets = node->offsets.data + 4 * (node->offset + add);
+    rows = node->len - add;
     for (k = 0; k < len; k++) {
         uint64_t ends;
         if (places[k] < rows) {
