@@ -1,4 +1,4 @@
-"""Compares the evaluator with the rows of `crates/worked`: words and documents, each with its answer.
+"""Compares the evaluator with the rows of `crates/rows_of_documents`: words and documents, each with its answer.
 
 A row's source may fail at the calls that it names, and its sink likewise: each read and each write
 moves at most so many bytes, a read of none ends the document, and `finish` follows the last write.
@@ -8,7 +8,7 @@ from pathlib import Path
 import program
 
 READING_FAILED, WRITING_FAILED = 4, 5
-ROWS = Path(__file__).resolve().parents[2] / 'crates/worked/stdin'
+ROWS = Path(__file__).resolve().parents[2] / 'crates/rows_of_documents/stdin'
 
 
 def rows(path):

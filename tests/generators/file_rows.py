@@ -1,6 +1,6 @@
-"""The rows of files in `crates/select_calls/stdin`, worked out from the definition of a column file alone.
+"""The rows of files in `crates/rows_of_selections/stdin`, worked out from the definition of a column file alone.
 
-    python3 tests/generators/file_rows.py | diff - <(sed -n '/^# blocks of files/,$p' crates/select_calls/stdin)
+    python3 tests/generators/file_rows.py | diff - <(sed -n '/^# blocks of files/,$p' crates/rows_of_selections/stdin)
 """
 
 from json import dumps

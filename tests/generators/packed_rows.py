@@ -1,4 +1,4 @@
-"""What `byte_callers` must print of `vx_packed`, worked out from the definition of a spelling alone."""
+"""What `rows_of_bytes` must print of `vx_packed`, worked out from the definition of a spelling alone."""
 
 M = 2 ** 64
 

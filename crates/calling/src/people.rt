@@ -5,7 +5,7 @@ use crate::printing::{print_elements, print_name, print_number};
 use std::alloc::Global;
 use std::test::Fail;
 use vortex_select::build::{lists, numbers, structs, texts};
-use vortex_select::{Array, StructArray};
+use vortex_select::{Array, ReadLayout, StructArray, row_at};
 
 /// The tags of four people; the second has none.
 fn tags(alloc: Global) -> Result<Array, Fail> {
@@ -38,8 +38,8 @@ fn print_person(
         return Err("no numbers".into());
     }
     print_number(rt, ids.number_at(i))?;
-    print_name(rt, &names.row_at(alloc, i)?)?;
-    print_elements(rt, &tags.row_at(alloc, i)?)
+    print_name(rt, &row_at(alloc, names, i)?)?;
+    print_elements(rt, &row_at(alloc, tags, i)?)
 }
 
 /// The people that are picked, a line each.

@@ -2,7 +2,7 @@
 use std::alloc::Global;
 use std::io;
 use std::test::Fail;
-use vortex_select::{Array, Call, Cause, Row, text_of};
+use vortex_select::{Array, Call, Cause, Row, row_at, text_of};
 
 /// The type of a column, and a line for each row.
 pub(crate) fn print_column(rt: &impl Print, alloc: Global, column: &Array) -> Result<(), Fail> {
@@ -47,7 +47,7 @@ pub(crate) fn print_row(rt: &impl Print, row: &Row) -> io::Result<()> {
 /// The texts of a column, from row to row.
 pub(crate) fn print_text(rt: &impl Print, alloc: Global, column: &Array) -> Result<(), Fail> {
     for i in 0..column.len() {
-        print_name(rt, &column.row_at(alloc, i)?)?;
+        print_name(rt, &row_at(alloc, column, i)?)?;
     }
     println!(rt; "")?;
     Ok(())

@@ -9,7 +9,7 @@ ghost use Rattle.vortex_select.specs.Compose.{IsFaultOf};
 ghost use Rattle.calling.specs.Picked.{IsPicked};
 
 use std::alloc::Global;
-use vortex_select::{Array, Policy, Row, SelectError, Step, select};
+use vortex_select::{Array, Policy, Row, SelectError, Step, row_at, select};
 
 /// Row `i` of what the steps leave: the source's row at the `i`th pick, and null where the pick is
 /// null or no such row is left. `select`'s clause `answer` says so.
@@ -27,7 +27,7 @@ pub(crate) fn row_or_null(
 {
     let answer = select(alloc, column, steps, policy)?;
     if i < answer.len() {
-        Ok(answer.row_at(alloc, i)?)
+        Ok(row_at(alloc, &answer, i)?)
     } else {
         Ok(Row::Null)
     }

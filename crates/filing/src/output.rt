@@ -9,7 +9,7 @@ use vx_file::{BLOCK_LEN, BlockReader, Blocks, SteadyBlocks};
 pub(crate) struct File {
     /// The blocks.
     pub(crate) blocks: Blocks,
-    /// Their number.
+    /// The number of blocks.
     pub(crate) count: usize,
 }
 

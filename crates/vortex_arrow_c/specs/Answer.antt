@@ -1,5 +1,5 @@
 -- What calls answer.
-use Rattle.std.specs.Prelude.{ℕ, Result, Ok, Err}
+use Rattle.std.specs.Prelude.{◌≡◌, ℕ, Result, Ok, Err}
 use Rattle.vx_arrow_image.specs.declared.refusal.Lack.{Lack}
 use Rattle.vx_arrow_image.specs.declared.refusal.Lack.TheVariants as lacks
 use Rattle.vx_arrow_image.specs.declared.refusal.Refusal.{Refusal}
@@ -47,3 +47,9 @@ refusal_answer refusals.NoMemory = answer 5 0 0
 abbrev pub column_answer : Result Unit Refusal → Answer
 column_answer (Ok u) = answer 0 0 0
 column_answer (Err refusal) = refusal_answer refusal
+
+-- the answer tells a refusal, which comes for its reason alone
+pub record IsRefused (Why : Refusal → Type 0) (a : Answer) : Type 0 where
+  pub refusal : Refusal
+  pub why : Why refusal
+  pub told : a ≡ refusal_answer refusal

@@ -1,5 +1,5 @@
 -- What calls over steps answer, and what they write.
-use Rattle.std.specs.Prelude.{ℕ, List}
+use Rattle.std.specs.Prelude.{◌≡◌, ℕ, List}
 use Rattle.vx_steps.specs.declared.cause.Cause.{Cause}
 use Rattle.vx_steps.specs.declared.cause.Cause.TheVariants as causes
 use Rattle.vx_arrow.specs.declared.lacks.Lack.{Lack}
@@ -37,9 +37,15 @@ step_answer (refusals.Room need) = answer 3 0 0
 step_answer refusals.NoMemory = answer 5 0 0
 
 -- no step is broken, and the picks that are left are written
-pub record AreComposed (n : ℕ) (steps : List StepParts) (places places' valid valid' : List ℕ)
+pub record AreWritten (n : ℕ) (steps : List StepParts) (places places' valid valid' : List ℕ)
     : Type 0 where
   pub need : Need
   pub needed : HasNeed n steps need
   pub placed : IfPicks (walk_in n steps) (λ picks. ArePlaced picks places places')
   pub shown : IfPicks (walk_in n steps) (λ picks. AreShown need.valid picks valid valid')
+
+-- the answer tells why the steps are refused, which comes for its reason alone
+pub record AreRefused (Why : Refusal → Type 0) (a : Answer) : Type 0 where
+  pub refusal : Refusal
+  pub why : Why refusal
+  pub told : a ≡ step_answer refusal

@@ -1,8 +1,10 @@
 //! Calls over steps.
-ghost use Rattle.std.specs.Prelude.{◌≡◌, ◌≢◌, map};
-ghost use Rattle.vortex_arrow_c.specs.Steps.{AreComposed};
-ghost use Rattle.vx_arrow.specs.Answer.{AreMeant, HasNeed};
+ghost use Rattle.std.specs.Prelude.{◌≡◌, ◌≢◌, length, map};
+ghost use Rattle.vortex_arrow_c.specs.Steps.{AreRefused, AreWritten};
+ghost use Rattle.vx_arrow.specs.Answer.{AreMeant, HasNeed, IsRefusal, IsShort};
 ghost use Rattle.vx_arrow.specs.Image.{step_parts};
+ghost use Rattle.vx_arrow_columns.specs.Picks.{picking_of};
+ghost use Rattle.vx_arrow_select.specs.Selected.{AreComposed};
 
 use crate::answer::Answer;
 use std::alloc::Global;
@@ -20,6 +22,8 @@ pub extern "C" fn vortex_arrow_count(
 ) -> Answer
     ensures meant { result.status ≡ 0 → AreMeant (map step_parts steps.now) }
     ensures need { result.status ≡ 0 → HasNeed len (map step_parts steps.now) need.new }
+    ensures refused { result.status ≢ 0
+        → AreRefused (IsRefusal len (map step_parts steps.now) (λ _. ⊥)) result }
     ensures kept { result.status ≢ 0 → need.new ≡ need.old }
 {
     match count(alloc, len as usize, steps) {
@@ -39,8 +43,14 @@ pub extern "C" fn vortex_arrow_count(
 /// | 0 | the picks are written |
 /// | 3 | there is less room than `vortex_arrow_count` says |
 /// | 5 | memory runs out |
-/// | 6 | a step, whose number is told, breaks a rule: `what` (0 a slice's range, 1 a mask's length, 2 a filter that isn't of bools, 3 indices that are no integers, 4 pieces that aren't sound, 5 an index out of bounds) |
-/// | 7 | a step's image has no meaning: `what` it lacks (0 its kind, 1 its type, 2 a length that can be counted, 3 values, 4 validity, 5 lengths, 6 multipliers) |
+/// | 6 | a step, whose number is told, breaks a rule, and `what` says which |
+/// | 7 | a step's image has no meaning, and `what` is what it lacks |
+///
+/// The rule that a step breaks: 0 a slice's range, 1 a mask's length, 2 a filter that isn't of
+/// bools, 3 indices that are no integers, 4 pieces that aren't sound, 5 an index out of bounds.
+///
+/// What an image lacks: 0 its kind, 1 its type, 2 a length that can be counted, 3 values,
+/// 4 validity, 5 lengths, 6 multipliers.
 ///
 /// From 3 on nothing is written.
 #[unsafe(no_mangle)]
@@ -52,8 +62,13 @@ pub extern "C" fn vortex_arrow_compose(
     valid: &mut [u8],
 ) -> Answer
     ensures meant { result.status ≡ 0 → AreMeant (map step_parts steps.now) }
-    ensures composed { result.status ≡ 0 → AreComposed len (map step_parts steps.now)
+    ensures written { result.status ≡ 0 → AreWritten len (map step_parts steps.now)
         places.old places.new valid.old valid.new }
+    ensures composed { result.status ≡ 0 → HasNeed len (map step_parts steps.now)
+        (record { places = length places.old; valid = length valid.old })
+        → AreComposed len (map step_parts steps.now) (picking_of places.new valid.new 0) }
+    ensures refused { result.status ≢ 0 → AreRefused (IsRefusal len (map step_parts steps.now)
+        (IsShort len (map step_parts steps.now) (length places.old) (length valid.old))) result }
     ensures kept_places { result.status ≢ 0 → places.new ≡ places.old }
     ensures kept_valid { result.status ≢ 0 → valid.new ≡ valid.old }
 {

@@ -26,7 +26,7 @@ impl Model for TextSink {
 }
 
 impl TextSink {
-    /// No text. It takes no memory.
+    /// A sink of no text yet. Allocates nothing.
     pub(crate) fn new(alloc: Global) -> TextSink
         ensures { result ≡ record { held = []; pending = 0; faults = 0 } }
     {

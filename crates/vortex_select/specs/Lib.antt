@@ -10,7 +10,6 @@ pub use Rattle.vx_build.specs.Rows as BuiltRows
 pub use Rattle.vx_chunked.specs.Asked
 pub use Rattle.vx_column.specs.Bool as BoolBits
 pub use Rattle.vx_column.specs.Cell
-pub use Rattle.vx_column.specs.Flat
 pub use Rattle.vx_column.specs.Layout
 pub use Rattle.vx_column.specs.ListParts
 pub use Rattle.vx_column.specs.Lists
@@ -18,13 +17,11 @@ pub use Rattle.vx_column.specs.Part
 pub use Rattle.vx_column.specs.Plain as PlainColumns
 pub use Rattle.vx_column.specs.Records as RecordParts
 pub use Rattle.vx_column.specs.Shown
-pub use Rattle.vx_column.specs.Stored
 pub use Rattle.vx_column.specs.StructParts
 pub use Rattle.vx_column.specs.Text as TextParts
 pub use Rattle.vx_column.specs.Truth
 pub use Rattle.vx_column.specs.UnionParts
 pub use Rattle.vx_column.specs.Validity
-pub use Rattle.vx_column.specs.declared.records.RecordType as RecordTypes
 pub use Rattle.vx_decoder.specs.Laws as DecoderLaws
 pub use Rattle.vx_decoder.specs.Told
 pub use Rattle.vx_decoder.specs.declared.call.Call as Calls
@@ -80,18 +77,21 @@ pub use Rattle.vx_model.specs.Valid
 pub use Rattle.vx_model.specs.VarBin
 pub use Rattle.vx_model.specs.VarBinView
 pub use Rattle.vx_offsets.specs.Cut
+pub use Rattle.vx_offsets.specs.Offsets
 pub use Rattle.vx_packed.specs.Chunk as PackedChunks
 pub use Rattle.vx_packed.specs.Faults as PackedFaults
 pub use Rattle.vx_pieces.specs.Indices
 pub use Rattle.vx_pieces.specs.Pieces
 pub use Rattle.vx_pieces.specs.Runs
 pub use Rattle.vx_pieces.specs.declared.error.PiecesError as PiecesErrors
-pub use Rattle.vx_positions.specs.Offsets
+pub use Rattle.vx_plain.specs.Flat
+pub use Rattle.vx_plain.specs.Stored
 pub use Rattle.vx_positions.specs.Positions
 pub use Rattle.vx_print.specs.Calls as PrintedCalls
-pub use Rattle.vx_steps.specs.Fault as PrintedFault
+pub use Rattle.vx_quote.specs.Quoted as PrintedQuotes
 pub use Rattle.vx_print.specs.Reads as PrintedReads
 pub use Rattle.vx_print.specs.Text as PrintedText
+pub use Rattle.vx_reading.specs.BoolRows
 pub use Rattle.vx_select.specs.Chunks
 pub use Rattle.vx_select.specs.Laws as SelectLaws
 pub use Rattle.vx_select.specs.Select
@@ -99,6 +99,7 @@ pub use Rattle.vx_steps.specs.Answer
 pub use Rattle.vx_steps.specs.Cause
 pub use Rattle.vx_steps.specs.Check
 pub use Rattle.vx_steps.specs.Compose
+pub use Rattle.vx_steps.specs.Fault as PrintedFault
 pub use Rattle.vx_steps.specs.Shape
 pub use Rattle.vx_steps.specs.Step
 pub use Rattle.vx_steps.specs.Walk
@@ -122,6 +123,7 @@ pub use Rattle.vx_types.specs.FieldTypes
 pub use Rattle.vx_types.specs.Fields
 pub use Rattle.vx_types.specs.Nullability
 pub use Rattle.vx_types.specs.PType
+pub use Rattle.vx_types.specs.RecordType
 pub use Rattle.vx_types.specs.Row
 pub use Rattle.vx_types.specs.RowValue
 pub use Rattle.vx_types.specs.Same
@@ -133,4 +135,5 @@ pub use Rattle.vx_types.specs.declared.error.ColumnError as ColumnErrors
 pub use Rattle.vx_types.specs.declared.layout_name.LayoutName as LayoutNames
 pub use Rattle.vx_types.specs.declared.nullability.Nullability as Nullabilities
 pub use Rattle.vx_types.specs.declared.ptype.PType as PTypes
+pub use Rattle.vx_types.specs.declared.record_type.RecordType as RecordTypes
 pub use Rattle.vx_types.specs.declared.text.TextKind as TextKinds

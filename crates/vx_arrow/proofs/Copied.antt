@@ -1,10 +1,8 @@
 -- Bits and records in cuts of bytes.
 use Rattle.std.proofs.Common.{◌≡◌, ℕ, ◌+◌, ◌-◌, ◌*◌, ◌/◌, ◌%◌, ◌<◌, ◌≤◌, List, take, drop, eqb, ap, ◌∙◌, sym, arith, get_or-take}
-use Rattle.std.specs.Prelude.{Ok, Option}
 use Rattle.std.specs.Int.{bit_at}
 use Rattle.std.proofs.lemmas.List.{same_lists}
 use Rattle.vx_bits.specs.BitBuffer.{bits_of}
-use Rattle.vx_bits.specs.Results.{ok_unless}
 use Rattle.vx_bits.proofs.BitLists.{bit_in, bits_drop, length_bits}
 
 -- bytes behind the bits play no part
@@ -22,7 +20,3 @@ bits_copied bytes o n last h =
     bits_take (drop (o / 8) bytes) (last - o / 8) (o % 8) n (omega arith)
     ∙ bits_drop bytes (o / 8) (o % 8) n
     ∙ ap (λ j. bits_of bytes j n) at
-
-pub made : {T E : Type 0} (fault : Option E) (parts x : T) → Ok x ≡ ok_unless fault parts → x ≡ parts
-made Option.None parts x h = cc
-made (Option.Some f) parts x h = cc

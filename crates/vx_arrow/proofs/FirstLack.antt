@@ -40,6 +40,6 @@ none_lacks k [] i s h l is = absurd (omega arith)
 none_lacks k (x ∷ steps) zero s h l is = ap step_lack is ∙ (none_after (step_lack x) k steps h).0
 none_lacks k (x ∷ steps) (suc i) s h l is = none_lacks (k + 1) steps i s (none_after (step_lack x) k steps h).1 (omega arith) is
 
--- the same of an image in a list
+-- where no image of a list lacks anything, image k doesn't
 pub image_lacks : (images : List StepImage) (k : ℕ) (d : StepImage) → first_lack 0 (map step_parts images) ≡ None → k < length images → step_lack (step_parts (get_or images k d)) ≡ None
 image_lacks images k d none h = none_lacks 0 (map step_parts images) k (step_parts (get_or images k d)) none (within images k d h) (image_at images k d h)

@@ -1,6 +1,5 @@
 -- Refusals that are handed on.
-use Rattle.std.proofs.Common.{◌≡◌, ℕ, List, sym, subst}
-use Rattle.std.specs.Prelude.{Err, IfErr, IsErrAnd, Ok, Result}
+use Rattle.std.proofs.Common.{ℕ, List}
 use Rattle.vx_arrow.specs.Answer.{IsRefusal, IsUnread}
 use Rattle.vx_arrow.specs.Image.{StepParts}
 use Rattle.vx_arrow.specs.declared.need.Need.{Need}
@@ -13,7 +12,3 @@ unread n steps Short (refusals.Lacking lacking) h = h
 unread n steps Short (refusals.Broken k cause) h = absurd h
 unread n steps Short (refusals.Room need) h = absurd h
 unread n steps Short refusals.NoMemory h = h
-
-pub err_is : {X E : Type 0} (r : Result X E) (e : E) (P : E → Type 0) → IsErrAnd r (λ x. x ≡ e) → P e → IfErr r P
-err_is (Ok x) e P h p = absurd h
-err_is (Err x) e P h p = subst P (sym h) p

@@ -1,9 +1,7 @@
 -- Columns of numbers and of bits that are known to be sound.
-use Rattle.std.proofs.Common.{◌≡◌, ℕ, true, List, length, Option, None, Some, refl, ap, ap₂, ◌∙◌, arith}
-use Rattle.std.specs.Prelude.{Err}
+use Rattle.std.proofs.Common.{◌≡◌, ℕ, true, List, length, None, refl, ap, ap₂, ◌∙◌, arith}
 use Rattle.std.proofs.lemmas.Bool.Decides.{nat_tests}
 use Rattle.vx_bits.specs.BitBuffer.{PlacedBits}
-use Rattle.vx_bits.specs.Results.{ok_unless}
 use Rattle.vx_types.specs.PType.{width}
 use Rattle.vx_types.specs.TypeTree.{kind_width, primitive_kind}
 use Rattle.vx_types.specs.declared.ptype.PType.{PType}
@@ -12,10 +10,6 @@ use Rattle.vx_model.specs.Records.{is_width_of_kind, records_column, records_fau
 use Rattle.vx_model.specs.Valid.{Valid, by_column, is_fitting, non_nullable}
 use Rattle.vx_model.proofs.Layouts.{length-bool}
 use Rattle.vx_arrow.specs.Image.{numbers_in, records_in}
-
-pub not_error : {T E : Type 0} (fault : Option E) (parts : T) (e : E) → fault ≡ None → ok_unless fault parts ≡ Err e → ⊥
-not_error None parts e n h = cc
-not_error (Some f) parts e n h = cc
 
 -- a column of bits is a validity of as many rows
 pub bits_fit : (b : PlacedBits) (n : ℕ) (v : Valid) → v ≡ by_column (bits_column b.bits b.offset) → length b.bits ≡ n → is_fitting v n ≡ true

@@ -5,6 +5,7 @@ use Rattle.std.specs.Int.{bit_at}
 use Rattle.std.proofs.lemmas.Bool.{cases_eq, cases_lt}
 use Rattle.std.proofs.lemmas.Nat.Bits.{bit_at-zero}
 use Rattle.std.proofs.lemmas.List.{same_lists, length-map, get_or-map, map_push, take_more, set_at}
+use Rattle.vx_lemmas.proofs.Bits.{other_bits, set_bit}
 use Rattle.vx_bits.specs.BitBuffer.{bit_of}
 use Rattle.vx_bits.proofs.BitLists.{bit_in, length_bits}
 use Rattle.vx_arrow.specs.Written.{AreMarked, IsByteOf, IsMarked, place_of}
@@ -14,20 +15,7 @@ use Rattle.vx_arrow.specs.Written.{AreMarked, IsByteOf, IsMarked, place_of}
 pub marked : (bs : List ℕ) (j x : ℕ) (b : Bool) → j < 8 * length bs → eqb (bit_at x (j % 8)) 1 ≡ b
     → ((r : ℕ) → r < 8 → r ≢ j % 8 → bit_at x r ≡ bit_at (get_or bs (j / 8) 0) r)
     → IsMarked bs (set bs (j / 8) x) j b
-marked bs j x b lt same others =
-    let within : j / 8 < length bs = omega arith in
-    record {
-      mark = ap (λ y. eqb (bit_at y (j % 8)) 1) (get_or-set_same bs (j / 8) x 0 within) ∙ same;
-      others = λ i ne. elim (cases_eq (i / 8) (j / 8)) as (λ _. bit_of (set bs (j / 8) x) i ≡ bit_of bs i) [
-        | inl e ↦
-            let other : i % 8 ≢ j % 8 = λ f. ne (omega arith) in
-            ap (λ q. eqb (bit_at (get_or (set bs (j / 8) x) q 0) (i % 8)) 1) e
-            ∙ ap (λ y. eqb (bit_at y (i % 8)) 1) (get_or-set_same bs (j / 8) x 0 within)
-            ∙ ap (λ y. eqb y 1) (others (i % 8) (omega arith) other)
-            ∙ ap (λ q. eqb (bit_at (get_or bs q 0) (i % 8)) 1) (sym e)
-        | inr f ↦ ap (λ y. eqb (bit_at y (i % 8)) 1) (get_or-set_other bs (j / 8) (i / 8) x 0 f)
-      ];
-    }
+marked bs j x b lt same others = record { mark = set_bit bs j x b lt same; others = other_bits bs j x lt others }
 
 pub marked_by : (bs : List ℕ) (j x y : ℕ) (a b : Bool) → x ≡ y → a ≡ b → IsMarked bs (set bs (j / 8) y) j b → IsMarked bs (set bs (j / 8) x) j a
 marked_by bs j x y a b e f h = subst (λ (z : ℕ). IsMarked bs (set bs (j / 8) z) j a) (sym e) (subst (λ (v : Bool). IsMarked bs (set bs (j / 8) y) j v) (sym f) h)

@@ -33,9 +33,11 @@ pub record IsMarked (old new : List ℕ) (j : ℕ) (bit : Bool) : Type 0 where
   pub mark : bit_of new j ≡ bit
   pub others : (i : ℕ) → i ≢ j → bit_of new i ≡ bit_of old i
 
--- the first n bits of the byte say which picks from `first` on are not null, and the others are clear
+-- the first n bits of the byte say which picks from `first` on are not null, and the others are
+-- clear
 pub record IsByteOf (picks : List (Option ℕ)) (first n byte : ℕ) : Type 0 where
-  pub bits : (i : ℕ) → i < n → (bit_at byte i == 1) ≡ is_some (slice_index_or picks (first + i) None)
+  pub bits : (i : ℕ) → i < n
+      → (bit_at byte i == 1) ≡ is_some (slice_index_or picks (first + i) None)
   pub rest : (i : ℕ) → n ≤ i → bit_at byte i ≡ 0
 
 -- the first bits say which picks are not null, and the others are as they were

@@ -1,15 +1,15 @@
 //! Lists in the caller's memory, copied.
-ghost use Rattle.std.specs.Prelude.{◌≡◌, ◌+◌, ◌*◌, ◌^◌, ◌<◌, ◌≤◌, length, true, IfOk};
+ghost use Rattle.std.specs.Prelude.{◌≡◌, ◌+◌, ◌^◌, ◌<◌, true, IfOk};
 ghost use Rattle.vx_bits.specs.BitBuffer.{bits_of};
 ghost use Rattle.vx_bits.specs.Records.{records_of, width_of};
 ghost use Rattle.vx_types.specs.PType.{width};
-ghost use Rattle.vx_model.specs.Valid.{is_fitting, non_nullable};
+ghost use Rattle.vx_model.specs.Valid.{is_fitting};
 ghost use Rattle.vx_column.specs.Validity.{valid_of};
 ghost use Rattle.vx_arrow.specs.Image.{holds_bits, holds_records, holds_valid, numbers_in, records_in, valid_in};
 
 use std::alloc::Global;
 use vx_bits::{BitBuffer, Buffer, NoMemory, Records};
-use vx_column::{Array, PrimitiveArray, Validity};
+use vx_column::{Array, RecordType, Validity, record_column};
 use vx_types::PType;
 
 /// The `len` bits of the bytes from bit `offset` on. Fails only with `NoMemory`.
@@ -68,7 +68,8 @@ fn records_of_width<const W: usize>(
     )
 }
 
-// The same, of the width of a type. Fails only with `NoMemory`.
+// The `len` records, as wide as the type, of the bytes from record `offset` on. Fails only with
+// `NoMemory`.
 fn records_of_type(
     alloc: Global,
     ptype: PType,
@@ -111,8 +112,5 @@ pub(crate) fn numbers_in(
     ensures { IfOk result (λ a. a ≡ numbers_in ptype bytes.now (valid_of validity) offset len) }
 {
     let records = records_of_type(alloc, ptype, bytes, offset, len)?;
-    match PrimitiveArray::try_new(ptype, records, validity) {
-        Ok(array) => Ok(array.into_array()),
-        Err(_) => unreachable!(),
-    }
+    Ok(record_column(RecordType::Primitive(ptype), records, validity))
 }

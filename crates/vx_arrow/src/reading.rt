@@ -2,7 +2,6 @@
 ghost use Rattle.std.specs.Prelude.{◌≡◌, ◌+◌, ◌^◌, ◌<◌, map, None, Some, true, IfOk};
 ghost use Rattle.vx_types.specs.declared.ptype.PType.TheVariants.{U64};
 ghost use Rattle.vx_types.specs.TypeTree.{is_flat};
-ghost use Rattle.vx_column.specs.Validity.{valid_of};
 ghost use Rattle.vx_steps.specs.Step.{step_value};
 ghost use Rattle.vx_arrow.specs.Image.{filter_in, filter_lack, first_lack, holds_records, naturals_in, pieces_in, pieces_lack, step_in, step_lack, step_parts, steps_in, take_lack, typed_take_in};
 
@@ -10,9 +9,10 @@ use crate::copies::{bits_in, numbers_in, validity_in};
 use crate::image::{StepImage, StepKind, kind_of, ptype_of};
 use std::alloc::Global;
 use vx_bits::NoMemory;
-use vx_column::{Array, ArrayRef, BoolArray, FlatRef, Validity};
+use vx_column::{Array, ArrayRef, BoolArray, Validity};
 use vx_mask::Mask;
 use vx_pieces::{Indices, PiecewiseSequence};
+use vx_plain::FlatRef;
 use vx_steps::Step;
 use vx_types::PType;
 
@@ -21,10 +21,7 @@ fn flat_ref(alloc: Global, array: Array) -> Result<FlatRef, NoMemory>
     requires { is_flat array.dtype ≡ true }
     ensures { IfOk result (λ f. f ≡ array) }
 {
-    match FlatRef::try_new(array.into_ref(alloc)?) {
-        Ok(flat) => Ok(flat),
-        Err(_) => unreachable!(),
-    }
+    Ok(FlatRef::of(array.into_ref(alloc)?))
 }
 
 impl StepImage<'_> {

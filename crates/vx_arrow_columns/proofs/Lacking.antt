@@ -1,7 +1,7 @@
 -- Why the rows of a node at picks are not there.
 use Rattle.std.proofs.Common.{◌≡◌, ℕ, ◌+◌, ◌*◌, ◌^◌, ◌<◌, ◌≤◌, Bool, true, false, List, length, ltb, Option, Some, ap, sym, ◌∙◌, subst, arith}
 use Rattle.std.specs.Prelude.{Result, Ok, Err, IfErr}
-use Rattle.std.proofs.lemmas.Bool.{and_left, and_parts, and_right, le-ltb}
+use Rattle.std.proofs.lemmas.Bool.{and_left, and_parts, and_right, le-ltb, both_ways}
 use Rattle.vx_arrow_image.specs.declared.format.Format.{Format}
 use Rattle.vx_arrow_image.specs.declared.format.Offsets.{Offsets}
 use Rattle.vx_arrow_columns.specs.declared.faults.Fault.{Fault}
@@ -37,9 +37,6 @@ own_lack p q f format lack h = lack (subst (λ (g : Option Format). Holds g p q)
 pub node_lack : (p : Part) (q : List (Option ℕ)) (lens : List ℕ) (f : Format) → p.format ≡ Some f → (Holds (Some f) p q → HoldsBelow (Some f) p q lens → ⊥) → IsSoundAt p q lens → ⊥
 node_lack p q lens f format lack s = lack (subst (λ (g : Option Format). Holds g p q) format s.held) (subst (λ (g : Option Format). HoldsBelow g p q lens) format s.below)
 
-pub differ : (b : Bool) → b ≡ true → b ≡ false → ⊥
-differ b e f = let g : true ≡ false = sym e ∙ f in cc
-
 -- so many bytes, items or rows are too many for the format
 pub many_by : (p : Part) (q : List (Option ℕ)) (f : Format) (n b : ℕ) → p.format ≡ Some f → counts_by (Some f) p q ≡ ltb n b → b ≤ n → is_counted p q ≡ false
 many_by p q f n b format e h = many_rows p q f format (e ∙ le-ltb n b h)
@@ -50,7 +47,7 @@ many_wide p ps vs add f w b format e h = many_by p (picks_of ps vs add) f (lengt
 
 pub not_placed : (p : Part) (n : ℕ) → p.offset + p.len ≡ n → holds_valid p.valid n ≡ false → is_placed p ≡ true → ⊥
 unfolding is_placed
-not_placed p n e h s = differ _ (ap (holds_valid p.valid) (sym e) ∙ (and_parts (ltb (p.offset + p.len) (2 ^ 60)) _ s).1) h
+not_placed p n e h s = both_ways _ h (ap (holds_valid p.valid) (sym e) ∙ (and_parts (ltb (p.offset + p.len) (2 ^ 60)) _ s).1)
 
 -- ---- of the parts of a node
 
@@ -62,7 +59,7 @@ own_fault p q lens r h = err_weaker _ _ r (λ e g. fault_weaker _ _ _ _ e (λ la
 
 -- it does not hold of a row at a pick
 pub not_at : (p : Part) (ps vs : List ℕ) (add : ℕ) (f : ℕ → Bool) (k i : ℕ) → k < length ps → Some i ≡ place_of p (pick_at ps vs add k) → f i ≡ false → AllAt p (picks_of ps vs add) f → ⊥
-not_at p ps vs add f k i low there other a = differ (f i) (a.all k i (omega (arith, length_picks ps vs add)) (at_pick p ps vs add k (Some i) low there)) other
+not_at p ps vs add f k i low there other a = both_ways (f i) other (a.all k i (omega (arith, length_picks ps vs add)) (at_pick p ps vs add k (Some i) low there))
 
 pub not_cut : (z : Offsets) (p : Part) (ps vs : List ℕ) (add count k i : ℕ) → k < length ps → Some i ≡ place_of p (pick_at ps vs add k) → is_cut z p count i ≡ false → AreCutAt z p (picks_of ps vs add) count → ⊥
 not_cut z p ps vs add count k i low there other a = not_at p ps vs add (is_cut z p count) k i low there other (record { all = a.cut })

@@ -19,7 +19,6 @@ pub mod PickedTrees
 pub mod Plans
 pub mod Rooms
 pub mod RowsAt
-pub mod Runs
 pub mod SoundTrees
 pub mod SoundWalks
 pub mod Steps

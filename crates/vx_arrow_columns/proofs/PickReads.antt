@@ -38,7 +38,7 @@ all_within ps vs add n m long h = record {
       h k i (omega arith) (sym (get_picks ps vs add k low) ∙ e);
 }
 
-pick_is : (ps vs : List ℕ) (add k i : ℕ) (v : Bool) → is_valid vs k ≡ v → pick_at ps vs add k ≡ Some i → (v ≡ true) × (i ≡ add + get_or ps k 0)
+pub pick_is : (ps vs : List ℕ) (add k i : ℕ) (v : Bool) → is_valid vs k ≡ v → pick_at ps vs add k ≡ Some i → (v ≡ true) × (i ≡ add + get_or ps k 0)
 pick_is ps vs add k i true e f = (refl, (let g : Some (add + get_or ps k 0) ≡ Some i = sym (pick_there ps vs add k e) ∙ f in cc))
 pick_is ps vs add k i false e f = absurd (let g : None ≡ Some i = sym (pick_null ps vs add k e) ∙ f in cc)
 
@@ -53,7 +53,7 @@ within_next ps vs add n k old here j i h e = elim (cases_eq j k) as (λ _. i < n
 ]
 
 -- places that are all below, where no pick is null
-below_each : (ps : List ℕ) (n j : ℕ) → list_all (λ p. nat_lt p n) ps ≡ true → j < length ps → get_or ps j 0 < n
+pub below_each : (ps : List ℕ) (n j : ℕ) → list_all (λ p. nat_lt p n) ps ≡ true → j < length ps → get_or ps j 0 < n
 below_each [] n j h l = absurd (omega arith)
 below_each (p ∷ ps) n zero h l = ltb-true p n (and_parts (nat_lt p n) (list_all (λ q. nat_lt q n) ps) h).0
 below_each (p ∷ ps) n (suc j) h l = below_each ps n j (and_parts (nat_lt p n) (list_all (λ q. nat_lt q n) ps) h).1 (omega arith)
@@ -63,6 +63,12 @@ each_below [] n h = refl
 each_below (p ∷ ps) n h =
     let low : nat_lt p n ≡ true = lt-ltb p n (h zero (omega arith)) in
     rw (low, each_below ps n (λ j l. h (suc j) (omega arith))) refl
+
+pub below_any : (ps vs : List ℕ) (n : ℕ) → list_all (λ p. nat_lt p n) ps ≡ true → AreWithin (picks_of ps vs 0) n
+below_any ps vs n h = all_within ps vs 0 n (length ps) (omega arith) (λ j i l e.
+    let is = pick_is ps vs 0 j i (is_valid vs j) refl e in
+    let low = below_each ps n j h l in
+    omega (arith, is.1))
 
 pub below_within : (ps : List ℕ) (n : ℕ) → list_all (λ p. nat_lt p n) ps ≡ true → AreWithin (picks_of ps [] 0) n
 below_within ps n h = all_within ps [] 0 n (length ps) (omega arith) (λ j i l e.

@@ -31,6 +31,7 @@ use Rattle.vx_arrow_columns.proofs.Measures.{same_picking}
 use Rattle.vx_arrow_columns.proofs.PickReads.{length_picks, moved_picks}
 use Rattle.vx_arrow_columns.proofs.Trees.{belows_len, empty, same_belows}
 use Rattle.vx_arrow_columns.proofs.Walks.{WalkIs, grown_len, kept_job, reverse_many, still_listed}
+use Rattle.vx_lemmas.proofs.Lists.{map-replicate}
 
 -- ---- the same picks, further on
 
@@ -197,10 +198,6 @@ nth_same zero j x d h = absurd (omega arith)
 nth_same (suc n) zero x d h = refl
 nth_same (suc n) (suc j) x d h = nth_same n j x d (omega arith)
 
-map_same : {X Y : Type 0} (f : X → Y) (n : ℕ) (x : X) → map f (replicate n x) ≡ replicate n (f x)
-map_same f zero x = refl
-map_same f (suc n) x = ap (λ l. f x ∷ l) (map_same f n x)
-
 -- the same one for each child
 pub nexts_of : (node : image.Node) (job next : jobs.Job) (inside : Inner) (old new : List Places) → IsNext node job inside old new next → AreNexts node job inside old new (replicate node.children next)
 nexts_of node job next inside old new n =
@@ -210,7 +207,7 @@ nexts_of node job next inside old new n =
       grown = n.grown;
       count = length-replicate c next;
       sound = λ ps vs s w are. All-replicate (IsSound ps vs new) c next (record { listed = n.listed s.listed; within = n.within ps vs s.within w are });
-      picks = λ ps vs w are. map_same (picking_in ps vs new) c next ∙ n.picks ps vs w are;
+      picks = λ ps vs w are. map-replicate (picking_in ps vs new) c next ∙ n.picks ps vs w are;
       far = λ ps vs lens count are asks j d h. let low = n.far ps vs lens count are asks j h in let same = ap (λ (x : jobs.Job). x.end) (nth_same c j next d h) in omega arith;
     }
 

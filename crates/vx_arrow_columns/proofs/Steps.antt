@@ -101,35 +101,6 @@ copied_put w src p q k i m out new at low size long room eq b =
     (sym (eq ∙ ap (λ (n : ℕ). put_at out (take n (drop (i * w) src)) (k * w)) size))
     (copied_some w src p q k i out own at refl wide room b)
 
-copied_rest : (w : ℕ) (src : List ℕ) (p : Part) (q : List (Option ℕ)) (k i count : ℕ) (out own : List ℕ) → ((j n : ℕ) → j < count → place_of p (get_or q (k + j) None) ≡ Some n → n ≡ i + j)
-    → own ≡ take (count * w) (drop (i * w) src) → length own ≡ count * w → k * w ≤ length out → AreCopied w src p q k out → AreCopied w src p q (k + count) (put_at out own (k * w))
-copied_rest w src p q k i count out own at g long room b = record {
-  values = λ j n below f. elim (cases_lt j k) as (λ _. take w (drop (j * w) (put_at out own (k * w))) ≡ take w (drop (n * w) src)) [
-    | inl low ↦ cut_before out (own ++ drop (k * w + length own) out) (j * w) w (k * w) (next_place j k w low) room ∙ b.values j n low f
-    | inr high ↦
-        let d = j - k in
-        let here : j ≡ k + d = omega arith in
-        let there : n ≡ i + d = at d n (omega arith) (ap (λ (m : ℕ). place_of p (get_or q m None)) (sym here) ∙ f) in
-        let within : d * w + w ≤ count * w = next_place d count w (omega arith) in
-        ap (λ m. take w (drop m (put_at out own (k * w)))) (ap (λ m. m * w) here ∙ add-mul k d w)
-        ∙ put_within out own (k * w) (d * w) w room (omega arith)
-        ∙ ap (λ (l : List ℕ). take w (drop (d * w) l)) g
-        ∙ cut_within src (i * w) (d * w) w (count * w) within
-        ∙ ap (λ m. take w (drop m src)) (sym (ap (λ m. m * w) there ∙ add-mul i d w))
-  ];
-}
-
--- rows that stand one behind another, put at once
-pub copied_run : (w : ℕ) (src : List ℕ) (p : Part) (q : List (Option ℕ)) (k i m count : ℕ) (out new : List ℕ) → ((j n : ℕ) → j < count → place_of p (get_or q (k + j) None) ≡ Some n → n ≡ i + j)
-    → m ≡ count * w → i * w + count * w ≤ length src → k * w ≤ length out → new ≡ put_at out (take m (drop (i * w) src)) (k * w)
-    → AreCopied w src p q k out → AreCopied w src p q (k + count) new
-copied_run w src p q k i m count out new at size long room eq b =
-    let own = take (count * w) (drop (i * w) src) in
-    let wide : length own ≡ count * w = length-take-le (count * w) (drop (i * w) src) (omega (arith, length-drop (i * w) src)) in
-    subst (λ (l : List ℕ). AreCopied w src p q (k + count) l)
-    (sym (eq ∙ ap (λ (n : ℕ). put_at out (take n (drop (i * w) src)) (k * w)) size))
-    (copied_rest w src p q k i count out own at refl wide room b)
-
 -- ---- bytes of bits
 
 pub no_byte : (f : ℕ → Bool) (first byte : ℕ) → byte ≡ 0 → IsByteOf f first 0 byte
@@ -220,17 +191,13 @@ texts_more z p q k h =
     ap (flat_map f) (take_more q k None h) ∙ sym (flat_map_more f [] (take k q) (get_or q k None))
 
 pub text_put : (z : Offsets) (p : Part) (q : List (Option ℕ)) (k i at new s e m : ℕ) (old out : List ℕ) → k < length q → place_of p (get_or q k None) ≡ Some i
-    → s ≡ offset_at z p.offsets i → e ≡ offset_at z p.offsets (i + 1) → s ≤ e → e ≤ length p.values → m ≡ e - s → new ≡ at + m → at + m ≤ length old
-    → out ≡ put_at old (take m (drop s p.values)) at → TextsTo z p q k at old → TextsTo z p q (k + 1) new out
-text_put z p q k i at new s e m old out h there from to up end size step room put t =
-    let src = take m (drop s p.values) in
-    let wide : length src ≡ m = length-take-le m (drop s p.values) (omega (arith, length-drop s p.values)) in
-    let cut : src ≡ row_text z p (Some i) = ap (λ n. take n (drop s p.values)) size ∙ ap₂ (λ (a : ℕ) (b : ℕ). slice_range p.values a b) from to in
+    → s ≡ offset_at z p.offsets i → e ≡ offset_at z p.offsets (i + 1) → m ≡ e - s → new ≡ at + m
+    → take (at + m) out ≡ take at old ++ take m (drop s p.values) → TextsTo z p q k at old → TextsTo z p q (k + 1) new out
+text_put z p q k i at new s e m old out h there from to size step put t =
+    let cut : take m (drop s p.values) ≡ row_text z p (Some i) = ap (λ n. take n (drop s p.values)) size ∙ ap₂ (λ (a : ℕ) (b : ℕ). slice_range p.values a b) from to in
     record {
       len = next_len z p q k at new (Some i) h there t.len (row_some z p i s e at new from to (omega arith));
-      are = ap₂ (λ (n : ℕ) (l : List ℕ). take n l) (let f : new ≡ at + length src = omega arith in f) put
-          ∙ put_front old src at (omega arith)
-          ∙ ap₂ ◌++◌ t.are (cut ∙ ap (row_text z p) (sym there)) ∙ sym (texts_more z p q k h);
+      are = ap (λ n. take n out) step ∙ put ∙ ap₂ ◌++◌ t.are (cut ∙ ap (row_text z p) (sym there)) ∙ sym (texts_more z p q k h);
     }
 
 pub text_kept : (z : Offsets) (p : Part) (q : List (Option ℕ)) (k at new : ℕ) (old out : List ℕ) → k < length q → place_of p (get_or q k None) ≡ None → new ≡ at → out ≡ old

@@ -102,10 +102,6 @@ pub reverse_many : {X : Type 0} (n : ℕ) (x : X) → reverse (replicate n x) �
 reverse_many zero x = refl
 reverse_many {X} (suc n) x = reverse-append (x ∷ []) (replicate n x) ∙ ap (λ (l : List X). l ++ x ∷ []) (reverse_many n x) ∙ push_many n x
 
-map_many : {X Y : Type 0} (f : X → Y) (n : ℕ) (x : X) → map f (replicate n x) ≡ replicate n (f x)
-map_many f zero x = refl
-map_many f (suc n) x = ap (λ l. f x ∷ l) (map_many f n x)
-
 -- the jobs of a popped stack
 popped_sound : (ps vs : List ℕ) (ls : List Places) (stack rest : List jobs.Job) (job : jobs.Job) → stack ≡ rest ++ job ∷ [] → All (IsSound ps vs ls) stack → (All (IsSound ps vs ls) rest) × (IsSound ps vs ls job)
 popped_sound ps vs ls stack [] job e h = (All-nil (IsSound ps vs ls), All-head (IsSound ps vs ls) job [] (All-same (IsSound ps vs ls) (job ∷ []) stack (sym e) h))

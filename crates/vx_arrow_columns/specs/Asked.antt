@@ -1,5 +1,5 @@
 -- The picks of a call, and what is asked of a node at them.
-use Rattle.std.specs.Prelude.{ℕ, ◌+◌, ◌*◌, ◌<◌, ◌≤◌, ◌^◌, ◌≡◌, true, List, [], length, Option, Some}
+use Rattle.std.specs.Prelude.{ℕ, ◌+◌, ◌*◌, ◌<◌, ◌≤◌, ◌^◌, ◌≡◌, true, List, length, slice_index, Option, Some}
 use Rattle.vx_arrow_image.specs.declared.format.Format.{Format}
 use Rattle.vx_arrow_image.specs.declared.image.Node as image
 use Rattle.vx_arrow_columns.specs.declared.places.Picks as places
@@ -20,11 +20,11 @@ pub record IsAsked (f : Format) (n : image.Node) (q : places.Picks) : Type 0 whe
   pub placed : is_placed (part_of n) ≡ true
   pub within : AreWithin (the_picks q) n.len
 
--- no pick is null, and there are w bytes for each row and room for those at the picks
+-- each place is one of the rows, also under a null pick; there are w bytes for each row, and room
+-- for those at the picks
 pub record AreRows (w : ℕ) (src : List ℕ) (n : image.Node) (q : places.Picks) (out : List ℕ)
     : Type 0 where
-  pub there : q.valid.now ≡ []
+  pub below : (k : ℕ) → k < length q.places.now → q.add + slice_index q.places.now k < n.len
   pub placed : is_placed (part_of n) ≡ true
-  pub within : AreWithin (the_picks q) n.len
   pub source : (n.offset + n.len) * w ≤ length src
   pub room : length q.places.now * w ≤ length out

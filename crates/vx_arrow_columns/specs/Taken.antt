@@ -98,6 +98,11 @@ pub record ShowsRows (p : Part) (q : List (Option ℕ)) (valid : List ℕ) : Typ
   pub shows : (k : ℕ) → k < length q
       → is_valid valid k ≡ is_some (place_of p (slice_index_or q k None))
 
+-- the bit of a row at a place, and a clear one where none is
+abbrev pub bit_in : List ℕ → Option ℕ → Bool
+bit_in bs None = false
+bit_in bs (Some i) = bit_of bs i
+
 -- the first n bits of the byte are those from `first` on, and the others are clear
 pub record IsByteOf (f : ℕ → Bool) (first n byte : ℕ) : Type 0 where
   pub bits : (i : ℕ) → i < n → (bit_at byte i == 1) ≡ f (first + i)
@@ -108,11 +113,6 @@ pub record IsByteOf (f : ℕ → Bool) (first n byte : ℕ) : Type 0 where
 pub record AreBits (p : Part) (q : List (Option ℕ)) (n : ℕ) (out : List ℕ) : Type 0 where
   pub values : (k i : ℕ) → k < n → place_of p (slice_index_or q k None) ≡ Some i
       → bit_of out k ≡ bit_of p.values i
-
--- n places from place k on that follow one another
-abbrev pub IsRun : List ℕ → ℕ → ℕ → Type 0
-IsRun places k n = (j : ℕ) → j < n
-    → slice_index_or places (k + j) 0 ≡ slice_index_or places k 0 + j
 
 -- w bytes of the source for each
 pub record AreCopied (w : ℕ) (src : List ℕ) (p : Part) (q : List (Option ℕ)) (n : ℕ)

@@ -1,73 +1,28 @@
 //! Bytes of one width, copied for each row at picks.
-ghost use Rattle.std.specs.Prelude.{◌≡◌, ◌+◌, ◌*◌, ◌^◌, ◌≤◌, length, slice_index_or, true};
+ghost use Rattle.std.specs.Prelude.{◌≡◌, ◌+◌, ◌*◌, ◌≤◌, length, true};
 ghost use Rattle.vx_arrow_image.specs.Image.{is_placed, part_of, size_of};
 ghost use Rattle.vx_arrow_columns.specs.Asked.{AreRows, the_picks};
 ghost use Rattle.vx_arrow_columns.specs.Picks.{picks_of};
-ghost use Rattle.vx_arrow_columns.specs.Taken.{AreCopied, AreWithin, IsRun};
+ghost use Rattle.vx_arrow_columns.specs.Taken.{AreCopied, AreWithin};
 
-use crate::places::{Picks, row, row_there};
-use crate::puts::put_bytes;
+use crate::places::{Picks, are_rows, row, row_at};
 use vx_arrow_image::{Node, Offsets};
+use vx_runs::{put_block, put_bytes};
 
-// Whether the rows at the eight picks from `k` on stand one behind another.
+// Writes the bytes of the row at each place, all of which are rows, also under null picks, of a
+// width that is known beforehand. Node and picks are copied, so the loop keeps them in registers.
 #[inline(always)]
-fn is_run(places: &[u64], k: usize) -> bool
-    requires index { k + 8 ≤ length places.now }
-    requires small { slice_index_or places.now k 0 + 8 ≤ 2 ^ 64 }
-    ensures { result ≡ true → IsRun places.now k 8 }
-{
-    let first = places[k];
-    if places[k + 7] != first + 7 {
-        return false;
-    }
-    let mut is_run = true;
-    for j in 0..8 {
-        is_run = is_run & (places[k + j] == first + j as u64);
-    }
-    is_run
-}
-
-// Writes the bytes of the rows at the picks from `from` up to `to`: of eight at once, where they
-// stand one behind another.
-#[inline(always)]
-fn write_block<const W: usize>(
-    src: &[u8],
-    node: &Node,
-    picks: &Picks,
-    from: usize,
-    to: usize,
-    out: &mut [u8],
-)
-    requires rows { AreRows W src.now node.now picks.now out.old }
-    requires ordered { from ≤ to }
-    requires index { to ≤ length picks.now.places.now }
-    requires before { AreCopied W src.now (part_of node.now) (the_picks picks.now) from out.old }
-    ensures { AreCopied W src.now (part_of node.now) (the_picks picks.now) to out.new }
-{
-    if to - from == 8 && is_run(picks.places, from) {
-        let i = row_there(node, picks, from);
-        put_bytes(out, from * W, &src[i * W..(i + 8) * W]);
-        return;
-    }
-    for k in from..to {
-        let i = row_there(node, picks, k);
-        put_bytes(out, k * W, &src[i * W..i * W + W]);
-    }
-}
-
-// Writes the bytes of the row at each pick, where none is null, of a width that is known
-// beforehand.
 fn write_rows<const W: usize>(src: &[u8], node: &Node, picks: &Picks, out: &mut [u8])
     requires { AreRows W src.now node.now picks.now out.old }
     ensures { AreCopied W src.now (part_of node.now) (the_picks picks.now)
         (length picks.now.places.now) out.new }
 {
-    let count = picks.places.len();
-    let eights = count / 8;
-    for b in 0..eights {
-        write_block::<W>(src, node, picks, 8 * b, 8 * b + 8, out);
+    let own = *node;
+    let all = *picks;
+    for k in 0..all.places.len() {
+        let i = row_at(&own, &all, k);
+        put_block::<W>(out, k * W, src, i * W);
     }
-    write_block::<W>(src, node, picks, 8 * eights, count, out);
 }
 
 /// Writes the bytes of each row at a pick that isn't null, of a width that is known beforehand.
@@ -79,7 +34,7 @@ pub(crate) fn write_records<const W: usize>(src: &[u8], node: &Node, picks: &Pic
     ensures { AreCopied W src.now (part_of node.now) (the_picks picks.now)
         (length picks.now.places.now) out.new }
 {
-    if picks.valid.is_empty() {
+    if are_rows(picks, node.len) {
         write_rows::<W>(src, node, picks, out);
         return;
     }

@@ -169,15 +169,17 @@ pub(crate) fn list_items(
         (AreCutAt size (part_of node.now) (the_picks picks.now) items → ⊥)
         (limit_of size ≤ items_len size (part_of node.now) (the_picks picks.now))) }
 {
+    let own = *node;
+    let all = *picks;
     if !holds_offsets(size, node) {
         return Err(Fault::Lacks(Lack::Offsets));
     }
     let mut places = Vec::new(alloc);
     let mut last = 0;
     let mut total = 0;
-    for k in 0..picks.places.len() {
-        if let Some(i) = place(node, picks, k) {
-            let cut = tested_cut(size, node, i, items)?;
+    for k in 0..all.places.len() {
+        if let Some(i) = place(&own, &all, k) {
+            let cut = tested_cut(size, &own, i, items)?;
             total += cut.end - cut.start;
             if total >= size.limit() {
                 return Err(Fault::Overflow);

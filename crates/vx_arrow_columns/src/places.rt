@@ -1,5 +1,5 @@
 //! Places of rows.
-ghost use Rattle.std.specs.Prelude.{◌≡◌, ◌+◌, ◌<◌, ◌≤◌, IfSome, Some, [], length, nat_lt, true, false};
+ghost use Rattle.std.specs.Prelude.{◌≡◌, ◌+◌, ◌<◌, ◌≤◌, ℕ, IfSome, length, nat_lt, slice_index, true, false};
 ghost use Rattle.std.specs.List.{list_all};
 ghost use Rattle.std.specs.Option.{option_map};
 ghost use Rattle.vx_arrow_image.specs.Image.{is_placed, part_of};
@@ -42,18 +42,32 @@ pub(crate) fn row(node: &Node, picks: &Picks, k: usize) -> Option<usize>
     Some((node.offset + (picks.add + picks.places[k])) as usize)
 }
 
-/// Where the row of pick `k` stands, where no pick is null.
+/// Where the row of pick `k` stands, or would stand were the pick there.
 #[inline(always)]
-pub(crate) fn row_there(node: &Node, picks: &Picks, k: usize) -> usize
-    requires there { picks.now.valid.now ≡ [] }
+pub(crate) fn row_at(node: &Node, picks: &Picks, k: usize) -> usize
     requires index { k < length picks.now.places.now }
     requires placed { is_placed (part_of node.now) ≡ true }
-    requires within { AreWithin (the_picks picks.now) node.now.len }
-    ensures row { Some result ≡ option_map (λ i. node.now.offset + i)
-        (pick_at picks.now.places.now picks.now.valid.now picks.now.add k) }
+    requires below { picks.now.add + slice_index picks.now.places.now k < node.now.len }
+    ensures row { result
+        ≡ node.now.offset + (picks.now.add + slice_index picks.now.places.now k) }
     ensures below { result < node.now.offset + node.now.len }
 {
     (node.offset + picks.add + picks.places[k]) as usize
+}
+
+/// Whether all places are seen to be below the length, those under a null pick too.
+pub(crate) fn are_rows(picks: &Picks, len: u64) -> bool
+    requires { AreWithin (the_picks picks.now) len }
+    ensures { result ≡ true → (k : ℕ) → k < length picks.now.places.now
+        → picks.now.add + slice_index picks.now.places.now k < len }
+{
+    if picks.valid.is_empty() {
+        return true;
+    }
+    if picks.add == 0 {
+        return are_all_below(picks.places, len);
+    }
+    false
 }
 
 /// Where the row of pick `k` stands, if pick and row are there.
@@ -83,11 +97,12 @@ pub(crate) fn are_within(picks: &Picks, len: u64) -> bool
     ensures within { result ≡ true → AreWithin (the_picks picks.now) len }
     ensures beyond { result ≡ false → AreWithin (the_picks picks.now) len → ⊥ }
 {
-    if picks.valid.is_empty() && picks.add == 0 {
-        are_all_below(picks.places, len)
-    } else {
-        are_below_or_null(picks, len)
+    if picks.add == 0 {
+        if are_all_below(picks.places, len) {
+            return true;
+        }
     }
+    are_below_or_null(picks, len)
 }
 
 // Whether all places are below the length: each is looked at, so that no branch waits for one.

@@ -1,10 +1,10 @@
-//! Bits, bytes and offsets, written over others.
-ghost use Rattle.std.specs.Int.{bit_at};
-ghost use Rattle.std.specs.Prelude.{◌≡◌, ◌≢◌, ◌==◌, ℕ, ◌+◌, ◌*◌, ◌<◌, ◌≤◌, ◌++◌, length, take, drop};
+//! Bits and offsets, written over others.
+ghost use Rattle.std.specs.Prelude.{◌+◌, ◌*◌, ◌<◌, ◌≤◌, length};
 ghost use Rattle.vx_arrow_image.specs.Image.{limit_of, size_of};
 ghost use Rattle.vx_arrow_columns.specs.Written.{PutsBit, PutsOffset};
 
 use vx_arrow_image::Offsets;
+use vx_runs::put_bytes;
 
 /// Sets bit `j`, or clears it.
 #[inline(always)]
@@ -15,26 +15,6 @@ pub(crate) fn put_bit(bytes: &mut [u8], j: usize, bit: bool)
     let old = bytes[j / 8];
     let mask = 1 << (j % 8);
     bytes[j / 8] = if bit { old | mask } else { old & !mask };
-}
-
-/// The byte with bit `j`, which was clear.
-#[inline(always)]
-pub(crate) fn with_bit(byte: u8, j: usize, bit: bool) -> u8
-    requires index { j < 8 }
-    requires clear { bit_at byte j ≡ 0 }
-    ensures set { (bit_at result j == 1) ≡ bit }
-    ensures others { (i : ℕ) → i ≢ j → bit_at result i ≡ bit_at byte i }
-{
-    if bit { byte | (1 << j) } else { byte }
-}
-
-/// Writes `src` over the bytes from `at` on.
-#[inline(always)]
-pub(crate) fn put_bytes(bytes: &mut [u8], at: usize, src: &[u8])
-    requires { at + length src.now ≤ length bytes.old }
-    ensures { bytes.new ≡ take at bytes.old ++ (src.now ++ drop (at + length src.now) bytes.old) }
-{
-    bytes[at..at + src.len()].copy_from_slice(src);
 }
 
 /// Writes offset `j`.

@@ -3,16 +3,17 @@ ghost use Rattle.std.specs.Prelude.{◌≡◌, ◌+◌, ◌*◌, ◌^◌, ◌<�
 ghost use Rattle.vx_arrow_image.specs.Image.{format_in, holds_offsets, is_placed, limit_of, part_of, size_of};
 ghost use Rattle.vx_arrow_columns.specs.Asked.{the_picking, the_picks};
 ghost use Rattle.vx_arrow_columns.specs.Picks.{items_len, need_of, pick_at, picking_of, picks_of, place_of};
-ghost use Rattle.vx_arrow_columns.specs.Taken.{AreBits, AreCutAt, AreOffsets, AreOrdered, AreWithin, IsByteOf, IsNullable, IsReadable, ShowsRows, texts_of};
+ghost use Rattle.vx_arrow_columns.specs.Taken.{AreBits, AreCutAt, AreOffsets, AreOrdered, AreWithin, IsByteOf, IsNullable, IsReadable, ShowsRows, bit_in, texts_of};
 ghost use Rattle.vx_arrow_columns.specs.Written.{HasValid, IsNodeTaken, IsRoomTaken, IsRoomed, IsViewNodeTaken, has_room};
 
 use crate::copying::{write_fixed, write_numbers, write_records};
 use crate::dense::write_starts;
 use crate::needs::shows_valid;
 use crate::places::{Picks, place};
-use crate::puts::{put_bit, put_bytes, put_offset, with_bit};
+use crate::puts::put_offset;
 use crate::unions::write_ids;
 use vx_arrow_image::{Format, Node, Offsets, Room, bit_is, cut_at, format_of};
+use vx_runs::{put_bytes, put_run, with_bit};
 
 // A bit for each of so many picks from pick `first` on: whether its row is there.
 #[inline(always)]
@@ -38,15 +39,49 @@ fn write_valid(node: &Node, picks: &Picks, out: &mut [u8])
     requires room { length picks.now.places.now ≤ 8 * length out.old }
     ensures { ShowsRows (part_of node.now) (the_picks picks.now) out.new }
 {
-    let count = picks.places.len();
+    let own = *node;
+    let all = *picks;
+    let count = all.places.len();
     let full = count / 8;
     for b in 0..full {
-        out[b] = valid_byte(node, picks, 8 * b, 8);
+        out[b] = valid_byte(&own, &all, 8 * b, 8);
     }
     if count % 8 == 0 {
         return;
     }
-    out[full] = valid_byte(node, picks, 8 * full, count % 8);
+    out[full] = valid_byte(&own, &all, 8 * full, count % 8);
+}
+
+// The bit of the row at pick `k`; a clear one where it isn't there.
+#[inline(always)]
+fn bit_at(node: &Node, picks: &Picks, k: usize) -> bool
+    requires index { k < length picks.now.places.now }
+    requires placed { is_placed (part_of node.now) ≡ true }
+    requires within { AreWithin (the_picks picks.now) node.now.len }
+    ensures { result ≡ bit_in node.now.values.now (place_of (part_of node.now)
+        (pick_at picks.now.places.now picks.now.valid.now picks.now.add k)) }
+{
+    match place(node, picks, k) {
+        Some(i) => bit_is(node.values, i),
+        None => false,
+    }
+}
+
+// The bits of so many rows at picks from pick `first` on.
+#[inline(always)]
+fn bits_byte(node: &Node, picks: &Picks, first: usize, count: usize) -> u8
+    requires placed { is_placed (part_of node.now) ≡ true }
+    requires within { AreWithin (the_picks picks.now) node.now.len }
+    requires index { first + count ≤ length picks.now.places.now }
+    requires few { count ≤ 8 }
+    ensures { IsByteOf (λ k. bit_in node.now.values.now (place_of (part_of node.now)
+        (pick_at picks.now.places.now picks.now.valid.now picks.now.add k))) first count result }
+{
+    let mut byte = 0;
+    for j in 0..count {
+        byte = with_bit(byte, j, bit_at(node, picks, first + j));
+    }
+    byte
 }
 
 // Writes the bit of each row that is there.
@@ -57,11 +92,17 @@ fn write_bits(node: &Node, picks: &Picks, out: &mut [u8])
     ensures { AreBits (part_of node.now) (the_picks picks.now)
         (length picks.now.places.now) out.new }
 {
-    for k in 0..picks.places.len() {
-        if let Some(i) = place(node, picks, k) {
-            put_bit(out, k, bit_is(node.values, i));
-        }
+    let own = *node;
+    let all = *picks;
+    let count = all.places.len();
+    let full = count / 8;
+    for b in 0..full {
+        out[b] = bits_byte(&own, &all, 8 * b, 8);
     }
+    if count % 8 == 0 {
+        return;
+    }
+    out[full] = bits_byte(&own, &all, 8 * full, count % 8);
 }
 
 // Writes where the items of each row begin and end among those of all rows.
@@ -74,11 +115,13 @@ fn write_offsets(size: Offsets, node: &Node, picks: &Picks, out: &mut [u8])
     ensures { AreOffsets size (part_of node.now) (the_picks picks.now)
         (length picks.now.places.now) out.new }
 {
+    let own = *node;
+    let all = *picks;
     let mut at = 0;
     put_offset(size, out, 0, 0);
-    for k in 0..picks.places.len() {
-        if let Some(i) = place(node, picks, k) {
-            let cut = cut_at(size, node, i);
+    for k in 0..all.places.len() {
+        if let Some(i) = place(&own, &all, k) {
+            let cut = cut_at(size, &own, i);
             at += cut.end - cut.start;
         }
         put_offset(size, out, k + 1, at);
@@ -96,12 +139,15 @@ fn write_texts(size: Offsets, node: &Node, picks: &Picks, out: &mut [u8])
         ≡ texts_of size (part_of node.now)
         (the_picks picks.now) }
 {
+    let own = *node;
+    let all = *picks;
     let mut at = 0;
-    for k in 0..picks.places.len() {
-        if let Some(i) = place(node, picks, k) {
-            let cut = cut_at(size, node, i);
-            put_bytes(out, at, &node.values[cut.start as usize..cut.end as usize]);
-            at += (cut.end - cut.start) as usize;
+    for k in 0..all.places.len() {
+        if let Some(i) = place(&own, &all, k) {
+            let cut = cut_at(size, &own, i);
+            let len = (cut.end - cut.start) as usize;
+            put_run::<16>(out, at, own.values, cut.start as usize, len);
+            at += len;
         }
     }
 }

@@ -4,7 +4,7 @@ use Rattle.std.specs.Prelude.{◌&&◌}
 use Rattle.std.proofs.lemmas.Bool.{and_left, and_right, le-ltb, lt-ltb}
 use Rattle.std.proofs.lemmas.List.{get_or_past}
 use Rattle.vx_arrow_image.specs.Image.{Part, child_of, dense_start, ids_of, is_dense}
-use Rattle.vx_arrow_image.proofs.ViewTests.{and_step}
+use Rattle.vx_lemmas.proofs.Bools.{and_step}
 
 -- row s of child k
 abbrev pub dense_test : List ℕ → ℕ → ℕ → Bool

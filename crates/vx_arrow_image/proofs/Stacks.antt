@@ -3,7 +3,7 @@ use Rattle.std.proofs.Common.{◌≡◌, ℕ, ◌+◌, ◌-◌, ◌^◌, ◌<◌
 use Rattle.std.specs.Prelude.{◌&&◌, is_some, IsSome}
 use Rattle.std.specs.List.{list_all, range_with_len}
 use Rattle.std.specs.Option.{option_and_then}
-use Rattle.std.proofs.lemmas.Bool.{and_left, and_right, and_parts, lt-ltb, le-ltb, le-leb, leb-true}
+use Rattle.std.proofs.lemmas.Bool.{and_left, and_right, and_parts, lt-ltb, le-ltb, le-leb, leb-true, both_ways, false_from_ne_true}
 use Rattle.std.proofs.lemmas.List.{length-map, length-drop, drop_all, drop_more, drop-drop, drop-map, drop-set, take-map}
 use Rattle.vx_arrow_image.specs.declared.format.Format.{Format}
 use Rattle.vx_arrow_image.specs.declared.format.Offsets.{Offsets}
@@ -11,13 +11,6 @@ use Rattle.vx_arrow_image.specs.Rows.{RowValue}
 use Rattle.vx_arrow_image.specs.Image.{Part, all_valid, if_valid, are_cut, column_in, column_of, columns_in, fits, holds_offsets, holds_valid, is_cut, is_placed, is_sound, limit_of, offset_at, only, with_part}
 use Rattle.vx_arrow_image.proofs.CutRows.{are_cut_at, are_cut_from, cut_small, cut_up, range_all, range_at}
 use Rattle.vx_arrow_image.proofs.SoundNodes.{length_column, sound_from, with_part_is}
-
-pub false_if : (b : Bool) → (b ≡ true → ⊥) → b ≡ false
-false_if true h = absurd (h refl)
-false_if false h = refl
-
-pub different : (b : Bool) → b ≡ true → b ≡ false → ⊥
-different b e f = let g : true ≡ false = sym e ∙ f in cc
 
 -- ---- one node
 
@@ -30,10 +23,10 @@ unfolding is_placed
 placed_if p n r e few f = f ∙ ap (holds_valid p.valid) (sym e) ∙ sym (ap (λ b. b && holds_valid p.valid (p.offset + p.len)) (lt-ltb _ _ (let g : p.offset + p.len < 2 ^ 60 = omega arith in g)))
 
 pub cut_not_up : (z : Offsets) (p : Part) (count i s e : ℕ) → s ≡ offset_at z p.offsets i → e ≡ offset_at z p.offsets (i + 1) → e < s → false ≡ is_cut z p count i
-cut_not_up z p count i s e from to h = sym (false_if _ (λ t. let up = cut_up z p count i t in omega arith))
+cut_not_up z p count i s e from to h = sym (false_from_ne_true _ (λ t. let up = cut_up z p count i t in omega arith))
 
 pub cut_not_small : (z : Offsets) (p : Part) (count i e : ℕ) → e ≡ offset_at z p.offsets (i + 1) → limit_of z ≤ e → false ≡ is_cut z p count i
-cut_not_small z p count i e to h = sym (false_if _ (λ t. let small = cut_small z p count i t in omega arith))
+cut_not_small z p count i e to h = sym (false_from_ne_true _ (λ t. let small = cut_small z p count i t in omega arith))
 
 pub cut_last : (z : Offsets) (p : Part) (count i s e : ℕ) → s ≡ offset_at z p.offsets i → e ≡ offset_at z p.offsets (i + 1) → s ≤ e → e < limit_of z → leb e count ≡ is_cut z p count i
 unfolding is_cut
@@ -46,13 +39,13 @@ unfolding are_cut
 cut_short z p count h = sym (and_left _ _ h)
 
 pub cut_falls : (z : Offsets) (p : Part) (count i : ℕ) → p.offset ≤ i → i < p.offset + p.len → is_cut z p count i ≡ false → false ≡ are_cut z p count
-cut_falls z p count i low high h = sym (false_if _ (λ t. different _ (are_cut_at z p count i t low high) h))
+cut_falls z p count i low high h = sym (false_from_ne_true _ (λ t. both_ways _ h (are_cut_at z p count i t low high)))
 
 pub cut_all : (z : Offsets) (p : Part) (count : ℕ) → holds_offsets z p ≡ true → ((i : ℕ) → p.offset ≤ i → i < p.offset + p.len → is_cut z p count i ≡ true) → true ≡ are_cut z p count
 cut_all z p count held h = sym (are_cut_from z p count held h)
 
 pub range_falls : (f : ℕ → Bool) (a n i : ℕ) → a ≤ i → i < a + n → f i ≡ false → false ≡ list_all f (range_with_len a n)
-range_falls f a n i low high h = sym (false_if _ (λ t. different _ (range_at f a n i t low high) h))
+range_falls f a n i low high h = sym (false_from_ne_true _ (λ t. both_ways _ h (range_at f a n i t low high)))
 
 pub valid_falls : (p : Part) (f : ℕ → Bool) (i : ℕ) → p.offset ≤ i → i < p.offset + p.len → if_valid p f i ≡ false → false ≡ all_valid p f
 unfolding all_valid
@@ -77,7 +70,7 @@ sound_fit p lens f e placed fit = sound_from p lens f e placed fit
 
 with_part_not : (p : Part) (cs : List (List RowValue)) → ((p.children ≤ length cs) → is_sound p (map length (take p.children cs)) ≡ true → ⊥) → with_part p cs ≡ None
 unfolding with_part
-with_part_not p cs h = ap (λ b. cond b (Some (column_of p (take p.children cs) ∷ drop p.children cs)) None) (false_if _ (λ t. let both = and_parts _ _ t in h (leb-true _ _ both.0) both.1))
+with_part_not p cs h = ap (λ b. cond b (Some (column_of p (take p.children cs) ∷ drop p.children cs)) None) (false_from_ne_true _ (λ t. let both = and_parts _ _ t in h (leb-true _ _ both.0) both.1))
 
 none_front : (xs ys : List Part) → columns_in ys ≡ None → columns_in (xs ++ ys) ≡ None
 none_front [] ys e = e

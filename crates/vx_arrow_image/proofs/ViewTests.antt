@@ -4,9 +4,7 @@ use Rattle.std.specs.Prelude.{◌&&◌, ◌||◌}
 use Rattle.std.proofs.lemmas.Bool.{and_left, le-ltb, le-leb, lt-leb, lt-ltb, or_left}
 use Rattle.vx_arrow_image.specs.declared.format.Offsets.{Offsets}
 use Rattle.vx_arrow_image.specs.Image.{Part, is_list_view, is_view, limit_of, offset_at, view_buffer, view_len, view_start}
-
-pub and_step : (a b : Bool) → a ≡ true → b ≡ (a && b)
-and_step a b e = ap (λ (x : Bool). x && b) (sym e)
+use Rattle.vx_lemmas.proofs.Bools.{and_step}
 
 or_step : (a b : Bool) → a ≡ false → b ≡ (a || b)
 or_step a b e = ap (λ (x : Bool). x || b) (sym e)

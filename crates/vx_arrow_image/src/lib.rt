@@ -7,6 +7,7 @@
 mod bits;
 mod checking;
 mod dense;
+mod fitting;
 mod format;
 mod image;
 mod offsets;

@@ -68,7 +68,7 @@ pub struct Cut {
     pub end: u64,
 }
 
-/// Those of row `i`.
+/// Where the items of row `i` begin and end.
 #[inline(always)]
 pub fn cut_at(size: Offsets, node: &Node, i: usize) -> Cut
     requires held { holds_offsets size (part_of node.now) ≡ true }

@@ -137,7 +137,7 @@ answered nodes steps q rooms c m = record {
       (subst (λ (n : ℕ). IfPicks (walk_in n steps) (λ picks. q.picks ≡ picks)) (sym (length-map xs model_row ∙ first_rows nodes xs e)) c));
 }
 
--- the same picks, by lists that are equal
+-- composed picks, by lists and a length that equal theirs
 pub composed_by : (n m : ℕ) (steps : List StepParts) (places ps valid vs : List ℕ) → n ≡ m → ps ≡ places → vs ≡ valid → AreComposed n steps (picking_of places valid 0) → AreComposed m steps (picking_of ps vs 0)
 composed_by n m steps places ps valid vs e f g h =
     subst (λ (k : ℕ). AreComposed k steps (picking_of ps vs 0)) e

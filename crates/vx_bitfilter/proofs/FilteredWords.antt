@@ -1,5 +1,5 @@
 -- A bit filter, word by word.
-use Rattle.std.proofs.Common.{◌≡◌, ℕ, ◌+◌, ◌-◌, ◌*◌, ◌≤◌, Bool, true, false, cond, eqb, not, List, [], ◌∷◌, ◌++◌, length, take, drop, replicate, Option, None, Some, Result, Ok, Err, OnErr, eq-eqb, ne_eqb, refl, sym, ap, ap₂, ◌∙◌, arith, append_assoc, append-nil}
+use Rattle.std.proofs.Common.{◌≡◌, ℕ, ◌+◌, ◌-◌, ◌*◌, ◌≤◌, Bool, true, false, cond, eqb, not, List, [], ◌∷◌, ◌++◌, length, take, drop, replicate, Option, Result, Ok, Err, OnErr, eq-eqb, ne_eqb, refl, sym, ap, ap₂, ◌∙◌, arith, append-nil}
 use Rattle.std.specs.List.{items_where_true, filter}
 use Rattle.std.proofs.lemmas.List.{map-id, take-append-drop}
 use Rattle.std.proofs.lemmas.List.FromFn.{map-range_with_len_more}
@@ -9,6 +9,7 @@ use Rattle.vx_bits.specs.Words.{word_at, word_bits}
 use Rattle.vx_bits.proofs.WordLists.{bits_in, length-bits_in, picked_no_word, picked_word, picked_words_more, word_bits-word_at}
 use Rattle.vx_bitfilter.specs.Words.{busy_words, first_words}
 use Rattle.vx_bitfilter.proofs.PackedBits.{picked_bits}
+use Rattle.vx_bits.proofs.Told.{told_more}
 
 -- ---- refusals
 
@@ -17,14 +18,6 @@ on_err (Ok x) P h = tt
 on_err (Err e) P h = h
 
 -- ---- reads
-
-told_more : {X : Type 0} (r : Option (List X)) (xs ys : List X) → then_told (then_told r xs) ys ≡ then_told r (xs ++ ys)
-told_more None xs ys = refl
-told_more (Some before) xs ys = ap Some (append_assoc before xs ys)
-
-pub told_none : {X : Type 0} (r : Option (List X)) → r ≡ then_told r []
-told_none None = refl
-told_none (Some before) = ap Some (sym (append-nil before))
 
 words_more : (n : ℕ) → first_words (n + 1) ≡ first_words n ++ n ∷ []
 words_more n = sym (map-id _) ∙ map-range_with_len_more (λ k. k) 0 n n (omega arith) ∙ ap (λ l. l ++ n ∷ []) (map-id _)

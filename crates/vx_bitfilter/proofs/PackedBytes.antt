@@ -4,7 +4,7 @@ use Rattle.std.specs.Int.RustNames.{count_ones}
 use Rattle.std.specs.List.{items_where_true}
 use Rattle.std.proofs.lemmas.List.{replicate-append-replicate}
 use Rattle.std.proofs.lemmas.List.FromFn.{get_or-map-range_with_len, length-map-range_with_len, map-range_with_len_more}
-use Rattle.std.proofs.lemmas.Nat.{div-add-mod', mod_below, or_comm, or_shifted, pow_pos, shl_whole}
+use Rattle.std.proofs.lemmas.Nat.{mod_below, or_comm, or_shifted, pow_pos, shl_whole}
 use Rattle.std.proofs.Math.Nat.{mod-eq_of_lt}
 use Rattle.std.proofs.Math.Pow.{pow_mono}
 use lib.Count.{ones-le}
@@ -18,6 +18,7 @@ use Rattle.vx_bitfilter.specs.Pext.{pext}
 use Rattle.vx_bitfilter.specs.Table.{first_entries}
 use Rattle.vx_bitfilter.proofs.PackedBits.{picked_bits}
 use Rattle.vx_bitfilter.proofs.PackedLaws.{count_picked, pext-word_bits}
+use Rattle.vx_bits.proofs.ByteWords.{word_split}
 
 -- ---- the lowest bits
 
@@ -29,13 +30,6 @@ module _ {X : Type 0} where
   picked_both (true ∷ front) back (x ∷ xs) ys h = ap (λ l. x ∷ l) (picked_both front back xs ys (omega arith))
   picked_both (false ∷ front) back (x ∷ xs) ys h = picked_both front back xs ys (omega arith)
 
--- the lowest bits, and those above them
-pub bits_cut : (w a b : ℕ) → word_bits w (a + b) ≡ word_bits w a ++ word_bits (w / 2 ^ a) b
-bits_cut w a b =
-    sym (ap (λ x. word_bits x (a + b)) (div-add-mod' w (2 ^ a)))
-    ∙ word_bits-append (w % 2 ^ a) a (w / 2 ^ a) b (mod_below w (2 ^ a) (pow_pos a))
-    ∙ ap (λ l. l ++ word_bits (w / 2 ^ a) b) (word_bits_low w a)
-
 -- a mask below 2 ^ a picks of the lowest a bits
 picked_low : (src mask a b : ℕ) → mask < 2 ^ a → items_where_true (word_bits mask (a + b)) (word_bits src (a + b)) ≡ items_where_true (word_bits mask a) (word_bits src a)
 picked_low src mask a b h =
@@ -43,7 +37,7 @@ picked_low src mask a b h =
     let none : 0 * 2 ^ a + mask ≡ mask = omega arith in
     let zeros : word_bits mask (a + b) ≡ word_bits mask a ++ replicate b false =
     sym (ap (λ x. word_bits x (a + b)) none) ∙ word_bits-append mask a 0 b h ∙ ap (λ l. word_bits mask a ++ l) (zero-word_bits b) in
-    ap₂ items_where_true zeros (bits_cut src a b)
+    ap₂ items_where_true zeros (word_split src a b)
     ∙ picked_both (word_bits mask a) (replicate b false) (word_bits src a) above (length-word_bits mask a ∙ sym (length-word_bits src a))
     ∙ ap (λ l. items_where_true (word_bits mask a) (word_bits src a) ++ l) (picked_clear b above)
     ∙ append-nil _
@@ -163,7 +157,7 @@ abbrev pub part : ℕ → ℕ → ℕ → ℕ
 part w at b = w / 2 ^ at % 2 ^ b
 
 bits_more : (w at b : ℕ) → word_bits w (at + b) ≡ word_bits w at ++ word_bits (part w at b) b
-bits_more w at b = bits_cut w at b ∙ ap (λ l. word_bits w at ++ l) (sym (word_bits_low (w / 2 ^ at) b))
+bits_more w at b = word_split w at b ∙ ap (λ l. word_bits w at ++ l) (sym (word_bits_low (w / 2 ^ at) b))
 
 pub part_packed : (src mask packed held at b next x after more : ℕ) → at + b ≤ 64 → next ≡ at + b → x ≡ pext (part src at b) (part mask at b) → after ≡ bit_or packed (x * 2 ^ held % 2 ^ 64) → more ≡ held + count_ones (part mask at b) → IsPacked src mask packed held at → IsPacked src mask after more next
 part_packed src mask packed held at b next x after more h to e f g v =

@@ -1,5 +1,5 @@
 -- What a word packs, by its lowest bit and the others.
-use Rattle.std.proofs.Common.{◌≡◌, ℕ, zero, suc, ◌+◌, ◌-◌, ◌*◌, ◌/◌, ◌%◌, ◌^◌, ◌<◌, ◌≤◌, min, cond, eqb, ◌∷◌, bit_and, inl, inr, refl, sym, ap, ap₂, ◌∙◌, arith}
+use Rattle.std.proofs.Common.{◌≡◌, ℕ, zero, suc, ◌+◌, ◌-◌, ◌*◌, ◌/◌, ◌%◌, ◌^◌, ◌<◌, ◌≤◌, min, eqb, ◌∷◌, bit_and, inl, inr, refl, sym, ap, ap₂, ◌∙◌, arith}
 use Rattle.std.specs.Int.RustNames.{count_ones}
 use Rattle.std.specs.List.{items_where_true}
 use Rattle.std.proofs.lemmas.Bool.{cases_eq}
@@ -11,23 +11,18 @@ use lib.Count.{ones_step, ones-le}
 use Rattle.vx_bits.specs.BitBuffer.{number_of}
 use Rattle.vx_bits.specs.Words.{word_bits}
 use Rattle.vx_bitfilter.specs.Pext.{pext}
+use Rattle.vx_lemmas.proofs.Numbers.{digit_test}
 
 -- the number of the bits that the lowest n of `mask` pick
 abbrev pub packed_of : ℕ → ℕ → ℕ → ℕ
 packed_of n src mask = number_of (items_where_true (word_bits mask n) (word_bits src n))
-
--- a digit, by whether it is 1
-digit : (d : ℕ) → d < 2 → ◌≡◌ {A = ℕ} (cond (eqb d 1) 1 0) d
-digit zero h = refl
-digit (suc zero) h = refl
-digit (suc (suc d)) h = absurd (omega arith)
 
 -- by its lowest bit and the others, where that is picked
 pub packed_odd : (n src mask : ℕ) → mask % 2 ≡ 1 → packed_of (suc n) src mask ≡ src % 2 + 2 * packed_of n (src / 2) (mask / 2)
 unfolding word_bits
 packed_odd n src mask e =
     ap (λ r. number_of (items_where_true (eqb r 1 ∷ word_bits (mask / 2) n) (eqb (src % 2) 1 ∷ word_bits (src / 2) n))) e
-    ∙ ap (λ d. d + 2 * packed_of n (src / 2) (mask / 2)) (digit (src % 2) (omega arith))
+    ∙ ap (λ d. d + 2 * packed_of n (src / 2) (mask / 2)) (digit_test (src % 2) (omega arith))
 
 -- where it isn't
 pub packed_even : (n src mask : ℕ) → mask % 2 ≡ 0 → packed_of (suc n) src mask ≡ packed_of n (src / 2) (mask / 2)

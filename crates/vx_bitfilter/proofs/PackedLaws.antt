@@ -1,5 +1,5 @@
 -- Bit k of what a word packs of another.
-use Rattle.std.proofs.Common.{◌≡◌, ℕ, zero, suc, ◌+◌, ◌^◌, ◌<◌, ◌≤◌, Bool, false, eqb, List, [], ◌∷◌, length, get_or, map, None, Some, append-nil, refl, sym, ap, ap₂, ◌∙◌, arith}
+use Rattle.std.proofs.Common.{◌≡◌, ℕ, zero, suc, ◌+◌, ◌^◌, ◌<◌, ◌≤◌, Bool, false, eqb, List, [], ◌∷◌, length, get_or, None, Some, append-nil, refl, sym, ap, ap₂, ◌∙◌, arith}
 use Rattle.std.specs.Int.RustNames.{count_ones}
 use Rattle.std.specs.List.{items_where_true, slice_get}
 use Rattle.std.proofs.lemmas.List.{length-map}
@@ -11,21 +11,11 @@ use Rattle.vx_bits.proofs.BitLists.{bit_of_number}
 use Rattle.vx_bits.proofs.WordBits.{get_or-word_bits, length-word_bits, true_count_of-word_bits, word_bits-number_of}
 use Rattle.vx_mask.specs.Positions.{set_of}
 use Rattle.vx_mask.proofs.PositionLists.{length-positions}
-use Rattle.vx_mask.proofs.RankedItems.{items_at_the_set}
+use Rattle.vx_mask.proofs.RankedItems.{items_at_the_set, slice_get-some, get_or-map-get}
 use Rattle.vx_bitfilter.specs.Pext.{pext, HasPackedBits, IsZeroAbove}
 use Rattle.vx_bitfilter.proofs.PackedBits.{picked_bits}
 
 module _ {X : Type 0} where
-  get_or-map-some : (xs : List X) (k : ℕ) → get_or (map Some xs) k None ≡ slice_get xs k
-  get_or-map-some [] k = refl
-  get_or-map-some (x ∷ xs) zero = refl
-  get_or-map-some (x ∷ xs) (suc k) = get_or-map-some xs k
-
-  get_or-map-get : (xs : List X) (ps : List ℕ) (k : ℕ) → k < length ps → get_or (map (slice_get xs) ps) k None ≡ slice_get xs (get_or ps k 0)
-  get_or-map-get xs [] k h = absurd (omega arith)
-  get_or-map-get xs (p ∷ ps) zero h = refl
-  get_or-map-get xs (p ∷ ps) (suc k) h = get_or-map-get xs ps k (omega arith)
-
   length-picked : (bits : List Bool) (xs : List X) → length bits ≡ length xs → length (items_where_true bits xs) ≡ length (set_of bits)
   length-picked bits xs h = sym (length-map (items_where_true bits xs) (λ x. Some x)) ∙ ap length (items_at_the_set bits xs h) ∙ length-map (set_of bits) (slice_get xs)
 
@@ -54,7 +44,7 @@ packed_bits src mask h k below =
     let count = count_picked src mask h in
     let places : length (set_of wm) ≡ count_ones mask = length-positions 0 wm ∙ true_count_of-word_bits mask 64 h in
     let here : slice_get bits k ≡ slice_get ws (get_or (set_of wm) k 0) =
-    sym (get_or-map-some bits k)
+    sym (slice_get-some bits k)
     ∙ ap (λ l. get_or l k None) (items_at_the_set wm ws (length-word_bits mask 64 ∙ sym (length-word_bits src 64)))
     ∙ get_or-map-get ws (set_of wm) k (omega arith) in
     let there : slice_get ws (get_or (set_of wm) k 0) ≡ Some (get_or bits k false) = sym here ∙ slice_get-get_or bits k false (omega arith) in

@@ -5,9 +5,9 @@ ghost use Rattle.vx_bitfilter.specs.Pext.{pext};
 use crate::closing::closed_up;
 
 /// The bits of `src` at the set positions of `mask`, packed from bit 0, and zero above them:
-/// Vortex's `pext_fallback`. It takes no memory, and a turn for each set bit that is picked, for
-/// each clear one that is, or for each that isn't picked, whichever are fewest: at most 21. What a
-/// single pick packs to is how many set bits are picked.
+/// Vortex's `pext_fallback`. It takes a turn for each set bit that is picked, for each clear one
+/// that is, or for each that isn't picked, whichever are fewest: at most 21. What a single pick
+/// packs to is how many set bits are picked.
 #[inline]
 pub fn pext_fallback(src: u64, mask: u64) -> u64
     ensures { result ≡ pext src mask }

@@ -32,7 +32,8 @@ pub fn filter_sparse(
     }
 }
 
-// The same, where the mask keeps no indices. Few of them are listed first.
+// The source's bits at the set positions of a mask that keeps no indices. The positions are listed
+// first where they are few.
 fn unlisted(alloc: Global, src: &BitBuffer, mask: &MaskValues) -> Result<BitBuffer, NoMemory>
     requires { length src.now.bits ≡ length mask.now.bits.bits }
     ensures { IfOk result (λ b. b

@@ -13,6 +13,8 @@ use Rattle.vx_bits.specs.BitBuffer.{PlacedBits, bit_of, bits_of, bit_fault, numb
 use Rattle.vx_bits.specs.Words.{word_bits}
 use Rattle.vx_bits.proofs.Cuts.{length_of_cut}
 use Rattle.vx_bits.proofs.WordBits.{length-word_bits, get_or-word_bits, true_count_of-word_bits}
+use Rattle.vx_lemmas.proofs.Lists.{range_split}
+use Rattle.vx_lemmas.proofs.Numbers.{digit_test}
 
 -- what the bytes hold where there is no fault
 pub record Reaches (byte_count offset len : ℕ) : Type 0 where
@@ -118,12 +120,6 @@ bit_of_number (false ∷ bits) zero = let low : (0 + 2 * number_of bits) % 2 ≡
 bit_of_number (true ∷ bits) (suc k) = let half : (1 + 2 * number_of bits) / 2 ≡ number_of bits = omega arith in ap (λ n. eqb n 1) (bit_at-suc (1 + 2 * number_of bits) k ∙ ap (λ n. bit_at n k) half) ∙ bit_of_number bits k
 bit_of_number (false ∷ bits) (suc k) = let half : (0 + 2 * number_of bits) / 2 ≡ number_of bits = omega arith in ap (λ n. eqb n 1) (bit_at-suc (0 + 2 * number_of bits) k ∙ ap (λ n. bit_at n k) half) ∙ bit_of_number bits k
 
-range_split : (a m k : ℕ) → range_with_len a (m + k) ≡ range_with_len a m ++ range_with_len (a + m) k
-range_split a zero k = ap₂ range_with_len (omega arith) (omega arith)
-range_split a (suc m) k =
-    let n : suc m + k ≡ suc (m + k) = omega arith in
-    ap (range_with_len a) n ∙ ap (λ l. a ∷ l) (range_split (a + 1) m k ∙ ap (λ j. range_with_len (a + 1) m ++ range_with_len j k) (omega arith))
-
 -- some bits, and those behind them
 pub bits_split : (bytes : List ℕ) (o m k : ℕ) → bits_of bytes o (m + k) ≡ bits_of bytes o m ++ bits_of bytes (o + m) k
 bits_split bytes o m k = ap (map (bit_of bytes)) (range_split o m k) ∙ map-append (bit_of bytes) (range_with_len o m) (range_with_len (o + m) k)
@@ -134,7 +130,7 @@ true_count_split bytes o m k =
     ap true_count_of (bits_split bytes o m k)
     ∙ sum_by-append (λ bit. cond bit 1 0) (bits_of bytes o m) (bits_of bytes (o + m) k)
 
--- the same, where the bits end at `mid` and at `end`
+-- the count of the bits up to `end`, by those up to `mid` and those behind it
 pub true_count_joined : (bytes : List ℕ) (start mid end : ℕ) → start ≤ mid → mid ≤ end → true_count_of (bits_of bytes start (end - start)) ≡ true_count_of (bits_of bytes start (mid - start)) + true_count_of (bits_of bytes mid (end - mid))
 true_count_joined bytes start mid end p q =
     let whole : end - start ≡ (mid - start) + (end - mid) = omega arith in
@@ -143,17 +139,11 @@ true_count_joined bytes start mid end p q =
     ∙ true_count_split bytes start (mid - start) (end - mid)
     ∙ ap (λ j. true_count_of (bits_of bytes start (mid - start)) + true_count_of (bits_of bytes j (end - mid))) there
 
--- a digit that is tested is counted as itself
-digit : (d : ℕ) → d < 2 → ◌≡◌ {A = ℕ} (cond (eqb d 1) 1 0) d
-digit zero h = refl
-digit (suc zero) h = refl
-digit (suc (suc d)) h = absurd (omega arith)
-
 -- the count of one bit
 pub true_count_of_one : (bytes : List ℕ) (j : ℕ) → true_count_of (bits_of bytes j 1) ≡ bit_at (get_or bytes (j / 8) 0) (j % 8)
 true_count_of_one bytes j =
     let d = bit_at (get_or bytes (j / 8) 0) (j % 8) in
-    sum_by-cons (λ bit. cond bit 1 0) (eqb d 1) [] ∙ omega (arith, digit d (bit_at-lt (get_or bytes (j / 8) 0) (j % 8)))
+    sum_by-cons (λ bit. cond bit 1 0) (eqb d 1) [] ∙ omega (arith, digit_test d (bit_at-lt (get_or bytes (j / 8) 0) (j % 8)))
 
 -- the bits of a whole byte
 pub bits_of_byte : (bytes : List ℕ) (k : ℕ) → bits_of bytes (8 * k) 8 ≡ word_bits (get_or bytes k 0) 8

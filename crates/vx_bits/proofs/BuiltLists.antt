@@ -1,9 +1,9 @@
 -- The bits that a builder holds, as it grows.
-use Rattle.std.proofs.Common.{◌≡◌, ◌≢◌, ℕ, suc, ◌+◌, ◌-◌, ◌*◌, ◌/◌, ◌%◌, ◌^◌, ◌<◌, ◌≤◌, Bool, true, false, cond, eqb, List, [], ◌∷◌, ◌++◌, length, get_or, set, take, replicate, bit_or, bit_and, inl, inr, refl, sym, ap, ap₂, subst, ◌∙◌, arith, zero-add}
+use Rattle.std.proofs.Common.{◌≡◌, ◌≢◌, ℕ, suc, ◌+◌, ◌-◌, ◌*◌, ◌/◌, ◌%◌, ◌^◌, ◌<◌, ◌≤◌, Bool, true, false, cond, eqb, List, [], ◌∷◌, ◌++◌, length, get_or, set, take, replicate, bit_or, inl, inr, refl, sym, ap, ap₂, subst, ◌∙◌, arith, zero-add}
 use Rattle.std.specs.Int.{bit_at, w8, w64, to_le_bytes}
 use Rattle.std.proofs.lemmas.Bool.{cases_eq}
 use Rattle.std.proofs.lemmas.List.{same_lists, append_assoc, length-append, length-set, length-replicate, get_or_default, get_or-set_same, get_or-set_other, take_at, set-append_left, set-append_right, replicate-append-replicate}
-use Rattle.std.proofs.lemmas.Nat.{and_mask, mod_below, mul-add-lt, one_shl, or_comm, or_shifted, or_lt, pow-add, pow_pos, shl_whole}
+use Rattle.std.proofs.lemmas.Nat.{mod_below, mul-add-lt, one_shl, or_comm, or_shifted, or_lt, pow-add, pow_pos, shl_whole}
 use Rattle.std.proofs.lemmas.Nat.Bits.{bit_at_set_same, bit_at_set_other}
 use Rattle.std.proofs.Math.Pow.{pow_mono}
 use Rattle.vx_bits.specs.BitBuffer.{bit_of, bits_of}
@@ -20,9 +20,6 @@ pub joined_is : (x k y : ℕ) → x < 2 ^ k → k < 64 → y < 2 ^ 64 → bit_or
 joined_is x k y below short fits =
     let same : k % 64 ≡ k = omega arith in
     ap (λ e. bit_or x (y * 2 ^ e % 2 ^ 128)) same ∙ ap (bit_or x) (shl_whole y 64 k 128 fits (omega arith)) ∙ or_comm x (y * 2 ^ k) ∙ or_shifted y k x below
-
-pub lowest_is : (w n : ℕ) → n < 64 → bit_and w (1 * 2 ^ n % 2 ^ 64 - 1) ≡ w % 2 ^ n
-lowest_is w n h = ap (λ m. bit_and w (m - 1)) (one_shl n 64 h) ∙ and_mask w n
 
 -- the word that is joined has no more bits
 pub joined_below : (next held low n all : ℕ) → next < 2 ^ held → low < 2 ^ n → all ≡ low * 2 ^ held + next → all < 2 ^ (held + n)

@@ -113,7 +113,7 @@ le_below x (suc (suc (suc (suc (suc (suc zero)))))) = omega arith
 le_below x (suc (suc (suc (suc (suc (suc (suc zero))))))) = omega arith
 le_below x (suc (suc (suc (suc (suc (suc (suc (suc i)))))))) = omega arith
 
--- the same of a word and the bytes that spell it
+-- the bits of a word's eight bytes are the word's
 pub bits_of_word : (x : ℕ) → x < 2 ^ 64 → bits_of (to_le_bytes w64 x) 0 64 ≡ word_bits x 64
 bits_of_word x h =
     let bs = to_le_bytes w64 x in

@@ -8,3 +8,5 @@ pub mod SetBits
 pub mod WordBits
 pub mod WordLists
 pub mod WordsJoined
+pub mod Told
+pub mod Results

@@ -1,13 +1,14 @@
 -- Numbers of bits, by eight at once.
-use Rattle.std.proofs.Common.{◌≡◌, ℕ, suc, ◌+◌, ◌*◌, ◌/◌, ◌%◌, ◌^◌, ◌<◌, ◌≤◌, Bool, true, false, cond, List, [], ◌∷◌, ◌++◌, length, take, drop, bit_or, get_or, refl, sym, ap, ap₂, subst, add_comm, ◌∙◌, arith}
+use Rattle.std.proofs.Common.{◌≡◌, ℕ, suc, ◌+◌, ◌*◌, ◌/◌, ◌%◌, ◌^◌, ◌<◌, ◌≤◌, Bool, true, false, List, [], ◌∷◌, ◌++◌, length, take, drop, bit_or, get_or, sym, ap, ap₂, subst, add_comm, ◌∙◌, arith}
 use Rattle.std.specs.Int.{w64, from_bool, from_le_bytes}
 use Rattle.std.proofs.lemmas.List.{length-drop, length-take-le}
 use Rattle.std.proofs.lemmas.Nat.{or_comm, or_shifted, shl_whole}
 use Rattle.std.proofs.Math.Nat.{mul_comm, pow-suc}
 use Rattle.vx_bits.specs.BitBuffer.{number_of}
 use Rattle.vx_bits.proofs.BitLists.{number_take_below}
-use Rattle.vx_bits.proofs.WordLists.{take_both}
 use Rattle.vx_bits.proofs.ByteWords.{eight_items}
+use Rattle.vx_lemmas.proofs.Bools.{from_bool-cond}
+use Rattle.std.proofs.Math.Seq.{take-add}
 
 -- eight bits that stand in eight bytes, times a number that brings each to its place of the highest
 -- byte
@@ -22,16 +23,11 @@ packed_eight a b c d e f g h pa pb pc pd pe pf pg ph =
     let fits : byte < 256 = omega arith in
     omega (arith, product, small, fits)
 
--- a bit as a number
-digit : (bit : Bool) → from_bool bit ≡ cond bit 1 0
-digit true = refl
-digit false = refl
-
 below_two : (bit : Bool) → from_bool bit ≤ 1
 below_two true = omega arith
 below_two false = omega arith
 
--- the same of eight items of a list
+-- eight items of a list, each a byte, packed as the bits of one byte
 pub packed_items : (bits : List Bool) (start : ℕ) → start + 8 ≤ length bits → (a b c d e f g h : ℕ)
     → a ≡ from_bool (get_or bits start false)
     → b ≡ from_bool (get_or bits (start + 1) false)
@@ -45,7 +41,7 @@ pub packed_items : (bits : List Bool) (start : ℕ) → start + 8 ≤ length bit
 packed_items bits start within a b c d e f g h ea eb ec ed ee ef eg eh =
     let spread : from_le_bytes w64 (a ∷ b ∷ c ∷ d ∷ e ∷ f ∷ g ∷ h ∷ []) ≡ a + 256 * (b + 256 * (c + 256 * (d + 256 * (e + 256 * (f + 256 * (g + 256 * h)))))) = omega arith in
     let packed = packed_eight a b c d e f g h (omega (arith, ea, below_two (get_or bits start false))) (omega (arith, eb, below_two (get_or bits (start + 1) false))) (omega (arith, ec, below_two (get_or bits (start + 2) false))) (omega (arith, ed, below_two (get_or bits (start + 3) false))) (omega (arith, ee, below_two (get_or bits (start + 4) false))) (omega (arith, ef, below_two (get_or bits (start + 5) false))) (omega (arith, eg, below_two (get_or bits (start + 6) false))) (omega (arith, eh, below_two (get_or bits (start + 7) false))) in
-    let number : a + 2 * (b + 2 * (c + 2 * (d + 2 * (e + 2 * (f + 2 * (g + 2 * h)))))) ≡ number_of (get_or bits start false ∷ get_or bits (start + 1) false ∷ get_or bits (start + 2) false ∷ get_or bits (start + 3) false ∷ get_or bits (start + 4) false ∷ get_or bits (start + 5) false ∷ get_or bits (start + 6) false ∷ get_or bits (start + 7) false ∷ []) = omega (arith, ea, eb, ec, ed, ee, ef, eg, eh, digit (get_or bits start false), digit (get_or bits (start + 1) false), digit (get_or bits (start + 2) false), digit (get_or bits (start + 3) false), digit (get_or bits (start + 4) false), digit (get_or bits (start + 5) false), digit (get_or bits (start + 6) false), digit (get_or bits (start + 7) false)) in
+    let number : a + 2 * (b + 2 * (c + 2 * (d + 2 * (e + 2 * (f + 2 * (g + 2 * h)))))) ≡ number_of (get_or bits start false ∷ get_or bits (start + 1) false ∷ get_or bits (start + 2) false ∷ get_or bits (start + 3) false ∷ get_or bits (start + 4) false ∷ get_or bits (start + 5) false ∷ get_or bits (start + 6) false ∷ get_or bits (start + 7) false ∷ []) = omega (arith, ea, eb, ec, ed, ee, ef, eg, eh, from_bool-cond (get_or bits start false), from_bool-cond (get_or bits (start + 1) false), from_bool-cond (get_or bits (start + 2) false), from_bool-cond (get_or bits (start + 3) false), from_bool-cond (get_or bits (start + 4) false), from_bool-cond (get_or bits (start + 5) false), from_bool-cond (get_or bits (start + 6) false), from_bool-cond (get_or bits (start + 7) false)) in
     ap (λ x. x * 0x0102_0408_1020_4080 % 2 ^ 64 / 2 ^ 56) spread ∙ packed ∙ number ∙ ap number_of (eight_items bits start false within)
 
 -- the number of bits and of those behind them
@@ -72,5 +68,5 @@ next_eight bits k word byte h fits is_word is_byte =
     ∙ ap (λ n. number_of high * 2 ^ n + number_of low) (sym long)
     ∙ add_comm (number_of high * 2 ^ length low) (number_of low)
     ∙ sym (number_append low high)
-    ∙ ap number_of (sym (take_both (8 * k) 8 bits))
+    ∙ ap number_of (sym (take-add (8 * k) 8 bits))
     ∙ ap (λ n. number_of (take n bits)) (sym next)

@@ -1,5 +1,5 @@
 -- Lists of bits as their words: what a kernel that walks words needs.
-use Rattle.std.proofs.Common.{◌≡◌, ℕ, zero, suc, ◌+◌, ◌-◌, ◌*◌, ◌/◌, ◌%◌, ◌^◌, ◌<◌, ◌≤◌, min, Bool, true, false, cond, eqb, List, [], ◌∷◌, ◌++◌, length, get_or, take, drop, replicate, bit_and, inl, inr, refl, sym, ap, ap₂, ◌∙◌, arith, zero-add}
+use Rattle.std.proofs.Common.{◌≡◌, ℕ, zero, suc, ◌+◌, ◌-◌, ◌*◌, ◌/◌, ◌%◌, ◌^◌, ◌<◌, ◌≤◌, min, Bool, true, false, cond, eqb, List, [], ◌∷◌, ◌++◌, length, get_or, take, drop, replicate, bit_and, inl, inr, refl, sym, ap, ap₂, ◌∙◌, arith}
 use Rattle.std.specs.Int.{bit_at}
 use Rattle.std.specs.Int.RustNames.{count_ones}
 use Rattle.std.specs.List.{items_where_true}
@@ -10,11 +10,13 @@ use Rattle.std.proofs.lemmas.Nat.{mod-pow-add}
 use Rattle.std.proofs.Math.Nat.{mod-eq_of_lt, mod-lt, pow-suc, zero-lt-suc}
 use Rattle.std.proofs.Math.Pow.{pow_mono}
 use lib.Bits.{and_step, and_self}
-use lib.Count.{count_trailing_zeros, under, ones_cat, ones_step, ones-le}
+use lib.Count.{count_trailing_zeros, under, ones_cat, ones_step}
 use Rattle.vx_bits.specs.BitBuffer.{number_of, true_count_of}
 use Rattle.vx_bits.specs.Words.{word_at, word_bits, word_count}
 use Rattle.vx_bits.proofs.BitLists.{bit_of_number, number_below}
 use Rattle.vx_bits.proofs.WordBits.{full-word_bits, number_is, word_bits-number_of, zero-word_bits}
+use Rattle.std.proofs.Math.Seq.{take-add}
+use Rattle.vx_lemmas.proofs.Numbers.{count_ones-zero}
 
 -- ---- one word
 
@@ -69,19 +71,13 @@ word_is bits i word n h e = sym (number_is (bits_in bits i) word n h e)
 
 -- ---- one word after another
 
--- some items, and those behind them
-pub take_both : {X : Type 0} (m n : ℕ) (xs : List X) → take (m + n) xs ≡ take m xs ++ take n (drop m xs)
-take_both zero n xs = ap (λ k. take k xs) (zero-add n)
-take_both (suc m) n [] = take_all (suc m + n) [] (omega arith) ∙ sym (take_all n [] (omega arith))
-take_both (suc m) n (x ∷ xs) = let e : suc m + n ≡ suc (m + n) = omega arith in ap (λ k. take k (x ∷ xs)) e ∙ ap (λ l. x ∷ l) (take_both m n xs)
-
 -- one word more
 pub take_words : (bits : List Bool) (i : ℕ) → take (64 * (i + 1)) bits ≡ take (64 * i) bits ++ bits_in bits i
 take_words bits i =
     let next : 64 * (i + 1) ≡ 64 * i + 64 = omega arith in
-    ap (λ n. take n bits) next ∙ take_both (64 * i) 64 bits
+    ap (λ n. take n bits) next ∙ take-add (64 * i) 64 bits
 
--- the same of the word that the next bits spell
+-- one word more, by the number of the next bits
 pub with_next_word : (bits : List Bool) (i word n : ℕ) → n ≡ min 64 (length bits - 64 * i) → word ≡ number_of (take n (drop (64 * i) bits)) → take (64 * i) bits ++ word_bits word n ≡ take (64 * (i + 1)) bits
 with_next_word bits i word n short e =
     let behind = drop (64 * i) bits in
@@ -97,13 +93,10 @@ take_all_words bits count h = take_all (64 * count) bits (omega arith)
 
 -- ---- counts
 
-zero_ones : count_ones 0 ≡ 0
-zero_ones = omega (arith, ones-le 0 0 (omega arith))
-
 -- the set bits of a word's lowest n bits
 ones_of_low : (n : ℕ) (bits : List Bool) → count_ones (number_of bits % 2 ^ n) ≡ true_count_of (take n bits)
-ones_of_low zero bits = let none : number_of bits % 2 ^ 0 ≡ 0 = omega arith in ap count_ones none ∙ zero_ones
-ones_of_low (suc n) [] = let none : 0 % 2 ^ suc n ≡ 0 = omega arith in ap count_ones none ∙ zero_ones
+ones_of_low zero bits = let none : number_of bits % 2 ^ 0 ≡ 0 = omega arith in ap count_ones none ∙ count_ones-zero
+ones_of_low (suc n) [] = let none : 0 % 2 ^ suc n ≡ 0 = omega arith in ap count_ones none ∙ count_ones-zero
 ones_of_low (suc n) (true ∷ bits) =
     let all = number_of bits in
     let more : n + 1 ≡ suc n = omega arith in
@@ -111,7 +104,7 @@ ones_of_low (suc n) (true ∷ bits) =
     let half : (1 + 2 * all) / 2 ≡ all = omega arith in
     let low : (1 + 2 * all) % 2 ≡ 1 = omega arith in
     let is : (1 + 2 * all) % 2 ^ suc n ≡ all % 2 ^ n * 2 + 1 = parts ∙ ap₂ (λ h l. h % 2 ^ n * 2 + l) half low in
-    ap count_ones is ∙ ones_cat 1 (all % 2 ^ n) 1 (omega arith) ∙ omega (arith, ones_of_low n bits, ones_step 1, zero_ones, sum_by-cons (λ b. cond b 1 0) true (take n bits))
+    ap count_ones is ∙ ones_cat 1 (all % 2 ^ n) 1 (omega arith) ∙ omega (arith, ones_of_low n bits, ones_step 1, count_ones-zero, sum_by-cons (λ b. cond b 1 0) true (take n bits))
 ones_of_low (suc n) (false ∷ bits) =
     let all = number_of bits in
     let more : n + 1 ≡ suc n = omega arith in
@@ -119,11 +112,11 @@ ones_of_low (suc n) (false ∷ bits) =
     let half : (0 + 2 * all) / 2 ≡ all = omega arith in
     let low : (0 + 2 * all) % 2 ≡ 0 = omega arith in
     let is : (0 + 2 * all) % 2 ^ suc n ≡ all % 2 ^ n * 2 + 0 = parts ∙ ap₂ (λ h l. h % 2 ^ n * 2 + l) half low in
-    ap count_ones is ∙ ones_cat 1 (all % 2 ^ n) 0 (omega arith) ∙ omega (arith, ones_of_low n bits, zero_ones, sum_by-cons (λ b. cond b 1 0) false (take n bits))
+    ap count_ones is ∙ ones_cat 1 (all % 2 ^ n) 0 (omega arith) ∙ omega (arith, ones_of_low n bits, count_ones-zero, sum_by-cons (λ b. cond b 1 0) false (take n bits))
 
 -- the set bits of a front and of what is behind it
 pub true_count_of-take : (bits : List Bool) (m n : ℕ) → true_count_of (take (m + n) bits) ≡ true_count_of (take m bits) + true_count_of (take n (drop m bits))
-true_count_of-take bits m n = ap true_count_of (take_both m n bits) ∙ sum_by-append (λ bit. cond bit 1 0) (take m bits) (take n (drop m bits))
+true_count_of-take bits m n = ap true_count_of (take-add m n bits) ∙ sum_by-append (λ bit. cond bit 1 0) (take m bits) (take n (drop m bits))
 
 -- up to bit n of a word, the set bits before the word and those of its lowest n bits
 pub count_in_word : (bits : List Bool) (i n : ℕ) → n ≤ 64 → true_count_of (take (64 * i + n) bits) ≡ true_count_of (take (64 * i) bits) + count_ones (word_at bits i % 2 ^ n)
@@ -133,7 +126,7 @@ count_in_word bits i n h =
     let low = ones_of_low n (take 64 behind) ∙ ap true_count_of (take-take n 64 behind h) in
     omega (arith, true_count_of-take bits (64 * i) n, low)
 
--- the same of a whole word
+-- up to the end of a word, the set bits before the word and those of the word
 pub count_of_word : (bits : List Bool) (i : ℕ) → true_count_of (take (64 * (i + 1)) bits) ≡ true_count_of (take (64 * i) bits) + count_ones (word_at bits i)
 count_of_word bits i =
     let next : 64 * (i + 1) ≡ 64 * i + 64 = omega arith in
@@ -145,14 +138,15 @@ true_count_of-bits_in bits i = omega (arith, count_of_word bits i, true_count_of
 
 -- ---- words with no bit, and full ones
 
-no_bits : (bits : List Bool) → true_count_of bits ≡ 0 → bits ≡ replicate (length bits) false
+-- bits of which none is set
+pub no_bits : (bits : List Bool) → true_count_of bits ≡ 0 → bits ≡ replicate (length bits) false
 no_bits [] h = refl
 no_bits (true ∷ bits) h = absurd (omega (arith, sum_by-cons (λ bit. cond bit 1 0) true bits))
 no_bits (false ∷ bits) h = ap (λ l. false ∷ l) (no_bits bits (omega (arith, sum_by-cons (λ bit. cond bit 1 0) false bits)))
 
 -- a word of 0 holds no set bit
 pub no_word : (bits : List Bool) (i : ℕ) → word_at bits i ≡ 0 → bits_in bits i ≡ replicate (length (bits_in bits i)) false
-no_word bits i e = no_bits (bits_in bits i) (true_count_of-bits_in bits i ∙ ap count_ones e ∙ zero_ones)
+no_word bits i e = no_bits (bits_in bits i) (true_count_of-bits_in bits i ∙ ap count_ones e ∙ count_ones-zero)
 
 full_length : (bits : List Bool) (i : ℕ) → word_at bits i ≡ 2 ^ 64 - 1 → length (bits_in bits i) ≡ 64
 unfolding word_at
@@ -237,10 +231,6 @@ module _ {X : Type 0} where
   picked_clear zero xs = refl
   picked_clear (suc n) [] = refl
   picked_clear (suc n) (x ∷ xs) = picked_clear n xs
-
-  picked_nothing : (bits : List Bool) → items_where_true {X = X} bits [] ≡ []
-  picked_nothing [] = refl
-  picked_nothing (b ∷ bits) = refl
 
   -- items past the bits play no part
   pub picked_short : (bits : List Bool) (xs : List X) (n : ℕ) → length bits ≤ n → items_where_true bits (take n xs) ≡ items_where_true bits xs

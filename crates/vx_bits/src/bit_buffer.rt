@@ -50,7 +50,7 @@ impl Drop for BitBuffer {
 }
 
 impl BitBuffer {
-    /// The `len` bits of `bytes` from bit `offset` on. It takes no memory.
+    /// The `len` bits of `bytes` from bit `offset` on.
     ///
     /// `Offset` exactly where the offset is above 7. Else `Short` exactly where `offset + len`
     /// passes `usize::MAX` or 8 times the number of bytes.
@@ -176,8 +176,8 @@ impl BitBuffer {
         None
     }
 
-    /// The bits from `start` up to `end`, which it leaves out. It takes no memory, and its offset
-    /// is that of its first bit in the first byte that it needs.
+    /// The bits from `start` up to `end`, which it leaves out. The offset is that of its first bit
+    /// in the first byte that it needs.
     pub fn slice(&self, start: usize, end: usize) -> BitBuffer
         requires ordered { start ≤ end }
         requires within { end ≤ length self.now.bits }
@@ -192,7 +192,7 @@ impl BitBuffer {
         }
     }
 
-    /// Another handle to the same bits, at the same offset. It takes no memory.
+    /// Another handle to the same bits, at the same offset.
     pub fn share(&self) -> BitBuffer
         ensures { result ≡ self.now }
     {
@@ -222,7 +222,7 @@ fn count_between(bytes: &[u8], start: usize, end: usize) -> usize
         + count_bits(bytes, 8 * last, end)
 }
 
-// The same, bit by bit.
+// How many of the bits from `start` up to `end` are set, counted bit by bit.
 fn count_bits(bytes: &[u8], start: usize, end: usize) -> usize
     requires ordered { start ≤ end }
     requires within { end ≤ 8 * length bytes.now }

@@ -203,7 +203,8 @@ fn push_word(bytes: &mut Vec<u8>, word: u64) -> Result<(), NoMemory>
     Ok(())
 }
 
-// The same, and behind it the byte so many times eight times over.
+// Appends the eight bytes of a word, the lowest first, and behind them `8 * words` copies of a
+// byte.
 fn push_words(bytes: &mut Vec<u8>, first: u64, byte: u8, words: usize) -> Result<(), NoMemory>
     requires before { vec_len bytes.old + 8 ≤ 2 ^ 61 }
     requires more { words < 2 ^ 58 }

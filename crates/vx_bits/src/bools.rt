@@ -8,7 +8,7 @@ use crate::error::NoMemory;
 use std::alloc::Global;
 
 impl BitBuffer {
-    /// The same bits, the first one at offset 0. Fails only with `NoMemory`.
+    /// The bits of a slice of `bool`, the first one at offset 0. Fails only with `NoMemory`.
     pub fn from_bools(alloc: Global, bits: &[bool]) -> Result<BitBuffer, NoMemory>
         ensures { IfOk result (λ b. b ≡ record { bits = bits.now; offset = 0 }) }
     {
@@ -55,7 +55,7 @@ fn byte_of(bits: &[bool], start: usize) -> u8
     (spread.wrapping_mul(0x0102_0408_1020_4080) >> 56) as u8
 }
 
-// The same of fewer bits, one by one, and zeros above them.
+// The word of at most 64 bits, read one by one, with zeros above them.
 fn bit_by_bit(bits: &[bool]) -> u64
     requires { length bits.now ≤ 64 }
     ensures { result ≡ number_of bits.now }

@@ -71,7 +71,7 @@ impl<T: Copy> Buffer<T> {
         self.len == 0
     }
 
-    /// The values from `start` up to `end`, which it leaves out. It takes no memory.
+    /// The values from `start` up to `end`, which it leaves out.
     pub fn slice(&self, start: usize, end: usize) -> Buffer<T>
         requires ordered { start ≤ end }
         requires within { end ≤ length self.now }
@@ -84,7 +84,7 @@ impl<T: Copy> Buffer<T> {
         }
     }
 
-    /// Another handle to the same list. It takes no memory.
+    /// Another handle to the same list.
     pub fn share(&self) -> Buffer<T>
         ensures { result ≡ self.now }
     {

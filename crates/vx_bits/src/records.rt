@@ -38,7 +38,9 @@ macro_rules! match_each_record_width {
     };
 }
 
-/// The same, with each body, a buffer of records of that width, made `Records` again.
+/// Writes one arm for each width: `map_each_record_width!(records, buffer => body)` is the body as
+/// `Records`, with `buffer` as the buffer of the width that `records` has. The body is a buffer of
+/// records of that width.
 #[macro_export]
 macro_rules! map_each_record_width {
     ($records:expr, $buffer:ident => $body:expr) => {
@@ -84,7 +86,7 @@ impl Records {
         match_each_record_width!(self, buffer => buffer.as_slice()[i].bytes())
     }
 
-    /// The records from `start` up to `end`, which it leaves out. It takes no memory.
+    /// The records from `start` up to `end`, which it leaves out.
     pub fn slice(&self, start: usize, end: usize) -> Records
         requires ordered { start ≤ end }
         requires within { end ≤ length (records_of self.now) }
@@ -94,7 +96,7 @@ impl Records {
         map_each_record_width!(self, buffer => buffer.slice(start, end))
     }
 
-    /// Another handle to the same records. It takes no memory.
+    /// Another handle to the same records.
     pub fn share(&self) -> Records
         ensures { result ≡ self.now }
     {

@@ -1,10 +1,9 @@
 -- Lists that offsets cut, structs of columns, and indices of positions.
-use Rattle.std.proofs.Common.{◌≡◌, ℕ, ◌+◌, ◌<◌, ◌≤◌, true, false, List, [], ◌∷◌, length, map, drop, get_or, refl, sym, ap, subst, ◌∙◌, arith}
-use Rattle.std.specs.Prelude.{ℤ, Option, Some, None, Result, Ok, Err, IfOk, pos, int_le, ◌==◌, ◌&&◌, if◌then◌else◌, unwrap_or}
+use Rattle.std.proofs.Common.{◌≡◌, ℕ, ◌+◌, ◌<◌, ◌≤◌, true, false, List, [], ◌∷◌, length, map, drop, get_or, refl, sym, ap, ◌∙◌, arith}
+use Rattle.std.specs.Prelude.{ℤ, Option, Some, None, pos, int_le, ◌==◌, ◌&&◌, if◌then◌else◌, unwrap_or}
 use Rattle.std.specs.Option.{option_map}
 use Rattle.std.proofs.lemmas.Bool.Decides.{nat_tests}
 use Rattle.std.proofs.lemmas.List.{at_drop_more, at_drop_all}
-use Rattle.vx_bits.specs.Results.{ok_unless}
 use Rattle.vx_types.specs.FieldTypes.{FieldTypes}
 use Rattle.vx_types.specs.PType.{width}
 use Rattle.vx_types.specs.RowValue.{bytes}
@@ -16,7 +15,7 @@ use Rattle.vx_types.specs.declared.error.ColumnError.TheVariants.{BadOffsets, Wr
 use Rattle.vx_types.specs.declared.nullability.Nullability.TheVariants.{NonNullable, Nullable}
 use Rattle.vx_types.specs.declared.ptype.PType.{PType}
 use Rattle.vx_types.specs.declared.ptype.PType.TheVariants.{U64}
-use Rattle.vx_positions.specs.Offsets.{are_offsets, ascend_within, lists_at, offset_positions}
+use Rattle.vx_offsets.specs.Offsets.{are_offsets, ascend_within, lists_at, offset_positions}
 use Rattle.vx_positions.specs.Positions.{first_bad, positions_of}
 use Rattle.vx_model.specs.Column.{Column}
 use Rattle.vx_model.specs.Columns.{are_long, rows_across, types_in}
@@ -62,19 +61,6 @@ no_fault (Some f) no_memory e is h = cc
 pub that_fault : {E : Type 0} (fault : Option E) (no_memory e : E) → fault ≡ Some e → e ≡ unwrap_or fault no_memory
 that_fault None no_memory e is = cc
 that_fault (Some f) no_memory e is = cc
-
--- what a constructor makes is its parts
-pub made : {T E : Type 0} (fault : Option E) (parts x : T) → Ok x ≡ ok_unless fault parts → x ≡ parts
-made None parts x h = cc
-made (Some e) parts x h = cc
-
--- and where there is no fault it refuses nothing
-pub unrefused : {T E : Type 0} (fault : Option E) (parts : T) (e : E) → fault ≡ None → Err e ≡ ok_unless fault parts → ⊥
-unrefused fault parts e h is = cc
-
--- what is known of a value that came
-pub of_ok : {T E : Type 0} (P : T → Type 0) (r : Result T E) (x : T) → r ≡ Ok x → IfOk r P → P x
-of_ok P r x is h = subst (λ s. IfOk s P) is h
 
 -- ---- lists
 

@@ -14,7 +14,7 @@ use Rattle.vx_model.specs.Numbers.{number_in, numbers_of}
 use Rattle.vx_model.specs.Records.{records_column}
 use Rattle.vx_model.specs.Valid.{Valid, by_column, is_fitting, non_nullable, shown_rows, stored_rows}
 use Rattle.vx_model.proofs.Layouts.{rows-records-non_nullable}
-use Rattle.vx_model.proofs.Takes.{is_left-bits_column}
+use Rattle.vx_model.proofs.Takes.{is_left-bits_column, stored-bits_column}
 use Rattle.vx_build.specs.Rows.{row_or_null}
 
 -- one row more behind the others
@@ -72,10 +72,6 @@ shown_texts text or_none same (Some x ∷ xs) = ap₂ (λ t l. bytes t ∷ l) (s
 
 -- ---- a validity of bits
 
--- the rows that it shows
-pub stored_some : (bits : List Bool) (items : List RowValue) → stored_rows (by_column (bits_column bits 0)) items ≡ shown_rows bits items
-stored_some bits items = ap (λ bs. shown_rows bs items) (is_left-bits_column non_nullable bits 0 Nullable refl).bits
-
 -- it fits as many rows
 pub fits_some : (bits : List Bool) (n : ℕ) → length bits ≡ n → is_fitting (by_column (bits_column bits 0)) n ≡ true
 fits_some bits n h =
@@ -102,7 +98,7 @@ module _ {X : Type 0} (p q : PType) (same : q ≡ p) (w : ℕ) (records : List (
 
   pub rows_of_some : (f : X → List ℕ) (xs : List (Option X)) (v : Valid) → v ≡ by_column (bits_column (map is_some xs) 0) → shown_rows (map is_some xs) (map bytes records) ≡ map (row_or_null (λ x. bytes (f x))) xs → (records_column (record { kind = primitive_kind q; width = w; records = records; valid = v })).rows ≡ map (row_or_null (λ x. bytes (f x))) xs
   rows_of_some f xs v is h =
-      ap (λ (u : Valid). stored_rows u (map bytes records)) is ∙ stored_some (map is_some xs) (map bytes records) ∙ h
+      ap (λ (u : Valid). stored_rows u (map bytes records)) is ∙ stored-bits_column (map is_some xs) (map bytes records) ∙ h
 
   pub numbers_of_some : (f : X → List ℕ) (g : X → ℤ) (xs : List (Option X)) (v : Valid) → v ≡ by_column (bits_column (map is_some xs) 0) → shown_rows (map is_some xs) (map bytes records) ≡ map (row_or_null (λ x. bytes (f x))) xs → map (option_map (λ x. number p (f x))) xs ≡ map (option_map g) xs → numbers_of (records_column (record { kind = primitive_kind q; width = w; records = records; valid = v })) ≡ map (option_map g) xs
   numbers_of_some f g xs v is h e =

@@ -13,7 +13,8 @@ use Rattle.vx_model.specs.Bool.{bits_column}
 use Rattle.vx_model.specs.Valid.{Valid, by_column, is_fitting, non_nullable, stored_rows}
 use Rattle.vx_model.proofs.ShownRows.{shown_rows-all}
 use Rattle.vx_build.specs.Rows.{bytes_or_none, row_or_null}
-use Rattle.vx_build.proofs.Shown.{fits_some, shown_texts, stored_some}
+use Rattle.vx_build.proofs.Shown.{fits_some, shown_texts}
+use Rattle.vx_model.proofs.Takes.{stored-bits_column}
 
 -- one text more
 pub next_text : {X : Type 0} (xs : List X) (text_of : X → List ℕ) (i : ℕ) (d : X) (old new : OffsetList) (before more text : List ℕ) → i < length xs → text ≡ text_of (get_or xs i d) → AreTexts I32 old before (map text_of (take i xs)) → length more < 2 ^ 63 → more ≡ before ++ text → new ≡ with_offset old (length more) → AreTexts I32 new more (map text_of (take (i + 1) xs))
@@ -31,7 +32,7 @@ rows_of_texts f xs texts h =
 pub rows_of_some_texts : {X : Type 0} (f : X → List ℕ) (xs : List (Option X)) (texts : List (List ℕ)) (v : Valid) → v ≡ by_column (bits_column (map is_some xs) 0) → texts ≡ map (bytes_or_none f) xs → stored_rows v (map bytes texts) ≡ map (row_or_null (λ x. bytes (f x))) xs
 rows_of_some_texts f xs texts v is h =
     ap₂ (λ (u : Valid) (ts : List (List ℕ)). stored_rows u (map bytes ts)) is h
-    ∙ stored_some (map is_some xs) (map bytes (map (bytes_or_none f) xs))
+    ∙ stored-bits_column (map is_some xs) (map bytes (map (bytes_or_none f) xs))
     ∙ shown_texts f (bytes_or_none f) (λ x. refl) xs
 
 -- a validity of them fits as many texts

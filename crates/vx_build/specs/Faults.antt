@@ -2,7 +2,7 @@
 use Rattle.std.specs.Prelude.{ℕ, pos, List, map, Option, None, Some, if◌then◌else◌}
 use Rattle.vx_types.specs.declared.error.ColumnError.{ColumnError}
 use Rattle.vx_types.specs.declared.error.ColumnError.TheVariants.{BadOffsets, WrongLength}
-use Rattle.vx_positions.specs.Offsets.{are_offsets}
+use Rattle.vx_offsets.specs.Offsets.{are_offsets}
 use Rattle.vx_model.specs.Column.{Column}
 use Rattle.vx_model.specs.Columns.{are_long}
 

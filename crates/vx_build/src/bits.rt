@@ -1,11 +1,9 @@
 //! Masks, validities and columns of bools.
-ghost use Rattle.std.specs.Prelude.{◌≡◌, IfOk, is_some, length, map, true};
-ghost use Rattle.vx_types.specs.RowValue.{bit};
-ghost use Rattle.vx_types.specs.TypeTree.{bool_kind};
-ghost use Rattle.vx_types.specs.declared.nullability.Nullability.TheVariants.{NonNullable, Nullable};
+ghost use Rattle.std.specs.Prelude.{◌≡◌, IfOk, is_some, map};
+ghost use Rattle.vx_types.specs.declared.nullability.Nullability.TheVariants.{NonNullable};
 ghost use Rattle.vx_mask.specs.Mask.{mask_bits};
 ghost use Rattle.vx_model.specs.Bool.{bits_column};
-ghost use Rattle.vx_model.specs.Valid.{by_column, is_fitting, nullability_by, present_bits};
+ghost use Rattle.vx_model.specs.Valid.{by_column};
 ghost use Rattle.vx_column.specs.Validity.{valid_of};
 
 use std::alloc::Global;
@@ -32,10 +30,7 @@ pub fn bools(alloc: Global, values: &[bool]) -> Result<Array, NoMemory>
     ensures { IfOk result (λ c. c ≡ bits_column values.now 0) }
 {
     let bits = BitBuffer::from_bools(alloc, values)?;
-    match BoolArray::try_new(bits, Validity::NonNullable) {
-        Ok(bools) => Ok(bools.into_array()),
-        Err(_) => unreachable!(),
-    }
+    Ok(BoolArray::of(bits, Validity::NonNullable).into_array())
 }
 
 /// The validity of rows that are null where there is no value. Fails only with `NoMemory`.

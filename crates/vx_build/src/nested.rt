@@ -4,7 +4,7 @@ ghost use Rattle.vx_bits.specs.Results.{FailsBy};
 ghost use Rattle.vx_types.specs.DType.{type_of};
 ghost use Rattle.vx_types.specs.Fields.{names_of};
 ghost use Rattle.vx_types.specs.declared.nullability.Nullability.TheVariants.{NonNullable};
-ghost use Rattle.vx_positions.specs.Offsets.{are_offsets, lists_at};
+ghost use Rattle.vx_offsets.specs.Offsets.{are_offsets, lists_at};
 ghost use Rattle.vx_model.specs.Columns.{are_long, rows_across, types_in};
 ghost use Rattle.vx_model.specs.List.{list_of};
 ghost use Rattle.vx_model.specs.Lists.{list_row};
@@ -23,7 +23,7 @@ use vx_column::{
 };
 use vx_shared::Shared;
 
-// The same answer, with an error of columns.
+// The result, with `NoMemory` as an error of columns.
 fn in_memory<T>(made: Result<T, NoMemory>) -> Result<T, ColumnError>
     ensures ok { IfOk result (λ x. made ≡ Ok x) }
     ensures err { IfErr result (λ e. e ≡ ColumnError.NoMemory) }
@@ -41,7 +41,7 @@ fn is_between(low: usize, offset: usize, len: usize) -> bool
     low <= offset && offset <= len
 }
 
-// Whether these are offsets into `len` elements. It takes no memory.
+// Whether these are offsets into `len` elements.
 #[tactic(auto, using(crate::proofs::Parts::offsets))]
 fn are_offsets(offsets: &[usize], len: usize) -> bool
     ensures { result ≡ are_offsets (map pos offsets.now) len }
@@ -138,7 +138,7 @@ fn struct_fields(
     }
 }
 
-// Whether each column has `len` rows. It takes no memory.
+// Whether each column has `len` rows.
 fn are_long(fields: &[(&str, ArrayRef)], len: usize) -> bool
     ensures { result ≡ are_long len (map (λ f. f.1) fields.now) }
 {

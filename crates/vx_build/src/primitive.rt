@@ -17,6 +17,7 @@ use std::alloc::Global;
 use vx_bits::{Buffer, NoMemory, Records};
 use vx_column::{
     Array, ConstantArray, DType, Nullability, PType, RecordType, Scalar, ScalarValue, Validity,
+    record_column,
 };
 
 /// A record for each number. Fails only with `NoMemory`.
@@ -56,7 +57,7 @@ where
 {
     let stored = records(alloc, values)?;
     let record_type = RecordType::Primitive(T::ptype());
-    Ok(record_type.column(stored, Validity::NonNullable))
+    Ok(record_column(record_type, stored, Validity::NonNullable))
 }
 
 // The record of a number, and zeros where there is none.
@@ -114,7 +115,7 @@ where
     let stored = records_or_zeros(alloc, values)?;
     let validity = presence(alloc, values)?;
     let record_type = RecordType::Primitive(T::ptype());
-    Ok(record_type.column(stored, validity))
+    Ok(record_column(record_type, stored, validity))
 }
 
 // So many rows of the number that these bytes are. Fails only with `NoMemory`.

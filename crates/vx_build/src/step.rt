@@ -8,8 +8,8 @@ use crate::bits::mask;
 use crate::primitive::nullable_numbers;
 use std::alloc::Global;
 use vx_bits::NoMemory;
-use vx_column::FlatRef;
 use vx_pieces::Indices;
+use vx_plain::FlatRef;
 use vx_steps::Step;
 
 /// The indices of these positions, null where there is none. Fails only with `NoMemory`.
@@ -17,13 +17,10 @@ pub fn indices(alloc: Global, positions: &[Option<usize>]) -> Result<Indices, No
     ensures { IfOk result (λ i. NamePositions positions.now (index_value i)) }
 {
     let column = nullable_numbers(alloc, positions)?.into_ref(alloc)?;
-    match FlatRef::try_new(column) {
-        Ok(column) => Ok(Indices::Array(column)),
-        Err(_) => unreachable!(),
-    }
+    Ok(Indices::Array(FlatRef::of(column)))
 }
 
-/// The step to the rows from `start` up to `end`. It takes no memory.
+/// The step to the rows from `start` up to `end`.
 pub fn slice(start: usize, end: usize) -> Step
     ensures { step_value result ≡ slice_step start end }
 {

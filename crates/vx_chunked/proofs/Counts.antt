@@ -8,8 +8,8 @@ use Rattle.std.proofs.lemmas.List.Elements.{All-head, All-tail}
 use Rattle.std.proofs.lemmas.List.Sums.{sum_by-cons, sum_by-append}
 use Rattle.vx_decoder.specs.declared.call.Call.{Call}
 use Rattle.vx_decoder.specs.declared.call.Call.TheVariants.{Whole, Only}
-use Rattle.vx_decoder.proofs.ToldCalls.{told_more, told_none}
 use Rattle.vx_chunked.specs.Asked.{call_for, count_in, calls_from}
+use Rattle.vx_bits.proofs.Told.{told_more, told_none}
 
 -- all places lie in their chunk
 counts_here : (chunk : ℕ) (places : List ℕ) → All (λ p. p < 1024) places → count_in (map (λ p. 1024 * chunk + p) places) chunk ≡ length places

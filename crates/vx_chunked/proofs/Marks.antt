@@ -9,7 +9,7 @@ use Rattle.vx_bits.proofs.WordBits.{length-word_bits, true_count_of-word_bits}
 use Rattle.vx_bits.proofs.WordsJoined.{all_words_joined, bits_of_words_more}
 use Rattle.vx_filter.specs.Compact.{bits_of_words}
 use Rattle.vx_mask.specs.Positions.{AllBits}
-use Rattle.vx_mask.proofs.PositionLists.{positions_false}
+use Rattle.vx_mask.proofs.PositionLists.{positions_false, positions-shift}
 use Rattle.vx_mask.proofs.RankedItems.{items_at_the_set}
 use Rattle.vx_mask.proofs.RunLists.{set_of_passed}
 use Rattle.std.proofs.lemmas.Bool.{cases_lt}
@@ -23,11 +23,12 @@ use Rattle.std.proofs.lemmas.Simd.{map-map}
 use Rattle.vx_bits.specs.Words.{word_at, word_bits}
 use Rattle.vx_mask.specs.Positions.{positions, set_of}
 use Rattle.vx_mask.proofs.PositionLists.{positions-append, length-positions}
-use Rattle.vx_chunked.proofs.WordPlaces.{positions-shift}
 use Rattle.vx_chunked.specs.Positions.{AscendFrom, places_of_words, positions_from}
 use Rattle.vx_chunked.proofs.Ascends.{ascend_below}
 use Rattle.vx_chunked.proofs.Handed.{positions_ascend}
 use Rattle.vx_decoder.proofs.ReadPlaces.{part_at}
+use Rattle.vx_filter.proofs.Copies.{length-bits_of_words}
+use Rattle.vx_lemmas.proofs.Picked.{picked_front}
 
 bits_at : (at : ℕ) (bits : List Bool) → at < length bits → positions_from at bits ≡ cond (get_or bits at false) (at ∷ positions_from (at + 1) bits) (positions_from (at + 1) bits)
 unfolding positions_from
@@ -75,10 +76,6 @@ pub beyond_from : (offset mid at : ℕ) (bits : List Bool) → (at < length bits
 unfolding positions_from
 beyond_from offset mid at bits h = positions_beyond offset mid at (drop at bits) (λ q. h (omega (arith, length-drop at bits)))
 
-pub length-bits : (words : List ℕ) → length (bits_of_words words) ≡ 64 * length words
-length-bits [] = refl
-length-bits (w ∷ words) = omega (arith, length-append (word_bits w 64) (bits_of_words words), length-word_bits w 64, length-bits words)
-
 -- a word has as many positions as set bits
 pub ones_of_word : (at word : ℕ) → word < 2 ^ 64 → length (positions at (word_bits word 64)) ≡ count_ones word
 ones_of_word at word h = length-positions at (word_bits word 64) ∙ true_count_of-word_bits word 64 h
@@ -86,7 +83,7 @@ ones_of_word at word h = length-positions at (word_bits word 64) ∙ true_count_
 -- the positions of words, one word more
 pub words_more : (words : List ℕ) (w from : ℕ) → w < length words → positions from (bits_of_words (take (w + 1) words)) ≡ positions from (bits_of_words (take w words)) ++ positions (from + 64 * w) (word_bits (get_or words w 0) 64)
 words_more words w from h =
-    let long : from + length (bits_of_words (take w words)) ≡ from + 64 * w = omega (arith, length-bits (take w words), length-take-le w words (omega arith)) in
+    let long : from + length (bits_of_words (take w words)) ≡ from + 64 * w = omega (arith, length-bits_of_words (take w words), length-take-le w words (omega arith)) in
     ap (λ l. positions from (bits_of_words l)) (take_more words w 0 h) ∙ ap (positions from) (bits_of_words_more (take w words) (get_or words w 0))
     ∙ positions-append from (bits_of_words (take w words)) (word_bits (get_or words w 0) 64)
     ∙ ap (λ n. positions from (bits_of_words (take w words)) ++ positions n (word_bits (get_or words w 0) 64)) long
@@ -154,7 +151,7 @@ module _ (bits : List Bool) (words : List ℕ) (same : words ≡ map (word_at bi
       ap (λ l. get_or (bits_of_words l) k false) same ∙ ap (λ l. get_or l k false) (all_words_joined bits) ∙ ap (λ n. get_or (bits ++ replicate padding false) n false) at
       ∙ get_or-append-add bits (replicate padding false) (k - length bits) false ∙ get_or-replicate padding (k - length bits) false false (omega (arith, from, to))
 
--- the same, of words that others stand behind
+-- the words of bits that others stand behind have their positions, and zeros past them
 module _ (bits : List Bool) (words tail : List ℕ) (len : ℕ) (same : words ≡ map (word_at bits) (range_with_len 0 (word_count (length bits)))) (long : len ≡ length bits) where
   pub front_is : take (word_count len) (words ++ tail) ≡ words
   front_is =
@@ -173,31 +170,22 @@ module _ (bits : List Bool) (words tail : List ℕ) (len : ℕ) (same : words �
   front_clear k from to =
       ap (λ l. get_or (bits_of_words l) k false) front_is ∙ words_clear bits words same k (omega (arith, long, from)) (subst (λ (n : ℕ). k < 64 * word_count n) long to)
 
--- bits past the items pick nothing
-picked_front : {X : Type 0} (n : ℕ) (bits : List Bool) (xs : List X) → length xs ≤ n → items_where_true bits xs ≡ items_where_true (take n bits) xs
-picked_front zero [] xs h = refl
-picked_front zero (b ∷ bits) [] h = refl
-picked_front zero (b ∷ bits) (x ∷ xs) h = absurd (omega arith)
-picked_front (suc n) [] xs h = refl
-picked_front (suc n) (b ∷ bits) [] h = refl
-picked_front (suc n) (true ∷ bits) (x ∷ xs) h = ap (λ l. x ∷ l) (picked_front n bits xs (omega arith))
-picked_front (suc n) (false ∷ bits) (x ∷ xs) h = picked_front n bits xs (omega arith)
-
 -- what bits pick of items is what stands at their set positions, where those past the items are
 -- clear
 pub picked_places : {X : Type 0} (bits : List Bool) (src : List X) → length src ≤ length bits → AllBits bits (length src) (length bits) false → map Some (items_where_true bits src) ≡ map (slice_get src) (set_of bits)
 picked_places bits src h clear =
     let n = length src in
     let same : set_of (take n bits) ≡ set_of bits = sym (set_of_passed bits n (length bits) h (omega arith) clear) ∙ ap set_of (take_all (length bits) bits (omega arith)) in
-    ap (map Some) (picked_front n bits src (omega arith)) ∙ items_at_the_set (take n bits) src (length-take-le n bits h) ∙ ap (map (slice_get src)) same
+    ap (map Some) (sym (picked_front n bits src (omega arith))) ∙ items_at_the_set (take n bits) src (length-take-le n bits h) ∙ ap (map (slice_get src)) same
 
--- the same within a chunk's values, where the first bit has place `from`
+-- what bits pick of a chunk's values is what stands at their set positions, where the first bit has
+-- place `from`
 pub marked_read : {X : Type 0} (values dst : List X) (words : List ℕ) (from len : ℕ) → from + len ≤ length values → len ≤ 64 * length words → AllBits (bits_of_words words) len (64 * length words) false → dst ≡ items_where_true (bits_of_words words) (take len (drop from values)) → map Some dst ≡ map (slice_get values) (positions from (bits_of_words words))
 marked_read values dst words from len fits enough clear e =
     let bits = bits_of_words words in
     let src = take len (drop from values) in
     let long : length src ≡ len = length-take-le len (drop from values) (omega (arith, length-drop from values)) in
-    let wide = length-bits words in
+    let wide = length-bits_of_words words in
     let clear_here = subst (λ (n : ℕ). AllBits bits n (length bits) false) (sym long) (subst (λ (n : ℕ). AllBits bits len n false) (sym wide) clear) in
     let same : set_of (take len bits) ≡ set_of bits = sym (set_of_passed bits len (length bits) (omega (arith, wide)) (omega arith) (subst (λ (n : ℕ). AllBits bits len n false) (sym wide) clear)) ∙ ap set_of (take_all (length bits) bits (omega arith)) in
     let below = ascend_below 0 len len (set_of (take len bits)) (positions_ascend 0 len 0 (take len bits) (omega arith) (omega (arith, length-take-le len bits (omega (arith, wide))))) (omega arith) in
@@ -206,7 +194,7 @@ marked_read values dst words from len fits enough clear e =
     ∙ part_at values from len (set_of (take len bits)) below ∙ ap (map (λ p. slice_get values (from + p))) same ∙ sym (map-map (slice_get values) (λ p. from + p) (set_of bits))
     ∙ ap (map (slice_get values)) (sym (positions-shift from 0 bits) ∙ ap (λ k. positions k bits) at)
 
--- the same of values that were compacted, where there are as many as places
+-- values that were compacted are those at the set positions, where there are as many as places
 pub compacted_read : {X : Type 0} (values dst : List X) (words : List ℕ) (from len used : ℕ) → from + len ≤ length values → len ≤ 64 * length words → AllBits (bits_of_words words) len (64 * length words) false → length dst ≡ length (positions from (bits_of_words words)) → used ≡ true_count_of (bits_of_words words) → take used dst ≡ items_where_true (bits_of_words words) (take len (drop from values)) → map Some dst ≡ map (slice_get values) (positions from (bits_of_words words))
 compacted_read values dst words from len used fits enough clear room count front =
     let whole = take_all used dst (omega (arith, count, room, length-positions from (bits_of_words words))) in

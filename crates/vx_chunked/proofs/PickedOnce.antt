@@ -2,7 +2,7 @@
 use Rattle.std.proofs.Common.{◌≡◌, refl, ℕ, zero, suc, ◌+◌, ◌*◌, ◌/◌, ◌<◌, ◌≤◌, Bool, true, false, cond, ◌||◌, eqb, List, [], ◌∷◌, map, Some, sym, ap, ap₂, ◌∙◌, arith, inl, inr, eq-eqb, ne_eqb}
 use Rattle.std.specs.List.{range_with_len, count_by}
 use Rattle.std.proofs.lemmas.List.Sums.{sum_by-cons}
-use Rattle.std.proofs.lemmas.Bool.{cases_lt, cases_eq}
+use Rattle.std.proofs.lemmas.Bool.{cases_lt, eqb-true}
 use Rattle.vx_mask.specs.Positions.{ascending}
 use Rattle.vx_chunked.specs.Asked.{asked, asked_by_picks, call_for, calls_from, count_in, is_picked, picked_in}
 use Rattle.vx_chunked.specs.Positions.{AscendFrom}
@@ -60,20 +60,11 @@ not_picked offset low high [] n h p = refl
 not_picked offset low high (x ∷ ps) n h p =
     ap (λ b. b || is_picked offset (map Some ps) n) (ne_eqb (offset + x) n (λ e. omega (arith, h.0))) ∙ not_picked offset (x + 1) high ps n h.2 (omega (arith, h.0))
 
-not_both : (v : Bool) → v ≡ true → v ≡ false → ⊥
-not_both v p q = cc
-
-from_eqb : (a b : ℕ) → eqb a b ≡ true → a ≡ b
-from_eqb a b h = elim (cases_eq a b) [
-  | inl same ↦ same
-  | inr other ↦ absurd (not_both (eqb a b) h (ne_eqb a b other))
-]
-
 pub picked_once : (offset low high : ℕ) (ps : List ℕ) (chunk : ℕ) → AscendFrom low high ps → picked_in offset (map Some ps) chunk ≡ count_in (map (λ i. offset + i) ps) chunk
 picked_once offset low high [] chunk h = count_false (range_with_len (1024 * chunk) 1024)
 picked_once offset low high (x ∷ ps) chunk h =
     let range = range_with_len (1024 * chunk) 1024 in
-    let apart : (n : ℕ) → eqb (offset + x) n ≡ true → is_picked offset (map Some ps) n ≡ false = λ n e. not_picked offset (x + 1) high ps n h.2 (omega (arith, from_eqb (offset + x) n e)) in
+    let apart : (n : ℕ) → eqb (offset + x) n ≡ true → is_picked offset (map Some ps) n ≡ false = λ n e. not_picked offset (x + 1) high ps n h.2 (omega (arith, eqb-true (offset + x) n e)) in
     count_or (eqb (offset + x)) (is_picked offset (map Some ps)) range apart
     ∙ ap₂ ◌+◌ (in_chunk (offset + x) chunk) (picked_once offset (x + 1) high ps chunk h.2)
     ∙ sym (sum_by-cons (λ p. cond (eqb (p / 1024) chunk) 1 0) (offset + x) (map (λ i. offset + i) ps))

@@ -1,24 +1,17 @@
 -- Runs of positions.
-use Rattle.std.proofs.Common.{◌≡◌, refl, ℕ, zero, suc, ◌+◌, ◌-◌, ◌^◌, ◌<◌, min, ◌≤◌, List, [], ◌∷◌, ◌++◌, length, get_or, take, drop, map, set, sym, ap, ap₂, subst, ◌∙◌, true, inl, inr, arith}
+use Rattle.std.proofs.Common.{◌≡◌, refl, ℕ, zero, suc, ◌+◌, ◌-◌, ◌^◌, ◌<◌, min, ◌≤◌, List, [], ◌∷◌, ◌++◌, length, get_or, take, drop, map, set, sym, ap, subst, ◌∙◌, true, inl, inr, arith}
 use Rattle.std.specs.List.{All, range_with_len}
-use Rattle.std.proofs.Math.Seq.{drop-append_seam, take-append_seam}
+use Rattle.std.proofs.Math.Seq.{drop-append_seam, take-append_seam, take-add}
 use Rattle.std.proofs.lemmas.Bool.{cases_lt}
-use Rattle.vx_bits.proofs.WordLists.{take_both}
 use Rattle.vx_mask.proofs.PositionLists.{get_or-range}
-use Rattle.std.proofs.lemmas.List.{drop-drop, length-drop, length-take-le, get_or-drop, get_or-take, get_or_append_left, get_or_default, drop_more, drop_all, append_assoc, map-append, take_more, take_more_set, append-nil, length-append, length-map}
-use Rattle.std.proofs.lemmas.List.Concat.{flat_map-append}
+use Rattle.std.proofs.lemmas.List.{drop-drop, length-drop, length-take-le, get_or-drop, get_or-take, get_or_append_left, get_or_default, drop_more, drop_all, append_assoc, map-append, take_more_set, append-nil, length-append, length-map}
 use Rattle.std.proofs.lemmas.List.FromFn.{length-range_with_len}
 use Rattle.std.proofs.lemmas.List.Elements.{All-append, All-same}
 use Rattle.vx_mask.specs.Positions.{run_positions, runs_ascend}
 use Rattle.vx_mask.proofs.AscendingLists.{run_parts}
 use Rattle.vx_chunked.specs.Positions.{AscendFrom, IsInChunk, places_of, with_runs}
 use Rattle.vx_chunked.proofs.Ascends.{ascend_lower, ascend_all}
-
-pub range_split : (a m k : ℕ) → range_with_len a (m + k) ≡ range_with_len a m ++ range_with_len (a + m) k
-range_split a zero k = ap₂ range_with_len (omega arith) (omega arith)
-range_split a (suc m) k =
-    let n : suc m + k ≡ suc (m + k) = omega arith in
-    ap (range_with_len a) n ∙ ap (λ l. a ∷ l) (range_split (a + 1) m k ∙ ap (λ j. range_with_len (a + 1) m ++ range_with_len j k) (omega arith))
+use Rattle.vx_lemmas.proofs.Lists.{range_split}
 
 pub put_more : (now old : List ℕ) (at first k : ℕ) → take (at + k) now ≡ take at old ++ range_with_len first k → at + k < length now → take (at + (k + 1)) (set now (at + k) (first + k)) ≡ take at old ++ range_with_len first (k + 1)
 put_more now old at first k h p =
@@ -91,15 +84,6 @@ run_is low high [] k h p = absurd (omega arith)
 run_is low high (r ∷ runs) zero h p = (run_parts low high r runs h).some
 run_is low high (r ∷ runs) (suc k) h p = run_is r.1 high runs k (run_parts low high r runs h).then (omega arith)
 
--- one more run is counted
-pub covered_more : (runs : List (ℕ × ℕ)) (k : ℕ) → k < length runs → length (run_positions (take (k + 1) runs)) ≡ length (run_positions (take k runs)) + ((get_or runs k (0, 0)).1 - (get_or runs k (0, 0)).0)
-covered_more runs k p =
-    let r = get_or runs k (0, 0) in
-    ap (λ l. length (run_positions l)) (take_more runs k (0, 0) p)
-    ∙ ap length (flat_map-append (λ (q : ℕ × ℕ). range_with_len q.0 (q.1 - q.0)) (take k runs) (r ∷ []))
-    ∙ length-append (run_positions (take k runs)) (run_positions (r ∷ []))
-    ∙ ap (λ n. length (run_positions (take k runs)) + n) (ap length (append-nil (range_with_len r.0 (r.1 - r.0))) ∙ length-range_with_len r.0 (r.1 - r.0))
-
 -- no more than all are counted
 pub covered_part : (runs : List (ℕ × ℕ)) (k : ℕ) → length (run_positions (take k runs)) ≤ length (run_positions runs)
 covered_part runs zero = omega arith
@@ -138,7 +122,7 @@ module _ (all : List ℕ) (count start end more : ℕ) (runs : List (ℕ × ℕ)
   pub part_taken : take (count + more) all ≡ take count all ++ range_with_len start more
   part_taken =
       let n : more ≡ length (range_with_len start more) = sym (length-range_with_len start more) in
-      take_both count more all ∙ ap (λ l. take count all ++ take more l) parts
+      take-add count more all ∙ ap (λ l. take count all ++ take more l) parts
       ∙ ap (λ k. take count all ++ take k (range_with_len start more ++ with_runs (start + more) end runs)) n
       ∙ ap (λ l. take count all ++ l) (take-append_seam (range_with_len start more) (with_runs (start + more) end runs))
 
@@ -170,7 +154,7 @@ range_in_chunk offset base start zero h p k d q = absurd (omega arith)
 range_in_chunk offset base start (suc more) h p zero d q = (omega arith, omega arith)
 range_in_chunk offset base start (suc more) h p (suc k) d q = range_in_chunk offset base (start + 1) more (omega arith) (omega arith) k d (omega arith)
 
--- the same, of a part that may be empty
+-- the range of a part of a chunk, which may be empty, lies in the chunk
 pub part_here : (offset base start more : ℕ) → (0 < more → (base ≤ offset + start) × (offset + start + more ≤ base + 1024)) → All (λ i. IsInChunk base (offset + i)) (range_with_len start more)
 part_here offset base start zero h = λ k d p. absurd (omega arith)
 part_here offset base start (suc more) h = let here = h (omega arith) in range_in_chunk offset base start (suc more) here.0 here.1

@@ -201,7 +201,8 @@ fn filter_front<T: Record, D: ChunkDecoder<T>>(
     filter_at(alloc, decoder, &mut cursor, end, count, limit)
 }
 
-/// The same for any mask. Fails only with `NoMemory`.
+/// The values at the set positions of any mask, which count from value `offset` on. Fails only with
+/// `NoMemory`.
 pub fn filter_chunked_mask<T: Record, D: ChunkDecoder<T>>(
     alloc: Global,
     decoder: &mut D,

@@ -11,17 +11,14 @@ use Rattle.vx_types.specs.declared.nullability.Nullability.TheVariants.{NonNulla
 use Rattle.vx_column.specs.declared.cell.Cell.{Cell}
 use Rattle.vx_column.specs.declared.cell.Cell.TheVariants as cells
 use Rattle.vx_column.specs.Cell.{HasRow, IsOfType}
-
-either_here : (m n : Nullability) → is_nullable m ≡ true → is_nullable (either_nullable m n) ≡ true
-either_here NonNullable n h = cc
-either_here Nullable n h = refl
+use Rattle.vx_model.proofs.Nullabilities.{nullable-either}
 
 either_there : (m n : Nullability) → is_nullable n ≡ true → is_nullable (either_nullable m n) ≡ true
 either_there NonNullable n h = h
 either_there Nullable n h = refl
 
 pub of_type-also : (cell : Cell) (t : TypeTree) (n : Nullability) → IsOfType cell t → IsOfType cell (also_nullable t n)
-of_type-also cells.Null t n h = either_here t.nullability n h
+of_type-also cells.Null t n h = nullable-either t.nullability n h
 of_type-also (cells.Bit b) t n h = h
 of_type-also (cells.Bytes b) t n h = record { kind = h.kind; width = h.width }
 of_type-also (cells.List l) t n h = record { kind = h.kind; ordered = h.ordered; within = h.within }

@@ -3,13 +3,13 @@ use Rattle.std.proofs.Common.{◌≡◌, ◌≢◌, ℕ, suc, ◌+◌, ◌<◌, 
 use Rattle.std.specs.Prelude.{◌==◌, nat_lt, not}
 use Rattle.std.proofs.Math.Bool.{and-false}
 use Rattle.std.proofs.lemmas.Bool.Decides.{nat_tests}
-use Rattle.std.proofs.lemmas.List.{at_drop_more, at_drop_all, take_all}
+use Rattle.std.proofs.lemmas.List.{at_drop_more, at_drop_all}
 use Rattle.std.proofs.lemmas.List.Folds.{list_all_more, list_all_at}
 use Rattle.std.specs.Cmp.{first_so, second_so}
 use Rattle.vx_types.specs.DType.{type_of}
 use Rattle.vx_types.specs.Nullability.{is_nullable}
 use Rattle.vx_types.specs.Same.{are_same_types, is_same_type}
-use Rattle.vx_types.specs.TypeTree.{TypeKind, TypeTree, are_carried, are_entries, is_carried, struct_kind, types_of}
+use Rattle.vx_types.specs.TypeTree.{TypeKind, TypeTree, are_carried, are_entries, is_carried, struct_kind, types_of, is_entry_type}
 use Rattle.vx_types.specs.declared.dtype.DType.{DType}
 use Rattle.vx_types.specs.declared.nullability.Nullability.{Nullability}
 use Rattle.vx_types.specs.declared.nullability.Nullability.TheVariants.{NonNullable, Nullable}
@@ -17,10 +17,11 @@ use Rattle.vx_model.specs.Column.{Column}
 use Rattle.vx_model.specs.Extension.{storage_kind}
 use Rattle.vx_model.specs.Lists.{elements_type}
 use Rattle.vx_model.specs.ListView.{ListViewParts}
-use Rattle.vx_model.specs.Map.{is_entry_type, map_fault, map_of}
+use Rattle.vx_model.specs.Map.{map_fault, map_of}
 use Rattle.vx_model.proofs.MapSteps.{entries-map}
 use Rattle.vx_model.proofs.StructSteps.{same_trees}
 use Rattle.vx_model.specs.Columns.{are_long, are_long_past, types_in}
+use Rattle.vx_model.proofs.Columns.{columns_all}
 
 -- ---- types, one by one
 
@@ -49,9 +50,6 @@ carried_end cs i h = at_drop_all (λ (l : List Column). are_carried (types_of (t
 
 -- ---- lengths
 
-pub columns_all : (cs : List Column) (k : ℕ) → length cs ≤ k → take k cs ≡ cs
-columns_all cs k h = take_all k cs h
-
 pub long_more : (cs : List Column) (n k : ℕ) (d : Column) → k < length cs → are_long n (take (k + 1) cs) ≡ (are_long n (take k cs) && (length (get_or cs k d).rows == n))
 long_more cs n k d h = list_all_more (λ (c : Column). length c.rows == n) cs k d h
 
@@ -70,22 +68,6 @@ long_past n i (c ∷ cs) h l =
     rw (here, long_past n i cs (second_so (length c.rows == n) (are_long n cs) h) l) refl
 
 pub ruleset past = (long_past)
-
--- ---- two types
-
-pub entries-two : (ts : List DType) (d : DType) → length ts ≡ 2 → are_entries (types_of (map type_of ts)) ≡ not (is_nullable (type_of (get_or ts 0 d)).nullability)
-entries-two [] d h = absurd (omega arith)
-entries-two (t ∷ []) d h = absurd (omega arith)
-entries-two (t ∷ u ∷ []) d h = refl
-entries-two (t ∷ u ∷ v ∷ ts) d h = absurd (omega arith)
-
-pub entries-not : (ts : List DType) → (length ts ≢ 2) → are_entries (types_of (map type_of ts)) ≡ false
-entries-not [] h = refl
-entries-not (t ∷ []) h = refl
-entries-not (t ∷ u ∷ []) h = absurd (h refl)
-entries-not (t ∷ u ∷ v ∷ ts) h = refl
-
-pub ruleset entries = (entries-two, entries-not)
 
 -- ---- parts of a struct and of a map
 

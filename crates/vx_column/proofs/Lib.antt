@@ -3,9 +3,7 @@ pub mod Cells
 pub mod Fields
 pub mod Naturals
 pub mod NumberLists
-pub mod RowLists
 pub mod ShownBits
-pub mod Stretches
 pub mod Tags
 pub mod TruthBits
 pub mod UnionCells

@@ -16,30 +16,14 @@ use Rattle.vx_model.specs.Records.{RecordParts}
 use Rattle.vx_types.specs.FieldTypes.{VariantTypes}
 use Rattle.vx_types.specs.Same.{are_same_types}
 use Rattle.vx_types.specs.TypeTree.{types_of}
-use Rattle.vx_types.specs.Variants.{variants_fault}
+use Rattle.vx_types.specs.Variants.{variants_fault, index_of, is_id_type}
 use Rattle.vx_model.specs.Columns.{types_in}
-use Rattle.vx_model.specs.Union.{UnionParts, has_place, has_row, have_rows, index_of, is_id_type, is_known, union_fault}
+use Rattle.vx_model.specs.Union.{UnionParts, has_place, has_row, have_rows, is_known, union_fault}
 use Rattle.vx_model.proofs.StructSteps.{same_trees}
 use Rattle.vx_column.specs.Cell.{type_by_id}
 use Rattle.vx_column.proofs.VariantCounts.{many-variants}
 use Rattle.vx_column.proofs.Naturals.{integers_long}
 use Rattle.vx_model.proofs.UnionSteps.{alike-union, index-below, place-index, same-many}
-
--- ---- the place of a variant
-
-pub index-more : (ids : List ℕ) (id k d : ℕ) → k < length ids → index_of (drop k ids) id ≡ (if get_or ids k d == id then Some 0 else option_map suc (index_of (drop (k + 1) ids) id))
-index-more ids id k d h = at_drop_more (λ l. index_of l id) ids k d h
-
-pub index-end : (ids : List ℕ) (id k : ℕ) → length ids ≤ k → index_of (drop k ids) id ≡ None
-index-end ids id k h = at_drop_all (λ l. index_of l id) ids k h
-
-pub index-start : (o : Option ℕ) → option_map (λ j. 0 + j) o ≡ o
-index-start None = refl
-index-start (Some j) = ap Some (let e : 0 + j ≡ j = omega arith in e)
-
-pub index-next : (o : Option ℕ) (k : ℕ) → option_map (λ j. k + j) (option_map suc o) ≡ option_map (λ j. k + 1 + j) o
-index-next None k = refl
-index-next (Some j) k = ap Some (let e : k + suc j ≡ k + 1 + j = omega arith in e)
 
 -- no variant of this id has a place, and any number is one
 pub place-none : (ids : List ℕ) (cs : List Column) (id : ℕ) (z : ℤ) → index_of ids id ≡ None → has_place ids cs id z ≡ true
@@ -71,7 +55,7 @@ rows-more ids cs tags zs i t z h l =
     at_drop_more (λ k. have_rows ids cs k (drop i zs)) tags i t h
     ∙ at_drop_more (λ k. have_rows ids cs (get_or tags i t ∷ drop (i + 1) tags) k) zs i z l
 
--- the same, where row i is known to be sound or not
+-- the rows from i on, where row i is known to be sound or not
 pub rows-by : {b d : Bool} {t : Option ℕ} (ids : List ℕ) (cs : List Column) (c : Column) (o : RecordParts) (i : ℕ) → i < length c.rows → length o.records ≡ length c.rows → t ≡ get_or (positions_of (numbers_of c)) i None → b ≡ has_row ids cs t (get_or (integers_of o) i (pos 0)) → b ≡ d → have_rows ids cs (drop i (positions_of (numbers_of c))) (drop i (integers_of o)) ≡ (d && have_rows ids cs (drop (i + 1) (positions_of (numbers_of c))) (drop (i + 1) (integers_of o)))
 rows-by ids cs c o i h long told judged is =
     let tags = positions_of (numbers_of c) in let zs = integers_of o in
@@ -141,6 +125,6 @@ pub type-variant : (p : UnionParts) (id k : ℕ) (d : Column) → union_fault p 
 type-variant p id k d h many is =
     type-index p.variants.ids p.columns p.variants.types id k d many (same_trees _ _ (alike-union p h)) is
 
-pub ruleset places = (index-more, index-end, index-start, index-next, place-none, place-index, index-below, known-some, rows-more, rows-end, known-more, known-end, long-tags)
+pub ruleset places = (place-none, place-index, index-below, known-some, rows-more, rows-end, known-more, known-end, long-tags)
 
 pub ruleset tags = (tag-bytes, tag-null, int-ids)

@@ -3,11 +3,11 @@ use Rattle.std.proofs.Common.{◌≡◌, ℕ, ◌<◌, List, length, get_or, Opt
 use Rattle.std.specs.Prelude.{slice_get}
 use Rattle.std.proofs.lemmas.Option.{get_or_from_slice_get}
 use Rattle.vx_types.specs.FieldTypes.{VariantTypes}
-use Rattle.vx_types.specs.Variants.{variants_fault}
+use Rattle.vx_types.specs.Variants.{variants_fault, index_of}
 use Rattle.vx_positions.specs.Positions.{positions_of}
 use Rattle.vx_model.specs.Column.{Column}
 use Rattle.vx_model.specs.Numbers.{numbers_of}
-use Rattle.vx_model.specs.Union.{UnionParts, index_of, tags_of, union_column, union_fault}
+use Rattle.vx_model.specs.Union.{UnionParts, tags_of, union_column, union_fault}
 use Rattle.vx_model.proofs.UnionSteps.{rows-union}
 use Rattle.vx_column.proofs.Tags.{many-union}
 

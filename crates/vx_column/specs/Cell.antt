@@ -81,7 +81,7 @@ IsStoredAs (cells.List l) t = AreElementsOf t l.elements.now l.start l.end
 IsStoredAs (cells.Fields f) t = AreFieldsOf t f.columns.now f.row
 IsStoredAs (cells.Tagged v) t = IsVariantOf t v.id v.column.now v.row
 
--- the same, of a type that may be an extension of the one that it is stored as
+-- a cell is a row of the type, which may be an extension of the one that it is stored as
 abbrev pub IsOfType : Cell → TypeTree → Type 0
 IsOfType cell t = IsStoredAs cell (storage_type t)
 

@@ -1,6 +1,5 @@
 pub mod Bool
 pub mod Cell
-pub mod Flat
 pub mod Layout
 pub mod ListParts
 pub mod Lists
@@ -9,7 +8,6 @@ pub mod Part
 pub mod Plain
 pub mod Records
 pub mod Shown
-pub mod Stored
 pub mod StructParts
 pub mod Text
 pub mod Truth

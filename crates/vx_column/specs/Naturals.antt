@@ -1,7 +1,7 @@
 -- Columns of integers, none of them negative.
 use Rattle.std.specs.Prelude.{Bool, ◌&&◌}
 use Rattle.std.specs.List.{list_all}
-use Rattle.vx_model.specs.ListView.{is_natural}
+use Rattle.vx_offsets.specs.Offsets.{is_natural}
 use Rattle.vx_model.specs.Numbers.{integers_of}
 use Rattle.vx_model.specs.Records.{RecordParts}
 use Rattle.vx_model.specs.VarBin.{are_integers}

@@ -111,7 +111,7 @@ impl Drop for Array {
 }
 
 impl Layout {
-    /// Another handle to the same layout. It takes no memory.
+    /// Another handle to the same layout.
     pub fn share(&self) -> Layout
         ensures { result ≡ self.now }
     {
@@ -176,7 +176,7 @@ impl Array {
         self.dtype.is_flat()
     }
 
-    /// Another handle to the same column. It takes no memory.
+    /// Another handle to the same column.
     pub fn share(&self) -> Array
         ensures { result ≡ self.now }
     {

@@ -1,5 +1,5 @@
 //! Layout `Bool`: a bit a row.
-ghost use Rattle.std.specs.Prelude.{◌≡◌, ◌≢◌, ℕ, ◌<◌, ◌≤◌, length, map, slice_index_or, slice_range, true, IfSome, IsSome, None};
+ghost use Rattle.std.specs.Prelude.{◌≡◌, ◌≢◌, ℕ, length, map, slice_index_or, true, IfSome, IsSome, None};
 ghost use Rattle.vx_bits.specs.Results.{ok_unless};
 ghost use Rattle.vx_types.specs.RowValue.{bit, null};
 ghost use Rattle.vx_model.specs.Valid.{is_fitting};
@@ -7,12 +7,10 @@ ghost use Rattle.vx_model.specs.Bool.{bool_fault, bool_column, bool_with};
 ghost use Rattle.vx_column.specs.Validity.{valid_of};
 ghost use Rattle.vx_column.specs.Bool.{bool_parts};
 ghost use Rattle.vx_column.specs.Part.{IsPart};
-ghost use Rattle.vx_column.specs.Truth.{IsStretch, is_plain_bools, true_bits};
-ghost use Rattle.vx_model.specs.Step.{IsPlainSlice};
+ghost use Rattle.vx_column.specs.Truth.{is_plain_bools, true_bits};
 
 use crate::array::{Array, Layout};
 use crate::cell::{Cell, ReadRow};
-use crate::truth::{Stretch, word_from};
 use crate::validity::Validity;
 use std::marker::Model;
 use vx_bits::BitBuffer;
@@ -49,7 +47,7 @@ impl Model for BoolArray {
 }
 
 impl BoolArray {
-    /// A column with one row a bit. It takes no memory.
+    /// A column with one row a bit.
     ///
     /// `BadValidity` exactly where the validity can't be that of so many rows.
     pub fn try_new(bits: BitBuffer, validity: Validity) -> Result<BoolArray, ColumnError>
@@ -77,7 +75,7 @@ impl BoolArray {
         &self.validity
     }
 
-    /// Another handle to the same column. It takes no memory.
+    /// Another handle to the same column.
     pub fn share(&self) -> BoolArray
         ensures { result ≡ self.now }
     {
@@ -87,18 +85,15 @@ impl BoolArray {
         }
     }
 
-    /// A column of bits with a validity that fits: what a step leaves. It takes no memory.
+    /// A column of bits with a validity that fits: what a step leaves.
     pub fn of(bits: BitBuffer, validity: Validity) -> BoolArray
         requires { is_fitting (valid_of validity) (length bits.bits) ≡ true }
         ensures { result ≡ bool_with bits.bits bits.offset (valid_of validity) }
     {
-        match BoolArray::try_new(bits, validity) {
-            Ok(array) => array,
-            Err(_) => unreachable!(),
-        }
+        BoolArray { bits, validity }
     }
 
-    /// The column of this layout. It takes no memory.
+    /// The column of this layout.
     #[tactic(auto, using(vx_model::proofs::Layouts::layout_rows))]
     pub fn into_array(self) -> Array
         ensures { result ≡ bool_column self }
@@ -106,22 +101,6 @@ impl BoolArray {
         let dtype = DType::Bool(self.validity.nullability());
         let len = self.bits.len();
         Array::new(dtype, len, Layout::Bool(self))
-    }
-
-    /// The rows from `start` up to `end`, where the validity is a constant form.
-    #[tactic(auto, using(vx_model::proofs::Layouts::layout_rows))]
-    pub(crate) fn slice_plain(&self, start: usize, end: usize) -> Option<Array>
-        requires ordered { start ≤ end }
-        requires within { end ≤ length (bool_column self.now).rows }
-        ensures slice { IsPlainSlice (bool_column self.now) start end result }
-        ensures stored { IfSome result
-            (λ a. a.stored ≡ slice_range (bool_column self.now).stored start end) }
-    {
-        if !self.validity().is_constant_form() {
-            return None;
-        }
-        let bits = self.bits().slice(start, end);
-        Some(BoolArray::of(bits, self.validity().share()).into_array())
     }
 }
 
@@ -140,33 +119,7 @@ impl ReadRow for BoolArray {
     }
 }
 
-// Which rows are true.
 impl BoolArray {
-    /// The rows from `start` on.
-    #[cycle(truth)]
-    #[tactic(auto, using(crate::proofs::TruthBits::truth))]
-    pub(crate) fn true_from(&self, start: usize) -> Stretch
-        requires { start < length (bool_column self.now).rows }
-        ensures { IsStretch (true_bits (bool_column self.now)) start result.word result.len }
-    {
-        let bits = self.bits();
-        let len = (bits.len() - start).min(64);
-        match self.validity() {
-            Validity::NonNullable | Validity::AllValid => Stretch {
-                word: word_from(bits, start, len),
-                len,
-            },
-            Validity::AllInvalid => Stretch { word: 0, len },
-            Validity::Array(there) => {
-                let there = there.true_from(start);
-                Stretch {
-                    word: there.word & word_from(bits, start, there.len),
-                    len: there.len,
-                }
-            }
-        }
-    }
-
     /// The bits of its rows, where the validity isn't an array; none where it is, and where all
     /// rows are null.
     #[tactic(auto, using(crate::proofs::TruthBits::truth, crate::proofs::TruthBits::plain))]
@@ -181,6 +134,24 @@ impl BoolArray {
         match self.validity() {
             Validity::NonNullable | Validity::AllValid => Some(bits),
             Validity::AllInvalid | Validity::Array(_) => None,
+        }
+    }
+}
+
+impl Array {
+    /// The bits of its rows, one a row, where the layout is `Bool` and its validity isn't an array;
+    /// none where it is, and where all rows are null. It takes no memory.
+    #[tactic(auto, using(vx_model::proofs::Layouts::layout_rows))]
+    pub fn plain_bits(&self) -> Option<&BitBuffer>
+        ensures rows { IfSome result (λ b. self.now.rows ≡ map bit b.now.bits) }
+        ensures yes { IfSome result (λ b. b.now.bits ≡ true_bits self.now) }
+        ensures plain { IfSome result (λ _. is_plain_bools self.now ≡ true) }
+        ensures exactly { (i : ℕ) → is_plain_bools self.now ≡ true
+            → slice_index_or self.now.rows i null ≢ null → IsSome result }
+    {
+        match self.layout() {
+            Layout::Bool(a) => a.plain_bits(),
+            _ => None,
         }
     }
 }

@@ -87,7 +87,7 @@ pub(crate) trait ReadRow {
     // the column of the layout
     ghost column: { Self → Column };
 
-    // Row `i`. It takes no memory.
+    // Row `i`.
     fn cell_at(&self, i: usize) -> Cell<'_>
         requires { i < length (column self.now).rows }
         ensures row { row_of result ≡ slice_index_or (column self.now).rows i null }
@@ -96,7 +96,7 @@ pub(crate) trait ReadRow {
 }
 
 impl Array {
-    /// Row `i`. It takes no memory.
+    /// Row `i`.
     #[cycle(cell)]
     #[tactic(auto, using(vx_model::proofs::Layouts::layout_rows))]
     pub fn cell_at(&self, i: usize) -> Cell<'_>

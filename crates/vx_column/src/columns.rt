@@ -66,7 +66,7 @@ impl Columns {
         self.list.as_ref()
     }
 
-    /// Another handle to the same columns. It takes no memory.
+    /// Another handle to the same columns.
     pub fn share(&self) -> Columns
         ensures { result ≡ self.now }
     {

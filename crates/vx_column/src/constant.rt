@@ -1,13 +1,9 @@
 //! Layout `Constant`: one value for every row.
-ghost use Rattle.std.specs.Prelude.{◌≡◌, ◌<◌, IfSome, is_some, length};
+ghost use Rattle.std.specs.Prelude.{◌≡◌};
 ghost use Rattle.vx_model.specs.Constant.{constant_column};
-ghost use Rattle.vx_model.specs.Plain.{is_constant_layout};
-ghost use Rattle.vx_model.specs.Valid.{is_yes};
-ghost use Rattle.vx_column.specs.Truth.{IsStretch, true_bits};
 
 use crate::array::{Array, Layout};
 use crate::cell::{Cell, ReadRow};
-use crate::truth::{Stretch, alike};
 use std::marker::Model;
 use vx_types::{Scalar, ScalarValue};
 
@@ -29,7 +25,7 @@ impl Model for ConstantArray {
 }
 
 impl ConstantArray {
-    /// So many rows of one value. It takes no memory.
+    /// A column of `len` rows of one value.
     pub fn new(scalar: Scalar, len: usize) -> ConstantArray
         ensures { result ≡ record { scalar = scalar; len = len } }
     {
@@ -50,7 +46,7 @@ impl ConstantArray {
         self.len
     }
 
-    /// Another handle to the same column. It takes no memory.
+    /// Another handle to the same column.
     pub fn share(&self) -> ConstantArray
         ensures { result ≡ self.now }
     {
@@ -60,7 +56,7 @@ impl ConstantArray {
         }
     }
 
-    /// The column of this layout. It takes no memory.
+    /// The column of this layout.
     #[tactic(auto, using(vx_model::proofs::LazyRows::lazy_rows, vx_model::proofs::Scalars::scalars))]
     pub fn into_array(self) -> Array
         ensures { result ≡ constant_column self }
@@ -86,47 +82,6 @@ impl ReadRow for ConstantArray {
             ScalarValue::Null => Cell::Null,
             ScalarValue::Bit(bit) => Cell::Bit(*bit),
             ScalarValue::Bytes(bytes) => Cell::Bytes(bytes.as_slice()),
-        }
-    }
-}
-
-// Which rows are true.
-impl ConstantArray {
-    // Whether each row is true.
-    #[tactic(auto, using(vx_model::proofs::Scalars::scalars))]
-    fn is_true(&self) -> bool
-        ensures { result ≡ is_yes self.now.scalar.row }
-    {
-        match self.scalar().value() {
-            ScalarValue::Bit(bit) => *bit,
-            ScalarValue::Null | ScalarValue::Bytes(_) => false,
-        }
-    }
-
-    /// The rows from `start` on.
-    #[tactic(auto, using(vx_model::proofs::LazyRows::lazy_rows))]
-    pub(crate) fn true_from(&self, start: usize) -> Stretch
-        requires { start < length (constant_column self.now).rows }
-        ensures { IsStretch (true_bits (constant_column self.now)) start result.word result.len }
-    {
-        let len = (self.len() - start).min(64);
-        let word = alike(self.is_true(), len);
-        Stretch { word, len }
-    }
-}
-
-impl Array {
-    /// The value that each row is; some exactly where it is of layout `Constant`: Vortex's
-    /// `as_constant`.
-    #[tactic(auto, using(vx_model::proofs::LazyRows::lazy_rows))]
-    pub fn as_constant(&self) -> Option<&Scalar>
-        ensures value { IfSome result (λ s. constant_column
-            (record { scalar = s.now; len = length self.now.rows }) ≡ self.now) }
-        ensures exactly { is_some result ≡ is_constant_layout self.now.layout }
-    {
-        match self.layout() {
-            Layout::Constant(a) => Some(a.scalar()),
-            _ => None,
         }
     }
 }

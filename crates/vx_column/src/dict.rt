@@ -1,9 +1,8 @@
 //! Layout `Dict`: for each row a code, the number of one of the values.
-ghost use Rattle.std.specs.Prelude.{◌≡◌, ◌↔◌, None, IfSome, IsSome, option_map};
+ghost use Rattle.std.specs.Prelude.{◌≡◌, None};
 ghost use Rattle.vx_bits.specs.Results.{ok_unless};
-ghost use Rattle.vx_model.specs.Dict.{dict_codes, dict_column, dict_fault, dict_with};
+ghost use Rattle.vx_model.specs.Dict.{dict_column, dict_fault, dict_with};
 ghost use Rattle.vx_column.specs.Part.{IsPart};
-ghost use Rattle.vx_types.specs.declared.layout_name.LayoutName.TheVariants.{Dict as DictLayout};
 
 use crate::array::{Array, ArrayRef, Layout};
 use crate::cell::{Cell, ReadRow};
@@ -41,8 +40,8 @@ impl Model for DictArray {
 }
 
 impl DictArray {
-    /// A column with one row a code: the value that it names, or null where the code is null. It
-    /// takes no memory, and looks at no null code's payload.
+    /// A column with one row a code: the value that it names, or null where the code is null. A
+    /// null code's payload isn't looked at.
     ///
     /// `WrongType` exactly where the codes aren't of integer type. Else `CodeOutOfRange` exactly
     /// where a code that isn't null is negative or not below the number of values.
@@ -73,8 +72,8 @@ impl DictArray {
         &self.values
     }
 
-    /// The same values under other codes that name them: what a step leaves. It takes no memory,
-    /// and doesn't test what it requires; `try_new` does.
+    /// A dictionary of these values with other codes that name them: what a step leaves. It doesn't
+    /// test what it requires; `try_new` does.
     pub fn with_codes(&self, codes: ArrayRef) -> DictArray
         requires { dict_fault (dict_with self.now codes) ≡ None }
         ensures { result ≡ dict_with self.now codes }
@@ -85,8 +84,8 @@ impl DictArray {
         }
     }
 
-    /// The same codes of other values that they name: what is left where the values take another
-    /// form. It takes no memory, and doesn't test what it requires; `try_new` does.
+    /// A dictionary of these codes with other values that they name: what is left where the values
+    /// take another form. It doesn't test what it requires; `try_new` does.
     pub fn with_values(&self, values: ArrayRef) -> DictArray
         requires { dict_fault (record { codes = self.now.codes; values = values }) ≡ None }
         ensures { result ≡ record { codes = self.now.codes; values = values } }
@@ -97,14 +96,14 @@ impl DictArray {
         }
     }
 
-    /// Another handle to the same column. It takes no memory.
+    /// Another handle to the same column.
     pub fn share(&self) -> DictArray
         ensures { result ≡ self.now }
     {
         self.with_codes(self.codes.share())
     }
 
-    /// The column of this layout. It takes no memory.
+    /// The column of this layout.
     #[tactic(auto, using(vx_model::proofs::LazyRows::lazy_rows))]
     pub fn into_array(self) -> Array
         ensures { result ≡ dict_column self }
@@ -130,20 +129,6 @@ impl ReadRow for DictArray {
         match codes.cell_at(i).number(codes.dtype()) {
             Some(code) => values.cell_at(position(code, values.len())),
             None => Cell::Null,
-        }
-    }
-}
-
-impl Array {
-    /// Its codes and values; some exactly where it is of layout `Dict`.
-    pub fn as_dict(&self) -> Option<&DictArray>
-        ensures value { IfSome result (λ d. dict_column d.now ≡ self.now) }
-        ensures codes { option_map (λ d. dict_codes d.now) result ≡ self.now.codes }
-        ensures exactly { IsSome result ↔ (self.now.layout ≡ DictLayout) }
-    {
-        match self.layout() {
-            Layout::Dict(a) => Some(a),
-            _ => None,
         }
     }
 }

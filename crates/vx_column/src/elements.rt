@@ -48,7 +48,7 @@ impl Elements {
         }
     }
 
-    /// Those of another column of the same type. It takes no memory.
+    /// The elements of another column, of an equal type.
     pub(crate) fn with_column(&self, column: ArrayRef) -> Elements
         requires { column.dtype ≡ self.now.dtype }
         ensures { result ≡ column }

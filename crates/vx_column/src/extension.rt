@@ -1,9 +1,8 @@
 //! Layout `Extension`: a storage column under a name.
-ghost use Rattle.std.specs.Prelude.{◌≡◌, ◌↔◌, None, IfSome, IsSome};
+ghost use Rattle.std.specs.Prelude.{◌≡◌, None};
 ghost use Rattle.vx_bits.specs.Results.{ok_unless};
 ghost use Rattle.vx_model.specs.Extension.{extension_column, extension_fault, extension_with};
 ghost use Rattle.vx_column.specs.Part.{IsPart};
-ghost use Rattle.vx_types.specs.declared.layout_name.LayoutName.TheVariants.{Extension as ExtensionLayout};
 
 use crate::array::{Array, ArrayRef, Layout};
 use crate::cell::{Cell, ReadRow};
@@ -41,7 +40,7 @@ impl Model for ExtensionArray {
 }
 
 impl ExtensionArray {
-    /// A column whose rows are the storage's, nullable where it is. It takes no memory.
+    /// A column whose rows are the storage's, nullable where it is.
     ///
     /// `WrongType` exactly where the storage's type differs in more than outer nullability.
     #[tactic(auto, using(vx_types::specs::SameLaws::kind_decides))]
@@ -55,8 +54,8 @@ impl ExtensionArray {
         Ok(ExtensionArray { ext, storage })
     }
 
-    /// The same extension over another storage of its kind: what a step leaves. It takes no memory,
-    /// and doesn't test what it requires; `try_new` does.
+    /// The extension over another storage of its kind: what a step leaves. It doesn't test what it
+    /// requires; `try_new` does.
     pub fn with_storage(&self, storage: ArrayRef) -> ExtensionArray
         requires { extension_fault (extension_with self.now storage) ≡ None }
         ensures { result ≡ extension_with self.now storage }
@@ -81,14 +80,14 @@ impl ExtensionArray {
         &self.storage
     }
 
-    /// Another handle to the same column. It takes no memory.
+    /// Another handle to the same column.
     pub fn share(&self) -> ExtensionArray
         ensures { result ≡ self.now }
     {
         self.with_storage(self.storage.share())
     }
 
-    /// The column of this layout. It takes no memory.
+    /// The column of this layout.
     #[tactic(auto, using(vx_model::proofs::ExtensionSteps::extension_rows))]
     pub fn into_array(self) -> Array
         ensures { result ≡ extension_column self }
@@ -108,18 +107,5 @@ impl ReadRow for ExtensionArray {
     fn cell_at(&self, i: usize) -> Cell<'_> {
         let storage = self.storage();
         storage.cell_at(i)
-    }
-}
-
-impl Array {
-    /// Its storage, and the name that it is under; some exactly where it is of layout `Extension`.
-    pub fn as_extension(&self) -> Option<&ExtensionArray>
-        ensures value { IfSome result (λ e. extension_column e.now ≡ self.now) }
-        ensures exactly { IsSome result ↔ (self.now.layout ≡ ExtensionLayout) }
-    {
-        match self.layout() {
-            Layout::Extension(a) => Some(a),
-            _ => None,
-        }
     }
 }

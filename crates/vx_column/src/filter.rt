@@ -1,14 +1,11 @@
 //! Layout `Filter`: the rows of a child at the set positions of a mask.
-ghost use Rattle.std.specs.Prelude.{◌≡◌, ◌<◌, None, length};
-ghost use Rattle.vx_bits.specs.BitBuffer.{true_count_of};
+ghost use Rattle.std.specs.Prelude.{◌≡◌, None};
 ghost use Rattle.vx_bits.specs.Results.{ok_unless};
 ghost use Rattle.vx_model.specs.Filter.{filter_fault, filter_column};
 ghost use Rattle.vx_column.specs.Part.{IsPart};
-ghost use Rattle.vx_column.specs.Truth.{IsStretch, true_bits};
 
 use crate::array::{Array, ArrayRef, Layout};
 use crate::cell::{Cell, ReadRow};
-use crate::truth::{Stretch, word_from};
 use std::marker::Model;
 use vx_mask::Mask;
 use vx_types::ColumnError;
@@ -44,8 +41,7 @@ impl Model for FilterArray {
 }
 
 impl FilterArray {
-    /// A column with one row a set position of the mask: the child's row there. It takes no
-    /// memory.
+    /// A column with one row a set position of the mask: the child's row there.
     ///
     /// `WrongLength` exactly where the mask isn't as long as the child. A row is found by
     /// `Mask::rank`, which is fast where the mask keeps its indices or its block counts.
@@ -74,18 +70,15 @@ impl FilterArray {
         &self.mask
     }
 
-    /// The column of these parts, which fit: what a step leaves. It takes no memory.
+    /// The column of these parts, which fit: what a step leaves.
     pub fn of(child: ArrayRef, mask: Mask) -> FilterArray
         requires { filter_fault (record { child = child; mask = mask }) ≡ None }
         ensures { result ≡ record { child = child; mask = mask } }
     {
-        match FilterArray::try_new(child, mask) {
-            Ok(array) => array,
-            Err(_) => unreachable!(),
-        }
+        FilterArray { child, mask }
     }
 
-    /// Another handle to the same column. It takes no memory.
+    /// Another handle to the same column.
     pub fn share(&self) -> FilterArray
         ensures { result ≡ self.now }
     {
@@ -95,7 +88,7 @@ impl FilterArray {
         }
     }
 
-    /// The column of this layout. It takes no memory.
+    /// The column of this layout.
     #[tactic(auto, using(vx_model::proofs::LazyRows::lazy_rows))]
     pub fn into_array(self) -> Array
         ensures { result ≡ filter_column self }
@@ -103,41 +96,6 @@ impl FilterArray {
         let dtype = self.child.dtype().share();
         let len = self.mask.true_count();
         Array::new(dtype, len, Layout::Filter(self))
-    }
-}
-
-// Which rows are true.
-impl FilterArray {
-    /// The rows from `start` on: those that the mask keeps of a stretch of the child, which begins
-    /// with the first of them.
-    #[cycle(truth)]
-    #[tactic(auto, using(vx_model::proofs::LazyRows::lazy_rows, crate::proofs::TruthBits::truth))]
-    pub(crate) fn true_from(&self, start: usize) -> Stretch
-        requires { start < length (filter_column self.now).rows }
-        ensures { IsStretch (true_bits (filter_column self.now)) start result.word result.len }
-    {
-        let mask = self.mask();
-        let at = mask.rank(start);
-        let all = self.child().true_from(at);
-        match mask {
-            Mask::AllTrue(_) => all,
-            Mask::AllFalse(_) => unreachable!(),
-            Mask::Values(values) => all.picked(word_from(values.bits(), at, all.len)),
-        }
-    }
-
-    /// How many rows are true: the child's at the set positions, a stretch after another.
-    #[cycle(true_rows)]
-    #[tactic(auto, using(vx_model::proofs::LazyRows::lazy_rows, crate::proofs::TruthBits::truth))]
-    pub(crate) fn true_rows(&self) -> usize
-        ensures { result ≡ true_count_of (true_bits (filter_column self.now)) }
-    {
-        let child = self.child();
-        match self.mask() {
-            Mask::AllTrue(_) => child.true_rows(),
-            Mask::AllFalse(_) => 0,
-            Mask::Values(values) => child.true_rows_at(values.bits()),
-        }
     }
 }
 

@@ -108,8 +108,8 @@ impl FixedSizeListArray {
         self.len
     }
 
-    /// Other sound parts, of which the elements have the same type: what a step leaves. It takes no
-    /// memory, and doesn't test what it requires; `try_new` does.
+    /// Other sound parts, of which the elements have the same type: what a step leaves. It doesn't
+    /// test what it requires; `try_new` does.
     pub fn with_parts(
         &self,
         elements: ArrayRef,
@@ -128,7 +128,7 @@ impl FixedSizeListArray {
         }
     }
 
-    /// Where the elements of row `i` begin and end, of a null row too. It takes no memory.
+    /// Where the elements of row `i` begin and end, of a null row too.
     #[tactic(auto, using(vx_model::proofs::ListRows::fixed_runs))]
     pub fn span_at(&self, i: usize) -> (usize, usize)
         requires { i < length (fixed_spans self.now).spans }
@@ -143,14 +143,14 @@ impl FixedSizeListArray {
         (start, start + size)
     }
 
-    /// Another handle to the same column. It takes no memory.
+    /// Another handle to the same column.
     pub fn share(&self) -> FixedSizeListArray
         ensures { result ≡ self.now }
     {
         self.with_parts(self.elements().share(), self.validity.share(), self.len)
     }
 
-    /// The column of this layout. It takes no memory.
+    /// The column of this layout.
     #[tactic(auto, using(vx_model::proofs::ListRows::fixed_rows))]
     pub fn into_array(self) -> Array
         ensures { result ≡ fixed_column self }

@@ -15,7 +15,6 @@ mod elements;
 mod extension;
 mod filter;
 mod fixed_size_list;
-mod flat;
 mod list;
 mod lists;
 mod listview;
@@ -27,17 +26,12 @@ mod plain;
 mod positions;
 mod primitive;
 mod records;
-mod rows;
-mod stored;
 mod struct_;
-mod truth;
 mod union_;
 mod union_check;
 mod validity;
 mod varbin;
 mod varbinview;
-mod view;
-pub mod vtables;
 
 pub use array::{Array, ArrayRef, Layout};
 pub use boolean::BoolArray;
@@ -49,7 +43,6 @@ pub use dict::DictArray;
 pub use extension::ExtensionArray;
 pub use filter::FilterArray;
 pub use fixed_size_list::FixedSizeListArray;
-pub use flat::FlatRef;
 pub use list::ListArray;
 pub use lists::Lists;
 pub use listview::ListViewArray;
@@ -57,18 +50,14 @@ pub use map::MapArray;
 pub use null::NullArray;
 pub use offsets::{number_column, slice_offsets};
 pub use primitive::PrimitiveArray;
-pub use records::{RecordArray, RecordType};
-pub use stored::Stored;
+pub use records::{RecordArray, record_column};
 pub use struct_::StructArray;
-pub use truth::mask_of;
 pub use union_::UnionArray;
 pub use validity::Validity;
 pub use varbin::VarBinArray;
 pub use varbinview::VarBinViewArray;
-pub use view::ArrayView;
-pub use vtables::VTable;
 pub use vx_types::{
     BinaryView, ByteList, ColumnError, DType, DecimalDType, ElementType, ExtDType, InlineBytes,
-    LayoutName, Nullability, PType, Row, RowList, Runs, Scalar, ScalarValue, StructFields,
-    TextKind, UnionVariants, match_each_integer_ptype, record_of,
+    LayoutName, Nullability, PType, RecordType, Row, RowList, Runs, Scalar, ScalarValue,
+    StructFields, TextKind, UnionVariants, match_each_integer_ptype, record_of,
 };

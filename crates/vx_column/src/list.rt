@@ -1,13 +1,12 @@
 //! Layout `List`: lists whose elements stand one after another, cut by offsets.
-ghost use Rattle.std.specs.Prelude.{◌≡◌, ◌≤◌, ◌<◌, ◌↔◌, None, length, slice_index_or, IfOk, IfSome, IsSome};
+ghost use Rattle.std.specs.Prelude.{◌≡◌, ◌≤◌, ◌<◌, None, length, slice_index_or, IfOk};
 ghost use Rattle.vx_bits.specs.Results.{FailsBy};
-ghost use Rattle.vx_positions.specs.Offsets.{offset_positions};
+ghost use Rattle.vx_offsets.specs.Offsets.{offset_positions};
 ghost use Rattle.vx_model.specs.List.{list_column, list_fault, list_spans};
 ghost use Rattle.vx_model.specs.Numbers.{integers_of};
 ghost use Rattle.vx_column.specs.ListParts.{list_parts};
 ghost use Rattle.vx_column.specs.Part.{IsPart};
 ghost use Rattle.vx_column.specs.Validity.{valid_of};
-ghost use Rattle.vx_types.specs.declared.layout_name.LayoutName.TheVariants.{List as ListLayout};
 
 use crate::array::{Array, ArrayRef, Layout};
 use crate::elements::Elements;
@@ -83,8 +82,8 @@ impl ListArray {
         })
     }
 
-    /// Other sound parts, of which the elements have the same type: what a step leaves. It takes no
-    /// memory, and doesn't test what it requires; `try_new` does.
+    /// Other sound parts, of which the elements have the same type: what a step leaves. It doesn't
+    /// test what it requires; `try_new` does.
     pub fn with_parts(
         &self,
         elements: ArrayRef,
@@ -140,7 +139,7 @@ impl ListArray {
         position_at(&self.offsets, i, self.elements().len())
     }
 
-    /// Where the elements of row `i` begin and end, of a null row too. It takes no memory.
+    /// Where the elements of row `i` begin and end, of a null row too.
     #[tactic(auto, using(vx_model::proofs::ListRows::list_offsets))]
     pub fn span_at(&self, i: usize) -> (usize, usize)
         requires { i < length (list_spans self.now).spans }
@@ -154,7 +153,7 @@ impl ListArray {
         (self.offset_at(i), self.offset_at(i + 1))
     }
 
-    /// Another handle to the same column. It takes no memory.
+    /// Another handle to the same column.
     pub fn share(&self) -> ListArray
         ensures { result ≡ self.now }
     {
@@ -165,7 +164,7 @@ impl ListArray {
         )
     }
 
-    /// The column of this layout. It takes no memory.
+    /// The column of this layout.
     #[tactic(auto, using(vx_model::proofs::ListRows::list_rows))]
     pub fn into_array(self) -> Array
         ensures { result ≡ list_column self }
@@ -173,18 +172,5 @@ impl ListArray {
         let dtype = DType::List(self.elements.element(), self.validity.nullability());
         let len = row_count(&self.offsets);
         Array::new(dtype, len, Layout::List(self))
-    }
-}
-
-impl Array {
-    /// Its lists; some exactly where it is of layout `List`.
-    pub fn as_list(&self) -> Option<&ListArray>
-        ensures value { IfSome result (λ l. list_column l.now ≡ self.now) }
-        ensures exactly { IsSome result ↔ (self.now.layout ≡ ListLayout) }
-    {
-        match self.layout() {
-            Layout::List(a) => Some(a),
-            _ => None,
-        }
     }
 }

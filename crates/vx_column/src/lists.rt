@@ -23,9 +23,9 @@ pub enum Lists<'a> {
     List(&'a ListArray),
     /// An offset and a size a row.
     View(&'a ListViewArray),
-    /// Of one size.
+    /// Lists of one size.
     Fixed(&'a FixedSizeListArray),
-    /// Of entries.
+    /// Lists of entries.
     Map(&'a MapArray),
 }
 
@@ -72,7 +72,7 @@ impl<'a> Lists<'a> {
         }
     }
 
-    /// Where the elements of row `i` begin and end, of a null row too. It takes no memory.
+    /// Where the elements of row `i` begin and end, of a null row too.
     pub fn span_at(self, i: usize) -> (usize, usize)
         requires { i < length (spans_of self).spans }
         ensures span { slice_index_or (spans_of self.entry).spans i (0, 0) ≡ result }

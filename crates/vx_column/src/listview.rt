@@ -1,10 +1,9 @@
 //! Layout `ListView`: lists that each have an offset and a size.
-ghost use Rattle.std.specs.Prelude.{◌≡◌, ◌≤◌, ◌<◌, None, is_some, length, slice_index_or, IfOk, IfSome};
+ghost use Rattle.std.specs.Prelude.{◌≡◌, ◌≤◌, ◌<◌, None, length, slice_index_or, IfOk};
 ghost use Rattle.vx_bits.specs.Results.{FailsBy};
-ghost use Rattle.vx_positions.specs.Offsets.{offset_positions};
+ghost use Rattle.vx_offsets.specs.Offsets.{offset_positions};
 ghost use Rattle.vx_model.specs.ListView.{listview_column, listview_fault, listview_spans};
 ghost use Rattle.vx_model.specs.Numbers.{integers_of};
-ghost use Rattle.vx_model.specs.Plain.{is_listview_layout};
 ghost use Rattle.vx_column.specs.ListParts.{listview_parts};
 ghost use Rattle.vx_column.specs.Part.{IsPart};
 ghost use Rattle.vx_column.specs.Validity.{valid_of};
@@ -83,8 +82,8 @@ impl ListViewArray {
         })
     }
 
-    /// Other sound parts, of which the elements have the same type: what a step leaves. It takes no
-    /// memory, and doesn't test what it requires; `try_new` does.
+    /// Other sound parts, of which the elements have the same type: what a step leaves. It doesn't
+    /// test what it requires; `try_new` does.
     pub fn with_parts(
         &self,
         elements: ArrayRef,
@@ -162,7 +161,7 @@ impl ListViewArray {
         integer_at(&self.sizes, i) as usize
     }
 
-    /// Where the elements of row `i` begin and end, of a null row too. It takes no memory.
+    /// Where the elements of row `i` begin and end, of a null row too.
     #[tactic(auto, using(vx_model::proofs::ListRows::listview_offsets))]
     pub fn span_at(&self, i: usize) -> (usize, usize)
         requires { i < length (listview_spans self.now).spans }
@@ -177,7 +176,7 @@ impl ListViewArray {
         (start, start + size)
     }
 
-    /// Another handle to the same column. It takes no memory.
+    /// Another handle to the same column.
     pub fn share(&self) -> ListViewArray
         ensures { result ≡ self.now }
     {
@@ -189,7 +188,7 @@ impl ListViewArray {
         )
     }
 
-    /// The column of this layout. It takes no memory.
+    /// The column of this layout.
     #[tactic(auto, using(vx_model::proofs::ListRows::listview_rows))]
     pub fn into_array(self) -> Array
         ensures { result ≡ listview_column self }
@@ -232,17 +231,4 @@ fn fault_of(
         return Some(ColumnError::BadSizes);
     }
     None
-}
-
-impl Array {
-    /// Its list views; some exactly where it is of layout `ListView`.
-    pub fn as_listview(&self) -> Option<&ListViewArray>
-        ensures value { IfSome result (λ v. listview_column v.now ≡ self.now) }
-        ensures exactly { is_some result ≡ is_listview_layout self.now.layout }
-    {
-        match self.layout() {
-            Layout::ListView(a) => Some(a),
-            _ => None,
-        }
-    }
 }

@@ -1,15 +1,13 @@
 //! Layout `Map`: list views of entries, each a struct of a key and a value.
-ghost use Rattle.std.specs.Prelude.{◌≡◌, None, map};
+ghost use Rattle.std.specs.Prelude.{◌≡◌, None};
 ghost use Rattle.vx_bits.specs.Results.{ok_unless};
-ghost use Rattle.vx_types.specs.DType.{type_of};
-ghost use Rattle.vx_types.specs.TypeTree.{are_entries, types_of};
-ghost use Rattle.vx_model.specs.Map.{is_entry_type, map_column, map_fault};
+ghost use Rattle.vx_model.specs.Map.{map_column, map_fault};
 ghost use Rattle.vx_column.specs.Part.{IsPart};
 
 use crate::array::{Array, Layout};
 use crate::listview::ListViewArray;
 use std::marker::Model;
-use vx_types::{ColumnError, DType};
+use vx_types::{ColumnError, DType, is_entry_type};
 
 /// A column of maps, each a list of entries: Vortex's `MapArray`.
 #[cycle(array)]
@@ -39,33 +37,8 @@ impl Model for MapArray {
     ghost size_decreases = { λ a h. Prim.grind arith };
 }
 
-// Whether these are two types, the first of them non-nullable.
-#[tactic(auto, using(crate::proofs::Fields::entries))]
-fn are_entries(types: &[DType]) -> bool
-    ensures { result ≡ are_entries (types_of (map type_of types.now)) }
-{
-    if types.len() != 2 {
-        return false;
-    }
-    !types[0].is_nullable()
-}
-
-// Whether it is the type of a map's entries: a struct of two fields, the first non-nullable, that
-// is non-nullable itself.
-fn is_entry_type(dtype: &DType) -> bool
-    ensures { result ≡ is_entry_type (type_of dtype.now) }
-{
-    match dtype {
-        DType::Struct(fields, nullability) => {
-            are_entries(fields.types()) && !nullability.is_nullable()
-        }
-        _ => false,
-    }
-}
-
 impl MapArray {
-    /// A column whose rows are those of the entries, each a list of keys and values. It takes no
-    /// memory.
+    /// A column whose rows are those of the entries, each a list of keys and values.
     ///
     /// `WrongType` exactly where the elements aren't non-nullable structs of two fields whose
     /// first is non-nullable.
@@ -85,7 +58,7 @@ impl MapArray {
         &self.entries
     }
 
-    /// Another handle to the same column. It takes no memory.
+    /// Another handle to the same column.
     pub fn share(&self) -> MapArray
         ensures { result ≡ self.now }
     {
@@ -94,7 +67,7 @@ impl MapArray {
         }
     }
 
-    /// The column of this layout. It takes no memory.
+    /// The column of this layout.
     #[tactic(auto, using(vx_model::proofs::ListRows::listview_rows, vx_model::proofs::MapSteps::map_rows))]
     pub fn into_array(self) -> Array
         ensures { result ≡ map_column self }

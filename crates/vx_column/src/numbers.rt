@@ -37,8 +37,7 @@ impl Array {
         }
     }
 
-    /// The number in row `i` of a column of integer type; none exactly where the row is null. It
-    /// takes no memory.
+    /// The number in row `i` of a column of integer type; none exactly where the row is null.
     pub fn number_at(&self, i: usize) -> Option<i128>
         requires int { is_int_type self.now.dtype ≡ true }
         requires row { i < length self.now.rows }

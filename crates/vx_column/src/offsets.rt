@@ -1,11 +1,10 @@
 //! Offsets and sizes: columns of integers that have no null.
-ghost use Rattle.std.specs.Prelude.{◌≡◌, ◌+◌, ◌<◌, ◌≤◌, [], length, nat_le, pos, slice_index_or, slice_range, true};
+ghost use Rattle.std.specs.Prelude.{◌≡◌, ◌+◌, ◌<◌, ◌≤◌, [], length, pos, slice_index_or, slice_range, true};
 ghost use Rattle.std.specs.List.{list_all};
 ghost use Rattle.vx_bits.specs.Records.{records_of, width_of};
 ghost use Rattle.vx_types.specs.PType.{width};
 ghost use Rattle.vx_types.specs.TypeTree.{is_int_kind, primitive_kind};
-ghost use Rattle.vx_positions.specs.Offsets.{are_offsets, offset_positions};
-ghost use Rattle.vx_model.specs.ListView.{are_views, is_natural};
+ghost use Rattle.vx_offsets.specs.Offsets.{are_offsets, are_views, is_natural, offset_positions};
 ghost use Rattle.vx_model.specs.Numbers.{integer_by, integers_of};
 ghost use Rattle.vx_model.specs.Records.{records_with};
 ghost use Rattle.vx_model.specs.Valid.{non_nullable};
@@ -13,10 +12,10 @@ ghost use Rattle.vx_model.specs.VarBin.{are_integers, row_count};
 ghost use Rattle.vx_column.specs.Naturals.{are_naturals};
 
 use crate::primitive::PrimitiveArray;
+use crate::records::RecordArray;
 use crate::validity::Validity;
 use vx_bits::Records;
-use vx_positions::are_offsets;
-use vx_types::PType;
+use vx_types::{PType, RecordType};
 
 /// Whether it is a column of integers that has no null.
 pub(crate) fn are_integers(offsets: &PrimitiveArray) -> bool
@@ -32,7 +31,7 @@ pub(crate) fn are_integers(offsets: &PrimitiveArray) -> bool
 pub(crate) fn row_count(offsets: &PrimitiveArray) -> usize
     ensures { result ≡ row_count offsets.now }
 {
-    offsets.values().len().saturating_sub(1)
+    vx_offsets::row_count(offsets.values())
 }
 
 /// Whether the numbers cut a list of so many bytes.
@@ -40,18 +39,16 @@ pub(crate) fn cuts_list(offsets: &PrimitiveArray, len: usize) -> bool
     requires { are_integers offsets.now ≡ true }
     ensures { result ≡ are_offsets (integers_of offsets.now) len }
 {
-    are_offsets(offsets.ptype(), offsets.values(), len)
+    vx_offsets::are_offsets(offsets.ptype(), offsets.values(), len)
 }
 
 /// Number `i`.
-#[tactic(auto, using(vx_model::proofs::Layouts::layout_rows))]
 pub(crate) fn integer_at(offsets: &PrimitiveArray, i: usize) -> i128
     requires int { is_int_kind offsets.now.kind ≡ true }
     requires row { i < length offsets.now.records }
     ensures { result ≡ integer_by offsets.now.kind (slice_index_or offsets.now.records i []) }
 {
-    let values = offsets.values();
-    offsets.ptype().number(values.record_bytes(i))
+    vx_offsets::integer_at(offsets.ptype(), offsets.values(), i)
 }
 
 /// Number `i`, which isn't negative and isn't past `len`.
@@ -63,50 +60,18 @@ pub(crate) fn position_at(numbers: &PrimitiveArray, i: usize, len: usize) -> usi
     requires within { slice_index_or (offset_positions (integers_of numbers.now)) i 0 ≤ len }
     ensures { result ≡ slice_index_or (offset_positions (integers_of numbers.now)) i 0 }
 {
-    // Only the contract speaks of it.
-    let _ = len;
-    integer_at(numbers, i) as usize
-}
-
-// Whether number `i` isn't negative.
-fn is_natural_at(numbers: &PrimitiveArray, i: usize) -> bool
-    requires int { is_int_kind numbers.now.kind ≡ true }
-    requires row { i < length numbers.now.records }
-    ensures { result ≡ is_natural
-        (integer_by numbers.now.kind (slice_index_or numbers.now.records i [])) }
-{
-    0 <= integer_at(numbers, i)
+    vx_offsets::position_at(numbers.ptype(), numbers.values(), i, len)
 }
 
 /// Whether no number is negative.
-#[tactic(auto, using(crate::proofs::Naturals::naturals))]
 pub(crate) fn are_natural(numbers: &PrimitiveArray) -> bool
     requires { are_integers numbers.now ≡ true }
     ensures { result ≡ list_all is_natural (integers_of numbers.now) }
 {
-    let len = numbers.values().len();
-    for i in 0..len {
-        if !is_natural_at(numbers, i) {
-            return false;
-        }
-    }
-    true
-}
-
-// Whether as many items as size `i` are there from offset `i` on, of `len` in all.
-fn is_within(offsets: &PrimitiveArray, sizes: &PrimitiveArray, i: usize, len: usize) -> bool
-    requires offsets { are_naturals offsets.now ≡ true }
-    requires sizes { are_naturals sizes.now ≡ true }
-    requires offset { i < length offsets.now.records }
-    requires size { i < length sizes.now.records }
-    ensures { result ≡ nat_le (slice_index_or (offset_positions (integers_of offsets.now)) i 0
-        + slice_index_or (offset_positions (integers_of sizes.now)) i 0) len }
-{
-    integer_at(offsets, i) <= len as i128 - integer_at(sizes, i)
+    vx_offsets::are_natural(numbers.ptype(), numbers.values())
 }
 
 /// Whether as many items as its size are there from each offset on, of `len` in all.
-#[tactic(auto, using(crate::proofs::Naturals::views))]
 pub(crate) fn are_views(offsets: &PrimitiveArray, sizes: &PrimitiveArray, len: usize) -> bool
     requires offsets { are_naturals offsets.now ≡ true }
     requires sizes { are_naturals sizes.now ≡ true }
@@ -114,16 +79,16 @@ pub(crate) fn are_views(offsets: &PrimitiveArray, sizes: &PrimitiveArray, len: u
     ensures { result ≡ are_views (offset_positions (integers_of offsets.now))
         (offset_positions (integers_of sizes.now)) len }
 {
-    let many = offsets.values().len();
-    for i in 0..many {
-        if !is_within(offsets, sizes, i, len) {
-            return false;
-        }
-    }
-    true
+    vx_offsets::are_views(
+        offsets.ptype(),
+        offsets.values(),
+        sizes.ptype(),
+        sizes.values(),
+        len,
+    )
 }
 
-/// The column of these records, none of them null. It takes no memory.
+/// The column of these records, none of them null.
 #[tactic(auto, using(vx_model::proofs::Layouts::layout_rows))]
 pub fn number_column(ptype: PType, values: Records) -> PrimitiveArray
     requires { width_of values ≡ width ptype }
@@ -134,13 +99,11 @@ pub fn number_column(ptype: PType, values: Records) -> PrimitiveArray
       valid = non_nullable;
     } }
 {
-    match PrimitiveArray::try_new(ptype, values, Validity::NonNullable) {
-        Ok(column) => column,
-        Err(_) => unreachable!(),
-    }
+    let rows = RecordArray::of(RecordType::Primitive(ptype), values, Validity::NonNullable);
+    PrimitiveArray::of(rows)
 }
 
-/// The offsets from `start` up to `end`, and the one at `end`. It takes no memory.
+/// The offsets from `start` up to `end`, and the one at `end`.
 #[tactic(auto, using(vx_model::proofs::Layouts::layout_rows))]
 pub fn slice_offsets(offsets: &PrimitiveArray, start: usize, end: usize) -> PrimitiveArray
     requires ordered { start ≤ end }
@@ -151,9 +114,5 @@ pub fn slice_offsets(offsets: &PrimitiveArray, start: usize, end: usize) -> Prim
     let values = offsets.values();
     // one more than `end` is at most their number
     let _ = values.len();
-    let cut = values.slice(start, end + 1);
-    match PrimitiveArray::try_new(offsets.ptype(), cut, Validity::NonNullable) {
-        Ok(offsets) => offsets,
-        Err(_) => unreachable!(),
-    }
+    number_column(offsets.ptype(), values.slice(start, end + 1))
 }

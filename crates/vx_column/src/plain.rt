@@ -1,8 +1,7 @@
-//! What takes no memory: slices of plain columns, and the records of columns that store some.
-ghost use Rattle.std.specs.Prelude.{◌≡◌, ◌≤◌, ◌&&◌, length, option_map, is_some, slice_range, IfSome};
+//! The records of columns that store some.
+ghost use Rattle.std.specs.Prelude.{◌≡◌, ◌&&◌, option_map, is_some, IfSome};
 ghost use Rattle.vx_model.specs.Plain.{stores_records};
 ghost use Rattle.vx_model.specs.Records.{records_column};
-ghost use Rattle.vx_model.specs.Step.{IsPlainSlice};
 ghost use Rattle.vx_model.specs.Valid.{is_bools};
 ghost use Rattle.vx_column.specs.Plain.{HasRecords};
 ghost use Rattle.vx_column.specs.Shown.{AreShownRowsOf};
@@ -13,8 +12,7 @@ use vx_bits::{BitBuffer, Records};
 
 impl Array {
     /// The records of its rows, one a row, where the layout stores records and no row is null by a
-    /// constant form. Some where the layout stores records and the type has no null. It takes no
-    /// memory.
+    /// constant form. Some where the layout stores records and the type has no null.
     pub fn plain_records(&self) -> Option<&Records>
         ensures { HasRecords self.now (option_map (λ r. r.now) result) }
     {
@@ -24,38 +22,8 @@ impl Array {
         }
     }
 
-    /// The rows from `start` up to `end`, where that takes no memory: of layout `Null`, or of
-    /// `Bool`, `Primitive` or `Decimal` with a validity of constant form. None exactly for every
-    /// other column.
-    pub fn slice_plain(&self, start: usize, end: usize) -> Option<Array>
-        requires ordered { start ≤ end }
-        requires within { end ≤ length self.now.rows }
-        ensures slice { IsPlainSlice self.now start end result }
-        ensures stored { IfSome result (λ a. a.stored ≡ slice_range self.now.stored start end) }
-    {
-        match self.layout() {
-            Layout::Null(a) => a.slice_plain(start, end),
-            Layout::Bool(a) => a.slice_plain(start, end),
-            Layout::Primitive(a) => a.rows().slice_plain(start, end),
-            Layout::Decimal(a) => a.rows().slice_plain(start, end),
-            Layout::VarBin(_)
-            | Layout::VarBinView(_)
-            | Layout::List(_)
-            | Layout::ListView(_)
-            | Layout::FixedSizeList(_)
-            | Layout::Map(_)
-            | Layout::Struct(_)
-            | Layout::Union(_)
-            | Layout::Extension(_)
-            | Layout::Constant(_)
-            | Layout::Dict(_)
-            | Layout::Filter(_) => None,
-        }
-    }
-
     /// The records of its rows, null rows too, and a bit a row that says whether it is valid. Some
-    /// exactly where the layout stores records and its validity is a column of layout `Bool`. It
-    /// takes no memory.
+    /// exactly where the layout stores records and its validity is a column of layout `Bool`.
     pub fn shown_records(&self) -> Option<(&Records, &BitBuffer)>
         ensures rows { IfSome result (λ p. AreShownRowsOf self.now p.0.now p.1.now) }
         ensures exactly { is_some result

@@ -75,7 +75,7 @@ impl Array {
     }
 
     /// The first number, of those that aren't null, that is none of `len` positions. `ptype` is the
-    /// type's. It takes no memory.
+    /// type's.
     pub fn first_bad(&self, ptype: PType, len: usize) -> Option<i128>
         requires { int_type_of self.now.dtype ≡ Some ptype }
         ensures { result ≡ first_bad len (numbers_of self.now) }

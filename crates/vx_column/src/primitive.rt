@@ -7,14 +7,14 @@ ghost use Rattle.vx_model.specs.Records.{records_fault, records_column};
 ghost use Rattle.vx_column.specs.Records.{record_parts};
 ghost use Rattle.vx_column.specs.Validity.{valid_of};
 ghost use Rattle.vx_column.specs.Part.{IsPart};
-ghost use Rattle.vx_column.specs.declared.records.RecordType.TheVariants.{Primitive};
+ghost use Rattle.vx_types.specs.declared.record_type.RecordType.TheVariants.{Primitive};
 
 use crate::array::Array;
-use crate::records::{RecordArray, RecordType};
+use crate::records::RecordArray;
 use crate::validity::Validity;
 use std::marker::Model;
 use vx_bits::Records;
-use vx_types::{ColumnError, PType};
+use vx_types::{ColumnError, PType, RecordType};
 
 /// A column of records of a primitive type: Vortex's `PrimitiveArray`.
 #[cycle(array)]
@@ -45,7 +45,7 @@ impl Model for PrimitiveArray {
 }
 
 impl PrimitiveArray {
-    /// A column with one row a record. It takes no memory.
+    /// A column with one row a record.
     ///
     /// `WrongWidth` exactly where the records aren't as wide as the type. Else `BadValidity`
     /// exactly where the validity can't be that of so many rows.
@@ -104,7 +104,7 @@ impl PrimitiveArray {
         self.rows.validity()
     }
 
-    /// Another handle to the same column. It takes no memory.
+    /// Another handle to the same column.
     pub fn share(&self) -> PrimitiveArray
         ensures { result ≡ self.now }
     {
@@ -113,7 +113,7 @@ impl PrimitiveArray {
         }
     }
 
-    /// The column of this layout. It takes no memory.
+    /// The column of this layout.
     pub fn into_array(self) -> Array
         ensures { result ≡ records_column self }
     {

@@ -1,5 +1,5 @@
 //! Layouts `Primitive` and `Decimal`, which store a record a row: Vortex's `FixedWidthArray`.
-ghost use Rattle.std.specs.Prelude.{◌≡◌, ◌≤◌, length, true, false, None, Some, is_some, option_map, slice_range, IfSome};
+ghost use Rattle.std.specs.Prelude.{◌≡◌, length, true, false, None, Some, is_some, option_map, IfSome};
 ghost use Rattle.vx_bits.specs.Results.{ok_unless};
 ghost use Rattle.vx_bits.specs.Records.{records_of, width_of};
 ghost use Rattle.vx_types.specs.DType.{type_of};
@@ -7,9 +7,9 @@ ghost use Rattle.vx_types.specs.Decimal.{is_width};
 ghost use Rattle.vx_types.specs.TypeTree.{is_bool_kind, kind_width, type_width};
 ghost use Rattle.vx_model.specs.Valid.{is_bools, is_fitting};
 ghost use Rattle.vx_model.specs.Records.{records_fault, records_column, records_with};
-ghost use Rattle.vx_model.specs.Step.{IsPlainSlice};
 ghost use Rattle.vx_column.specs.Plain.{HasRecords};
-ghost use Rattle.vx_column.specs.Records.{kind_of, record_parts};
+ghost use Rattle.vx_column.specs.Records.{record_parts};
+ghost use Rattle.vx_types.specs.RecordType.{kind_of};
 ghost use Rattle.vx_column.specs.Shown.{AreShownRowsOf};
 ghost use Rattle.vx_column.specs.Validity.{valid_of};
 ghost use Rattle.vx_column.specs.Part.{IsPart};
@@ -21,64 +21,15 @@ use crate::primitive::PrimitiveArray;
 use crate::validity::Validity;
 use std::marker::Model;
 use vx_bits::{BitBuffer, Records};
-use vx_types::{ColumnError, DType, DecimalDType, Nullability, PType};
+use vx_types::{ColumnError, RecordType};
 
-/// The type of a record, without its nullability.
-#[derive(Debug, Clone, Copy, PartialEq, Eq)]
-pub enum RecordType {
-    /// A number of a primitive type.
-    Primitive(PType),
-    /// A decimal number.
-    Decimal(DecimalDType),
-}
-
-impl RecordType {
-    /// The type of the records of a column of this type; some exactly where it is primitive or
-    /// decimal.
-    pub fn of(dtype: &DType) -> Option<RecordType>
-        ensures kind { IfSome result (λ t. kind_of t ≡ (type_of dtype.now).kind) }
-        ensures exactly { is_some result ≡ is_some (type_width (type_of dtype.now)) }
-    {
-        match dtype {
-            DType::Primitive(ptype, _) => Some(RecordType::Primitive(*ptype)),
-            DType::Decimal(decimal, _) => Some(RecordType::Decimal(*decimal)),
-            _ => None,
-        }
-    }
-
-    /// How many bytes a record has.
-    pub fn width(&self) -> usize
-        ensures number { is_bool_kind (kind_of self.now) ≡ false }
-        ensures value { kind_width (kind_of self.now) ≡ Some result }
-        ensures known { is_width result ≡ true }
-    {
-        match self {
-            RecordType::Primitive(ptype) => ptype.width(),
-            RecordType::Decimal(decimal) => decimal.width() as usize,
-        }
-    }
-
-    /// The type of a column of such records.
-    pub fn dtype(&self, nullability: Nullability) -> DType
-        ensures { type_of result ≡ record { kind = kind_of self.now; nullability = nullability } }
-    {
-        match self {
-            RecordType::Primitive(ptype) => DType::Primitive(*ptype, nullability),
-            RecordType::Decimal(decimal) => DType::Decimal(*decimal, nullability),
-        }
-    }
-
-    /// The column of these records, as nullable as the validity. It takes no memory.
-    pub fn column(self, values: Records, validity: Validity) -> Array
-        requires width { kind_width (kind_of self) ≡ Some (width_of values) }
-        requires fitting { is_fitting (valid_of validity) (length (records_of values)) ≡ true }
-        ensures { result ≡ records_column (record_parts self values validity) }
-    {
-        match RecordArray::try_new(self, values, validity) {
-            Ok(array) => array.into_array(),
-            Err(_) => unreachable!(),
-        }
-    }
+/// The column of these records, as nullable as the validity.
+pub fn record_column(record_type: RecordType, values: Records, validity: Validity) -> Array
+    requires width { kind_width (kind_of record_type) ≡ Some (width_of values) }
+    requires fitting { is_fitting (valid_of validity) (length (records_of values)) ≡ true }
+    ensures { result ≡ records_column (record_parts record_type values validity) }
+{
+    RecordArray::of(record_type, values, validity).into_array()
 }
 
 /// A column of records of a number: what a [`PrimitiveArray`] and a [`DecimalArray`] have in
@@ -115,7 +66,7 @@ impl Model for RecordArray {
 }
 
 impl RecordArray {
-    /// A column with one row a record. It takes no memory.
+    /// A column with one row a record.
     ///
     /// `WrongWidth` exactly where the records aren't as wide as the type. Else `BadValidity`
     /// exactly where the validity can't be that of so many rows.
@@ -138,6 +89,19 @@ impl RecordArray {
             values,
             validity,
         })
+    }
+
+    /// A column of records as wide as their type, with a validity that fits: what a step leaves.
+    pub fn of(record_type: RecordType, values: Records, validity: Validity) -> RecordArray
+        requires width { kind_width (kind_of record_type) ≡ Some (width_of values) }
+        requires fitting { is_fitting (valid_of validity) (length (records_of values)) ≡ true }
+        ensures { result ≡ record_parts record_type values validity }
+    {
+        RecordArray {
+            record_type,
+            values,
+            validity,
+        }
     }
 
     /// The type of its records.
@@ -166,20 +130,16 @@ impl RecordArray {
         &self.validity
     }
 
-    /// The same type over other records and another validity: what a step leaves. It takes no
-    /// memory.
+    /// A column of this type with other records and another validity: what a step leaves.
     pub fn with_rows(&self, values: Records, validity: Validity) -> RecordArray
         requires width { width_of values ≡ self.now.width }
         requires fitting { is_fitting (valid_of validity) (length (records_of values)) ≡ true }
         ensures { result ≡ records_with self.now (records_of values) (valid_of validity) }
     {
-        match RecordArray::try_new(self.record_type, values, validity) {
-            Ok(array) => array,
-            Err(_) => unreachable!(),
-        }
+        RecordArray::of(self.record_type, values, validity)
     }
 
-    /// Another handle to the same column. It takes no memory.
+    /// Another handle to the same column.
     pub fn share(&self) -> RecordArray
         ensures { result ≡ self.now }
     {
@@ -190,7 +150,7 @@ impl RecordArray {
         }
     }
 
-    /// The column of the layout of its type. It takes no memory.
+    /// The column of the layout of its type.
     #[tactic(auto, using(vx_model::proofs::Layouts::layout_rows))]
     pub fn into_array(self) -> Array
         ensures { result ≡ records_column self }
@@ -205,22 +165,6 @@ impl RecordArray {
                 Array::new(dtype, len, Layout::Decimal(DecimalArray::of(self)))
             }
         }
-    }
-
-    /// The rows from `start` up to `end`, where the validity is a constant form.
-    #[tactic(auto, using(vx_model::proofs::Layouts::layout_rows))]
-    pub(crate) fn slice_plain(&self, start: usize, end: usize) -> Option<Array>
-        requires ordered { start ≤ end }
-        requires within { end ≤ length (records_column self.now).rows }
-        ensures slice { IsPlainSlice (records_column self.now) start end result }
-        ensures stored { IfSome result
-            (λ a. a.stored ≡ slice_range (records_column self.now).stored start end) }
-    {
-        if !self.validity().is_constant_form() {
-            return None;
-        }
-        let values = self.values().slice(start, end);
-        Some(self.with_rows(values, self.validity().share()).into_array())
     }
 
     /// The records of its rows, where no row is null by a constant form.

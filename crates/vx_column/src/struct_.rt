@@ -1,5 +1,5 @@
 //! Layout `Struct`: columns side by side, each a field.
-ghost use Rattle.std.specs.Prelude.{◌≡◌, ◌↔◌, None, IfSome, IsSome, map, true};
+ghost use Rattle.std.specs.Prelude.{◌≡◌, None, map, true};
 ghost use Rattle.vx_bits.specs.Results.{ok_unless};
 ghost use Rattle.vx_types.specs.DType.{type_of};
 ghost use Rattle.vx_types.specs.Same.{are_same_types, is_same_type};
@@ -10,7 +10,6 @@ ghost use Rattle.vx_model.specs.Valid.{is_fitting};
 ghost use Rattle.vx_column.specs.StructParts.{struct_parts};
 ghost use Rattle.vx_column.specs.Validity.{valid_of};
 ghost use Rattle.vx_column.specs.Part.{IsPart};
-ghost use Rattle.vx_types.specs.declared.layout_name.LayoutName.TheVariants.{Struct as StructLayout};
 
 use crate::array::{Array, ArrayRef, Layout};
 use crate::cell::{Cell, FieldsCell, ReadRow};
@@ -92,8 +91,7 @@ pub(crate) fn are_long(columns: &[ArrayRef], len: usize) -> bool
 }
 
 impl StructArray {
-    /// A column of `len` rows, each that row of every field. It takes no memory. Vortex's
-    /// `try_new_with_dtype`.
+    /// A column of `len` rows, each that row of every field. Vortex's `try_new_with_dtype`.
     ///
     /// `WrongType` exactly where the fields aren't of these types, one by one. Else `WrongLength`
     /// exactly where a field hasn't `len` rows. Else `BadValidity` exactly where the validity
@@ -125,8 +123,8 @@ impl StructArray {
         })
     }
 
-    /// Other sound parts of the same type: what a step leaves. It takes no memory, and doesn't test
-    /// what it requires; `try_new_with_dtype` does.
+    /// Other sound parts of the same type: what a step leaves. It doesn't test what it requires;
+    /// `try_new_with_dtype` does.
     pub fn with_parts(&self, fields: Columns, len: usize, validity: Validity) -> StructArray
         requires { struct_fault (record self.now {
           columns = fields;
@@ -177,14 +175,14 @@ impl StructArray {
         &self.validity
     }
 
-    /// Another handle to the same column. It takes no memory.
+    /// Another handle to the same column.
     pub fn share(&self) -> StructArray
         ensures { result ≡ self.now }
     {
         self.with_parts(self.fields.share(), self.len, self.validity.share())
     }
 
-    /// The column of this layout. It takes no memory.
+    /// The column of this layout.
     #[tactic(auto, using(vx_model::proofs::StructSteps::struct_rows))]
     pub fn into_array(self) -> Array
         ensures { result ≡ struct_column self }
@@ -208,19 +206,6 @@ impl ReadRow for StructArray {
             Cell::Fields(FieldsCell { columns, row: i })
         } else {
             Cell::Null
-        }
-    }
-}
-
-impl Array {
-    /// Its structs; some exactly where it is of layout `Struct`.
-    pub fn as_struct(&self) -> Option<&StructArray>
-        ensures value { IfSome result (λ s. struct_column s.now ≡ self.now) }
-        ensures exactly { IsSome result ↔ (self.now.layout ≡ StructLayout) }
-    {
-        match self.layout() {
-            Layout::Struct(a) => Some(a),
-            _ => None,
         }
     }
 }

@@ -1,20 +1,19 @@
 //! Layout `Union`: for each row an id, and a row of the column of the variant of that id.
-ghost use Rattle.std.specs.Prelude.{◌≡◌, ◌<◌, ◌↔◌, length, None, Some, IfSome, IsSome, option_map, true};
+ghost use Rattle.std.specs.Prelude.{◌≡◌, length, None, Some, option_map, true};
 ghost use Rattle.vx_bits.specs.Results.{ok_unless};
 ghost use Rattle.vx_types.specs.TypeTree.{are_carried, types_of};
 ghost use Rattle.vx_model.specs.Union.{place_at, union_column, union_fault};
 ghost use Rattle.vx_column.specs.UnionParts.{union_parts};
 ghost use Rattle.vx_column.specs.Part.{IsPart};
-ghost use Rattle.vx_types.specs.declared.layout_name.LayoutName.TheVariants.{Union as UnionLayout};
 
 use crate::array::{Array, ArrayRef, Layout};
 use crate::cell::{Cell, ReadRow, TaggedCell};
 use crate::columns::Columns;
 use crate::primitive::PrimitiveArray;
-use crate::union_check::{fault_of, place_at, tag_at, variant_of};
+use crate::union_check::{fault_of, place_at, tag_at};
 use std::marker::Model;
 use vx_shared::Shared;
-use vx_types::{ColumnError, DType, UnionVariants};
+use vx_types::{ColumnError, DType, UnionVariants, variant_of};
 
 /// A column of which each row is one of a variant's column, which an id tells: Vortex's
 /// `UnionArray`. It is sparse, where row i is row i of that column, or dense, where it is the row
@@ -81,7 +80,7 @@ fn made(
 
 impl UnionArray {
     /// A sparse union: row i is row i of the column of its id's variant, or null where the id is.
-    /// It takes no memory. Vortex's `try_new`.
+    /// Vortex's `try_new`.
     ///
     /// `WrongType` exactly where the ids aren't `U8`, or the columns aren't of the variants' types,
     /// one by one. Else `WrongLength` exactly where a column isn't as long as the ids. Else
@@ -98,7 +97,7 @@ impl UnionArray {
     }
 
     /// A dense union: row i is the row at offset i of the column of its id's variant, or null where
-    /// the id is. It takes no memory.
+    /// the id is.
     ///
     /// `WrongType` exactly where the ids aren't `U8`, the offsets aren't a non-nullable column of
     /// integers, or the columns aren't of the variants' types, one by one. Else `WrongLength`
@@ -119,8 +118,8 @@ impl UnionArray {
         made(type_ids, Some(offsets), variants, children)
     }
 
-    /// Other sound parts of the same type: what a step leaves. It takes no memory, and doesn't test
-    /// what it requires; `try_new` and `try_new_dense` do.
+    /// Other sound parts of the same type: what a step leaves. It doesn't test what it requires;
+    /// `try_new` and `try_new_dense` do.
     pub fn with_parts(
         &self,
         type_ids: ArrayRef,
@@ -157,7 +156,7 @@ impl UnionArray {
         self.offsets.as_ref()
     }
 
-    /// The same offsets once again. It takes no memory.
+    /// Another handle to the offsets; some exactly for a dense union.
     pub fn shared_offsets(&self) -> Option<PrimitiveArray>
         ensures { result ≡ self.now.offsets }
     {
@@ -187,7 +186,7 @@ impl UnionArray {
         self.type_ids.len()
     }
 
-    /// Another handle to the same column. It takes no memory.
+    /// Another handle to the same column.
     pub fn share(&self) -> UnionArray
         ensures { result ≡ self.now }
     {
@@ -199,7 +198,7 @@ impl UnionArray {
         }
     }
 
-    /// The column of this layout. It takes no memory.
+    /// The column of this layout.
     #[tactic(auto, using(vx_model::proofs::UnionSteps::rows_of_unions))]
     pub fn into_array(self) -> Array
         ensures { result ≡ union_column self }
@@ -227,19 +226,6 @@ impl ReadRow for UnionArray {
                 Cell::Tagged(TaggedCell { id, column, row })
             }
             None => unreachable!(),
-        }
-    }
-}
-
-impl Array {
-    /// Its union; some exactly where it is of layout `Union`.
-    pub fn as_union(&self) -> Option<&UnionArray>
-        ensures value { IfSome result (λ u. union_column u.now ≡ self.now) }
-        ensures exactly { IsSome result ↔ (self.now.layout ≡ UnionLayout) }
-    {
-        match self.layout() {
-            Layout::Union(a) => Some(a),
-            _ => None,
         }
     }
 }

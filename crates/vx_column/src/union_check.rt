@@ -1,12 +1,12 @@
 //! Why parts are no union, and what a row's id and offset name.
 ghost use Rattle.std.specs.Prelude.{◌≡◌, ◌<◌, length, pos, None, slice_index_or, true};
 ghost use Rattle.std.specs.List.{list_all};
-ghost use Rattle.vx_types.specs.DType.{type_of};
 ghost use Rattle.vx_types.specs.Nullability.{is_nullable};
 ghost use Rattle.vx_types.specs.TypeTree.{are_carried, is_int_kind, types_of};
 ghost use Rattle.vx_positions.specs.Positions.{is_position, positions_of};
 ghost use Rattle.vx_model.specs.Numbers.{integers_of, numbers_of};
-ghost use Rattle.vx_model.specs.Union.{are_places, are_union_types, has_row, have_rows, index_of, is_id_type, is_known, is_union_long, place_at, union_fault, IsPlace};
+ghost use Rattle.vx_model.specs.Union.{are_places, are_union_types, has_row, have_rows, is_known, is_union_long, place_at, union_fault, IsPlace};
+ghost use Rattle.vx_types.specs.Variants.{is_id_type};
 ghost use Rattle.vx_column.specs.UnionParts.{union_parts};
 
 use crate::array::{Array, ArrayRef};
@@ -16,27 +16,7 @@ use crate::offsets::{are_integers, integer_at};
 use crate::primitive::PrimitiveArray;
 use crate::struct_::{are_long, are_of_types};
 use vx_positions::{is_position, position};
-use vx_types::{ColumnError, DType, PType, UnionVariants};
-
-// Whether it is the type of ids: unsigned integers of one byte.
-fn is_id_type(dtype: &DType) -> bool
-    ensures { result ≡ is_id_type (type_of dtype.now) }
-{
-    matches!(dtype, DType::Primitive(PType::U8, _))
-}
-
-/// The place of the variant of this id among the variants.
-#[tactic(auto, using(crate::proofs::Tags::places))]
-pub(crate) fn variant_of(ids: &[u8], id: u8) -> Option<usize>
-    ensures { result ≡ index_of ids.now id }
-{
-    for k in 0..ids.len() {
-        if ids[k] == id {
-            return Some(k);
-        }
-    }
-    None
-}
+use vx_types::{ColumnError, UnionVariants, is_id_type, variant_of};
 
 /// The id of row `i`; none where it is null.
 #[cycle(cell)]

@@ -1,7 +1,6 @@
 //! Which rows of a column are valid, and which are null.
 ghost use Rattle.std.specs.Prelude.{◌≡◌, ℕ, map, true, is_some, IfOk, IfSome};
 ghost use Rattle.vx_types.specs.declared.nullability.Nullability.TheVariants.{Nullable};
-ghost use Rattle.vx_mask.specs.Mask.{mask_bits};
 ghost use Rattle.vx_model.specs.Bool.{bits_column};
 ghost use Rattle.vx_model.specs.Valid.{by_column, is_bools, is_fitting, is_present, nullability_by, cover_by, is_constant_form, present_bits};
 ghost use Rattle.vx_column.specs.Cell.{HasRow};
@@ -10,10 +9,8 @@ ghost use Rattle.vx_column.specs.Validity.{valid_of};
 use crate::array::{Array, ArrayRef, Layout};
 use crate::boolean::BoolArray;
 use crate::cell::Cell;
-use crate::truth::mask_of;
 use std::alloc::Global;
 use vx_bits::{BitBuffer, NoMemory};
-use vx_mask::Mask;
 use vx_take::{Picks, valid_bits};
 use vx_types::{DType, Nullability};
 
@@ -32,7 +29,7 @@ pub enum Validity {
 }
 
 impl Validity {
-    /// Another handle to the same validity. It takes no memory.
+    /// Another handle to the same validity.
     pub fn share(&self) -> Validity
         ensures { result ≡ self.now }
     {
@@ -136,17 +133,5 @@ impl Validity {
             (λ v. valid_of v ≡ by_column (bits_column (map is_some picks.now.picks) 0)) }
     {
         Validity::from_bits(alloc, valid_bits(alloc, picks)?)
-    }
-
-    /// Which of `len` rows are valid. Fails only with `NoMemory`.
-    pub fn present_mask(&self, alloc: Global, len: usize) -> Result<Mask, NoMemory>
-        requires { is_fitting (valid_of self.now) len ≡ true }
-        ensures { IfOk result (λ m. mask_bits m ≡ present_bits (valid_of self.now) len) }
-    {
-        match self {
-            Validity::NonNullable | Validity::AllValid => Ok(Mask::AllTrue(len)),
-            Validity::AllInvalid => Ok(Mask::AllFalse(len)),
-            Validity::Array(array) => mask_of(alloc, array),
-        }
     }
 }

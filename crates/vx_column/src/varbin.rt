@@ -1,7 +1,7 @@
 //! Layout `VarBin`: texts that stand one after another, cut by offsets.
 ghost use Rattle.std.specs.Prelude.{◌≡◌, ◌<◌, None, [], length, slice_index_or, true};
 ghost use Rattle.vx_bits.specs.Results.{ok_unless};
-ghost use Rattle.vx_positions.specs.Offsets.{are_offsets, offset_positions};
+ghost use Rattle.vx_offsets.specs.Offsets.{are_offsets, offset_positions};
 ghost use Rattle.vx_model.specs.Numbers.{integer_by, integers_of};
 ghost use Rattle.vx_model.specs.Valid.{is_fitting};
 ghost use Rattle.vx_model.specs.VarBin.{are_integers, row_count, varbin_column, varbin_fault, varbin_texts};
@@ -53,8 +53,7 @@ impl Model for VarBinArray {
 }
 
 impl VarBinArray {
-    /// A column with one row fewer than offsets: the bytes from each offset up to the next. It
-    /// takes no memory.
+    /// A column with one row fewer than offsets: the bytes from each offset up to the next.
     ///
     /// `WrongType` exactly where the offsets aren't a non-nullable column of integers. Else
     /// `BadValidity` exactly where the validity can't be that of so many rows. Else `BadOffsets`
@@ -81,8 +80,8 @@ impl VarBinArray {
         Ok(VarBinArray::of(kind, offsets, bytes, validity))
     }
 
-    /// A column of sound parts: what a step leaves. It takes no memory, and doesn't test what it
-    /// requires; `try_new` does.
+    /// A column of sound parts: what a step leaves. It doesn't test what it requires; `try_new`
+    /// does.
     pub fn of(
         kind: TextKind,
         offsets: PrimitiveArray,
@@ -145,7 +144,7 @@ impl VarBinArray {
         position_at(&self.offsets, i, self.bytes().len())
     }
 
-    /// Where the last text ends. It takes no memory.
+    /// Where the last text ends.
     #[tactic(auto, using(vx_model::proofs::Texts::some_offset))]
     pub fn last_offset(&self) -> usize
         ensures { result ≡ slice_index_or (offset_positions (integers_of self.now.offsets))
@@ -156,7 +155,7 @@ impl VarBinArray {
         self.offset_at(row_count(&self.offsets))
     }
 
-    /// The stored bytes of row `i`, of a null row too. It takes no memory.
+    /// The stored bytes of row `i`, of a null row too.
     #[tactic(auto, using(vx_model::proofs::Texts::varbin_offsets))]
     pub fn text_at(&self, i: usize) -> &[u8]
         requires { i < length (varbin_texts self.now).texts }
@@ -168,7 +167,7 @@ impl VarBinArray {
         &bytes[self.offset_at(i)..self.offset_at(i + 1)]
     }
 
-    /// The same texts with another validity: what a step leaves. It takes no memory.
+    /// The column's texts with another validity: what a step leaves.
     #[tactic(auto, using(vx_model::proofs::Texts::other_valid))]
     pub fn with_validity(&self, validity: Validity) -> VarBinArray
         requires { is_fitting (valid_of validity) (length (varbin_texts self.now).texts) ≡ true }
@@ -184,7 +183,7 @@ impl VarBinArray {
         }
     }
 
-    /// Another handle to the same column. It takes no memory.
+    /// Another handle to the same column.
     pub fn share(&self) -> VarBinArray
         ensures { result ≡ self.now }
     {
@@ -196,7 +195,7 @@ impl VarBinArray {
         )
     }
 
-    /// The column of this layout. It takes no memory.
+    /// The column of this layout.
     #[tactic(auto, using(vx_model::proofs::Texts::varbin_rows))]
     pub fn into_array(self) -> Array
         ensures { result ≡ varbin_column self }

@@ -65,7 +65,7 @@ impl VarBinViewArray {
         self.kind
     }
 
-    /// A column with one row a view. It takes no memory.
+    /// A column with one row a view.
     ///
     /// `BadValidity` exactly where the validity can't be that of so many rows. Else `BadViews`
     /// exactly where some view, of a null row too, is one of more than twelve bytes in itself, or
@@ -90,8 +90,8 @@ impl VarBinViewArray {
         Ok(VarBinViewArray::of(kind, views, buffers, validity))
     }
 
-    /// A column of sound parts: what a step leaves. It takes no memory, and doesn't test what it
-    /// requires; `try_new` does.
+    /// A column of sound parts: what a step leaves. It doesn't test what it requires; `try_new`
+    /// does.
     pub fn of(
         kind: TextKind,
         views: Buffer<BinaryView>,
@@ -130,7 +130,7 @@ impl VarBinViewArray {
         &self.validity
     }
 
-    /// The stored bytes of row `i`, of a null row too. It takes no memory.
+    /// The stored bytes of row `i`, of a null row too.
     #[tactic(auto, using(vx_model::proofs::Texts::view_each))]
     pub fn text_at(&self, i: usize) -> &[u8]
         requires { i < length (view_texts self.now).texts }
@@ -139,8 +139,8 @@ impl VarBinViewArray {
         self.views().as_slice()[i].text(self.buffers().as_slice())
     }
 
-    /// The same buffers under other views of them and another validity: what a step leaves. It
-    /// takes no memory, and doesn't test what it requires; `try_new` does.
+    /// The column's buffers with other views of them and another validity: what a step leaves. It
+    /// doesn't test what it requires; `try_new` does.
     pub fn with_views(&self, views: Buffer<BinaryView>, validity: Validity) -> VarBinViewArray
         requires sound { list_all (is_view self.now.buffers) views ≡ true }
         requires fitting { is_fitting (valid_of validity) (length views) ≡ true }
@@ -154,14 +154,14 @@ impl VarBinViewArray {
         }
     }
 
-    /// Another handle to the same column. It takes no memory.
+    /// Another handle to the same column.
     pub fn share(&self) -> VarBinViewArray
         ensures { result ≡ self.now }
     {
         self.with_views(self.views.share(), self.validity.share())
     }
 
-    /// The column of this layout. It takes no memory.
+    /// The column of this layout.
     #[tactic(auto, using(vx_model::proofs::Texts::view_rows))]
     pub fn into_array(self) -> Array
         ensures { result ≡ views_column self }

@@ -4,7 +4,8 @@ use Rattle.std.specs.Prelude.{if◌then◌else◌}
 use Rattle.vx_types.specs.declared.error.ColumnError.TheVariants.{WrongType}
 use Rattle.vx_model.specs.Column.{Column}
 use Rattle.vx_model.specs.ListView.{ListViewParts, listview_column}
-use Rattle.vx_model.specs.Map.{is_entry_type, map_column, map_fault}
+use Rattle.vx_model.specs.Map.{map_column, map_fault}
+use Rattle.vx_types.specs.TypeTree.{is_entry_type}
 use Rattle.vx_model.specs.Plain.{is_listview_layout}
 use Rattle.vx_json.specs.Meaning.{unless_fault}
 use Rattle.vx_column_json.specs.Map.{map_made}

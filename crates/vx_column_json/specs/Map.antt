@@ -1,10 +1,10 @@
 -- What a JSON value means as a column of layout `Map`.
 use Rattle.std.specs.Prelude.{[], ◌∷◌, ◌&&◌, if◌then◌else◌, Bool, Option, Some, None, codes}
 use Rattle.serde_json.specs.Data.{Data}
-use Rattle.vx_types.specs.TypeTree.{TypeKind, TypeTree, list_kind, null_type}
+use Rattle.vx_types.specs.TypeTree.{TypeKind, TypeTree, list_kind, null_type, is_entry_type}
 use Rattle.vx_types.specs.declared.layout_name.LayoutName.TheVariants as layouts
 use Rattle.vx_model.specs.Column.{Column}
-use Rattle.vx_model.specs.Map.{is_entry_type, map_of}
+use Rattle.vx_model.specs.Map.{map_of}
 use Rattle.vx_model.specs.Plain.{is_listview_layout}
 use Rattle.vx_json.specs.Members.{is_closed}
 

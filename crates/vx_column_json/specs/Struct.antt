@@ -19,7 +19,7 @@ use Rattle.vx_column_json.specs.Made.{made}
 abbrev pub fields_named : List (List ℕ) → List Column → FieldTypes
 fields_named names columns = record { names = names; types = types_in columns }
 
--- the same, where there is a name for each
+-- the fields' names beside their columns' types, where there is a name for each
 abbrev pub fields_made : List (List ℕ) → List Column → Option FieldTypes
 fields_made names columns = made fields_fault (λ f. f) (fields_named names columns)
 

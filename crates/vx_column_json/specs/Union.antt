@@ -32,7 +32,8 @@ variant_name d = get (codes "name") d >>= as_str
 abbrev pub variants_named : List ℕ → List (List ℕ) → List Column → VariantTypes
 variants_named ids names columns = record { ids = ids; names = names; types = types_in columns }
 
--- the same, where there is one of each for a column, and no id occurs twice
+-- ids and names beside the columns' types, where there is one of each for a column, and no id
+-- occurs twice
 abbrev pub variants_made : List ℕ → List (List ℕ) → List Column → Option VariantTypes
 variants_made ids names columns = made variants_fault (λ v. v) (variants_named ids names columns)
 

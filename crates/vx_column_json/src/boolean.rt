@@ -67,7 +67,7 @@ fn offset_of(value: &Value) -> Result<usize, DocError>
 /// What [`bool_by`] gives, as that layout: its bits are stored at the offset that is stated, of
 /// which a column tells nothing.
 #[tactic(auto, unfolding(crate::specs::Boolean::bool_array))]
-pub fn bool_array(
+pub(crate) fn bool_array(
     alloc: Global,
     value: &Value,
     stated: Option<Validity>,

@@ -15,8 +15,8 @@ use vx_column::{Array, FilterArray};
 use vx_json::{DocError, if_closed, mask_of, member};
 use vx_mask::Mask;
 
-/// The same mask, with what finds its rows fast: their positions where it keeps at most a 64th,
-/// which take no more memory than its bits, or else its block counts.
+/// The mask, with what finds its rows fast: their positions where it keeps at most a 64th, which
+/// take no more memory than its bits, or else its block counts.
 fn with_ranks(alloc: Global, mask: Mask) -> Result<Mask, NoMemory>
     ensures bits { IfOk result (λ m. mask_bits m ≡ mask_bits mask) }
     ensures kept { IfOk result (λ m. partial_of m ≡ option_map with_ranks (partial_of mask)) }
@@ -39,7 +39,11 @@ fn filter_made(alloc: Global, child: Array, mask: Mask) -> Result<FilterArray, D
 /// What [`filter_by`] gives, as that layout: its mask keeps what finds its rows fast, beside what
 /// the document lists of them, of which a column tells nothing.
 #[tactic(auto, unfolding(crate::specs::Filter::filter_by, crate::specs::Filter::filter_kept))]
-pub fn filter_array(alloc: Global, value: &Value, child: Array) -> Result<FilterArray, DocError>
+pub(crate) fn filter_array(
+    alloc: Global,
+    value: &Value,
+    child: Array,
+) -> Result<FilterArray, DocError>
     ensures column { Gives filter_column result (filter_by (view value.now) child) }
     ensures kept { IfOk result (λ a. filter_kept (view value.now) ≡ Some (partial_of a.mask)) }
 {

@@ -35,7 +35,7 @@ const MEMBERS: [&str; 5] = ["layout", "offsets", "offset_type", "elements", "val
 /// of which a column tells nothing. `Malformed` where the offsets can't cut the elements, the
 /// validity can't be theirs, or there is another member.
 #[tactic(auto, unfolding(crate::specs::List::list_array, crate::specs::List::list_by_offsets))]
-pub fn list_array(
+pub(crate) fn list_array(
     alloc: Global,
     value: &Value,
     elements: Array,

@@ -60,7 +60,7 @@ const MEMBERS: [&str; 6] = [
 /// where none is, and of which a column tells nothing. `Malformed` where the elements aren't there,
 /// the validity can't be theirs, or there is another member.
 #[tactic(auto, unfolding(crate::specs::ListView::listview_array))]
-pub fn listview_array(
+pub(crate) fn listview_array(
     alloc: Global,
     value: &Value,
     elements: Array,

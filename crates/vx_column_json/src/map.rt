@@ -6,6 +6,7 @@ ghost use Rattle.vx_column_json.specs.Map.{map_by, map_made};
 use serde_json::Value;
 use vx_column::{Array, MapArray};
 use vx_json::{DocError, is_closed};
+use vx_plain::ReadLayout;
 
 /// The maps of these entries. `Malformed` where they aren't list views of structs of a key and a
 /// value.

@@ -9,7 +9,7 @@ ghost use Rattle.vx_column_json.specs.Offsets.{are_wholes, offset_type_of, offse
 use serde_json::Value;
 use std::alloc::Global;
 use vx_bits::Records;
-use vx_column::{PType, PrimitiveArray, Validity};
+use vx_column::{PType, PrimitiveArray, number_column};
 use vx_json::{DocError, list_member, ptype_named, text_in, values_of};
 
 /// The type of the offsets: as the object says, or else the usual one.
@@ -28,10 +28,7 @@ pub(crate) fn offsets_column(ptype: PType, records: Records) -> PrimitiveArray
     requires { width_of records ≡ width ptype }
     ensures { result ≡ offsets_column ptype (records_of records) }
 {
-    match PrimitiveArray::try_new(ptype, records, Validity::NonNullable) {
-        Ok(column) => column,
-        Err(_) => unreachable!(),
-    }
+    number_column(ptype, records)
 }
 
 /// Whether each is a non-negative integer.

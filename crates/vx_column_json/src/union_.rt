@@ -153,7 +153,7 @@ fn union_with(
     }
 }
 
-/// That union. `Malformed` where the parts can't make one.
+/// The union of these parts. `Malformed` where they can't make one.
 #[tactic(auto, unfolding(crate::specs::Made::made))]
 fn union_made(
     alloc: Global,
@@ -172,7 +172,7 @@ fn union_made(
 /// What [`union_by`] gives, as that layout: it has the offsets that are stated, of which a column
 /// tells the type alone.
 #[tactic(auto, unfolding(crate::specs::Union::union_array))]
-pub fn union_array(
+pub(crate) fn union_array(
     alloc: Global,
     value: &Value,
     type_ids: Array,

@@ -59,7 +59,7 @@ fn varbin_by_offsets(
 /// What [`varbin_by`] gives, as that layout: its offsets are of the type that is stated, which is
 /// `i32` where none is, and of which a column tells nothing.
 #[tactic(auto, unfolding(crate::specs::VarBin::varbin_array, crate::specs::VarBin::varbin_by_items))]
-pub fn varbin_array(
+pub(crate) fn varbin_array(
     alloc: Global,
     value: &Value,
     stated: Option<Validity>,

@@ -17,7 +17,7 @@ use vx_json::{
 };
 use vx_shared::Shared;
 
-/// These views. `Malformed` where one is none of a text, or the validity can't be
+/// The column of these views. `Malformed` where one is none of a text, or the validity can't be
 /// theirs.
 #[tactic(auto, unfolding(crate::specs::Made::made))]
 fn views_made(
@@ -53,7 +53,7 @@ fn views_by_buffers(
 /// What [`views_by`] gives, as that layout: a listed text of more than twelve bytes stands in
 /// buffer 0, of which a column tells nothing.
 #[tactic(auto, unfolding(crate::specs::VarBinView::views_array, crate::specs::VarBinView::views_by_items))]
-pub fn views_array(
+pub(crate) fn views_array(
     alloc: Global,
     value: &Value,
     stated: Option<Validity>,

@@ -6,7 +6,7 @@ abbrev pub bounds_from : ℕ → List ℕ → List ℕ
 bounds_from start [] = start ∷ []
 bounds_from start (n ∷ ns) = start ∷ bounds_from (start + n) ns
 
--- the same for parts of these lengths
+-- where each part of these lengths begins, the first one at 0, and where the last one ends
 abbrev pub bounds_of : List ℕ → List ℕ
 bounds_of lengths = bounds_from 0 lengths
 

@@ -17,7 +17,8 @@ left_in starts ends k = slice_index ends k - slice_index starts k
 abbrev pub slice_fault : List ℕ → ℕ → ℕ → ℕ
 slice_fault lengths start end = if nat_le start end && nat_le end (sum lengths) then 0 else 5
 
--- the same, and 1 where the lists are not all of one length
+-- 1 where the lists are not all of one length, else 5 where the slice begins past its end or ends
+-- past the rows, else 0
 abbrev pub cut_fault : List ℕ → ℕ → ℕ → ℕ → ℕ → ℕ → ℕ
 cut_fault lengths start end starts ends left =
     if starts == length lengths && ends == length lengths && left == length lengths

@@ -1,7 +1,7 @@
 //! A column that is cut into parts, by numbers alone: where parts begin, and what slices, masks and
 //! picks of the whole are of each of them.
 //!
-//! The calls over lists of the caller's test what they ask of them, take no memory, and answer a
+//! The calls over lists of the caller's test what they ask of them, don't allocate, and return a
 //! status and a number, as those of `vx_words` do. A call whose status is not 0 is refused, and
 //! writes nothing.
 #![tactic(auto)]

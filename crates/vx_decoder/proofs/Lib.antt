@@ -1,2 +1,1 @@
 pub mod ReadPlaces
-pub mod ToldCalls

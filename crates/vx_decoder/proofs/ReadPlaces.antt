@@ -1,5 +1,5 @@
 -- Values that are read at places.
-use Rattle.std.proofs.Common.{◌≡◌, refl, true, ℕ, zero, suc, ◌+◌, ◌<◌, List, [], ◌∷◌, ◌++◌, length, get_or, take, drop, set, map, cond, None, Some, sym, ap, ap₂, ◌∙◌, arith}
+use Rattle.std.proofs.Common.{◌≡◌, refl, true, ℕ, suc, ◌+◌, ◌<◌, List, [], ◌∷◌, ◌++◌, length, get_or, take, drop, set, map, cond, None, Some, sym, ap, ap₂, ◌∙◌, arith}
 use Rattle.std.specs.Prelude.{slice_get}
 use Rattle.std.specs.List.{All}
 use Rattle.std.proofs.lemmas.List.{take_more_set, map_push, map_more}
@@ -7,6 +7,7 @@ use Rattle.std.proofs.lemmas.Option.{slice_get_read}
 use Rattle.vx_mask.specs.declared.error.MaskError.TheVariants.{Indices}
 use Rattle.vx_mask.specs.Positions.{ascending}
 use Rattle.vx_mask.proofs.AscendingLists.{faultless_indices}
+use Rattle.vx_lemmas.proofs.Picked.{part_read}
 
 -- places that ascend within a chunk lie in it
 pub places_below : (places : List ℕ) → ascending 0 1024 places ≡ true → All (λ p. p < 1024) places
@@ -18,20 +19,6 @@ put_read dst values places k x h p q r e =
     ap (map Some) (take_more_set dst k x p) ∙ map_push Some (take k dst) x
     ∙ ap₂ (λ l o. l ++ o ∷ []) h (sym (slice_get_read values (length values) (get_or places k 0) x refl r e))
     ∙ sym (map_more (slice_get values) places k 0 q)
-
-slice_get_take : {X : Type 0} (n : ℕ) (xs : List X) (p : ℕ) → p < n → slice_get (take n xs) p ≡ slice_get xs p
-slice_get_take zero xs p h = absurd (omega arith)
-slice_get_take (suc n) [] p h = refl
-slice_get_take (suc n) (x ∷ xs) zero h = refl
-slice_get_take (suc n) (x ∷ xs) (suc p) h = slice_get_take n xs p (omega arith)
-
-slice_get_drop : {X : Type 0} (n : ℕ) (xs : List X) (p : ℕ) → slice_get (drop n xs) p ≡ slice_get xs (n + p)
-slice_get_drop zero xs p = let e : p ≡ 0 + p = omega arith in ap (slice_get xs) e
-slice_get_drop (suc n) [] p = refl
-slice_get_drop (suc n) (x ∷ xs) p = let e : suc (n + p) ≡ suc n + p = omega arith in slice_get_drop n xs p ∙ ap (slice_get (x ∷ xs)) e
-
-pub part_read : {X : Type 0} (values : List X) (base n p : ℕ) → p < n → slice_get (take n (drop base values)) p ≡ slice_get values (base + p)
-part_read values base n p h = slice_get_take n (drop base values) p h ∙ slice_get_drop base values p
 
 -- those at places below n
 pub part_at : {X : Type 0} (values : List X) (base n : ℕ) (places : List ℕ) → All (λ p. p < n) places → map (slice_get (take n (drop base values))) places ≡ map (λ p. slice_get values (base + p)) places

@@ -39,7 +39,7 @@ impl Model for CallLog {
 }
 
 impl CallLog {
-    /// No calls. It takes no memory.
+    /// An empty log of calls.
     pub fn new() -> CallLog
         ensures { result ≡ [] }
     {

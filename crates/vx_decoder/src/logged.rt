@@ -53,7 +53,7 @@ impl<T: Copy, D: ChunkDecoder<T> + Drop> Logged<T, D> {
         self.made.as_slice()
     }
 
-    /// The calls, without the decoder. It takes no memory.
+    /// The calls, without the decoder.
     pub fn into_log(self) -> CallLog
         ensures { result ≡ self.1 }
     {

@@ -26,7 +26,7 @@ impl<T: Copy> Model for StoredChunks<T> {
 }
 
 impl<T: Copy> StoredChunks<T> {
-    /// A decoder of these values, which are whole chunks. It takes no memory.
+    /// A decoder of these values, which are whole chunks.
     #[tactic(auto, using(crate::specs::Laws::whole_chunks_same))]
     pub fn new(values: Buffer<T>) -> StoredChunks<T>
         requires { length values % 1024 ≡ 0 }

@@ -23,7 +23,7 @@ none_bad true None h = refl
 none_bad true (Some z) h = cc
 none_bad false bad h = cc
 
--- the same indices, unwrapped
+-- indices that are unwrapped
 module _ (p c : Column) (n : ℕ) (same : IsStep p p.rows p.dtype c) where
   pub int-indices : column_fault p n ≡ None → is_int_type c.dtype ≡ true
   int-indices h =

@@ -1,8 +1,8 @@
 -- Steps over columns one by one.
-use Rattle.std.proofs.Common.{◌≡◌, ℕ, zero, suc, ◌+◌, ◌<◌, ◌≤◌, Bool, true, false, List, [], ◌∷◌, ◌++◌, length, take, get_or, slice_range, Option, None, Some, refl, sym, ap, subst, ◌∙◌, arith}
+use Rattle.std.proofs.Common.{◌≡◌, ℕ, zero, suc, ◌+◌, ◌<◌, Bool, true, false, List, [], ◌∷◌, ◌++◌, length, take, get_or, slice_range, Option, None, Some, refl, sym, ap, subst, ◌∙◌, arith}
 use Rattle.std.specs.Prelude.{IfSome, if◌then◌else◌}
 use Rattle.std.specs.List.{items_where_true}
-use Rattle.std.proofs.lemmas.List.{take_all, take_more}
+use Rattle.std.proofs.lemmas.List.{take_more}
 use Rattle.std.proofs.lemmas.List.Elements.{All-cons, All-nil}
 use Rattle.vx_mask.specs.Mask.{mask_bits}
 use Rattle.vx_mask.specs.MaskValues.{PartialMask, keep_indices}
@@ -18,9 +18,7 @@ use Rattle.vx_model.specs.Columns.{AreCuts, AreSteps, firsts_for_nulls}
 use Rattle.vx_model.specs.Step.{IsCut, IsSlice, IsStep, IsTake}
 use Rattle.vx_model.proofs.Across.{long-get, shallow-get}
 use Rattle.vx_model.proofs.Nullabilities.{also_nullable-none}
-
-pub columns_all : (cs : List Column) (k : ℕ) → length cs ≤ k → take k cs ≡ cs
-columns_all cs k h = take_all k cs h
+use Rattle.vx_model.proofs.Columns.{columns_all}
 
 -- ---- one more column
 

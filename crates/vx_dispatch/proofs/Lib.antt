@@ -1,5 +1,4 @@
 pub mod Codes
-pub mod Results
 pub mod RunTakes
 pub mod ListSteps
 pub mod Unflat

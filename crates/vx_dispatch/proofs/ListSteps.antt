@@ -1,27 +1,26 @@
 -- What a step leaves of lists, beside what it leaves of their validity.
-use Rattle.std.proofs.Common.{◌≡◌, ℕ, ◌-◌, ◌*◌, ◌≤◌, Bool, true, false, List, [], map, length, slice_range, Option, refl, sym, ap, ◌∙◌, subst, arith}
+use Rattle.std.proofs.Common.{◌≡◌, ℕ, ◌-◌, ◌≤◌, Bool, true, false, List, [], map, length, slice_range, Option, refl, sym, ap, ◌∙◌, subst, arith}
 use Rattle.std.specs.Prelude.{replicate}
 use Rattle.std.specs.List.{items_where_true}
 use Rattle.std.proofs.lemmas.List.{length-map, length-replicate}
 use Rattle.vx_types.specs.RowValue.{RowValue, null}
 use Rattle.vx_types.specs.Nullability.{either_nullable}
 use Rattle.vx_types.specs.declared.nullability.Nullability.{Nullability}
-use Rattle.vx_take.specs.Picks.{at, item_at}
+use Rattle.vx_take.specs.Picks.{at}
 use Rattle.vx_bits.specs.BitBuffer.{true_count_of}
 use Rattle.vx_lists.specs.Plans.{lists_left}
 use Rattle.vx_model.specs.Lists.{ListsParts, kept_lists, list_row, lists_column, lists_of, stored_lists}
 use Rattle.vx_model.specs.Plain.{is_in_place, is_lazy_layout}
 use Rattle.vx_model.specs.Step.{IsCut, IsSlice, IsStep}
 use Rattle.vx_model.specs.Valid.{Valid, non_nullable, all_valid, all_invalid, by_column, is_fitting, nullability_by, present_bits, stored_rows, IsAsPlain, IsLeft}
-use Rattle.vx_model.proofs.Items.{length-items_where_true, length-slice_range}
+use Rattle.vx_model.proofs.Items.{length-slice_range}
 use Rattle.vx_model.proofs.ListForms.{is_same-lists}
 use Rattle.vx_model.proofs.ListRows.{fits-lists, items-lists, length-lists}
 use Rattle.vx_model.proofs.ListSteps.{is_filter-hidden, is_filter-lists, is_slice-lists, is_take-kept_lists, is_take-lists}
 use Rattle.vx_model.proofs.ShownRows.{length-present_bits, none_shown}
 use Rattle.vx_model.proofs.Takes.{length-at}
-
-pub swapped : (a b : ℕ) → a * b ≡ b * a
-swapped a b = grind arith
+use Rattle.vx_model.proofs.Steps.{fitting-take}
+use Rattle.vx_mask.proofs.RankedItems.{length-items_where_true}
 
 -- ---- what is left of a validity fits what is left of the rows
 
@@ -36,9 +35,6 @@ module _ (v w : Valid) (n : Nullability) (m : ℕ) (fit : is_fitting v m ≡ tru
 
   pub fits_same : IsLeft v n (present_bits v m) w → is_fitting w m ≡ true
   fits_same left = ap (is_fitting w) (sym (length-present_bits v m fit)) ∙ left.fitting
-
-  pub fits_take : (picks : List (Option ℕ)) → IsLeft v n (at false (present_bits v m) picks) w → is_fitting w (length picks) ≡ true
-  fits_take picks left = ap (is_fitting w) (sym (length-map picks (item_at false (present_bits v m)))) ∙ left.fitting
 
 -- by the validity that is known to be this, and a mask of so many bits
 module _ {v w given : Valid} {m : ℕ} (mask : List Bool) (same : given ≡ v) (long : length mask ≡ m) (left : IsLeft given (nullability_by given) (items_where_true mask (present_bits given (length mask))) w) where
@@ -101,7 +97,7 @@ module _ (p q : ListsParts) (from : is_in_place p.layout ≡ false) (to : is_laz
   take_kept_step picks n lists left =
       let many : length (at [] (lists_of p) picks) ≡ length picks = length-at [] (lists_of p) picks in
       is_take-kept_lists p q from to kind (fits-lists p fit) [] picks n
-      (ap (is_fitting q.valid) many ∙ fits_take p.valid q.valid n (length p.spans) fit picks left)
+      (ap (is_fitting q.valid) many ∙ fitting-take p.valid q.valid n (length p.spans) picks left)
       (lists ∙ ap (λ k. kept_lists (present_bits q.valid k) (at [] (lists_of p) picks)) (sym many))
       (by_items (λ k. IsLeft p.valid n (at false (present_bits p.valid k) picks) q.valid) left)
 

@@ -1,9 +1,8 @@
 -- The types of a union's columns are those of its variants; the parts that a step leaves.
-use Rattle.std.proofs.Common.{◌≡◌, ◌<◌, ℕ, Bool, true, false, List, [], ◌∷◌, length, slice_range, Option, None, Some, refl, sym, ap, ap₂, subst, ◌∙◌}
+use Rattle.std.proofs.Common.{◌≡◌, ◌<◌, ℕ, Bool, true, false, List, length, slice_range, Option, None, Some, refl, sym, ap, subst, ◌∙◌}
 use Rattle.std.specs.Prelude.{is_some}
 use Rattle.std.specs.List.{items_where_true}
 use Rattle.std.specs.Option.{option_map}
-use Rattle.vx_types.specs.TypeTree.{TypeKind, TypeTree, types_of}
 use Rattle.vx_types.specs.declared.nullability.Nullability.{Nullability}
 use Rattle.vx_types.specs.RowValue.{null}
 use Rattle.vx_take.specs.Picks.{at, BoundedPicks}
@@ -17,21 +16,10 @@ use Rattle.vx_model.proofs.StructSteps.{same_trees}
 use Rattle.vx_model.proofs.UnionSteps.{alike-union}
 use Rattle.vx_stored.specs.Records.{zero_record}
 use Rattle.vx_dispatch.specs.Union.{IsUnionSlice, IsUnionTake, offsets_at, offsets_between}
-
-same_lists : (ts us : List TypeTree) → types_of ts ≡ types_of us → ts ≡ us
-same_lists [] [] h = refl
-same_lists [] (u ∷ us) h = cc
-same_lists (t ∷ ts) [] h = cc
-same_lists (t ∷ ts) (u ∷ us) h =
-    let kind : t.kind ≡ u.kind = cc in
-    let nullability : t.nullability ≡ u.nullability = cc in
-    let rest : types_of ts ≡ types_of us = cc in
-    ap₂ (λ (x : TypeTree) xs. x ∷ xs)
-    (ap₂ (λ (k : TypeKind) (n : Nullability). let x : TypeTree = record { kind = k; nullability = n } in x) kind nullability)
-    (same_lists ts us rest)
+use Rattle.vx_types.proofs.Alike.{types_of-same}
 
 pub types-variants : (p : UnionParts) → union_fault p ≡ None → p.variants.types ≡ types_in p.columns
-types-variants p h = sym (same_lists (types_in p.columns) p.variants.types (same_trees _ _ (alike-union p h)))
+types-variants p h = sym (types_of-same (types_in p.columns) p.variants.types (same_trees _ _ (alike-union p h)))
 
 -- the ids that are taken by a copy of the picks
 pub ids_taken : {given ids a x : Column} {copy picks : BoundedPicks} (n : Nullability) → given ≡ ids → copy ≡ picks → x ≡ a → IsTake given copy.picks n a → IsTake ids picks.picks n x

@@ -82,8 +82,8 @@ pub(crate) fn take_each(
     Columns::new(alloc, taken)
 }
 
-/// The same rows of each column, executed but where one value or one code stands for each of
-/// them: they may be more than any memory holds.
+/// Each column executed, except where one value or one code stands for all its rows: they may be
+/// more than any memory holds.
 #[cycle(execute)]
 #[tactic(auto, using(crate::proofs::EachColumn::each_column))]
 pub(crate) fn execute_each(

@@ -7,12 +7,13 @@ use crate::executing::{ExecuteRows, execute};
 use crate::filtering::{FilterRows, filter_values};
 use crate::parts::{Parts, StepResult};
 use crate::slicing::{SliceRows, slice};
-use crate::taking::{TakeRows, number_picks, take_picks};
+use crate::taking::{TakeRows, take_picks};
 use crate::validity::{TakeBits, taken_bits};
 use std::alloc::Global;
 use vx_bits::{BitBuffer, NoMemory};
 use vx_column::{Array, DictArray, Nullability};
 use vx_mask::{MaskValues, Policy};
+use vx_pieces::number_picks;
 use vx_take::Picks;
 
 // The column with other codes for its rows.
@@ -67,7 +68,7 @@ impl TakeBits for DictArray {
     }
 }
 
-// The same rows, each the value that its code names.
+// The dictionary's rows, each the value that its code names.
 impl ExecuteRows for DictArray {
     #[cycle(execute)]
     #[tactic(auto, using(vx_model::proofs::LazyRows::lazy_rows))]
@@ -79,7 +80,7 @@ impl ExecuteRows for DictArray {
     }
 }
 
-/// The same codes, of the values executed.
+/// The dictionary with its values executed and its codes as they are.
 #[cycle(execute)]
 #[tactic(auto, using(crate::proofs::Codes::other_values))]
 pub(crate) fn execute_values(

@@ -9,13 +9,14 @@ ghost use Rattle.vx_stored.specs.Scalars.{text_layout};
 use crate::parts::{Parts, StepResult};
 use std::alloc::Global;
 use vx_bits::NoMemory;
-use vx_column::{Array, Layout, Lists, Stored};
+use vx_column::{Array, Layout, Lists};
 use vx_mask::Policy;
+use vx_plain::Stored;
 use vx_stored::execute_constant;
 
 /// A layout whose rows the recursion unwraps.
 pub(crate) trait ExecuteRows: Parts {
-    // The same rows, as `execute` gives them.
+    // The layout's rows, as `execute` gives them.
     fn execute(&self, alloc: Global, policy: &Policy) -> StepResult
         ensures same { IfOk result (IsStep (Self.column self.now) (Self.column self.now).rows
             (Self.column self.now).dtype) }
@@ -25,8 +26,8 @@ pub(crate) trait ExecuteRows: Parts {
         ensures kept { is_unwrapped (Self.column self.now) ≡ true → IsOk result };
 }
 
-/// The same rows and type, unwrapped where the type is flat, and of no lazy layout. Fails only with
-/// `NoMemory`, and never where the column is unwrapped.
+/// The column with its rows and type, unwrapped where the type is flat, and of no lazy layout.
+/// Fails only with `NoMemory`, and never where the column is unwrapped.
 ///
 /// A `Constant` of texts becomes a `VarBinView`, or a `VarBin` where its value has 2^32 bytes or
 /// more.

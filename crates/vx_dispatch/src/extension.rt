@@ -49,7 +49,7 @@ impl SliceRows for ExtensionArray {
     }
 }
 
-// The same rows, with the storage executed.
+// The extension's rows, with the storage executed.
 impl ExecuteRows for ExtensionArray {
     #[cycle(execute)]
     fn execute(&self, alloc: Global, policy: &Policy) -> StepResult {

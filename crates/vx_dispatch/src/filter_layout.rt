@@ -114,7 +114,7 @@ impl TakeBits for FilterArray {
     }
 }
 
-// The same rows, which the mask keeps of the child's unwrapped form.
+// The filter's rows: those that the mask keeps of the child's unwrapped form.
 impl ExecuteRows for FilterArray {
     #[cycle(execute)]
     #[tactic(auto, using(vx_model::proofs::LazyRows::lazy_rows))]

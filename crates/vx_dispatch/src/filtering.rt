@@ -10,8 +10,9 @@ use crate::slicing::slice;
 use crate::union_::filter_variants;
 use std::alloc::Global;
 use vx_bits::NoMemory;
-use vx_column::{Array, Layout, Stored};
+use vx_column::{Array, Layout};
 use vx_mask::{Mask, MaskValues, Policy};
+use vx_plain::Stored;
 use vx_stored::{filter_constant, filter_nulls};
 
 /// A layout whose rows the recursion filters.

@@ -17,7 +17,7 @@ use vx_bits::NoMemory;
 use vx_column::{Array, ArrayRef, Layout, ListViewArray, Lists, Validity};
 use vx_mask::Policy;
 
-// The same list views, of elements and with a validity that say the same.
+// The list views over their elements and with their validity, both in another form.
 fn views_with(array: &ListViewArray, elements: ArrayRef, validity: Validity) -> ListViewArray
     requires elements { IsStep array.now.elements array.now.elements.rows
         array.now.elements.dtype elements }
@@ -33,7 +33,7 @@ fn views_with(array: &ListViewArray, elements: ArrayRef, validity: Validity) -> 
     array.with_parts(elements, offsets, sizes, validity)
 }
 
-// The same lists, of elements and with a validity that say the same.
+// The lists over their elements and with their validity, both in another form.
 #[tactic(auto, using(vx_model::proofs::ListRows::list_rows, vx_model::proofs::ListRows::listview_rows, vx_model::proofs::ListRows::fixed_rows))]
 fn with_elements(lists: Lists<'_>, elements: ArrayRef, validity: Validity) -> Array
     requires elements { IsStep (spans_of lists).elements (spans_of lists).elements.rows
@@ -85,7 +85,7 @@ impl Parts for Lists<'_> {
     ghost column = { λ lists. lists_column (spans_of lists) };
 }
 
-// The same rows, with the elements and the validity executed.
+// The lists' rows, with the elements and the validity executed.
 impl ExecuteRows for Lists<'_> {
     #[cycle(execute)]
     #[tactic(auto, using(crate::proofs::Unflat::unflat))]

@@ -68,7 +68,7 @@ fn row_bytes(array: &Array) -> usize {
     }
 }
 
-// The same of columns side by side.
+// How many bytes a row of columns side by side takes, without the columns below them.
 fn rows_bytes(columns: &Columns) -> usize {
     let mut bytes: usize = 0;
     for column in columns.as_slice() {

@@ -7,7 +7,8 @@ use crate::parts::{Parts, StepResult};
 use crate::union_::slice_variants;
 use std::alloc::Global;
 use vx_bits::NoMemory;
-use vx_column::{Array, Layout, Stored};
+use vx_column::{Array, Layout};
+use vx_plain::Stored;
 use vx_stored::{slice_constant, slice_nulls};
 
 /// A layout whose rows the recursion slices.

@@ -6,7 +6,7 @@ ghost use Rattle.vx_take.specs.Picks.{run_places};
 ghost use Rattle.vx_model.specs.Records.{records_column};
 ghost use Rattle.vx_model.specs.Step.{IsTake};
 ghost use Rattle.vx_model.specs.Stored.{stored_column};
-ghost use Rattle.vx_column.specs.Stored.{parts_of};
+ghost use Rattle.vx_plain.specs.Stored.{parts_of};
 
 use crate::executing::ExecuteRows;
 use crate::filtering::FilterRows;
@@ -16,8 +16,9 @@ use crate::taking::TakeRows;
 use crate::validity::{execute_validity, filter_validity, slice_validity, take_validity};
 use std::alloc::Global;
 use vx_bits::NoMemory;
-use vx_column::{Array, Nullability, RecordArray, Runs, Stored};
+use vx_column::{Array, Nullability, RecordArray, Runs};
 use vx_mask::{MaskValues, Policy};
+use vx_plain::Stored;
 use vx_stored::{filter_stored, slice_stored, take_array_runs, take_stored, with_validity};
 use vx_take::Picks;
 
@@ -49,7 +50,7 @@ impl TakeRows for Stored<'_> {
     }
 }
 
-// The same rows, with the validity unwrapped.
+// The stored rows, with the validity unwrapped.
 impl ExecuteRows for Stored<'_> {
     #[cycle(execute)]
     fn execute(&self, alloc: Global, policy: &Policy) -> StepResult {

@@ -80,7 +80,7 @@ impl TakeRows for StructArray {
     }
 }
 
-// The same rows, with the fields and the validity executed.
+// The structs' rows, with the fields and the validity executed.
 impl ExecuteRows for StructArray {
     #[cycle(execute)]
     #[tactic(auto, using(vx_model::proofs::StructSteps::struct_rows))]

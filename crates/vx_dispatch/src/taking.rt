@@ -1,11 +1,9 @@
 //! The rows at picks, over every layout.
 ghost use Rattle.std.specs.Prelude.{◌≡◌, length, None, true, IfOk, IsOk};
-ghost use Rattle.vx_positions.specs.Positions.{AllThere, first_bad, positions_of};
-ghost use Rattle.vx_types.specs.TypeTree.{is_int_type};
+ghost use Rattle.vx_positions.specs.Positions.{AllThere};
 ghost use Rattle.vx_types.specs.declared.nullability.Nullability.TheVariants.{NonNullable};
 ghost use Rattle.vx_pieces.specs.Indices.{index_fault, index_nullability, index_picks, index_value};
 ghost use Rattle.vx_model.specs.Null.{null_column};
-ghost use Rattle.vx_model.specs.Numbers.{numbers_of};
 ghost use Rattle.vx_model.specs.Plain.{is_null_layout};
 ghost use Rattle.vx_model.specs.Step.{IsTake};
 
@@ -15,9 +13,10 @@ use crate::runs::take_by_runs;
 use crate::union_::take_variants;
 use std::alloc::Global;
 use vx_bits::NoMemory;
-use vx_column::{Array, Layout, NullArray, Nullability, Stored};
+use vx_column::{Array, Layout, NullArray, Nullability};
 use vx_mask::Policy;
-use vx_pieces::Indices;
+use vx_pieces::{Indices, number_picks};
+use vx_plain::Stored;
 use vx_stored::{take_constant, take_nulls};
 use vx_take::Picks;
 
@@ -103,21 +102,6 @@ fn nulls_for(array: &NullArray, indices: &Indices) -> Array
     NullArray::new(indices.len()).into_array()
 }
 
-/// The positions that the numbers of a column name, of which there are `len`; none at a null.
-pub(crate) fn number_picks(alloc: Global, column: &Array, len: usize) -> Result<Picks, NoMemory>
-    requires int { is_int_type column.now.dtype ≡ true }
-    requires sound { first_bad len (numbers_of column.now) ≡ None }
-    ensures picks { IfOk result
-        (λ p. p ≡ record { picks = positions_of (numbers_of column.now); bound = len }) }
-    ensures there { IfOk result
-        (λ p. column.now.dtype.nullability ≡ NonNullable → AllThere p.picks) }
-{
-    match column.dtype().int_type() {
-        Some(ptype) => column.positions(alloc, ptype, len),
-        None => unreachable!(),
-    }
-}
-
 // The positions that the indices name. A column of them is unwrapped first, so that no row of a
 // lazy one is looked up by its rank.
 #[tactic(auto, using(crate::proofs::Codes::indices))]
@@ -142,7 +126,7 @@ fn picks_for(
     }
 }
 
-// The same from one index to the next, over every layout.
+// The rows at the indices, from one index to the next, over every layout.
 fn take_by_picks(
     alloc: Global,
     array: &Array,

@@ -174,7 +174,7 @@ pub fn take_variants(
     }
 }
 
-// The same rows, with the ids and the columns executed.
+// The union's rows, with the ids and the columns executed.
 impl ExecuteRows for UnionArray {
     #[cycle(execute)]
     #[tactic(auto, using(vx_model::proofs::UnionSteps::rows_of_unions))]

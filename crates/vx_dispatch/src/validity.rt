@@ -192,7 +192,7 @@ fn see_bools(array: &Array)
     }
 }
 
-/// The same validity, unwrapped: a constant form or an array of layout `Bool`.
+/// The validity, unwrapped: a constant form or an array of layout `Bool`.
 #[cycle(execute)]
 #[tactic(auto, using(vx_model::proofs::Validities::executed))]
 pub(crate) fn execute_validity(

@@ -6,9 +6,9 @@ use Rattle.vx_types.specs.PType.{width}
 use Rattle.vx_types.specs.TypeTree.{TypeTree}
 use Rattle.vx_types.specs.declared.ptype.PType.{PType}
 use Rattle.vx_model.specs.Valid.{Valid, nullability_by}
-use Rattle.vx_column.specs.Records.{kind_of}
-use Rattle.vx_column.specs.declared.records.RecordType.{RecordType}
-use Rattle.vx_column.specs.declared.records.RecordType.TheVariants.{Primitive, Decimal}
+use Rattle.vx_types.specs.RecordType.{kind_of}
+use Rattle.vx_types.specs.declared.record_type.RecordType.{RecordType}
+use Rattle.vx_types.specs.declared.record_type.RecordType.TheVariants.{Primitive, Decimal}
 use Rattle.vx_steps.specs.Shape.{ShapeValue, shape_fault}
 use Rattle.vx_json.specs.Meaning.{◌>>=◌, unless_fault}
 use Rattle.vx_json.specs.Members.{is_closed}
@@ -73,7 +73,7 @@ shape_by t valid d = do
   len ← get (codes "len") d >>= at_most GREATEST_LEN
   shape_made t offset len valid
 
--- the same, where there are at least so many
+-- the records, and zeros behind them up to whole chunks, where there are at least `least`
 abbrev pub filled_from : ℕ → ℕ → List (List ℕ) → Option (List (List ℕ))
 filled_from least w records =
     if nat_le least (length records) then Some (with_fill w records) else None

@@ -5,7 +5,7 @@ use Rattle.std.specs.Cmp.Lexicographic.{slice_cmp}
 use Rattle.serde_json.specs.Data.{Data, null, boolean, number, string, array, object, Items, no_items, item, Members, no_members, member}
 use Rattle.serde_json.specs.Find.{get, as_str}
 use Rattle.vx_model.specs.Column.{Column}
-use Rattle.vx_column.specs.Flat.{flat_fault}
+use Rattle.vx_plain.specs.Flat.{flat_fault}
 use Rattle.vx_json.specs.Meaning.{◌>>=◌, unless_fault}
 use Rattle.vx_column_json.specs.Validity.{validity_alone, validity_stated}
 use Rattle.vx_column_json.specs.Null.{null_by}

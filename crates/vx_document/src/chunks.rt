@@ -206,7 +206,8 @@ fn chunks_by(
     chunks_made(alloc, shape, records)
 }
 
-/// By the name of the type. `Malformed` where there is none, or the members beside it say none.
+/// Chunks of the type of this name. `Malformed` where there is none, or the members beside it say
+/// none.
 #[tactic(auto, unfolding(crate::specs::Chunks::chunks_named))]
 fn chunks_named(
     alloc: Global,

@@ -8,13 +8,14 @@ ghost use Rattle.vx_document.specs.Columns.{by_layout, column_of, each_column, i
 
 use serde_json::Value;
 use std::alloc::Global;
-use vx_column::{Array, ArrayRef, FlatRef, Validity};
+use vx_column::{Array, ArrayRef, Validity};
 use vx_column_json::{
     bool_by, constant_by, decimal_by, dict_by, extension_by, filter_by, lists_by, map_by, null_by,
     primitive_by, struct_by, union_by, validity_alone, validity_listed, validity_named, varbin_by,
     views_by,
 };
 use vx_json::{DocError, list_member, member, text_member};
+use vx_plain::FlatRef;
 
 /// The column that the value means, by its layout. `Malformed` exactly where it means none, but
 /// that `NoMemory` may come in place of any answer.

@@ -44,7 +44,7 @@ impl StepList {
         self.steps.as_slice()
     }
 
-    /// The list of these steps. It takes no memory.
+    /// The list of these steps.
     pub fn from_vec(values: Vec<Step>) -> StepList
         ensures { result ≡ values.items }
     {

@@ -1,6 +1,6 @@
 -- Facts of what may be told.
-use Rattle.std.proofs.Common.{◌≡◌, Bool, true, Option, None, Some, Result, Ok, Err, sym, subst}
-use Rattle.std.specs.Prelude.{IfErr, IfOk, IfSome, IsErrAnd}
+use Rattle.std.proofs.Common.{◌≡◌, Bool, true, Option, None, Some, Result, Ok, Err}
+use Rattle.std.specs.Prelude.{IfErr, IfOk, IfSome}
 
 pub if_some : {X : Type 0} (o : Option X) (P Q : X → Type 0) → IfSome o P → ((x : X) → P x → Q x) → IfSome o Q
 if_some None P Q h f = tt
@@ -10,10 +10,6 @@ pub if_both : {X : Type 0} (o : Option X) (P Q R : X → Type 0) → IfSome o P 
 if_both None P Q R h k f = tt
 if_both (Some x) P Q R h k f = f x h k
 
-pub if_ok : {X E : Type 0} (r : Result X E) (P Q : X → Type 0) → IfOk r P → ((x : X) → P x → Q x) → IfOk r Q
-if_ok (Ok x) P Q h f = f x h
-if_ok (Err e) P Q h f = tt
-
 pub for_all : {X : Type 0} (o : Option X) (P : X → Type 0) → ((x : X) → P x) → IfSome o P
 for_all None P f = tt
 for_all (Some x) P f = f x
@@ -21,10 +17,6 @@ for_all (Some x) P f = f x
 pub under : {X : Type 0} (b : Bool) (o : Option X) (P : X → Type 0) → (b ≡ true → IfSome o P) → IfSome o (λ x. b ≡ true → P x)
 under b None P h = tt
 under b (Some x) P h = h
-
-pub err_is : {X E : Type 0} (r : Result X E) (e : E) (P : E → Type 0) → IsErrAnd r (λ x. x ≡ e) → P e → IfErr r P
-err_is (Ok x) e P h p = absurd h
-err_is (Err x) e P h p = subst P (sym h) p
 
 pub ok_both : {X E : Type 0} (r : Result X E) (P Q R : X → Type 0) → IfOk r P → IfOk r Q → ((x : X) → P x → Q x → R x) → IfOk r R
 ok_both (Ok x) P Q R h k f = f x h k

@@ -22,18 +22,7 @@ use Rattle.vx_file.specs.Stated.{are_spellings, is_header, is_spelling, shape_in
 use Rattle.vx_file.specs.Touched.{block_of_rows, blocks_for, lies_in, blocks_touched}
 use Rattle.vx_file.proofs.Headers.{header_len, header_type}
 use Rattle.vx_file.proofs.TouchedLists.{touched_more, touched_none}
-
-both : (a b : Bool) → (a && b) ≡ true → (a ≡ true) × (b ≡ true)
-both true b e = (refl, e)
-both false b e = absurd cc
-
-from_both : (a b : Bool) → a ≡ true → b ≡ true → (a && b) ≡ true
-from_both true b e f = f
-from_both false b e f = absurd cc
-
-not_so : (b : Bool) → (b ≡ true → ⊥) → b ≡ false
-not_so true h = absurd (h refl)
-not_so false h = refl
+use Rattle.std.proofs.lemmas.Bool.{and_parts, and_from, false_from_ne_true}
 
 -- ---- headers
 
@@ -64,7 +53,7 @@ shape_of_header bytes s h e =
     let back : shape_stated bytes ≡ s = ap shape_stated e ∙ stated_back s h in
     let same : bytes_eq bytes (header (shape_stated bytes)) ≡ true = (bytes_eq-Decides _ _).1 (e ∙ sym (ap header back)) in
     let short : nat_le (shape_stated bytes).len 16777216 ≡ true = let few = h.short in let is = ap (λ (x : ShapeValue). x.len) back in grind (arith, nat_tests) in
-    ap (λ (b : Bool). if b then Some (shape_stated bytes) else None) (from_both _ _ same short) ∙ ap Some back
+    ap (λ (b : Bool). if b then Some (shape_stated bytes) else None) (and_from _ _ same short) ∙ ap Some back
 
 unsigned_by : (a b c : Bool) → is_unsigned (if a then U8 else if b then U16 else if c then U32 else U64) ≡ true
 unsigned_by true b c = refl
@@ -80,10 +69,10 @@ pub no_shape : (bytes : List ℕ) → IsNoHeader bytes → shape_in bytes ≡ No
 unfolding shape_in
 no_shape bytes none =
     let no : is_header bytes ≡ true → ⊥ = λ e.
-    let parts : (bytes_eq bytes (header (shape_stated bytes)) ≡ true) × (nat_le (shape_stated bytes).len 16777216 ≡ true) = both _ _ e in
+    let parts : (bytes_eq bytes (header (shape_stated bytes)) ≡ true) × (nat_le (shape_stated bytes).len 16777216 ≡ true) = and_parts _ _ e in
     let short : (shape_stated bytes).len ≤ 16777216 = let f : nat_le (shape_stated bytes).len 16777216 ≡ true = parts.1 in grind (arith, nat_tests) in
     none (shape_stated bytes) (record { unsigned = unsigned_stated (get_or bytes 8 0); short = short }) ((bytes_eq-Decides _ _).0 parts.0) in
-    ap (λ (b : Bool). if b then Some (shape_stated bytes) else None) (not_so _ no)
+    ap (λ (b : Bool). if b then Some (shape_stated bytes) else None) (false_from_ne_true _ no)
 
 -- ---- spellings
 
@@ -96,12 +85,12 @@ module _ (width : ℕ) where
   is_spelled narrow bytes s =
       let back : numbers_in bytes ≡ s.numbers = ap numbers_in s.spelled ∙ numbers_back width s.numbers narrow s.chunk in
       let below : list_all fits s.numbers ≡ true = list_all-from_AllPass fits s.numbers (λ k d h. let l = s.chunk.below k d h in grind (arith, nat_tests)) in
-      from_both _ _ ((bytes_eq-Decides _ _).1 (s.spelled ∙ sym (ap spell back))) (ap (list_all fits) back ∙ below)
+      and_from _ _ ((bytes_eq-Decides _ _).1 (s.spelled ∙ sym (ap spell back))) (ap (list_all fits) back ∙ below)
 
   pub is_unspelled : (bytes : List ℕ) → IsNoSpelling width bytes → is_spelling width bytes ≡ false
   unfolding is_spelling
-  is_unspelled bytes none = not_so _ (λ e.
-      let parts = both _ _ e in
+  is_unspelled bytes none = false_from_ne_true _ (λ e.
+      let parts = and_parts _ _ e in
       let passes = AllPass-from_list_all fits (numbers_in bytes) parts.1 in
       none (record {
         numbers = numbers_in bytes;
@@ -116,7 +105,7 @@ module _ (width : ℕ) (picks : List (Option ℕ)) (blocks : List (List ℕ)) wh
   test k = is_spelling width (block_at blocks k)
 
   one_block : (picked : Bool) (k : ℕ) → (picked ≡ true → test (k + 1) ≡ true) → list_all test (block_of_rows picked k) ≡ true
-  one_block true k h = from_both _ _ (h refl) refl
+  one_block true k h = and_from _ _ (h refl) refl
   one_block false k h = refl
 
   first_blocks : (n : ℕ) → ((k : ℕ) → k < n → list_any (lies_in k) picks ≡ true → test (k + 1) ≡ true) → list_all test (blocks_touched picks n) ≡ true
@@ -125,7 +114,7 @@ module _ (width : ℕ) (picks : List (Option ℕ)) (blocks : List (List ℕ)) wh
       let e : n + 1 ≡ suc n = omega arith in
       let last = block_of_rows (list_any (lies_in n) picks) n in
       ap (λ m. list_all test (blocks_touched picks m)) (sym e) ∙ ap (list_all test) (touched_more picks n) ∙ list_all-append test (blocks_touched picks n) last
-      ∙ from_both _ _ (first_blocks n (λ k l any. h k (omega arith) any)) (one_block (list_any (lies_in n) picks) n (h n (omega arith)))
+      ∙ and_from _ _ (first_blocks n (λ k l any. h k (omega arith) any)) (one_block (list_any (lies_in n) picks) n (h n (omega arith)))
 
   -- one that is no spelling is found, whatever comes behind it
   still_bad : (k m : ℕ) → list_all test (blocks_touched picks k) ≡ false → list_all test (blocks_touched picks (k + m)) ≡ false

@@ -4,7 +4,6 @@ use Rattle.std.specs.Prelude.{IfSome}
 use Rattle.std.specs.List.{list_any}
 use Rattle.std.proofs.lemmas.List.{length-append}
 use Rattle.vx_bits.specs.WordReader.{then_told}
-use Rattle.vx_decoder.proofs.ToldCalls.{told_more, told_none}
 use Rattle.vx_io.specs.Bytes.{Rose}
 use Rattle.vx_take.specs.Picks.{BoundedPicks}
 use Rattle.vx_file.specs.Blocks.{block_at}
@@ -14,6 +13,7 @@ use Rattle.vx_file.specs.Touched.{AreMarked, block_of_rows, blocks_for, lies_in,
 use Rattle.vx_file.specs.declared.error.FileError.{FileError}
 use Rattle.vx_file.specs.declared.error.FileError.TheVariants.{ReadFault, BadHeader, Damaged, Broken, NoMemory}
 use Rattle.vx_file.proofs.TouchedLists.{touched_longer, touched_more, touched_none}
+use Rattle.vx_bits.proofs.Told.{told_more, told_none}
 
 pub told_nothing : (picks : List (Option ℕ)) (r : Option (List ℕ)) → r ≡ then_told r (blocks_touched picks 0)
 told_nothing picks r = told_none r ∙ ap (then_told r) (sym (touched_none picks))

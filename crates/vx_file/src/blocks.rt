@@ -27,7 +27,7 @@ impl Model for Blocks {
 }
 
 impl Blocks {
-    /// No block yet. It takes no memory.
+    /// An empty list of blocks. Allocates nothing.
     pub fn new(alloc: Global) -> Blocks
         ensures { result ≡ [] }
     {

@@ -8,14 +8,13 @@ ghost use Rattle.vx_model.specs.Plain.{is_unwrapped};
 ghost use Rattle.vx_model.specs.Valid.{cover_by, is_fitting, is_flat_cover, nullability_by, stored_rows};
 ghost use Rattle.vx_column.specs.Validity.{valid_of};
 ghost use Rattle.vx_packed.specs.Faults.{is_width};
-ghost use Rattle.vx_packed.specs.Parts.{record_of};
 ghost use Rattle.vx_file.specs.Reading.{HasRoom, IsThere, held_number, held_records};
 ghost use Rattle.vx_file.specs.Touched.{blocks_for};
 
 use crate::held::Held;
 use std::alloc::Global;
 use vx_bits::{Buffer, NoMemory, Records};
-use vx_column::{Array, PType, RecordType, Validity};
+use vx_column::{Array, PType, RecordType, Validity, record_column};
 use vx_packed::record_from;
 use vx_take::Picks;
 
@@ -49,7 +48,7 @@ fn taken<const N: usize>(
     Buffer::from_vec(alloc, records)
 }
 
-/// The same as records of a width that is one of four.
+/// The records of the picks, and zeros for a null, as records of a width that is one of four.
 pub(crate) fn taken_records(
     alloc: Global,
     held: &Held,
@@ -74,7 +73,7 @@ pub(crate) fn taken_records(
     }
 }
 
-/// The column of these records, as nullable as the validity. It takes no memory.
+/// The column of these records, as nullable as the validity.
 pub(crate) fn column_of(ptype: PType, values: Records, validity: Validity) -> Array
     requires width { width ptype ≡ width_of values }
     requires fitting { is_fitting (valid_of validity) (length (records_of values)) ≡ true }
@@ -83,5 +82,5 @@ pub(crate) fn column_of(ptype: PType, values: Records, validity: Validity) -> Ar
     ensures dtype { result.dtype ≡ primitive_type ptype (nullability_by (valid_of validity)) }
     ensures unwrapped { is_unwrapped result ≡ true }
 {
-    RecordType::Primitive(ptype).column(values, validity)
+    record_column(RecordType::Primitive(ptype), values, validity)
 }

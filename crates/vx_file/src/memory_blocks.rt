@@ -66,7 +66,7 @@ impl MemoryBlocks {
         })
     }
 
-    /// The first reads, without the reader. It takes no memory.
+    /// The first reads, without the reader.
     pub fn into_reads(self) -> ReadLog
         ensures { result ≡ self.kept }
     {

@@ -10,7 +10,7 @@ use crate::block_reader::{BLOCK_LEN, BlockReader};
 use crate::error::FileError;
 use crate::shape::FileShape;
 
-/// What the header of a file states, which is its block 0, by one read. It takes no memory.
+/// What the header of a file states, which is its block 0, by one read.
 ///
 /// `ReadFault` only where a read failed; `BadHeader` exactly where the bytes that were read are no
 /// header.

@@ -32,7 +32,7 @@ impl ReadLog {
         }
     }
 
-    /// No reads. It takes no memory.
+    /// An empty log of reads.
     pub fn new() -> ReadLog
         ensures { result ≡ [] }
     {

@@ -24,7 +24,7 @@ impl Model for SteadyBlocks {
 }
 
 impl SteadyBlocks {
-    /// A reader of these blocks. It takes no memory.
+    /// A reader of these blocks.
     pub fn new(blocks: Blocks) -> SteadyBlocks
         ensures { result ≡ blocks }
     {

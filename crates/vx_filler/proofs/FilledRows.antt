@@ -11,13 +11,13 @@ use Rattle.vx_types.proofs.Carried.{carried-storage, carried_get, dtypes_all, sh
 use Rattle.vx_types.specs.DType.{type_of}
 use Rattle.vx_types.specs.FieldTypes.{FieldTypes, VariantTypes}
 use Rattle.vx_types.specs.Nullability.{is_nullable}
-use Rattle.vx_types.specs.RowValue.{RowValue, null, bytes, list, fields, tagged, none, more, row_values}
-use Rattle.vx_types.specs.Same.{are_same_types, is_same_kind}
+use Rattle.vx_types.specs.RowValue.{RowValue, null, bytes, list, fields, tagged, none}
+use Rattle.vx_types.specs.Same.{are_same_types}
 use Rattle.vx_types.specs.Scalar.{scalar_fault}
 use Rattle.vx_types.specs.Variants.{variants_fault}
 use Rattle.vx_types.specs.declared.error.ColumnError.{ColumnError}
 use Rattle.vx_types.specs.SameLaws.{kind_decides}
-use Rattle.vx_types.specs.TypeTree.{TypeKind, TypeTree, also_nullable, are_carried, are_entries, fixed_type, is_carried, list_type, map_type, primitive_kind, primitive_type, struct_kind, struct_type, types_of, union_type}
+use Rattle.vx_types.specs.TypeTree.{TypeKind, TypeTree, also_nullable, are_carried, are_entries, fixed_type, is_carried, list_type, map_type, primitive_kind, primitive_type, struct_kind, struct_type, types_of, union_type, is_entry_kind, is_entry_type}
 use Rattle.vx_types.specs.declared.dtype.DType.{DType}
 use Rattle.vx_types.specs.declared.nullability.Nullability.{Nullability}
 use Rattle.vx_types.specs.declared.nullability.Nullability.TheVariants.{NonNullable, Nullable}
@@ -27,11 +27,11 @@ use Rattle.vx_positions.specs.Positions.{first_bad, positions_of}
 use Rattle.vx_model.specs.Column.{Column}
 use Rattle.vx_model.specs.Columns.{are_long, rows_across, types_in, with_fronts}
 use Rattle.vx_model.specs.Dict.{DictParts, dict_column, dict_fault}
-use Rattle.vx_model.specs.Filler.{filler_row, filler_value, filler_values}
+use Rattle.vx_model.specs.Filler.{filler_row, filler_value}
 use Rattle.vx_model.specs.FixedSizeList.{FixedParts, fixed_column, fixed_fault}
 use Rattle.vx_model.specs.List.{ListParts, list_column, list_fault}
 use Rattle.vx_model.specs.ListView.{listview_fault}
-use Rattle.vx_model.specs.Map.{is_entry_kind, is_entry_type, map_column, map_of}
+use Rattle.vx_model.specs.Map.{map_column, map_of}
 use Rattle.vx_model.specs.Numbers.{number_in, numbers_of}
 use Rattle.vx_model.specs.Struct.{StructParts, fields_row, struct_column, struct_fault}
 use Rattle.vx_model.specs.Union.{UnionParts, is_known, tagged_rows, union_column, union_fault}
@@ -44,6 +44,9 @@ use Rattle.vx_column.specs.StructParts.{struct_parts}
 use Rattle.vx_column.specs.Validity.{valid_of}
 use Rattle.vx_column.specs.declared.validity.Validity.{Validity}
 use Rattle.vx_filler.specs.Fillers.{empty_views, id_row, valid_by, zero_numbers}
+use Rattle.vx_lemmas.proofs.Lists.{map-replicate}
+use Rattle.vx_model.proofs.Fillers.{values-fields}
+use Rattle.vx_types.proofs.Alike.{same-kind}
 
 -- ---- a list of no elements
 
@@ -155,14 +158,6 @@ fits_all : (n : Nullability) (len : ℕ) → is_fitting (valid_by n) len ≡ tru
 fits_all NonNullable len = refl
 fits_all Nullable len = refl
 
-pub values-fields : (ts : List TypeTree) → filler_values (types_of ts) ≡ row_values (map filler_row ts)
-values-fields [] = refl
-values-fields (t ∷ ts) = ap (λ l. more (filler_row t) l) (values-fields ts)
-
-map-replicate : {X Y : Type 0} (f : X → Y) (n : ℕ) (x : X) → map f (replicate n x) ≡ replicate n (f x)
-map-replicate f zero x = refl
-map-replicate f (suc n) x = ap (λ l. f x ∷ l) (map-replicate f n x)
-
 stored_by : (n : Nullability) (len : ℕ) (x : RowValue) → stored_rows (valid_by n) (replicate len x) ≡ replicate len (if is_nullable n then null else x)
 stored_by NonNullable len x = ap (λ k. shown_rows (replicate k true) (replicate len x)) (length-replicate len x) ∙ all_shown len x
 stored_by Nullable len x = ap (λ k. shown_rows (replicate k false) (replicate len x)) (length-replicate len x) ∙ hidden len
@@ -247,9 +242,6 @@ row-union-first c v cs n h dtype rows across =
 pub ruleset unions = (first-variant, scalar-id, sound-union, dtype-union, row-union-first)
 
 -- ---- extensions
-
-pub same-kind : (k l : TypeKind) → k ≡ l → is_same_kind l k ≡ true
-same-kind k l h = (kind_decides l k).1 (sym h)
 
 pub ruleset extensions = (same-kind)
 

@@ -19,7 +19,7 @@ fn position_or_first(picks: &Picks, i: usize) -> usize
     }
 }
 
-/// The same picks, with the first position in place of each null. Fails only with `NoMemory`.
+/// The picks, with the first position in place of each null. Fails only with `NoMemory`.
 #[tactic(auto, using(crate::proofs::FirstRows::firsts))]
 pub fn firsts_for_nulls(alloc: Global, picks: &Picks) -> Result<Picks, NoMemory>
     requires { 0 < picks.now.bound }

@@ -3,13 +3,13 @@ ghost use Rattle.std.specs.Prelude.{◌≡◌, ◌<◌, [], ◌∷◌, length, m
 ghost use Rattle.vx_types.specs.DType.{type_of};
 ghost use Rattle.vx_types.specs.RowValue.{bytes, null};
 ghost use Rattle.vx_types.specs.Scalar.{has_scalars, scalar_row};
-ghost use Rattle.vx_types.specs.TypeTree.{are_carried, extension_type, fixed_type, is_carried, list_type, primitive_type, struct_type, types_of, union_type};
+ghost use Rattle.vx_types.specs.TypeTree.{are_carried, extension_type, fixed_type, is_carried, list_type, primitive_type, struct_type, types_of, union_type, is_entry_type};
 ghost use Rattle.vx_types.specs.declared.nullability.Nullability.TheVariants.{NonNullable};
 ghost use Rattle.vx_types.specs.declared.ptype.PType.TheVariants.{U8};
 ghost use Rattle.vx_model.specs.Columns.{are_long, rows_across, types_in};
 ghost use Rattle.vx_model.specs.Dict.{dict_fault};
 ghost use Rattle.vx_model.specs.Filler.{filler_row};
-ghost use Rattle.vx_model.specs.Map.{is_entry_type, map_of};
+ghost use Rattle.vx_model.specs.Map.{map_of};
 ghost use Rattle.vx_filler.specs.Fillers.{empty_views, id_row, zero_numbers};
 
 use crate::values::{filler_scalar, filler_validity, zero_numbers};

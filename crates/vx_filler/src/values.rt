@@ -12,7 +12,9 @@ ghost use Rattle.vx_column.specs.Validity.{valid_of};
 
 use std::alloc::Global;
 use vx_bits::{Buffer, NoMemory, Records};
-use vx_column::{DType, Nullability, PType, PrimitiveArray, Scalar, ScalarValue, Validity};
+use vx_column::{
+    DType, Nullability, PType, PrimitiveArray, Scalar, ScalarValue, Validity, number_column,
+};
 
 // So many zeros.
 fn zeros(alloc: Global, len: usize) -> Result<Buffer<u8>, NoMemory>
@@ -73,8 +75,5 @@ pub(crate) fn zero_numbers(alloc: Global, len: usize) -> Result<PrimitiveArray, 
     ensures { IfOk result (λ a. a ≡ zero_numbers len) }
 {
     let records = Records::W1(Buffer::from_vec(alloc, vec![in alloc; [0]; len]?)?);
-    match PrimitiveArray::try_new(PType::U8, records, Validity::NonNullable) {
-        Ok(numbers) => Ok(numbers),
-        Err(_) => unreachable!(),
-    }
+    Ok(number_column(PType::U8, records))
 }

@@ -11,15 +11,15 @@ use Rattle.std.proofs.lemmas.Nat.{div-add-mod', mod_below, pow_pos}
 use Rattle.std.proofs.lemmas.Nat.Bits.{bit_at-lt}
 use Rattle.vx_bits.specs.BitBuffer.{true_count_of}
 use Rattle.vx_bits.specs.Words.{word_bits}
-use Rattle.vx_bits.proofs.BuiltLists.{lowest_is}
 use Rattle.vx_bits.proofs.WordBits.{length-word_bits, take-word_bits, true_count_of-word_bits, word_bits-append, word_bits_low, word_bits_more}
 use Rattle.vx_mask.specs.Positions.{positions, set_of}
-use Rattle.vx_mask.proofs.PositionLists.{length-positions, positions-append}
+use Rattle.vx_mask.proofs.PositionLists.{length-positions, positions-append, positions-shift}
 use Rattle.vx_mask.proofs.RankedItems.{items_at_the_set}
 use Rattle.vx_mask.proofs.WordCounts.{counts_rise}
-use Rattle.vx_filter.proofs.Picks.{same_items}
 use Rattle.vx_filter.proofs.WordItems.{items_behind}
 use Rattle.vx_filter.specs.Compress.{IsPlacesRow, IsTable, places_of}
+use Rattle.vx_lemmas.proofs.Numbers.{low_bits}
+use Rattle.vx_lemmas.proofs.Picked.{same_items}
 
 -- ---- the table
 
@@ -38,12 +38,12 @@ place_clear byte bit e =
     ∙ append-nil (set_of (word_bits byte bit))
 
 pub digit_below : (byte bit : ℕ) → bit_and (byte / 2 ^ bit) 1 < 2
-digit_below byte bit = omega (arith, lowest_is (byte / 2 ^ bit) 1 (omega arith))
+digit_below byte bit = omega (arith, low_bits (byte / 2 ^ bit) 1 (omega arith))
 
 -- a bit's position was written behind those of the set bits, and stays if the bit is set
 pub place_written : (byte bit count x : ℕ) (row : List ℕ) → x ≡ bit_and (byte / 2 ^ bit) 1 → count < length row → take count row ≡ set_of (word_bits byte bit) → take (count + x) (set row count bit) ≡ set_of (word_bits byte (bit + 1))
 place_written byte bit count x row is h f =
-    let value : x ≡ bit_at byte bit = is ∙ lowest_is (byte / 2 ^ bit) 1 (omega arith) in
+    let value : x ≡ bit_at byte bit = is ∙ low_bits (byte / 2 ^ bit) 1 (omega arith) in
     elim (cases_lt (bit_at byte bit) 1) [
       | inl none ↦
           let clear : bit_at byte bit ≡ 0 = omega arith in
@@ -81,17 +81,12 @@ rows_more b places new row e r t = record {
 
 -- ---- the bytes of a word
 
-positions-shift : (a b : ℕ) (bits : List Bool) → positions (a + b) bits ≡ map (λ p. a + p) (positions b bits)
-positions-shift a b [] = refl
-positions-shift a b (true ∷ bits) = let next : a + b + 1 ≡ a + (b + 1) = omega arith in ap (λ l. (a + b) ∷ l) (ap (λ n. positions n bits) next ∙ positions-shift a (b + 1) bits)
-positions-shift a b (false ∷ bits) = let next : a + b + 1 ≡ a + (b + 1) = omega arith in ap (λ n. positions n bits) next ∙ positions-shift a (b + 1) bits
-
 -- the places of the bits of one byte more
 byte_places : (word n byte : ℕ) → byte ≡ bit_and (word / 2 ^ n) 255 → set_of (word_bits word (n + 8)) ≡ set_of (word_bits word n) ++ map (λ p. n + p) (places_of byte)
 byte_places word n byte e =
     let y = word / 2 ^ n in
     let low = word_bits_low word n in
-    let is : byte ≡ y % 2 ^ 8 = e ∙ lowest_is y 8 (omega arith) in
+    let is : byte ≡ y % 2 ^ 8 = e ∙ low_bits y 8 (omega arith) in
     let own : word_bits y 8 ≡ word_bits byte 8 = sym (word_bits_low y 8) ∙ ap (λ x. word_bits x 8) (sym is) in
     let split : word_bits word (n + 8) ≡ word_bits word n ++ word_bits byte 8 =
     ap (λ x. word_bits x (n + 8)) (sym (div-add-mod' word (2 ^ n))) ∙ word_bits-append (word % 2 ^ n) n y 8 (mod_below word (2 ^ n) (pow_pos n)) ∙ ap₂ ◌++◌ low own in

@@ -1,8 +1,8 @@
 -- Items that are copied to the front of another list.
-use Rattle.std.proofs.Common.{◌≡◌, ℕ, zero, suc, ◌+◌, ◌-◌, ◌*◌, ◌^◌, ◌<◌, ◌≤◌, Bool, true, false, cond, List, [], ◌∷◌, ◌++◌, length, get_or, take, drop, set, map, bit_and, Option, Some, inl, inr, refl, sym, ap, subst, ◌∙◌, arith, append_assoc, append-nil}
+use Rattle.std.proofs.Common.{◌≡◌, ℕ, suc, ◌+◌, ◌-◌, ◌*◌, ◌^◌, ◌<◌, ◌≤◌, Bool, true, false, cond, List, [], ◌∷◌, ◌++◌, length, get_or, take, drop, set, map, bit_and, Option, Some, inl, inr, refl, sym, ap, subst, ◌∙◌, arith, append_assoc, append-nil}
 use Rattle.std.specs.Int.RustNames.{count_ones}
 use Rattle.std.specs.List.{All, items_where_true, range_with_len, slice_get}
-use Rattle.std.proofs.lemmas.List.{drop-set-lt, drop_more, flat_map_more, get_or-append-add, get_or_append_left, length-append, length-drop, length-take-le, map-append, take-append-drop, take_all, take_more, take_more_set}
+use Rattle.std.proofs.lemmas.List.{drop-set-lt, drop_more, flat_map_more, get_or-append-add, get_or_append_left, length-append, length-drop, length-take-le, map-append, take-append-drop, take_all, take_more, take_more_set, get_or_default}
 use Rattle.std.proofs.lemmas.Grind.{flat_map-append}
 use Rattle.std.proofs.lemmas.Bool.{cases_lt}
 use Rattle.std.proofs.lemmas.List.Sums.{sum_by-append}
@@ -23,14 +23,16 @@ use Rattle.vx_mask.proofs.LowestBit.{lowest_position, no_positions}
 use Rattle.vx_mask.proofs.RunLists.{set_of_passed}
 use Rattle.vx_filter.proofs.Picks.{picked_at_the_set}
 use Rattle.vx_filter.proofs.Bytes.{All-right}
-use Rattle.vx_filter.proofs.Moves.{cut_picked, full_word_places, get_or-default, same_further}
+use Rattle.vx_filter.proofs.Moves.{full_word_places, same_further}
+use Rattle.vx_lemmas.proofs.Picked.{picked_front, cut_picked}
 
-length-bits_of_words : (words : List ℕ) → length (bits_of_words words) ≡ 64 * length words
+-- a word has 64 bits
+pub length-bits_of_words : (words : List ℕ) → length (bits_of_words words) ≡ 64 * length words
 length-bits_of_words [] = refl
 length-bits_of_words (w ∷ words) = omega (arith, length-append (word_bits w 64) (bits_of_words words), length-word_bits w 64, length-bits_of_words words)
 
 -- the bits of the first words and of one more
-bits_more : (words : List ℕ) (w : ℕ) → w < length words → bits_of_words (take (w + 1) words) ≡ bits_of_words (take w words) ++ word_bits (get_or words w 0) 64
+pub bits_more : (words : List ℕ) (w : ℕ) → w < length words → bits_of_words (take (w + 1) words) ≡ bits_of_words (take w words) ++ word_bits (get_or words w 0) 64
 bits_more words w h = ap bits_of_words (take_more words w 0 h) ∙ sym (flat_map_more (λ (x : ℕ). word_bits x 64) [] (take w words) (get_or words w 0))
 
 -- how many bits of the first words and of one more are set
@@ -47,7 +49,7 @@ count_below : (words : List ℕ) (w : ℕ) → true_count_of (bits_of_words (tak
 count_below words w = omega (arith, ap true_count_of (words_behind words w), sum_by-append (λ bit. cond bit 1 0) (bits_of_words (take w words)) (bits_of_words (drop w words)))
 
 -- the places of the first words and of one more
-words_more : (words : List ℕ) (w : ℕ) → w < length words → set_of (bits_of_words (take (w + 1) words)) ≡ set_of (bits_of_words (take w words)) ++ positions (64 * w) (word_bits (get_or words w 0) 64)
+pub words_more : (words : List ℕ) (w : ℕ) → w < length words → set_of (bits_of_words (take (w + 1) words)) ≡ set_of (bits_of_words (take w words)) ++ positions (64 * w) (word_bits (get_or words w 0) 64)
 words_more words w h =
     let front = bits_of_words (take w words) in
     let word = get_or words w 0 in
@@ -103,7 +105,7 @@ module _ {X : Type 0} where
   one_copied all (y ∷ ys) old dst new kept p rest room e h =
       let src = y ∷ ys in
       let x = get_or src p y in
-      let same : x ≡ get_or src p x = get_or-default src p y x (h.within 0 0 (omega arith)) in
+      let same : x ≡ get_or src p x = get_or_default src p y x (h.within 0 0 (omega arith)) in
       subst (λ (l : List X). IsCopying all src old l (kept + 1) rest) (sym (e y)) (one_set all src old dst kept p x rest room same h)
 
   pub copying_as : (all : List (Option X)) (src old dst : List X) (kept : ℕ) (left more : List ℕ) → left ≡ more → IsCopying all src old dst kept left → IsCopying all src old dst kept more
@@ -163,15 +165,6 @@ module _ {X : Type 0} where
       let same = set_of_passed bits n (length bits) h (omega arith) clear in
       let cut : set_of bits ≡ set_of (take n bits) = ap set_of (sym (take_all (length bits) bits (omega arith))) ∙ same in
       picked_at_the_set (take n bits) src kept (length-take-le n bits h) (e ∙ ap (map (slice_get src)) cut) ∙ picked_front n bits src (omega arith)
-    where
-      picked_front : (n : ℕ) (bits : List Bool) (xs : List X) → length xs ≤ n → items_where_true (take n bits) xs ≡ items_where_true bits xs
-      picked_front zero [] xs h = refl
-      picked_front zero (b ∷ bits) [] h = refl
-      picked_front zero (b ∷ bits) (x ∷ xs) h = absurd (omega arith)
-      picked_front (suc n) [] xs h = refl
-      picked_front (suc n) (b ∷ bits) [] h = refl
-      picked_front (suc n) (true ∷ bits) (x ∷ xs) h = ap (λ l. x ∷ l) (picked_front n bits xs (omega arith))
-      picked_front (suc n) (false ∷ bits) (x ∷ xs) h = picked_front n bits xs (omega arith)
 
 -- ---- word after word
 

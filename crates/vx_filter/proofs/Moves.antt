@@ -3,7 +3,7 @@ use Rattle.std.proofs.Common.{◌≡◌, ℕ, zero, suc, ◌+◌, ◌-◌, ◌*�
 use Rattle.std.specs.Int.{w64}
 use Rattle.std.specs.Int.RustNames.{count_ones}
 use Rattle.std.specs.List.{All, range_with_len, slice_get}
-use Rattle.std.proofs.lemmas.List.{drop-drop, drop-set-lt, drop_more, length-set, map-append, take_more_set}
+use Rattle.std.proofs.lemmas.List.{drop-drop, drop-set-lt, drop_more, length-set, map-append, take_more_set, get_or_default}
 use Rattle.std.proofs.lemmas.List.Elements.{All-cons, All-nil, All-tail}
 use Rattle.std.proofs.lemmas.Option.{slice_get-get_or}
 use Rattle.std.proofs.lemmas.Nat.{zero_from_ones}
@@ -18,6 +18,8 @@ use Rattle.vx_mask.proofs.LowestBit.{lowest_position, no_positions}
 use Rattle.vx_mask.proofs.MarkedBits.{word_within_bits}
 use Rattle.vx_mask.proofs.PositionLists.{positions_true}
 use Rattle.vx_mask.proofs.WordPositions.{word_pushed}
+use Rattle.vx_mask.proofs.RunLists.{covered_first}
+use Rattle.vx_lemmas.proofs.Picked.{cut_picked}
 
 -- ---- places that ascend
 
@@ -38,7 +40,7 @@ run_first low len start (suc n) rest h =
     let end : start + 1 + suc n ≡ start + suc (suc n) = omega arith in
     record { from = p.from; within = omega (arith, more.within); then = subst (λ (n : ℕ). ascending n len rest ≡ true) end more.then }
 
--- the same of a run that is not empty, by its number of places
+-- what a run that is not empty and the places behind it keep, by the run's number of places
 pub run_first_of : (low len start n : ℕ) (rest : List ℕ) → 0 < n → ascending low len (range_with_len start n ++ rest) ≡ true → IsRunFirst low len start n rest
 run_first_of low len start zero rest p h = absurd (omega arith)
 run_first_of low len start (suc n) rest p h = run_first low len start n rest h
@@ -50,10 +52,6 @@ runs_within low len (run ∷ runs) p h =
     let some : run.0 < run.1 = p 0 (0, 0) (omega arith) in
     let first = run_first_of low len run.0 (run.1 - run.0) (run_positions runs) (omega arith) h in
     All-cons (λ (r : ℕ × ℕ). r.1 ≤ len) run runs (omega (arith, first.within)) (runs_within (run.0 + (run.1 - run.0)) len runs (All-tail (λ (r : ℕ × ℕ). r.0 < r.1) run runs p) first.then)
-
--- the places of a run and of the runs behind it
-covered_first : (runs : List (ℕ × ℕ)) (k : ℕ) (d : ℕ × ℕ) → k < length runs → run_positions (drop k runs) ≡ range_with_len (get_or runs k d).0 ((get_or runs k d).1 - (get_or runs k d).0) ++ run_positions (drop (k + 1) runs)
-covered_first runs k d h = ap run_positions (drop_more runs k d h)
 
 -- the places of a full word
 pub full_word_places : (base word : ℕ) → word ≡ 2 ^ 64 - 1 → positions base (word_bits word 64) ≡ range_with_len base 64
@@ -92,11 +90,6 @@ module _ {X : Type 0} where
   drop_written [] new p at n h b e = absurd (omega arith)
   drop_written (y ∷ ys) new p at n h b e = ap (drop n) (e y) ∙ drop-set-lt n (y ∷ ys) at (get_or (y ∷ ys) p y) b
 
-  pub get_or-default : (xs : List X) (k : ℕ) (d x : X) → k < length xs → get_or xs k d ≡ get_or xs k x
-  get_or-default [] k d x h = absurd (omega arith)
-  get_or-default (y ∷ ys) zero d x h = refl
-  get_or-default (y ∷ ys) (suc k) d x h = get_or-default ys k d x (omega arith)
-
   -- some items were moved to the front, and the others stand where they were, behind the front
   pub record IsMoving (all : List (Option X)) (now : List X) (kept low : ℕ) (left : List ℕ) : Type 0 where
     pub whole : map Some (take kept now) ++ map (slice_get now) left ≡ all
@@ -131,7 +124,7 @@ module _ {X : Type 0} where
       let now = y ∷ ys in
       let parts = index_parts low (length now) p rest h.ahead in
       let x = get_or now p y in
-      let same : x ≡ get_or now p x = get_or-default now p y x parts.within in
+      let same : x ≡ get_or now p x = get_or_default now p y x parts.within in
       subst (λ (l : List X). IsMoving all l (kept + 1) (p + 1) rest) (sym (e y)) (one_set all now kept low p x rest h same)
 
   pub all_moved : (all : List (Option X)) (now : List X) (kept low : ℕ) (left : List ℕ) → left ≡ [] → IsMoving all now kept low left → map Some (take kept now) ≡ all
@@ -141,7 +134,7 @@ module _ {X : Type 0} where
   pub moving_as : (all : List (Option X)) (now : List X) (kept low : ℕ) (left more : List ℕ) → left ≡ more → IsMoving all now kept low left → IsMoving all now kept low more
   moving_as all now kept low left more e h = subst (λ (l : List ℕ). IsMoving all now kept low l) e h
 
-  -- the same, with no word on how far the items that are left lie behind the front
+  -- items that are being moved, with no word on how far those that are left lie behind the front
   pub record IsMovingOn (all : List (Option X)) (now : List X) (kept : ℕ) (left : List ℕ) : Type 0 where
     pub low : ℕ
     pub moving : IsMoving all now kept low left
@@ -199,15 +192,6 @@ module _ {X : Type 0} where
     low = get_or indices i 0 + 1;
     moving = one_moved all now new i m.low (get_or indices i 0) (drop (i + 1) indices) (moving_as all now i m.low _ _ (drop_more indices i 0 h) m.moving) e;
   }
-
-  -- a part of a list, as places
-  pub cut_picked : (xs : List X) (a n : ℕ) → a + n ≤ length xs → map Some (take n (drop a xs)) ≡ map (slice_get xs) (range_with_len a n)
-  cut_picked xs a zero h = refl
-  cut_picked [] a (suc n) h = absurd (omega arith)
-  cut_picked (y ∷ ys) a (suc n) h =
-      let xs = y ∷ ys in
-      ap (λ l. map Some (take (suc n) l)) (drop_more xs a y (omega arith))
-      ∙ ap₂ ◌∷◌ (sym (slice_get-get_or xs a y (omega arith))) (cut_picked xs (a + 1) n (omega arith))
 
   -- a run of places was moved
   pub run_moved : (all : List (Option X)) (now new : List X) (kept low start n : ℕ) (rest : List ℕ) → 0 < n → length new ≡ length now → take (kept + n) new ≡ take kept now ++ take n (drop start now) → drop (start + n) new ≡ drop (start + n) now → IsMoving all now kept low (range_with_len start n ++ rest) → IsMoving all new (kept + n) (start + n) rest

@@ -8,19 +8,9 @@ use Rattle.vx_mask.specs.Positions.{ascending, run_positions, set_of}
 use Rattle.vx_mask.proofs.AscendingLists.{index_parts}
 use Rattle.vx_mask.proofs.MarkedBits.{ascending-positions}
 use Rattle.vx_mask.proofs.RankedItems.{items_at_the_set}
-use Rattle.vx_filter.proofs.Moves.{cut_picked}
+use Rattle.vx_lemmas.proofs.Picked.{cut_picked, same_items}
 
 module _ {X : Type 0} where
-  -- lists that are the same as lists of options are the same
-  pub same_items : (xs ys : List X) → map Some xs ≡ map Some ys → xs ≡ ys
-  same_items [] [] e = refl
-  same_items [] (y ∷ ys) e = cc
-  same_items (x ∷ xs) [] e = cc
-  same_items (x ∷ xs) (y ∷ ys) e =
-      let first : x ≡ y = cc in
-      let rest : map Some xs ≡ map Some ys = cc in
-      ap₂ ◌∷◌ first (same_items xs ys rest)
-
   -- what was picked at the set positions is what the bits pick
   pub picked_at_the_set : (bits : List Bool) (src kept : List X) → length bits ≡ length src → map Some kept ≡ map (slice_get src) (set_of bits) → kept ≡ items_where_true bits src
   picked_at_the_set bits src kept h e = same_items kept (items_where_true bits src) (e ∙ sym (items_at_the_set bits src h))
@@ -49,7 +39,7 @@ module _ {X : Type 0} where
   pub runs_picked_set : (bits : List Bool) (src : List X) (runs : List (ℕ × ℕ)) → length bits ≡ length src → run_positions runs ≡ set_of bits → All (λ run. run.0 ≤ run.1) runs → All (λ run. run.1 ≤ length src) runs → flat_map (λ run. slice_range src run.0 run.1) runs ≡ items_where_true bits src
   runs_picked_set bits src runs h cover p q = picked_at_the_set bits src (flat_map (λ (run : ℕ × ℕ). slice_range src run.0 run.1) runs) h (runs_picked src runs p q ∙ ap (map (slice_get src)) cover)
 
-  -- the same of an answer
+  -- so the items that a result has at the set positions are what the bits pick
   pub ok_picked : {V E : Type 0} (r : Result V E) (items : V → List X) (bits : List Bool) (src : List X) (indices : List ℕ) → length bits ≡ length src → indices ≡ set_of bits → IfOk r (λ v. map Some (items v) ≡ map (slice_get src) indices) → IfOk r (λ v. items v ≡ items_where_true bits src)
   ok_picked (Ok v) items bits src indices h e f = picked_at_the_set bits src (items v) h (f ∙ ap (map (slice_get src)) e)
   ok_picked (Err e) items bits src indices h i f = f
@@ -64,10 +54,6 @@ ascending_below low n [] h = All-nil (λ p. p < n)
 ascending_below low n (p ∷ ps) h =
     let parts = index_parts low n p ps h in
     All-cons (λ p. p < n) p ps parts.within (ascending_below (p + 1) n ps parts.then)
-
--- each set position is below the number of bits
-pub set_below : (bits : List Bool) (n : ℕ) → length bits ≡ n → All (λ p. p < n) (set_of bits)
-set_below bits n h = ascending_below 0 n (set_of bits) (set_ascends bits n h)
 
 -- runs that are not empty start at or before their end
 pub ordered_runs : (runs : List (ℕ × ℕ)) → All (λ run. run.0 < run.1) runs → All (λ run. run.0 ≤ run.1) runs

@@ -62,7 +62,8 @@ pub(crate) fn push_picked<T: Copy>(
     Ok(())
 }
 
-// The same, one item after another, the lowest set bit first.
+// Appends the items that a word picks, one after another, the lowest set bit first. There is room
+// for them, and no bit is set past the items.
 #[inline(always)]
 fn push_word<T: Copy>(kept: &mut Vec<T>, items: &[T], word: u64)
     requires within { word < 2 ^ length items.now }

@@ -9,7 +9,7 @@ ghost use Rattle.vx_filter.specs.Words.{IsWordCopied};
 ghost use Rattle.vx_mask.specs.Positions.{AllBits, positions};
 
 /// Copies the items of `src` where the bits of the words are set to the front of `dst`, in order,
-/// and answers their number. The rest of `dst` stays. It takes no memory.
+/// and answers their number. The rest of `dst` stays.
 ///
 /// The items of a full word are copied whole, those of any other word one after another.
 pub fn compact_words<T: Copy>(src: &[T], words: &[u64], dst: &mut [T]) -> usize
@@ -22,7 +22,9 @@ pub fn compact_words<T: Copy>(src: &[T], words: &[u64], dst: &mut [T]) -> usize
     compact::<ByItems, T>(src, words, dst)
 }
 
-/// The same, run after run where the runs of a word are long: the carry of a sum clears the lowest.
+/// Copies the items of `src` where the bits of the words are set to the front of `dst`, in order,
+/// and returns their number. The rest of `dst` stays. Where the runs of a word are long, its items
+/// are copied run after run: the carry of a sum clears the lowest run.
 pub fn compact_runs<T: Copy>(src: &[T], words: &[u64], dst: &mut [T]) -> usize
     requires words { length words.now ≡ word_count (length src.now) }
     requires clear { AllBits (bits_of_words words.now) (length src.now) (64 * length words.now)
@@ -33,7 +35,8 @@ pub fn compact_runs<T: Copy>(src: &[T], words: &[u64], dst: &mut [T]) -> usize
     compact::<ByRuns, T>(src, words, dst)
 }
 
-// The same, word after word.
+// Copies the items of `src` where the bits of the words are set to the front of `dst`, word after
+// word, and returns their number.
 #[inline(always)]
 fn compact<C: CopyWord, T: Copy>(src: &[T], words: &[u64], dst: &mut [T]) -> usize
     requires words { length words.now ≡ word_count (length src.now) }
@@ -109,7 +112,8 @@ pub fn copy_picked<T: Copy>(dst: &mut [T], kept: usize, src: &[T], base: usize, 
     }
 }
 
-// The same, one item after another, the lowest set bit first.
+// Copies the items that a word picks behind those that are kept, one after another, the lowest set
+// bit first, and returns how many are kept then.
 #[inline(always)]
 fn copy_word<T: Copy>(dst: &mut [T], kept: usize, src: &[T], base: usize, word: u64) -> usize
     requires within { All (λ p. p < length src.now) (positions base (word_bits word 64)) }
@@ -149,7 +153,7 @@ fn has_long_runs(word: u64) -> bool {
 /// The lowest run of set bits of a word, and the word without it.
 #[derive(Clone, Copy)]
 pub struct LowestRun {
-    /// Its lowest bit.
+    /// The run's lowest bit.
     pub low: usize,
     /// How many bits it has.
     pub count: usize,

@@ -90,7 +90,7 @@ pub fn byte_compress<T: Copy>(
     compress_by(alloc, src, mask, &table)
 }
 
-// The same, by the table.
+// The items of `src` at the set positions of `mask`, in order, by the table.
 fn compress_by<T: Copy>(
     alloc: Global,
     src: &[T],

@@ -15,7 +15,7 @@ use vx_bits::{BitBuffer, NoMemory};
 use vx_mask::{MaskValues, Policy};
 
 /// Moves the values at the set positions of `mask` to the front, in order, and answers their
-/// number. It takes no memory. What stands behind them then is not said.
+/// number. What stands behind them then is not said.
 ///
 /// Runs that the mask keeps are moved as such where they are one or long enough, else the values
 /// at the indices that it keeps where they are few enough, else those of its words. The values do
@@ -130,7 +130,8 @@ pub fn keep_picked<T: Copy>(values: &mut [T], kept: usize, base: usize, word: u6
     }
 }
 
-// The same, one value after another, the lowest set bit first.
+// Moves the values that a word picks to those that are kept, one after another, the lowest set bit
+// first, and returns how many are kept then.
 #[inline(always)]
 fn keep_word<T: Copy>(values: &mut [T], kept: usize, base: usize, word: u64) -> usize
     requires behind { kept ≤ base }
@@ -200,7 +201,7 @@ fn move_down<T: Copy>(values: &mut [T], from: usize, to: usize, count: usize)
     }
 }
 
-// The same, item after item.
+// Moves `count` values from `from` on down to `to` on, item after item.
 #[inline(always)]
 fn move_items<T: Copy>(values: &mut [T], from: usize, to: usize, count: usize)
     requires down { to ≤ from }
@@ -212,8 +213,8 @@ fn move_items<T: Copy>(values: &mut [T], from: usize, to: usize, count: usize)
     values.copy_within(from..from + count, to);
 }
 
-// The same of many values, by calls of the C library: in parts that don't overlap where they go,
-// else, but for wide values, in blocks that are copied out first.
+// Moves many values from `from` on down to `to` on, by calls of the C library: in parts that don't
+// overlap where they go, else, except for wide values, in blocks that are copied out first.
 #[inline(never)]
 fn move_long<T: Copy>(values: &mut [T], from: usize, to: usize, count: usize)
     requires down { to ≤ from }
@@ -235,7 +236,8 @@ fn move_long<T: Copy>(values: &mut [T], from: usize, to: usize, count: usize)
     }
 }
 
-// The same in parts, each copied to where none of it stands.
+// Moves `count` values from `from` on down to `to` on in parts, each copied to where none of it
+// stands.
 fn copy_parts<T: Copy>(values: &mut [T], from: usize, to: usize, count: usize)
     requires down { to < from }
     requires within { from + count ≤ length values.old }
@@ -265,7 +267,7 @@ fn copy_down<T: Copy>(values: &mut [T], from: usize, to: usize, count: usize)
     front[to..to + count].copy_from_slice(&back[..count]);
 }
 
-// The same as `move_long`, in blocks that are copied out first.
+// Moves `count` values from `from` on down to `to` on, in blocks that are copied out first.
 fn move_blocks<T: Copy>(values: &mut [T], from: usize, to: usize, count: usize)
     requires down { to ≤ from }
     requires within { from + count ≤ length values.old }

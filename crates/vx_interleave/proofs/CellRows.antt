@@ -24,6 +24,7 @@ use Rattle.vx_interleave.specs.Sources.{IsSourceOf}
 use Rattle.vx_interleave.specs.Structs.{AreFields, field_in}
 use Rattle.vx_interleave.proofs.Shown.{shown}
 use Rattle.vx_interleave.proofs.FieldRows.{fields_across, fields_from, row-null, row-there, values-row_values}
+use Rattle.vx_types.proofs.Alike.{types_of-same, length-types_of}
 
 -- what holds of each cell holds of all
 pub map_cells : {Y : Type 0} (f g : RowValue → Y) (k : TypeKind) (items : List Cell) → AreCellsOf k items → ((c : Cell) → IsCellOf k c → f (row_of c) ≡ g (row_of c)) → map f (rows_in items) ≡ map g (rows_in items)
@@ -48,19 +49,13 @@ kind_pushed k old new cell all one is =
 
 -- ---- structs
 
-length-types : (ts us : List TypeTree) → types_of ts ≡ types_of us → length ts ≡ length us
-length-types [] [] h = refl
-length-types [] (u ∷ us) h = cc
-length-types (t ∷ ts) [] h = cc
-length-types (t ∷ ts) (u ∷ us) h = let rest : types_of ts ≡ types_of us = cc in ap suc (length-types ts us rest)
-
 some-types : (a b : TypeTrees) → Some a ≡ Some b → a ≡ b
 some-types a b h = cc
 
 pub struct-cell : (names : List (List ℕ)) (ts : List TypeTree) (c : Cell) → IsCellOf (struct_kind names (types_of ts)) c → fields_row (fields_from 0 ts (row_of c)) ≡ stored_as (struct_kind names (types_of ts)) (row_of c)
 struct-cell names ts cells.Null h = row-null names ts
 struct-cell names ts (cells.Fields f) h =
-    let many : length ts ≡ length f.columns.now = length-types ts (types_in f.columns.now) (some-types (types_of ts) (types_of (types_in f.columns.now)) h.kind) ∙ length-map f.columns.now (λ (c : Column). c.dtype) in
+    let many : length ts ≡ length f.columns.now = length-types_of ts (types_in f.columns.now) (some-types (types_of ts) (types_of (types_in f.columns.now)) h.kind) ∙ length-map f.columns.now (λ (c : Column). c.dtype) in
     row-there names ts (map (λ (c : Column). get_or c.rows f.row null) f.columns.now) (length-map f.columns.now (λ (c : Column). get_or c.rows f.row null) ∙ sym many)
 struct-cell names ts (cells.Bit b) h = cc
 struct-cell names ts (cells.Bytes b) h = let k = h.kind in cc
@@ -68,16 +63,6 @@ struct-cell names ts (cells.List l) h = let k = h.kind in cc
 struct-cell names ts (cells.Tagged v) h = let k = h.kind in cc
 
 -- ---- one field
-
-same-types : (ts us : List TypeTree) → types_of ts ≡ types_of us → ts ≡ us
-same-types [] [] h = refl
-same-types [] (u ∷ us) h = cc
-same-types (t ∷ ts) [] h = cc
-same-types (t ∷ ts) (u ∷ us) h =
-    let rest : types_of ts ≡ types_of us = cc in
-    let kind : t.kind ≡ u.kind = cc in
-    let nulls : t.nullability ≡ u.nullability = cc in
-    ap₂ ◌∷◌ (ap₂ (λ k n. record { kind = k; nullability = n }) kind nulls) (same-types ts us rest)
 
 got-below : {X : Type 0} (xs : List X) (k : ℕ) (x : X) → slice_get xs k ≡ Some x → k < length xs
 got-below [] k x h = cc
@@ -109,7 +94,7 @@ some-type a b h = cc
 -- the columns of a cell of structs are of these types
 module _ (f : FieldTypes) (cs : List Column) (row k : ℕ) (t : TypeTree) (cell : AreFieldsOf (record { kind = struct_of f; nullability = Nullable }) cs row) (field : slice_get f.types k ≡ Some t) where
   types : f.types ≡ types_in cs
-  types = same-types f.types (types_in cs) (some-types (types_of f.types) (types_of (types_in cs)) cell.kind)
+  types = types_of-same f.types (types_in cs) (some-types (types_of f.types) (types_of (types_in cs)) cell.kind)
 
   pub field_below : k < length cs
   field_below = omega (arith, got-below f.types k t field, ap length types, length-map cs (λ (c : Column). c.dtype))

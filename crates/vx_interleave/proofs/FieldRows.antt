@@ -4,13 +4,13 @@ use Rattle.std.specs.Prelude.{◌==◌, Ok, Result, replicate}
 use Rattle.vx_bits.specs.Results.{ok_unless}
 use Rattle.std.proofs.lemmas.Bool.Decides.{nat_tests}
 use Rattle.std.proofs.lemmas.List.{length-map}
-use Rattle.vx_types.specs.RowValue.{RowValue, null, fields, row_values, more}
+use Rattle.vx_types.specs.RowValue.{RowValue, null, fields, row_values}
 use Rattle.vx_types.specs.FieldTypes.{FieldTypes}
 use Rattle.vx_types.specs.TypeTree.{TypeTree, types_of, struct_kind}
 use Rattle.vx_types.specs.declared.error.ColumnError.{ColumnError}
 use Rattle.vx_model.specs.Column.{Column}
 use Rattle.vx_model.specs.Columns.{are_long, rows_across, types_in, with_fronts}
-use Rattle.vx_model.specs.Filler.{filler_row, filler_values}
+use Rattle.vx_model.specs.Filler.{filler_row}
 use Rattle.vx_model.specs.Struct.{StructParts, fields_row, struct_fault}
 use Rattle.vx_model.specs.Valid.{is_fitting}
 use Rattle.vx_model.proofs.StructSteps.{fault-made}
@@ -19,16 +19,13 @@ use Rattle.vx_column.specs.Validity.{valid_of}
 use Rattle.vx_column.specs.declared.validity.Validity.{Validity}
 use Rattle.vx_interleave.specs.Rows.{stored_as, values_of}
 use Rattle.vx_interleave.specs.Structs.{AreFields, field_in}
+use Rattle.vx_model.proofs.Fillers.{values-fields}
 
 -- ---- the rows that a row is made of
 
 pub values-row_values : (xs : List RowValue) → values_of (row_values xs) ≡ xs
 values-row_values [] = refl
 values-row_values (x ∷ xs) = ap (λ l. x ∷ l) (values-row_values xs)
-
-values-fields : (ts : List TypeTree) → filler_values (types_of ts) ≡ row_values (map filler_row ts)
-values-fields [] = refl
-values-fields (t ∷ ts) = ap (λ l. more (filler_row t) l) (values-fields ts)
 
 -- ---- the fields of one row
 

@@ -7,7 +7,7 @@ use Rattle.std.proofs.lemmas.List.Elements.{All-tail}
 use Rattle.std.proofs.lemmas.List.Concat.{length-flat_map}
 use Rattle.std.proofs.lemmas.List.Sums.{sum_by-cons}
 use Rattle.vx_types.specs.RowValue.{RowValue}
-use Rattle.vx_positions.specs.Offsets.{spans}
+use Rattle.vx_offsets.specs.Offsets.{spans}
 use Rattle.vx_model.specs.FixedSizeList.{FixedParts, fixed_fault, runs_from}
 use Rattle.vx_model.specs.Valid.{is_fitting}
 use Rattle.vx_lists.specs.Sums.{concat_lists, sums_from}

@@ -5,20 +5,16 @@ use Rattle.std.proofs.lemmas.List.{length-take-le, length-map, map_more}
 use Rattle.vx_types.proofs.Carried.{carried-storage, carried_get, dtypes_all, shallow_get, storage-nullability}
 use Rattle.vx_types.specs.DType.{type_of}
 use Rattle.vx_types.specs.RowValue.{RowValue}
-use Rattle.vx_types.specs.Same.{is_same_kind}
-use Rattle.vx_types.specs.SameLaws.{kind_decides}
-use Rattle.vx_types.specs.TypeTree.{TypeKind, TypeTree, extension_type, is_carried, with_nullability}
+use Rattle.vx_types.specs.TypeTree.{TypeTree, extension_type, is_carried, with_nullability}
 use Rattle.vx_types.specs.declared.dtype.DType.{DType}
 use Rattle.vx_types.specs.declared.nullability.Nullability.{Nullability}
 use Rattle.vx_model.specs.Column.{Column}
 use Rattle.vx_interleave.specs.Rows.{shown_as}
 use Rattle.vx_interleave.specs.Structs.{AreFields, field_in}
 use Rattle.vx_interleave.proofs.FieldRows.{fields_append, fields_none}
+use Rattle.vx_types.proofs.Alike.{same-kind}
 
 -- ---- extensions
-
-pub same-kind : (k l : TypeKind) → k ≡ l → is_same_kind l k ≡ true
-same-kind k l h = (kind_decides l k).1 (sym h)
 
 pub ruleset extensions = (same-kind)
 

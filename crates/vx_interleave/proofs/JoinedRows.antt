@@ -7,13 +7,13 @@ use Rattle.std.proofs.lemmas.Simd.{map-map}
 use Rattle.std.proofs.lemmas.List.Concat.{flat_map-append, length-flat_map}
 use Rattle.std.proofs.lemmas.List.Elements.{All-append, All-cons, All-nil}
 use Rattle.vx_types.specs.RowValue.{RowValue}
-use Rattle.vx_types.specs.TypeTree.{TypeKind, TypeTree, TypeTrees, fixed_kind, fixed_type, is_int_kind, list_kind, list_type, map_kind, struct_kind}
+use Rattle.vx_types.specs.TypeTree.{TypeKind, TypeTree, TypeTrees, fixed_kind, fixed_type, is_int_kind, list_kind, list_type, map_kind, struct_kind, is_entry_kind}
 use Rattle.vx_types.specs.declared.nullability.Nullability.{Nullability}
-use Rattle.vx_positions.specs.Offsets.{items_in, lists_at, offset_positions}
+use Rattle.vx_offsets.specs.Offsets.{items_in, lists_at, offset_positions}
 use Rattle.vx_model.specs.FixedSizeList.{FixedParts, fixed_column, fixed_fault, fixed_spans, runs_from}
 use Rattle.vx_model.specs.List.{ListParts, list_column, list_fault, list_spans}
 use Rattle.vx_model.specs.ListView.{ListViewParts, listview_fault, listview_spans, view_spans}
-use Rattle.vx_model.specs.Map.{is_entry_kind, map_column, map_of}
+use Rattle.vx_model.specs.Map.{map_column, map_of}
 use Rattle.vx_model.specs.Lists.{list_row, lists_of}
 use Rattle.vx_model.specs.Numbers.{integers_of}
 use Rattle.vx_model.specs.Records.{RecordParts}

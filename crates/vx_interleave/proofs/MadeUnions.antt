@@ -11,7 +11,7 @@ use Rattle.vx_types.specs.SameLaws.{kind_decides}
 use Rattle.vx_types.specs.TypeTree.{TypeKind, TypeTree, primitive_type, struct_kind, types_of, union_type}
 use Rattle.vx_types.specs.declared.nullability.Nullability.{Nullability}
 use Rattle.vx_types.specs.declared.ptype.PType.TheVariants.{U8}
-use Rattle.vx_positions.specs.Offsets.{offset_positions}
+use Rattle.vx_offsets.specs.Offsets.{offset_positions}
 use Rattle.vx_positions.specs.Positions.{positions_of}
 use Rattle.vx_model.specs.Column.{Column}
 use Rattle.vx_model.specs.Columns.{types_in}

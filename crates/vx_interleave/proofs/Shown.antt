@@ -1,8 +1,7 @@
 -- Rows under their validity.
-use Rattle.std.proofs.Common.{◌≡◌, ℕ, Bool, true, List, [], ◌∷◌, length, map, refl, sym, ap, ◌∙◌, Option, None}
-use Rattle.std.specs.Prelude.{IfOk, OnOk, Result, Ok, Err}
+use Rattle.std.proofs.Common.{◌≡◌, ℕ, true, List, [], ◌∷◌, length, map, refl, sym, ap, ◌∙◌}
+use Rattle.std.specs.Prelude.{OnOk, Result, Ok, Err}
 use Rattle.std.proofs.lemmas.List.{length-map}
-use Rattle.vx_bits.specs.Results.{ok_unless}
 use Rattle.vx_types.specs.RowValue.{RowValue, null, bit, bytes, list, fields, tagged}
 use Rattle.vx_types.specs.TypeTree.{TypeKind}
 use Rattle.vx_types.specs.declared.nullability.Nullability.{Nullability}
@@ -10,11 +9,8 @@ use Rattle.vx_types.specs.declared.nullability.Nullability.TheVariants.{NonNulla
 use Rattle.vx_model.specs.Bool.{bits_column}
 use Rattle.vx_model.specs.Valid.{Valid, non_nullable, by_column, is_fitting, nullability_by, shown_rows, stored_rows}
 use Rattle.vx_model.proofs.ShownRows.{shown_rows-all}
-use Rattle.vx_model.proofs.Takes.{is_left-bits_column}
+use Rattle.vx_model.proofs.Takes.{is_left-bits_column, stored-bits_column}
 use Rattle.vx_interleave.specs.Rows.{IsValidityOf, is_there, shown_as, stored_as}
-
-by_bits : (bits : List Bool) (items : List RowValue) → stored_rows (by_column (bits_column bits 0)) items ≡ shown_rows bits items
-by_bits bits items = ap (λ bs. shown_rows bs items) (is_left-bits_column non_nullable bits 0 Nullable refl).bits
 
 -- the valid rows, of which each other is a null
 shown_there : (k : TypeKind) (rows : List RowValue) → shown_rows (map is_there rows) (map (stored_as k) rows) ≡ rows
@@ -34,7 +30,7 @@ shown_all k (x ∷ rows) = ap (λ l. x ∷ l) (shown_all k rows)
 pub shown : (n : Nullability) (k : TypeKind) (rows items : List RowValue) (v : Valid) → IsValidityOf n rows v → items ≡ map (stored_as k) rows → stored_rows v items ≡ map (shown_as (record { kind = k; nullability = n })) rows
 shown NonNullable k rows items v is h = ap (λ u. stored_rows u items) is ∙ shown_rows-all (length items) items refl ∙ h
 shown Nullable k rows items v is h =
-    ap (λ u. stored_rows u items) is ∙ by_bits (map is_there rows) items ∙ ap (shown_rows (map is_there rows)) h ∙ shown_there k rows ∙ shown_all k rows
+    ap (λ u. stored_rows u items) is ∙ stored-bits_column (map is_there rows) items ∙ ap (shown_rows (map is_there rows)) h ∙ shown_there k rows ∙ shown_all k rows
 
 pub fits : (n : Nullability) (rows : List RowValue) (v : Valid) (m : ℕ) → IsValidityOf n rows v → m ≡ length rows → is_fitting v m ≡ true
 fits NonNullable rows v m is count = ap (λ u. is_fitting u m) is
@@ -47,18 +43,6 @@ pub nulls : (n : Nullability) (rows : List RowValue) (v : Valid) → IsValidityO
 nulls NonNullable rows v is = ap nullability_by is
 nulls Nullable rows v is = ap nullability_by is
 
-pub if_ok : {T E : Type 0} (P Q : T → Type 0) (r : Result T E) → IfOk r P → ((x : T) → P x → Q x) → IfOk r Q
-if_ok P Q (Ok x) h f = f x h
-if_ok P Q (Err e) h f = h
-
 pub on_ok : {T E : Type 0} (P Q : Type 0) (r : Result T E) → OnOk r P → (P → Q) → OnOk r Q
 on_ok P Q (Ok x) h f = f h
 on_ok P Q (Err e) h f = h
-
--- ---- what a constructor makes of parts without a fault
-
-pub one_value : {T E : Type 0} (r : Result T E) (f : Option E) (x y : T) → r ≡ ok_unless f x → f ≡ None → r ≡ Ok y → y ≡ x
-one_value r f x y told none is = let made : Ok y ≡ ok_unless None x = sym is ∙ told ∙ ap (λ g. ok_unless g x) none in cc
-
-pub no_error : {T E : Type 0} (r : Result T E) (f : Option E) (x : T) (e : E) → r ≡ ok_unless f x → f ≡ None → r ≡ Err e → ⊥
-no_error r f x e told none is = let made : Err e ≡ ok_unless None x = sym is ∙ told ∙ ap (λ g. ok_unless g x) none in cc

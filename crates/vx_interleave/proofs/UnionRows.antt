@@ -20,7 +20,7 @@ use Rattle.vx_column.specs.declared.cell.Cell.{Cell}
 use Rattle.vx_column.specs.declared.cell.Cell.TheVariants as cells
 use Rattle.vx_column.specs.declared.cell.TaggedCell.{TaggedCell}
 use Rattle.vx_column.proofs.VariantCounts.{first-variant, many-variants}
-use Rattle.vx_offsets.proofs.Cuts.{equal, same}
+use Rattle.vx_offsets.proofs.Cuts.{same}
 use Rattle.vx_interleave.specs.Lists.{AddsRows, AreShown}
 use Rattle.vx_interleave.specs.Rows.{AreCellsOf, IsCellOf, IsValidityOf, is_there, rows_in, shown_as}
 use Rattle.vx_interleave.specs.Sources.{IsSourceOf}
@@ -29,6 +29,8 @@ use Rattle.vx_interleave.specs.Unions.{union_of, variant_row, variant_rows}
 use Rattle.vx_interleave.proofs.CellRows.{map_cells, row_more}
 use Rattle.vx_interleave.proofs.ShownRows.{adds_none, adds_one}
 use Rattle.vx_interleave.proofs.VariantRows.{AreRowsUnder, IsRowUnder, under-append}
+use Rattle.std.proofs.lemmas.Bool.{eqb-true}
+use Rattle.vx_lemmas.proofs.Options.{some_same}
 
 -- ---- the first variant's row
 
@@ -47,10 +49,7 @@ first-tag (id ∷ ids) (t ∷ ts) h l = refl
 
 tag-is : (id : ℕ) (t : Option ℕ) → is_tag id t ≡ true → t ≡ Some id
 tag-is id None h = cc
-tag-is id (Some v) h = ap Some (equal v id h)
-
-some-tag : (a b : ℕ) → Some a ≡ Some b → a ≡ b
-some-tag a b h = cc
+tag-is id (Some v) h = ap Some (eqb-true v id h)
 
 some-type : (a b : TypeTree) → Some a ≡ Some b → a ≡ b
 some-type a b h = cc
@@ -91,7 +90,7 @@ module _ (v : VariantTypes) where
   module _ (n : Nullability) (id : ℕ) (t : TypeTree) (variant : variant_type (union_of v) id ≡ Some t) where
     pub tagged_source : (r : TaggedCell) → IsCellOf (union_of v) (cells.Tagged r) → is_tag id (tag_in (variant_row v n (row_of (cells.Tagged r)))) ≡ true → IsSourceOf t r.column.now
     tagged_source r cell tag =
-        let same : r.id ≡ id = some-tag r.id id (tagged_tag n r ∙ tag-is id (tag_in (variant_row v n (row_of (cells.Tagged r)))) tag) in
+        let same : r.id ≡ id = some_same r.id id (tagged_tag n r ∙ tag-is id (tag_in (variant_row v n (row_of (cells.Tagged r)))) tag) in
         let typed : t ≡ r.column.now.dtype =
         some-type t r.column.now.dtype (sym variant ∙ ap (λ i. variant_type (union_of v) i) (sym same) ∙ cell.kind) in
         record {

@@ -4,8 +4,6 @@ use Rattle.std.specs.Prelude.{◌==◌, ◌||◌, cond, pos, if◌then◌else◌
 use Rattle.std.specs.List.{count_by, filter, list_all, list_any}
 use Rattle.std.specs.Int.{w8, from_le_bytes}
 use Rattle.std.specs.Option.{option_map}
-use Rattle.std.proofs.lemmas.Bool.Decides.{nat_tests}
-use Rattle.std.proofs.lemmas.Int.{ints}
 use Rattle.std.proofs.lemmas.List.{length-append, length-map, map-append}
 use Rattle.std.proofs.lemmas.List.Elements.{filter-append}
 use Rattle.std.proofs.lemmas.List.Sums.{length-filter, sum_by-cons}
@@ -16,9 +14,11 @@ use Rattle.vx_positions.specs.Positions.{is_position, position_of, positions_of}
 use Rattle.vx_model.specs.Column.{Column}
 use Rattle.vx_model.specs.Numbers.{number_in}
 use Rattle.vx_model.specs.Union.{has_place, have_rows, is_known, row_by_id, rows_at, tagged_rows}
-use Rattle.vx_offsets.proofs.Cuts.{equal, same}
+use Rattle.vx_offsets.proofs.Cuts.{same}
 use Rattle.vx_interleave.specs.Tags.{id_row, is_tag, place_after, places_after, row_in, rows_under, tag_in}
 use Rattle.vx_interleave.specs.Unions.{AreVariants}
+use Rattle.std.proofs.lemmas.Bool.{eqb-true}
+use Rattle.vx_offsets.proofs.Ascending.{is_position-pos}
 
 -- ---- the rows of one variant
 
@@ -61,9 +61,6 @@ found-below id x front back =
 
 -- ---- the variant of an id
 
-is-place : (n p : ℕ) → p < n → is_position n (pos p) ≡ true
-is-place n p l = grind (arith, ints, nat_tests)
-
 module _ (rows : List RowValue) (id place : ℕ) where
   by-id : (vs : List ℕ) (ts : List TypeTree) (cs : List Column) → AreVariants vs ts rows cs → list_any (λ v. v == id) vs ≡ true → row_by_id vs (map (λ (c : Column). get_or c.rows place null) cs) id ≡ get_or (rows_under id rows) place null
   by-id [] ts cs h k = cc
@@ -72,7 +69,7 @@ module _ (rows : List RowValue) (id place : ℕ) where
   by-id (v ∷ vs) (t ∷ ts) (c ∷ cs) h k = by (v == id) refl k (λ known. by-id vs ts cs h.1 known)
     where
       by : (b : Bool) → (v == id) ≡ b → (b || list_any (λ v. v == id) vs) ≡ true → (list_any (λ v. v == id) vs ≡ true → row_by_id vs (map (λ (c : Column). get_or c.rows place null) cs) id ≡ get_or (rows_under id rows) place null) → (if b then get_or c.rows place null else row_by_id vs (map (λ (c : Column). get_or c.rows place null) cs) id) ≡ get_or (rows_under id rows) place null
-      by true e k others = ap (λ l. get_or l place null) (h.0.1 ∙ ap (λ n. rows_under n rows) (equal v id e))
+      by true e k others = ap (λ l. get_or l place null) (h.0.1 ∙ ap (λ n. rows_under n rows) (eqb-true v id e))
       by false e k others = others k
 
   place-by-id : (vs : List ℕ) (ts : List TypeTree) (cs : List Column) → AreVariants vs ts rows cs → place < length (rows_under id rows) → has_place vs cs id (pos place) ≡ true
@@ -83,8 +80,8 @@ module _ (rows : List RowValue) (id place : ℕ) where
     where
       by : (b : Bool) → (v == id) ≡ b → has_place vs cs id (pos place) ≡ true → (if b then is_position (length c.rows) (pos place) else has_place vs cs id (pos place)) ≡ true
       by true e others =
-          let many : length c.rows ≡ length (rows_under id rows) = ap length (h.0.1 ∙ ap (λ n. rows_under n rows) (equal v id e)) in
-          is-place (length c.rows) place (omega (arith, many, k))
+          let many : length c.rows ≡ length (rows_under id rows) = ap length (h.0.1 ∙ ap (λ n. rows_under n rows) (eqb-true v id e)) in
+          is_position-pos (length c.rows) place (omega (arith, many, k))
       by false e others = others
 
 -- ---- all rows

@@ -9,8 +9,8 @@ use Rattle.std.proofs.lemmas.List.{length-map, length-append}
 use Rattle.std.proofs.lemmas.List.Concat.{length-flat_map}
 use Rattle.std.proofs.lemmas.List.Sums.{sum_by-cons}
 use Rattle.vx_types.specs.RowValue.{RowValue}
-use Rattle.vx_positions.specs.Offsets.{offset_positions, spans}
-use Rattle.vx_model.specs.ListView.{ListViewParts, are_views, are_view_types, are_as_many, are_sizes, is_natural, listview_fault, view_spans}
+use Rattle.vx_offsets.specs.Offsets.{offset_positions, spans, are_views, is_natural}
+use Rattle.vx_model.specs.ListView.{ListViewParts, are_view_types, are_as_many, are_sizes, listview_fault, view_spans}
 use Rattle.vx_model.specs.Numbers.{integer_by, integers_of}
 use Rattle.vx_model.specs.Valid.{is_fitting}
 use Rattle.vx_model.specs.VarBin.{are_integers}

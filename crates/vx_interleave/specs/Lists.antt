@@ -14,7 +14,7 @@ abbrev pub elements_in : RowValue → List RowValue
 elements_in (list xs) = values_of xs
 elements_in x = []
 
--- the same of a list of so many elements of a type; so many fillers of a null
+-- the elements of a list of `size` elements of a type; `size` fillers of a null
 abbrev pub elements_of : TypeTree → ℕ → RowValue → List RowValue
 elements_of t size (list xs) = values_of xs
 elements_of t size x = replicate size (filler_row t)

@@ -32,7 +32,7 @@ abbrev pub place_after : List (Option ℕ) → Option ℕ → ℕ
 place_after before None = 0
 place_after before (Some id) = count_by (is_tag id) before
 
--- the same of each of some rows behind others
+-- of each of some rows behind others, how many rows of its id are before it; 0 of a null
 abbrev pub places_after : List (Option ℕ) → List (Option ℕ) → List ℕ
 places_after before [] = []
 places_after before (t ∷ tags) = place_after before t ∷ places_after (before ++ t ∷ []) tags

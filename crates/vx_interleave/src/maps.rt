@@ -3,7 +3,8 @@ ghost use Rattle.std.specs.Prelude.{◌≡◌, IfOk, length, map, true};
 ghost use Rattle.vx_types.specs.DType.{type_of};
 ghost use Rattle.vx_model.specs.ListView.{listview_spans};
 ghost use Rattle.vx_model.specs.Lists.{lists_of};
-ghost use Rattle.vx_model.specs.Map.{is_entry_type, map_of};
+ghost use Rattle.vx_model.specs.Map.{map_of};
+ghost use Rattle.vx_types.specs.TypeTree.{is_entry_type};
 ghost use Rattle.vx_interleave.specs.Lists.{CutsLists, elements_in};
 ghost use Rattle.vx_interleave.specs.Rows.{AreCellsOf, IsValidityOf, rows_in, shown_as};
 

@@ -5,13 +5,13 @@ ghost use Rattle.vx_types.specs.Decimal.{is_width};
 ghost use Rattle.vx_types.specs.RowValue.{bytes};
 ghost use Rattle.vx_types.specs.TypeTree.{kind_width};
 ghost use Rattle.vx_column.specs.Cell.{row_of};
-ghost use Rattle.vx_column.specs.Records.{kind_of};
+ghost use Rattle.vx_types.specs.RecordType.{kind_of};
 ghost use Rattle.vx_interleave.specs.Rows.{AreCellsOf, IsCellOf, rows_in, shown_as, stored_as};
 
 use crate::validity::validity_of;
 use std::alloc::Global;
 use vx_bits::{Buffer, NoMemory, Records};
-use vx_column::{Array, Cell, Nullability, RecordType};
+use vx_column::{Array, Cell, Nullability, RecordType, record_column};
 
 // The bytes of a row, of which there are W, and zeros in place of a null.
 #[inline(always)]
@@ -90,5 +90,5 @@ pub(crate) fn gather_records(
 {
     let validity = validity_of(alloc, nullability, cells)?;
     let records = gather_bytes(alloc, &record_type, record_type.width(), cells)?;
-    Ok(record_type.column(records, validity))
+    Ok(record_column(record_type, records, validity))
 }

@@ -3,7 +3,7 @@ ghost use Rattle.std.specs.Prelude.{◌≡◌, ◌++◌, ◌<◌, ◌^◌, [], I
 ghost use Rattle.vx_types.specs.RowValue.{bytes};
 ghost use Rattle.vx_types.specs.Text.{text_kind};
 ghost use Rattle.vx_types.specs.declared.ptype.PType.TheVariants.{U64};
-ghost use Rattle.vx_positions.specs.Offsets.{lists_at};
+ghost use Rattle.vx_offsets.specs.Offsets.{lists_at};
 ghost use Rattle.vx_model.specs.Valid.{is_fitting, nullability_by, stored_rows};
 ghost use Rattle.vx_column.specs.Validity.{valid_of};
 ghost use Rattle.vx_offsets.specs.Cut.{is_cut};

@@ -18,7 +18,7 @@ use std::alloc::Global;
 use vx_bits::{NoMemory, Records};
 use vx_column::{
     Array, ArrayRef, Cell, Columns, DType, Nullability, PType, PrimitiveArray, RecordType,
-    UnionArray, UnionVariants,
+    UnionArray, UnionVariants, record_column,
 };
 use vx_shared::Shared;
 
@@ -142,7 +142,7 @@ fn gather_ids(
     let _ = variants.ids();
     let validity = validity_of(alloc, nullability, cells)?;
     let ids = Records::W1(id_records(alloc, tags)?);
-    Ok(RecordType::Primitive(PType::U8).column(ids, validity))
+    Ok(record_column(RecordType::Primitive(PType::U8), ids, validity))
 }
 
 // The dense unions of these ids, places and columns.

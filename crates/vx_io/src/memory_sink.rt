@@ -42,7 +42,7 @@ impl Model for MemorySink {
 }
 
 impl MemorySink {
-    /// An empty sink, with room for `room` bytes. It takes no memory later. It takes at most
+    /// An empty sink, with room for `room` bytes. Later calls allocate nothing. It takes at most
     /// `piece` bytes a call. A call fails where its number, from 0, is in `failing`, and a `finish`
     /// counts as a call too. Fails only with `NoMemory`.
     pub fn new(

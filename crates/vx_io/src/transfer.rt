@@ -26,7 +26,7 @@ pub enum Stop {
 
 /// All bytes of a source, up to its end.
 ///
-/// It stops at the first read that fails: rows of `byte_callers` show it, and no clause says so.
+/// It stops at the first read that fails: rows of `rows_of_bytes` show it, and no clause says so.
 /// Where there are more than `MAX_BYTES`, one byte past the bound is taken, and no more.
 pub fn read_all<S: Source>(alloc: Global, source: &mut S) -> Result<Vec<u8>, Stop>
     ensures taken { IfOk result (λ v. S.rest source.old ≡ with_front v.items (S.rest source.new)) }
@@ -84,7 +84,7 @@ fn make_room(buffer: &mut Vec<u8>, filled: usize) -> Result<(), AllocError>
 
 /// Delivers a text to a sink: writes all of it, and finishes.
 ///
-/// It stops at the first call that fails, likewise. It takes no memory.
+/// It stops at the first call that fails: rows of `rows_of_bytes` show it, and no clause says so.
 pub fn deliver<K: Sink>(sink: &mut K, text: &[u8]) -> Result<(), Failed>
     ensures all { OnOk result (K.held sink.new ≡ with_back (K.held sink.old) text.now) }
     ensures finished { OnOk result (IfSome (K.held sink.old) (λ _. K.pending sink.new ≡ 0)) }

@@ -50,7 +50,7 @@ module _ {X : Type 0} (test : X → Bool) where
       }
   first_is at (x ∷ xs) = first_by (test x) at x xs (first_from test (at + 1) xs) refl (first_is (at + 1) xs)
 
--- the same in a whole list of rows
+-- the first match from `at` on in a whole list of rows
 module _ {K : Type 0} (same : K → K → Bool) (rows : List (Option K)) (row : Option K) (at : ℕ) where
   pub match_after : at ≤ first_match same rows row at
   match_after = (first_is (keys_match same row) at (drop at rows)).after

@@ -4,7 +4,7 @@ use Rattle.std.specs.Prelude.{slice_index, slice_index_or}
 use Rattle.std.specs.Int.{from_le_bytes, to_le_bytes, w64}
 use Rattle.std.specs.List.{All}
 use Rattle.std.specs.Ordering.{eq_by_cmp, nat_cmp}
-use Rattle.std.specs.Cmp.{unsigned_ties}
+use Rattle.std.specs.Cmp.{unsigned_ties, both_ways}
 use Rattle.std.specs.Cmp.Lexicographic.{pointwise, bytes_decides}
 use Rattle.std.proofs.lemmas.Bool.{eqb-true}
 use Rattle.std.proofs.lemmas.List.{ext_get_or}
@@ -17,6 +17,7 @@ use Rattle.vx_join.specs.Pairs.{positions_from, pairs_from, pairs}
 use Rattle.vx_join.specs.Keys.{same_value, rows_from, rows_match}
 use Rattle.vx_join.specs.Numbers.{IsRecord, number_key}
 use Rattle.vx_join.proofs.CellRows.{pairs_alike}
+use Rattle.std.proofs.lemmas.List.Elements.{All-tail}
 
 -- ---- the bytes that a number is read of
 
@@ -55,11 +56,6 @@ same_record width xs ys few lx ly hx hy e =
     let low : i < 8 = omega (arith, h, lx, few) in
     sym (padded_at xs i low) ∙ ap (λ (l : List ℕ). get_or l i 0) is ∙ padded_at ys i low)
 
-bools_same : (a b : Bool) → (a ≡ true → b ≡ true) → (b ≡ true → a ≡ true) → a ≡ b
-bools_same true b f g = sym (f refl)
-bools_same false true f g = g refl
-bools_same false false f g = refl
-
 -- ---- rows
 
 abbrev numbers_match : Option ℕ → Option ℕ → Bool
@@ -78,19 +74,16 @@ number_match width few (bytes xs) (fields b) hx hy = absurd hy
 number_match width few (bytes xs) (tagged n b) hx hy = absurd hy
 number_match width few (bytes xs) (bytes ys) hx hy =
     sym (unsigned_ties (from_le_bytes w64 xs) (from_le_bytes w64 ys))
-    ∙ bools_same (nat_eq (from_le_bytes w64 xs) (from_le_bytes w64 ys)) (pointwise nat_eq xs ys)
+    ∙ both_ways (nat_eq (from_le_bytes w64 xs) (from_le_bytes w64 ys)) (pointwise nat_eq xs ys)
     (λ e. (bytes_decides xs ys).1 (same_record width xs ys few hx.0 hy.0 hx.1 hy.1 (eqb-true (from_le_bytes w64 xs) (from_le_bytes w64 ys) e)))
     (λ e. eq-eqb (from_le_bytes w64 xs) (from_le_bytes w64 ys) (ap (from_le_bytes w64) ((bytes_decides xs ys).0 e)))
-
-rest_of : {X : Type 0} (P : X → Type 0) (x : X) (xs : List X) → All P (x ∷ xs) → All P xs
-rest_of P x xs h = λ k d l. h (suc k) d (omega arith)
 
 -- the pairs of other items that match alike where they are such items
 module _ {X Y A B : Type 0} (m : A → B → Bool) (m2 : X → Y → Bool) (f : X → A) (g : Y → B) (P : X → Type 0) (Q : Y → Type 0) (same : (x : X) (y : Y) → P x → Q y → m (f x) (g y) ≡ m2 x y) where
   positions_on : (x : X) → P x → (at : ℕ) (ys : List Y) → All Q ys → positions_from (m (f x)) at (map g ys) ≡ positions_from (m2 x) at ys
   positions_on x p at [] h = refl
   positions_on x p at (y ∷ ys) h =
-      let rest = positions_on x p (at + 1) ys (rest_of Q y ys h) in
+      let rest = positions_on x p (at + 1) ys (All-tail Q y ys h) in
       let here = same x y p (h zero y (omega arith)) in
       λ i. cond (here i) (at ∷ rest i) (rest i)
 
@@ -98,7 +91,7 @@ module _ {X Y A B : Type 0} (m : A → B → Bool) (m2 : X → Y → Bool) (f : 
   pairs_from_on i [] ys hx hy = refl
   pairs_from_on i (x ∷ xs) ys hx hy =
       let here = positions_on x (hx zero x (omega arith)) 0 ys hy in
-      let rest = pairs_from_on (i + 1) xs ys (rest_of P x xs hx) hy in
+      let rest = pairs_from_on (i + 1) xs ys (All-tail P x xs hx) hy in
       λ t. map (λ j. (i, j)) (here t) ++ rest t
 
 pub pairs_of_numbers : (width : ℕ) (xs ys : List RowValue) → width ≤ 8 → All (IsRecord width) xs → All (IsRecord width) ys → pairs (keys_match (eq_by_cmp nat_cmp)) (map number_key xs) (map number_key ys) ≡ pairs same_value xs ys

@@ -1,10 +1,10 @@
 -- Keys, the columns that they name, and what is found of them.
-use Rattle.std.proofs.Common.{◌≡◌, ℕ, zero, suc, ◌+◌, ◌<◌, ◌≤◌, Bool, true, false, cond, ◌&&◌, List, [], ◌∷◌, ◌++◌, length, map, take, Option, None, Some, refl, sym, ◌∙◌, ap, ap₂, subst, arith}
+use Rattle.std.proofs.Common.{◌≡◌, ℕ, zero, suc, ◌+◌, ◌<◌, ◌≤◌, Bool, true, false, cond, List, [], ◌∷◌, ◌++◌, length, map, take, Option, None, Some, refl, sym, ◌∙◌, ap, ap₂, subst, arith}
 use Rattle.std.specs.Prelude.{not, nat_lt, slice_get, slice_index}
 use Rattle.std.specs.List.{All, cons_option, position_from}
-use Rattle.std.proofs.lemmas.Bool.{ltb-true}
+use Rattle.std.proofs.lemmas.Bool.{ltb-true, and_parts}
 use Rattle.std.proofs.lemmas.List.{length-map, map-append, take_more}
-use Rattle.std.proofs.lemmas.List.Elements.{All-append, All-cons, All-nil}
+use Rattle.std.proofs.lemmas.List.Elements.{All-append, All-cons, All-nil, All-tail}
 use Rattle.vx_types.specs.RowValue.{RowValue, null}
 use Rattle.vx_types.specs.TypeTree.{also_nullable, is_flat}
 use Rattle.vx_types.specs.declared.nullability.Nullability.{Nullability}
@@ -16,7 +16,7 @@ use Rattle.vx_model.specs.Column.{Column}
 use Rattle.vx_positions.specs.Positions.{AllThere}
 use Rattle.vx_table.specs.Table.{AreLong, TableValue}
 use Rattle.vx_table.specs.Taken.{IsTaken, beside, items_by_number}
-use Rattle.vx_table.proofs.Lists.{All-chosen, All-rest, filter_map-more}
+use Rattle.vx_table.proofs.Lists.{All-chosen, filter_map-more}
 use Rattle.vx_table.proofs.Tables.{retyped}
 use Rattle.vx_join.specs.Cells.{rows_of}
 use Rattle.vx_join.specs.Join.{IsJoin, has_key_types, have_key_types, is_there}
@@ -35,15 +35,11 @@ all_pass {X} p P sound (x ∷ xs) k h = by (p x) refl h (all_pass p P sound xs (
     by true e g rest = All-cons P x xs (sound x e) (rest g)
     by false e g rest = absurd (cc)
 
-both : (a b : Bool) → (a && b) ≡ true → (a ≡ true) × (b ≡ true)
-both true b h = (refl, h)
-both false b h = absurd (cc)
-
 module _ (left right : TableValue) (keys : List (ℕ × ℕ)) where
   pub none_missing : position_from (λ k. not (is_there left right k)) 0 keys ≡ None → AreThere left right keys
   none_missing h =
       all_pass (is_there left right) (λ k. (k.0 < length left.columns) × (k.1 < length right.columns))
-      (λ k e. let parts = both (nat_lt k.0 (length left.columns)) (nat_lt k.1 (length right.columns)) e in
+      (λ k e. let parts = and_parts (nat_lt k.0 (length left.columns)) (nat_lt k.1 (length right.columns)) e in
       (ltb-true k.0 (length left.columns) parts.0, ltb-true k.1 (length right.columns) parts.1)) keys 0 h
 
   pub none_of_other_types : position_from (λ k. not (has_key_types left right k)) 0 keys ≡ None → AreOfKeyTypes left right keys
@@ -81,7 +77,7 @@ pub are_alike : (left right : TableValue) (keys : List (ℕ × ℕ)) → AreOfKe
 are_alike left right [] h = tt
 are_alike left right (k ∷ keys) h =
     alike_more (slice_get left.columns k.0) (slice_get right.columns k.1) (items_by_number (left_keys keys) left.columns) (items_by_number (right_keys keys) right.columns)
-    (h zero k (omega arith)) (are_alike left right keys (All-rest (λ p. has_key_types left right p ≡ true) k keys h))
+    (h zero k (omega arith)) (are_alike left right keys (All-tail (λ p. has_key_types left right p ≡ true) k keys h))
 
 long_rows : (n : ℕ) (cs ds : List Column) → rows_of cs ≡ rows_of ds → AreLong n ds → AreLong n cs
 long_rows n [] ds e h = All-nil (λ (c : Column). length c.rows ≡ n)
@@ -89,7 +85,7 @@ long_rows n (c ∷ cs) [] e h = absurd (cc)
 long_rows n (c ∷ cs) (d ∷ ds) e h =
     let here : c.rows ≡ d.rows = cc in
     let rest : rows_of cs ≡ rows_of ds = cc in
-    All-cons (λ (x : Column). length x.rows ≡ n) c cs (ap length here ∙ h zero d (omega arith)) (long_rows n cs ds rest (All-rest (λ (x : Column). length x.rows ≡ n) d ds h))
+    All-cons (λ (x : Column). length x.rows ≡ n) c cs (ap length here ∙ h zero d (omega arith)) (long_rows n cs ds rest (All-tail (λ (x : Column). length x.rows ≡ n) d ds h))
 
 pub long_keys : (t : TableValue) (numbers : List ℕ) (columns : List Column) → AreLong t.len t.columns → rows_of columns ≡ rows_of (items_by_number numbers t.columns) → AreLong t.len columns
 long_keys t numbers columns h e =

@@ -24,7 +24,7 @@ pub(crate) enum KeyCell<'a> {
     Bytes(&'a [u8]),
 }
 
-// The same row of a flat type as one that is ordered.
+// The ordered cell that has the row of a cell of a flat type.
 #[tactic(auto, using(crate::proofs::FlatKeys::flat_cells))]
 fn key_cell<'a>(dtype: &DType, cell: Cell<'a>) -> KeyCell<'a>
     requires flat { is_flat (type_of dtype.now) ≡ true }

@@ -25,7 +25,7 @@ impl Model for JoinIndices {
 }
 
 impl JoinIndices {
-    /// The rows that were found, below these lengths. It takes no memory.
+    /// The rows that were found, below these lengths.
     pub(crate) fn of(found: Found, left_len: usize, right_len: usize) -> JoinIndices
         requires left { All (λ i. i < left_len) found.left.items }
         requires right { All (λ j. j < right_len) found.right.items }

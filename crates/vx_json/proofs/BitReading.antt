@@ -81,7 +81,7 @@ pub none_left : (new : List Bool) (text : List ℕ) (k : ℕ) → length text �
 unfolding bits_in
 none_left new text k h = rw (drop_all k text h) (ap Some (append-nil new))
 
--- the same, of what is left of a text whose reading goes by `whole`
+-- one digit more of what is left of a text whose reading goes by `whole`
 module _ (text : List ℕ) (k : ℕ) (old : List Bool) (whole : Option (List Bool)) (so_far : with_read old (bits_in (drop k text)) ≡ whole) where
   pub next_digit : (b : Bool) → k < length text → bit_named (get_or text k 0) ≡ Some b → with_read (old ++ b ∷ []) (bits_in (drop (k + 1) text)) ≡ whole
   next_digit b h is =

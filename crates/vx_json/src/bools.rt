@@ -133,7 +133,8 @@ pub fn bools_of(alloc: Global, items: &Vec<Value>) -> Result<BitBuffer, DocError
     read_bits(alloc, &Bools, items, 0)
 }
 
-/// The same of bools and nulls, each null a clear bit, the first one at that offset in its byte.
+/// The bits of a list of bools and nulls, each null a clear bit, the first one at that offset in
+/// its byte. `Malformed` where an item is neither.
 pub fn bools_or_nulls_of(
     alloc: Global,
     items: &Vec<Value>,

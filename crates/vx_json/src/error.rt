@@ -11,7 +11,7 @@ use vx_mask::MaskError;
 /// Why a JSON value gives no document, or no part of one.
 #[derive(Clone, Copy, Debug, PartialEq, Eq)]
 pub enum DocError {
-    /// It has no meaning as one.
+    /// The value has no meaning as a document, or as that part of one.
     Malformed,
     /// Out of memory.
     NoMemory,

@@ -154,7 +154,7 @@ pub fn names_of(alloc: Global, value: &Value) -> Result<Vec<RcStr>, DocError>
 pub struct StrungTexts {
     /// Where the first begins and where each ends, as records of `i32`.
     pub offsets: Buffer<[u8; 4]>,
-    /// Their bytes.
+    /// The texts' bytes.
     pub bytes: Buffer<u8>,
 }
 

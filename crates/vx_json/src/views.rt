@@ -112,7 +112,7 @@ pub fn views_in(alloc: Global, items: &Vec<Value>) -> Result<Vec<BinaryView>, Do
 pub struct PlacedTexts {
     /// A view of each.
     pub views: Buffer<BinaryView>,
-    /// Those of more than twelve bytes, one behind another: buffer 0.
+    /// The bytes of the texts of more than twelve bytes, one behind another: buffer 0.
     pub bytes: Buffer<u8>,
 }
 

@@ -8,9 +8,10 @@ ghost use Rattle.vx_layouts.specs.Adaptors.{codes_of, AnswersCodes};
 use crate::answer::Answer;
 use crate::taking::{TakeError, TakeExecute, TakeReduce};
 use std::alloc::Global;
-use vx_column::vtables::Dict;
-use vx_column::{Array, ArrayRef, ArrayView, FlatRef};
+use vx_column::{Array, ArrayRef};
 use vx_pieces::Indices;
+use vx_plain::vtables::Dict;
+use vx_plain::{ArrayView, FlatRef, ReadLayout};
 
 // The place of the values among a dictionary's children.
 const VALUES: usize = 1;
@@ -36,15 +37,12 @@ fn codes_of<'a>(parent: ArrayView<'a, Dict>) -> Option<&'a ArrayRef>
     }
 }
 
-// A column of integers as indices. It takes no memory.
+// A column of integers as indices.
 fn indices_of(codes: &ArrayRef) -> Indices
     requires { is_int_type codes.now.dtype ≡ true }
     ensures { index_value result ≡ by_column codes.now }
 {
-    match FlatRef::try_new(codes.share()) {
-        Ok(flat) => Indices::Array(flat),
-        Err(_) => unreachable!(),
-    }
+    Indices::Array(FlatRef::of(codes.share()))
 }
 
 impl<V: TakeReduce> TakeReduceAdaptor<V> {

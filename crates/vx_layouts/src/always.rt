@@ -4,8 +4,8 @@
 //! (`taking.rt`, `filtering.rt`, `slicing.rt`). One that declines some has its own answer, in the
 //! file of its name.
 
-use vx_column::VTable;
-use vx_column::vtables::{
+use vx_plain::VTable;
+use vx_plain::vtables::{
     Bool, Decimal, Dict, Extension, FixedSizeList, List, ListView, Map, Null, Primitive, Struct,
     Union, VarBin, VarBinView,
 };

@@ -7,11 +7,12 @@ ghost use Rattle.vx_dispatch.specs.Materialized.{is_materialized};
 use crate::answer::Answer;
 use crate::taking::{TakeError, TakeExecute, take_fault};
 use std::alloc::Global;
-use vx_column::vtables::Filter;
-use vx_column::{Array, ArrayView};
+use vx_column::Array;
 use vx_dispatch::{is_materialized, take};
 use vx_mask::Policy;
 use vx_pieces::Indices;
+use vx_plain::ArrayView;
+use vx_plain::vtables::Filter;
 
 impl TakeExecute for Filter {
     ghost declines = { is_materialized vortex_fields };

@@ -11,9 +11,10 @@ ghost use Rattle.vx_layouts.specs.Answers.{AnswersFilter};
 use crate::always::{FilterKernelAlways, FilterReduceAlways};
 use crate::answer::Answer;
 use std::alloc::Global;
-use vx_column::{Array, ArrayView, VTable};
+use vx_column::Array;
 use vx_dispatch::filter;
 use vx_mask::{Mask, Policy};
+use vx_plain::{ArrayView, VTable};
 
 /// A layout that answers a filter while columns are put together: Vortex's `FilterReduce`.
 pub trait FilterReduce: VTable {

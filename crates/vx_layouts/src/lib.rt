@@ -33,5 +33,5 @@ pub use taking::{TakeError, TakeExecute, TakeReduce, take};
 pub use union_::{filter_union, slice_union, take_union};
 pub use varbin::{VarBinSlice, take_varbin};
 pub use varbinview::filter_varbinview;
-pub use vx_column::mask_of;
 pub use vx_dispatch::{TextCopies, execute, execute_texts, filter, slice};
+pub use vx_reading::mask_of;

@@ -13,11 +13,12 @@ use crate::answer::Answer;
 use crate::filtering::FilterKernel;
 use crate::taking::{TakeError, take_fault};
 use std::alloc::Global;
-use vx_column::vtables::List;
-use vx_column::{Array, ArrayView, ListArray};
+use vx_column::{Array, ListArray};
 use vx_dispatch::{filter, take_lists};
 use vx_mask::{Mask, Policy};
 use vx_pieces::Indices;
+use vx_plain::ArrayView;
+use vx_plain::vtables::List;
 
 impl FilterKernel for List {
     ghost declines = { λ _ bits. are_alike bits };

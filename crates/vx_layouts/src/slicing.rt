@@ -9,8 +9,9 @@ ghost use Rattle.vx_layouts.specs.Answers.{AnswersSlice};
 use crate::always::{SliceKernelAlways, SliceReduceAlways};
 use crate::answer::Answer;
 use std::alloc::Global;
-use vx_column::{Array, ArrayView, VTable};
+use vx_column::Array;
 use vx_dispatch::slice;
+use vx_plain::{ArrayView, VTable};
 
 /// A layout that answers a slice while columns are put together: Vortex's `SliceReduce`.
 pub trait SliceReduce: VTable {

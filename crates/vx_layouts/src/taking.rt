@@ -18,9 +18,10 @@ use std::alloc::Global;
 use std::error::Error;
 use std::fmt;
 use vx_bits::NoMemory;
-use vx_column::{Array, ArrayView, VTable};
+use vx_column::Array;
 use vx_mask::Policy;
 use vx_pieces::{IndexFault, Indices};
+use vx_plain::{ArrayView, VTable};
 
 /// Why a take has no rows. All but the last come by the indices alone, before anything else.
 #[derive(Debug, Clone, Copy, PartialEq, Eq)]
@@ -69,7 +70,7 @@ impl From<NoMemory> for TakeError {
     }
 }
 
-/// Why a take from a column by these indices isn't one; none where it is. It takes no memory.
+/// Why a take from a column by these indices isn't one; none where it is.
 pub(crate) fn take_fault(array: &Array, indices: &Indices) -> Option<TakeError>
     ensures { result ≡ take_fault array.now (index_value indices.now) }
 {

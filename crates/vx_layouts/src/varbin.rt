@@ -12,11 +12,12 @@ ghost use Rattle.vx_layouts.specs.Taking.{IsTakeBy, take_fault};
 use crate::taking::{TakeError, take_fault};
 use std::alloc::Global;
 use vx_bits::NoMemory;
-use vx_column::vtables::VarBin;
-use vx_column::{Array, ArrayView, VTable, VarBinArray};
+use vx_column::{Array, VarBinArray};
 use vx_dispatch::{slice, take_validity};
 use vx_mask::Policy;
 use vx_pieces::Indices;
+use vx_plain::vtables::VarBin;
+use vx_plain::{ArrayView, VTable};
 use vx_text::take_varbin_picks;
 
 /// A slice of a column of layout `VarBin`, by the name that Vortex gives it.

@@ -3,7 +3,7 @@ use Rattle.std.proofs.Common.{◌≡◌, ℕ, ◌+◌, ◌-◌, ◌<◌, ◌≤�
 use Rattle.std.specs.List.{sum_by}
 use Rattle.std.proofs.lemmas.List.{drop_at, take_at, length-append, length-drop, length-take-le}
 use Rattle.std.proofs.lemmas.List.Sums.{sum_by-cons}
-use Rattle.vx_positions.specs.Offsets.{items_in, lists_at, spans}
+use Rattle.vx_offsets.specs.Offsets.{items_in, lists_at, spans}
 use Rattle.vx_lists.specs.Lists.{AreOffsets, last_offset, row_count, span_at}
 use Rattle.vx_lists.specs.Sums.{concat_lists, length_at, offsets_of, sums_from}
 use Rattle.vx_lists.proofs.Spans.{offsets_ordered}

@@ -1,5 +1,5 @@
 -- What a filter leaves of lists.
-use Rattle.std.proofs.Common.{◌≡◌, ℕ, zero, suc, ◌+◌, ◌-◌, ◌<◌, ◌≤◌, Bool, true, false, cond, List, [], ◌∷◌, length, get_or, map, take, drop, refl, sym, ap, ap₂, subst, ◌∙◌, arith}
+use Rattle.std.proofs.Common.{◌≡◌, ℕ, suc, ◌+◌, ◌-◌, ◌<◌, ◌≤◌, Bool, true, false, cond, List, [], ◌∷◌, length, get_or, map, take, drop, refl, sym, ap, ap₂, subst, ◌∙◌, arith}
 use Rattle.std.specs.List.{All, flat_map, items_where_true, range_with_len, slice_get, slice_range, sum_by}
 use Rattle.std.proofs.lemmas.List.{length-drop, length-take-le}
 use Rattle.std.proofs.lemmas.List.Elements.{All-cons, All-nil, All-tail}
@@ -12,13 +12,14 @@ use Rattle.vx_mask.specs.Positions.{ascending, rank_of, run_positions, set_of}
 use Rattle.vx_mask.proofs.AscendingLists.{ascending_first, index_parts}
 use Rattle.vx_mask.proofs.PositionLists.{get_or_of_slice_get, length-positions, position_at}
 use Rattle.vx_mask.proofs.RankedItems.{items_at_the_set}
-use Rattle.vx_positions.specs.Offsets.{items_in, lists_at}
+use Rattle.vx_offsets.specs.Offsets.{items_in, lists_at}
 use Rattle.vx_lists.specs.Lists.{AreElementBits, AreOffsets, IsWithin, last_offset, row_count, span_at}
 use Rattle.vx_lists.specs.Sums.{concat_lists, length_at, offsets_of, sums_from}
 use Rattle.vx_lists.specs.Filters.{FiltersLists, IsElementRange, selected_range, whole_range}
 use Rattle.vx_lists.proofs.Joined.{cut_again, length_row, row_of}
-use Rattle.vx_filter.proofs.Picks.{ascending_below, runs_picked, same_items, set_ascends}
+use Rattle.vx_filter.proofs.Picks.{ascending_below, runs_picked, set_ascends}
 use Rattle.vx_lists.proofs.Spans.{offsets_ordered, picked_in_row, spans_at_the_set, spans_of_rows}
+use Rattle.vx_lemmas.proofs.Picked.{part_read, same_items}
 
 -- ---- the items that stay
 
@@ -36,20 +37,9 @@ spans_inside offsets (i ∷ rows) n are h long =
     All-cons (λ (span : ℕ × ℕ). span.1 ≤ n) (span_at offsets i) (map (span_at offsets) rows) (omega arith) (spans_inside offsets rows n are (All-tail (λ k. k < row_count offsets) i rows h) long)
 
 module _ {X : Type 0} where
-  -- an item of a part of a list
-  get_cut : (items : List X) (a m p : ℕ) → p < m → slice_get (take m (drop a items)) p ≡ slice_get items (a + p)
-  get_cut [] zero (suc m) zero h = refl
-  get_cut [] zero (suc m) (suc p) h = refl
-  get_cut [] (suc a) (suc m) zero h = refl
-  get_cut [] (suc a) (suc m) (suc p) h = refl
-  get_cut items a zero p h = absurd (omega arith)
-  get_cut (x ∷ items) zero (suc m) zero h = refl
-  get_cut (x ∷ items) zero (suc m) (suc p) h = let next : 0 + suc p ≡ suc (0 + p) = omega arith in get_cut items zero m p (omega arith) ∙ ap (slice_get (x ∷ items)) (sym next)
-  get_cut (x ∷ items) (suc a) (suc m) p h = let next : suc a + p ≡ suc (a + p) = omega arith in get_cut items a (suc m) p h ∙ ap (slice_get (x ∷ items)) (sym next)
-
   gets_cut : (items : List X) (a m : ℕ) (ps : List ℕ) → All (λ p. p < m) ps → map (slice_get (take m (drop a items))) ps ≡ map (slice_get items) (map (λ p. a + p) ps)
   gets_cut items a m [] h = refl
-  gets_cut items a m (p ∷ ps) h = ap₂ ◌∷◌ (get_cut items a m p (h 0 0 (omega arith))) (gets_cut items a m ps (All-tail (λ q. q < m) p ps h))
+  gets_cut items a m (p ∷ ps) h = ap₂ ◌∷◌ (part_read items a m p (h 0 0 (omega arith))) (gets_cut items a m ps (All-tail (λ q. q < m) p ps h))
 
   -- the lists of rows
   abbrev pub row_lists : List ℕ → List X → List ℕ → List (List X)
@@ -175,7 +165,8 @@ are_ranges offsets selection are h some =
       from = low;
     }
 
--- the same by the places of the first and the last selected row
+-- where the selected lists lie, and that this lies in the whole, by the places of the first and the
+-- last selected row
 pub record AreRangesAt (offsets : List ℕ) (selection : List Bool) (first last len : ℕ) : Type 0 where
   pub part : IsElementRange offsets selection (get_or offsets first 0, get_or offsets (last + 1) 0)
   pub whole : IsElementRange offsets selection (get_or offsets 0 0, get_or offsets len 0)

@@ -18,7 +18,7 @@ use Rattle.vx_mask.specs.Mask.{slices_fault}
 use Rattle.vx_mask.specs.declared.error.MaskError.TheVariants.{Slices}
 use Rattle.vx_filter.proofs.Moves.{run_first_of, runs_within}
 use Rattle.vx_filter.proofs.Picks.{set_ascends}
-use Rattle.vx_positions.specs.Offsets.{items_in}
+use Rattle.vx_offsets.specs.Offsets.{items_in}
 use Rattle.vx_types.specs.RowValue.{RowValue}
 use Rattle.vx_types.specs.declared.error.ColumnError.TheVariants.{BadValidity, WrongLength}
 use Rattle.vx_model.specs.FixedSizeList.{FixedParts, fixed_fault, fixed_spans, runs_from}
@@ -26,12 +26,14 @@ use Rattle.vx_model.specs.Lists.{lists_of}
 use Rattle.vx_model.specs.Valid.{Valid, is_fitting}
 use Rattle.vx_model.proofs.ListRows.{elements-fixed}
 use Rattle.vx_lists.specs.Plans.{MakesFixed}
-use Rattle.vx_model.proofs.Items.{items_where_true-none, length-items_where_true}
+use Rattle.vx_model.proofs.Items.{items_where_true-none}
 use Rattle.vx_model.proofs.Spans.{get_or-runs_from, length-runs_from}
 use Rattle.vx_take.specs.Picks.{AreBelow, at, in_runs, item_at, run_places}
 use Rattle.vx_lists.specs.Fixed.{FiltersFixed, TakesFixed, fixed_lists, fixed_run, repeat_bits, scaled_run}
 use Rattle.vx_lists.proofs.TakenLists.{length-places, same_places}
-use Rattle.vx_lists.proofs.Spans.{range_cut}
+use Rattle.vx_lemmas.proofs.Lists.{range_split}
+use Rattle.std.proofs.Math.Nat.{mul_comm}
+use Rattle.vx_mask.proofs.RankedItems.{length-items_where_true}
 
 -- ---- the bits of the elements
 
@@ -71,7 +73,7 @@ places_in_row size a zero = let none : 0 * size ≡ 0 = omega arith in ap (range
 places_in_row size a (suc n) =
     let more : suc n * size ≡ size + n * size = omega arith in
     let next : a * size + size ≡ (a + 1) * size = omega arith in
-    ap (range_with_len (a * size)) more ∙ range_cut (a * size) size (n * size)
+    ap (range_with_len (a * size)) more ∙ range_split (a * size) size (n * size)
     ∙ ap (λ l. range_with_len (a * size) size ++ l) (ap (λ k. range_with_len k (n * size)) next ∙ places_in_row size (a + 1) n)
 
 less_scaled : (size a b : ℕ) → a ≤ b → b * size - a * size ≡ (b - a) * size
@@ -101,7 +103,7 @@ repeated_bits size len selection bits runs e some cover long set =
     ∙ sym (bits_told (repeat_bits size selection) len (flat_map (places_of size) (set_of selection)) (length-repeated size selection ∙ sym e)
     (ap (λ k. positions k (repeat_bits size selection)) (sym first) ∙ positions_repeated size 0 selection))
 
--- the same of an answer
+-- a result's bits that are set in the runs of the elements are the selection's, repeated
 pub repeated_told : {V E : Type 0} (r : Result V E) (bits : V → List Bool) (size len : ℕ) (selection : List Bool) (runs scaled : List (ℕ × ℕ)) → len ≡ length selection * size → All (λ run. run.0 < run.1) runs → run_positions runs ≡ set_of selection → scaled ≡ map (scaled_run size) runs → IfOk r (λ v. length (bits v) ≡ len) → IfOk r (λ v. set_of (bits v) ≡ run_positions scaled) → IfOk r (λ v. bits v ≡ repeat_bits size selection)
 repeated_told (Ok v) bits size len selection runs scaled e some cover is long set = repeated_bits size len selection (bits v) runs e some cover long (set ∙ ap run_positions is)
 repeated_told (Err x) bits size len selection runs scaled e some cover is long set = long
@@ -319,12 +321,9 @@ count-repeated size bits =
     ∙ length-places_of size (set_of bits)
     ∙ ap (λ n. n * size) (length-positions 0 bits)
 
-other_way : (a b : ℕ) → a * b ≡ b * a
-other_way a b = omega arith
-
 made_fixed : (size len : ℕ) (v : Valid) (left : List RowValue) (lists : List (List RowValue)) → length left ≡ len * size → is_fitting v len ≡ true → fixed_lists size len left ≡ lists → MakesFixed size len v left lists
 made_fixed size len v left lists long fits made e rows = (
-  sound (length e.rows == size * len) (is_fitting v len) (alike (length e.rows) (size * len) (ap length rows ∙ long ∙ other_way len size)) fits,
+  sound (length e.rows == size * len) (is_fitting v len) (alike (length e.rows) (size * len) (ap length rows ∙ long ∙ mul_comm len size)) fits,
   ap (λ (l : List RowValue). map (items_in l) (runs_from 0 size len)) rows ∙ made,
 )
   where
@@ -339,7 +338,7 @@ made_fixed size len v left lists long fits made e rows = (
 pub fixed_filtered : (p : FixedParts) (bits kept : List Bool) (v : Valid) → fixed_fault p ≡ None → length bits ≡ p.len → is_fitting v (true_count_of bits) ≡ true → kept ≡ repeat_bits p.size bits → MakesFixed p.size (true_count_of bits) v (items_where_true kept p.elements.rows) (items_where_true bits (lists_of (fixed_spans p)))
 fixed_filtered p bits kept v h long fits e =
     let rows = p.elements.rows in
-    let count : length bits * p.size ≡ length rows = ap (λ n. n * p.size) long ∙ other_way p.len p.size ∙ sym (elements-fixed p h) in
+    let count : length bits * p.size ≡ length rows = ap (λ n. n * p.size) long ∙ mul_comm p.len p.size ∙ sym (elements-fixed p h) in
     let same : length (repeat_bits p.size bits) ≡ length rows = length-repeated p.size bits ∙ count in
     made_fixed p.size (true_count_of bits) v (items_where_true kept rows) (items_where_true bits (lists_of (fixed_spans p)))
     (ap (λ b. length (items_where_true b rows)) e ∙ length-items_where_true (repeat_bits p.size bits) rows same ∙ count-repeated p.size bits)
@@ -359,7 +358,7 @@ fixed_taken p picks runs filler v h fits takes many none inside =
     let rows = p.elements.rows in
     made_fixed p.size (length picks) v (in_runs rows runs) (at (slice_range rows 0 p.size) (lists_of (fixed_spans p)) picks)
     (omega (arith, length-in_runs rows runs inside, many, none)) fits
-    (takes rows (other_way p.len p.size ∙ sym (elements-fixed p h)))
+    (takes rows (mul_comm p.len p.size ∙ sym (elements-fixed p h)))
 
 replicate-add : {X : Type 0} (m n : ℕ) (x : X) → replicate (m + n) x ≡ replicate m x ++ replicate n x
 replicate-add zero n x = let none : 0 + n ≡ n = omega arith in ap (λ k. replicate k x) none
@@ -392,4 +391,4 @@ fixed_filled p picks runs filler v empty fits many none x =
 -- runs of the lists are runs of the elements
 pub fixed_within : (p : FixedParts) (size rows : ℕ) (runs : List (ℕ × ℕ)) → fixed_fault p ≡ None → size ≡ p.size → rows ≡ p.len → All (λ run. run.0 + run.1 ≤ rows * size) runs → All (λ run. run.0 + run.1 ≤ length p.elements.rows) runs
 fixed_within p size rows runs h e f inside =
-    subst (λ (n : ℕ). All (λ run. run.0 + run.1 ≤ n) runs) (ap₂ (λ a b. a * b) f e ∙ other_way p.len p.size ∙ sym (elements-fixed p h)) inside
+    subst (λ (n : ℕ). All (λ run. run.0 + run.1 ≤ n) runs) (ap₂ (λ a b. a * b) f e ∙ mul_comm p.len p.size ∙ sym (elements-fixed p h)) inside

@@ -1,8 +1,8 @@
 -- Columns of lists that are made of offsets and of the elements that are left.
-use Rattle.std.proofs.Common.{◌≡◌, ℕ, zero, suc, ◌+◌, ◌-◌, ◌<◌, ◌≤◌, Bool, true, false, List, [], ◌∷◌, length, get_or, map, replicate, None, Some, Option, refl, sym, ap, ap₂, subst, ◌∙◌, add-one, arith}
+use Rattle.std.proofs.Common.{◌≡◌, ℕ, zero, suc, ◌+◌, ◌-◌, ◌<◌, ◌≤◌, Bool, true, false, List, [], ◌∷◌, length, get_or, map, replicate, None, Option, refl, sym, ap, ap₂, subst, ◌∙◌, add-one, arith}
 use Rattle.std.specs.Prelude.{ℤ, pos, int_le, nat_le, ◌&&◌, if◌then◌else◌}
 use Rattle.std.specs.List.{All, items_where_true, slice_range, sum_by}
-use Rattle.std.proofs.lemmas.Bool.{le-leb}
+use Rattle.std.proofs.lemmas.Bool.{le-leb, and_from}
 use Rattle.std.proofs.lemmas.Bool.Decides.{nat_tests}
 use Rattle.std.proofs.lemmas.Int.{ints}
 use Rattle.std.proofs.lemmas.List.{length-map, length-replicate}
@@ -14,20 +14,18 @@ use Rattle.vx_types.specs.PType.{greatest}
 use Rattle.vx_types.specs.declared.ptype.PType.{PType}
 use Rattle.vx_bits.specs.BitBuffer.{true_count_of}
 use Rattle.vx_mask.specs.Positions.{set_of}
-use Rattle.vx_filter.proofs.Picks.{set_below}
 use Rattle.vx_take.specs.Picks.{AreBelow, at, in_runs}
-use Rattle.vx_positions.specs.Offsets.{are_offsets, items_in, lists_at, offset_positions, spans}
+use Rattle.vx_offsets.specs.Offsets.{are_offsets, items_in, lists_at, offset_positions, spans}
 use Rattle.vx_model.specs.Column.{Column}
 use Rattle.vx_model.specs.List.{ListParts, list_fault, list_spans}
 use Rattle.vx_model.specs.Lists.{kept_lists, lists_of}
 use Rattle.vx_model.specs.Numbers.{integer_by, integers_of}
 use Rattle.vx_model.specs.Records.{RecordParts, records_with}
 use Rattle.vx_model.specs.Valid.{Valid, is_fitting, non_nullable, present_bits}
-use Rattle.vx_model.proofs.Items.{length-items_where_true, length-slice_range, map-slice_range}
+use Rattle.vx_model.proofs.Items.{length-slice_range, map-slice_range}
 use Rattle.vx_model.proofs.ListRows.{integers-list, offsets-list, spans-list}
 use Rattle.vx_model.proofs.Spans.{spans-slice}
 use Rattle.vx_positions.specs.Positions.{position_of}
-use Rattle.vx_positions.proofs.Ascending.{le_first}
 use Rattle.vx_types.specs.TypeTree.{is_int_kind}
 use Rattle.vx_offsets.proofs.Cuts.{are_offsets-slice, cut_are, positions_back}
 use Rattle.vx_model.proofs.ShownRows.{length-present_bits}
@@ -36,12 +34,16 @@ use Rattle.vx_model.specs.VarBin.{are_integers, is_never_null, row_count}
 use Rattle.vx_offsets.specs.Cut.{is_cut}
 use Rattle.vx_lists.specs.Plans.{LeavesLists, MakesLists, PlansLists, is_all_invalid, lists_left}
 use Rattle.vx_lists.specs.Sums.{concat_lists, length_at, offsets_of, sums_from}
-use Rattle.vx_lists.specs.Takes.{IsTake, shown_picks}
+use Rattle.vx_lists.specs.Takes.{IsListTake, shown_picks}
 use Rattle.vx_lists.specs.Lists.{AreElementBits, AreOffsets, last_offset, row_count as rows_in}
 use Rattle.vx_lists.specs.Numbers.{AreInType}
 use Rattle.vx_lists.proofs.Joined.{cut_again}
 use Rattle.vx_lists.proofs.KeptLists.{kept_items, lengths_of_rows, lists_at_the_set}
 use Rattle.vx_lists.proofs.TakenLists.{lengths_picked, picked_lists, runs_joined}
+use Rattle.std.specs.Cmp.{first_so}
+use Rattle.vx_lemmas.proofs.Options.{no_fault}
+use Rattle.vx_mask.proofs.PositionLists.{set_below}
+use Rattle.vx_mask.proofs.RankedItems.{length-items_where_true}
 
 -- ---- offsets that are sums
 
@@ -52,23 +54,13 @@ length-sums start (n ∷ lengths) = ap suc (length-sums (start + n) lengths)
 pub length-offsets_of : (lengths : List ℕ) → length (offsets_of lengths) ≡ length lengths + 1
 length-offsets_of lengths = omega (arith, length-sums 0 lengths)
 
-both : (a b : Bool) → a ≡ true → b ≡ true → (a && b) ≡ true
-both true b h k = k
-both false b h k = cc
-
 -- they cut a list of as many elements as the lists have
 cut_sums : {X : Type 0} (start : ℕ) (lists : List (List X)) → is_cut (start ∷ sums_from start (map length lists)) (start + sum_by length lists) ≡ true
 cut_sums start [] = grind (arith, nat_tests)
 cut_sums start (l ∷ lists) =
     let all : start + length l + sum_by length lists ≡ start + sum_by length (l ∷ lists) = omega (arith, sum_by-cons length l lists) in
-    both (nat_le start (start + length l)) _ (le-leb start (start + length l) (omega arith))
+    and_from (nat_le start (start + length l)) _ (le-leb start (start + length l) (omega arith))
     (ap (λ n. is_cut ((start + length l) ∷ sums_from (start + length l) (map length lists)) n) (sym all) ∙ cut_sums (start + length l) lists)
-
-no_fault : (a b c : Bool) → a ≡ true → b ≡ true → c ≡ true → (if a then (if b then (if c then None else Some BadOffsets) else Some BadValidity) else Some WrongType) ≡ None
-no_fault true true true h k l = refl
-no_fault true true false h k l = cc
-no_fault true false c h k l = cc
-no_fault false b c h k l = cc
 
 made_lists : (offsets : RecordParts) (valid : Valid) (os : List ℕ) (left : List RowValue) (lists : List (List RowValue)) → are_integers offsets ≡ true → integers_of offsets ≡ map pos os → LeavesLists os left lists → is_fitting valid (length lists) ≡ true → MakesLists offsets valid left lists
 made_lists offsets valid os left lists int numbers leaves fits e rows =
@@ -76,7 +68,7 @@ made_lists offsets valid os left lists int numbers leaves fits e rows =
     let count : row_count offsets ≡ length lists = omega (arith, length-map offsets.records (integer_by offsets.kind), ap length numbers, length-map os pos, ap length leaves.sums, length-offsets_of (map length lists), length-map lists (length {A = RowValue})) in
     let all : length e.rows ≡ sum_by length lists = ap length (rows ∙ leaves.elements) ∙ length-flat_map (λ (l : List RowValue). l) lists in
     let cut : is_cut os (length e.rows) ≡ true = ap₂ is_cut leaves.sums all ∙ cut_whole lists in (
-      no_fault (are_integers offsets) (is_fitting valid (row_count offsets)) (are_offsets (integers_of offsets) (length e.rows)) int
+      no_fault WrongType BadValidity BadOffsets (are_integers offsets) (is_fitting valid (row_count offsets)) (are_offsets (integers_of offsets) (length e.rows)) int
           (ap (is_fitting valid) count ∙ fits)
           (ap (λ zs. are_offsets zs (length e.rows)) numbers ∙ cut_are os (length e.rows) cut),
       ap₂ (λ ps (l : List RowValue). lists_at ps l) (positions ∙ leaves.sums) (rows ∙ leaves.elements) ∙ cut_again lists,
@@ -129,7 +121,7 @@ filter_leaves offsets seen selection range bits os items e are h ordered within 
     } in
     subst (λ (o : List ℕ). LeavesLists os (items_where_true bits (slice_range items range.0 range.1)) (items_where_true selection (lists_at o items))) e whole
 
-pub take_leaves : (offsets seen : List ℕ) (present : List Bool) (picks : List (Option ℕ)) (os : List ℕ) (runs : List (ℕ × ℕ)) (items : List RowValue) → seen ≡ offsets → AreOffsets seen → AreBelow (shown_picks present picks) (rows_in seen) → last_offset seen ≤ length items → IsTake seen (shown_picks present picks) os runs → LeavesLists os (in_runs items runs) (kept_lists present (at [] (lists_at offsets items) picks))
+pub take_leaves : (offsets seen : List ℕ) (present : List Bool) (picks : List (Option ℕ)) (os : List ℕ) (runs : List (ℕ × ℕ)) (items : List RowValue) → seen ≡ offsets → AreOffsets seen → AreBelow (shown_picks present picks) (rows_in seen) → last_offset seen ≤ length items → IsListTake seen (shown_picks present picks) os runs → LeavesLists os (in_runs items runs) (kept_lists present (at [] (lists_at offsets items) picks))
 take_leaves offsets seen present picks os runs items e are below long v =
     let shown = shown_picks present picks in
     let lists = picked_lists seen items shown below in
@@ -211,8 +203,8 @@ list_sliced p s e v h o l f =
     let many : e + 1 ≤ length zs = omega (arith, within, length-map p.offsets.records (integer_by p.offsets.kind)) in
     let numbers : integers_of (offsets_cut p s e) ≡ slice_range zs s (e + 1) = map-slice_range (integer_by p.offsets.kind) p.offsets.records s (e + 1) in
     let positions = ap offset_positions numbers ∙ map-slice_range position_of zs s (e + 1) in (
-      no_fault (are_integers (offsets_cut p s e)) (is_fitting v (row_count (offsets_cut p s e))) (are_offsets (integers_of (offsets_cut p s e)) (length p.elements.rows))
-          (ap (λ b. b && true) (le_first (is_int_kind p.offsets.kind) (is_never_null p.offsets.valid) (integers-list p h)))
+      no_fault WrongType BadValidity BadOffsets (are_integers (offsets_cut p s e)) (is_fitting v (row_count (offsets_cut p s e))) (are_offsets (integers_of (offsets_cut p s e)) (length p.elements.rows))
+          (ap (λ b. b && true) (first_so (is_int_kind p.offsets.kind) (is_never_null p.offsets.valid) (integers-list p h)))
           (ap (is_fitting v) rows ∙ f)
           (ap (λ x. are_offsets x (length p.elements.rows)) numbers ∙ are_offsets-slice (length p.elements.rows) zs s (e + 1) (omega (arith, o)) many (offsets-list p h)),
       ap (λ (ps : List ℕ). map (items_in p.elements.rows) (spans ps)) positions

@@ -16,6 +16,7 @@ use Rattle.vx_mask.proofs.PositionLists.{set_of_clear, set_of_set}
 use Rattle.vx_lists.specs.Lists.{AreOffsets, IsWithin, row_count, span_at}
 use Rattle.vx_filter.proofs.Moves.{run_first_of}
 use Rattle.vx_lists.proofs.Spans.{offsets_ordered, range_moved, spans_joined, spans_within}
+use Rattle.vx_mask.proofs.RunLists.{covered_first}
 
 -- the bits of a range, up to row `low`, are set at the items of the rows `done`; the rows `left`
 -- come from `low` on
@@ -113,10 +114,6 @@ module _ (offsets : List ℕ) (range : ℕ × ℕ) (bits : List Bool) (indices :
       (rows_marked offsets range bits new (take k indices) (drop (k + 1) indices) i (i + 1) (omega arith) are (row_covered h covers) (next_row h v) e long)
 
 -- ---- rows by runs of them
-
--- the places of a run and of the runs behind it
-pub covered_first : (runs : List (ℕ × ℕ)) (k : ℕ) (d : ℕ × ℕ) → k < length runs → run_positions (drop k runs) ≡ range_with_len (get_or runs k d).0 ((get_or runs k d).1 - (get_or runs k d).0) ++ run_positions (drop (k + 1) runs)
-covered_first runs k d h = ap run_positions (drop_more runs k d h)
 
 -- what holds along a list of runs' positions holds along each run's
 All-left : (P : ℕ → Type 0) (xs ys : List ℕ) → All P (xs ++ ys) → All P xs

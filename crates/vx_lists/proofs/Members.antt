@@ -116,7 +116,7 @@ marks_selected offsets selection range bits h v p =
       (λ r. set_of_has bits p (has_back start p (set_of bits) (subst (λ (l : List ℕ). Has (start + p) l) (sym told) (has_of_row offsets rows (start + p) r.row (has_of_set selection r.row r.selected) r.from r.to)))),
     )
 
--- the same of what a mask is made from
+-- bits that equal those of the elements mark the selected ones
 pub marks_told : (offsets : List ℕ) (selection seen : List Bool) (range : ℕ × ℕ) (bits kept : List Bool) → length offsets ≡ length selection + 1 → seen ≡ selection → kept ≡ bits → AreElementBits offsets seen range bits → MarksSelected offsets selection range.0 kept
 marks_told offsets selection seen range bits kept h e f v =
     let w : AreElementBits offsets selection range bits = subst (λ (s : List Bool). AreElementBits offsets s range bits) e v in

@@ -14,12 +14,13 @@ use Rattle.vx_types.specs.PType.{greatest, is_int, number}
 use Rattle.vx_types.specs.TypeTree.{primitive_kind}
 use Rattle.vx_types.specs.declared.ptype.PType.{PType}
 use Rattle.vx_types.specs.declared.ptype.PType.TheVariants.{U8, U16, U32, U64, I8, I16, I32, I64, F16, F32, F64}
-use Rattle.vx_positions.specs.Offsets.{are_offsets, offset_positions}
+use Rattle.vx_offsets.specs.Offsets.{are_offsets, offset_positions}
 use Rattle.vx_positions.specs.Positions.{position_of}
-use Rattle.vx_positions.proofs.Ascending.{offset_ascends, offset_within}
+use Rattle.vx_offsets.proofs.Ascending.{offset_ascends, offset_within}
 use Rattle.vx_model.specs.Numbers.{integer_by}
 use Rattle.vx_lists.specs.Numbers.{AreInType, record_by}
 use Rattle.vx_lists.specs.Lists.{AreOffsets, last_offset, row_count}
+use Rattle.vx_lemmas.proofs.Numbers.{int_le-true, le-int_le}
 
 some_offset : (n : ℕ) (zs : List ℤ) → are_offsets zs n ≡ true → 0 < length zs
 some_offset n [] h = cc
@@ -49,23 +50,20 @@ below_limit top limit numbers h all k d l = less (get_or numbers k d) (all k d l
 
 -- ---- numbers that are written
 
-small : (n top : ℕ) → int_le (pos n) (pos top) ≡ true → n ≤ top
-small n top e = grind (arith, ints)
-
 -- a byte by itself
 one_byte : (n : ℕ) → n < 256 → from_le_bytes w8 (to_le_bytes w8 n) ≡ n
 one_byte n h = mod-eq_of_lt h
 
 -- a written number reads back
 pub reads_back : (p : PType) (n : ℕ) → is_int p ≡ true → int_le (pos n) (greatest p) ≡ true → number p (record_by p n) ≡ pos n
-reads_back U8 n i h = let s = small n 255 h in ap pos (one_byte n (omega arith))
-reads_back U16 n i h = let s = small n 65535 h in ap pos (from_le_bytes-to_le_bytes_2 n (omega arith))
-reads_back U32 n i h = let s = small n 4294967295 h in ap pos (from_le_bytes-to_le_bytes_4 n (omega arith))
-reads_back U64 n i h = let s = small n 18446744073709551615 h in ap pos (from_le_bytes-to_le_bytes_8 n (omega arith))
-reads_back I8 n i h = let s = small n 127 h in ap (to_z w8) (one_byte n (omega arith)) ∙ to_z_pos w8 n (omega arith)
-reads_back I16 n i h = let s = small n 32767 h in ap (to_z w16) (from_le_bytes-to_le_bytes_2 n (omega arith)) ∙ to_z_pos w16 n (omega arith)
-reads_back I32 n i h = let s = small n 2147483647 h in ap (to_z w32) (from_le_bytes-to_le_bytes_4 n (omega arith)) ∙ to_z_pos w32 n (omega arith)
-reads_back I64 n i h = let s = small n 9223372036854775807 h in ap (to_z w64) (from_le_bytes-to_le_bytes_8 n (omega arith)) ∙ to_z_pos w64 n (omega arith)
+reads_back U8 n i h = let s = int_le-true n 255 h in ap pos (one_byte n (omega arith))
+reads_back U16 n i h = let s = int_le-true n 65535 h in ap pos (from_le_bytes-to_le_bytes_2 n (omega arith))
+reads_back U32 n i h = let s = int_le-true n 4294967295 h in ap pos (from_le_bytes-to_le_bytes_4 n (omega arith))
+reads_back U64 n i h = let s = int_le-true n 18446744073709551615 h in ap pos (from_le_bytes-to_le_bytes_8 n (omega arith))
+reads_back I8 n i h = let s = int_le-true n 127 h in ap (to_z w8) (one_byte n (omega arith)) ∙ to_z_pos w8 n (omega arith)
+reads_back I16 n i h = let s = int_le-true n 32767 h in ap (to_z w16) (from_le_bytes-to_le_bytes_2 n (omega arith)) ∙ to_z_pos w16 n (omega arith)
+reads_back I32 n i h = let s = int_le-true n 2147483647 h in ap (to_z w32) (from_le_bytes-to_le_bytes_4 n (omega arith)) ∙ to_z_pos w32 n (omega arith)
+reads_back I64 n i h = let s = int_le-true n 9223372036854775807 h in ap (to_z w64) (from_le_bytes-to_le_bytes_8 n (omega arith)) ∙ to_z_pos w64 n (omega arith)
 reads_back F16 n i h = cc
 reads_back F32 n i h = cc
 reads_back F64 n i h = cc
@@ -87,18 +85,15 @@ eight_bytes bs h =
     let a = h 0 in let b = h 1 in let c = h 2 in let d = h 3 in
     let e = h 4 in let f = h 5 in let g = h 6 in let i = h 7 in omega arith
 
-at_most : (n top : ℕ) → n ≤ top → int_le (pos n) (pos top) ≡ true
-at_most n top h = grind (arith, ints)
-
 signed_most : (z : ℤ) (top : ℕ) → mag z < top + 1 → int_le z (pos top) ≡ true
-signed_most (pos n) top h = at_most n top (omega arith)
+signed_most (pos n) top h = le-int_le n top (omega arith)
 signed_most (negsuc n) top h = refl
 
 pub in_type : (p : PType) (bs : List ℕ) → is_int p ≡ true → ((i : ℕ) → get_or bs i 0 < 256) → int_le (number p bs) (greatest p) ≡ true
-in_type U8 bs i h = let a = h 0 in at_most (from_le_bytes w8 bs) 255 (omega arith)
-in_type U16 bs i h = let a = two_bytes bs h in at_most (from_le_bytes w16 bs) 65535 (omega arith)
-in_type U32 bs i h = let a = four_bytes bs h in at_most (from_le_bytes w32 bs) 4294967295 (omega arith)
-in_type U64 bs i h = let a = eight_bytes bs h in at_most (from_le_bytes w64 bs) 18446744073709551615 (omega arith)
+in_type U8 bs i h = let a = h 0 in le-int_le (from_le_bytes w8 bs) 255 (omega arith)
+in_type U16 bs i h = let a = two_bytes bs h in le-int_le (from_le_bytes w16 bs) 65535 (omega arith)
+in_type U32 bs i h = let a = four_bytes bs h in le-int_le (from_le_bytes w32 bs) 4294967295 (omega arith)
+in_type U64 bs i h = let a = eight_bytes bs h in le-int_le (from_le_bytes w64 bs) 18446744073709551615 (omega arith)
 in_type I8 bs i h = let a = h 0 in signed_most (to_z w8 (from_le_bytes w8 bs)) 127 (sfits_to_z {w = w8} {n = from_le_bytes w8 bs} (record { fits = omega arith })).sfits
 in_type I16 bs i h = let a = two_bytes bs h in signed_most (to_z w16 (from_le_bytes w16 bs)) 32767 (sfits_to_z {w = w16} {n = from_le_bytes w16 bs} (record { fits = omega arith })).sfits
 in_type I32 bs i h = let a = four_bytes bs h in signed_most (to_z w32 (from_le_bytes w32 bs)) 2147483647 (sfits_to_z {w = w32} {n = from_le_bytes w32 bs} (record { fits = omega arith })).sfits

@@ -5,15 +5,11 @@ use Rattle.std.proofs.lemmas.Bool.{cases_lt}
 use Rattle.std.proofs.lemmas.List.Elements.{All-cons, All-tail}
 use Rattle.vx_mask.specs.Positions.{ascending, positions, run_positions, set_of}
 use Rattle.vx_filter.proofs.Picks.{set_ascends}
-use Rattle.vx_positions.specs.Offsets.{spans}
+use Rattle.vx_offsets.specs.Offsets.{spans}
 use Rattle.vx_lists.specs.Lists.{AreElementBits, AreOffsets, Covers, IsWithin, row_count, selected_spans, span_at}
+use Rattle.vx_lemmas.proofs.Lists.{range_split, map_alike}
 
 -- ---- each span by its row
-
--- functions that agree everywhere
-map_alike : {X Y : Type 0} (f g : X → Y) → ((x : X) → f x ≡ g x) → (xs : List X) → map f xs ≡ map g xs
-map_alike f g same [] = refl
-map_alike f g same (x ∷ xs) = ap₂ ◌∷◌ (same x) (map_alike f g same xs)
 
 map_next : {X : Type 0} (f : ℕ → X) (a n : ℕ) → map f (range_with_len (a + 1) n) ≡ map (λ i. f (i + 1)) (range_with_len a n)
 map_next f a zero = refl
@@ -52,14 +48,6 @@ offsets_ordered offsets i j are p q =
     let whole : i + (j - i) ≡ j = omega arith in
     omega (arith, offsets_ascend offsets i (j - i) are (omega arith), ap (λ k. get_or offsets k 0) whole)
 
--- numbers in a row, cut in two
-pub range_cut : (a m n : ℕ) → range_with_len a (m + n) ≡ range_with_len a m ++ range_with_len (a + m) n
-range_cut a zero n = let none : 0 + n ≡ n = omega arith in let same : a ≡ a + 0 = omega arith in ap₂ range_with_len same none
-range_cut a (suc m) n =
-    let more : suc m + n ≡ suc (m + n) = omega arith in
-    let next : a + 1 + m ≡ a + suc m = omega arith in
-    ap (range_with_len a) more ∙ ap (λ l. a ∷ l) (range_cut (a + 1) m n ∙ ap (λ k. range_with_len (a + 1) m ++ range_with_len k n) next)
-
 -- numbers in a row, all moved
 pub range_moved : (by a n : ℕ) → map (λ p. by + p) (range_with_len a n) ≡ range_with_len (by + a) n
 range_moved by a zero = refl
@@ -83,7 +71,7 @@ spans_joined offsets i (suc n) are h =
     let whole : (mid - low) + (high - mid) ≡ high - low = omega arith in
     let joint : low + (mid - low) ≡ mid = omega arith in
     ap (λ l. range_with_len low (mid - low) ++ l) (spans_joined offsets (i + 1) n are (omega arith) ∙ ap (λ k. range_with_len mid (get_or offsets k 0 - mid)) next)
-    ∙ sym (ap (range_with_len low) (sym whole) ∙ range_cut low (mid - low) (high - mid) ∙ ap (λ k. range_with_len low (mid - low) ++ range_with_len k (high - mid)) joint)
+    ∙ sym (ap (range_with_len low) (sym whole) ∙ range_split low (mid - low) (high - mid) ∙ ap (λ k. range_with_len low (mid - low) ++ range_with_len k (high - mid)) joint)
 
 -- a range that covers rows that follow one another covers their items
 pub spans_within : (range : ℕ × ℕ) (offsets : List ℕ) (i n : ℕ) → AreOffsets offsets → i + n < length offsets → All (λ k. IsWithin range (span_at offsets k)) (range_with_len i n) → IsWithin range (get_or offsets i 0, get_or offsets (i + n) 0)
@@ -143,7 +131,7 @@ rows_marked_all offsets selection range rows bits h e long set = record {
   set = set ∙ ap run_positions (ap (map (span_at offsets)) e ∙ sym (spans_at_the_set offsets selection h));
 }
 
--- the same of an answer
+-- a result's bits that are set in the spans of the selected rows are those of the elements
 pub ok_marked : {V E : Type 0} (r : Result V E) (bits : V → List Bool) (offsets : List ℕ) (selection : List Bool) (range : ℕ × ℕ) (rows : List ℕ) → length offsets ≡ length selection + 1 → rows ≡ set_of selection → IfOk r (λ v. length (bits v) ≡ range.1 - range.0) → IfOk r (λ v. map (λ p. range.0 + p) (set_of (bits v)) ≡ run_positions (map (span_at offsets) rows)) → IfOk r (λ v. AreElementBits offsets selection range (bits v))
 ok_marked (Ok v) bits offsets selection range rows h e long set = rows_marked_all offsets selection range rows (bits v) h e long set
 ok_marked (Err x) bits offsets selection range rows h e long set = long

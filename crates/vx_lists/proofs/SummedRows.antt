@@ -1,7 +1,7 @@
 -- The running sums of the lengths of lists that ascend.
 use Rattle.std.proofs.Common.{◌≡◌, ℕ, ◌+◌, ◌-◌, ◌<◌, ◌≤◌, true, List, [], ◌∷◌, ◌++◌, length, get_or, map, take, drop, sym, ap, ap₂, subst, ◌∙◌, append_assoc, arith}
 use Rattle.std.specs.List.{All, range_with_len, sum_by}
-use Rattle.std.proofs.lemmas.List.{length-append, take_more}
+use Rattle.std.proofs.lemmas.List.{take_more}
 use Rattle.std.proofs.lemmas.List.Sums.{sum_by-append, sum_by-cons, sum_by_push}
 use Rattle.std.proofs.lemmas.List.Folds.{length-flat_map-take}
 use Rattle.std.proofs.lemmas.List.FromFn.{length-range_with_len}
@@ -11,8 +11,9 @@ use Rattle.vx_lists.specs.Lists.{AreOffsets, row_count}
 use Rattle.vx_lists.specs.Sums.{length_at, offsets_of, sums_from}
 use Rattle.vx_lists.proofs.Joined.{sums_more}
 use Rattle.vx_filter.proofs.Moves.{run_first_of}
-use Rattle.vx_lists.proofs.Marks.{covered_first}
-use Rattle.vx_lists.proofs.Spans.{offsets_ordered, range_cut}
+use Rattle.vx_lists.proofs.Spans.{offsets_ordered}
+use Rattle.vx_lemmas.proofs.Lists.{range_split}
+use Rattle.vx_mask.proofs.RunLists.{covered_first}
 
 -- running sums of two lists, joined
 pub sums_joined : {Y : Type 0} (f : Y → ℕ) (start : ℕ) (xs ys : List Y) → sums_from start (map f (xs ++ ys)) ≡ sums_from start (map f xs) ++ sums_from (start + sum_by f xs) (map f ys)
@@ -114,7 +115,7 @@ row_pushed offsets first i before start old new total sum h e f g k =
     let rows = range_with_len first (i - first) in
     let more : i + 1 - first ≡ i - first + 1 = omega arith in
     let place : first + (i - first) ≡ i = omega arith in
-    let grown = ap (range_with_len first) more ∙ range_cut first (i - first) 1 ∙ ap (λ a. rows ++ a ∷ []) place in
+    let grown = ap (range_with_len first) more ∙ range_split first (i - first) 1 ∙ ap (λ a. rows ++ a ∷ []) place in
     let whole : sum ≡ before + sum_by length_of rows + length_of i = omega (arith, g, f) in (
       k ∙ ap₂ (λ l n. l ++ n ∷ []) e whole ∙ append_assoc start (sums_from before (map length_of rows)) ((before + sum_by length_of rows + length_of i) ∷ [])
           ∙ ap (λ l. start ++ l) (sym (sums_more length_of before rows i)) ∙ ap (λ l. start ++ sums_from before (map length_of l)) (sym grown),
@@ -126,9 +127,3 @@ pub run_room : (runs : List (ℕ × ℕ)) (k : ℕ) → k < length runs → leng
 run_room runs k h =
     let run = get_or runs k (0, 0) in
     omega (arith, length-flat_map-take (λ (r : ℕ × ℕ). range_with_len r.0 (r.1 - r.0)) runs k (0, 0) h, length-range_with_len run.0 (run.1 - run.0))
-
-pub run_count : (runs : List (ℕ × ℕ)) (k : ℕ) → k < length runs → length (run_positions (take (k + 1) runs)) ≡ length (run_positions (take k runs)) + ((get_or runs k (0, 0)).1 - (get_or runs k (0, 0)).0)
-run_count runs k h =
-    let run = get_or runs k (0, 0) in
-    let rows = range_with_len run.0 (run.1 - run.0) in
-    ap length (covered_more runs k (0, 0) h) ∙ length-append (run_positions (take k runs)) rows ∙ omega (arith, length-range_with_len run.0 (run.1 - run.0))

@@ -7,15 +7,15 @@ use Rattle.std.proofs.lemmas.List.Elements.{All-cons, All-nil, All-tail}
 use Rattle.std.proofs.lemmas.List.FromFn.{length-range_with_len}
 use Rattle.std.proofs.lemmas.List.Sums.{sum_by-cons, sum_by_push}
 use Rattle.vx_bits.specs.BitBuffer.{PlacedBits}
-use Rattle.vx_filter.proofs.Moves.{cut_picked}
-use Rattle.vx_filter.proofs.Picks.{same_items}
 use Rattle.vx_take.specs.Picks.{AreBelow, at, in_runs, item_at, run_places}
-use Rattle.vx_positions.specs.Offsets.{items_in, lists_at}
+use Rattle.vx_offsets.specs.Offsets.{items_in, lists_at}
 use Rattle.vx_lists.specs.Lists.{AreOffsets, last_offset, row_count, span_at}
 use Rattle.vx_lists.specs.Sums.{concat_lists, offsets_of, sums_from}
-use Rattle.vx_lists.specs.Takes.{IsTake, TakesLists, picked_length, picked_run, shown_by, shown_picks}
+use Rattle.vx_lists.specs.Takes.{IsListTake, TakesLists, picked_length, picked_run, shown_by, shown_picks}
 use Rattle.vx_lists.proofs.Joined.{cut_again, length_row, row_of, sums_more}
-use Rattle.vx_lists.proofs.Spans.{range_cut, spans_of_rows}
+use Rattle.vx_lists.proofs.Spans.{spans_of_rows}
+use Rattle.vx_lemmas.proofs.Lists.{range_split}
+use Rattle.vx_lemmas.proofs.Picked.{cut_picked, same_items}
 
 -- ---- the picks that are shown
 
@@ -85,7 +85,7 @@ places_more (r ∷ runs) run = ap (λ l. range_with_len r.0 r.1 ++ l) (places_mo
 pub places_joined : (runs : List (ℕ × ℕ)) (start n next m : ℕ) → start + n ≡ next → run_places (runs ++ (start, n + m) ∷ []) ≡ run_places (runs ++ (start, n) ∷ []) ++ range_with_len next m
 places_joined runs start n next m h =
     places_more runs (start, n + m)
-    ∙ ap (λ l. run_places runs ++ l) (range_cut start n m ∙ ap (λ a. range_with_len start n ++ range_with_len a m) h)
+    ∙ ap (λ l. run_places runs ++ l) (range_split start n m ∙ ap (λ a. range_with_len start n ++ range_with_len a m) h)
     ∙ sym (append_assoc (run_places runs) (range_with_len start n) (range_with_len next m))
     ∙ ap (λ l. l ++ range_with_len next m) (sym (places_more runs (start, n)))
 
@@ -216,7 +216,7 @@ pick_taken offsets shown k pick old new total sum runs next last run end h at is
     subst (λ (l : List (Option ℕ)). AreTaken offsets l new sum next end) more (taken_more offsets (take k shown) pick old new total sum runs next last run end is long e f g inside v)
 
 -- all picks
-pub taken_all : (offsets : List ℕ) (shown : List (Option ℕ)) (k : ℕ) (sums : List ℕ) (total : ℕ) (runs all : List (ℕ × ℕ)) (last : ℕ × ℕ) → length shown ≤ k → run_places all ≡ run_places (runs ++ last ∷ []) → ((n : ℕ) → All (λ r. r.0 + r.1 ≤ n) (runs ++ last ∷ []) → All (λ r. r.0 + r.1 ≤ n) all) → AreTaken offsets (take k shown) sums total runs last → IsTake offsets shown sums all
+pub taken_all : (offsets : List ℕ) (shown : List (Option ℕ)) (k : ℕ) (sums : List ℕ) (total : ℕ) (runs all : List (ℕ × ℕ)) (last : ℕ × ℕ) → length shown ≤ k → run_places all ≡ run_places (runs ++ last ∷ []) → ((n : ℕ) → All (λ r. r.0 + r.1 ≤ n) (runs ++ last ∷ []) → All (λ r. r.0 + r.1 ≤ n) all) → AreTaken offsets (take k shown) sums total runs last → IsListTake offsets shown sums all
 taken_all offsets shown k sums total runs all last h e inside v =
     let whole = take_all k shown h in
     record {
@@ -248,28 +248,28 @@ sum_picked offsets (pick ∷ picks) =
     long (Some i) = refl
 
 -- the elements of the runs are the picked lists, joined
-pub runs_joined : {X : Type 0} (offsets : List ℕ) (items : List X) (picks : List (Option ℕ)) (sums : List ℕ) (runs : List (ℕ × ℕ)) → AreOffsets offsets → AreBelow picks (row_count offsets) → last_offset offsets ≤ length items → IsTake offsets picks sums runs → in_runs items runs ≡ concat_lists (map (picked_items offsets items) picks)
+pub runs_joined : {X : Type 0} (offsets : List ℕ) (items : List X) (picks : List (Option ℕ)) (sums : List ℕ) (runs : List (ℕ × ℕ)) → AreOffsets offsets → AreBelow picks (row_count offsets) → last_offset offsets ≤ length items → IsListTake offsets picks sums runs → in_runs items runs ≡ concat_lists (map (picked_items offsets items) picks)
 runs_joined offsets items picks sums runs are below long v =
     let inside : All (λ run. run.0 + run.1 ≤ length items) runs = λ k d p. let one : (get_or runs k d).0 + (get_or runs k d).1 ≤ last_offset offsets = v.inside k d p in omega arith in
     let picked_in = picked_all_inside offsets picks are below in
     let within : All (λ run. run.0 + run.1 ≤ length items) (map (picked_run offsets) picks) = λ k d p. let one : (get_or (map (picked_run offsets) picks) k d).0 + (get_or (map (picked_run offsets) picks) k d).1 ≤ last_offset offsets = picked_in k d p in omega arith in
     same_places items runs (map (picked_run offsets) picks) inside within v.places ∙ picked_joined offsets items picks
 
-pub lists_taken : (offsets : List ℕ) (picks : List (Option ℕ)) (sums : List ℕ) (runs : List (ℕ × ℕ)) → AreOffsets offsets → AreBelow picks (row_count offsets) → IsTake offsets picks sums runs → TakesLists offsets picks sums runs
+pub lists_taken : (offsets : List ℕ) (picks : List (Option ℕ)) (sums : List ℕ) (runs : List (ℕ × ℕ)) → AreOffsets offsets → AreBelow picks (row_count offsets) → IsListTake offsets picks sums runs → TakesLists offsets picks sums runs
 lists_taken offsets picks sums runs are below v items long =
     ap₂ lists_at (v.sums ∙ ap offsets_of (sym (lengths_picked offsets items picks are below long))) (runs_joined offsets items picks sums runs are below long v)
     ∙ cut_again (map (picked_items offsets items) picks)
     ∙ sym (picked_lists offsets items picks below)
 
-pub elements_taken : (offsets : List ℕ) (picks : List (Option ℕ)) (sums : List ℕ) (runs : List (ℕ × ℕ)) → IsTake offsets picks sums runs → sum_by (λ run. run.1) runs ≡ last_offset sums
+pub elements_taken : (offsets : List ℕ) (picks : List (Option ℕ)) (sums : List ℕ) (runs : List (ℕ × ℕ)) → IsListTake offsets picks sums runs → sum_by (λ run. run.1) runs ≡ last_offset sums
 elements_taken offsets picks sums runs v =
     sym (length-places runs) ∙ ap length v.places ∙ sum_picked offsets picks
     ∙ sym (ap last_offset v.sums ∙ last_sum 0 (map (picked_length offsets) picks) ∙ omega arith)
 
 -- ---- by the valid rows
 
-pub take_all_there : (offsets : List ℕ) (n : ℕ) (picks : List (Option ℕ)) (sums : List ℕ) (runs : List (ℕ × ℕ)) → n ≡ length picks → IsTake offsets picks sums runs → IsTake offsets (shown_picks (replicate n true) picks) sums runs
-take_all_there offsets n picks sums runs h v = subst (λ (l : List (Option ℕ)). IsTake offsets l sums runs) (sym (all_shown n picks h)) v
+pub take_all_there : (offsets : List ℕ) (n : ℕ) (picks : List (Option ℕ)) (sums : List ℕ) (runs : List (ℕ × ℕ)) → n ≡ length picks → IsListTake offsets picks sums runs → IsListTake offsets (shown_picks (replicate n true) picks) sums runs
+take_all_there offsets n picks sums runs h v = subst (λ (l : List (Option ℕ)). IsListTake offsets l sums runs) (sym (all_shown n picks h)) v
 
 zeros_summed : (offsets : List ℕ) (n : ℕ) → replicate (suc n) 0 ≡ offsets_of (map (picked_length offsets) (replicate n None))
 zeros_summed offsets n = ap (λ l. 0 ∷ l) (zeros n)
@@ -282,16 +282,16 @@ no_places : (offsets : List ℕ) (n : ℕ) → [] ≡ run_places (map (picked_ru
 no_places offsets zero = refl
 no_places offsets (suc n) = no_places offsets n
 
-take_none_there : (offsets : List ℕ) (n : ℕ) (picks : List (Option ℕ)) (sums : List ℕ) (runs : List (ℕ × ℕ)) → n ≡ length picks → sums ≡ replicate (n + 1) 0 → runs ≡ [] → IsTake offsets (shown_picks (replicate n false) picks) sums runs
+take_none_there : (offsets : List ℕ) (n : ℕ) (picks : List (Option ℕ)) (sums : List ℕ) (runs : List (ℕ × ℕ)) → n ≡ length picks → sums ≡ replicate (n + 1) 0 → runs ≡ [] → IsListTake offsets (shown_picks (replicate n false) picks) sums runs
 take_none_there offsets n picks sums runs h e f =
-    let whole : IsTake offsets (replicate n None) sums runs = record {
+    let whole : IsListTake offsets (replicate n None) sums runs = record {
       sums = e ∙ ap (λ k. replicate k 0) (add-one n) ∙ zeros_summed offsets n;
       places = ap run_places f ∙ no_places offsets n;
       inside = subst (λ (l : List (ℕ × ℕ)). All (λ run. run.0 + run.1 ≤ last_offset offsets) l) (sym f) (All-nil (λ (run : ℕ × ℕ). run.0 + run.1 ≤ last_offset offsets));
     } in
-    subst (λ (l : List (Option ℕ)). IsTake offsets l sums runs) (sym (none_shown n picks h)) whole
+    subst (λ (l : List (Option ℕ)). IsListTake offsets l sums runs) (sym (none_shown n picks h)) whole
 
--- the same of an answer
-pub ok_none_there : {V E : Type 0} (r : Result V E) (sums : V → List ℕ) (runs : V → List (ℕ × ℕ)) (offsets : List ℕ) (n : ℕ) (picks : List (Option ℕ)) → n ≡ length picks → IfOk r (λ v. sums v ≡ replicate (n + 1) 0) → IfOk r (λ v. runs v ≡ []) → IfOk r (λ v. IsTake offsets (shown_picks (replicate n false) picks) (sums v) (runs v))
+-- a result of no elements is a take where no row is there
+pub ok_none_there : {V E : Type 0} (r : Result V E) (sums : V → List ℕ) (runs : V → List (ℕ × ℕ)) (offsets : List ℕ) (n : ℕ) (picks : List (Option ℕ)) → n ≡ length picks → IfOk r (λ v. sums v ≡ replicate (n + 1) 0) → IfOk r (λ v. runs v ≡ []) → IfOk r (λ v. IsListTake offsets (shown_picks (replicate n false) picks) (sums v) (runs v))
 ok_none_there (Ok v) sums runs offsets n picks h e f = take_none_there offsets n picks (sums v) (runs v) h e f
 ok_none_there (Err x) sums runs offsets n picks h e f = e

@@ -3,15 +3,14 @@ use Rattle.std.proofs.Common.{◌≡◌, ℕ, zero, suc, ◌+◌, ◌-◌, ◌<�
 use Rattle.std.specs.Int.{w8, w16, w32, w64, from_le_bytes}
 use Rattle.std.specs.Prelude.{IfSome, ℤ, pos, nat_le, ◌==◌, ◌&&◌, if◌then◌else◌}
 use Rattle.std.specs.List.{All, items_where_true, list_all, range_with_len}
-use Rattle.std.proofs.lemmas.Bool.{le-leb}
+use Rattle.std.proofs.lemmas.Bool.{le-leb, and_from}
 use Rattle.std.proofs.lemmas.Bool.Decides.{nat_tests}
 use Rattle.std.proofs.lemmas.Int.{ints, to_z_pos}
 use Rattle.std.proofs.lemmas.List.{drop_more, get_or_default, length-map}
 use Rattle.std.proofs.lemmas.List.Elements.{All-cons, All-nil, All-tail}
 use Rattle.vx_bits.specs.BitBuffer.{true_count_of}
 use Rattle.vx_mask.specs.Positions.{set_of}
-use Rattle.vx_mask.proofs.PositionLists.{length-positions}
-use Rattle.vx_filter.proofs.Picks.{set_below}
+use Rattle.vx_mask.proofs.PositionLists.{length-positions, set_below}
 use Rattle.vx_types.specs.PType.{number}
 use Rattle.vx_types.specs.TypeTree.{TypeKind, primitive_kind, is_int_kind}
 use Rattle.vx_types.specs.RowValue.{RowValue}
@@ -20,9 +19,8 @@ use Rattle.vx_types.specs.declared.ptype.PType.TheVariants.{U8, U16, U32, U64, I
 use Rattle.vx_types.specs.declared.error.ColumnError.TheVariants.{WrongType, WrongLength, BadValidity, BadOffsets, BadSizes}
 use Rattle.vx_take.specs.Picks.{AreBelow, at, item_at}
 use Rattle.vx_take.proofs.TakenLists.{take_at_the_set}
-use Rattle.vx_positions.specs.Offsets.{items_in, offset_positions}
-use Rattle.vx_positions.proofs.Ascending.{le_first}
-use Rattle.vx_model.specs.ListView.{ListViewParts, are_views, is_natural, listview_fault, listview_spans, view_spans}
+use Rattle.vx_model.specs.ListView.{ListViewParts, listview_fault, listview_spans, view_spans}
+use Rattle.vx_offsets.specs.Offsets.{items_in, offset_positions, are_views, is_natural}
 use Rattle.vx_model.specs.Lists.{lists_of}
 use Rattle.vx_model.specs.Numbers.{integer_by, integers_of}
 use Rattle.vx_model.specs.Records.{RecordParts, records_with}
@@ -32,6 +30,7 @@ use Rattle.vx_model.proofs.ListRows.{integers-view_offsets, integers-view_sizes,
 use Rattle.vx_model.proofs.Takes.{length-at, map-at}
 use Rattle.vx_lists.specs.Plans.{MakesViews}
 use Rattle.vx_lists.proofs.TakenLists.{below_more}
+use Rattle.std.specs.Cmp.{first_so}
 
 -- ---- records of zeros
 
@@ -95,23 +94,19 @@ all_spelled n [] natural h = refl
 all_spelled n (pick ∷ picks) natural h =
     ap₂ ◌∷◌ (spelled n pick natural (h 0 None (omega arith))) (all_spelled n picks natural (All-tail (λ (o : Option ℕ). IfSome o (λ i. i < length n.records)) pick picks h))
 
-both : (a b : Bool) → a ≡ true → b ≡ true → (a && b) ≡ true
-both true b h k = k
-both false b h k = cc
-
 natural : (n : ℕ) → is_natural (pos n) ≡ true
 natural n = grind (arith, ints)
 
 all_natural : (f : Option ℕ → ℕ) (picks : List (Option ℕ)) → list_all is_natural (map (λ o. pos (f o)) picks) ≡ true
 all_natural f [] = refl
-all_natural f (pick ∷ picks) = both (is_natural (pos (f pick))) _ (natural (f pick)) (all_natural f picks)
+all_natural f (pick ∷ picks) = and_from (is_natural (pos (f pick))) _ (natural (f pick)) (all_natural f picks)
 
 positions_at : (f : Option ℕ → ℕ) (picks : List (Option ℕ)) → offset_positions (map (λ o. pos (f o)) picks) ≡ map f picks
 positions_at f [] = refl
 positions_at f (pick ∷ picks) = ap (λ l. f pick ∷ l) (positions_at f picks)
 
 integers_at : (n : RecordParts) (picks : List (Option ℕ)) → are_integers n ≡ true → are_integers (numbers_at n picks) ≡ true
-integers_at n picks h = ap (λ b. b && true) (le_first (is_int_kind n.kind) (is_never_null n.valid) h)
+integers_at n picks h = ap (λ b. b && true) (first_so (is_int_kind n.kind) (is_never_null n.valid) h)
 
 no_fault : (a b c d e : Bool) → a ≡ true → b ≡ true → c ≡ true → d ≡ true → e ≡ true → (if a then (if b then (if c then (if d then (if e then None else Some BadSizes) else Some BadOffsets) else Some BadValidity) else Some WrongLength) else Some WrongType) ≡ None
 no_fault true true true true true h k l m n = refl
@@ -139,7 +134,7 @@ views_inside p [] h below = refl
 views_inside p (pick ∷ picks) h below =
     let o = number_at (offset_positions (integers_of p.offsets)) pick in
     let s = number_at (offset_positions (integers_of p.sizes)) pick in
-    both (nat_le (o + s) (length p.elements.rows)) _
+    and_from (nat_le (o + s) (length p.elements.rows)) _
     (le-leb (o + s) (length p.elements.rows) (view_inside p pick h (below 0 None (omega arith))))
     (views_inside p picks h (All-tail (λ (x : Option ℕ). IfSome x (λ i. i < length p.offsets.records)) pick picks below))
 
@@ -165,11 +160,11 @@ views_taken p picks v h below fits =
     let long_sizes = length-at (replicate p.sizes.width 0) p.sizes.records picks in
     let n = length p.elements.rows in (
       no_fault _ _ _ _ _
-          (both (are_integers (numbers_at p.offsets picks)) _ (integers_at p.offsets picks (integers-view_offsets p h)) (integers_at p.sizes picks (integers-view_sizes p h)))
+          (and_from (are_integers (numbers_at p.offsets picks)) _ (integers_at p.offsets picks (integers-view_offsets p h)) (integers_at p.sizes picks (integers-view_sizes p h)))
           (as_many _ _ (length picks) long long_sizes)
           (ap (is_fitting v) long ∙ fits)
           (ap (list_all is_natural) offsets ∙ all_natural os picks)
-          (both (list_all is_natural (integers_of (numbers_at p.sizes picks))) _ (ap (list_all is_natural) sizes ∙ all_natural ss picks)
+          (and_from (list_all is_natural (integers_of (numbers_at p.sizes picks))) _ (ap (list_all is_natural) sizes ∙ all_natural ss picks)
           (ap₂ (λ (a b : List ℤ). are_views (offset_positions a) (offset_positions b) n) offsets sizes
           ∙ ap₂ (λ (a b : List ℕ). are_views a b n) (positions_at os picks) (positions_at ss picks)
           ∙ views_inside p picks h below)),

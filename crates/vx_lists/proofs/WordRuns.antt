@@ -10,12 +10,11 @@ use Rattle.vx_bits.specs.BitBuffer.{true_count_of}
 use Rattle.vx_bits.specs.Words.{word_at, word_bits}
 use Rattle.vx_bits.proofs.WordBits.{true_count_of-word_bits}
 use Rattle.vx_filter.proofs.Bytes.{All-right}
-use Rattle.vx_filter.proofs.Picks.{set_below}
 use Rattle.vx_filter.specs.Compact.{IsLowestRun}
 use Rattle.vx_mask.specs.Positions.{positions, run_positions, set_of}
-use Rattle.vx_mask.proofs.PositionLists.{length-positions}
+use Rattle.vx_mask.proofs.PositionLists.{length-positions, set_below}
 use Rattle.vx_mask.proofs.WordPositions.{word_fits, word_pushed}
-use Rattle.vx_lists.proofs.Spans.{range_cut}
+use Rattle.vx_lemmas.proofs.Lists.{range_split}
 
 -- it ends where the positions do
 pub run_end : (n base left low count rest : ℕ) → IsLowestRun left low count rest → All (λ p. p < n) (positions base (word_bits left 64)) → base + low + count ≤ n
@@ -88,7 +87,7 @@ places_lengthened (run ∷ []) zero n h ordered =
     let long = run.1 - run.0 in
     let more : run.1 + n - run.0 ≡ long + n = omega arith in
     let joint : from + long ≡ run.1 = omega arith in
-    append-nil (range_with_len from (run.1 + n - run.0)) ∙ ap (range_with_len from) more ∙ range_cut from long n
+    append-nil (range_with_len from (run.1 + n - run.0)) ∙ ap (range_with_len from) more ∙ range_split from long n
     ∙ ap (λ k. range_with_len from long ++ range_with_len k n) joint
     ∙ ap (λ l. l ++ range_with_len run.1 n) (sym (append-nil (range_with_len from long)))
 places_lengthened (run ∷ next ∷ runs) zero n h ordered = absurd (omega arith)

@@ -5,7 +5,7 @@ use Rattle.vx_bits.specs.BitBuffer.{true_count_of}
 use Rattle.vx_mask.specs.declared.policy.PolicyFields.{PolicyFields}
 use Rattle.vx_mask.specs.Positions.{rank_of}
 use Rattle.vx_types.specs.RowValue.{RowValue}
-use Rattle.vx_positions.specs.Offsets.{lists_at}
+use Rattle.vx_offsets.specs.Offsets.{lists_at}
 use Rattle.vx_lists.specs.Lists.{Covers, last_offset}
 
 -- from the first offset up to the last

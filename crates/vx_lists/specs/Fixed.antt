@@ -3,7 +3,7 @@ use Rattle.std.specs.Prelude.{◌≡◌, ℕ, ◌*◌, Bool, List, length, map, 
 use Rattle.std.specs.List.{flat_map, items_where_true}
 use Rattle.vx_bits.specs.BitBuffer.{true_count_of}
 use Rattle.vx_types.specs.RowValue.{RowValue}
-use Rattle.vx_positions.specs.Offsets.{items_in}
+use Rattle.vx_offsets.specs.Offsets.{items_in}
 use Rattle.vx_model.specs.FixedSizeList.{runs_from}
 use Rattle.vx_take.specs.Picks.{at, in_runs}
 

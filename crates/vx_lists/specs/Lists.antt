@@ -2,7 +2,7 @@
 use Rattle.std.specs.Prelude.{◌≡◌, ◌↔◌, ℕ, ◌+◌, ◌-◌, ◌<◌, ◌≤◌, Bool, true, List, length, map, Some, slice_get, slice_index}
 use Rattle.std.specs.List.{All, AllAdjacentBelow, items_where_true}
 use Rattle.vx_mask.specs.Positions.{run_positions, set_of}
-use Rattle.vx_positions.specs.Offsets.{spans}
+use Rattle.vx_offsets.specs.Offsets.{spans}
 
 -- there is an offset, and none is below the one before
 pub record AreOffsets (offsets : List ℕ) : Type 0 where

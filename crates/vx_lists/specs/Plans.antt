@@ -20,7 +20,7 @@ MakesLists offsets valid left lists =
     → (list_fault (record { elements = e; offsets = offsets; valid = valid }) ≡ None)
     × (lists_of (list_spans (record { elements = e; offsets = offsets; valid = valid })) ≡ lists)
 
--- the same of lists of one size
+-- any column of the elements that are left makes a column of these lists, all of one size
 abbrev pub MakesFixed : ℕ → ℕ → Valid → List RowValue → List (List RowValue) → Type 0
 MakesFixed size len valid left lists =
     (e : Column) → e.rows ≡ left
@@ -56,7 +56,8 @@ pub record LeavesLists (new_offsets : List ℕ) (left : List RowValue)
   pub sums : new_offsets ≡ offsets_of (map length lists)
   pub elements : left ≡ concat_lists lists
 
--- the same of a column of offsets, which with the validity makes a column of these lists
+-- the elements that are left are these lists, one after another, and the column of offsets has
+-- their sums, and makes with the validity a column of these lists
 pub record PlansLists (offsets : RecordParts) (valid : Valid) (left : List RowValue)
     (lists : List (List RowValue)) : Type 0 where
   pub sums : integers_of offsets ≡ map pos (offsets_of (map length lists))

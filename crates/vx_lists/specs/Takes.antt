@@ -4,7 +4,7 @@ use Rattle.std.specs.List.{All}
 use Rattle.vx_bits.specs.BitBuffer.{PlacedBits}
 use Rattle.vx_types.specs.RowValue.{RowValue}
 use Rattle.vx_take.specs.Picks.{BoundedPicks, at, in_runs, run_places}
-use Rattle.vx_positions.specs.Offsets.{lists_at}
+use Rattle.vx_offsets.specs.Offsets.{lists_at}
 use Rattle.vx_lists.specs.Lists.{AreOffsets, last_offset, row_count}
 use Rattle.vx_lists.specs.Sums.{length_at, offsets_of}
 
@@ -20,7 +20,8 @@ shown_picks [] picks = []
 shown_picks (b ∷ present) [] = []
 shown_picks (b ∷ present) (pick ∷ picks) = (if b then pick else None) ∷ shown_picks present picks
 
--- the same by a bit a pick, where there are bits
+-- the picks whose rows are there by a bit a pick, and a null in place of each other one; all picks
+-- where there are no bits
 abbrev pub shown_by : Option PlacedBits → List (Option ℕ) → List (Option ℕ)
 shown_by None picks = picks
 shown_by (Some present) picks = shown_picks present.bits picks
@@ -43,7 +44,7 @@ TakesLists offsets picks new_offsets runs =
 
 -- new offsets are the sums of the lengths of the picked lists, and runs, which lie within the
 -- elements, have their places
-pub record IsTake (offsets : List ℕ) (picks : List (Option ℕ)) (new_offsets : List ℕ)
+pub record IsListTake (offsets : List ℕ) (picks : List (Option ℕ)) (new_offsets : List ℕ)
     (runs : List (ℕ × ℕ)) : Type 0 where
   pub sums : new_offsets ≡ offsets_of (map (picked_length offsets) picks)
   pub places : run_places runs ≡ run_places (map (picked_run offsets) picks)

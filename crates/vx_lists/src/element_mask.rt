@@ -36,8 +36,8 @@ pub fn element_mask_from_offsets(
     Ok(Mask::from_buffer(bits))
 }
 
-// Its bits, for a mask that selects some lists and not all: by the set positions where the density
-// of the mask is below the threshold, else by runs of them.
+// The bits of the element mask, for a mask that selects some lists and not all: by the set
+// positions where the density of the mask is below the threshold, else by runs of them.
 fn element_bits(
     alloc: Global,
     offsets: &[u64],

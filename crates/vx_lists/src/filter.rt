@@ -159,7 +159,7 @@ fn sums_by_indices(alloc: Global, offsets: &[u64], indices: &[usize]) -> Result<
     Ok(sums)
 }
 
-// The same of the lists in these runs, which are so many.
+// The offsets of the `count` lists in these runs, one after another.
 fn sums_by_runs(
     alloc: Global,
     offsets: &[u64],

@@ -19,7 +19,7 @@ use vx_types::Runs;
 ///
 /// It keeps the runs of selected elements where `size` is at least `cached_list_size`. More
 /// elements than `usize::MAX` give `NoMemory`. Fails only with `NoMemory`.
-pub fn repeated_mask(
+pub(crate) fn repeated_mask(
     alloc: Global,
     selection: &MaskValues,
     size: usize,
@@ -36,7 +36,8 @@ pub fn repeated_mask(
     element_mask(alloc, selection, size, len, cached)
 }
 
-// The same, of so many elements.
+// The mask of the `len` elements of lists of `size` elements each: each bit of the selection `size`
+// times. It keeps the runs of selected elements where `size` is at least `cached`.
 fn element_mask(
     alloc: Global,
     selection: &MaskValues,
@@ -62,7 +63,8 @@ fn element_mask(
     Ok(bits_alone(mask))
 }
 
-// The same by the runs of the selection, which the mask keeps.
+// The mask of the `len` elements of lists of `size` elements each, by the runs of the selection. It
+// keeps the runs of selected elements.
 fn by_runs(alloc: Global, selection: &MaskValues, size: usize, len: usize) -> Result<Mask, NoMemory>
     requires some { 0 < size }
     requires len { len ≡ length selection.now.bits.bits * size }
@@ -120,7 +122,7 @@ fn bits_alone(mask: Mask) -> Mask
 /// What a take of lists of one size leaves: the runs of old elements that are the new ones, or so
 /// many elements of any value where there is no old list.
 #[derive(Drop)]
-pub struct FixedTake {
+pub(crate) struct FixedTake {
     /// The new elements, as runs of old ones, each its start and its length.
     pub runs: Runs,
     /// The number of elements that stand in their place.
@@ -133,7 +135,7 @@ pub struct FixedTake {
 /// Where there is no list, each pick is a null, and has `size` elements of filler. Runs that lie
 /// one behind the other are joined, and there is none of lists of size 0. More elements than
 /// `usize::MAX` give `NoMemory`. Fails only with `NoMemory`.
-pub fn take_fixed(
+pub(crate) fn take_fixed(
     alloc: Global,
     size: usize,
     rows: usize,

@@ -10,7 +10,7 @@ ghost use Rattle.vx_take.specs.Picks.{at, in_runs};
 ghost use Rattle.vx_types.specs.RowValue.{RowValue};
 ghost use Rattle.vx_lists.specs.Fixed.{repeat_bits};
 ghost use Rattle.vx_lists.specs.Plans.{MakesFixed};
-ghost use Rattle.vx_offsets.specs.Fits.{FitsFilter, FitsTake};
+ghost use Rattle.vx_model.specs.Fits.{FitsFilter, FitsTake};
 
 use crate::fixed::{FixedTake, repeated_mask, take_fixed};
 use crate::plans::{FixedFilterPlan, FixedTakePlan};

@@ -15,7 +15,6 @@ mod view;
 
 pub use element_mask::element_mask_from_offsets;
 pub use filter::{ListFilter, filter_lists};
-pub use fixed::{FixedTake, repeated_mask, take_fixed};
 pub use fixed_size_list::{plan_fixed_filter, plan_fixed_take};
 pub use list::{plan_list_filter, plan_list_take, slice_list};
 pub use listview::{plan_view_filter, plan_view_take, slice_view};

@@ -7,7 +7,7 @@ ghost use Rattle.vx_model.specs.Lists.{kept_lists, lists_of};
 ghost use Rattle.vx_model.specs.Numbers.{integers_of};
 ghost use Rattle.vx_model.specs.Records.{records_with};
 ghost use Rattle.vx_model.specs.Valid.{non_nullable, present_bits};
-ghost use Rattle.vx_positions.specs.Offsets.{offset_positions};
+ghost use Rattle.vx_offsets.specs.Offsets.{offset_positions};
 ghost use Rattle.vx_column.specs.Validity.{valid_of};
 ghost use Rattle.vx_take.specs.Picks.{at, in_runs};
 ghost use Rattle.vx_offsets.specs.Cut.{type_of};
@@ -16,7 +16,7 @@ ghost use Rattle.vx_types.specs.declared.ptype.PType.TheVariants.{U64};
 ghost use Rattle.vx_lists.specs.Lists.{AreOffsets, last_offset};
 ghost use Rattle.vx_lists.specs.Numbers.{AreInType};
 ghost use Rattle.vx_lists.specs.Plans.{IsRangeOf, LeavesLists, PlansLists, filter_range, is_all_invalid, lists_left};
-ghost use Rattle.vx_offsets.specs.Fits.{FitsFilter, FitsSlice, FitsTake};
+ghost use Rattle.vx_model.specs.Fits.{FitsFilter, FitsSlice, FitsTake};
 
 use crate::filter::{ListFilter, filter_lists};
 use crate::numbers::{offset_column, offset_numbers, u64_column};
@@ -26,6 +26,7 @@ use std::alloc::Global;
 use vx_bits::NoMemory;
 use vx_column::{ListArray, Validity, slice_offsets};
 use vx_mask::{Mask, MaskValues, Policy};
+use vx_reading::present_mask;
 use vx_take::Picks;
 
 // Whether it says no at each row.
@@ -157,7 +158,7 @@ fn taken_by(
 {
     // Each pick is a row.
     let _ = picks.bound();
-    let present = validity.present_mask(alloc, picks.len())?;
+    let present = present_mask(alloc, validity, picks.len())?;
     let offsets = list_offsets(alloc, array)?;
     let take = taken_where(alloc, offsets.as_slice(), picks, &present)?;
     Ok(take)
@@ -195,7 +196,6 @@ pub fn plan_list_take(
 }
 
 /// The rows from `start` up to `end`, with their validity: other offsets into the same elements.
-/// It takes no memory.
 pub fn slice_list(array: &ListArray, start: usize, end: usize, validity: Validity) -> ListArray
     requires { FitsSlice (length (list_spans array.now).spans) start end (valid_of validity) }
     ensures parts { result ≡ record array.now {

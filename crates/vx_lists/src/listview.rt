@@ -8,7 +8,7 @@ ghost use Rattle.vx_model.specs.Records.{records_with};
 ghost use Rattle.vx_model.specs.Valid.{non_nullable};
 ghost use Rattle.vx_take.specs.Picks.{at};
 ghost use Rattle.vx_lists.specs.Plans.{MakesViews};
-ghost use Rattle.vx_offsets.specs.Fits.{FitsFilter, FitsSlice, FitsTake};
+ghost use Rattle.vx_model.specs.Fits.{FitsFilter, FitsSlice, FitsTake};
 
 use crate::plans::ViewPlan;
 use crate::view::{filter_numbers, slice_numbers, take_numbers};
@@ -85,7 +85,7 @@ pub fn plan_view_take(
 }
 
 /// The rows from `start` up to `end`, with their validity: other offsets and sizes into the same
-/// elements. It takes no memory.
+/// elements.
 #[tactic(auto, using(vx_model::proofs::ListRows::listview_rows))]
 pub fn slice_view(
     array: &ListViewArray,

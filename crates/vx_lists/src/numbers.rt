@@ -4,7 +4,7 @@ ghost use Rattle.std.specs.List.{All};
 ghost use Rattle.vx_bits.specs.Records.{records_of, width_of};
 ghost use Rattle.vx_model.specs.Numbers.{integers_of};
 ghost use Rattle.vx_model.specs.VarBin.{are_integers};
-ghost use Rattle.vx_positions.specs.Offsets.{are_offsets, offset_positions, record_numbers};
+ghost use Rattle.vx_offsets.specs.Offsets.{are_offsets, offset_positions, record_numbers};
 ghost use Rattle.vx_offsets.specs.Cut.{type_of};
 ghost use Rattle.vx_types.specs.PType.{greatest, is_int, number, width};
 ghost use Rattle.vx_types.specs.TypeTree.{primitive_kind};
@@ -150,7 +150,8 @@ pub(crate) fn offset_column(
     Ok(number_column(ptype, records))
 }
 
-/// The same of type `U64`, which each offset fits. Fails only with `NoMemory`.
+/// The column of type `U64`, which each offset fits, that has these offsets, none of them null.
+/// Fails only with `NoMemory`.
 pub(crate) fn u64_column(alloc: Global, offsets: &[u64]) -> Result<PrimitiveArray, NoMemory>
     ensures kind { IfOk result (λ a. a.kind ≡ primitive_kind U64) }
     ensures integers { IfOk result (λ a. are_integers a ≡ true) }

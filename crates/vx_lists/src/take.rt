@@ -6,7 +6,7 @@ ghost use Rattle.vx_mask.specs.Mask.{mask_bits};
 ghost use Rattle.vx_take.specs.Picks.{run_places};
 ghost use Rattle.vx_lists.specs.Lists.{AreOffsets, last_offset, row_count};
 ghost use Rattle.vx_lists.specs.Sums.{offsets_of};
-ghost use Rattle.vx_lists.specs.Takes.{FitsOffsets, IsTake, TakesLists, picked_length, picked_run, shown_by, shown_picks};
+ghost use Rattle.vx_lists.specs.Takes.{FitsOffsets, IsListTake, TakesLists, picked_length, picked_run, shown_by, shown_picks};
 
 use std::alloc::Global;
 use vx_bits::{BitBuffer, NoMemory};
@@ -50,7 +50,8 @@ pub fn take_lists(
     taken_where(alloc, offsets, picks, present)
 }
 
-/// The same, by a loop of its own for rows that are all there.
+/// The lists at the picks, as [`take_lists`] returns them, with a loop of its own for rows that are
+/// all there.
 pub(crate) fn taken_where(
     alloc: Global,
     offsets: &[u64],
@@ -58,7 +59,7 @@ pub(crate) fn taken_where(
     present: &Mask,
 ) -> Result<ListTake, NoMemory>
     requires { FitsOffsets offsets.now picks.now (mask_bits present.now) }
-    ensures { IfOk result (λ take. IsTake offsets.now
+    ensures { IfOk result (λ take. IsListTake offsets.now
         (shown_picks (mask_bits present.now) picks.now.picks) take.offsets.items take.runs) }
 {
     match present {
@@ -92,7 +93,7 @@ fn taken(
     requires bound { picks.now.bound ≤ row_count offsets.now }
     requires long { IfSome (option_copied present)
         (λ b. length b.bits ≡ length picks.now.picks) }
-    ensures { IfOk result (λ take. IsTake offsets.now
+    ensures { IfOk result (λ take. IsListTake offsets.now
         (shown_by (option_copied present.entry) picks.now.picks) take.offsets.items take.runs) }
 {
     // Each pick is a row.

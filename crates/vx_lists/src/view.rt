@@ -13,7 +13,7 @@ use vx_filter::filter_records;
 use vx_mask::{MaskValues, Policy};
 use vx_take::{Picks, take_records};
 
-// The same column with other records, none of them null.
+// The column of the numbers' type with other records, none of them null.
 fn with_records(numbers: &PrimitiveArray, records: Records) -> PrimitiveArray
     requires { width_of records ≡ numbers.now.width }
     ensures { result ≡ records_with numbers.now (records_of records) non_nullable }
@@ -54,7 +54,7 @@ pub fn take_numbers(
     Ok(with_records(numbers, records))
 }
 
-/// The numbers from `start` up to `end`, of the same type. It takes no memory.
+/// The numbers from `start` up to `end`, of the same type.
 pub fn slice_numbers(numbers: &PrimitiveArray, start: usize, end: usize) -> PrimitiveArray
     requires ordered { start ≤ end }
     requires within { end ≤ length numbers.now.records }

@@ -3,7 +3,7 @@ use Rattle.std.proofs.Common.{◌≡◌, ℕ, zero, suc, ◌+◌, ◌-◌, ◌<�
 use Rattle.std.specs.List.{range_with_len, list_all, slice_range}
 use Rattle.std.proofs.lemmas.List.{append_cancel_left, drop_more, take-append-drop, take_more, take_all, length-take-le, length-drop, length-append, length-replicate, get_or-take, get_or-drop, get_or-replicate, get_or_append_left, get_or-append_right}
 use Rattle.std.proofs.lemmas.List.Folds.{list_all_at, list_all_more}
-use Rattle.std.proofs.lemmas.Bool.{cases_lt, lt-ltb, eq-eqb, ne_eqb}
+use Rattle.std.proofs.lemmas.Bool.{cases_lt, lt-ltb, eq-eqb, ne_eqb, and_parts, both_ways, or_parts}
 use Rattle.std.proofs.lemmas.Slice.Eq.{bytes_eq-Decides}
 use Rattle.std.proofs.lemmas.Bool.Decides.{nat_tests}
 use Rattle.std.proofs.lemmas.List.FromFn.{length-range_with_len}
@@ -151,14 +151,6 @@ rest_covered bits runs k low p found all =
 abbrev is_some_run : ℕ × ℕ → Bool
 is_some_run run = ltb run.0 run.1
 
-and_parts : (a b : Bool) → (a && b) ≡ true → (a ≡ true) × (b ≡ true)
-and_parts true b h = (refl, h)
-and_parts false b h = cc
-
-false_true : (b : Bool) → b ≡ true → b ≡ false → ⊥
-false_true true p q = cc
-false_true false p q = cc
-
 ltb-none : (a b : ℕ) → b ≤ a → ltb a b ≡ false
 ltb-none a b p = grind (arith, nat_tests)
 
@@ -184,7 +176,7 @@ no_run bits runs k low h p found not_next = by_test (are_set_runs bits runs) ref
         let all = (bytes_eq-Decides (run_positions runs) (set_of bits)).0 both.1 in
         elim (cases_lt (get_or runs k (0, 0)).0 (get_or runs k (0, 0)).1) [
           | inl some ↦ absurd (not_next (next_begins bits runs k low h p found all some))
-          | inr empty ↦ absurd (false_true (list_all is_some_run runs) both.0 (list_all_at is_some_run runs k (0, 0) h (ltb-none (get_or runs k (0, 0)).0 (get_or runs k (0, 0)).1 empty)))
+          | inr empty ↦ absurd (both_ways (list_all is_some_run runs) (list_all_at is_some_run runs k (0, 0) h (ltb-none (get_or runs k (0, 0)).0 (get_or runs k (0, 0)).1 empty)) both.0)
         ]
 
 -- what was found of the runs
@@ -259,7 +251,7 @@ runs_agree bits runs some e mask same =
       some = some_run bits.bits runs cover some;
       none_empty = λ k d p. elim (cases_lt (get_or runs k d).0 (get_or runs k d).1) [
         | inl less ↦ less
-        | inr empty ↦ absurd (false_true (list_all is_some_run runs) both.0 (list_all_at is_some_run runs k d p (ltb-none (get_or runs k d).0 (get_or runs k d).1 empty)))
+        | inr empty ↦ absurd (both_ways (list_all is_some_run runs) (list_all_at is_some_run runs k d p (ltb-none (get_or runs k d).0 (get_or runs k d).1 empty)) both.0)
       ];
       cover = cover ∙ ap (λ (p : PlacedBits). set_of p.bits) (sym same);
     }
@@ -294,11 +286,7 @@ not_false true e = refl
 not_false false e = cc
 
 apart : (a b : ℕ) → eqb a b ≡ false → a ≡ b → ⊥
-apart a b e same = false_true (eqb a b) (eq-eqb a b same) e
-
-or_parts : (a b : Bool) → (a || b) ≡ false → (a ≡ false) × (b ≡ false)
-or_parts true b h = cc
-or_parts false b h = (refl, h)
+apart a b e same = both_ways (eqb a b) e (eq-eqb a b same)
 
 same_counts : (a b : ℕ) → true ≡ eqb a b → a ≡ b
 same_counts a b e = grind (arith, nat_tests)

@@ -2,14 +2,10 @@
 use Rattle.std.proofs.Common.{◌≡◌, ℕ, zero, suc, ◌+◌, ◌-◌, ◌<◌, ◌≤◌, Bool, true, false, cond, ◌&&◌, leb, ltb, None, Some, List, [], ◌∷◌, ◌++◌, length, get_or, take, drop, refl, sym, ap, ◌∙◌, subst, add-one, arith}
 use Rattle.std.specs.List.{All, range_with_len}
 use Rattle.std.proofs.lemmas.List.{take_more, drop_more, flat_map_more}
-use Rattle.std.proofs.lemmas.Bool.{leb-true, ltb-true, le-leb, lt-ltb}
+use Rattle.std.proofs.lemmas.Bool.{leb-true, ltb-true, le-leb, lt-ltb, and_parts}
 use Rattle.vx_mask.specs.declared.error.MaskError.TheVariants.{Indices, Slices}
 use Rattle.vx_mask.specs.Mask.{FaultlessIndices, FaultlessSlices}
 use Rattle.vx_mask.specs.Positions.{run_positions, ascending, runs_ascend}
-
-both_true : (a b : Bool) → (a && b) ≡ true → (a ≡ true) × (b ≡ true)
-both_true true b h = (refl, h)
-both_true false b h = cc
 
 -- what the first of the indices keeps
 pub record IsNextIndex (low len index : ℕ) (rest : List ℕ) : Type 0 where
@@ -19,8 +15,8 @@ pub record IsNextIndex (low len index : ℕ) (rest : List ℕ) : Type 0 where
 
 pub index_parts : (low len index : ℕ) (rest : List ℕ) → ascending low len (index ∷ rest) ≡ true → IsNextIndex low len index rest
 index_parts low len index rest h =
-    let a = both_true (leb low index) (ltb index len && ascending (index + 1) len rest) h in
-    let b = both_true (ltb index len) (ascending (index + 1) len rest) a.1 in
+    let a = and_parts (leb low index) (ltb index len && ascending (index + 1) len rest) h in
+    let b = and_parts (ltb index len) (ascending (index + 1) len rest) a.1 in
     record { from = leb-true low index a.0; within = ltb-true index len b.0; then = b.1 }
 
 pub ascending_first : (low len index : ℕ) (rest : List ℕ) → low ≤ index → index < len → ascending (index + 1) len rest ≡ true → ascending low len (index ∷ rest) ≡ true
@@ -41,9 +37,9 @@ pub record IsNextRun (low len : ℕ) (run : ℕ × ℕ) (rest : List (ℕ × ℕ
 
 pub run_parts : (low len : ℕ) (run : ℕ × ℕ) (rest : List (ℕ × ℕ)) → runs_ascend low len (run ∷ rest) ≡ true → IsNextRun low len run rest
 run_parts low len run rest h =
-    let a = both_true (leb low run.0) (ltb run.0 run.1 && (leb run.1 len && runs_ascend run.1 len rest)) h in
-    let b = both_true (ltb run.0 run.1) (leb run.1 len && runs_ascend run.1 len rest) a.1 in
-    let e = both_true (leb run.1 len) (runs_ascend run.1 len rest) b.1 in
+    let a = and_parts (leb low run.0) (ltb run.0 run.1 && (leb run.1 len && runs_ascend run.1 len rest)) h in
+    let b = and_parts (ltb run.0 run.1) (leb run.1 len && runs_ascend run.1 len rest) a.1 in
+    let e = and_parts (leb run.1 len) (runs_ascend run.1 len rest) b.1 in
     record { from = leb-true low run.0 a.0; some = ltb-true run.0 run.1 b.0; within = leb-true run.1 len e.0; then = e.1 }
 
 pub next_run : (low len k : ℕ) (runs : List (ℕ × ℕ)) (d : ℕ × ℕ) → k < length runs → runs_ascend low len (drop k runs) ≡ true → IsNextRun low len (get_or runs k d) (drop (k + 1) runs)

@@ -7,6 +7,7 @@ use Rattle.vx_bits.specs.BitBuffer.{true_count_of}
 use Rattle.vx_mask.specs.Positions.{positions, set_of, bits_with, ascending}
 use Rattle.vx_mask.proofs.PositionLists.{length-positions}
 use Rattle.vx_mask.proofs.AscendingLists.{index_parts, ascending_first}
+use Rattle.std.proofs.lemmas.Bool.{eqb-true}
 
 -- what two functions say of the numbers from a on
 same_from : (f g : ℕ → Bool) (a n : ℕ) → ((i : ℕ) → a ≤ i → f i ≡ g i) → map f (range_with_len a n) ≡ map g (range_with_len a n)
@@ -39,9 +40,6 @@ bits_told bits len set n s = sym (bits_from 0 bits) ∙ ap (bits_with (length bi
 
 not_same : (a b : ℕ) → a < b → eqb a b ≡ false
 not_same a b h = grind (arith, nat_tests)
-
-eqb-true : (a b : ℕ) → eqb a b ≡ true → a ≡ b
-eqb-true a b h = grind (arith, nat_tests)
 
 past_of : (at first : ℕ) → at ≤ first → eqb first at ≡ false → at + 1 ≤ first
 past_of at first h e = grind (arith, nat_tests)

@@ -14,6 +14,7 @@ use Rattle.vx_mask.proofs.AscendingLists.{index_parts, ascending_first}
 use Rattle.vx_mask.proofs.RunLists.{set_of_passed, set_of_bit}
 use Rattle.vx_mask.proofs.LowestBit.{lowest_position, no_positions}
 use Rattle.vx_mask.proofs.WordPositions.{positions_in}
+use Rattle.vx_lemmas.proofs.Picked.{picked_nothing}
 
 -- bits that are clear from some place on, and positions that ascend from there
 pub record IsOpen (kept : List Bool) (len top : ℕ) (rest : List ℕ) : Type 0 where
@@ -90,20 +91,16 @@ place_within kept len base left p some fits place h =
     let parts = index_parts h.low len p rest (sym (ap (ascending h.low len) first) ∙ h.ascend) in
     parts.within
 
-where_none : {X : Type 0} (bs : List Bool) → items_where_true {X = X} bs [] ≡ []
-where_none [] = refl
-where_none (b ∷ bs) = refl
-
 -- no set bit is left
 pub word_marked : (kept by : List Bool) (base left rank : ℕ) (all : List ℕ) → left ≡ 0 → set_of kept ++ items_where_true (drop rank by) (positions base (word_bits left 64)) ≡ all → set_of kept ≡ all
 word_marked kept by base left rank all none e =
     let empty : positions base (word_bits left 64) ≡ [] = ap (λ n. positions base (word_bits n 64)) none ∙ no_positions base in
-    sym (append-nil (set_of kept)) ∙ sym (ap (λ l. set_of kept ++ l) (ap (items_where_true (drop rank by)) empty ∙ where_none (drop rank by))) ∙ e
+    sym (append-nil (set_of kept)) ∙ sym (ap (λ l. set_of kept ++ l) (ap (items_where_true (drop rank by)) empty ∙ picked_nothing (drop rank by))) ∙ e
 
 -- ---- all words
 
 where-append : {X : Type 0} (bs : List Bool) (xs ys : List X) → items_where_true bs (xs ++ ys) ≡ items_where_true bs xs ++ items_where_true (drop (length xs) bs) ys
-where-append bs [] ys = ap (λ l. l ++ items_where_true bs ys) (sym (where_none bs))
+where-append bs [] ys = ap (λ l. l ++ items_where_true bs ys) (sym (picked_nothing bs))
 where-append [] (x ∷ xs) ys = refl
 where-append (true ∷ bs) (x ∷ xs) ys = ap (λ l. x ∷ l) (where-append bs xs ys)
 where-append (false ∷ bs) (x ∷ xs) ys = where-append bs xs ys
@@ -161,7 +158,7 @@ one_word bits by kept new w word from all h e fits found now =
 pub all_words : (bits by kept : List Bool) (w from : ℕ) (all : List ℕ) → length bits ≤ 64 * w → set_of kept ++ items_where_true (drop from by) (positions (64 * w) (drop (64 * w) bits)) ≡ all → set_of kept ≡ all
 all_words bits by kept w from all h e =
     let empty : positions (64 * w) (drop (64 * w) bits) ≡ [] = ap (positions (64 * w)) (drop_all (64 * w) bits h) in
-    sym (append-nil (set_of kept)) ∙ sym (ap (λ l. set_of kept ++ l) (ap (items_where_true (drop from by)) empty ∙ where_none (drop from by))) ∙ e
+    sym (append-nil (set_of kept)) ∙ sym (ap (λ l. set_of kept ++ l) (ap (items_where_true (drop from by)) empty ∙ picked_nothing (drop from by))) ∙ e
 
 -- no bit is on yet
 pub no_mark : (len : ℕ) (kept : List Bool) (all : List ℕ) → kept ≡ replicate len false → set_of kept ++ all ≡ all

@@ -1,6 +1,6 @@
 -- Masks that select some rows and not all, and what they keep.
-use Rattle.std.proofs.Common.{◌≡◌, ℕ, ◌<◌, Bool, true, false, ◌&&◌, cond, ltb, List, Option, None, Some, IfSome, length, replicate, unwrap_or, refl, sym, ap, ◌∙◌, subst, inl, inr, arith}
-use Rattle.std.proofs.lemmas.Bool.{cases_lt, lt-ltb}
+use Rattle.std.proofs.Common.{◌≡◌, ℕ, ◌<◌, true, false, ◌&&◌, cond, ltb, List, Option, None, Some, IfSome, length, replicate, unwrap_or, sym, ap, ◌∙◌, subst, inl, inr, arith}
+use Rattle.std.proofs.lemmas.Bool.{cases_lt, lt-ltb, and_right}
 use Rattle.std.proofs.lemmas.List.Sums.{count_by-le-length}
 use Rattle.std.proofs.lemmas.Bool.Decides.{nat_tests}
 use Rattle.vx_bits.specs.BitBuffer.{PlacedBits, true_count_of}
@@ -9,10 +9,11 @@ use Rattle.vx_mask.specs.declared.mask.Mask.TheVariants.{AllTrue, AllFalse, Valu
 use Rattle.vx_mask.specs.Mask.{IsMadeFrom, if_partial, at_front, mask_bits, mask_by_indices, mask_by_slices, partial_of}
 use Rattle.vx_mask.specs.MaskValues.{PartialMask, IsPartial, AreSlicesOf, bits_alone, block_counts, keep_slices}
 use Rattle.vx_mask.specs.Positions.{AreMaximalRuns, set_of, run_positions, bits_with, ascending, runs_ascend, maximal_runs}
-use Rattle.vx_mask.proofs.PositionLists.{none_are_set, all_are_set}
+use Rattle.vx_mask.proofs.PositionLists.{all_are_set}
 use Rattle.vx_mask.proofs.AscendingLists.{ascending-run_positions, runs_not_empty}
 use Rattle.vx_mask.proofs.BitsWith.{bits_with-made}
 use Rattle.vx_mask.proofs.RunLists.{are_maximal_runs, some_run, maximal_runs_cover}
+use Rattle.vx_bits.proofs.WordLists.{no_bits}
 
 -- no bit is set
 pub none_partial : (mask : PartialMask) → true_count_of mask.bits.bits ≡ 0 → None ≡ if_partial mask
@@ -21,22 +22,18 @@ none_partial mask h = ap (λ (n : ℕ). cond (ltb 0 n && ltb n (length mask.bits
 not_below : (a b : ℕ) → a ≡ b → ltb a b ≡ false
 not_below a b h = grind (arith, nat_tests)
 
-and_false : (a b : Bool) → b ≡ false → (a && b) ≡ false
-and_false true b h = h
-and_false false b h = refl
-
 -- all are
 pub all_partial : (mask : PartialMask) → true_count_of mask.bits.bits ≡ length mask.bits.bits → None ≡ if_partial mask
 all_partial mask h =
     let n = true_count_of mask.bits.bits in
-    sym (ap (λ b. cond b (Some mask) None) (and_false (ltb 0 n) (ltb n (length mask.bits.bits)) (not_below n (length mask.bits.bits) h)))
+    sym (ap (λ b. cond b (Some mask) None) (and_right (ltb 0 n) (ltb n (length mask.bits.bits)) (not_below n (length mask.bits.bits) h)))
 
 -- ---- masks by positions
 
 pub none_with : (len : ℕ) (set : List ℕ) → ascending 0 len set ≡ true → length set ≡ 0 → replicate len false ≡ bits_with len set
 none_with len set h e =
     let made = bits_with-made len set h in
-    sym (none_are_set (bits_with len set) (made.count ∙ e) ∙ ap (λ n. replicate n false) made.long)
+    sym (no_bits (bits_with len set) (made.count ∙ e) ∙ ap (λ n. replicate n false) made.long)
 
 pub all_with : (len : ℕ) (set : List ℕ) → ascending 0 len set ≡ true → length set ≡ len → replicate len true ≡ bits_with len set
 all_with len set h e =

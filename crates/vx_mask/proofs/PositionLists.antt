@@ -1,7 +1,7 @@
 -- Lemmas on the set positions of a list of bits.
-use Rattle.std.proofs.Common.{◌≡◌, ℕ, zero, suc, ◌+◌, ◌<◌, ◌-◌, ◌≤◌, Bool, true, false, cond, List, [], ◌∷◌, ◌++◌, length, get_or, take, drop, replicate, Some, refl, sym, ap, ◌∙◌, arith}
-use Rattle.std.specs.List.{slice_get, slice_range, range_with_len}
-use Rattle.std.proofs.lemmas.List.{length-replicate, append-nil, take-take, drop-take}
+use Rattle.std.proofs.Common.{◌≡◌, ℕ, zero, suc, ◌+◌, ◌<◌, ◌-◌, ◌≤◌, Bool, true, false, cond, List, [], ◌∷◌, ◌++◌, length, get_or, take, drop, replicate, Some, refl, sym, ap, ◌∙◌, arith, map}
+use Rattle.std.specs.List.{slice_get, slice_range, range_with_len, All}
+use Rattle.std.proofs.lemmas.List.{length-replicate, append-nil, take-take, drop-take, get_or_default}
 use Rattle.std.proofs.lemmas.List.Sums.{sum_by-cons, sum_by-take-drop, sum_by_more, count_by-le-length}
 use Rattle.std.proofs.lemmas.Option.{slice_get-get_or, slice_get_within}
 use Rattle.vx_bits.specs.BitBuffer.{true_count_of}
@@ -9,6 +9,10 @@ use Rattle.vx_mask.specs.Positions.{positions, set_of, rank_of, RanksAscend, Ran
 
 pub true_count_of-cons : (bit : Bool) (bits : List Bool) → true_count_of (bit ∷ bits) ≡ cond bit 1 0 + true_count_of bits
 true_count_of-cons bit bits = sum_by-cons (λ b. cond b 1 0) bit bits
+
+-- a clear bit is not counted
+pub true_count_of-clear : (bits : List Bool) → true_count_of (false ∷ bits) ≡ true_count_of bits
+true_count_of-clear bits = omega (arith, true_count_of-cons false bits)
 
 pub length-positions : (at : ℕ) (bits : List Bool) → length (positions at bits) ≡ true_count_of bits
 length-positions at [] = refl
@@ -114,11 +118,6 @@ ranks_are_the_set bits p = (
 pub rank_within : (bits : List Bool) (k : ℕ) → k < true_count_of bits → rank_of bits k < length bits
 rank_within bits k h = let r = place_of 0 bits k 0 h in omega (arith, r.1.position, r.1.within)
 
-pub none_are_set : (bits : List Bool) → true_count_of bits ≡ 0 → bits ≡ replicate (length bits) false
-none_are_set [] e = refl
-none_are_set (true ∷ bits) e = absurd (omega (arith, true_count_of-cons true bits))
-none_are_set (false ∷ bits) e = ap (λ l. false ∷ l) (none_are_set bits (omega (arith, true_count_of-cons false bits)))
-
 pub all_are_set : (bits : List Bool) → true_count_of bits ≡ length bits → bits ≡ replicate (length bits) true
 all_are_set [] e = refl
 all_are_set (true ∷ bits) e = ap (λ l. true ∷ l) (all_are_set bits (omega (arith, true_count_of-cons true bits)))
@@ -164,3 +163,15 @@ pub get_or-range : (a n k : ℕ) → k < n → get_or (range_with_len a n) k 0 �
 get_or-range a zero k h = absurd (omega arith)
 get_or-range a (suc n) zero h = omega arith
 get_or-range a (suc n) (suc k) h = get_or-range (a + 1) n k (omega arith) ∙ omega arith
+
+-- each set position is below the number of bits
+pub set_below : (bits : List Bool) (n : ℕ) → length bits ≡ n → All (λ p. p < n) (set_of bits)
+set_below bits n h k d l =
+    let ranked : k < true_count_of bits = omega (arith, l, length-positions 0 bits) in
+    omega (arith, h, get_or_default (set_of bits) k d 0 l, rank_within bits k ranked)
+
+-- positions that count from further on
+pub positions-shift : (a b : ℕ) (bits : List Bool) → positions (a + b) bits ≡ map (λ p. a + p) (positions b bits)
+positions-shift a b [] = refl
+positions-shift a b (true ∷ bits) = let next : a + b + 1 ≡ a + (b + 1) = omega arith in ap (λ l. (a + b) ∷ l) (ap (λ n. positions n bits) next ∙ positions-shift a (b + 1) bits)
+positions-shift a b (false ∷ bits) = let next : a + b + 1 ≡ a + (b + 1) = omega arith in ap (λ n. positions n bits) next ∙ positions-shift a (b + 1) bits

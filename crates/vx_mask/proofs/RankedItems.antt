@@ -42,12 +42,13 @@ module _ {X : Type 0} where
   get_or-map-get xs (p ∷ ps) zero h = refl
   get_or-map-get xs (p ∷ ps) (suc k) h = get_or-map-get xs ps k (omega arith)
 
-  length-items : (bits : List Bool) (xs : List X) → length bits ≡ length xs → length (items_where_true bits xs) ≡ true_count_of bits
-  length-items [] [] h = refl
-  length-items [] (x ∷ xs) h = absurd (omega arith)
-  length-items (b ∷ bits) [] h = absurd (omega arith)
-  length-items (true ∷ bits) (x ∷ xs) h = omega (arith, length-items bits xs (omega arith), true_count_of-cons true bits)
-  length-items (false ∷ bits) (x ∷ xs) h = omega (arith, length-items bits xs (omega arith), true_count_of-cons false bits)
+  -- as many items as set bits
+  pub length-items_where_true : (bits : List Bool) (xs : List X) → length bits ≡ length xs → length (items_where_true bits xs) ≡ true_count_of bits
+  length-items_where_true [] [] h = refl
+  length-items_where_true [] (x ∷ xs) h = absurd (omega arith)
+  length-items_where_true (b ∷ bits) [] h = absurd (omega arith)
+  length-items_where_true (true ∷ bits) (x ∷ xs) h = omega (arith, length-items_where_true bits xs (omega arith), true_count_of-cons true bits)
+  length-items_where_true (false ∷ bits) (x ∷ xs) h = omega (arith, length-items_where_true bits xs (omega arith), true_count_of-cons false bits)
 
 -- two functions that agree on the places of bits agree on their set positions
 map_positions : {Y : Type 0} (f g : ℕ → Y) (at : ℕ) (bits : List Bool) → ((k : ℕ) → at ≤ k → k < at + length bits → f k ≡ g k) → map f (positions at bits) ≡ map g (positions at bits)
@@ -58,7 +59,7 @@ map_positions f g at (false ∷ bits) h = map_positions f g (at + 1) bits (λ k 
 pub filters_join : {X : Type 0} (bits next : List Bool) (items : List X) → FiltersJoin bits next items
 filters_join bits next items h e =
     let kept = items_where_true bits items in
-    let long = length-items bits items h in
+    let long = length-items_where_true bits items h in
     let rank : (k : ℕ) → 0 ≤ k → k < 0 + length next → slice_get kept k ≡ slice_get items (rank_of bits k) = λ k p q.
     sym (slice_get-some kept k) ∙ ap (λ l. get_or l k None) (items_at_the_set bits items h) ∙ get_or-map-get items (set_of bits) k (omega (arith, length-positions 0 bits)) in
     items_at_the_set next kept (omega arith) ∙ map_positions (slice_get kept) (λ k. slice_get items (rank_of bits k)) 0 next rank

@@ -1,12 +1,15 @@
 -- Stretches of bits that are all the same, and maximal runs.
 use Rattle.std.proofs.Common.{◌≡◌, ℕ, zero, suc, ◌+◌, ◌-◌, ◌<◌, ◌≤◌, Bool, true, false, cond, List, [], ◌∷◌, ◌++◌, length, get_or, take, drop, replicate, refl, sym, ap, ap₂, ◌∙◌, subst, inl, inr, arith, add-one, eqb}
 use Rattle.std.specs.List.{All, range_with_len}
-use Rattle.std.proofs.lemmas.List.{take-append-drop, take-take, take_all, drop-take, drop-drop, drop_all, length-take-le, length-drop, length-replicate, get_or-take, get_or-drop, get_or-replicate, get_or_default, same_lists, append_assoc, append-nil}
+use Rattle.std.proofs.lemmas.List.{take-append-drop, take_all, drop-drop, drop_all, length-take-le, length-drop, length-replicate, get_or-take, get_or-drop, get_or-replicate, get_or_default, same_lists, append_assoc, append-nil, drop_more, take_more, length-append}
 use Rattle.std.proofs.lemmas.Bool.{cases_lt}
 use Rattle.std.proofs.lemmas.Bool.Decides.{nat_tests}
 use Rattle.vx_bits.specs.BitBuffer.{true_count_of}
 use Rattle.vx_mask.specs.Positions.{AllBits, AreMaximalRuns, positions, set_of, run_positions, runs_with, runs_from, maximal_runs}
 use Rattle.vx_mask.proofs.PositionLists.{set_of_set, set_of_clear, length-positions}
+use Rattle.std.proofs.lemmas.List.Concat.{flat_map-append}
+use Rattle.std.proofs.lemmas.List.FromFn.{length-range_with_len}
+use Rattle.std.proofs.Math.Seq.{take-add}
 
 -- bits that are all the same are that bit again and again
 pub part_filled : (bits : List Bool) (a b : ℕ) (value : Bool) → a ≤ b → b ≤ length bits → AllBits bits a b value → take (b - a) (drop a bits) ≡ replicate (b - a) value
@@ -19,13 +22,10 @@ part_filled bits a b value p q h =
     get_or-take n (drop a bits) k d k_in ∙ get_or-drop a bits k d ∙ get_or_default bits (a + k) d false (omega arith)
     ∙ h (a + k) (omega arith) (omega arith) ∙ sym (get_or-replicate n k value d k_in))
 
-take_split : {X : Type 0} (a n : ℕ) (xs : List X) → take (a + n) xs ≡ take a xs ++ take n (drop a xs)
-take_split a n xs = sym (take-append-drop a (take (a + n) xs)) ∙ ap₂ ◌++◌ (take-take a (a + n) xs (omega arith)) (drop-take a n xs)
-
 pub filled : (bits : List Bool) (a b : ℕ) (value : Bool) → a ≤ b → b ≤ length bits → AllBits bits a b value → take b bits ≡ take a bits ++ replicate (b - a) value
 filled bits a b value p q h =
     let whole : b ≡ a + (b - a) = omega arith in
-    ap (λ m. take m bits) whole ∙ take_split a (b - a) bits ∙ ap (λ l. take a bits ++ l) (part_filled bits a b value p q h)
+    ap (λ m. take m bits) whole ∙ take-add a (b - a) bits ∙ ap (λ l. take a bits ++ l) (part_filled bits a b value p q h)
 
 pub drop_filled : (bits : List Bool) (a b : ℕ) (value : Bool) → a ≤ b → b ≤ length bits → AllBits bits a b value → drop a bits ≡ replicate (b - a) value ++ drop b bits
 drop_filled bits a b value p q h =
@@ -231,3 +231,16 @@ are_maximal_runs bits =
 pub some_run : (bits : List Bool) (runs : List (ℕ × ℕ)) → run_positions runs ≡ set_of bits → 0 < true_count_of bits → 0 < length runs
 some_run bits [] e h = absurd (omega (arith, length-positions 0 bits, ap length e))
 some_run bits (run ∷ runs) e h = omega arith
+
+-- the places of a run and of the runs behind it
+pub covered_first : (runs : List (ℕ × ℕ)) (k : ℕ) (d : ℕ × ℕ) → k < length runs → run_positions (drop k runs) ≡ range_with_len (get_or runs k d).0 ((get_or runs k d).1 - (get_or runs k d).0) ++ run_positions (drop (k + 1) runs)
+covered_first runs k d h = ap run_positions (drop_more runs k d h)
+
+-- one more run is counted
+pub run_count : (runs : List (ℕ × ℕ)) (k : ℕ) → k < length runs → length (run_positions (take (k + 1) runs)) ≡ length (run_positions (take k runs)) + ((get_or runs k (0, 0)).1 - (get_or runs k (0, 0)).0)
+run_count runs k p =
+    let r = get_or runs k (0, 0) in
+    ap (λ l. length (run_positions l)) (take_more runs k (0, 0) p)
+    ∙ ap length (flat_map-append (λ (q : ℕ × ℕ). range_with_len q.0 (q.1 - q.0)) (take k runs) (r ∷ []))
+    ∙ length-append (run_positions (take k runs)) (run_positions (r ∷ []))
+    ∙ ap (λ n. length (run_positions (take k runs)) + n) (ap length (append-nil (range_with_len r.0 (r.1 - r.0))) ∙ length-range_with_len r.0 (r.1 - r.0))

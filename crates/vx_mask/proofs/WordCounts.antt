@@ -6,11 +6,11 @@ use Rattle.std.specs.Int.{bit_at}
 use Rattle.std.specs.Int.RustNames.{count_ones}
 use Rattle.std.proofs.lemmas.List.{append_assoc, append-nil}
 use Rattle.std.proofs.lemmas.List.Elements.{filter-append}
-use Rattle.std.proofs.lemmas.Nat.{mod-pow-add, mod_below, pow_pos, one_shl, and_mask}
+use Rattle.std.proofs.lemmas.Nat.{mod-pow-add, mod_below, pow_pos}
 use Rattle.std.proofs.lemmas.Nat.Bits.{bit_at-lt}
 use Rattle.std.proofs.lemmas.Bool.{cases_lt}
 use Rattle.std.proofs.lemmas.Bool.Decides.{nat_tests}
-use lib.Count.{ones_step, ones_cat, ones-le}
+use lib.Count.{ones_step, ones_cat}
 use Rattle.vx_bits.specs.BitBuffer.{true_count_of}
 use Rattle.vx_mask.proofs.PositionLists.{true_count_between, is_passed, position_at}
 use Rattle.vx_bits.specs.WordReader.{then_told}
@@ -19,11 +19,10 @@ use Rattle.vx_bits.proofs.WordLists.{count_in_word, count_of_word as count_after
 use Rattle.vx_mask.specs.Positions.{set_of, rank_of}
 use Rattle.vx_mask.specs.Ranks.{words_between}
 use Rattle.vx_mask.proofs.BlockCounts.{count_all}
+use Rattle.vx_lemmas.proofs.Lists.{range_split, range_more}
+use Rattle.vx_lemmas.proofs.Numbers.{low_bits, count_ones-zero}
 
 -- ---- counts
-
-zero_ones : count_ones 0 ≡ 0
-zero_ones = omega (arith, ones-le 0 0 (omega arith))
 
 -- up to the end of a word, the set bits before it and its own
 pub count_of_word : (bits : List Bool) (w word : ℕ) → word ≡ word_at bits w → true_count_of (take (64 * (w + 1)) bits) ≡ true_count_of (take (64 * w) bits) + count_ones word
@@ -48,7 +47,7 @@ inside : (bits : List Bool) (a : ℕ) → true_count_of (take a bits) < true_cou
 inside bits a h = lower bits a (length bits) (omega (arith, count_all bits (length bits) (omega arith)))
 
 digit_ones : (d : ℕ) → d < 2 → count_ones d ≡ d
-digit_ones d h = let none : d / 2 ≡ 0 = omega arith in omega (arith, ones_step d, ap count_ones none, zero_ones)
+digit_ones d h = let none : d / 2 ≡ 0 = omega arith in omega (arith, ones_step d, ap count_ones none, count_ones-zero)
 
 -- one more bit of a number
 pub ones_more : (n k : ℕ) → count_ones (n % 2 ^ (k + 1)) ≡ count_ones (n % 2 ^ k) + bit_at n k
@@ -73,7 +72,7 @@ rank_is bits k i p q h =
       within,
     )
 
--- the same, by the word that the bit is in
+-- the bit that a rank is the position of, by the word that it is in
 pub rank_in_word : (bits : List Bool) (k w left place word : ℕ) → word ≡ word_at bits w → true_count_of (take (64 * w) bits) + left ≡ k → place < 64 → count_ones (word % 2 ^ place) ≤ left → left < count_ones (word % 2 ^ (place + 1)) → k < true_count_of bits → (rank_of bits k ≡ 64 * w + place) × (64 * w + place < length bits)
 rank_in_word bits k w left place word e passed h p q below =
     let here = count_in_word bits w place (omega arith) in
@@ -95,25 +94,15 @@ rank_passed bits k w left place word e passed h p =
 pub counted_more : (bits : List Bool) (a b k : ℕ) → a ≤ b → k < true_count_of (take a bits) → k < true_count_of (take b bits)
 counted_more bits a b k h p = omega (arith, true_count_between bits a b h)
 
--- the lowest n bits of a word
-lowest_is : (word n : ℕ) → n < 64 → bit_and word (1 * 2 ^ n % 2 ^ 64 - 1) ≡ word % 2 ^ n
-lowest_is word n h = ap (λ m. bit_and word (m - 1)) (one_shl n 64 h) ∙ and_mask word n
-
 -- up to a place, by the word that it is in
 pub count_before : (bits : List Bool) (p word : ℕ) → word ≡ word_at bits (p / 64) → true_count_of (take (64 * (p / 64)) bits) + count_ones (bit_and word (1 * 2 ^ (p % 64) % 2 ^ 64 - 1)) ≡ true_count_of (take p bits)
 count_before bits p word e =
     let whole : 64 * (p / 64) + p % 64 ≡ p = omega arith in
     let place : p % 64 < 64 = omega arith in
-    let low = ap count_ones (lowest_is word (p % 64) place) ∙ ap (λ n. count_ones (n % 2 ^ (p % 64))) e in
+    let low = ap count_ones (low_bits word (p % 64) place) ∙ ap (λ n. count_ones (n % 2 ^ (p % 64))) e in
     omega (arith, count_in_word bits (p / 64) (p % 64) (omega arith), low, ap (λ n. true_count_of (take n bits)) whole)
 
 -- ---- reads
-
-range_split : (a m k : ℕ) → range_with_len a (m + k) ≡ range_with_len a m ++ range_with_len (a + m) k
-range_split a zero k = ap₂ range_with_len (omega arith) (omega arith)
-range_split a (suc m) k =
-    let n : suc m + k ≡ suc (m + k) = omega arith in
-    ap (range_with_len a) n ∙ ap (λ l. a ∷ l) (range_split (a + 1) m k ∙ ap (λ j. range_with_len (a + 1) m ++ range_with_len j k) (omega arith))
 
 kept_all : (p : ℕ → Bool) (a n : ℕ) → ((i : ℕ) → a ≤ i → i < a + n → p i ≡ true) → filter p (range_with_len a n) ≡ range_with_len a n
 kept_all p a zero h = refl
@@ -147,9 +136,6 @@ words_are b high n p q =
 -- how many they are
 pub words_number : (b high n : ℕ) → (64 * (8 * b + n) < high + 64) → high ≤ 64 * (8 * b + n) → length (words_between (512 * b) high) ≡ n
 words_number b high n p q = ap length (words_are b high n p q) ∙ length-range_with_len (8 * b) n
-
-range_more : (a n : ℕ) → range_with_len a (n + 1) ≡ range_with_len a n ++ (a + n) ∷ []
-range_more a n = range_split a n 1
 
 -- what is told after more
 told_more : (r : Option (List ℕ)) (xs : List ℕ) (x : ℕ) → then_told (then_told r xs) (x ∷ []) ≡ then_told r (xs ++ x ∷ [])

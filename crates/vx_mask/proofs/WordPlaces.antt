@@ -87,7 +87,7 @@ found_in bits from w keep found want fits small some is keeps passed =
       passed = passed_to bits from w keep found place want fits (omega arith) is keeps tz.2 passed;
     }
 
--- the same, as the code computes them
+-- the lowest bit of the word, as the code computes it
 pub found_here : (bits : List Bool) (from w keep word wanted : ℕ) (want : Bool) → word ≡ word_at bits w → wanted ≡ wanted_of word want → word < 2 ^ 64 → keep < 2 ^ 64 → (bit_and wanted keep ≡ 0 → ⊥) → Keeps from w keep → AllBits bits from (64 * w) (not want) → IsFound bits from w (trailing_zeros w64 (bit_and wanted keep)) want
 found_here bits from w keep word wanted want e f fits small some keeps passed =
     let found = bit_and wanted keep in

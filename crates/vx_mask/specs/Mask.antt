@@ -60,7 +60,7 @@ blocks_in (AllTrue len) = None
 blocks_in (AllFalse len) = None
 blocks_in (Values mask) = mask.blocks
 
--- the same mask, and what it keeps beside its bits where it selects some rows and not all
+-- the mask, with what it keeps changed by `more` where it selects some rows and not all
 abbrev pub map_partial : (PartialMask → PartialMask) → Mask → Mask
 map_partial more (AllTrue len) = AllTrue len
 map_partial more (AllFalse len) = AllFalse len

@@ -8,7 +8,8 @@ use Rattle.vx_mask.specs.declared.policy.PolicyError.TheVariants as policy_error
 abbrev pub mask_error_text : MaskError → List ℕ
 mask_error_text mask_errors.Count = codes "the true count is not the number of set bits"
 mask_error_text mask_errors.NotSelective = codes "no bit is set, or all are"
-mask_error_text mask_errors.Indices = codes "indices are not the positions of the set bits, ascending"
+mask_error_text mask_errors.Indices =
+    codes "indices are not the positions of the set bits, ascending"
 mask_error_text mask_errors.Slices = codes "runs are not the runs of set bits, ascending"
 mask_error_text mask_errors.NoMemory = codes "out of memory"
 

@@ -25,7 +25,7 @@ wants_indices mask consumers fields =
     is_none mask.indices && (is_none mask.slices && (is_none (span_of bits) && (nat_le 2 consumers
     && is_at_most (reuse_limit fields consumers) (true_count_of bits) (length bits))))
 
--- the same mask, with its set positions beside it where it wants them
+-- the mask, with its set positions beside it where it wants them
 abbrev pub mask_for_reuse : Mask → ℕ → PolicyFields → Mask
 mask_for_reuse (AllTrue len) consumers fields = AllTrue len
 mask_for_reuse (AllFalse len) consumers fields = AllFalse len

@@ -224,8 +224,8 @@ impl Mask {
         self.values()?.cached_blocks()
     }
 
-    /// The same mask, with its set positions beside it where it selects some rows and not all. What
-    /// else it keeps stays. Fails only with `NoMemory`.
+    /// The mask, with its set positions beside it where it selects some rows and not all. What else
+    /// it keeps stays. Fails only with `NoMemory`.
     pub fn with_indices(&self, alloc: Global) -> Result<Mask, NoMemory>
         ensures value { IfOk result (λ m. m ≡ map_partial keep_indices self.now) }
         ensures bits { IfOk result (λ m. mask_bits m ≡ mask_bits self.now) }
@@ -236,8 +236,8 @@ impl Mask {
         }
     }
 
-    /// The same mask, with slices beside it where it selects some rows and not all: those that it
-    /// keeps, or else its maximal runs. What else it keeps stays. Fails only with `NoMemory`.
+    /// The mask, with slices beside it where it selects some rows and not all: those that it keeps,
+    /// or else its maximal runs. What else it keeps stays. Fails only with `NoMemory`.
     pub fn with_slices(&self, alloc: Global) -> Result<Mask, NoMemory>
         ensures value { IfOk result (λ m. m ≡ map_partial keep_slices self.now) }
         ensures maximal { slices_in self.now ≡ None → IfOk result
@@ -250,8 +250,8 @@ impl Mask {
         }
     }
 
-    /// The same mask, with its block counts beside it where it selects some rows and not all. What
-    /// else it keeps stays. Fails only with `NoMemory`.
+    /// The mask, with its block counts beside it where it selects some rows and not all. What else
+    /// it keeps stays. Fails only with `NoMemory`.
     pub fn with_blocks(&self, alloc: Global) -> Result<Mask, NoMemory>
         ensures value { IfOk result (λ m. m ≡ map_partial keep_blocks self.now) }
         ensures bits { IfOk result (λ m. mask_bits m ≡ mask_bits self.now) }
@@ -285,7 +285,7 @@ impl Mask {
     }
 
     /// Where the set positions are all those from a start up to an end, which is left out, that
-    /// run. `None` exactly where they are not, or where there is none. It takes no memory.
+    /// run. `None` exactly where they are not, or where there is none.
     pub fn contiguous(&self) -> Option<(usize, usize)>
         ensures value { result ≡ span_of (mask_bits self.now) }
         ensures run { IfSome result (λ run. IsSpan (mask_bits self.now) run.0 run.1) }
@@ -297,7 +297,7 @@ impl Mask {
         }
     }
 
-    /// Whether at least `num` of each `den` rows are selected, exactly. It takes no memory.
+    /// Whether at least `num` of each `den` rows are selected, exactly.
     pub fn density_at_least(&self, num: u64, den: u64) -> bool
         ensures { IsTrue result ↔ (num * length (mask_bits self.now)
             ≤ true_count_of (mask_bits self.now) * den) }
@@ -305,7 +305,7 @@ impl Mask {
         product(num, self.len() as u64) <= product(self.true_count() as u64, den)
     }
 
-    /// Another handle to the same mask. It takes no memory.
+    /// Another handle to the same mask.
     pub fn share(&self) -> Mask
         ensures { result ≡ self.now }
     {

@@ -51,8 +51,7 @@ impl Model for MaskValues {
 }
 
 impl MaskValues {
-    /// The mask of these bits, with the set positions and the runs of them that are handed in. It
-    /// takes no memory.
+    /// The mask of these bits, with the set positions and the runs of them that are handed in.
     ///
     /// In this order: `Count` exactly where `true_count` is not the number of set bits,
     /// `NotSelective` exactly where it is 0 or the length, `Indices` exactly where there are
@@ -221,7 +220,7 @@ impl MaskValues {
         }
     }
 
-    /// The same mask with slices beside it: those that it has, or else its maximal runs.
+    /// The mask with slices beside it: those that it has, or else its maximal runs.
     pub(crate) fn keep_slices(&self, alloc: Global) -> Result<MaskValues, NoMemory>
         ensures { IfOk result (λ m. m ≡ keep_slices self.now) }
     {
@@ -238,7 +237,7 @@ impl MaskValues {
         })
     }
 
-    /// The same mask with its set positions beside it.
+    /// The mask with its set positions beside it.
     pub(crate) fn keep_indices(&self, alloc: Global) -> Result<MaskValues, NoMemory>
         ensures { IfOk result (λ m. m ≡ keep_indices self.now) }
     {
@@ -255,7 +254,7 @@ impl MaskValues {
         })
     }
 
-    /// The same mask with its block counts beside it.
+    /// The mask with its block counts beside it.
     pub(crate) fn keep_blocks(&self, alloc: Global) -> Result<MaskValues, NoMemory>
         ensures { IfOk result (λ m. m ≡ keep_blocks self.now) }
     {
@@ -281,7 +280,7 @@ impl MaskValues {
     }
 
     /// The `k`-th set position, from 0: by the indices where they are kept, by the block counts
-    /// where these are, else by the words up to that position. It takes no memory.
+    /// where these are, else by the words up to that position.
     pub fn rank(&self, k: usize) -> usize
         requires { k < true_count_of self.now.bits.bits }
         ensures rank { result ≡ rank_of self.now.bits.bits k }
@@ -293,7 +292,8 @@ impl MaskValues {
         }
     }
 
-    // The same, by the block counts where they are kept, else by the words up to that position.
+    // The `k`-th set position, from 0, by the block counts where they are kept, else by the words
+    // up to that position.
     fn rank_by_words(&self, k: usize) -> usize
         requires { k < true_count_of self.now.bits.bits }
         ensures rank { result ≡ rank_of self.now.bits.bits k }
@@ -311,7 +311,7 @@ impl MaskValues {
     }
 
     /// The number of set positions below `p`: by the block counts where they are kept, else by the
-    /// words up to there. It takes no memory.
+    /// words up to there.
     pub fn true_before(&self, p: usize) -> usize
         requires { p ≤ length self.now.bits.bits }
         ensures { result ≡ true_count_of (take p self.now.bits.bits) }
@@ -325,7 +325,7 @@ impl MaskValues {
         }
     }
 
-    /// Another handle to the same mask, with what it keeps. It takes no memory.
+    /// Another handle to the same mask, with what it keeps.
     pub fn share(&self) -> MaskValues
         ensures { result ≡ self.now }
     {

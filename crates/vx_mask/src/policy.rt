@@ -22,13 +22,13 @@ pub struct Ratio {
 pub struct PolicyFields {
     /// The density from which on records of 1 byte are compressed by whole bytes of the mask.
     pub dense_w1: Ratio,
-    /// The same for 2 bytes.
+    /// The density from which on records of 2 bytes are compressed by whole bytes of the mask.
     pub dense_w2: Ratio,
-    /// The same for 4 bytes.
+    /// The density from which on records of 4 bytes are compressed by whole bytes of the mask.
     pub dense_w4: Ratio,
-    /// The same for 8 bytes.
+    /// The density from which on records of 8 bytes are compressed by whole bytes of the mask.
     pub dense_w8: Ratio,
-    /// The same for other widths.
+    /// The density from which on records of other widths are compressed by whole bytes of the mask.
     pub dense_other: Ratio,
     /// The density up to which cached indices are useful.
     pub cached_indices_max: Ratio,
@@ -43,11 +43,14 @@ pub struct PolicyFields {
     /// The number of selected values of a chunk up to which only these are decoded, for records
     /// of 1 byte.
     pub sparse_w1: usize,
-    /// The same for 2 bytes.
+    /// The number of selected values of a chunk up to which only these are decoded, for records of
+    /// 2 bytes.
     pub sparse_w2: usize,
-    /// The same for 4 bytes.
+    /// The number of selected values of a chunk up to which only these are decoded, for records of
+    /// 4 bytes.
     pub sparse_w4: usize,
-    /// The same for other widths.
+    /// The number of selected values of a chunk up to which only these are decoded, for records of
+    /// other widths.
     pub sparse_other: usize,
     /// Ranks are looked up one by one where they number at most the true count divided by this,
     /// taken at least 1.
@@ -56,7 +59,7 @@ pub struct PolicyFields {
     pub rank_lookup_cap: usize,
     /// The density up to which a mask for two consumers gets indices.
     pub reuse_two_max: Ratio,
-    /// The same for three and more consumers.
+    /// The density up to which a mask for three and more consumers gets indices.
     pub reuse_more_max: Ratio,
     /// The density below which texts are filtered by set positions.
     pub text_indices_below: Ratio,
@@ -143,7 +146,7 @@ impl PolicyFields {
 }
 
 impl Policy {
-    /// The policy with these fields. It takes no memory.
+    /// The policy with these fields.
     ///
     /// In this order: `ZeroDivisor` exactly where a `den`, `rank_lookup_divisor` or
     /// `min_run_bytes` is 0, `ZeroLookupCap` exactly where `rank_lookup_cap` is 0, `SparseLimit`

@@ -34,7 +34,7 @@ pub fn mask_range(mask: &Mask, start: usize, end: usize) -> (usize, usize)
     (low, if low <= high { high } else { low })
 }
 
-/// The part of a mask from `start` up to `end`. It takes no memory.
+/// The part of a mask from `start` up to `end`.
 #[tactic(auto, using(crate::proofs::RangeCounts::counts))]
 pub fn slice_mask(mask: &Mask, start: usize, end: usize) -> Mask
     requires ordered { start ≤ end }

@@ -9,7 +9,7 @@ ghost use Rattle.vx_mask.specs.Ranks.{blocks_of, words_between};
 
 use vx_bits::WordReader;
 
-/// The position of the `k`-th set bit, from 0. It takes no memory.
+/// The position of the `k`-th set bit, from 0.
 ///
 /// `blocks` are the block counts of the bits: for each multiple of 512 up to their length, the
 /// number of set bits before it. The words that are read are those of one block, from its first to
@@ -31,7 +31,7 @@ pub fn rank_words<R: WordReader>(bits: &mut R, blocks: &[usize], k: usize) -> us
     rank_from(bits, 8 * block, blocks[block], k)
 }
 
-/// The number of set bits below `p`. It takes no memory.
+/// The number of set bits below `p`.
 ///
 /// `blocks` are the block counts of the bits: for each multiple of 512 up to their length, the
 /// number of set bits before it. The words that are read are those of one block, from its first to

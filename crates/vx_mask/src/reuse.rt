@@ -9,7 +9,7 @@ use crate::policy::{Policy, PolicyFields, Ratio};
 use std::alloc::Global;
 use vx_bits::NoMemory;
 
-/// The same mask, ready for so many consumers: Vortex's `prepare_mask_for_reuse`. Fails only with
+/// The mask, ready for so many consumers: Vortex's `prepare_mask_for_reuse`. Fails only with
 /// `NoMemory`.
 ///
 /// It gets indices exactly where it selects some rows and not all, has neither indices nor slices,

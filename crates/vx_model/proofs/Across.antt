@@ -13,7 +13,8 @@ use Rattle.vx_positions.specs.Positions.{AllThere}
 use Rattle.vx_model.specs.Column.{Column}
 use Rattle.vx_model.specs.Columns.{AreCuts, AreSteps, are_long, columns_depth, firsts_for_nulls, rows_across, types_in, with_fronts}
 use Rattle.vx_mask.proofs.RangeCounts.{slice_range-replicate}
-use Rattle.vx_model.proofs.Items.{items_where_true-replicate, length-items_where_true, length-slice_range}
+use Rattle.vx_model.proofs.Items.{items_where_true-replicate, length-slice_range}
+use Rattle.vx_mask.proofs.RankedItems.{length-items_where_true}
 
 -- ---- lists with one more item in front of each
 

@@ -15,9 +15,9 @@ use Rattle.vx_model.specs.Constant.{ConstantParts, constant_column, constant_wit
 use Rattle.vx_model.specs.Step.{IsTake}
 use Rattle.vx_model.proofs.Nullabilities.{with_nullability-nullable}
 use Rattle.vx_model.proofs.Scalars.{scalar_null, scalar_carried}
-use Rattle.vx_model.proofs.Items.{map-replicate}
 use Rattle.vx_model.proofs.ShownRows.{none_shown, shown_rows-all}
 use Rattle.vx_model.proofs.Takes.{all_there, none_there}
+use Rattle.vx_lemmas.proofs.Lists.{map-replicate}
 
 -- ---- the bits of a bool
 

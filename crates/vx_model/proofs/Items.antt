@@ -5,6 +5,7 @@ use Rattle.std.specs.List.{items_where_true}
 use Rattle.std.proofs.lemmas.List.{take-map, drop-map}
 use Rattle.vx_bits.specs.BitBuffer.{true_count_of}
 use Rattle.vx_mask.proofs.PositionLists.{true_count_of-cons}
+use Rattle.vx_mask.proofs.RankedItems.{length-items_where_true}
 
 pub map-items_where_true : {X Y : Type 0} (f : X → Y) (bits : List Bool) (xs : List X) → map f (items_where_true bits xs) ≡ items_where_true bits (map f xs)
 map-items_where_true f [] xs = refl
@@ -12,18 +13,8 @@ map-items_where_true f (b ∷ bits) [] = refl
 map-items_where_true f (true ∷ bits) (x ∷ xs) = ap (λ l. f x ∷ l) (map-items_where_true f bits xs)
 map-items_where_true f (false ∷ bits) (x ∷ xs) = map-items_where_true f bits xs
 
-pub map-replicate : {X Y : Type 0} (f : X → Y) (n : ℕ) (x : X) → map f (replicate n x) ≡ replicate n (f x)
-map-replicate f zero x = refl
-map-replicate f (suc n) x = ap (λ l. f x ∷ l) (map-replicate f n x)
-
 pub map-slice_range : {X Y : Type 0} (f : X → Y) (xs : List X) (s e : ℕ) → map f (slice_range xs s e) ≡ slice_range (map f xs) s e
 map-slice_range f xs s e = sym (take-map f (e - s) (drop s xs)) ∙ ap (take (e - s)) (sym (drop-map f s xs))
-
-pub length-items_where_true : {X : Type 0} (bits : List Bool) (xs : List X) → length bits ≡ length xs → length (items_where_true bits xs) ≡ true_count_of bits
-length-items_where_true [] xs h = refl
-length-items_where_true (b ∷ bits) [] h = absurd (omega arith)
-length-items_where_true (true ∷ bits) (x ∷ xs) h = omega (arith, length-items_where_true bits xs (omega arith), true_count_of-cons true bits)
-length-items_where_true (false ∷ bits) (x ∷ xs) h = omega (arith, length-items_where_true bits xs (omega arith), true_count_of-cons false bits)
 
 -- all items are kept
 pub items_where_true-all : {X : Type 0} (n : ℕ) (xs : List X) → n ≡ length xs → xs ≡ items_where_true (replicate n true) xs

@@ -1,26 +1,20 @@
 -- The items that a mask keeps: their slices, and what a mask of them keeps.
-use Rattle.std.proofs.Common.{◌≡◌, ℕ, zero, suc, ◌-◌, ◌≤◌, Bool, true, false, List, [], ◌∷◌, map, length, take, drop, slice_range, Some, refl, sym, ap, ap₂, ◌∙◌, arith}
+use Rattle.std.proofs.Common.{◌≡◌, ℕ, zero, suc, ◌-◌, ◌≤◌, Bool, true, false, List, [], ◌∷◌, map, length, take, drop, slice_range, refl, sym, ap, ap₂, ◌∙◌, arith}
 use Rattle.std.specs.List.{items_where_true, slice_get}
 use Rattle.std.proofs.Math.Seq.{take-nil, drop-nil}
 use Rattle.std.proofs.lemmas.Simd.{map-map}
 use Rattle.vx_bits.specs.BitBuffer.{true_count_of}
 use Rattle.vx_mask.specs.Positions.{rank_of, set_of}
-use Rattle.vx_mask.proofs.PositionLists.{true_count_between, true_count_of-cons, true_count_between}
+use Rattle.vx_mask.proofs.PositionLists.{true_count_between, true_count_of-cons, true_count_between, true_count_of-clear}
 use Rattle.vx_mask.proofs.RankedItems.{filters_join, items_at_the_set}
+use Rattle.vx_lemmas.proofs.Picked.{picked_nothing, same_items}
 
 -- ---- slices
 
 more_set : (bits : List Bool) → true_count_of (true ∷ bits) ≡ suc (true_count_of bits)
 more_set bits = omega (arith, true_count_of-cons true bits)
 
-more_clear : (bits : List Bool) → true_count_of (false ∷ bits) ≡ true_count_of bits
-more_clear bits = omega (arith, true_count_of-cons false bits)
-
 module _ {X : Type 0} where
-  items_where_true-nil : (mask : List Bool) → [] ≡ items_where_true {X = X} mask []
-  items_where_true-nil [] = refl
-  items_where_true-nil (b ∷ mask) = refl
-
   -- the first items that are kept are those that the first bits keep
   take-items : (k : ℕ) (mask : List Bool) (items : List X) → take (true_count_of (take k mask)) (items_where_true mask items) ≡ items_where_true (take k mask) (take k items)
   take-items zero mask items = refl
@@ -29,17 +23,17 @@ module _ {X : Type 0} where
   take-items (suc k) (true ∷ mask) (x ∷ items) =
       ap (λ n. take n (x ∷ items_where_true mask items)) (more_set (take k mask)) ∙ ap (λ l. x ∷ l) (take-items k mask items)
   take-items (suc k) (false ∷ mask) (x ∷ items) =
-      ap (λ n. take n (items_where_true mask items)) (more_clear (take k mask)) ∙ take-items k mask items
+      ap (λ n. take n (items_where_true mask items)) (true_count_of-clear (take k mask)) ∙ take-items k mask items
 
   -- and those behind them are those that the other bits keep
   drop-items : (k : ℕ) (mask : List Bool) (items : List X) → drop (true_count_of (take k mask)) (items_where_true mask items) ≡ items_where_true (drop k mask) (drop k items)
   drop-items zero mask items = refl
   drop-items (suc k) [] items = refl
-  drop-items (suc k) (b ∷ mask) [] = drop-nil (true_count_of (b ∷ take k mask)) ∙ items_where_true-nil (drop k mask)
+  drop-items (suc k) (b ∷ mask) [] = drop-nil (true_count_of (b ∷ take k mask)) ∙ sym (picked_nothing (drop k mask))
   drop-items (suc k) (true ∷ mask) (x ∷ items) =
       ap (λ n. drop n (x ∷ items_where_true mask items)) (more_set (take k mask)) ∙ drop-items k mask items
   drop-items (suc k) (false ∷ mask) (x ∷ items) =
-      ap (λ n. drop n (items_where_true mask items)) (more_clear (take k mask)) ∙ drop-items k mask items
+      ap (λ n. drop n (items_where_true mask items)) (true_count_of-clear (take k mask)) ∙ drop-items k mask items
 
   -- a slice of the items that are kept is what is kept of a slice, from a place with so many kept
   -- items before it up to such a place
@@ -51,16 +45,6 @@ module _ {X : Type 0} where
       ∙ take-items (hi - lo) (drop lo mask) (drop lo items)
 
 -- ---- masks of what is kept
-
--- items are the same where they are as options
-pub same_items : {X : Type 0} (xs ys : List X) → map Some xs ≡ map Some ys → xs ≡ ys
-same_items [] [] h = refl
-same_items [] (y ∷ ys) h = cc
-same_items (x ∷ xs) [] h = cc
-same_items (x ∷ xs) (y ∷ ys) h =
-    let first : x ≡ y = cc in
-    let rest : map Some xs ≡ map Some ys = cc in
-    ap₂ ◌∷◌ first (same_items xs ys rest)
 
 -- what a second mask keeps of the items that are kept is what both keep: the set positions whose
 -- ranks the second one selects

@@ -21,8 +21,8 @@ use Rattle.vx_model.specs.Numbers.{number_in, numbers_of}
 use Rattle.vx_model.specs.Constant.{ConstantParts, constant_column}
 use Rattle.vx_model.specs.Dict.{DictParts, dict_fault, dict_column}
 use Rattle.vx_model.specs.Filter.{FilterParts, filter_fault, filter_column}
-use Rattle.vx_model.proofs.Items.{length-items_where_true}
 use Rattle.vx_model.proofs.Takes.{length-at}
+use Rattle.vx_mask.proofs.RankedItems.{length-items_where_true}
 
 -- ---- how many
 

@@ -27,3 +27,5 @@ pub mod UnionSteps
 pub mod UnionFaults
 pub mod ExtensionSteps
 pub mod MapSteps
+pub mod Columns
+pub mod Fillers

@@ -9,18 +9,20 @@ use Rattle.vx_types.specs.TypeTree.{TypeTree, is_carried}
 use Rattle.vx_types.specs.declared.nullability.Nullability.{Nullability}
 use Rattle.vx_types.specs.declared.error.ColumnError.{ColumnError}
 use Rattle.vx_types.specs.declared.error.ColumnError.TheVariants.{WrongType, WrongLength, BadValidity, BadOffsets, BadSizes}
-use Rattle.vx_positions.specs.Offsets.{are_offsets, items_in, offset_positions}
+use Rattle.vx_offsets.specs.Offsets.{are_offsets, items_in, offset_positions, are_views, is_natural}
 use Rattle.vx_positions.specs.Positions.{position_of}
-use Rattle.vx_positions.proofs.Ascending.{le_first, le_second, offset_ascends, offset_value, offset_within}
+use Rattle.vx_offsets.proofs.Ascending.{offset_ascends, offset_value, offset_within}
 use Rattle.vx_model.specs.Valid.{is_fitting, is_present}
 use Rattle.vx_model.specs.Numbers.{integer_by, integers_of}
 use Rattle.vx_model.specs.FixedSizeList.{FixedParts, fixed_fault, fixed_of, fixed_spans, fixed_column}
 use Rattle.vx_model.specs.List.{ListParts, list_fault, list_of, list_spans, list_column}
-use Rattle.vx_model.specs.ListView.{ListViewParts, are_as_many, are_sizes, are_view_types, are_views, is_natural, listview_fault, listview_spans, listview_column}
+use Rattle.vx_model.specs.ListView.{ListViewParts, are_as_many, are_sizes, are_view_types, listview_fault, listview_spans, listview_column}
 use Rattle.vx_model.specs.Lists.{ListsParts, list_row, lists_of, stored_lists, lists_column}
 use Rattle.vx_model.specs.VarBin.{are_integers, row_count}
-use Rattle.vx_model.proofs.Spans.{length-spans, get_or-spans, length-view_spans, get_or-view_spans, views_within, length-runs_from, get_or-runs_from, run_within, natural_value}
+use Rattle.vx_model.proofs.Spans.{length-spans, get_or-spans, length-view_spans, get_or-view_spans, views_within, length-runs_from, get_or-runs_from, run_within}
+use Rattle.vx_offsets.proofs.Naturals.{natural_value}
 use Rattle.vx_model.proofs.StoredRows.{length-stored_rows, get_or-stored_rows}
+use Rattle.std.specs.Cmp.{first_so, second_so}
 
 -- ---- any of them
 
@@ -176,10 +178,10 @@ module _ (p : ListViewParts) (h : listview_fault p ≡ None) where
   sizes-listview = all_hold.1.1.1.1
 
   pub integers-view_offsets : are_integers p.offsets ≡ true
-  integers-view_offsets = le_first (are_integers p.offsets) _ all_hold.0
+  integers-view_offsets = first_so (are_integers p.offsets) _ all_hold.0
 
   pub integers-view_sizes : are_integers p.sizes ≡ true
-  integers-view_sizes = le_second (are_integers p.offsets) _ all_hold.0
+  integers-view_sizes = second_so (are_integers p.offsets) _ all_hold.0
 
   pub many-listview : length p.offsets.records ≡ length p.sizes.records
   many-listview = let same = all_hold.1.0 in grind (arith, nat_tests)
@@ -191,10 +193,10 @@ module _ (p : ListViewParts) (h : listview_fault p ≡ None) where
   natural-view_offsets = all_hold.1.1.1.0
 
   natural-view_sizes : list_all is_natural (integers_of p.sizes) ≡ true
-  natural-view_sizes = le_first (list_all is_natural (integers_of p.sizes)) _ all_hold.1.1.1.1
+  natural-view_sizes = first_so (list_all is_natural (integers_of p.sizes)) _ all_hold.1.1.1.1
 
   views-listview : are_views (offset_positions (integers_of p.offsets)) (offset_positions (integers_of p.sizes)) (length p.elements.rows) ≡ true
-  views-listview = le_second (list_all is_natural (integers_of p.sizes)) _ all_hold.1.1.1.1
+  views-listview = second_so (list_all is_natural (integers_of p.sizes)) _ all_hold.1.1.1.1
 
   numbers-view_offsets : length (integers_of p.offsets) ≡ length p.offsets.records
   numbers-view_offsets = length-map p.offsets.records (integer_by p.offsets.kind)

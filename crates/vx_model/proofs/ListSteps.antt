@@ -21,7 +21,7 @@ module _ (p q : ListsParts) (from : is_in_place p.layout ≡ false) (to : is_laz
   is_step-lists left n bits rows now =
       is_step-nested (stored_lists p) (stored_lists q) from to kind left bits rows n now
 
-  -- the same of a step that keeps the type
+  -- a step whose rows and validity are these, and which keeps the type
   pub is_cut-lists : (left : List RowValue) (bits : List Bool) → stored_rows q.valid (map list_row (lists_of q)) ≡ left → IsLeft p.valid (nullability_by p.valid) bits q.valid → IsAsPlain p.valid q.valid → q.elements.depth ≤ p.elements.depth → IsCut (lists_column p) left (lists_column q)
   is_cut-lists left bits rows now plain inner =
       is_cut-nested (stored_lists p) (stored_lists q) from to kind left bits rows now plain inner
@@ -53,7 +53,7 @@ module _ (p q : ListsParts) (from : is_in_place p.layout ≡ false) (to : is_laz
         (ap (λ xs. stored_rows q.valid (map list_row xs)) lists ∙ take-stored list_row missing (lists_of p) p.valid q.valid n fit picks left)
         left
 
-    -- the same where the lists of null rows are empty
+    -- a take whose lists of null rows are empty
     pub is_take-kept_lists : (missing : List RowValue) (picks : List (Option ℕ)) (n : Nullability) → is_fitting q.valid (length (at missing (lists_of p) picks)) ≡ true → lists_of q ≡ kept_lists (present_bits q.valid (length (at missing (lists_of p) picks))) (at missing (lists_of p) picks) → IsLeft p.valid n (at false (present_bits p.valid (length (stored_lists p).items)) picks) q.valid → IsStep (lists_column p) (at null (lists_column p).rows picks) (record { kind = p.kind; nullability = n }) (lists_column q)
     is_take-kept_lists missing picks n fitting lists left =
         let xs = at missing (lists_of p) picks in

@@ -1,15 +1,15 @@
 -- The rows of maps, which are those of their entries, and what a step over these leaves of them.
-use Rattle.std.proofs.Common.{◌≡◌, ℕ, Bool, true, false, List, length, None, Some, refl, ap, ◌∙◌}
-use Rattle.std.specs.Prelude.{◌&&◌, not, if◌then◌else◌}
-use Rattle.std.specs.Cmp.{first_so, second_so}
+use Rattle.std.proofs.Common.{◌≡◌, Bool, true, false, List, length, None, Some, refl, ap, ◌∙◌}
+use Rattle.std.specs.Prelude.{not, if◌then◌else◌}
+use Rattle.std.specs.Cmp.{first_so}
 use Rattle.vx_types.specs.Nullability.{is_nullable}
 use Rattle.vx_types.specs.RowValue.{RowValue}
-use Rattle.vx_types.specs.TypeTree.{TypeKind, TypeTree, are_carried, are_entries, is_carried, list_kind, null_type, struct_kind}
+use Rattle.vx_types.specs.TypeTree.{TypeKind, TypeTree, is_carried, list_kind, null_type, struct_kind, is_entry_kind, is_entry_type}
 use Rattle.vx_types.specs.declared.error.ColumnError.TheVariants.{WrongType}
 use Rattle.vx_types.specs.declared.nullability.Nullability.{Nullability}
 use Rattle.vx_model.specs.List.{list_of}
 use Rattle.vx_model.specs.ListView.{ListViewParts, listview_column, listview_fault, listview_spans}
-use Rattle.vx_model.specs.Map.{is_entry_kind, is_entry_type, map_column, map_fault, map_of}
+use Rattle.vx_model.specs.Map.{map_column, map_fault, map_of}
 use Rattle.vx_model.specs.Step.{IsCut, IsStep}
 use Rattle.vx_model.proofs.ListRows.{rows-listview}
 

@@ -37,7 +37,7 @@ module _ (p q : StoredParts) (from : is_in_place p.layout ≡ false) (to : is_la
         form = refl;
       }
 
-  -- the same of a step that keeps the type
+  -- a step whose rows and validity are these, and which keeps the type
   pub is_cut-nested : IsLeft p.valid (nullability_by p.valid) bits q.valid → IsAsPlain p.valid q.valid → q.inner ≤ p.inner → IsCut (stored_column p) left (stored_column q)
   is_cut-nested now plain inner =
       record {

@@ -53,3 +53,8 @@ also_nullable-nullable t = same_kind t.kind _ _ (either_nullable-nullable t.null
 -- a nullable type with its nullability is the type
 pub with_nullability-nullable : (t : TypeTree) → is_nullable t.nullability ≡ true → with_nullability t Nullable ≡ t
 with_nullability-nullable t h = sym (also_nullable-nullable t) ∙ also_nullable-own t Nullable h
+
+-- of two of which the first is nullable
+pub nullable-either : (m n : Nullability) → is_nullable m ≡ true → is_nullable (either_nullable m n) ≡ true
+nullable-either NonNullable n h = cc
+nullable-either Nullable n h = refl

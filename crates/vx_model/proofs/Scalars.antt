@@ -1,6 +1,6 @@
 -- What a scalar's type says of its value.
 use Rattle.std.proofs.Common.{◌≡◌, ℕ, length, arith, Bool, true, false, List, None, Some, refl}
-use Rattle.std.specs.Prelude.{◌&&◌, ◌==◌, replicate, if◌then◌else◌}
+use Rattle.std.specs.Prelude.{◌==◌, replicate, if◌then◌else◌}
 use Rattle.std.proofs.lemmas.Bool.Decides.{nat_tests}
 use Rattle.std.proofs.lemmas.List.{length-replicate}
 use Rattle.vx_types.specs.PType.{width}
@@ -12,6 +12,7 @@ use Rattle.vx_types.specs.Scalar.{has_scalars, is_of_kind, is_of_bytes, is_as_wi
 use Rattle.vx_types.specs.TypeTree.{TypeKind, TypeTree, null_kind, bool_kind, primitive_kind, decimal_kind, utf8_kind, binary_kind, is_bool_kind, is_carried, is_carried_as, type_width}
 use Rattle.vx_types.specs.declared.nullability.Nullability.{Nullability}
 use Rattle.vx_types.specs.declared.error.ColumnError.TheVariants.{WrongType, WrongWidth}
+use Rattle.std.specs.Cmp.{first_so, second_so}
 
 kind_of : (a b : Bool) → (if a then (if b then None else Some WrongWidth) else Some WrongType) ≡ None → a ≡ true
 kind_of true b h = refl
@@ -22,16 +23,8 @@ wide_of true true h = refl
 wide_of true false h = cc
 wide_of false b h = cc
 
-first : (a b : Bool) → (a && b) ≡ true → a ≡ true
-first true b h = refl
-first false b h = cc
-
-second : (a b : Bool) → (a && b) ≡ true → b ≡ true
-second true b h = h
-second false b h = cc
-
 pub scalar_null : (t : TypeTree) → scalar_fault t null ≡ None → is_nullable t.nullability ≡ true
-scalar_null t h = second (has_scalars t.kind) _ (kind_of _ (is_as_wide t null) h)
+scalar_null t h = second_so (has_scalars t.kind) _ (kind_of _ (is_as_wide t null) h)
 
 pub scalar_bit : (t : TypeTree) (b : Bool) → scalar_fault t (bit b) ≡ None → is_bool_kind t.kind ≡ true
 scalar_bit t b h = kind_of _ (is_as_wide t (bit b)) h
@@ -44,7 +37,7 @@ scalar_bytes-width t b h = wide_of (is_of_kind t (bytes b)) _ h
 
 -- a type of scalars is one that a column may have, and nullable if it is the null type
 carried_scalar : (k : TypeKind) (n : Nullability) (x : RowValue) → let t : TypeTree = record { kind = k; nullability = n } in is_of_kind t x ≡ true → is_carried t ≡ true
-carried_scalar null_kind n null h = second true _ h
+carried_scalar null_kind n null h = second_so true _ h
 carried_scalar null_kind n (bit b) h = cc
 carried_scalar null_kind n (bytes b) h = cc
 carried_scalar null_kind n (list xs) h = cc
@@ -67,7 +60,7 @@ scalar_carried t x h = carried_scalar t.kind t.nullability x (kind_of _ (is_as_w
 
 -- only types of scalars have them
 scalars_of : (k : TypeKind) (n : Nullability) (x : RowValue) → let t : TypeTree = record { kind = k; nullability = n } in is_of_kind t x ≡ true → has_scalars k ≡ true
-scalars_of k n null h = first (has_scalars k) _ h
+scalars_of k n null h = first_so (has_scalars k) _ h
 scalars_of bool_kind n (bit b) h = refl
 scalars_of k n (bit b) h = cc
 scalars_of (primitive_kind p) n (bytes b) h = refl

@@ -9,7 +9,8 @@ use Rattle.vx_bits.specs.BitBuffer.{true_count_of}
 use Rattle.vx_model.specs.Lists.{kept_lists}
 use Rattle.vx_model.specs.Valid.{Valid, non_nullable, all_valid, all_invalid, by_column, is_yes, is_fitting, is_constant_form, cover_by, is_present, present_bits, nullability_by, shown_rows, stored_rows, IsAsPlain, IsLeft}
 use Rattle.vx_mask.proofs.RangeCounts.{slice_range-replicate}
-use Rattle.vx_model.proofs.Items.{items_where_true-replicate, length-slice_range, length-items_where_true}
+use Rattle.vx_model.proofs.Items.{items_where_true-replicate, length-slice_range}
+use Rattle.vx_mask.proofs.RankedItems.{length-items_where_true}
 
 pub length-shown_rows : (bits : List Bool) (rows : List RowValue) → length bits ≡ length rows → length (shown_rows bits rows) ≡ length rows
 length-shown_rows [] [] h = refl

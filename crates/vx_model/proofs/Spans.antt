@@ -1,14 +1,11 @@
 -- Spans of items: those between offsets, those of views, and those of one size.
 use Rattle.std.proofs.Common.{◌≡◌, ℕ, zero, suc, ◌+◌, ◌-◌, ◌*◌, ◌<◌, ◌≤◌, true, List, [], ◌∷◌, length, get_or, take, drop, slice_range, refl, ap, ◌∙◌, arith}
-use Rattle.std.specs.Prelude.{ℤ, pos, negsuc, nat_le}
-use Rattle.std.specs.List.{list_all}
+use Rattle.std.specs.Prelude.{nat_le}
 use Rattle.std.proofs.lemmas.Bool.Decides.{nat_tests}
-use Rattle.std.proofs.lemmas.Int.{ints}
-use Rattle.vx_positions.specs.Offsets.{offset_positions, spans}
-use Rattle.vx_positions.specs.Positions.{position_of}
-use Rattle.vx_positions.proofs.Ascending.{le_first, le_second}
+use Rattle.vx_offsets.specs.Offsets.{are_views, spans}
 use Rattle.vx_model.specs.FixedSizeList.{runs_from}
-use Rattle.vx_model.specs.ListView.{are_views, is_natural, view_spans}
+use Rattle.vx_model.specs.ListView.{view_spans}
+use Rattle.std.specs.Cmp.{first_so, second_so}
 
 -- ---- between offsets
 
@@ -68,8 +65,8 @@ pub views_within : (offsets sizes : List ℕ) (n i : ℕ) → are_views offsets 
 views_within [] sizes n i k h l = absurd (omega arith)
 views_within (o ∷ offsets) [] n i k h l = absurd (omega arith)
 views_within (o ∷ offsets) (s ∷ sizes) n zero k h l =
-    let first = le_first (nat_le (o + s) n) _ k in grind (arith, nat_tests)
-views_within (o ∷ offsets) (s ∷ sizes) n (suc i) k h l = views_within offsets sizes n i (le_second (nat_le (o + s) n) _ k) (omega arith) (omega arith)
+    let first = first_so (nat_le (o + s) n) _ k in grind (arith, nat_tests)
+views_within (o ∷ offsets) (s ∷ sizes) n (suc i) k h l = views_within offsets sizes n i (second_so (nat_le (o + s) n) _ k) (omega arith) (omega arith)
 
 -- ---- of one size
 
@@ -88,14 +85,3 @@ get_or-runs_from start size (suc len) (suc i) h =
 -- the last one ends with the items
 pub run_within : (size len i : ℕ) → i < len → i * size + size ≤ size * len
 run_within size len i h = grind arith
-
--- ---- numbers that are natural
-
-pub natural_value : (zs : List ℤ) (i : ℕ) → list_all is_natural zs ≡ true → i < length zs → pos (get_or (offset_positions zs) i 0) ≡ get_or zs i (pos 0)
-natural_value [] i h l = absurd (omega arith)
-natural_value (z ∷ zs) zero h l = natural z (le_first (is_natural z) _ h)
-  where
-    natural : (z : ℤ) → is_natural z ≡ true → pos (position_of z) ≡ z
-    natural (pos k) h = refl
-    natural (negsuc k) h = grind (arith, ints)
-natural_value (z ∷ zs) (suc i) h l = natural_value zs i (le_second (is_natural z) _ h) (omega arith)

@@ -13,10 +13,11 @@ use Rattle.vx_model.specs.Bool.{BoolParts, stored_bits, bool_fault, bool_column,
 use Rattle.vx_model.specs.Records.{RecordParts, stored_records, records_fault, records_column, records_with}
 use Rattle.vx_model.specs.Step.{IsCut, IsSlice}
 use Rattle.vx_mask.proofs.RangeCounts.{slice_range-replicate}
-use Rattle.vx_model.proofs.Items.{map-items_where_true, map-slice_range, items_where_true-replicate, length-items_where_true, length-slice_range}
+use Rattle.vx_model.proofs.Items.{map-items_where_true, map-slice_range, items_where_true-replicate, length-slice_range}
 use Rattle.vx_model.proofs.ShownRows.{length-present_bits}
 use Rattle.vx_model.proofs.StoredRows.{slice_range-stored_rows, items_where_true-stored_rows, is_cut-stored}
 use Rattle.vx_model.proofs.Layouts.{fits-bits, fits-records}
+use Rattle.vx_mask.proofs.RankedItems.{length-items_where_true}
 
 -- ---- layout `Null`
 

@@ -9,8 +9,9 @@ use Rattle.vx_model.specs.Valid.{Valid, is_fitting, is_present, is_constant_form
 use Rattle.vx_model.specs.Plain.{is_null_layout, is_row_layout}
 use Rattle.vx_model.specs.Stored.{StoredParts, stored_column}
 use Rattle.vx_model.specs.Step.{IsStep, IsCut}
-use Rattle.vx_model.proofs.Items.{length-items_where_true, length-slice_range}
+use Rattle.vx_model.proofs.Items.{length-slice_range}
 use Rattle.vx_model.proofs.ShownRows.{length-shown_rows, slice_range-shown_rows, items_where_true-shown_rows, get_or-shown_rows, get_or-present_bits, length-present_bits}
+use Rattle.vx_mask.proofs.RankedItems.{length-items_where_true}
 
 -- there are as many rows as items
 pub length-stored_rows : (v : Valid) (items : List RowValue) → is_fitting v (length items) ≡ true → length (stored_rows v items) ≡ length items
@@ -59,7 +60,7 @@ module _ (p : StoredParts) (w : Valid) (n : Nullability) (items : List RowValue)
       }
 
 module _ (p : StoredParts) (w : Valid) (items : List RowValue) (records : List (List ℕ)) (left : List RowValue) (bits : List Bool) where
-  -- the same of a step that keeps the type
+  -- a step whose rows and validity are these, and which keeps the type
   pub is_cut-stored : stored_rows w items ≡ left → IsLeft p.valid (nullability_by p.valid) bits w → IsAsPlain p.valid w → IsCut (stored_column p) left (stored_column (record p { items = items; records = records; valid = w }))
   is_cut-stored same now plain =
       record {

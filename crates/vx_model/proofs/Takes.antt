@@ -170,3 +170,7 @@ module _ (v w : Valid) (n : Nullability) (m : ℕ) (picks : List (Option ℕ)) w
   -- the same validity, where no pick is a null
   pub left_the_same : present_bits v m ≡ replicate m true → ((k : ℕ) → present_bits v k ≡ replicate k true) → ((k : ℕ) → is_fitting v k ≡ true) → either_nullable (nullability_by v) n ≡ nullability_by v → AreBelow picks m → list_all is_some picks ≡ true → w ≡ v → IsLeft v (either_nullable (nullability_by v) n) (at false (present_bits v m) picks) w
   left_the_same here all fits e below there is = rw (is, e, here) (is_left-take-all n m picks v all fits below there)
+
+-- the rows that it shows
+pub stored-bits_column : (bits : List Bool) (items : List RowValue) → stored_rows (by_column (bits_column bits 0)) items ≡ shown_rows bits items
+stored-bits_column bits items = ap (λ bs. shown_rows bs items) (is_left-bits_column non_nullable bits 0 Nullable refl).bits

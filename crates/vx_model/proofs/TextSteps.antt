@@ -57,7 +57,7 @@ module _ (p q : TextParts) (left : List RowValue) (n : Nullability) (bits : List
       }
 
 module _ (p q : TextParts) (left : List RowValue) (bits : List Bool) (from : is_in_place p.layout ≡ false) (to : is_lazy_layout q.layout ≡ false) (kind : q.kind ≡ p.kind) (rows : stored_rows q.valid (map bytes q.texts) ≡ left) (now : IsLeft p.valid (nullability_by p.valid) bits q.valid) (plain : IsAsPlain p.valid q.valid) where
-  -- the same of a step that keeps the type
+  -- a step whose rows and validity are these, and which keeps the type
   pub is_cut-texts : IsCut (text_column p) left (text_column q)
   is_cut-texts =
       record {
@@ -87,7 +87,7 @@ module _ (p q : TextParts) (w : Valid) (from : is_in_place p.layout ≡ false) (
       (ap (λ xs. stored_rows q.valid (map bytes xs)) texts ∙ filter-stored bytes p.texts p.valid q.valid fit mask h (left_so _ _ left))
       (left_so _ _ left) (plain_so plain)
 
-  -- the same where the texts of null rows are empty
+  -- texts of which those of null rows are empty have the rows of the texts as they were
   rows_kept : (n : ℕ) (xs : List (List ℕ)) → n ≡ length xs → is_fitting w n ≡ true → q.texts ≡ kept_texts (present_bits w n) xs → stored_rows q.valid (map bytes q.texts) ≡ stored_rows q.valid (map bytes xs)
   rows_kept n xs long fitting texts =
       let there : length (present_bits w (length xs)) ≡ length xs = length-present_bits w (length xs) (ap (is_fitting w) (sym long) ∙ fitting) in

@@ -12,9 +12,9 @@ use Rattle.vx_types.specs.declared.text.BinaryView.{BinaryView}
 use Rattle.vx_types.specs.declared.text.TextKind.{TextKind}
 use Rattle.vx_types.specs.declared.text.TextKind.TheVariants.{Utf8, Binary}
 use Rattle.vx_types.specs.declared.error.ColumnError.TheVariants.{WrongType, BadValidity, BadOffsets, BadViews}
-use Rattle.vx_positions.specs.Offsets.{are_offsets, spans, items_in, lists_at, offset_positions}
+use Rattle.vx_offsets.specs.Offsets.{are_offsets, spans, items_in, lists_at, offset_positions}
 use Rattle.vx_positions.specs.Positions.{position_of}
-use Rattle.vx_positions.proofs.Ascending.{le_first, le_second, offset_ascends, offset_value, offset_within}
+use Rattle.vx_offsets.proofs.Ascending.{offset_ascends, offset_value, offset_within}
 use Rattle.vx_model.specs.Valid.{Valid, is_fitting, is_present}
 use Rattle.vx_model.specs.Numbers.{integer_by, integers_of}
 use Rattle.vx_model.specs.Text.{TextParts, stored_texts, text_column}
@@ -22,6 +22,7 @@ use Rattle.vx_model.specs.VarBin.{VarBinParts, are_integers, row_count, varbin_f
 use Rattle.vx_model.specs.VarBinView.{ViewParts, views_fault, view_texts, views_column}
 use Rattle.vx_model.proofs.Spans.{length-spans, get_or-spans}
 use Rattle.vx_model.proofs.StoredRows.{length-stored_rows, get_or-stored_rows}
+use Rattle.std.specs.Cmp.{first_so, second_so}
 
 -- ---- lists that offsets cut
 
@@ -59,7 +60,7 @@ row-text p i h l =
     get_or-stored_rows p.valid (map bytes p.texts) i (fits p h) (omega (arith, l, length-map p.texts bytes))
     ∙ ap (λ (x : RowValue). if is_present p.valid i then x else null) (get_or-map bytes p.texts i [] null l)
 
--- the same of a row that is there, and of one that isn't
+-- the row of a text that is there, and of one that isn't
 shown-text : (p : TextParts) (i : ℕ) (t : List ℕ) → is_fitting p.valid (length p.texts) ≡ true → i < length p.texts → is_present p.valid i ≡ true → t ≡ get_or p.texts i [] → bytes t ≡ get_or (text_column p).rows i null
 shown-text p i t h l there is = ap bytes is ∙ ap (λ (b : Bool). if b then bytes (get_or p.texts i []) else null) (sym there) ∙ sym (row-text p i h l)
 
@@ -190,8 +191,8 @@ view-views p i d h l = each (is_view p.buffers) p.views i (sound-views p h) l
   where
     each : (f : BinaryView → Bool) (xs : List BinaryView) (i : ℕ) → list_all f xs ≡ true → i < length xs → f (get_or xs i d) ≡ true
     each f [] i h l = absurd (omega arith)
-    each f (x ∷ xs) zero h l = le_first (f x) (list_all f xs) h
-    each f (x ∷ xs) (suc i) h l = each f xs i (le_second (f x) (list_all f xs) h) (omega arith)
+    each f (x ∷ xs) zero h l = first_so (f x) (list_all f xs) h
+    each f (x ∷ xs) (suc i) h l = each f xs i (second_so (f x) (list_all f xs) h) (omega arith)
 
 fit-views : (p : ViewParts) → views_fault p ≡ None → is_fitting p.valid (length (view_texts p).texts) ≡ true
 fit-views p h = ap (is_fitting p.valid) (texts-views p) ∙ fitting-views p h

@@ -13,54 +13,26 @@ use Rattle.vx_types.specs.declared.nullability.Nullability.{Nullability}
 use Rattle.vx_types.specs.Same.{is_same_kind}
 use Rattle.vx_types.specs.declared.ptype.PType.TheVariants.{U8}
 use Rattle.vx_take.specs.Picks.{AreBelow, at, item_at}
-use Rattle.vx_positions.specs.Offsets.{offset_positions}
+use Rattle.vx_offsets.specs.Offsets.{offset_positions}
 use Rattle.vx_positions.specs.Positions.{is_position, position_of, positions_of}
 use Rattle.vx_model.specs.Column.{Column}
 use Rattle.vx_model.specs.Columns.{AreCuts, AreSteps, are_long, firsts_for_nulls, rows_across, types_in}
 use Rattle.vx_model.specs.Numbers.{integer_by, integers_of, number_in, numbers_of}
 use Rattle.vx_model.specs.Records.{RecordParts, records_with}
 use Rattle.vx_model.specs.Step.{IsCut, IsSlice, IsStep, IsTake}
-use Rattle.vx_model.specs.Union.{UnionParts, are_inside, are_places, candidates, candidates_of, has_place, has_row, have_rows, is_id_type, is_known, is_union_long, offsets_kind, rows_at, tags_of, union_column, union_fault}
+use Rattle.vx_model.specs.Union.{UnionParts, are_inside, are_places, candidates, candidates_of, has_place, has_row, have_rows, is_known, is_union_long, offsets_kind, rows_at, tags_of, union_column, union_fault}
+use Rattle.vx_types.specs.Variants.{is_id_type}
 use Rattle.vx_model.specs.Valid.{non_nullable}
 use Rattle.vx_model.specs.VarBin.{are_integers, is_never_null}
 use Rattle.vx_model.proofs.Across.{across-filter, across-same, across-slice, across-take, at-firsts, depth-cuts, length-rows_across, long-filter, long-same, long-slice, long-take, steps-cuts, there-firsts, types-steps}
-use Rattle.vx_model.proofs.Items.{length-items_where_true, length-slice_range, map-items_where_true, map-slice_range}
+use Rattle.vx_model.proofs.Items.{length-slice_range, map-items_where_true, map-slice_range}
 use Rattle.vx_model.proofs.Takes.{map-at}
 use Rattle.vx_model.proofs.UnionSteps.{alike-union, id_type-union, inside-union, is_filter-union, is_slice-union, is_step-union, is_take-union, known-union, length-tags, long-union, places-union, places-filter, places-slice, places-take, rows-left, tags-filter, tags-slice, tags-take}
+use Rattle.vx_lemmas.proofs.Tests.{all-kept, all-slice}
+use Rattle.vx_take.proofs.TakenLists.{all-at}
+use Rattle.vx_mask.proofs.RankedItems.{length-items_where_true}
 
--- ---- what holds of all items holds of those that are left
-
-module _ {X : Type 0} (P : X → Bool) where
-  all-drop : (n : ℕ) (xs : List X) → list_all P xs ≡ true → list_all P (drop n xs) ≡ true
-  all-drop zero xs h = h
-  all-drop (suc n) [] h = refl
-  all-drop (suc n) (x ∷ xs) h = all-drop n xs (second_so (P x) (list_all P xs) h)
-
-  all-take : (n : ℕ) (xs : List X) → list_all P xs ≡ true → list_all P (take n xs) ≡ true
-  all-take zero xs h = refl
-  all-take (suc n) [] h = refl
-  all-take (suc n) (x ∷ xs) h = rw (first_so (P x) (list_all P xs) h, all-take n xs (second_so (P x) (list_all P xs) h)) refl
-
-  all-slice : (xs : List X) (s e : ℕ) → list_all P xs ≡ true → list_all P (slice_range xs s e) ≡ true
-  all-slice xs s e h = all-take (e - s) (drop s xs) (all-drop s xs h)
-
-  all-filter : (mask : List Bool) (xs : List X) → list_all P xs ≡ true → list_all P (items_where_true mask xs) ≡ true
-  all-filter [] xs h = refl
-  all-filter (b ∷ mask) [] h = refl
-  all-filter (true ∷ mask) (x ∷ xs) h = rw (first_so (P x) (list_all P xs) h, all-filter mask xs (second_so (P x) (list_all P xs) h)) refl
-  all-filter (false ∷ mask) (x ∷ xs) h = all-filter mask xs (second_so (P x) (list_all P xs) h)
-
-  all-get : (missing : X) (k : ℕ) (xs : List X) → P missing ≡ true → list_all P xs ≡ true → P (get_or xs k missing) ≡ true
-  all-get missing k [] m h = m
-  all-get missing zero (x ∷ xs) m h = first_so (P x) (list_all P xs) h
-  all-get missing (suc k) (x ∷ xs) m h = all-get missing k xs m (second_so (P x) (list_all P xs) h)
-
-  all-at : (missing : X) (picks : List (Option ℕ)) (xs : List X) → P missing ≡ true → list_all P xs ≡ true → list_all P (at missing xs picks) ≡ true
-  all-at missing [] xs m h = refl
-  all-at missing (None ∷ picks) xs m h = rw (m, all-at missing picks xs m h) refl
-  all-at missing (Some k ∷ picks) xs m h = rw (all-get missing k xs m h, all-at missing picks xs m h) refl
-
--- ---- the same of ids beside offsets
+-- ---- what holds of ids beside offsets holds of those that are left
 
 module _ (ids : List ℕ) (cs : List Column) where
   none-inside : (tags : List (Option ℕ)) → have_rows ids cs tags [] ≡ true
@@ -168,10 +140,10 @@ module _ (p : UnionParts) (h : union_fault p ≡ None) where
   known-slice a s e cut = ap (list_all (is_known p.variants.ids)) (tags-slice p.ids a s e cut) ∙ all-slice (is_known p.variants.ids) (tags_of p) s e known_tags
 
   pub known-filter : (a : Column) (mask : List Bool) → IsCut p.ids (items_where_true mask p.ids.rows) a → list_all (is_known p.variants.ids) (positions_of (numbers_of a)) ≡ true
-  known-filter a mask cut = ap (list_all (is_known p.variants.ids)) (tags-filter p.ids a mask cut) ∙ all-filter (is_known p.variants.ids) mask (tags_of p) known_tags
+  known-filter a mask cut = ap (list_all (is_known p.variants.ids)) (tags-filter p.ids a mask cut) ∙ all-kept (is_known p.variants.ids) mask (tags_of p) known_tags
 
   pub known-take : (a : Column) (picks : List (Option ℕ)) (n : Nullability) → IsTake p.ids picks n a → list_all (is_known p.variants.ids) (positions_of (numbers_of a)) ≡ true
-  known-take a picks n step = ap (list_all (is_known p.variants.ids)) (tags-take p.ids a picks n step) ∙ all-at (is_known p.variants.ids) None picks (tags_of p) refl known_tags
+  known-take a picks n step = ap (list_all (is_known p.variants.ids)) (tags-take p.ids a picks n step) ∙ all-at (is_known p.variants.ids) None (tags_of p) picks refl known_tags
 
   tags-same : (a : Column) → IsStep p.ids p.ids.rows p.ids.dtype a → positions_of (numbers_of a) ≡ tags_of p
   tags-same a step = ap positions_of (ap₂ (λ (t : TypeTree) rows. map (number_in t.kind) rows) step.dtype step.rows)

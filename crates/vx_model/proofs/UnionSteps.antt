@@ -13,14 +13,15 @@ use Rattle.vx_types.specs.RowValue.{RowValue, null, tagged}
 use Rattle.vx_types.specs.declared.error.ColumnError.TheVariants.{WrongType, WrongLength, BadOffsets, BadTypeId}
 use Rattle.vx_types.specs.declared.nullability.Nullability.{Nullability}
 use Rattle.vx_take.specs.Picks.{at}
-use Rattle.vx_positions.specs.Offsets.{offset_positions}
+use Rattle.vx_offsets.specs.Offsets.{offset_positions}
 use Rattle.vx_positions.specs.Positions.{is_position, position_of, positions_of}
 use Rattle.vx_model.specs.Column.{Column}
 use Rattle.vx_model.specs.Columns.{types_in}
 use Rattle.vx_model.specs.Numbers.{integer_by, integers_of, numbers_of}
 use Rattle.vx_model.specs.Records.{RecordParts}
 use Rattle.vx_model.specs.Step.{IsCut, IsSlice, IsStep, IsTake}
-use Rattle.vx_model.specs.Union.{UnionParts, IsPlace, are_inside, are_known, are_places, are_union_types, candidates, candidates_of, row_by_id, has_place, has_row, have_rows, index_of, is_id_type, is_known, is_union_long, offsets_kind, place_at, rows_at, tagged_rows, tags_of, union_column, union_fault, union_row, union_rows}
+use Rattle.vx_model.specs.Union.{UnionParts, IsPlace, are_inside, are_known, are_places, are_union_types, candidates, candidates_of, row_by_id, has_place, has_row, have_rows, is_known, is_union_long, offsets_kind, place_at, rows_at, tagged_rows, tags_of, union_column, union_fault, union_row, union_rows}
+use Rattle.vx_types.specs.Variants.{index_of, is_id_type}
 use Rattle.vx_model.proofs.Across.{length-rows_across, long-get, row-rows_across}
 use Rattle.vx_model.proofs.CodeNumbers.{numbers_of-filter, numbers_of-slice, numbers_of-take}
 use Rattle.vx_model.proofs.Items.{map-items_where_true, map-slice_range}

@@ -12,8 +12,9 @@ use Rattle.vx_model.specs.Column.{Column, by_bools, by_other}
 use Rattle.vx_model.specs.Plain.{is_in_place}
 use Rattle.vx_model.specs.Valid.{by_column, is_yes, is_fitting, is_non_null_bool, is_constant_form, is_flat_cover, is_bool_layout, cover_by, nullability_by, present_bits, IsLeft, Valid}
 use Rattle.vx_model.specs.Step.{IsStep, IsCut, IsSlice}
-use Rattle.vx_model.proofs.Items.{map-items_where_true, map-slice_range, length-items_where_true, length-slice_range}
+use Rattle.vx_model.proofs.Items.{map-items_where_true, map-slice_range, length-slice_range}
 use Rattle.vx_model.proofs.ShownRows.{length-present_bits}
+use Rattle.vx_mask.proofs.RankedItems.{length-items_where_true}
 
 -- a column is no constant form
 not_constant : (b : Bool) → is_constant_form (if b then by_bools else by_other) ≡ true → false ≡ true

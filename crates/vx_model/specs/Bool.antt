@@ -36,7 +36,7 @@ stored_bits p =
 abbrev pub bool_column : BoolParts → Column
 bool_column p = stored_column (stored_bits p)
 
--- the same with other bits and another validity: what a step leaves
+-- parts of other bits and another validity: what a step leaves
 abbrev pub bool_with : List Bool → ℕ → Valid → BoolParts
 bool_with bits offset valid =
     record { bits = record { bits = bits; offset = offset }; valid = valid }

@@ -39,7 +39,7 @@ AreSteps f [] [] = Unit {0}
 AreSteps f (c ∷ cs) (a ∷ left) = IsStep c (f c.rows) c.dtype a × AreSteps f cs left
 AreSteps f cs left = ⊥
 
--- the same, and nests no deeper
+-- each column has this step's rows of the one in its place, and its type, and nests no deeper
 abbrev pub AreCuts : (List RowValue → List RowValue) → List Column → List Column → Type 0
 AreCuts f [] [] = Unit {0}
 AreCuts f (c ∷ cs) (a ∷ left) = IsCut c (f c.rows) a × AreCuts f cs left

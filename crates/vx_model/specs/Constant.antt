@@ -17,7 +17,7 @@ constant_column p =
       constant = Some p.scalar.row;
     }
 
--- the same value for so many rows: what a step leaves
+-- the value for `len` rows: what a step leaves
 abbrev pub constant_with : ConstantParts → ℕ → ConstantParts
 constant_with p len = record p { len = len }
 

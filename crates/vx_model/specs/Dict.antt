@@ -48,7 +48,7 @@ dict_column p =
       dense = p.values.dense;
     }
 
--- the same values under other codes: what a step leaves
+-- the values under other codes: what a step leaves
 abbrev pub dict_with : DictParts → Column → DictParts
 dict_with p codes = record p { codes = codes }
 

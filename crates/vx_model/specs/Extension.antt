@@ -40,7 +40,7 @@ extension_column p =
       dense = p.storage.dense;
     }
 
--- the same extension over another storage: what a step leaves
+-- the extension over another storage: what a step leaves
 abbrev pub extension_with : ExtensionParts → Column → ExtensionParts
 extension_with p storage = record p { storage = storage }
 

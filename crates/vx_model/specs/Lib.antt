@@ -7,6 +7,7 @@ pub mod Dict
 pub mod Extension
 pub mod Filler
 pub mod Filter
+pub mod Fits
 pub mod FixedSizeList
 pub mod List
 pub mod ListView

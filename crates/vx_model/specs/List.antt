@@ -5,7 +5,7 @@ use Rattle.vx_types.specs.TypeTree.{TypeKind, TypeTree, list_kind}
 use Rattle.vx_types.specs.declared.layout_name.LayoutName.TheVariants.{List as ListLayout}
 use Rattle.vx_types.specs.declared.error.ColumnError.{ColumnError}
 use Rattle.vx_types.specs.declared.error.ColumnError.TheVariants.{WrongType, BadValidity, BadOffsets}
-use Rattle.vx_positions.specs.Offsets.{are_offsets, offset_positions, spans}
+use Rattle.vx_offsets.specs.Offsets.{are_offsets, offset_positions, spans}
 use Rattle.vx_model.specs.Column.{Column}
 use Rattle.vx_model.specs.ColumnCode.{coded_column}
 use Rattle.vx_model.specs.Lists.{ListsParts, lists_column}

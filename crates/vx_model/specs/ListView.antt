@@ -1,11 +1,11 @@
 -- Layout `ListView`: lists that each have an offset and a size.
-use Rattle.std.specs.Prelude.{ℕ, ℤ, pos, int_le, nat_le, ◌+◌, ◌==◌, ◌&&◌, Bool, true, length, List, [], ◌∷◌, Option, Some, None, if◌then◌else◌, refl}
+use Rattle.std.specs.Prelude.{ℕ, ℤ, ◌+◌, ◌==◌, ◌&&◌, Bool, length, List, [], ◌∷◌, Option, Some, None, if◌then◌else◌, refl}
 use Rattle.std.specs.Coded.{Coded, code_by, coded×}
 use Rattle.std.specs.List.{list_all}
 use Rattle.vx_types.specs.declared.layout_name.LayoutName.TheVariants.{ListView as ListViewLayout}
 use Rattle.vx_types.specs.declared.error.ColumnError.{ColumnError}
 use Rattle.vx_types.specs.declared.error.ColumnError.TheVariants.{WrongType, WrongLength, BadValidity, BadOffsets, BadSizes}
-use Rattle.vx_positions.specs.Offsets.{offset_positions}
+use Rattle.vx_offsets.specs.Offsets.{are_views, is_natural, offset_positions}
 use Rattle.vx_model.specs.Column.{Column}
 use Rattle.vx_model.specs.ColumnCode.{coded_column}
 use Rattle.vx_model.specs.List.{list_of}
@@ -22,15 +22,6 @@ pub record ListViewParts : Type 0 where
   pub offsets : RecordParts
   pub sizes : RecordParts
   pub valid : Valid
-
-abbrev pub is_natural : ℤ → Bool
-is_natural z = int_le (pos 0) z
-
--- as many elements from an offset on are there
-abbrev pub are_views : List ℕ → List ℕ → ℕ → Bool
-are_views [] sizes n = true
-are_views (o ∷ offsets) [] n = true
-are_views (o ∷ offsets) (s ∷ sizes) n = nat_le (o + s) n && are_views offsets sizes n
 
 -- no size is negative, or passes the elements
 abbrev pub are_sizes : List ℤ → List ℤ → ℕ → Bool

@@ -4,7 +4,7 @@ use Rattle.vx_types.specs.RowValue.{RowValue, list, row_values}
 use Rattle.vx_types.specs.TypeTree.{TypeKind, TypeTree, list_kind, fixed_kind, map_kind, struct_kind}
 use Rattle.vx_types.specs.declared.nullability.Nullability.TheVariants.{NonNullable}
 use Rattle.vx_types.specs.declared.layout_name.LayoutName.{LayoutName}
-use Rattle.vx_positions.specs.Offsets.{items_in}
+use Rattle.vx_offsets.specs.Offsets.{items_in}
 use Rattle.vx_model.specs.Column.{Column}
 use Rattle.vx_model.specs.Stored.{StoredParts, stored_column}
 use Rattle.vx_model.specs.Valid.{Valid}

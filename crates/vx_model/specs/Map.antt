@@ -1,21 +1,12 @@
 -- Layout `Map`: list views of entries, each a struct of a key and a value.
-use Rattle.std.specs.Prelude.{◌&&◌, not, Bool, false, Option, Some, None, if◌then◌else◌}
-use Rattle.vx_types.specs.Nullability.{is_nullable}
-use Rattle.vx_types.specs.TypeTree.{TypeKind, TypeTree, are_entries, map_kind, struct_kind}
+use Rattle.std.specs.Prelude.{Option, Some, None, if◌then◌else◌}
+use Rattle.vx_types.specs.TypeTree.{TypeKind, is_entry_type, map_kind, struct_kind}
 use Rattle.vx_types.specs.declared.layout_name.LayoutName.TheVariants.{Map as MapLayout}
 use Rattle.vx_types.specs.declared.error.ColumnError.{ColumnError}
 use Rattle.vx_types.specs.declared.error.ColumnError.TheVariants.{WrongType}
 use Rattle.vx_model.specs.Column.{Column}
 use Rattle.vx_model.specs.ListView.{ListViewParts, listview_spans}
 use Rattle.vx_model.specs.Lists.{ListsParts, lists_column}
-
-abbrev pub is_entry_kind : TypeKind → Bool
-is_entry_kind (struct_kind names ts) = are_entries ts
-is_entry_kind k = false
-
--- a struct of two fields, the first non-nullable, that is non-nullable itself
-abbrev pub is_entry_type : TypeTree → Bool
-is_entry_type t = is_entry_kind t.kind && not (is_nullable t.nullability)
 
 -- why the list views, which are a column, are no map's entries
 abbrev pub map_fault : ListViewParts → Option ColumnError

@@ -54,7 +54,7 @@ stored_records p =
 abbrev pub records_column : RecordParts → Column
 records_column p = stored_column (stored_records p)
 
--- the same with other records and another validity: what a step leaves
+-- parts of this type with other records and another validity: what a step leaves
 abbrev pub records_with : RecordParts → List (List ℕ) → Valid → RecordParts
 records_with p records valid = record p { records = records; valid = valid }
 

@@ -1,17 +1,17 @@
 -- Layout `Union`: a row is one of its variants' rows, which an id tells.
-use Rattle.std.specs.Prelude.{◌≡◌, ◌<◌, ℕ, ℤ, pos, suc, ◌+◌, ◌==◌, ◌&&◌, max, Bool, true, List, [], ◌∷◌, length, map, Option, Some, None, IsSome, IsNone, slice_index_or, if◌then◌else◌, refl}
+use Rattle.std.specs.Prelude.{◌≡◌, ◌<◌, ℕ, ℤ, pos, ◌+◌, ◌==◌, ◌&&◌, max, Bool, true, List, [], ◌∷◌, length, map, Option, Some, None, IsSome, IsNone, slice_index_or, if◌then◌else◌, refl}
 use Rattle.std.specs.Coded.{Coded, code_by, coded×, coded_list, coded_option}
 use Rattle.std.specs.List.{items_where_true, list_all, list_any}
 use Rattle.std.specs.Option.{option_map}
 use Rattle.vx_types.specs.FieldTypes.{VariantTypes, coded_variants}
 use Rattle.vx_types.specs.RowValue.{RowValue, null, tagged}
-use Rattle.vx_types.specs.Same.{are_same_types, is_same_kind}
-use Rattle.vx_types.specs.TypeTree.{TypeKind, TypeTree, primitive_kind, union_kind, types_of}
+use Rattle.vx_types.specs.Same.{are_same_types}
+use Rattle.vx_types.specs.TypeTree.{TypeKind, TypeTree, union_kind, types_of}
+use Rattle.vx_types.specs.Variants.{is_id_type}
 use Rattle.vx_types.specs.declared.layout_name.LayoutName.TheVariants.{Union as UnionLayout}
 use Rattle.vx_types.specs.declared.error.ColumnError.{ColumnError}
 use Rattle.vx_types.specs.declared.error.ColumnError.TheVariants.{WrongType, WrongLength, BadOffsets, BadTypeId}
-use Rattle.vx_types.specs.declared.ptype.PType.TheVariants.{U8}
-use Rattle.vx_positions.specs.Offsets.{offset_positions}
+use Rattle.vx_offsets.specs.Offsets.{offset_positions}
 use Rattle.vx_positions.specs.Positions.{is_position, positions_of}
 use Rattle.vx_model.specs.Column.{Column, bare_column}
 use Rattle.vx_model.specs.ColumnCode.{coded_column}
@@ -72,11 +72,6 @@ union_rows p = tagged_rows p.variants.ids (tags_of p) (candidates_of p)
 
 -- ---- where a row is
 
--- the place of the variant of this id among the variants
-abbrev pub index_of : List ℕ → ℕ → Option ℕ
-index_of [] id = None
-index_of (v ∷ vs) id = if v == id then Some 0 else option_map suc (index_of vs id)
-
 -- the place of row i in its variant's column
 abbrev pub place_at : Option RecordParts → ℕ → ℕ
 place_at None i = i
@@ -90,10 +85,6 @@ IsPlace (Some offsets) i n =
     × (is_position n (slice_index_or (integers_of offsets) i (pos 0)) ≡ true)
 
 -- ---- faults
-
--- the ids are unsigned integers of one byte
-abbrev pub is_id_type : TypeTree → Bool
-is_id_type t = is_same_kind t.kind (primitive_kind U8)
 
 -- a non-nullable column of integers, where there is one
 abbrev pub are_places : Option RecordParts → Bool

@@ -7,7 +7,7 @@ use Rattle.vx_types.specs.declared.layout_name.LayoutName.TheVariants.{VarBin}
 use Rattle.vx_types.specs.declared.text.TextKind.{TextKind}
 use Rattle.vx_types.specs.declared.error.ColumnError.{ColumnError}
 use Rattle.vx_types.specs.declared.error.ColumnError.TheVariants.{WrongType, BadValidity, BadOffsets}
-use Rattle.vx_positions.specs.Offsets.{are_offsets, offset_positions, lists_at}
+use Rattle.vx_offsets.specs.Offsets.{are_offsets, offset_positions, lists_at}
 use Rattle.vx_model.specs.Column.{Column}
 use Rattle.vx_model.specs.Valid.{Valid, non_nullable, all_valid, all_invalid, by_column, is_fitting}
 use Rattle.vx_model.specs.ValidCode.{coded_valid}

@@ -42,7 +42,7 @@ view_texts p =
 abbrev pub views_column : ViewParts → Column
 views_column p = text_column (view_texts p)
 
--- the same buffers under other views and another validity: what a step leaves
+-- the buffers under other views and another validity: what a step leaves
 abbrev pub views_with : ViewParts → List BinaryView → Valid → ViewParts
 views_with p views valid = record p { views = views; valid = valid }
 

@@ -1,3 +1,4 @@
-pub mod Both
+pub mod Ascending
 pub mod Cuts
+pub mod Naturals
 pub mod ReadOffsets

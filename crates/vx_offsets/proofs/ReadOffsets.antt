@@ -3,8 +3,8 @@ use Rattle.std.proofs.Common.{◌≡◌, ℕ, zero, suc, ◌+◌, ◌-◌, ◌<�
 use Rattle.std.specs.Prelude.{ℤ, pos}
 use Rattle.vx_types.specs.PType.{number}
 use Rattle.vx_types.specs.declared.ptype.PType.{PType}
-use Rattle.vx_positions.specs.Offsets.{are_offsets, offset_positions, record_numbers}
-use Rattle.vx_positions.proofs.Ascending.{length-numbers, offset_ascends, offset_value, offset_within, record_number}
+use Rattle.vx_offsets.specs.Offsets.{are_offsets, offset_positions, record_numbers}
+use Rattle.vx_offsets.proofs.Ascending.{length-numbers, offset_ascends, offset_value, offset_within, record_number}
 
 pub offset_read : (p : PType) (records : List (List ℕ)) (i n : ℕ) (d : List ℕ) → are_offsets (record_numbers p records) n ≡ true → i < length records → pos (get_or (offset_positions (record_numbers p records)) i 0) ≡ number p (get_or records i d)
 offset_read p records i n d h l =

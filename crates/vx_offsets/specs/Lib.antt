@@ -1,2 +1,2 @@
 pub mod Cut
-pub mod Fits
+pub mod Offsets

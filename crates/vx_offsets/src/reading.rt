@@ -1,7 +1,7 @@
 //! Reading offsets whose type is known.
 ghost use Rattle.std.specs.Prelude.{◌≡◌, ◌+◌, ◌<◌, ◌≤◌, length, slice_index, true};
 ghost use Rattle.vx_types.specs.PType.{is_int, width};
-ghost use Rattle.vx_positions.specs.Offsets.{are_offsets, offset_positions, record_numbers};
+ghost use Rattle.vx_offsets.specs.Offsets.{are_offsets, offset_positions, record_numbers};
 
 use vx_types::PType;
 

@@ -11,7 +11,7 @@ use vx_bits::eight_bytes;
 // The bytes before the offsets: how many digits, and the base.
 const HEAD: usize = 9;
 
-/// Writes the numbers of which the bytes are the spelling to `dst`. It takes no memory.
+/// Writes the numbers of which the bytes are the spelling to `dst`.
 ///
 /// `width` is how many bytes a number has. An error is the first rule that the bytes break, and
 /// leaves `dst` as it was.

@@ -1,9 +1,9 @@
 -- A slice behind steps, and the same in front of them.
 use Rattle.std.proofs.Common.{◌≡◌, ℕ, zero, suc, add-one, ◌+◌, ◌-◌, ◌≤◌, ◌<◌, Bool, true, false, List, [], ◌∷◌, ◌++◌, length, map, take, drop, get_or, slice_range, Option, Some, None, refl, sym, ap, ap₂, inl, inr, ◌∙◌, subst, arith}
-use Rattle.std.specs.Prelude.{◌==◌, ◌||◌, if◌then◌else◌, ◌&&◌, nat_le, IfOk, Result, Ok, Err, min}
+use Rattle.std.specs.Prelude.{◌==◌, ◌||◌, if◌then◌else◌, ◌&&◌, nat_le, min}
 use Rattle.std.specs.List.{items_where_true, list_any}
 use Rattle.std.proofs.Math.Seq.{take-nil}
-use Rattle.std.proofs.lemmas.Bool.{cases_lt}
+use Rattle.std.proofs.lemmas.Bool.{cases_lt, or_parts}
 use Rattle.std.proofs.lemmas.Bool.Decides.{nat_tests}
 use Rattle.std.proofs.lemmas.List.{append_assoc, drop_all, length-drop, length_push, map-append, take_all}
 use Rattle.vx_mask.specs.Mask.{mask_bits}
@@ -14,8 +14,7 @@ use Rattle.vx_mask.specs.MaskValues.{PartialMask, keep_indices}
 use Rattle.vx_mask.specs.Reuse.{mask_for_reuse, wants_indices}
 use Rattle.vx_model.proofs.Items.{length-slice_range}
 use Rattle.vx_model.proofs.KeptItems.{slice-items}
-use Rattle.vx_column.proofs.TruthBits.{length-true_bits}
-use Rattle.vx_column.specs.Truth.{is_bool_type, true_bits}
+use Rattle.vx_column.specs.Truth.{true_bits}
 use Rattle.vx_model.specs.Column.{Column}
 use Rattle.vx_steps.specs.Step.{StepValue, slice_step, filter_step, filter_by_step, step_value}
 use Rattle.vx_steps.specs.declared.step.Step.{Step}
@@ -29,10 +28,10 @@ use Rattle.vx_steps.specs.Compose.{IsFaultOf, IsPartOf, IsUnbroken, step_nullabi
 use Rattle.vx_steps.specs.declared.cause.SelectError.{SelectError}
 use Rattle.vx_steps.specs.declared.cause.SelectError.TheVariants.{Broken, NoMemory}
 use Rattle.vx_steps.specs.declared.cause.Cause.{Cause}
-use Rattle.vx_steps.specs.declared.cause.Cause.TheVariants.{BadMask, NotBool}
 use Rattle.vx_steps.proofs.Cuts.{slice_range-slice_range}
 use Rattle.vx_steps.proofs.Walks.{length-apply}
 use Rattle.vx_paging.specs.Needed.{IsPartBefore, Leaves, filters_back, is_take, left_by, left_of}
+use Rattle.vx_steps.proofs.Unbroken.{long_column, within_slice, long_mask}
 
 -- ---- masks, the last one first
 
@@ -104,22 +103,7 @@ before-mask bits a b start end masks more items left same p r =
           ∙ r.walked (k + 1);
     }
 
--- by a column of bools
-pub long_bits : (column : Column) (n : ℕ) → broken (filter_by_step column) n ≡ None → length (true_bits column) ≡ n
-long_bits column n sound = length-true_bits column ∙ by_type (is_bool_type column.dtype) (length column.rows) n sound
-  where
-    by_type : (typed : Bool) (m n : ℕ) → (if typed then (if m == n then None else Some (BadMask m n)) else Some NotBool) ≡ None → m ≡ n
-    by_type true m n h = grind (arith, nat_tests)
-    by_type false m n h = cc
-
 -- by a step that is such a one
-
-within_slice : (s e n : ℕ) → broken (slice_step s e) n ≡ None → (s ≤ e) × (e ≤ n)
-within_slice s e n sound = grind (arith, nat_tests)
-
-long_mask : (bits : List Bool) (n : ℕ) → broken (filter_step bits) n ≡ None → length bits ≡ n
-long_mask bits n sound = grind (arith, nat_tests)
-
 module _ (v : StepValue) (a b start end : ℕ) (masks more : List Mask) (items left : List (Option ℕ)) (sound : broken v (length items) ≡ None) (r : Leaves a b masks (apply None v items) left) where
   sound_as : (w : StepValue) → v ≡ w → broken w (length items) ≡ None
   sound_as w is = subst (λ x. broken x (length items) ≡ None) is sound
@@ -138,28 +122,18 @@ module _ (v : StepValue) (a b start end : ℕ) (masks more : List Mask) (items l
 
   pub by-column : (column : Column) → v ≡ filter_by_step column → IsPartBefore (true_bits column) a b start end masks more → Leaves start end more items left
   by-column column is p =
-      before-mask (true_bits column) a b start end masks more items left (long_bits column (length items) (sound_as (filter_by_step column) is)) p (left_as (filter_by_step column) is)
+      before-mask (true_bits column) a b start end masks more items left (long_column column (length items) (sound_as (filter_by_step column) is)) p (left_as (filter_by_step column) is)
 
 -- of equal bits the same part
 pub part_of : {bits same : List Bool} {a b start end : ℕ} {masks more : List Mask} → bits ≡ same → IsPartBefore bits a b start end masks more → IsPartBefore same a b start end masks more
 part_of {a = a} {b = b} {start = start} {end = end} {masks = masks} {more = more} is p = subst (λ (x : List Bool). IsPartBefore x a b start end masks more) is p
 
--- what follows from a fact of the value in an `Ok`
-pub if_ok : {T E : Type 0} (P Q : T → Type 0) (r : Result T E) → IfOk r P → ((x : T) → P x → Q x) → IfOk r Q
-if_ok P Q (Ok x) h f = f x h
-if_ok P Q (Err e) h f = h
-
 -- ---- takes
-
--- neither of two is so
-neither : (a b : Bool) → (a || b) ≡ false → (a ≡ false) × (b ≡ false)
-neither true b h = absurd cc
-neither false b h = (refl, h)
 
 pub no_take : (steps : List StepValue) (k : ℕ) (s : StepValue) → list_any is_take steps ≡ false → k < length steps → s ≡ get_or steps k s → is_take s ≡ false
 no_take [] k s none h is = absurd (omega arith)
-no_take (x ∷ steps) zero s none h is = ap is_take is ∙ (neither (is_take x) (list_any is_take steps) none).0
-no_take (x ∷ steps) (suc k) s none h is = no_take steps k s (neither (is_take x) (list_any is_take steps) none).1 (omega arith) is
+no_take (x ∷ steps) zero s none h is = ap is_take is ∙ (or_parts (is_take x) (list_any is_take steps) none).0
+no_take (x ∷ steps) (suc k) s none h is = no_take steps k s (or_parts (is_take x) (list_any is_take steps) none).1 (omega arith) is
 
 pub any_more : (steps : List StepValue) (k : ℕ) (s : StepValue) → k < length steps → s ≡ get_or steps k s → list_any is_take (drop k steps) ≡ (is_take s || list_any is_take (drop (suc k) steps))
 any_more [] k s h is = absurd (omega arith)
@@ -266,7 +240,7 @@ pub filters-there : (masks : List Mask) → takes_nullability (filters_back mask
 filters-there [] = refl
 filters-there (m ∷ masks) = takes-append (filters_back masks) (filter_step (mask_bits m)) (filters-there masks) refl
 
--- where neither list of steps is broken, `NoMemory` alone is left
+-- where or_parts list of steps is broken, `NoMemory` alone is left
 pub other_fault : (v w : Walk) (ps qs : List (Option ℕ)) → v ≡ walk_picks ps → w ≡ walk_picks qs → (e : SelectError) → IsFaultOf v e → IsFaultOf w e
 other_fault v w ps qs is same (Broken k cause) h = absurd (apart (sym h ∙ is))
   where

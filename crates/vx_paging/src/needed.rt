@@ -13,8 +13,9 @@ ghost use Rattle.vx_paging.specs.Needed.{IsPartBefore, Leaves, filters_back, is_
 
 use std::alloc::Global;
 use vx_bits::NoMemory;
-use vx_column::{Array, mask_of};
+use vx_column::Array;
 use vx_mask::{Mask, Policy, mask_range, prepare_mask_for_reuse, slice_mask};
+use vx_reading::mask_of;
 use vx_steps::{SelectError, Step, check_steps, compose, compose_part};
 use vx_take::Picks;
 

@@ -1,6 +1,5 @@
 -- A step of the whole, part by part.
-use Rattle.std.proofs.Common.{◌≡◌, ℕ, ◌+◌, ◌-◌, ◌<◌, ◌≤◌, ◌⊎◌, inl, inr, min, Bool, true, false, List, [], ◌∷◌, length, map, take, drop, slice_range, Some, None, refl, sym, ap, ap₂, ◌∙◌, subst, arith}
-use Rattle.std.specs.Prelude.{◌==◌, if◌then◌else◌}
+use Rattle.std.proofs.Common.{◌≡◌, ℕ, ◌+◌, ◌-◌, ◌<◌, ◌≤◌, ◌⊎◌, inl, inr, min, Bool, List, [], ◌∷◌, length, map, take, drop, slice_range, None, refl, sym, ap, ap₂, ◌∙◌, subst, arith}
 use Rattle.std.specs.List.{items_where_true}
 use Rattle.std.proofs.lemmas.Bool.{cases_lt}
 use Rattle.std.proofs.lemmas.Bool.Decides.{nat_tests}
@@ -8,25 +7,17 @@ use Rattle.std.proofs.lemmas.List.{take_all}
 use Rattle.vx_bits.specs.BitBuffer.{true_count_of}
 use Rattle.vx_model.proofs.Items.{length-slice_range}
 use Rattle.vx_model.proofs.KeptItems.{slice-items}
-use Rattle.vx_column.specs.Truth.{is_bool_type, true_bits}
-use Rattle.vx_column.proofs.TruthBits.{length-true_bits}
-use Rattle.vx_model.specs.Column.{Column}
+use Rattle.vx_column.specs.Truth.{true_bits}
 use Rattle.vx_steps.specs.Step.{StepValue, slice_step, filter_step, filter_by_step, take_step}
 use Rattle.vx_steps.specs.Walk.{apply, broken, rows_left}
-use Rattle.vx_steps.specs.declared.cause.Cause.TheVariants.{BadMask, NotBool}
 use Rattle.vx_steps.proofs.Cuts.{slice_range-slice_range}
 use Rattle.vx_steps.proofs.Walks.{length-apply}
 use Rattle.vx_parts.specs.Cuts.{CutValue, slice_cut, filter_cut, as_step, carried, carried_by, cuts_of, from_take, own_cut, own_cuts}
 use Rattle.vx_parts.proofs.BoundLists.{carried-ordered}
 use Rattle.vx_parts.proofs.Walked.{AreSound, apply_all}
+use Rattle.vx_steps.proofs.Unbroken.{long_column, within_slice, long_mask}
 
 -- ---- one step
-
-within_slice : (s e n : ℕ) → broken (slice_step s e) n ≡ None → (s ≤ e) × (e ≤ n)
-within_slice s e n sound = grind (arith, nat_tests)
-
-long_mask : (bits : List Bool) (n : ℕ) → broken (filter_step bits) n ≡ None → length bits ≡ n
-long_mask bits n sound = grind (arith, nat_tests)
 
 begins : (s e low high : ℕ) → low ≤ high → s ≤ e → low < e → s < high → low + min (s - low) (high - low) ≡ s + (min low e - min low s)
 begins s e low high h o l m = omega arith
@@ -120,13 +111,6 @@ own_rows missing (c ∷ cs) xs low high h l sound =
     }
 
 -- ---- the steps before the first take, and those from it on
-
-long_column : (column : Column) (n : ℕ) → broken (filter_by_step column) n ≡ None → length (true_bits column) ≡ n
-long_column column n sound = length-true_bits column ∙ by_type (is_bool_type column.dtype) (length column.rows) n sound
-  where
-    by_type : (typed : Bool) (m n : ℕ) → (if typed then (if m == n then None else Some (BadMask m n)) else Some NotBool) ≡ None → m ≡ n
-    by_type true m n h = grind (arith, nat_tests)
-    by_type false m n h = cc
 
 pub record SoundCuts (n : ℕ) (ss : List StepValue) : Type 0 where
   pub before : AreSound n (map as_step (cuts_of ss))

@@ -8,13 +8,11 @@ use Rattle.std.proofs.lemmas.Simd.{map-map}
 use Rattle.vx_types.specs.RowValue.{RowValue, null}
 use Rattle.vx_types.specs.TypeTree.{TypeTree, also_nullable}
 use Rattle.vx_model.proofs.Items.{length-slice_range}
-use Rattle.vx_model.proofs.Nullabilities.{also_nullable-either, also_nullable-none}
+use Rattle.vx_model.proofs.Nullabilities.{also_nullable-none}
 use Rattle.vx_take.specs.Picks.{at, item_at}
-use Rattle.vx_pieces.specs.Indices.{index_nullability}
 use Rattle.vx_steps.specs.Step.{StepValue, slice_step, filter_step, filter_by_step, take_step}
 use Rattle.vx_steps.specs.Walk.{all_positions, apply, broken, cause_of, rows_left, walk, walk_picks}
 use Rattle.vx_steps.specs.Answer.{answer_of, answer_of_walk, answer_rows, type_after}
-use Rattle.vx_steps.specs.Compose.{takes_nullability}
 use Rattle.vx_steps.proofs.Walks.{length-apply}
 use Rattle.vx_parts.specs.Cuts.{CutValue, slice_cut, filter_cut, as_step, carried_by, own_cuts}
 use Rattle.vx_parts.specs.Plan.{AreOwn, IsTakeOf}
@@ -41,14 +39,6 @@ picked_items missing items ss picks sound w =
     let same : walk_picks picks ≡ walk_picks (apply_all None ss (all_positions (length items))) = sym w ∙ walk_of (length items) ss sound in
     let is : picks ≡ apply_all None ss (all_positions (length items)) = cc in
     ap (at missing items) is ∙ map-apply_all (item_at missing items) None ss (all_positions (length items)) ∙ ap (apply_all missing ss) (every_item missing items)
-
-pub type_after-takes : (t : TypeTree) (steps : List StepValue) → type_after t steps ≡ also_nullable t (takes_nullability steps)
-type_after-takes t [] = sym (also_nullable-none t)
-type_after-takes t (slice_step start end ∷ steps) = type_after-takes t steps
-type_after-takes t (filter_step bits ∷ steps) = type_after-takes t steps
-type_after-takes t (filter_by_step column ∷ steps) = type_after-takes t steps
-type_after-takes t (take_step indices ∷ steps) =
-    type_after-takes (also_nullable t (index_nullability indices)) steps ∙ also_nullable-either t (index_nullability indices) (takes_nullability steps)
 
 -- ---- one step more
 

@@ -1,10 +1,9 @@
 -- Plans, part by part.
-use Rattle.std.proofs.Common.{◌≡◌, ℕ, ◌+◌, ◌-◌, ◌<◌, List, [], ◌∷◌, ◌++◌, length, map, take, drop, Option, Some, None, refl, sym, ap, ◌∙◌, subst, inl, inr, arith, slice_index}
+use Rattle.std.proofs.Common.{◌≡◌, ℕ, ◌+◌, ◌-◌, ◌<◌, List, [], ◌∷◌, ◌++◌, length, map, take, drop, Option, Some, None, sym, ap, ◌∙◌, subst, inl, inr, arith, slice_index}
 use Rattle.std.specs.List.{All, sum}
 use Rattle.std.proofs.lemmas.Bool.{cases_eq}
 use Rattle.std.proofs.lemmas.List.{get_or_push, get_or_append_left, length-drop, length-map, length_push, map_push, take_all}
 use Rattle.vx_types.specs.declared.nullability.Nullability.TheVariants.{NonNullable}
-use Rattle.vx_positions.specs.Positions.{AllThere}
 use Rattle.vx_steps.specs.Step.{StepValue, step_value}
 use Rattle.vx_steps.specs.Walk.{walk}
 use Rattle.vx_steps.specs.Compose.{IsUnbroken, takes_nullability}
@@ -63,10 +62,6 @@ pub parts_none : (cs : List CutValue) (bounds left : List ℕ) (own : Option (Li
 parts_none cs bounds left own k h = absurd (omega arith)
 
 -- ---- own picks
-
-pub all_there : (own : List ℕ) → AllThere (map (λ p. Some p) own)
-all_there [] = refl
-all_there (p ∷ own) = all_there own
 
 pub below_at : (left : List ℕ) (own : List (List ℕ)) (k len : ℕ) (picks : List ℕ) → AreBelow left (Some own) → k < length own → len ≡ slice_index left (k + 1) - slice_index left k → picks ≡ list_of own k → All (λ p. p < len) picks
 below_at left own k len picks below h count is =

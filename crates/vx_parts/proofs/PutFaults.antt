@@ -7,12 +7,11 @@ use Rattle.std.proofs.lemmas.Bool.Decides.{nat_tests}
 use Rattle.std.proofs.lemmas.List.{drop_more}
 use Rattle.std.proofs.lemmas.Option.{get_or_from_slice_get}
 use Rattle.std.proofs.lemmas.List.Elements.{All-nil, All-cons}
-use Rattle.vx_types.specs.Nullability.{either_nullable, is_nullable}
+use Rattle.vx_types.specs.Nullability.{is_nullable}
 use Rattle.vx_types.specs.Same.{is_same_type}
 use Rattle.vx_types.specs.SameLaws.{type_decides}
 use Rattle.vx_types.specs.TypeTree.{TypeTree, also_nullable}
 use Rattle.vx_types.specs.declared.nullability.Nullability.{Nullability}
-use Rattle.vx_types.specs.declared.nullability.Nullability.TheVariants.{NonNullable, Nullable}
 use Rattle.vx_model.specs.Column.{Column}
 use Rattle.vx_interleave.specs.Sources.{IsSourceOf}
 use Rattle.vx_parts.specs.Plan.{lens_in}
@@ -20,6 +19,8 @@ use Rattle.vx_parts.specs.Putting.{IsPutFault, answer_fault, part_fault, put_fau
 use Rattle.vx_parts.specs.declared.plan.Plan.{Plan}
 use Rattle.vx_parts.specs.declared.error.PutError.{PutError}
 use Rattle.vx_parts.specs.declared.error.PutError.TheVariants.{WrongCount, WrongType, WrongLength, WrongOrder, NoMemory}
+use Rattle.std.proofs.lemmas.Bool.{eqb-true, eq-eqb}
+use Rattle.vx_model.proofs.Nullabilities.{nullable-either}
 
 -- ---- one answer
 
@@ -71,16 +72,12 @@ module _ (t : TypeTree) (lens : List ℕ) (answers : List Column) (k n : ℕ) (c
 
 -- ---- answers without a fault
 
-nullable_too : (m n : Nullability) → is_nullable m ≡ true → is_nullable (either_nullable m n) ≡ true
-nullable_too NonNullable n h = cc
-nullable_too Nullable n h = refl
-
 source_of : (t : TypeTree) (n : Nullability) (c : Column) → is_same_type c.dtype t ≡ true → IsSourceOf (also_nullable t n) c
 source_of t n c h =
     let one = (type_decides c.dtype t).0 h in
     record {
       kind = ap (λ (u : TypeTree). u.kind) one;
-      nulls = λ e. nullable_too t.nullability n (ap (λ (u : TypeTree). is_nullable u.nullability) (sym one) ∙ e);
+      nulls = λ e. nullable-either t.nullability n (ap (λ (u : TypeTree). is_nullable u.nullability) (sym one) ∙ e);
     }
 
 same_type : (same long : Bool) (k : ℕ) → (if same then (if long then None else Some (WrongLength k)) else Some (WrongType k)) ≡ None → same ≡ true
@@ -102,16 +99,10 @@ counted : (same : Bool) (rest : Option PutError) → (if same then rest else Som
 counted true rest h = (refl, h)
 counted false rest h = absurd cc
 
-as_many : (m n : ℕ) → (m == n) ≡ true → m ≡ n
-as_many m n h = grind (arith, nat_tests)
-
 pub sources_are : (t : TypeTree) (n : Nullability) (lens : List ℕ) (answers : List Column) → put_fault t lens answers ≡ None → All (IsSourceOf (also_nullable t n)) answers
 sources_are t n lens answers h =
     let both = counted (length answers == length lens) (answer_fault 0 t lens answers) h in
-    sources_from 0 t n lens answers (as_many (length answers) (length lens) both.0) both.1
-
-long_too : (m n : ℕ) → m ≡ n → (m == n) ≡ true
-long_too m n h = grind (arith, nat_tests)
+    sources_from 0 t n lens answers (eqb-true (length answers) (length lens) both.0) both.1
 
 -- columns of the parts' type that are as long as planned
 no_fault_from : (k : ℕ) (t : TypeTree) (lens : List ℕ) (answers : List Column) → ((i : ℕ) → i < length lens → IfSome (slice_get answers i) (λ (c : Column). (c.dtype ≡ t) × (length c.rows ≡ slice_index lens i)))
@@ -126,7 +117,7 @@ no_fault_from k t (n ∷ lens) (c ∷ answers) each =
 pub no_fault : (t : TypeTree) (lens : List ℕ) (answers : List Column) → length answers ≡ length lens → ((i : ℕ) → i < length lens → IfSome (slice_get answers i) (λ (c : Column). (c.dtype ≡ t) × (length c.rows ≡ slice_index lens i)))
     → put_fault t lens answers ≡ None
 no_fault t lens answers many each =
-    ap (λ (b : Bool). if b then answer_fault 0 t lens answers else Some WrongCount) (long_too (length answers) (length lens) many) ∙ no_fault_from 0 t lens answers each
+    ap (λ (b : Bool). if b then answer_fault 0 t lens answers else Some WrongCount) (eq-eqb (length answers) (length lens) many) ∙ no_fault_from 0 t lens answers each
 
 -- ---- which fault there is
 

@@ -19,13 +19,14 @@ use Rattle.vx_parts.specs.Plan.{ArePartsOf, IsRest, left_bounds, order_in, own_a
 use Rattle.vx_parts.specs.Putting.{AreAnswersTo, IsPartAnswer, put_rows, put_type}
 use Rattle.vx_parts.specs.declared.plan.Plan.{Plan}
 use Rattle.vx_parts.proofs.CutRows.{cut_first, sound_cuts}
-use Rattle.vx_parts.proofs.OwnSteps.{answer_sound, own_left, picked_items, type_after-takes}
+use Rattle.vx_parts.proofs.OwnSteps.{answer_sound, own_left, picked_items}
 use Rattle.vx_parts.proofs.PartSlices.{sum_lengths, tiles}
 use Rattle.vx_parts.proofs.PickCuts.{cut_long}
 use Rattle.vx_parts.proofs.Planned.{left_are}
 use Rattle.vx_parts.proofs.PlannedParts.{IsPlannedPart, left_count, left_end, long_left, planned_part}
 use Rattle.vx_parts.proofs.PutPicks.{put_picks}
 use Rattle.vx_parts.proofs.Walked.{AreSound, apply_all, sound_of}
+use Rattle.vx_steps.proofs.StepTypes.{type_after-takes}
 
 -- a column of a list, and what holds of it
 pub record IsColumnAt (columns : List Column) (k : ℕ) (P : Column → Type 0) : Type 0 where

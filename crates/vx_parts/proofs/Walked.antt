@@ -2,7 +2,6 @@
 use Rattle.std.proofs.Common.{◌≡◌, ℕ, ◌+◌, List, [], ◌∷◌, length, map, Option, Some, None, refl, sym, ap, ◌∙◌, subst}
 use Rattle.vx_steps.specs.Step.{StepValue}
 use Rattle.vx_steps.specs.Cause.{MatchError}
-use Rattle.vx_steps.specs.Check.{HasCount}
 use Rattle.vx_steps.specs.Walk.{Walk, walk_fault, walk_picks, walk_from, walk, all_positions, apply, broken, rows_left, unless_broken}
 use Rattle.vx_steps.specs.Compose.{IsFaultOf, IsUnbroken}
 use Rattle.vx_steps.specs.declared.cause.Cause.{Cause}
@@ -54,11 +53,6 @@ walk_of n ss h = sound_walk 0 (all_positions n) ss (subst (λ (m : ℕ). AreSoun
 
 pub unbroken_of : (n : ℕ) (ss : List StepValue) → AreSound n ss → IsUnbroken (walk n ss)
 unbroken_of n ss h = subst IsUnbroken (sym (walk_of n ss h)) tt
-
--- a walk that has a count is unbroken, and one that is can't be a fault
-pub counted_walk : (w : Walk) (n : ℕ) → HasCount w n → IsUnbroken w
-counted_walk (walk_fault k cause) n h = absurd h
-counted_walk (walk_picks picks) n h = tt
 
 no_fault : (w : Walk) (k : ℕ) (cause : Cause) → w ≡ walk_fault k cause → IsUnbroken w → ⊥
 no_fault w k cause e h = subst IsUnbroken e h

@@ -83,7 +83,7 @@ pub record ArePicked (left : List ℕ) (steps : List StepValue) (own : List (Lis
   pub composed : walk (end_of left) steps ≡ walk_picks picks
   pub cut : AreCut left picks own order
 
--- the same, and no picks where there is no step
+-- the picks that steps leave, cut into each part's own, and no picks where there is no step
 abbrev pub IsRest : List ℕ → List StepValue → Option (List (List ℕ))
     → Option (List (Option Place)) → Type 0
 IsRest left [] None None = Unit {0}

@@ -7,8 +7,8 @@ ghost use Rattle.vx_parts.specs.Cuts.{IsCutOf, as_step, carried, carried_by, cut
 
 use std::alloc::Global;
 use vx_bits::NoMemory;
-use vx_column::mask_of;
 use vx_mask::Mask;
+use vx_reading::mask_of;
 use vx_steps::Step;
 
 /// A step of the whole that is no take.
@@ -32,7 +32,7 @@ fn count_before(mask: &Mask, position: usize) -> usize
     mask.true_before(position.min(mask.len()))
 }
 
-// The part of a mask from `low` up to `high`, as far as it goes. It takes no memory.
+// The part of a mask from `low` up to `high`, as far as it goes.
 fn mask_part(mask: &Mask, low: usize, high: usize) -> Mask
     ensures { mask_bits result ≡ slice_range (mask_bits mask.now) low high }
 {
@@ -56,7 +56,7 @@ impl Cut {
         }
     }
 
-    // The step of the part from row `low` up to row `high`. It takes no memory.
+    // The step of the part from row `low` up to row `high`.
     fn own(&self, low: usize, high: usize) -> Step
         ensures { step_value result ≡ as_step (own_cut (cut_value self.now) low high) }
     {

@@ -1,5 +1,5 @@
 -- How many picks there are, and columns whose numbers name some.
-use Rattle.std.proofs.Common.{◌≡◌, ℕ, ◌+◌, Bool, true, false, List, [], ◌∷◌, length, length-append, Option, None, Some, refl, sym, ap, ◌∙◌}
+use Rattle.std.proofs.Common.{◌≡◌, ℕ, ℤ, ◌+◌, Bool, true, false, List, [], ◌∷◌, length, length-append, Option, None, Some, refl, sym, ap, ◌∙◌}
 use Rattle.std.specs.Prelude.{◌&&◌, ◌==◌, nat_le, if◌then◌else◌}
 use Rattle.std.specs.List.{flat_map, list_all}
 use Rattle.std.specs.Option.{option_map}
@@ -13,11 +13,11 @@ use Rattle.vx_positions.specs.Positions.{first_bad, position_of}
 use Rattle.vx_pieces.specs.Indices.{IndexValue, by_column, by_pieces, column_fault, index_fault, index_len, index_picks, sequence_fault}
 use Rattle.vx_pieces.specs.Pieces.{PiecesParts, expand, greatest_index, is_sound, is_sound_piece, piece_numbers, pieces_of, total_length}
 use Rattle.vx_pieces.specs.declared.fault.IndexFault.{IndexFault}
-use Rattle.vx_pieces.specs.declared.fault.IndexFault.TheVariants.{BadPieces}
+use Rattle.vx_pieces.specs.declared.fault.IndexFault.TheVariants.{BadPieces, InvalidIndices, OutOfBounds}
 use Rattle.vx_pieces.specs.declared.piece.Piece.{Piece}
 use Rattle.vx_column.proofs.NumberLists.{length-numbers_of}
-use Rattle.vx_pieces.proofs.Naturals.{both}
 use Rattle.vx_pieces.proofs.PieceNumbers.{length-piece_numbers}
+use Rattle.std.proofs.lemmas.Bool.{and_parts}
 
 numbers_of_pieces : (ps : List Piece) → length (flat_map piece_numbers ps) ≡ total_length ps
 numbers_of_pieces [] = refl
@@ -28,8 +28,8 @@ numbers_of_pieces (p ∷ ps) =
 -- a sound sequence has as many numbers as declared
 pub length-expand : (p : PiecesParts) → is_sound p ≡ true → length (expand p) ≡ p.len
 length-expand p h =
-    let totals = (both (list_all is_sound_piece (pieces_of p)) (nat_le (total_length (pieces_of p)) greatest_index && (total_length (pieces_of p) == p.len)) h).1 in
-    let same = (both (nat_le (total_length (pieces_of p)) greatest_index) (total_length (pieces_of p) == p.len) totals).1 in
+    let totals = (and_parts (list_all is_sound_piece (pieces_of p)) (nat_le (total_length (pieces_of p)) greatest_index && (total_length (pieces_of p) == p.len)) h).1 in
+    let same = (and_parts (nat_le (total_length (pieces_of p)) greatest_index) (total_length (pieces_of p) == p.len) totals).1 in
     numbers_of_pieces (pieces_of p) ∙ (Decides-eqb (total_length (pieces_of p)) p.len).0 same
 
 pub sound_by : (p : PiecesParts) (n : ℕ) → sequence_fault p n ≡ None → is_sound p ≡ true
@@ -42,6 +42,24 @@ sound_by p n h = by (is_sound p) _ h
 -- a column of integers, none of which is past the rows
 pub no_column_fault : (c : Column) (n : ℕ) → is_int_type c.dtype ≡ true → first_bad n (numbers_of c) ≡ None → column_fault c n ≡ None
 no_column_fault c n int none = rw (int, none) refl
+
+-- and the other way round
+pub fault_int : (c : Column) (n : ℕ) → column_fault c n ≡ None → is_int_type c.dtype ≡ true
+fault_int c n h = by (is_int_type c.dtype) _ h
+  where
+    by : (b : Bool) (x : Option IndexFault) → (if b then x else Some InvalidIndices) ≡ None → b ≡ true
+    by true x e = refl
+    by false x e = cc
+
+pub fault_sound : (c : Column) (n : ℕ) → column_fault c n ≡ None → first_bad n (numbers_of c) ≡ None
+fault_sound c n h = by (is_int_type c.dtype) (first_bad n (numbers_of c)) h
+  where
+    by : (b : Bool) (x : Option ℤ) → (if b then option_map OutOfBounds x else Some InvalidIndices) ≡ None → x ≡ None
+    by true None e = refl
+    by true (Some z) e = cc
+    by false x e = cc
+
+pub ruleset faultless = (fault_int, fault_sound)
 
 -- where there is no fault, there are as many picks as indices
 pub length-index_picks : (v : IndexValue) (n : ℕ) → index_fault v n ≡ None → length (index_picks v) ≡ index_len v

@@ -14,6 +14,7 @@ use Rattle.vx_model.specs.Numbers.{numbers_of, number_in}
 use Rattle.vx_pieces.specs.Pieces.{is_unsigned, is_unsigned_type, natural_of, naturals_of, pieces_by, pieces_of, PiecesParts, pieces_fault, are_unsigned, are_as_long}
 use Rattle.vx_pieces.specs.declared.piece.Piece.{Piece}
 use Rattle.vx_column.proofs.NumberLists.{number_of_row, length-numbers_of}
+use Rattle.std.proofs.lemmas.Bool.{and_parts}
 
 -- what bytes spell
 pub spelled_8 : (b : ℕ → ℕ) → ((k : ℕ) → b k < 256) → sum_through (λ i. byte_worth i (b i)) 7 < 2 ^ 64
@@ -65,17 +66,12 @@ types_by true true h = (refl, refl)
 types_by true false h = cc
 types_by false b h = cc
 
-pub both : (a b : Bool) → (a && b) ≡ true → (a ≡ true) × (b ≡ true)
-both true true h = (refl, refl)
-both true false h = cc
-both false b h = cc
-
 pub aligned : (p : PiecesParts) → pieces_fault p ≡ None → AreAligned p
 aligned p h =
     let t = types_by (are_unsigned p) (are_as_long p) h in
-    let types = both (is_unsigned_type p.starts.dtype && is_unsigned_type p.lengths.dtype) (is_unsigned_type p.multipliers.dtype) t.0 in
-    let two = both (is_unsigned_type p.starts.dtype) (is_unsigned_type p.lengths.dtype) types.0 in
-    let long = both (length p.lengths.rows == length p.starts.rows) (length p.multipliers.rows == length p.starts.rows) t.1 in
+    let types = and_parts (is_unsigned_type p.starts.dtype && is_unsigned_type p.lengths.dtype) (is_unsigned_type p.multipliers.dtype) t.0 in
+    let two = and_parts (is_unsigned_type p.starts.dtype) (is_unsigned_type p.lengths.dtype) types.0 in
+    let long = and_parts (length p.lengths.rows == length p.starts.rows) (length p.multipliers.rows == length p.starts.rows) t.1 in
     record {
       starts = two.0;
       lengths = two.1;

@@ -9,9 +9,7 @@ use Rattle.std.proofs.lemmas.Option.{slice_get-get_or}
 use Rattle.std.proofs.lemmas.List.FromFn.{map-range_with_len_more, length-map-range_with_len, get_or-map-range_with_len}
 use Rattle.vx_pieces.specs.Pieces.{first_from, piece_number, piece_numbers}
 use Rattle.vx_pieces.specs.declared.piece.Piece.{Piece}
-
-pub le_passes : (a b : ℕ) → a ≤ b → nat_le a b ≡ true
-le_passes a b h = grind (arith, nat_tests)
+use Rattle.std.proofs.lemmas.Bool.{le-leb}
 
 pub lt_fails : (a b : ℕ) → b < a → nat_le a b ≡ false
 lt_fails a b h = grind (arith, nat_tests)
@@ -22,7 +20,7 @@ module _ (n : ℕ) (f : ℕ → ℕ) where
   first_at a k zero h below reaches = absurd (omega arith)
   first_at a zero (suc len) h below reaches =
       let same : f (a + 0) ≡ f a = ap f (add-zero a) in
-      let test : nat_le n (f a) ≡ true = le_passes n (f a) (subst (λ x. n ≤ x) same reaches) in
+      let test : nat_le n (f a) ≡ true = le-leb n (f a) (subst (λ x. n ≤ x) same reaches) in
       rw test (ap (λ x. Some x) (sym same))
   first_at a (suc k) (suc len) h below reaches =
       let test : nat_le n (f a) ≡ false = lt_fails n (f a) (subst (λ i. f i < n) (add-zero a) (below 0 (omega arith))) in

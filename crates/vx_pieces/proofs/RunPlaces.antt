@@ -1,9 +1,10 @@
 -- The positions in runs.
-use Rattle.std.proofs.Common.{◌≡◌, ℕ, zero, suc, ◌<◌, List, [], ◌∷◌, ◌++◌, ◌+◌, ◌≤◌, map, length, take, get_or, Option, None, Some, sym, ap, ◌∙◌, arith, add-one}
+use Rattle.std.proofs.Common.{◌≡◌, ℕ, zero, suc, ◌<◌, List, [], ◌∷◌, ◌++◌, ◌+◌, ◌≤◌, map, length, take, get_or, Option, None, Some, sym, ap, ◌∙◌, arith}
 use Rattle.std.specs.Prelude.{All, IfSome}
 use Rattle.std.specs.List.{range_with_len}
 use Rattle.std.proofs.lemmas.List.{flat_map_more, map-append, take_more}
 use Rattle.vx_take.specs.Picks.{AreBelow, run_places}
+use Rattle.vx_lemmas.proofs.Lists.{range_more}
 
 -- the numbers in runs within n items are below n
 pub below_runs : (n : ℕ) (runs : List (ℕ × ℕ)) → All (λ run. run.0 + run.1 ≤ n) runs → AreBelow (map (λ x. Some x) (run_places runs)) n
@@ -28,18 +29,11 @@ below_runs n (run ∷ runs) within =
     in_run start (suc len) h zero d l = omega arith
     in_run start (suc len) h (suc k) d l = in_run (start + 1) len (omega arith) k d (omega arith)
 
-pub range-more : (start n : ℕ) → range_with_len start (n + 1) ≡ range_with_len start n ++ (start + n) ∷ []
-range-more start n = rw add-one (by start n)
-  where
-    by : (start n : ℕ) → range_with_len start (suc n) ≡ range_with_len start n ++ (start + n) ∷ []
-    by start zero = ap (λ k. k ∷ []) (let e : start ≡ start + 0 = omega arith in e)
-    by start (suc n) = ap (λ l. start ∷ l) (by (start + 1) n ∙ ap (λ k. range_with_len (start + 1) n ++ k ∷ []) (let e : start + 1 + n ≡ start + suc n = omega arith in e))
-
 pub run_places-more : (runs : List (ℕ × ℕ)) (i : ℕ) (d : ℕ × ℕ) → i < length runs → run_places (take (i + 1) runs) ≡ run_places (take i runs) ++ range_with_len (get_or runs i d).0 (get_or runs i d).1
 run_places-more runs i d h =
     ap run_places (take_more runs i d h) ∙ sym (flat_map_more (λ (run : ℕ × ℕ). range_with_len run.0 run.1) [] (take i runs) (get_or runs i d))
 
-pub ruleset places_in_runs = (range-more, run_places-more)
+pub ruleset places_in_runs = (range_more, run_places-more)
 
 -- the numbers in runs are positions
 pub places_below : (n : ℕ) (runs : List (ℕ × ℕ)) → All (λ run. run.0 + run.1 ≤ n) runs → All (λ p. p < n) (run_places runs)

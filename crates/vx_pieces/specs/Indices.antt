@@ -31,7 +31,8 @@ column_fault c n =
     if is_int_type c.dtype then option_map OutOfBounds (first_bad n (numbers_of c))
     else Some InvalidIndices
 
--- the same of a sequence: that it isn't sound comes before any number of it
+-- why a take by the numbers of a sequence from n rows isn't one: that it isn't sound comes before
+-- any number of it
 abbrev pub sequence_fault : PiecesParts → ℕ → Option IndexFault
 sequence_fault p n =
     if is_sound p then option_map (λ x. OutOfBounds (pos x)) (first_from n (expand p))

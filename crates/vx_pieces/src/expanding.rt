@@ -10,7 +10,7 @@ use crate::piece::Piece;
 use crate::sequence::PiecewiseSequence;
 use std::alloc::Global;
 use vx_bits::{Buffer, NoMemory, Records};
-use vx_column::{Array, PType, PrimitiveArray, Validity};
+use vx_column::{Array, PType, number_column};
 use vx_take::Picks;
 
 impl PiecewiseSequence {
@@ -34,10 +34,7 @@ impl PiecewiseSequence {
     {
         let records = self.records(alloc)?;
         let values = Records::W8(Buffer::from_vec(alloc, records)?);
-        match PrimitiveArray::try_new(PType::U64, values, Validity::NonNullable) {
-            Ok(array) => Ok(array.into_array()),
-            Err(_) => unreachable!(),
-        }
+        Ok(number_column(PType::U64, values).into_array())
     }
 
     // A record for each of its numbers, of a sound sequence. Fails only with `NoMemory`.

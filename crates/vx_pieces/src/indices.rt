@@ -1,9 +1,10 @@
 //! Lists of indices.
 ghost use Rattle.std.specs.Prelude.{◌≡◌, ◌+◌, ◌≤◌, ℕ, All, None, Ok, Some, length, map, true, IfOk, IfSome};
 ghost use Rattle.std.specs.Option.{option_map};
+ghost use Rattle.vx_types.specs.TypeTree.{is_int_type};
 ghost use Rattle.vx_types.specs.declared.nullability.Nullability.TheVariants.{NonNullable};
 ghost use Rattle.vx_take.specs.Picks.{run_places};
-ghost use Rattle.vx_positions.specs.Positions.{AllThere, positions_of};
+ghost use Rattle.vx_positions.specs.Positions.{AllThere, first_bad, positions_of};
 ghost use Rattle.vx_model.specs.Numbers.{numbers_of};
 ghost use Rattle.vx_pieces.specs.Indices.{column_fault, index_fault, index_len, index_nullability, index_picks, index_runs, index_value, sequence_fault};
 ghost use Rattle.vx_pieces.specs.Pieces.{expand, first_from, is_sound};
@@ -14,7 +15,8 @@ use crate::fault::IndexFault;
 use crate::sequence::PiecewiseSequence;
 use std::alloc::Global;
 use vx_bits::NoMemory;
-use vx_column::{Array, FlatRef, Nullability, Runs};
+use vx_column::{Array, Nullability, Runs};
+use vx_plain::FlatRef;
 use vx_take::Picks;
 
 /// The indices of a take.
@@ -41,7 +43,7 @@ impl Indices {
         }
     }
 
-    /// The same indices once again. It takes no memory.
+    /// Another handle to the same indices.
     pub fn share(&self) -> Indices
         ensures { result ≡ self.now }
     {
@@ -61,8 +63,8 @@ impl Indices {
         }
     }
 
-    /// Why a take by them from `len` rows isn't one; none where it is. It takes no memory, and
-    /// looks at no null's payload. A piece of many numbers costs what a piece of one costs.
+    /// Why a take by them from `len` rows isn't one; none where it is. A null's payload isn't
+    /// looked at. A piece of many numbers costs what a piece of one costs.
     pub fn fault(&self, len: usize) -> Option<IndexFault>
         ensures { result ≡ index_fault (index_value self.now) len }
     {
@@ -73,6 +75,7 @@ impl Indices {
     }
 
     /// The positions that they name among `len` rows. Fails only with `NoMemory`.
+    #[tactic(auto, using(crate::proofs::IndexLists::faultless))]
     pub fn picks(&self, alloc: Global, len: usize) -> Result<Picks, NoMemory>
         requires { index_fault (index_value self.now) len ≡ None }
         ensures picks { IfOk result
@@ -81,14 +84,14 @@ impl Indices {
             (λ p. index_nullability (index_value self.now) ≡ NonNullable → AllThere p.picks) }
     {
         match self {
-            Indices::Array(flat) => column_picks(alloc, flat.array(), len),
+            Indices::Array(flat) => number_picks(alloc, flat.array(), len),
             Indices::Pieces(pieces) => pieces.picks(alloc, len),
         }
     }
 
     /// The runs that they name among `len` rows, each its start and its length: of a sequence whose
-    /// multipliers are a constant 1. None exactly of others, which takes no memory. Fails only with
-    /// `NoMemory`.
+    /// multipliers are a constant 1. None exactly of others, which allocates nothing. Fails only
+    /// with `NoMemory`.
     pub fn runs(&self, alloc: Global, len: usize) -> Result<Option<Runs>, NoMemory>
         requires { index_fault (index_value self.now) len ≡ None }
         ensures runs { IfOk result (λ runs. runs ≡ index_runs (index_value self.now)) }
@@ -125,16 +128,18 @@ fn sequence_runs(alloc: Global, pieces: &PiecewiseSequence) -> Result<Option<Run
     }
 }
 
-// The positions that the numbers of a column name. Fails only with `NoMemory`.
-fn column_picks(alloc: Global, array: &Array, len: usize) -> Result<Picks, NoMemory>
-    requires { column_fault array.now len ≡ None }
+/// The positions that the numbers of a column name, of which there are `len`; none at a null. Fails
+/// only with `NoMemory`.
+pub fn number_picks(alloc: Global, column: &Array, len: usize) -> Result<Picks, NoMemory>
+    requires int { is_int_type column.now.dtype ≡ true }
+    requires sound { first_bad len (numbers_of column.now) ≡ None }
     ensures picks { IfOk result
-        (λ p. p ≡ record { picks = positions_of (numbers_of array.now); bound = len }) }
+        (λ p. p ≡ record { picks = positions_of (numbers_of column.now); bound = len }) }
     ensures there { IfOk result
-        (λ p. array.now.dtype.nullability ≡ NonNullable → AllThere p.picks) }
+        (λ p. column.now.dtype.nullability ≡ NonNullable → AllThere p.picks) }
 {
-    match array.dtype().int_type() {
-        Some(ptype) => array.positions(alloc, ptype, len),
+    match column.dtype().int_type() {
+        Some(ptype) => column.positions(alloc, ptype, len),
         None => unreachable!(),
     }
 }

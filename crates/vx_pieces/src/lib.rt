@@ -15,7 +15,7 @@ mod walks;
 
 pub use error::{BadPieces, PiecesError};
 pub use fault::IndexFault;
-pub use indices::Indices;
+pub use indices::{Indices, number_picks};
 pub use places::{run_picks, total_len};
 pub use sequence::{PiecewiseSequence, PiecewiseSequenceArray};
 pub use slots::{

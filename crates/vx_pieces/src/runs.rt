@@ -12,6 +12,7 @@ use crate::sequence::PiecewiseSequence;
 use std::alloc::Global;
 use vx_bits::NoMemory;
 use vx_column::{DType, Runs, Scalar, ScalarValue};
+use vx_plain::ReadLayout;
 
 impl PiecewiseSequence {
     /// Whether the multipliers are a column of layout `Constant`, of value 1.
@@ -26,7 +27,7 @@ impl PiecewiseSequence {
     }
 
     /// The pieces that have numbers, each its start and its length, where the multipliers are a
-    /// constant 1; none exactly where they aren't, which takes no memory.
+    /// constant 1; none exactly where they aren't, which allocates nothing.
     ///
     /// `BadPieces` exactly where they are and the sequence isn't sound, otherwise only `NoMemory`.
     pub fn contiguous_runs(&self, alloc: Global) -> Result<Option<Runs>, PiecesError>

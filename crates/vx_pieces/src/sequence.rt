@@ -42,8 +42,8 @@ impl Model for PiecewiseSequence {
 }
 
 impl PiecewiseSequence {
-    /// The sequence of these columns, with this declared length. It takes no memory, and doesn't
-    /// test whether the sequence is sound.
+    /// The sequence of these columns, with this declared length. It doesn't test whether the
+    /// sequence is sound.
     ///
     /// `WrongType` exactly where a column isn't of a non-nullable unsigned type.
     /// Else `WrongLength` exactly where the columns differ in their length.
@@ -67,7 +67,7 @@ impl PiecewiseSequence {
         }
     }
 
-    /// The same of columns that are known to make a sequence.
+    /// The sequence of columns that are known to make one, with this declared length.
     pub fn new_unchecked(
         starts: ArrayRef,
         lengths: ArrayRef,
@@ -101,7 +101,7 @@ impl PiecewiseSequence {
         Validity::NonNullable
     }
 
-    /// Another handle to the same sequence. It takes no memory.
+    /// Another handle to the same sequence.
     pub fn share(&self) -> PiecewiseSequence
         ensures { result ≡ self.now }
     {

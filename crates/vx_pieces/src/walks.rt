@@ -1,4 +1,4 @@
-//! Walks over the pieces of a sequence that take no memory.
+//! Walks over the pieces of a sequence that don't allocate.
 ghost use Rattle.std.specs.Prelude.{◌≡◌, Some, is_ok, slice_get, true};
 ghost use Rattle.vx_pieces.specs.Pieces.{expand, first_from, is_sound, scalar_of};
 
@@ -7,8 +7,8 @@ use crate::sequence::PiecewiseSequence;
 
 impl PiecewiseSequence {
     /// Whether the sequence is sound. `BadPieces` exactly where it isn't: a number or the sum of
-    /// the lengths passes `usize::MAX`, or the sum isn't the declared length. It takes no memory,
-    /// and a piece of many numbers costs what a piece of one costs.
+    /// the lengths passes `usize::MAX`, or the sum isn't the declared length. A piece of many
+    /// numbers costs what a piece of one costs.
     pub fn check(&self) -> Result<(), BadPieces>
         ensures { is_ok result ≡ is_sound self.now }
     {
@@ -27,8 +27,7 @@ impl PiecewiseSequence {
         }
     }
 
-    /// Number `index` of the pieces, one piece after another, whatever the declared length. It
-    /// takes no memory.
+    /// Number `index` of the pieces, one piece after another, whatever the declared length.
     ///
     /// `PastEnd` exactly where there are no more numbers than that. Else `Overflow` exactly where
     /// this one number passes `usize::MAX`.
@@ -46,8 +45,8 @@ impl PiecewiseSequence {
         Err(PiecesError::PastEnd)
     }
 
-    /// The first number that is at least `n`. It takes no memory, and a piece of many numbers
-    /// costs what a piece of one costs.
+    /// The first number that is at least `n`. A piece of many numbers costs what a piece of one
+    /// costs.
     pub fn first_at_least(&self, n: usize) -> Option<usize>
         requires { is_sound self.now ≡ true }
         ensures { result ≡ first_from n (expand self.now) }

@@ -13,7 +13,7 @@ use Rattle.vx_types.specs.PType.{number}
 use Rattle.vx_types.specs.declared.ptype.PType.{PType}
 use Rattle.vx_positions.specs.Stored.{number_of, present_numbers, shown_numbers}
 use Rattle.vx_positions.specs.Positions.{AllThere, bad_number, first_bad, is_position, position_of, positions_of}
-use Rattle.vx_positions.proofs.Ascending.{le_first, le_second}
+use Rattle.std.specs.Cmp.{first_so, second_so}
 
 module _ (n : ℕ) where
   -- the number at hand is the one, or one behind it is
@@ -22,7 +22,7 @@ module _ (n : ℕ) where
       let cut : drop i xs ≡ get_or xs i None ∷ drop (i + 1) xs = rw add-one (drop-cons xs i None h) in
       ap (first_bad n) cut
 
-  -- the same of what was read
+  -- the number that was read is the one, or one behind it is
   pub first_bad-read : (xs : List (Option ℤ)) (i : ℕ) (x bad : Option ℤ) → i < length xs → x ≡ get_or xs i None → bad ≡ bad_number n x → first_bad n (drop i xs) ≡ option_or bad (first_bad n (drop (i + 1) xs))
   first_bad-read xs i x bad h is was =
       first_bad-at xs i h ∙ ap (λ y. option_or y (first_bad n (drop (i + 1) xs))) (sym (was ∙ ap (bad_number n) is))
@@ -109,15 +109,15 @@ module _ (n : ℕ) (p : PType) where
   pub none_bad-present : (records : List (List ℕ)) → list_all is_there records ≡ true → first_bad n (present_numbers p records) ≡ None
   none_bad-present [] h = refl
   none_bad-present (r ∷ records) h =
-      none_bad (number p r) _ (le_first (is_there r) _ h) (none_bad-present records (le_second (is_there r) _ h))
+      none_bad (number p r) _ (first_so (is_there r) _ h) (none_bad-present records (second_so (is_there r) _ h))
 
   -- those that are shown are some of them
   pub none_bad-shown : (bits : List Bool) (records : List (List ℕ)) → list_all is_there records ≡ true → first_bad n (shown_numbers p bits records) ≡ None
   none_bad-shown [] records h = refl
   none_bad-shown (b ∷ bits) [] h = refl
   none_bad-shown (true ∷ bits) (r ∷ records) h =
-      none_bad (number p r) _ (le_first (is_there r) _ h) (none_bad-shown bits records (le_second (is_there r) _ h))
-  none_bad-shown (false ∷ bits) (r ∷ records) h = none_bad-shown bits records (le_second (is_there r) _ h)
+      none_bad (number p r) _ (first_so (is_there r) _ h) (none_bad-shown bits records (second_so (is_there r) _ h))
+  none_bad-shown (false ∷ bits) (r ∷ records) h = none_bad-shown bits records (second_so (is_there r) _ h)
 
   -- where none is bad, each record is a position
   pub record_is_there : (records : List (List ℕ)) (i : ℕ) (d : List ℕ) → first_bad n (present_numbers p records) ≡ None → i < length records → is_position n (number p (get_or records i d)) ≡ true

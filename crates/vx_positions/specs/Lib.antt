@@ -1,3 +1,2 @@
-pub mod Offsets
 pub mod Positions
 pub mod Stored

@@ -1,16 +1,14 @@
 //! Lists of numbers, of which some may be missing, as positions: the first that is none, and the
-//! picks that they name. And numbers as offsets, which cut a list into lists.
+//! picks that they name.
 #![tactic(auto)]
 
 mod by_type;
 mod numbers;
-mod offsets;
 mod positions;
 mod present;
 mod shown;
 mod stored;
 
 pub use numbers::Numbers;
-pub use offsets::are_offsets;
 pub use positions::{first_bad, is_position, picks_of, position};
 pub use stored::{first_bad_present, first_bad_shown, picks_present, picks_shown};

@@ -22,7 +22,7 @@ pub fn first_bad_present(ptype: PType, values: &Records, len: usize) -> Option<i
     by_type!(ptype, values, first_bad_present_of_width, len)
 }
 
-/// The same of records that are valid where a bit is set.
+/// The first number that is none of `len` positions, of records that are valid where a bit is set.
 pub fn first_bad_shown(ptype: PType, values: &Records, bits: &BitBuffer, len: usize) -> Option<i128>
     requires int { is_int ptype ≡ true }
     requires width { width_of values.now ≡ width ptype }
@@ -52,7 +52,8 @@ pub fn picks_present(
     by_type!(ptype, values, picks_present_of_width, alloc, len)
 }
 
-/// The same of records that are valid where a bit is set. Fails only with `NoMemory`.
+/// The positions that the numbers name, of records that are valid where a bit is set. Fails only
+/// with `NoMemory`.
 pub fn picks_shown(
     alloc: Global,
     ptype: PType,

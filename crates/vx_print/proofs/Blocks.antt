@@ -1,7 +1,7 @@
 -- Lines behind lines.
-use Rattle.std.proofs.Common.{◌≡◌, ℕ, zero, suc, ◌+◌, ◌-◌, ◌<◌, ◌≤◌, List, [], ◌∷◌, ◌++◌, length, take, drop, get_or, slice_range, min, refl, sym, ap, ◌∙◌, append_assoc, drop-cons, length-drop, arith}
+use Rattle.std.proofs.Common.{◌≡◌, ℕ, zero, suc, ◌+◌, ◌-◌, ◌<◌, ◌≤◌, List, [], ◌∷◌, ◌++◌, length, take, drop, get_or, min, refl, sym, ap, ◌∙◌, append_assoc, drop-cons, length-drop, arith}
 use Rattle.std.proofs.Math.Seq.{take-add}
-use Rattle.std.proofs.lemmas.List.{drop_all, drop-drop, drop-take, get_or-take, get_or_default, length-take-le}
+use Rattle.std.proofs.lemmas.List.{drop_all, drop-take, get_or-take, get_or_default, length-take-le}
 use Rattle.std.proofs.lemmas.List.Concat.{flat_map-append}
 use Rattle.vx_print.specs.Text.{line, lines}
 
@@ -50,15 +50,6 @@ pub rows_between : {X : Type 0} (xs : List X) (start end : ℕ) → start ≤ en
 rows_between xs start end h =
     let whole : end ≡ start + (end - start) = omega arith in
     ap (λ (n : ℕ). drop start (take n xs)) whole ∙ drop-take start (end - start) xs
-
--- a slice, and the slice behind it
-pub slices_meet : {X : Type 0} (xs : List X) (s m e : ℕ) → s ≤ m → m ≤ e → slice_range xs s m ++ slice_range xs m e ≡ slice_range xs s e
-slices_meet xs s m e h k =
-    let whole : e - s ≡ (m - s) + (e - m) = omega arith in
-    let at : s + (m - s) ≡ m = omega arith in
-    sym (ap (λ (n : ℕ). take n (drop s xs)) whole
-    ∙ take-add (m - s) (e - m) (drop s xs)
-    ∙ ap (λ l. slice_range xs s m ++ take (e - m) l) (drop-drop (m - s) s xs ∙ ap (λ (n : ℕ). drop n xs) at))
 
 -- nothing is written before the first of the rows before `end`
 pub none_put : {X : Type 0} (texts : List X → List ℕ) (dst : List ℕ) (xs : List X) (n end : ℕ) → texts [] ≡ [] → length dst ≤ n → end ≤ length xs → drop n dst ≡ texts (drop (end - 0) (take end xs))

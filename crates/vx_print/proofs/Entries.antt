@@ -1,7 +1,7 @@
 -- The texts of types, behind their labels.
-use Rattle.std.proofs.Common.{◌≡◌, ℕ, zero, suc, ◌+◌, ◌<◌, ◌≤◌, List, [], ◌∷◌, ◌++◌, ◌∙◌, length, map, take, get_or, eqb, refl, sym, ap, append_assoc, arith}
+use Rattle.std.proofs.Common.{◌≡◌, ℕ, zero, suc, ◌+◌, ◌<◌, List, [], ◌∷◌, ◌++◌, ◌∙◌, length, map, take, get_or, eqb, refl, sym, ap, append_assoc, arith}
 use Rattle.vx_types.specs.DType.{type_of}
-use Rattle.vx_types.specs.TypeTree.{types_of, type_size, types_size}
+use Rattle.vx_types.specs.TypeTree.{types_of}
 use Rattle.vx_types.specs.declared.dtype.DType.{DType}
 use Rattle.vx_print.specs.Text.{comma_list, gap, with_labels, type_text, type_texts}
 use Rattle.vx_print.proofs.Labels.{get_or-labelled, label_more, length-labelled}
@@ -14,12 +14,6 @@ get_or-type_texts (t ∷ ts) (suc i) d h = get_or-type_texts ts i d (omega arith
 pub length-type_texts : (ts : List DType) → length (type_texts (types_of (map type_of ts))) ≡ length ts
 length-type_texts [] = refl
 length-type_texts (t ∷ ts) = ap suc (length-type_texts ts)
-
--- a field's type nests less deep than all
-pub size_at : (ts : List DType) (i : ℕ) (d : DType) → i < length ts → type_size (type_of (get_or ts i d)) ≤ types_size (types_of (map type_of ts))
-size_at [] i d h = absurd (omega arith)
-size_at (t ∷ ts) zero d h = omega arith
-size_at (t ∷ ts) (suc i) d h = omega (arith, size_at ts i d (omega arith))
 
 -- the texts of types behind two labels each
 abbrev pub entries : List (List ℕ) → List (List ℕ) → List DType → List (List ℕ)

@@ -8,9 +8,9 @@ use Rattle.vx_types.specs.RowValue.{RowValue, null}
 use Rattle.vx_types.specs.TypeTree.{TypeTree}
 use Rattle.vx_model.specs.Column.{Column}
 use Rattle.vx_model.proofs.Items.{length-slice_range}
-use Rattle.vx_column.proofs.RowLists.{slice-more}
 use Rattle.vx_print.specs.Text.{comma_list, gap, row_text}
-use Rattle.vx_print.proofs.Blocks.{drop_before, slices_meet}
+use Rattle.vx_print.proofs.Blocks.{drop_before}
+use Rattle.vx_lemmas.proofs.Lists.{slice-more, slice_join}
 
 -- it is the first one exactly where none stands there
 pub record IsFirst (b : Bool) (n : ℕ) : Type 0 where
@@ -49,7 +49,8 @@ element_more f bs xs s i d h l =
     joined_behind bs (map f part) (f (get_or xs i d)) (eqb i s) (first_by i s (length (map f part)) long h)
     ∙ sym (ap (λ l. bs ++ comma_list l) (ap (map f) (slice-more xs s i d h l) ∙ map_push f part (get_or xs i d)))
 
--- the same of a column's row, by what was appended: a gap, and then the text of the row
+-- a column's row i, behind those from s on, by what was appended: a gap, and then the text of the
+-- row
 pub row_appended : (k : Column) (bs : List ℕ) (s i : ℕ) (before text new : List ℕ) → s ≤ i → i < length k.rows → before ≡ bs ++ comma_list (map (row_text k.dtype) (slice_range k.rows s i)) → text ≡ before ++ gap (eqb i s) → new ≡ text ++ row_text k.dtype (get_or k.rows i null) → new ≡ bs ++ comma_list (map (row_text k.dtype) (slice_range k.rows s (i + 1)))
 row_appended k bs s i before text new h l so_far next more =
     let f = row_text k.dtype in
@@ -57,7 +58,7 @@ row_appended k bs s i before text new h l so_far next more =
     ∙ ap (λ l. l ++ f (get_or k.rows i null)) (next ∙ ap (λ l. l ++ gap (eqb i s)) so_far)
     ∙ element_more f bs k.rows s i null h l
 
--- the same of a row of this type that was read
+-- a row of this type that was read, behind those from s on
 pub row_behind : (k : Column) (bs : List ℕ) (s i : ℕ) (before text new : List ℕ) (t : TypeTree) (x : RowValue) → s ≤ i → i < length k.rows → before ≡ bs ++ comma_list (map (row_text k.dtype) (slice_range k.rows s i)) → text ≡ before ++ gap (eqb i s) → t ≡ k.dtype → x ≡ get_or k.rows i null → new ≡ text ++ row_text t x → new ≡ bs ++ comma_list (map (row_text k.dtype) (slice_range k.rows s (i + 1)))
 row_behind k bs s i before text new t x h l so_far next type row more =
     row_appended k bs s i before text new h l so_far next (more ∙ ap₂ (λ (u : TypeTree) (y : RowValue). text ++ row_text u y) type row)
@@ -107,6 +108,6 @@ elements_more f bs xs s m e b first h k within =
     let is : IsFirst b (length here) = record { yes = λ t. long ∙ first.yes t; no = λ t. omega (arith, long, first.no t) } in
     ap (λ l. l ++ comma_list next) (append_assoc bs (comma_list here) (gap b))
     ∙ append_assoc bs (comma_list here ++ gap b) (comma_list next)
-    ∙ ap (λ l. bs ++ l) (joined-append here next b is (omega arith) ∙ ap comma_list (sym (map-append f (slice_range xs s m) (slice_range xs m e)) ∙ ap (map f) (slices_meet xs s m e h (omega arith))))
+    ∙ ap (λ l. bs ++ l) (joined-append here next b is (omega arith) ∙ ap comma_list (sym (map-append f (slice_range xs s m) (slice_range xs m e)) ∙ ap (map f) (slice_join xs s m e h (omega arith))))
 
 pub ruleset alone = (one_row)

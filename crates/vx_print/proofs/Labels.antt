@@ -44,7 +44,7 @@ label_more ls ts bs i h =
     ∙ sym (ap (λ t. front ++ t) (get_or-labelled ls ts i h))
     ∙ text_more bs (with_labels ls ts) i (omega (arith, length-labelled ls ts))
 
--- the same of a field
+-- field i behind its label, behind those before it
 pub field_more : (ls : List (List ℕ)) (cs : List Column) (row : ℕ) (bs : List ℕ) (i : ℕ) (d : Column) → i < length cs → (((bs ++ comma_list (take i (with_labels ls (texts_at cs row)))) ++ gap (eqb i 0)) ++ get_or ls i []) ++ row_text (get_or cs i d).dtype (get_or (get_or cs i d).rows row null) ≡ bs ++ comma_list (take (i + 1) (with_labels ls (texts_at cs row)))
 field_more ls cs row bs i d h =
     let text : Column → List ℕ = λ c. row_text c.dtype (get_or c.rows row null) in

@@ -5,6 +5,5 @@ pub mod Extensions
 pub mod Gaps
 pub mod Labels
 pub mod Lines
-pub mod Quotes
 pub mod Spans
 pub mod Widths

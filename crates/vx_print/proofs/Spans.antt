@@ -5,8 +5,7 @@ use Rattle.vx_types.specs.RowValue.{null}
 use Rattle.vx_types.specs.PType.{is_int, width}
 use Rattle.vx_types.specs.TypeTree.{is_int_kind, primitive_kind}
 use Rattle.vx_types.specs.declared.ptype.PType.{PType}
-use Rattle.vx_positions.specs.Offsets.{are_offsets, offset_positions, record_numbers}
-use Rattle.vx_positions.proofs.Ascending.{le_first}
+use Rattle.vx_offsets.specs.Offsets.{are_offsets, offset_positions, record_numbers}
 use Rattle.vx_model.specs.Column.{Column}
 use Rattle.vx_model.specs.List.{ListParts, list_fault, list_spans, list_column}
 use Rattle.vx_model.specs.Numbers.{integer_by, integers_of}
@@ -15,6 +14,7 @@ use Rattle.vx_model.proofs.ListRows.{integers-list, fit-list, rows-list, spans-l
 use Rattle.vx_print.specs.Text.{comma_list, row_text}
 use Rattle.vx_print.proofs.Elements.{list_text}
 use Rattle.vx_print.proofs.Widths.{width_short}
+use Rattle.std.specs.Cmp.{first_so}
 
 -- ---- offsets whose type is known
 
@@ -24,7 +24,7 @@ narrow w t h = omega (arith, h, width_short t)
 
 module _ (p : ListParts) (t : PType) (f : list_fault p ≡ None) (h : primitive_kind t ≡ p.offsets.kind) where
   pub int_told : is_int t ≡ true
-  int_told = ap is_int_kind h ∙ le_first (is_int_kind p.offsets.kind) _ (integers-list p f)
+  int_told = ap is_int_kind h ∙ first_so (is_int_kind p.offsets.kind) _ (integers-list p f)
 
   numbers_told : record_numbers t p.offsets.records ≡ integers_of p.offsets
   numbers_told = ap (λ k. map (integer_by k) p.offsets.records) h

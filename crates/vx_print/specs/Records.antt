@@ -8,7 +8,7 @@ use Rattle.vx_bits.specs.Words.{word_at}
 use Rattle.vx_types.specs.PType.{width, is_int, number}
 use Rattle.vx_types.specs.RowValue.{RowValue, bytes}
 use Rattle.vx_model.specs.Valid.{shown_rows}
-use Rattle.vx_print.specs.Text.{hex_text}
+use Rattle.vx_quote.specs.Quoted.{hex_text}
 use Rattle.vx_print.specs.declared.records.Form.{Form}
 use Rattle.vx_print.specs.declared.records.Form.TheVariants.{Number, Hex}
 

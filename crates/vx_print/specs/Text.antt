@@ -1,8 +1,8 @@
 -- The text of a column: a line for its type, and one for each row.
-use Rattle.std.specs.Prelude.{ℕ, ℤ, ◌==◌, ◌&&◌, nat_le, not, Bool, true, false, List, [], ◌∷◌, ◌++◌}
+use Rattle.std.specs.Prelude.{ℕ, ℤ, ◌==◌, Bool, true, false, List, [], ◌∷◌, ◌++◌}
 use Rattle.std.specs.Prelude.{codes, decimal, flat_map, map, if◌then◌else◌}
 use Rattle.std.specs.Fmt.{signed_decimal}
-use Rattle.hex.specs.Hex.{encode_lower}
+use Rattle.vx_quote.specs.Quoted.{hex_text, quoted_text}
 use Rattle.vx_types.specs.Nullability.{is_nullable}
 use Rattle.vx_types.specs.PType.{is_int, number}
 use Rattle.vx_types.specs.TypeTree.{TypeKind, TypeTree, TypeTrees, null_kind, bool_kind}
@@ -17,22 +17,6 @@ use Rattle.vx_types.specs.declared.ptype.PType.TheVariants.{U8, U16, U32, U64, I
 use Rattle.vx_types.specs.declared.ptype.PType.TheVariants.{F16, F32, F64}
 
 -- ---- words
-
--- bytes in stored order, each as two digits
-abbrev pub hex_text : List ℕ → List ℕ
-hex_text b = codes "0x" ++ encode_lower b
-
--- a byte that stands for itself between quotes: a printed one of ASCII, other than `"` and `\`
-abbrev pub is_plain : ℕ → Bool
-is_plain b = nat_le 32 b && nat_le b 126 && not (b == 34) && not (b == 92)
-
--- every other byte is `\x` and two digits
-abbrev pub quoted_byte : ℕ → List ℕ
-quoted_byte b = if is_plain b then b ∷ [] else codes "\\x" ++ encode_lower (b ∷ [])
-
--- bytes between quotes
-abbrev pub quoted_text : List ℕ → List ℕ
-quoted_text b = codes "\"" ++ flat_map quoted_byte b ++ codes "\""
 
 -- texts with `, ` between them
 abbrev pub comma_list : List (List ℕ) → List ℕ

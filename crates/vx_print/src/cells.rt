@@ -12,9 +12,9 @@ ghost use Rattle.vx_print.specs.Text.{comma_list, lines, primitive_text, row_tex
 use crate::joined::{push_next, put_gap};
 use crate::record_lists::put_elements;
 use crate::row::{BLOCK, ROOM, ROW, put_hex, put_number, put_unsigned, put_word};
-use crate::texts::has_room;
 use vx_bits::NoMemory;
 use vx_column::{Array, Cell, DType, PType};
+use vx_quote::has_room;
 
 // Writes a record of a primitive type so that it ends at `end`, and answers where it begins.
 #[inline(always)]
@@ -141,7 +141,8 @@ fn put_cells(column: &Array, start: usize, end: usize, dst: &mut [u8; ROOM]) -> 
     at
 }
 
-// The same, of records where they are stored as such.
+// Writes the rows from `start` up to `end`, with `, ` between them, so that they end where `dst`
+// does, and returns where they begin. Records are read where they are stored as such.
 #[tactic(auto, using(crate::proofs::Lines::elements))]
 fn put_joined(column: &Array, start: usize, end: usize, dst: &mut [u8; ROOM]) -> usize
     requires flat { is_flat column.now.dtype ≡ true }

@@ -3,8 +3,8 @@ ghost use Rattle.std.specs.Prelude.{◌≡◌, ◌+◌, ◌≤◌, ◌++◌, dro
 ghost use Rattle.vx_print.specs.Text.{gap};
 
 use crate::row::{ROOM, put_word};
-use crate::texts::has_room;
 use vx_bits::NoMemory;
+use vx_quote::has_room;
 
 /// Appends what stands in front of a text: nothing in front of the first one.
 #[inline(always)]
@@ -18,8 +18,8 @@ pub(crate) fn push_gap(text: &mut Vec<u8>, is_first: bool) -> Result<(), NoMemor
     Ok(())
 }
 
-/// The same in front of rows, which are begun only where the text that is there is within its
-/// bound.
+/// Appends what stands in front of a row: nothing in front of the first one. A row is begun only
+/// where the text that is there is within its bound.
 #[inline(always)]
 pub(crate) fn push_next(text: &mut Vec<u8>, is_first: bool) -> Result<(), NoMemory>
     ensures { IsOk result → text.new.items ≡ text.old.items ++ gap is_first }

@@ -8,7 +8,7 @@ use vx_column::{ListArray, PType};
 use vx_offsets::span_at;
 use vx_positions::by_type;
 
-// The same by the records of its offsets, whose type is known.
+// Where the elements of row `i` begin and end, by the records of the offsets, whose type is known.
 #[inline(always)]
 fn span_by<const W: usize>(
     ptype: PType,

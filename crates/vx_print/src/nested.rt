@@ -17,12 +17,14 @@ use crate::lists::span_of;
 use crate::name_labels::{labels_of, push_label};
 use crate::row::ROOM;
 use crate::stored::{names_in, push_stored, storage_of};
-use crate::texts::{has_room, push_listed};
+use crate::texts::push_listed;
 use crate::types::push_word;
 use std::alloc::Global;
 use std::rc::RcStr;
 use vx_bits::NoMemory;
 use vx_column::{Array, ArrayRef, Cell, DType, FieldsCell, LayoutName, ListArray, TaggedCell};
+use vx_plain::ReadLayout;
+use vx_quote::has_room;
 
 // How many bytes an element takes at least, with what stands between two.
 const ELEMENT: usize = 3;
@@ -163,7 +165,8 @@ fn push_at(
     i: usize,
 ) -> Result<(), NoMemory>
     requires row { i < length column.now.rows }
-    requires labels { AreLabels (field_names column.now.dtype.kind) (map (λ l. l.items) labels.now) }
+    requires labels { AreLabels (field_names column.now.dtype.kind)
+        (map (λ l. l.items) labels.now) }
     ensures { IsOk result → text.new.items ≡ text.old.items
         ++ row_text column.now.dtype (slice_index_or column.now.rows i null) }
 {

@@ -5,7 +5,8 @@ ghost use Rattle.vx_bits.specs.Records.{records_of, width_of};
 ghost use Rattle.vx_types.specs.DType.{type_of};
 ghost use Rattle.vx_types.specs.PType.{width};
 ghost use Rattle.vx_types.specs.TypeTree.{type_width};
-ghost use Rattle.vx_print.specs.Text.{bytes_text, hex_text, comma_list, primitive_text};
+ghost use Rattle.vx_print.specs.Text.{bytes_text, comma_list, primitive_text};
+ghost use Rattle.vx_quote.specs.Quoted.{hex_text};
 ghost use Rattle.vx_print.specs.Records.{record_text, IsWide};
 ghost use Rattle.vx_print.specs.declared.records.Form.TheVariants.{Number};
 
@@ -68,7 +69,8 @@ fn put_numbers<const W: usize>(
     put_each(Form::Number(ptype), &records[start..end], dst)
 }
 
-// The same of records of a primitive type.
+// Writes the records of a primitive type from `start` up to `end`: integers as numbers, floats by
+// their bytes.
 #[inline(always)]
 fn put_primitive(
     ptype: PType,

@@ -5,7 +5,8 @@ ghost use Rattle.vx_bits.specs.Words.{word_bits};
 ghost use Rattle.vx_bits.specs.Records.{records_of, width_of};
 ghost use Rattle.vx_types.specs.PType.{width};
 ghost use Rattle.vx_types.specs.RowValue.{null, bytes};
-ghost use Rattle.vx_print.specs.Text.{lines, hex_text, primitive_text, row_text_by};
+ghost use Rattle.vx_print.specs.Text.{lines, primitive_text, row_text_by};
+ghost use Rattle.vx_quote.specs.Quoted.{hex_text};
 ghost use Rattle.vx_print.specs.Records.{record_text, record_rows, block_word, bits_in};
 ghost use Rattle.vx_print.specs.Records.{IsWide, IsLong};
 ghost use Rattle.vx_print.specs.declared.records.Form.TheVariants.{Number};
@@ -128,7 +129,7 @@ fn push_blocks<const W: usize>(
     Ok(())
 }
 
-// The same. Where there are no bits, the loop tests none.
+// Appends a line for each row, by a loop that tests no bits where there are none.
 #[inline(always)]
 fn push_each<const W: usize>(
     form: Form,
@@ -181,7 +182,7 @@ fn push_numbers<const W: usize>(
     push_each(Form::Number(ptype), records, text, bits)
 }
 
-/// The same of records of a primitive type.
+/// Appends a line for each row: the integer of its record, or the bytes of a float, or null.
 pub(crate) fn push_primitive(
     text: &mut Vec<u8>,
     ptype: PType,

@@ -2,7 +2,7 @@
 ghost use Rattle.std.specs.Prelude.{◌≡◌, ◌+◌, ◌≤◌, ◌++◌, length, drop, decimal, true};
 ghost use Rattle.std.specs.Fmt.{signed_decimal};
 ghost use Rattle.vx_types.specs.PType.{width, number, is_int};
-ghost use Rattle.vx_print.specs.Text.{hex_text};
+ghost use Rattle.vx_quote.specs.Quoted.{hex_text};
 
 use hex::encode_to_slice;
 use itoa::write_digits;
@@ -41,7 +41,7 @@ pub(crate) fn put_word(word: &[u8], dst: &mut [u8; ROOM], end: usize) -> usize
     start
 }
 
-/// The same of bytes, in hexadecimal digits.
+/// Writes bytes in hexadecimal digits so that they end at `end`, and returns where they begin.
 #[inline(always)]
 pub(crate) fn put_hex(bytes: &[u8], dst: &mut [u8; ROOM], end: usize) -> usize
     requires short { length bytes.now ≤ 32 }
@@ -58,7 +58,7 @@ pub(crate) fn put_hex(bytes: &[u8], dst: &mut [u8; ROOM], end: usize) -> usize
     put_word(b"0x", dst, start)
 }
 
-/// The same of a number, in decimal digits.
+/// Writes a number in decimal digits so that it ends at `end`, and returns where it begins.
 #[inline(always)]
 pub(crate) fn put_unsigned(number: u64, dst: &mut [u8; ROOM], end: usize) -> usize
     requires room { ROW ≤ end }
@@ -70,7 +70,8 @@ pub(crate) fn put_unsigned(number: u64, dst: &mut [u8; ROOM], end: usize) -> usi
     write_digits(number, dst, end)
 }
 
-// The same, with a sign before a negative one.
+// Writes a number in decimal digits, with a sign before a negative one, so that it ends at `end`,
+// and returns where it begins.
 #[inline(always)]
 fn put_signed(number: i64, dst: &mut [u8; ROOM], end: usize) -> usize
     requires room { ROW ≤ end }
@@ -94,7 +95,8 @@ macro_rules! put_by {
     };
 }
 
-/// The same of the number that a record of integer type spells.
+/// Writes the number of a record of integer type so that it ends at `end`, and returns where it
+/// begins.
 #[inline(always)]
 pub(crate) fn put_number(ptype: PType, value: &[u8], dst: &mut [u8; ROOM], end: usize) -> usize
     requires int { is_int ptype ≡ true }

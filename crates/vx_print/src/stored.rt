@@ -8,10 +8,12 @@ ghost use Rattle.vx_print.specs.Text.{bytes_text, field_names, row_text};
 
 use crate::cells::push_record;
 use crate::row::ROOM;
-use crate::texts::{push_bytes, push_digits};
+use crate::texts::push_bytes;
 use std::rc::RcStr;
 use vx_bits::NoMemory;
 use vx_column::{Array, DType};
+use vx_plain::ReadLayout;
+use vx_quote::push_digits;
 
 /// The column that stores the rows of this one, below whatever extensions it is. Its rows have the
 /// same text.

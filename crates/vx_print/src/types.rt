@@ -5,14 +5,15 @@ ghost use Rattle.vx_types.specs.Fields.{names_of};
 ghost use Rattle.vx_types.specs.TypeTree.{types_of};
 ghost use Rattle.vx_print.specs.Text.{ptype_text, decimal_text, mark_of, kind_text};
 ghost use Rattle.vx_print.specs.Text.{type_text, type_texts, comma_list, with_labels, name_label};
-ghost use Rattle.vx_print.specs.Text.{id_label, quoted_text};
+ghost use Rattle.vx_print.specs.Text.{id_label};
+ghost use Rattle.vx_quote.specs.Quoted.{quoted_text};
 
 use crate::joined::push_gap;
 use crate::text::push_number;
-use crate::texts::push_quoted;
 use std::rc::RcStr;
 use vx_bits::NoMemory;
 use vx_column::{DType, DecimalDType, ElementType, ExtDType, PType, StructFields, UnionVariants};
+use vx_quote::push_quoted;
 
 fn ptype_text(ptype: PType) -> &'static str
     ensures { result.now ≡ ptype_text ptype }

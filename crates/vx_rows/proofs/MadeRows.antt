@@ -1,5 +1,5 @@
 -- What a number makes breaks no rule.
-use Rattle.std.proofs.Common.{◌≡◌, ℕ, zero, suc, ◌+◌, ◌-◌, ◌/◌, ◌%◌, ◌^◌, ◌<◌, ◌≤◌, Bool, true, false, cond, List, [], ◌∷◌, length, map, take, drop, slice_range, Option, Some, None, Ok, Err, refl, sym, ap, ap₂, ◌∙◌, subst, arith}
+use Rattle.std.proofs.Common.{◌≡◌, ℕ, zero, suc, ◌+◌, ◌-◌, ◌/◌, ◌%◌, ◌^◌, ◌<◌, ◌≤◌, Bool, true, false, cond, List, [], ◌∷◌, length, map, take, drop, slice_range, Option, Some, None, refl, sym, ap, ap₂, ◌∙◌, subst, arith}
 use Rattle.std.specs.Prelude.{◌==◌, nat_lt, nat_le, not, ℤ, pos, if◌then◌else◌}
 use Rattle.std.specs.Int.{cast_signed, to_le_bytes, w32, w64}
 use Rattle.std.specs.Option.{option_map, option_or}
@@ -10,7 +10,6 @@ use Rattle.std.proofs.lemmas.List.Sums.{sum_by-cons, count_by-le-length}
 use Rattle.std.proofs.lemmas.Nat.{from_le_bytes-to_le_bytes_8}
 use Rattle.std.proofs.Math.Nat.{mod-lt}
 use Rattle.vx_bits.specs.BitBuffer.{true_count_of}
-use Rattle.vx_bits.specs.Results.{ok_unless}
 use Rattle.vx_types.specs.PType.{number}
 use Rattle.vx_types.specs.RowValue.{RowValue, null, bytes}
 use Rattle.vx_types.specs.TypeTree.{TypeTree, primitive_kind, primitive_type}
@@ -36,11 +35,6 @@ use Rattle.vx_steps.specs.declared.cause.SelectError.TheVariants.{Broken}
 use Rattle.vx_steps.proofs.Walks.{length-apply, length-all_positions}
 use Rattle.vx_select.specs.Select.{IsRows}
 use Rattle.vx_rows.specs.Made.{draws, next_state, drawn_rows, drawn_bits, drawn_indices, drawn_steps, drawn_answer}
-
--- what a constructor makes is its parts
-pub made : {T E : Type 0} (fault : Option E) (parts x : T) → Ok x ≡ ok_unless fault parts → x ≡ parts
-made None parts x h = cc
-made (Some e) parts x h = cc
 
 -- ---- draws
 
@@ -116,11 +110,6 @@ no_parts_fault kept ds =
     let same : (length (bits_column bits 0).rows == length (drawn_indices kept ds).records) ≡ true =
     grind (arith, nat_tests, long, length-map ds (λ d. not (d % 10 == 0)), length-map ds (λ d. to_le_bytes w64 (d / 10 % kept))) in
     rw same refl
-
--- what can't be refused isn't
-pub no_refusal : {T E : Type 0} (fault : Option E) (parts : T) (e : E) → Err e ≡ ok_unless fault parts → fault ≡ None → ⊥
-no_refusal None parts e h f = cc
-no_refusal (Some x) parts e h f = cc
 
 -- ---- the steps
 

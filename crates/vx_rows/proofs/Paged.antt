@@ -1,5 +1,5 @@
 -- A page of the table of a struct's fields is that page of the structs.
-use Rattle.std.proofs.Common.{◌≡◌, ℕ, zero, suc, ◌+◌, Bool, true, false, List, [], ◌∷◌, ◌++◌, drop, map, length, get_or, Option, None, Some, Ok, Err, refl, sym, ap, ap₂, ◌∙◌, subst, arith, eq-eqb}
+use Rattle.std.proofs.Common.{◌≡◌, ℕ, zero, suc, ◌+◌, Bool, true, false, List, [], ◌∷◌, ◌++◌, drop, map, length, get_or, Option, None, Some, refl, sym, ap, ap₂, ◌∙◌, subst, arith, eq-eqb}
 use Rattle.std.specs.Prelude.{Result, IsErrAnd, ◌==◌, replicate, slice_get}
 use Rattle.std.specs.Cmp.{second_so}
 use Rattle.std.specs.List.{cons_option, filter_map, range_with_len}
@@ -20,7 +20,7 @@ use Rattle.vx_model.proofs.Across.{length-rows_across, long-get}
 use Rattle.vx_model.proofs.ShownRows.{shown_rows-all}
 use Rattle.vx_model.proofs.StructSteps.{fault-made, long-struct, rows-struct, trees-struct}
 use Rattle.vx_model.proofs.Takes.{map-at}
-use Rattle.vx_steps.specs.Answer.{Answer, answer_fault, answer_rows, type_after}
+use Rattle.vx_steps.specs.Answer.{answer_fault, answer_rows, type_after}
 use Rattle.vx_steps.specs.Cause.{MatchError}
 use Rattle.vx_steps.specs.Check.{HasCount}
 use Rattle.vx_steps.specs.Compose.{IsUnbroken}
@@ -32,10 +32,14 @@ use Rattle.vx_select.specs.Select.{IsAnswer, IsRows}
 use Rattle.vx_table.specs.Page.{IsPage, cut}
 use Rattle.vx_table.specs.Table.{AreLong, TableValue, table_fault}
 use Rattle.vx_table.specs.Taken.{IsTaken, columns_at}
-use Rattle.vx_table.proofs.Lists.{All-rest, drop_get, got}
+use Rattle.vx_table.proofs.Lists.{drop_get, got}
 use Rattle.vx_table.proofs.Tables.{no_fault}
 use Rattle.vx_rows.specs.Pages.{nulls_for, page_answer, page_by_walk, page_type, types_after}
 use Rattle.vx_rows.specs.Tables.{fields_table, table_structs}
+use Rattle.vx_select.proofs.ChunkRows.{answered_err}
+use Rattle.std.proofs.lemmas.List.Elements.{All-tail}
+use Rattle.vx_types.proofs.Alike.{length-types_of}
+use Rattle.vx_steps.proofs.Unbroken.{counted_walk}
 
 -- ---- columns side by side, at picks
 
@@ -111,17 +115,11 @@ projected-all t h =
 
 -- ---- the fields of structs are a table, and the columns of a table are fields
 
-same_length : (ts us : List TypeTree) → types_of ts ≡ types_of us → length ts ≡ length us
-same_length [] [] h = refl
-same_length [] (u ∷ us) h = absurd (cc)
-same_length (t ∷ ts) [] h = absurd (cc)
-same_length (t ∷ ts) (u ∷ us) h = ap suc (same_length ts us (cc))
-
 long_by : (n : ℕ) (cs : List Column) → AreLong n cs → are_long n cs ≡ true
 long_by n [] h = refl
 long_by n (c ∷ cs) h =
     let here : (length c.rows == n) ≡ true = eq-eqb (length c.rows) n (h zero c (omega arith)) in
-    rw here (long_by n cs (All-rest (λ (x : Column). length x.rows ≡ n) c cs h))
+    rw here (long_by n cs (All-tail (λ (x : Column). length x.rows ≡ n) c cs h))
 
 pub many_names : (f : FieldTypes) → fields_fault f ≡ None → length f.names ≡ length f.types
 many_names f h = by (length f.names == length f.types) refl
@@ -133,7 +131,7 @@ many_names f h = by (length f.names == length f.types) refl
 module _ (s : StructParts) (h : struct_fault s ≡ None) (f : fields_fault s.types ≡ None) where
   pub as_many : length s.types.names ≡ length s.columns
   as_many =
-      many_names s.types f ∙ sym (same_length (types_in s.columns) s.types.types (trees-struct s h))
+      many_names s.types f ∙ sym (length-types_of (types_in s.columns) s.types.types (trees-struct s h))
       ∙ length-map s.columns (λ (c : Column). c.dtype)
 
   pub table_sound : table_fault (fields_table s) ≡ None
@@ -194,21 +192,10 @@ module _ (s : StructParts) (h : struct_fault s ≡ None) (v : s.valid ≡ non_nu
         by (walk_fault k cause) q = absurd q
         by (walk_picks picks) q = tt
 
-pub checked : (w : Walk) (count : ℕ) → HasCount w count → IsUnbroken w
-checked (walk_fault k cause) count h = absurd h
-checked (walk_picks picks) count h = tt
-
--- an answer that is this error
-pub answer_err : (r : Result Column SelectError) (a : Answer) (e : SelectError) → IsErrAnd r (λ x. x ≡ e) → MatchError e (λ k cause. a ≡ answer_fault k cause) (IsRows a) → IsAnswer r a
-answer_err (Ok c) a e h m = absurd h
-answer_err (Err x) a e h m =
-    let P : SelectError → Type 0 = λ y. MatchError y (λ k cause. a ≡ answer_fault k cause) (IsRows a) in
-    subst P (sym h) m
-
 -- memory runs out, and the check found no broken step
 pub wants_memory : (s : StructParts) → struct_fault s ≡ None → s.valid ≡ non_nullable → (steps : List StepValue) (number len count : ℕ) → HasCount (walk s.len steps) count → (r : Result Column SelectError) → IsErrAnd r (λ x. x ≡ NoMemory) → IsAnswer r (page_answer number len (struct_column s) steps)
 wants_memory s h v steps number len count fine r is =
-    answer_err r _ NoMemory is (page_sound s h v steps number len (checked (walk s.len steps) count fine))
+    answered_err r _ NoMemory is (page_sound s h v steps number len (counted_walk (walk s.len steps) count fine))
 
 pub range_more : (k : ℕ) → range_with_len 0 (k + 1) ≡ range_with_len 0 k ++ k ∷ []
 range_more k =

@@ -60,7 +60,7 @@ page_by_walk number len c steps (walk_picks picks) =
 abbrev pub page_answer : ℕ → ℕ → Column → List StepValue → Answer
 page_answer number len c steps = page_by_walk number len c steps (walk (length c.rows) steps)
 
--- the same, where the rows are those of a table
+-- page number `number` of the rows that the steps leave of a source, where that is a table
 abbrev pub page_of : ℕ → ℕ → SourceValue → List StepValue → Option Answer
 page_of number len (column_source c) steps =
     if is_table c then Some (page_answer number len c steps) else None

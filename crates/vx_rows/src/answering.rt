@@ -58,7 +58,7 @@ fn chunk_count(shape: &ChunkShape) -> usize
     }
 }
 
-/// By a decoder of these values, which keeps its calls. No memory runs out where a step is broken.
+/// The rows by a decoder of these values, and its calls. No memory runs out where a step is broken.
 fn answer_by_calls<const W: usize>(
     alloc: Global,
     shape: &ChunkShape,
@@ -83,7 +83,8 @@ fn answer_by_calls<const W: usize>(
     })
 }
 
-/// The same over records of any width.
+/// The rows by a decoder of these records, of any width, and its calls. No memory runs out where a
+/// step is broken.
 fn answer_by_chunks(
     alloc: Global,
     shape: &ChunkShape,

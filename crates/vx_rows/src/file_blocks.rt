@@ -38,7 +38,7 @@ impl FileBlocks {
         Ok(FileBlocks { held })
     }
 
-    /// The reads, without the reader. It takes no memory.
+    /// The reads, without the reader.
     pub(crate) fn into_reads(self) -> ReadLog
         ensures { result ≡ self.kept }
     {

@@ -43,7 +43,8 @@ fn put_bytes(text: &str, dst: &mut [u8; 8201]) -> Result<usize, DocError>
     }
 }
 
-// The same of a block's value.
+// Puts the bytes that the digits of a block's value spell to the front of `dst`, and gives their
+// number.
 #[tactic(auto, unfolding(crate::specs::FileDocument::block_of))]
 fn put_block(value: &Value, dst: &mut [u8; 8201]) -> Result<usize, DocError>
     ensures within { IfOk result (λ n. n ≤ 8201) }
@@ -66,7 +67,7 @@ fn blocks_in(alloc: Global, items: &Vec<Value>) -> Result<Blocks, DocError>
     Ok(blocks)
 }
 
-// By its members, whatever others there are.
+// The document of a file, by its members, whatever others there are.
 #[tactic(auto, unfolding(crate::specs::FileDocument::file_by))]
 fn file_by(alloc: Global, value: &Value) -> Result<FileDocument, DocError>
     ensures document { Gives file_value result (file_by (view value.now)) }

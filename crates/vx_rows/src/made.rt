@@ -23,9 +23,10 @@ use crate::asked::Asked;
 use crate::reply::Reply;
 use std::alloc::Global;
 use vx_bits::{BitBuffer, BitBuilder, Buffer, NoMemory, Records};
-use vx_column::{Array, ArrayRef, Cell, FlatRef, PType, PrimitiveArray, Validity};
+use vx_column::{Array, ArrayRef, Cell, PType, PrimitiveArray, Validity, number_column};
 use vx_mask::{Mask, Policy};
 use vx_pieces::Indices;
+use vx_plain::FlatRef;
 use vx_select::{SelectError, Step, select};
 
 /// What a draw multiplies the generator's state by.
@@ -74,10 +75,7 @@ fn drawn_rows(alloc: Global, draws: &[u32]) -> Result<Array, NoMemory>
     ensures rows { IfOk result (λ c. c.rows ≡ drawn_rows draws.now) }
 {
     let records = Records::W4(row_records(alloc, draws)?);
-    match PrimitiveArray::try_new(PType::U32, records, Validity::NonNullable) {
-        Ok(column) => Ok(column.into_array()),
-        Err(_) => unreachable!(),
-    }
+    Ok(number_column(PType::U32, records).into_array())
 }
 
 // The bits of the filter.
@@ -136,10 +134,7 @@ fn drawn_indices(alloc: Global, kept: usize, draws: &[u32]) -> Result<Indices, N
     ensures { IfOk result (λ i. index_value i
         ≡ by_column (records_column (drawn_indices kept draws.now))) }
 {
-    match FlatRef::try_new(index_column(alloc, kept, draws)?) {
-        Ok(column) => Ok(Indices::Array(column)),
-        Err(_) => unreachable!(),
-    }
+    Ok(Indices::Array(FlatRef::of(index_column(alloc, kept, draws)?)))
 }
 
 // The three steps: a slice that leaves out ten rows at each end, a filter, and a take.

@@ -24,6 +24,7 @@ use vx_bits::NoMemory;
 use vx_column::{Array, ArrayRef, ColumnError, DType, StructArray, StructFields, Validity};
 use vx_document::{Document, DocumentSource};
 use vx_mask::Policy;
+use vx_plain::ReadLayout;
 use vx_select::{SelectError, Step, check_steps};
 use vx_shared::Shared;
 use vx_table::{Table, page};

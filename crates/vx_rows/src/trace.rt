@@ -16,7 +16,7 @@ pub struct Trace {
 }
 
 impl Trace {
-    /// No calls, and no reads. It takes no memory.
+    /// A trace of no calls and no reads.
     pub fn new() -> Trace
         ensures calls { result.calls ≡ [] }
         ensures reads { result.reads ≡ [] }

@@ -1,27 +1,24 @@
 -- The rows at picks of a column behind a decoder.
-use Rattle.std.proofs.Common.{◌≡◌, ℕ, ◌+◌, ◌<◌, ◌≤◌, Bool, true, false, List, [], ◌∷◌, length, map, take, drop, Option, Some, sym, ap, ap₂, ◌∙◌, subst, arith}
+use Rattle.std.proofs.Common.{◌≡◌, ℕ, ◌+◌, ◌<◌, ◌≤◌, Bool, true, false, List, length, map, take, drop, Option, Some, sym, ap, ap₂, ◌∙◌, subst, arith}
 use Rattle.std.specs.Prelude.{slice_get, IsErrAnd, OnErr, OnOk, Result, Ok, Err}
 use Rattle.std.proofs.lemmas.Bool.Decides.{nat_tests}
 use Rattle.vx_types.specs.Decimal.{is_width}
-use Rattle.std.specs.List.{All, items_where_true}
-use Rattle.std.proofs.lemmas.List.{get_or_default, length-drop, length-map, length-take-le}
+use Rattle.std.specs.List.{items_where_true}
+use Rattle.std.proofs.lemmas.List.{length-drop, length-map, length-take-le}
 use Rattle.vx_bits.specs.BitBuffer.{true_count_of}
 use Rattle.vx_types.specs.TypeTree.{TypeTree, also_nullable}
 use Rattle.vx_types.specs.declared.nullability.Nullability.{Nullability}
 use Rattle.vx_types.specs.RowValue.{RowValue, null, bytes}
 use Rattle.vx_mask.specs.Positions.{set_of}
-use Rattle.vx_mask.proofs.PositionLists.{length-positions, rank_within}
+use Rattle.vx_mask.proofs.PositionLists.{length-positions, set_below}
 use Rattle.vx_mask.proofs.RankedItems.{items_at_the_set}
 use Rattle.vx_take.specs.Picks.{at}
 use Rattle.vx_model.specs.Column.{Column}
 use Rattle.vx_model.specs.Valid.{Valid, is_fitting, present_bits, stored_rows, IsLeft}
-use Rattle.vx_model.proofs.KeptItems.{same_items}
 use Rattle.vx_model.proofs.StoredRows.{length-stored_rows}
-use Rattle.vx_model.proofs.Nullabilities.{also_nullable-none, also_nullable-either}
 use Rattle.vx_model.proofs.Takes.{take-stored}
 use Rattle.vx_decoder.proofs.ReadPlaces.{part_at}
-use Rattle.vx_steps.specs.Step.{StepValue, slice_step, filter_step, filter_by_step, take_step}
-use Rattle.vx_pieces.specs.Indices.{index_nullability}
+use Rattle.vx_steps.specs.Step.{StepValue}
 use Rattle.vx_steps.specs.Walk.{Walk, walk_fault, walk_picks, walk}
 use Rattle.vx_steps.specs.Cause.{MatchError}
 use Rattle.vx_steps.specs.declared.cause.SelectError.{SelectError}
@@ -31,13 +28,11 @@ use Rattle.vx_steps.specs.Compose.{IsFaultOf, IsUnbroken, takes_nullability}
 use Rattle.vx_select.specs.Select.{IsAnswer, IsRows}
 use Rattle.vx_steps.specs.Shape.{ShapeValue}
 use Rattle.vx_select.specs.Chunks.{chunk_rows, chunk_values}
+use Rattle.vx_lemmas.proofs.Options.{some_same}
+use Rattle.vx_steps.proofs.StepTypes.{type_after-takes}
+use Rattle.vx_lemmas.proofs.Picked.{same_items}
 
 -- ---- the values that are kept
-
-set_below : (bits : List Bool) (n : ℕ) → length bits ≡ n → All (λ p. p < n) (set_of bits)
-set_below bits n h k d l =
-    let ranked : k < true_count_of bits = omega (arith, l, length-positions 0 bits) in
-    omega (arith, h, get_or_default (set_of bits) k d 0 l, rank_within bits k ranked)
 
 -- there are as many as set positions
 pub kept_count : {X : Type 0} (kept : List X) (f : ℕ → Option X) (bits : List Bool) → map Some kept ≡ map f (set_of bits) → length kept ≡ true_count_of bits
@@ -59,9 +54,6 @@ module _ {X : Type 0} (values : List X) (offset len : ℕ) (inside : offset + le
 -- a width of records is small
 pub width_small : (w : ℕ) → is_width w ≡ true → w < 64
 width_small w h = grind (arith, nat_tests)
-
-some_same : (a b : ℕ) → Some a ≡ Some b → a ≡ b
-some_same a b h = cc
 
 -- the type's width is one of records
 pub is_width-by : (o : Option ℕ) (a w : ℕ) → o ≡ Some w → o ≡ Some a → is_width a ≡ true → is_width w ≡ true
@@ -97,17 +89,6 @@ module _ (s : ShapeValue) (values : List (List ℕ)) (inside : s.offset + s.len 
       ap (λ l. stored_rows w (map bytes l)) same
       ∙ take-stored bytes missing part s.valid w n (subst P (sym count) fit) picks (subst Q (whole ∙ sym count) left)
 
--- ---- the type
-
--- the steps leave the type, nullable also where some take's indices are
-pub type_after-takes : (t : TypeTree) (steps : List StepValue) → type_after t steps ≡ also_nullable t (takes_nullability steps)
-type_after-takes t [] = sym (also_nullable-none t)
-type_after-takes t (slice_step start end ∷ steps) = type_after-takes t steps
-type_after-takes t (filter_step bits ∷ steps) = type_after-takes t steps
-type_after-takes t (filter_by_step column ∷ steps) = type_after-takes t steps
-type_after-takes t (take_step indices ∷ steps) =
-    type_after-takes (also_nullable t (index_nullability indices)) steps ∙ also_nullable-either t (index_nullability indices) (takes_nullability steps)
-
 -- ---- the answer
 
 module _ (t : TypeTree) (rows : List RowValue) (steps : List StepValue) (n : ℕ) (long : length rows ≡ n) where
@@ -142,3 +123,9 @@ answered_err (Ok c) a e h m = absurd h
 answered_err (Err x) a e h m =
     let P : SelectError → Type 0 = λ y. MatchError y (λ k cause. a ≡ answer_fault k cause) (IsRows a) in
     subst P (sym h) m
+
+-- as many rows as the shape says
+pub count_by_shape : (s : ShapeValue) (values : List (List ℕ)) (n : ℕ) → s.offset + s.len ≤ length values → n ≡ s.len → is_fitting s.valid n ≡ true → length (chunk_rows s values) ≡ n
+count_by_shape s values n inside e fit =
+    let P : ℕ → Type 0 = λ m. is_fitting s.valid m ≡ true in
+    length-chunk_rows s values inside (subst P e fit) ∙ sym e

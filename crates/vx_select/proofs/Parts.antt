@@ -8,7 +8,7 @@ use Rattle.std.proofs.lemmas.List.Sums.{count_by-le-length}
 use Rattle.vx_bits.specs.BitBuffer.{true_count_of}
 use Rattle.vx_types.specs.RowValue.{RowValue, null}
 use Rattle.vx_column.specs.Truth.{true_bits}
-use Rattle.vx_column.proofs.TruthBits.{length-true_bits}
+use Rattle.vx_reading.proofs.TruthBits.{length-true_bits}
 use Rattle.vx_model.specs.Column.{Column}
 use Rattle.vx_model.specs.Null.{null_column}
 use Rattle.vx_model.specs.Plain.{is_lazy_layout, is_unwrapped}

@@ -2,7 +2,7 @@
 use Rattle.std.proofs.Common.{◌≡◌, ℕ, zero, suc, ◌+◌, ◌*◌, ◌<◌, Bool, true, false, cond, ◌||◌, eqb, List, [], ◌∷◌, length, get_or, map, Option, None, Some, refl, sym, ap, ap₂, ◌∙◌, arith, eq-eqb}
 use Rattle.std.specs.Prelude.{Contains}
 use Rattle.std.specs.List.{range_with_len, count_by, slice_get}
-use Rattle.std.proofs.lemmas.Bool.{eqb-true}
+use Rattle.std.proofs.lemmas.Bool.{eqb-true, or_right}
 use Rattle.std.proofs.lemmas.List.{get_or-map, length-map}
 use Rattle.std.proofs.lemmas.List.Sums.{sum_by-cons}
 use Rattle.vx_mask.specs.Positions.{rank_of, set_of}
@@ -12,6 +12,8 @@ use Rattle.vx_mask.proofs.MarkedBits.{ascending-positions}
 use Rattle.vx_chunked.specs.Asked.{asked, asked_by_picks, call_for, is_picked, picked_in}
 use Rattle.vx_chunked.proofs.Counts.{flat_map_range}
 use Rattle.vx_chunked.proofs.PickedOnce.{asked_is}
+use Rattle.vx_lemmas.proofs.Options.{some_same}
+use Rattle.std.specs.Cmp.{both_ways}
 
 -- a value is picked where some pick is its position
 record IsPickedBy (offset : ℕ) (picks : List (Option ℕ)) (n : ℕ) : Type 0 where
@@ -34,13 +36,6 @@ picked_by offset [] n h = let no : false ≡ true = h in cc
 picked_by offset (None ∷ picks) n h = later_pick offset None picks n (picked_by offset picks n h)
 picked_by offset (Some p ∷ picks) n h = picked_here offset p picks n (λ e. picked_by offset picks n e) (eqb (offset + p) n) refl h
 
-or_true : (a b : Bool) → b ≡ true → (a || b) ≡ true
-or_true true b h = refl
-or_true false b h = h
-
-some_same : (p q : ℕ) → Some p ≡ Some q → p ≡ q
-some_same p q e = cc
-
 is_picked_by : (offset : ℕ) (picks : List (Option ℕ)) (n p k : ℕ) → k < length picks → get_or picks k (Some p) ≡ Some p → offset + p ≡ n → is_picked offset picks n ≡ true
 is_picked_by offset [] n p k h has e = absurd (omega arith)
 is_picked_by offset (None ∷ picks) n p zero h has e = let no : None ≡ Some p = has in cc
@@ -49,12 +44,7 @@ is_picked_by offset (Some q ∷ picks) n p zero h has e =
     let same : offset + q ≡ n = omega (arith, e, some_same q p has) in
     ap (λ b. b || is_picked offset picks n) (eq-eqb (offset + q) n same)
 is_picked_by offset (Some q ∷ picks) n p (suc k) h has e =
-    or_true (eqb (offset + q) n) (is_picked offset picks n) (is_picked_by offset picks n p k (omega arith) has e)
-
-picked_alike : (a b : Bool) → (a ≡ true → b ≡ true) → (b ≡ true → a ≡ true) → a ≡ b
-picked_alike true b f g = sym (f refl)
-picked_alike false true f g = g refl
-picked_alike false false f g = refl
+    or_right (eqb (offset + q) n) (is_picked offset picks n) (is_picked_by offset picks n p k (omega arith) has e)
 
 -- set positions, as picks
 set_of_contains : (bits : List Bool) (p : ℕ) → Contains (map Some (set_of bits)) (Some p) → slice_get bits p ≡ Some true
@@ -72,7 +62,7 @@ contains_set_of bits p set =
 
 picked_same : (offset : ℕ) (bits : List Bool) (picks : List (Option ℕ)) → AreJustSet bits picks → (n : ℕ) → is_picked offset (map Some (set_of bits)) n ≡ is_picked offset picks n
 picked_same offset bits picks just n =
-    picked_alike (is_picked offset (map Some (set_of bits)) n) (is_picked offset picks n)
+    both_ways (is_picked offset (map Some (set_of bits)) n) (is_picked offset picks n)
     (λ h. let by = picked_by offset (map Some (set_of bits)) n h in
     let has = (just by.pick).0 (set_of_contains bits by.pick by.there) in
     is_picked_by offset picks n by.pick has.0 has.1 has.2 by.position)

@@ -7,7 +7,7 @@ ghost use Rattle.vx_bits.specs.WordReader.{then_told};
 ghost use Rattle.vx_types.specs.Decimal.{is_width};
 ghost use Rattle.vx_types.specs.DType.{type_of};
 ghost use Rattle.vx_types.specs.RowValue.{bytes, null};
-ghost use Rattle.vx_types.specs.TypeTree.{also_nullable, is_flat, type_width};
+ghost use Rattle.vx_types.specs.TypeTree.{also_nullable, type_width};
 ghost use Rattle.vx_mask.specs.Mask.{mask_bits};
 ghost use Rattle.vx_mask.specs.Policy.{sparse_limit_of};
 ghost use Rattle.vx_model.specs.Plain.{is_unwrapped};
@@ -27,7 +27,7 @@ ghost use Rattle.vx_select.specs.Chunks.{AreNoneOrAll, IsTold, asked_at, asked_b
 use std::alloc::Global;
 use vx_bits::{Buffer, NoMemory, Records};
 use vx_chunked::filter_chunked_mask;
-use vx_column::{Array, DType, Nullability, RecordType, Validity};
+use vx_column::{Array, DType, Nullability, RecordType, Validity, record_column};
 use vx_decoder::ChunkDecoder;
 use vx_dispatch::take_validity;
 use vx_mask::{Mask, Policy};
@@ -66,7 +66,8 @@ fn taken<const W: usize, const N: usize>(
     Buffer::from_vec(alloc, records)
 }
 
-// The same as records of a width that is one of six.
+// The records at the ranks, in order, and zeros at a null, as records of a width that is one of
+// six.
 fn taken_records<const W: usize>(
     alloc: Global,
     values: &[[u8; W]],
@@ -90,7 +91,6 @@ fn taken_records<const W: usize>(
 }
 
 // The column of these records, of this type and as nullable as the validity, which is unwrapped.
-// It takes no memory.
 fn column_of(dtype: &DType, values: Records, validity: Validity) -> Array
     requires width { type_width (type_of dtype.now) ≡ Some (width_of values) }
     requires fitting { is_fitting (valid_of validity) (length (records_of values)) ≡ true }
@@ -101,7 +101,7 @@ fn column_of(dtype: &DType, values: Records, validity: Validity) -> Array
     ensures unwrapped { is_unwrapped result ≡ true }
 {
     match RecordType::of(dtype) {
-        Some(record_type) => record_type.column(values, validity),
+        Some(record_type) => record_column(record_type, values, validity),
         None => unreachable!(),
     }
 }

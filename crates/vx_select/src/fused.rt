@@ -19,6 +19,7 @@ use vx_column::{Array, LayoutName};
 use vx_dispatch::{execute, take};
 use vx_mask::Policy;
 use vx_pieces::Indices;
+use vx_plain::{ReadLayout, slice_plain};
 use vx_steps::{SelectError, Step, compose, takes_nullability};
 
 fn is_slice(step: &Step) -> bool
@@ -43,7 +44,7 @@ fn are_slices(steps: &[Step]) -> bool
 fn is_plain(column: &Array) -> bool
     ensures { result ≡ is_plain column.now }
 {
-    column.slice_plain(0, 0).is_some()
+    slice_plain(column, 0, 0).is_some()
 }
 
 // Whether no step takes memory.
@@ -90,7 +91,7 @@ fn taken(
     execute(alloc, &rows, policy)
 }
 
-/// The same promise as that of [`select`], by one take of the composed picks.
+/// The rows that [`select`] returns, by one take of the composed picks. Both have one contract.
 ///
 /// `Broken` exactly where a step breaks a rule, with the first one, even when memory runs out.
 /// `NoMemory` only where none does, and never over layout `Null` or for slices alone over a plain

@@ -9,6 +9,7 @@ use std::marker::Model;
 use vx_bits::NoMemory;
 use vx_column::Array;
 use vx_dispatch::slice;
+use vx_plain::ReadLayout;
 
 /// The rows of a column from `start` up to `end`. A contract sees it as the column with these rows
 /// alone, so slices that follow each other cost one cut.
@@ -46,7 +47,7 @@ impl Part {
         }
     }
 
-    /// Its rows from `start` up to `end`. It takes no memory.
+    /// The part's rows from `start` up to `end`.
     pub(crate) fn narrowed(self, start: usize, end: usize) -> Part
         requires ordered { start ≤ end }
         requires within { end ≤ length self.rows }

@@ -12,8 +12,9 @@ ghost use Rattle.vx_select.specs.IndexRecords.{index_record};
 
 use std::alloc::Global;
 use vx_bits::{BitBuffer, Buffer, NoMemory, Records};
-use vx_column::{Array, FlatRef, Nullability, PType, RecordType, Validity};
+use vx_column::{Array, Nullability, PType, RecordType, Validity, record_column};
 use vx_pieces::Indices;
+use vx_plain::FlatRef;
 use vx_take::{Picks, valid_bits};
 
 // The record of a position, and zeros at a null.
@@ -76,7 +77,11 @@ fn index_column(records: Buffer<[u8; 8]>, validity: Validity) -> Array
     ensures rows { result.rows ≡ stored_rows (valid_of validity) (map bytes records) }
     ensures dtype { result.dtype ≡ primitive_type U64 (nullability_by (valid_of validity)) }
 {
-    RecordType::Primitive(PType::U64).column(Records::W8(records), validity)
+    record_column(
+        RecordType::Primitive(PType::U64),
+        Records::W8(records),
+        validity,
+    )
 }
 
 // The column as indices.
@@ -84,10 +89,7 @@ fn indices_of(alloc: Global, column: Array) -> Result<Indices, NoMemory>
     requires { is_flat column.dtype ≡ true }
     ensures { IfOk result (λ i. index_value i ≡ by_column column) }
 {
-    match FlatRef::try_new(column.into_ref(alloc)?) {
-        Ok(flat) => Ok(Indices::Array(flat)),
-        Err(_) => unreachable!(),
-    }
+    Ok(Indices::Array(FlatRef::of(column.into_ref(alloc)?)))
 }
 
 /// The indices that name these picks: a column of numbers, of a type that has nulls where

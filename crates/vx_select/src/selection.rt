@@ -1,11 +1,10 @@
 //! The answer to a list of steps over a column in memory.
-ghost use Rattle.std.specs.Prelude.{◌≡◌, ◌≢◌, None, length, map, true, IfOk, IsOk, IsOkAnd, Err};
+ghost use Rattle.std.specs.Prelude.{◌≡◌, None, length, map, true, IfOk, IsOk, IsOkAnd};
 ghost use Rattle.std.specs.List.{items_where_true};
 ghost use Rattle.vx_mask.specs.Mask.{mask_bits};
 ghost use Rattle.vx_types.specs.RowValue.{null};
-ghost use Rattle.vx_types.specs.TypeTree.{is_flat};
 ghost use Rattle.vx_column.specs.Truth.{true_bits};
-ghost use Rattle.vx_model.specs.Plain.{is_null_layout, is_plain, is_unwrapped};
+ghost use Rattle.vx_model.specs.Plain.{is_null_layout, is_plain};
 ghost use Rattle.vx_model.specs.Step.{IsStep};
 ghost use Rattle.vx_steps.specs.Step.{step_value, is_slice};
 ghost use Rattle.vx_steps.specs.Walk.{apply, broken};
@@ -15,9 +14,10 @@ ghost use Rattle.vx_select.specs.Select.{IsSelection};
 use crate::part::Part;
 use std::alloc::Global;
 use vx_bits::NoMemory;
-use vx_column::{Array, mask_of};
+use vx_column::Array;
 use vx_dispatch::{execute, filter, take};
 use vx_mask::{Mask, Policy};
+use vx_reading::{mask_of, true_rows};
 use vx_steps::{SelectError, Step, check_steps};
 
 // The rows at the set positions of a mask that is as long: the part itself where these are all.
@@ -44,13 +44,13 @@ fn kept_by(alloc: Global, part: Part, column: &Array, policy: &Policy) -> Result
     ensures null { is_null_layout part.layout ≡ true → IsOk result }
 {
     if part.is_null() {
-        return Ok(part.narrowed(0, column.true_rows()));
+        return Ok(part.narrowed(0, true_rows(column)));
     }
     let mask = mask_of(alloc, column)?;
     kept(alloc, part, &mask, policy)
 }
 
-// What one step that breaks no rule leaves. A slice, and a filter that keeps all, take no memory.
+// What one step that breaks no rule leaves. A slice, and a filter that keeps all, allocate nothing.
 fn apply(alloc: Global, part: Part, step: &Step, policy: &Policy) -> Result<Part, NoMemory>
     requires { broken (step_value step.now) (length part.rows) ≡ None }
     ensures step { IfOk result (IsStep part (apply null (step_value step.now) part.rows)

@@ -1,8 +1,8 @@
 //! A counted pointer whose `share` can't be refused.
 //!
 //! A [`Shared`] is one owner of a value on the heap. The last owner drops the value. Another owner
-//! takes no memory, and there is always one more: a count of owners that is full stays full, and
-//! its value is then never dropped.
+//! needs no allocation, and there is always one more: a count of owners that is full stays full,
+//! and its value is then never dropped.
 #![tactic(auto)]
 
 ghost use Rattle.std.specs.Prelude.{◌≡◌, IfOk, IfErr, ⊤};
@@ -55,7 +55,7 @@ impl<T: Drop> Shared<T> {
 }
 
 impl<T> Shared<T> {
-    /// Another owner of the same value. It takes no memory, and can't fail.
+    /// Another owner of the same value. It can't fail.
     pub fn share(&self) -> Shared<T>
         ensures { result ≡ self.now }
     {
@@ -95,7 +95,7 @@ impl<T> Deref for Shared<T> {
     }
 }
 
-/// As [`Shared::share`], so that it's always `Ok`.
+/// A clone is another owner, as by [`Shared::share`], so it's always `Ok`.
 impl<T: Drop> Clone for Shared<T> {
     ghost is_clone = { λ s copy. copy ≡ s };
 
@@ -121,7 +121,7 @@ impl<T: Eq> Eq for Shared<T> {
     ghost laws = { T.Eq.laws };
 }
 
-/// As the value.
+/// It is printed as its value is.
 impl<T: fmt::Debug> fmt::Debug for Shared<T> {
     ghost debug_output = { T.debug_output };
 

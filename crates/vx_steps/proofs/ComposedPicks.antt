@@ -1,8 +1,8 @@
 -- Picks that steps leave, as a range and as a list.
-use Rattle.std.proofs.Common.{◌≡◌, ℕ, zero, suc, ◌+◌, ◌-◌, ◌<◌, ◌≤◌, Bool, true, false, List, [], ◌∷◌, ◌++◌, map, length, take, drop, get_or, Option, Some, None, refl, sym, ap, ap₂, ◌∙◌, subst, arith}
-use Rattle.std.specs.Prelude.{IfOk, is_some, slice_range, ◌&&◌, Result, Ok, Err}
+use Rattle.std.proofs.Common.{◌≡◌, ℕ, zero, suc, ◌+◌, ◌-◌, ◌<◌, ◌≤◌, Bool, true, false, List, [], ◌∷◌, map, length, take, drop, get_or, Option, Some, None, refl, sym, ap, ap₂, ◌∙◌, subst, arith}
+use Rattle.std.specs.Prelude.{is_some, slice_range}
 use Rattle.std.specs.List.{All, list_all, range_with_len, items_where_true}
-use Rattle.std.proofs.lemmas.List.{length-drop, get_or-drop, get_or_default, take_more}
+use Rattle.std.proofs.lemmas.List.{get_or_default}
 use Rattle.std.proofs.lemmas.List.FromFn.{get_or-map-range_with_len, length-map-range_with_len, take-map-range_with_len}
 use Rattle.std.proofs.lemmas.Simd.{map-map}
 use Rattle.vx_bits.specs.BitBuffer.{true_count_of}
@@ -17,6 +17,8 @@ use Rattle.vx_positions.specs.Positions.{AllThere}
 use Rattle.vx_steps.specs.Step.{StepValue}
 use Rattle.vx_steps.specs.Walk.{all_positions}
 use Rattle.vx_steps.specs.Compose.{picks_by_number, range_picks, step_nullability, takes_nullability}
+use Rattle.std.proofs.lemmas.Bool.{and_parts, and_from}
+use Rattle.vx_model.proofs.Nullabilities.{either_nullable-none, either_nullable-assoc}
 
 -- ---- ranges
 
@@ -53,15 +55,6 @@ module _ (picks : List (Option ℕ)) (start end : ℕ) (is : picks ≡ range_pic
   pub part_in : (a b from to : ℕ) → a ≤ b → b ≤ end - start → from ≡ start + a → to ≡ start + b → range_picks from to ≡ slice_range picks a b
   part_in a b from to h k f t = range-part start end a b from to h k f t ∙ ap (λ l. slice_range l a b) (sym is)
 
--- a slice that goes one item further
-pub slice_range-more : {X : Type 0} (xs : List X) (start i : ℕ) (d : X) → start ≤ i → i < length xs → slice_range xs start (i + 1) ≡ slice_range xs start i ++ get_or xs i d ∷ []
-slice_range-more xs start i d h l =
-    let next : (i + 1) - start ≡ (i - start) + 1 = omega arith in
-    let here : start + (i - start) ≡ i = omega arith in
-    ap (λ n. take n (drop start xs)) next
-    ∙ take_more (drop start xs) (i - start) d (omega (arith, length-drop start xs))
-    ∙ ap (λ x. slice_range xs start i ++ x ∷ []) (get_or-drop start xs (i - start) d ∙ ap (λ n. get_or xs n d) here)
-
 -- ---- set positions
 
 pub numbered-set : (picks : List (Option ℕ)) (bits : List Bool) → length bits ≡ length picks → picks_by_number picks (set_of bits) ≡ items_where_true bits picks
@@ -76,24 +69,17 @@ numbers_within bits picks numbers h is = subst (All (λ i. i < length picks)) (s
 
 -- ---- picks that are all there
 
-both_true : (a b : Bool) → (a && b) ≡ true → (a ≡ true) × (b ≡ true)
-both_true true b h = (refl, h)
-both_true false b h = let no : false ≡ true = h in cc
-
-true_both : (a b : Bool) → a ≡ true → b ≡ true → (a && b) ≡ true
-true_both a b h k = rw (h, k) refl
-
 there-drop : (n : ℕ) (picks : List (Option ℕ)) → AllThere picks → AllThere (drop n picks)
 there-drop zero picks h = h
 there-drop (suc n) [] h = h
-there-drop (suc n) (x ∷ picks) h = there-drop n picks (both_true (is_some x) (list_all is_some picks) h).1
+there-drop (suc n) (x ∷ picks) h = there-drop n picks (and_parts (is_some x) (list_all is_some picks) h).1
 
 there-take : (n : ℕ) (picks : List (Option ℕ)) → AllThere picks → AllThere (take n picks)
 there-take zero picks h = refl
 there-take (suc n) [] h = refl
 there-take (suc n) (x ∷ picks) h =
-    let parts = both_true (is_some x) (list_all is_some picks) h in
-    true_both (is_some x) (list_all is_some (take n picks)) parts.0 (there-take n picks parts.1)
+    let parts = and_parts (is_some x) (list_all is_some picks) h in
+    and_from (is_some x) (list_all is_some (take n picks)) parts.0 (there-take n picks parts.1)
 
 pub there-slice : (picks : List (Option ℕ)) (start end : ℕ) → AllThere picks → AllThere (slice_range picks start end)
 there-slice picks start end h = there-take (end - start) (drop start picks) (there-drop start picks h)
@@ -102,20 +88,20 @@ pub there-filter : (bits : List Bool) (picks : List (Option ℕ)) → AllThere p
 there-filter [] picks h = refl
 there-filter (b ∷ bits) [] h = refl
 there-filter (true ∷ bits) (x ∷ picks) h =
-    let parts = both_true (is_some x) (list_all is_some picks) h in
-    true_both (is_some x) (list_all is_some (items_where_true bits picks)) parts.0 (there-filter bits picks parts.1)
-there-filter (false ∷ bits) (x ∷ picks) h = there-filter bits picks (both_true (is_some x) (list_all is_some picks) h).1
+    let parts = and_parts (is_some x) (list_all is_some picks) h in
+    and_from (is_some x) (list_all is_some (items_where_true bits picks)) parts.0 (there-filter bits picks parts.1)
+there-filter (false ∷ bits) (x ∷ picks) h = there-filter bits picks (and_parts (is_some x) (list_all is_some picks) h).1
 
 there_at : (picks : List (Option ℕ)) (i : ℕ) → AllThere picks → i < length picks → is_some (get_or picks i None) ≡ true
 there_at [] i h l = absurd (omega arith)
-there_at (x ∷ picks) zero h l = (both_true (is_some x) (list_all is_some picks) h).0
-there_at (x ∷ picks) (suc i) h l = there_at picks i (both_true (is_some x) (list_all is_some picks) h).1 (omega arith)
+there_at (x ∷ picks) zero h l = (and_parts (is_some x) (list_all is_some picks) h).0
+there_at (x ∷ picks) (suc i) h l = there_at picks i (and_parts (is_some x) (list_all is_some picks) h).1 (omega arith)
 
 pub there-at : (picks later : List (Option ℕ)) → AllThere picks → AllThere later → AreBelow later (length picks) → AllThere (at None picks later)
 there-at picks [] h k below = refl
 there-at picks (None ∷ later) h k below = let no : false ≡ true = k in cc
 there-at picks (Some i ∷ later) h k below =
-    true_both (is_some (get_or picks i None)) (list_all is_some (at None picks later)) (there_at picks i h (below zero None (omega arith)))
+    and_from (is_some (get_or picks i None)) (list_all is_some (at None picks later)) (there_at picks i h (below zero None (omega arith)))
     (there-at picks later h k (λ j d l. below (suc j) d (omega arith)))
 
 pub there-range : (a n : ℕ) → AllThere (map (λ (p : ℕ). Some p) (range_with_len a n))
@@ -134,29 +120,14 @@ each_leaves_none [] k s h l is = absurd (omega arith)
 each_leaves_none (x ∷ steps) zero s h l is = ap step_nullability is ∙ (neither (step_nullability x) (takes_nullability steps) h).0
 each_leaves_none (x ∷ steps) (suc k) s h l is = each_leaves_none steps k s (neither (step_nullability x) (takes_nullability steps) h).1 (omega arith) is
 
-pub either-none : (n : Nullability) → either_nullable n NonNullable ≡ n
-either-none NonNullable = refl
-either-none Nullable = refl
-
-pub either-either : (a b c : Nullability) → either_nullable (either_nullable a b) c ≡ either_nullable a (either_nullable b c)
-either-either NonNullable b c = refl
-either-either Nullable b c = refl
-
 -- of the steps up to the next one
 pub takes_nullability-more : (steps : List StepValue) (k : ℕ) (s : StepValue) → k < length steps → s ≡ get_or steps k s → takes_nullability (take (k + 1) steps) ≡ either_nullable (takes_nullability (take k steps)) (step_nullability s)
 takes_nullability-more [] k s l is = absurd (omega arith)
-takes_nullability-more (x ∷ steps) zero s l is = either-none (step_nullability x) ∙ ap step_nullability (sym is)
+takes_nullability-more (x ∷ steps) zero s l is = either_nullable-none (step_nullability x) ∙ ap step_nullability (sym is)
 takes_nullability-more (x ∷ steps) (suc k) s l is =
     let next : suc k + 1 ≡ suc (k + 1) = omega arith in
     ap (λ n. takes_nullability (take n (x ∷ steps))) next ∙ ap (either_nullable (step_nullability x)) (takes_nullability-more steps k s (omega arith) is)
-    ∙ sym (either-either (step_nullability x) (takes_nullability (take k steps)) (step_nullability s))
-
--- ---- results
-
--- what follows from a fact of the value in an `Ok`
-pub if_ok : {T E : Type 0} (P Q : T → Type 0) (r : Result T E) → IfOk r P → ((x : T) → P x → Q x) → IfOk r Q
-if_ok P Q (Ok x) h f = f x h
-if_ok P Q (Err e) h f = h
+    ∙ sym (either_nullable-assoc (step_nullability x) (takes_nullability (take k steps)) (step_nullability s))
 
 -- ---- picks of all positions
 

@@ -1,3 +1,5 @@
 pub mod ComposedPicks
 pub mod Cuts
 pub mod Walks
+pub mod StepTypes
+pub mod Unbroken

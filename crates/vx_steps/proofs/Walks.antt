@@ -14,10 +14,12 @@ use Rattle.vx_steps.specs.Walk.{broken, cause_of, apply, rows_left, Walk, walk_f
 use Rattle.vx_steps.specs.Check.{HasCount}
 use Rattle.vx_steps.specs.declared.cause.Cause.{Cause}
 use Rattle.vx_steps.specs.declared.cause.Cause.TheVariants.{BadMask, NotBool}
-use Rattle.vx_column.specs.Truth.{is_bool_type, true_bits}
-use Rattle.vx_column.proofs.TruthBits.{length-true_bits}
+use Rattle.vx_column.specs.Truth.{true_bits}
+use Rattle.vx_reading.specs.BoolRows.{is_bool_type}
+use Rattle.vx_reading.proofs.TruthBits.{length-true_bits}
 use Rattle.vx_model.proofs.Takes.{length-at, map-at}
-use Rattle.vx_model.proofs.Items.{length-items_where_true, length-slice_range, map-slice_range, map-items_where_true}
+use Rattle.vx_model.proofs.Items.{length-slice_range, map-slice_range, map-items_where_true}
+use Rattle.vx_mask.proofs.RankedItems.{length-items_where_true}
 
 -- the steps before number k are done: picks are left, of which P holds, and the rest of the walk
 -- goes on from them

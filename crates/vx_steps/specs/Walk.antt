@@ -7,7 +7,8 @@ use Rattle.vx_take.specs.Picks.{at}
 use Rattle.vx_pieces.specs.Indices.{index_fault, index_len, index_picks}
 use Rattle.vx_pieces.specs.declared.fault.IndexFault.{IndexFault}
 use Rattle.vx_pieces.specs.declared.fault.IndexFault.TheVariants as faults
-use Rattle.vx_column.specs.Truth.{is_bool_type, true_bits}
+use Rattle.vx_column.specs.Truth.{true_bits}
+use Rattle.vx_reading.specs.BoolRows.{is_bool_type}
 use Rattle.vx_steps.specs.Step.{StepValue, slice_step, filter_step, filter_by_step, take_step}
 use Rattle.vx_steps.specs.declared.cause.Cause.{Cause}
 use Rattle.vx_steps.specs.declared.cause.Cause.TheVariants.{BadRange, BadMask, NotBool, InvalidIndices, BadPieces, OutOfBounds}

@@ -1,5 +1,5 @@
 //! The rule that a step breaks, and the first step of a list that breaks one.
-ghost use Rattle.std.specs.Prelude.{◌≡◌, ◌==◌, map, length, option_map, None, Some, if◌then◌else◌};
+ghost use Rattle.std.specs.Prelude.{◌≡◌, ◌==◌, map, option_map, None, Some, if◌then◌else◌};
 ghost use Rattle.vx_steps.specs.Step.{step_value};
 ghost use Rattle.vx_steps.specs.Walk.{walk, broken, cause_of, rows_left};
 ghost use Rattle.vx_steps.specs.Check.{IsChecked};
@@ -8,6 +8,7 @@ ghost use Rattle.vx_steps.specs.declared.cause.Cause.TheVariants.{BadMask};
 use crate::cause::{Cause, SelectError};
 use crate::step::Step;
 use vx_pieces::IndexFault;
+use vx_reading::{is_bool, true_rows};
 
 impl Step {
     /// The rule that the step breaks over `len` rows; none where it breaks none.
@@ -28,7 +29,7 @@ impl Step {
             }
             Step::Filter(mask) => bad_mask(mask.len(), len),
             Step::FilterBy(column) => {
-                if column.array().is_bool() {
+                if is_bool(column.array()) {
                     bad_mask(column.array().len(), len)
                 } else {
                     Some(Cause::NotBool)
@@ -45,7 +46,7 @@ impl Step {
         match self {
             Step::Slice { start, end } => end.saturating_sub(*start),
             Step::Filter(mask) => mask.true_count(),
-            Step::FilterBy(column) => column.array().true_rows(),
+            Step::FilterBy(column) => true_rows(column.array()),
             Step::Take(indices) => indices.len(),
         }
     }
@@ -74,7 +75,7 @@ fn cause_of(fault: Option<IndexFault>, len: usize) -> Option<Cause>
     }
 }
 
-/// How many rows the steps leave of `len` rows. It takes no memory.
+/// How many rows the steps leave of `len` rows.
 ///
 /// `Broken` exactly where a step breaks a rule, with the first one, and never `NoMemory`.
 pub fn check_steps(len: usize, steps: &[Step]) -> Result<usize, SelectError>

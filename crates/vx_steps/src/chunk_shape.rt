@@ -60,7 +60,7 @@ fn is_counted(offset: usize, len: usize) -> bool
 }
 
 impl ChunkShape {
-    /// The column of the `len` values from value `offset` on. It takes no memory.
+    /// The column of the `len` values from value `offset` on.
     ///
     /// `WrongType` exactly where the type isn't primitive or decimal, or has nulls where the
     /// validity has none, or none where it may. Else `BadValidity` exactly where the validity is

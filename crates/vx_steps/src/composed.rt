@@ -15,9 +15,10 @@ use crate::span::Span;
 use crate::step::Step;
 use std::alloc::Global;
 use vx_bits::NoMemory;
-use vx_column::{Array, mask_of};
+use vx_column::Array;
 use vx_mask::Mask;
 use vx_pieces::Indices;
+use vx_reading::mask_of;
 use vx_take::Picks;
 
 /// Picks, as a range as long as slices alone made them.
@@ -132,8 +133,8 @@ impl Composed {
         Ok(found)
     }
 
-    // The same, where the later picks are no longer needed: they are their own where all positions
-    // stand before them.
+    // The picks that later picks name, and null at a null. The later picks, which are no longer
+    // needed, are returned as they are where these picks are all positions.
     fn named_by(self, alloc: Global, later: Picks) -> Result<Picks, NoMemory>
         requires { later.bound ≡ length (picks_in self) }
         ensures { IfOk result (λ p. p ≡ record {
@@ -149,7 +150,7 @@ impl Composed {
         self.each_looked_up(alloc, &later)
     }
 
-    // The picks from number `start` up to `end`. A range stays one, and takes no memory.
+    // The picks from number `start` up to `end`. A range stays one, and allocates nothing.
     fn slice(self, alloc: Global, start: usize, end: usize) -> Result<Composed, NoMemory>
         requires ordered { start ≤ end }
         requires within { end ≤ length (picks_in self) }

@@ -63,7 +63,7 @@ fn composed_by(alloc: Global, len: usize, steps: &[Step]) -> Result<Composed, Se
 /// For each row that the steps leave of `len` rows its position among these, or none for a null.
 ///
 /// `Broken` exactly where a step breaks a rule, with the first one, even when memory runs out.
-/// `NoMemory` only where none does. Slices alone take no memory beyond the answer.
+/// `NoMemory` only where none does. Slices alone allocate nothing but the result.
 pub fn compose(alloc: Global, len: usize, steps: &[Step]) -> Result<Picks, SelectError>
     ensures picks { IfOk result (λ p. walk len (map step_value steps.now) ≡ walk_picks p.picks) }
     ensures bound { IfOk result (λ p. p.bound ≡ len) }

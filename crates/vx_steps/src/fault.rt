@@ -21,7 +21,7 @@ fn put(dst: &mut [u8; FAULT_ROOM], at: usize, part: &str) -> usize
     end
 }
 
-// The same of a number in decimal digits.
+// Writes a number in decimal digits behind what is there, and returns where it ends.
 fn put_number(dst: &mut [u8; FAULT_ROOM], at: usize, number: usize) -> usize
     requires { at + 20 ≤ FAULT_ROOM }
     ensures len { result ≤ at + 20 }
@@ -31,7 +31,7 @@ fn put_number(dst: &mut [u8; FAULT_ROOM], at: usize, number: usize) -> usize
     put(dst, at, buffer.format(number))
 }
 
-// The same of a part and a number behind it.
+// Writes a part of the line and a number behind what is there, and returns where they end.
 fn put_counted(dst: &mut [u8; FAULT_ROOM], at: usize, part: &str, number: usize) -> usize
     requires { at + length part.now + 20 ≤ FAULT_ROOM }
     ensures len { result ≤ at + length part.now + 20 }
@@ -41,7 +41,7 @@ fn put_counted(dst: &mut [u8; FAULT_ROOM], at: usize, part: &str, number: usize)
     put_number(dst, at, number)
 }
 
-// The same of an index, which may be negative.
+// Writes an index, which may be negative, behind what is there, and returns where it ends.
 fn put_index(dst: &mut [u8; FAULT_ROOM], at: usize, index: &i128) -> usize
     requires { at + 40 ≤ FAULT_ROOM }
     ensures len { result ≤ at + 40 }
@@ -51,7 +51,7 @@ fn put_index(dst: &mut [u8; FAULT_ROOM], at: usize, index: &i128) -> usize
     put(dst, at, buffer.format(*index))
 }
 
-// The same of a broken rule, behind at most 30 bytes.
+// Writes a broken rule behind what is there, at most 30 bytes, and returns where it ends.
 fn put_cause(dst: &mut [u8; FAULT_ROOM], at: usize, cause: &Cause) -> usize
     requires { at ≤ 30 }
     ensures len { result ≤ at + 80 }
@@ -79,7 +79,7 @@ fn put_cause(dst: &mut [u8; FAULT_ROOM], at: usize, cause: &Cause) -> usize
 }
 
 /// Writes the line of a broken step, counted from 0, and its cause to the front of `dst`, and
-/// answers its length. It takes no memory.
+/// answers its length.
 pub fn fault_line(step: usize, cause: &Cause, dst: &mut [u8; FAULT_ROOM]) -> usize
     ensures len { result ≤ FAULT_ROOM }
     ensures text { take result dst.new ≡ fault_text step cause.now }

@@ -1,8 +1,8 @@
 //! One step of a list.
 
-use vx_column::FlatRef;
 use vx_mask::Mask;
 use vx_pieces::Indices;
+use vx_plain::FlatRef;
 
 /// One step over the rows that the steps before it left.
 #[derive(Drop)]

@@ -1,5 +1,5 @@
 -- A value that is stored row by row gives a row of it in each place, and null where none is there.
-use Rattle.std.proofs.Common.{◌≡◌, ℕ, Bool, true, false, List, cond, map, None, Some, refl, sym, ap, ◌∙◌, subst}
+use Rattle.std.proofs.Common.{◌≡◌, ℕ, Bool, true, false, cond, map, None, Some, refl, sym, ap, ◌∙◌, subst}
 use Rattle.std.specs.Prelude.{replicate, Result, Ok, Err, IfOk}
 use Rattle.std.proofs.lemmas.List.{length-replicate}
 use Rattle.vx_types.specs.TypeTree.{TypeKind, TypeTree, bool_kind, is_bool_kind, null_type}
@@ -9,9 +9,9 @@ use Rattle.vx_types.specs.declared.error.ColumnError.TheVariants.{WrongType, Wro
 use Rattle.vx_model.specs.Column.{Column}
 use Rattle.vx_model.specs.Valid.{Valid, all_invalid, present_bits, shown_rows, stored_rows}
 use Rattle.vx_model.specs.Null.{null_column}
-use Rattle.vx_model.proofs.Items.{map-replicate}
 use Rattle.vx_model.proofs.ShownRows.{none_shown}
 use Rattle.vx_stored.specs.Scalars.{bit_or_false, bytes_or_zeros}
+use Rattle.vx_lemmas.proofs.Lists.{map-replicate}
 
 -- what holds of a column holds of a result that is it
 pub of_column : {E : Type 0} (P : Column → Type 0) (r : Result Column E) (k : Column) → IfOk r (λ a. a ≡ k) → P k → IfOk r P

@@ -1,6 +1,5 @@
 -- What `vx_text` requires of a step, by what the step requires of the rows.
-use Rattle.std.proofs.Common.{◌≡◌, ℕ, ◌-◌, ◌≤◌, true, false, List, Option, None, length, slice_range, refl, sym, ap, ◌∙◌, arith}
-use Rattle.vx_take.specs.Picks.{at}
+use Rattle.std.proofs.Common.{◌≡◌, ℕ, ◌-◌, ◌≤◌, true, None, length, slice_range, refl, sym, ap, ◌∙◌, arith}
 use Rattle.vx_types.specs.declared.nullability.Nullability.{Nullability}
 use Rattle.vx_model.specs.Valid.{Valid, is_fitting, present_bits, IsLeft}
 use Rattle.vx_model.specs.Text.{stored_texts}
@@ -10,16 +9,13 @@ use Rattle.vx_model.proofs.Items.{length-slice_range}
 use Rattle.vx_model.proofs.Steps.{fitting-slice, fitting-take}
 use Rattle.vx_model.proofs.Texts.{fits-varbin, fits-views, items-texts, items-varbin}
 
-pub picked-fits : (v w : Valid) (n : Nullability) (m : ℕ) (picks : List (Option ℕ)) → IsLeft v n (at false (present_bits v m) picks) w → is_fitting w (length picks) ≡ true
-picked-fits v w n m picks left = fitting-take v w n m picks left
-
 pub picked-varbin : (p : VarBinParts) (k : ℕ) → k ≡ length (stored_texts (varbin_texts p)).items → k ≤ length (varbin_texts p).texts
 picked-varbin p k h = omega (arith, h, items-varbin p)
 
 pub picked-views : (p : ViewParts) (k : ℕ) → k ≡ length (stored_texts (view_texts p)).items → k ≤ length (view_texts p).texts
 picked-views p k h = omega (arith, h, items-texts (view_texts p))
 
-pub ruleset picked_texts = (picked-fits, picked-varbin, picked-views)
+pub ruleset picked_texts = (fitting-take, picked-varbin, picked-views)
 
 pub cut-varbin : (p : VarBinParts) (k : ℕ) → k ≤ length (stored_texts (varbin_texts p)).items → k ≤ length (varbin_texts p).texts
 cut-varbin p k h = omega (arith, h, items-varbin p)

@@ -1,20 +1,22 @@
 //! One value for every row, stored row by row.
-ghost use Rattle.std.specs.Prelude.{◌≡◌, length, map, replicate, true, false, IfOk, IfSome};
+ghost use Rattle.std.specs.Prelude.{◌≡◌, length, replicate, true, false, IfOk, IfSome};
 ghost use Rattle.vx_bits.specs.Records.{records_of, width_of};
 ghost use Rattle.vx_types.specs.Decimal.{is_width};
 ghost use Rattle.vx_types.specs.RowValue.{null, bytes};
 ghost use Rattle.vx_types.specs.Scalar.{is_text_kind, scalar_row};
 ghost use Rattle.vx_types.specs.TypeTree.{is_flat, kind_width, with_nullability};
-ghost use Rattle.vx_model.specs.Valid.{all_invalid, cover_by, is_fitting, is_flat_cover, nullability_by, present_bits, shown_rows, stored_rows};
+ghost use Rattle.vx_model.specs.Valid.{all_invalid, cover_by, is_fitting, is_flat_cover, nullability_by, present_bits, shown_rows};
 ghost use Rattle.vx_model.specs.Plain.{is_lazy_layout, is_unwrapped};
-ghost use Rattle.vx_column.specs.Records.{kind_of};
+ghost use Rattle.vx_types.specs.RecordType.{kind_of};
 ghost use Rattle.vx_column.specs.Validity.{valid_of};
 ghost use Rattle.vx_stored.specs.Scalars.{bit_or_false, bytes_or_zeros, copied_bits, copied_records, text_layout};
 
 use crate::texts::store_texts;
 use std::alloc::Global;
 use vx_bits::{BitBuffer, BitBuilder, Buffer, NoMemory, Records};
-use vx_column::{Array, BoolArray, DType, NullArray, RecordType, Scalar, ScalarValue, Validity};
+use vx_column::{
+    Array, BoolArray, DType, NullArray, RecordType, Scalar, ScalarValue, Validity, record_column,
+};
 
 // So many bits, each the value's; false for a null.
 fn bits_alike(alloc: Global, value: &ScalarValue, len: usize) -> Result<BitBuffer, NoMemory>
@@ -111,13 +113,13 @@ fn store_records(
         ≡ copied_records (kind_of record_type) (scalar_row value.now) len (valid_of validity)) }
 {
     let values = value_records(alloc, value, record_type.width(), len)?;
-    Ok(record_type.column(values, validity))
+    Ok(record_column(record_type, values, validity))
 }
 
 /// `len` rows of one value, null where the validity says no, stored row by row. Fails only with
 /// `NoMemory`.
 #[tactic(auto, using(vx_model::proofs::Scalars::scalar_kinds))]
-pub fn store_scalar(
+pub(crate) fn store_scalar(
     alloc: Global,
     scalar: &Scalar,
     len: usize,

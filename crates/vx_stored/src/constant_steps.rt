@@ -24,7 +24,7 @@ use vx_column::{Array, ConstantArray, Nullability, Scalar, ScalarValue, Validity
 use vx_mask::MaskValues;
 use vx_take::{Picks, valid_bits};
 
-/// The rows from `start` up to `end`. It takes no memory.
+/// The rows from `start` up to `end`.
 #[tactic(auto, using(vx_model::proofs::LazyRows::lazy_rows))]
 pub fn slice_constant(array: &ConstantArray, start: usize, end: usize) -> Array
     requires ordered { start ≤ end }
@@ -34,7 +34,7 @@ pub fn slice_constant(array: &ConstantArray, start: usize, end: usize) -> Array
     ConstantArray::new(array.scalar().share(), end - start).into_array()
 }
 
-/// The rows at the set positions of `mask`. It takes no memory.
+/// The rows at the set positions of `mask`.
 #[tactic(auto, using(vx_model::proofs::LazyRows::lazy_rows))]
 pub fn filter_constant(array: &ConstantArray, mask: &MaskValues) -> Array
     requires { length mask.now.bits.bits ≡ length (constant_column array.now).rows }
@@ -138,8 +138,8 @@ fn validity_for(scalar: &Scalar) -> Validity
     }
 }
 
-/// The same rows of one text, stored one after another: views of it, where its length fits a view,
-/// else texts with offsets of type `U64`. Fails only with `NoMemory`.
+/// The rows of a constant text, stored one after another: views of it, where its length fits a
+/// view, else texts with offsets of type `U64`. Fails only with `NoMemory`.
 #[tactic(auto, using(vx_model::proofs::LazyRows::lazy_rows))]
 pub fn execute_texts(alloc: Global, array: &ConstantArray) -> Result<TextCopies, NoMemory>
     requires { is_text_kind (constant_column array.now).dtype.kind ≡ true }
@@ -153,7 +153,7 @@ pub fn execute_texts(alloc: Global, array: &ConstantArray) -> Result<TextCopies,
     store_texts(alloc, scalar, array.len(), validity_for(scalar))
 }
 
-/// The same rows, stored one after another. Fails only with `NoMemory`.
+/// The rows of a constant, stored one after another. Fails only with `NoMemory`.
 #[tactic(auto, using(vx_model::proofs::LazyRows::lazy_rows))]
 pub fn execute_constant(alloc: Global, array: &ConstantArray) -> Result<Array, NoMemory>
     ensures same { IfOk result (IsStep (constant_column array.now) (constant_column array.now).rows

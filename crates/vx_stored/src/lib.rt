@@ -13,11 +13,10 @@ mod texts;
 mod varbin;
 mod varbinview;
 
-pub use constant::store_scalar;
 pub use constant_steps::{
     constant_bits, execute_constant, execute_texts, filter_constant, slice_constant, take_constant,
 };
 pub use null::{filter_nulls, slice_nulls, take_nulls};
 pub use record_array::take_array_runs;
 pub use stored::{filter_stored, slice_stored, take_stored, with_validity};
-pub use texts::{TextCopies, store_texts};
+pub use texts::TextCopies;

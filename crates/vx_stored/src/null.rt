@@ -8,7 +8,7 @@ use vx_column::{Array, NullArray, Nullability};
 use vx_mask::MaskValues;
 use vx_take::Picks;
 
-/// The rows from `start` up to `end`. It takes no memory.
+/// The rows from `start` up to `end`.
 #[tactic(auto, using(vx_model::proofs::Layouts::layout_rows))]
 pub fn slice_nulls(array: &NullArray, start: usize, end: usize) -> Array
     requires ordered { start ≤ end }
@@ -20,7 +20,7 @@ pub fn slice_nulls(array: &NullArray, start: usize, end: usize) -> Array
     NullArray::new(end - start).into_array()
 }
 
-/// The rows at the set positions of `mask`. It takes no memory.
+/// The rows at the set positions of `mask`.
 pub fn filter_nulls(array: &NullArray, mask: &MaskValues) -> Array
     requires { length mask.now.bits.bits ≡ length (null_column array.now).rows }
     ensures { IsCut (null_column array.now)
@@ -31,7 +31,7 @@ pub fn filter_nulls(array: &NullArray, mask: &MaskValues) -> Array
     NullArray::new(mask.true_count()).into_array()
 }
 
-/// A null for each of the picks. It takes no memory.
+/// A null for each of the picks.
 pub fn take_nulls(array: &NullArray, picks: &Picks, nullability: Nullability) -> Array
     ensures { IsTake (null_column array.now) picks.now.picks nullability result }
 {

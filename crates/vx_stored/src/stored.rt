@@ -7,18 +7,19 @@ ghost use Rattle.vx_take.specs.Picks.{at};
 ghost use Rattle.vx_model.specs.Valid.{nullability_by, present_bits, IsAsPlain, IsLeft};
 ghost use Rattle.vx_model.specs.Stored.{stored_column};
 ghost use Rattle.vx_model.specs.Step.{IsCut, IsSlice, IsStep};
-ghost use Rattle.vx_column.specs.Stored.{parts_of};
+ghost use Rattle.vx_plain.specs.Stored.{parts_of};
 ghost use Rattle.vx_column.specs.Validity.{valid_of};
 ghost use Rattle.vx_stored.specs.Left.{left_type};
 
 use crate::rows::StoredRows;
 use std::alloc::Global;
 use vx_bits::NoMemory;
-use vx_column::{Array, BoolArray, Stored, Validity};
+use vx_column::{Array, BoolArray, Validity};
 use vx_mask::{MaskValues, Policy};
+use vx_plain::Stored;
 use vx_take::Picks;
 
-/// The rows from `start` up to `end`, with their validity. It takes no memory.
+/// The rows from `start` up to `end`, with their validity.
 pub fn slice_stored(stored: Stored<'_>, start: usize, end: usize, validity: Validity) -> Array
     requires ordered { start ≤ end }
     requires within { end ≤ length (parts_of stored).items }
@@ -86,7 +87,7 @@ pub fn take_stored(
     }
 }
 
-/// The same rows, with a validity in place of theirs that says the same. It takes no memory.
+/// The stored rows, with a validity in place of theirs that says as much of each row.
 pub fn with_validity(stored: Stored<'_>, validity: Validity) -> Array
     requires { IsLeft (parts_of stored).valid (nullability_by (parts_of stored).valid)
         (present_bits (parts_of stored).valid (length (parts_of stored).items))

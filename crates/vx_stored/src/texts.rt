@@ -28,7 +28,7 @@ pub enum TextCopies {
 }
 
 impl TextCopies {
-    /// The copies as a column. It takes no memory.
+    /// The copies as a column.
     pub fn into_array(self) -> Array
         ensures { result ≡ copies_column self }
     {
@@ -93,7 +93,7 @@ fn kind_of_texts(dtype: &DType) -> TextKind
 /// `len` rows of one text, null where the validity says no, stored row by row: views of it, where
 /// its length fits a view, else one text after another with offsets of type `U64`. Fails only with
 /// `NoMemory`.
-pub fn store_texts(
+pub(crate) fn store_texts(
     alloc: Global,
     scalar: &Scalar,
     len: usize,

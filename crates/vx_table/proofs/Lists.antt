@@ -1,14 +1,11 @@
 -- Lists, item by item.
 use Rattle.std.proofs.Common.{◌≡◌, ℕ, zero, suc, ◌+◌, ◌<◌, Bool, true, false, cond, List, [], ◌∷◌, ◌++◌, length, map, take, drop, Option, Some, None, refl, sym, ap, ◌∙◌, subst, arith}
-use Rattle.std.specs.Prelude.{IfOk, Result, Ok, Err, find, nat_le, slice_get}
-use Rattle.vx_bits.specs.Results.{ok_unless}
+use Rattle.std.specs.Prelude.{find, nat_le, slice_get}
 use Rattle.std.specs.List.{All, cons_option, filter_map, position_from}
 use Rattle.std.specs.Option.{option_map}
 use Rattle.std.proofs.lemmas.Bool.Decides.{nat_tests}
-use Rattle.std.proofs.lemmas.List.Elements.{All-cons, filter_map-append}
-
-some_same : {X : Type 0} (a b : X) → Some a ≡ Some b → a ≡ b
-some_same a b h = cc
+use Rattle.std.proofs.lemmas.List.Elements.{All-cons, filter_map-append, All-tail}
+use Rattle.vx_lemmas.proofs.Options.{some_same}
 
 -- ---- the list from item i on, and up to it
 
@@ -47,13 +44,10 @@ got [] i h = absurd (omega arith)
 got (x ∷ xs) zero h = (x, refl)
 got (x ∷ xs) (suc i) h = got xs i (omega arith)
 
-pub All-rest : {X : Type 0} (P : X → Type 0) (x : X) (xs : List X) → All P (x ∷ xs) → All P xs
-All-rest P x xs h = λ k d l. h (suc k) d (omega arith)
-
 pub All-get : {X : Type 0} (P : X → Type 0) (xs : List X) (i : ℕ) (x : X) → All P xs → slice_get xs i ≡ Some x → P x
 All-get P [] i x h e = cc
 All-get P (y ∷ xs) zero x h e = subst P (some_same y x e) (h zero y (omega arith))
-All-get P (y ∷ xs) (suc i) x h e = All-get P xs i x (All-rest P y xs h) e
+All-get P (y ∷ xs) (suc i) x h e = All-get P xs i x (All-tail P y xs h) e
 
 -- where all numbers are those of items, each of them is chosen
 pub length-chosen : {X : Type 0} (xs : List X) (numbers : List ℕ) → All (λ i. i < length xs) numbers → length (filter_map (slice_get xs) numbers) ≡ length numbers
@@ -61,7 +55,7 @@ length-chosen xs [] h = refl
 length-chosen xs (i ∷ numbers) h =
     let here = got xs i (h zero i (omega arith)) in
     ap (λ o. length (cons_option o (filter_map (slice_get xs) numbers))) here.1
-    ∙ ap suc (length-chosen xs numbers (All-rest (λ j. j < length xs) i numbers h))
+    ∙ ap suc (length-chosen xs numbers (All-tail (λ j. j < length xs) i numbers h))
 
 -- and what holds of each item holds of the chosen ones
 pub All-chosen : {X : Type 0} (P : X → Type 0) (xs : List X) (numbers : List ℕ) → All P xs → All P (filter_map (slice_get xs) numbers)
@@ -74,21 +68,6 @@ All-chosen {X} P xs (i ∷ numbers) h = by (slice_get xs i) refl (All-chosen P x
     by : (o : Option X) → slice_get xs i ≡ o → All P rest → All P (cons_option o rest)
     by None e later = later
     by (Some x) e later = All-cons P x rest (All-get P xs i x h e) later
-
--- ---- results
-
-pub weaker : {T E : Type 0} (r : Result T E) {P Q : T → Type 0} → IfOk r P → ((x : T) → P x → Q x) → IfOk r Q
-weaker (Ok x) h f = f x h
-weaker (Err e) h f = tt
-
--- what has no fault is made
-pub is_made : {T E : Type 0} (fault : Option E) (value : T) (e : E) (r : Result T E) → r ≡ ok_unless fault value → fault ≡ None → r ≡ Err e → ⊥
-is_made None value e r is none h = cc
-is_made (Some x) value e r is none h = cc
-
-pub made_is : {T E : Type 0} (fault : Option E) (value x : T) (r : Result T E) → r ≡ ok_unless fault value → fault ≡ None → r ≡ Ok x → x ≡ value
-made_is None value x r is none h = cc
-made_is (Some e) value x r is none h = cc
 
 -- ---- numbers of items
 

@@ -1,11 +1,11 @@
 -- Tables: their lengths, and the rows of their columns at picks.
-use Rattle.std.proofs.Common.{◌≡◌, ℕ, zero, ◌+◌, ◌-◌, ◌<◌, Bool, true, false, cond, List, [], ◌∷◌, ◌++◌, length, map, take, get_or, Option, Some, None, refl, sym, ap, ap₂, ◌∙◌, subst, arith, eq-eqb}
+use Rattle.std.proofs.Common.{◌≡◌, ℕ, zero, ◌+◌, ◌-◌, ◌<◌, Bool, true, false, cond, List, [], ◌∷◌, ◌++◌, length, map, get_or, Option, Some, None, refl, sym, ap, ap₂, ◌∙◌, subst, arith, eq-eqb}
 use Rattle.std.specs.Prelude.{Result, Ok, Err, not, slice_get, ◌==◌, if◌then◌else◌}
 use Rattle.std.specs.List.{All, position_from}
 use Rattle.std.specs.Option.{option_map}
 use Rattle.std.proofs.lemmas.Bool.{eqb-true}
 use Rattle.std.proofs.lemmas.List.{length-append, length-map, map-append}
-use Rattle.std.proofs.lemmas.List.Elements.{All-append, All-cons, All-nil}
+use Rattle.std.proofs.lemmas.List.Elements.{All-append, All-cons, All-nil, All-tail}
 use Rattle.std.proofs.lemmas.Option.{slice_get_read}
 use Rattle.std.specs.Rc.{rc_str_bytes}
 use Rattle.std.specs.declared.rc.RcStr.{RcStr}
@@ -28,12 +28,12 @@ use Rattle.vx_select.specs.Select.{IsSelection}
 use Rattle.vx_steps.specs.Compose.{takes_nullability}
 use Rattle.vx_steps.proofs.Walks.{length-all_positions}
 use Rattle.vx_select.proofs.Selecting.{answered, at-all_positions, at-apply}
-use Rattle.vx_select.proofs.ChunkRows.{type_after-takes}
 use Rattle.vx_table.specs.Table.{AreLong, TableValue, names_of, table_fault}
 use Rattle.vx_table.specs.Taken.{AreTaken, IsTaken, beside, columns_at}
 use Rattle.vx_table.specs.Page.{IsCutOf, IsPage, cut}
 use Rattle.vx_table.specs.declared.error.TableError.TheVariants.{WrongCount, WrongLength}
-use Rattle.vx_table.proofs.Lists.{All-chosen, All-rest, length-chosen, slice_get-map}
+use Rattle.vx_table.proofs.Lists.{All-chosen, length-chosen, slice_get-map}
+use Rattle.vx_steps.proofs.StepTypes.{type_after-takes}
 
 -- ---- names
 
@@ -63,7 +63,7 @@ pub none_other : (n : ℕ) (columns : List Column) (k : ℕ) → AreLong n colum
 none_other n [] k h = refl
 none_other n (c ∷ columns) k h =
     ap (λ b. cond (not b) (Some k) (position_from (λ (x : Column). not (length x.rows == n)) (k + 1) columns)) (eq-eqb (length c.rows) n (h zero c (omega arith)))
-    ∙ none_other n columns (k + 1) (All-rest (λ (x : Column). length x.rows ≡ n) c columns h)
+    ∙ none_other n columns (k + 1) (All-tail (λ (x : Column). length x.rows ≡ n) c columns h)
 
 -- what makes a table
 pub no_fault : (t : TableValue) → length t.names ≡ length t.columns → AreLong t.len t.columns → table_fault t ≡ None

@@ -53,7 +53,7 @@ fn first_of_other_length(columns: &Columns, len: usize) -> Option<usize>
 }
 
 impl Table {
-    /// The table of these names and columns, with `len` rows. It takes no memory.
+    /// The table of these names and columns, with `len` rows.
     ///
     /// `WrongCount` exactly where there aren't as many names as columns. Else `WrongLength` exactly
     /// where a column hasn't `len` rows, with the first one.

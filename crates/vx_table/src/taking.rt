@@ -39,7 +39,7 @@ fn taken_column(
     }
 }
 
-// The same of each column of a list, all of them so long.
+// The rows that the indices name of each of these columns, all of them `len` rows long.
 fn taken_columns(
     alloc: Global,
     columns: &Columns,

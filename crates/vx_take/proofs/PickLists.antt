@@ -4,7 +4,7 @@ use Rattle.std.specs.Prelude.{IfSome, Option, ◌==◌}
 use Rattle.std.proofs.lemmas.Bool.{eqb-false, ne_eqb}
 use Rattle.std.specs.List.{All}
 use Rattle.std.proofs.lemmas.List.Elements.{All-tail}
-use Rattle.std.proofs.lemmas.List.{get_or-map, length-append, length-map, map_more, map-append, take_all}
+use Rattle.std.proofs.lemmas.List.{get_or-map, length-map, map_more, map-append, take_all}
 use Rattle.vx_take.specs.Picks.{ArePlaces, AreBelow, IsPlace, null_place, pick_of, picks_of}
 
 place_tested : (place bound : ℕ) (null : Bool) → (place == null_place) ≡ null → IsPlace place bound → IfSome (cond null None (Some place)) (λ p. p < bound)
@@ -32,9 +32,6 @@ module _ {X : Type 0} (f : Option ℕ → X) (places : List ℕ) (k : ℕ) where
 
   pub all_items : (picks : List (Option ℕ)) (all : List X) → length places ≤ k → picks_of places ≡ picks → all ≡ map f (picks_of (take k places)) → all ≡ map f picks
   all_items picks all h is e = e ∙ ap (λ l. map f (picks_of l)) (take_all k places h) ∙ ap (map f) is
-
-pub item_count : {X : Type 0} (old new : List X) (item : X) (k : ℕ) → new ≡ old ++ item ∷ [] → length old ≡ k → length new ≡ k + 1
-item_count old new item k more n = ap length more ∙ length-append old (item ∷ []) ∙ omega (arith, n)
 
 -- positions below a bound are picks, and none of them a null
 pub picks_below : (bound : ℕ) (positions : List ℕ) → bound < 2 ^ 64 → All (λ p. p < bound) positions → picks_of positions ≡ map Some positions

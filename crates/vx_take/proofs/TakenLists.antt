@@ -1,9 +1,9 @@
 -- Lemmas on lists at picks, at set positions and at ranks.
 use Rattle.std.proofs.Common.{◌≡◌, ℕ, zero, suc, ◌+◌, ◌<◌, Bool, true, false, List, [], ◌∷◌, length, get_or, map, take, None, Some, inl, inr, refl, sym, ap, ap₂, ◌∙◌, arith}
 use Rattle.std.specs.Prelude.{IfSome, Option, unwrap_or}
-use Rattle.std.specs.List.{items_where_true, slice_get}
+use Rattle.std.specs.List.{items_where_true, slice_get, list_all}
 use Rattle.std.specs.Option.{option_map}
-use Rattle.std.proofs.lemmas.Bool.{cases_lt}
+use Rattle.std.proofs.lemmas.Bool.{cases_lt, and_from}
 use Rattle.std.proofs.lemmas.List.{get_or_default, get_or-map}
 use Rattle.std.proofs.lemmas.Option.{slice_get_within}
 use Rattle.std.proofs.lemmas.Simd.{map-map}
@@ -14,6 +14,8 @@ use Rattle.vx_mask.proofs.RankedItems.{items_at_the_set}
 use Rattle.vx_take.specs.Laws.{EachIsOneRank, SetAscends}
 use Rattle.vx_take.specs.Picks.{AreBelow, at, item_at}
 use Rattle.vx_take.specs.Ranks.{AreSet, ranks_of_picks, positions_by_rank}
+use Rattle.vx_lemmas.proofs.Lists.{map_alike}
+use Rattle.vx_lemmas.proofs.Tests.{all-get}
 
 pub set_ascends : (bits : List Bool) → SetAscends bits
 set_ascends bits k d h =
@@ -21,11 +23,6 @@ set_ascends bits k d h =
     let first = get_or_default (set_of bits) k d 0 here in
     let next = get_or_default (set_of bits) (k + 1) d 0 h in
     omega (arith, first, next, ranks_ascend bits k (k + 1) (omega arith) (omega (arith, h, length-positions 0 bits)))
-
--- functions that agree everywhere
-map_alike : {X Y : Type 0} (f g : X → Y) → ((x : X) → f x ≡ g x) → (xs : List X) → map f xs ≡ map g xs
-map_alike f g same [] = refl
-map_alike f g same (x ∷ xs) = ap₂ ◌∷◌ (same x) (map_alike f g same xs)
 
 module _ {X : Type 0} (missing : X) where
   get_or_got : (items : List X) (p : ℕ) → unwrap_or (slice_get items p) missing ≡ get_or items p missing
@@ -118,3 +115,9 @@ one_rank bits picks just p has =
         ]
       ];
     }
+
+-- what a test says of all items and of the one for a null it says of the items at picks
+pub all-at : {X : Type 0} (p : X → Bool) (fill : X) (xs : List X) (picks : List (Option ℕ)) → p fill ≡ true → list_all p xs ≡ true → list_all p (at fill xs picks) ≡ true
+all-at p fill xs [] f h = refl
+all-at p fill xs (None ∷ picks) f h = and_from (p fill) _ f (all-at p fill xs picks f h)
+all-at p fill xs (Some k ∷ picks) f h = and_from (p (get_or xs k fill)) _ (all-get p fill xs k f h) (all-at p fill xs picks f h)

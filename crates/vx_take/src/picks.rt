@@ -36,7 +36,7 @@ impl Drop for Picks {
 }
 
 impl Picks {
-    /// No pick yet. It takes no memory.
+    /// An empty list of picks. Allocates nothing.
     pub fn new(alloc: Global, bound: usize) -> Picks
         ensures { result ≡ record { picks = []; bound = bound } }
     {
@@ -57,7 +57,7 @@ impl Picks {
     }
 
     /// The picks of a list of positions, none of them a null: a whole list is handed over as it
-    /// stands. It takes no memory.
+    /// stands.
     pub fn from_vec(positions: Vec<usize>, bound: usize) -> Picks
         requires { All (λ p. p < bound) positions.items }
         ensures { result ≡ record { picks = map Some positions.items; bound = bound } }

@@ -117,7 +117,7 @@ fn one_by_one(alloc: Global, filter: &Mask, ranks: &Picks) -> Result<Vec<usize>,
     by_rank(alloc, &counted, ranks)
 }
 
-// The same by what the mask keeps.
+// The places of ranks, each looked up by what the mask keeps.
 fn by_rank(alloc: Global, filter: &Mask, ranks: &Picks) -> Result<Vec<usize>, NoMemory>
     requires { ranks.now.bound ≤ true_count_of (mask_bits filter.now) }
     ensures { IfOk result (λ places. places.items

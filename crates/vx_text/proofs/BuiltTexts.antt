@@ -15,21 +15,22 @@ use Rattle.vx_model.specs.VarBin.{VarBinParts, is_never_null, row_count, varbin_
 use Rattle.vx_model.proofs.Texts.{length-lists_at}
 use Rattle.vx_model.specs.Text.{kept_texts}
 use Rattle.vx_text.proofs.CutOffsets.{sound-varbin}
-use Rattle.vx_positions.specs.Offsets.{are_offsets, offset_positions, lists_at}
+use Rattle.vx_offsets.specs.Offsets.{are_offsets, offset_positions, lists_at}
 use Rattle.vx_text.specs.OffsetList.{OffsetList, first_type, greatest_offset, wide_type, with_offset}
 use Rattle.vx_offsets.specs.Cut.{is_cut, type_of}
-use Rattle.vx_offsets.proofs.Cuts.{equal, at_most, not_past, same, begins_within, positions_back, cut_are}
+use Rattle.vx_offsets.proofs.Cuts.{at_most, same, begins_within, positions_back, cut_are}
 use Rattle.vx_text.specs.Building.{type_for, AreTexts}
 use Rattle.vx_text.specs.Left.{LeavesTexts}
-use Rattle.vx_offsets.proofs.Both.{first, rest, join}
+use Rattle.std.proofs.lemmas.Bool.{and_from, eqb-true, le-leb}
+use Rattle.std.specs.Cmp.{first_so, second_so}
 
 -- ---- offsets that cut so many bytes
 
 pub cut_more : (os : List ℕ) (n m : ℕ) → is_cut os n ≡ true → n ≤ m → is_cut (os ++ m ∷ []) m ≡ true
 cut_more [] n m h l = cc
-cut_more (a ∷ []) n m h l = join (nat_le a m) (m == m) (not_past a m (omega (arith, equal a n h, l))) (same m)
+cut_more (a ∷ []) n m h l = and_from (nat_le a m) (m == m) (le-leb a m (omega (arith, eqb-true a n h, l))) (same m)
 cut_more (a ∷ b ∷ os) n m h l =
-    join (nat_le a b) _ (first (nat_le a b) (is_cut (b ∷ os) n) h) (cut_more (b ∷ os) n m (rest (nat_le a b) (is_cut (b ∷ os) n) h) l)
+    and_from (nat_le a b) _ (first_so (nat_le a b) (is_cut (b ∷ os) n) h) (cut_more (b ∷ os) n m (second_so (nat_le a b) (is_cut (b ∷ os) n) h) l)
 
 -- a text between offsets stays where more bytes come
 stays : (xs t : List ℕ) (a b : ℕ) → a ≤ b → b ≤ length xs → slice_range (xs ++ t) a b ≡ slice_range xs a b
@@ -48,18 +49,18 @@ comes xs t =
 pub lists_more : (os xs t : List ℕ) → is_cut os (length xs) ≡ true → lists_at (os ++ (length xs + length t) ∷ []) (xs ++ t) ≡ lists_at os xs ++ t ∷ []
 lists_more [] xs t h = cc
 lists_more (a ∷ []) xs t h =
-    ap (λ k. slice_range (xs ++ t) k (length xs + length t) ∷ []) (equal a (length xs) h) ∙ ap (λ l. l ∷ []) (comes xs t)
+    ap (λ k. slice_range (xs ++ t) k (length xs + length t) ∷ []) (eqb-true a (length xs) h) ∙ ap (λ l. l ∷ []) (comes xs t)
 lists_more (a ∷ b ∷ os) xs t h =
-    let more = rest (nat_le a b) (is_cut (b ∷ os) (length xs)) h in
+    let more = second_so (nat_le a b) (is_cut (b ∷ os) (length xs)) h in
     ap₂ ◌∷◌
-    (stays xs t a b (at_most a b (first (nat_le a b) (is_cut (b ∷ os) (length xs)) h)) (begins_within b (length xs) os more))
+    (stays xs t a b (at_most a b (first_so (nat_le a b) (is_cut (b ∷ os) (length xs)) h)) (begins_within b (length xs) os more))
     (lists_more (b ∷ os) xs t more)
 
 -- ---- their type
 
 wide_holds : (t : PType) (m : ℕ) (signed : Bool) → m < 2 ^ 63 → is_signed t ≡ signed → nat_le m (greatest_offset (wide_type t)) ≡ true
-wide_holds t m true h e = rw e (not_past m 9223372036854775807 (omega (arith, h)))
-wide_holds t m false h e = rw e (not_past m 9223372036854775807 (omega (arith, h)))
+wide_holds t m true h e = rw e (le-leb m 9223372036854775807 (omega (arith, h)))
+wide_holds t m false h e = rw e (le-leb m 9223372036854775807 (omega (arith, h)))
 
 choose : {X : Type 0} (b : Bool) (x y : X) → b ≡ true → (if b then x else y) ≡ x
 choose true x y h = refl
@@ -135,7 +136,7 @@ module _ (k : TextKind) (o : RecordParts) (b : List ℕ) (v : Valid) (numbers : 
   pub built : is_int_kind o.kind ≡ true → o.valid ≡ non_nullable → is_cut numbers (length b) ≡ true → is_fitting v (length (lists_at numbers b)) ≡ true → varbin_fault (record { kind = k; offsets = o; bytes = b; valid = v }) ≡ None
   built int there cut fit =
       sound-varbin (record { kind = k; offsets = o; bytes = b; valid = v })
-      (join (is_int_kind o.kind) (is_never_null o.valid) int (ap is_never_null there))
+      (and_from (is_int_kind o.kind) (is_never_null o.valid) int (ap is_never_null there))
       (ap (is_fitting v) rows ∙ fit)
       (ap (λ zs. are_offsets zs (length b)) read ∙ cut_are numbers (length b) cut)
 

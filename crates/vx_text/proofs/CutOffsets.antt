@@ -1,6 +1,6 @@
 -- Offsets from one to another cut the lists between them.
-use Rattle.std.proofs.Common.{◌≡◌, ℕ, ◌+◌, ◌-◌, ◌<◌, ◌≤◌, Bool, true, false, List, [], ◌∷◌, map, length, slice_range, Option, None, Some, refl, sym, ap, subst, ◌∙◌, arith}
-use Rattle.std.specs.Prelude.{ℤ, if◌then◌else◌, IfSome}
+use Rattle.std.proofs.Common.{◌≡◌, ℕ, ◌+◌, ◌-◌, ◌<◌, ◌≤◌, true, List, [], ◌∷◌, map, length, slice_range, Option, None, refl, sym, ap, subst, ◌∙◌, arith}
+use Rattle.std.specs.Prelude.{ℤ, IfSome}
 use Rattle.std.specs.List.{All}
 use Rattle.std.proofs.lemmas.List.{length-map}
 use Rattle.vx_types.specs.TypeTree.{is_int_kind}
@@ -8,17 +8,19 @@ use Rattle.vx_types.specs.declared.error.ColumnError.TheVariants.{WrongType, Bad
 use Rattle.vx_types.specs.declared.text.TextKind.{TextKind}
 use Rattle.vx_take.specs.Picks.{AreBelow}
 use Rattle.vx_positions.specs.Positions.{position_of}
-use Rattle.vx_positions.specs.Offsets.{are_offsets, offset_positions, spans, items_in, lists_at}
+use Rattle.vx_offsets.specs.Offsets.{are_offsets, offset_positions, spans, items_in, lists_at}
 use Rattle.vx_model.specs.Valid.{Valid, is_fitting, non_nullable}
 use Rattle.vx_model.specs.Numbers.{integer_by, integers_of}
 use Rattle.vx_model.specs.Records.{RecordParts, records_with}
 use Rattle.vx_model.specs.VarBin.{VarBinParts, are_integers, is_never_null, row_count, varbin_fault, varbin_texts}
 use Rattle.vx_model.proofs.Items.{map-slice_range, length-slice_range}
 use Rattle.vx_model.proofs.Spans.{spans-slice}
-use Rattle.vx_offsets.proofs.Both.{first, join}
 use Rattle.vx_offsets.proofs.Cuts.{are_offsets-slice}
 use Rattle.vx_text.proofs.PickedRows.{next_rows}
 use Rattle.vx_model.proofs.Texts.{integers-varbin, offsets-varbin, texts-varbin}
+use Rattle.std.proofs.lemmas.Bool.{and_from}
+use Rattle.std.specs.Cmp.{first_so}
+use Rattle.vx_lemmas.proofs.Options.{no_fault}
 
 -- ---- the lists between them
 
@@ -28,14 +30,8 @@ lists_at-slice offsets items s e h =
 
 -- ---- the column that they leave
 
-no_fault : (a b c : Bool) → a ≡ true → b ≡ true → c ≡ true → (if a then (if b then (if c then None else Some BadOffsets) else Some BadValidity) else Some WrongType) ≡ None
-no_fault true true true h k l = refl
-no_fault true true false h k l = cc
-no_fault true false c h k l = cc
-no_fault false b c h k l = cc
-
 pub sound-varbin : (p : VarBinParts) → are_integers p.offsets ≡ true → is_fitting p.valid (row_count p.offsets) ≡ true → are_offsets (integers_of p.offsets) (length p.bytes) ≡ true → varbin_fault p ≡ None
-sound-varbin p h k l = no_fault (are_integers p.offsets) (is_fitting p.valid (row_count p.offsets)) (are_offsets (integers_of p.offsets) (length p.bytes)) h k l
+sound-varbin p h k l = no_fault WrongType BadValidity BadOffsets (are_integers p.offsets) (is_fitting p.valid (row_count p.offsets)) (are_offsets (integers_of p.offsets) (length p.bytes)) h k l
 
 module _ (p : VarBinParts) (s e : ℕ) where
   abbrev pub offsets_cut : RecordParts
@@ -67,7 +63,7 @@ module _ (p : VarBinParts) (s e : ℕ) where
       let rows : row_count offsets_cut ≡ e - s = omega (arith, o, long) in
       let many : e + 1 ≤ length (integers_of p.offsets) = omega (arith, within, length-map p.offsets.records (integer_by p.offsets.kind)) in
       sound-varbin (record p { offsets = offsets_cut; valid = v })
-      (join (is_int_kind p.offsets.kind) true (first (is_int_kind p.offsets.kind) (is_never_null p.offsets.valid) (integers-varbin p h)) refl)
+      (and_from (is_int_kind p.offsets.kind) true (first_so (is_int_kind p.offsets.kind) (is_never_null p.offsets.valid) (integers-varbin p h)) refl)
       (ap (is_fitting v) rows ∙ f)
       (ap (λ zs. are_offsets zs (length p.bytes)) integers-cut ∙ are_offsets-slice (length p.bytes) (integers_of p.offsets) s (e + 1) (omega (arith, o)) many (offsets-varbin p h))
 

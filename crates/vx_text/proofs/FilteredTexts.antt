@@ -8,8 +8,8 @@ use Rattle.vx_take.proofs.TakenLists.{take_at_the_set}
 use Rattle.vx_filter.proofs.Moves.{runs_within}
 use Rattle.vx_filter.proofs.Picks.{set_ascends}
 use Rattle.vx_model.specs.Text.{kept_texts}
-use Rattle.vx_model.proofs.Items.{length-items_where_true}
 use Rattle.vx_model.proofs.Takes.{length-at}
+use Rattle.vx_mask.proofs.RankedItems.{length-items_where_true}
 
 -- so many texts are picked
 pub set_count : (bits : List Bool) (texts : List (List ℕ)) → length bits ≡ length texts → length (map Some (set_of bits)) ≡ true_count_of bits

@@ -1,5 +1,5 @@
 -- Views that are kept are sound, and stand for the texts that are kept.
-use Rattle.std.proofs.Common.{◌≡◌, ℕ, zero, suc, ◌-◌, Bool, true, false, List, [], ◌∷◌, map, length, get_or, take, drop, slice_range, Option, None, Some, refl, sym, subst}
+use Rattle.std.proofs.Common.{◌≡◌, ℕ, ◌-◌, Bool, true, false, List, [], map, length, slice_range, Option, None, Some, refl, sym, subst}
 use Rattle.std.specs.Prelude.{if◌then◌else◌}
 use Rattle.std.specs.List.{list_all, items_where_true}
 use Rattle.vx_types.specs.Text.{is_view, view_text}
@@ -8,45 +8,11 @@ use Rattle.vx_types.specs.declared.text.TextKind.{TextKind}
 use Rattle.vx_types.specs.declared.error.ColumnError.TheVariants.{BadValidity, BadViews}
 use Rattle.vx_model.specs.Valid.{Valid, is_fitting}
 use Rattle.vx_model.specs.VarBinView.{ViewParts, views_fault}
-use Rattle.vx_take.specs.Picks.{at, item_at}
+use Rattle.vx_take.specs.Picks.{at}
 use Rattle.vx_model.proofs.Items.{map-slice_range, map-items_where_true}
 use Rattle.vx_model.proofs.Takes.{map-at}
 use Rattle.vx_text.specs.Views.{empty_view}
-use Rattle.vx_offsets.proofs.Both.{first, rest, join}
-
--- what holds of all items holds of those that are kept
-module _ {X : Type 0} (p : X → Bool) where
-  pub all-drop : (n : ℕ) (xs : List X) → list_all p xs ≡ true → list_all p (drop n xs) ≡ true
-  all-drop zero xs h = h
-  all-drop (suc n) [] h = refl
-  all-drop (suc n) (x ∷ xs) h = all-drop n xs (rest (p x) _ h)
-
-  pub all-take : (n : ℕ) (xs : List X) → list_all p xs ≡ true → list_all p (take n xs) ≡ true
-  all-take zero xs h = refl
-  all-take (suc n) [] h = refl
-  all-take (suc n) (x ∷ xs) h = join (p x) _ (first (p x) _ h) (all-take n xs (rest (p x) _ h))
-
-  pub all-slice : (xs : List X) (s e : ℕ) → list_all p xs ≡ true → list_all p (slice_range xs s e) ≡ true
-  all-slice xs s e h = all-take (e - s) (drop s xs) (all-drop s xs h)
-
-  pub all-kept : (bits : List Bool) (xs : List X) → list_all p xs ≡ true → list_all p (items_where_true bits xs) ≡ true
-  all-kept [] xs h = refl
-  all-kept (b ∷ bits) [] h = refl
-  all-kept (true ∷ bits) (x ∷ xs) h = join (p x) _ (first (p x) _ h) (all-kept bits xs (rest (p x) _ h))
-  all-kept (false ∷ bits) (x ∷ xs) h = all-kept bits xs (rest (p x) _ h)
-
-  item : (fill : X) (xs : List X) (i : ℕ) → p fill ≡ true → list_all p xs ≡ true → p (get_or xs i fill) ≡ true
-  item fill [] i f h = f
-  item fill (x ∷ xs) zero f h = first (p x) _ h
-  item fill (x ∷ xs) (suc i) f h = item fill xs i f (rest (p x) _ h)
-
-  picked : (fill : X) (xs : List X) (pick : Option ℕ) → p fill ≡ true → list_all p xs ≡ true → p (item_at fill xs pick) ≡ true
-  picked fill xs None f h = f
-  picked fill xs (Some i) f h = item fill xs i f h
-
-  pub all-at : (fill : X) (xs : List X) (picks : List (Option ℕ)) → p fill ≡ true → list_all p xs ≡ true → list_all p (at fill xs picks) ≡ true
-  all-at fill xs [] f h = refl
-  all-at fill xs (pick ∷ picks) f h = join (p (item_at fill xs pick)) _ (picked fill xs pick f h) (all-at fill xs picks f h)
+use Rattle.vx_take.proofs.TakenLists.{all-at}
 
 module _ (buffers : List (List ℕ)) where
   pub texts-slice : (views : List BinaryView) (s e : ℕ) → map (view_text buffers) (slice_range views s e) ≡ slice_range (map (view_text buffers) views) s e

@@ -1,8 +1,8 @@
 -- One item more at the picks, and the rows that picks name.
-use Rattle.std.proofs.Common.{◌≡◌, ℕ, ◌+◌, ◌<◌, List, [], ◌∷◌, ◌++◌, map, length, get_or, take, Option, None, Some, sym, ap, ap₂, ◌∙◌, arith}
+use Rattle.std.proofs.Common.{◌≡◌, ℕ, ◌+◌, ◌<◌, List, [], ◌∷◌, ◌++◌, map, length, get_or, take, Option, None, Some, sym, ap₂, ◌∙◌, arith}
 use Rattle.std.specs.Prelude.{IfSome}
 use Rattle.std.specs.List.{All}
-use Rattle.std.proofs.lemmas.List.{length-append, map_more}
+use Rattle.std.proofs.lemmas.List.{map_more}
 use Rattle.vx_take.specs.Picks.{AreBelow}
 
 -- a row below a bound has an offset behind it
@@ -16,8 +16,5 @@ next_rows picks bound n below l k d h = next_row _ bound n (below k d h) l
 pub one_more : {A X : Type 0} (f : A → X) (picks : List A) (i : ℕ) (d : A) (old new : List X) (item : X) → i < length picks → old ≡ map f (take i picks) → new ≡ old ++ item ∷ [] → item ≡ f (get_or picks i d) → new ≡ map f (take (i + 1) picks)
 one_more f picks i d old new item h is more one =
     more ∙ ap₂ (λ l x. l ++ x ∷ []) is one ∙ sym (map_more f picks i d h)
-
-pub one_longer : {X : Type 0} (old new : List X) (item : X) (k : ℕ) → new ≡ old ++ item ∷ [] → length old ≡ k → length new ≡ k + 1
-one_longer old new item k more n = ap length more ∙ length-append old (item ∷ []) ∙ omega (arith, n)
 
 pub ruleset picked_row = (next_row)

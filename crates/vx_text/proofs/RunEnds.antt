@@ -6,7 +6,7 @@ use Rattle.std.proofs.lemmas.List.{map-append}
 use Rattle.std.proofs.lemmas.List.Elements.{All-append}
 use Rattle.std.proofs.lemmas.List.FromFn.{get_or-map-range_with_len, length-map-range_with_len, map-range_with_len_more}
 use Rattle.vx_types.specs.declared.ptype.PType.{PType}
-use Rattle.vx_positions.specs.Offsets.{are_offsets, offset_positions, record_numbers}
+use Rattle.vx_offsets.specs.Offsets.{are_offsets, offset_positions, record_numbers}
 use Rattle.vx_text.specs.OffsetList.{run_ends}
 use Rattle.vx_offsets.proofs.ReadOffsets.{run_ordered}
 

@@ -2,37 +2,22 @@
 use Rattle.std.proofs.Common.{◌≡◌, ℕ, zero, suc, ◌+◌, ◌-◌, ◌^◌, ◌<◌, ◌≤◌, Bool, true, List, [], ◌∷◌, ◌++◌, length, get_or, take, drop, slice_range, refl, sym, ap, ap₂, subst, ◌∙◌, arith, append_assoc}
 use Rattle.std.specs.Prelude.{Result, Ok, Err, OnOk, nat_le, if◌then◌else◌}
 use Rattle.std.specs.List.{All, flat_map}
-use Rattle.std.proofs.lemmas.List.{append-nil, drop-drop, length-append, length-map, take_more}
+use Rattle.std.proofs.lemmas.List.{append-nil, length-append, length-map, take_more}
 use Rattle.std.proofs.lemmas.List.Elements.{All-get_or}
 use Rattle.std.proofs.lemmas.Grind.{flat_map-append}
-use Rattle.std.proofs.Math.Seq.{take-add}
 use Rattle.vx_types.specs.declared.ptype.PType.{PType}
-use Rattle.vx_positions.specs.Offsets.{are_offsets, lists_at, offset_positions, record_numbers}
+use Rattle.vx_offsets.specs.Offsets.{are_offsets, lists_at, offset_positions, record_numbers}
 use Rattle.vx_positions.specs.Positions.{position_of}
-use Rattle.vx_positions.proofs.Ascending.{length-numbers}
+use Rattle.vx_offsets.proofs.Ascending.{length-numbers}
 use Rattle.vx_model.proofs.Items.{length-slice_range}
 use Rattle.vx_model.proofs.Texts.{get_or-lists_at, length-lists_at}
 use Rattle.vx_text.specs.Building.{AddsTexts, AreTexts}
 use Rattle.vx_text.specs.OffsetList.{OffsetList, greatest_offset, run_ends, wide_type, with_offset}
-use Rattle.vx_offsets.proofs.Cuts.{not_past}
 use Rattle.vx_text.proofs.BuiltTexts.{one_text}
 use Rattle.vx_offsets.proofs.ReadOffsets.{read_within, run_ordered}
 use Rattle.vx_text.proofs.RunEnds.{no_end, one_end}
-
--- ---- parts of a list
-
-slice_join : {X : Type 0} (xs : List X) (a b c : ℕ) → a ≤ b → b ≤ c → slice_range xs a b ++ slice_range xs b c ≡ slice_range xs a c
-slice_join xs a b c h l =
-    let whole : b - a + (c - b) ≡ c - a = omega arith in
-    let there : a + (b - a) ≡ b = omega arith in
-    ap (λ k. take (b - a) (drop a xs) ++ take (c - b) (drop k xs)) (sym there)
-    ∙ ap (λ l. take (b - a) (drop a xs) ++ take (c - b) l) (sym (drop-drop (b - a) a xs))
-    ∙ sym (take-add (b - a) (c - b) (drop a xs))
-    ∙ ap (λ k. take k (drop a xs)) whole
-
-slice_none : {X : Type 0} (xs : List X) (a : ℕ) → slice_range xs a a ≡ []
-slice_none xs a =
-    let none : a - a ≡ 0 = omega arith in ap (λ k. take k (drop a xs)) none
+use Rattle.std.proofs.lemmas.Bool.{le-leb}
+use Rattle.vx_lemmas.proofs.Lists.{slice-none, slice_join}
 
 -- ---- one row more of a run
 
@@ -68,9 +53,9 @@ module _ (bytes os : List ℕ) (s i : ℕ) (from : s ≤ i) (row : i + 1 < lengt
 pub no_row : (bytes os : List ℕ) (s : ℕ) (old : OffsetList) (front : List ℕ) (p : PType) (left : List (List ℕ)) → AreTexts p old front left → AreTexts p old (front ++ slice_range bytes (get_or os s 0) (get_or os s 0)) (left ++ slice_range (lists_at os bytes) s s)
 no_row bytes os s old front p left are =
     subst (λ (b : List ℕ). AreTexts p old b (left ++ slice_range (lists_at os bytes) s s))
-    (sym (append-nil front) ∙ ap (λ l. front ++ l) (sym (slice_none bytes (get_or os s 0))))
+    (sym (append-nil front) ∙ ap (λ l. front ++ l) (sym (slice-none bytes (get_or os s 0))))
     (subst (λ (l : List (List ℕ)). AreTexts p old front l)
-    (sym (append-nil left) ∙ ap (λ l. left ++ l) (sym (slice_none (lists_at os bytes) s)))
+    (sym (append-nil left) ∙ ap (λ l. left ++ l) (sym (slice-none (lists_at os bytes) s)))
     are)
 
 module _ (bytes os : List ℕ) (climbs : (i j : ℕ) → i ≤ j → j < length os → get_or os i 0 ≤ get_or os j 0) (top : (i : ℕ) → i < length os → get_or os i 0 ≤ length bytes) (p : PType) (old : OffsetList) (front : List ℕ) (left : List (List ℕ)) (s : ℕ) where
@@ -93,7 +78,7 @@ module _ (bytes os : List ℕ) (climbs : (i j : ℕ) → i ≤ j → j < length 
       let on = climbs (s + n) (s + n + 1) (omega arith) row in
       let before = all_rows n (omega (arith, row)) (omega (arith, up, on, last, short)) (omega (arith, up, on, last, fits)) are in
       let m = length front + (get_or os (s + n + 1) 0 - get_or os s 0) in
-      let within : nat_le m (greatest_offset old.ptype) ≡ true = not_past m (greatest_offset old.ptype) (omega (arith, last, fits)) in
+      let within : nat_le m (greatest_offset old.ptype) ≡ true = le-leb m (greatest_offset old.ptype) (omega (arith, last, fits)) in
       let make : PType → List ℕ → OffsetList = λ t ns. record { ptype = t; numbers = ns } in
       let is : behind (s + n + 1) ≡ with_offset (behind (s + n)) m =
       ap₂ make (sym (ap (λ (b : Bool). if b then old.ptype else wide_type old.ptype) within))

@@ -4,7 +4,7 @@ use Rattle.std.specs.Prelude.{pos}
 use Rattle.vx_types.specs.RowValue.{bytes}
 use Rattle.vx_types.specs.TypeTree.{is_int_kind}
 use Rattle.vx_types.specs.declared.text.TextKind.{TextKind}
-use Rattle.vx_positions.specs.Offsets.{lists_at}
+use Rattle.vx_offsets.specs.Offsets.{lists_at}
 use Rattle.vx_model.specs.Numbers.{integers_of}
 use Rattle.vx_model.specs.Records.{RecordParts}
 use Rattle.vx_model.specs.Valid.{Valid, is_fitting, non_nullable, stored_rows}

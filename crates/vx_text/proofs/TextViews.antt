@@ -13,9 +13,9 @@ use Rattle.vx_types.specs.declared.text.BinaryView.TheVariants.{Inlined, Ref}
 use Rattle.vx_types.specs.declared.text.TextKind.{TextKind}
 use Rattle.vx_types.specs.declared.ptype.PType.{PType}
 use Rattle.vx_take.specs.Picks.{at, item_at}
-use Rattle.vx_positions.specs.Offsets.{are_offsets, lists_at, offset_positions, record_numbers}
+use Rattle.vx_offsets.specs.Offsets.{are_offsets, lists_at, offset_positions, record_numbers}
 use Rattle.vx_positions.specs.Positions.{position_of}
-use Rattle.vx_positions.proofs.Ascending.{length-numbers, offset_ascends, offset_within}
+use Rattle.vx_offsets.proofs.Ascending.{length-numbers, offset_ascends, offset_within}
 use Rattle.vx_model.specs.Numbers.{integers_of}
 use Rattle.vx_model.specs.Valid.{Valid, is_fitting}
 use Rattle.vx_model.specs.VarBin.{VarBinParts, varbin_fault, varbin_texts}
@@ -23,9 +23,9 @@ use Rattle.vx_model.specs.VarBinView.{views_fault}
 use Rattle.vx_model.proofs.Items.{length-slice_range}
 use Rattle.vx_model.proofs.Texts.{get_or-lists_at, offsets-varbin}
 use Rattle.vx_text.specs.Views.{text_view}
-use Rattle.vx_offsets.proofs.Both.{join}
 use Rattle.vx_text.proofs.KeptViews.{sound-as}
 use Rattle.vx_offsets.proofs.ReadOffsets.{climb}
+use Rattle.std.proofs.lemmas.Bool.{and_from}
 
 same_bytes : (xs ys : List ℕ) → xs ≡ ys → bytes_eq xs ys ≡ true
 same_bytes xs ys h = (bytes_eq-Decides xs ys).1 h
@@ -48,8 +48,8 @@ module _ (bytes : List ℕ) (s e : ℕ) (o : s ≤ e) (l : e ≤ length bytes) w
   sound_by : (t : Bool) → nat_le (length (slice_range bytes s e)) 12 ≡ t → is_view (bytes ∷ []) (if t then Inlined (inline_text (slice_range bytes s e)) else Ref (length (slice_range bytes s e)) (take 4 (slice_range bytes s e)) 0 s) ≡ true
   sound_by true h = h
   sound_by false h =
-      join _ _ (grind (arith, nat_tests, h))
-      (join _ _ (grind (arith, nat_tests, long, o, l)) (same_bytes _ _ (begins h)))
+      and_from _ _ (grind (arith, nat_tests, h))
+      (and_from _ _ (grind (arith, nat_tests, long, o, l)) (same_bytes _ _ (begins h)))
 
   pub sound_view : is_view (bytes ∷ []) (view_of (slice_range bytes s e) 0 s) ≡ true
   sound_view = sound_by _ refl
@@ -80,7 +80,7 @@ text-whole bytes =
 -- the same view in each place
 all-alike : {X : Type 0} (p : X → Bool) (n : ℕ) (x : X) → p x ≡ true → list_all p (replicate n x) ≡ true
 all-alike p zero x h = refl
-all-alike p (suc n) x h = join (p x) _ h (all-alike p n x h)
+all-alike p (suc n) x h = and_from (p x) _ h (all-alike p n x h)
 
 map-alike : {X Y : Type 0} (f : X → Y) (n : ℕ) (x : X) (y : Y) → f x ≡ y → map f (replicate n x) ≡ replicate n y
 map-alike f zero x y h = refl
@@ -113,7 +113,7 @@ module _ (bytes : List ℕ) (zs : List ℤ) (are : are_offsets zs (length bytes)
   pub sound-picks : (picks : List (Option ℕ)) → All (λ pick. IfSome pick (λ row. row + 1 < length zs)) picks → list_all (is_view (bytes ∷ [])) (map (text_view (offset_positions zs) bytes) picks) ≡ true
   sound-picks [] h = refl
   sound-picks (pick ∷ picks) h =
-      join _ _ (sound-pick pick (h 0 None (omega arith))) (sound-picks picks (All-tail (λ (x : Option ℕ). IfSome x (λ row. row + 1 < length zs)) pick picks h))
+      and_from _ _ (sound-pick pick (h 0 None (omega arith))) (sound-picks picks (All-tail (λ (x : Option ℕ). IfSome x (λ row. row + 1 < length zs)) pick picks h))
 
   pub texts-picks : (picks : List (Option ℕ)) → All (λ pick. IfSome pick (λ row. row + 1 < length zs)) picks → map (view_text (bytes ∷ [])) (map (text_view (offset_positions zs) bytes) picks) ≡ at [] (lists_at (offset_positions zs) bytes) picks
   texts-picks [] h = refl

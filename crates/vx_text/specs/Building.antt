@@ -1,7 +1,7 @@
 -- Texts that are put out one after another.
 use Rattle.std.specs.Prelude.{◌≡◌, ℕ, nat_le, List, ◌++◌, length, true, if◌then◌else◌}
 use Rattle.vx_types.specs.declared.ptype.PType.{PType}
-use Rattle.vx_positions.specs.Offsets.{lists_at}
+use Rattle.vx_offsets.specs.Offsets.{lists_at}
 use Rattle.vx_offsets.specs.Cut.{is_cut}
 use Rattle.vx_text.specs.OffsetList.{OffsetList, first_type, greatest_offset, wide_type}
 

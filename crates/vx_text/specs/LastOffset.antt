@@ -1,6 +1,6 @@
 -- Where the last text ends.
 use Rattle.std.specs.Prelude.{ℕ, slice_index}
-use Rattle.vx_positions.specs.Offsets.{offset_positions}
+use Rattle.vx_offsets.specs.Offsets.{offset_positions}
 use Rattle.vx_model.specs.Numbers.{integers_of}
 use Rattle.vx_model.specs.VarBin.{VarBinParts, row_count}
 

@@ -5,7 +5,7 @@ use Rattle.std.specs.Int.{w32, w64, from_le_bytes}
 use Rattle.vx_types.specs.PType.{is_signed}
 use Rattle.vx_types.specs.declared.ptype.PType.{PType}
 use Rattle.vx_types.specs.declared.ptype.PType.TheVariants.{U32, U64, I32, I64}
-use Rattle.vx_positions.specs.Offsets.{offset_positions, record_numbers}
+use Rattle.vx_offsets.specs.Offsets.{offset_positions, record_numbers}
 use Rattle.vx_text.specs.declared.offsets.OffsetRecords.{OffsetRecords}
 use Rattle.vx_text.specs.declared.offsets.OffsetRecords.TheVariants.{Narrow, Wide}
 
@@ -26,7 +26,7 @@ greatest_offset I32 = 2147483647
 greatest_offset U32 = 4294967295
 greatest_offset p = 9223372036854775807
 
--- the same signedness in 64 bits
+-- the type of 64 bits that is as signed
 abbrev pub wide_type : PType → PType
 wide_type p = if is_signed p then I64 else U64
 

@@ -10,7 +10,7 @@ ghost use Rattle.vx_model.specs.VarBin.{varbin_texts};
 ghost use Rattle.vx_column.specs.Validity.{valid_of};
 ghost use Rattle.vx_offsets.specs.Cut.{type_of};
 ghost use Rattle.vx_text.specs.Building.{AreTexts};
-ghost use Rattle.vx_offsets.specs.Fits.{FitsFilter};
+ghost use Rattle.vx_model.specs.Fits.{FitsFilter};
 ghost use Rattle.vx_text.specs.Left.{LeavesTexts};
 
 use crate::picked_texts::texts_in;
@@ -20,6 +20,7 @@ use std::alloc::Global;
 use vx_bits::NoMemory;
 use vx_column::{Validity, VarBinArray};
 use vx_mask::{Mask, MaskValues, Policy};
+use vx_reading::present_mask;
 use vx_take::Picks;
 
 // The set positions of a mask, as picks.
@@ -115,7 +116,7 @@ pub fn filter_varbin(
         (kept_texts (present_bits (valid_of validity) (true_count_of bits))
         (items_where_true bits (varbin_texts array.now).texts)) (valid_of validity)) }
 {
-    let present = validity.present_mask(alloc, mask.true_count())?;
+    let present = present_mask(alloc, &validity, mask.true_count())?;
     let texts = texts_kept(alloc, array, mask, policy, &present)?;
     texts.finish(alloc, array.kind(), validity)
 }

@@ -44,7 +44,7 @@ impl OffsetRecords {
         }
     }
 
-    // Their type.
+    // The offsets' type.
     fn ptype(&self, signed: bool) -> PType
         ensures { result ≡ type_by signed self.now }
     {
@@ -93,7 +93,7 @@ impl OffsetRecords {
         }
     }
 
-    // The same offsets of 32 bits in 64, and one more. Fails only with `NoMemory`.
+    // These offsets of 32 bits in 64, and one more. Fails only with `NoMemory`.
     fn widened_by(&self, alloc: Global, offset: usize) -> Result<OffsetRecords, NoMemory>
         requires { is_wide self.now ≡ false }
         ensures numbers { IfOk result
@@ -123,7 +123,7 @@ impl OffsetRecords {
     }
 }
 
-// The same records in 64 bits, with room for so many.
+// The numbers of records of 32 bits in 64, with room for `room` of them.
 fn widened(alloc: Global, records: &[[u8; 4]], room: usize) -> Result<Vec<[u8; 8]>, NoMemory>
     requires { length records.now < room }
     ensures { IfOk result (λ wide. map (from_le_bytes w64) wide.items
@@ -161,7 +161,7 @@ impl Model for Offsets {
 }
 
 impl Offsets {
-    /// No offset yet: 64 bits wide for `U64` and `I64`, else 32. It takes no memory.
+    /// An empty list of offsets: 64 bits wide for `U64` and `I64`, else 32. Allocates nothing.
     pub fn new(alloc: Global, ptype: PType) -> Offsets
         requires { is_int ptype ≡ true }
         ensures { result ≡ record { ptype = first_type ptype; numbers = [] } }
@@ -195,7 +195,7 @@ impl Offsets {
         })
     }
 
-    /// Their type.
+    /// The offsets' type.
     pub fn ptype(&self) -> PType
         ensures { result ≡ self.now.ptype }
     {

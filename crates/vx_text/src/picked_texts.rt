@@ -4,7 +4,7 @@ ghost use Rattle.vx_bits.specs.Records.{records_of, width_of};
 ghost use Rattle.vx_types.specs.PType.{is_int, width};
 ghost use Rattle.vx_mask.specs.Mask.{mask_bits};
 ghost use Rattle.vx_take.specs.Picks.{at, item_at};
-ghost use Rattle.vx_positions.specs.Offsets.{are_offsets, lists_at, offset_positions, record_numbers};
+ghost use Rattle.vx_offsets.specs.Offsets.{are_offsets, lists_at, offset_positions, record_numbers};
 ghost use Rattle.vx_model.specs.Numbers.{integers_of};
 ghost use Rattle.vx_model.specs.Text.{kept_texts};
 ghost use Rattle.vx_model.specs.Valid.{present_bits};
@@ -12,7 +12,7 @@ ghost use Rattle.vx_model.specs.VarBin.{are_integers, varbin_texts};
 ghost use Rattle.vx_column.specs.Validity.{valid_of};
 ghost use Rattle.vx_offsets.specs.Cut.{type_of};
 ghost use Rattle.vx_text.specs.Building.{AreTexts};
-ghost use Rattle.vx_offsets.specs.Fits.{FitsTake};
+ghost use Rattle.vx_model.specs.Fits.{FitsTake};
 ghost use Rattle.vx_text.specs.Left.{LeavesTexts};
 
 use crate::texts::Texts;
@@ -22,6 +22,7 @@ use vx_column::{PType, PrimitiveArray, Validity, VarBinArray};
 use vx_mask::Mask;
 use vx_offsets::span_at;
 use vx_positions::by_type;
+use vx_reading::present_mask;
 use vx_take::Picks;
 
 // The text at a pick, and an empty one at a null.
@@ -135,7 +136,7 @@ fn texts_of(
     by_type!(ptype, values, texts_at, alloc, bytes, picks, present)
 }
 
-/// The same by the offsets of a column.
+/// The texts at the picks, by the offsets of a column.
 pub(crate) fn texts_in(
     alloc: Global,
     offsets: &PrimitiveArray,
@@ -170,7 +171,7 @@ pub fn take_varbin_picks(
         (kept_texts (present_bits (valid_of validity) (length picks.now.picks))
         (at [] (varbin_texts array.now).texts picks.now.picks)) (valid_of validity)) }
 {
-    let present = validity.present_mask(alloc, picks.len())?;
+    let present = present_mask(alloc, &validity, picks.len())?;
     let offsets = array.offsets();
     let bytes = array.bytes();
     let texts = texts_in(alloc, offsets, bytes.as_slice(), picks, &present)?;

@@ -3,13 +3,13 @@ ghost use Rattle.std.specs.Prelude.{◌≡◌, ◌+◌, ◌-◌, ◌<◌, ◌≤
 ghost use Rattle.vx_bits.specs.Records.{records_of, width_of};
 ghost use Rattle.vx_types.specs.PType.{is_int, width};
 ghost use Rattle.vx_take.specs.Picks.{at};
-ghost use Rattle.vx_positions.specs.Offsets.{are_offsets, offset_positions, record_numbers};
+ghost use Rattle.vx_offsets.specs.Offsets.{are_offsets, offset_positions, record_numbers};
 ghost use Rattle.vx_model.specs.Numbers.{integers_of};
 ghost use Rattle.vx_model.specs.VarBin.{are_integers, row_count, varbin_texts};
 ghost use Rattle.vx_column.specs.Validity.{valid_of};
 ghost use Rattle.vx_text.specs.LastOffset.{last_offset};
 ghost use Rattle.vx_text.specs.Views.{text_view};
-ghost use Rattle.vx_offsets.specs.Fits.{FitsTake};
+ghost use Rattle.vx_model.specs.Fits.{FitsTake};
 ghost use Rattle.vx_text.specs.Left.{LeavesViews};
 
 use crate::alike::one_buffer;
@@ -94,7 +94,7 @@ fn views_of(
     by_type!(ptype, values, views_at, alloc, bytes, picks)
 }
 
-// The same by the offsets of a column.
+// The views of the texts at the picks, by the offsets of a column.
 fn views_in(
     alloc: Global,
     offsets: &PrimitiveArray,

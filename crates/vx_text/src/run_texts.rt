@@ -3,7 +3,7 @@ ghost use Rattle.std.specs.Prelude.{◌≡◌, ◌+◌, ◌-◌, ◌++◌, ◌<�
 ghost use Rattle.std.specs.List.{All, flat_map};
 ghost use Rattle.vx_bits.specs.Records.{records_of, width_of};
 ghost use Rattle.vx_types.specs.PType.{is_int, width};
-ghost use Rattle.vx_positions.specs.Offsets.{are_offsets, lists_at, offset_positions, record_numbers};
+ghost use Rattle.vx_offsets.specs.Offsets.{are_offsets, lists_at, offset_positions, record_numbers};
 ghost use Rattle.vx_model.specs.Numbers.{integers_of};
 ghost use Rattle.vx_model.specs.VarBin.{are_integers};
 ghost use Rattle.vx_offsets.specs.Cut.{type_of};

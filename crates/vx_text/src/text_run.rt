@@ -1,7 +1,7 @@
 //! A run of the texts that offsets of a known type cut.
 ghost use Rattle.std.specs.Prelude.{◌≡◌, ◌+◌, ◌-◌, ◌<◌, ◌≤◌, length, slice_index, slice_range, true};
 ghost use Rattle.vx_types.specs.PType.{is_int, width};
-ghost use Rattle.vx_positions.specs.Offsets.{are_offsets, record_numbers};
+ghost use Rattle.vx_offsets.specs.Offsets.{are_offsets, record_numbers};
 ghost use Rattle.vx_text.specs.OffsetList.{offsets_by};
 
 use vx_column::PType;
@@ -48,7 +48,7 @@ impl<'a, const W: usize> TextRun<'a, W> {
         (start, end)
     }
 
-    /// Its bytes.
+    /// The run's bytes.
     #[inline(always)]
     pub(crate) fn bytes(self) -> &'a [u8]
         ensures value { result.now ≡ slice_range self.entry.bytes.now

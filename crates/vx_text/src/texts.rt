@@ -2,7 +2,7 @@
 ghost use Rattle.std.specs.Prelude.{◌≡◌, ◌++◌, ◌<◌, ◌^◌, [], length, true, IfOk, OnOk};
 ghost use Rattle.vx_types.specs.PType.{is_int};
 ghost use Rattle.vx_types.specs.TypeTree.{primitive_kind};
-ghost use Rattle.vx_positions.specs.Offsets.{lists_at};
+ghost use Rattle.vx_offsets.specs.Offsets.{lists_at};
 ghost use Rattle.vx_model.specs.Valid.{is_fitting};
 ghost use Rattle.vx_model.specs.VarBin.{varbin_texts};
 ghost use Rattle.vx_column.specs.Validity.{valid_of};

@@ -2,13 +2,12 @@
 ghost use Rattle.std.specs.Prelude.{length};
 ghost use Rattle.vx_model.specs.VarBin.{varbin_texts};
 ghost use Rattle.vx_column.specs.Validity.{valid_of};
-ghost use Rattle.vx_offsets.specs.Fits.{FitsSlice};
+ghost use Rattle.vx_model.specs.Fits.{FitsSlice};
 ghost use Rattle.vx_text.specs.Left.{LeavesSlice};
 
 use vx_column::{Validity, VarBinArray, slice_offsets};
 
-/// The rows from `start` up to `end`, with their validity: other offsets into the same bytes. It
-/// takes no memory.
+/// The rows from `start` up to `end`, with their validity: other offsets into the same bytes.
 pub fn slice_varbin(
     array: &VarBinArray,
     start: usize,

@@ -4,7 +4,7 @@ ghost use Rattle.std.specs.List.{items_where_true};
 ghost use Rattle.vx_take.specs.Picks.{at};
 ghost use Rattle.vx_model.specs.VarBinView.{view_texts};
 ghost use Rattle.vx_column.specs.Validity.{valid_of};
-ghost use Rattle.vx_offsets.specs.Fits.{FitsFilter, FitsSlice, FitsTake};
+ghost use Rattle.vx_model.specs.Fits.{FitsFilter, FitsSlice, FitsTake};
 ghost use Rattle.vx_text.specs.Left.{LeavesViews};
 
 use std::alloc::Global;
@@ -14,7 +14,7 @@ use vx_filter::filter_slice;
 use vx_mask::{MaskValues, Policy};
 use vx_take::{Picks, gather};
 
-/// The rows from `start` up to `end`, with their validity. It takes no memory.
+/// The rows from `start` up to `end`, with their validity.
 pub fn slice_views(
     array: &VarBinViewArray,
     start: usize,

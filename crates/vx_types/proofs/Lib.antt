@@ -1,3 +1,5 @@
 pub mod Alike
 pub mod Carried
+pub mod Entries
 pub mod Ids
+pub mod Places

@@ -9,6 +9,7 @@ pub mod Nullability
 pub mod NullabilityCode
 pub mod PType
 pub mod PTypeCode
+pub mod RecordType
 pub mod Row
 pub mod RowValue
 pub mod RowValueCode

@@ -90,11 +90,11 @@ abbrev pub nullability_as : TypeKind → Nullability → Nullability
 nullability_as null_kind m = Nullable
 nullability_as k m = m
 
--- the same type with this outer nullability; `null` stays as it is
+-- the type with this outer nullability; `null` stays as it is
 abbrev pub with_nullability : TypeTree → Nullability → TypeTree
 with_nullability t m = record { kind = t.kind; nullability = nullability_as t.kind m }
 
--- the same type, nullable also where n is
+-- the type, nullable where it or n is
 abbrev pub also_nullable : TypeTree → Nullability → TypeTree
 also_nullable t n = record { kind = t.kind; nullability = either_nullable t.nullability n }
 
@@ -151,6 +151,14 @@ int_type_of t = int_kind_of t.kind
 abbrev pub are_entries : TypeTrees → Bool
 are_entries (more_types k n (more_types v m no_types)) = not (is_nullable n)
 are_entries ts = false
+
+abbrev pub is_entry_kind : TypeKind → Bool
+is_entry_kind (struct_kind names ts) = are_entries ts
+is_entry_kind k = false
+
+-- a struct of two fields, the first non-nullable, that is non-nullable itself
+abbrev pub is_entry_type : TypeTree → Bool
+is_entry_type t = is_entry_kind t.kind && not (is_nullable t.nullability)
 
 -- ---- carried: the types that a column may have
 

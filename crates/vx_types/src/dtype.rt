@@ -45,7 +45,7 @@ pub enum DType {
 }
 
 impl DType {
-    /// Another handle to the same type. It takes no memory.
+    /// Another handle to the same type.
     pub fn share(&self) -> DType
         ensures { result ≡ self.now }
     {
@@ -94,7 +94,7 @@ impl DType {
         self.nullability().is_nullable()
     }
 
-    /// The same type with this outer nullability; `Null` stays as it is.
+    /// This type with the outer nullability `n`; `Null` stays as it is.
     pub fn with_nullability(&self, n: Nullability) -> DType
         ensures { type_of result ≡ with_nullability (type_of self.now) n }
     {
@@ -116,7 +116,7 @@ impl DType {
         }
     }
 
-    /// The same type, nullable also where `n` is.
+    /// This type, nullable where it or `n` is.
     pub fn also_nullable(&self, n: Nullability) -> DType
         ensures { type_of result ≡ also_nullable (type_of self.now) n }
     {

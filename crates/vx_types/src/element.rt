@@ -53,7 +53,7 @@ impl ElementType {
         &self.dtype
     }
 
-    /// Another handle to the same type. It takes no memory.
+    /// Another handle to the same type.
     pub fn share(&self) -> ElementType
         ensures { result ≡ self.now }
     {

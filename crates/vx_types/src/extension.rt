@@ -55,7 +55,7 @@ impl ExtDType {
         Ok(Shared::new(alloc, ExtDType { name, storage })?)
     }
 
-    /// Its name.
+    /// The extension type's name.
     pub fn name(&self) -> &RcStr
         ensures { rc_str_bytes result.now ≡ self.now.name }
     {

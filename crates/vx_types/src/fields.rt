@@ -4,6 +4,7 @@ ghost use Rattle.vx_bits.specs.Results.{FailsBy};
 ghost use Rattle.vx_types.specs.DType.{type_of};
 ghost use Rattle.vx_types.specs.Fields.{fields_fault, fields_of, names_of};
 ghost use Rattle.vx_types.specs.Same.{are_same_fields};
+ghost use Rattle.vx_types.specs.TypeTree.{are_entries, is_entry_type, types_of};
 
 use crate::dtype::DType;
 use crate::error::ColumnError;
@@ -97,5 +98,29 @@ impl StructFields {
         ensures { result ≡ are_same_fields self.now other.now }
     {
         are_same_names(&self.names, &other.names) && are_same_types(&self.types, &other.types)
+    }
+}
+
+// Whether these are two types, the first of them non-nullable.
+#[tactic(auto, using(crate::proofs::Entries::entries))]
+fn are_entries(types: &[DType]) -> bool
+    ensures { result ≡ are_entries (types_of (map type_of types.now)) }
+{
+    if types.len() != 2 {
+        return false;
+    }
+    !types[0].is_nullable()
+}
+
+/// Whether it is the type of a map's entries: a struct of two fields, the first non-nullable, that
+/// is non-nullable itself.
+pub fn is_entry_type(dtype: &DType) -> bool
+    ensures { result ≡ is_entry_type (type_of dtype.now) }
+{
+    match dtype {
+        DType::Struct(fields, nullability) => {
+            are_entries(fields.types()) && !nullability.is_nullable()
+        }
+        _ => false,
     }
 }

@@ -23,9 +23,9 @@ pub enum PType {
     I64,
     /// Floating-point numbers of 16 bits, which are moved as bytes.
     F16,
-    /// Floating-point numbers of 32 bits, likewise.
+    /// Floating-point numbers of 32 bits, which are moved as bytes.
     F32,
-    /// Floating-point numbers of 64 bits, likewise.
+    /// Floating-point numbers of 64 bits, which are moved as bytes.
     F64,
 }
 

@@ -19,7 +19,7 @@ impl Model for ByteList {
 }
 
 impl ByteList {
-    /// These bytes. It takes no memory.
+    /// The list of these bytes.
     pub fn from_vec(values: Vec<u8>) -> ByteList
         ensures { result ≡ values.items }
     {
@@ -60,7 +60,7 @@ pub struct RowList {
 }
 
 impl RowList {
-    /// These rows. It takes no memory.
+    /// The list of these rows.
     pub fn from_vec(values: Vec<Row>) -> RowList
         ensures { rows_in result ≡ map row_value values.items }
     {

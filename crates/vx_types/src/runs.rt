@@ -18,7 +18,7 @@ impl Model for Runs {
 }
 
 impl Runs {
-    /// These runs. It takes no memory.
+    /// The list of these runs.
     pub fn from_vec(values: Vec<(usize, usize)>) -> Runs
         ensures { result ≡ values.items }
     {

@@ -21,7 +21,7 @@ pub enum ScalarValue {
 }
 
 impl ScalarValue {
-    /// The same value once again. It takes no memory.
+    /// Another handle to the same value.
     pub fn share(&self) -> ScalarValue
         ensures { result ≡ self.now }
     {
@@ -83,7 +83,7 @@ fn is_as_wide(dtype: &DType, value: &ScalarValue) -> bool
 }
 
 impl Scalar {
-    /// The value, as one of this type. It takes no memory.
+    /// The value, as one of this type.
     ///
     /// `WrongType` exactly where the value is of another kind than the type, or a null and the
     /// type isn't nullable. Else `WrongWidth` exactly where the bytes of a number aren't as many
@@ -101,7 +101,7 @@ impl Scalar {
         Ok(Scalar { dtype, value })
     }
 
-    /// Its type.
+    /// The scalar's type.
     pub fn dtype(&self) -> &DType
         ensures value { type_of result.now ≡ self.now.dtype }
         ensures valid { scalar_fault self.now.dtype self.now.row ≡ None }
@@ -109,7 +109,7 @@ impl Scalar {
         &self.dtype
     }
 
-    /// Its value.
+    /// The scalar's value.
     pub fn value(&self) -> &ScalarValue
         ensures value { scalar_row result.now ≡ self.now.row }
         ensures valid { scalar_fault self.now.dtype self.now.row ≡ None }
@@ -117,7 +117,7 @@ impl Scalar {
         &self.value
     }
 
-    /// The same value once again. It takes no memory.
+    /// Another handle to the same value.
     pub fn share(&self) -> Scalar
         ensures { result ≡ self.now }
     {

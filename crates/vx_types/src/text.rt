@@ -80,7 +80,7 @@ fn inline_bytes(value: &[u8]) -> InlineBytes
 
 impl BinaryView {
     /// The view of a text that stands at `offset` in the buffer of that number: the text itself
-    /// where it has at most twelve bytes. It takes no memory.
+    /// where it has at most twelve bytes.
     pub fn make_view(value: &[u8], buffer: u32, offset: u32) -> BinaryView
         requires { length value.now < 2 ^ 32 }
         ensures { result ≡ view_of value.now buffer offset }
@@ -120,7 +120,7 @@ impl BinaryView {
         }
     }
 
-    /// The text. It takes no memory.
+    /// The bytes of the text that the view is of.
     pub fn text<'a>(&'a self, buffers: &'a [Buffer<u8>]) -> &'a [u8]
         requires { is_view buffers.now self.now ≡ true }
         ensures { result.now ≡ view_text buffers.now self.now }

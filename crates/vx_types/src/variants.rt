@@ -4,10 +4,11 @@ ghost use Rattle.vx_bits.specs.Results.{FailsBy};
 ghost use Rattle.vx_types.specs.DType.{type_of};
 ghost use Rattle.vx_types.specs.Fields.{names_of};
 ghost use Rattle.vx_types.specs.Same.{are_same_variants};
-ghost use Rattle.vx_types.specs.Variants.{are_distinct, variants_fault, variants_of};
+ghost use Rattle.vx_types.specs.Variants.{are_distinct, index_of, is_id_type, variants_fault, variants_of};
 
 use crate::dtype::DType;
 use crate::error::ColumnError;
+use crate::ptype::PType;
 use crate::same::{are_same_bytes, are_same_names, are_same_types};
 use std::alloc::Global;
 use std::marker::Model;
@@ -130,4 +131,24 @@ impl UnionVariants {
             && are_same_names(&self.names, &other.names)
             && are_same_types(&self.types, &other.types)
     }
+}
+
+/// Whether it is the type of ids: unsigned integers of one byte.
+pub fn is_id_type(dtype: &DType) -> bool
+    ensures { result ≡ is_id_type (type_of dtype.now) }
+{
+    matches!(dtype, DType::Primitive(PType::U8, _))
+}
+
+/// The place of the variant of this id among the variants.
+#[tactic(auto, using(crate::proofs::Places::places))]
+pub fn variant_of(ids: &[u8], id: u8) -> Option<usize>
+    ensures { result ≡ index_of ids.now id }
+{
+    for k in 0..ids.len() {
+        if ids[k] == id {
+            return Some(k);
+        }
+    }
+    None
 }

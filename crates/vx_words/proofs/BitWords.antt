@@ -12,7 +12,7 @@ use Rattle.vx_bits.specs.BitBuffer.{number_of}
 use Rattle.vx_bits.specs.Words.{word_at, word_bits, word_count}
 use Rattle.vx_bits.proofs.BitLists.{number_below}
 use Rattle.vx_bits.proofs.WordBits.{length-word_bits, number_of-word_bits, take-word_bits, word_bits-append, word_bits_low}
-use Rattle.vx_bits.proofs.WordLists.{picked_full_word, picked_no_word, word_is}
+use Rattle.vx_bits.proofs.WordLists.{picked_full_word, word_is}
 use Rattle.vx_bits.proofs.WordsJoined.{words_to, words_to_more}
 use Rattle.vx_bitfilter.specs.Pext.{pext}
 use Rattle.vx_bitfilter.proofs.PackedBits.{picked_bits}
@@ -20,8 +20,9 @@ use Rattle.vx_filter.specs.Compact.{bits_of_words}
 use Rattle.vx_words.specs.Bits.{IsPacked, bits_at, words_of}
 use Rattle.vx_words.proofs.FilterFaults.{front_and_rest}
 use Rattle.vx_words.proofs.MaskRows.{bits_from}
-use Rattle.vx_words.proofs.MaskWords.{drop-word_bits, length-bits_of_words}
+use Rattle.vx_words.proofs.MaskWords.{drop-word_bits}
 use Rattle.vx_words.proofs.TakenItems.{there_bit}
+use Rattle.vx_filter.proofs.Copies.{length-bits_of_words}
 
 -- ---- bits that are read
 
@@ -246,9 +247,6 @@ moved_is low high s fits p q =
 pub pext_is : (src mask : ℕ) → pext src mask ≡ number_of (picked_bits src mask)
 unfolding pext
 pext_is src mask = refl
-
-pub no_pext : (src mask : ℕ) → mask ≡ 0 → pext src mask ≡ 0
-no_pext src mask none = pext_is src mask ∙ ap number_of (picked_no_word mask (word_bits src 64) none)
 
 pub full_pext : (src mask : ℕ) → src < 2 ^ 64 → mask ≡ 2 ^ 64 - 1 → src ≡ pext src mask
 full_pext src mask fits full =

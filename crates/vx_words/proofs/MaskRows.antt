@@ -1,6 +1,5 @@
 -- The bits of a mask's words, as many as there are rows.
-use Rattle.std.proofs.Common.{◌≡◌, ℕ, zero, suc, ◌+◌, ◌-◌, ◌*◌, ◌/◌, ◌^◌, ◌<◌, ◌≤◌, Bool, true, false, List, [], ◌∷◌, ◌++◌, length, get_or, take, drop, inl, inr, refl, sym, ap, ◌∙◌, arith}
-use Rattle.std.specs.List.{items_where_true}
+use Rattle.std.proofs.Common.{◌≡◌, ℕ, ◌+◌, ◌-◌, ◌*◌, ◌/◌, ◌^◌, ◌<◌, ◌≤◌, List, ◌++◌, length, get_or, take, drop, inl, inr, sym, ap, ◌∙◌, arith}
 use Rattle.std.proofs.lemmas.Bool.{cases_lt}
 use Rattle.std.proofs.lemmas.List.{drop_at, drop_more, drop-take, length-take-le, take-append-drop, take-append-le, take-take, take_all}
 use Rattle.std.proofs.lemmas.Grind.{flat_map-append}
@@ -9,7 +8,8 @@ use Rattle.vx_bits.proofs.WordBits.{length-word_bits, take-word_bits}
 use Rattle.vx_bits.proofs.WordLists.{word_is}
 use Rattle.vx_filter.specs.Compact.{bits_of_words}
 use Rattle.vx_words.specs.Masks.{count_of, mask_fault}
-use Rattle.vx_words.proofs.MaskWords.{IsMask, count_within, is_mask, last_word_below, length-bits_of_words}
+use Rattle.vx_words.proofs.MaskWords.{IsMask, count_within, is_mask, last_word_below}
+use Rattle.vx_filter.proofs.Copies.{length-bits_of_words}
 
 pub length-rows : (rows : ℕ) (words : List ℕ) → IsMask rows words → length (take rows (bits_of_words words)) ≡ rows
 length-rows rows words mask = length-take-le rows (bits_of_words words) (omega (arith, length-bits_of_words words, mask.lengths))
@@ -64,16 +64,6 @@ row_word rows words w h fits e =
           word_is (take rows bits) w (get_or words w 0) n (last_word_below rows words w e h fits (omega arith))
           (take_all 64 (drop (64 * w) (take rows bits)) (omega (arith, ap length cut, length-word_bits (get_or words w 0) n)) ∙ cut)
     ]
-
--- what the bits pick of so many rows
-pub picked_rows : {X : Type 0} (n : ℕ) (bits : List Bool) (xs : List X) → length xs ≤ n → items_where_true (take n bits) xs ≡ items_where_true bits xs
-picked_rows zero [] xs h = refl
-picked_rows zero (b ∷ bits) [] h = refl
-picked_rows zero (b ∷ bits) (x ∷ xs) h = absurd (omega arith)
-picked_rows (suc n) [] xs h = refl
-picked_rows (suc n) (b ∷ bits) [] h = refl
-picked_rows (suc n) (true ∷ bits) (x ∷ xs) h = ap (λ l. x ∷ l) (picked_rows n bits xs (omega arith))
-picked_rows (suc n) (false ∷ bits) (x ∷ xs) h = picked_rows n bits xs (omega arith)
 
 -- a word is the word of all bits
 pub word_of_words : (words : List ℕ) (w : ℕ) → w < length words → get_or words w 0 < 2 ^ 64 → get_or words w 0 ≡ word_at (bits_of_words words) w

@@ -1,7 +1,7 @@
 -- The bits of a mask's words.
-use Rattle.std.proofs.Common.{◌≡◌, ℕ, zero, suc, ◌+◌, ◌-◌, ◌*◌, ◌/◌, ◌%◌, ◌^◌, ◌<◌, ◌≤◌, Bool, true, false, cond, eqb, List, [], ◌∷◌, ◌++◌, length, get_or, take, drop, replicate, subst, eq-eqb, ne_eqb, eqb-true, refl, sym, ap, ap₂, ◌∙◌, arith}
+use Rattle.std.proofs.Common.{◌≡◌, ℕ, zero, suc, ◌+◌, ◌-◌, ◌*◌, ◌/◌, ◌%◌, ◌^◌, ◌<◌, ◌≤◌, Bool, true, false, cond, eqb, List, ◌++◌, length, get_or, take, drop, replicate, subst, eq-eqb, ne_eqb, eqb-true, refl, sym, ap, ap₂, ◌∙◌, arith}
 use Rattle.std.specs.Int.RustNames.{count_ones}
-use Rattle.std.proofs.lemmas.List.{drop-drop, drop_all, drop_at, flat_map_more, get_or-drop, length-append, length-take, length-take-le, take-append-drop, take_all, take_more}
+use Rattle.std.proofs.lemmas.List.{drop-drop, drop_all, drop_at, get_or-drop, length-take, length-take-le, take-append-drop, take_all}
 use Rattle.std.proofs.lemmas.Grind.{flat_map-append}
 use Rattle.std.proofs.lemmas.List.Sums.{count_by-le-length, sum_by-append}
 use Rattle.std.proofs.lemmas.Nat.{div-add-mod', mod_below, pow_pos, shr_below, zero_from_ones}
@@ -10,17 +10,10 @@ use Rattle.vx_bits.specs.BitBuffer.{true_count_of}
 use Rattle.vx_bits.specs.Words.{word_bits, word_count}
 use Rattle.vx_bits.proofs.WordBits.{length-word_bits, true_count_of-word_bits, word_bits-append}
 use Rattle.vx_filter.specs.Compact.{bits_of_words}
-use Rattle.vx_mask.specs.Positions.{AllBits, positions, set_of}
-use Rattle.vx_mask.proofs.PositionLists.{none_are_set, positions-append}
+use Rattle.vx_mask.specs.Positions.{AllBits}
 use Rattle.vx_words.specs.Masks.{count_of, mask_fault}
-
-pub length-bits_of_words : (words : List ℕ) → length (bits_of_words words) ≡ 64 * length words
-length-bits_of_words [] = refl
-length-bits_of_words (w ∷ words) = omega (arith, length-append (word_bits w 64) (bits_of_words words), length-word_bits w 64, length-bits_of_words words)
-
--- the bits of the first words and of one more
-pub bits_more : (words : List ℕ) (w : ℕ) → w < length words → bits_of_words (take (w + 1) words) ≡ bits_of_words (take w words) ++ word_bits (get_or words w 0) 64
-bits_more words w h = ap bits_of_words (take_more words w 0 h) ∙ sym (flat_map_more (λ (x : ℕ). word_bits x 64) [] (take w words) (get_or words w 0))
+use Rattle.vx_filter.proofs.Copies.{length-bits_of_words, bits_more}
+use Rattle.vx_bits.proofs.WordLists.{no_bits}
 
 -- how many bits of the first words and of one more are set
 pub count_more : (words : List ℕ) (w : ℕ) → w < length words → get_or words w 0 < 2 ^ 64 → count_of (take (w + 1) words) ≡ count_of (take w words) + count_ones (get_or words w 0)
@@ -69,14 +62,6 @@ pub none_past : (words : List ℕ) (rows : ℕ) → 64 * length words ≤ rows �
 none_past words rows h = ap true_count_of (drop_all rows (bits_of_words words) (omega (arith, length-bits_of_words words)))
 
 -- ---- set positions
-
--- the set positions of the first words and of one more
-pub words_more : (words : List ℕ) (w : ℕ) → w < length words → set_of (bits_of_words (take (w + 1) words)) ≡ set_of (bits_of_words (take w words)) ++ positions (64 * w) (word_bits (get_or words w 0) 64)
-words_more words w h =
-    let front = bits_of_words (take w words) in
-    let word = get_or words w 0 in
-    let long : 0 + length front ≡ 64 * w = omega (arith, length-bits_of_words (take w words), length-take-le w words (omega arith)) in
-    ap set_of (bits_more words w h) ∙ positions-append 0 front (word_bits word 64) ∙ ap (λ n. set_of front ++ positions n (word_bits word 64)) long
 
 -- the first words have no more set bits than all
 pub count_below : (words : List ℕ) (w : ℕ) → count_of (take w words) ≤ count_of words
@@ -131,7 +116,7 @@ clear_past : (bits : List Bool) (rows k : ℕ) → rows ≤ k → true_count_of 
 clear_past bits rows k h none =
     let at : k ≡ rows + (k - rows) = omega arith in
     ap (λ n. get_or bits n false) at ∙ sym (get_or-drop rows bits (k - rows) false)
-    ∙ ap (λ l. get_or l (k - rows) false) (none_are_set (drop rows bits) none)
+    ∙ ap (λ l. get_or l (k - rows) false) (no_bits (drop rows bits) none)
     ∙ clear_get (length (drop rows bits)) (k - rows)
 
 pub is_mask : (rows : ℕ) (words : List ℕ) → mask_fault rows words ≡ 0 → IsMask rows words
@@ -145,7 +130,7 @@ is_mask rows words h =
       none = eqb-true past 0 tests.1;
     }
 
--- the same of words that passed the test
+-- what words that passed the test are
 pub passed_mask : (rows : ℕ) (words : List ℕ) (fault : ℕ) → fault ≡ mask_fault rows words → fault ≡ 0 → IsMask rows words
 passed_mask rows words fault e none = is_mask rows words (sym e ∙ none)
 

@@ -5,28 +5,20 @@ use Rattle.std.specs.Int.RustNames.{count_ones}
 use Rattle.std.proofs.lemmas.Bool.{cases_eq}
 use Rattle.std.proofs.lemmas.List.{drop-set-lt, map-append, take-set-le, take_more_set}
 use Rattle.std.proofs.lemmas.List.Sums.{count_by-le-length, sum_by-append}
-use Rattle.std.proofs.lemmas.Nat.{and_mask, div-add-mod', mod_below, pow_pos}
+use Rattle.std.proofs.lemmas.Nat.{and_mask}
 use Rattle.std.proofs.lemmas.Option.{slice_get-get_or}
 use Rattle.vx_bits.specs.BitBuffer.{true_count_of}
 use Rattle.vx_bits.specs.Words.{word_bits}
-use Rattle.vx_bits.proofs.WordBits.{length-word_bits, word_bits-append, word_bits-none, word_bits_low}
+use Rattle.vx_bits.proofs.WordBits.{length-word_bits, word_bits-none}
 use Rattle.vx_filter.specs.Compact.{bits_of_words}
-use Rattle.vx_filter.proofs.Copies.{IsCompacted}
+use Rattle.vx_filter.proofs.Copies.{IsCompacted, words_more}
 use Rattle.vx_filter.proofs.Moves.{same_further}
 use Rattle.vx_mask.specs.Positions.{positions, set_of}
 use Rattle.vx_mask.proofs.PositionLists.{positions-append}
 use Rattle.vx_words.specs.Filters.{AreRowsPut}
 use Rattle.vx_words.specs.Masks.{count_of}
-use Rattle.vx_words.proofs.MaskWords.{count_more, words_more}
-
--- a word's bits are its lowest m, and the others
-bits_cut : (word m n : ℕ) → word_bits word (m + n) ≡ word_bits word m ++ word_bits (word / 2 ^ m) n
-bits_cut word m n =
-    let low = word % 2 ^ m in
-    let high = word / 2 ^ m in
-    ap (λ x. word_bits x (m + n)) (sym (div-add-mod' word (2 ^ m)))
-    ∙ word_bits-append low m high n (mod_below word (2 ^ m) (pow_pos m))
-    ∙ ap (λ l. l ++ word_bits high n) (word_bits_low word m)
+use Rattle.vx_words.proofs.MaskWords.{count_more}
+use Rattle.vx_bits.proofs.ByteWords.{word_split}
 
 -- the only bit
 only_bit : (word : ℕ) → word_bits word 1 ≡ eqb (word % 2) 1 ∷ []
@@ -44,7 +36,7 @@ module _ {X : Type 0} where
   rows_joined src from word m n old mid new to next last a b =
       let front = word_bits word m in
       let back = word_bits (word / 2 ^ m) n in
-      let cut = bits_cut word m n in
+      let cut = word_split word m n in
       let places : positions from (word_bits word (m + n)) ≡ positions from front ++ positions (from + m) back =
       ap (positions from) cut ∙ positions-append from front back ∙ ap (λ k. positions from front ++ positions (from + k) back) (length-word_bits word m) in
       let within = rows_within src from word m old mid to next a in

@@ -10,13 +10,14 @@ use Rattle.vx_bits.proofs.WordBits.{length-word_bits, true_count_of-word_bits, w
 use Rattle.vx_filter.specs.Compact.{bits_of_words}
 use Rattle.vx_mask.specs.Positions.{maximal_runs, positions, runs_from}
 use Rattle.vx_mask.proofs.LowestBit.{lowest_position, no_positions}
-use Rattle.vx_mask.proofs.PositionLists.{length-positions, none_are_set, positions-append}
+use Rattle.vx_mask.proofs.PositionLists.{length-positions, positions-append}
 use Rattle.vx_mask.proofs.RunLists.{runs_from-set}
 use Rattle.vx_words.specs.declared.runs.Run.{Run}
 use Rattle.vx_words.specs.Runs.{changes, open_start, pairs, rows_of, run_of}
 use Rattle.vx_words.proofs.MaskRows.{length-rows}
 use Rattle.vx_words.proofs.MaskWords.{IsMask}
 use Rattle.vx_words.proofs.RunStarts.{last_is, last_of, last_of_word, one_more}
+use Rattle.vx_bits.proofs.WordLists.{no_bits}
 
 -- ---- the runs that the marks tell
 
@@ -76,7 +77,7 @@ all_told rows words mask =
     let bits = bits_of_words words in
     let front = take rows bits in
     let n = length (drop rows bits) in
-    let both : front ++ replicate n false ≡ bits = ap (λ l. front ++ l) (sym (none_are_set (drop rows bits) mask.none)) ∙ take-append-drop rows bits in
+    let both : front ++ replicate n false ≡ bits = ap (λ l. front ++ l) (sym (no_bits (drop rows bits) mask.none)) ∙ take-append-drop rows bits in
     let end : 0 + length front ≡ rows = omega (arith, length-rows rows words mask) in
     (are_told n front).closed 0 ∙ ap₂ (λ e l. pairs e (positions 0 (changes false l))) end both
 

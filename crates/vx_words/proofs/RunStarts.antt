@@ -11,10 +11,11 @@ use Rattle.vx_bits.specs.Words.{word_bits}
 use Rattle.vx_bits.proofs.WordBits.{word_bits_low, word_bits_more}
 use Rattle.vx_filter.specs.Compact.{bits_of_words}
 use Rattle.vx_mask.specs.Positions.{maximal_runs, runs_from}
-use Rattle.vx_mask.proofs.PositionLists.{none_are_set, true_count_of-cons}
+use Rattle.vx_mask.proofs.PositionLists.{true_count_of-cons, true_count_of-clear}
 use Rattle.vx_mask.proofs.RunLists.{runs_from-set}
 use Rattle.vx_words.specs.Runs.{rows_of, starts}
 use Rattle.vx_words.proofs.MaskWords.{IsMask}
+use Rattle.vx_bits.proofs.WordLists.{no_bits}
 
 -- ---- as many as there are runs
 
@@ -22,9 +23,6 @@ use Rattle.vx_words.proofs.MaskWords.{IsMask}
 record Counted (bits : List Bool) : Type 0 where
   pub closed : (at : ℕ) → length (runs_from at bits) ≡ true_count_of (starts false bits)
   pub opened : (s n : ℕ) → length (runs_from s (replicate (suc n) true ++ bits)) ≡ suc (true_count_of (starts true bits))
-
-clear_first : (bits : List Bool) → true_count_of (false ∷ bits) ≡ true_count_of bits
-clear_first bits = omega (arith, true_count_of-cons false bits)
 
 pub one_more : (n : ℕ) (bits : List Bool) → replicate (suc n) true ++ true ∷ bits ≡ replicate (suc (suc n)) true ++ bits
 one_more zero bits = refl
@@ -37,26 +35,26 @@ counted (true ∷ bits) =
     record {
       closed = λ at. omega (arith, more.opened at 0, true_count_of-cons true (starts true bits));
       opened = λ s n. ap (λ l. length (runs_from s l)) (one_more n bits) ∙ more.opened s (suc n)
-          ∙ ap suc (sym (clear_first (starts true bits)));
+          ∙ ap suc (sym (true_count_of-clear (starts true bits)));
     }
 counted (false ∷ bits) =
     let more = counted bits in
     record {
-      closed = λ at. more.closed (at + 1) ∙ sym (clear_first (starts false bits));
+      closed = λ at. more.closed (at + 1) ∙ sym (true_count_of-clear (starts false bits));
       opened = λ s n. ap length (runs_from-set s n (false ∷ bits) refl)
-          ∙ ap suc (more.closed (s + suc n + 1) ∙ sym (clear_first (starts false bits)));
+          ∙ ap suc (more.closed (s + suc n + 1) ∙ sym (true_count_of-clear (starts false bits)));
     }
 
 -- a start is a set bit
 starts_few : (last : Bool) (bits : List Bool) → true_count_of (starts last bits) ≤ true_count_of bits
 starts_few last [] = omega arith
-starts_few true (true ∷ bits) = omega (arith, starts_few true bits, true_count_of-cons true bits, clear_first (starts true bits))
+starts_few true (true ∷ bits) = omega (arith, starts_few true bits, true_count_of-cons true bits, true_count_of-clear (starts true bits))
 starts_few false (true ∷ bits) = omega (arith, starts_few true bits, true_count_of-cons true bits, true_count_of-cons true (starts true bits))
-starts_few last (false ∷ bits) = omega (arith, starts_few false bits, clear_first bits, clear_first (starts false bits))
+starts_few last (false ∷ bits) = omega (arith, starts_few false bits, true_count_of-clear bits, true_count_of-clear (starts false bits))
 
 no_starts : (last : Bool) (n : ℕ) → true_count_of (starts last (replicate n false)) ≡ 0
 no_starts last zero = refl
-no_starts last (suc n) = clear_first (starts false (replicate n false)) ∙ no_starts false n
+no_starts last (suc n) = true_count_of-clear (starts false (replicate n false)) ∙ no_starts false n
 
 -- ---- one list behind the other
 
@@ -160,6 +158,6 @@ all_counted rows words mask =
     let bits = bits_of_words words in
     let front = take rows bits in
     let clear = replicate (length (drop rows bits)) false in
-    let both : bits ≡ front ++ clear = sym (take-append-drop rows bits) ∙ ap (λ l. front ++ l) (none_are_set (drop rows bits) mask.none) in
+    let both : bits ≡ front ++ clear = sym (take-append-drop rows bits) ∙ ap (λ l. front ++ l) (no_bits (drop rows bits) mask.none) in
     let cut = ap (λ l. true_count_of (starts false l)) both ∙ ap true_count_of (starts-append false front clear) ∙ count-append (starts false front) (starts (last_of false front) clear) in
     omega (arith, cut, no_starts (last_of false front) (length (drop rows bits)), (counted front).closed 0)

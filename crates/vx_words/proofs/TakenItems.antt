@@ -65,7 +65,7 @@ module _ {X : Type 0} (fill : X) (src : List X) (indices valid : List ℕ) where
   pub gathered_more : (dst : List X) (k : ℕ) (x : X) → k < length dst → take k dst ≡ at fill src (map (pick_at indices valid) (range_with_len 0 k)) → x ≡ item_at fill src (pick_at indices valid k) → take (k + 1) (set dst k x) ≡ at fill src (map (pick_at indices valid) (range_with_len 0 (k + 1)))
   gathered_more dst k x room before item = take_more_set dst k x room ∙ ap₂ (λ l y. l ++ y ∷ []) before item ∙ items_more k
 
-  -- the same where the next place is named
+  -- the item at one more pick was written, where the next place is named
   stored_next : (dst : List X) (k n : ℕ) (x : X) → n ≡ k + 1 → k < length dst → take k dst ≡ front_at fill src indices valid k → x ≡ item_at fill src (pick_at indices valid k) → take n (set dst k x) ≡ front_at fill src indices valid n
   stored_next dst k n x e room before item =
       subst (λ m. take m (set dst k x) ≡ front_at fill src indices valid m) (sym e) (gathered_more dst k x room before item)

@@ -44,7 +44,7 @@ impl<'a> Bits<'a> {
         Bits { words, offset, len }
     }
 
-    /// The same bits, where they begin with the words: then their offset is known to be 0.
+    /// These bits, where they begin with the words: then their offset is known to be 0.
     #[inline(always)]
     pub(crate) fn from_first(&self) -> Option<Bits<'a>>
         ensures { IfSome result (λ bits. bits ≡ self.now) }

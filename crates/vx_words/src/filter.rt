@@ -51,7 +51,8 @@ fn compact<T: Copy>(src: &[T], words: &[u64], count: usize, dst: &mut [T]) -> us
     }
 }
 
-// The same: row after row where many are selected and an item has no more than 16 bytes.
+// Copies the `count` items at the set bits to the front of the output: row after row where many are
+// selected and an item has at most 16 bytes.
 fn keep<T: Copy>(src: &[T], words: &[u64], count: usize, dst: &mut [T], size: usize) -> usize
     requires words { length words.now ≡ word_count (length src.now) }
     requires clear { AllBits (bits_of_words words.now) (length src.now) (64 * length words.now)

@@ -67,7 +67,8 @@ fn put_words(src: &Bits, mask: &Bits, dst: &mut [u64]) -> usize
     64 * kept.full + kept.held as usize
 }
 
-// The same. Bits and masks from their first word on are the most common.
+// Writes the bits at the mask's set bits to the front, and returns how many they are. Bits and
+// masks from their first word on are the most common.
 fn put_kept(src: &Bits, mask: &Bits, dst: &mut [u64]) -> usize
     requires same { length src.now ≡ length mask.now }
     requires room { true_count_of mask.now ≤ 64 * length dst.old }

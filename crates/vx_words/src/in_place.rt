@@ -40,7 +40,8 @@ fn keep_rows<T: Copy>(values: &mut [T], mask: &Bits) -> usize
     keep_words(values, mask)
 }
 
-// The same, a word of the mask after another.
+// Moves the values at the mask's set bits to the front, a word of the mask after another, and
+// returns their number.
 #[inline(always)]
 fn keep_words<T: Copy>(values: &mut [T], mask: &Bits) -> usize
     requires { length mask.now ≡ length values.old }

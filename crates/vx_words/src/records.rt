@@ -9,7 +9,7 @@ pub struct Record16 {
 }
 
 impl Record16 {
-    /// Of which each byte is zero.
+    /// The record of which each byte is zero.
     pub const ZERO: Record16 = Record16 { low: 0, high: 0 };
 }
 
@@ -24,7 +24,7 @@ pub struct Record32 {
 }
 
 impl Record32 {
-    /// Of which each byte is zero.
+    /// The record of which each byte is zero.
     pub const ZERO: Record32 = Record32 {
         a: 0,
         b: 0,

@@ -49,7 +49,8 @@ fn put_row<T: Copy>(dst: &mut [T], to: usize, src: &[T], from: usize, bits: u64)
     to + (bits & 1) as usize
 }
 
-// The same of two rows.
+// Copies the items of two rows, and goes on behind each whose bit is set: else the next item is
+// written over it.
 #[inline(always)]
 fn put_two<T: Copy>(dst: &mut [T], to: usize, src: &[T], from: usize, bits: u64) -> usize
     requires from { from + 2 ≤ length src.now }
@@ -60,7 +61,8 @@ fn put_two<T: Copy>(dst: &mut [T], to: usize, src: &[T], from: usize, bits: u64)
     put_row(dst, next, src, from + 1, bits >> 1)
 }
 
-// The same of four.
+// Copies the items of four rows, and goes on behind each whose bit is set: else the next item is
+// written over it.
 #[inline(always)]
 fn put_four<T: Copy>(dst: &mut [T], to: usize, src: &[T], from: usize, bits: u64) -> usize
     requires from { from + 4 ≤ length src.now }
@@ -71,7 +73,8 @@ fn put_four<T: Copy>(dst: &mut [T], to: usize, src: &[T], from: usize, bits: u64
     put_two(dst, next, src, from + 2, bits >> 2)
 }
 
-// The same of eight.
+// Copies the items of eight rows, and goes on behind each whose bit is set: else the next item is
+// written over it.
 #[inline(always)]
 fn put_eight<T: Copy>(dst: &mut [T], to: usize, src: &[T], from: usize, bits: u64) -> usize
     requires from { from + 8 ≤ length src.now }

@@ -27,7 +27,7 @@ fn marks_in(word: u64, before: u64) -> u64
     word ^ ((word << 1) | (before >> 63))
 }
 
-// Those of them at which a run starts.
+// The bits of a word at which a run starts: `before` is the word before it.
 #[inline(always)]
 fn starts_in(word: u64, before: u64) -> u64
     ensures { word_bits result 64 ≡ starts (bit_at before 63 == 1) (word_bits word 64) }
@@ -93,7 +93,8 @@ fn put_pairs(dst: &mut [Run], count: usize, base: u64, marks: u64) -> Told
     }
 }
 
-// The same where a run may have no end yet: the first mark is its end.
+// Writes the runs that a word's marks tell behind so many others. Where a run has no end yet, the
+// first mark is its end. The word's first bit is row `base`.
 #[inline(always)]
 fn put_word(dst: &mut [Run], told: Told, base: u64, marks: u64) -> Told
     requires counted { base + 64 ≤ 2 ^ 64 }

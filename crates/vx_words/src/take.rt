@@ -81,7 +81,8 @@ pub(crate) fn first_past(indices: &[u64], valid: &[u64], bound: usize) -> Option
     search_past(indices, valid, bound)
 }
 
-// The same, one pick after another.
+// The first pick that is there and whose index is not below the bound, searched one pick after
+// another.
 fn search_past(indices: &[u64], valid: &[u64], bound: usize) -> Option<usize>
     requires { valid_fault (length indices.now) valid.now ≡ 0 }
     ensures { MatchOption result

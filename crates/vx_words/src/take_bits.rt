@@ -143,7 +143,7 @@ impl<'a> BitPicks<'a> {
         }
     }
 
-    // The same picks, where none is null.
+    // These picks from the bits `src`, where none is null.
     #[inline(always)]
     fn all_there(&self, src: Bits<'a>) -> BitPicks<'a>
         requires same { src ≡ self.now.src }
@@ -159,8 +159,8 @@ impl<'a> BitPicks<'a> {
         }
     }
 
-    // The same as `put_words`, by a loop of its own for picks that are all there, and for those of
-    // bits that begin with their words.
+    // Writes the bits at the picks, and a clear one at each null, by a loop of its own for picks
+    // that are all there, and for those of bits that begin with their words.
     #[inline(always)]
     fn put(&self, dst: &mut [u64])
         requires { length self.now.indices.now ≤ 64 * length dst.old }

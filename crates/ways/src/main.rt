@@ -16,9 +16,9 @@ use vx_select::{SelectError, select, select_fused};
 /// What two ways to the same rows gave.
 #[derive(Clone, Copy)]
 enum Likeness {
-    /// The same type and rows.
+    /// Both gave one type and equal rows.
     SameRows,
-    /// The same broken step.
+    /// Both named one broken step.
     SameFault,
     /// Anything else.
     Different,

@@ -24,7 +24,7 @@ fn column_offset(column: &Array) -> Option<usize> {
     }
 }
 
-/// The same of a document's column.
+/// Where the bits of a document's column of layout `Bool` begin.
 fn source_offset(source: &DocumentSource) -> Option<usize> {
     match source {
         DocumentSource::Column(column) => column_offset(column),

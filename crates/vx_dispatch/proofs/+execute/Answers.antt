@@ -12,9 +12,8 @@ use Rattle.vx_model.proofs.DictSteps.{execute-dict, first_bad-execute}
 use Rattle.vx_model.proofs.FilterSteps.{execute-filter}
 use Rattle.vx_column.specs.Validity.{valid_of}
 use Rattle.vx_model.specs.Valid.{is_fitting}
-use Rattle.vx_dispatch.proofs.Results.{weaker}
 use Rattle.vx_model.specs.Valid.{valid_size}
-use Rattle.std.proofs.Common.{ℕ, ◌+◌, ◌<◌, List, take, get_or, refl, sym, subst}
+use Rattle.std.proofs.Common.{◌+◌, ◌<◌, List, take, get_or, refl, sym, subst}
 use Rattle.vx_model.specs.Column.{Column}
 use Rattle.vx_model.specs.Columns.{AreSteps}
 use Rattle.vx_model.specs.Struct.{StructParts}
@@ -23,11 +22,12 @@ use Rattle.vx_model.proofs.Across.{long-same, types-steps}
 use Rattle.vx_model.proofs.StructSteps.{fault-struct, fitting-struct, is_same-struct, long-struct}
 use Rattle.vx_dispatch.proofs.EachColumn.{same_more}
 use Rattle.vx_dispatch.proofs.ListSteps.{fits_same}
-use Rattle.std.proofs.Common.{Option, None}
+use Rattle.std.proofs.Common.{Option}
 use Rattle.vx_model.specs.Records.{RecordParts}
 use Rattle.vx_model.specs.Union.{UnionParts, union_column, union_fault}
 use Rattle.vx_model.proofs.UnionFaults.{fault-union-same, is_same-union}
 use Rattle.vx_dispatch.proofs.+execute.Goals as goal
+use Rattle.vx_lemmas.proofs.Results.{if_ok}
 
 pub dict::DictArrayExecuteRows::execute-number_picks-requires-clause-int : goal.dict::DictArrayExecuteRows::execute-number_picks-requires-clause-int
 dict::DictArrayExecuteRows::execute-number_picks-requires-clause-int t c =
@@ -50,32 +50,32 @@ dict::DictArrayExecuteRows::execute-returns-clause-same t c =
     let named : c.in_ok-named.named.picks ≡ positions_of (numbers_of codes) = ap (λ (x : BoundedPicks). x.picks) c.in_ok-named.ensures.picks in
     let nullability : c.nullability.result ≡ codes.dtype.nullability = c.nullability.ensures ∙ ap (λ (t : TypeTree). t.nullability) c.dtype.ensures.value in
     let taken : IfOk c.take_picks.result (IsTake values (positions_of (numbers_of codes)) codes.dtype.nullability) = rw (← named, ← nullability) c.take_picks.ensures in
-    weaker c.take_picks.result taken (λ a. execute-dict p codes values a coded valued)
+    if_ok c.take_picks.result taken (λ a. execute-dict p codes values a coded valued)
 
 pub dict::DictArrayExecuteRows::execute-returns-clause-unwrapped : goal.dict::DictArrayExecuteRows::execute-returns-clause-unwrapped
 dict::DictArrayExecuteRows::execute-returns-clause-unwrapped t c = λ flat.
     let p = c.args.self.now in
     let values = c.in_ok-values.ensures.unwrapped (ap (λ x. is_flat x.dtype) (c.deref-2.ensures ∙ c.values.ensures.value) ∙ flat) in
-    weaker c.take_picks.result c.take_picks.ensures (λ a taken. taken.unwrapped values)
+    if_ok c.take_picks.result c.take_picks.ensures (λ a taken. taken.unwrapped values)
 
 pub dict::DictArrayExecuteRows::execute-returns-clause-direct : goal.dict::DictArrayExecuteRows::execute-returns-clause-direct
 dict::DictArrayExecuteRows::execute-returns-clause-direct t c =
-    weaker c.take_picks.result c.take_picks.ensures (λ a taken. taken.direct c.in_ok-values.ensures.direct)
+    if_ok c.take_picks.result c.take_picks.ensures (λ a taken. taken.direct c.in_ok-values.ensures.direct)
 
 pub filter_layout::FilterArrayExecuteRows::execute-returns-clause-same : goal.filter_layout::FilterArrayExecuteRows::execute-returns-clause-same
 filter_layout::FilterArrayExecuteRows::execute-returns-clause-same t c =
     let p = c.args.self.now in let child = c.in_ok-child.child in
     let same : IsStep p.child p.child.rows p.child.dtype child = rw (c.deref.ensures ∙ c.child.ensures.value) at c.in_ok-child.ensures.same in
-    weaker c.filter.result c.filter.ensures.cut (λ a cut. execute-filter p child a same (rw (ap mask_bits c.mask.ensures.value) at cut))
+    if_ok c.filter.result c.filter.ensures.cut (λ a cut. execute-filter p child a same (rw (ap mask_bits c.mask.ensures.value) at cut))
 
 pub filter_layout::FilterArrayExecuteRows::execute-returns-clause-unwrapped : goal.filter_layout::FilterArrayExecuteRows::execute-returns-clause-unwrapped
 filter_layout::FilterArrayExecuteRows::execute-returns-clause-unwrapped t c = λ flat.
     let child = c.in_ok-child.ensures.unwrapped (ap (λ x. is_flat x.dtype) (c.deref.ensures ∙ c.child.ensures.value) ∙ flat) in
-    weaker c.filter.result c.filter.ensures.cut (λ a cut. cut.step.unwrapped child)
+    if_ok c.filter.result c.filter.ensures.cut (λ a cut. cut.step.unwrapped child)
 
 pub filter_layout::FilterArrayExecuteRows::execute-returns-clause-direct : goal.filter_layout::FilterArrayExecuteRows::execute-returns-clause-direct
 filter_layout::FilterArrayExecuteRows::execute-returns-clause-direct t c =
-    weaker c.filter.result c.filter.ensures.cut (λ a cut. cut.step.direct c.in_ok-child.ensures.direct)
+    if_ok c.filter.result c.filter.ensures.cut (λ a cut. cut.step.direct c.in_ok-child.ensures.direct)
 
 pub stored::StoredExecuteRows::execute-execute_validity-requires : goal.stored::StoredExecuteRows::execute-execute_validity-requires
 stored::StoredExecuteRows::execute-execute_validity-requires t c =

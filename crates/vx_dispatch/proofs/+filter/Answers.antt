@@ -7,7 +7,7 @@ use Rattle.vx_model.proofs.ShownRows.{is_left-filter}
 use Rattle.vx_model.proofs.Validities.{is_left-filter-by_column}
 use Rattle.vx_column.specs.Validity.{valid_of}
 use Rattle.vx_model.proofs.StoredRows.{length-stored_rows}
-use Rattle.vx_column.specs.Stored.{parts_of}
+use Rattle.vx_plain.specs.Stored.{parts_of}
 use Rattle.std.proofs.lemmas.List.{length-replicate}
 use Rattle.std.proofs.Common.{map}
 use Rattle.vx_mask.specs.Mask.{mask_bits}
@@ -16,7 +16,6 @@ use Rattle.vx_model.proofs.Items.{items_where_true-all, items_where_true-none}
 use Rattle.vx_model.proofs.LazyRows.{length-filter}
 use Rattle.vx_model.proofs.DictSteps.{dict_fault-filter, is_filter-dict}
 use Rattle.vx_model.proofs.FilterSteps.{is_filter-filter}
-use Rattle.vx_dispatch.proofs.Results.{weaker}
 use Rattle.vx_dispatch.proofs.Unions.{parts-dense, parts-sparse}
 use Rattle.vx_model.specs.Valid.{valid_size}
 use Rattle.std.proofs.Common.{ℕ, ◌*◌, ap₂, slice_range}
@@ -29,9 +28,9 @@ use Rattle.vx_model.specs.List.{ListParts, list_of, list_spans}
 use Rattle.vx_model.specs.ListView.{ListViewParts, listview_spans}
 use Rattle.vx_model.specs.Lists.{lists_of}
 use Rattle.vx_model.specs.Step.{IsSlice}
-use Rattle.vx_model.specs.Valid.{Valid, nullability_by, present_bits, IsAsPlain, IsLeft}
+use Rattle.vx_model.specs.Valid.{Valid, nullability_by, IsAsPlain}
 use Rattle.vx_model.proofs.ListRows.{elements-fixed, fit-fixed, fit-list, fit-listview, rows-fixed, rows-list, rows-listview, spans-fixed}
-use Rattle.vx_dispatch.proofs.ListSteps.{filter_left_step, filter_step, fits_filter, fits_kept, left_kept, swapped}
+use Rattle.vx_dispatch.proofs.ListSteps.{filter_left_step, filter_step, fits_filter, fits_kept, left_kept}
 use Rattle.vx_bits.specs.BitBuffer.{true_count_of}
 use Rattle.vx_mask.specs.Mask.{mask_bits}
 use Rattle.vx_model.specs.Columns.{AreCuts}
@@ -44,12 +43,14 @@ use Rattle.vx_dispatch.proofs.EachColumn.{cuts_ready, filters_more}
 use Rattle.vx_model.specs.ListView.{listview_column}
 use Rattle.vx_types.specs.TypeTree.{TypeTree}
 use Rattle.std.proofs.Common.{◌+◌, ◌<◌, List, take, get_or, subst}
-use Rattle.std.proofs.Common.{Option, Some, None}
+use Rattle.std.proofs.Common.{Some}
 use Rattle.vx_model.specs.Records.{RecordParts, records_with}
 use Rattle.vx_model.specs.Union.{UnionParts, IsUnionFilter, offsets_kind, union_column, union_fault}
 use Rattle.vx_model.proofs.UnionFaults.{fault-dense-filter, fault-sparse-filter, is_filter-dense, is_filter-sparse}
 use Rattle.vx_model.proofs.UnionSteps.{rows-union}
 use Rattle.vx_dispatch.proofs.+filter.Goals as goal
+use Rattle.vx_lemmas.proofs.Results.{if_ok}
+use Rattle.std.proofs.Math.Nat.{mul_comm}
 
 pub validity::filter_validity-returns-in-NonNullable-clause-left : goal.validity::filter_validity-returns-in-NonNullable-clause-left
 validity::filter_validity-returns-in-NonNullable-clause-left t c =
@@ -70,7 +71,7 @@ validity::filter_validity-returns-in_ok-filter_values-in-Array-clause-left t c =
     let kept = c.in_ok-filter_values-in-Array.field-0 in
     let cut : IsCut a (items_where_true mask a.rows) kept = rw c.deref.ensures at c.in_ok-filter_values-in-Array.ensures.cut in
     let left = is_left-filter-by_column a kept mask fit cut in
-    rw c.in-Array.is (weaker c.from_column.result c.from_column.ensures (λ v is. rw is left))
+    rw c.in-Array.is (if_ok c.from_column.result c.from_column.ensures (λ v is. rw is left))
 
 pub dict::DictArrayFilterRows::filter-recoded-requires : goal.dict::DictArrayFilterRows::filter-recoded-requires
 dict::DictArrayFilterRows::filter-recoded-requires t c =
@@ -82,7 +83,7 @@ pub dict::DictArrayFilterRows::filter-returns : goal.dict::DictArrayFilterRows::
 dict::DictArrayFilterRows::filter-returns t c =
     let p = c.args.self.now in let codes = c.in_ok-codes.codes in let mask = c.args.mask.now.bits.bits in
     let cut : IsCut p.codes (items_where_true mask p.codes.rows) codes = rw (c.deref.ensures ∙ c.codes.ensures.value) at c.in_ok-codes.ensures.cut in
-    weaker c.recoded.result c.recoded.ensures (λ a is. rw is (is_filter-dict p codes mask c.codes.ensures.valid cut))
+    if_ok c.recoded.result c.recoded.ensures (λ a is. rw is (is_filter-dict p codes mask c.codes.ensures.valid cut))
 
 pub filter_layout::FilterArrayFilterRows::filter-returns : goal.filter_layout::FilterArrayFilterRows::filter-returns
 filter_layout::FilterArrayFilterRows::filter-returns t c =
@@ -91,7 +92,7 @@ filter_layout::FilterArrayFilterRows::filter-returns t c =
     let set : set_of both ≡ map (rank_of (mask_bits p.mask)) (set_of other) = rw same at c.in_ok-both.ensures.set in
     let long : length both ≡ length (mask_bits p.mask) = rw same at c.in_ok-both.ensures.len in
     let child = c.deref.ensures ∙ c.child-child.ensures.value in
-    weaker c.filter.result c.filter.ensures.cut (λ kept cut. is_filter-filter p other both kept sound (c.requires ∙ length-filter p sound) set long (rw child at cut))
+    if_ok c.filter.result c.filter.ensures.cut (λ kept cut. is_filter-filter p other both kept sound (c.requires ∙ length-filter p sound) set long (rw child at cut))
 
 pub filtering::filter-returns-in-AllTrue-clause-cut : goal.filtering::filter-returns-in-AllTrue-clause-cut
 filtering::filter-returns-in-AllTrue-clause-cut t c =
@@ -205,7 +206,7 @@ fixed_size_list::FixedSizeListArrayFilterRows::filter-filter-requires t c =
     let rows : length mask ≡ p.len = c.requires ∙ rows-fixed p h ∙ spans-fixed p in
     let bits : length (mask_bits c.in_ok-validity-2.field-0.mask) ≡ length mask * p.size = ap length c.in_ok-validity-2.ensures.mask ∙ length-repeated p.size mask in
     let long : length p.elements.rows ≡ p.size * p.len = elements-fixed p h in
-    let both : length mask * p.size ≡ p.size * p.len = ap (λ n. n * p.size) rows ∙ swapped p.len p.size in (
+    let both : length mask * p.size ≡ p.size * p.len = ap (λ n. n * p.size) rows ∙ mul_comm p.len p.size in (
       omega (arith, ap (λ (x : Column). x.depth) same),
       bits ∙ both ∙ sym long ∙ ap (λ (x : Column). length x.rows) (sym same),
     )
@@ -222,7 +223,7 @@ pub extension::ExtensionArrayFilterRows::filter-returns : goal.extension::Extens
 extension::ExtensionArrayFilterRows::filter-returns t c =
     let p = c.args.self.now in let x = c.in_ok-storage.storage in let mask = c.args.mask.now.bits.bits in
     let cut : IsCut p.storage (items_where_true mask p.storage.rows) x = rw (c.deref.ensures ∙ c.storage.ensures.value) at c.in_ok-storage.ensures.cut in
-    weaker c.restored.result c.restored.ensures (λ a is. rw is (is_cut-extension p x _ cut))
+    if_ok c.restored.result c.restored.ensures (λ a is. rw is (is_cut-extension p x _ cut))
 
 pub map::MapArrayFilterRows::filter-of_entries-requires : goal.map::MapArrayFilterRows::filter-of_entries-requires
 map::MapArrayFilterRows::filter-of_entries-requires t c =
@@ -334,4 +335,4 @@ union_::filter_variants-returns-in_ok-places-in-Some-clause-parts t c =
 pub union_::filter_variants-returns-in-None-clause-form :
     goal.union_::filter_variants-returns-in-None-clause-form
 union_::filter_variants-returns-in-None-clause-form t c =
-    weaker c.filter_sparse.result c.filter_sparse.ensures.sparse (λ u is. ap offsets_kind (is ∙ c.in-None.ensures.value))
+    if_ok c.filter_sparse.result c.filter_sparse.ensures.sparse (λ u is. ap offsets_kind (is ∙ c.in-None.ensures.value))

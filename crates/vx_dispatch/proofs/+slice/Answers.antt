@@ -7,16 +7,15 @@ use Rattle.vx_model.proofs.ShownRows.{is_left-slice}
 use Rattle.vx_model.proofs.Validities.{is_left-slice-by_column}
 use Rattle.vx_column.specs.Validity.{valid_of}
 use Rattle.vx_model.proofs.StoredRows.{length-stored_rows}
-use Rattle.vx_column.specs.Stored.{parts_of}
+use Rattle.vx_plain.specs.Stored.{parts_of}
 use Rattle.std.proofs.Common.{take, Bool}
 use Rattle.vx_bits.specs.BitBuffer.{true_count_of}
 use Rattle.vx_model.specs.Column.{Column}
 use Rattle.vx_model.specs.Filter.{filter_column}
 use Rattle.vx_model.proofs.DictSteps.{dict_fault-slice, is_slice-dict}
 use Rattle.vx_model.proofs.FilterSteps.{is_slice-filter}
-use Rattle.vx_dispatch.proofs.Results.{weaker}
 use Rattle.vx_model.specs.Valid.{valid_size}
-use Rattle.std.proofs.Common.{ℕ, ◌-◌, ◌*◌}
+use Rattle.std.proofs.Common.{◌-◌, ◌*◌}
 use Rattle.vx_types.specs.TypeTree.{TypeTree}
 use Rattle.vx_model.specs.FixedSizeList.{FixedParts, fixed_column, fixed_of, fixed_spans}
 use Rattle.vx_model.specs.List.{ListParts, list_of, list_spans}
@@ -34,7 +33,7 @@ use Rattle.vx_model.proofs.MapSteps.{elements-step, fault-map, is_cut-map}
 use Rattle.vx_model.proofs.StructSteps.{fault-struct, fitting-struct, is_slice-struct, long-struct, rows-struct}
 use Rattle.vx_dispatch.proofs.EachColumn.{slices_more}
 use Rattle.std.proofs.Common.{◌+◌, ◌<◌, get_or, sym, subst}
-use Rattle.std.proofs.Common.{Option, Some, None}
+use Rattle.std.proofs.Common.{Some}
 use Rattle.vx_model.specs.Records.{RecordParts, records_with}
 use Rattle.vx_model.specs.Union.{UnionParts, union_column, union_fault}
 use Rattle.vx_model.proofs.UnionFaults.{fault-dense-slice, fault-sparse-slice, is_slice-dense, is_slice-sparse}
@@ -42,6 +41,7 @@ use Rattle.vx_model.proofs.UnionSteps.{rows-union}
 use Rattle.vx_dispatch.specs.Union.{IsUnionSlice}
 use Rattle.vx_dispatch.proofs.Unions.{sliced-dense, sliced-sparse}
 use Rattle.vx_dispatch.proofs.+slice.Goals as goal
+use Rattle.vx_lemmas.proofs.Results.{if_ok}
 
 pub validity::slice_validity-returns-in-NonNullable-clause-left : goal.validity::slice_validity-returns-in-NonNullable-clause-left
 validity::slice_validity-returns-in-NonNullable-clause-left t c =
@@ -62,7 +62,7 @@ validity::slice_validity-returns-in_ok-slice-in-Array-clause-left t c =
     let part = c.in_ok-slice-in-Array.field-0 in
     let cut : IsSlice a s e part = rw c.deref.ensures at c.in_ok-slice-in-Array.ensures.cut in
     let left = is_left-slice-by_column a part c.args.len s e fit c.requires.ordered c.requires.within cut in
-    rw c.in-Array.is (weaker c.from_column.result c.from_column.ensures (λ v is. rw is left))
+    rw c.in-Array.is (if_ok c.from_column.result c.from_column.ensures (λ v is. rw is left))
 
 pub dict::DictArraySliceRows::slice-recoded-requires : goal.dict::DictArraySliceRows::slice-recoded-requires
 dict::DictArraySliceRows::slice-recoded-requires t c =
@@ -74,7 +74,7 @@ pub dict::DictArraySliceRows::slice-returns-clause-cut : goal.dict::DictArraySli
 dict::DictArraySliceRows::slice-returns-clause-cut t c =
     let p = c.args.self.now in let codes = c.in_ok-codes.codes in
     let cut : IsSlice p.codes c.args.start c.args.end codes = rw (c.deref.ensures ∙ c.codes.ensures.value) at c.in_ok-codes.ensures.cut in
-    weaker c.recoded.result c.recoded.ensures (λ a is. rw is (is_slice-dict p codes c.args.start c.args.end c.codes.ensures.valid cut))
+    if_ok c.recoded.result c.recoded.ensures (λ a is. rw is (is_slice-dict p codes c.args.start c.args.end c.codes.ensures.valid cut))
 
 pub filter_layout::FilterArraySliceRows::slice-returns-clause-cut : goal.filter_layout::FilterArraySliceRows::slice-returns-clause-cut
 filter_layout::FilterArraySliceRows::slice-returns-clause-cut t c =
@@ -174,7 +174,7 @@ pub extension::ExtensionArraySliceRows::slice-returns-clause-cut : goal.extensio
 extension::ExtensionArraySliceRows::slice-returns-clause-cut t c =
     let p = c.args.self.now in let x = c.in_ok-storage.storage in
     let cut : IsSlice p.storage c.args.start c.args.end x = rw (c.deref.ensures ∙ c.storage.ensures.value) at c.in_ok-storage.ensures.cut in
-    weaker c.restored.result c.restored.ensures (λ a is. rw is (is_cut-extension p x _ cut))
+    if_ok c.restored.result c.restored.ensures (λ a is. rw is (is_cut-extension p x _ cut))
 
 pub map::MapArraySliceRows::slice-of_entries-requires : goal.map::MapArraySliceRows::slice-of_entries-requires
 map::MapArraySliceRows::slice-of_entries-requires t c =

@@ -12,7 +12,7 @@ use Rattle.vx_model.proofs.Takes.{is_left-take-none, left_by_bits, left_the_same
 use Rattle.vx_column.specs.Validity.{valid_of}
 use Rattle.vx_types.specs.declared.nullability.Nullability.{Nullability}
 use Rattle.vx_model.proofs.StoredRows.{length-stored_rows}
-use Rattle.vx_column.specs.Stored.{parts_of}
+use Rattle.vx_plain.specs.Stored.{parts_of}
 use Rattle.std.specs.Prelude.{is_some}
 use Rattle.vx_types.specs.declared.nullability.Nullability.TheVariants.{Nullable}
 use Rattle.vx_column.specs.Layout.{column_of}
@@ -26,7 +26,6 @@ use Rattle.vx_positions.specs.Positions.{positions_of}
 use Rattle.vx_model.proofs.DictSteps.{bits-dict, dict_fault-take, is_take-dict}
 use Rattle.vx_model.proofs.FilterSteps.{is_step-filter, is_take-filter}
 use Rattle.vx_model.proofs.LazyRows.{int-dict, sound-dict}
-use Rattle.vx_dispatch.proofs.Results.{weaker}
 use Rattle.vx_model.specs.Valid.{valid_size}
 use Rattle.std.proofs.Common.{ℕ, []}
 use Rattle.vx_lists.specs.Plans.{MakesLists}
@@ -41,7 +40,7 @@ use Rattle.vx_take.specs.Picks.{BoundedPicks, in_runs}
 use Rattle.vx_positions.specs.Positions.{AllThere}
 use Rattle.vx_pieces.proofs.PieceLists.{all_there-numbers}
 use Rattle.vx_dispatch.proofs.RunTakes.{runs_step}
-use Rattle.vx_dispatch.proofs.ListSteps.{fits_take, left_taken, take_kept_step, take_step}
+use Rattle.vx_dispatch.proofs.ListSteps.{left_taken, take_kept_step, take_step}
 use Rattle.std.proofs.Common.{◌<◌, slice_range}
 use Rattle.std.proofs.lemmas.Bool.Decides.{nat_tests}
 use Rattle.std.specs.Prelude.{replicate}
@@ -54,13 +53,13 @@ use Rattle.vx_model.specs.Struct.{StructParts}
 use Rattle.vx_model.proofs.Across.{long-take, there-firsts, types-steps}
 use Rattle.vx_model.proofs.ExtensionSteps.{fault-extension, is_step-extension}
 use Rattle.vx_model.proofs.MapSteps.{elements-step, fault-map, is_step-map}
-use Rattle.vx_model.proofs.StructSteps.{fault-made, fault-struct, fitting-struct, is_take-none, is_take-struct, long-struct, rows-struct}
+use Rattle.vx_model.proofs.StructSteps.{fault-made, fault-struct, is_take-none, is_take-struct, long-struct, rows-struct}
 use Rattle.vx_dispatch.proofs.EachColumn.{below-firsts, takes_more}
 use Rattle.std.proofs.Common.{◌+◌, take, get_or}
 use Rattle.std.proofs.lemmas.List.{length-map}
 use Rattle.vx_types.specs.FieldTypes.{FieldTypes}
 use Rattle.vx_types.specs.declared.nullability.Nullability.TheVariants.{NonNullable}
-use Rattle.std.proofs.Common.{Option, Some, None, replicate}
+use Rattle.std.proofs.Common.{Option, Some, replicate}
 use Rattle.vx_model.specs.Records.{RecordParts, records_with}
 use Rattle.vx_model.specs.Union.{UnionParts, union_column, union_fault}
 use Rattle.vx_types.specs.FieldTypes.{VariantTypes}
@@ -68,6 +67,8 @@ use Rattle.vx_model.proofs.UnionFaults.{fault-dense-take, fault-sparse-any, faul
 use Rattle.vx_dispatch.specs.Union.{IsUnionTake}
 use Rattle.vx_dispatch.proofs.Unions.{ids_taken, taken-dense, taken-sparse, types-variants}
 use Rattle.vx_dispatch.proofs.+take.Goals as goal
+use Rattle.vx_lemmas.proofs.Results.{if_ok}
+use Rattle.vx_model.proofs.Steps.{fitting-take}
 
 pub validity::take_validity-returns-in-AllInvalid-default-clause-left : goal.validity::take_validity-returns-in-AllInvalid-default-clause-left
 validity::take_validity-returns-in-AllInvalid-default-clause-left t c =
@@ -78,7 +79,7 @@ validity::take_validity-returns-in_ok-taken_bits-in-Array-default-clause-left t 
     let a = c.in-Array-default in let p = c.args.picks.now in let n = c.args.nullability in
     let is : valid_of c.args.validity.now ≡ by_column a.array = ap valid_of a.is-0 in
     let bits = c.in_ok-taken_bits-in-Array-default.field-0 in
-    weaker c.from_bits.result c.from_bits.ensures (λ v h. left_by_bits (valid_of c.args.validity.now) (valid_of v) n p.bound p.picks bits.bits bits.offset
+    if_ok c.from_bits.result c.from_bits.ensures (λ v h. left_by_bits (valid_of c.args.validity.now) (valid_of v) n p.bound p.picks bits.bits bits.offset
     (ap (λ (v : Valid). either_nullable (nullability_by v) n) is)
     (c.in_ok-taken_bits-in-Array-default.ensures ∙ ap (λ x. at false (map is_yes x.rows) p.picks) c.deref.ensures ∙ ap (λ (v : Valid). at false (present_bits v p.bound) p.picks) (sym is))
     h)
@@ -102,14 +103,14 @@ validity::take_validity-returns-in-NonNullable-Nullable-clause-left t c =
     let a = c.in-NonNullable-Nullable in let p = c.args.picks.now in let n = c.args.nullability in
     let is : valid_of c.args.validity.now ≡ non_nullable = ap valid_of a.is-0 in
     let below : AreBelow p.picks p.bound = subst (AreBelow p.picks) c.bound.ensures.value c.bound.ensures.below in
-    rw is (weaker c.by_picks.result c.by_picks.ensures (λ v. left_by_bits non_nullable (valid_of v) n p.bound p.picks (map is_some p.picks) 0 (ap (either_nullable (nullability_by non_nullable)) a.is-1) (all_there p.bound p.picks below)))
+    rw is (if_ok c.by_picks.result c.by_picks.ensures (λ v. left_by_bits non_nullable (valid_of v) n p.bound p.picks (map is_some p.picks) 0 (ap (either_nullable (nullability_by non_nullable)) a.is-1) (all_there p.bound p.picks below)))
 
 pub validity::take_validity-returns-in-AllValid-Nullable-clause-left : goal.validity::take_validity-returns-in-AllValid-Nullable-clause-left
 validity::take_validity-returns-in-AllValid-Nullable-clause-left t c =
     let a = c.in-AllValid-Nullable in let p = c.args.picks.now in let n = c.args.nullability in
     let is : valid_of c.args.validity.now ≡ all_valid = ap valid_of a.is-0 in
     let below : AreBelow p.picks p.bound = subst (AreBelow p.picks) c.bound.ensures.value c.bound.ensures.below in
-    rw is (weaker c.by_picks-in-AllValid-Nullable.result c.by_picks-in-AllValid-Nullable.ensures (λ v. left_by_bits all_valid (valid_of v) n p.bound p.picks (map is_some p.picks) 0 refl (all_there p.bound p.picks below)))
+    rw is (if_ok c.by_picks-in-AllValid-Nullable.result c.by_picks-in-AllValid-Nullable.ensures (λ v. left_by_bits all_valid (valid_of v) n p.bound p.picks (map is_some p.picks) 0 refl (all_there p.bound p.picks below)))
 
 pub validity::taken_bits-returns-in-Bool : goal.validity::taken_bits-returns-in-Bool
 validity::taken_bits-returns-in-Bool t c =
@@ -117,7 +118,7 @@ validity::taken_bits-returns-in-Bool t c =
     let same : bool_column p ≡ c.args.array.now = ap column_of (sym c.in-Bool.is) ∙ c.layout.ensures in
     let bools : is_non_null_bool (bool_column p).dtype ≡ true = ap (λ x. is_non_null_bool x.dtype) same ∙ c.requires.bools in
     let rows = ap (λ b. at false b picks) (ap (λ x. x.bits) c.bits.ensures.bits ∙ sym (yes-bool p bools) ∙ ap (λ x. map is_yes x.rows) same) in
-    weaker c.gather_bits.result c.gather_bits.ensures (λ b h. ap (λ b. b.bits) h ∙ rows)
+    if_ok c.gather_bits.result c.gather_bits.ensures (λ b h. ap (λ b. b.bits) h ∙ rows)
 
 pub dict::DictArrayTakeRows::take-recoded-requires : goal.dict::DictArrayTakeRows::take-recoded-requires
 dict::DictArrayTakeRows::take-recoded-requires t c =
@@ -129,7 +130,7 @@ pub dict::DictArrayTakeRows::take-returns : goal.dict::DictArrayTakeRows::take-r
 dict::DictArrayTakeRows::take-returns t c =
     let p = c.args.self.now in let codes = c.in_ok-codes.codes in let picks = c.args.picks.picks in let n = c.args.nulls in
     let taken : IsTake p.codes picks n codes = rw (c.deref.ensures ∙ c.codes.ensures.value) at c.in_ok-codes.ensures in
-    weaker c.recoded.result c.recoded.ensures (λ a is. rw is (is_take-dict p codes picks n c.codes.ensures.valid taken))
+    if_ok c.recoded.result c.recoded.ensures (λ a is. rw is (is_take-dict p codes picks n c.codes.ensures.valid taken))
 
 -- the rows that the mask keeps are materialized
 pub filter_layout::FilterArrayTakeRows::take-returns-then-is_materialized : goal.filter_layout::FilterArrayTakeRows::take-returns-then-is_materialized
@@ -137,7 +138,7 @@ filter_layout::FilterArrayTakeRows::take-returns-then-is_materialized t c =
     let p = c.args.self.now in let picks = c.args.picks.picks in let n = c.args.nulls in
     let child = c.deref-then-is_materialized.ensures ∙ c.child-child.ensures.value in
     let cut : IsCut p.child (items_where_true (mask_bits p.mask) p.child.rows) c.in_ok-kept.kept = rw (child, ap mask_bits c.mask-mask.ensures.value) at c.in_ok-kept.ensures.cut in
-    weaker c.take_picks.result c.take_picks.ensures (λ a taken. is_step-filter p _ _ a
+    if_ok c.take_picks.result c.take_picks.ensures (λ a taken. is_step-filter p _ _ a
     (taken.rows ∙ ap (λ r. at null r picks) cut.step.rows)
     (taken.dtype ∙ ap (λ d. also_nullable d n) cut.step.dtype)
     (taken.form ∙ cut.step.form))
@@ -146,7 +147,7 @@ pub filter_layout::FilterArrayTakeRows::take-returns : goal.filter_layout::Filte
 filter_layout::FilterArrayTakeRows::take-returns t c =
     let p = c.args.self.now in let picks = c.args.picks.picks in let n = c.args.nulls in
     let child = c.deref-2.ensures ∙ c.child-child.ensures.value in
-    weaker c.take_picks-2.result c.take_picks-2.ensures (λ a taken. is_take-filter p picks n a c.child-child.ensures.valid c.child_picks.ensures.below (rw (child, c.in_ok-positions.ensures.picks) at taken))
+    if_ok c.take_picks-2.result c.take_picks-2.ensures (λ a taken. is_take-filter p picks n a c.child-child.ensures.valid c.child_picks.ensures.below (rw (child, c.in_ok-positions.ensures.picks) at taken))
 
 pub dict::DictArrayTakeBits::bits-number_picks-requires-clause-int : goal.dict::DictArrayTakeBits::bits-number_picks-requires-clause-int
 dict::DictArrayTakeBits::bits-number_picks-requires-clause-int t c =
@@ -168,7 +169,7 @@ dict::DictArrayTakeBits::bits-returns t c =
     let named : c.in_ok-named.named.picks ≡ positions_of (numbers_of codes) = ap (λ x. x.picks) c.in_ok-named.ensures.picks in
     let rows = ap₂ (λ (x : Column) l. at false (map is_yes x.rows) l) (c.deref-3.ensures ∙ c.values-values.ensures.value) named in
     let same = ap (λ x. at false (map is_yes (dict_column p).rows) x.picks) c.in_ok-copy.ensures in
-    weaker c.taken_bits.result c.taken_bits.ensures (λ b h. h ∙ rows ∙ bits-dict p codes picks Nullable taken ∙ same)
+    if_ok c.taken_bits.result c.taken_bits.ensures (λ b h. h ∙ rows ∙ bits-dict p codes picks Nullable taken ∙ same)
 
 -- the rows that the mask keeps are materialized
 pub filter_layout::FilterArrayTakeBits::bits-returns : goal.filter_layout::FilterArrayTakeBits::bits-returns
@@ -176,7 +177,7 @@ filter_layout::FilterArrayTakeBits::bits-returns t c =
     let p = c.args.self.now in let picks = c.args.picks.now.picks in
     let kept : c.in_ok-kept.kept.rows ≡ (filter_column p).rows =
     rw (c.deref.ensures ∙ c.child.ensures.value, ap mask_bits c.mask.ensures.value) at c.in_ok-kept.ensures.cut.step.rows in
-    weaker c.taken_bits.result c.taken_bits.ensures (λ b h. h ∙ ap (λ r. at false (map is_yes r) picks) kept)
+    if_ok c.taken_bits.result c.taken_bits.ensures (λ b h. h ∙ ap (λ r. at false (map is_yes r) picks) kept)
 
 pub stored::StoredTakeRows::take-take_validity-requires : goal.stored::StoredTakeRows::take-take_validity-requires
 stored::StoredTakeRows::take-take_validity-requires t c =
@@ -200,7 +201,7 @@ pub stored::StoredTakeRows::take-returns : goal.stored::StoredTakeRows::take-ret
 stored::StoredTakeRows::take-returns t c =
     let p = parts_of c.args.self.now in let v = c.validity.ensures in
     let same = c.in_ok-validity.ensures.left.nullability ∙ ap (λ (x : Valid). either_nullable (nullability_by x) c.args.nulls) v.value in
-    weaker c.take_stored.result c.take_stored.ensures (λ a step. record {
+    if_ok c.take_stored.result c.take_stored.ensures (λ a step. record {
       rows = step.rows;
       dtype = step.dtype ∙ ap (λ (n : Nullability). let u : TypeTree = record { kind = p.kind; nullability = n } in u) same;
       layout = step.layout;
@@ -217,7 +218,7 @@ list::take_lists-plan_list_take-requires t c =
     let w = valid_of c.in_ok-validity.validity in let n = either_nullable (nullability_by p.valid) c.args.nullability in
     let m = length (list_spans p).spans in let bound = c.requires.bound ∙ rows-list p h in
     let left : IsLeft p.valid n (at false (present_bits p.valid m) picks) w = rw (c.validity.ensures.value, bound) at c.in_ok-validity.ensures.left in
-    record { bound = omega (arith, bound); fitting = fits_take p.valid w n m (fit-list p h) picks left }
+    record { bound = omega (arith, bound); fitting = fitting-take p.valid w n m picks left }
 
 pub list::take_lists-returns-clause-taken : goal.list::take_lists-returns-clause-taken
 list::take_lists-returns-clause-taken t c =
@@ -229,12 +230,12 @@ list::take_lists-returns-clause-taken t c =
     let same = c.in_ok-plan.ensures.valid in
     let taken : IsStep p.elements (in_runs p.elements.rows plan.runs) p.elements.dtype x = rw (c.deref.ensures ∙ c.elements.ensures.value) at c.in_ok-elements.ensures in
     let makes : MakesLists plan.offsets w (in_runs p.elements.rows plan.runs) (kept_lists (present_bits w (length picks)) (at [] (lists_of (list_spans p)) picks)) = c.in_ok-plan.ensures.lists.makes in
-    weaker c.relisted.result c.relisted.ensures (λ a is. rw (is, same)
+    if_ok c.relisted.result c.relisted.ensures (λ a is. rw (is, same)
     (take_kept_step (list_spans p) (list_spans q) refl refl (ap list_of taken.dtype) (fit-list p h) picks n (makes x taken.rows).1 left))
 
 pub list::take_lists-returns-clause-offsets : goal.list::take_lists-returns-clause-offsets
 list::take_lists-returns-clause-offsets t c =
-    weaker c.relisted.result c.relisted.ensures (λ a is. ap (λ (l : ListParts). l.offsets.kind) is ∙ c.in_ok-plan.ensures.kind)
+    if_ok c.relisted.result c.relisted.ensures (λ a is. ap (λ (l : ListParts). l.offsets.kind) is ∙ c.in_ok-plan.ensures.kind)
 
 pub listview::take_views-plan_view_take-requires : goal.listview::take_views-plan_view_take-requires
 listview::take_views-plan_view_take-requires t c =
@@ -242,7 +243,7 @@ listview::take_views-plan_view_take-requires t c =
     let w = valid_of c.in_ok-validity.validity in let n = either_nullable (nullability_by p.valid) c.args.nullability in
     let m = length (listview_spans p).spans in let bound = c.requires.bound ∙ rows-listview p h in
     let left : IsLeft p.valid n (at false (present_bits p.valid m) picks) w = rw (c.validity.ensures.value, bound) at c.in_ok-validity.ensures.left in
-    record { bound = omega (arith, bound); fitting = fits_take p.valid w n m (fit-listview p h) picks left }
+    record { bound = omega (arith, bound); fitting = fitting-take p.valid w n m picks left }
 
 pub listview::take_views-returns : goal.listview::take_views-returns
 listview::take_views-returns t c =
@@ -270,7 +271,7 @@ runs::take_runs-returns-in-Some t c =
 pub runs::take_runs-returns-in_ok-picks-in-None : goal.runs::take_runs-returns-in_ok-picks-in-None
 runs::take_runs-returns-in_ok-picks-in-None t c =
     let made = ap (λ (p : BoundedPicks). p.picks) c.in_ok-picks-in-None.ensures in
-    weaker c.take_picks.result c.take_picks.ensures (λ a take. runs_step c.args.array.now c.args.runs a c.requires (rw made at take))
+    if_ok c.take_picks.result c.take_picks.ensures (λ a take. runs_step c.args.array.now c.args.runs a c.requires (rw made at take))
 
 -- ---- lists of one size
 
@@ -280,7 +281,7 @@ fixed_size_list::FixedSizeListArrayTakeRows::take-plan_fixed_take-requires t c =
     let w = valid_of c.in_ok-validity.validity in let n = either_nullable (nullability_by p.valid) c.args.nulls in
     let m = length (fixed_spans p).spans in let bound = c.requires.bound ∙ rows-fixed p h in
     let left : IsLeft p.valid n (at false (present_bits p.valid m) picks) w = rw (c.validity.ensures.value, bound) at c.in_ok-validity.ensures.left in
-    record { bound = omega (arith, bound, spans-fixed p); fitting = fits_take p.valid w n m (fit-fixed p h) picks left }
+    record { bound = omega (arith, bound, spans-fixed p); fitting = fitting-take p.valid w n m picks left }
 
 pub fixed_size_list::FixedSizeListArrayTakeRows::take-returns-then-len-eq0 : goal.fixed_size_list::FixedSizeListArrayTakeRows::take-returns-then-len-eq0
 fixed_size_list::FixedSizeListArrayTakeRows::take-returns-then-len-eq0 t c =
@@ -293,7 +294,7 @@ fixed_size_list::FixedSizeListArrayTakeRows::take-returns-then-len-eq0 t c =
     let typed = c.dtype.ensures.value ∙ ap (λ (k : Column). k.dtype) (c.deref.ensures ∙ c.elements.ensures.value) in
     let rows = c.in_ok-elements.ensures.rows ∙ ap (λ (k : TypeTree). replicate plan.filler (filler_row k)) typed in
     let makes = c.in_ok-validity-2.ensures.fillers none fill in
-    weaker c.relisted.result c.relisted.ensures (λ a is. rw (is, c.in_ok-validity-2.ensures.valid, c.len-len.ensures)
+    if_ok c.relisted.result c.relisted.ensures (λ a is. rw (is, c.in_ok-validity-2.ensures.valid, c.len-len.ensures)
     (take_step (fixed_spans p) (fixed_spans q) refl refl (ap (λ k. fixed_of k p.size) (c.in_ok-elements.ensures.dtype ∙ typed)) (fit-fixed p h) (replicate p.size fill) picks n (makes x rows).1 left))
 
 pub fixed_size_list::FixedSizeListArrayTakeRows::take-returns : goal.fixed_size_list::FixedSizeListArrayTakeRows::take-returns
@@ -306,7 +307,7 @@ fixed_size_list::FixedSizeListArrayTakeRows::take-returns t c =
     let some : 0 < p.len = grind (arith, nat_tests, c.len.ensures.value, c.if-len-eq0.false) in
     let taken : IsStep p.elements (in_runs p.elements.rows plan.runs) p.elements.dtype x = rw (c.deref-2.ensures ∙ c.elements-2.ensures.value) at c.in_ok-elements-2.ensures in
     let makes = c.in_ok-validity-2.ensures.lists some in
-    weaker c.relisted-2.result c.relisted-2.ensures (λ a is. rw (is, c.in_ok-validity-2.ensures.valid, c.len-len.ensures)
+    if_ok c.relisted-2.result c.relisted-2.ensures (λ a is. rw (is, c.in_ok-validity-2.ensures.valid, c.len-len.ensures)
     (take_step (fixed_spans p) (fixed_spans q) refl refl (ap (λ k. fixed_of k p.size) taken.dtype) (fit-fixed p h) (slice_range p.elements.rows 0 p.size) picks n (makes x taken.rows).1 left))
 
 -- ---- extensions and maps
@@ -321,7 +322,7 @@ pub extension::ExtensionArrayTakeRows::take-returns : goal.extension::ExtensionA
 extension::ExtensionArrayTakeRows::take-returns t c =
     let p = c.args.self.now in let x = c.in_ok-storage.storage in let picks = c.args.picks.picks in let n = c.args.nulls in
     let taken : IsTake p.storage picks n x = rw (c.deref.ensures ∙ c.storage.ensures.value) at c.in_ok-storage.ensures in
-    weaker c.restored.result c.restored.ensures (λ a is. rw is (is_step-extension p x _ (also_nullable p.storage.dtype n) taken))
+    if_ok c.restored.result c.restored.ensures (λ a is. rw is (is_step-extension p x _ (also_nullable p.storage.dtype n) taken))
 
 pub map::MapArrayTakeRows::take-of_entries-requires : goal.map::MapArrayTakeRows::take-of_entries-requires
 map::MapArrayTakeRows::take-of_entries-requires t c =
@@ -357,7 +358,7 @@ struct_::StructArrayTakeRows::take-with_parts-requires t c =
     let left = left_taken picks c.args.nulls c.validity.ensures.value (c.requires.bound ∙ rows-struct p h) c.in_ok-validity.ensures.left in
     let types : types_in fields ≡ p.types.types = c.in_ok-fields.ensures.types ∙ c.types-types.ensures.value ∙ ap (λ (f : FieldTypes). f.types) (c.deref.ensures ∙ c.struct_fields.ensures.value) in
     rw c.len-len.ensures
-    (fault-made q types (rw c.len-len.ensures at c.in_ok-fields.ensures.long) (fits_take p.valid w n p.len (fitting-struct p h) picks left))
+    (fault-made q types (rw c.len-len.ensures at c.in_ok-fields.ensures.long) (fitting-take p.valid w n p.len picks left))
 
 pub struct_::StructArrayTakeRows::take-returns-then-bound-eq0 : goal.struct_::StructArrayTakeRows::take-returns-then-bound-eq0
 struct_::StructArrayTakeRows::take-returns-then-bound-eq0 t c =
@@ -395,7 +396,7 @@ struct_::StructArrayTakeRows::take-with_parts-requires-2 t c =
     rw c.len-len.ensures
     (fault-struct p q h refl (types-steps _ p.columns fields steps)
     (rw many at (long-take p.len p.columns fields (long-struct p h) (firsts_for_nulls picks) steps))
-    (fits_take p.valid w n p.len (fitting-struct p h) picks left))
+    (fitting-take p.valid w n p.len picks left))
 
 pub struct_::StructArrayTakeRows::take-returns : goal.struct_::StructArrayTakeRows::take-returns
 struct_::StructArrayTakeRows::take-returns t c =

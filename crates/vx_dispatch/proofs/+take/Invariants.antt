@@ -4,7 +4,7 @@ use Rattle.std.specs.Prelude.{max}
 use Rattle.vx_model.specs.Valid.{valid_size}
 use Rattle.vx_model.specs.Dict.{dict_size}
 use Rattle.vx_model.specs.Filter.{filter_size}
-use Rattle.vx_column.specs.Stored.{parts_of}
+use Rattle.vx_plain.specs.Stored.{parts_of}
 use Rattle.vx_column.specs.Validity.{valid_of}
 use Rattle.std.proofs.Common.{take}
 use Rattle.vx_types.specs.RowValue.{null}

@@ -5,7 +5,7 @@ use Rattle.vortex_select.specs.Step.{StepValue, step_value}
 use Rattle.vortex_select.specs.Walk.{Walk, walk, walk_fault, walk_picks}
 use Rattle.vortex_select.specs.Table.{TableValue}
 use Rattle.vortex_select.specs.Page.{IsPage}
-use Rattle.vortex_select.proofs.TableLists.{weaker}
+use Rattle.vortex_select.proofs.Results.{if_ok}
 use Rattle.calling.proofs.tables.four_rows.Goals as goal
 
 few : (t p : TableValue) (projection : List ℕ) (steps : List StepValue) (page len : ℕ) (w : Walk) → IsPage t projection steps page len w p → p.len ≤ len
@@ -15,4 +15,4 @@ few t p projection steps page len (walk_picks picks) h = omega (arith, h.len, le
 pub returns : goal.returns
 returns c =
     let t = c.args.table.now in let steps = map step_value c.args.steps.now in
-    weaker c.page.result c.page.ensures.rows (λ p h. few t p c.args.projection.now steps c.args.number 4 (walk t.len steps) h)
+    if_ok c.page.result c.page.ensures.rows (λ p h. few t p c.args.projection.now steps c.args.number 4 (walk t.len steps) h)

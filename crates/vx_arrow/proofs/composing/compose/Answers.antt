@@ -2,8 +2,9 @@
 use Rattle.std.proofs.Common.{map, length}
 use Rattle.vx_arrow.specs.Answer.{IsRefusal, IsShort}
 use Rattle.vx_arrow.specs.Image.{step_parts}
-use Rattle.vx_arrow.proofs.Refusals.{err_is, unread}
+use Rattle.vx_arrow.proofs.Refusals.{unread}
 use Rattle.vx_arrow.proofs.composing.compose.Goals as goal
+use Rattle.vx_lemmas.proofs.Results.{err_is}
 
 pub returns-in_err-steps-clause-fault : goal.returns-in_err-steps-clause-fault
 returns-in_err-steps-clause-fault c =

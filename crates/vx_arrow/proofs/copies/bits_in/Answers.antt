@@ -1,8 +1,9 @@
 -- The bytes that the bits lie in are copied, and no others.
 use Rattle.std.proofs.Common.{rules, ◌≡◌, ◌+◌, ◌-◌, ◌*◌, ◌/◌, ◌%◌, ◌≤◌, take, drop, ap, ◌∙◌, sym, arith}
 use Rattle.vx_bits.specs.BitBuffer.{PlacedBits, bits_of}
-use Rattle.vx_arrow.proofs.Copied.{bits_copied, made}
+use Rattle.vx_arrow.proofs.Copied.{bits_copied}
 use Rattle.vx_arrow.proofs.copies.bits_in.Goals as goal
+use Rattle.vx_bits.proofs.Results.{made}
 
 pub returns : goal.returns
 returns c =

@@ -1,25 +1,25 @@
--- One bit more.
-use Rattle.std.proofs.Common.{arith, subst, ℕ}
-use Rattle.vx_arrow_image.specs.Image.{part_of}
-use Rattle.vx_arrow_columns.specs.Picks.{picks_of}
-use Rattle.vx_arrow_columns.specs.Taken.{AreBits}
-use Rattle.vx_arrow_columns.proofs.Steps.{at_pick, bits_kept, bits_put, no_bits}
+-- One byte more, and the last one.
+use Rattle.std.proofs.Common.{◌≡◌, ◌∙◌, ◌*◌, ◌/◌, ◌%◌, ◌<◌, ◌≤◌, ℕ, List, length, ap, sym, refl, arith}
+use Rattle.vx_arrow_image.specs.Image.{Part, bit_of, part_of}
+use Rattle.vx_arrow_columns.specs.Picks.{pick_at, picks_of, place_of}
+use Rattle.vx_arrow_columns.specs.Taken.{AreBits, bit_in}
+use Rattle.vx_arrow_columns.proofs.Steps.{at_pick, byte_put}
 use Rattle.vx_arrow_columns.proofs.writing.write_bits.Goals as goal
-use Rattle.vx_arrow_columns.proofs.writing.write_bits.Goals.{in-Some, in_default}
 
-pub loop-k-init : goal.loop-k-init
-loop-k-init c = no_bits _ _ _
+-- the bits of all picks are those of their rows
+bits_all : (p : Part) (ps vs : List ℕ) (add : ℕ) (out : List ℕ) (m : ℕ) → length ps ≤ m → ((k : ℕ) → k < m → bit_of out k ≡ bit_in p.values (place_of p (pick_at ps vs add k))) → AreBits p (picks_of ps vs add) (length ps) out
+bits_all p ps vs add out m all h = record {
+  values = λ k i low e. h k (omega arith) ∙ ap (bit_in p.values) (sym (at_pick p ps vs add k _ low refl) ∙ e);
+}
 
-pub loop-k-preserved : goal.loop-k-preserved
-loop-k-preserved c =
-    let p = part_of c.args.node.now in
-    let q = c.args.picks.now in
-    elim c.match-place.branch [
-      | in-Some w ↦ bits_put p (picks_of q.places.now q.valid.now q.add) c.loop-k.k w.in-Some.i _ _ _ _
-          (at_pick p q.places.now q.valid.now q.add c.loop-k.k _ (omega arith) w.in-Some.ensures.place) w.bit_is.ensures w.out-is w.put_bit.ensures c.loop-k.invariant
-      | in_default w ↦ bits_kept p (picks_of q.places.now q.valid.now q.add) c.loop-k.k _ _
-          (at_pick p q.places.now q.valid.now q.add c.loop-k.k _ (omega arith) w.in_default.ensures.place) w.out-is c.loop-k.invariant
-    ]
+pub loop-b-preserved : goal.loop-b-preserved
+loop-b-preserved c k h = byte_put _ c.loop-b.out _ c.loop-b.b 8 _ c.loop-b.invariant c.bits_byte.ensures (omega arith) (omega arith) refl k (omega arith)
+
+pub returns-then-count-eq0 : goal.returns-then-count-eq0
+returns-then-count-eq0 c = bits_all (part_of c.args.node.now) c.args.picks.now.places.now c.args.picks.now.valid.now c.args.picks.now.add _ (8 * c.loop-b.b) (omega arith) c.loop-b.invariant
 
 pub returns : goal.returns
-returns c = subst (λ (n : ℕ). AreBits (part_of c.args.node.now) (picks_of c.args.picks.now.places.now c.args.picks.now.valid.now c.args.picks.now.add) n c.loop-k.out) (omega arith) c.loop-k.invariant
+returns c =
+    let n = length c.args.picks.now.places.now in
+    bits_all (part_of c.args.node.now) c.args.picks.now.places.now c.args.picks.now.valid.now c.args.picks.now.add _ n (omega arith)
+    (λ k h. byte_put _ c.loop-b.out _ (n / 8) (n % 8) _ (λ j l. c.loop-b.invariant j (omega arith)) c.bits_byte-2.ensures (omega arith) (omega arith) refl k (omega arith))

@@ -1,13 +1,12 @@
 -- One text more.
-use Rattle.std.proofs.Common.{◌∙◌, ◌<◌, refl, length, arith, ◌≡◌, ◌≤◌, ◌+◌, ℕ, List, Some}
+use Rattle.std.proofs.Common.{◌∙◌, ◌<◌, refl, length, take, ap, arith, ◌≡◌, ◌≤◌, ◌+◌, ◌-◌, ℕ, List, Some}
 use Rattle.vx_arrow_image.specs.Image.{part_of, Part, offset_at}
 use Rattle.vx_arrow_columns.specs.Picks.{picks_of, pick_at, place_of}
 use Rattle.vx_arrow_image.specs.declared.format.Offsets.{Offsets}
 use Rattle.vx_arrow_columns.specs.Taken.{AreCutAt}
 use Rattle.vx_arrow_image.proofs.CutRows.{cut_end, cut_up}
-use Rattle.vx_arrow_columns.proofs.Cuts.{len_within}
 use Rattle.vx_arrow_columns.proofs.PickReads.{length_picks}
-use Rattle.vx_arrow_columns.proofs.Steps.{len_after, all_texts, at_pick, next_len, no_texts, row_some, text_kept, text_put}
+use Rattle.vx_arrow_columns.proofs.Steps.{len_after, all_texts, at_pick, no_texts, text_kept, text_put}
 use Rattle.vx_arrow_columns.proofs.writing.write_texts.Goals as goal
 use Rattle.vx_arrow_columns.proofs.writing.write_texts.Goals.{in-Some, in_default}
 
@@ -22,24 +21,31 @@ text_within z p ps vs add k i s e cut h there from to =
     let own = cut.cut k i low (at_pick p ps vs add k _ h there) in
     (omega (arith, cut_up z p (length p.values) i own), omega (arith, cut_end z p (length p.values) i own))
 
-pub slice_bounds-put_bytes-count : goal.slice_bounds-put_bytes-count
-slice_bounds-put_bytes-count c = let ps = c.args.picks.now in let w = text_within c.args.size (part_of c.args.node.now) ps.places.now ps.valid.now ps.add c.loop-k.k c.in-Some.i _ _ c.requires.cut c.loop-k-test.true c.in-Some.ensures.place c.cut_at-cut.ensures.start c.cut_at-cut.ensures.end in omega (arith, w.0, w.1)
+pub overflow_sub-len : goal.overflow_sub-len
+overflow_sub-len c =
+    let ps = c.args.picks.now in
+    let w = text_within c.args.size (part_of c.args.node.now) ps.places.now ps.valid.now ps.add c.loop-k.k c.in-Some.i _ _ c.requires.cut c.loop-k-test.true c.in-Some.ensures.place c.cut_at-cut.ensures.start c.cut_at-cut.ensures.end in
+    omega (arith, w.0, w.1)
 
-pub slice_bounds-put_bytes-start : goal.slice_bounds-put_bytes-start
-slice_bounds-put_bytes-start c = let ps = c.args.picks.now in let w = text_within c.args.size (part_of c.args.node.now) ps.places.now ps.valid.now ps.add c.loop-k.k c.in-Some.i _ _ c.requires.cut c.loop-k-test.true c.in-Some.ensures.place c.cut_at-cut.ensures.start c.cut_at-cut.ensures.end in omega (arith, w.0, w.1)
-
-pub slice_bounds-put_bytes-end : goal.slice_bounds-put_bytes-end
-slice_bounds-put_bytes-end c = let ps = c.args.picks.now in let w = text_within c.args.size (part_of c.args.node.now) ps.places.now ps.valid.now ps.add c.loop-k.k c.in-Some.i _ _ c.requires.cut c.loop-k-test.true c.in-Some.ensures.place c.cut_at-cut.ensures.start c.cut_at-cut.ensures.end in omega (arith, w.0, w.1)
-
-pub overflow_sub-at : goal.overflow_sub-at
-overflow_sub-at c = let ps = c.args.picks.now in let w = text_within c.args.size (part_of c.args.node.now) ps.places.now ps.valid.now ps.add c.loop-k.k c.in-Some.i _ _ c.requires.cut c.loop-k-test.true c.in-Some.ensures.place c.cut_at-cut.ensures.start c.cut_at-cut.ensures.end in omega (arith, w.0, w.1)
-
-pub put_bytes-requires : goal.put_bytes-requires
-put_bytes-requires c =
+pub put_run-requires-clause-room : goal.put_run-requires-clause-room
+put_run-requires-clause-room c =
     let ps = c.args.picks.now in
     let w = text_within c.args.size (part_of c.args.node.now) ps.places.now ps.valid.now ps.add c.loop-k.k c.in-Some.i _ _ c.requires.cut c.loop-k-test.true c.in-Some.ensures.place c.cut_at-cut.ensures.start c.cut_at-cut.ensures.end in
     let new = len_after c.args.size (part_of c.args.node.now) ps.places.now ps.valid.now ps.add c.loop-k.k c.in-Some.i _ _ c.loop-k.at _ c.loop-k-test.true c.in-Some.ensures.place c.cut_at-cut.ensures.start c.cut_at-cut.ensures.end refl c.loop-k.invariant.len in
     omega (arith, w.0, w.1, c.requires.room, c.loop-k.auto.out)
+
+pub overflow_add-at : goal.overflow_add-at
+overflow_add-at c =
+    let ps = c.args.picks.now in
+    let w = text_within c.args.size (part_of c.args.node.now) ps.places.now ps.valid.now ps.add c.loop-k.k c.in-Some.i _ _ c.requires.cut c.loop-k-test.true c.in-Some.ensures.place c.cut_at-cut.ensures.start c.cut_at-cut.ensures.end in
+    let new = len_after c.args.size (part_of c.args.node.now) ps.places.now ps.valid.now ps.add c.loop-k.k c.in-Some.i _ _ c.loop-k.at _ c.loop-k-test.true c.in-Some.ensures.place c.cut_at-cut.ensures.start c.cut_at-cut.ensures.end refl c.loop-k.invariant.len in
+    omega (arith, w.0, w.1, c.requires.room, c.loop-k.auto.out)
+
+pub put_run-requires-clause-there : goal.put_run-requires-clause-there
+put_run-requires-clause-there c =
+    let ps = c.args.picks.now in
+    let w = text_within c.args.size (part_of c.args.node.now) ps.places.now ps.valid.now ps.add c.loop-k.k c.in-Some.i _ _ c.requires.cut c.loop-k-test.true c.in-Some.ensures.place c.cut_at-cut.ensures.start c.cut_at-cut.ensures.end in
+    omega (arith, w.0, w.1)
 
 pub loop-k-preserved : goal.loop-k-preserved
 loop-k-preserved c =
@@ -52,16 +58,10 @@ loop-k-preserved c =
     elim c.match-place.branch [
       | in-Some w ↦
           let there = at_pick p ps.places.now ps.valid.now ps.add k _ c.loop-k-test.true w.in-Some.ensures.place in
-          let own = c.requires.cut.cut k w.in-Some.i low there in
           let from = w.cut_at-cut.ensures.start in
           let to = w.cut_at-cut.ensures.end in
-          let up = cut_up z p (length p.values) w.in-Some.i own in
-          let end = cut_end z p (length p.values) w.in-Some.i own in
-          let new = next_len z p q k c.loop-k.at _ _ low there c.loop-k.invariant.len (row_some z p w.in-Some.i _ _ c.loop-k.at _ from to refl) in
-          let within = len_within z p q k low in
-          let room = c.requires.room in
-          text_put z p q k w.in-Some.i c.loop-k.at c.match-place.at w.cut_at-cut.result.start w.cut_at-cut.result.end _ c.loop-k.out _ low there from to (omega arith) (omega arith) refl w.at-is
-          (omega (arith, c.loop-k.auto.out)) (w.out-is ∙ w.put_bytes.ensures) c.loop-k.invariant
+          text_put z p q k w.in-Some.i c.loop-k.at c.match-place.at w.cut_at-cut.result.start w.cut_at-cut.result.end _ c.loop-k.out _ low there from to refl w.at-is
+          (ap (take (c.loop-k.at + (w.cut_at-cut.result.end - w.cut_at-cut.result.start))) w.out-is ∙ w.put_run.ensures) c.loop-k.invariant
       | in_default w ↦ text_kept z p q k c.loop-k.at c.match-place.at c.loop-k.out _ low (at_pick p ps.places.now ps.valid.now ps.add k _ c.loop-k-test.true w.in_default.ensures.place) w.at-is w.out-is c.loop-k.invariant
     ]
 

@@ -3,8 +3,9 @@ use Rattle.std.proofs.Common.{◌-◌, ◌<◌, length, refl, sym, ◌∙◌, ap
 use Rattle.std.proofs.lemmas.List.{length-map, get_or-map}
 use Rattle.vx_arrow_image.specs.Image.{part_of, parts_of, is_sound}
 use Rattle.vx_arrow_image.proofs.SoundNodes.{zero_node}
-use Rattle.vx_arrow_image.proofs.Stacks.{different, same_part, stack_next, stack_none, stack_other, stack_some}
+use Rattle.vx_arrow_image.proofs.Stacks.{same_part, stack_next, stack_none, stack_other, stack_some}
 use Rattle.vx_arrow_image.proofs.checking.check.Goals as goal
+use Rattle.std.proofs.lemmas.Bool.{both_ways}
 
 pub returns-then-node-nodes-clause-unsound : goal.returns-then-node-nodes-clause-unsound
 returns-then-node-nodes-clause-unsound c =
@@ -25,7 +26,7 @@ returns-in-Some-clause-unsound c =
     let count = length-map nodes part_of in
     let below : i < length nodes = omega (arith, c.loop-i.auto.i) in
     stack_none (parts_of nodes) c.loop-i.lens.items c.loop-i.i i c.loop-i.top _ (part_of zero_node) s (omega arith) (omega arith) (get_or-map part_of nodes i zero_node (part_of zero_node) below)
-    (λ enough sound. different _ (ap (is_sound _) (same_part _ _ c.loop-i.top c.deref.result.now c.loop-i.lens.items (omega arith) c.deref.ensures.value) ∙ sound) c.in-Some.ensures)
+    (λ enough sound. both_ways _ c.in-Some.ensures (ap (is_sound _) (same_part _ _ c.loop-i.top c.deref.result.now c.loop-i.lens.items (omega arith) c.deref.ensures.value) ∙ sound))
 
 pub loop-i-preserved : goal.loop-i-preserved
 loop-i-preserved c =

@@ -8,15 +8,16 @@ use Rattle.vx_bits.proofs.WordBits.{length-word_bits}
 use Rattle.vx_filter.specs.Compact.{bits_of_words}
 use Rattle.vx_mask.specs.Positions.{positions}
 use Rattle.vx_mask.proofs.PositionLists.{length-positions}
-use Rattle.vx_chunked.proofs.Marks.{length-bits, ones_more, ones_of_word}
+use Rattle.vx_chunked.proofs.Marks.{ones_more, ones_of_word}
 use Rattle.vx_chunked.proofs.bits.load.Goals as goal
+use Rattle.vx_filter.proofs.Copies.{length-bits_of_words}
 
 pub overflow_add-count : goal.overflow_add-count
 overflow_add-count c =
     let words = c.loop-w.words in
     let w = c.loop-w.w in
     let front = bits_of_words (take w words) in
-    omega (arith, c.loop-w.invariant.count, length-positions 0 front, count_by-le-length (λ b. b) front, length-bits (take w words), length-take-le w words (omega arith), ones_of_word 0 c.word-word.result (omega arith), length-positions 0 (word_bits c.word-word.result 64), count_by-le-length (λ b. b) (word_bits c.word-word.result 64), length-word_bits c.word-word.result 64)
+    omega (arith, c.loop-w.invariant.count, length-positions 0 front, count_by-le-length (λ b. b) front, length-bits_of_words (take w words), length-take-le w words (omega arith), ones_of_word 0 c.word-word.result (omega arith), length-positions 0 (word_bits c.word-word.result 64), count_by-le-length (λ b. b) (word_bits c.word-word.result 64), length-word_bits c.word-word.result 64)
 
 pub loop-w-preserved : goal.loop-w-preserved
 loop-w-preserved c =

@@ -2,10 +2,10 @@ use Rattle.std.proofs.Common.{◌+◌, ◌-◌, ◌<◌, ◌++◌, Some, slice_g
 use Rattle.std.specs.List.{range_with_len}
 use Rattle.std.proofs.lemmas.List.{map-append}
 use Rattle.vx_chunked.specs.Positions.{places_of, with_runs}
-use Rattle.vx_chunked.proofs.ValuesAt.{range_read}
 use Rattle.vx_chunked.proofs.Spans.{PartPlaced, more_runs, next_left, part_is_placed}
 use Rattle.vx_chunked.proofs.runs.copy_runs.Goals as goal
 use Rattle.vx_chunked.proofs.runs.copy_runs.Goals.{After-min-more, Else-start-end}
+use Rattle.vx_lemmas.proofs.Picked.{cut_picked}
 
 -- the part that a turn puts
 placed : (g : _) (c : After-min-more g) → PartPlaced (with_runs c.args.front.now.runs.start c.args.front.now.runs.end c.args.front.now.runs.later.now) c.args.front.now.offset c.args.front.now.base c.part.filled c.part.start c.part.end c.min-more.result (drop c.part.used c.args.front.now.runs.later.now)
@@ -71,7 +71,7 @@ part-preserved-then-start-end g c =
       behind = part.left;
       put = ap (map Some) c.copy_part.ensures ∙ map-append Some (take c.part.filled c.part.dst) (take more (drop from values))
           ∙ ap (λ l. l ++ map Some (take more (drop from values))) v.put
-          ∙ ap (λ l. map (slice_get values) old ++ l) (range_read values from more (omega (arith, part.low, part.high, c.requires.chunk)))
+          ∙ ap (λ l. map (slice_get values) old ++ l) (cut_picked values from more (omega (arith, part.low, part.high, c.requires.chunk)))
           ∙ sym (map-append (slice_get values) old (range_with_len from more))
           ∙ ap (map (slice_get values)) (sym part.placed);
     }

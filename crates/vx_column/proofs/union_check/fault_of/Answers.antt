@@ -4,7 +4,8 @@ use Rattle.std.specs.Prelude.{◌&&◌}
 use Rattle.std.specs.Cmp.{second_so}
 use Rattle.vx_types.specs.Same.{are_same_types}
 use Rattle.vx_model.specs.Columns.{types_in}
-use Rattle.vx_model.specs.Union.{are_places, is_id_type}
+use Rattle.vx_model.specs.Union.{are_places}
+use Rattle.vx_types.specs.Variants.{is_id_type}
 use Rattle.vx_column.proofs.Tags.{many-alike}
 use Rattle.vx_column.proofs.union_check.fault_of.Goals as goal
 

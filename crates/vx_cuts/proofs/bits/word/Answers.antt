@@ -1,14 +1,10 @@
 -- One bit more, below the others.
-use Rattle.std.proofs.Common.{◌≡◌, ℕ, ◌+◌, ◌-◌, ◌*◌, Bool, cond, true, false, refl, ap, ◌∙◌, arith}
-use Rattle.std.specs.Int.{from_bool}
+use Rattle.std.proofs.Common.{◌≡◌, ℕ, ◌+◌, ◌-◌, ◌*◌, Bool, cond, false, ap, ◌∙◌, arith}
 use Rattle.vx_cuts.specs.Interleaving.{item_at}
 use Rattle.vx_cuts.specs.Bits.{bits_in}
 use Rattle.vx_cuts.proofs.BitPlaces.{word_below, word_more}
 use Rattle.vx_cuts.proofs.bits.word.Goals as goal
-
-byte_is : (b : Bool) → from_bool b ≡ cond b 1 0
-byte_is true = refl
-byte_is false = refl
+use Rattle.vx_lemmas.proofs.Bools.{from_bool-cond}
 
 pub overflow_mul-word : goal.overflow_mul-word
 overflow_mul-word c =
@@ -28,5 +24,5 @@ loop-j-preserved c =
     let k = c.args.start + (c.args.count - (j + 1)) in
     let next : c.args.start + (c.args.count - j) ≡ k + 1 = omega arith in
     let here : c.args.start + (c.args.count - 1 - j) ≡ k = omega arith in
-    let is : c.from.result ≡ cond (bit k) 1 0 = c.from.ensures ∙ byte_is c.bit_in.result ∙ ap (λ (b : Bool). cond b 1 0) (c.bit_in.ensures ∙ ap bit here) in
+    let is : c.from.result ≡ cond (bit k) 1 0 = c.from.ensures ∙ from_bool-cond c.bit_in.result ∙ ap (λ (b : Bool). cond b 1 0) (c.bit_in.ensures ∙ ap bit here) in
     ap (λ (n : ℕ). 2 * c.loop-j.word + n) is ∙ word_more bit k (c.args.start + (c.args.count - j)) j c.loop-j.word next c.loop-j.invariant

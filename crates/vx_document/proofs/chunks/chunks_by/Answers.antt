@@ -1,9 +1,9 @@
 -- The records are as wide as the shape wants them.
 use Rattle.std.proofs.Common.{◌≡◌, Some, refl, sym, ap, ◌∙◌}
 use Rattle.vx_types.specs.TypeTree.{kind_width, type_width}
-use Rattle.vx_column.specs.Records.{kind_of}
-use Rattle.vx_column.specs.declared.records.RecordType.{RecordType}
-use Rattle.vx_column.specs.declared.records.RecordType.TheVariants.{Primitive, Decimal}
+use Rattle.vx_types.specs.RecordType.{kind_of}
+use Rattle.vx_types.specs.declared.record_type.RecordType.{RecordType}
+use Rattle.vx_types.specs.declared.record_type.RecordType.TheVariants.{Primitive, Decimal}
 use Rattle.vx_document.specs.Chunks.{record_width}
 use Rattle.vx_document.proofs.chunks.chunks_by.Goals as goal
 

@@ -1,14 +1,9 @@
 -- The constructor's answer.
-use Rattle.std.proofs.Common.{◌≡◌, Option, Some, None, Ok, sym, ap, ◌∙◌}
-use Rattle.vx_bits.specs.Results.{ok_unless}
+use Rattle.std.proofs.Common.{sym, ap, ◌∙◌}
 use Rattle.vx_json.proofs.Made.{made, refused}
 use Rattle.vx_document.specs.Chunks.{shape_made}
 use Rattle.vx_document.proofs.chunks.shape_made.Goals as goal
-
--- what was made is what was to be made
-given : {A E : Type 0} (fault : Option E) (a d : A) → ok_unless fault a ≡ Ok d → d ≡ a
-given None a d is = cc
-given (Some e) a d is = absurd cc
+use Rattle.vx_bits.proofs.Results.{made as made_parts}
 
 pub returns-in-Ok-clause-shape : goal.returns-in-Ok-clause-shape
 unfolding shape_made
@@ -16,7 +11,7 @@ returns-in-Ok-clause-shape c = made (λ s. s) _ _ _ (sym c.try_new.ensures ∙ c
 
 pub returns-in-Ok-clause-dtype : goal.returns-in-Ok-clause-dtype
 returns-in-Ok-clause-dtype c =
-    ap (λ s. s.dtype) (given _ _ _ (sym c.try_new.ensures ∙ c.in-Ok.is))
+    ap (λ s. s.dtype) (made_parts _ _ _ (sym c.in-Ok.is ∙ c.try_new.ensures))
 
 pub returns-in-Err-clause-shape : goal.returns-in-Err-clause-shape
 unfolding shape_made

@@ -4,10 +4,11 @@ use Rattle.vx_file.specs.Blocks.{block_at}
 use Rattle.vx_file.specs.Reading.{AreHeld, HasRoom, IsHeld}
 use Rattle.vx_file.specs.Touched.{blocks_for}
 use Rattle.vx_file.specs.declared.error.FileError.TheVariants.{NoMemory}
-use Rattle.vx_file.proofs.Options.{err_is, for_all, if_both, under}
+use Rattle.vx_file.proofs.Options.{for_all, if_both, under}
 use Rattle.vx_file.proofs.ToldReads.{flag_of, names_touched, raised, read_nothing, told_after, told_nothing}
 use Rattle.vx_file.proofs.TouchedLists.{held_more, room_more}
 use Rattle.vx_file.proofs.reading.read_touched.Goals as goal
+use Rattle.vx_lemmas.proofs.Results.{err_is}
 
 pub returns-in_err-marks-clause-error : goal.returns-in_err-marks-clause-error
 returns-in_err-marks-clause-error g c =

@@ -6,17 +6,19 @@ use Rattle.vx_types.specs.RowValue.{null}
 use Rattle.vx_types.specs.TypeTree.{also_nullable}
 use Rattle.vx_take.specs.Picks.{BoundedPicks, at}
 use Rattle.vx_model.specs.Column.{Column}
-use Rattle.vx_steps.specs.Answer.{answer_of, answer_rows, type_after}
+use Rattle.vx_steps.specs.Answer.{answer_of, answer_rows}
 use Rattle.vx_steps.specs.Step.{step_value}
-use Rattle.vx_select.proofs.ChunkRows.{answered_rows, type_after-takes}
+use Rattle.vx_select.proofs.ChunkRows.{answered_rows}
 use Rattle.vx_file.specs.File.{file_rows}
 use Rattle.vx_file.specs.Reading.{IsReadError, NamesTouched}
 use Rattle.vx_file.specs.Shape.{row_type}
 use Rattle.vx_file.specs.Touched.{blocks_for, picks_of_steps}
 use Rattle.vx_file.proofs.FileAnswers.{length-file_rows, read_err, same_picks, select_err, walk_same}
-use Rattle.vx_file.proofs.Options.{if_err, if_ok, if_some, ok_both}
+use Rattle.vx_file.proofs.Options.{if_err, if_some, ok_both}
 use Rattle.vx_file.proofs.ToldReads.{read_nothing}
 use Rattle.vx_file.proofs.select.select_file.Goals as goal
+use Rattle.vx_lemmas.proofs.Results.{if_ok}
+use Rattle.vx_steps.proofs.StepTypes.{type_after-takes}
 
 pub returns-in-Err-clause-error : goal.returns-in-Err-clause-error
 returns-in-Err-clause-error g c =
@@ -46,7 +48,7 @@ pub returns-clause-dtype : goal.returns-clause-dtype
 returns-clause-dtype g c =
     let s = c.args.shape.now in
     let steps = map step_value c.args.steps.now in
-    if_ok c.take_file.result (λ (a : Column). a.dtype ≡ also_nullable (row_type s) c.takes_nullability-nullability.result) (λ (a : Column). a.dtype ≡ type_after (row_type s) steps) c.take_file.ensures.dtype
+    if_ok c.take_file.result c.take_file.ensures.dtype
     (λ a dtype. dtype ∙ ap (also_nullable (row_type s)) c.takes_nullability-nullability.ensures ∙ sym (type_after-takes (row_type s) steps))
 
 pub returns-clause-error : goal.returns-clause-error

@@ -11,9 +11,10 @@ use Rattle.vx_file.specs.Reading.{AreHeld}
 use Rattle.vx_file.specs.Touched.{blocks_for}
 use Rattle.vx_file.specs.declared.error.FileError.TheVariants.{NoMemory}
 use Rattle.vx_file.proofs.HeldRows.{held_rows}
-use Rattle.vx_file.proofs.Options.{err_is, if_some}
+use Rattle.vx_file.proofs.Options.{if_some}
 use Rattle.vx_file.proofs.ToldReads.{read_nothing}
 use Rattle.vx_file.proofs.select.take_file.Goals as goal
+use Rattle.vx_lemmas.proofs.Results.{err_is}
 
 pub returns-in_err-validity-clause-error : goal.returns-in_err-validity-clause-error
 returns-in_err-validity-clause-error g c =

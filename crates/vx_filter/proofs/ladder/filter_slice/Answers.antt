@@ -2,8 +2,9 @@ use Rattle.std.proofs.Common.{◌≡◌, ◌<◌, IfOk, length, subst, sym, ap, 
 use Rattle.std.specs.List.{All}
 use Rattle.vx_mask.specs.Positions.{ascending}
 use Rattle.vx_filter.proofs.Moves.{runs_within}
-use Rattle.vx_filter.proofs.Picks.{ordered_runs, ok_picked, runs_picked_set, set_ascends, set_below}
+use Rattle.vx_filter.proofs.Picks.{ordered_runs, ok_picked, runs_picked_set, set_ascends}
 use Rattle.vx_filter.proofs.ladder.filter_slice.Goals as goal
+use Rattle.vx_mask.proofs.PositionLists.{set_below}
 
 pub filter_slice_by_slices-requires-clause-within : goal.filter_slice_by_slices-requires-clause-within
 filter_slice_by_slices-requires-clause-within g c =

@@ -2,7 +2,7 @@
 use Rattle.std.proofs.Common.{◌≡◌, length, map, take}
 use Rattle.std.specs.Vec.{vec_capacity}
 use Rattle.vx_types.specs.RowValue.{bytes}
-use Rattle.vx_column.specs.Records.{kind_of}
+use Rattle.vx_types.specs.RecordType.{kind_of}
 use Rattle.vx_interleave.specs.Rows.{rows_in, stored_as}
 use Rattle.vx_interleave.proofs.records.record_list.Given as goal
 

@@ -12,8 +12,9 @@ use Rattle.vx_model.specs.Step.{IsCut}
 use Rattle.vx_model.specs.Valid.{Valid, IsAsPlain}
 use Rattle.vx_model.proofs.ListRows.{elements-fixed, fit-fixed, rows-fixed, spans-fixed}
 use Rattle.vx_column.specs.Validity.{valid_of}
-use Rattle.vx_dispatch.proofs.ListSteps.{filter_step, fits_kept, left_kept, swapped}
+use Rattle.vx_dispatch.proofs.ListSteps.{filter_step, fits_kept, left_kept}
 use Rattle.vx_layouts.proofs.fixed_size_list.filter_fixed_size_list.Goals as goal
+use Rattle.std.proofs.Math.Nat.{mul_comm}
 
 pub plan_fixed_filter-requires : goal.plan_fixed_filter-requires
 plan_fixed_filter-requires c =
@@ -30,7 +31,7 @@ filter-requires c =
     let rows : length mask ≡ p.len = c.requires ∙ rows-fixed p h ∙ spans-fixed p in
     let bits : length (mask_bits c.in_ok-plan.plan.mask) ≡ length mask * p.size = ap length c.in_ok-plan.ensures.mask ∙ length-repeated p.size mask in
     let long : length p.elements.rows ≡ p.size * p.len = elements-fixed p h in
-    let both : length mask * p.size ≡ p.size * p.len = ap (λ n. n * p.size) rows ∙ swapped p.len p.size in
+    let both : length mask * p.size ≡ p.size * p.len = ap (λ n. n * p.size) rows ∙ mul_comm p.len p.size in
     bits ∙ both ∙ sym long ∙ ap (λ (x : Column). length x.rows) (sym same)
 
 pub returns : goal.returns

@@ -1,6 +1,7 @@
 use Rattle.std.proofs.Common.{◌∙◌, arith}
-use Rattle.vx_lists.proofs.SummedRows.{next_run_summed, run_count, run_room, run_summed}
+use Rattle.vx_lists.proofs.SummedRows.{next_run_summed, run_room, run_summed}
 use Rattle.vx_lists.proofs.filter.sums_by_runs.Goals as goal
+use Rattle.vx_mask.proofs.RunLists.{run_count}
 
 pub push_sums-total-requires-clause-within : goal.push_sums-total-requires-clause-within
 push_sums-total-requires-clause-within c =

@@ -1,7 +1,7 @@
 -- No element is left where no row is valid, and else what the filter leaves is the selected lists.
 use Rattle.std.proofs.Common.{◌≡◌, ◌+◌, ◌≤◌, ◌∙◌, length, sym, ap, arith}
 use Rattle.std.proofs.lemmas.List.{length-map}
-use Rattle.vx_positions.specs.Offsets.{items_in, offset_positions}
+use Rattle.vx_offsets.specs.Offsets.{items_in, offset_positions}
 use Rattle.vx_model.specs.List.{list_spans}
 use Rattle.vx_model.specs.Lists.{lists_of}
 use Rattle.vx_model.specs.Numbers.{integers_of}

@@ -2,7 +2,7 @@
 use Rattle.std.proofs.Common.{◌∙◌, ap, sym, map}
 use Rattle.std.specs.Prelude.{pos}
 use Rattle.std.proofs.lemmas.List.{length-map}
-use Rattle.vx_positions.specs.Offsets.{items_in}
+use Rattle.vx_offsets.specs.Offsets.{items_in}
 use Rattle.vx_model.specs.List.{list_spans}
 use Rattle.vx_model.specs.Lists.{lists_of}
 use Rattle.vx_column.specs.Validity.{valid_of}

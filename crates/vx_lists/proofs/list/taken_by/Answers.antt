@@ -1,13 +1,13 @@
 -- What the take leaves is the picked lists.
 use Rattle.std.proofs.Common.{◌≤◌, ◌∙◌, Bool, List, length, ap, subst, arith}
-use Rattle.vx_positions.specs.Offsets.{offset_positions}
+use Rattle.vx_offsets.specs.Offsets.{offset_positions}
 use Rattle.vx_model.specs.Numbers.{integers_of}
 use Rattle.vx_model.specs.Valid.{is_fitting, present_bits}
 use Rattle.vx_model.proofs.ShownRows.{length-present_bits}
 use Rattle.vx_model.proofs.Spans.{length-spans}
 use Rattle.vx_column.specs.Validity.{valid_of}
 use Rattle.vx_lists.specs.Lists.{last_offset, row_count}
-use Rattle.vx_lists.specs.Takes.{IsTake, shown_picks}
+use Rattle.vx_lists.specs.Takes.{IsListTake, shown_picks}
 use Rattle.vx_lists.proofs.MadeLists.{take_leaves}
 use Rattle.vx_lists.proofs.TakenLists.{rows_shown}
 use Rattle.vx_lists.proofs.list.taken_by.Goals as goal
@@ -35,4 +35,4 @@ returns-clause-left c =
     let within : last_offset seen ≤ length c.args.array.now.elements.rows = omega (arith, ap last_offset same, c.in_ok-offsets.ensures.within) in
     take_leaves positions seen present picks _ _ c.args.array.now.elements.rows (same ∙ c.in_ok-offsets.ensures.value) (rw same c.in_ok-offsets.ensures.offsets)
     (rows_shown present picks c.bound.result (row_count seen) rows c.bound.ensures.below) within
-    (subst (λ (b : List Bool). IsTake seen (shown_picks b picks) c.in_ok-take.take.offsets.items c.in_ok-take.take.runs) bits c.in_ok-take.ensures)
+    (subst (λ (b : List Bool). IsListTake seen (shown_picks b picks) c.in_ok-take.take.offsets.items c.in_ok-take.take.runs) bits c.in_ok-take.ensures)

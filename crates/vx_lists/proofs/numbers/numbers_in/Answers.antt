@@ -3,9 +3,9 @@ use Rattle.std.proofs.Common.{true, ℕ, List, subst, ◌≡◌, ◌<◌, ◌≤
 use Rattle.std.specs.Prelude.{pos, int_le}
 use Rattle.vx_types.specs.PType.{greatest}
 use Rattle.std.proofs.lemmas.List.{length-map, take_all, take_more}
-use Rattle.vx_positions.specs.Offsets.{offset_positions, record_numbers}
+use Rattle.vx_offsets.specs.Offsets.{offset_positions, record_numbers}
 use Rattle.vx_positions.specs.Positions.{position_of}
-use Rattle.vx_positions.proofs.Ascending.{length-numbers}
+use Rattle.vx_offsets.proofs.Ascending.{length-numbers}
 use Rattle.vx_lists.specs.Numbers.{AreInType}
 use Rattle.vx_lists.proofs.TakenLists.{All-more}
 use Rattle.vx_lists.proofs.numbers.numbers_in.Goals as goal

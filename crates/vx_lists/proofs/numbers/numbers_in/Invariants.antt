@@ -1,7 +1,7 @@
 use Rattle.std.proofs.Common.{◌≡◌, take}
 use Rattle.std.specs.Prelude.{vec_len}
 use Rattle.std.specs.Vec.{vec_capacity}
-use Rattle.vx_positions.specs.Offsets.{offset_positions, record_numbers}
+use Rattle.vx_offsets.specs.Offsets.{offset_positions, record_numbers}
 use Rattle.vx_lists.specs.Numbers.{AreInType}
 use Rattle.vx_lists.proofs.numbers.numbers_in.Given as goal
 

@@ -2,7 +2,7 @@
 use Rattle.std.proofs.Common.{ℕ, List, map, sym, ap₂, ◌∙◌}
 use Rattle.std.proofs.lemmas.Result.{IfOk-weaker}
 use Rattle.vx_types.specs.TypeTree.{TypeKind}
-use Rattle.vx_positions.specs.Offsets.{offset_positions}
+use Rattle.vx_offsets.specs.Offsets.{offset_positions}
 use Rattle.vx_model.specs.Numbers.{integer_by, integers_of}
 use Rattle.vx_lists.proofs.ReadNumbers.{offsets_read, offsets_read_within}
 use Rattle.vx_lists.proofs.numbers.offset_numbers.Goals as goal

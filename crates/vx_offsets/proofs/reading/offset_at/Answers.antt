@@ -3,7 +3,7 @@ use Rattle.std.proofs.Common.{◌≡◌, get_or, sym, ap, ◌∙◌, arith}
 use Rattle.std.specs.Prelude.{pos}
 use Rattle.std.proofs.lemmas.Int.{ints}
 use Rattle.vx_types.specs.PType.{number}
-use Rattle.vx_positions.specs.Offsets.{offset_positions, record_numbers}
+use Rattle.vx_offsets.specs.Offsets.{offset_positions, record_numbers}
 use Rattle.vx_offsets.proofs.ReadOffsets.{offset_read, read_within}
 use Rattle.vx_offsets.proofs.reading.offset_at.Goals as goal
 

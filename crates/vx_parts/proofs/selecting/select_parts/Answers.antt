@@ -7,9 +7,9 @@ use Rattle.vx_steps.specs.Step.{step_value}
 use Rattle.vx_steps.specs.Walk.{walk}
 use Rattle.vx_steps.specs.Answer.{answer_of}
 use Rattle.vx_parts.proofs.PartSlices.{sum_lengths}
-use Rattle.vx_parts.proofs.Walked.{counted_walk}
 use Rattle.vx_parts.proofs.WholeFaults.{IsNoAnswer, fault_told, memory_told, no_answer}
 use Rattle.vx_parts.proofs.selecting.select_parts.Goals as goal
+use Rattle.vx_steps.proofs.Unbroken.{counted_walk}
 
 pub returns-in_err-check_steps : goal.returns-in_err-check_steps
 returns-in_err-check_steps c =

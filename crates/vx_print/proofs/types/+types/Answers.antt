@@ -6,8 +6,9 @@ use Rattle.vx_types.specs.Fields.{names_of}
 use Rattle.vx_types.specs.TypeTree.{type_size}
 use Rattle.vx_types.specs.declared.dtype.DType.{DType}
 use Rattle.vx_print.specs.Text.{gap, comma_list, id_label, name_label, type_text}
-use Rattle.vx_print.proofs.Entries.{entries, entry_more, length-entries, size_at}
+use Rattle.vx_print.proofs.Entries.{entries, entry_more, length-entries}
 use Rattle.vx_print.proofs.types.+types.Goals as goal
+use Rattle.vx_types.proofs.Carried.{shallow_get}
 
 pub push_types-push_type-requires : goal.push_types-push_type-requires
 push_types-push_type-requires t c =
@@ -15,7 +16,7 @@ push_types-push_type-requires t c =
     let i = c.loop-i.i in
     let u = c.index-types-i.result in
     let lt : i < length ts = omega arith in
-    (omega (arith, size_at ts i u lt, ap (λ (v : DType). type_size (type_of v)) c.index-types-i.is), tt)
+    (omega (arith, shallow_get ts i u lt, ap (λ (v : DType). type_size (type_of v)) c.index-types-i.is), tt)
 
 pub push_types-loop-i-preserved : goal.push_types-loop-i-preserved
 push_types-loop-i-preserved t c =

@@ -4,7 +4,8 @@ use Rattle.std.specs.Prelude.{codes}
 use Rattle.std.specs.Rc.{rc_str_bytes}
 use Rattle.std.specs.declared.alloc.Global.{Global}
 use Rattle.std.specs.declared.rc.RcStr.{RcStr}
-use Rattle.vx_print.specs.Text.{name_label, quoted_text}
+use Rattle.vx_print.specs.Text.{name_label}
+use Rattle.vx_quote.specs.Quoted.{quoted_text}
 use Rattle.vx_print.proofs.Labels.{label_name}
 use Rattle.vx_print.proofs.types.push_name.Goals as goal
 

@@ -9,8 +9,8 @@ use Rattle.vx_model.specs.Column.{Column}
 use Rattle.vx_model.specs.Valid.{non_nullable}
 use Rattle.vx_model.specs.Records.{RecordParts, records_column, records_fault}
 use Rattle.vx_model.proofs.Layouts.{rows-records-non_nullable}
-use Rattle.vx_rows.proofs.MadeRows.{made}
 use Rattle.vx_rows.proofs.made.drawn_rows.Goals as goal
+use Rattle.vx_bits.proofs.Results.{made}
 
 pub returns-clause-rows : goal.returns-clause-rows
 returns-clause-rows c =

@@ -10,19 +10,21 @@ use Rattle.vx_table.specs.Page.{IsPage}
 use Rattle.vx_table.specs.Table.{TableValue, table_fault}
 use Rattle.vx_table.proofs.Tables.{same_count}
 use Rattle.vx_rows.specs.Tables.{fields_table}
-use Rattle.vx_rows.proofs.Paged.{answer_err, checked, page_broken, page_sound, paged, wants_memory}
+use Rattle.vx_rows.proofs.Paged.{page_broken, page_sound, paged, wants_memory}
 use Rattle.vx_rows.proofs.pages.page_answer.Goals as goal
+use Rattle.vx_select.proofs.ChunkRows.{answered_err}
+use Rattle.vx_steps.proofs.Unbroken.{counted_walk}
 
 pub returns-in_err-rows : goal.returns-in_err-rows
 returns-in_err-rows c =
     let s = c.args.structs.now in let steps = map step_value c.args.steps.now in
-    answer_err c.from_residual.result _ c.in_err-rows.field-0.0 c.from_residual.ensures.1
+    answered_err c.from_residual.result _ c.in_err-rows.field-0.0 c.from_residual.ensures.1
     (page_broken s c.requires.table.sound c.requires.table.valid steps c.args.number c.args.len c.in_err-rows.field-0.0 (rw c.len.ensures at c.in_err-rows.ensures))
 
 pub returns-then-not-is_printable : goal.returns-then-not-is_printable
 returns-then-not-is_printable c =
     let s = c.args.structs.now in let steps = map step_value c.args.steps.now in
-    let fine : IsUnbroken (walk s.len steps) = checked (walk s.len steps) c.in_ok-rows.rows (rw c.len.ensures at c.in_ok-rows.ensures) in
+    let fine : IsUnbroken (walk s.len steps) = counted_walk (walk s.len steps) c.in_ok-rows.rows (rw c.len.ensures at c.in_ok-rows.ensures) in
     page_sound s c.requires.table.sound c.requires.table.valid steps c.args.number c.args.len fine
 
 pub returns-in_err-table : goal.returns-in_err-table

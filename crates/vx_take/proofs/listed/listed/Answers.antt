@@ -1,7 +1,8 @@
 use Rattle.std.proofs.Common.{ap, length, refl, ◌∙◌, arith}
 use Rattle.vx_take.specs.Picks.{picks_of}
-use Rattle.vx_take.proofs.PickLists.{item_more, item_count, all_items}
+use Rattle.vx_take.proofs.PickLists.{item_more, all_items}
 use Rattle.vx_take.proofs.listed.listed.Goals as goal
+use Rattle.vx_lemmas.proofs.Lists.{length_pushed}
 
 pub loop-place-init : goal.loop-place-init
 loop-place-init g c =
@@ -19,7 +20,7 @@ loop-place-preserved g c =
     let more = c.push_reserved.ensures.items in
     record {
       items = item_more (g.I.ItemOf.item c.args.item.now) c.args.places.now c.loop-place.place-index c.loop-place.items.items _ _ c.loop-place-test.true c.loop-place.invariant.items more c.item_of.ensures;
-      len = item_count c.loop-place.items.items _ _ c.loop-place.place-index more c.loop-place.invariant.len;
+      len = length_pushed c.loop-place.items.items _ _ c.loop-place.place-index more c.loop-place.invariant.len;
       room = c.push_reserved.ensures.capacity ∙ c.loop-place.invariant.room;
     }
 

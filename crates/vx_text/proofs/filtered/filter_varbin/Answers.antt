@@ -5,13 +5,13 @@ use Rattle.vx_mask.specs.Mask.{mask_bits}
 use Rattle.vx_model.specs.Text.{kept_texts}
 use Rattle.vx_model.specs.Valid.{is_fitting, present_bits}
 use Rattle.vx_model.specs.VarBin.{varbin_texts}
-use Rattle.vx_model.proofs.Items.{length-items_where_true}
 use Rattle.vx_model.proofs.ShownRows.{length-present_bits}
 use Rattle.vx_column.specs.Validity.{valid_of}
 use Rattle.vx_offsets.specs.Cut.{type_of}
 use Rattle.vx_text.specs.Building.{AreTexts}
 use Rattle.vx_text.proofs.BuiltTexts.{texts_left, length-kept}
 use Rattle.vx_text.proofs.filtered.filter_varbin.Goals as goal
+use Rattle.vx_mask.proofs.RankedItems.{length-items_where_true}
 
 pub finish-requires-clause-fitting : goal.finish-requires-clause-fitting
 finish-requires-clause-fitting c =

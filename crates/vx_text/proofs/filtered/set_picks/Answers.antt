@@ -2,8 +2,8 @@
 use Rattle.std.proofs.Common.{rules, ◌≡◌, ◌<◌, List, ℕ, subst, sym}
 use Rattle.std.specs.List.{All}
 use Rattle.vx_mask.specs.Positions.{set_of}
-use Rattle.vx_filter.proofs.Picks.{set_below}
 use Rattle.vx_text.proofs.filtered.set_picks.Goals as goal
+use Rattle.vx_mask.proofs.PositionLists.{set_below}
 
 pub from_vec-requires : goal.from_vec-requires
 from_vec-requires c =

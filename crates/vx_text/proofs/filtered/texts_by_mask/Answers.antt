@@ -6,7 +6,7 @@ use Rattle.vx_mask.specs.Mask.{mask_bits}
 use Rattle.vx_mask.specs.MaskValues.{AreSlicesOf, PartialMask}
 use Rattle.vx_mask.specs.Positions.{set_of}
 use Rattle.vx_filter.proofs.Picks.{runs_picked_set}
-use Rattle.vx_positions.specs.Offsets.{lists_at, offset_positions}
+use Rattle.vx_offsets.specs.Offsets.{lists_at, offset_positions}
 use Rattle.vx_model.specs.Numbers.{integers_of}
 use Rattle.vx_model.specs.Records.{RecordParts}
 use Rattle.vx_model.specs.VarBin.{varbin_texts}

@@ -5,18 +5,18 @@ use Rattle.std.specs.List.{items_where_true}
 use Rattle.vx_mask.specs.Mask.{mask_bits}
 use Rattle.vx_take.specs.Picks.{at, BoundedPicks}
 use Rattle.vx_take.proofs.TakenLists.{take_at_the_set}
-use Rattle.vx_positions.specs.Offsets.{lists_at, offset_positions}
+use Rattle.vx_offsets.specs.Offsets.{lists_at, offset_positions}
 use Rattle.vx_model.specs.Numbers.{integers_of}
 use Rattle.vx_model.specs.Records.{RecordParts}
 use Rattle.vx_model.specs.Text.{kept_texts}
 use Rattle.vx_model.specs.VarBin.{varbin_texts}
-use Rattle.vx_model.proofs.Items.{length-items_where_true}
 use Rattle.vx_model.proofs.Texts.{offsets-varbin}
 use Rattle.vx_offsets.specs.Cut.{type_of}
 use Rattle.vx_text.specs.Building.{AreTexts}
 use Rattle.vx_text.proofs.CutOffsets.{end-within}
 use Rattle.vx_text.proofs.FilteredTexts.{kept_there, set_count}
 use Rattle.vx_text.proofs.filtered.texts_kept.Goals as goal
+use Rattle.vx_mask.proofs.RankedItems.{length-items_where_true}
 
 pub returns-then-goes_by_runs : goal.returns-then-goes_by_runs
 returns-then-goes_by_runs c =

@@ -1,8 +1,8 @@
 -- One record more is widened, and there is room for it.
 use Rattle.std.proofs.Common.{[], ◌∷◌, ◌++◌, ap, ◌∙◌, arith}
 use Rattle.vx_text.proofs.OffsetLists.{wider}
-use Rattle.vx_text.proofs.PickedRows.{one_longer}
 use Rattle.vx_text.proofs.offsets.widened.Goals as goal
+use Rattle.vx_lemmas.proofs.Lists.{length_pushed}
 
 pub push_reserved-requires : goal.push_reserved-requires
 push_reserved-requires c =
@@ -14,6 +14,6 @@ loop-record-preserved c =
     let written = c.push_reserved.ensures.items in
     record {
       numbers = wider c.args.records.now c.loop-record.record-index [] old _ c.from.result c.loop-record-test.true c.loop-record.invariant.numbers (c.from.ensures ∙ c.from_le_bytes-number.ensures) c.from.type_inv (written ∙ ap (λ x. old ++ x ∷ []) c.to_le_bytes.ensures);
-      len = one_longer old _ _ c.loop-record.record-index written c.loop-record.invariant.len;
+      len = length_pushed old _ _ c.loop-record.record-index written c.loop-record.invariant.len;
       room = c.push_reserved.ensures.capacity ∙ c.loop-record.invariant.room;
     }

@@ -1,7 +1,7 @@
 -- The texts that are put out are those that are kept at the picks.
 use Rattle.std.proofs.Common.{◌≡◌, [], ℕ, Bool, List, length, ap, ap₂, sym, subst, ◌∙◌, arith}
 use Rattle.vx_take.specs.Picks.{at}
-use Rattle.vx_positions.specs.Offsets.{lists_at, offset_positions}
+use Rattle.vx_offsets.specs.Offsets.{lists_at, offset_positions}
 use Rattle.vx_mask.specs.Mask.{mask_bits}
 use Rattle.vx_model.specs.Numbers.{integers_of}
 use Rattle.vx_model.specs.Records.{RecordParts}

@@ -2,9 +2,9 @@
 use Rattle.std.proofs.Common.{◌+◌, ◌<◌, ℕ, Option, length, slice_range, subst, sym, ap₂, ◌∙◌, arith}
 use Rattle.std.specs.Prelude.{IfSome}
 use Rattle.std.proofs.lemmas.List.{length-map}
-use Rattle.vx_positions.specs.Offsets.{offset_positions, record_numbers}
+use Rattle.vx_offsets.specs.Offsets.{offset_positions, record_numbers}
 use Rattle.vx_positions.specs.Positions.{position_of}
-use Rattle.vx_positions.proofs.Ascending.{length-numbers}
+use Rattle.vx_offsets.proofs.Ascending.{length-numbers}
 use Rattle.vx_model.proofs.Texts.{get_or-lists_at}
 use Rattle.vx_text.proofs.picked_texts.text_at.Goals as goal
 

@@ -2,7 +2,7 @@
 use Rattle.std.proofs.Common.{rules, ◌<◌, ◌≤◌, ◌++◌, [], ◌∷◌, ℕ, List, length, take, sym, ap, subst, ◌∙◌}
 use Rattle.vx_mask.specs.Mask.{mask_bits}
 use Rattle.vx_take.specs.Picks.{at, item_at}
-use Rattle.vx_positions.specs.Offsets.{lists_at, offset_positions, record_numbers}
+use Rattle.vx_offsets.specs.Offsets.{lists_at, offset_positions, record_numbers}
 use Rattle.vx_model.specs.Text.{kept_texts}
 use Rattle.vx_text.specs.Building.{AreTexts}
 use Rattle.vx_text.proofs.BuiltTexts.{kept_all, kept_more, one_text}

@@ -4,7 +4,7 @@ use Rattle.std.specs.Prelude.{IfOk}
 use Rattle.vx_types.specs.TypeTree.{TypeKind}
 use Rattle.vx_mask.specs.Mask.{mask_bits}
 use Rattle.vx_take.specs.Picks.{at}
-use Rattle.vx_positions.specs.Offsets.{lists_at, offset_positions, record_numbers}
+use Rattle.vx_offsets.specs.Offsets.{lists_at, offset_positions, record_numbers}
 use Rattle.vx_model.specs.Numbers.{integer_by}
 use Rattle.vx_model.specs.Text.{kept_texts}
 use Rattle.vx_offsets.specs.Cut.{type_of}

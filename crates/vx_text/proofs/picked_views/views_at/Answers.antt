@@ -1,9 +1,10 @@
 -- One view more is put out, and there is room for it.
 use Rattle.std.proofs.Common.{rules, ◌<◌, None, length, ap, ◌∙◌, arith}
-use Rattle.vx_positions.specs.Offsets.{offset_positions, record_numbers}
+use Rattle.vx_offsets.specs.Offsets.{offset_positions, record_numbers}
 use Rattle.vx_text.specs.Views.{text_view}
-use Rattle.vx_text.proofs.PickedRows.{next_row, one_longer, one_more}
+use Rattle.vx_text.proofs.PickedRows.{next_row, one_more}
 use Rattle.vx_text.proofs.picked_views.views_at.Goals as goal
+use Rattle.vx_lemmas.proofs.Lists.{length_pushed}
 
 pub loop-i-init : goal.loop-i-init
 loop-i-init g c =
@@ -31,6 +32,6 @@ loop-i-preserved g c =
     let more = c.push_reserved.ensures.items in
     record {
       items = one_more f picks c.loop-i.i None c.loop-i.views.items _ _ inside c.loop-i.invariant.items more (c.view_at.ensures ∙ ap f c.get.ensures.value);
-      len = one_longer c.loop-i.views.items _ _ c.loop-i.i more c.loop-i.invariant.len;
+      len = length_pushed c.loop-i.views.items _ _ c.loop-i.i more c.loop-i.invariant.len;
       room = c.push_reserved.ensures.capacity ∙ c.loop-i.invariant.room;
     }

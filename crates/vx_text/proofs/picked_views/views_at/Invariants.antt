@@ -1,7 +1,7 @@
 -- The views at the picks before the one at hand.
 use Rattle.std.proofs.Common.{◌≡◌, length, map, take}
 use Rattle.std.specs.Vec.{vec_capacity}
-use Rattle.vx_positions.specs.Offsets.{offset_positions, record_numbers}
+use Rattle.vx_offsets.specs.Offsets.{offset_positions, record_numbers}
 use Rattle.vx_text.specs.Views.{text_view}
 use Rattle.vx_text.proofs.picked_views.views_at.Given as goal
 

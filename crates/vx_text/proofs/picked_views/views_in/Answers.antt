@@ -2,7 +2,7 @@
 use Rattle.std.proofs.Common.{◌≡◌, ℕ, List, map, subst}
 use Rattle.std.specs.Prelude.{IfOk}
 use Rattle.vx_types.specs.TypeTree.{TypeKind}
-use Rattle.vx_positions.specs.Offsets.{offset_positions, record_numbers}
+use Rattle.vx_offsets.specs.Offsets.{offset_positions, record_numbers}
 use Rattle.vx_model.specs.Numbers.{integer_by}
 use Rattle.vx_text.specs.Views.{text_view}
 use Rattle.vx_text.proofs.picked_views.views_in.Goals as goal

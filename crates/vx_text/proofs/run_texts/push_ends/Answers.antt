@@ -1,9 +1,9 @@
 -- All ends at once are the ends one by one, and else one row more is put out.
 use Rattle.std.proofs.Common.{◌≡◌, ℕ, ◌+◌, ◌-◌, ◌<◌, ◌≤◌, ◌++◌, List, length, get_or, slice_range, sym, ap, ap₂, subst, ◌∙◌, arith}
 use Rattle.std.proofs.lemmas.List.{length-map}
-use Rattle.vx_positions.specs.Offsets.{lists_at, offset_positions, record_numbers}
+use Rattle.vx_offsets.specs.Offsets.{lists_at, offset_positions, record_numbers}
 use Rattle.vx_positions.specs.Positions.{position_of}
-use Rattle.vx_positions.proofs.Ascending.{length-numbers}
+use Rattle.vx_offsets.proofs.Ascending.{length-numbers}
 use Rattle.vx_text.specs.Building.{AddsTexts}
 use Rattle.vx_text.specs.OffsetList.{greatest_offset, with_offset}
 use Rattle.vx_offsets.proofs.ReadOffsets.{read_within, run_ordered}

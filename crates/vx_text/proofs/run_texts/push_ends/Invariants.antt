@@ -1,7 +1,7 @@
 -- The rows of the run before the one at hand are put out, whatever texts stand before it.
 use Rattle.std.proofs.Common.{◌≡◌, ℕ, ◌++◌, List, length, slice_range}
 use Rattle.std.specs.Prelude.{slice_index}
-use Rattle.vx_positions.specs.Offsets.{lists_at, offset_positions, record_numbers}
+use Rattle.vx_offsets.specs.Offsets.{lists_at, offset_positions, record_numbers}
 use Rattle.vx_text.specs.Building.{AddsTexts}
 use Rattle.vx_text.proofs.run_texts.push_ends.Given as goal
 

@@ -1,7 +1,7 @@
 -- The run's bytes stand behind those that were there.
 use Rattle.std.proofs.Common.{◌++◌, ap, ◌∙◌, arith}
 use Rattle.std.specs.Prelude.{slice_index, slice_range}
-use Rattle.vx_positions.specs.Offsets.{lists_at, offset_positions, record_numbers}
+use Rattle.vx_offsets.specs.Offsets.{lists_at, offset_positions, record_numbers}
 use Rattle.vx_text.proofs.RunTexts.{add_run}
 use Rattle.vx_text.proofs.run_texts.push_run.Goals as goal
 

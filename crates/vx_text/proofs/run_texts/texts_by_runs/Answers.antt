@@ -2,7 +2,7 @@
 use Rattle.std.proofs.Common.{ℕ, List, take, slice_range, subst}
 use Rattle.std.specs.List.{flat_map}
 use Rattle.std.proofs.lemmas.List.{take_all}
-use Rattle.vx_positions.specs.Offsets.{lists_at, offset_positions, record_numbers}
+use Rattle.vx_offsets.specs.Offsets.{lists_at, offset_positions, record_numbers}
 use Rattle.vx_text.specs.Building.{AreTexts}
 use Rattle.vx_text.proofs.RunTexts.{one_run}
 use Rattle.vx_text.proofs.run_texts.texts_by_runs.Goals as goal

@@ -1,7 +1,7 @@
 -- The texts of the runs before the one at hand.
 use Rattle.std.proofs.Common.{take, slice_range}
 use Rattle.std.specs.List.{flat_map}
-use Rattle.vx_positions.specs.Offsets.{lists_at, offset_positions, record_numbers}
+use Rattle.vx_offsets.specs.Offsets.{lists_at, offset_positions, record_numbers}
 use Rattle.vx_text.specs.Building.{AreTexts}
 use Rattle.vx_text.proofs.run_texts.texts_by_runs.Given as goal
 

@@ -3,7 +3,7 @@ use Rattle.std.proofs.Common.{ℕ, List, map, slice_range, subst}
 use Rattle.std.specs.List.{flat_map}
 use Rattle.std.specs.Prelude.{IfOk}
 use Rattle.vx_types.specs.TypeTree.{TypeKind}
-use Rattle.vx_positions.specs.Offsets.{lists_at, offset_positions, record_numbers}
+use Rattle.vx_offsets.specs.Offsets.{lists_at, offset_positions, record_numbers}
 use Rattle.vx_model.specs.Numbers.{integer_by}
 use Rattle.vx_offsets.specs.Cut.{type_of}
 use Rattle.vx_text.specs.Building.{AreTexts}

@@ -1,6 +1,6 @@
 -- The offsets of the rows that are left cut their texts.
 use Rattle.std.proofs.Common.{◌+◌, List, ℕ, length, slice_range, ap, ap₂, ◌∙◌, arith}
-use Rattle.vx_positions.specs.Offsets.{lists_at, offset_positions}
+use Rattle.vx_offsets.specs.Offsets.{lists_at, offset_positions}
 use Rattle.vx_model.specs.Numbers.{integers_of}
 use Rattle.vx_model.specs.Records.{RecordParts, records_with}
 use Rattle.vx_model.specs.Valid.{non_nullable}

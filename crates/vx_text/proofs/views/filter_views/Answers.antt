@@ -4,11 +4,12 @@ use Rattle.std.specs.List.{items_where_true}
 use Rattle.vx_types.specs.Text.{is_view}
 use Rattle.vx_model.specs.Valid.{is_fitting}
 use Rattle.vx_model.specs.VarBinView.{ViewParts, view_texts, views_with}
-use Rattle.vx_model.proofs.Items.{length-items_where_true}
 use Rattle.vx_model.proofs.Texts.{sound-views, texts-views}
 use Rattle.vx_column.specs.Validity.{valid_of}
-use Rattle.vx_text.proofs.KeptViews.{all-kept, texts-kept}
+use Rattle.vx_text.proofs.KeptViews.{texts-kept}
 use Rattle.vx_text.proofs.views.filter_views.Goals as goal
+use Rattle.vx_lemmas.proofs.Tests.{all-kept}
+use Rattle.vx_mask.proofs.RankedItems.{length-items_where_true}
 
 pub filter_slice-requires : goal.filter_slice-requires
 filter_slice-requires c =

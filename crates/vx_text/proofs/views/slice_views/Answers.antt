@@ -6,8 +6,9 @@ use Rattle.vx_model.specs.VarBinView.{ViewParts, view_texts, views_with}
 use Rattle.vx_model.proofs.Items.{length-slice_range}
 use Rattle.vx_model.proofs.Texts.{sound-views, texts-views}
 use Rattle.vx_column.specs.Validity.{valid_of}
-use Rattle.vx_text.proofs.KeptViews.{all-slice, texts-slice}
+use Rattle.vx_text.proofs.KeptViews.{texts-slice}
 use Rattle.vx_text.proofs.views.slice_views.Goals as goal
+use Rattle.vx_lemmas.proofs.Tests.{all-slice}
 
 pub slice-requires-clause-within : goal.slice-requires-clause-within
 slice-requires-clause-within c =

@@ -1,10 +1,10 @@
 use Rattle.std.proofs.Common.{length, refl, sym, ◌∙◌, arith}
 use Rattle.vx_filter.specs.Compact.{bits_of_words}
 use Rattle.vx_words.proofs.FilterFaults.{front_and_rest}
-use Rattle.vx_words.proofs.MaskRows.{picked_rows}
 use Rattle.vx_words.proofs.MaskWords.{is_mask}
 use Rattle.vx_words.proofs.WholeMasks.{whole_count, whole_no_room, whole_room}
 use Rattle.vx_words.proofs.filter.filter_words.Goals as goal
+use Rattle.vx_lemmas.proofs.Picked.{picked_front}
 
 pub count_set-count-requires : goal.count_set-count-requires
 count_set-count-requires g c =
@@ -40,6 +40,6 @@ returns g c =
       fault = whole_room rows words (length c.args.dst.now) mask (omega (arith, whole_count rows words mask, c.count_set-count.ensures, c.if-count-dst.false));
       count = λ _. count;
       untold = λ e. absurd (omega (arith, e));
-      items = λ _. front_and_rest c.keep-kept.result c.keep-kept.new.dst _ _ (step.front ∙ sym (picked_rows rows (bits_of_words words) src (omega arith))) step.rest;
+      items = λ _. front_and_rest c.keep-kept.result c.keep-kept.new.dst _ _ (step.front ∙ sym (picked_front rows (bits_of_words words) src (omega arith))) step.rest;
       refused = λ e. absurd (e refl);
     }

@@ -6,8 +6,9 @@ use Rattle.vx_filter.proofs.Moves.{same_further}
 use Rattle.vx_mask.specs.Positions.{positions, set_of}
 use Rattle.vx_words.specs.Masks.{count_of}
 use Rattle.vx_words.proofs.FilterFaults.{front_and_rest}
-use Rattle.vx_words.proofs.MaskWords.{count_more, room_for_word, words_more}
+use Rattle.vx_words.proofs.MaskWords.{count_more, room_for_word}
 use Rattle.vx_words.proofs.positions.put_positions.Goals as goal
+use Rattle.vx_filter.proofs.Copies.{words_more}
 
 pub put_word-kept-requires-clause-room : goal.put_word-kept-requires-clause-room
 put_word-kept-requires-clause-room c =

@@ -3,8 +3,8 @@ use Rattle.vx_filter.specs.Compact.{bits_of_words}
 use Rattle.vx_mask.proofs.BlockCounts.{count_all}
 use Rattle.vx_mask.proofs.WordCounts.{count_of_word, rank_in_word}
 use Rattle.vx_words.proofs.MaskRows.{word_of_words}
-use Rattle.vx_words.proofs.MaskWords.{length-bits_of_words}
 use Rattle.vx_words.proofs.ranks.position_of.Goals as goal
+use Rattle.vx_filter.proofs.Copies.{length-bits_of_words}
 
 pub returns-then-left-count : goal.returns-then-left-count
 returns-then-left-count c =

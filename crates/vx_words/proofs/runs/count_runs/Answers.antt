@@ -4,9 +4,10 @@ use Rattle.vx_bits.specs.BitBuffer.{true_count_of}
 use Rattle.vx_bits.proofs.WordBits.{true_count_of-word_bits}
 use Rattle.vx_filter.specs.Compact.{bits_of_words}
 use Rattle.vx_words.specs.Runs.{starts}
-use Rattle.vx_words.proofs.MaskWords.{bits_more, count_below, is_mask}
+use Rattle.vx_words.proofs.MaskWords.{count_below, is_mask}
 use Rattle.vx_words.proofs.RunStarts.{all_counted, few_starts, further}
 use Rattle.vx_words.proofs.runs.count_runs.Goals as goal
+use Rattle.vx_filter.proofs.Copies.{bits_more}
 
 pub loop-w-init : goal.loop-w-init
 loop-w-init c = record { count = refl; last = refl }

@@ -2,7 +2,7 @@
 use Rattle.std.proofs.Common.{rules, ◌≡◌, ◌<◌, ◌^◌, arith, length, get_or}
 use Rattle.std.specs.Prelude.{pos}
 use Rattle.std.proofs.lemmas.Int.{ints, to_z-of_z}
-use Rattle.vx_positions.specs.Offsets.{offset_positions}
+use Rattle.vx_offsets.specs.Offsets.{offset_positions}
 use Rattle.vx_model.specs.Numbers.{integers_of}
 use Rattle.vx_model.proofs.ListRows.{many-listview, size-listview, spans-listview, within-listview}
 use Rattle.vx_column.proofs.listview.ListViewArray.size_at.Goals as goal

@@ -1,4 +1,4 @@
--- The same parts are as sound.
+-- The shared parts equal the union's own, and so are as sound.
 use Rattle.std.proofs.Common.{subst, sym, ◌∙◌, ap, ap₂}
 use Rattle.vx_types.specs.FieldTypes.{VariantTypes}
 use Rattle.vx_column.specs.UnionParts.{union_parts, IsUnion}

@@ -4,11 +4,11 @@ use Rattle.std.specs.List.{items_where_true}
 use Rattle.vx_bits.specs.BitBuffer.{PlacedBits}
 use Rattle.vx_model.specs.Valid.{is_fitting, nullability_by}
 use Rattle.vx_model.specs.Bool.{bool_column, bool_with, stored_bits}
-use Rattle.vx_model.proofs.Items.{length-items_where_true}
 use Rattle.vx_model.proofs.Layouts.{fits-bits, items-bits}
 use Rattle.vx_model.proofs.Steps.{fitting-filter, is_filter-bool}
 use Rattle.vx_column.specs.Validity.{valid_of}
 use Rattle.vx_stored.proofs.boolean.BoolArrayStoredRows.filter.Goals as goal
+use Rattle.vx_mask.proofs.RankedItems.{length-items_where_true}
 
 pub of-requires : goal.of-requires
 of-requires c =

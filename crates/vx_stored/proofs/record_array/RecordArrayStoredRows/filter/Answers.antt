@@ -3,11 +3,11 @@ use Rattle.std.proofs.Common.{length, refl, ap, ◌∙◌}
 use Rattle.std.specs.List.{items_where_true}
 use Rattle.vx_model.specs.Valid.{is_fitting, nullability_by}
 use Rattle.vx_model.specs.Records.{records_column, records_with, stored_records}
-use Rattle.vx_model.proofs.Items.{length-items_where_true}
 use Rattle.vx_model.proofs.Layouts.{fits-records, items-records}
 use Rattle.vx_model.proofs.Steps.{fitting-filter, is_filter-records}
 use Rattle.vx_column.specs.Validity.{valid_of}
 use Rattle.vx_stored.proofs.record_array.RecordArrayStoredRows.filter.Goals as goal
+use Rattle.vx_mask.proofs.RankedItems.{length-items_where_true}
 
 pub with_rows-requires-clause-fitting : goal.with_rows-requires-clause-fitting
 with_rows-requires-clause-fitting c =

@@ -4,12 +4,12 @@ use Rattle.vx_bits.specs.BitBuffer.{true_count_of}
 use Rattle.vx_model.specs.Valid.{is_fitting, nullability_by}
 use Rattle.vx_model.specs.Text.{stored_texts}
 use Rattle.vx_model.specs.VarBin.{varbin_texts}
-use Rattle.vx_model.proofs.Items.{length-items_where_true}
 use Rattle.vx_model.proofs.Steps.{fitting-filter}
 use Rattle.vx_model.proofs.Texts.{fits-varbin, items-varbin}
 use Rattle.vx_model.proofs.TextSteps.{is_filter-kept}
 use Rattle.vx_column.specs.Validity.{valid_of}
 use Rattle.vx_stored.proofs.varbin.VarBinArrayStoredRows.filter.Goals as goal
+use Rattle.vx_mask.proofs.RankedItems.{length-items_where_true}
 
 pub filter_varbin-requires : goal.filter_varbin-requires
 filter_varbin-requires c =

@@ -1,9 +1,9 @@
 -- The names and columns of both are a table.
-use Rattle.std.proofs.Common.{◌∙◌, ◌++◌, ap, ap₂}
+use Rattle.std.proofs.Common.{◌∙◌, ◌++◌, ap, ap₂, sym}
 use Rattle.vx_table.specs.Table.{names_of, table_fault, table_of}
-use Rattle.vx_table.proofs.Lists.{is_made}
 use Rattle.vx_table.proofs.Tables.{beside_sound, same_table}
 use Rattle.vx_table.proofs.table.Table.beside.Goals as goal
+use Rattle.vx_bits.proofs.Results.{no_refusal}
 
 pub unreachable-requires : goal.unreachable-requires
 unreachable-requires c =
@@ -14,5 +14,5 @@ unreachable-requires c =
     let listed = c.in_ok-new.ensures ∙ c.in_ok-append_columns-2.ensures
     ∙ ap₂ ◌++◌ (c.in_ok-append_columns.ensures ∙ ap₂ ◌++◌ c.new-columns.ensures.items c.columns.ensures.value) c.columns-2.ensures.value in
     let is = same_table (names_of names.items) (t.names ++ other.names) columns (t.columns ++ other.columns) c.len.result t.len named listed c.len.ensures in
-    is_made (table_fault (table_of names columns c.len.result)) (table_of names columns c.len.result) c.in-Err.field-0 c.try_new.result c.try_new.ensures
-    (ap table_fault is ∙ beside_sound t c.names.ensures.valid other c.names-2.ensures.valid c.requires) c.in-Err.is
+    no_refusal (table_fault (table_of names columns c.len.result)) (table_of names columns c.len.result) c.in-Err.field-0
+    (ap table_fault is ∙ beside_sound t c.names.ensures.valid other c.names-2.ensures.valid c.requires) (sym c.in-Err.is ∙ c.try_new.ensures)

@@ -2,7 +2,7 @@
 use Rattle.std.proofs.Common.{◌≡◌, ◌+◌, ◌-◌, ◌≤◌, length, get_or, sym, ap, subst}
 use Rattle.std.specs.List.{All}
 use Rattle.vx_types.specs.declared.ptype.PType.{PType}
-use Rattle.vx_positions.specs.Offsets.{offset_positions, record_numbers}
+use Rattle.vx_offsets.specs.Offsets.{offset_positions, record_numbers}
 use Rattle.vx_text.specs.OffsetList.{OffsetList, greatest_offset, numbers_of, run_ends, type_by}
 use Rattle.vx_text.proofs.RunEnds.{ends_within, fit_after}
 use Rattle.vx_text.proofs.offsets.Offsets.push_run.Goals as goal

@@ -2,7 +2,7 @@
 use Rattle.std.proofs.Common.{◌≡◌, true, length, ap, ◌∙◌}
 use Rattle.vx_model.specs.Valid.{is_fitting}
 use Rattle.vx_model.specs.VarBin.{VarBinParts, varbin_texts}
-use Rattle.vx_positions.specs.Offsets.{lists_at}
+use Rattle.vx_offsets.specs.Offsets.{lists_at}
 use Rattle.vx_column.specs.Validity.{valid_of}
 use Rattle.vx_offsets.specs.Cut.{is_cut}
 use Rattle.vx_text.proofs.BuiltTexts.{built, built_texts}

@@ -1,5 +1,0 @@
-use Rattle.std.proofs.Common.{arith}
-use Rattle.callers.proofs.picks.push_place.Goals as goal
-
-pub push-requires : goal.push-requires
-push-requires c = omega arith

@@ -1,0 +1,9 @@
+use Rattle.std.proofs.Common.{arith}
+use Rattle.rows_of_kernels.proofs.OneWord.{clear_from, set_at_most}
+use Rattle.rows_of_kernels.proofs.compact.by_words.Goals as goal
+
+pub compact_words-count-requires-clause-clear : goal.compact_words-count-requires-clause-clear
+compact_words-count-requires-clause-clear c = clear_from 13 5 (omega arith)
+
+pub compact_words-count-requires-clause-room : goal.compact_words-count-requires-clause-room
+compact_words-count-requires-clause-room c = omega (arith, set_at_most 13 4 (omega arith) (omega arith))

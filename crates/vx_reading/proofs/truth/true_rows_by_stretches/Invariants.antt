@@ -1,0 +1,14 @@
+use Rattle.std.proofs.Common.{◌≡◌, ◌-◌, ◌≤◌, take, length}
+use Rattle.vx_bits.specs.BitBuffer.{true_count_of}
+use Rattle.vx_column.specs.Truth.{true_bits}
+use Rattle.vx_reading.proofs.truth.true_rows_by_stretches.Given as goal
+
+-- the true rows so far
+abbrev pub invariant-stretch : goal.invariant-stretch
+invariant-stretch l = record {
+  within : l.at ≤ length (true_bits l.column);
+  counted : l.count ≡ true_count_of (take l.at (true_bits l.column));
+}
+
+abbrev pub decreases-stretch : goal.decreases-stretch
+decreases-stretch l = length (true_bits l.column) - l.at

@@ -1,0 +1,7 @@
+-- The runs so far.
+use Rattle.std.proofs.Common.{◌≡◌, length, take}
+use Rattle.vx_runs.specs.Runs.{run_places}
+use Rattle.vx_runs.proofs.runs.run_len.Given as goal
+
+abbrev pub invariant-loop-k : goal.invariant-loop-k
+invariant-loop-k l = l.len ≡ length (run_places (take l.k l.runs))

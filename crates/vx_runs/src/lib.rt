@@ -1,0 +1,8 @@
+//! Bytes of rows, copied row by row or a run of rows at once.
+#![tactic(auto)]
+
+mod puts;
+mod runs;
+
+pub use crate::puts::{put_block, put_bytes, put_run, with_bit};
+pub use crate::runs::{Run, places_of, run_len};
