@@ -561,7 +561,7 @@ class Columns(unittest.TestCase):
             type(NUMBERS)()
 
     def test_shown(self):
-        self.assertEqual(repr(NUMBERS), "Column(int8, 3 rows)")
+        self.assertEqual(repr(NUMBERS), f"Column(int8, 3 rows: {str(NUMBERS.to_pylist())[1:-1]})")
 
     def test_schema(self):
         """A schema capsule of the type, which is handed over without an array."""

@@ -1,7 +1,8 @@
-//! Calls the sources and sinks and the packed chunks as their users do, works out the lines of the
-//! command `made`, and prints what each gives.
+//! Calls the sources and sinks, the packed chunks and the plans of chunks as their users do, works
+//! out the lines of the command `made`, and prints what each gives.
 #![tactic(auto)]
 
+mod chunked;
 mod made;
 mod outside;
 mod packed;
@@ -13,5 +14,7 @@ fn main(rt: HostRuntime) -> Result<(), Fail> {
     outside::print_rows(&rt, rt.alloc())?;
     rt.println("# vx_packed")?;
     packed::print_rows(&rt, rt.alloc())?;
-    made::print_lines(&rt, rt.alloc())
+    made::print_lines(&rt, rt.alloc())?;
+    rt.println("# vx_chunk_plan")?;
+    chunked::print_rows(&rt, rt.alloc())
 }

@@ -6,7 +6,7 @@ ghost use Rattle.vx_arrow_columns.specs.Answer.{AreKeptSound, IsNeedRefusal, IsR
 ghost use Rattle.vx_arrow_columns.specs.Picks.{needs_of, picking_of};
 ghost use Rattle.vx_arrow_columns.specs.Planned.{first_len};
 ghost use Rattle.vx_arrow_columns.specs.Reached.{IsUncounted};
-ghost use Rattle.vx_arrow_columns.specs.Written.{written};
+ghost use Rattle.vx_arrow_columns.specs.Written.{KeepLists, written};
 ghost use Rattle.vx_arrow_image.specs.Checking.{IsUnsound};
 ghost use Rattle.vx_arrow_image.specs.Image.{column_in, parts_of};
 ghost use Rattle.vx_arrow_select.specs.Selected.{AreComposed, IsSelected};
@@ -83,6 +83,7 @@ pub extern "C" fn vortex_arrow_take(
         (picking_of places.now valid.now 0) result.node_or_step }
     ensures refused { result.status ≢ 0 → IsRefused (IsRefusal (parts_of nodes.now)
         (picking_of places.now valid.now 0) rooms.old) result }
+    ensures lists { KeepLists rooms.old rooms.new }
     ensures kept { result.status ≢ 0 → rooms.new ≡ rooms.old }
 {
     Answer::of(take(alloc, nodes, places, valid, rooms))

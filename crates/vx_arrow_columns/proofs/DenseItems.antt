@@ -10,7 +10,7 @@ use Rattle.vx_arrow_image.specs.declared.format.Format.TheVariants.{DenseUnion}
 use Rattle.vx_arrow_image.specs.Image.{Part, bit_of, child_of, dense_start, has_child, ids_of, is_dense, is_valid}
 use Rattle.vx_arrow_image.proofs.DenseTests.{dense_is}
 use Rattle.vx_arrow_columns.specs.declared.needs.Items.{Items}
-use Rattle.vx_arrow_columns.specs.Measured.{AreDenseItems, ArePlaced, AreShownOf, IsDenseItem, IsEndAfter}
+use Rattle.vx_arrow_columns.specs.Measured.{AreDenseItems, ArePlaced, AreShownOf, IsDenseItem, IsEndAfter, list_places, list_valid}
 use Rattle.vx_arrow_columns.specs.Picks.{Picking, dense_child, dense_item, dense_rows, has_bits, pick_at, picking_of, picks_of, place_of, splits}
 use Rattle.vx_arrow_columns.specs.Taken.{AllAt, AreWithin, id_at}
 use Rattle.vx_arrow_columns.proofs.DenseRows.{id_child, own_at, row_other, row_own, rows_few, rows_more, rows_none}
@@ -235,13 +235,13 @@ child_picks l places valid end a bits =
 
 -- ---- the picks of all children
 
-pub item_of : (p : Part) (ps vs : List ℕ) (add j : ℕ) (i : Items) → ArePlaced (dense_rows p (picks_of ps vs add) j) i.list.places.items i.end → AreShownOf p (picks_of ps vs add) j vs i.list.valid.items → IsDenseItem p (picking_of ps vs add) j i
+pub item_of : (p : Part) (ps vs : List ℕ) (add j : ℕ) (i : Items) → ArePlaced (dense_rows p (picks_of ps vs add) j) (list_places i.list) i.end → AreShownOf p (picks_of ps vs add) j vs (list_valid i.list) → IsDenseItem p (picking_of ps vs add) j i
 item_of p ps vs add j i a s =
     let l = dense_rows p (picks_of ps vs add) j in
-    let is = child_picks l i.list.places.items i.list.valid.items i.end a s.shows in
+    let is = child_picks l (list_places i.list) (list_valid i.list) i.end a s.shows in
     let make : List (Option ℕ) → Bool → Picking = λ x b. record { picks = x; nullable = b; kept = false } in
     record {
-      picks = ap (λ (x : List (Option ℕ)). make x (has_bits i.list.valid.items)) is ∙ ap (make l) s.some;
+      picks = ap (λ (x : List (Option ℕ)). make x (has_bits (list_valid i.list))) is ∙ ap (make l) s.some;
       within = a.within;
       reached = a.reached;
     }

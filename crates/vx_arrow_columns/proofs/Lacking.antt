@@ -1,14 +1,15 @@
 -- Why the rows of a node at picks are not there.
-use Rattle.std.proofs.Common.{◌≡◌, ℕ, ◌+◌, ◌*◌, ◌^◌, ◌<◌, ◌≤◌, Bool, true, false, List, length, ltb, Option, Some, ap, sym, ◌∙◌, subst, arith}
+use Rattle.std.proofs.Common.{◌≡◌, ℕ, ◌+◌, ◌*◌, ◌^◌, ◌<◌, ◌≤◌, Bool, true, false, List, [], length, ltb, Option, Some, ap, sym, ◌∙◌, refl, subst, arith}
 use Rattle.std.specs.Prelude.{Result, Ok, Err, IfErr}
 use Rattle.std.proofs.lemmas.Bool.{and_left, and_parts, and_right, le-ltb, both_ways}
 use Rattle.vx_arrow_image.specs.declared.format.Format.{Format}
+use Rattle.vx_arrow_image.specs.declared.format.Format.TheVariants.{Fixed}
 use Rattle.vx_arrow_image.specs.declared.format.Offsets.{Offsets}
 use Rattle.vx_arrow_columns.specs.declared.faults.Fault.{Fault}
 use Rattle.vx_arrow_columns.specs.declared.faults.Fault.TheVariants as faults
 use Rattle.vx_arrow_image.specs.Image.{Part, holds_valid, is_cut, is_placed}
-use Rattle.vx_arrow_columns.specs.Picks.{Picking, counts_by, is_counted, pick_at, picks_of, place_of}
-use Rattle.vx_arrow_columns.specs.Sound.{HoldsBelow, IsAskedFault, IsFault, IsJobFault, IsNodeFault, IsOwnFault, IsSoundAt}
+use Rattle.vx_arrow_columns.specs.Picks.{Picking, counts_by, is_counted, pick_at, picking_of, picks_of, place_of}
+use Rattle.vx_arrow_columns.specs.Sound.{HoldsBelow, IsAskedFault, IsCountFault, IsFault, IsJobFault, IsNodeFault, IsOwnFault, IsSoundAt, IsTestFault}
 use Rattle.vx_arrow_columns.specs.Taken.{AllAt, AreCutAt, Holds}
 use Rattle.vx_arrow_columns.proofs.PickReads.{length_picks}
 use Rattle.vx_arrow_columns.proofs.Steps.{at_pick}
@@ -45,6 +46,10 @@ many_by p q f n b format e h = many_rows p q f format (e ∙ le-ltb n b h)
 pub many_wide : (p : Part) (ps vs : List ℕ) (add : ℕ) (f : Format) (w b : ℕ) → p.format ≡ Some f → counts_by (Some f) p (picks_of ps vs add) ≡ ltb (length (picks_of ps vs add) * w) b → b ≤ length ps * w → is_counted p (picks_of ps vs add) ≡ false
 many_wide p ps vs add f w b format e h = many_by p (picks_of ps vs add) f (length (picks_of ps vs add) * w) b format e (subst (λ (n : ℕ). b ≤ n * w) (sym (length_picks ps vs add)) h)
 
+-- so are values of a fixed width
+pub many_at : (p : Part) (ps vs : List ℕ) (add n : ℕ) → p.format ≡ Some Fixed → length ps ≡ n → 2 ^ 63 ≤ n * p.width → is_counted p (picks_of ps vs add) ≡ false
+many_at p ps vs add n format e h = many_wide p ps vs add Fixed p.width (2 ^ 63) format refl (subst (λ (m : ℕ). 2 ^ 63 ≤ m * p.width) (sym e) h)
+
 pub not_placed : (p : Part) (n : ℕ) → p.offset + p.len ≡ n → holds_valid p.valid n ≡ false → is_placed p ≡ true → ⊥
 unfolding is_placed
 not_placed p n e h s = both_ways _ h (ap (holds_valid p.valid) (sym e) ∙ (and_parts (ltb (p.offset + p.len) (2 ^ 60)) _ s).1)
@@ -53,6 +58,21 @@ not_placed p n e h s = both_ways _ h (ap (holds_valid p.valid) (sym e) ∙ (and_
 
 pub leaf_fault : {T : Type 0} (p : Part) (q : List (Option ℕ)) (f : Format) (r : Result T Fault) → p.format ≡ Some f → (Holds (Some f) p q → p.children ≡ 0) → IfErr r (IsFault (p.children ≡ 0 → ⊥) ⊥) → IfErr r (IsOwnFault p q)
 leaf_fault p q f r format leaf h = err_weaker _ _ r (λ e g. fault_weaker _ _ _ _ e (λ other. own_lack p q f format (λ held. other (leaf held))) (λ b. absurd b) g) h
+
+-- the same at any places, as many as n
+pub leaf_faults : {T : Type 0} (p : Part) (n : ℕ) (f : Format) (r : Result T Fault) → p.format ≡ Some f → ((ps vs : List ℕ) → (add : ℕ) → Holds (Some f) p (picks_of ps vs add) → p.children ≡ 0) → IfErr r (IsFault (p.children ≡ 0 → ⊥) ⊥) → IfErr r (IsCountFault p n)
+leaf_faults p n f r format leaf h =
+    err_weaker _ _ r (λ e g ps vs add same. fault_weaker _ _ _ _ e (λ other. own_lack p (picks_of ps vs add) f format (λ held. other (leaf ps vs add held))) (λ b. absurd b) g) h
+
+-- a fault of a node at runs of places
+pub run_fault : (p : Part) (ps : List ℕ) (add n end : ℕ) (e : Fault) → n ≡ length ps → IsCountFault p n e → (lens : List ℕ) → IsJobFault p (picking_of ps [] add) lens end e
+run_fault p ps add n end e size h lens = fault_weaker _ _ _ _ e (λ lack sound low. lack (sound refl).held) (λ many. many) (h ps [] add (sym size))
+
+pub test_fault : (p : Part) (q : Picking) (end : ℕ) (e : Fault) → q.kept ≡ false → IsTestFault p end e → (lens : List ℕ) → IsJobFault p q lens end e
+test_fault p q end e bare h lens = fault_weaker _ _ _ _ e (λ lack sound low. lack q.picks lens (sound bare) low) (λ b. absurd b) h
+
+pub many_runs : (p : Part) (ps vs : List ℕ) (add : ℕ) → 2 ^ 60 ≤ length ps → is_counted p (picks_of ps vs add) ≡ false
+many_runs p ps vs add h = many_picks p (picks_of ps vs add) (omega (arith, length_picks ps vs add))
 
 pub own_fault : {T : Type 0} (p : Part) (q : List (Option ℕ)) (lens : List ℕ) (r : Result T Fault) → IfErr r (IsOwnFault p q) → IfErr r (IsNodeFault p q lens)
 own_fault p q lens r h = err_weaker _ _ r (λ e g. fault_weaker _ _ _ _ e (λ lack s. lack s.held) (λ m. m) g) h
@@ -68,6 +88,10 @@ not_cut z p ps vs add count k i low there other a = not_at p ps vs add (is_cut z
 pub job_fault : (p : Part) (q own : Picking) (lens : List ℕ) (end : ℕ) (e : Fault) → q ≡ own → q.kept ≡ false → IsAskedFault p q.picks lens end e → IsJobFault p own lens end e
 job_fault p q own lens end e same bare h =
     subst (λ (o : Picking). IsJobFault p o lens end e) same (fault_weaker _ _ _ _ e (λ lack sound low. lack (sound bare) low) (λ many. many) h)
+
+-- a fault at the same picks
+pub moved_fault : (p : Part) (q r : Picking) (lens : List ℕ) (m n : ℕ) (e : Fault) → q ≡ r → m ≡ n → IsJobFault p q lens m e → IsJobFault p r lens n e
+moved_fault p q r lens m n e same end h = subst (λ (k : ℕ). IsJobFault p r lens k e) end (subst (λ (x : Picking). IsJobFault p x lens m e) same h)
 
 -- only memory is wanting
 pub want : (P Q : Type 0) (e : Fault) → IsFault ⊥ ⊥ e → IsFault P Q e

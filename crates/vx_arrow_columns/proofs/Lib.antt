@@ -3,12 +3,13 @@ pub mod Buffers
 pub mod Bytes
 pub mod Columns
 pub mod Cuts
-pub mod Lacking
 pub mod DenseItems
 pub mod DenseRows
 pub mod DenseSteps
 pub mod FixedLists
+pub mod KeptLists
 pub mod KeptRows
+pub mod Lacking
 pub mod Meant
 pub mod MeasureSteps
 pub mod Measures
@@ -19,6 +20,7 @@ pub mod PickedTrees
 pub mod Plans
 pub mod Rooms
 pub mod RowsAt
+pub mod RunRows
 pub mod SoundTrees
 pub mod SoundWalks
 pub mod Steps

@@ -14,7 +14,7 @@ use Rattle.vx_arrow_columns.specs.declared.needs.Items.{Items}
 use Rattle.vx_arrow_columns.specs.declared.needs.Measure.{Measure}
 use Rattle.vx_arrow_image.specs.declared.image.Node as image
 use Rattle.vx_arrow_image.specs.Image.{Part, holds_starts, is_list_view, is_placed, limit_of, parts_of, has_child, holds_ids}
-use Rattle.vx_arrow_columns.specs.Measured.{AreBelow, AreDenseItems, AreItems, AreListed, IsInner, IsLeaf, IsMeasured, IsTextLen, moved}
+use Rattle.vx_arrow_columns.specs.Measured.{AreBelow, AreDenseItems, AreItems, AreListed, AreMeasured, IsInner, IsLeaf, IsMeasured, IsTextLen, list_places, list_valid, moved}
 use Rattle.vx_arrow_columns.specs.Picks.{Picking, all_rows, below, counts_by, fixed_items, has_bits, inner, inner_nullable, inner_picks, inners_by, keeps, splits, items_of, picking_of, picks_of, values_len}
 use Rattle.vx_arrow_columns.specs.Planned.{child_lens, first_len, tree_lens}
 use Rattle.vx_arrow_columns.specs.Sound.{AsksBelow, HoldsBelow, IsSoundAt}
@@ -67,6 +67,10 @@ pub fixed_measured : (p : Part) (ps vs : List ℕ) (add n : ℕ) (m : Measure) �
 fixed_measured p ps vs add n m format few placed within held size small l =
     let same : n ≡ length (picks_of ps vs add) * p.width = size ∙ ap (λ k. k * p.width) (sym (length_picks ps vs add)) in
     leaf_measured p (picking_of ps vs add) Fixed n m format (readable p ps vs add Fixed format few placed within (lt-ltb _ _ (subst (λ k. k < 2 ^ 63) same small)) (l.leaf, held)) same l
+
+pub fixed_at : (p : Part) (count n : ℕ) (m : Measure) → p.format ≡ Some Fixed → count < 2 ^ 60 → is_placed p ≡ true → (p.offset + p.len) * p.width ≤ length p.values → n ≡ count * p.width → n < 2 ^ 63 → IsLeaf p n m → AreMeasured p count m
+fixed_at p count n m format few placed held size small l ps vs add e within =
+    fixed_measured p ps vs add n m format (omega arith) placed within held (size ∙ ap (λ (k : ℕ). k * p.width) (sym e)) small l
 
 pub text_measured : (z : Offsets) (p : Part) (ps vs : List ℕ) (add n : ℕ) (m : Measure) → p.format ≡ Some (Text z) → length ps < 2 ^ 60 → is_placed p ≡ true → AreWithin (picks_of ps vs add) p.len
     → IsTextLen z p (picks_of ps vs add) n → IsLeaf p n m → IsMeasured p (picking_of ps vs add) m
@@ -161,17 +165,17 @@ bare_listed : (p : Part) (q : Picking) (places valid : List ℕ) (end : ℕ) →
 bare_listed p q places valid end one same none listed within = subst (λ (v : List ℕ). AreListed p q places v end) (sym none) (record { one = one; same = same; listed = listed; within = within })
 
 pub list_measured : (z : Offsets) (p : Part) (ps vs : List ℕ) (add : ℕ) (items : Items) → p.format ≡ Some (Lists z) → length ps < 2 ^ 60 → is_placed p ≡ true → AreWithin (picks_of ps vs add) p.len → p.children ≡ 1
-    → AreItems z p (picks_of ps vs add) items.list.places.items items.end → items.list.valid.items ≡ [] → IsMeasured p (picking_of ps vs add) (record { values = 0; inner = inners.Listed items })
+    → AreItems z p (picks_of ps vs add) (list_places items.list) items.end → list_valid items.list ≡ [] → IsMeasured p (picking_of ps vs add) (record { values = 0; inner = inners.Listed items })
 list_measured z p ps vs add items format few placed within one are none = record {
   readable = readable p ps vs add (Lists z) format few placed within (lt-ltb _ _ are.small) (one, are.cut);
   values = ap (λ (g : Option Format). values_len g p (picks_of ps vs add)) (sym format);
-  children = bare_listed p (picking_of ps vs add) items.list.places.items items.list.valid.items items.end one (ap splits format) none (items_listed z p (picking_of ps vs add) items.list.places.items format are.items) (below_within items.list.places.items items.end are.below);
+  children = bare_listed p (picking_of ps vs add) (list_places items.list) (list_valid items.list) items.end one (ap splits format) none (items_listed z p (picking_of ps vs add) (list_places items.list) format are.items) (below_within (list_places items.list) items.end are.below);
   asks = λ lens s. are.reached (get_or lens 0 0) (below_by p (picks_of ps vs add) lens (Lists z) format s);
 }
 
 pub fixed_list_measured : (p : Part) (ps vs : List ℕ) (add n : ℕ) (items : Items) → p.format ≡ Some FixedList → length ps < 2 ^ 60 → is_placed p ≡ true → AreWithin (picks_of ps vs add) p.len → p.children ≡ 1
     → (p.offset + p.len) * p.width < 2 ^ 60 → n ≡ length ps * p.width → n < 2 ^ 60
-    → picks_of items.list.places.items items.list.valid.items 0 ≡ fixed_items p (picks_of ps vs add) → has_bits items.list.valid.items ≡ has_bits vs → items.end ≡ (p.offset + p.len) * p.width
+    → picks_of (list_places items.list) (list_valid items.list) 0 ≡ fixed_items p (picks_of ps vs add) → has_bits (list_valid items.list) ≡ has_bits vs → items.end ≡ (p.offset + p.len) * p.width
     → IsMeasured p (picking_of ps vs add) (record { values = 0; inner = inners.Listed items })
 fixed_list_measured p ps vs add n items format few placed within one held size small are bits far =
     let q = picks_of ps vs add in

@@ -1,6 +1,6 @@
 -- The jobs of children, and the plan at the end of a walk.
 use Rattle.std.proofs.Common.{zero, suc, ◌≡◌, ℕ, ◌+◌, ◌-◌, ◌^◌, ◌<◌, ◌≤◌, leb, Bool, true, false, cond, List, [], ◌∷◌, ◌++◌, length, get_or, drop, map, reverse, Option, Some, None, ap, ap₂, sym, ◌∙◌, refl, subst, arith, append_assoc, length-append}
-use Rattle.std.specs.Prelude.{replicate}
+use Rattle.std.specs.Prelude.{◌||◌, replicate}
 use Rattle.std.proofs.lemmas.List.Elements.{All-replicate}
 use Rattle.vx_arrow_columns.specs.declared.needs.Inner.{Inner}
 use Rattle.std.specs.List.{list_all, range_with_len}
@@ -9,7 +9,7 @@ use Rattle.std.proofs.lemmas.Bool.{and_parts, leb-true}
 use Rattle.std.proofs.lemmas.List.{append-nil, drop_all, ext_get_or, get_or-map, length-map, map-append, get_or-append_right, length-replicate, reverse-append}
 use Rattle.std.proofs.lemmas.List.FromFn.{get_or-map-range_with_len, length-map-range_with_len}
 use Rattle.vx_arrow_image.specs.declared.format.Format.{Format}
-use Rattle.vx_arrow_image.specs.declared.format.Format.TheVariants.{DenseUnion}
+use Rattle.vx_arrow_image.specs.declared.format.Format.TheVariants.{DenseUnion, Fixed}
 use Rattle.vx_arrow_image.specs.declared.image.Node as image
 use Rattle.vx_arrow_image.specs.declared.image.Need.{Need}
 use Rattle.vx_arrow_image.specs.declared.image.Room.{Room}
@@ -17,17 +17,22 @@ use Rattle.vx_arrow_columns.specs.declared.needs.Inner.TheVariants as inners
 use Rattle.vx_arrow_columns.specs.declared.needs.Items.{Items}
 use Rattle.vx_arrow_columns.specs.declared.needs.Measure.{Measure}
 use Rattle.vx_arrow_columns.specs.declared.places.Places.{Places}
+use Rattle.vx_arrow_columns.specs.declared.places.Picks.{Picks}
+use Rattle.vx_arrow_columns.specs.declared.places.RunPicks.{RunPicks}
 use Rattle.vx_arrow_columns.specs.declared.plan.Job as jobs
+use Rattle.vx_arrow_columns.specs.declared.plan.JobPicks.{JobPicks}
+use Rattle.vx_arrow_columns.specs.declared.plan.JobPicks.TheVariants as kinds
 use Rattle.vx_arrow_columns.specs.declared.plan.Plan as plans
 use Rattle.vx_arrow_columns.specs.declared.plan.Walk as walks
 use Rattle.vx_arrow_image.specs.Image.{Part, part_of}
-use Rattle.vx_arrow_columns.specs.Picks.{Picking, all_rows, below, belows, bytes_for, dense_picking, dense_rows, inner, inners, inners_by, keeps, kept_need, need_of, needs_by, offsets_len, own_need, sizes_len, picking_of, pickings, picks_of, shows_valid, values_len}
-use Rattle.vx_arrow_columns.specs.Planned.{AreNexts, AreSplitJobs, HasEach, IsJobMeasured, IsListedJob, IsPushed, IsSound, child_lens, IsNext, IsPlanned, are_trees, first_len, picking_by, picking_in, places_in, valid_in}
-use Rattle.vx_arrow_columns.specs.Measured.{AreDenseItems, IsInner, IsMeasured, moved}
+use Rattle.vx_arrow_columns.specs.Asked.{the_picking, the_run_picking}
+use Rattle.vx_arrow_columns.specs.Picks.{Picking, all_rows, below, belows, bytes_for, dense_picking, dense_rows, has_bits, inner, inners, inners_by, keeps, kept_need, need_of, needs_by, offsets_len, own_need, sizes_len, picking_of, pickings, picks_of, shows_by, shows_valid, values_len}
+use Rattle.vx_arrow_columns.specs.Planned.{AreNexts, ArePicks, AreSplitJobs, Fits, HasEach, IsJobMeasured, IsListed, IsListedJob, IsPlain, IsPushed, IsSettled, IsSound, child_lens, IsNext, IsPlanned, are_runs, are_trees, first_len, picking_by, picking_in, places_in, runs_in, valid_in}
+use Rattle.vx_arrow_columns.specs.Measured.{AreDenseItems, AreMeasured, IsInner, IsMeasured, list_places, list_valid, moved}
 use Rattle.vx_arrow_columns.specs.Sound.{AsksBelow}
 use Rattle.vx_arrow_columns.specs.Taken.{AreInside, AreWithin, IsOwnTaken, IsViewTaken, TakenAs}
 use Rattle.vx_arrow_columns.specs.Written.{IsRoomTaken}
-use Rattle.vx_arrow_columns.proofs.Measures.{same_picking}
+use Rattle.vx_arrow_columns.proofs.Measures.{none_inside, same_picking}
 use Rattle.vx_arrow_columns.proofs.PickReads.{length_picks, moved_picks}
 use Rattle.vx_arrow_columns.proofs.Trees.{belows_len, empty, same_belows}
 use Rattle.vx_arrow_columns.proofs.Walks.{WalkIs, grown_len, kept_job, reverse_many, still_listed}
@@ -103,9 +108,9 @@ next_leaf node job old = record {
 
 -- ---- children that are kept
 
-kept_in : (ps vs : List ℕ) (ls : List Places) (job : jobs.Job) → job.kept ≡ true → picking_in ps vs ls job ≡ all_rows
+pub kept_is : (ps vs : List ℕ) (ls : List Places) (job : jobs.Job) → job.kept ≡ true → picking_in ps vs ls job ≡ all_rows
 unfolding picking_in
-kept_in ps vs ls job e = ap (λ b. cond b all_rows (picking_by ps vs ls job.list job.add)) e
+kept_is ps vs ls job e = ap (λ b. cond b all_rows (picking_by ps vs ls job.list job.add)) e
 
 pub none_within : (n : ℕ) → AreWithin all_rows.picks n
 none_within n = record { below = λ k i h e. absurd (omega arith) }
@@ -115,16 +120,15 @@ next_kept node job next old bare none kept = record {
   more = [];
   grown = sym (append-nil old);
   listed = λ h k e. absurd (let f : None ≡ Some k = sym bare ∙ e in cc);
-  within = λ ps vs below w are. subst (λ (q : Picking). AreWithin q.picks next.end) (sym (kept_in ps vs old next kept)) (none_within next.end);
-  picks = λ ps vs w are. ap (replicate node.children) (kept_in ps vs old next kept) ∙ sym are;
+  within = λ ps vs below w are. subst (λ (q : Picking). AreWithin q.picks next.end) (sym (kept_is ps vs old next kept)) (none_within next.end);
+  picks = λ ps vs w are. ap (replicate node.children) (kept_is ps vs old next kept) ∙ sym are;
   far = λ ps vs lens count are long j h. omega arith;
 }
 
 -- a node of a job that is kept
-pub kept_measured : (node : image.Node) (behind : List Part) (ps vs : List ℕ) (ls : List Places) (job : jobs.Job) (n : Need) → job.kept ≡ true → n ≡ kept_need (part_of node) → IsJobMeasured (part_of node) (picking_in ps vs ls job) behind (record { need = n; inner = inners.Kept })
-kept_measured node behind ps vs ls job n kept e =
-    let is = kept_in ps vs ls job kept in
-    let not_own : (picking_in ps vs ls job).kept ≡ false → ⊥ = λ f. let g : true ≡ false = sym (ap (λ (q : Picking). q.kept) is) ∙ f in cc in
+pub kept_measured : (node : image.Node) (behind : List Part) (own : Picking) (n : Need) → own ≡ all_rows → n ≡ kept_need (part_of node) → IsJobMeasured (part_of node) own behind (record { need = n; inner = inners.Kept })
+kept_measured node behind own n is e =
+    let not_own : own.kept ≡ false → ⊥ = λ f. let g : true ≡ false = sym (ap (λ (q : Picking). q.kept) is) ∙ f in cc in
     record {
       read = record {
         within = subst (λ (q : Picking). AreWithin q.picks node.len) (sym is) (none_within node.len);
@@ -146,8 +150,8 @@ own_measured p ps vs add own behind n m e is inside need =
 
 -- ---- rooms
 
-pub kept_room : (p : Part) (ps vs : List ℕ) (ls : List Places) (job : jobs.Job) (r : Room) → job.kept ≡ true → IsRoomTaken p (picking_in ps vs ls job) r
-kept_room p ps vs ls job r kept = subst (λ (q : Picking). IsRoomTaken p q r) (sym (kept_in ps vs ls job kept)) refl
+pub kept_room : (p : Part) (own : Picking) (r : Room) → own ≡ all_rows → IsRoomTaken p own r
+kept_room p own r kept = subst (λ (q : Picking). IsRoomTaken p q r) (sym kept) refl
 
 pub own_node : (p w : Part) (q : Picking) (f : Format) → p.format ≡ Some f → keeps (Some f) ≡ false → IsOwnTaken p w q → TakenAs false (keeps p.format) p w q
 own_node p w q f format e t = subst (λ (b : Bool). TakenAs false b p w q) (sym (ap keeps format ∙ e)) t
@@ -163,14 +167,14 @@ last_list ls x f =
     ∙ get_or-append_right (map f ls) (f x ∷ []) (length ls) (length ls) [] (length-map ls f) (omega arith)
     ∙ ap (λ n. get_or (f x ∷ []) n []) (let z : length ls - length ls ≡ 0 = omega arith in z)
 
-listed_in : (ps vs : List ℕ) (ls new : List Places) (x : Places) (next : jobs.Job) → new ≡ ls ++ x ∷ [] → next.list ≡ Some (length ls) → next.add ≡ 0 → next.kept ≡ false → picking_in ps vs new next ≡ picking_of x.places.items x.valid.items 0
+listed_in : (ps vs : List ℕ) (ls new : List Places) (x : Places) (next : jobs.Job) → new ≡ ls ++ x ∷ [] → next.list ≡ Some (length ls) → next.add ≡ 0 → next.kept ≡ false → picking_in ps vs new next ≡ picking_of (list_places x) (list_valid x) 0
 unfolding picking_in
 listed_in ps vs ls new x next e list none bare =
     ap (λ b. cond b all_rows (picking_by ps vs new next.list next.add)) bare
     ∙ ap₂ (λ (o : Option ℕ) (a : ℕ). picking_by ps vs new o a) list none
     ∙ ap₂ (λ (a : List ℕ) (b : List ℕ). picking_of a b 0)
-    (ap (λ (l : List Places). places_in l (length ls)) e ∙ last_list ls x (λ (y : Places). y.places.items))
-    (ap (λ (l : List Places). valid_in l (length ls)) e ∙ last_list ls x (λ (y : Places). y.valid.items))
+    (ap (λ (l : List Places). places_in l (length ls)) e ∙ last_list ls x list_places)
+    (ap (λ (l : List Places). valid_in l (length ls)) e ∙ last_list ls x list_valid)
 
 pub list_pushed : (old new : List Places) (items : Items) (next : jobs.Job) → new ≡ old ++ items.list ∷ [] → next.list ≡ Some (length old) → next.add ≡ 0 → next.end ≡ items.end → next.kept ≡ false → IsListedJob new next items
 list_pushed old new items next e list none end bare = record {
@@ -186,7 +190,7 @@ next_listed node job next old new items e own = record {
   listed = λ h. own.listed;
   within = λ ps vs below w are.
       subst (λ (q : Picking). AreWithin q.picks next.end) (sym (own.picks ps vs))
-      (subst (λ (n : ℕ). AreWithin (picking_of items.list.places.items items.list.valid.items 0).picks n) (sym own.end) are.within);
+      (subst (λ (n : ℕ). AreWithin (picking_of (list_places items.list) (list_valid items.list) 0).picks n) (sym own.end) are.within);
   picks = λ ps vs w are. ap (replicate node.children) (own.picks ps vs ∙ sym are.listed) ∙ same_belows (part_of node) (picking_in ps vs old job) are.same;
   far = λ ps vs lens count are long j h. let first : j ≡ 0 = omega (arith, are.one) in let same = ap (λ (k : ℕ). get_or lens k 0) first in omega (arith, own.end);
 }
@@ -352,6 +356,7 @@ plan_done parts ps vs i w is all =
       needs = sym (is.needs ∙ ap₂ (λ (l : List Part) (q : List Picking). w.needs.items ++ needs_by l q) behind left ∙ append-nil w.needs.items);
       listed = is.listed;
       read = is.read;
+      fits = is.fits;
     }
 
 -- ---- the picks of a job
@@ -360,14 +365,87 @@ pub none_is : (ps vs : List ℕ) (ls : List Places) (job : jobs.Job) (add : ℕ)
 unfolding picking_in
 none_is ps vs ls job add e same bare = ap (λ (a : ℕ). picking_of ps vs a) same ∙ sym (ap₂ (λ (o : Option ℕ) (b : Bool). cond b all_rows (picking_by ps vs ls o job.add)) e bare)
 
-pub some_is : (ps vs : List ℕ) (ls : List Places) (job : jobs.Job) (k : ℕ) (x d : Places) (places valid : List ℕ) → job.list ≡ Some k → k < length ls → get_or ls k d ≡ x → places ≡ x.places.items → valid ≡ x.valid.items → job.kept ≡ false
+pub some_is : (ps vs : List ℕ) (ls : List Places) (job : jobs.Job) (k : ℕ) (x d : Places) (places valid : List ℕ) → job.list ≡ Some k → k < length ls → get_or ls k d ≡ x → places ≡ list_places x → valid ≡ list_valid x → job.kept ≡ false
     → picking_of places valid job.add ≡ picking_in ps vs ls job
 unfolding picking_in
 some_is ps vs ls job k x d places valid e low at same bits bare =
     ap₂ (λ (a : List ℕ) (b : List ℕ). picking_of a b job.add)
-    (same ∙ sym (ap (λ (y : Places). y.places.items) at) ∙ sym (get_or-map (λ (y : Places). y.places.items) ls k d [] low))
-    (bits ∙ sym (ap (λ (y : Places). y.valid.items) at) ∙ sym (get_or-map (λ (y : Places). y.valid.items) ls k d [] low))
+    (same ∙ sym (ap list_places at) ∙ sym (get_or-map list_places ls k d [] low))
+    (bits ∙ sym (ap list_valid at) ∙ sym (get_or-map list_valid ls k d [] low))
     ∙ sym (ap₂ (λ (o : Option ℕ) (b : Bool). cond b all_rows (picking_by ps vs ls o job.add)) e bare)
+
+pub runs_are : (ls : List Places) (job : jobs.Job) (k : ℕ) (x d : Places) (b : Bool) → job.list ≡ Some k → k < length ls → get_or ls k d ≡ x → are_runs x ≡ b → runs_in ls job.list ≡ b
+runs_are ls job k x d b e low at is = ap (runs_in ls) e ∙ get_or-map are_runs ls k d false low ∙ ap are_runs at ∙ is
+
+-- what each kind of picks says
+pub kept_picks : (q : Picking) (b : Bool) (r : JobPicks) → r ≡ kinds.Kept → ArePicks q b r → q ≡ all_rows
+kept_picks q b r e is = subst (ArePicks q b) e is
+
+pub run_picks : (q : Picking) (b : Bool) (r : JobPicks) (x : RunPicks) → r ≡ kinds.Runs x → ArePicks q b r → (the_run_picking x ≡ q) × (b ≡ true)
+run_picks q b r x e is = subst (ArePicks q b) e is
+
+pub each_picks : (q : Picking) (b : Bool) (r : JobPicks) (x : Picks) → r ≡ kinds.Each x → ArePicks q b r → the_picking x ≡ q
+each_picks q b r x e is = subst (ArePicks q b) e is
+
+-- ---- runs that become places
+
+-- the job as it was
+pub still_settled : (p : Part) (job : jobs.Job) (ls : List Places) → IsListed job (length ls) → Fits p ls job → IsSettled p job ls ls job
+still_settled p job ls h fits = record {
+  more = [];
+  grown = sym (append-nil ls);
+  listed = h;
+  picks = λ ps vs. refl;
+  end = refl;
+  fits = fits;
+}
+
+same_job : (ps vs : List ℕ) (new ls : List Places) (job next : jobs.Job) (k m : ℕ) → job.list ≡ Some k → next.list ≡ Some m → next.add ≡ job.add → next.kept ≡ job.kept → places_in new m ≡ places_in ls k → valid_in new m ≡ valid_in ls k
+    → picking_in ps vs new next ≡ picking_in ps vs ls job
+unfolding picking_in
+same_job ps vs new ls job next k m list last add kept places valid =
+    ap₂ (λ (o : Option ℕ) (b : Bool). cond b all_rows (picking_by ps vs new o next.add)) last kept
+    ∙ ap (λ (a : ℕ). cond job.kept all_rows (picking_of (places_in new m) (valid_in new m) a)) add
+    ∙ ap₂ (λ (a : List ℕ) (b : List ℕ). cond job.kept all_rows (picking_of a b job.add)) places valid
+    ∙ sym (ap (λ (o : Option ℕ). cond job.kept all_rows (picking_by ps vs ls o job.add)) list)
+
+last_runs : (ls : List Places) (x : Places) → get_or (map are_runs (ls ++ x ∷ [])) (length ls) false ≡ are_runs x
+last_runs ls x =
+    ap (λ (l : List Bool). get_or l (length ls) false) (map-append are_runs ls (x ∷ []))
+    ∙ get_or-append_right (map are_runs ls) (are_runs x ∷ []) (length ls) (length ls) false (length-map ls are_runs) (omega arith)
+    ∙ ap (λ n. get_or (are_runs x ∷ []) n false) (let z : length ls - length ls ≡ 0 = omega arith in z)
+
+-- places in place of runs
+pub places_settled : (p : Part) (job next : jobs.Job) (ls new : List Places) (k : ℕ) (x y d : Places) → job.list ≡ Some k → k < length ls → get_or ls k d ≡ x → list_places y ≡ list_places x → list_valid y ≡ list_valid x → are_runs y ≡ false
+    → new ≡ ls ++ y ∷ [] → next.list ≡ Some (length ls) → next.add ≡ job.add → next.kept ≡ job.kept → next.end ≡ job.end → IsSettled p job ls new next
+places_settled p job next ls new k x y d list low at places valid bare grown last add kept end = record {
+  more = y ∷ [];
+  grown = grown;
+  listed = λ j e. let same : length ls ≡ j = (let f : Some (length ls) ≡ Some j = sym last ∙ e in cc) in omega (arith, ap length grown, length-append ls (y ∷ []));
+  picks = λ ps vs. same_job ps vs new ls job next k (length ls) list last add kept
+      (ap (λ (l : List Places). places_in l (length ls)) grown ∙ last_list ls y list_places ∙ places ∙ sym (ap list_places at) ∙ sym (get_or-map list_places ls k d [] low))
+      (ap (λ (l : List Places). valid_in l (length ls)) grown ∙ last_list ls y list_valid ∙ valid ∙ sym (ap list_valid at) ∙ sym (get_or-map list_valid ls k d [] low));
+  end = end;
+  fits = λ runs.
+      let none : runs_in new next.list ≡ false = ap (runs_in new) last ∙ ap (λ (l : List Places). runs_in l (Some (length ls))) grown ∙ last_runs ls y ∙ bare in
+      absurd (let f : true ≡ false = sym runs ∙ none in cc);
+}
+
+-- the jobs of the children of a job that was settled
+pub nexts_settled : (node : image.Node) (job next : jobs.Job) (inside : Inner) (old mid new : List Places) (nexts : List jobs.Job) → IsSettled (part_of node) job old mid next → AreNexts node next inside mid new nexts → AreNexts node job inside old new nexts
+nexts_settled node job next inside old mid new nexts s n = record {
+  more = s.more ++ n.more;
+  grown = n.grown ∙ ap (λ l. l ++ n.more) s.grown ∙ append_assoc old s.more n.more;
+  count = n.count;
+  sound = λ ps vs own w is.
+      let same = sym (s.picks ps vs) in
+      n.sound ps vs (record { listed = s.listed; within = subst (λ (m : ℕ). AreWithin (picking_in ps vs mid next).picks m) (sym s.end) (subst (λ (q : Picking). AreWithin q.picks job.end) same own.within) })
+      (subst (λ (q : Picking). AreWithin q.picks node.len) same w) (subst (λ (q : Picking). IsInner (part_of node) q inside) same is);
+  picks = λ ps vs w is.
+      let same = sym (s.picks ps vs) in
+      n.picks ps vs (subst (λ (q : Picking). AreWithin q.picks node.len) same w) (subst (λ (q : Picking). IsInner (part_of node) q inside) same is) ∙ ap (belows (part_of node)) (s.picks ps vs);
+  far = λ ps vs lens count is asks j d h. n.far ps vs lens count (subst (λ (q : Picking). IsInner (part_of node) q inside) (sym (s.picks ps vs)) is) asks j d h;
+}
 
 -- ---- needs
 
@@ -380,6 +458,24 @@ need_is p ps vs add valid offs values sizes e f g h =
     ∙ ap (λ (b : ℕ). make (length (picks_of ps vs add)) b offs values sizes) (e ∙ ap (λ (m : ℕ). cond (shows_valid p (picking_of ps vs add)) (bytes_for m) 0) n)
     ∙ ap₂ (λ (c : ℕ) (d : ℕ). make (length (picks_of ps vs add)) (cond (shows_valid p (picking_of ps vs add)) (bytes_for (length (picks_of ps vs add))) 0) c d sizes) (f ∙ ap (offsets_len p.format) n) g
     ∙ ap (make (length (picks_of ps vs add)) (cond (shows_valid p (picking_of ps vs add)) (bytes_for (length (picks_of ps vs add))) 0) (offsets_len p.format (length (picks_of ps vs add))) (values_len p.format p (picks_of ps vs add))) (h ∙ ap (sizes_len p.format p) n)
+
+-- ---- rows at runs of places
+
+pub run_need : (p : Part) (ps : List ℕ) (add n values : ℕ) → IsPlain p → n ≡ length ps → values ≡ values_len p.format p (picks_of ps [] add) → record { len = n; valid = 0; offsets = 0; values = values; sizes = 0 } ≡ own_need p (picking_of ps [] add)
+run_need p ps add n values plain size are =
+    let make : ℕ → ℕ → ℕ → ℕ → ℕ → Need = λ a b c d s. record { len = a; valid = b; offsets = c; values = d; sizes = s } in
+    let q = picking_of ps [] add in
+    let bare : shows_valid p q ≡ false = ap₂ (λ (f : Option Format) (v : List ℕ). shows_by f (has_bits v || false)) plain.0 plain.1 in
+    ap (λ (m : ℕ). make m 0 0 values 0) size
+    ∙ need_is p ps [] add 0 0 values 0 (sym (ap (λ (b : Bool). cond b (bytes_for (length ps)) 0) bare)) (sym (ap (λ (f : Option Format). offsets_len f (length ps)) plain.0)) are (sym (ap (λ (f : Option Format). sizes_len f p (length ps)) plain.0))
+
+pub run_measured : (p : Part) (ps : List ℕ) (add n : ℕ) (m : Measure) → IsPlain p → n ≡ length ps → AreWithin (picks_of ps [] add) p.len → AreMeasured p n m
+    → (behind : List Part) → IsJobMeasured p (picking_of ps [] add) behind (record { need = record { len = n; valid = 0; offsets = 0; values = m.values; sizes = 0 }; inner = m.inner })
+run_measured p ps add n m plain size within are behind =
+    let is = are ps [] add (sym size) within in
+    own_measured p ps [] add (picking_of ps [] add) behind _ m refl is (none_inside p (picks_of ps [] add) (child_lens p behind) Fixed plain.0 refl) (run_need p ps add n m.values plain size is.values)
+
+-- ---- the needs of a plan
 
 needs_len : (ps : List Part) (qs : List Picking) → length qs ≡ length ps → length (needs_by ps qs) ≡ length ps
 needs_len [] qs e = refl

@@ -13,7 +13,7 @@ use Rattle.vx_arrow_image.specs.Image.{Part, bit_of, offset_at}
 use Rattle.vx_arrow_columns.specs.Picks.{items_len, pick_at, picks_of, place_of, row_len}
 use Rattle.vx_arrow_columns.specs.Taken.{AreBits, AreCopied, AreOffsets, IsByteOf, row_text, texts_of}
 use Rattle.vx_arrow_columns.specs.Written.{PutsBit, PutsOffset}
-use Rattle.vx_arrow_columns.proofs.Bytes.{put_at, put_there, put_front, put_within, cut_before, cut_within}
+use Rattle.vx_arrow_columns.proofs.Bytes.{put_at, put_there, cut_before, cut_within, run_before, run_within}
 use Rattle.vx_arrow_columns.proofs.Columns.{place_some}
 use Rattle.vx_arrow_columns.proofs.Cuts.{len_more, len_all, len_within, len_zero}
 use Rattle.vx_arrow_columns.proofs.PickReads.{get_picks, length_picks}
@@ -100,6 +100,24 @@ copied_put w src p q k i m out new at low size long room eq b =
     subst (λ (l : List ℕ). AreCopied w src p q (k + 1) l)
     (sym (eq ∙ ap (λ (n : ℕ). put_at out (take n (drop (i * w) src)) (k * w)) size))
     (copied_some w src p q k i out own at refl wide room b)
+
+-- rows that stand one behind another, put at once
+pub copied_run : (w : ℕ) (src : List ℕ) (p : Part) (q : List (Option ℕ)) (k i count : ℕ) (out new : List ℕ) → ((j n : ℕ) → j < count → place_of p (get_or q (k + j) None) ≡ Some n → n ≡ i + j)
+    → k * w ≤ length out → take (k * w + count * w) new ≡ take (k * w) out ++ take (count * w) (drop (i * w) src) → AreCopied w src p q k out → AreCopied w src p q (k + count) new
+copied_run w src p q k i count out new at room put b = record {
+  values = λ j n below f. elim (cases_lt j k) as (λ _. take w (drop (j * w) new) ≡ take w (drop (n * w) src)) [
+    | inl low ↦ run_before out new (take (count * w) (drop (i * w) src)) (j * w) w (k * w) (k * w + count * w) put (next_place j k w low) (omega arith) room ∙ b.values j n low f
+    | inr high ↦
+        let d = j - k in
+        let here : j ≡ k + d = omega arith in
+        let there : n ≡ i + d = at d n (omega arith) (ap (λ (m : ℕ). place_of p (get_or q m None)) (sym here) ∙ f) in
+        let within : d * w + w ≤ count * w = next_place d count w (omega arith) in
+        ap (λ m. take w (drop m new)) (ap (λ m. m * w) here ∙ add-mul k d w)
+        ∙ run_within out new (take (count * w) (drop (i * w) src)) (d * w) w (k * w) (k * w + count * w) put (omega arith) room
+        ∙ cut_within src (i * w) (d * w) w (count * w) within
+        ∙ ap (λ m. take w (drop m src)) (sym (ap (λ m. m * w) there ∙ add-mul i d w))
+  ];
+}
 
 -- ---- bytes of bits
 

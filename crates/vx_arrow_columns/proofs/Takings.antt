@@ -15,7 +15,7 @@ use Rattle.vx_arrow_columns.specs.Answer.{AreKeptSound, AreTaken, HaveRoom, IsPl
 use Rattle.vx_arrow_image.specs.Rows.{RowValue}
 use Rattle.vx_arrow_image.specs.Image.{Part, column_in, part_of, parts_of}
 use Rattle.vx_arrow_columns.specs.Picks.{Picking, need_of, picking_of, pickings, is_union}
-use Rattle.vx_arrow_columns.specs.Planned.{IsPlanned, IsRead, are_trees, first_len, picking_in}
+use Rattle.vx_arrow_columns.specs.Planned.{Fits, IsPlanned, IsRead, are_trees, first_len, picking_in}
 use Rattle.vx_arrow_columns.specs.Taken.{AreWithin, IsTaken, IsReadable, AreFull}
 use Rattle.vx_arrow_columns.specs.Written.{has_room, written, written_by, written_part}
 use Rattle.vx_arrow_columns.proofs.Plans.{planned_at, planned_need}
@@ -110,6 +110,15 @@ node_readable nodes ps vs plan i d own planned o bare =
     subst (λ (p : Part). IsReadable p own.picks) (part_at nodes i d low)
     (subst (λ (r : Picking). IsReadable (get_or (parts_of nodes) i (part_of d)) r.picks) q
     (read.readable (ap (λ (r : Picking). r.kept) q ∙ bare)))
+
+-- runs serve it, where its picks are such
+pub job_fits : (nodes : List image.Node) (ps vs : List ℕ) (plan : plans.Plan) (i : ℕ) (lists : List Places) (job : Job) (d : image.Node) → i < length nodes → lists ≡ plan.lists.items → job ≡ get_or plan.jobs.items i job → IsPlanned (parts_of nodes) ps vs plan
+    → Fits (part_of (get_or nodes i d)) lists job
+job_fits nodes ps vs plan i lists job d low same at planned =
+    let fits = planned.fits i job (part_of d) (omega (arith, planned.len, length-map nodes part_of)) in
+    let p = part_of (get_or nodes i d) in
+    subst (λ (l : List Places). Fits p l job) (sym same)
+    (subst (λ (j : Job). Fits p plan.lists.items j) (sym at) (subst (λ (r : Part). Fits r plan.lists.items (get_or plan.jobs.items i job)) (part_at nodes i d low) fits))
 
 -- each node of a plan can be read at its picks
 pub all_read : (parts : List Part) (ps vs : List ℕ) (plan : plans.Plan) → IsPlanned parts ps vs plan

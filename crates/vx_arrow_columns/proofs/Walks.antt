@@ -1,5 +1,5 @@
 -- Walks over a table, one node at a time.
-use Rattle.std.proofs.Common.{zero, suc, ◌≡◌, ℕ, ◌+◌, ◌-◌, ◌<◌, ◌≤◌, false, cond, List, [], ◌∷◌, ◌++◌, length, get_or, drop, map, reverse, Option, Some, None, ap, ap₂, sym, ◌∙◌, refl, subst, inl, inr, arith, append_assoc, length-append}
+use Rattle.std.proofs.Common.{zero, suc, ◌≡◌, ℕ, ◌+◌, ◌-◌, ◌<◌, ◌≤◌, Bool, false, cond, List, [], ◌∷◌, ◌++◌, length, get_or, drop, map, reverse, Option, Some, None, ap, ap₂, sym, ◌∙◌, refl, subst, inl, inr, arith, append_assoc, length-append}
 use Rattle.std.specs.Prelude.{replicate}
 use Rattle.std.specs.List.{All}
 use Rattle.std.proofs.lemmas.Bool.{cases_lt}
@@ -12,20 +12,31 @@ use Rattle.vx_arrow_columns.specs.declared.plan.Job as jobs
 use Rattle.vx_arrow_columns.specs.declared.plan.Walk as walks
 use Rattle.vx_arrow_image.specs.Image.{Part, part_of, parts_of}
 use Rattle.vx_arrow_columns.specs.Picks.{Picking, all_rows, belows, need_of, needs_by, picking_of, pickings}
-use Rattle.vx_arrow_columns.specs.Planned.{IsListed, IsRead, IsSound, IsStart, IsVisited, IsWalking, are_trees, picking_by, picking_in, places_in, valid_in}
+use Rattle.vx_arrow_columns.specs.Measured.{list_places, list_valid}
+use Rattle.vx_arrow_columns.specs.Planned.{Fits, IsListed, IsRead, IsSound, IsStart, IsVisited, IsWalking, are_runs, are_trees, picking_by, picking_in, places_in, runs_in, valid_in}
 use Rattle.vx_arrow_columns.specs.Taken.{AreWithin}
 
 -- ---- jobs keep their picks as lists are added
 
 kept_places : (ls more : List Places) (k : ℕ) → k < length ls → places_in (ls ++ more) k ≡ places_in ls k
 kept_places ls more k h =
-    ap (λ (l : List (List ℕ)). get_or l k []) (map-append (λ (l : Places). l.places.items) ls more)
-    ∙ get_or_append_left (map (λ (l : Places). l.places.items) ls) (map (λ (l : Places). l.places.items) more) [] k (omega (arith, length-map ls (λ (l : Places). l.places.items)))
+    ap (λ (l : List (List ℕ)). get_or l k []) (map-append list_places ls more)
+    ∙ get_or_append_left (map list_places ls) (map list_places more) [] k (omega (arith, length-map ls list_places))
 
 kept_valid : (ls more : List Places) (k : ℕ) → k < length ls → valid_in (ls ++ more) k ≡ valid_in ls k
 kept_valid ls more k h =
-    ap (λ (l : List (List ℕ)). get_or l k []) (map-append (λ (l : Places). l.valid.items) ls more)
-    ∙ get_or_append_left (map (λ (l : Places). l.valid.items) ls) (map (λ (l : Places). l.valid.items) more) [] k (omega (arith, length-map ls (λ (l : Places). l.valid.items)))
+    ap (λ (l : List (List ℕ)). get_or l k []) (map-append list_valid ls more)
+    ∙ get_or_append_left (map list_valid ls) (map list_valid more) [] k (omega (arith, length-map ls list_valid))
+
+kept_runs : (ls more : List Places) (o : Option ℕ) → ((k : ℕ) → o ≡ Some k → k < length ls) → runs_in (ls ++ more) o ≡ runs_in ls o
+kept_runs ls more None h = refl
+kept_runs ls more (Some k) h =
+    ap (λ (l : List Bool). get_or l k false) (map-append are_runs ls more)
+    ∙ get_or_append_left (map are_runs ls) (map are_runs more) false k (let low = h k refl in omega (arith, length-map ls are_runs))
+
+-- so runs serve the nodes that they served
+pub kept_fits : (p : Part) (ls more new : List Places) (job : jobs.Job) → new ≡ ls ++ more → IsListed job (length ls) → Fits p ls job → Fits p new job
+kept_fits p ls more new job e h fits = λ runs. fits (sym (ap (λ (l : List Places). runs_in l job.list) e ∙ kept_runs ls more job.list h) ∙ runs)
 
 kept_by : (ps vs : List ℕ) (ls more : List Places) (o : Option ℕ) (add : ℕ) → ((k : ℕ) → o ≡ Some k → k < length ls) → picking_by ps vs (ls ++ more) o add ≡ picking_by ps vs ls o add
 kept_by ps vs ls more None add h = refl
@@ -65,6 +76,7 @@ pub record WalkIs (parts : List Part) (ps vs : List ℕ) (i : ℕ) (w : walks.Wa
       ≡ w.needs.items ++ needs_by (drop i parts) (pickings (drop i parts) (map (picking_in ps vs w.lists.items) (reverse w.stack.items)))
   pub listed : All (λ job. IsListed job (length w.lists.items)) w.jobs.items
   pub read : (k : ℕ) (d : jobs.Job) (e : Part) → k < length w.jobs.items → IsRead (get_or parts k e) (picking_in ps vs w.lists.items (get_or w.jobs.items k d)) (drop (k + 1) parts)
+  pub fits : (k : ℕ) (d : jobs.Job) (e : Part) → k < length w.jobs.items → Fits (get_or parts k e) w.lists.items (get_or w.jobs.items k d)
   pub walking : IsWalking ps vs w
 
 root_within : (ps vs : List ℕ) (ls : List Places) (end : ℕ) → AreWithin (picking_of ps vs 0).picks end → IsSound ps vs ls (record { list = None; add = 0; end = end; kept = false })
@@ -88,6 +100,7 @@ first_walk parts ps vs end w some s within =
       needs = sym (ap₂ (λ (l : List Need) (q : List Picking). l ++ needs_by parts (pickings parts q)) s.needs stack);
       listed = All-same (λ job. IsListed job (length w.lists.items)) w.jobs.items [] s.jobs (All-nil (λ job. IsListed job (length w.lists.items)));
       read = λ k d e h. absurd (omega (arith, ap length s.jobs));
+      fits = λ k d e h. absurd (omega (arith, ap length s.jobs));
       walking = All-same (IsSound ps vs w.lists.items) w.stack.items (root ∷ []) s.stack (All-cons (IsSound ps vs w.lists.items) root [] (root_within ps vs w.lists.items end within) (All-nil (IsSound ps vs w.lists.items)));
     }
 
@@ -103,7 +116,7 @@ reverse_many zero x = refl
 reverse_many {X} (suc n) x = reverse-append (x ∷ []) (replicate n x) ∙ ap (λ (l : List X). l ++ x ∷ []) (reverse_many n x) ∙ push_many n x
 
 -- the jobs of a popped stack
-popped_sound : (ps vs : List ℕ) (ls : List Places) (stack rest : List jobs.Job) (job : jobs.Job) → stack ≡ rest ++ job ∷ [] → All (IsSound ps vs ls) stack → (All (IsSound ps vs ls) rest) × (IsSound ps vs ls job)
+pub popped_sound : (ps vs : List ℕ) (ls : List Places) (stack rest : List jobs.Job) (job : jobs.Job) → stack ≡ rest ++ job ∷ [] → All (IsSound ps vs ls) stack → (All (IsSound ps vs ls) rest) × (IsSound ps vs ls job)
 popped_sound ps vs ls stack [] job e h = (All-nil (IsSound ps vs ls), All-head (IsSound ps vs ls) job [] (All-same (IsSound ps vs ls) (job ∷ []) stack (sym e) h))
 popped_sound ps vs ls stack (r ∷ rest) job e h =
     let all = All-same (IsSound ps vs ls) (r ∷ (rest ++ job ∷ [])) stack (sym e) h in
@@ -147,9 +160,9 @@ next_walk parts ps vs i m node d behind old new w V low at left step =
     let split : drop i parts ≡ p ∷ drop m parts = drop_more parts i d low ∙ ap₂ (λ (q : Part) (n : ℕ). q ∷ drop n parts) at (sym step) in
     let top : reverse old.stack.items ≡ V.job ∷ reverse V.rest = ap reverse V.popped ∙ reverse-append V.rest (V.job ∷ []) in
     let next = next_stack ps vs node old new (behind, V) w.walking in
-    let same = kept_job ps vs old.lists.items more new.lists.items V.job grown both.1.listed in
+    let same : J' V.next ≡ J V.job = V.picks in
     let seen : map J' new.jobs.items ≡ map J old.jobs.items ++ J V.job ∷ [] =
-    ap (map J') V.jobs ∙ map-append J' old.jobs.items (V.job ∷ [])
+    ap (map J') V.jobs ∙ map-append J' old.jobs.items (V.next ∷ [])
     ∙ ap₂ (λ (l : List Picking) (q : Picking). l ++ q ∷ []) (kept_jobs ps vs old.lists.items more new.lists.items old.jobs.items grown w.listed) same in
     let to_come : pickings (drop i parts) (map J (reverse old.stack.items)) ≡ J V.job ∷ pickings (drop m parts) (map J' (reverse new.stack.items)) =
     ap₂ (λ (l : List Part) (s : List jobs.Job). pickings l (map J s)) split top ∙ ap (λ (q : List Picking). J V.job ∷ pickings (drop m parts) q) (sym next) in
@@ -157,7 +170,7 @@ next_walk parts ps vs i m node d behind old new w V low at left step =
     let was : length old.stack.items ≡ suc (length V.rest) = ap length V.popped ∙ length-append V.rest (V.job ∷ []) ∙ (let e : length V.rest + 1 ≡ suc (length V.rest) = omega arith in e) in
     let fewer = V.few in
     let rest : length behind ≡ length parts - (i + 1) = sym (length-map behind part_of) ∙ ap length left ∙ length-drop (i + 1) parts in
-    let done : length new.jobs.items ≡ i + 1 = ap length V.jobs ∙ length-append old.jobs.items (V.job ∷ []) ∙ ap (λ n. n + 1) w.done in
+    let done : length new.jobs.items ≡ i + 1 = ap length V.jobs ∙ length-append old.jobs.items (V.next ∷ []) ∙ ap (λ n. n + 1) w.done in
     record {
       done = done ∙ sym step;
       few = omega arith;
@@ -168,26 +181,36 @@ next_walk parts ps vs i m node d behind old new w V low at left step =
       needs = w.needs ∙ ap (λ (l : List Need). old.needs.items ++ l) (ap₂ needs_by split to_come)
           ∙ sym (append_assoc old.needs.items (need_of p (J V.job) ∷ []) (needs_by (drop m parts) (pickings (drop m parts) (map J' (reverse new.stack.items)))))
           ∙ ap (λ (l : List Need). l ++ needs_by (drop m parts) (pickings (drop m parts) (map J' (reverse new.stack.items)))) (sym V.needs);
-      listed = All-same (λ job. IsListed job (length new.lists.items)) new.jobs.items (old.jobs.items ++ V.job ∷ []) V.jobs
-          (All-push (λ job. IsListed job (length new.lists.items)) old.jobs.items V.job
+      listed = All-same (λ job. IsListed job (length new.lists.items)) new.jobs.items (old.jobs.items ++ V.next ∷ []) V.jobs
+          (All-push (λ job. IsListed job (length new.lists.items)) old.jobs.items V.next
           (All-weaker (λ job. IsListed job (length old.lists.items)) (λ job. IsListed job (length new.lists.items)) (λ j h. still_listed j _ _ longer h) old.jobs.items w.listed)
-          (still_listed V.job _ _ longer both.1.listed));
+          V.listed);
       read = λ k g e h. elim (cases_lt k i) as (λ _. IsRead (get_or parts k e) (J' (get_or new.jobs.items k g)) (drop (k + 1) parts)) [
         | inl before ↦
             let here : k < length old.jobs.items = omega (arith, w.done) in
-            let old_job : get_or new.jobs.items k g ≡ get_or old.jobs.items k g = ap (λ (l : List jobs.Job). get_or l k g) V.jobs ∙ get_or_append_left old.jobs.items (V.job ∷ []) g k here in
+            let old_job = job_before k g here in
             subst (λ (q : Picking). IsRead (get_or parts k e) q (drop (k + 1) parts))
             (sym (ap J' old_job ∙ kept_job ps vs old.lists.items more new.lists.items (get_or old.jobs.items k g) grown (All-get_or (λ job. IsListed job (length old.lists.items)) old.jobs.items k g here w.listed)))
             (w.read k g e here)
         | inr after ↦
             let now : k ≡ i = omega arith in
-            let new_job : get_or new.jobs.items k g ≡ V.job = ap (λ (l : List jobs.Job). get_or l k g) V.jobs ∙ get_or-append_right old.jobs.items (V.job ∷ []) (length old.jobs.items) k g refl (omega (arith, w.done))
-            ∙ ap (λ n. get_or (V.job ∷ []) n g) (let z : k - length old.jobs.items ≡ 0 = omega (arith, w.done) in z) in
+            let new_job = job_now k g (now ∙ sym w.done) in
             let this : get_or parts k e ≡ p = ap (λ n. get_or parts n e) now ∙ any_default parts i e d low ∙ at in
             let tail : parts_of behind ≡ drop (k + 1) parts = left ∙ ap (λ n. drop (n + 1) parts) (sym now) in
             subst (λ (q : Picking). IsRead (get_or parts k e) q (drop (k + 1) parts)) (sym (ap J' new_job ∙ same))
             (subst (λ (r : Part). IsRead r (J V.job) (drop (k + 1) parts)) (sym this)
             (subst (λ (l : List Part). IsRead p (J V.job) l) tail V.read))
+      ];
+      fits = λ k g e h. elim (cases_lt k i) as (λ _. Fits (get_or parts k e) new.lists.items (get_or new.jobs.items k g)) [
+        | inl before ↦
+            let here : k < length old.jobs.items = omega (arith, w.done) in
+            subst (λ (j : jobs.Job). Fits (get_or parts k e) new.lists.items j) (sym (job_before k g here))
+            (kept_fits (get_or parts k e) old.lists.items more new.lists.items (get_or old.jobs.items k g) grown (All-get_or (λ job. IsListed job (length old.lists.items)) old.jobs.items k g here w.listed) (w.fits k g e here))
+        | inr after ↦
+            let now : k ≡ i = omega arith in
+            let this : get_or parts k e ≡ p = ap (λ n. get_or parts n e) now ∙ any_default parts i e d low ∙ at in
+            subst (λ (j : jobs.Job). Fits (get_or parts k e) new.lists.items j) (sym (job_now k g (now ∙ sym w.done)))
+            (subst (λ (r : Part). Fits r new.lists.items V.next) (sym this) V.fits)
       ];
       walking = All-same (IsSound ps vs new.lists.items) new.stack.items (V.rest ++ reverse V.nexts) V.stack
           (All-append (IsSound ps vs new.lists.items) V.rest (reverse V.nexts)
@@ -195,6 +218,14 @@ next_walk parts ps vs i m node d behind old new w V low at left step =
           (turned (IsSound ps vs new.lists.items) V.nexts (V.nexts_are.sound ps vs both.1 V.read.within V.inner_is)));
     }
   where
+    job_before : (k : ℕ) (g : jobs.Job) → k < length old.jobs.items → get_or new.jobs.items k g ≡ get_or old.jobs.items k g
+    job_before k g here = ap (λ (l : List jobs.Job). get_or l k g) V.jobs ∙ get_or_append_left old.jobs.items (V.next ∷ []) g k here
+
+    job_now : (k : ℕ) (g : jobs.Job) → k ≡ length old.jobs.items → get_or new.jobs.items k g ≡ V.next
+    job_now k g e =
+        ap (λ (l : List jobs.Job). get_or l k g) V.jobs ∙ get_or-append_right old.jobs.items (V.next ∷ []) (length old.jobs.items) k g refl (omega arith)
+        ∙ ap (λ n. get_or (V.next ∷ []) n g) (let z : k - length old.jobs.items ≡ 0 = omega arith in z)
+
     any_default : {X : Type 0} (xs : List X) (i : ℕ) (d e : X) → i < length xs → get_or xs i d ≡ get_or xs i e
     any_default [] i d e h = absurd (omega arith)
     any_default (x ∷ xs) zero d e h = refl

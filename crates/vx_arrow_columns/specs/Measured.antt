@@ -1,6 +1,6 @@
 -- What the tests of one node at picks find.
 use Rattle.std.specs.Option.{option_map}
-use Rattle.std.specs.Prelude.{ℕ, ◌+◌, ◌^◌, ◌<◌, ◌≤◌, ◌≡◌, false, List, length, slice_index_or, Option, Some, None, is_some, map, replicate}
+use Rattle.std.specs.Prelude.{ℕ, [], ◌+◌, ◌^◌, ◌<◌, ◌≤◌, ◌≡◌, false, List, length, slice_index_or, Option, Some, None, is_some, map, replicate}
 use Rattle.vx_arrow_image.specs.declared.format.Format.TheVariants.{DenseUnion}
 use Rattle.vx_arrow_image.specs.declared.format.Offsets.{Offsets}
 use Rattle.vx_arrow_columns.specs.declared.needs.Inner.{Inner}
@@ -8,10 +8,23 @@ use Rattle.vx_arrow_columns.specs.declared.needs.Inner.TheVariants as inners
 use Rattle.vx_arrow_columns.specs.declared.dense.Rows as dense
 use Rattle.vx_arrow_columns.specs.declared.needs.Items as items_type
 use Rattle.vx_arrow_columns.specs.declared.needs.Measure as measures
+use Rattle.vx_arrow_columns.specs.declared.places.Places as lists
+use Rattle.vx_arrow_columns.specs.declared.places.Places.TheVariants as variants
 use Rattle.vx_arrow_image.specs.Image.{Part, is_valid, limit_of}
 use Rattle.vx_arrow_columns.specs.Picks.{Picking, all_rows, below, belows, dense_picking, splits, dense_rows, has_bits, picking_of, picks_of, fixed_item, items_len, items_of, values_len, inner}
 use Rattle.vx_arrow_columns.specs.Sound.{AsksBelow, IsSoundAt}
 use Rattle.vx_arrow_columns.specs.Taken.{AreCutAt, AreWithin, IsReadable}
+use Rattle.vx_runs.specs.Runs.{run_places}
+
+-- the places of a child's picks
+abbrev pub list_places : lists.Places → List ℕ
+list_places (variants.Each l) = l.places.items
+list_places (variants.Runs rs) = run_places rs.items
+
+-- and their bits of validity
+abbrev pub list_valid : lists.Places → List ℕ
+list_valid (variants.Each l) = l.valid.items
+list_valid (variants.Runs rs) = []
 
 -- n bytes are the texts at picks, and can be counted
 pub record IsTextLen (z : Offsets) (p : Part) (q : List (Option ℕ)) (n : ℕ) : Type 0 where
@@ -65,7 +78,7 @@ pub record AreShownOf (p : Part) (q : List (Option ℕ)) (j : ℕ) (valid bits :
 
 -- these are the picks of one child, below an end
 pub record IsDenseItem (p : Part) (q : Picking) (j : ℕ) (i : items_type.Items) : Type 0 where
-  pub picks : picking_of i.list.places.items i.list.valid.items 0 ≡ dense_picking p q j
+  pub picks : picking_of (list_places i.list) (list_valid i.list) 0 ≡ dense_picking p q j
   pub within : AreWithin (dense_rows p q.picks j) i.end
   pub reached : (n : ℕ) → AreWithin (dense_rows p q.picks j) n → i.end ≤ n
 
@@ -100,7 +113,7 @@ IsInner p q inners.Same =
     × (p.offset + p.len < 2 ^ 60)
     × (splits p.format ≡ false)
 IsInner p q (inners.Listed items) =
-    AreListed p q items.list.places.items items.list.valid.items items.end
+    AreListed p q (list_places items.list) (list_valid items.list) items.end
 IsInner p q (inners.Split items) =
     (q.kept ≡ false) × (p.format ≡ Some DenseUnion) × AreDenseItems p q p.children items.items
 IsInner p q inners.Kept = belows p q ≡ replicate p.children all_rows
@@ -117,3 +130,9 @@ pub record IsMeasured (p : Part) (q : Picking) (m : measures.Measure) : Type 0 w
   pub values : m.values ≡ values_len p.format p q.picks
   pub children : IsInner p q m.inner
   pub asks : (lens : List ℕ) → IsSoundAt p q.picks lens → AsksBelow p lens m.inner
+
+-- the same at any places, as many as n
+abbrev pub AreMeasured : Part → ℕ → measures.Measure → Type 0
+AreMeasured p n m =
+    (ps vs : List ℕ) → (add : ℕ) → length ps ≡ n → AreWithin (picks_of ps vs add) p.len
+    → IsMeasured p (picking_of ps vs add) m

@@ -1,19 +1,25 @@
 -- Walks over a table, and the plan that they leave.
 use Rattle.std.specs.List.{All}
 use Rattle.std.specs.Prelude.{ℕ, ◌+◌, ◌<◌, ◌≤◌, ◌≡◌, ◌==◌, ⊤, Bool, true, false, zero, suc, List, [], ◌∷◌, ◌++◌, map, take, drop, length, replicate, reverse, slice_index_or, if◌then◌else◌, Option, Some, None}
+use Rattle.vx_arrow_image.specs.declared.format.Format.TheVariants.{Fixed}
 use Rattle.vx_arrow_image.specs.declared.image.Node as image
+use Rattle.vx_arrow_columns.specs.declared.faults.Fault.{Fault}
 use Rattle.vx_arrow_columns.specs.declared.needs.Items as items_type
 use Rattle.vx_arrow_columns.specs.declared.needs.Inner.{Inner}
 use Rattle.vx_arrow_columns.specs.declared.needs.Inner.TheVariants as inners
 use Rattle.vx_arrow_columns.specs.declared.places.Places as places
+use Rattle.vx_arrow_columns.specs.declared.places.Places.TheVariants as variants
+use Rattle.vx_arrow_columns.specs.declared.plan.JobPicks as job_picks
+use Rattle.vx_arrow_columns.specs.declared.plan.JobPicks.TheVariants as kinds
 use Rattle.vx_arrow_columns.specs.declared.plan.Job as job_type
 use Rattle.vx_arrow_columns.specs.declared.plan.Measured as measured
 use Rattle.vx_arrow_columns.specs.declared.plan.Plan as plans
 use Rattle.vx_arrow_columns.specs.declared.plan.Walk as walks
 use Rattle.vx_arrow_image.specs.Image.{Part, part_of, parts_of}
-use Rattle.vx_arrow_columns.specs.Measured.{IsInner}
+use Rattle.vx_arrow_columns.specs.Asked.{the_picking, the_run_picking}
+use Rattle.vx_arrow_columns.specs.Measured.{IsInner, list_places, list_valid}
 use Rattle.vx_arrow_columns.specs.Picks.{Picking, all_rows, belows, picking_of, need_of, needs_of, pickings}
-use Rattle.vx_arrow_columns.specs.Sound.{AsksBelow, IsSoundAt}
+use Rattle.vx_arrow_columns.specs.Sound.{AsksBelow, IsJobFault, IsSoundAt}
 use Rattle.vx_arrow_columns.specs.Taken.{AreInside, AreWithin, IsReadable}
 
 -- how many rows each tree of a table has
@@ -30,10 +36,10 @@ abbrev pub IsListed : job_type.Job → ℕ → Type 0
 IsListed job n = (k : ℕ) → job.list ≡ Some k → k < n
 
 abbrev pub places_in : List places.Places → ℕ → List ℕ
-places_in lists k = slice_index_or (map (λ l. l.places.items) lists) k []
+places_in lists k = slice_index_or (map list_places lists) k []
 
 abbrev pub valid_in : List places.Places → ℕ → List ℕ
-valid_in lists k = slice_index_or (map (λ l. l.valid.items) lists) k []
+valid_in lists k = slice_index_or (map list_valid lists) k []
 
 abbrev pub picking_by : List ℕ → List ℕ → List places.Places → Option ℕ → ℕ → Picking
 picking_by ps vs lists None add = picking_of ps vs add
@@ -43,6 +49,40 @@ picking_by ps vs lists (Some k) add = picking_of (places_in lists k) (valid_in l
 unfoldable pub picking_in : List ℕ → List ℕ → List places.Places → job_type.Job → Picking
 picking_in ps vs lists job =
     if job.kept then all_rows else picking_by ps vs lists job.list job.add
+
+-- whether picks of a child are runs
+abbrev pub are_runs : places.Places → Bool
+are_runs (variants.Each l) = false
+are_runs (variants.Runs rs) = true
+
+-- whether those of a job are
+abbrev pub runs_in : List places.Places → Option ℕ → Bool
+runs_in lists None = false
+runs_in lists (Some k) = slice_index_or (map are_runs lists) k false
+
+-- runs serve a node: its values have a fixed width, and none is null
+abbrev pub IsPlain : Part → Type 0
+IsPlain p = (p.format ≡ Some Fixed) × (p.valid ≡ [])
+
+-- the picks of a job are runs only where these serve the node
+abbrev pub Fits : Part → List places.Places → job_type.Job → Type 0
+Fits p lists job = runs_in lists job.list ≡ true → IsPlain p
+
+-- the picks q, which are runs or not
+abbrev pub ArePicks : Picking → Bool → job_picks.JobPicks → Type 0
+ArePicks q runs kinds.Kept = q ≡ all_rows
+ArePicks q runs (kinds.Runs r) = (the_run_picking r ≡ q) × (runs ≡ true)
+ArePicks q runs (kinds.Each r) = the_picking r ≡ q
+
+-- the job of a node, with the picks that it had
+pub record IsSettled (p : Part) (job : job_type.Job) (old new : List places.Places)
+    (next : job_type.Job) : Type 0 where
+  pub more : List places.Places
+  pub grown : new ≡ old ++ more
+  pub listed : IsListed next (length new)
+  pub picks : (ps vs : List ℕ) → picking_in ps vs new next ≡ picking_in ps vs old job
+  pub end : next.end ≡ job.end
+  pub fits : Fits p new next
 
 -- a job whose list is there, and whose picks are below its end
 pub record IsSound (ps vs : List ℕ) (lists : List places.Places) (job : job_type.Job) : Type 0 where
@@ -73,7 +113,7 @@ pub record IsListedJob (lists : List places.Places) (job : job_type.Job) (i : it
     : Type 0 where
   pub listed : IsListed job (length lists)
   pub picks : (ps vs : List ℕ) → picking_in ps vs lists job
-      ≡ picking_of i.list.places.items i.list.valid.items 0
+      ≡ picking_of (list_places i.list) (list_valid i.list) 0
   pub end : job.end ≡ i.end
 
 -- the jobs `nexts` of a node's children, in order, come from its own, and lists are added at most
@@ -132,6 +172,14 @@ pub record IsJobMeasured (p : Part) (q : Picking) (behind : List Part) (m : meas
   pub asks : (lens : List ℕ) → (q.kept ≡ false → IsSoundAt p q.picks lens)
       → AsksBelow p lens m.inner
 
+-- so they can at runs of places, before any nodes
+abbrev pub IsRunMeasured : Part → Picking → measured.Measured → Type 0
+IsRunMeasured p q m = (behind : List Part) → IsJobMeasured p q behind m
+
+-- they can't, whatever the nodes behind are
+abbrev pub IsRunFault : Part → Picking → ℕ → Fault → Type 0
+IsRunFault p q end e = (lens : List ℕ) → IsJobFault p q lens end e
+
 -- how many rows the first node has
 abbrev pub first_len : List image.Node → ℕ
 first_len [] = 0
@@ -152,13 +200,17 @@ pub record IsStart (end : ℕ) (w : walks.Walk) : Type 0 where
 pub record IsVisited (ps vs : List ℕ) (node : image.Node) (behind : List image.Node)
     (old new : walks.Walk) : Type 0 where
   pub job : job_type.Job
+  pub next : job_type.Job
   pub nexts : List job_type.Job
   pub inside : Inner
   pub rest : List job_type.Job
   pub popped : old.stack.items ≡ rest ++ job ∷ []
   pub few : node.children + length rest ≤ length behind
   pub stack : new.stack.items ≡ rest ++ reverse nexts
-  pub jobs : new.jobs.items ≡ old.jobs.items ++ job ∷ []
+  pub jobs : new.jobs.items ≡ old.jobs.items ++ next ∷ []
+  pub picks : picking_in ps vs new.lists.items next ≡ picking_in ps vs old.lists.items job
+  pub listed : IsListed next (length new.lists.items)
+  pub fits : Fits (part_of node) new.lists.items next
   pub needs : new.needs.items
       ≡ old.needs.items ++ need_of (part_of node) (picking_in ps vs old.lists.items job) ∷ []
   pub nexts_are : AreNexts node job inside old.lists.items new.lists.items nexts
@@ -186,3 +238,5 @@ pub record IsPlanned (parts : List Part) (ps vs : List ℕ) (plan : plans.Plan) 
       → IsRead (slice_index_or parts k e)
       (picking_in ps vs plan.lists.items (slice_index_or plan.jobs.items k d))
       (drop (k + 1) parts)
+  pub fits : (k : ℕ) (d : job_type.Job) (e : Part) → k < length plan.jobs.items
+      → Fits (slice_index_or parts k e) plan.lists.items (slice_index_or plan.jobs.items k d)

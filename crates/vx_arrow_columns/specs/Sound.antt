@@ -11,7 +11,7 @@ use Rattle.vx_arrow_columns.specs.declared.faults.Fault.TheVariants as faults
 use Rattle.vx_arrow_columns.specs.declared.needs.Items as items_type
 use Rattle.vx_arrow_columns.specs.declared.needs.Inner.{Inner}
 use Rattle.vx_arrow_columns.specs.declared.needs.Inner.TheVariants as inners
-use Rattle.vx_arrow_columns.specs.Picks.{Picking, is_counted}
+use Rattle.vx_arrow_columns.specs.Picks.{Picking, is_counted, picks_of}
 use Rattle.vx_arrow_columns.specs.Taken.{AllAt, AreCutAt, Holds}
 
 -- the children, which have so many rows, have those that the rows at picks reach
@@ -68,6 +68,11 @@ IsBelowFault p q lens = IsFault (HoldsBelow p.format p q lens → ⊥) ⊥
 -- the lists of the node's own do not hold them, or they are too many
 abbrev pub IsOwnFault : Part → List (Option ℕ) → Fault → Type 0
 IsOwnFault p q = IsFault (Holds p.format p q → ⊥) (is_counted p q ≡ false)
+
+-- the same at any places, as many as n
+abbrev pub IsCountFault : Part → ℕ → Fault → Type 0
+IsCountFault p n e =
+    (ps vs : List ℕ) → (add : ℕ) → length ps ≡ n → IsOwnFault p (picks_of ps vs add) e
 
 -- the picks of the children are below what these, which have so many rows, have where p is sound
 abbrev pub AsksBelow : Part → List ℕ → Inner → Type 0

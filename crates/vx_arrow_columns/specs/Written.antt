@@ -1,5 +1,5 @@
 -- What is written to the caller's rooms.
-use Rattle.std.specs.Prelude.{◌≡◌, ◌≢◌, ℕ, ◌<◌, Bool, ◌&&◌, true, nat_le, length, List, Some, [], ◌∷◌, if◌then◌else◌}
+use Rattle.std.specs.Prelude.{◌≡◌, ◌≢◌, ℕ, ◌<◌, Bool, ◌&&◌, true, nat_le, length, List, Some, [], ◌∷◌, if◌then◌else◌, slice_index_or}
 use Rattle.vx_arrow_image.specs.declared.format.Format.{Format}
 use Rattle.vx_arrow_image.specs.declared.format.Offsets.{Offsets}
 use Rattle.vx_arrow_image.specs.declared.image.Need as needed
@@ -62,6 +62,19 @@ has_room n r =
     nat_le n.valid (length r.valid.now)
     && (nat_le n.offsets (length r.offsets.now)
     && (nat_le n.values (length r.values.now) && nat_le n.sizes (length r.sizes.now)))
+
+-- each list of a room lies where it lay in the caller's memory
+pub record KeepsLists (old new : rooms.Room) : Type 0 where
+  pub valid : new.valid.ghost_name ≡ old.valid.ghost_name
+  pub offsets : new.offsets.ghost_name ≡ old.offsets.ghost_name
+  pub values : new.values.ghost_name ≡ old.values.ghost_name
+  pub sizes : new.sizes.ghost_name ≡ old.sizes.ghost_name
+
+-- each list of each room does
+pub record KeepLists (old new : List rooms.Room) : Type 0 where
+  pub many : length new ≡ length old
+  pub each : (k : ℕ) (d : rooms.Room)
+      → KeepsLists (slice_index_or old k d) (slice_index_or new k d)
 
 -- validity is written where the rows have some, and what is written besides stands as it was
 pub record HasValid (p : Part) (q : Picking) (old new : rooms.Room) : Type 0 where

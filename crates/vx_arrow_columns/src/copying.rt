@@ -1,13 +1,14 @@
 //! Bytes of one width, copied for each row at picks.
 ghost use Rattle.std.specs.Prelude.{◌≡◌, ◌+◌, ◌*◌, ◌≤◌, length, true};
 ghost use Rattle.vx_arrow_image.specs.Image.{is_placed, part_of, size_of};
-ghost use Rattle.vx_arrow_columns.specs.Asked.{AreRows, the_picks};
+ghost use Rattle.vx_arrow_columns.specs.Asked.{AreRows, the_picks, the_run_picks};
 ghost use Rattle.vx_arrow_columns.specs.Picks.{picks_of};
 ghost use Rattle.vx_arrow_columns.specs.Taken.{AreCopied, AreWithin};
+ghost use Rattle.vx_runs.specs.Runs.{run_places};
 
-use crate::places::{Picks, are_rows, row, row_at};
+use crate::places::{Picks, RunPicks, are_rows, row, row_at};
 use vx_arrow_image::{Node, Offsets};
-use vx_runs::{put_block, put_bytes};
+use vx_runs::{put_block, put_bytes, put_run};
 
 // Writes the bytes of the row at each place, all of which are rows, also under null picks, of a
 // width that is known beforehand. Node and picks are copied, so the loop keeps them in registers.
@@ -81,6 +82,33 @@ pub(crate) fn write_fixed(node: &Node, picks: &Picks, out: &mut [u8])
         16 => write_records::<16>(node.values, node, picks, out),
         32 => write_records::<32>(node.values, node, picks, out),
         _ => write_values(node, picks, out),
+    }
+}
+
+/// Writes the values of the rows at runs of places, of any width. It isn't inlined, so that its loop
+/// has the registers.
+#[inline(never)]
+pub(crate) fn write_runs(node: &Node, picks: &RunPicks, out: &mut [u8])
+    requires placed { is_placed (part_of node.now) ≡ true }
+    requires within { AreWithin (the_run_picks picks.now) node.now.len }
+    requires values { (node.now.offset + node.now.len) * node.now.width
+        ≤ length node.now.values.now }
+    requires room { length (run_places picks.now.runs.now) * node.now.width ≤ length out.old }
+    ensures { AreCopied node.now.width node.now.values.now (part_of node.now)
+        (the_run_picks picks.now) (length (run_places picks.now.runs.now)) out.new }
+{
+    let own = *node;
+    let all = *picks;
+    let width = own.width as usize;
+    let mut at = 0;
+    for k in 0..all.runs.len() {
+        let run = all.runs[k];
+        if run.len != 0 {
+            let from = (own.offset + all.add + run.start) as usize * width;
+            let len = run.len as usize * width;
+            put_run::<32>(out, at, own.values, from, len);
+            at += len;
+        }
     }
 }
 

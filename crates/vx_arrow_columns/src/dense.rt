@@ -8,14 +8,15 @@ ghost use Rattle.vx_arrow_columns.specs.Sound.{IsFault, IsOwnFault};
 ghost use Rattle.vx_arrow_columns.specs.Taken.{AllAt, AreDense, AreWithin};
 
 use crate::faults::Fault;
-use crate::needs::{Inner, Items, Measure, greater};
-use crate::places::{Picks, Places, row};
+use crate::needs::{Inner, Items, Measure};
+use crate::places::{Picks, PlaceList, Places, row};
 use crate::puts::{put_bit, put_offset};
 use crate::unions::{are_tagged, id_at};
 use std::alloc::Global;
 use vx_arrow_image::{
     Format, Lack, Node, Offsets, child_of, holds_ids, holds_starts, ids_lack, is_there, start_of,
 };
+use vx_runs::greater;
 
 /// Places, and an end above them all.
 #[derive(Drop)]
@@ -112,10 +113,10 @@ fn child_items(alloc: Global, node: &Node, picks: &Picks) -> Result<Vec<Items>, 
         let rows = child_places(alloc, node, picks, j)?;
         let valid = child_valid(alloc, node, picks, j)?;
         all.push(Items {
-            list: Places {
+            list: Places::Each(PlaceList {
                 places: rows.places,
                 valid,
-            },
+            }),
             end: rows.end,
         })?;
     }

@@ -8,7 +8,7 @@ ghost use Rattle.vx_arrow_columns.specs.Sound.{IsFault};
 ghost use Rattle.vx_arrow_columns.specs.Taken.{AreWithin};
 
 use crate::faults::Fault;
-use crate::places::{Picks, Places};
+use crate::places::{Picks, PlaceList};
 use crate::puts::put_bit;
 use std::alloc::Global;
 use vx_arrow_image::{Node, is_there};
@@ -73,7 +73,7 @@ pub(crate) fn fixed_items(
     node: &Node,
     picks: &Picks,
     count: usize,
-) -> Result<Places, Fault>
+) -> Result<PlaceList, Fault>
     requires count { count ≡ length picks.now.places.now * node.now.width }
     requires within { AreWithin (the_picks picks.now) node.now.len }
     requires end { (node.now.offset + node.now.len) * node.now.width < 2 ^ 60 }
@@ -85,5 +85,5 @@ pub(crate) fn fixed_items(
 {
     let places = item_places(alloc, node, picks, count)?;
     let valid = item_valid(alloc, picks.valid, node.width as usize, count)?;
-    Ok(Places { places, valid })
+    Ok(PlaceList { places, valid })
 }

@@ -1,18 +1,18 @@
 //! What the rows of one node at picks need, by its format.
-ghost use Rattle.std.specs.Prelude.{◌≡◌, IfErr, IfOk, OnOk};
-ghost use Rattle.vx_arrow_image.specs.Image.{part_of, parts_of};
+ghost use Rattle.std.specs.Prelude.{◌≡◌, ◌<◌, ◌^◌, IfErr, IfOk, OnOk, Some, true};
+ghost use Rattle.vx_arrow_image.specs.Image.{format_in, is_placed, part_of, parts_of};
 ghost use Rattle.vx_arrow_columns.specs.Asked.{IsAsked, the_picking, the_picks};
-ghost use Rattle.vx_arrow_columns.specs.Measured.{IsLeaf, IsMeasured};
+ghost use Rattle.vx_arrow_columns.specs.Measured.{AreMeasured, IsLeaf, IsMeasured};
 ghost use Rattle.vx_arrow_columns.specs.Planned.{child_lens};
-ghost use Rattle.vx_arrow_columns.specs.Sound.{IsAskedFault, IsFault, IsNodeFault, IsOwnFault};
+ghost use Rattle.vx_arrow_columns.specs.Sound.{IsAskedFault, IsCountFault, IsFault, IsNodeFault, IsOwnFault};
 ghost use Rattle.vx_arrow_columns.specs.Taken.{AreInside, AreWithin};
 
 use crate::dense::measure_dense;
 use crate::faults::Fault;
 use crate::fixed_lists::fixed_items;
 use crate::kept::{first_len, test_inside};
-use crate::needs::{Inner, Items, Measure, list_items, tested, text_len};
-use crate::places::Picks;
+use crate::needs::{Inner, Items, Measure, is_plain, list_places, list_runs, tested, text_len};
+use crate::places::{Picks, Places};
 use crate::unions::measure_union;
 use std::alloc::Global;
 use vx_arrow_image::{Format, Lack, Node, Offsets, holds_starts};
@@ -53,11 +53,13 @@ fn measure_bits(node: &Node, picks: &Picks) -> Result<Measure, Fault>
     leaf(node, values)
 }
 
-// Of values of a fixed width.
-fn measure_fixed(node: &Node, picks: &Picks) -> Result<Measure, Fault>
-    requires { IsAsked Format.Fixed node.now picks.now }
-    ensures measured { IfOk result (IsMeasured (part_of node.now) (the_picking picks.now)) }
-    ensures fault { IfErr result (IsOwnFault (part_of node.now) (the_picks picks.now)) }
+/// Of values of a fixed width, at so many picks.
+pub(crate) fn measure_fixed(node: &Node, count: u64) -> Result<Measure, Fault>
+    requires format { format_in node.now.format ≡ Some Format.Fixed }
+    requires few { count < 2 ^ 60 }
+    requires placed { is_placed (part_of node.now) ≡ true }
+    ensures measured { IfOk result (AreMeasured (part_of node.now) count) }
+    ensures fault { IfErr result (IsCountFault (part_of node.now) count) }
 {
     let Some(held) = (node.offset + node.len).checked_mul(node.width) else {
         return Err(Fault::Lacks(Lack::Values));
@@ -65,7 +67,7 @@ fn measure_fixed(node: &Node, picks: &Picks) -> Result<Measure, Fault>
     if held > node.values.len() as u64 {
         return Err(Fault::Lacks(Lack::Values));
     }
-    let Some(values) = (picks.places.len() as u64).checked_mul(node.width) else {
+    let Some(values) = count.checked_mul(node.width) else {
         return Err(Fault::Overflow);
     };
     if values >= 1 << 63 {
@@ -100,7 +102,12 @@ fn measure_list(
     if node.children != 1 {
         return Err(Fault::Lacks(Lack::Children));
     }
-    let items = list_items(alloc, size, node, picks, first_len(behind))?;
+    let count = first_len(behind);
+    let items = if behind.len() > 0 && is_plain(&behind[0]) {
+        list_runs(alloc, size, node, picks, count)?
+    } else {
+        list_places(alloc, size, node, picks, count)?
+    };
     Ok(Measure {
         values: 0,
         inner: Inner::Listed(items),
@@ -140,7 +147,10 @@ fn measure_fixed_list(
     let list = fixed_items(alloc, node, picks, count as usize)?;
     Ok(Measure {
         values: 0,
-        inner: Inner::Listed(Items { list, end }),
+        inner: Inner::Listed(Items {
+            list: Places::Each(list),
+            end,
+        }),
     })
 }
 
@@ -201,7 +211,7 @@ fn measure_format(
     match format {
         Format::Nulls => measure_nulls(node, picks),
         Format::Bits => measure_bits(node, picks),
-        Format::Fixed => measure_fixed(node, picks),
+        Format::Fixed => measure_fixed(node, picks.places.len() as u64),
         Format::Text(size) => measure_text(size, node, picks),
         Format::Struct => Ok(Measure {
             values: 0,

@@ -1,21 +1,22 @@
 //! What the rows of one node at picks need.
-ghost use Rattle.std.specs.Prelude.{◌≡◌, ◌+◌, ◌-◌, ◌<◌, ◌≤◌, ◌++◌, ℕ, IfErr, IfOk, OnOk, Some, [], false, length, true};
-ghost use Rattle.std.specs.List.{range_with_len};
+ghost use Rattle.std.specs.Prelude.{◌≡◌, ◌+◌, ◌<◌, ◌≤◌, IfErr, IfOk, OnOk, Some, [], false, length, true};
 ghost use Rattle.vx_arrow_image.specs.Image.{format_in, holds_offsets, is_cut, is_placed, limit_of, offset_at, part_of};
 ghost use Rattle.vx_arrow_columns.specs.Asked.{IsAsked, the_picking, the_picks};
-ghost use Rattle.vx_arrow_columns.specs.Measured.{AreItems, IsTextLen};
+ghost use Rattle.vx_arrow_columns.specs.Measured.{AreItems, IsTextLen, list_places, list_valid};
 ghost use Rattle.vx_arrow_columns.specs.Picks.{items_len, shows_valid};
+ghost use Rattle.vx_arrow_columns.specs.Planned.{IsPlain};
 ghost use Rattle.vx_arrow_columns.specs.Sound.{IsFault, IsTestFault};
 ghost use Rattle.vx_arrow_columns.specs.Taken.{AreCutAt};
 
 use crate::faults::Fault;
-use crate::places::{Picks, Places, place};
+use crate::places::{Picks, PlaceList, Places, place};
 use std::alloc::Global;
 use vx_arrow_image::{
     Cut, Format, Lack, Node, Offsets, cut_at, format_of, holds_offsets, holds_valid,
 };
+use vx_runs::{Run, greater, push_range};
 
-/// The places of the items of lists, all below `end`.
+/// The picks of a child, all below `end`.
 #[derive(Drop)]
 pub(crate) struct Items {
     pub(crate) list: Places,
@@ -51,6 +52,16 @@ pub(crate) fn shows_valid(node: &Node, picks: &Picks) -> bool
     match format_of(node.format) {
         Some(Format::Nulls | Format::Union | Format::DenseUnion) => false,
         _ => !node.valid.is_empty() || !picks.valid.is_empty(),
+    }
+}
+
+/// Whether runs serve a node: its values have a fixed width, and none is null.
+pub(crate) fn is_plain(node: &Node) -> bool
+    ensures { result ≡ true → IsPlain (part_of node.now) }
+{
+    match format_of(node.format) {
+        Some(Format::Fixed) => node.valid.is_empty(),
+        _ => false,
     }
 }
 
@@ -104,7 +115,9 @@ fn tested_cut(size: Offsets, node: &Node, i: usize, count: u64) -> Result<Cut, F
     Ok(cut)
 }
 
-/// How many bytes the texts at the picks have together.
+/// How many bytes the texts at the picks have together. It isn't inlined, so that its loop has the
+/// registers.
+#[inline(never)]
 pub(crate) fn text_len(size: Offsets, node: &Node, picks: &Picks) -> Result<u64, Fault>
     requires { IsAsked (Format.Text size) node.now picks.now }
     ensures len { IfOk result (IsTextLen size (part_of node.now) (the_picks picks.now)) }
@@ -128,33 +141,10 @@ pub(crate) fn text_len(size: Offsets, node: &Node, picks: &Picks) -> Result<u64,
     Ok(total)
 }
 
-// Pushes the places from `start` to `end`.
-fn push_range(places: &mut Vec<u64>, start: u64, end: u64) -> Result<(), Fault>
-    requires { start ≤ end }
-    ensures pushed { OnOk result
-        (places.new.items ≡ places.old.items ++ range_with_len start (end - start)) }
-    ensures fault { IfErr result (IsFault ⊥ ⊥) }
-{
-    if places.reserve((end - start) as usize).is_err() {
-        return Err(Fault::NoMemory);
-    }
-    for place in start..end {
-        places.push_reserved(place);
-    }
-    Ok(())
-}
-
-/// The greater of two numbers.
-pub(crate) fn greater(a: u64, b: u64) -> u64
-    ensures first { a ≤ result }
-    ensures second { b ≤ result }
-    ensures least { (n : ℕ) → a ≤ n → b ≤ n → result ≤ n }
-{
-    if a < b { b } else { a }
-}
-
-/// The places of the items of the lists at the picks.
-pub(crate) fn list_items(
+/// The places of the items of the lists at the picks, as a run for each list that is there. It
+/// isn't inlined either.
+#[inline(never)]
+pub(crate) fn list_runs(
     alloc: Global,
     size: Offsets,
     node: &Node,
@@ -163,8 +153,56 @@ pub(crate) fn list_items(
 ) -> Result<Items, Fault>
     requires { IsAsked (Format.List size) node.now picks.now }
     ensures items { IfOk result (λ items. AreItems size (part_of node.now) (the_picks picks.now)
-        items.list.places.items items.end) }
-    ensures there { IfOk result (λ items. items.list.valid.items ≡ []) }
+        (list_places items.list) items.end) }
+    ensures there { IfOk result (λ items. list_valid items.list ≡ []) }
+    ensures fault { IfErr result (IsFault
+        (AreCutAt size (part_of node.now) (the_picks picks.now) items → ⊥)
+        (limit_of size ≤ items_len size (part_of node.now) (the_picks picks.now))) }
+{
+    let own = *node;
+    let all = *picks;
+    if !holds_offsets(size, node) {
+        return Err(Fault::Lacks(Lack::Offsets));
+    }
+    let Ok(mut runs) = Vec::with_capacity(alloc, all.places.len()) else {
+        return Err(Fault::NoMemory);
+    };
+    let mut last = 0;
+    let mut total = 0;
+    for k in 0..all.places.len() {
+        if let Some(i) = place(&own, &all, k) {
+            let cut = tested_cut(size, &own, i, items)?;
+            let len = cut.end - cut.start;
+            total += len;
+            if total >= size.limit() {
+                return Err(Fault::Overflow);
+            }
+            runs.push_reserved(Run {
+                start: cut.start,
+                len,
+            });
+            last = greater(last, cut.end);
+        }
+    }
+    Ok(Items {
+        list: Places::Runs(runs),
+        end: last,
+    })
+}
+
+/// The places of the items of the lists at the picks, one by one. It isn't inlined either.
+#[inline(never)]
+pub(crate) fn list_places(
+    alloc: Global,
+    size: Offsets,
+    node: &Node,
+    picks: &Picks,
+    items: u64,
+) -> Result<Items, Fault>
+    requires { IsAsked (Format.List size) node.now picks.now }
+    ensures items { IfOk result (λ items. AreItems size (part_of node.now) (the_picks picks.now)
+        (list_places items.list) items.end) }
+    ensures there { IfOk result (λ items. list_valid items.list ≡ []) }
     ensures fault { IfErr result (IsFault
         (AreCutAt size (part_of node.now) (the_picks picks.now) items → ⊥)
         (limit_of size ≤ items_len size (part_of node.now) (the_picks picks.now))) }
@@ -184,15 +222,15 @@ pub(crate) fn list_items(
             if total >= size.limit() {
                 return Err(Fault::Overflow);
             }
-            push_range(&mut places, cut.start, cut.end)?;
+            if push_range(&mut places, cut.start, cut.end).is_err() {
+                return Err(Fault::NoMemory);
+            }
             last = greater(last, cut.end);
         }
     }
+    let valid = Vec::new(alloc);
     Ok(Items {
-        list: Places {
-            places,
-            valid: Vec::new(alloc),
-        },
+        list: Places::Each(PlaceList { places, valid }),
         end: last,
     })
 }

@@ -1,6 +1,5 @@
 //! Places of rows.
-ghost use Rattle.std.specs.Prelude.{◌≡◌, ◌+◌, ◌<◌, ◌≤◌, ℕ, IfSome, length, nat_lt, slice_index, true, false};
-ghost use Rattle.std.specs.List.{list_all};
+ghost use Rattle.std.specs.Prelude.{◌≡◌, ◌+◌, ◌<◌, ◌≤◌, ℕ, IfSome, length, slice_index, true, false};
 ghost use Rattle.std.specs.Option.{option_map};
 ghost use Rattle.vx_arrow_image.specs.Image.{is_placed, part_of};
 ghost use Rattle.vx_arrow_columns.specs.Asked.{the_picks};
@@ -8,6 +7,7 @@ ghost use Rattle.vx_arrow_columns.specs.Picks.{pick_at, picks_of, place_of};
 ghost use Rattle.vx_arrow_columns.specs.Taken.{AreFull, AreWithin};
 
 use vx_arrow_image::{Node, is_there};
+use vx_runs::{Run, are_all_below};
 
 /// Picks of a column's rows: places, each `add` further on, and a bit for each, clear at a null
 /// one; without bits none is null.
@@ -20,9 +20,25 @@ pub(crate) struct Picks<'a> {
 
 /// Such lists of the crate's own.
 #[derive(Drop)]
-pub(crate) struct Places {
+pub(crate) struct PlaceList {
     pub(crate) places: Vec<u64>,
     pub(crate) valid: Vec<u8>,
+}
+
+/// The picks of a child.
+#[derive(Drop)]
+pub(crate) enum Places {
+    // Each place, with bits of validity.
+    Each(PlaceList),
+    // Runs of places; none is null.
+    Runs(Vec<Run>),
+}
+
+/// Runs of places, each `add` further on; none is null.
+#[derive(Clone, Copy)]
+pub(crate) struct RunPicks<'a> {
+    pub(crate) runs: &'a [Run],
+    pub(crate) add: u64,
 }
 
 /// Where the row of pick `k` stands, if the pick is there.
@@ -105,18 +121,7 @@ pub(crate) fn are_within(picks: &Picks, len: u64) -> bool
     are_below_or_null(picks, len)
 }
 
-// Whether all places are below the length: each is looked at, so that no branch waits for one.
-fn are_all_below(places: &[u64], len: u64) -> bool
-    ensures { result ≡ list_all (λ p. nat_lt p len) places.now }
-{
-    let mut are_below = true;
-    for place in places {
-        are_below = are_below & (*place < len);
-    }
-    are_below
-}
-
-// The same of picks with a bit each, or further on.
+// Whether each pick is null or below the length, where they have a bit each, or are further on.
 fn are_below_or_null(picks: &Picks, len: u64) -> bool
     ensures within { result ≡ true → AreWithin (the_picks picks.now) len }
     ensures beyond { result ≡ false → AreWithin (the_picks picks.now) len → ⊥ }

@@ -1,21 +1,22 @@
 //! Which rows of each node are taken, and what they need.
-ghost use Rattle.std.specs.Prelude.{◌≡◌, ◌+◌, ◌*◌, ◌^◌, ◌<◌, ◌≤◌, ◌∷◌, [], ◌++◌, IfErr, IfOk, OnOk, false, length, replicate, true};
+ghost use Rattle.std.specs.Prelude.{◌≡◌, ◌+◌, ◌*◌, ◌^◌, ◌<◌, ◌≤◌, ◌∷◌, [], ◌++◌, IfErr, IfOk, OnOk, false, length, true};
 ghost use Rattle.vx_arrow_columns.specs.Answer.{IsPlanRefusal, IsUnmeant};
 ghost use Rattle.vx_arrow_image.specs.Image.{column_in, format_in, part_of, parts_of};
-ghost use Rattle.vx_arrow_columns.specs.Asked.{the_picking, the_picks};
+ghost use Rattle.vx_arrow_columns.specs.Asked.{the_picking, the_picks, the_run_picking, the_run_picks};
 ghost use Rattle.vx_arrow_columns.specs.Picks.{is_union, offsets_len, own_need, picking_of, picks_of, sizes_len, values_len};
-ghost use Rattle.vx_arrow_columns.specs.Planned.{AreSplitJobs, HasEach, IsJobMeasured, IsListed, IsListedJob, IsPlanned, IsPushed, IsStart, IsVisited, IsWalking, child_lens, first_len, picking_in};
+ghost use Rattle.vx_arrow_columns.specs.Planned.{ArePicks, AreSplitJobs, Fits, HasEach, IsJobMeasured, IsListed, IsListedJob, IsPlain, IsPlanned, IsPushed, IsRunFault, IsRunMeasured, IsSettled, IsStart, IsVisited, IsWalking, child_lens, first_len, picking_in, runs_in};
 ghost use Rattle.vx_arrow_columns.specs.Reached.{IsVisitFault};
 ghost use Rattle.vx_arrow_columns.specs.Sound.{IsFault, IsJobFault};
 ghost use Rattle.vx_arrow_columns.specs.Taken.{AreFull, AreWithin};
 
 use crate::faults::Fault;
-use crate::measuring::measure_node;
-use crate::needs::{Inner, Items, shows_valid};
-use crate::places::{Picks, Places, are_full, are_within};
+use crate::measuring::{measure_fixed, measure_node};
+use crate::needs::{Inner, Items, is_plain, shows_valid, tested};
+use crate::places::{Picks, PlaceList, Places, RunPicks, are_full, are_within};
 use crate::unions::is_union;
 use std::alloc::Global;
 use vx_arrow_image::{Format, Lack, Need, Node, Refusal, format_of};
+use vx_runs::{places_of, run_len};
 
 /// The picks of a node: the caller's or a list of places, each `add` further on, all below `end`.
 /// None of them where it is kept.
@@ -35,6 +36,16 @@ pub(crate) struct Plan {
     pub(crate) needs: Vec<Need>,
 }
 
+/// The picks of a job.
+pub(crate) enum JobPicks<'a> {
+    // None: the node is kept.
+    Kept,
+    // Those of runs.
+    Runs(RunPicks<'a>),
+    // These.
+    Each(Picks<'a>),
+}
+
 /// The picks of a job, where these are the caller's.
 #[inline(always)]
 pub(crate) fn picks_for<'a>(
@@ -42,26 +53,28 @@ pub(crate) fn picks_for<'a>(
     valid: &'a [u8],
     lists: &'a [Places],
     job: Job,
-) -> Picks<'a>
+) -> JobPicks<'a>
     requires listed { IsListed job (length lists.now) }
-    requires picked { job.kept ≡ false }
-    ensures { picking_of result.places.now result.valid.now result.add
-        ≡ picking_in places.now valid.now lists.now job }
+    ensures { ArePicks (picking_in places.now valid.now lists.now job)
+        (runs_in lists.now job.list) result }
 {
-    match job.list {
-        None => Picks {
+    if job.kept {
+        return JobPicks::Kept;
+    }
+    let Some(k) = job.list else {
+        return JobPicks::Each(Picks {
             places,
             valid,
             add: job.add,
-        },
-        Some(k) => {
-            let list = &lists[k];
-            Picks {
-                places: &list.places,
-                valid: &list.valid,
-                add: job.add,
-            }
-        }
+        });
+    };
+    match &lists[k] {
+        Places::Each(list) => JobPicks::Each(Picks {
+            places: &list.places,
+            valid: &list.valid,
+            add: job.add,
+        }),
+        Places::Runs(runs) => JobPicks::Runs(RunPicks { runs, add: job.add }),
     }
 }
 
@@ -120,6 +133,34 @@ struct Measured {
     inner: Inner,
 }
 
+// What rows of a fixed width without nulls need at runs of places, all below `end`.
+fn measure_runs(node: &Node, picks: &RunPicks, end: u64) -> Result<Measured, Fault>
+    requires plain { IsPlain (part_of node.now) }
+    requires within { AreWithin (the_run_picks picks.now) end }
+    ensures measured { IfOk result (IsRunMeasured (part_of node.now)
+        (the_run_picking picks.now)) }
+    ensures fault { IfErr result (IsRunFault (part_of node.now) (the_run_picking picks.now) end) }
+{
+    let _format = tested(node, end)?;
+    let Some(len) = run_len(picks.runs) else {
+        return Err(Fault::Overflow);
+    };
+    if len >= 1 << 60 {
+        return Err(Fault::Overflow);
+    }
+    let measure = measure_fixed(node, len)?;
+    Ok(Measured {
+        need: Need {
+            len,
+            valid: 0,
+            offsets: 0,
+            values: measure.values,
+            sizes: 0,
+        },
+        inner: measure.inner,
+    })
+}
+
 // Tests what a node's rows at the picks of a job touch, before these nodes, and says what they
 // need.
 fn measure_job<'a>(
@@ -133,14 +174,15 @@ fn measure_job<'a>(
 ) -> Result<Measured, Fault>
     requires listed { IsListed job (length lists.now) }
     requires within { AreWithin (picking_in places.now valid.now lists.now job).picks job.end }
+    requires fits { Fits (part_of node.now) lists.now job }
     ensures measured { IfOk result (IsJobMeasured (part_of node.now)
         (picking_in places.now valid.now lists.now job) (parts_of behind.now)) }
     ensures fault { IfErr result (IsJobFault (part_of node.now)
         (picking_in places.now valid.now lists.now job)
         (child_lens (part_of node.now) (parts_of behind.now)) job.end) }
 {
-    if job.kept {
-        return Ok(Measured {
+    match picks_for(places, valid, lists, job) {
+        JobPicks::Kept => Ok(Measured {
             need: Need {
                 len: node.len,
                 valid: 0,
@@ -149,13 +191,48 @@ fn measure_job<'a>(
                 sizes: 0,
             },
             inner: Inner::Kept,
-        });
+        }),
+        JobPicks::Runs(runs) => measure_runs(node, &runs, job.end),
+        JobPicks::Each(picks) => {
+            let measure = measure_node(alloc, node, &picks, job.end, behind)?;
+            Ok(Measured {
+                need: need_for(node, &picks, measure.values),
+                inner: measure.inner,
+            })
+        }
     }
-    let picks = picks_for(places, valid, lists, job);
-    let measure = measure_node(alloc, node, &picks, job.end, behind)?;
-    Ok(Measured {
-        need: need_for(node, &picks, measure.values),
-        inner: measure.inner,
+}
+
+// The job of a node. Runs become places where they don't serve it. Lists plan runs only where they
+// do, so this test stands for a proof about the whole walk.
+fn settled(alloc: Global, lists: &mut Vec<Places>, node: &Node, job: Job) -> Result<Job, Fault>
+    requires { IsListed job (length lists.old.items) }
+    ensures settled { IfOk result
+        (IsSettled (part_of node.now) job lists.old.items lists.new.items) }
+    ensures fault { IfErr result (IsFault ⊥ ⊥) }
+{
+    if is_plain(node) {
+        return Ok(job);
+    }
+    let Some(k) = job.list else {
+        return Ok(job);
+    };
+    let Places::Runs(runs) = &lists[k] else {
+        return Ok(job);
+    };
+    let Some(places) = places_of(alloc, runs) else {
+        return Err(Fault::NoMemory);
+    };
+    let last = lists.len();
+    lists.push(Places::Each(PlaceList {
+        places,
+        valid: Vec::new(alloc),
+    }))?;
+    Ok(Job {
+        list: Some(last),
+        add: job.add,
+        end: job.end,
+        kept: job.kept,
     })
 }
 
@@ -202,7 +279,8 @@ fn push_inner(
     job: Job,
     inner: Inner,
 ) -> Result<(), Fault>
-    requires { HasEach inner node.now.children }
+    requires each { HasEach inner node.now.children }
+    requires few { length stack.old.items + node.now.children < 2 ^ 64 }
     ensures pushed { OnOk result (IsPushed node.now job inner lists.old.items lists.new.items
         stack.old.items stack.new.items) }
     ensures fault { IfErr result (IsFault ⊥ ⊥) }
@@ -224,7 +302,11 @@ fn push_inner(
         Inner::Listed(items) => listed_job(lists, items)?,
         Inner::Split(items) => return push_splits(stack, lists, items),
     };
-    push_times(stack, next, node.children)
+    let len = stack.len() + node.children as usize;
+    if stack.resize(len, next).is_err() {
+        return Err(Fault::NoMemory);
+    }
+    Ok(())
 }
 
 // A walk over a table: the nodes that were seen, and the jobs of those to come, the next one last.
@@ -234,17 +316,6 @@ struct Walk {
     lists: Vec<Places>,
     needs: Vec<Need>,
     stack: Vec<Job>,
-}
-
-// Pushes a job so many times.
-fn push_times(stack: &mut Vec<Job>, job: Job, times: u64) -> Result<(), Fault>
-    ensures pushed { OnOk result (stack.new.items ≡ stack.old.items ++ replicate times job) }
-    ensures fault { IfErr result (IsFault ⊥ ⊥) }
-{
-    for pushed in 0..times {
-        stack.push(job)?;
-    }
-    Ok(())
 }
 
 impl Walk {
@@ -283,13 +354,14 @@ impl Walk {
         ensures fault { IfErr result
             (IsVisitFault places.now valid.now node.now behind.now self.old) }
     {
-        let Some(job) = self.stack.pop() else {
+        let Some(popped) = self.stack.pop() else {
             return Err(Fault::Lacks(Lack::Tree));
         };
         let left = self.stack.len();
         if left > behind.len() || node.children > (behind.len() - left) as u64 {
             return Err(Fault::Lacks(Lack::Tree));
         }
+        let job = settled(alloc, &mut self.lists, node, popped)?;
         let measure = measure_job(alloc, places, valid, &self.lists, node, job, behind)?;
         self.jobs.push(job)?;
         self.needs.push(measure.need)?;

@@ -3,13 +3,13 @@ ghost use Rattle.std.specs.Prelude.{◌≡◌, IfErr, IfNone, IfSome, OnErr, OnO
 ghost use Rattle.vx_arrow_columns.specs.Answer.{AreKeptSound, AreTaken, HaveRoom, IsNeedRefusal, IsRefusal, IsShort, IsUnmeant, MeansPicked};
 ghost use Rattle.vx_arrow_image.specs.Image.{column_in, part_of, parts_of};
 ghost use Rattle.vx_arrow_columns.specs.Picks.{need_of, needs_of, picking_of};
-ghost use Rattle.vx_arrow_columns.specs.Planned.{IsListed, IsPlanned, picking_in};
-ghost use Rattle.vx_arrow_columns.specs.Written.{IsRoomTaken, has_room, written};
+ghost use Rattle.vx_arrow_columns.specs.Planned.{Fits, IsListed, IsPlanned, picking_in};
+ghost use Rattle.vx_arrow_columns.specs.Written.{IsRoomTaken, KeepLists, KeepsLists, has_room, written};
 ghost use Rattle.vx_arrow_columns.specs.Taken.{IsReadable};
 
 use crate::places::Places;
-use crate::plan::{Job, Plan, picks_for, plan_of};
-use crate::writing::write_node;
+use crate::plan::{Job, JobPicks, Plan, picks_for, plan_of};
+use crate::writing::{write_node, write_plain};
 use std::alloc::Global;
 use vx_arrow_image::{Need, Node, Refusal, Room};
 
@@ -75,18 +75,20 @@ fn write_job<'a>(
     room: &mut Room,
 )
     requires listed { IsListed job (length lists.now) }
+    requires fits { Fits (part_of node.now) lists.now job }
     requires readable { (picking_in places.now valid.now lists.now job).kept ≡ false
         → IsReadable (part_of node.now) (picking_in places.now valid.now lists.now job).picks }
     requires room { has_room (need_of (part_of node.now)
         (picking_in places.now valid.now lists.now job)) room.old ≡ true }
-    ensures { IsRoomTaken (part_of node.now)
+    ensures taken { IsRoomTaken (part_of node.now)
         (picking_in places.now valid.now lists.now job) room.new }
+    ensures lists { KeepsLists room.old room.new }
 {
-    if job.kept {
-        return;
+    match picks_for(places, valid, lists, job) {
+        JobPicks::Kept => {}
+        JobPicks::Runs(runs) => write_plain(node, &runs, room),
+        JobPicks::Each(picks) => write_node(node, &picks, room),
     }
-    let own = picks_for(places, valid, lists, job);
-    write_node(node, &own, room);
 }
 
 // Writes the rows of each node.
@@ -100,7 +102,8 @@ fn write_all<'a>(
     requires planned { IsPlanned (parts_of nodes.now) places.now valid.now plan.now }
     requires rooms { length rooms.old ≡ length nodes.now }
     requires room { HaveRoom plan.now.needs.items rooms.old }
-    ensures { AreTaken (parts_of nodes.now) (picking_of places.now valid.now 0) rooms.new }
+    ensures taken { AreTaken (parts_of nodes.now) (picking_of places.now valid.now 0) rooms.new }
+    ensures lists { KeepLists rooms.old rooms.new }
 {
     for i in 0..nodes.len() {
         write_job(
@@ -136,6 +139,7 @@ pub fn take(
     ensures sound { OnOk result (AreKeptSound (parts_of nodes.now)
         (picking_of places.now valid.now 0) → IsSome (column_in
         (written (parts_of nodes.now) (picking_of places.now valid.now 0) rooms.new))) }
+    ensures lists { KeepLists rooms.old rooms.new }
     ensures refused { IfErr result (IsRefusal (parts_of nodes.now)
         (picking_of places.now valid.now 0) rooms.old) }
     ensures meant { IfErr result (IsUnmeant (column_in (parts_of nodes.now))) }

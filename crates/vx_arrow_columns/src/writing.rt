@@ -1,15 +1,16 @@
 //! The rows of one node at picks, written.
 ghost use Rattle.std.specs.Prelude.{◌≡◌, ◌+◌, ◌*◌, ◌^◌, ◌<◌, ◌≤◌, ◌/◌, ◌++◌, Some, [], is_some, length, take, true};
 ghost use Rattle.vx_arrow_image.specs.Image.{format_in, holds_offsets, is_placed, limit_of, part_of, size_of};
-ghost use Rattle.vx_arrow_columns.specs.Asked.{the_picking, the_picks};
+ghost use Rattle.vx_arrow_columns.specs.Asked.{the_picking, the_picks, the_run_picking, the_run_picks};
 ghost use Rattle.vx_arrow_columns.specs.Picks.{items_len, need_of, pick_at, picking_of, picks_of, place_of};
+ghost use Rattle.vx_arrow_columns.specs.Planned.{IsPlain};
 ghost use Rattle.vx_arrow_columns.specs.Taken.{AreBits, AreCutAt, AreOffsets, AreOrdered, AreWithin, IsByteOf, IsNullable, IsReadable, ShowsRows, bit_in, texts_of};
-ghost use Rattle.vx_arrow_columns.specs.Written.{HasValid, IsNodeTaken, IsRoomTaken, IsRoomed, IsViewNodeTaken, has_room};
+ghost use Rattle.vx_arrow_columns.specs.Written.{HasValid, IsNodeTaken, IsRoomTaken, IsRoomed, IsViewNodeTaken, KeepsLists, has_room};
 
-use crate::copying::{write_fixed, write_numbers, write_records};
+use crate::copying::{write_fixed, write_numbers, write_records, write_runs};
 use crate::dense::write_starts;
 use crate::needs::shows_valid;
-use crate::places::{Picks, place};
+use crate::places::{Picks, RunPicks, place};
 use crate::puts::put_offset;
 use crate::unions::write_ids;
 use vx_arrow_image::{Format, Node, Offsets, Room, bit_is, cut_at, format_of};
@@ -52,22 +53,7 @@ fn write_valid(node: &Node, picks: &Picks, out: &mut [u8])
     out[full] = valid_byte(&own, &all, 8 * full, count % 8);
 }
 
-// The bit of the row at pick `k`; a clear one where it isn't there.
-#[inline(always)]
-fn bit_at(node: &Node, picks: &Picks, k: usize) -> bool
-    requires index { k < length picks.now.places.now }
-    requires placed { is_placed (part_of node.now) ≡ true }
-    requires within { AreWithin (the_picks picks.now) node.now.len }
-    ensures { result ≡ bit_in node.now.values.now (place_of (part_of node.now)
-        (pick_at picks.now.places.now picks.now.valid.now picks.now.add k)) }
-{
-    match place(node, picks, k) {
-        Some(i) => bit_is(node.values, i),
-        None => false,
-    }
-}
-
-// The bits of so many rows at picks from pick `first` on.
+// The bits of so many rows at picks from pick `first` on; a clear one where a row isn't there.
 #[inline(always)]
 fn bits_byte(node: &Node, picks: &Picks, first: usize, count: usize) -> u8
     requires placed { is_placed (part_of node.now) ≡ true }
@@ -79,7 +65,11 @@ fn bits_byte(node: &Node, picks: &Picks, first: usize, count: usize) -> u8
 {
     let mut byte = 0;
     for j in 0..count {
-        byte = with_bit(byte, j, bit_at(node, picks, first + j));
+        let bit = match place(node, picks, first + j) {
+            Some(i) => bit_is(node.values, i),
+            None => false,
+        };
+        byte = with_bit(byte, j, bit);
     }
     byte
 }
@@ -128,7 +118,9 @@ fn write_offsets(size: Offsets, node: &Node, picks: &Picks, out: &mut [u8])
     }
 }
 
-// Writes the bytes of the texts of all rows, one behind another.
+// Writes the bytes of the texts of all rows, one behind another. It isn't inlined, so that its loop
+// has the registers.
+#[inline(never)]
 fn write_texts(size: Offsets, node: &Node, picks: &Picks, out: &mut [u8])
     requires placed { is_placed (part_of node.now) ≡ true }
     requires within { AreWithin (the_picks picks.now) node.now.len }
@@ -158,7 +150,8 @@ fn write_valid_of(node: &Node, picks: &Picks, room: &mut Room)
     requires within { AreWithin (the_picks picks.now) node.now.len }
     requires nullable { IsNullable (format_in node.now.format) }
     requires room { has_room (need_of (part_of node.now) (the_picking picks.now)) room.old ≡ true }
-    ensures { HasValid (part_of node.now) (the_picking picks.now) room.old room.new }
+    ensures valid { HasValid (part_of node.now) (the_picking picks.now) room.old room.new }
+    ensures lists { KeepsLists room.old room.new }
 {
     if !shows_valid(node, picks) {
         return;
@@ -169,7 +162,8 @@ fn write_valid_of(node: &Node, picks: &Picks, room: &mut Room)
 // Writes bits.
 fn write_bits_node(node: &Node, picks: &Picks, room: &mut Room)
     requires { IsRoomed Format.Bits node.now picks.now room.old }
-    ensures { IsNodeTaken node.now picks.now room.new }
+    ensures taken { IsNodeTaken node.now picks.now room.new }
+    ensures lists { KeepsLists room.old room.new }
 {
     write_valid_of(node, picks, room);
     write_bits(node, picks, room.values);
@@ -178,7 +172,8 @@ fn write_bits_node(node: &Node, picks: &Picks, room: &mut Room)
 // Writes values of a fixed width.
 fn write_fixed_node(node: &Node, picks: &Picks, room: &mut Room)
     requires { IsRoomed Format.Fixed node.now picks.now room.old }
-    ensures { IsNodeTaken node.now picks.now room.new }
+    ensures taken { IsNodeTaken node.now picks.now room.new }
+    ensures lists { KeepsLists room.old room.new }
 {
     write_valid_of(node, picks, room);
     write_fixed(node, picks, room.values);
@@ -187,7 +182,8 @@ fn write_fixed_node(node: &Node, picks: &Picks, room: &mut Room)
 // Writes texts.
 fn write_text_node(size: Offsets, node: &Node, picks: &Picks, room: &mut Room)
     requires { IsRoomed (Format.Text size) node.now picks.now room.old }
-    ensures { IsNodeTaken node.now picks.now room.new }
+    ensures taken { IsNodeTaken node.now picks.now room.new }
+    ensures lists { KeepsLists room.old room.new }
 {
     write_valid_of(node, picks, room);
     write_offsets(size, node, picks, room.offsets);
@@ -197,7 +193,8 @@ fn write_text_node(size: Offsets, node: &Node, picks: &Picks, room: &mut Room)
 // Writes the lists' own part: where the items of each begin and end.
 fn write_list_node(size: Offsets, node: &Node, picks: &Picks, room: &mut Room)
     requires { IsRoomed (Format.List size) node.now picks.now room.old }
-    ensures { IsNodeTaken node.now picks.now room.new }
+    ensures taken { IsNodeTaken node.now picks.now room.new }
+    ensures lists { KeepsLists room.old room.new }
 {
     write_valid_of(node, picks, room);
     write_offsets(size, node, picks, room.offsets);
@@ -206,7 +203,8 @@ fn write_list_node(size: Offsets, node: &Node, picks: &Picks, room: &mut Room)
 // Writes a struct's own part.
 fn write_struct_node(node: &Node, picks: &Picks, room: &mut Room)
     requires { IsRoomed Format.Struct node.now picks.now room.old }
-    ensures { IsNodeTaken node.now picks.now room.new }
+    ensures taken { IsNodeTaken node.now picks.now room.new }
+    ensures lists { KeepsLists room.old room.new }
 {
     write_valid_of(node, picks, room);
 }
@@ -214,7 +212,8 @@ fn write_struct_node(node: &Node, picks: &Picks, room: &mut Room)
 // Writes the own part of lists of a fixed size.
 fn write_fixed_list_node(node: &Node, picks: &Picks, room: &mut Room)
     requires { IsRoomed Format.FixedList node.now picks.now room.old }
-    ensures { IsNodeTaken node.now picks.now room.new }
+    ensures taken { IsNodeTaken node.now picks.now room.new }
+    ensures lists { KeepsLists room.old room.new }
 {
     write_valid_of(node, picks, room);
 }
@@ -222,7 +221,8 @@ fn write_fixed_list_node(node: &Node, picks: &Picks, room: &mut Room)
 // Writes views of texts.
 fn write_text_view_node(node: &Node, picks: &Picks, room: &mut Room)
     requires { IsRoomed Format.TextView node.now picks.now room.old }
-    ensures { IsViewNodeTaken node.now picks.now room.new }
+    ensures taken { IsViewNodeTaken node.now picks.now room.new }
+    ensures lists { KeepsLists room.old room.new }
 {
     write_valid_of(node, picks, room);
     write_records::<16>(node.values, node, picks, room.values);
@@ -231,7 +231,8 @@ fn write_text_view_node(node: &Node, picks: &Picks, room: &mut Room)
 // Writes views of lists.
 fn write_list_view_node(size: Offsets, node: &Node, picks: &Picks, room: &mut Room)
     requires { IsRoomed (Format.ListView size) node.now picks.now room.old }
-    ensures { IsViewNodeTaken node.now picks.now room.new }
+    ensures taken { IsViewNodeTaken node.now picks.now room.new }
+    ensures lists { KeepsLists room.old room.new }
 {
     write_valid_of(node, picks, room);
     write_numbers(size, node.offsets, node, picks, room.offsets);
@@ -241,7 +242,8 @@ fn write_list_view_node(size: Offsets, node: &Node, picks: &Picks, room: &mut Ro
 // Writes a union's own part: the ids of the rows, and those of the children.
 fn write_union_node(node: &Node, picks: &Picks, room: &mut Room)
     requires { IsRoomed Format.Union node.now picks.now room.old }
-    ensures { IsNodeTaken node.now picks.now room.new }
+    ensures taken { IsNodeTaken node.now picks.now room.new }
+    ensures lists { KeepsLists room.old room.new }
 {
     write_ids(node, picks, room.values);
     put_bytes(room.sizes, 0, &node.sizes[..node.children as usize]);
@@ -250,18 +252,32 @@ fn write_union_node(node: &Node, picks: &Picks, room: &mut Room)
 // Writes a dense union's own part: the ids of the rows, where these stand, and the children's ids.
 fn write_dense_node(node: &Node, picks: &Picks, room: &mut Room)
     requires { IsRoomed Format.DenseUnion node.now picks.now room.old }
-    ensures { IsNodeTaken node.now picks.now room.new }
+    ensures taken { IsNodeTaken node.now picks.now room.new }
+    ensures lists { KeepsLists room.old room.new }
 {
     write_ids(node, picks, room.values);
     write_starts(node, picks, room.offsets);
     put_bytes(room.sizes, 0, &node.sizes[..node.children as usize]);
 }
 
+/// Writes the rows at runs of places, where they are of a fixed width and none is null.
+pub(crate) fn write_plain(node: &Node, picks: &RunPicks, room: &mut Room)
+    requires plain { IsPlain (part_of node.now) }
+    requires readable { IsReadable (part_of node.now) (the_run_picks picks.now) }
+    requires room { has_room (need_of (part_of node.now) (the_run_picking picks.now)) room.old
+        ≡ true }
+    ensures taken { IsRoomTaken (part_of node.now) (the_run_picking picks.now) room.new }
+    ensures lists { KeepsLists room.old room.new }
+{
+    write_runs(node, picks, room.values);
+}
+
 /// Writes what a node's own lists hold of its rows at picks.
 pub(crate) fn write_node(node: &Node, picks: &Picks, room: &mut Room)
     requires readable { IsReadable (part_of node.now) (the_picks picks.now) }
     requires room { has_room (need_of (part_of node.now) (the_picking picks.now)) room.old ≡ true }
-    ensures { IsRoomTaken (part_of node.now) (the_picking picks.now) room.new }
+    ensures taken { IsRoomTaken (part_of node.now) (the_picking picks.now) room.new }
+    ensures lists { KeepsLists room.old room.new }
 {
     match format_of(node.format) {
         Some(Format::Bits) => write_bits_node(node, picks, room),

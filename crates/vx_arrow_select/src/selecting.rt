@@ -6,6 +6,7 @@ ghost use Rattle.vx_arrow_image.specs.Image.{column_in, parts_of};
 ghost use Rattle.vx_arrow_columns.specs.Answer.{IsNeedRefusal, IsRefusal};
 ghost use Rattle.vx_arrow_columns.specs.Picks.{picking_of};
 ghost use Rattle.vx_arrow_columns.specs.Planned.{first_len};
+ghost use Rattle.vx_arrow_columns.specs.Written.{KeepLists};
 ghost use Rattle.vx_arrow_select.specs.Selected.{AreComposed, AreNeeds, IsFault, IsStepFault, IsSelected, IsUnmeant};
 
 use crate::refusal::Refusal;
@@ -99,6 +100,7 @@ pub fn select(
     ensures fault { IfErr result (IsFault nodes.now (map step_parts steps.now)
         (λ picks. IsRefusal (parts_of nodes.now) picks rooms.old)) }
     ensures meant { IfErr result (IsUnmeant (column_in (parts_of nodes.now))) }
+    ensures lists { KeepLists rooms.old rooms.new }
     ensures kept { OnErr result (rooms.new ≡ rooms.old) }
 {
     let picks = composed(alloc, len_of(nodes), steps)?;

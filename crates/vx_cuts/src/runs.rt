@@ -3,7 +3,7 @@ ghost use Rattle.std.specs.Prelude.{◌≡◌, ◌+◌, ◌-◌, ◌≤◌, ◌+
 ghost use Rattle.std.specs.List.{All, range_with_len};
 ghost use Rattle.vx_take.specs.Picks.{run_places};
 ghost use Rattle.vx_cuts.specs.Bounds.{AreBounds, end_of};
-ghost use Rattle.vx_cuts.specs.Runs.{IsPieceOf, piece_places};
+ghost use Rattle.vx_cuts.specs.Runs.{IsPieceOf, piece_places, pieces_between, pieces_of_runs};
 
 use crate::bounds::part_of;
 use std::alloc::Global;
@@ -31,6 +31,8 @@ fn push_run(
     requires ordered { start ≤ end }
     requires within { end ≤ end_of bounds.now }
     requires sound { All (IsPieceOf bounds.now) pieces.old.items }
+    ensures pieces { OnOk result
+        (pieces.new.items ≡ pieces.old.items ++ pieces_between bounds.now start end) }
     ensures sound { OnOk result (All (IsPieceOf bounds.now) pieces.new.items) }
     ensures places { OnOk result (piece_places bounds.now pieces.new.items
         ≡ piece_places bounds.now pieces.old.items ++ range_with_len start (end - start)) }
@@ -59,6 +61,8 @@ pub fn cut_runs(
 ) -> Result<Vec<Piece>, NoMemory>
     requires bounds { AreBounds bounds.now }
     requires within { All (λ run. run.0 + run.1 ≤ end_of bounds.now) runs.now }
+    ensures pieces { IfOk result
+        (λ pieces. pieces.items ≡ pieces_of_runs bounds.now runs.now) }
     ensures sound { IfOk result (λ pieces. All (IsPieceOf bounds.now) pieces.items) }
     ensures places { IfOk result
         (λ pieces. piece_places bounds.now pieces.items ≡ run_places runs.now) }

@@ -7,6 +7,8 @@ pub mod GatheredRows
 pub mod JoinedRows
 pub mod ListCells
 pub mod MadeUnions
+pub mod NullRows
+pub mod PlainRows
 pub mod Shown
 pub mod ShownRows
 pub mod TextRows

@@ -3,8 +3,9 @@ use Rattle.std.specs.Prelude.{◌≡◌, true, List, map, Option, Some, None}
 use Rattle.std.specs.List.{All}
 use Rattle.vx_types.specs.Nullability.{is_nullable}
 use Rattle.vx_types.specs.RowValue.{RowValue, null}
-use Rattle.vx_types.specs.TypeTree.{TypeTree}
+use Rattle.vx_types.specs.TypeTree.{TypeTree, null_type}
 use Rattle.vx_model.specs.Column.{Column}
+use Rattle.vx_model.specs.Plain.{is_null_layout}
 use Rattle.vx_interleave.specs.Places.{IsPlaceIn, interleaved, joined}
 use Rattle.vx_interleave.specs.declared.place.Place.{Place}
 
@@ -16,6 +17,11 @@ rows_of columns = map (λ (c : Column). c.rows) columns
 pub record IsSourceOf (t : TypeTree) (c : Column) : Type 0 where
   pub kind : c.dtype.kind ≡ t.kind
   pub nulls : is_nullable c.dtype.nullability ≡ true → is_nullable t.nullability ≡ true
+
+-- columns of nulls alone: the type is null, and each is of layout `Null`
+pub record AreNulls (t : TypeTree) (columns : List Column) : Type 0 where
+  pub dtype : t ≡ null_type
+  pub layouts : All (λ (c : Column). is_null_layout c.layout ≡ true) columns
 
 -- a place of a row, or none, which only a type with nulls has
 abbrev pub IsPlaceFor : TypeTree → List (List RowValue) → Option Place → Type 0

@@ -1,9 +1,10 @@
 //! Rows of bools, gathered.
-ghost use Rattle.std.specs.Prelude.{◌≡◌, IfOk, map};
+ghost use Rattle.std.specs.Prelude.{◌≡◌, IfOk, map, false, true};
 ghost use Rattle.vx_types.specs.RowValue.{bit};
 ghost use Rattle.vx_types.specs.TypeTree.{bool_kind, bool_type};
 ghost use Rattle.vx_column.specs.Cell.{row_of};
 ghost use Rattle.vx_interleave.specs.Rows.{AreCellsOf, IsCellOf, rows_in, shown_as, stored_as};
+ghost use Rattle.vx_model.specs.Plain.{is_lazy_layout, is_unwrapped};
 
 use crate::validity::validity_of;
 use std::alloc::Global;
@@ -44,6 +45,8 @@ pub(crate) fn gather_bools(
     ensures dtype { IfOk result (λ a. a.dtype ≡ bool_type nullability) }
     ensures rows { IfOk result
         (λ a. a.rows ≡ map (shown_as (bool_type nullability)) (rows_in cells.now)) }
+    ensures direct { IfOk result (λ a. is_lazy_layout a.layout ≡ false) }
+    ensures unwrapped { IfOk result (λ a. is_unwrapped a ≡ true) }
 {
     let validity = validity_of(alloc, nullability, cells)?;
     let bits = true_bits(alloc, cells)?;

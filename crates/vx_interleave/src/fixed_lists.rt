@@ -1,5 +1,5 @@
 //! Rows of lists of one size, as their elements one list after another.
-ghost use Rattle.std.specs.Prelude.{◌≡◌, IfOk, OnOk, Some, length, map, replicate};
+ghost use Rattle.std.specs.Prelude.{◌≡◌, IfOk, OnOk, Some, length, map, replicate, false};
 ghost use Rattle.std.specs.List.{All};
 ghost use Rattle.vx_types.specs.DType.{type_of};
 ghost use Rattle.vx_types.specs.TypeTree.{fixed_type};
@@ -10,6 +10,7 @@ ghost use Rattle.vx_column.specs.Cell.{row_of};
 ghost use Rattle.vx_interleave.specs.Places.{joined};
 ghost use Rattle.vx_interleave.specs.Lists.{AddsRows, JoinsFixed, elements_of};
 ghost use Rattle.vx_interleave.specs.Rows.{AreCellsOf, IsCellOf, rows_in, shown_as};
+ghost use Rattle.vx_model.specs.Plain.{is_lazy_layout};
 
 use crate::lists::{list_len, no_memory, push_list};
 use crate::validity::validity_of;
@@ -96,6 +97,7 @@ pub(crate) fn gather_fixed(
     ensures dtype { IfOk result (λ a. a.dtype ≡ fixed_type elements.dtype size nullability) }
     ensures rows { IfOk result (λ a. a.rows
         ≡ map (shown_as (fixed_type elements.dtype size nullability)) (rows_in cells.now)) }
+    ensures direct { IfOk result (λ a. is_lazy_layout a.layout ≡ false) }
 {
     let validity = validity_of(alloc, nullability, cells)?;
     let elements = elements.into_ref(alloc)?;

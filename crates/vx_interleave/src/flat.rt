@@ -1,10 +1,11 @@
 //! Rows of null, flat and text types, gathered.
-ghost use Rattle.std.specs.Prelude.{◌≡◌, IfOk, map, replicate, true};
+ghost use Rattle.std.specs.Prelude.{◌≡◌, IfOk, map, replicate, true, false};
 ghost use Rattle.vx_types.specs.DType.{type_of};
 ghost use Rattle.vx_types.specs.RowValue.{null};
 ghost use Rattle.vx_types.specs.Scalar.{has_scalars};
-ghost use Rattle.vx_types.specs.TypeTree.{null_kind};
+ghost use Rattle.vx_types.specs.TypeTree.{null_kind, is_flat};
 ghost use Rattle.vx_interleave.specs.Rows.{AreCellsOf, rows_in, shown_as};
+ghost use Rattle.vx_model.specs.Plain.{is_lazy_layout, is_unwrapped};
 
 use crate::bools::gather_bools;
 use crate::records::gather_records;
@@ -40,6 +41,9 @@ pub(crate) fn gather_scalars(
     ensures dtype { IfOk result (λ a. a.dtype ≡ type_of dtype.now) }
     ensures rows { IfOk result
         (λ a. a.rows ≡ map (shown_as (type_of dtype.now)) (rows_in cells.now)) }
+    ensures direct { IfOk result (λ a. is_lazy_layout a.layout ≡ false) }
+    ensures unwrapped { is_flat (type_of dtype.now) ≡ true
+        → IfOk result (λ a. is_unwrapped a ≡ true) }
 {
     match dtype {
         DType::Null => Ok(NullArray::new(null_rows(cells)).into_array()),

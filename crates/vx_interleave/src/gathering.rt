@@ -1,11 +1,12 @@
 //! Rows gathered, by their type.
-ghost use Rattle.std.specs.Prelude.{◌≡◌, IfOk, map, true};
+ghost use Rattle.std.specs.Prelude.{◌≡◌, IfOk, map, true, false};
 ghost use Rattle.vx_types.specs.DType.{type_of};
-ghost use Rattle.vx_types.specs.TypeTree.{are_carried, extension_type, is_carried, types_of};
+ghost use Rattle.vx_types.specs.TypeTree.{are_carried, extension_type, is_carried, types_of, is_flat};
 ghost use Rattle.vx_model.specs.Struct.{struct_of};
 ghost use Rattle.vx_interleave.specs.Rows.{AreCellsOf, rows_in, shown_as};
 ghost use Rattle.vx_interleave.specs.Structs.{AreFields};
 ghost use Rattle.vx_interleave.specs.Unions.{AreVariants, union_of, variant_rows};
+ghost use Rattle.vx_model.specs.Plain.{is_lazy_layout, is_unwrapped};
 
 use crate::fixed_lists::{gather_fixed, joined_fixed};
 use crate::flat::gather_scalars;
@@ -27,6 +28,7 @@ fn named(alloc: Global, ext: &Shared<ExtDType>, storage: Array) -> Result<Array,
     ensures dtype { IfOk result (λ a. a.dtype
         ≡ extension_type ext.now.name ext.now.storage storage.dtype.nullability) }
     ensures rows { IfOk result (λ a. a.rows ≡ storage.rows) }
+    ensures direct { IfOk result (λ a. is_lazy_layout a.layout ≡ false) }
 {
     match ExtensionArray::try_new(ext.share(), storage.into_ref(alloc)?) {
         Ok(column) => Ok(column.into_array()),
@@ -43,6 +45,9 @@ pub(crate) fn gather(alloc: Global, dtype: &DType, cells: &[Cell<'_>]) -> Result
     ensures dtype { IfOk result (λ a. a.dtype ≡ type_of dtype.now) }
     ensures rows { IfOk result
         (λ a. a.rows ≡ map (shown_as (type_of dtype.now)) (rows_in cells.now)) }
+    ensures direct { IfOk result (λ a. is_lazy_layout a.layout ≡ false) }
+    ensures unwrapped { is_flat (type_of dtype.now) ≡ true
+        → IfOk result (λ a. is_unwrapped a ≡ true) }
 {
     match dtype {
         DType::List(element, n) => {

@@ -1,20 +1,22 @@
 //! The rows of several columns in any order.
-ghost use Rattle.std.specs.Prelude.{◌≡◌, IfOk, map, true};
+ghost use Rattle.std.specs.Prelude.{◌≡◌, IfOk, IsOk, false, map, true};
 ghost use Rattle.std.specs.List.{All};
 ghost use Rattle.vx_types.specs.DType.{type_of};
 ghost use Rattle.vx_types.specs.RowValue.{null};
-ghost use Rattle.vx_types.specs.TypeTree.{is_carried};
+ghost use Rattle.vx_types.specs.TypeTree.{is_carried, is_flat};
 ghost use Rattle.vx_interleave.specs.Places.{interleaved, placed};
 ghost use Rattle.vx_column.specs.Cell.{row_of};
 ghost use Rattle.vx_interleave.specs.Rows.{AreCellsOf, IsCellOf, rows_in, shown_as};
-ghost use Rattle.vx_interleave.specs.Sources.{ArePlacesFor, IsPlaceFor, IsSourceOf, rows_of};
+ghost use Rattle.vx_interleave.specs.Sources.{AreNulls, ArePlacesFor, IsPlaceFor, IsSourceOf, rows_of};
+ghost use Rattle.vx_model.specs.Plain.{is_lazy_layout, is_unwrapped};
 
 use crate::cells::cell_in;
 use crate::gathering::gather;
+use crate::nulls::are_nulls;
 use crate::place::Place;
 use std::alloc::Global;
 use vx_bits::NoMemory;
-use vx_column::{Array, Cell, Columns, DType};
+use vx_column::{Array, Cell, Columns, DType, NullArray};
 
 // The row at a place; a null where there is no place.
 fn cell_at<'a>(dtype: &DType, columns: &'a Columns, place: &Option<Place>) -> Cell<'a>
@@ -67,7 +69,14 @@ pub fn interleave(
     ensures dtype { IfOk result (λ a. a.dtype ≡ type_of dtype.now) }
     ensures rows { IfOk result
         (λ a. a.rows ≡ interleaved null (rows_of columns.now) order.now) }
+    ensures direct { IfOk result (λ a. is_lazy_layout a.layout ≡ false) }
+    ensures unwrapped { is_flat (type_of dtype.now) ≡ true
+        → IfOk result (λ a. is_unwrapped a ≡ true) }
+    ensures null { AreNulls (type_of dtype.now) columns.now → IsOk result }
 {
+    if are_nulls(dtype, columns) {
+        return Ok(NullArray::new(order.len()).into_array());
+    }
     let cells = cells_at(alloc, dtype, columns, order)?;
     gather(alloc, dtype, &cells)
 }

@@ -10,6 +10,7 @@ mod interleaving;
 mod joining;
 mod lists;
 mod maps;
+mod nulls;
 mod numbers;
 mod place;
 mod placing;
@@ -22,5 +23,6 @@ mod validity;
 
 pub use interleaving::interleave;
 pub use joining::concatenate;
+pub use nulls::are_nulls;
 pub use place::Place;
 pub use placing::are_places;

@@ -1,5 +1,5 @@
 //! Rows of lists, as their elements one list after another.
-ghost use Rattle.std.specs.Prelude.{◌≡◌, ◌≤◌, IfOk, OnOk, Some, length, map, slice_range};
+ghost use Rattle.std.specs.Prelude.{◌≡◌, ◌≤◌, IfOk, OnOk, Some, length, map, slice_range, false};
 ghost use Rattle.vx_types.specs.DType.{type_of};
 ghost use Rattle.vx_types.specs.TypeTree.{list_type};
 ghost use Rattle.vx_model.specs.List.{list_of};
@@ -8,6 +8,7 @@ ghost use Rattle.vx_column.specs.Cell.{row_of};
 ghost use Rattle.vx_interleave.specs.Lists.{AddsRows, CutsLists, JoinsLists, elements_in};
 ghost use Rattle.vx_interleave.specs.Rows.{AreCellsOf, IsCellOf, rows_in, shown_as};
 ghost use Rattle.vx_interleave.specs.Sources.{IsSourceOf};
+ghost use Rattle.vx_model.specs.Plain.{is_lazy_layout};
 
 use crate::cells::cell_in;
 use crate::numbers::push_number;
@@ -137,6 +138,7 @@ pub(crate) fn gather_lists(
     ensures dtype { IfOk result (λ a. a.dtype ≡ list_type elements.dtype nullability) }
     ensures rows { IfOk result (λ a. a.rows
         ≡ map (shown_as (list_type elements.dtype nullability)) (rows_in cells.now)) }
+    ensures direct { IfOk result (λ a. is_lazy_layout a.layout ≡ false) }
 {
     let validity = validity_of(alloc, nullability, cells)?;
     let mut offsets = starts;

@@ -1,5 +1,5 @@
 //! Rows of maps, as their entries one map after another.
-ghost use Rattle.std.specs.Prelude.{◌≡◌, IfOk, length, map, true};
+ghost use Rattle.std.specs.Prelude.{◌≡◌, IfOk, length, map, true, false};
 ghost use Rattle.vx_types.specs.DType.{type_of};
 ghost use Rattle.vx_model.specs.ListView.{listview_spans};
 ghost use Rattle.vx_model.specs.Lists.{lists_of};
@@ -7,6 +7,7 @@ ghost use Rattle.vx_model.specs.Map.{map_of};
 ghost use Rattle.vx_types.specs.TypeTree.{is_entry_type};
 ghost use Rattle.vx_interleave.specs.Lists.{CutsLists, elements_in};
 ghost use Rattle.vx_interleave.specs.Rows.{AreCellsOf, IsValidityOf, rows_in, shown_as};
+ghost use Rattle.vx_model.specs.Plain.{is_lazy_layout};
 
 use crate::lists::{list_len, no_memory};
 use crate::numbers::push_number;
@@ -69,6 +70,7 @@ pub(crate) fn gather_maps(
     ensures dtype { IfOk result (λ a. a.dtype ≡ type_of maps.now) }
     ensures rows { IfOk result
         (λ a. a.rows ≡ map (shown_as (type_of maps.now)) (rows_in cells.now)) }
+    ensures direct { IfOk result (λ a. is_lazy_layout a.layout ≡ false) }
 {
     match MapArray::try_new(gather_views(alloc, maps, starts, entries, cells)?) {
         Ok(column) => Ok(column.into_array()),

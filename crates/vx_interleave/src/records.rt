@@ -1,5 +1,5 @@
 //! Rows of records, gathered.
-ghost use Rattle.std.specs.Prelude.{◌≡◌, IfOk, Some, map, true};
+ghost use Rattle.std.specs.Prelude.{◌≡◌, IfOk, Some, map, true, false};
 ghost use Rattle.vx_bits.specs.Records.{records_of, width_of};
 ghost use Rattle.vx_types.specs.Decimal.{is_width};
 ghost use Rattle.vx_types.specs.RowValue.{bytes};
@@ -7,6 +7,7 @@ ghost use Rattle.vx_types.specs.TypeTree.{kind_width};
 ghost use Rattle.vx_column.specs.Cell.{row_of};
 ghost use Rattle.vx_types.specs.RecordType.{kind_of};
 ghost use Rattle.vx_interleave.specs.Rows.{AreCellsOf, IsCellOf, rows_in, shown_as, stored_as};
+ghost use Rattle.vx_model.specs.Plain.{is_lazy_layout, is_unwrapped};
 
 use crate::validity::validity_of;
 use std::alloc::Global;
@@ -87,6 +88,8 @@ pub(crate) fn gather_records(
     ensures rows { IfOk result (λ a. a.rows ≡ map
         (shown_as (record { kind = kind_of record_type; nullability = nullability }))
         (rows_in cells.now)) }
+    ensures direct { IfOk result (λ a. is_lazy_layout a.layout ≡ false) }
+    ensures unwrapped { IfOk result (λ a. is_unwrapped a ≡ true) }
 {
     let validity = validity_of(alloc, nullability, cells)?;
     let records = gather_bytes(alloc, &record_type, record_type.width(), cells)?;

@@ -1,5 +1,5 @@
 //! Rows of structs, gathered field by field.
-ghost use Rattle.std.specs.Prelude.{◌≡◌, IfOk, Some, length, map, slice_get, true};
+ghost use Rattle.std.specs.Prelude.{◌≡◌, IfOk, Some, length, map, slice_get, true, false};
 ghost use Rattle.vx_types.specs.DType.{type_of};
 ghost use Rattle.vx_types.specs.TypeTree.{struct_type};
 ghost use Rattle.vx_model.specs.Columns.{are_long, types_in};
@@ -10,6 +10,7 @@ ghost use Rattle.vx_column.specs.StructParts.{struct_parts};
 ghost use Rattle.vx_column.specs.Validity.{valid_of};
 ghost use Rattle.vx_interleave.specs.Rows.{AreCellsOf, IsCellOf, rows_in, shown_as};
 ghost use Rattle.vx_interleave.specs.Structs.{AreFields, field_in};
+ghost use Rattle.vx_model.specs.Plain.{is_lazy_layout};
 
 use crate::cells::cell_in;
 use crate::validity::validity_of;
@@ -71,6 +72,7 @@ pub(crate) fn gather_structs(
     ensures rows { IfOk result (λ a. a.rows ≡ map
         (shown_as (struct_type fields.now.names fields.now.types nullability))
         (rows_in cells.now)) }
+    ensures direct { IfOk result (λ a. is_lazy_layout a.layout ≡ false) }
 {
     let validity = validity_of(alloc, nullability, cells)?;
     Ok(structs(columns, fields, cells.len(), validity))

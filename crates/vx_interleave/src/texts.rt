@@ -1,5 +1,5 @@
 //! Rows of text, gathered.
-ghost use Rattle.std.specs.Prelude.{◌≡◌, ◌++◌, ◌<◌, ◌^◌, [], IfOk, OnOk, length, map, true};
+ghost use Rattle.std.specs.Prelude.{◌≡◌, ◌++◌, ◌<◌, ◌^◌, [], IfOk, OnOk, length, map, true, false};
 ghost use Rattle.vx_types.specs.RowValue.{bytes};
 ghost use Rattle.vx_types.specs.Text.{text_kind};
 ghost use Rattle.vx_types.specs.declared.ptype.PType.TheVariants.{U64};
@@ -12,6 +12,7 @@ ghost use Rattle.vx_text.specs.OffsetList.{with_offset};
 ghost use Rattle.vx_column.specs.Cell.{row_of};
 ghost use Rattle.vx_interleave.specs.Rows.{AreCellsOf, IsCellOf, rows_in, shown_as, stored_as};
 ghost use Rattle.vx_interleave.specs.Texts.{AreJoined};
+ghost use Rattle.vx_model.specs.Plain.{is_lazy_layout};
 
 use crate::numbers::push_number;
 use crate::validity::validity_of;
@@ -82,6 +83,7 @@ impl Joined {
         }) }
         ensures rows { IfOk result (λ c. c.rows ≡ stored_rows (valid_of validity)
             (map bytes (lists_at self.offsets.numbers self.bytes.items))) }
+        ensures direct { IfOk result (λ a. is_lazy_layout a.layout ≡ false) }
     {
         let Joined { offsets, bytes } = self;
         let ends = offsets.into_primitive()?;
@@ -116,6 +118,7 @@ pub(crate) fn gather_texts(
     ensures rows { IfOk result (λ a. a.rows ≡ map
         (shown_as (record { kind = text_kind kind; nullability = nullability }))
         (rows_in cells.now)) }
+    ensures direct { IfOk result (λ a. is_lazy_layout a.layout ≡ false) }
 {
     let validity = validity_of(alloc, nullability, cells)?;
     let texts = joined_texts(alloc, kind, cells)?;

@@ -1,5 +1,5 @@
 //! Rows of unions, gathered variant by variant.
-ghost use Rattle.std.specs.Prelude.{◌≡◌, IfOk, None, OnOk, Some, [], ◌∷◌, map, true};
+ghost use Rattle.std.specs.Prelude.{◌≡◌, IfOk, None, OnOk, Some, [], ◌∷◌, map, true, false};
 ghost use Rattle.vx_types.specs.DType.{type_of};
 ghost use Rattle.vx_types.specs.TypeTree.{primitive_type, union_type};
 ghost use Rattle.vx_types.specs.declared.ptype.PType.TheVariants.{U8};
@@ -10,6 +10,7 @@ ghost use Rattle.vx_interleave.specs.Lists.{AddsRows, AreShown};
 ghost use Rattle.vx_interleave.specs.Rows.{AreCellsOf, IsCellOf, rows_in, shown_as};
 ghost use Rattle.vx_interleave.specs.Tags.{id_row, is_tag, row_in, rows_under, tag_in};
 ghost use Rattle.vx_interleave.specs.Unions.{AreVariants, union_of, variant_row, variant_rows};
+ghost use Rattle.vx_model.specs.Plain.{is_lazy_layout};
 
 use crate::cells::cell_in;
 use crate::tags::{gather_places, id_records, is_tag};
@@ -176,6 +177,7 @@ pub(crate) fn gather_unions(
         ≡ union_type variants.now.ids variants.now.names variants.now.types nullability) }
     ensures rows { IfOk result
         (λ a. a.rows ≡ variant_rows variants.now nullability (rows_in cells.now)) }
+    ensures direct { IfOk result (λ a. is_lazy_layout a.layout ≡ false) }
 {
     // there is a first variant
     let _ = variants.ids();

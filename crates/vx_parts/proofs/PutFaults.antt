@@ -1,5 +1,5 @@
 -- Whether columns are the answers of parts.
-use Rattle.std.proofs.Common.{◌≡◌, ℕ, zero, suc, ◌+◌, ◌<◌, Bool, true, false, List, [], ◌∷◌, length, drop, get_or, Option, Some, None, refl, sym, ap, ap₂, ◌∙◌, subst, arith}
+use Rattle.std.proofs.Common.{◌≡◌, ◌≢◌, ℕ, zero, suc, ◌+◌, ◌<◌, Bool, true, false, List, [], ◌∷◌, length, drop, get_or, Option, Some, None, refl, sym, ap, ap₂, ◌∙◌, subst, arith}
 use Rattle.std.specs.Prelude.{◌==◌, not, IfSome, slice_get, slice_index, if◌then◌else◌}
 use Rattle.std.specs.List.{All}
 use Rattle.std.specs.Option.{option_or}
@@ -161,6 +161,11 @@ pub put_fault_is : (t : TypeTree) (plan : Plan) (answers : List Column) (e : Put
 put_fault_is t plan answers e h =
     by_error t plan answers e h
     (told_counted (length answers == length (lens_in plan.parts.items)) (answer_fault 0 t (lens_in plan.parts.items) answers) e h (told_from 0 t (lens_in plan.parts.items) answers e))
+
+-- a fault of columns is no want of memory
+pub not_memory : (t : TypeTree) (plan : Plan) (answers : List Column) (e : PutError) → put_fault t (lens_in plan.parts.items) answers ≡ Some e → e ≢ NoMemory
+not_memory t plan answers e h is =
+    subst IsTold is (told_counted (length answers == length (lens_in plan.parts.items)) (answer_fault 0 t (lens_in plan.parts.items) answers) e h (told_from 0 t (lens_in plan.parts.items) answers e))
 
 -- a fault that is told isn't one of answers that can be put together
 pub only_memory : (t : TypeTree) (plan : Plan) (answers : List Column) (e : PutError) → IsPutFault t plan answers e → put_fault t (lens_in plan.parts.items) answers ≡ None → (IsPutFault t plan answers WrongOrder → ⊥) → e ≡ NoMemory

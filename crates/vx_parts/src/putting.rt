@@ -1,14 +1,15 @@
 //! The parts' answers, put together.
-ghost use Rattle.std.specs.Prelude.{◌≡◌, List, IfErr, IfOk, OnOk, length, true};
+ghost use Rattle.std.specs.Prelude.{◌≡◌, ◌≢◌, ◌<◌, ◌^◌, Err, IfErr, IfOk, IsOk, List, OnOk, false, length, map, true};
 ghost use Rattle.std.specs.Bool.{Decides};
-ghost use Rattle.std.specs.List.{All};
+ghost use Rattle.std.specs.List.{All, sum};
 ghost use Rattle.vx_types.specs.DType.{type_of};
 ghost use Rattle.vx_types.specs.RowValue.{RowValue};
-ghost use Rattle.vx_types.specs.TypeTree.{is_carried};
+ghost use Rattle.vx_types.specs.TypeTree.{is_carried, is_flat};
+ghost use Rattle.vx_model.specs.Plain.{is_lazy_layout, is_unwrapped};
 ghost use Rattle.vx_steps.specs.Answer.{answer_of, answer_rows};
 ghost use Rattle.vx_steps.specs.Step.{StepValue};
 ghost use Rattle.vx_interleave.specs.Places.{joined};
-ghost use Rattle.vx_interleave.specs.Sources.{IsSourceOf, rows_of};
+ghost use Rattle.vx_interleave.specs.Sources.{AreNulls, IsSourceOf, rows_of};
 ghost use Rattle.vx_parts.specs.Plan.{lens_in, order_in};
 ghost use Rattle.vx_parts.specs.Putting.{AreAnswersTo, AreFit, IsOrderFor, IsPutFault, answer_fault, part_fault, put_fault, put_rows, put_type};
 ghost use Rattle.vx_parts.specs.declared.error.PutError.TheVariants.{NoMemory as OutOfMemory};
@@ -73,6 +74,11 @@ fn put_rows(alloc: Global, plan: &Plan, dtype: &DType, answers: &Columns) -> Res
     requires order { IsOrderFor (type_of dtype.now) answers.now (order_in plan.now) }
     ensures dtype { IfOk result (λ a. a.dtype ≡ type_of dtype.now) }
     ensures rows { IfOk result (λ a. a.rows ≡ put_rows (order_in plan.now) (rows_of answers.now)) }
+    ensures direct { IfOk result (λ a. is_lazy_layout a.layout ≡ false) }
+    ensures unwrapped { is_flat (type_of dtype.now) ≡ true
+        → IfOk result (λ a. is_unwrapped a ≡ true) }
+    ensures null { AreNulls (type_of dtype.now) answers.now
+        → sum (map length (rows_of answers.now)) < 2 ^ 64 → IsOk result }
 {
     match &plan.order {
         Some(order) => interleave(alloc, dtype, answers, order),
@@ -105,6 +111,11 @@ pub fn put_together(
     ensures fault { IfErr result (IsPutFault (type_of dtype.now) plan.now answers.now) }
     ensures own { IfErr result (λ e. (parts : List (List RowValue)) → (steps : List StepValue)
         → AreAnswersTo (type_of dtype.now) parts steps plan.now answers.now → e ≡ OutOfMemory) }
+    ensures direct { IfOk result (λ a. is_lazy_layout a.layout ≡ false) }
+    ensures unwrapped { is_flat (type_of dtype.now) ≡ true
+        → IfOk result (λ a. is_unwrapped a ≡ true) }
+    ensures null { AreNulls (type_of dtype.now) answers.now
+        → sum (map length (rows_of answers.now)) < 2 ^ 64 → result ≢ Err OutOfMemory }
 {
     if let Some(fault) = put_fault(&plan.parts, dtype, answers) {
         return Err(fault);

@@ -1,7 +1,7 @@
 -- The places of one run more.
-use Rattle.std.proofs.Common.{zero, suc, ◌≡◌, ℕ, ◌+◌, ◌<◌, ◌≤◌, List, [], ◌∷◌, ◌++◌, length, get_or, take, ap, sym, ◌∙◌, refl, arith, length-append, append_assoc}
+use Rattle.std.proofs.Common.{zero, suc, ◌≡◌, ℕ, ◌+◌, ◌<◌, ◌≤◌, List, [], ◌∷◌, ◌++◌, ◌-◌, length, get_or, take, ap, ap₂, sym, ◌∙◌, refl, arith, length-append, append_assoc}
 use Rattle.std.specs.List.{flat_map, range_with_len}
-use Rattle.std.proofs.lemmas.List.{take_all, take_more, flat_map_more}
+use Rattle.std.proofs.lemmas.List.{length-take-le, take-take, take_all, take_at, take_more, flat_map_more}
 use Rattle.std.proofs.lemmas.List.Concat.{get_or-flat_map}
 use Rattle.std.proofs.lemmas.List.Folds.{length-flat_map-take}
 use Rattle.std.proofs.lemmas.List.FromFn.{length-range_with_len, get_or-range_with_len}
@@ -44,7 +44,10 @@ pub range_more : (a n j : ℕ) → a + n ≡ j → range_with_len a (n + 1) ≡ 
 range_more a zero j e = ap (λ k. k ∷ []) (omega arith)
 range_more a (suc n) j e = let m : suc n + 1 ≡ suc (n + 1) = omega arith in ap (range_with_len a) m ∙ ap (λ l. a ∷ l) (range_more (a + 1) n j (omega arith))
 
--- one place more behind others
-pub put_more : (old xs : List ℕ) (at start j v : ℕ) → v ≡ start + j → xs ≡ take at old ++ range_with_len start j → xs ++ v ∷ [] ≡ take at old ++ range_with_len start (j + 1)
-put_more old xs at start j v e is =
-    ap (λ (l : List ℕ). l ++ v ∷ []) is ∙ append_assoc (take at old) (range_with_len start j) (v ∷ []) ∙ ap (λ (l : List ℕ). take at old ++ l) (sym (range_more start j v (sym e)))
+pub pushed_places : (rs new : List Run) (r : Run) → new ≡ rs ++ r ∷ [] → run_places new ≡ run_places rs ++ range_with_len r.start r.len
+unfolding run_places
+pushed_places rs new r e = ap (flat_map places_of_run) e ∙ sym (flat_map_more places_of_run [] rs r)
+
+pub bare_places : (rs : List Run) → rs ≡ [] → run_places rs ≡ []
+unfolding run_places
+bare_places rs e = ap (flat_map places_of_run) e

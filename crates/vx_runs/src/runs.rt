@@ -1,9 +1,9 @@
 //! Runs of places that follow one another.
-ghost use Rattle.std.specs.Prelude.{◌≡◌, ◌+◌, ◌^◌, ◌<◌, ◌≤◌, ◌++◌, IfNone, IfSome, length, take, true};
+ghost use Rattle.std.specs.Prelude.{◌≡◌, ◌-◌, ◌^◌, ◌≤◌, ◌++◌, IfNone, IfSome, OnOk, length};
 ghost use Rattle.std.specs.List.{range_with_len};
 ghost use Rattle.vx_runs.specs.Runs.{run_places};
 
-use std::alloc::Global;
+use std::alloc::{AllocError, Global};
 
 /// Places that follow one another.
 #[derive(Clone, Copy)]
@@ -15,6 +15,7 @@ pub struct Run {
 }
 
 /// Returns how many places runs have together; none past 64 bits.
+#[inline(never)]
 pub fn run_len(runs: &[Run]) -> Option<u64>
     ensures len { IfSome result (λ n. n ≡ length (run_places runs.now)) }
     ensures long { IfNone result (2 ^ 64 ≤ length (run_places runs.now)) }
@@ -26,47 +27,31 @@ pub fn run_len(runs: &[Run]) -> Option<u64>
     Some(len)
 }
 
-// Writes the places from `start` on over so many numbers from `at` on.
+/// Pushes the places from `start` to `end`. Fails only if memory runs out.
 #[inline(always)]
-fn put_places(places: &mut [u64], at: usize, len: usize, start: u64)
-    requires room { at + len ≤ length places.old }
-    requires small { start + len < 2 ^ 64 }
-    ensures put { take (at + len) places.new ≡ take at places.old ++ range_with_len start len }
-    ensures room { length places.new ≡ length places.old }
+pub fn push_range(places: &mut Vec<u64>, start: u64, end: u64) -> Result<(), AllocError>
+    requires { start ≤ end }
+    ensures { OnOk result
+        (places.new.items ≡ places.old.items ++ range_with_len start (end - start)) }
 {
-    for j in 0..len {
-        places[at + j] = start + j as u64;
+    places.reserve((end - start) as usize)?;
+    for place in start..end {
+        places.push_reserved(place);
     }
-}
-
-// Writes the places of runs, one behind another; false where a run doesn't end below 2^64.
-fn put_runs(places: &mut [u64], runs: &[Run]) -> bool
-    requires { length (run_places runs.now) ≡ length places.old }
-    ensures { result ≡ true → places.new ≡ run_places runs.now }
-{
-    let mut at = 0;
-    for k in 0..runs.len() {
-        let run = runs[k];
-        if run.start.checked_add(run.len).is_none() {
-            return false;
-        }
-        put_places(places, at, run.len as usize, run.start);
-        at += run.len as usize;
-    }
-    true
+    Ok(())
 }
 
 /// Returns the places of runs. Fails if memory runs out or a run doesn't end below 2^64.
 pub fn places_of(alloc: Global, runs: &[Run]) -> Option<Vec<u64>>
     ensures { IfSome result (λ v. v.items ≡ run_places runs.now) }
 {
-    let total = run_len(runs)?;
-    let Ok(mut places) = vec![in alloc; 0u64; total as usize] else {
-        return None;
-    };
-    if put_runs(&mut places, runs) {
-        Some(places)
-    } else {
-        None
+    let mut places = Vec::new(alloc);
+    for k in 0..runs.len() {
+        let run = runs[k];
+        let end = run.start.checked_add(run.len)?;
+        if push_range(&mut places, run.start, end).is_err() {
+            return None;
+        }
     }
+    Some(places)
 }

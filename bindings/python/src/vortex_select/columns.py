@@ -2,9 +2,12 @@
 
 from __future__ import annotations
 
-from typing import TYPE_CHECKING, Any, Dict, Iterable, List, Optional, Sequence, Tuple
+import html
+from array import array as numbers_of
+from typing import TYPE_CHECKING, Any, Dict, Iterable, Iterator, List, Optional, Sequence, Tuple
+from typing import Union
 
-from . import _native
+from . import _native, _numpy
 from ._arrays import (
     Array,
     Field,
@@ -20,7 +23,7 @@ from ._buffers import Bits, view_of, whole
 from ._building import built, guessed, lengths_of
 from ._joining import joined
 from ._reading import rows
-from ._steps import Step, called, images_of
+from ._steps import Filter, Slice, Step, Take, called, images_of
 from ._types import Type, spelled, type_of
 
 if TYPE_CHECKING:
@@ -31,9 +34,18 @@ class Column:
     """Rows of one type in Arrow's memory: one array, or several arrays end to end.
 
     `column`, `from_buffers`, `select` and `read_column` make columns.
+
+    >>> names = column(["ann", None, "bo", "cy"])
+    >>> len(names), names[0], names[-1]
+    (4, 'ann', 'cy')
+    >>> names[1:3]
+    Column(utf8, 2 rows: None, 'bo')
+    >>> names.take([2, 0]).to_pylist()
+    ['bo', 'ann']
     """
 
     __slots__ = ("_chunks", "__weakref__")
+    __hash__ = None  # type: ignore[assignment]
     _chunks: List[Array]
 
     def __init__(self) -> None:
@@ -42,8 +54,76 @@ class Column:
     def __len__(self) -> int:
         return sum(map(len, self._chunks))
 
+    def __iter__(self) -> Iterator[Any]:
+        """Return the rows as values of Python, as `to_pylist` does."""
+        for chunk in self._chunks:
+            tree = Tree(chunk.node)
+            for at in range(0, tree.length, _ROWS_AT_ONCE):
+                yield from rows(tree, at, min(_ROWS_AT_ONCE, tree.length - at))
+
+    def __getitem__(self, key: Union[int, slice, str]) -> Any:
+        """Return the value of a row, the column of a slice of rows, or a field of a struct.
+
+        Raises:
+            IndexError: there is no such row.
+            KeyError: there is no such field.
+
+        >>> people = column([{"id": 5}, None, {"id": 7}])
+        >>> people[0], people["id"][-1], people[::2].to_pylist()
+        ({'id': 5}, 7, [{'id': 5}, {'id': 7}])
+        """
+        if isinstance(key, str):
+            return self.field(key)
+        if isinstance(key, slice):
+            start, end, step = key.indices(len(self))
+            if step == 1:
+                return self.slice(start, max(start, end))
+            return self.take(numbers_of("q", range(start, end, step)))
+        return self._row(whole(key))
+
+    def _row(self, k: int) -> Any:
+        count = len(self)
+        at = k + count if k < 0 else k
+        if not 0 <= at < count:
+            raise IndexError(f"row: expected {-count} to {count - 1}, got {k}")
+        for chunk in self._chunks:
+            if at < len(chunk):
+                break
+            at -= len(chunk)
+        return rows(Tree(chunk.node), at, 1)[0]
+
+    def __eq__(self, other: object) -> Any:
+        """Return whether the other one is a column of the same type and equal rows."""
+        if not isinstance(other, Column):
+            return NotImplemented
+        if self.type != other.type or len(self) != len(other):
+            return False
+        return all(one == two for one, two in zip(self, other))
+
+    def _head(self) -> List[str]:
+        """Return the first rows as text, and none if one leads outside of the column's memory."""
+        found: List[str] = []
+        try:
+            for chunk in self._chunks:
+                count = min(len(chunk), _ROWS_SHOWN - len(found))
+                found += map(repr, rows(Tree(chunk.node), 0, count))
+        except ValueError:
+            return []
+        return found
+
     def __repr__(self) -> str:
-        return f"Column({self.type}, {len(self)} rows)"
+        shown = self._head()
+        more = ["..."] if shown and len(self) > len(shown) else []
+        text = ", ".join(shown + more)
+        return f"Column({self.type}, {len(self)} rows{': ' if text else ''}{text})"
+
+    def _repr_html_(self) -> str:
+        cells = [
+            f"<tr><td>{k}</td><td>{html.escape(row)}</td></tr>"
+            for k, row in enumerate(self._head())
+        ]
+        head = f"<tr><th></th><th>{html.escape(self.type)}</th></tr>"
+        return f"<table>{head}{''.join(cells)}</table><p>{len(self)} rows</p>"
 
     @property
     def type(self) -> str:
@@ -62,6 +142,110 @@ class Column:
         """
         trees = [Tree(chunk.node) for chunk in self._chunks]
         return [row for tree in trees for row in rows(tree, 0, tree.length)]
+
+    def select(self, steps: Sequence[Step]) -> Column:
+        """Return the rows that the steps leave, as `select` does."""
+        return select(self, steps)
+
+    def filter(self, mask: Any) -> Column:
+        """Return the rows that a mask keeps: what `Filter` takes, or a column of bools.
+
+        >>> column([1, 2, 3]).filter([True, False, True]).to_pylist()
+        [1, 3]
+        """
+        return select(self, [Filter(mask)])
+
+    def take(self, indices: Any) -> Column:
+        """Return the rows at indices, in their order: what `Take` takes. `None` gives a null."""
+        return select(self, [Take(indices)])
+
+    def slice(self, start: int, end: int) -> Column:
+        """Return the rows from `start` up to `end`, `end` excluded."""
+        return select(self, [Slice(start, end)])
+
+    @property
+    def children(self) -> List[Column]:
+        """The children: fields of a struct, items of a list, entries of a map, and so on.
+
+        Fields have the rows of the struct, also where the struct is null. Items are those of all
+        lists, as Arrow stores them.
+        """
+        parts = [chunk.split() for chunk in self._chunks]
+        return [column_over(child) for child in zip(*parts)]
+
+    @property
+    def names(self) -> List[str]:
+        """The names of the children."""
+        return [child.name for child in self._chunks[0].node.children]
+
+    def field(self, key: Union[int, str]) -> Column:
+        """Return a child by its name or its place.
+
+        Raises:
+            KeyError: no child has the name.
+            IndexError: there is no such child.
+
+        >>> column([{"id": 5, "tags": ["a"]}]).field("tags").to_pylist()
+        [['a']]
+        """
+        names = self.names
+        if isinstance(key, str):
+            if key not in names:
+                raise KeyError(f"expected one of {names}, got {key!r}")
+            key = names.index(key)
+        if not -len(names) <= whole(key) < len(names):
+            raise IndexError(f"child: expected {-len(names)} to {len(names) - 1}, got {key}")
+        return self.children[key]
+
+    @property
+    def null_count(self) -> int:
+        """How many rows are null. Rows of unions never are."""
+        return sum(_numpy.null_count(chunk.node) for chunk in self._chunks)
+
+    @property
+    def nbytes(self) -> int:
+        """How many bytes the buffers have, those of children and dictionaries too."""
+        return sum(_numpy.bytes_of(chunk.node) for chunk in self._chunks)
+
+    def to_numpy(self) -> Any:
+        """Return the rows as an array of numpy.
+
+        Numbers without nulls are shared with the column, if it is one array, and read-only. Nulls
+        give a masked array. Strings, decimals, lists and structs are objects.
+
+        >>> column([1, 2, 3]).to_numpy().sum().item()
+        6
+        """
+        return _numpy.to_numpy(self._chunks, self)
+
+    def __array__(self, dtype: Any = None, copy: Optional[bool] = None) -> Any:
+        """Return the rows for `numpy.asarray`.
+
+        Raises:
+            ValueError: a number is null. `to_numpy` returns a masked array.
+        """
+        found = self.to_numpy()
+        if self.null_count and found.dtype != object:
+            raise ValueError(f"expected no nulls, found {self.null_count}: use to_numpy")
+        return found.astype(dtype or found.dtype, copy=bool(copy))
+
+    @staticmethod
+    def from_pandas(series: Any) -> Column:
+        """Return a column of the values of a Series. What pandas takes as missing is null."""
+        import numpy
+
+        found, null = series.to_numpy(), series.isna().to_numpy()
+        if found.dtype != object:
+            return column(numpy.ma.MaskedArray(found, null))
+        return column([None if is_null else row for row, is_null in zip(found, null)])
+
+    def to_pandas(self) -> Any:
+        """Return the rows as a Series of pandas, of objects if a row is null."""
+        import pandas
+
+        is_plain = not self.null_count
+        rows = self.to_numpy() if is_plain else self.to_pylist()
+        return pandas.Series(rows, dtype=None if is_plain else object)
 
     def _field(self) -> Field:
         return field_of(self._chunks[0].node)
@@ -84,6 +268,11 @@ class Column:
 
     def __arrow_c_stream__(self, requested_schema: Any = None) -> Any:
         return _native.stream_capsule(self._chunks[0], self._chunks)
+
+
+# How many rows are read at once, and how many are shown.
+_ROWS_AT_ONCE = 1024
+_ROWS_SHOWN = 10
 
 
 def column_over(chunks: Sequence[Array]) -> Column:
@@ -157,7 +346,8 @@ def column(values: Iterable[Any], type: Optional[str] = None) -> Column:
     """Return a column of the values.
 
     Args:
-        values: numbers, strings, bytes, lists, dicts, and `None` for nulls.
+        values: numbers, strings, bytes, lists, dicts, and `None` for nulls; or an array of numpy,
+            of which numbers, bools and times are copied at once.
         type: such as `list<utf8>`; by default that of the first value that isn't `None`. Union
             values go to the first child type that accepts them.
 
@@ -170,6 +360,10 @@ def column(values: Iterable[Any], type: Optional[str] = None) -> Column:
     >>> column([[1], []]).type
     'list<int64>'
     """
+    if _numpy.is_array(values) and type is None:
+        parts = _numpy.buffers_of(values)
+        if parts is not None:
+            return from_buffers(*parts, trusted=True)
     values = list(values)
     of = guessed(values) if type is None else type_of(type)
     return column_over([built(field_of_type(of), values)])

@@ -88,3 +88,17 @@ fn a_column_is_described_anew() {
     let wanted = Error::Shape("name: expected no byte 0, found one".into());
     assert_eq!(column.described("a\0b", 0).unwrap_err(), wanted);
 }
+
+/// Returns structs in structs, so many levels with the column of numbers at the end.
+fn nested(levels: usize) -> Column {
+    (1..levels).fold(Column::numbers(&[]), |column, _| {
+        Column::structs(0, vec![("x", column)])
+    })
+}
+
+#[test]
+fn an_empty_column_has_at_most_64_levels() {
+    assert_eq!(empty(&nested(64)).len(), 0);
+    let found = Stream::of(&nested(65), Vec::new()).and_then(|mut stream| stream.empty());
+    assert!(matches!(found, Err(Error::Depth(_))));
+}

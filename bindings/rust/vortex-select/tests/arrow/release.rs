@@ -255,3 +255,17 @@ fn deep_columns_are_dropped_on_a_small_stack() {
         .unwrap();
     thread.join().unwrap();
 }
+
+#[test]
+fn a_column_is_released_if_its_schema_or_its_array_is() {
+    let mut column = Column::numbers(&[Some(1)]);
+    assert!(!column.is_released());
+    let (mut schema, mut array) = column.into_raw();
+    // SAFETY: the structs are a column's; each `drop` releases what was moved out.
+    column = unsafe { Column::from_raw(&mut schema, &mut ArrowArray::empty()) };
+    assert!(column.is_released());
+    // SAFETY: as above; the schema was moved out before, so it counts as released.
+    column = unsafe { Column::from_raw(&mut schema, &mut array) };
+    assert!(column.is_released());
+    assert!(schema.is_released() && array.is_released());
+}

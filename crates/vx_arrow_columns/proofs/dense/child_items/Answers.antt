@@ -2,6 +2,7 @@
 use Rattle.std.proofs.Common.{◌≡◌, ◌++◌, ◌∷◌, [], ℕ, subst, arith, rules}
 use Rattle.vx_arrow_image.specs.Image.{part_of}
 use Rattle.vx_arrow_columns.specs.declared.needs.Items.{Items}
+use Rattle.vx_arrow_columns.specs.declared.places.Places.TheVariants.{Each}
 use Rattle.vx_arrow_columns.specs.Measured.{AreDenseItems}
 use Rattle.vx_arrow_columns.specs.Picks.{picking_of}
 use Rattle.vx_arrow_columns.proofs.DenseItems.{item_of, more_items, no_items_yet}
@@ -15,7 +16,7 @@ loop-j-preserved c =
     let p = part_of c.args.node.now in
     let ps = c.args.picks.now in
     let rows = c.in_ok-rows.rows in
-    let item : Items = record { list = record { places = rows.places; valid = c.in_ok-valid.valid }; end = rows.end } in
+    let item : Items = record { list = Each (record { places = rows.places; valid = c.in_ok-valid.valid }); end = rows.end } in
     let pushed : c.push.new.self.items ≡ c.loop-j.all.items ++ item ∷ [] = search rules in
     more_items p (picking_of ps.places.now ps.valid.now ps.add) c.loop-j.j item c.loop-j.all.items c.push.new.self.items pushed
     (item_of p ps.places.now ps.valid.now ps.add c.loop-j.j item c.in_ok-rows.ensures.rows c.in_ok-valid.ensures.bits) c.loop-j.invariant

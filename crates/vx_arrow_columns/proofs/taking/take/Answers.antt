@@ -12,10 +12,10 @@ first_short-requires c =
     omega (arith, planned_needs (parts_of nodes) c.args.places.now c.args.valid.now c.in-Ok.plan c.in-Ok.ensures.planned, c.deref.ensures.len, length-map nodes part_of, c.if-rooms-nodes.false)
 
 pub returns-clause-picked : goal.returns-clause-picked
-returns-clause-picked c = means_picked c.args.nodes.now _ _ refl c.in-Ok.ensures.full c.write_all.ensures c.in-Ok.ensures.within
+returns-clause-picked c = means_picked c.args.nodes.now _ _ refl c.in-Ok.ensures.full c.write_all.ensures.taken c.in-Ok.ensures.within
 
 pub returns-clause-sound : goal.returns-clause-sound
-returns-clause-sound c kept = means_some (parts_of c.args.nodes.now) _ _ c.write_all.ensures kept
+returns-clause-sound c kept = means_some (parts_of c.args.nodes.now) _ _ c.write_all.ensures.taken kept
 
 pub returns-then-rooms-nodes-clause-refused : goal.returns-then-rooms-nodes-clause-refused
 returns-then-rooms-nodes-clause-refused c same = absurd (c.if-rooms-nodes.true (omega (arith, length-map c.args.nodes.now part_of)))

@@ -41,8 +41,8 @@ write_starts-requires-clause-room c =
     let offsets = room_offsets p q (Some DenseUnion) _ c.requires.format (roomy p q _ _ _ _ c.requires.room).offsets in
     omega (arith, length_picks c.args.picks.now.places.now c.args.picks.now.valid.now c.args.picks.now.add)
 
-pub returns : goal.returns
-returns c =
+pub returns-clause-taken : goal.returns-clause-taken
+returns-clause-taken c =
     let p = part_of c.args.node.now in
     let q = the_picking c.args.picks.now in
     let ps = c.args.picks.now in

@@ -5,5 +5,5 @@ use Rattle.vx_arrow_columns.proofs.FixedLists.{fixed_list_taken}
 use Rattle.vx_arrow_columns.proofs.Rooms.{left}
 use Rattle.vx_arrow_columns.proofs.writing.write_fixed_list_node.Goals as goal
 
-pub returns : goal.returns
-returns c = let l = left _ _ _ _ _ c.requires c.write_valid_of.ensures in fixed_list_taken (part_of c.args.node.now) (the_picking c.args.picks.now) _ _ _ _ c.requires.format c.requires.readable l.shows l.valid
+pub returns-clause-taken : goal.returns-clause-taken
+returns-clause-taken c = let l = left _ _ _ _ _ c.requires c.write_valid_of.ensures.valid in fixed_list_taken (part_of c.args.node.now) (the_picking c.args.picks.now) _ _ _ _ c.requires.format c.requires.readable l.shows l.valid

@@ -14,17 +14,17 @@ pub write_numbers-requires-clause-source : goal.write_numbers-requires-clause-so
 write_numbers-requires-clause-source c = leb-true _ _ (held_by (part_of c.args.node.now) _ (Some (ListView c.args.size)) c.requires.format c.requires.readable).1
 
 pub write_numbers-requires-clause-room : goal.write_numbers-requires-clause-room
-write_numbers-requires-clause-room c = let l = left _ _ _ _ _ c.requires c.write_valid_of.ensures in l.offsets
+write_numbers-requires-clause-room c = let l = left _ _ _ _ _ c.requires c.write_valid_of.ensures.valid in l.offsets
 
 pub write_numbers-requires-2-clause-source : goal.write_numbers-requires-2-clause-source
 write_numbers-requires-2-clause-source c = leb-true _ _ (held_by (part_of c.args.node.now) _ (Some (ListView c.args.size)) c.requires.format c.requires.readable).2
 
 pub write_numbers-requires-2-clause-room : goal.write_numbers-requires-2-clause-room
-write_numbers-requires-2-clause-room c = let l = left _ _ _ _ _ c.requires c.write_valid_of.ensures in l.sizes
+write_numbers-requires-2-clause-room c = let l = left _ _ _ _ _ c.requires c.write_valid_of.ensures.valid in l.sizes
 
-pub returns : goal.returns
-returns c =
-    let l = left _ _ _ _ _ c.requires c.write_valid_of.ensures in
+pub returns-clause-taken : goal.returns-clause-taken
+returns-clause-taken c =
+    let l = left _ _ _ _ _ c.requires c.write_valid_of.ensures.valid in
     let node = c.args.node.now in
     let count = ap (λ (n : ℕ). size_of c.args.size * n) l.count in
     list_view_taken c.args.size (part_of node) (the_picking c.args.picks.now) _ _ _ _ c.requires.format c.requires.readable l.shows l.valid (omega (arith, c.write_numbers.auto.out, l.offsets)) (omega (arith, c.write_numbers-2.auto.out, l.sizes))

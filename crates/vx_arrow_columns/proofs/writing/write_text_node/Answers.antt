@@ -17,17 +17,17 @@ pub write_offsets-requires-clause-counted : goal.write_offsets-requires-clause-c
 write_offsets-requires-clause-counted c = ltb-true _ _ (counts (part_of c.args.node.now) _ (Some (Text c.args.size)) c.requires.format c.requires.readable.counted)
 
 pub write_offsets-requires-clause-room : goal.write_offsets-requires-clause-room
-write_offsets-requires-clause-room c = let l = left _ _ _ _ _ c.requires c.write_valid_of.ensures in l.offsets
+write_offsets-requires-clause-room c = let l = left _ _ _ _ _ c.requires c.write_valid_of.ensures.valid in l.offsets
 
 pub write_texts-requires-clause-cut : goal.write_texts-requires-clause-cut
 write_texts-requires-clause-cut c = (held_by (part_of c.args.node.now) _ (Some (Text c.args.size)) c.requires.format c.requires.readable).1
 
 pub write_texts-requires-clause-room : goal.write_texts-requires-clause-room
-write_texts-requires-clause-room c = let l = left _ _ _ _ _ c.requires c.write_valid_of.ensures in l.values
+write_texts-requires-clause-room c = let l = left _ _ _ _ _ c.requires c.write_valid_of.ensures.valid in l.values
 
-pub returns : goal.returns
-returns c =
-    let l = left _ _ _ _ _ c.requires c.write_valid_of.ensures in
+pub returns-clause-taken : goal.returns-clause-taken
+returns-clause-taken c =
+    let l = left _ _ _ _ _ c.requires c.write_valid_of.ensures.valid in
     text_taken c.args.size (part_of c.args.node.now) (the_picking c.args.picks.now) _ _ _ _ c.requires.format c.requires.readable l.shows l.valid (omega (arith, c.write_offsets.auto.out, l.offsets, ap (λ (n : ℕ). size_of c.args.size * (n + 1)) l.count))
     (subst (λ (n : ℕ). AreOffsets c.args.size (part_of c.args.node.now) (the_picks c.args.picks.now) n c.write_offsets.new.out) (sym l.count) c.write_offsets.ensures)
     (omega (arith, c.write_texts.auto.out, l.values)) c.write_texts.ensures

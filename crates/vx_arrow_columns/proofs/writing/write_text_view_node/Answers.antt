@@ -18,12 +18,12 @@ write_records-requires-clause-source c =
 
 pub write_records-requires-clause-room : goal.write_records-requires-clause-room
 write_records-requires-clause-room c =
-    let l = left _ _ _ _ _ c.requires c.write_valid_of.ensures in
+    let l = left _ _ _ _ _ c.requires c.write_valid_of.ensures.valid in
     let is : length c.args.picks.now.places.now * 16 ≤ length c.write_valid_of.new.room.values.now = omega (arith, l.values, l.count) in
     is
 
-pub returns : goal.returns
-returns c =
-    let l = left _ _ _ _ _ c.requires c.write_valid_of.ensures in
+pub returns-clause-taken : goal.returns-clause-taken
+returns-clause-taken c =
+    let l = left _ _ _ _ _ c.requires c.write_valid_of.ensures.valid in
     text_view_taken (part_of c.args.node.now) (the_picking c.args.picks.now) _ _ _ _ c.requires.format c.requires.readable l.shows l.valid (omega (arith, c.write_records.auto.out, l.values))
     (subst (λ (n : ℕ). AreCopied 16 c.args.node.now.values.now (part_of c.args.node.now) (the_picks c.args.picks.now) n c.write_records.new.out) (sym l.count) c.write_records.ensures)

@@ -19,8 +19,8 @@ write_ids-requires-clause-room c =
     let values = room_values p q (Some Union) _ c.requires.format (roomy p q _ _ _ _ c.requires.room).values in
     omega (arith, length_picks c.args.picks.now.places.now c.args.picks.now.valid.now c.args.picks.now.add)
 
-pub returns : goal.returns
-returns c =
+pub returns-clause-taken : goal.returns-clause-taken
+returns-clause-taken c =
     let p = (part_of c.args.node.now) in
     let q = (the_picking c.args.picks.now) in
     let ps = c.args.picks.now in

@@ -12,8 +12,8 @@ write_valid-requires-clause-room c =
     let r = roomy (part_of c.args.node.now) (picking_of ps.places.now ps.valid.now ps.add) _ _ _ _ c.requires.room in
     omega (arith, r.valid (sym c.if-not-shows_valid.ensures), length_picks ps.places.now ps.valid.now ps.add)
 
-pub returns-then-not-shows_valid : goal.returns-then-not-shows_valid
-returns-then-not-shows_valid c =
+pub returns-then-not-shows_valid-clause-valid : goal.returns-then-not-shows_valid-clause-valid
+returns-then-not-shows_valid-clause-valid c =
     let ps = c.args.picks.now in
     record {
       shows = none_shown (part_of c.args.node.now) ps.places.now ps.valid.now ps.add _ c.requires.nullable (sym c.if-not-shows_valid.ensures);
@@ -23,8 +23,8 @@ returns-then-not-shows_valid c =
       sizes = refl;
     }
 
-pub returns : goal.returns
-returns c =
+pub returns-clause-valid : goal.returns-clause-valid
+returns-clause-valid c =
     let ps = c.args.picks.now in
     record {
       shows = bits_shown (part_of c.args.node.now) ps.places.now ps.valid.now ps.add _ (sym c.if-not-shows_valid.ensures) c.write_valid.ensures;

@@ -5,8 +5,10 @@ use Rattle.vx_types.specs.RowValue.{bit}
 use Rattle.vx_types.specs.TypeTree.{bool_kind}
 use Rattle.vx_model.specs.Bool.{BoolParts, bool_column}
 use Rattle.vx_model.specs.Column.{Column}
+use Rattle.vx_model.specs.Plain.{is_unwrapped}
 use Rattle.vx_column.specs.Validity.{valid_of}
 use Rattle.vx_interleave.specs.Rows.{rows_in, stored_as}
+use Rattle.vx_interleave.proofs.PlainRows.{flat_cover}
 use Rattle.vx_interleave.proofs.Shown.{fits, shown}
 use Rattle.vx_interleave.proofs.bools.gather_bools.Goals as goal
 
@@ -21,3 +23,8 @@ returns-clause-rows c =
     let rows = rows_in c.args.cells.now in
     ap (λ (a : Column). a.rows) c.into_array.ensures ∙ ap (λ (p : BoolParts). (bool_column p).rows) c.of.ensures
     ∙ shown c.args.nullability bool_kind rows (map bit c.in_ok-bits.bits.bits) (valid_of c.in_ok-validity.validity) c.in_ok-validity.ensures c.in_ok-bits.ensures
+
+pub returns-clause-unwrapped : goal.returns-clause-unwrapped
+returns-clause-unwrapped c =
+    ap is_unwrapped c.into_array.ensures ∙ ap (λ (p : BoolParts). is_unwrapped (bool_column p)) c.of.ensures
+    ∙ flat_cover c.args.nullability (rows_in c.args.cells.now) (valid_of c.in_ok-validity.validity) c.in_ok-validity.ensures

@@ -4,6 +4,7 @@ use Rattle.std.specs.Prelude.{pos}
 use Rattle.vx_types.specs.FieldTypes.{VariantTypes}
 use Rattle.vx_types.specs.Variants.{variants_fault}
 use Rattle.vx_model.specs.Column.{Column}
+use Rattle.vx_model.specs.Plain.{is_lazy_layout}
 use Rattle.vx_interleave.specs.Rows.{rows_in}
 use Rattle.vx_interleave.specs.Tags.{id_row, places_after, tag_in}
 use Rattle.vx_interleave.specs.Unions.{variant_rows}
@@ -39,4 +40,5 @@ returns c =
     record {
       dtype = ap (λ (a : Column). a.dtype) c.unions.ensures ∙ union_typed c.in_ok-ids.ids c.in_ok-places.places v c.args.columns n rows makes;
       rows = ap (λ (a : Column). a.rows) c.unions.ensures ∙ union_made c.in_ok-ids.ids c.in_ok-places.places v c.args.columns n rows makes;
+      direct = ap (λ (a : Column). is_lazy_layout a.layout) c.unions.ensures;
     }

@@ -2,13 +2,13 @@
 use Rattle.std.proofs.Common.{◌≡◌, None, Some, true, false, sym, ap, ◌∙◌, subst}
 use Rattle.std.specs.List.{All}
 use Rattle.vx_types.specs.DType.{type_of}
-use Rattle.vx_types.specs.TypeTree.{TypeTree, is_carried}
+use Rattle.vx_types.specs.TypeTree.{TypeTree, also_nullable, is_carried, is_flat}
 use Rattle.vx_model.proofs.LazyRows.{carried-also}
 use Rattle.vx_interleave.specs.Sources.{IsSourceOf}
 use Rattle.vx_parts.specs.Plan.{lens_in, order_in}
 use Rattle.vx_parts.specs.Putting.{IsOrderFor, put_fault}
 use Rattle.vx_parts.proofs.OwnFit.{own_fit, own_refusal}
-use Rattle.vx_parts.proofs.PutFaults.{put_fault_is, sources_are}
+use Rattle.vx_parts.proofs.PutFaults.{not_memory, put_fault_is, sources_are}
 use Rattle.vx_parts.proofs.PutWhole.{put_whole}
 use Rattle.vx_parts.proofs.putting.put_together.Goals as goal
 
@@ -49,3 +49,21 @@ pub returns-clause-whole : goal.returns-clause-whole
 returns-clause-whole c = λ parts steps a.
     put_whole (type_of c.args.dtype.now) parts steps c.args.plan.now c.args.answers.now a c.in_ok-put_rows.field-0.dtype c.in_ok-put_rows.field-0.rows
     (c.in_ok-put_rows.ensures.dtype ∙ c.also_nullable-dtype.ensures) c.in_ok-put_rows.ensures.rows
+
+-- ---- nulls alone, and rows in their place
+
+pub returns-in-Some-clause-null : goal.returns-in-Some-clause-null
+returns-in-Some-clause-null c = λ nulls few same.
+    let t = type_of c.args.dtype.now in let plan = c.args.plan.now in let answers = c.args.answers.now in
+    let is : put_fault (type_of c.args.dtype.now) (lens_in c.args.plan.now.parts.items) c.args.answers.now ≡ Some c.in-Some.fault =
+    ap (λ parts. put_fault t (lens_in parts) answers) (sym c.deref.ensures.value) ∙ sym c.put_fault.ensures ∙ c.in-Some.is in
+    not_memory t plan answers c.in-Some.fault is cc
+
+pub returns-in_err-put_rows-clause-null : goal.returns-in_err-put_rows-clause-null
+returns-in_err-put_rows-clause-null c = λ nulls few same.
+    let n = c.args.plan.now.nullability in
+    let no : false ≡ true = c.in_err-put_rows.ensures.null (record { dtype = c.also_nullable-dtype.ensures ∙ ap (λ (u : TypeTree). also_nullable u n) nulls.dtype; layouts = nulls.layouts }) few in
+    absurd cc
+
+pub returns-clause-unwrapped : goal.returns-clause-unwrapped
+returns-clause-unwrapped c = λ flat. c.in_ok-put_rows.ensures.unwrapped (ap is_flat c.also_nullable-dtype.ensures ∙ flat)

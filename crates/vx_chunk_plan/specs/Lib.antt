@@ -1,0 +1,9 @@
+pub mod Faults
+pub mod Filled
+pub mod Keys
+pub mod Messages
+pub mod Picks
+pub mod Plan
+pub mod Rows
+pub mod Runs
+pub mod Scattered
