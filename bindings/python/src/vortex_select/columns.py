@@ -364,7 +364,7 @@ def column(values: Iterable[Any], type: Optional[str] = None) -> Column:
         parts = _numpy.buffers_of(values)
         if parts is not None:
             return from_buffers(*parts, trusted=True)
-    values = list(values)
+    values = values.tolist() if _numpy.is_array(values) else list(values)
     of = guessed(values) if type is None else type_of(type)
     return column_over([built(field_of_type(of), values)])
 
