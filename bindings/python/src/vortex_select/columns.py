@@ -213,8 +213,8 @@ class Column:
         Numbers without nulls are shared with the column, if it is one array, and read-only. Nulls
         give a masked array. Strings, decimals, lists and structs are objects.
 
-        >>> column([1, 2, 3]).to_numpy().sum().item()
-        6
+        Raises:
+            ImportError: numpy isn't installed.
         """
         return _numpy.to_numpy(self._chunks, self)
 
