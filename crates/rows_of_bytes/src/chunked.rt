@@ -18,72 +18,50 @@ struct Read<'a> {
 /// A row for each read.
 pub(crate) fn print_rows(rt: &impl Print, alloc: Global) -> Result<(), Fail> {
     told_are_asked(&[], &[]);
-    let none: &[u8] = &[];
+    print_orders(rt, alloc, &[])?;
+    print_nulls(rt, alloc)?;
+    print_faults(rt, alloc, &[])?;
+    print_refusals(rt)?;
+    print_runs(rt, &[0, 2, 3, 9, 10], 4)
+}
+
+// Picks in any order, and chunks of any length.
+fn print_orders(rt: &impl Print, alloc: Global, none: &[u8]) -> Result<(), Fail> {
+    let short = picked(&[7, 6, 1], none, 8, 3, 2);
+    let single = picked(&[2, 0, 2], none, 3, 1, 1);
+    let mixed = picked(&[5, 0, 4, 5, 3], none, 6, 2, 1);
     print_read(rt, alloc, "no picks", &picked(&[], none, 8, 3, 1))?;
     print_read(rt, alloc, "one chunk", &picked(&[2, 0], none, 3, 3, 1))?;
-    print_read(
-        rt,
-        alloc,
-        "a shorter chunk at the end",
-        &picked(&[7, 6, 1], none, 8, 3, 2),
-    )?;
-    print_read(
-        rt,
-        alloc,
-        "chunks of a row",
-        &picked(&[2, 0, 2], none, 3, 1, 1),
-    )?;
-    print_read(
-        rt,
-        alloc,
-        "in any order and twice",
-        &picked(&[5, 0, 4, 5, 3], none, 6, 2, 1),
-    )?;
-    print_read(
-        rt,
-        alloc,
-        "nulls",
-        &picked(&[4, 9, 0, 9], &[0b0101], 6, 4, 1),
-    )?;
+    print_read(rt, alloc, "a shorter chunk at the end", &short)?;
+    print_read(rt, alloc, "chunks of a row", &single)?;
+    print_read(rt, alloc, "in any order and twice", &mixed)
+}
+
+// Picks that are null, and rows of several bytes.
+fn print_nulls(rt: &impl Print, alloc: Global) -> Result<(), Fail> {
+    let mixed = picked(&[4, 9, 0, 9], &[0b0101], 6, 4, 1);
+    let wide = picked(&[3, 1, 2], &[], 4, 2, 3);
+    let run = picked(&[2, 3, 4, 5], &[], 8, 8, 1);
+    print_read(rt, alloc, "nulls", &mixed)?;
     print_read(rt, alloc, "nulls alone", &picked(&[0, 0], &[0], 2, 2, 3))?;
-    print_read(
-        rt,
-        alloc,
-        "rows of three bytes",
-        &picked(&[3, 1, 2], none, 4, 2, 3),
-    )?;
-    print_read(
-        rt,
-        alloc,
-        "a run of rows",
-        &picked(&[2, 3, 4, 5], none, 8, 8, 1),
-    )?;
-    print_read(
-        rt,
-        alloc,
-        "a place past the rows",
-        &picked(&[1, 6, 7], none, 6, 4, 1),
-    )?;
+    print_read(rt, alloc, "rows of three bytes", &wide)?;
+    print_read(rt, alloc, "a run of rows", &run)
+}
+
+// Reads that fail.
+fn print_faults(rt: &impl Print, alloc: Global, none: &[u8]) -> Result<(), Fail> {
+    let past = picked(&[1, 6, 7], none, 6, 4, 1);
+    let few = picked(&[0, 1, 2, 3, 4, 5, 6, 7, 8], &[255], 9, 4, 1);
+    let bare = picked(&[0], none, 6, 4, 0);
+    print_read(rt, alloc, "a place past the rows", &past)?;
     print_read(
         rt,
         alloc,
         "no rows in a chunk",
         &picked(&[0], none, 6, 0, 1),
     )?;
-    print_read(
-        rt,
-        alloc,
-        "a bit too few",
-        &picked(&[0, 1, 2, 3, 4, 5, 6, 7, 8], &[255], 9, 4, 1),
-    )?;
-    print_read(
-        rt,
-        alloc,
-        "rows without bytes",
-        &picked(&[0], none, 6, 4, 0),
-    )?;
-    print_refusals(rt)?;
-    print_runs(rt, &[0, 2, 3, 9, 10], 4)
+    print_read(rt, alloc, "a bit too few", &few)?;
+    print_read(rt, alloc, "rows without bytes", &bare)
 }
 
 fn picked<'a>(

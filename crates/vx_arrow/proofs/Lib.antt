@@ -1,3 +1,4 @@
+pub mod KnownLists
 pub mod Chunks
 mod Copied
 pub mod FirstLack

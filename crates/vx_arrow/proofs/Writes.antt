@@ -71,16 +71,26 @@ byte_put picks old out b byte m own room = record {
 
 -- ---- places of picks
 
+-- f of one item more is written
+pub next_written : {X : Type 0} (f : X → ℕ) (items : List X) (d : X) (old places : List ℕ) (k : ℕ) (x : X) → length items ≤ length old → k < length items
+    → places ≡ map f (take k items) ++ drop k old → x ≡ get_or items k d
+    → set places k (f x) ≡ map f (take (k + 1) items) ++ drop (k + 1) old
+next_written f items d old places k x fits h is pick =
+    let front = map f (take k items) in
+    let long : length front ≡ k = length-map (take k items) f ∙ length-take-le k items (omega arith) in
+    let cut : drop k old ≡ get_or old k 0 ∷ drop (k + 1) old = drop-cons old k 0 (omega arith) ∙ rw (add-one) refl in
+    let more : map f (take (k + 1) items) ≡ front ++ f x ∷ [] =
+    ap (map f) (take_more items k d h) ∙ map_push f (take k items) (get_or items k d) ∙ ap (λ y. front ++ f y ∷ []) (sym pick) in
+    ap (λ l. set l k (f x)) (is ∙ ap (λ l. front ++ l) cut)
+    ∙ set_at front (get_or old k 0) (drop (k + 1) old) (f x) k long
+    ∙ sym (append_assoc front (f x ∷ []) (drop (k + 1) old))
+    ∙ ap (λ l. l ++ drop (k + 1) old) (sym more)
+
 pub next_placed : (picks : List (Option ℕ)) (old places : List ℕ) (k : ℕ) (x : Option ℕ) → length picks ≤ length old → k < length picks
     → places ≡ map place_of (take k picks) ++ drop k old → x ≡ get_or picks k None
     → set places k (place_of x) ≡ map place_of (take (k + 1) picks) ++ drop (k + 1) old
-next_placed picks old places k x fits h is pick =
-    let front = map place_of (take k picks) in
-    let long : length front ≡ k = length-map (take k picks) place_of ∙ length-take-le k picks (omega arith) in
-    let cut : drop k old ≡ get_or old k 0 ∷ drop (k + 1) old = drop-cons old k 0 (omega arith) ∙ rw (add-one) refl in
-    let more : map place_of (take (k + 1) picks) ≡ front ++ place_of x ∷ [] =
-    ap (map place_of) (take_more picks k None h) ∙ map_push place_of (take k picks) (get_or picks k None) ∙ ap (λ y. front ++ place_of y ∷ []) (sym pick) in
-    ap (λ l. set l k (place_of x)) (is ∙ ap (λ l. front ++ l) cut)
-    ∙ set_at front (get_or old k 0) (drop (k + 1) old) (place_of x) k long
-    ∙ sym (append_assoc front (place_of x ∷ []) (drop (k + 1) old))
-    ∙ ap (λ l. l ++ drop (k + 1) old) (sym more)
+next_placed picks = next_written place_of picks None
+
+pub same_items : (items : List ℕ) → map (λ (p : ℕ). p) items ≡ items
+same_items [] = refl
+same_items (x ∷ items) = ap (λ l. x ∷ l) (same_items items)

@@ -10,6 +10,7 @@ ghost use Rattle.vx_arrow.specs.Image.{first_lack, step_parts, steps_in};
 ghost use Rattle.vx_arrow.specs.Written.{ArePlaced, AreShown, need_of};
 
 use crate::image::StepImage;
+use crate::known::known_picks;
 use crate::lacks::first_lack;
 use crate::need::Need;
 use crate::reading::steps_of;
@@ -19,6 +20,7 @@ use std::alloc::Global;
 use vx_bits::NoMemory;
 use vx_steps::{SelectError, Step, check_steps, takes_nullability};
 use vx_take::Picks;
+use vx_types::Nullability;
 
 // The steps that the images mean.
 fn read(alloc: Global, images: &[StepImage]) -> Result<Vec<Step>, Refusal>
@@ -70,6 +72,9 @@ pub fn count(alloc: Global, len: usize, steps: &[StepImage]) -> Result<Need, Ref
     ensures need { IfOk result (HasNeed len (map step_parts steps.now)) }
     ensures fault { IfErr result (IsRefusal len (map step_parts steps.now) (λ _. ⊥)) }
 {
+    if let Some(picks) = known_picks(steps, len) {
+        return Ok(Need::of(picks.len(), Nullability::NonNullable));
+    }
     let steps = read(alloc, steps)?;
     need_of(len, &steps)
 }
@@ -99,6 +104,14 @@ pub fn compose(
     ensures kept_places { OnErr result (places.new ≡ places.old) }
     ensures kept_valid { OnErr result (valid.new ≡ valid.old) }
 {
+    if let Some(picks) = known_picks(steps, len) {
+        let need = Need::of(picks.len(), Nullability::NonNullable);
+        if !need.has_room(places.len(), valid.len()) {
+            return Err(Refusal::Room(need));
+        }
+        picks.write(len, places);
+        return Ok(need);
+    }
     let steps = read(alloc, steps)?;
     let need = need_of(len, &steps)?;
     if !need.has_room(places.len(), valid.len()) {

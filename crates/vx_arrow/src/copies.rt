@@ -49,7 +49,19 @@ pub(crate) fn validity_in(
     Validity::from_bits(alloc, bits_in(alloc, bytes, offset, len)?)
 }
 
-// The `len` records of the bytes from record `offset` on. Fails only with `NoMemory`.
+/// The `len` records of the bytes from record `offset` on.
+#[inline(always)]
+pub(crate) fn records_at<const W: usize>(bytes: &[u8], offset: usize, len: usize) -> &[[u8; W]]
+    requires wide { 0 < W }
+    requires counted { offset + len < 2 ^ 63 }
+    requires held { holds_records W bytes.now (offset + len) ≡ true }
+    ensures { result.now ≡ records_in W bytes.now offset len }
+{
+    let (records, _) = bytes.as_chunks::<W>();
+    &records[offset..offset + len]
+}
+
+// The `len` records of the bytes from record `offset` on, copied. Fails only with `NoMemory`.
 fn records_of_width<const W: usize>(
     alloc: Global,
     bytes: &[u8],
@@ -61,11 +73,8 @@ fn records_of_width<const W: usize>(
     requires held { holds_records W bytes.now (offset + len) ≡ true }
     ensures { IfOk result (λ r. r ≡ records_in W bytes.now offset len) }
 {
-    let (records, _) = bytes.as_chunks::<W>();
-    Buffer::from_vec(
-        alloc,
-        Vec::from_slice(alloc, &records[offset..offset + len])?,
-    )
+    let records = records_at::<W>(bytes, offset, len);
+    Buffer::from_vec(alloc, Vec::from_slice(alloc, records)?)
 }
 
 // The `len` records, as wide as the type, of the bytes from record `offset` on. Fails only with

@@ -5,6 +5,7 @@
 mod composing;
 mod copies;
 mod image;
+mod known;
 mod lacks;
 mod need;
 mod reading;

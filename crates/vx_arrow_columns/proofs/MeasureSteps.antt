@@ -8,10 +8,10 @@ use Rattle.vx_arrow_image.specs.declared.format.Offsets.{Offsets}
 use Rattle.vx_arrow_image.specs.declared.format.Offsets.TheVariants.{Short, Long}
 use Rattle.vx_arrow_image.specs.Image.{Part, holds_offsets, is_cut, limit_of, offset_at}
 use Rattle.vx_arrow_image.proofs.CutRows.{cut_end, cut_from, cut_small, cut_up}
-use Rattle.vx_arrow_columns.specs.Measured.{AreBelow}
+use Rattle.vx_arrow_columns.specs.Measured.{AreBelow, AreItems}
 use Rattle.vx_arrow_columns.specs.Picks.{items_len, items_of, place_of, row_items}
 use Rattle.vx_arrow_columns.specs.Taken.{AllAt, AreCutAt}
-use Rattle.vx_arrow_columns.proofs.Cuts.{len_zero}
+use Rattle.vx_arrow_columns.proofs.Cuts.{len_all, len_zero}
 use Rattle.vx_arrow_columns.proofs.Steps.{next_len, none_some, row_none, row_some, same_some}
 
 -- ---- what is measured
@@ -167,3 +167,15 @@ places_none z p q count k total new places more last last' h there step same e t
 pub limit_few : (z : Offsets) → limit_of z ≤ 2 ^ 60
 limit_few Short = lit≤ tt
 limit_few Long = omega arith
+
+-- all picks are gone over
+pub all_items : (z : Offsets) (p : Part) (q : List (Option ℕ)) (count k total : ℕ) (places : List ℕ) (last : ℕ) → holds_offsets z p ≡ true → length q ≡ k → ItemsTo z p q count k total places last → AreItems z p q places last
+all_items z p q count k total places last held all t =
+    let past : length q ≤ k = omega arith in
+    record {
+      cut = cut_any z p q count (all_cut z p q count k held past t.lens.cut);
+      items = t.items ∙ items_all z p q k past;
+      small = let s = t.lens.small in let e = t.lens.len ∙ len_all z p q k past in omega arith;
+      below = t.below;
+      reached = λ n cut. t.reached n (record { all = λ j i h e. cut.cut j i (omega arith) e });
+    }

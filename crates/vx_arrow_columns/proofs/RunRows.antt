@@ -4,7 +4,10 @@ use Rattle.std.proofs.Math.Nat.{mul-le-mul_right, add-mul}
 use Rattle.vx_runs.specs.declared.runs.Run.{Run}
 use Rattle.vx_runs.specs.Runs.{run_places}
 use Rattle.vx_runs.proofs.RunPlaces.{len_within, more_len, no_places, no_run, place_at}
-use Rattle.vx_arrow_image.specs.Image.{Part, is_placed}
+use Rattle.vx_arrow_image.specs.declared.image.Node.{Node}
+use Rattle.vx_arrow_image.specs.Image.{Part, is_placed, part_of}
+use Rattle.vx_arrow_columns.specs.declared.places.RunPicks.{RunPicks}
+use Rattle.vx_arrow_columns.specs.Asked.{the_run_picks}
 use Rattle.vx_arrow_columns.specs.Picks.{picks_of}
 use Rattle.vx_arrow_columns.specs.Taken.{AreCopied, AreWithin}
 use Rattle.vx_arrow_columns.proofs.Columns.{place_some}
@@ -44,6 +47,11 @@ is_among p rs add k w len r h e some within placed room =
     let end = run_end rs add p.len k r h e some within in
     let last : p.offset + add + r.start + r.len ≤ p.offset + p.len = omega arith in
     record { last = last; small = placed_end p placed; bytes = run_bytes (p.offset + add + r.start) r.len (p.offset + p.len) w len last room }
+
+-- run k of these picks, if it has places
+pub run_among : (node : Node) (picks : RunPicks) (k : ℕ) → k < length picks.runs.now → 0 < (get_or picks.runs.now k no_run).len → AreWithin (the_run_picks picks) node.len → is_placed (part_of node) ≡ true → (node.offset + node.len) * node.width ≤ length node.values.now → IsAmong (part_of node) picks.add node.width (length node.values.now) (get_or picks.runs.now k no_run)
+run_among node picks k h some within placed room =
+    is_among (part_of node) picks.runs.now picks.add k node.width (length node.values.now) (get_or picks.runs.now k no_run) h refl some within placed room
 
 -- the rows of the first k runs are copied, which are so many bytes
 pub record RunsTo (w : ℕ) (src : List ℕ) (p : Part) (rs : List Run) (add k at : ℕ) (out : List ℕ) : Type 0 where

@@ -178,3 +178,9 @@ refused_by nodes q short refusals.NoMemory h = tt
 
 pub short_of : (needs all : List Need) (rooms : List Room) (k : ℕ) → needs ≡ all → IsShort needs rooms k → IsShort all rooms k
 short_of needs all rooms k e s = subst (λ (n : List Need). IsShort n rooms k) e s
+
+-- the only need
+pub only_set : (old : List Need) (x : Need) → length old ≡ 1 → set old 0 x ≡ x ∷ []
+only_set [] x h = absurd (omega arith)
+only_set (y ∷ []) x h = refl
+only_set (y ∷ z ∷ old) x h = absurd (omega arith)

@@ -1,5 +1,5 @@
 //! Bytes of one width, copied for each row at picks.
-ghost use Rattle.std.specs.Prelude.{◌≡◌, ◌+◌, ◌*◌, ◌≤◌, length, true};
+ghost use Rattle.std.specs.Prelude.{◌≡◌, ◌+◌, ◌*◌, ◌≤◌, false, length, true};
 ghost use Rattle.vx_arrow_image.specs.Image.{is_placed, part_of, size_of};
 ghost use Rattle.vx_arrow_columns.specs.Asked.{AreRows, the_picks, the_run_picks};
 ghost use Rattle.vx_arrow_columns.specs.Picks.{picks_of};
@@ -8,7 +8,7 @@ ghost use Rattle.vx_runs.specs.Runs.{run_places};
 
 use crate::places::{Picks, RunPicks, are_rows, row, row_at};
 use vx_arrow_image::{Node, Offsets};
-use vx_runs::{put_block, put_bytes, put_run};
+use vx_runs::{put_block, put_bytes, put_run, run_of};
 
 // Writes the bytes of the row at each place, all of which are rows, also under null picks, of a
 // width that is known beforehand. Node and picks are copied, so the loop keeps them in registers.
@@ -64,27 +64,6 @@ fn write_values(node: &Node, picks: &Picks, out: &mut [u8])
     }
 }
 
-/// Writes values of a fixed width.
-pub(crate) fn write_fixed(node: &Node, picks: &Picks, out: &mut [u8])
-    requires placed { is_placed (part_of node.now) ≡ true }
-    requires within { AreWithin (the_picks picks.now) node.now.len }
-    requires values { (node.now.offset + node.now.len) * node.now.width
-        ≤ length node.now.values.now }
-    requires room { length picks.now.places.now * node.now.width ≤ length out.old }
-    ensures { AreCopied node.now.width node.now.values.now (part_of node.now) (the_picks picks.now)
-        (length picks.now.places.now) out.new }
-{
-    match node.width {
-        1 => write_records::<1>(node.values, node, picks, out),
-        2 => write_records::<2>(node.values, node, picks, out),
-        4 => write_records::<4>(node.values, node, picks, out),
-        8 => write_records::<8>(node.values, node, picks, out),
-        16 => write_records::<16>(node.values, node, picks, out),
-        32 => write_records::<32>(node.values, node, picks, out),
-        _ => write_values(node, picks, out),
-    }
-}
-
 /// Writes the values of the rows at runs of places, of any width. It isn't inlined, so that its loop
 /// has the registers.
 #[inline(never)]
@@ -109,6 +88,56 @@ pub(crate) fn write_runs(node: &Node, picks: &RunPicks, out: &mut [u8])
             put_run::<32>(out, at, own.values, from, len);
             at += len;
         }
+    }
+}
+
+// Writes the values of the rows at picks that are one run, and says whether they are.
+fn writes_run(node: &Node, picks: &Picks, out: &mut [u8]) -> bool
+    requires placed { is_placed (part_of node.now) ≡ true }
+    requires within { AreWithin (the_picks picks.now) node.now.len }
+    requires values { (node.now.offset + node.now.len) * node.now.width
+        ≤ length node.now.values.now }
+    requires room { length picks.now.places.now * node.now.width ≤ length out.old }
+    ensures copied { result ≡ true → AreCopied node.now.width node.now.values.now
+        (part_of node.now) (the_picks picks.now) (length picks.now.places.now) out.new }
+    ensures kept { result ≡ false → out.new ≡ out.old }
+{
+    if !picks.valid.is_empty() {
+        return false;
+    }
+    let Some(run) = run_of(picks.places) else {
+        return false;
+    };
+    let runs = [run];
+    let all = RunPicks {
+        runs: &runs,
+        add: picks.add,
+    };
+    write_runs(node, &all, out);
+    true
+}
+
+/// Writes values of a fixed width.
+pub(crate) fn write_fixed(node: &Node, picks: &Picks, out: &mut [u8])
+    requires placed { is_placed (part_of node.now) ≡ true }
+    requires within { AreWithin (the_picks picks.now) node.now.len }
+    requires values { (node.now.offset + node.now.len) * node.now.width
+        ≤ length node.now.values.now }
+    requires room { length picks.now.places.now * node.now.width ≤ length out.old }
+    ensures { AreCopied node.now.width node.now.values.now (part_of node.now) (the_picks picks.now)
+        (length picks.now.places.now) out.new }
+{
+    if writes_run(node, picks, out) {
+        return;
+    }
+    match node.width {
+        1 => write_records::<1>(node.values, node, picks, out),
+        2 => write_records::<2>(node.values, node, picks, out),
+        4 => write_records::<4>(node.values, node, picks, out),
+        8 => write_records::<8>(node.values, node, picks, out),
+        16 => write_records::<16>(node.values, node, picks, out),
+        32 => write_records::<32>(node.values, node, picks, out),
+        _ => write_values(node, picks, out),
     }
 }
 

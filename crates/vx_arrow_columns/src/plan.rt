@@ -104,8 +104,8 @@ fn sizes_len(node: &Node, count: u64) -> u64
     }
 }
 
-// What a node's rows at picks need, which have so many bytes of values.
-fn need_for(node: &Node, picks: &Picks, values: u64) -> Need
+/// What a node's rows at picks need, which have so many bytes of values.
+pub(crate) fn need_for(node: &Node, picks: &Picks, values: u64) -> Need
     requires few { length picks.now.places.now < 2 ^ 60 }
     requires values { values ≡ values_len (format_in node.now.format) (part_of node.now)
         (the_picks picks.now) }

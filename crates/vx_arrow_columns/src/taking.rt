@@ -1,24 +1,70 @@
 //! What a column's rows at picks need, and the rows themselves.
-ghost use Rattle.std.specs.Prelude.{◌≡◌, IfErr, IfNone, IfSome, OnErr, OnOk, false, length, IsSome, true};
+ghost use Rattle.std.specs.Prelude.{◌≡◌, ◌∷◌, [], IfErr, IfNone, IfSome, OnErr, OnOk, false, length, IsSome, true};
 ghost use Rattle.vx_arrow_columns.specs.Answer.{AreKeptSound, AreTaken, HaveRoom, IsNeedRefusal, IsRefusal, IsShort, IsUnmeant, MeansPicked};
-ghost use Rattle.vx_arrow_image.specs.Image.{column_in, part_of, parts_of};
-ghost use Rattle.vx_arrow_columns.specs.Picks.{need_of, needs_of, picking_of};
+ghost use Rattle.vx_arrow_image.specs.Image.{column_in, format_in, part_of, parts_of};
+ghost use Rattle.vx_arrow_columns.specs.Asked.{the_picking, the_picks};
+ghost use Rattle.vx_arrow_columns.specs.Picks.{need_of, needs_of, own_need, picking_of, values_len};
 ghost use Rattle.vx_arrow_columns.specs.Planned.{Fits, IsListed, IsPlanned, picking_in};
 ghost use Rattle.vx_arrow_columns.specs.Written.{IsRoomTaken, KeepLists, KeepsLists, has_room, written};
 ghost use Rattle.vx_arrow_columns.specs.Taken.{IsReadable};
 
-use crate::places::Places;
-use crate::plan::{Job, JobPicks, Plan, picks_for, plan_of};
+use crate::places::{Picks, Places};
+use crate::plan::{Job, JobPicks, Plan, need_for, picks_for, plan_of};
 use crate::writing::{write_node, write_plain};
 use std::alloc::Global;
-use vx_arrow_image::{Need, Node, Refusal, Room};
+use vx_arrow_image::{Format, Need, Node, Refusal, Room, format_of};
+
+// How many bytes of values a node needs, where that depends on how many picks there are alone.
+#[tactic(auto, using(crate::proofs::PickReads::length_picks))]
+fn values_by_count(node: &Node, picks: &Picks) -> Option<u64>
+    ensures { IfSome result (λ n. n
+        ≡ values_len (format_in node.now.format) (part_of node.now) (the_picks picks.now)) }
+{
+    let count = picks.places.len() as u64;
+    match format_of(node.format) {
+        Some(Format::Nulls) => Some(0),
+        Some(Format::Bits) => Some(count.div_ceil(8)),
+        Some(Format::Fixed) => count.checked_mul(node.width),
+        _ => None,
+    }
+}
+
+// What a node needs, where that depends on how many picks there are alone.
+fn need_by_count(node: &Node, picks: &Picks) -> Option<Need>
+    ensures { IfSome result
+        (λ need. need ≡ own_need (part_of node.now) (the_picking picks.now)) }
+{
+    let values = values_by_count(node, picks)?;
+    if picks.places.len() as u64 >= 1 << 60 || values >= 1 << 63 {
+        return None;
+    }
+    Some(need_for(node, picks, values))
+}
+
+// What a column without children needs, where that depends on how many picks there are alone.
+fn only_need(nodes: &[Node], places: &[u64], valid: &[u8]) -> Option<Need>
+    ensures one { IfSome result (λ _. length nodes.now ≡ 1) }
+    ensures need { IfSome result (λ need. need ∷ []
+        ≡ needs_of (parts_of nodes.now) (picking_of places.now valid.now 0)) }
+{
+    if nodes.len() != 1 {
+        return None;
+    }
+    let picks = Picks {
+        places,
+        valid,
+        add: 0,
+    };
+    need_by_count(&nodes[0], &picks)
+}
 
 /// Says for each node of a column how many rows and bytes its rows at picks are. The children of
 /// views are kept as they stand, and need no bytes.
 ///
 /// A pick is a row's number, counted from the first one; it is null where its bit of `valid` is
 /// clear, and then not looked at. No bits: none is null. [`take`] has the refusals. Nothing is
-/// written where one comes.
+/// written where one comes. What values of a fixed width need depends on how many picks there are:
+/// for a column of one such node nothing else is looked at, and [`take`] tests it.
 pub fn sizes(
     alloc: Global,
     nodes: &[Node],
@@ -35,6 +81,10 @@ pub fn sizes(
 {
     if needs.len() != nodes.len() {
         return Err(Refusal::Room { node: nodes.len() });
+    }
+    if let Some(need) = only_need(nodes, places, valid) {
+        needs[0] = need;
+        return Ok(());
     }
     let plan = plan_of(alloc, nodes, places, valid)?;
     needs.copy_from_slice(&plan.needs);

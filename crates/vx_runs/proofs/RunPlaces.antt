@@ -1,7 +1,7 @@
 -- The places of one run more.
-use Rattle.std.proofs.Common.{zero, suc, ◌≡◌, ℕ, ◌+◌, ◌<◌, ◌≤◌, List, [], ◌∷◌, ◌++◌, ◌-◌, length, get_or, take, ap, ap₂, sym, ◌∙◌, refl, arith, length-append, append_assoc}
+use Rattle.std.proofs.Common.{zero, suc, ◌≡◌, ℕ, ◌+◌, ◌<◌, ◌≤◌, List, [], ◌∷◌, ◌++◌, length, get_or, take, ap, sym, ◌∙◌, refl, arith, length-append}
 use Rattle.std.specs.List.{flat_map, range_with_len}
-use Rattle.std.proofs.lemmas.List.{length-take-le, take-take, take_all, take_at, take_more, flat_map_more}
+use Rattle.std.proofs.lemmas.List.{take_all, take_more, flat_map_more, append-nil}
 use Rattle.std.proofs.lemmas.List.Concat.{get_or-flat_map}
 use Rattle.std.proofs.lemmas.List.Folds.{length-flat_map-take}
 use Rattle.std.proofs.lemmas.List.FromFn.{length-range_with_len, get_or-range_with_len}
@@ -51,3 +51,7 @@ pushed_places rs new r e = ap (flat_map places_of_run) e ∙ sym (flat_map_more 
 pub bare_places : (rs : List Run) → rs ≡ [] → run_places rs ≡ []
 unfolding run_places
 bare_places rs e = ap (flat_map places_of_run) e
+
+pub one_run : (r : Run) → run_places (r ∷ []) ≡ range_with_len r.start r.len
+unfolding run_places
+one_run r = append-nil (range_with_len r.start r.len)

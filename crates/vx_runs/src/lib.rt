@@ -7,4 +7,4 @@ mod runs;
 
 pub use crate::places::{are_all_below, greater};
 pub use crate::puts::{put_block, put_bytes, put_run, with_bit};
-pub use crate::runs::{Run, places_of, push_range, run_len};
+pub use crate::runs::{Run, places_of, push_range, run_len, run_of};

@@ -1,5 +1,5 @@
 //! Runs of places that follow one another.
-ghost use Rattle.std.specs.Prelude.{◌≡◌, ◌-◌, ◌^◌, ◌≤◌, ◌++◌, IfNone, IfSome, OnOk, length};
+ghost use Rattle.std.specs.Prelude.{◌≡◌, ◌-◌, ◌^◌, ◌≤◌, ◌++◌, ◌∷◌, [], IfNone, IfSome, OnOk, length};
 ghost use Rattle.std.specs.List.{range_with_len};
 ghost use Rattle.vx_runs.specs.Runs.{run_places};
 
@@ -54,4 +54,26 @@ pub fn places_of(alloc: Global, runs: &[Run]) -> Option<Vec<u64>>
         }
     }
     Some(places)
+}
+
+/// Returns the run that the places are, if each follows the one before it. `None` if there are no
+/// places.
+pub fn run_of(places: &[u64]) -> Option<Run>
+    ensures { IfSome result (λ run. run_places (run ∷ []) ≡ places.now) }
+{
+    let last = places.len().checked_sub(1)?;
+    let start = places[0];
+    // Most lists that aren't a run have another last place.
+    if start.checked_add(last as u64)? != places[last] {
+        return None;
+    }
+    for k in 0..places.len() {
+        if places[k] != start + k as u64 {
+            return None;
+        }
+    }
+    Some(Run {
+        start,
+        len: places.len() as u64,
+    })
 }

@@ -8,7 +8,6 @@ use Rattle.vx_column.specs.Validity.{valid_of}
 use Rattle.vx_arrow.specs.Image.{record_at}
 use Rattle.vx_arrow.proofs.SoundColumns.{numbers_same}
 use Rattle.vx_arrow.proofs.copies.numbers_in.Goals as goal
-use Rattle.vx_bits.proofs.Results.{made, no_refusal}
 
 pub record_column-requires-clause-fitting : goal.record_column-requires-clause-fitting
 record_column-requires-clause-fitting c =

@@ -1,5 +1,5 @@
 -- The items of one list more.
-use Rattle.std.proofs.Common.{◌≡◌, ◌-◌, ◌≤◌, ◌<◌, ◌++◌, ap, sym, ◌∙◌, refl, arith, length, rules}
+use Rattle.std.proofs.Common.{◌≡◌, ◌-◌, ◌<◌, ◌++◌, ap, sym, ◌∙◌, refl, arith, length, rules}
 use Rattle.std.specs.List.{range_with_len}
 use Rattle.vx_arrow_image.specs.Image.{part_of}
 use Rattle.vx_arrow_columns.specs.Picks.{picks_of}
@@ -7,8 +7,7 @@ use Rattle.std.proofs.lemmas.Result.{err_from_is_err_and}
 use Rattle.vx_arrow_columns.proofs.Lacking.{fault_weaker, not_cut}
 use Rattle.vx_arrow_columns.proofs.PickReads.{length_picks, placed_end}
 use Rattle.vx_arrow_columns.proofs.Steps.{len_after, at_pick}
-use Rattle.vx_arrow_columns.proofs.MeasureSteps.{all_cut, cut_any, items_all, limit_few, no_places, places_none, places_some}
-use Rattle.vx_arrow_columns.proofs.Cuts.{len_all}
+use Rattle.vx_arrow_columns.proofs.MeasureSteps.{all_items, limit_few, no_places, places_none, places_some}
 use Rattle.vx_arrow_columns.proofs.needs.list_places.Goals as goal
 use Rattle.vx_arrow_columns.proofs.needs.list_places.Goals.{in-Some+in_ok-cut+else-total-limit+else-is_err, in_default}
 
@@ -44,18 +43,8 @@ loop-k-preserved c =
 
 pub returns-clause-items : goal.returns-clause-items
 returns-clause-items c =
-    let p = part_of c.args.node.now in
     let ps = c.args.picks.now in
-    let q = picks_of ps.places.now ps.valid.now ps.add in
-    let t = c.loop-k.invariant in
-    let all : length q ≤ c.loop-k.k = omega (arith, length_picks ps.places.now ps.valid.now ps.add) in
-    record {
-      cut = cut_any c.args.size p q c.args.items (all_cut c.args.size p q c.args.items c.loop-k.k (sym c.if-not-holds_offsets.ensures) all t.lens.cut);
-      items = t.items ∙ items_all c.args.size p q c.loop-k.k all;
-      small = let s = t.lens.small in let e = t.lens.len ∙ len_all c.args.size p q c.loop-k.k all in omega arith;
-      below = t.below;
-      reached = λ n cut. t.reached n (record { all = λ j i h e. cut.cut j i (omega (arith, length_picks ps.places.now ps.valid.now ps.add)) e });
-    }
+    all_items c.args.size (part_of c.args.node.now) _ c.args.items c.loop-k.k _ _ _ (sym c.if-not-holds_offsets.ensures) (omega (arith, length_picks ps.places.now ps.valid.now ps.add)) c.loop-k.invariant
 
 pub holds_offsets-requires : goal.holds_offsets-requires
 holds_offsets-requires c = placed_end (part_of c.args.node.now) c.requires.placed
