@@ -8,6 +8,7 @@ pub mod Slots
 pub mod PartSlices
 pub mod PutPicks
 pub mod OwnSteps
+pub mod OwnSound
 pub mod PlannedParts
 pub mod PutWhole
 pub mod PutFaults

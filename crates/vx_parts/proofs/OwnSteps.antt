@@ -43,11 +43,11 @@ picked_items missing items ss picks sound w =
 -- ---- one step more
 
 -- how many rows are left behind steps
-abbrev left_after : ℕ → List StepValue → ℕ
+abbrev pub left_after : ℕ → List StepValue → ℕ
 left_after n [] = n
 left_after n (s ∷ ss) = left_after (rows_left s) ss
 
-length-apply_all : {X : Type 0} (missing : X) (ss : List StepValue) (items : List X) → AreSound (length items) ss → length (apply_all missing ss items) ≡ left_after (length items) ss
+pub length-apply_all : {X : Type 0} (missing : X) (ss : List StepValue) (items : List X) → AreSound (length items) ss → length (apply_all missing ss items) ≡ left_after (length items) ss
 length-apply_all missing [] items h = refl
 length-apply_all missing (s ∷ ss) items h =
     let count = length-apply missing s items (length items) refl h.0 in

@@ -4,9 +4,11 @@ use Rattle.std.specs.List.{All, list_all}
 use Rattle.std.specs.Option.{option_map}
 use Rattle.std.specs.declared.alloc.Global.{Global}
 use Rattle.vx_types.specs.declared.nullability.Nullability.TheVariants.{NonNullable}
+use Rattle.vx_types.specs.TypeTree.{TypeTree}
 use Rattle.vx_pieces.specs.Indices.{index_fault, index_nullability, index_picks}
 use Rattle.vx_steps.specs.Step.{StepValue, filter_by_step, filter_step, slice_step, step_value, take_step}
 use Rattle.vx_steps.specs.Walk.{walk, walk_picks}
+use Rattle.vx_steps.specs.Answer.{type_after}
 use Rattle.vx_steps.specs.Compose.{takes_nullability}
 use Rattle.vx_interleave.specs.Places.{list_of}
 use Rattle.vx_interleave.specs.declared.place.Place.{Place}
@@ -106,6 +108,18 @@ order_in plan = option_map (λ (v : Vec (Option Place) Global). v.items) plan.or
 abbrev pub AllPlaced : Option (List (Option Place)) → Type 0
 AllPlaced None = Unit {0}
 AllPlaced (Some order) = list_all is_some order ≡ true
+
+-- steps break no rule over n rows, leave so many of them, and keep their type
+pub record AreOwnSound (n : ℕ) (steps : List StepValue) (len : ℕ) : Type 0 where
+  pub picks : List (Option ℕ)
+  pub composed : walk n steps ≡ walk_picks picks
+  pub left : length picks ≡ len
+  pub typed : (t : TypeTree) → type_after t steps ≡ t
+
+-- each part's own steps do so over its rows, of which they leave as many as its plan says
+abbrev pub AreEachSound : List ℕ → List PartPlan → Type 0
+AreEachSound lengths parts = (k : ℕ) → k < length lengths → AreOwnSound (slice_index lengths k)
+    (list_of (steps_in parts) k) (slice_index (lens_in parts) k)
 
 -- a plan of these steps over parts of these lengths
 pub record IsPlan (lengths : List ℕ) (steps : List StepValue) (plan : Plan) : Type 0 where

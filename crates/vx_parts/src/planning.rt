@@ -9,7 +9,7 @@ ghost use Rattle.vx_steps.specs.Step.{step_value};
 ghost use Rattle.vx_steps.specs.Walk.{walk, walk_picks};
 ghost use Rattle.vx_parts.specs.Bounds.{AreBounds, end_of};
 ghost use Rattle.vx_parts.specs.Cuts.{cut_value};
-ghost use Rattle.vx_parts.specs.Plan.{AllPlaced, AreBelow, AreOwn, ArePartsOf, IsPartAt, IsPlan, IsRest, IsTakeOf, own_in, places_in};
+ghost use Rattle.vx_parts.specs.Plan.{AllPlaced, AreBelow, AreEachSound, AreOwn, ArePartsOf, IsPartAt, IsPlan, IsRest, IsTakeOf, own_in, places_in};
 
 use crate::cut::{Cut, left_bounds, own_cuts, prefix_of};
 use crate::own::{OwnPicks, cut_picks};
@@ -169,6 +169,7 @@ fn plan_sound(alloc: Global, lengths: &[usize], steps: &[Step]) -> Result<Plan, 
 pub fn plan_steps(alloc: Global, lengths: &[usize], steps: &[Step]) -> Result<Plan, SelectError>
     requires { sum lengths.now < 2 ^ 64 }
     ensures plan { IfOk result (IsPlan lengths.now (map step_value steps.now)) }
+    ensures own { IfOk result (λ plan. AreEachSound lengths.now plan.parts.items) }
     ensures unbroken { OnOk result
         (IsUnbroken (walk (sum lengths.now) (map step_value steps.now))) }
     ensures fault { IfErr result (IsFaultOf (walk (sum lengths.now) (map step_value steps.now))) }

@@ -1,8 +1,9 @@
 //! The answer to a list of steps over a column that is cut into parts.
-ghost use Rattle.std.specs.Prelude.{◌≡◌, ◌<◌, ◌^◌, IfOk, OnOk, length, map, true};
+ghost use Rattle.std.specs.Prelude.{◌≡◌, ◌≢◌, ◌<◌, ◌^◌, Err, IfOk, OnOk, false, length, map, true};
 ghost use Rattle.std.specs.List.{All, sum};
 ghost use Rattle.vx_types.specs.DType.{type_of};
-ghost use Rattle.vx_types.specs.TypeTree.{is_carried};
+ghost use Rattle.vx_types.specs.TypeTree.{is_carried, is_flat};
+ghost use Rattle.vx_model.specs.Plain.{is_lazy_layout, is_unwrapped};
 ghost use Rattle.vx_model.specs.Column.{Column};
 ghost use Rattle.vx_steps.specs.Answer.{answer_of};
 ghost use Rattle.vx_steps.specs.Compose.{IsUnbroken};
@@ -10,7 +11,8 @@ ghost use Rattle.vx_steps.specs.Step.{step_value};
 ghost use Rattle.vx_steps.specs.Walk.{walk};
 ghost use Rattle.vx_select.specs.Select.{IsAnswer};
 ghost use Rattle.vx_interleave.specs.Places.{joined};
-ghost use Rattle.vx_interleave.specs.Sources.{rows_of};
+ghost use Rattle.vx_interleave.specs.Sources.{AreNulls, rows_of};
+ghost use Rattle.vx_steps.specs.declared.cause.SelectError.TheVariants.{NoMemory as OutOfMemory};
 ghost use Rattle.vx_parts.specs.Plan.{IsPlan, steps_in};
 ghost use Rattle.vx_parts.specs.Putting.{AreOwnUnbroken, ArePartAnswers, IsPartAnswer};
 
@@ -20,7 +22,8 @@ use crate::planning::plan_steps;
 use crate::putting::put_together;
 use std::alloc::Global;
 use vx_bits::NoMemory;
-use vx_column::{Array, Columns, DType};
+use vx_column::{Array, Columns, DType, NullArray};
+use vx_interleave::are_nulls;
 use vx_mask::Policy;
 use vx_select::select;
 use vx_steps::{SelectError, Step, check_steps, compose};
@@ -118,8 +121,11 @@ fn select_sound(
     requires of_type { All (λ (c : Column). c.dtype ≡ type_of dtype.now) parts.now }
     requires len { len ≡ sum (map length (rows_of parts.now)) }
     requires unbroken { IsUnbroken (walk len (map step_value steps.now)) }
-    ensures { IfOk result (IsPartAnswer (type_of dtype.now) (joined (rows_of parts.now))
+    ensures answer { IfOk result (IsPartAnswer (type_of dtype.now) (joined (rows_of parts.now))
         (map step_value steps.now)) }
+    ensures direct { IfOk result (λ a. is_lazy_layout a.layout ≡ false) }
+    ensures unwrapped { is_flat (type_of dtype.now) ≡ true
+        → IfOk result (λ a. is_unwrapped a ≡ true) }
 {
     let lengths = lengths_of(alloc, parts)?;
     let plan = sound_plan(alloc, &lengths, steps)?;
@@ -147,10 +153,17 @@ pub fn select_parts(
     requires carried { is_carried (type_of dtype.now) ≡ true }
     requires of_type { All (λ (c : Column). c.dtype ≡ type_of dtype.now) parts.now }
     requires counted { sum (map length (rows_of parts.now)) < 2 ^ 64 }
-    ensures { IsAnswer result (answer_of (type_of dtype.now) (joined (rows_of parts.now))
+    ensures answer { IsAnswer result (answer_of (type_of dtype.now) (joined (rows_of parts.now))
         (map step_value steps.now)) }
+    ensures direct { IfOk result (λ a. is_lazy_layout a.layout ≡ false) }
+    ensures unwrapped { is_flat (type_of dtype.now) ≡ true
+        → IfOk result (λ a. is_unwrapped a ≡ true) }
+    ensures null { AreNulls (type_of dtype.now) parts.now → result ≢ Err OutOfMemory }
 {
     let len = total_rows(parts);
+    if are_nulls(dtype, parts) {
+        return select(alloc, &NullArray::new(len).into_array(), steps, policy);
+    }
     check_steps(len, steps)?;
     Ok(select_sound(alloc, dtype, parts, len, steps, policy)?)
 }
