@@ -13,56 +13,70 @@ HERE = pathlib.Path(__file__).resolve().parent
 SHIM = sorted((HERE.parent / "shim").glob("*.c"))
 
 
+def programs_of(page, languages):
+    """The language of each program of a page, its text, and what it prints."""
+    form = r"```(\w+)\n((?:(?!```)[\s\S])*)```\n\n((?:    .*\n)+)"
+    for language, program, printed in re.findall(form, (HERE.parent / page).read_text()):
+        if language in languages.split():
+            yield language, program, re.sub("(?m)^    ", "", printed)
+
+
 def programs():
-    """The language of each program, its text, and what it prints."""
-    top = HERE.parent
-    for page, languages in (top / "docs" / "ARROW.md", "python c rust"), (top / "README.md", "python"):
-        form = r"```(\w+)\n((?:(?!```)[\s\S])*)```\n\n((?:    .*\n)+)"
-        for language, program, printed in re.findall(form, page.read_text()):
-            if language in languages.split():
-                yield language, program, re.sub("(?m)^    ", "", printed)
+    """The programs of Arrow's page, and those in Python of the README."""
+    yield from programs_of("docs/ARROW.md", "python c rust")
+    yield from programs_of("README.md", "python")
 
 
-def run_python(program, folder, library):
+def run_python(program, folder):
     environment = dict(os.environ, PYTHONPATH=str(HERE / "python" / "src"), PYTHONDONTWRITEBYTECODE="1")
     return subprocess.run([sys.executable, "-c", program], env=environment, stdout=subprocess.PIPE)
 
 
-def run_c(program, folder, library):
-    source = folder / "arrow_program.c"
+def run_c(program, folder, linked):
+    source = folder / "page_program.c"
     source.write_text(program)
-    made = folder / "arrow_program"
+    made = folder / "page_program"
     words = ["cc", "-std=c99", "-Wall", "-Wextra", "-Wno-missing-field-initializers", "-Werror"]
-    words += ["-I", HERE.parent / "include", source, *SHIM]
-    subprocess.run([*words, library, "-o", made], check=True)
+    words += ["-I", HERE.parent / "include", source, *linked]
+    subprocess.run([*words, "-o", made], check=True)
     return subprocess.run([made], stdout=subprocess.PIPE)
 
 
-def run_rust(program, folder, library):
-    caller = folder / "arrow_caller"
+def run_rust(program, folder, feature):
+    caller = folder / f"{feature}_caller"
     (caller / "src").mkdir(parents=True, exist_ok=True)
     (caller / "src" / "main.rs").write_text("#![forbid(unsafe_code)]\n" + program)
+    crate = HERE / "rust" / "vortex-select"
     (caller / "Cargo.toml").write_text(
-        '[package]\nname = "arrow_caller"\nversion = "0.0.0"\nedition = "2021"\n[dependencies]\n'
-        f'vortex-select = {{ path = "{HERE / "rust" / "vortex-select"}", features = ["arrow"] }}\n[workspace]\n'
+        f'[package]\nname = "{feature}_caller"\nversion = "0.0.0"\nedition = "2021"\n[dependencies]\n'
+        f'vortex-select = {{ path = "{crate}", features = ["{feature}"] }}\n[workspace]\n'
     )
     words = ["cargo", "run", "--offline", "--quiet"]
     return subprocess.run(words, cwd=caller, stdout=subprocess.PIPE)
 
 
+def compare(language, done, printed):
+    """Print whether a program ended well, and printed what the page says."""
+    agrees = done.returncode == 0 and done.stdout.decode() == printed
+    print(f"{language} ... {'ok' if agrees else 'FAIL'}")
+    if not agrees:
+        print(done.returncode, done.stdout.decode())
+
+
 def main():
     folder, library = map(pathlib.Path, sys.argv[1:])
-    calls = {"python": run_python, "c": run_c, "rust": run_rust}
+    calls = {
+        "python": lambda program: run_python(program, folder),
+        "c": lambda program: run_c(program, folder, [*SHIM, library]),
+        "rust": lambda program: run_rust(program, folder, "arrow"),
+    }
     seen = []
     for language, program, printed in programs():
-        done = calls[language](program, folder, library)
-        agrees = done.returncode == 0 and done.stdout.decode() == printed
-        print(f"{language} ... {'ok' if agrees else 'FAIL'}")
-        if not agrees:
-            print(done.returncode, done.stdout.decode())
+        compare(language, calls[language](program), printed)
         seen.append(language)
     if sorted(seen) != sorted([*calls, "python", "python"]):
         print(f"languages {seen} ... FAIL")
 
 
-main()
+if __name__ == "__main__":
+    main()

@@ -29,7 +29,7 @@
  *   leads to as many items as its length says, a list has less than 2^63 bytes, and a list that is
  *   written overlaps no other list.
  * - Threads. Until a call returns no other thread writes to what it reads, and no other thread uses
- *   the structs that it was given. Answers may be released in any order and by any thread.
+ *   the structs that it was given. Results may be released in any order and by any thread.
  * - Memory, signals, forks, stack, processor. They are as in vortex_select.h. The calls allocate,
  *   so a signal handler must not make them. The shim recurses at most VORTEX_ARROW_LEVELS deep.
  *
@@ -109,6 +109,9 @@ struct ArrowArrayStream {
 #define VORTEX_ARROW_VERSION 1000
 
 uint32_t vortex_arrow_version(void);
+
+/* Returns the version of libvortex_arrow_c.a, which the shim is built for. */
+uint32_t vortex_arrow_library_version(void);
 
 /* Statuses. */
 enum {
@@ -262,9 +265,9 @@ typedef struct vortex_arrow_answer {
 
 /* Returns in *need how many places and how many bytes of validity vortex_arrow_compose writes.
  *
- * - LACKING: a step is malformed. `node_or_step` is its number, and `what` is 0 for an unknown
- * kind,   1 for an unknown type, 2 for lengths past INT64_MAX, 3 for too few values, 4 for too
- * little   validity, 5 for too few lengths, and 6 for too few multipliers.
+ * - LACKING: a step is malformed. `node_or_step` is its number, and `what` says why: 0 an unknown
+ *   kind; 1 an unknown type; 2 lengths past INT64_MAX; or there are too few: 3 values; 4 validity
+ *   bits; 5 lengths; 6 multipliers.
  * - BROKEN: a step is invalid. `node_or_step` is its number, and `what` says why.
  * - NO_MEMORY. */
 vortex_arrow_answer vortex_arrow_count(uint64_t len, const vortex_arrow_step *steps, size_t n_steps,
@@ -288,7 +291,8 @@ vortex_arrow_answer vortex_arrow_check(const vortex_arrow_node *nodes, size_t n_
  *
  * Only the rows at the places are tested, and the numbers and the lengths of each node. The
  * children of views and of list views are kept: they need no bytes, and only their lengths are
- * tested.
+ * tested. A column of one node of nulls, bits or a fixed width isn't tested at all: its sizes depend
+ * on the number of places alone, and vortex_arrow_take tests it.
  *
  * - NO_MEANING: `node_or_step` is an invalid node, and `what` is what it lacks.
  * - BEYOND: a place that isn't null is past the rows.
@@ -321,9 +325,29 @@ typedef struct vortex_arrow_error {
     uint64_t status;
     uint64_t step;   /* of BROKEN and LACKING: the step's number, from 0 */
     uint64_t cause;  /* of BROKEN: why; of LACKING and NO_MEANING: what is lacking */
+    uint64_t found;  /* of BROKEN and LACKING: the number that is wrong, or 0 */
+    uint64_t bound;  /* the number that it should be, or should not pass, or 0 */
+    uint64_t is_negative; /* 1 if `found` is the two's complement of a negative index */
     char place[120]; /* the names that lead to the column, and the buffer: "tags.item offsets" */
     char text[240];  /* the place and the words */
 } vortex_arrow_error;
+
+/* Sets *error to the numbers and the words of an answer of vortex_arrow_count or
+ * vortex_arrow_compose, given the arguments of that call. If the answer is BROKEN, `found` and
+ * `bound` are, by the cause:
+ *
+ * - BAD_RANGE: the end of the slice, and the rows before the step. If the end is within the rows,
+ *   the start and the end.
+ * - BAD_MASK: the length of the mask, and the rows.
+ * - INVALID_INDICES: the type of the indices, and 0.
+ * - BAD_PIECES: how many indices the ranges have, and how many are declared. If these are equal, an
+ *   index passes 2^64 - 1, and both are 0.
+ * - OUT_OF_BOUNDS: the first such index, and the rows.
+ *
+ * If it is LACKING, they are the bytes of the list that is too short, and those that it needs; or
+ * the unknown kind or type, and the first number above the known ones. */
+void vortex_arrow_explain(uint64_t len, const vortex_arrow_step *steps, size_t n_steps,
+    vortex_arrow_answer answer, vortex_arrow_error *error);
 
 /* Returns the rows that the steps select. *out_array and *out_schema become a column of the array's
  * type, which is nullable too if the indices of a take have a validity. `out_schema` and `error`

@@ -42,7 +42,8 @@ uint64_t vortex_arrow_pick(uint64_t len, const vortex_arrow_step *steps, size_t 
     vortex_arrow_answer answer = count_picks(len, steps, n_steps, &need);
     p->places = NULL;
     if (answer.status) {
-        return vortex_arrow_fault_of_steps(error, answer);
+        vortex_arrow_explain(len, steps, n_steps, answer, error);
+        return answer.status;
     }
     if (need.places < SIZE_MAX / 16) {
         p->places = (uint64_t *)malloc(8 * need.places + need.valid + 8);
@@ -59,7 +60,8 @@ uint64_t vortex_arrow_pick(uint64_t len, const vortex_arrow_step *steps, size_t 
     if (answer.status) {
         free(p->places);
         p->places = NULL;
-        return vortex_arrow_fault_of_steps(error, answer);
+        vortex_arrow_explain(len, steps, n_steps, answer, error);
+        return answer.status;
     }
     return VORTEX_ARROW_DONE;
 }

@@ -10,56 +10,55 @@
 static const char *words_of(uint64_t status)
 {
     switch (status) {
-    case VORTEX_ARROW_NO_MEANING: return "the column isn't valid";
-    case VORTEX_ARROW_BEYOND: return "a selected row is past the rows";
-    case VORTEX_ARROW_ROOM: return "an output buffer is too short";
-    case VORTEX_ARROW_OVERFLOW: return "offsets of 32 bits would pass 2^31 - 1";
+    case VORTEX_ARROW_NO_MEANING: return "expected a valid column, got another";
+    case VORTEX_ARROW_BEYOND: return "expected selected rows within the rows, got one past them";
+    case VORTEX_ARROW_ROOM: return "expected a longer output buffer";
+    case VORTEX_ARROW_OVERFLOW: return "expected offsets up to 2^31 - 1, got a higher one";
     case VORTEX_ARROW_NO_MEMORY: return "out of memory";
     case VORTEX_ARROW_BROKEN: return "an invalid step";
     case VORTEX_ARROW_LACKING: return "a malformed step";
-    case VORTEX_ARROW_FORMAT: return "the format isn't known";
-    case VORTEX_ARROW_NULL_PICK: return "a null is selected of a union, whose rows are never null";
-    case VORTEX_ARROW_SHAPE: return "the struct doesn't match its format, or is released";
-    case VORTEX_ARROW_DEPTH: return "more than " DIGITS(VORTEX_ARROW_LEVELS)
-        " levels of columns, or more than " DIGITS(VORTEX_ARROW_NODES) " columns";
+    case VORTEX_ARROW_FORMAT: return "unknown format";
+    case VORTEX_ARROW_NULL_PICK: return "expected no null of a union, got one";
+    case VORTEX_ARROW_SHAPE:
+        return "expected what the format has, got another or a released struct";
+    case VORTEX_ARROW_DEPTH: return "expected at most " DIGITS(VORTEX_ARROW_LEVELS)
+        " levels and " DIGITS(VORTEX_ARROW_NODES) " columns, got more";
     case VORTEX_ARROW_SOURCE: return "the source stream failed";
     default: return "";
     }
 }
 
-static const char *words_of_step(uint64_t cause)
+/* The words for what an invalid node lacks. */
+static const char *words_of_lack(const vortex_arrow_node *node, uint64_t lack)
 {
-    switch (cause) {
-    case VORTEX_ARROW_BAD_RANGE: return "a slice that isn't within the rows";
-    case VORTEX_ARROW_BAD_MASK: return "a mask that isn't as long as the rows";
-    case VORTEX_ARROW_NOT_BOOL: return "a filter that isn't of bools";
-    case VORTEX_ARROW_INVALID_INDICES: return "indices that aren't integers";
-    case VORTEX_ARROW_BAD_PIECES: return "ranges that aren't valid";
-    case VORTEX_ARROW_OUT_OF_BOUNDS: return "an index out of bounds";
-    default: return words_of(VORTEX_ARROW_BROKEN);
+    switch (lack) {
+    case VORTEX_ARROW_LACKS_ROWS: return "expected a row number below 2^60, got a higher one";
+    case VORTEX_ARROW_LACKS_VALID: return "expected a bit for each row, got fewer";
+    case VORTEX_ARROW_LACKS_VALUES: return "expected values for all rows, got fewer";
+    case VORTEX_ARROW_LACKS_OFFSETS: return "expected an offset for each row, got fewer";
+    case VORTEX_ARROW_LACKS_ITEMS: return vortex_arrow_has_views(node)
+        ? "expected views within the data buffers, got one outside of them"
+        : "expected offsets that ascend within the child or data, got others";
+    case VORTEX_ARROW_LACKS_LENGTH: return "expected as many rows as the parent needs, got fewer";
+    case VORTEX_ARROW_LACKS_SIZES: return "expected a size for each row, got fewer";
+    case VORTEX_ARROW_LACKS_ID: return "expected the type id of a child, got another";
+    case VORTEX_ARROW_LACKS_CODES: return "expected codes within the dictionary, got another";
+    default: return "expected as many children as the format has, got others";
     }
 }
 
-uint64_t vortex_arrow_fault(vortex_arrow_error *error, uint64_t status, const char *place)
+static uint64_t fault_with(vortex_arrow_error *error, uint64_t status, const char *place,
+    const char *text)
 {
-    const char *text = status == VORTEX_ARROW_BROKEN ? words_of_step(error->cause)
-        : words_of(status);
     error->status = status;
     snprintf(error->place, sizeof error->place, "%s", place);
     snprintf(error->text, sizeof error->text, "%s%s%s", place, *place ? ": " : "", text);
     return status;
 }
 
-/* A fault of the steps, with the step's number. */
-uint64_t vortex_arrow_fault_of_steps(vortex_arrow_error *error, vortex_arrow_answer answer)
+uint64_t vortex_arrow_fault(vortex_arrow_error *error, uint64_t status, const char *place)
 {
-    char place[40] = "";
-    if (answer.status == VORTEX_ARROW_BROKEN || answer.status == VORTEX_ARROW_LACKING) {
-        error->step = answer.node_or_step;
-        error->cause = answer.what;
-        snprintf(place, sizeof place, "step %llu", (unsigned long long)answer.node_or_step);
-    }
-    return vortex_arrow_fault(error, answer.status, place);
+    return fault_with(error, status, place, words_of(status));
 }
 
 /* ---- Places ---- */
@@ -97,14 +96,21 @@ static void add_way(way *w, const table *t, size_t node)
     add_names(w, t, node);
 }
 
-/* A fault of a node. Its place is the names that lead to the node, and `part` after them. */
-uint64_t vortex_arrow_fault_at(const table *t, uint64_t status, size_t node, const char *part)
+/* The names that lead to a node, and `part` after them. */
+static way way_to(const table *t, size_t node, const char *part)
 {
     way w = {"", 0};
     add_way(&w, t, node);
     if (w.used < sizeof w.text) {
         snprintf(w.text + w.used, sizeof w.text - w.used, w.used && *part ? " %s" : "%s", part);
     }
+    return w;
+}
+
+/* A fault of a node. Its place is the names that lead to the node, and `part` after them. */
+uint64_t vortex_arrow_fault_at(const table *t, uint64_t status, size_t node, const char *part)
+{
+    way w = way_to(t, node, part);
     return vortex_arrow_fault(t->error, status, w.text);
 }
 
@@ -132,10 +138,11 @@ static const char *part_of(const vortex_arrow_node *node, uint64_t lack)
 uint64_t vortex_arrow_fault_of_node(const table *t, vortex_arrow_answer answer)
 {
     size_t node = answer.node_or_step < t->len ? answer.node_or_step : VORTEX_NO_NODE;
-    const char *part = "";
     t->error->cause = answer.what;
     if (answer.status == VORTEX_ARROW_NO_MEANING && node != VORTEX_NO_NODE) {
-        part = part_of(&t->nodes[node], answer.what);
+        way w = way_to(t, node, part_of(&t->nodes[node], answer.what));
+        return fault_with(t->error, answer.status, w.text,
+            words_of_lack(&t->nodes[node], answer.what));
     }
-    return vortex_arrow_fault_at(t, answer.status, node, part);
+    return vortex_arrow_fault_at(t, answer.status, node, "");
 }

@@ -79,8 +79,6 @@ typedef struct table {
 /* arrow_faults.c */
 VORTEX_HIDDEN uint64_t vortex_arrow_fault(vortex_arrow_error *error, uint64_t status,
     const char *place);
-VORTEX_HIDDEN uint64_t vortex_arrow_fault_of_steps(vortex_arrow_error *error,
-    vortex_arrow_answer answer);
 VORTEX_HIDDEN uint64_t vortex_arrow_fault_at(const table *t, uint64_t status, size_t node,
     const char *part);
 VORTEX_HIDDEN uint64_t vortex_arrow_fault_of_node(const table *t, vortex_arrow_answer answer);

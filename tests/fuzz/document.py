@@ -1,6 +1,6 @@
 """What a JSON value means as a document: columns, masks, steps and policies.
 
-Written from docs/DEFINITIONS.md, from "The document" on.  Whatever isn't allowed there
+Written from docs/DOCUMENT.md.  Whatever isn't allowed there
 raises `NoMeaning`.
 """
 import re

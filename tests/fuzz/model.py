@@ -1,6 +1,6 @@
 """Types, rows and columns: what a column of each layout means, and what its constructor refuses.
 
-Written from docs/DEFINITIONS.md, "Types and rows" and "Columns".  A row is None (a null), a bool,
+Written from docs/DEFINITIONS.md, docs/ERRORS.md and docs/DOCUMENT.md.  A row is None (a null), a bool,
 bytes (a record or a text), a list of rows (a list or a map), a tuple of rows (a struct), or a
 `Variant` (an id with a row).
 """

@@ -1,6 +1,6 @@
 """What the program answers: its words, the text that it prints, its statuses and its trace.
 
-Written from docs/PROGRAM.md and docs/DEFINITIONS.md, from "The document" on.
+Written from docs/PROGRAM.md, docs/DOCUMENT.md and docs/DEFINITIONS.md.
 """
 import re
 from typing import NamedTuple

@@ -1,7 +1,6 @@
 """Steps over rows: which are broken, what they leave, and what a decoder is asked for.
 
-Written from docs/DEFINITIONS.md, "Indices", "Steps and answers" and "Bit filters and chunk
-decoders".
+Written from docs/DEFINITIONS.md and docs/DOCUMENT.md.
 """
 from typing import NamedTuple
 

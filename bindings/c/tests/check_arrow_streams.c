@@ -300,7 +300,7 @@ static void overflow(void)
     expect(!vortex_select_arrow_stream(&source, &step, 1, &out, NULL), "a stream of lists", 0);
     for (again = 0; again < 2; again++) {
         expect(out.get_next(&out, &batch) == EOVERFLOW && !batch.release, "too many items", 0);
-        expect(!strcmp(out.get_last_error(&out), "l: offsets of 32 bits would pass 2^31 - 1"),
+        expect(!strcmp(out.get_last_error(&out), "l: expected offsets up to 2^31 - 1, got a higher one"),
             "its words", 0);
     }
     out.release(&out);

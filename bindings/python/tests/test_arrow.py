@@ -1,7 +1,6 @@
 """Compares selection over columns in Arrow's memory with plain Python, and calls it with what lies."""
 
 import ctypes
-import doctest
 import os
 import random
 import struct
@@ -19,7 +18,7 @@ import producer as arrow
 from arrow_model import Layout, after, random_row, random_steps, random_type, wrapped
 from vortex_select import BrokenStep, Column, Filter, Slice, Take
 from vortex_select import check, column, from_buffers, select
-from vortex_select import _native, _steps, _types, columns, kernels
+from vortex_select import _native, _steps
 from vortex_select._arrays import Field, field_of_type
 from vortex_select._building import built as built_array
 from vortex_select._building import viewed
@@ -78,7 +77,7 @@ class Random(unittest.TestCase):
             self.assertEqual((why.step, why.cause), broken, seed)
             return
         except ValueError as why:
-            self.assertIn("a null is selected of a union", str(why), seed)
+            self.assertIn("expected no null of a union, got one", str(why), seed)
             self.assertTrue(is_union and None in picks, seed)
             return
         self.assertIsNone(broken, seed)
@@ -125,11 +124,6 @@ class Random(unittest.TestCase):
 
 class Answers(unittest.TestCase):
     people = [{"id": 5, "tags": ["a"]}, None, {"id": 7, "tags": []}]
-
-    def test_examples(self):
-        for module in _types, columns, kernels:
-            failed, tried = doctest.testmod(module, extraglobs={"column": column, "select": select})
-            self.assertTrue(tried and not failed, module)
 
     def test_schema(self):
         """Names, flags and metadata are those of the source; nulls of a take show at the top."""
@@ -200,7 +194,7 @@ class Answers(unittest.TestCase):
             select(Streamed(source), [Take(array("B", bytes(2**11)))])
 
     def test_types(self):
-        for wrong in (b"ab", "ab", [1, 0], 7, memoryview(b"ab")):
+        for wrong in (b"ab", [1, 0], 7, memoryview(b"ab")):
             with self.assertRaises(TypeError):
                 Filter(wrong)
         for wrong in ("ab", [1.0], [True], array("d", [1.0]), column(["a"])):
@@ -300,7 +294,7 @@ class Shared(unittest.TestCase):
         found = select(source, [Take([2, 1, 0, 0])])
         self.assertEqual((found.to_pylist(), found.type), ([3, None, "a", "a"], source.type))
         self.assertIn(ids, found.type)
-        with self.assertRaisesRegex(ValueError, "a null is selected of a union"):
+        with self.assertRaisesRegex(ValueError, "expected no null of a union, got one"):
             select(source, [Take([0, None])])
         self.assertEqual(select(source, [Take([0, None]), Slice(0, 1)]).to_pylist(), ["a"])
         # Where a struct is null, nothing is said of its union.
@@ -630,7 +624,7 @@ class Hostile(unittest.TestCase):
             try:
                 found = select(source, [Take([0, 0])])
             except ValueError as why:
-                self.assertIn(f"{of.format}: the format isn't known", str(why))
+                self.assertIn(f"{of.format}: unknown format", str(why))
             else:
                 self.assertEqual(found.to_pylist(), [*rows, *rows])
 

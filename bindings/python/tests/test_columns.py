@@ -195,7 +195,7 @@ class Each(unittest.TestCase):
         made = from_buffers("null", 3, [])
         self.assertEqual((made.to_pylist(), made._chunks[0].node.null_count), ([None] * 3, 3))
         self.assertEqual(column([None, None])._chunks[0].node.null_count, 2)
-        with self.assertRaisesRegex(ValueError, "None alone"):
+        with self.assertRaisesRegex(ValueError, "^row 1: expected None for type null, got 1$"):
             column([None, 1], "null")
 
     def test_no_nulls(self):
@@ -219,9 +219,10 @@ class Each(unittest.TestCase):
         self.assertEqual(select(source, [Take([3, 0])]).to_pylist(), [None, "a"])
         with self.assertRaisesRegex(ValueError, "expected type utf8, got int8"):
             from_buffers("dictionary<uint8, utf8>", 1, [None, b"\0"], (), column([1], "int8"))
-        with self.assertRaisesRegex(ValueError, "expected for a type dictionary"):
+        words = "dictionary: expected one for type dictionary<uint8, utf8>, got none"
+        with self.assertRaisesRegex(ValueError, words):
             from_buffers("dictionary<uint8, utf8>", 1, [None, b"\0"])
-        with self.assertRaisesRegex(ValueError, "expected for a type dictionary"):
+        with self.assertRaisesRegex(ValueError, "expected none for type uint8, got one"):
             from_buffers("uint8", 1, [None, b"\0"], (), values)
         with self.assertRaisesRegex(TypeError, "dictionary: expected a Column, got list"):
             from_buffers("dictionary<uint8, utf8>", 1, [None, b"\0"], (), ["a"])
@@ -330,22 +331,95 @@ class Unions(unittest.TestCase):
 class Built(unittest.TestCase):
     """Rows that don't fit their type, and rows of other objects that do."""
 
-    def test_sizes(self):
-        with self.assertRaisesRegex(ValueError, "3 bytes"):
-            column([b"abc", None, b"ab"], "fixed_size_binary(3)")
-        with self.assertRaisesRegex(ValueError, "2 items"):
-            column([[1, 2], None, [1]], "fixed_size_list<int8, 2>")
-        for wrong in (128, -129, 1.5, "1", (1,), [1]):
-            with self.assertRaises(ValueError) as why:
-                column([1, wrong], "int8")
-            self.assertEqual(str(why.exception), f"expected values of type int8, got {wrong!r}")
-        for kind, wrong in (
-            ("float32", 1e39), ("uint64", -1), ("interval[days]", 1), ("interval[days]", (1,))
-        ):
-            with self.assertRaisesRegex(ValueError, "expected values of type"):
-                column([wrong], kind)
-        with self.assertRaisesRegex(ValueError, "expected values of type int8, got 128"):
-            column(list(range(129)), "dictionary<int8, int16>")
+    # The type, rows of which one doesn't fit, the exception, and its text.
+    MISFITS = (
+        ("fixed_size_binary(3)", [b"abc", None, b"ab"], ValueError,
+         "row 2: expected 3 bytes, got 2"),
+        (
+            "fixed_size_list<int8, 2>", [[1, 2], None, [1]], ValueError,
+            "row 2: expected 2 items, got 1",
+        ),
+        ("int8", [300], OverflowError, "row 0: expected int8 from -128 to 127, got 300"),
+        ("int8", [1, 128], OverflowError, "row 1: expected int8 from -128 to 127, got 128"),
+        ("int8", [1, -129], OverflowError, "row 1: expected int8 from -128 to 127, got -129"),
+        ("uint16", [65536], OverflowError, "row 0: expected uint16 from 0 to 65535, got 65536"),
+        (
+            "uint64", [None, -1], OverflowError,
+            "row 1: expected uint64 from 0 to 18446744073709551615, got -1",
+        ),
+        (
+            "date32", [2**31], OverflowError,
+            "row 0: expected date32 from -2147483648 to 2147483647, got 2147483648",
+        ),
+        ("int8", [1, 1.5], TypeError, "row 1: expected int8, got 1.5"),
+        ("int8", [1, "1"], TypeError, "row 1: expected int8, got '1'"),
+        ("int8", [1, (1,)], TypeError, "row 1: expected int8, got (1,)"),
+        ("int8", [1, [1]], TypeError, "row 1: expected int8, got [1]"),
+        ("float32", [1e39], OverflowError,
+         "row 0: expected float32, got 1e+39, which is too large"),
+        (
+            "float16", [10**9], OverflowError,
+            "row 0: expected float16, got 1000000000, which is too large",
+        ),
+        ("float64", ["a"], TypeError, "row 0: expected float64, got 'a'"),
+        ("interval[days]", [1], TypeError, "row 0: expected interval[days], got 1"),
+        ("interval[days]", [(1, 2), (1,)], TypeError, "row 1: expected interval[days], got (1,)"),
+        (
+            "dictionary<int8, int16>", list(range(129)), OverflowError,
+            "row 128: expected at most 128 values in a dictionary of int8 codes, got more",
+        ),
+        (
+            "dictionary<int8, int8>", [1, 1, None, 300], OverflowError,
+            "row 3, value: expected int8 from -128 to 127, got 300",
+        ),
+        ("utf8", ["a", b"\xff"], ValueError, "row 1: expected UTF-8, got byte 0xff at 0"),
+        ("utf8_view", [b"a\x80"], ValueError, "row 0: expected UTF-8, got byte 0x80 at 1"),
+        ("bool", [True, "False"], TypeError, "row 1: expected a bool, got 'False'"),
+        ("bool", [2], TypeError, "row 0: expected a bool, got 2"),
+        (
+            "list<int8>", [[1], None, [], [2, 300]], OverflowError,
+            "row 3, item 1: expected int8 from -128 to 127, got 300",
+        ),
+        ("list_view<utf8>", [["a"], ["b", 5]], TypeError,
+         "row 1, item 1: expected a string or bytes, got 5"),
+        (
+            "fixed_size_list<int8, 2>", [None, [1, 300]], OverflowError,
+            "row 1, item 1: expected int8 from -128 to 127, got 300",
+        ),
+        (
+            "struct<a: int8>", [{"a": 1}, {"a": "x"}], TypeError,
+            "row 1, field 'a': expected int8, got 'x'",
+        ),
+        (
+            "list<struct<a: list<int8>>>", [[], [{"a": [1]}, {"a": [2, None, 300]}]], OverflowError,
+            "row 1, item 1, field 'a', item 2: expected int8 from -128 to 127, got 300",
+        ),
+        (
+            "map<utf8, int8>", [[("a", 1), ("b", 300)]], OverflowError,
+            "row 0, item 1, field 'value': expected int8 from -128 to 127, got 300",
+        ),
+        (
+            "map<utf8, int8>", [None, [("a", 1), ("b",)]], ValueError,
+            "row 1, item 1: expected a pair of a key and a value, got ('b',)",
+        ),
+        (
+            "sparse_union<a: int8, b: bool>", [1, 300], ValueError,
+            "row 1: value 300 matches no child type of sparse_union<a: int8, b: bool>",
+        ),
+        ("decimal32(9, 0)", [2**31], OverflowError,
+         "row 0: expected decimal32(9, 0), got 2147483648"),
+        ("decimal128(9, 1)", ["x"], TypeError, "row 0: expected decimal128(9, 1), got 'x'"),
+        ("utf8", ["a", list(range(99))], TypeError, "row 1: expected a string or bytes, got [0, 1"),
+    )
+
+    def test_misfits(self):
+        """A row that doesn't fit is named, with its place, the type and the value."""
+        for kind, rows, error, text in self.MISFITS:
+            with self.subTest(text), self.assertRaises((TypeError, ValueError, OverflowError)) as why:
+                column(rows, kind)
+            self.assertIs(type(why.exception), error, text)
+            self.assertEqual(str(why.exception)[: len(text)], text)
+            self.assertLess(len(str(why.exception)), 200)
 
     def test_kinds(self):
         """Numbers aren't strings, and strings aren't bools."""
@@ -353,16 +427,12 @@ class Built(unittest.TestCase):
             "utf8", "large_utf8", "utf8_view", "binary", "binary_view", "fixed_size_binary(2)"
         ):
             for wrong in (2, 0, True, [1, 2], 1.5, {}):
-                with self.assertRaisesRegex(
-                    TypeError, "expected strings or bytes, got a value of type"
-                ):
+                with self.assertRaisesRegex(TypeError, "^row 0: expected a string or bytes, got "):
                     column([wrong], kind)
         for kind in ("utf8", "large_utf8", "utf8_view"):
-            with self.assertRaises(UnicodeDecodeError):
-                column(["a", b"\xff"], kind)
             self.assertEqual(column([b"\xc3\xa9", None], kind).to_pylist(), ["\u00e9", None])
         for wrong in ("False", 2, b"", [], 0.5):
-            with self.assertRaisesRegex(TypeError, "expected bools, got"):
+            with self.assertRaisesRegex(TypeError, "^row 1: expected a bool, got "):
                 column([True, wrong], "bool")
         self.assertEqual(column([0, 1, None], "bool").to_pylist(), [False, True, None])
 
@@ -372,30 +442,32 @@ class Built(unittest.TestCase):
             "list<utf8>", "list_view<utf8>", "fixed_size_list<utf8, 3>", "map<utf8, utf8>"
         ):
             for wrong in ("abc", {"a": "b"}, 5):
-                with self.assertRaisesRegex(TypeError, "expected lists, got a value of type"):
+                with self.assertRaisesRegex(TypeError, "^row 1: expected a list, got "):
                     column([None, wrong], kind)
         for wrong in ([1], "a", 5):
-            with self.assertRaisesRegex(TypeError, "expected dicts, got a value of type"):
+            with self.assertRaisesRegex(TypeError, "^row 1: expected a dict, got "):
                 column([None, wrong], "struct<a: int8>")
         for wrong in (("a", 1, 3), ("a",), (None, 1), None, "ab", 5):
             with self.assertRaises(ValueError) as why:
                 column([[("a", 1), wrong]], "map<utf8, int8>")
-            said = f"expected pairs of a key and a value, got {wrong!r}"
+            said = f"row 0, item 1: expected a pair of a key and a value, got {wrong!r}"
             self.assertEqual(str(why.exception), said)
         self.assertEqual(column([[["a", 1]]], "map<utf8, int8>").to_pylist(), [[("a", 1)]])
 
     def test_inexact_decimals(self):
-        """No digit is dropped: a number with more places than the scale is refused."""
-        for kind, wrong in (
-            ("decimal128(9, 1)", Decimal("1.25")), ("decimal32(9, -2)", Decimal(150)),
-            ("decimal32(9, 0)", 2**31),
-            ("decimal64(18, 0)", -(2**63) - 1), ("decimal128(9, 1)", Decimal("NaN")),
-            ("decimal256(76, 0)", 0.1),
-            ("decimal128(9, 1)", Decimal("Infinity")),
+        """No digit is dropped: a number with more places than the scale is rejected."""
+        for kind, wrong, error in (
+            ("decimal128(9, 1)", Decimal("1.25"), ValueError),
+            ("decimal32(9, -2)", Decimal(150), ValueError),
+            ("decimal32(9, 0)", 2**31, OverflowError),
+            ("decimal64(18, 0)", -(2**63) - 1, OverflowError),
+            ("decimal128(9, 1)", Decimal("NaN"), ValueError),
+            ("decimal256(76, 0)", 0.1, ValueError),
+            ("decimal128(9, 1)", Decimal("Infinity"), ValueError),
         ):
-            with self.assertRaises(ValueError) as why:
+            with self.assertRaises(error) as why:
                 column([wrong], kind)
-            self.assertEqual(str(why.exception), f"expected values of type {kind}, got {wrong!r}")
+            self.assertEqual(str(why.exception), f"row 0: expected {kind}, got {wrong!r}")
             with self.assertRaisesRegex(ValueError, "matches no child type"):
                 column([wrong], f"sparse_union<a: {kind}>")
         self.assertEqual(
@@ -557,7 +629,7 @@ class Buffers(unittest.TestCase):
 
 class Columns(unittest.TestCase):
     def test_no_constructor(self):
-        with self.assertRaisesRegex(TypeError, "columns are made by"):
+        with self.assertRaisesRegex(TypeError, "Column: use column, from_buffers"):
             type(NUMBERS)()
 
     def test_shown(self):
@@ -583,9 +655,9 @@ class Columns(unittest.TestCase):
 
         found = select(Streamed(), [])
         self.assertEqual((len(found), found.to_pylist()), (4, [1, 2, 3, 4]))
-        with self.assertRaisesRegex(ValueError, "a column of several arrays"):
+        with self.assertRaisesRegex(ValueError, "expected a column of one array, got 2"):
             found.__arrow_c_array__()
-        with self.assertRaisesRegex(ValueError, "a column of several arrays"):
+        with self.assertRaisesRegex(ValueError, "expected a column of one array, got 2"):
             from_buffers("list<int8>", 1, [None, bytes(8)], [found])
         self.assertEqual(select(found, [Take([3, 0, None])]).to_pylist(), [4, 1, None])
         check(found)

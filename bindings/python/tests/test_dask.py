@@ -186,12 +186,12 @@ class Dask(unittest.TestCase):
             self.assertEqual(found.to_pylist(), [first])
             for words, steps, said in (
                 (
-                    f"part7: ValueError: it has {self.lengths[7]} rows, expected 7",
+                    f"part7: ValueError: expected 7 rows, got {self.lengths[7]}",
                     [Slice(0, 1)],
                     lengths,
                 ),
                 (
-                    f"part7: ValueError: its own mask keeps {kept[7]} rows, expected 0",
+                    f"part7: ValueError: mask: expected one that keeps 0 rows, got {kept[7]}",
                     [FilterEach([*kept[:7], 0], large), Slice(0, 1)],
                     None,
                 ),

@@ -130,7 +130,7 @@ class Written(Files):
         write_column(os.fsencode(self.path), column([2]))
         self.assertEqual(read_column(Path(self.path)).to_pylist(), [2])
         self.assertEqual(os.listdir(self.folder), ["column"])
-        words = "expected an object with __arrow_c_array__, found list"
+        words = "expected an object with __arrow_c_array__, got list"
         with self.assertRaisesRegex(TypeError, words):
             write_column(self.path, [1])
 
@@ -201,10 +201,10 @@ class Columns(Files):
             wanted = [row and {name: row[name] for name in names} for row in self.ROWS]
             self.assertEqual(found.to_pylist(), wanted)
         self.assertEqual(read_column(self.path, ["b", "a"]).type, "struct<b: utf8, a: int8>")
-        self.refused("there is no column 'c'", columns=["a", "c"])
+        self.refused("columns: expected some of .*, got 'c'", columns=["a", "c"])
         write_column(self.path, column([[1]], "list<int8>"))
         for names in (["item"], []):
-            self.refused("a column of format '[+]l' has no columns", columns=names)
+            self.refused("columns: expected a column of structs, got list<int8>", columns=names)
 
     def test_other_columns_are_not_read(self):
         """Damage in one column is no fault of the others. The validity is that of all."""
@@ -223,20 +223,20 @@ class Columns(Files):
             changed = bytearray(data)
             changed[start + damaged] ^= 1
             self.put(changed)
-            self.refused("buffer [0-5] of the file is damaged: its checksum differs")
+            self.refused("buffer [0-5] of the file: expected checksum [0-9]+, got another")
             for names in (["a"], ["b"]):
                 if names == good:
                     rows = [row and {name: row[name] for name in names} for row in self.ROWS]
                     self.assertEqual(read_column(self.path, names).to_pylist(), rows)
                 else:
-                    self.refused("is damaged", columns=names)
+                    self.refused("expected checksum", columns=names)
 
     def test_trusted(self):
         data = bytearray(Path(self.path).read_bytes())
         head, body = taken_apart(bytes(data))
         data[len(data) - len(body) + head[2][2][0]] = 9
         self.put(data)
-        self.refused("is damaged")
+        self.refused("expected checksum")
         rows = [{"a": 9, "b": "x"}, None, {"a": None, "b": None}]
         self.assertEqual(read_column(self.path, trusted=True).to_pylist(), rows)
 
@@ -248,15 +248,15 @@ class Hostile(Files):
         write_column(self.path, column([1, 2], "int8"))
         good = Path(self.path).read_bytes()
         for words, data in (
-            ("the file is empty", b""),
-            ("the file holds no column", b"x" * 100),
-            ("the file holds no column", good[:23]),
-            ("version 1", b"VXPART1\n" + good[8:]),
+            ("expected a file of write_column, got an empty file", b""),
+            ("expected a file of write_column, got other bytes", b"x" * 100),
+            ("expected a file of write_column, got other bytes", good[:23]),
+            ("expected version 2 of the format, got version 1", b"VXPART1\n" + good[8:]),
             ("the file has 100 bytes, but its head ends at 128", good[:100]),
-            ("the head of the file is damaged", good[:40] + b"}" + good[41:]),
+            ("head: expected checksum [0-9]+, got another", good[:40] + b"}" + good[41:]),
             ("the file has 191 bytes, expected 192", good[:-1]),
             ("the file has 193 bytes, expected 192", good + b"\0"),
-            ("the head of the file is damaged", good[:16] + bytes(8) + good[24:]),
+            ("head: expected checksum [0-9]+, got another", good[:16] + bytes(8) + good[24:]),
         ):
             for trusted in (False, True):
                 self.refused(words, data, trusted=trusted)
@@ -272,16 +272,16 @@ class Hostile(Files):
         for words, text in (
             ("", b"{"),
             ("", b"\xff\xfe"),
-            ("nested too deep", b"[" * 100_000),
-            ("nested too deep", b'{"a":' * 100_000),
-            ("a number has 20 digits", b"[1" + b"0" * 19 + b"]"),
-            ("a number has 1000000 digits", b"[" + b"7" * 1_000_000 + b"]"),
-            ("expected whole numbers, found 1.5", b"[1.5]"),
-            ("expected whole numbers, found 1e9", b"[1e9]"),
-            ("expected whole numbers, found NaN", b"[NaN]"),
-            ("the head: expected a list of 4, found a dict of 0", b"{}"),
-            ("the head: expected a list of 4, found 7", b"7"),
-            ("the head: expected a list of 4, found a list of 3", b"[1,2,3]"),
+            ("head: expected fewer nested lists", b"[" * 100_000),
+            ("head: expected fewer nested lists", b'{"a":' * 100_000),
+            ("expected a number of at most 19 digits, got 20", b"[1" + b"0" * 19 + b"]"),
+            ("expected a number of at most 19 digits, got 1000000", b"[" + b"7" * 1_000_000 + b"]"),
+            ("expected whole numbers, got 1.5", b"[1.5]"),
+            ("expected whole numbers, got 1e9", b"[1e9]"),
+            ("expected whole numbers, got NaN", b"[NaN]"),
+            ("the head: expected a list of 4, got a dict of 0", b"{}"),
+            ("the head: expected a list of 4, got 7", b"7"),
+            ("the head: expected a list of 4, got a list of 3", b"[1,2,3]"),
         ):
             for trusted in (False, True):
                 self.refused(words, put_back(text, b""), trusted=trusted)
@@ -293,7 +293,7 @@ class Hostile(Files):
         text = json.dumps(head).encode()
         self.assertNotEqual((24 + len(text)) % 64, 0)
         begin = file_model.MAGIC + struct.pack("<QQ", len(text), file_model.zlib.crc32(text))
-        self.refused("which is no multiple of 64", begin + text + body)
+        self.refused("body: expected a start that is a multiple of 64, got", begin + text + body)
 
     def changed(self, type, rows, change, words, trusted=(False, True)):
         """Write a column, change the values of its head, and expect a fault with these words."""
@@ -355,61 +355,71 @@ class Hostile(Files):
             ("int32", one, (0, 0), "tsx:", "unknown format"),
             ("int32", one, (0, 0), "ts", "unknown format"),
             ("int32", one, (0, 0), "i\n", "unknown format"),
-            ("int32", one, (0, 0), "l", "values of format 'l': expected 16 bytes, found 8"),
-            ("int32", one, (0, 0), "w:5", "values of format 'w:5': expected 10 bytes, found 8"),
+            ("int32", one, (0, 0), "l", "values of format 'l': expected 16 bytes, got 8"),
+            ("int32", one, (0, 0), "w:5", "values of format 'w:5': expected 10 bytes, got 8"),
             ("int32", one, (0, 0), "u", "buffers of format 'u': expected a list of 3"),
-            ("int32", one, (0, 1), "\ud800", "no UTF-8 encoding"),
+            ("int32", one, (0, 1), "\ud800", "expected a string that UTF-8 can encode"),
             ("int32", one, (0, 3), "abc", "fromhex"),
-            ("int32", one, (0, 3), "", "metadata: its strings end after its 0 bytes"),
-            ("int32", one, (0, 3), "00000080", "metadata: its strings end after its 4 bytes"),
-            ("int32", one, (0, 3), "01000000ffffffff", "metadata: its strings end after"),
-            ("int32", one, (0, 3), "010000000100000061", "metadata: its strings end after"),
-            ("int32", one, (0, 3), "0000000000", "metadata: its strings end at 4, found 5 bytes"),
-            ("int32", one, (0, 5), field("i"), "expected a dictionary exactly where"),
-            ("float32", [1.5], (0, 5), field("i"), "codes that are integers, found format 'f'"),
-            ("int32", one, (1, 0), 3, "values of format 'i': expected 12 bytes, found 8"),
-            ("int32", one, (1, 0), 9, "validity of format 'i': expected 2 bytes, found 1"),
+            ("int32", one, (0, 3), "", "metadata: expected strings within its 0 bytes, got more"),
+            ("int32", one, (0, 3), "00000080",
+             "metadata: expected strings within its 4 bytes, got more"),
+            ("int32", one, (0, 3), "01000000ffffffff", "metadata: expected strings within its"),
+            ("int32", one, (0, 3), "010000000100000061", "metadata: expected strings within its"),
+            ("int32", one, (0, 3), "0000000000", "metadata: expected 4 bytes, got 5"),
+            ("int32", one, (0, 5), field("i"), "expected a dictionary if the type"),
+            ("float32", [1.5], (0, 5), field("i"), "codes that are integers, got format 'f'"),
+            ("int32", one, (1, 0), 3, "values of format 'i': expected 12 bytes, got 8"),
+            ("int32", one, (1, 0), 9, "validity of format 'i': expected 2 bytes, got 1"),
             ("int32", one, (1, 1), [0, None], "buffers of format 'i': expected a number"),
-            ("int32", one, (1, 1), [0, 2], "expected a number from 0 to 1, found 2"),
-            ("int32", one, (1, 1), [0, 1, 1], "expected a list of 2, found a list of 3"),
-            ("int32", one, (1, 3), [1, [], [], None], "expected a dictionary exactly where"),
-            ("int32", one, (2, 1, 0), 1, "unaligned or past 128"),
-            ("int32", one, (2, 1, 0), 128, "a buffer of 8 bytes at 128 is unaligned or past 128"),
-            ("int32", one, (2, 1, 1), 65, "a buffer of 65 bytes at 64 is unaligned or past 128"),
-            ("int32", one, (2, 1, 1), 7, "values of format 'i': expected 8 bytes, found 7"),
+            ("int32", one, (1, 1), [0, 2], "expected a number from 0 to 1, got 2"),
+            ("int32", one, (1, 1), [0, 1, 1], "expected a list of 2, got a list of 3"),
+            ("int32", one, (1, 3), [1, [], [], None], "expected a dictionary if the type"),
+            ("int32", one, (2, 1, 0), 1, "at a multiple of 64 within 128, got 8 bytes at 1"),
+            ("int32", one, (2, 1, 0), 128,
+             "expected a buffer at a multiple of 64 within 128, got 8 bytes at 128"),
+            ("int32", one, (2, 1, 1), 65,
+             "expected a buffer at a multiple of 64 within 128, got 65 bytes at 64"),
+            ("int32", one, (2, 1, 1), 7, "values of format 'i': expected 8 bytes, got 7"),
             ("int32", one, (3,), 129, "expected"),
-            ("utf8", ["ab"], (1, 0), 2, "offsets of format 'u': expected 12 bytes, found 8"),
+            ("utf8", ["ab"], (1, 0), 2, "offsets of format 'u': expected 12 bytes, got 8"),
             ("utf8", ["ab"], (1, 1), [None, None, 1], "expected a number"),
-            ("list<int8>", [[1, 2]], (1, 2, 0, 0), 1, "offsets: the last is 2, expected 0 to 1"),
-            ("list<int8>", [[1, 2]], (0, 4), [], "expected a list of 1, found a list of 0"),
-            ("large_list<int8>", [[1, 2]], (1, 2, 0, 0), 1, "the last is 2, expected 0 to 1"),
-            ("map<int8, int8>", [[(1, 2)]], (1, 2, 0, 0), 0, "the last is 1, expected 0 to 0"),
-            ("list<int8>", [[1, 2]], (1, 2), [], "expected a list of 1, found a list of 0"),
-            ("list_view<int8>", [[1]], (1, 0), 2, "'[+]vl': expected 8 bytes, found 4"),
-            ("utf8_view", ["a"], (1, 0), 2, "views of format 'vu': expected 32 bytes, found 16"),
-            ("bool", [True], (1, 0), 9, "values of format 'b': expected 2 bytes, found 1"),
-            ("large_utf8", ["a"], (1, 0), 2, "offsets of format 'U': expected 24 bytes, found 16"),
-            ("large_list<int8>", [[1]], (1, 0), 2, "'[+]L': expected 24 bytes, found 16"),
-            ("large_list_view<int8>", [[1]], (1, 0), 2, "expected 16 bytes, found 8"),
-            ("sparse_union<a: int8>", [1], (1, 0), 2, "type ids of .*: expected 2 bytes, found 1"),
-            ("dense_union<a: int8>", [1], (1, 0), 2, "type ids of .*: expected 2 bytes, found 1"),
-            ("utf8_view", ["a" * 20], (1, 1), [None, 0], "expected at least 3, found 2"),
+            ("list<int8>", [[1, 2]], (1, 2, 0, 0), 1,
+             "offsets: expected a last one from 0 to 1, got 2"),
+            ("list<int8>", [[1, 2]], (0, 4), [], "expected a list of 1, got a list of 0"),
+            ("large_list<int8>", [[1, 2]], (1, 2, 0, 0), 1,
+             "expected a last one from 0 to 1, got 2"),
+            ("map<int8, int8>", [[(1, 2)]], (1, 2, 0, 0), 0,
+             "expected a last one from 0 to 0, got 1"),
+            ("list<int8>", [[1, 2]], (1, 2), [], "expected a list of 1, got a list of 0"),
+            ("list_view<int8>", [[1]], (1, 0), 2, "'[+]vl': expected 8 bytes, got 4"),
+            ("utf8_view", ["a"], (1, 0), 2, "views of format 'vu': expected 32 bytes, got 16"),
+            ("bool", [True], (1, 0), 9, "values of format 'b': expected 2 bytes, got 1"),
+            ("large_utf8", ["a"], (1, 0), 2, "offsets of format 'U': expected 24 bytes, got 16"),
+            ("large_list<int8>", [[1]], (1, 0), 2, "'[+]L': expected 24 bytes, got 16"),
+            ("large_list_view<int8>", [[1]], (1, 0), 2, "expected 16 bytes, got 8"),
+            ("sparse_union<a: int8>", [1], (1, 0), 2, "type ids of .*: expected 2 bytes, got 1"),
+            ("dense_union<a: int8>", [1], (1, 0), 2, "type ids of .*: expected 2 bytes, got 1"),
+            ("utf8_view", ["a" * 20], (1, 1), [None, 0], "expected at least 3, got 2"),
             ("utf8_view", ["a" * 20], (1, 1), [None, 0, 2], "lengths of the data buffers"),
             ("utf8_view", ["a" * 20], (1, 1), [None, 0, 1, 1, 2], "lengths of the data buffers"),
-            ("struct<a: int8>", [{"a": 1}], (1, 0), 2, "a child needs 2 rows, found 1"),
-            ("fixed_size_list<int8, 2>", [[1, 2]], (0, 0), "+w:3", "a child needs 3 rows, found 2"),
-            ("sparse_union<a: int8>", [1], (1, 2, 0, 0), 0, "a child needs 1 rows, found 0"),
-            ("sparse_union<a: int8>", [1], (0, 0), "+us:0,1", "expected a list of 2, found"),
+            ("struct<a: int8>", [{"a": 1}], (1, 0), 2, "child: expected at least 2 rows, got 1"),
+            ("fixed_size_list<int8, 2>", [[1, 2]], (0, 0), "+w:3",
+             "child: expected at least 3 rows, got 2"),
+            ("sparse_union<a: int8>", [1], (1, 2, 0, 0), 0,
+             "child: expected at least 1 rows, got 0"),
+            ("sparse_union<a: int8>", [1], (0, 0), "+us:0,1", "expected a list of 2, got"),
             ("sparse_union<a: int8>", [1], (0, 0), "+us:128", "expected type ids from 0 to 127"),
             ("sparse_union<a: int8>", [1], (0, 0), "+us:x", "expected type ids from 0 to 127"),
             ("sparse_union<a: int8>", [1], (0, 0), "+us:1,", "expected type ids from 0 to 127"),
             ("sparse_union<a: int8>", [1], (0, 0), "+us:1,1", "expected each type id once"),
             ("sparse_union<a: int8>", [1], (1, 1, 0), None, "expected a number"),
             ("map<int8, int8>", [[(1, 2)]], (0, 4, 0, 0), "+l", "expected a list of 1"),
-            ("map<int8, int8>", [[(1, 2)]], (0, 4, 0), field("i"), "a map's child must be a s"),
-            ("map<int8, int8>", [[(1, 2)]], (0, 4, 0, 4), [field("c")], "a map's child must be"),
-            ("dictionary<int8, utf8>", ["a"], (0, 5), None, "expected a dictionary exactly where"),
-            ("dictionary<int8, utf8>", ["a"], (1, 3), None, "expected a dictionary exactly where"),
+            ("map<int8, int8>", [[(1, 2)]], (0, 4, 0), field("i"),
+             "map: expected a child that is a struct"),
+            ("map<int8, int8>", [[(1, 2)]], (0, 4, 0, 4), [field("c")],
+             "map: expected a child that is a struct"),
+            ("dictionary<int8, utf8>", ["a"], (0, 5), None, "expected a dictionary if the type"),
+            ("dictionary<int8, utf8>", ["a"], (1, 3), None, "expected a dictionary if the type"),
             ("dictionary<int8, utf8>", ["a"], (1, 3, 0), 2, "offsets of format 'u'"),
         ):
             self.changed(type, rows, self.at(*path, value), words)
@@ -422,24 +432,25 @@ class Hostile(Files):
             ("large_list<int8>", [[1]], "[+]L", 8),
             ("map<int8, int8>", [[(1, 2)]], "[+]m", 4),
         ):
-            words = f"offsets of format '{form}': expected {10 * size} bytes, found {2 * size}"
+            words = f"offsets of format '{form}': expected {10 * size} bytes, got {2 * size}"
             self.changed(type, rows, self.at(1, 0, 9), words)
-            words = f"offsets of format '{form}': expected {2 * size} bytes, found {2 * size - 1}"
+            words = f"offsets of format '{form}': expected {2 * size} bytes, got {2 * size - 1}"
             self.changed(type, rows, self.at(2, 0, 1, 2 * size - 1), words)
         for form in ("list_view", "large_list_view"):
             change = self.at(2, 1, 1, 1)
             self.changed(f"{form}<int8>", [[1]], change, "sizes of format '[+]v.': expected . byt")
-        words = "offsets of .*: expected 4 bytes, found 3"
+        words = "offsets of .*: expected 4 bytes, got 3"
         self.changed("dense_union<a: int8>", [1], self.at(2, 1, 1, 3), words)
         for type, rows, path, value, words in (
-            ("utf8", ["ab"], (2, 1, 1), 1, "offsets: the last is 2, expected 0 to 1"),
-            ("large_utf8", ["ab"], (2, 1, 1), 1, "offsets: the last is 2, expected 0 to 1"),
-            ("binary", [b"", b"abc"], (2, 1, 1), 2, "offsets: the last is 3, expected 0 to 2"),
-            ("large_binary", [b"", b"abc"], (2, 1, 1), 2, "the last is 3, expected 0 to 2"),
+            ("utf8", ["ab"], (2, 1, 1), 1, "offsets: expected a last one from 0 to 1, got 2"),
+            ("large_utf8", ["ab"], (2, 1, 1), 1, "offsets: expected a last one from 0 to 1, got 2"),
+            ("binary", [b"", b"abc"], (2, 1, 1), 2,
+             "offsets: expected a last one from 0 to 2, got 3"),
+            ("large_binary", [b"", b"abc"], (2, 1, 1), 2, "expected a last one from 0 to 2, got 3"),
             ("utf8_view", ["a" * 20], (2, 1, 1), 19, "lengths of the data buffers"),
         ):
             self.changed(type, rows, self.at(*path, value), words, (True,))
-            self.changed(type, rows, self.at(*path, value), "its checksum differs", (False,))
+            self.changed(type, rows, self.at(*path, value), "expected checksum", (False,))
 
     def test_contents(self):
         """Bytes that the checksums fit, but that aren't a column, are refused by `check`."""
@@ -466,37 +477,37 @@ class Hostile(Files):
                 field("u"),
                 [1, [None, 0, 1], [], None],
                 [offsets, b"abcde"],
-                "buffer 2 of an array does not have -2 bytes from 3 on",
+                "buffer 2 of an array: expected -2 bytes from 3 on, got 1 in all",
             ),
             (
                 field("+l", children=child),
                 [1, [None, 1], [items], None],
                 [b"abcde", offsets],
-                "rows of a child: 3 to 1 is outside of 0 to 5",
+                "rows of a child: expected a range within 5, got 3 to 1",
             ),
             (
                 field("vu"),
                 [1, [None, 1, 0, 2], [], None],
                 [b"x" * 20, struct.pack("<i4sii", 20, b"xxxx", 1, 0), struct.pack("<q", 20)],
-                "the buffer of a view: 1 to 2 is outside of 0 to 1",
+                "the buffer of a view: expected a range within 1, got 1 to 2",
             ),
             (
                 field("vu"),
                 [1, [None, 1, 0, 2], [], None],
                 [b"x" * 20, struct.pack("<i4sii", 20, b"xxxx", 0, 1), struct.pack("<q", 20)],
-                "a view: 1 to 21 is outside of 0 to 20",
+                "a view: expected a range within 20, got 1 to 21",
             ),
             (
                 field("+ud:3", children=child),
                 [1, [1, 2], [items], None],
                 [b"abcde", b"\5", bytes(4)],
-                "type id 5 names no child",
+                "type id: expected one of .3., got 5",
             ),
             (
                 field("+ud:3", children=child),
                 [1, [1, 2], [items], None],
                 [b"abcde", b"\3", struct.pack("<i", 5)],
-                "rows of a child: 5 to 6 is outside of 0 to 5",
+                "rows of a child: expected a range within 5, got 5 to 6",
             ),
         ):
             self.put(file_of(of, node, buffers))
@@ -524,7 +535,7 @@ class Hostile(Files):
                     node = [8, [None, 0], [], None]
                     data = file_of(field(form), node, [bytes(bits - short)])
                     if short:
-                        words = f"'{form}': expected {bits} bytes, found {bits - 1}"
+                        words = f"'{form}': expected {bits} bytes, got {bits - 1}"
                         self.refused("values of format " + words, data)
                     else:
                         self.put(data)
@@ -535,7 +546,7 @@ class Hostile(Files):
             offsets = struct.pack("<2" + letter, 0, -1)
             data = file_of(field(form), [1, [None, 0, 1], [], None], [offsets, b"abc"])
             for trusted in (False, True):
-                self.refused("offsets: the last is -1, expected 0 to 3", data, trusted=trusted)
+                self.refused("offsets: expected a last one from 0 to 3, got -1", data, trusted=trusted)
 
     def test_type_ids(self):
         """The greatest type id is 127."""
@@ -568,11 +579,11 @@ class Hostile(Files):
                 self.assertEqual(len(read_column(self.path)), 1)
             else:
                 for trusted in (False, True):
-                    self.refused("more than 65536 nodes or 64 levels", trusted=trusted)
+                    self.refused("at most 65536 nodes and 64 levels", trusted=trusted)
         of, node = field("c"), [0, [None, 0], [], None]
         for _ in range(64):
             of, node = field("c", dictionary=of), [0, [None, 0], [], node]
-        self.refused("more than 65536 nodes or 64 levels", file_of(of, node, [b""]))
+        self.refused("at most 65536 nodes and 64 levels", file_of(of, node, [b""]))
 
     def test_width(self):
         for count in (65_535, 65_536):
@@ -580,7 +591,7 @@ class Hostile(Files):
             top, rows = field("+s", children=[of] * count), [0, [None], [node] * count, None]
             data = file_of(top, rows, [])
             if count == 65_536:
-                self.refused("more than 65536 nodes", data)
+                self.refused("at most 65536 nodes", data)
             else:
                 self.put(data)
                 self.assertEqual(read_column(self.path, []).type, "struct<>")
@@ -592,10 +603,10 @@ class Hostile(Files):
             for count in (2**24 + 1, 2**32, 2**59, 2**60 - 1):
                 data = file_of(field(form), [count, list(own), [], None], buffers)
                 for trusted in (False, True):
-                    words = f"0 bytes: expected at most 16777216 rows, found {count}"
+                    words = f"0 bytes: expected at most 16777216 rows, got {count}"
                     self.refused(words, data, trusted=trusted)
                 for steps in ([], [Slice(0, 1)]):
-                    with self.assertRaisesRegex(DamagedPart, f"rows, found {count}"):
+                    with self.assertRaisesRegex(DamagedPart, f"rows, got {count}"):
                         select_parts(map, [self.path], steps)
             self.put(file_of(field(form), [2**24, list(own), [], None], buffers))
             found = select_parts(map, [self.path], [Slice(2**24 - 1, 2**24)])
@@ -614,25 +625,25 @@ class Hostile(Files):
                 found = select(read_column(self.path, trusted=True), [Slice(count - 1, count)])
                 self.assertEqual(found.to_pylist(), [{"a": None, "b": False}])
             else:
-                self.refused("at most 16777728 rows, found 16777729", data, trusted=True)
+                self.refused("at most 16777728 rows, got 16777729", data, trusted=True)
         node = [1, [None, 0], [], [2**24 + 1, [], [], None]]
         data = file_of(field("c", dictionary=field("n")), node, [b"\0"])
-        self.refused("rows, found 16777217", data)
+        self.refused("rows, got 16777217", data)
         of, node = field("+w:2", children=[field("n")]), [2**23 + 1, [None], [], None]
         node[2] = [[2**24 + 2, [], [], None]]
-        self.refused("rows, found 16777218", file_of(of, node, []))
+        self.refused("rows, got 16777218", file_of(of, node, []))
 
     def test_writing_more_rows_than_can_be_read(self):
         rows, of = 2**24, source_of(column([None], "null")).field
         write_column(self.path, column_of(of, Plain(rows, rows, ())))
         self.assertEqual(len(read_column(self.path)), rows)
-        with self.assertRaisesRegex(ValueError, "at most 16777216 rows, found 16777217"):
+        with self.assertRaisesRegex(ValueError, "at most 16777216 rows, got 16777217"):
             write_column(self.path, column_of(of, Plain(rows + 1, rows + 1, ())))
         self.assertEqual(len(read_column(self.path)), rows)
 
     def test_writing_what_can_not_be_read(self):
         source = source_of(column([1], "int8"))
-        with self.assertRaisesRegex(ValueError, "flags: expected a number from 0 to 7, found 8"):
+        with self.assertRaisesRegex(ValueError, "flags: expected a number from 0 to 7, got 8"):
             write_column(self.path, column_of(source.field._replace(flags=8), source.plain()))
         self.assertEqual(os.listdir(self.folder), [])
 
@@ -689,17 +700,17 @@ class Npy(Files):
         data = array("i", [7, 8, 9]).tobytes()
         for words, said, version in (
             ("big-endian", self.said("'>i4'"), (1, 0)),
-            ("found <c8", self.said("'<c8'"), (1, 0)),
-            (r"found \|b1", self.said("'|b1'"), (1, 0)),
-            ("found 4", self.said("4"), (1, 0)),
-            ("found .*'a', '<i4'", self.said("[('a', '<i4')]"), (1, 0)),
-            (r"one dimension, found shape \(3, 1\)", self.said(shape="(3, 1)"), (1, 0)),
-            (r"one dimension, found shape \(\)", self.said(shape="()"), (1, 0)),
-            ("one dimension, found shape 3", self.said(shape="3"), (1, 0)),
-            (r"one dimension, found shape \(-3,\)", self.said(shape="(-3,)"), (1, 0)),
-            (r"one dimension, found shape \(True,\)", self.said(shape="(True,)"), (1, 0)),
-            ("12 bytes of numbers, expected 16", self.said(shape="(4,)"), (1, 0)),
-            ("12 bytes of numbers, expected 4000000000", self.said(shape="(1000000000,)"), (1, 0)),
+            ("got <c8", self.said("'<c8'"), (1, 0)),
+            (r"got \|b1", self.said("'|b1'"), (1, 0)),
+            ("got 4", self.said("4"), (1, 0)),
+            ("got .*'a', '<i4'", self.said("[('a', '<i4')]"), (1, 0)),
+            (r"one dimension, got shape \(3, 1\)", self.said(shape="(3, 1)"), (1, 0)),
+            (r"one dimension, got shape \(\)", self.said(shape="()"), (1, 0)),
+            ("one dimension, got shape 3", self.said(shape="3"), (1, 0)),
+            (r"one dimension, got shape \(-3,\)", self.said(shape="(-3,)"), (1, 0)),
+            (r"one dimension, got shape \(True,\)", self.said(shape="(True,)"), (1, 0)),
+            ("expected 16 bytes of numbers, got 12", self.said(shape="(4,)"), (1, 0)),
+            ("expected 4000000000 bytes of numbers, got 12", self.said(shape="(1000000000,)"), (1, 0)),
             ("a fortran_order that is a bool", self.said(order="0"), (1, 0)),
             ("expected a header of descr", "{'descr': '<i4', 'shape': (3,)}", (1, 0)),
             ("expected a header of descr", "[1]", (1, 0)),
@@ -707,17 +718,17 @@ class Npy(Files):
             ("expected a header of descr", "{'descr', 'fortran_order', 'shape'}", (1, 0)),
             ("expected a header of descr", "['descr', 'fortran_order', 'shape']", (1, 0)),
             ("expected a header of descr", self.said().strip()[:-1] + "'more': 1}", (1, 0)),
-            ("not a literal: SyntaxError", "{", (1, 0)),
-            ("not a literal: SyntaxError", "", (1, 0)),
-            ("not a literal: ValueError", "open('x')", (1, 0)),
-            ("not a literal: TypeError", "{[]: 1}", (1, 0)),
-            ("not a literal", "(" * 4000, (1, 0)),
-            ("not a literal", "-" * 4000 + "1", (1, 0)),
-            ("not a literal", "1" + "+1" * 2000, (1, 0)),
-            ("at most 4096 bytes, found 4097", self.said().strip().ljust(4096) + "\n", (1, 0)),
-            ("at most 4096 bytes, found 2000000", "(" * 2_000_000, (2, 0)),
-            ("version 1.0, 2.0 or 3.0, found 4.0", self.said(), (4, 0)),
-            ("version 1.0, 2.0 or 3.0, found 1.1", self.said(), (1, 1)),
+            ("expected a literal, got a SyntaxError", "{", (1, 0)),
+            ("expected a literal, got a SyntaxError", "", (1, 0)),
+            ("expected a literal, got a ValueError", "open('x')", (1, 0)),
+            ("expected a literal, got a TypeError", "{[]: 1}", (1, 0)),
+            ("expected a literal, got", "(" * 4000, (1, 0)),
+            ("expected a literal, got", "-" * 4000 + "1", (1, 0)),
+            ("expected a literal, got", "1" + "+1" * 2000, (1, 0)),
+            ("at most 4096 bytes, got 4097", self.said().strip().ljust(4096) + "\n", (1, 0)),
+            ("at most 4096 bytes, got 2000000", "(" * 2_000_000, (2, 0)),
+            ("version 1.0, 2.0 or 3.0, got 4.0", self.said(), (4, 0)),
+            ("version 1.0, 2.0 or 3.0, got 1.1", self.said(), (1, 1)),
             ("codec", b"\xff\xff", (3, 0)),
         ):
             with self.subTest(words), self.assertRaisesRegex(ValueError, words):
@@ -737,7 +748,7 @@ class Npy(Files):
         with self.assertRaisesRegex(ValueError, "has 100 bytes, but its header ends at 128"):
             load(self.path)
         self.put(b"\x94" + whole[1:])
-        with self.assertRaisesRegex(ValueError, "not an .npy file"):
+        with self.assertRaisesRegex(ValueError, "expected an .npy file, got other bytes"):
             load(self.path)
 
 

@@ -128,7 +128,7 @@ def step_of(kind, said):
 class SameRows(unittest.TestCase):
     def printed(self, of, rows, steps):
         document = {"column": document_of(of, rows), "steps": steps}
-        return vortex_select.rows(json.dumps(document).encode())
+        return vortex_select.program.rows(json.dumps(document).encode())
 
     def agrees(self, dice, of, seed):
         rows = [random_row(dice, of) for _ in range(dice.choice([0, 1, 8, dice.randrange(30)]))]

@@ -10,7 +10,7 @@ from decimal import Decimal
 from types import SimpleNamespace
 from unittest import mock
 
-from vortex_select import Answer, program
+from vortex_select import program
 from vortex_select import _cuts, _native
 from vortex_select._arrays import NULLABLE, Field, Plain
 from vortex_select._arrays import array_of, borrowed, field_of, field_of_type
@@ -53,32 +53,32 @@ class Outside(unittest.TestCase):
         self.assertEqual(rows(numbers, 1, 1), [3])
         self.assertEqual(rows(numbers, 3, 0), [])
         for at, count in ((2, 2), (4, 0), (-1, 1), (0, -1), (0, 4)):
-            text = f"rows {at} to {at + count} lead outside of 3 rows"
+            text = f"expected rows within 3, got rows {at} to {at + count}"
             self.refused(text, numbers, at, count)
 
     def test_buffers(self):
         short = tree("i", 3, [None, ints(1, 2, 3, 4)[:15]], offset=1)
-        self.refused("a row leads outside of its buffer: 12 bytes at 4 of 15", short, 0, 3)
+        self.refused("buffer: expected 12 bytes at 4, got 15 in all", short, 0, 3)
         self.assertEqual(rows(short, 0, 2), [2, 3])
         self.refused(
-            "a row leads outside of its buffer: 4 bytes at 0 of 0", tree("i", 1, [None, None]), 0, 1
+            "buffer: expected 4 bytes at 0, got 0 in all", tree("i", 1, [None, None]), 0, 1
         )
         self.refused(
-            "a row leads outside of its buffer: 4 bytes at 0 of 0", tree("i", 1, [None]), 0, 1
+            "buffer: expected 4 bytes at 0, got 0 in all", tree("i", 1, [None]), 0, 1
         )
         self.refused(
-            "a row leads outside of its buffer: 2 bytes at 1 of 2",
+            "buffer: expected 2 bytes at 1, got 2 in all",
             tree("b", 9, [None, b"ab"], offset=8), 0, 9
         )
         self.refused(
-            "a row leads outside of its buffer: 1 bytes at 0 of 0", tree("c", 1, [b"", b"a"]), 0, 1
+            "buffer: expected 1 bytes at 0, got 0 in all", tree("c", 1, [b"", b"a"]), 0, 1
         )
         self.refused(
-            "a row leads outside of its buffer: 6 bytes at 3 of 8",
+            "buffer: expected 6 bytes at 3, got 8 in all",
             tree("w:3", 2, [None, b"12345678"], offset=1), 0, 2
         )
         self.refused(
-            "a row leads outside of its buffer: 8 bytes at 0 of 7",
+            "buffer: expected 8 bytes at 0, got 7 in all",
             tree("d:5,2,32", 2, [None, bytes(7)]), 0, 2
         )
 
@@ -98,11 +98,11 @@ class Outside(unittest.TestCase):
         self.assertEqual(rows(words(0, 1, 1, 4), 0, 3), ["a", "", "bcd"])
         self.assertEqual(rows(words(9, 9, 9), 0, 2), ["", ""])
         self.assertEqual(rows(words(0, 99, 99, valid=b"\2"), 0, 2), [None, ""])
-        self.refused("a row leads outside of its buffer: 5 bytes at 0 of 4", words(0, 5), 0, 1)
-        self.refused("a row leads outside of its buffer: -1 bytes at 3 of 4", words(3, 2), 0, 1)
-        self.refused("a row leads outside of its buffer: 2 bytes at -1 of 4", words(-1, 1), 0, 1)
+        self.refused("buffer: expected 5 bytes at 0, got 4 in all", words(0, 5), 0, 1)
+        self.refused("buffer: expected -1 bytes at 3, got 4 in all", words(3, 2), 0, 1)
+        self.refused("buffer: expected 2 bytes at -1, got 4 in all", words(-1, 1), 0, 1)
         self.refused(
-            "a row leads outside of its buffer: 8 bytes at 0 of 4",
+            "buffer: expected 8 bytes at 0, got 4 in all",
             tree("u", 1, [None, ints(0), b""]), 0, 1
         )
 
@@ -118,13 +118,13 @@ class Outside(unittest.TestCase):
         wanted = [b"abc", bytes(range(13)), bytes(range(5, 20)), b"twelve bytes"]
         self.assertEqual(rows(made, 0, 4), wanted)
         self.assertEqual(rows(made, 1, 2), wanted[1:3])
-        self.refused("a view leads to buffer 1 of 1", views(view(13, 1, 0)), 0, 1)
-        self.refused("a view leads to buffer -1 of 1", views(view(13, -1, 0)), 0, 1)
+        self.refused("view: expected a buffer below 1, got 1", views(view(13, 1, 0)), 0, 1)
+        self.refused("view: expected a buffer below 1, got -1", views(view(13, -1, 0)), 0, 1)
         self.refused(
-            "a row leads outside of its buffer: 13 bytes at 8 of 20", views(view(13, 0, 8)), 0, 1
+            "buffer: expected 13 bytes at 8, got 20 in all", views(view(13, 0, 8)), 0, 1
         )
         self.refused(
-            "a row leads outside of its buffer: -1 bytes at 0 of 20", views(view(-1, 0, 0)), 0, 1
+            "buffer: expected -1 bytes at 0, got 20 in all", views(view(-1, 0, 0)), 0, 1
         )
         self.assertEqual(
             rows(views(view(13, 1, 0), viewed(b"a", 0, 0), valid=b"\2"), 0, 2), [None, b"a"]
@@ -132,13 +132,13 @@ class Outside(unittest.TestCase):
 
     def test_lists(self):
         made = tree("+l", 3, [b"\5", ints(0, 2, 99, 3)], [BYTES])
-        self.refused("rows 99 to 3 lead outside of 3 rows", made, 2, 1)
+        self.refused("expected rows within 3, got rows 99 to 3", made, 2, 1)
         made = tree("+l", 3, [b"\5", ints(0, 2, 2, 3)], [BYTES])
         self.assertEqual(rows(made, 0, 3), [[1, 2], None, [3]])
         made = tree("+vl", 3, [b"\5", ints(2, 99, 0), ints(1, 99, 3)], [BYTES])
         self.assertEqual(rows(made, 0, 3), [[3], None, [1, 2, 3]])
         self.refused(
-            "rows 2 to 4 lead outside of 3 rows",
+            "expected rows within 3, got rows 2 to 4",
             tree("+vl", 1, [None, ints(2), ints(2)], [BYTES]), 0, 1
         )
         wide = tree("+vL", 1, [None, struct.pack("<q", 1), struct.pack("<q", 2)], [BYTES])
@@ -149,7 +149,7 @@ class Outside(unittest.TestCase):
         fixed = tree("+w:2", 2, [b"\2"], [tree("c", 4, [None, b"\1\2\3\4"])], offset=0)
         self.assertEqual(rows(fixed, 0, 2), [None, [3, 4]])
         self.refused(
-            "rows 2 to 4 lead outside of 3 rows", tree("+w:2", 1, [None], [BYTES], offset=1), 0, 1
+            "expected rows within 3, got rows 2 to 4", tree("+w:2", 1, [None], [BYTES], offset=1), 0, 1
         )
 
     def test_structs(self):
@@ -157,7 +157,7 @@ class Outside(unittest.TestCase):
         short = [tree("c", 2, [None, b"\1\2"], name="a"), BYTES]
         made = tree("+s", 3, [b"\3"], short)
         self.assertEqual(rows(made, 0, 3), [{"a": 1, "": 1}, {"a": 2, "": 2}, None])
-        self.refused("rows 1 to 3 lead outside of 2 rows", tree("+s", 3, [b"\6"], short), 0, 3)
+        self.refused("expected rows within 2, got rows 1 to 3", tree("+s", 3, [b"\6"], short), 0, 3)
         made = tree("+s", 5, [b"\x36"], [tree("c", 6, [None, b"\1\2\3\4\5\6"], name="a")], offset=1)
         self.assertEqual(rows(made, 0, 5), [{"a": 2}, {"a": 3}, None, {"a": 5}, {"a": 6}])
         self.assertEqual(rows(tree("+s", 3, [b"\5"]), 0, 3), [{}, None, {}])
@@ -172,7 +172,7 @@ class Outside(unittest.TestCase):
         made = tree("+m", 2, [None, ints(0, 1, 2)], [entries])
         self.assertEqual(rows(made, 0, 2), [[None], [(3, 6)]])
         outside = tree("+m", 1, [None, ints(1, 3)], [entries])
-        self.refused("rows 1 to 3 lead outside of 2 rows", outside, 0, 1)
+        self.refused("expected rows within 2, got rows 1 to 3", outside, 0, 1)
 
     def test_unions(self):
         made = tree(
@@ -180,28 +180,27 @@ class Outside(unittest.TestCase):
         )
         self.assertEqual(rows(made, 0, 2), [1, "y"])
         made.length = 3
-        self.refused("type id 7 names no child", made, 2, 1)
+        self.refused("type id: expected one of [5, 9], got 7", made, 2, 1)
         self.refused(
-            "a row leads outside of its buffer: 1 bytes at 0 of 0",
+            "buffer: expected 1 bytes at 0, got 0 in all",
             tree("+us:5", 1, [b""], [BYTES]), 0, 1
         )
         dense = tree("+ud:5", 2, [b"\5\5", ints(2, 3)], [BYTES])
         self.assertEqual(rows(dense, 0, 1), [3])
-        self.refused("rows 3 to 4 lead outside of 3 rows", dense, 1, 1)
+        self.refused("expected rows within 3, got rows 3 to 4", dense, 1, 1)
 
     def test_codes(self):
         made = tree("c", 3, [b"\5", b"\2\x7f\0"], (), BYTES)
         self.assertEqual(rows(made, 0, 3), [3, None, 1])
         for code, text in ((b"\3", "rows 3 to 4"), (b"\xff", "rows -1 to 0")):
-            self.refused(
-                f"{text} lead outside of 3 rows", tree("c", 1, [None, code], (), BYTES), 0, 1
-            )
+            made = tree("c", 1, [None, code], (), BYTES)
+            self.refused(f"expected rows within 3, got {text}", made, 0, 1)
 
     def test_unknown(self):
         for form in ("x", "+r"):
             with self.assertRaises((NotImplementedError, ValueError, IndexError)):
                 list(rows(tree(form, 1, [None, bytes(8)]), 0, 1))
-        with self.assertRaisesRegex(NotImplementedError, "rows of format 'x' can't be read"):
+        with self.assertRaisesRegex(NotImplementedError, "expected a format whose rows can be read, got 'x'"):
             rows(tree("x", 1, [None, b"a"]), 0, 1)
 
 
@@ -218,7 +217,7 @@ class Formats(unittest.TestCase):
                 self.assertEqual(width_of(form), width, form)
         for form in ("u", "b", "n", "+s", "vu"):
             self.assertIsNone(letters_of(form))
-            with self.assertRaisesRegex(ValueError, "no fixed width"):
+            with self.assertRaisesRegex(ValueError, "expected a format of a fixed width, got"):
                 width_of(form)
 
     def test_parts(self):
@@ -394,15 +393,15 @@ class Program(unittest.TestCase):
         for words in ("rows", ["rows", 1], [b"rows"]):
             with self.assertRaisesRegex(TypeError, "expected a list of strings"):
                 self.called(program.run, words)
-        with self.assertRaisesRegex(TypeError, "a document: expected a buffer, got str"):
+        with self.assertRaisesRegex(TypeError, "^document: expected a buffer, got str"):
             self.called(program.run, ["rows"], "ab")
         self.assertEqual(self.called(program.run, ["rows", "a\0"]), (3, ""))
 
     def test_no_program(self):
         with mock.patch.object(program, "_native", SimpleNamespace(HAS_PROGRAM=False)):
-            with self.assertRaisesRegex(NotImplementedError, "doesn't have the program"):
+            with self.assertRaisesRegex(NotImplementedError, "expected a build with the program"):
                 program.run(["rows"])
-        self.assertEqual(Answer(1, b"x")._fields, ("status", "text"))
+        self.assertEqual(program.Answer(1, b"x")._fields, ("status", "text"))
 
 
 class Alive(unittest.TestCase):

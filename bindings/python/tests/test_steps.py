@@ -7,9 +7,10 @@ import types
 import unittest
 from array import array
 
-import vortex_select
-from vortex_select import Bits, BrokenStep, Filter, Slice, Take, column, from_buffers, select
+from vortex_select import Bits, BrokenStep, Filter, Slice, Take, column, from_buffers, kernels
+from vortex_select import plan, select
 from vortex_select._buffers import bools_of, view_of, whole_words, words_of
+from vortex_select.columns import column_over
 
 # 300 rows, more than bytes with a sign have.
 ROWS = column(list(range(1000, 1300)), "int16")
@@ -170,10 +171,10 @@ class Filters(unittest.TestCase):
 
     def test_refused(self):
         for wrong in ([1], [True, 0], ["a"], [2], (True, 1.0)):
-            with self.assertRaisesRegex(TypeError, "expected bools and None alone"):
+            with self.assertRaisesRegex(TypeError, "^mask: expected bools and None, got "):
                 Filter(wrong)
         for wrong in (b"ab", array("B", [1]), array("I", [1]), memoryview(b"a")):
-            with self.assertRaisesRegex(TypeError, "expected bools, Bits, or a column of bools"):
+            with self.assertRaisesRegex(TypeError, "^mask: expected bools, Bits, or a column of bools, got"):
                 Filter(wrong)
         for kind in ("int8", "uint8", "dictionary<int8, bool>"):
             rows = [True] if kind[-5:] == "bool>" else [1]
@@ -205,13 +206,142 @@ class Slices(unittest.TestCase):
             with self.assertRaisesRegex(TypeError, "expected Slice, Filter or Take, got"):
                 left(*wrong)
 
+    # Steps over 300 rows, of which the last is invalid, and what its exception has.
+    INVALID = (
+        ([Slice(2, 301)], "BadRange", 301, 300, "slice 2..301, but 300 rows"),
+        ([Slice(3, 2)], "BadRange", 3, 2, "slice 3..2 starts after its end"),
+        ([Slice(-1, 2)], "BadRange", -1, 0, "slice -1..2 has a negative bound"),
+        ([Slice(0, -5)], "BadRange", -5, 0, "slice 0..-5 has a negative bound"),
+        ([Slice(0, 2**70)], "BadRange", 2**70, 300, f"slice 0..{2**70}, but 300 rows"),
+        ([Slice(5, 6), Slice(0, 2)], "BadRange", 2, 1, "slice 0..2, but 1 row"),
+        ([Filter([True] * 3)], "BadMask", 3, 300, "mask of length 3, but 300 rows"),
+        (
+            [Slice(0, 8), Filter([True] * 9)], "BadMask", 9, 8,
+            "mask of length 9, but 8 rows",
+        ),
+        ([Take([0, 300])], "OutOfBounds", 300, 300, "index 300, but 300 rows"),
+        ([Take([None, -1])], "OutOfBounds", -1, 300, "index -1, but 300 rows"),
+        ([Take([0, -(2**40)])], "OutOfBounds", -(2**40), 300, f"index {-(2**40)}, but 300 rows"),
+        ([Take([0, 2**63])], "OutOfBounds", 2**63, 300, f"index {2**63}, but 300 rows"),
+        ([Take(array("b", [5, -2]))], "OutOfBounds", -2, 300, "index -2, but 300 rows"),
+        (
+            [Take(column([None, 7, 301], "int16"))], "OutOfBounds", 301, 300,
+            "index 301, but 300 rows",
+        ),
+        (
+            [Take([1, 2]), Take([0, 2])], "OutOfBounds", 2, 2,
+            "index 2, but 2 rows",
+        ),
+        (
+            [Take(column([1.0]))], "InvalidIndices", None, None,
+            "expected integers as indices, got f64",
+        ),
+    )
+
+    def expect_invalid(self, why, number, cause, found, bound, words):
+        self.assertEqual(str(why), f"step {number}: {cause}: {words}")
+        self.assertEqual((why.step, why.cause, why.words), (number, cause, words))
+        self.assertEqual((why.found, why.bound), (found, bound))
+
+    def test_invalid(self):
+        """An invalid step is named with its numbers, by `select` and by `plan`."""
+        for steps, *said in self.INVALID:
+            for call in (lambda: left(*steps), lambda: plan([100, 0, 200], steps)):
+                with self.assertRaises(BrokenStep) as why:
+                    call()
+                self.expect_invalid(why.exception, len(steps) - 1, *said)
+
     def test_broken_steps(self):
-        """A broken step pickles, and has its number, its cause and its text."""
-        made = BrokenStep(3, "BadMask", "a text")
-        again = pickle.loads(pickle.dumps(made))
-        for why in (made, again):
-            self.assertEqual((why.step, why.cause, str(why)), (3, "BadMask", "a text"))
-        self.assertEqual(str(BrokenStep(3, "BadMask")), "step 3: BadMask")
+        """A broken step pickles, and has its number, its cause and its words."""
+        made = BrokenStep(3, "BadMask", "words", 5, 8)
+        for why in (made, pickle.loads(pickle.dumps(made))):
+            self.expect_invalid(why, 3, "BadMask", 5, 8, "words")
+        self.expect_invalid(made.moved(4), 7, "BadMask", 5, 8, "words")
+        plain = BrokenStep(3, "BadMask")
+        self.assertEqual((str(plain), plain.found), ("step 3: BadMask", None))
+
+
+class Fields(unittest.TestCase):
+    """Filters by a field of bools."""
+
+    rows = [
+        {"id": 0, "is_in": True}, None, {"id": 2, "is_in": False}, {"id": 3, "is_in": None},
+        {"id": 4, "is_in": True}, {"id": 5, "is_in": True},
+    ]
+
+    def ids(self, source, *steps):
+        return [row and row["id"] for row in select(source, steps).to_pylist()]
+
+    def test_nulls(self):
+        """Null structs and null bools count as false, whatever is under the null."""
+        people = column(self.rows)
+        self.assertEqual(self.ids(people, Filter("is_in")), [0, 4, 5])
+        bools = from_buffers("bool", 3, [b"\6", b"\7"])
+        made = from_buffers("struct<id: int64, is_in: bool>", 3, [b"\3"], [column([7, 8, 9]), bools])
+        self.assertEqual(self.ids(made, Filter("is_in")), [8])
+        self.assertEqual(self.ids(column([], "struct<is_in: bool>"), Filter("is_in")), [])
+
+    def test_steps(self):
+        """The field is that of the rows that earlier steps select."""
+        people = column(self.rows)
+        for steps, wanted in (
+            ([Slice(1, 5), Filter("is_in")], [4]),
+            ([Filter("is_in"), Take([2, 0])], [5, 0]),
+            ([Take([4, 4, None, 0]), Filter("is_in")], [4, 4, 0]),
+            ([Filter("is_in"), Filter("is_in"), Slice(0, 1)], [0]),
+        ):
+            self.assertEqual(self.ids(people, *steps), wanted)
+        with self.assertRaises(BrokenStep) as why:
+            select(people, [Slice(0, 9), Filter("is_in")])
+        self.assertEqual((why.exception.step, why.exception.bound), (0, 6))
+        with self.assertRaises(BrokenStep) as why:
+            select(people, [Filter("is_in"), Take([3])])
+        self.assertEqual((why.exception.step, why.exception.bound), (1, 3))
+
+    def test_offsets(self):
+        """Structs and bools that begin at any bit."""
+        kept = [0, 3, 4, 8, 15, 17, 18]
+        bools = from_buffers("bool", 19, [None, b"\x19\x81\x06"])
+        ids = column(list(range(19)))
+        of = "struct<id: int64, is_in: bool>"
+        for at in range(19):
+            for valid in (None, b"\xf7\xff\xff"):
+                made = from_buffers(of, 19 - at, [valid], [ids, bools], offset=at)
+                wanted = [k for k in kept if k >= at and (valid is None or k != 3)]
+                self.assertEqual(self.ids(made, Filter("is_in")), wanted, at)
+
+    def test_several_arrays(self):
+        """A column of several arrays, and a stream of them."""
+        parts = [column(self.rows[:3]), column(self.rows[3:5]), column(self.rows[5:])]
+        several = column_over([part._chunks[0] for part in parts])
+
+        class Streamed:
+            def __arrow_c_stream__(self, requested_schema=None):
+                return several.__arrow_c_stream__(requested_schema)
+
+        class Arrow:
+            def __arrow_c_array__(self, requested_schema=None):
+                return parts[0].__arrow_c_array__(requested_schema)
+
+        for source in (several, Streamed()):
+            self.assertEqual(self.ids(source, Take([5, 0, 2]), Filter("is_in")), [5, 0])
+        self.assertEqual(self.ids(Arrow(), Filter("is_in")), [0])
+
+    def test_refused(self):
+        people = column(self.rows)
+        for source, error, words in (
+            (column([1]), TypeError, "expected a column of structs, got int64"),
+            (people, KeyError, r"expected one of \['id', 'is_in'\]"),
+            (column([{"x": 1}]), TypeError, "expected a field of bools, got int64"),
+        ):
+            with self.assertRaisesRegex(error, "Filter.'x'.: " + words):
+                select(source, [Filter("x")])
+        with self.assertRaisesRegex(TypeError, "__arrow_c_stream__, got list"):
+            select([1], [Filter("x")])
+        for call in (lambda: len(Filter("x")), lambda: plan([3], [Filter("x")])):
+            with self.assertRaisesRegex(TypeError, "expected a mask, got the name of a field, 'x'"):
+                call()
+        self.assertEqual(repr(pickle.loads(pickle.dumps(Filter("x")))), "Filter('x')")
 
 
 class Masks(unittest.TestCase):
@@ -225,7 +355,7 @@ class Masks(unittest.TestCase):
             wanted = [0, 2, bits, bits + 1]
             for at in (0, 1, 2, 7, bits - 1, bits, bits + 1):
                 mask = Bits(items, 2 * bits - at, at)
-                found = vortex_select.positions(mask, 2 * bits - at).tolist()
+                found = kernels.positions(mask, 2 * bits - at).tolist()
                 self.assertEqual(found, [k - at for k in wanted if k >= at], (kind, at))
         for wrong in (
             array("b", [1]), array("i", [1]), array("d", [1.0]), memoryview(b"a").cast("?")
@@ -265,7 +395,7 @@ class Masks(unittest.TestCase):
         self.assertEqual(bools_of([True, False]), b"\1\0")
         self.assertEqual(bools_of((ctypes.c_bool * 2)(True, False)), b"\1\0")
         self.assertIsNone(bools_of(b"ab"))
-        with self.assertRaisesRegex(TypeError, "expected bools alone"):
+        with self.assertRaisesRegex(TypeError, "^mask: expected bools, got None$"):
             bools_of([True, None])
 
     def test_bits_of_bools(self):
@@ -276,17 +406,17 @@ class Masks(unittest.TestCase):
             data, memoryview(bytes(rows)).cast("?"), rows, Bits(data, 12), Bits(b"\0" + data, 12, 8)
         ):
             # Bits 1 to 4 are 1, 0, 1, 0, of which the mask keeps the first, third and last.
-            kept, count = vortex_select.filter_bits(given, mask, 4, bits_at=1)
+            kept, count = kernels.filter_bits(given, mask, 4, bits_at=1)
             self.assertEqual((bytes(kept), count), (b"\3", 3))
-            taken = vortex_select.take_bits(given, 3, [2, 1, 0, 1], at=9)
+            taken = kernels.take_bits(given, 3, [2, 1, 0, 1], at=9)
             self.assertEqual(bytes(taken), b"\x0e")
             with self.assertRaisesRegex(ValueError, "from bit 13 on"):
-                vortex_select.take_bits(given, 4, [0], at=13)
+                kernels.take_bits(given, 4, [0], at=13)
         with self.assertRaisesRegex(ValueError, "expected 4 from bit 9 on, got 12 in all"):
-            vortex_select.filter_bits(rows, mask, 4, bits_at=9)
+            kernels.filter_bits(rows, mask, 4, bits_at=9)
         with self.assertRaisesRegex(ValueError, "expected 8 from bit 9 on, got 16 in all"):
-            vortex_select.filter_bits(data, b"\0", 8, bits_at=9)
-        kept, count = vortex_select.filter_bits(data, b"\xf0\xff", 8, mask_at=4)
+            kernels.filter_bits(data, b"\0", 8, bits_at=9)
+        kept, count = kernels.filter_bits(data, b"\xf0\xff", 8, mask_at=4)
         self.assertEqual((bytes(kept), count), (data[:1], 8))
 
     def test_numbers(self):
@@ -305,18 +435,18 @@ class Masks(unittest.TestCase):
         """An index that isn't below 2^64 - 1 is out of bounds, in a list of any other."""
         for index in (2**64 - 1, 2**64, -1):
             for indices in ([0, index], (0, index), iter([0, index])):
-                with self.assertRaisesRegex(IndexError, "index 1 of"):
-                    vortex_select.take(b"abc", indices)
+                with self.assertRaisesRegex(IndexError, "at place 1, but 3 items"):
+                    kernels.take(b"abc", indices)
         for wrong in ("1", "", Bits(b"a", 1), [1, True], [True], [1.0], ["1"]):
             with self.assertRaises(TypeError):
-                vortex_select.take(b"abc", wrong)
+                kernels.take(b"abc", wrong)
         for wrong in (
             array("f", [1.0]), memoryview(b"a").cast("c"), memoryview(bytes(4)).cast("B", (2, 2))
         ):
             with self.assertRaisesRegex(TypeError, "indices: expected native integers, got format"):
-                vortex_select.take(b"abc", wrong)
+                kernels.take(b"abc", wrong)
         self.assertEqual(
-            bytes(vortex_select.take(b"abc", memoryview(array("h", [2, 1, 0]))[::-1])), b"abc"
+            bytes(kernels.take(b"abc", memoryview(array("h", [2, 1, 0]))[::-1])), b"abc"
         )
 
 
@@ -325,7 +455,7 @@ class Items(unittest.TestCase):
 
     def filtered(self, form, size, given):
         """The type of a result over items of a format, which is a view of those in `given`."""
-        kept = vortex_select.filter(given, [False, True])
+        kept = kernels.filter(given, [False, True])
         self.assertEqual(
             (bytes(kept), memoryview(given).format),
             (bytes(memoryview(given).cast("B")[size:]), form)
@@ -347,10 +477,10 @@ class Items(unittest.TestCase):
     def test_other_orders(self):
         """Items in another byte order are bytes, and no indices."""
         data = (ctypes.c_uint32.__ctype_be__ * 2)(1, 2)
-        kept = vortex_select.filter(data, [False, True])
+        kept = kernels.filter(data, [False, True])
         self.assertEqual((kept.format, bytes(kept)), ("B", b"\0\0\0\2"))
         with self.assertRaisesRegex(TypeError, "expected native integers"):
-            vortex_select.take(b"abc", data)
+            kernels.take(b"abc", data)
         with self.assertRaisesRegex(TypeError, "expected native integers"):
             Take(data)
 
@@ -358,32 +488,32 @@ class Items(unittest.TestCase):
         for width in (1, 2, 4, 8, 16, 32):
             data = bytes(range(2 * width))
             for given in (data, memoryview(data).cast("c"), memoryview(data).cast("b")):
-                kept = vortex_select.filter(given, [False, True], width)
+                kept = kernels.filter(given, [False, True], width)
                 self.assertEqual(bytes(kept), data[width:])
                 self.assertEqual(kept.format, memoryview(given).format if width == 1 else "B")
-        self.assertEqual(vortex_select.filter(array("I", [1, 2]), [True, False], 4).tolist(), [1])
+        self.assertEqual(kernels.filter(array("I", [1, 2]), [True, False], 4).tolist(), [1])
         with self.assertRaisesRegex(ValueError, "width: expected 4, the items' own, got 8"):
-            vortex_select.filter(array("I", [1, 2]), [True], 8)
+            kernels.filter(array("I", [1, 2]), [True], 8)
         with self.assertRaisesRegex(ValueError, "expected whole items of 2 bytes, got 3 bytes"):
-            vortex_select.filter(b"abc", [True], 2)
+            kernels.filter(b"abc", [True], 2)
         with self.assertRaisesRegex(ValueError, "expected items of .* bytes, got 3"):
-            vortex_select.filter(b"abc", [True], 3)
+            kernels.filter(b"abc", [True], 3)
 
     def test_long_doubles(self):
         """Items of 16 bytes that aren't native numbers of `memoryview` are bytes."""
         data = (ctypes.c_longdouble * 2)(1.0, 2.0)
-        kept = vortex_select.filter(data, [False, True])
+        kept = kernels.filter(data, [False, True])
         self.assertEqual((kept.format, bytes(kept)), ("B", bytes(data)[16:]))
 
     def test_no_buffers(self):
         with self.assertRaisesRegex(TypeError, "values: expected a buffer, got str"):
-            vortex_select.filter("ab", [True])
+            kernels.filter("ab", [True])
         with self.assertRaisesRegex(TypeError, "values: expected 1 dimension, got 2"):
-            vortex_select.filter(memoryview(bytes(4)).cast("B", (2, 2)), [True])
+            kernels.filter(memoryview(bytes(4)).cast("B", (2, 2)), [True])
         with self.assertRaisesRegex(
             TypeError, "values: expected numbers or bytes, got items of format"
         ):
-            vortex_select.filter((ctypes.py_object * 1)(), [True])
+            kernels.filter((ctypes.py_object * 1)(), [True])
 
     def test_masked(self):
         """A masked array of numpy is refused, where numpy was imported."""
@@ -398,7 +528,7 @@ class Items(unittest.TestCase):
         try:
             for call in (
                 lambda given: view_of(given, "x"), Take,
-                lambda given: vortex_select.take(b"a", given)
+                lambda given: kernels.take(b"a", given)
             ):
                 with self.assertRaisesRegex(
                     TypeError, "expected a plain buffer, got a masked array"

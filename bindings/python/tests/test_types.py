@@ -3,7 +3,7 @@
 import unittest
 
 from vortex_select import column
-from vortex_select._types import Type, spelled, type_of
+from vortex_select._types import _OTHER_NAMES, Type, alike, spelled, type_of
 
 # Each name, and the format string that Arrow's specification gives for it.
 FLAT = {
@@ -104,42 +104,67 @@ class Names(unittest.TestCase):
             self.assertEqual(spelled(type_of(text)), name, text)
 
     def test_wrong(self):
-        """The position is the end of what was read."""
-        for text, position in (
-            ("string", 6),
-            ("", 0),
-            ("  ", 0),
-            ("int65", 5),
-            ("Int8", 0),
-            ("int8 x", 5),
-            ("int8>", 4),
-            ("list", 4),
-            ("list<", 5),
-            ("list<int8", 9),
-            ("list<int8>>", 10),
-            ("list<string>", 11),
-            ("list<int8, int8>", 9),
-            ("bag<int8>", 8),
-            ("struct<a>", 7),
-            ("struct<a: int8", 14),
-            ("struct<a: int8 b: int8>", 15),
-            ("struct<a: int8,>", 15),
-            ("fixed_size_list<int8>", 20),
-            ("fixed_size_list<int8, x>", 21),
-            ("map<utf8>", 8),
-            ("dictionary<utf8, int8>", 21),
-            ("dictionary<float32, utf8>", 24),
-            ("dictionary<dictionary<int8, utf8>, utf8>", 39),
-            ("decimal96(9, 2)", 15),
-            ("decimal128(9)", 13),
-            ("fixed_size_binary(-1)", 21),
-            ("timestamp[h]", 12),
-            ("sparse_union[]<int8>", 19),
+        """An unknown type is named, with the most like type; else the position and what was got."""
+        for text, said in (
+            ("string", "unknown type 'string'; did you mean utf8?"),
+            ("int65", "unknown type 'int65'; did you mean int64?"),
+            ("Int8", "unknown type 'Int8'; did you mean int8?"),
+            ("double", "unknown type 'double'; did you mean float64?"),
+            ("decimal96(9, 2)", "unknown type 'decimal96(9, 2)'"),
+            ("decimal128(9)", "unknown type 'decimal128(9)'; did you mean decimal128(38, 0)?"),
+            ("timestamp[h]", "unknown type 'timestamp[h]'; did you mean timestamp[us]?"),
+            ("list<string>", "{}, position 5: unknown type 'string'; did you mean utf8?"),
+            ("struct<a: boolean>", "{}, position 9: unknown type 'boolean'; did you mean bool?"),
+            ("bag<int8>", "{}, position 0: unknown type 'bag'"),
+            ("array<int8>", "{}, position 0: unknown type 'array'; did you mean list?"),
+            ("", "{}, position 0: expected a type, got the end"),
+            ("  ", "{}, position 0: expected a type, got the end"),
+            ("int8 x", "{}, position 5: expected the end, got 'x'"),
+            ("int8>", "{}, position 4: expected the end, got '>'"),
+            ("list", "{}, position 4: expected '<', got the end"),
+            ("list<", "{}, position 5: expected a type, got the end"),
+            ("list<int8", "{}, position 9: expected '>', got the end"),
+            ("list<int8>>", "{}, position 10: expected the end, got '>'"),
+            ("list<int8, int8>", "{}, position 9: expected '>', got ', int8>'"),
+            ("struct<a>", "{}, position 7: expected a name and a colon, got 'a>'"),
+            ("struct<a: int8", "{}, position 14: expected ',', got the end"),
+            ("struct<a: int8 b: int8>", "{}, position 15: expected ',', got 'b: int8>'"),
+            ("struct<a: int8,>", "{}, position 15: expected a name and a colon, got '>'"),
+            ("fixed_size_list<int8>", "{}, position 20: expected ',', got '>'"),
+            ("fixed_size_list<int8, x>", "{}, position 21: expected a number, got 'x>'"),
+            ("map<utf8>", "{}, position 8: expected ',', got '>'"),
+            (
+                "dictionary<utf8, int8>",
+                "{}, position 11: expected an integer type, got 'utf8, int8>'",
+            ),
+            (
+                "dictionary<dictionary<int8, utf8>, utf8>",
+                "{}, position 11: expected an integer type, got 'dictionary<int8, utf'",
+            ),
+            (
+                "sparse_union[]<int8>",
+                "{}, position 0: unknown type 'sparse_union[]'; did you mean sparse_union?",
+            ),
         ):
             with self.assertRaises(ValueError, msg=text) as why:
                 type_of(text)
-            said = f"unknown type {text!r} (position {position})"
-            self.assertEqual(str(why.exception), said)
+            self.assertEqual(str(why.exception), said.format(f"type {text!r}"))
+
+    def test_long_names(self):
+        """The message of a long text is short."""
+        for text in ("x" * 1_000_000, "list<" + "x" * 1_000_000, "int8" + " " * 1_000_000 + "x"):
+            with self.assertRaises(ValueError) as why:
+                type_of(text)
+            self.assertLess(len(str(why.exception)), 200)
+
+    def test_other_names(self):
+        """Each hint is a type, or the word that a type begins with."""
+        for word, name in _OTHER_NAMES.items():
+            self.assertEqual(alike(word.upper()), name)
+            try:
+                type_of(name)
+            except ValueError as why:
+                self.assertIn("expected '<'", str(why))
 
     def test_levels(self):
         """64 levels are the most; children side by side count once."""
@@ -148,7 +173,7 @@ class Names(unittest.TestCase):
 
         self.assertEqual(spelled(type_of(nested(63))), nested(63))
         for text in (nested(64), nested(62, "dictionary<int8, list<int8>>")):
-            with self.assertRaisesRegex(ValueError, "more than 64 levels"):
+            with self.assertRaisesRegex(ValueError, "expected at most 64 levels, got more"):
                 type_of(text)
         wide = ", ".join(f"c{k}: list<int8>" for k in range(100))
         self.assertEqual(len(type_of(f"struct<{wide}>").children), 100)
@@ -187,7 +212,7 @@ class Guessed(unittest.TestCase):
 
     def test_no_type(self):
         for rows in ([object()], [{1}], [1j], [None, range(3)]):
-            with self.assertRaisesRegex(TypeError, "need a type"):
+            with self.assertRaisesRegex(TypeError, "expected a type for values of class"):
                 column(rows)
 
 

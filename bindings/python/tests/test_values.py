@@ -163,7 +163,7 @@ class Numpy(unittest.TestCase):
             found = of.to_numpy()
             self.assertEqual(found.tolist(), [1, None, 3])
             self.assertEqual(column(found), of)
-            with self.assertRaisesRegex(ValueError, "expected no nulls, found 1: use to_numpy"):
+            with self.assertRaisesRegex(ValueError, "expected no nulls, got 1: use to_numpy"):
                 numpy.asarray(of)
 
     def test_times(self):

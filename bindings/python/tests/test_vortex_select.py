@@ -1,18 +1,25 @@
 """Compares the module with plain loops on random input, and runs the examples of its docs."""
 
+import builtins
+import contextlib
 import ctypes
 import doctest
+import inspect
+import io
 import os
 import pathlib
 import random
+import re
 import sys
 import threading
 import types
 import unittest
+import warnings
 from array import array
 
 import vortex_select
 from arrow_model import random_bytes
+from vortex_select import _buffers, _plans, _steps, _types, columns, kernels, parts, program
 
 CALLS = int(os.environ.get("VORTEX_CALLS", "3000"))
 
@@ -63,10 +70,10 @@ class Random(unittest.TestCase):
             values, items = random_input(self.dice, width)
             rows = [self.dice.random() < 0.5 for _ in items]
             kept = [item for item, row in zip(items, rows) if row]
-            answer = vortex_select.filter(values, self.mask_of(rows), width)
+            answer = kernels.filter(values, self.mask_of(rows), width)
             self.assertEqual(items_of(answer, width), kept)
             values = bytearray(values)
-            count = vortex_select.filter_in_place(values, self.mask_of(rows), width)
+            count = kernels.filter_in_place(values, self.mask_of(rows), width)
             self.assertEqual(items_of(values, width)[:count], kept)
 
     def test_take(self):
@@ -77,12 +84,12 @@ class Random(unittest.TestCase):
             there = [self.dice.random() < 0.7 for _ in indices]
             first = [k for k, i in enumerate(indices) if there[k] and i >= len(items)]
             if first:
-                with self.assertRaisesRegex(IndexError, f"index {first[0]} of"):
-                    vortex_select.take(values, self.indices_of(indices), self.mask_of(there), width)
+                with self.assertRaisesRegex(IndexError, f"at place {first[0]}, but"):
+                    kernels.take(values, self.indices_of(indices), self.mask_of(there), width)
                 continue
             taken = [items[i] if t else bytes(width) for i, t in zip(indices, there)]
             listed, valid = self.indices_of(indices), self.mask_of(there)
-            answer = vortex_select.take(values, listed, valid, width)
+            answer = kernels.take(values, listed, valid, width)
             self.assertEqual(items_of(answer, width), taken)
 
     def test_blocks(self):
@@ -93,16 +100,16 @@ class Random(unittest.TestCase):
             indices = [i * 7919 % 251 for i in range(count)]
             there = [i % 5 != 0 for i in range(count)]
             listed = array(self.dice.choice("BHIQhiq"), indices)
-            taken = vortex_select.take(values, listed, there).tolist()
+            taken = kernels.take(values, listed, there).tolist()
             self.assertEqual(taken, [t * i for i, t in zip(indices, there)])
-            taken = vortex_select.take_bits(bools_of(bits), len(bits), listed, there)
+            taken = kernels.take_bits(bools_of(bits), len(bits), listed, there)
             self.assertEqual(bytes(taken), bits_of([t and bits[i] for i, t in zip(indices, there)]))
             for place in (0, count - 1, min(block, count - 1)):
                 wrong = indices[:place] + [len(values)] + indices[place + 1 :]
-                with self.assertRaisesRegex(IndexError, f"index {place} of"):
-                    vortex_select.take(values, wrong)
-                with self.assertRaisesRegex(IndexError, f"index {place} of"):
-                    vortex_select.take_bits(bools_of(bits), len(bits), wrong)
+                with self.assertRaisesRegex(IndexError, f"at place {place}, but"):
+                    kernels.take(values, wrong)
+                with self.assertRaisesRegex(IndexError, f"at place {place}, but"):
+                    kernels.take_bits(bools_of(bits), len(bits), wrong)
 
     def placed(self, rows):
         at = self.dice.randrange(130)
@@ -115,69 +122,69 @@ class Random(unittest.TestCase):
             rows = [self.dice.random() < 0.7 for _ in src]
             (bits, at), (mask, mask_at) = self.placed(src), self.placed(rows)
             kept = [bit for bit, row in zip(src, rows) if row]
-            answer = vortex_select.filter_bits(bits, mask, len(src), at, mask_at)
+            answer = kernels.filter_bits(bits, mask, len(src), at, mask_at)
             self.assertEqual((bytes(answer[0]), answer[1]), (bits_of(kept), len(kept)))
             indices = [self.dice.randrange(len(src) + 1) for _ in range(self.dice.randrange(90))]
             there = [i < len(src) and self.dice.random() < 0.8 for i in indices]
             taken = [t and src[i] for i, t in zip(indices, there)]
-            answer = vortex_select.take_bits(bits, len(src), indices, bits_of(there), at)
+            answer = kernels.take_bits(bits, len(src), indices, bits_of(there), at)
             self.assertEqual(bytes(answer), bits_of(taken))
 
     def test_positions(self):
         for _ in range(CALLS):
             rows = [self.dice.random() < 0.3 for _ in range(self.dice.randrange(300))]
-            found = vortex_select.positions(self.mask_of(rows), len(rows))
+            found = kernels.positions(self.mask_of(rows), len(rows))
             selected = [k for k, row in enumerate(rows) if row]
             self.assertEqual(found.tolist(), selected)
-            covered = [k for a, b in vortex_select.runs(bits_of(rows), len(rows)) for k in range(a, b)]
+            covered = [k for a, b in kernels.runs(bits_of(rows), len(rows)) for k in range(a, b)]
             self.assertEqual(covered, selected)
             starts = [k for k in selected if k == 0 or not rows[k - 1]]
-            runs = vortex_select.runs(bits_of(rows), len(rows))
+            runs = kernels.runs(bits_of(rows), len(rows))
             self.assertEqual([a for a, _ in runs], starts)
             p = self.dice.randrange(len(rows) + 1)
-            count = vortex_select.count_before(bits_of(rows), len(rows), p)
+            count = kernels.count_before(bits_of(rows), len(rows), p)
             self.assertEqual(count, sum(rows[:p]))
             if selected:
                 k = self.dice.randrange(len(selected))
-                self.assertEqual(vortex_select.rank(bits_of(rows), len(rows), k), selected[k])
+                self.assertEqual(kernels.rank(bits_of(rows), len(rows), k), selected[k])
             with self.assertRaises(IndexError):
-                vortex_select.rank(bits_of(rows), len(rows), len(selected))
+                kernels.rank(bits_of(rows), len(rows), len(selected))
 
 
 class Refused(unittest.TestCase):
     def test_masks(self):
         for mask in b"", b"\x00\x00":
             with self.assertRaises(ValueError):
-                vortex_select.filter(b"abcd", mask)
-        with self.assertRaisesRegex(ValueError, "past the rows"):
-            vortex_select.filter(b"abcd", b"\x10")
+                kernels.filter(b"abcd", mask)
+        with self.assertRaisesRegex(ValueError, "expected clear bits after the 4 rows"):
+            kernels.filter(b"abcd", b"\x10")
 
     def test_bits(self):
         with self.assertRaises(ValueError):
-            vortex_select.filter_bits(b"\x01", b"\xff\xff", 4, bits_at=5)
-        with self.assertRaisesRegex(IndexError, "index 1 of"):
-            vortex_select.take_bits(b"\xff", 7, [6, 7])
+            kernels.filter_bits(b"\x01", b"\xff\xff", 4, bits_at=5)
+        with self.assertRaisesRegex(IndexError, "at place 1, but"):
+            kernels.take_bits(b"\xff", 7, [6, 7])
 
     def test_widths(self):
         for width in 0, 3, 64:
             with self.assertRaises(ValueError):
-                vortex_select.filter(b"abcd", b"\x00", width)
+                kernels.filter(b"abcd", b"\x00", width)
         with self.assertRaises(ValueError):
-            vortex_select.filter(b"abc", b"\x00", 2)
+            kernels.filter(b"abc", b"\x00", 2)
 
     def test_answers_keep_the_type(self):
         for kind in "bBhHiIlLqQfd":
-            answer = vortex_select.filter(array(kind, [1, 2, 3]), b"\x06")
+            answer = kernels.filter(array(kind, [1, 2, 3]), b"\x06")
             self.assertEqual((answer.format, answer.tolist()), (kind, [2, 3]))
-            answer = vortex_select.take(array(kind, [1, 2, 3]), [2], [False])
+            answer = kernels.take(array(kind, [1, 2, 3]), [2], [False])
             self.assertEqual((answer.format, answer.tolist()), (kind, [0]))
         longs = (ctypes.c_int * 3)(1, -2, 3)
-        self.assertEqual(vortex_select.filter(longs, b"\x06").tolist(), [-2, 3])
+        self.assertEqual(kernels.filter(longs, b"\x06").tolist(), [-2, 3])
 
     def test_ctypes_records(self):
         """Their formats don't tell all bytes: a bit field or a union may hide an object."""
         for records in (Pair * 2)(Pair(1, 2), Pair(3, 4)), Pair(), (Pair * 2 * 1)(), (Either * 2)(), Hidden():
-            for call in vortex_select.filter, vortex_select.filter_in_place:
+            for call in kernels.filter, kernels.filter_in_place:
                 with self.assertRaises(TypeError):
                     call(records, b"\x02")
 
@@ -220,10 +227,10 @@ class Hostile(unittest.TestCase):
         objects += [(ctypes.POINTER(ctypes.c_int) * 2)(), (ctypes.CFUNCTYPE(None) * 2)()]
         objects += [(ctypes.c_void_p * 2)(), (ctypes.c_wchar_p * 2)()]
         for values in objects:
-            for call in vortex_select.filter, vortex_select.filter_in_place:
+            for call in kernels.filter, kernels.filter_in_place:
                 self.refused(TypeError, call, values, b"\x01")
-            self.refused(TypeError, vortex_select.take, values, [0])
-            self.refused(TypeError, vortex_select.take, b"ab", values)
+            self.refused(TypeError, kernels.take, values, [0])
+            self.refused(TypeError, kernels.take, b"ab", values)
 
     def test_indices_of_another_type(self):
         values = array("Q", range(9))
@@ -231,49 +238,49 @@ class Hostile(unittest.TestCase):
         eights += [bools_of([True, False]), memoryview(bytes(16)).cast("B", (2, 8))]
         eights += ["1", b"1".decode(), [1.0], ["1"], [None], [True], 1, None, vortex_select.Bits(b"a", 8)]
         for indices in eights:
-            self.refused(TypeError, vortex_select.take, values, indices)
-            self.refused(TypeError, vortex_select.take_bits, b"\xff", 8, indices)
+            self.refused(TypeError, kernels.take, values, indices)
+            self.refused(TypeError, kernels.take_bits, b"\xff", 8, indices)
 
     def test_bytes_are_indices_of_a_byte(self):
-        self.assertEqual(bytes(vortex_select.take(b"abcdefghi", bytes(8))), b"aaaaaaaa")
-        self.assertEqual(bytes(vortex_select.take(b"abcdefghi", bytearray([8, 0]))), b"ia")
+        self.assertEqual(bytes(kernels.take(b"abcdefghi", bytes(8))), b"aaaaaaaa")
+        self.assertEqual(bytes(kernels.take(b"abcdefghi", bytearray([8, 0]))), b"ia")
 
     def test_indices_out_of_bounds(self):
         for index in -1, 3, 2**31, 2**32, 2**63, 2**64 - 1, 2**64, 2**64 + 1, -(2**64), 10**40:
-            with self.assertRaisesRegex(IndexError, "index 1 of"):
-                vortex_select.take(b"abc", [0, index])
-            with self.assertRaisesRegex(IndexError, "index 1 of"):
-                vortex_select.take_bits(b"\xff", 3, [0, index])
-            taken = vortex_select.take(b"abc", [2, index], valid=[True, False])
+            with self.assertRaisesRegex(IndexError, "at place 1, but"):
+                kernels.take(b"abc", [0, index])
+            with self.assertRaisesRegex(IndexError, "at place 1, but"):
+                kernels.take_bits(b"\xff", 3, [0, index])
+            taken = kernels.take(b"abc", [2, index], valid=[True, False])
             self.assertEqual(bytes(taken), b"c\0")
         for kind in "bhilq":
-            with self.assertRaisesRegex(IndexError, "index 1 of"):
-                vortex_select.take(bytes(70000), array(kind, [0, -1]))
+            with self.assertRaisesRegex(IndexError, "at place 1, but"):
+                kernels.take(bytes(70000), array(kind, [0, -1]))
 
     def test_numbers_past_64_bits(self):
         for number in 2**64, 2**64 + 1, -1, 2**65 + 2:
-            self.refused(IndexError, vortex_select.rank, b"\x0f", 4, number)
-            self.refused(IndexError, vortex_select.count_before, b"\x0f", 4, number)
-            self.refused(ValueError, vortex_select.positions, b"\x0f", number + 4)
-            self.refused(ValueError, vortex_select.filter_bits, b"\x0f", b"\x0f", 4, number)
-            self.refused(ValueError, vortex_select.filter_bits, b"\x0f", b"\x0f", number)
-            self.refused(ValueError, vortex_select.take_bits, b"\x0f", number, [0])
+            self.refused(IndexError, kernels.rank, b"\x0f", 4, number)
+            self.refused(IndexError, kernels.count_before, b"\x0f", 4, number)
+            self.refused(ValueError, kernels.positions, b"\x0f", number + 4)
+            self.refused(ValueError, kernels.filter_bits, b"\x0f", b"\x0f", 4, number)
+            self.refused(ValueError, kernels.filter_bits, b"\x0f", b"\x0f", number)
+            self.refused(ValueError, kernels.take_bits, b"\x0f", number, [0])
             self.refused(ValueError, vortex_select.Bits, b"a", number)
-            self.refused(ValueError, vortex_select.filter, b"abcd", b"\x0f", number)
+            self.refused(ValueError, kernels.filter, b"abcd", b"\x0f", number)
         for number in 1.0, "1", None:
-            self.refused(TypeError, vortex_select.rank, b"\x0f", 4, number)
+            self.refused(TypeError, kernels.rank, b"\x0f", 4, number)
 
     def test_masks_of_another_type(self):
         masks = [2, [1, 0, 1], [True, 0, True], ["a"], "abc", None, {True}, array("I", [1]), [2, 2, 2]]
         masks += [array("b", [1]), array("d", [1.0]), iter([True, False, True])]
         for mask in masks:
-            self.refused(TypeError, vortex_select.filter, b"abc", mask)
+            self.refused(TypeError, kernels.filter, b"abc", mask)
             if mask is not None:
-                self.refused(TypeError, vortex_select.take, b"abc", [0, 1, 2], mask)
-            self.refused(TypeError, vortex_select.positions, mask, 3)
+                self.refused(TypeError, kernels.take, b"abc", [0, 1, 2], mask)
+            self.refused(TypeError, kernels.positions, mask, 3)
         for mask in [True], bools_of([True] * 4), vortex_select.Bits(b"\xff", 4):
-            self.refused(ValueError, vortex_select.filter, b"abc", mask)
-        kept = vortex_select.filter(b"abc", [True, False, True])
+            self.refused(ValueError, kernels.filter, b"abc", mask)
+        kept = kernels.filter(b"abc", [True, False, True])
         self.assertEqual(bytes(kept), b"ac")
 
     def test_masked_arrays(self):
@@ -282,39 +289,39 @@ class Hostile(unittest.TestCase):
         sys.modules["numpy.ma"] = module
         self.addCleanup(sys.modules.pop, "numpy.ma")
         masked = MaskedArray(b"\1\0\1")
-        self.refused(TypeError, vortex_select.filter, masked, [True] * 3)
-        self.refused(TypeError, vortex_select.filter_in_place, masked, [True] * 3)
-        self.refused(TypeError, vortex_select.take, b"abc", masked)
-        self.refused(TypeError, vortex_select.filter, bytes(24), masked)
+        self.refused(TypeError, kernels.filter, masked, [True] * 3)
+        self.refused(TypeError, kernels.filter_in_place, masked, [True] * 3)
+        self.refused(TypeError, kernels.take, b"abc", masked)
+        self.refused(TypeError, kernels.filter, bytes(24), masked)
 
     def test_memory_that_is_no_list(self):
-        self.refused(BufferError, vortex_select.filter_in_place, b"abc", [True] * 3)
-        self.refused(BufferError, vortex_select.filter_in_place, memoryview(b"abc"), [True] * 3)
-        self.refused(BufferError, vortex_select.filter, memoryview(b"abcdef")[::2], [True] * 3)
-        self.refused(BufferError, vortex_select.filter_in_place, memoryview(bytearray(6))[::2], [True] * 3)
-        self.refused(TypeError, vortex_select.filter, memoryview(bytes(4)).cast("B", (2, 2)), [True] * 4)
-        self.refused(ValueError, vortex_select.filter, array("I", [1, 2]), [True], 8)
+        self.refused(BufferError, kernels.filter_in_place, b"abc", [True] * 3)
+        self.refused(BufferError, kernels.filter_in_place, memoryview(b"abc"), [True] * 3)
+        self.refused(BufferError, kernels.filter, memoryview(b"abcdef")[::2], [True] * 3)
+        self.refused(BufferError, kernels.filter_in_place, memoryview(bytearray(6))[::2], [True] * 3)
+        self.refused(TypeError, kernels.filter, memoryview(bytes(4)).cast("B", (2, 2)), [True] * 4)
+        self.refused(ValueError, kernels.filter, array("I", [1, 2]), [True], 8)
         odd = memoryview(bytearray(9))[1:]
-        self.refused(ValueError, vortex_select.filter_in_place, odd, [True], 8)
+        self.refused(ValueError, kernels.filter_in_place, odd, [True], 8)
         strided = memoryview(array("Q", [0, 1, 2, 3]))[::-2]
-        self.assertEqual(bytes(vortex_select.take(b"abcd", strided)), b"db")
+        self.assertEqual(bytes(kernels.take(b"abcd", strided)), b"db")
 
     def test_lists_that_overlap(self):
         memory = bytearray(b"\x03abcdefg")
-        self.assertEqual(vortex_select.filter_in_place(memory, memoryview(memory)[:1]), 2)
+        self.assertEqual(kernels.filter_in_place(memory, memoryview(memory)[:1]), 2)
         self.assertEqual(memory[:2], b"\x03a")
         memory = array("Q", [2, 0, 1])
-        self.assertEqual(vortex_select.take(memory, memory).tolist(), [1, 2, 0])
+        self.assertEqual(kernels.take(memory, memory).tolist(), [1, 2, 0])
 
     def test_lists_without_items(self):
-        self.assertEqual(bytes(vortex_select.filter(b"", b"")), b"")
-        self.assertEqual(bytes(vortex_select.filter(array("d"), [])), b"")
-        self.assertEqual(vortex_select.filter_in_place(bytearray(), b""), 0)
-        self.assertEqual(bytes(vortex_select.take(b"", [])), b"")
-        self.refused(IndexError, vortex_select.take, b"", [0])
-        self.assertEqual(vortex_select.positions(b"", 0).tolist(), [])
-        self.assertEqual(vortex_select.runs([], 0), [])
-        self.assertEqual(vortex_select.filter_bits(b"", b"", 0), (b"", 0))
+        self.assertEqual(bytes(kernels.filter(b"", b"")), b"")
+        self.assertEqual(bytes(kernels.filter(array("d"), [])), b"")
+        self.assertEqual(kernels.filter_in_place(bytearray(), b""), 0)
+        self.assertEqual(bytes(kernels.take(b"", [])), b"")
+        self.refused(IndexError, kernels.take, b"", [0])
+        self.assertEqual(kernels.positions(b"", 0).tolist(), [])
+        self.assertEqual(kernels.runs([], 0), [])
+        self.assertEqual(kernels.filter_bits(b"", b"", 0), (b"", 0))
 
     def test_a_thread_that_writes_the_indices(self):
         values, indices = bytes(1000), array("Q", bytes(8 * 100_000))
@@ -329,11 +336,11 @@ class Hostile(unittest.TestCase):
         writer.start()
         try:
             for _ in range(50):
-                for call in (vortex_select.take, values, indices), (vortex_select.take_bits, values, 8000, indices):
+                for call in (kernels.take, values, indices), (kernels.take_bits, values, 8000, indices):
                     try:
                         call[0](*call[1:])
                     except IndexError as fault:
-                        self.assertRegex(str(fault), "^index (5000|99999) of")
+                        self.assertRegex(str(fault), "^index [0-9]+ at place (5000|99999), but (1000|8000) items$")
         finally:
             is_done.set()
             writer.join()
@@ -373,24 +380,97 @@ class Program(unittest.TestCase):
             if any("\udcff" in word for word in words):
                 continue  # no text: the C check has such words
             status = int(self.held(example, ".status", b"0"))
-            answer = vortex_select.run(words, example.read_bytes())
+            answer = program.run(words, example.read_bytes())
             self.assertEqual(answer, (status, self.held(example, ".out", b"")), example)
 
     def test_hostile(self):
         for document in b"", b"\xff", b"[" * 100_000, b" " * 16_777_216:
-            self.assertEqual(vortex_select.rows(document), (2, b""))
-        self.assertEqual(vortex_select.rows(bytearray(16_777_217)), (7, b""))
+            self.assertEqual(program.rows(document), (2, b""))
+        self.assertEqual(program.rows(bytearray(16_777_217)), (7, b""))
         for words in [], [""], ["rows", ""], ["rows\0"], ["made", "4294967296"], ["p\u00e4ge"]:
-            self.assertEqual(vortex_select.run(words, b"{}"), (3, b""))
-        self.assertEqual(vortex_select.made(7), vortex_select.run(["made", "7"]))
-        self.assertEqual(vortex_select.file(memoryview(b"{}")).status, 2)
-        self.assertEqual(vortex_select.page(0, 1, b"{}").status, 2)
+            self.assertEqual(program.run(words, b"{}"), (3, b""))
+        self.assertEqual(program.made(7), program.run(["made", "7"]))
+        self.assertEqual(program.file(memoryview(b"{}")).status, 2)
+        self.assertEqual(program.page(0, 1, b"{}").status, 2)
+
+
+class Names(unittest.TestCase):
+    """What the package has under which name."""
+
+    # The names that moved, by the modules that have them now.
+    MOVED = {
+        kernels: "count_before filter filter_bits filter_in_place positions rank runs take take_bits",
+        program: "Answer file made page rows run",
+    }
+
+    def test_star(self):
+        """`import *` shadows no builtin, and has each name of the package."""
+        found = {}
+        exec("from vortex_select import *", found)
+        del found["__builtins__"]
+        self.assertEqual(set(found) & set(vars(builtins)), set())
+        self.assertEqual(
+            sorted(found),
+            ["Bits", "BrokenStep", "Column", "Filter", "FilterEach", "Plan", "Slice", "Take", "check",
+             "column", "from_buffers", "kernels", "plan", "program", "put_together", "select"],
+        )
+
+    def test_old_names(self):
+        """The old names are the same functions, and warn of their new names."""
+        for module, names in self.MOVED.items():
+            self.assertEqual(sorted(module.__all__), names.split())
+            for name in names.split():
+                with self.assertWarns(DeprecationWarning) as why:
+                    found = getattr(vortex_select, name)
+                self.assertIs(found, getattr(module, name))
+                new = f"{module.__name__}.{name}"
+                said = f"vortex_select.{name} is deprecated: use {new}"
+                self.assertEqual((str(why.warning), why.filename), (said, __file__))
+
+    def test_no_name(self):
+        with self.assertRaisesRegex(AttributeError, "'vortex_select' has no attribute 'sort'"):
+            vortex_select.sort
+        with warnings.catch_warnings():
+            warnings.simplefilter("error")
+            self.assertIs(vortex_select.kernels.filter, kernels.filter)
+
+    def test_docstrings(self):
+        """Each public function and class has a docstring, and each argument of it a line there."""
+        for module in (columns, kernels, parts, program, _plans, _steps, _buffers):
+            for name in getattr(module, "__all__", vortex_select.__all__):
+                found = getattr(module, name, None)
+                if not isinstance(found, types.FunctionType) or found.__module__ != module.__name__:
+                    continue
+                for argument in inspect.signature(found).parameters:
+                    said = f"{argument}: "
+                    is_told = said in (found.__doc__ or "") or "other arguments" in found.__doc__
+                    self.assertTrue(is_told, f"{module.__name__}.{name}: {argument}")
+
+    def test_readme(self):
+        """The program of the package's page prints what is below it."""
+        page = pathlib.Path(__file__).parent.parent / "README.md"
+        form = r"```python\n([\s\S]*?)```\n\n((?:    .*\n)+)"
+        given, below = re.search(form, page.read_text()).groups()
+        with contextlib.redirect_stdout(io.StringIO()) as printed:
+            exec(given, {})
+        self.assertEqual(printed.getvalue(), re.sub("(?m)^    ", "", below))
+
+    def test_example(self):
+        path = pathlib.Path(__file__).parent.parent / "examples" / "people.py"
+        with contextlib.redirect_stdout(io.StringIO()) as printed:
+            exec(path.read_text(), {})
+        wanted = "['ann', 'ed']\nstep 0: OutOfBounds: index 9, but 2 rows\n"
+        self.assertEqual(printed.getvalue(), wanted)
+
+
+# Modules whose examples are run, and those that need the program.
+EXAMPLES = vortex_select, columns, kernels, parts, _buffers, _plans, _steps, _types
+GLOBALS = {"column": columns.column, "select": columns.select}
 
 
 def load_tests(_loader, tests, _pattern):
-    for test in doctest.DocTestSuite(vortex_select):
-        if HAS_PROGRAM or test.id() not in ("vortex_select.run", "vortex_select.rows"):
-            tests.addTest(test)
+    for module in (*EXAMPLES, program) if HAS_PROGRAM else EXAMPLES:
+        tests.addTests(doctest.DocTestSuite(module, extraglobs=GLOBALS))
     return tests
 
 

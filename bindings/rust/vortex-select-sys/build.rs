@@ -1,5 +1,11 @@
-//! Links the static libraries: those in the folder that `VORTEX_SELECT_LIB_DIR` names, or else
-//! those of this repository, which `rt lib` builds if they are older than their sources.
+//! Links the static libraries, from the first of these places that has them:
+//!
+//! - the folder that `VORTEX_SELECT_LIB_DIR` names;
+//! - `lib` in this package, which `bindings/rust/package` fills;
+//! - the repository, where `rt lib` builds them if they are older than their sources.
+//!
+//! Without a library there is a warning, and the build ends where the library would be linked. So
+//! `cargo doc` and `cargo check` need no library.
 use std::env;
 use std::fs;
 use std::path::{Path, PathBuf};
@@ -56,6 +62,15 @@ fn sources(root: &Path, name: &str) -> Vec<PathBuf> {
     found
 }
 
+/// Warns that a library can't be linked.
+fn warn(library: &Path, why: &str) {
+    println!(
+        "cargo:warning=expected {}, got {why}: set VORTEX_SELECT_LIB_DIR to the folder of a built \
+         library",
+        library.display()
+    );
+}
+
 fn build(folder: &Path, library: &Path) {
     let run = Command::new("rt").arg("lib").current_dir(folder).output();
     match run {
@@ -65,38 +80,34 @@ fn build(folder: &Path, library: &Path) {
             eprint!("{}", String::from_utf8_lossy(&said));
             fail(format!("`rt lib` failed in {}", folder.display()))
         }
-        Err(why) => fail(format!(
-            "{} is missing or old, and `rt lib`, which builds it, can't be run ({why}): name the \
-             folder of a built one by VORTEX_SELECT_LIB_DIR",
-            library.display()
-        )),
+        Err(why) => warn(
+            library,
+            &format!("no new one, and no `rt` to build it ({why})"),
+        ),
     }
 }
 
 /// Returns the folder of the library, and builds the library if a source is newer.
 fn built(root: &Path, name: &str) -> PathBuf {
     let folder = root.join("crates").join(name);
-    if !folder.exists() {
-        fail(format!(
-            "there is no crate {name} beside this one: name the folder of lib{name}.a by \
-             VORTEX_SELECT_LIB_DIR"
-        ));
-    }
-    let target = env::var("TARGET").unwrap_or_default();
-    if target != "x86_64-unknown-linux-gnu" && target != "x86_64-unknown-linux-musl" {
-        fail(format!(
-            "`rt lib` builds for x86-64 Linux and not for {target}: name the folder of a library \
-             for it by VORTEX_SELECT_LIB_DIR"
-        ));
-    }
     let library = folder.join("out").join(format!("lib{name}.a"));
-    let sources = sources(root, name);
-    let newest = sources.iter().filter_map(|path| written_at(path)).max();
-    if !library.exists() || written_at(&library) < newest {
-        build(&folder, &library);
-    }
-    for path in sources.iter().chain([&library]) {
-        println!("cargo:rerun-if-changed={}", path.display());
+    let target = env::var("TARGET").unwrap_or_default();
+    if !folder.exists() {
+        warn(&library, "no crate of that name beside this one");
+    } else if target != "x86_64-unknown-linux-gnu" && target != "x86_64-unknown-linux-musl" {
+        warn(
+            &library,
+            &format!("target {target}, for which `rt lib` doesn't build"),
+        );
+    } else {
+        let sources = sources(root, name);
+        let newest = sources.iter().filter_map(|path| written_at(path)).max();
+        if !library.exists() || written_at(&library) < newest {
+            build(&folder, &library);
+        }
+        for path in sources.iter().chain([&library]) {
+            println!("cargo:rerun-if-changed={}", path.display());
+        }
     }
     folder.join("out")
 }
@@ -141,62 +152,78 @@ fn shim_sources(folder: &Path) -> Vec<PathBuf> {
     found
 }
 
+/// Returns a folder of C files: that of this package, or else the repository's.
+fn c_folder(here: &Path, name: &str) -> PathBuf {
+    let packaged = here.join(name);
+    if packaged.exists() {
+        packaged
+    } else {
+        here.join("../../..").join(name)
+    }
+}
+
 /// Compiles one file of the shim, and returns its object.
-fn compiled(root: &Path, source: &Path, out: &Path) -> PathBuf {
+fn compiled(include: &Path, source: &Path, out: &Path) -> PathBuf {
     let object = out.join(source.with_extension("o").file_name().expect("a name"));
     let flags = ["-std=c99", "-O2", "-fPIC", "-c", "-I"].map(PathBuf::from);
-    let files = [
-        root.join("include"),
-        source.into(),
-        "-o".into(),
-        object.clone(),
-    ];
+    let files = [include.into(), source.into(), "-o".into(), object.clone()];
     run("cc", flags.into_iter().chain(files).collect());
     object
 }
 
-/// Links the shim over Arrow's interface: built from `shim`, or prebuilt if the sources are
-/// missing.
-fn link_shim(root: &Path) {
-    let sources = shim_sources(&root.join("shim"));
-    let out = match (sources.is_empty(), env::var_os("VORTEX_SELECT_LIB_DIR")) {
-        (false, _) => PathBuf::from(env::var_os("OUT_DIR").expect("cargo sets it")),
-        (true, Some(folder)) => prebuilt(folder.into(), SHIM),
-        (true, None) => fail("the shim's sources, shim/arrow*.c, are not beside this crate".into()),
-    };
-    if !sources.is_empty() {
-        let library = out.join(format!("lib{SHIM}.a"));
-        let _ = fs::remove_file(&library);
-        let objects = sources.iter().map(|source| compiled(root, source, &out));
-        let words = ["rcs".into(), library].into_iter().chain(objects).collect();
-        run("ar", words);
-        println!("cargo:rerun-if-changed={}", root.join("shim").display());
-        println!("cargo:rerun-if-changed={}", root.join("include").display());
+/// Builds and links the shim over Arrow's interface.
+fn link_shim(here: &Path) {
+    let (include, shim) = (c_folder(here, "include"), c_folder(here, "shim"));
+    let sources = shim_sources(&shim);
+    if sources.is_empty() {
+        fail("expected the shim's sources in shim/arrow*.c, got none".into());
+    }
+    let out = PathBuf::from(env::var_os("OUT_DIR").expect("cargo sets it"));
+    let library = out.join(format!("lib{SHIM}.a"));
+    let _ = fs::remove_file(&library);
+    let objects = sources
+        .iter()
+        .map(|source| compiled(&include, source, &out));
+    let words = ["rcs".into(), library].into_iter().chain(objects).collect();
+    run("ar", words);
+    for path in sources.iter().chain([&include, &shim]) {
+        println!("cargo:rerun-if-changed={}", path.display());
     }
     println!("cargo:rustc-link-search=native={}", out.display());
     println!("cargo:rustc-link-lib=static={SHIM}");
 }
 
+/// Returns the folder of a library.
+fn folder_of(here: &Path, name: &str) -> PathBuf {
+    let packaged = here.join("lib");
+    match env::var_os("VORTEX_SELECT_LIB_DIR") {
+        Some(folder) => prebuilt(folder.into(), name),
+        None if packaged.join(format!("lib{name}.a")).exists() => packaged,
+        None => built(&here.join("../../.."), name),
+    }
+}
+
 fn main() {
-    let here = env::var_os("CARGO_MANIFEST_DIR").expect("cargo sets it");
-    let root = Path::new(&here).join("../../..");
+    let here = PathBuf::from(env::var_os("CARGO_MANIFEST_DIR").expect("cargo sets it"));
     println!("cargo:rerun-if-env-changed=VORTEX_SELECT_LIB_DIR");
+    println!("cargo:rerun-if-env-changed=DOCS_RS");
     println!("cargo:rerun-if-changed=build.rs");
+    if env::var_os("DOCS_RS").is_some() {
+        return; // Documentation links nothing.
+    }
     let has = |feature: &str| env::var_os(format!("CARGO_FEATURE_{feature}")).is_some();
     if has("ARROW") {
-        link_shim(&root);
+        link_shim(&here);
     }
     let wanted = [
         ("vortex_rows_c", has("ROWS")),
         ("vortex_arrow_c", has("ARROW")),
         ("vortex_parts_c", has("PARTS")),
+        ("vortex_chunks_c", has("CHUNKS")),
         ("vortex_c", true),
     ];
     for (name, _) in wanted.into_iter().filter(|(_, is_wanted)| *is_wanted) {
-        let folder = match env::var_os("VORTEX_SELECT_LIB_DIR") {
-            Some(folder) => prebuilt(folder.into(), name),
-            None => built(&root, name),
-        };
+        let folder = folder_of(&here, name);
         println!("cargo:rustc-link-search=native={}", folder.display());
         println!("cargo:rustc-link-lib=static={name}");
     }

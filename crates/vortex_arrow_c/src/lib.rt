@@ -7,3 +7,4 @@
 mod answer;
 mod columns;
 mod steps;
+mod version;

@@ -1,6 +1,6 @@
 //! The program, called from outside over memory of the caller's.
 //!
-//! Its one function takes the program's words and a document as a pointer and a length each, and
+//! `vortex_program` takes the program's words and a document as a pointer and a length each, and
 //! answers the program's status and how long its text is. It takes memory while it runs.
 #![tactic(auto)]
 
@@ -8,4 +8,5 @@ mod answer;
 mod running;
 mod sink;
 mod source;
+mod version;
 mod words;

@@ -424,7 +424,7 @@ pub fn stream_capsule(
     chunks: Vec<PyRef<'_, Array>>,
 ) -> PyResult<PyObject> {
     if chunks.iter().any(|chunk| chunk.length > i64::MAX as usize) {
-        return Err(PyValueError::new_err("a batch has 2^63 rows or more"));
+        return Err(PyValueError::new_err("batch: expected fewer than 2^63 rows, got more"));
     }
     capsule(py, stream_of(schema_of, &chunks)?.into_raw())
 }

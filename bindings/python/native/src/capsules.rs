@@ -99,7 +99,7 @@ pub fn held_in<T: Struct>(object: &PyAny) -> PyResult<*mut T> {
     // SAFETY: a capsule of this name leads to such a struct, and the GIL is held.
     if unsafe { (*place).is_released() } {
         let text =
-            format!("the capsule {called:?} holds a released struct: it was consumed before");
+            format!("expected a capsule {called:?} with a struct, got a released one: it was used");
         return Err(PyValueError::new_err(text));
     }
     Ok(place)

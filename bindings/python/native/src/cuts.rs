@@ -8,9 +8,11 @@ use vortex_select_sys::parts as raw;
 fn done(answer: Answer) -> PyResult<()> {
     match answer.status {
         DONE => Ok(()),
-        raw::TOO_MANY => Err(PyOverflowError::new_err("the parts have 2^64 rows or more")),
+        raw::TOO_MANY => Err(PyOverflowError::new_err(
+            "parts: expected fewer than 2^64 rows, got more",
+        )),
         status => Err(PyValueError::new_err(format!(
-            "lists of parts: status {status}"
+            "lists of parts: expected status 0, got {status}"
         ))),
     }
 }

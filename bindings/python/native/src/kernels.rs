@@ -23,8 +23,12 @@ const BLOCK: usize = 1 << 17;
 fn done(answer: Answer) -> PyResult<u64> {
     match answer.status {
         raw::DONE => Ok(answer.value),
-        BITS_PAST => Err(PyValueError::new_err("a bit past the rows is set")),
-        raw::LENGTHS => Err(PyValueError::new_err("the lengths of the lists disagree")),
+        BITS_PAST => Err(PyValueError::new_err(
+            "mask: expected clear bits after the rows, got a set one",
+        )),
+        raw::LENGTHS => Err(PyValueError::new_err(
+            "expected lists of one length, got others",
+        )),
         status => {
             let text = format!(
                 "the kernel returned status {status}, value {}",
@@ -89,7 +93,7 @@ macro_rules! of_width {
                 $body
             }
             width => Err(PyValueError::new_err(format!(
-                "items of {width} bytes: expected 1, 2, 4, 8, 16 or 32"
+                "items: expected 1, 2, 4, 8, 16 or 32 bytes, got {width}"
             ))),
         }
     };
@@ -148,7 +152,9 @@ struct Indices {
 impl Indices {
     fn of(object: &PyAny, width: usize, is_signed: bool) -> PyResult<Self> {
         if ![1, 2, 4, 8].contains(&width) {
-            return Err(PyValueError::new_err(format!("indices of {width} bytes")));
+                return Err(PyValueError::new_err(format!(
+                "indices: expected 1, 2, 4 or 8 bytes, got {width}"
+            )));
         }
         let list = Source::of(object, width)?;
         let block = Vec::new();
@@ -206,7 +212,7 @@ impl Valid {
             .map_or(true, |words| words.len() >= picks.div_ceil(64));
         if !has_all {
             return Err(PyValueError::new_err(
-                "the validity is shorter than the indices",
+                "valid: expected a bit for each index, got fewer",
             ));
         }
         Ok(Valid(words))
@@ -224,8 +230,19 @@ impl Valid {
     }
 }
 
-fn past(place: usize) -> PyErr {
-    PyIndexError::new_err(format!("index {place} of the list is out of bounds"))
+fn items(count: usize) -> String {
+    format!("{count} {}", if count == 1 { "item" } else { "items" })
+}
+
+/// Returns the exception of an index of the last block, which begins at place `start`.
+fn past(list: &Indices, start: usize, place: usize, len: usize) -> PyErr {
+    let index = list.block[place];
+    let (place, items) = (start + place, items(len));
+    PyIndexError::new_err(if list.is_signed {
+        format!("index {} at place {place}, but {items}", index as i64)
+    } else {
+        format!("index {index} at place {place}, but {items}")
+    })
 }
 
 /// Returns the items at the indices, and zeros where the bit of `valid` is clear.
@@ -266,7 +283,7 @@ pub fn take<'p>(
         let (answer, start) = found;
         let taken_there = done(answer)? as usize;
         if start < picks {
-            return Err(past(start + taken_there));
+            return Err(past(&list, start, taken_there, n));
         }
         Ok(taken)
     })
@@ -335,7 +352,7 @@ pub fn take_bits<'p>(
         )
     });
     if answer.status == raw::INDEX {
-        return Err(past(start + answer.value as usize));
+        return Err(past(&list, start, answer.value as usize, len));
     }
     done(answer)?;
     Ok(taken)
@@ -382,7 +399,7 @@ pub fn rank(words: &PyAny, rows: usize, k: u64) -> PyResult<u64> {
     // SAFETY: the place leads to so many words.
     let answer = unsafe { raw::vortex_rank(mask.place(), mask.len(), rows, k as usize) };
     if answer.status == raw::INDEX {
-        let text = format!("rank {k}: the mask selects {} rows", answer.value);
+        let text = format!("k: expected less than the {} selected rows, got {k}", answer.value);
         return Err(PyIndexError::new_err(text));
     }
     done(answer)
@@ -396,7 +413,7 @@ pub fn count_before(words: &PyAny, rows: usize, p: u64) -> PyResult<u64> {
     let answer = unsafe { raw::vortex_count_before(mask.place(), mask.len(), rows, p as usize) };
     if answer.status == raw::INDEX {
         return Err(PyIndexError::new_err(format!(
-            "row {p}: there are {rows} rows"
+            "p: expected at most the {rows} rows, got {p}"
         )));
     }
     done(answer)

@@ -6,6 +6,7 @@
 
 mod array;
 mod capsules;
+mod chunks;
 mod cuts;
 mod gil;
 mod kernels;
@@ -53,6 +54,7 @@ fn _native(py: Python<'_>, m: &PyModule) -> PyResult<()> {
         kernels::take_bits kernels::positions kernels::runs kernels::rank kernels::count_before
         kernels::pack kernels::version);
     add!(m: cuts::cut_bounds cuts::cut_slice cuts::cut_mask cuts::cut_picks);
+    add!(m: chunks::chunk_plan chunks::chunk_scatter chunks::chunk_nulls chunks::chunk_run);
     #[cfg(feature = "rows")]
     add!(m: program::program);
     Ok(())

@@ -10,7 +10,7 @@ create_exception!(
     _native,
     StepError,
     PyException,
-    "An invalid step: its number, the number of its cause, and the words."
+    "An invalid step: its number, the number of its cause, the words, and the two numbers."
 );
 
 /// A step as Python writes it: kind, start, end, number type, offset, length, values, validity.
@@ -64,7 +64,9 @@ impl Listed {
         let (kind, start, end, number, offset, len, values, valid) = *step;
         let number = *NUMBERS
             .get(usize::from(number))
-            .ok_or_else(|| PyValueError::new_err(format!("number type {number}")))?;
+            .ok_or_else(|| PyValueError::new_err(format!(
+                    "type of indices: expected less than 11, got {number}"
+                )))?;
         Ok(Listed {
             kind,
             start,
@@ -121,7 +123,13 @@ fn number_of(cause: Cause) -> u64 {
 pub fn raised(error: Error) -> PyErr {
     let text = error.to_string();
     match error {
-        Error::Broken { step, cause } => StepError::new_err((step, number_of(cause), text)),
+        Error::Broken {
+            step,
+            cause,
+            found,
+            bound,
+            ..
+        } => StepError::new_err((step, number_of(cause), text, found, bound)),
         Error::Overflow(_) => PyOverflowError::new_err(text),
         Error::NoMemory => PyMemoryError::new_err(text),
         _ => PyValueError::new_err(text),

@@ -1,4 +1,4 @@
-"""Arrays of the native module: how they are made, handed over and read."""
+"""Arrays of the native module: how they are made, exported and read."""
 
 from __future__ import annotations
 
@@ -52,7 +52,7 @@ def field_of(node: Node) -> Field:
 
 
 def field_of_type(of: Type, name: str = "", flags: int = NULLABLE) -> Field:
-    """Return the field of a type, nullable throughout but for the keys of maps."""
+    """Return the field of a type, nullable except for the keys of maps."""
     children = [field_of_type(child, called) for called, child in of.children]
     if of.format == "+m" and children:
         # The entries of a map and their keys are never null.
@@ -91,15 +91,35 @@ def array_of(field: Field, plain: Plain) -> Array:
     return array_over(field, rows, plain.buffers, children, inner)
 
 
+def bits_of(data: Optional[memoryview], node: Node) -> int:
+    """Return a bit for each row of a node as a number, the first row lowest.
+
+    The bits of a buffer that is absent are set.
+    """
+    ones = (1 << node.length) - 1
+    return ones if data is None else int.from_bytes(data, "little") >> node.offset & ones
+
+
+def with_children(field: Field, array: Array, numbers: Sequence[int]) -> Array:
+    """Return a struct of some children, which have the struct's own rows from their start on."""
+    node, children = array.node, array.split()
+    valid: Any = node.buffers[0]
+    if valid is not None and node.offset:
+        valid = bits_of(valid, node).to_bytes((node.length + 7) // 8, "little")
+    rows = node.length, -1 if valid is not None else 0, 0
+    return array_over(field, rows, [valid], [children[k] for k in numbers])
+
+
 def borrowed(column: Any) -> Array:
-    """Return the array that an object hands over by `__arrow_c_array__`."""
+    """Return the array that an object exports by `__arrow_c_array__`."""
     own = getattr(column, "_single", None)
     if own is not None and type(column).__module__ == "vortex_select.columns":
         array: Array = own()
         return array
     capsules = column.__arrow_c_array__()
     if not isinstance(capsules, tuple) or len(capsules) != 2:
-        raise TypeError("__arrow_c_array__: expected a tuple of two capsules")
+        found = type(capsules).__name__
+        raise TypeError(f"__arrow_c_array__: expected a tuple of two capsules, got {found}")
     return array_from_capsules(*capsules)
 
 

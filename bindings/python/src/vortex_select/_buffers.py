@@ -1,4 +1,4 @@
-"""Buffers of values, masks and indices: what the kernels take, and what is refused."""
+"""Buffers of values, masks and indices: what the kernels take and what they reject."""
 
 from __future__ import annotations
 
@@ -32,7 +32,7 @@ _SIZES["Zg"] = 2 * _SIZES["g"]
 
 
 def whole(value: Any) -> int:
-    """Return the value as an `int` and nothing else: a subclass could say anything of itself."""
+    """Return the value as a plain `int`. A subclass could override its comparisons."""
     return int.__pos__(operator.index(value))
 
 
@@ -97,8 +97,8 @@ def view_of(data: Any, what: str) -> memoryview:
     """Return a view of a buffer of one dimension, whose items are numbers or bytes.
 
     Raises:
-        TypeError: it is no buffer, or its items may hold objects: a kernel moves bytes, so it
-            would move references that nobody counts.
+        TypeError: The object has no buffer, or its items may hold objects. A kernel moves bytes, so
+            it would move references that nobody counts.
     """
     if is_masked(data):
         raise TypeError(f"{what}: expected a plain buffer, got a masked array")
@@ -123,12 +123,21 @@ def letter_of(view: memoryview) -> str:
 
 
 class Bits:
-    """A number of bits from bit `at` of a buffer on; bit k % 8 of byte k // 8 is bit k.
+    """A mask of `length` bits from bit `at` of a buffer on. Bit k % 8 of byte k // 8 is bit k.
 
     Bits before and after them are ignored.
 
-    >>> from vortex_select import filter
-    >>> filter(b"abc", Bits(b"\\xfa", 3, at=1)).tobytes()
+    Args:
+        data: A buffer of unsigned integers.
+        length: The number of bits.
+        at: The first bit.
+
+    Raises:
+        TypeError: The buffer is of something else.
+        ValueError: The buffer has fewer bits.
+
+    >>> from vortex_select import kernels
+    >>> kernels.filter(b"abc", Bits(b"\\xfa", 3, at=1)).tobytes()
     b'ac'
     """
 
@@ -165,6 +174,20 @@ class Bits:
         return words
 
 
+def end_to_end(parts: Iterable[Tuple[int, int]]) -> bytes:
+    """Return bits end to end. Each part is a number, whose lowest bit is the first, and a count."""
+    out, held, count = [], 0, 0
+    for bits, length in parts:
+        held |= bits << count
+        count += length
+        ready = count // 8
+        data = held.to_bytes((count + 7) // 8, "little")
+        out.append(data[:ready])
+        held, count = int.from_bytes(data[ready:], "little"), count % 8
+    out.append(held.to_bytes((count + 7) // 8, "little"))
+    return b"".join(out)
+
+
 def whole_words(data: bytes) -> array[int]:
     """Return the words that hold all bits of some bytes."""
     words = array("Q")
@@ -175,10 +198,11 @@ def whole_words(data: bytes) -> array[int]:
 def bools_of(mask: Any) -> Optional[bytes]:
     """Return a mask's bools, a byte each, or None if it is a buffer of something else."""
     if isinstance(mask, (list, tuple)):
-        if set(map(type, mask)) <= {bool}:
-            return bytes(mask)
-        raise TypeError("a mask that is a list: expected bools alone")
-    view = view_of(mask, "a mask")
+        for value in mask:
+            if type(value) is not bool:
+                raise TypeError(f"mask: expected bools, got {value!r:.80}")
+        return bytes(mask)
+    view = view_of(mask, "mask")
     return view.tobytes() if letter_of(view) == "?" else None
 
 
@@ -188,9 +212,9 @@ def packed(bools: bytes) -> array[int]:
 
 
 def _bytes_of(bits: Any) -> bytes:
-    view = view_of(bits, "a mask")
+    view = view_of(bits, "mask")
     if letter_of(view) != "B":
-        raise TypeError(f"a mask: expected bytes or bools, got format {view.format!r}")
+        raise TypeError(f"mask: expected bytes or bools, got format {view.format!r}")
     return view.tobytes()
 
 
@@ -203,14 +227,14 @@ def words_of(mask: Any, rows: int) -> array[int]:
     bools = bools_of(mask)
     if bools is not None:
         if len(bools) != rows:
-            raise ValueError(f"a mask: expected {rows} bools, one a row, got {len(bools)}")
+            raise ValueError(f"mask: expected {rows} bools, one a row, got {len(bools)}")
         return packed(bools)
     bits = _bytes_of(mask)
     if len(bits) != (rows + 7) // 8:
         expected = (rows + 7) // 8
-        raise ValueError(f"a mask: expected {expected} bytes for {rows} rows, got {len(bits)}")
+        raise ValueError(f"mask: expected {expected} bytes for {rows} rows, got {len(bits)}")
     if rows % 8 and bits[-1] >> rows % 8:
-        raise ValueError("a bit past the rows is set")
+        raise ValueError(f"mask: expected clear bits after the {rows} rows, got a set one")
     return whole_words(bits)
 
 
@@ -219,7 +243,7 @@ def placed_of(mask: Any, rows: int) -> Tuple[array[int], int]:
     rows = number(rows, "rows")
     if isinstance(mask, Bits):
         if mask.length != rows:
-            raise ValueError(f"a mask: expected {rows} bits, one a row, got {mask.length}")
+            raise ValueError(f"mask: expected {rows} bits, one a row, got {mask.length}")
         return mask.placed()
     return words_of(mask, rows), 0
 
@@ -240,23 +264,33 @@ def bits_held(bits: Any, at: int, count: int) -> Tuple[array[int], int]:
     return words, start
 
 
+def integers_of(values: List[int]) -> array[int]:
+    """Return numbers of 64 bits. One that has more is the greatest or the least of 64 bits.
+
+    These are out of bounds of every list, as the numbers themselves are.
+    """
+    try:
+        return array("q", values)
+    except OverflowError:
+        is_signed = min(values) < 0
+    least, most = (-(2**63), 2**63 - 1) if is_signed else (0, PAST)
+    return array("q" if is_signed else "Q", [max(least, min(value, most)) for value in values])
+
+
 def _one_index(value: Any) -> int:
     if type(value) is bool:
-        raise TypeError("indices: expected integers, got a bool")
-    return clamped(value)
+        raise TypeError(f"indices: expected integers, got {value!r}")
+    return whole(value)
 
 
 def _listed(indices: Any) -> array[int]:
-    """Return the numbers of an iterable, one outside of 64 bits as one past every bound."""
+    """Return the numbers of an iterable."""
     if isinstance(indices, (str, Bits)):
         raise TypeError(f"indices: expected integers, got {type(indices).__name__}")
     indices = list(indices)
-    if set(map(type, indices)) <= {int}:
-        try:
-            return array("Q", indices)
-        except OverflowError:
-            pass
-    return array("Q", map(_one_index, indices))
+    if not set(map(type, indices)) <= {int}:
+        indices = list(map(_one_index, indices))
+    return integers_of(indices)
 
 
 def indices_of(indices: Any) -> Tuple[memoryview, Tuple[int, bool]]:

@@ -60,7 +60,7 @@ def write_column(path: Any, column: Any) -> None:
     Raises:
         OSError: The file can't be written. Then the path is as it was.
         ValueError: The column is of a format that isn't known, such as run-end encoding, or
-            `read_column` would refuse the file, as one of more than 2^24 nulls alone.
+            `read_column` would reject the file, as one of more than 2^24 nulls alone.
     """
     source, buffers = source_of(column), []  # type: ignore[var-annotated]
     node = _placed(source.plain(), buffers)
@@ -85,7 +85,7 @@ def write_column(path: Any, column: Any) -> None:
 def _map(path: Any) -> memoryview:
     with open(path, "rb") as file:
         if not os.fstat(file.fileno()).st_size:
-            raise ValueError("the file is empty")
+            raise ValueError("expected a file of write_column, got an empty file")
         return memoryview(mmap.mmap(file.fileno(), 0, access=mmap.ACCESS_READ))
 
 
@@ -99,7 +99,7 @@ class _Body:
         at, size, crc = self.spans[number]
         view = self.data[at : at + size]
         if not self.trusted and zlib.crc32(view) != crc:
-            raise ValueError(f"buffer {number} of the file is damaged: its checksum differs")
+            raise ValueError(f"buffer {number} of the file: expected checksum {crc}, got another")
         return view
 
     def array(self, field: Field, node: Node) -> Plain:
@@ -129,14 +129,14 @@ def _need_last(buffers: Sequence[Any], node: Node, size: int) -> None:
     last = int.from_bytes(buffers[1][size * node.length :][:size], "little", signed=True)
     end = node.children[0].length if node.children else len(buffers[2])
     if not 0 <= last <= end:
-        raise ValueError(f"offsets: the last is {last}, expected 0 to {end}")
+        raise ValueError(f"offsets: expected a last one from 0 to {end}, got {last}")
 
 
 def _need_lengths(buffers: Sequence[Any]) -> None:
     """Fail if the last of these buffers isn't the lengths of the others."""
     *data, told = buffers
     if bytes(told) != numbers_of("q", map(len, data)).tobytes():
-        raise ValueError("the lengths of the data buffers of views are not as the buffers are")
+        raise ValueError("views: expected the lengths of the data buffers, got others")
 
 
 class Mapped(NamedTuple):
@@ -183,7 +183,7 @@ def read_column(
 
     Raises:
         OSError: The file can't be opened.
-        ValueError: The file is cut off or damaged, is no such file, or lacks one of the columns.
+        ValueError: The file is cut off or damaged, has another format, or lacks one of the columns.
     """
     return mapped(path, columns).column(trusted)
 
@@ -193,7 +193,7 @@ def read_npy(path: Any) -> Column:
 
     Raises:
         OSError: The file can't be opened.
-        ValueError: The file is cut off, is no such file, or its numbers have no type of Arrow.
+        ValueError: The file is cut off, has another format, or its numbers have no type of Arrow.
     """
     type, count, data = npy_in(_map(path))
     return from_buffers(type, count, [None, data])

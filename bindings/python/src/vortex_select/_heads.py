@@ -66,7 +66,7 @@ def packed_head(head: Head) -> bytes:
     """Return the bytes of a file up to its body.
 
     Raises:
-        ValueError: `head_in` would refuse the head.
+        ValueError: `head_in` would reject the head.
     """
     listed = [_listed_field(head.field), _listed_node(head.node), head.spans, head.size]
     text = json.dumps(listed, separators=(",", ":")).encode()
@@ -88,23 +88,23 @@ def _found(value: Any) -> str:
 def _list(value: Any, count: Optional[int], what: str) -> List[Any]:
     if type(value) is not list or count not in (None, len(value)):
         size = "" if count is None else f" of {count}"
-        raise ValueError(f"{what}: expected a list{size}, found {_found(value)}")
+        raise ValueError(f"{what}: expected a list{size}, got {_found(value)}")
     return value
 
 
 def _number(value: Any, end: int, what: str) -> int:
     if type(value) is not int or not 0 <= value < end:
-        raise ValueError(f"{what}: expected a number from 0 to {end - 1}, found {_found(value)}")
+        raise ValueError(f"{what}: expected a number from 0 to {end - 1}, got {_found(value)}")
     return value
 
 
 def _text(value: Any, what: str) -> str:
     if type(value) is not str or "\0" in value:
-        raise ValueError(f"{what}: expected a string without NUL, found {_found(value)}")
+        raise ValueError(f"{what}: expected a string without NUL, got {_found(value)}")
     try:
         value.encode()
     except UnicodeEncodeError:
-        raise ValueError(f"{what}: the string has no UTF-8 encoding") from None
+        raise ValueError(f"{what}: expected a string that UTF-8 can encode") from None
     return value
 
 
@@ -119,9 +119,10 @@ def _metadata(value: Any) -> Optional[bytes]:
             (size,) = struct.unpack_from("<I", data, at)
             at += 4 + size
     except struct.error:
-        raise ValueError(f"metadata: its strings end after its {len(value) // 2} bytes") from None
+        size = len(value) // 2
+        raise ValueError(f"metadata: expected strings within its {size} bytes, got more") from None
     if at != len(data) or left >= 1 << 31:
-        raise ValueError(f"metadata: its strings end at {at}, found {len(data)} bytes")
+        raise ValueError(f"metadata: expected {at} bytes, got {len(data)}")
     return data
 
 
@@ -135,16 +136,16 @@ class _Parser:
         """Return a type, of which each node has what its format needs."""
         self.nodes += 1
         if self.nodes > NODES or level > LEVELS:
-            raise ValueError(f"the column has more than {NODES} nodes or {LEVELS} levels")
+            raise ValueError(f"expected at most {NODES} nodes and {LEVELS} levels, got more")
         form, name, flags, meta, children, inner = _list(value, 6, "a field")
         layout = layout_of(_text(form, "a format"))
         inner = None if inner is None else self.field(inner, level + 1)
         if inner is not None and form not in CODES:
-            raise ValueError(f"a dictionary needs codes that are integers, found format {form!r}")
+            raise ValueError(f"dictionary: expected codes that are integers, got format {form!r}")
         below = _list(children, layout.children, f"children of format {form!r}")
         fields = tuple(self.field(child, level + 1) for child in below)
         if form == "+m" and (fields[0].format != "+s" or len(fields[0].children) != 2):
-            raise ValueError("a map's child must be a struct of keys and values")
+            raise ValueError("map: expected a child that is a struct of two fields, got another")
         name, flags = _text(name, "a name"), _number(flags, 8, "flags")
         return Field(form, name, flags, _metadata(meta), fields, inner)
 
@@ -157,14 +158,14 @@ class _Parser:
         self.need_sizes(numbers, layout, field.format, length)
         self.need_rows_bounded(length)
         if (inner is None) != (field.dictionary is None):
-            raise ValueError("expected a dictionary exactly where the type has one")
+            raise ValueError("expected a dictionary if the type has one, and else none")
         what = f"children of an array of format {field.format!r}"
         below = _list(children, len(field.children), what)
         nodes = tuple(self.node(*pair) for pair in zip(below, field.children))
         for node in nodes:
             if node.length < length * layout.child_rows:
                 least = length * layout.child_rows
-                raise ValueError(f"a child needs {least} rows, found {node.length}")
+                raise ValueError(f"child: expected at least {least} rows, got {node.length}")
         values = None if field.dictionary is None else self.node(inner, field.dictionary)
         return Node(length, numbers, nodes, values)
 
@@ -173,7 +174,7 @@ class _Parser:
         what, least = f"buffers of format {form!r}", len(layout.slots) + layout.has_views
         own = _list(value, None if layout.has_views else least, what)
         if len(own) < least:
-            raise ValueError(f"{what}: expected at least {least}, found {len(own)}")
+            raise ValueError(f"{what}: expected at least {least}, got {len(own)}")
         is_absent = bool(own) and own[0] is None and layout.has_validity
         numbers = tuple(_number(one, len(self.spans), what) for one in own[is_absent:])
         return (None, *numbers) if is_absent else numbers
@@ -186,14 +187,14 @@ class _Parser:
             size, need = 0 if number is None else self.spans[number].size, slot.need(length)
             if number is not None and size < need:
                 what = f"{slot.name} of format {form!r}"
-                raise ValueError(f"{what}: expected {need} bytes, found {size}")
+                raise ValueError(f"{what}: expected {need} bytes, got {size}")
 
     def need_rows_bounded(self, length: int) -> None:
         """Fail if an array has more rows than a body of this length may have."""
         most = max(ROWS, 8 * self.size)
         if length > most:
             of = f"an array in a body of {self.size} bytes"
-            raise ValueError(f"{of}: expected at most {most} rows, found {length}")
+            raise ValueError(f"{of}: expected at most {most} rows, got {length}")
 
 
 def _span(value: Any, size: int) -> Span:
@@ -201,18 +202,19 @@ def _span(value: Any, size: int) -> Span:
     at, long = _number(at, _PAST, "a place"), _number(long, _PAST, "a size")
     span = Span(at, long, _number(crc, 1 << 32, "a checksum"))
     if span.at % ALIGN or span.at + span.size > size:
-        raise ValueError(f"a buffer of {span.size} bytes at {span.at} is unaligned or past {size}")
+        where = f"{span.size} bytes at {span.at}"
+        raise ValueError(f"expected a buffer at a multiple of {ALIGN} within {size}, got {where}")
     return span
 
 
 def _digits(text: str) -> int:
     if len(text) > 19:
-        raise ValueError(f"a number has {len(text)} digits")
+        raise ValueError(f"expected a number of at most 19 digits, got {len(text)}")
     return int(text)
 
 
 def _no_fraction(text: str) -> None:
-    raise ValueError(f"expected whole numbers, found {text[:40]}")
+    raise ValueError(f"expected whole numbers, got {text[:40]}")
 
 
 def parsed_head(text: bytes) -> Head:
@@ -226,7 +228,7 @@ def parsed_head(text: bytes) -> Head:
             text, parse_int=_digits, parse_float=_no_fraction, parse_constant=_no_fraction
         )
     except RecursionError:
-        raise ValueError("the head is nested too deep") from None
+        raise ValueError("head: expected fewer nested lists") from None
     field, node, spans, size = _list(value, 4, "the head")
     size = _number(size, _PAST, "the length of the body")
     places = [_span(one, size) for one in _list(spans, None, "the buffers")]
@@ -242,17 +244,17 @@ def head_in(data: memoryview) -> Tuple[Head, int]:
         ValueError: The file is cut off, has no such head, or its head is damaged.
     """
     if bytes(data[:8]) == b"VXPART1\n":
-        raise ValueError("the file has version 1 of the format: write it once more")
+        raise ValueError("expected version 2 of the format, got version 1: write the file again")
     if bytes(data[: len(MAGIC)]) != MAGIC or len(data) < BEFORE:
-        raise ValueError("the file holds no column")
+        raise ValueError("expected a file of write_column, got other bytes")
     size, crc = struct.unpack_from("<QQ", data, len(MAGIC))
     start = BEFORE + size
     if len(data) < start:
         raise ValueError(f"the file has {len(data)} bytes, but its head ends at {start}")
     if zlib.crc32(data[BEFORE:start]) != crc:
-        raise ValueError("the head of the file is damaged")
+        raise ValueError(f"head: expected checksum {crc}, got another")
     if start % ALIGN:
-        raise ValueError(f"the body begins at {start}, which is no multiple of {ALIGN}")
+        raise ValueError(f"body: expected a start that is a multiple of {ALIGN}, got {start}")
     head = parsed_head(bytes(data[BEFORE:start]))
     if len(data) != start + head.size:
         raise ValueError(f"the file has {len(data)} bytes, expected {start + head.size}")

@@ -6,6 +6,7 @@ from array import array as numbers_of
 from typing import Any, List, NamedTuple, Optional, Sequence, Tuple
 
 from ._arrays import NULLABLE, Array, Field, Plain, Tree
+from ._buffers import end_to_end
 from ._reading import rows, width_of
 from ._types import ids_of, spelled
 
@@ -38,7 +39,7 @@ def _spelled(field: Field) -> str:
 
 
 def difference(one: Field, other: Field) -> Optional[Tuple[str, str]]:
-    """Return the texts of two types, or `None` if columns of them can be put together."""
+    """Return the names of two types, or `None` if columns of them can be put together."""
     return None if _alike(one) == _alike(other) else (_spelled(one), _spelled(other))
 
 
@@ -81,7 +82,9 @@ class _Piece(NamedTuple):
             return b""
         data = self.tree.buffers[k] if k < self.n_buffers else None
         if data is None or not 0 <= start <= start + size <= len(data):
-            raise ValueError(f"buffer {k} of an array does not have {size} bytes from {start} on")
+            found = 0 if data is None else len(data)
+            where = f"buffer {k} of an array"
+            raise ValueError(f"{where}: expected {size} bytes from {start} on, got {found} in all")
         return data[start : start + size]
 
     def numbers(self, k: int, letter: str, first: int, count: int) -> numbers_of[Any]:
@@ -123,22 +126,13 @@ def _within(start: int, size: int, end: int, what: str) -> int:
         ValueError: The range ends after `end`.
     """
     if not 0 <= start <= start + size <= end:
-        raise ValueError(f"{what}: {start} to {start + size} is outside of 0 to {end}")
+        raise ValueError(f"{what}: expected a range within {end}, got {start} to {start + size}")
     return start
 
 
 def _bits(pieces: Sequence[_Piece], k: int, missing: int = 0) -> bytes:
     """Return bits end to end. The bits of a buffer that is absent are all `missing`."""
-    out, held, count = [], 0, 0
-    for piece in pieces:
-        held |= _number_of(piece, k, missing) << count
-        count += piece.length
-        whole = count // 8
-        data = held.to_bytes((count + 7) // 8, "little")
-        out.append(data[:whole])
-        held, count = int.from_bytes(data[whole:], "little"), count % 8
-    out.append(held.to_bytes((count + 7) // 8, "little"))
-    return b"".join(out)
+    return end_to_end((_number_of(piece, k, missing), piece.length) for piece in pieces)
 
 
 def _number_of(piece: _Piece, k: int, missing: int) -> int:
@@ -176,7 +170,8 @@ def _offsets(pieces: Sequence[_Piece], is_wide: bool) -> Tuple[bytes, Spans]:
         try:
             offsets.extend(own if not moved else numbers_of(letter, [at + moved for at in own]))
         except OverflowError:
-            raise OverflowError(f"expected offsets below 2^{63 if is_wide else 31}") from None
+            bits = 63 if is_wide else 31
+            raise OverflowError(f"expected offsets below 2^{bits}, got a higher one") from None
     return offsets.tobytes(), spans
 
 
@@ -269,7 +264,7 @@ def _dense_union(field: Field, pieces: Sequence[_Piece]) -> Plain:
         own = bytes(piece.view(0, piece.first, piece.length))
         for type_id, row in zip(own, piece.numbers(1, "i", piece.first, piece.length)):
             if type_id not in known:
-                raise ValueError(f"type id {type_id} names no child")
+                raise ValueError(f"type id: expected one of {list(known)}, got {type_id}")
             k = known.index(type_id)
             below[k].append(piece.child(k, row, 1))
             offsets.append(ends[k])
@@ -301,7 +296,7 @@ def _one_dictionary(field: Field, pieces: Sequence[_Piece]) -> Plain:
     others = [other for other in others if not first.is_same_memory(other)]
     texts = first.texts() if others else ""
     if any(other.texts() != texts for other in others):
-        raise ValueError("columns with different dictionaries can't be put together")
+        raise ValueError("expected parts with one dictionary, got different dictionaries")
     return _plain(field, [first])
 
 

@@ -82,10 +82,10 @@ def _union(form: str) -> Layout:
     """Return the layout of a union, whose format lists ids below 128, each once."""
     listed = form[4:].split(",") if form[4:] else []
     if any(not re.fullmatch("[0-9]{1,3}", number) or int(number) > 127 for number in listed):
-        raise ValueError(f"expected type ids from 0 to 127, found format {form!r}")
+        raise ValueError(f"expected type ids from 0 to 127, got format {form!r}")
     ids = ids_of(form)
     if len(set(ids)) < len(ids):
-        raise ValueError(f"expected each type id once, found format {form!r}")
+        raise ValueError(f"expected each type id once, got format {form!r}")
     slots = Slot("type ids", 8), Slot("offsets", 32)
     return Layout(slots, len(ids)) if form[2] == "d" else Layout(slots[:1], len(ids), 1)
 

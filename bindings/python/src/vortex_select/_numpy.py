@@ -2,6 +2,7 @@
 
 from __future__ import annotations
 
+import importlib
 import sys
 from typing import Any, List, Optional, Tuple
 
@@ -19,6 +20,11 @@ _KINDS = {letter: f"<{kind}{size}" for letter, kind, size in (
 _UNITS = {"s": "s", "m": "ms", "u": "us", "n": "ns"}
 _FORMATS = {"i1": "c", "u1": "C", "i2": "s", "u2": "S", "i4": "i", "u4": "I", "i8": "l", "u8": "L"}
 _FORMATS.update({"f2": "e", "f4": "f", "f8": "g"})
+
+
+def module(name: str) -> Any:
+    """Import a module that may be absent, and whose types may be unknown."""
+    return importlib.import_module(name)
 
 
 def dtype_of(form: str) -> Optional[str]:
@@ -75,8 +81,7 @@ def to_numpy(chunks: List[Array], rows: Any) -> Any:
 
     Numbers of one chunk without nulls are shared and read-only. Rows of other types are objects.
     """
-    import numpy
-
+    numpy = module("numpy")
     node = chunks[0].node
     is_flat = node.dictionary is None and (node.format == "b" or dtype_of(node.format) is not None)
     if not is_flat:
@@ -128,8 +133,7 @@ def buffers_of(values: Any) -> Optional[Tuple[str, int, List[Any]]]:
     Raises:
         TypeError: the array has another number of dimensions than 1.
     """
-    import numpy
-
+    numpy = module("numpy")
     if values.ndim != 1:
         raise TypeError(f"values: expected an array of 1 dimension, got {values.ndim}")
     form = _format_of(values.dtype)

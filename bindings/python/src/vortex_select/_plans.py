@@ -10,21 +10,24 @@ from . import _native
 from ._buffers import whole_words
 from ._joining import difference, joined
 from ._sources import Source, column_of, source_of
-from ._steps import CAUSES, BrokenStep, Filter, Slice, Take, called, images_of
+from ._steps import BrokenStep, Filter, Slice, Take, called, counted, images_of
 from .columns import Column, select
 from .kernels import positions
 
-_RANGE, _MASK = 0, 1
-
 
 class FilterEach:
-    """A filter by masks that the parts hold themselves.
+    """Select rows by masks that the parts hold themselves.
 
     Args:
         kept: For each part, how many of its rows the mask keeps. Rows that earlier steps drop
             don't count.
         mask: A function that is called where the part is, with a column of the rows that earlier
-            steps leave of it. It returns what `Filter` takes.
+            steps select of it. It returns what `Filter` takes.
+
+    >>> even = FilterEach([1, 1], lambda rows: [row % 2 == 0 for row in rows])
+    >>> asked = plan([2, 1], [even])
+    >>> [asked.len_of(k) for k in range(2)]
+    [1, 1]
     """
 
     def __init__(self, kept: Sequence[int], mask: Callable[[Column], Any]):
@@ -32,7 +35,7 @@ class FilterEach:
 
 
 class HeldFilter:
-    """The step of a part for a `FilterEach`: a filter of so many rows by the part's own mask."""
+    """The step of a part for a `FilterEach`: a filter of `rows` rows by the part's own mask."""
 
     def __init__(self, mask: Callable[[Column], Any], kept: int, rows: int):
         self.mask, self.kept, self.rows = mask, kept, rows
@@ -41,11 +44,11 @@ class HeldFilter:
         """Return the rows that the mask keeps.
 
         Raises:
-            ValueError: The mask keeps another number of rows than was said.
+            ValueError: The mask keeps another number of rows than `kept` says.
         """
         kept = select(column, [Filter(self.mask(column))])
         if len(kept) != self.kept:
-            raise ValueError(f"its own mask keeps {len(kept)} rows, expected {self.kept}")
+            raise ValueError(f"mask: expected one that keeps {self.kept} rows, got {len(kept)}")
         return kept
 
 
@@ -54,7 +57,10 @@ Place = Optional[Tuple[int, int]]
 
 
 class Plan:
-    """The steps of each part, and the order of the rows that the parts return."""
+    """The steps of each part, and the order of the rows that the parts return.
+
+    `plan` makes plans.
+    """
 
     def __init__(
         self, steps: List[List[Any]], lengths: Sequence[int], order: Optional[_Order] = None
@@ -111,8 +117,9 @@ class _Order:
         return step
 
 
-def _broken(step: int, cause: int) -> BrokenStep:
-    return BrokenStep(step, CAUSES[cause])
+def _bad_mask(step: int, found: int, rows: int) -> BrokenStep:
+    words = f"mask of length {found}, but {counted(rows, 'row')}"
+    return BrokenStep(step, "BadMask", words, found, rows)
 
 
 # The step of each part, and how many rows each keeps.
@@ -140,7 +147,7 @@ def _cut_slice(number: int, step: Slice, lengths: numbers_of[int]) -> _Cut:
     _, start, end, *_ = step._image()
     cut = cuts.slice_cut(lengths, start, end)
     if cut is None:
-        raise _broken(number, _RANGE)
+        raise step.invalid(number, sum(lengths))
     starts, ends, left = cut
     return [Slice(*rows) for rows in zip(starts, ends)], left
 
@@ -148,7 +155,7 @@ def _cut_slice(number: int, step: Slice, lengths: numbers_of[int]) -> _Cut:
 def _cut_filter(number: int, step: Filter, lengths: numbers_of[int]) -> _Cut:
     """Return each part's own filter, and how many rows each keeps."""
     if len(step) != sum(lengths):
-        raise _broken(number, _MASK)
+        raise _bad_mask(number, len(step), sum(lengths))
     words, at = _mask_of(step)
     firsts = cuts.bounds_of(lengths)
     own = [_remade_filter(step, first, length) for first, length in zip(firsts, lengths)]
@@ -158,8 +165,13 @@ def _cut_filter(number: int, step: Filter, lengths: numbers_of[int]) -> _Cut:
 def _cut_each(number: int, step: FilterEach, lengths: numbers_of[int]) -> _Cut:
     """Return the filter of each part by its own mask, and how many rows each keeps."""
     kept = numbers_of("Q", step.kept)
-    if len(kept) != len(lengths) or any(count > rows for count, rows in zip(kept, lengths)):
-        raise _broken(number, _MASK)
+    if len(kept) != len(lengths):
+        words = f"{counted(len(kept), 'count')}, but {counted(len(lengths), 'part')}"
+        raise BrokenStep(number, "BadMask", words, len(kept), len(lengths))
+    for part, (count, rows) in enumerate(zip(kept, lengths)):
+        if count > rows:
+            words = f"part {part} keeps {count}, but has {counted(rows, 'row')}"
+            raise BrokenStep(number, "BadMask", words, count, rows)
     return [HeldFilter(step.mask, *pair) for pair in zip(kept, lengths)], kept
 
 
@@ -177,9 +189,9 @@ def _composed(number: int, rows: int, steps: Sequence[Any]) -> Tuple[numbers_of[
         steps: The steps, of which the first is a take.
     """
     try:
-        data, valid = called(_native.compose, rows, images_of(steps))
+        data, valid = called(steps, _native.compose, rows, images_of(steps))
     except BrokenStep as why:
-        raise BrokenStep(number + why.step, why.cause) from None
+        raise why.moved(number) from None
     places = numbers_of("Q")
     places.frombytes(data)
     return places, valid
@@ -237,14 +249,16 @@ def plan(lengths: Sequence[int], steps: Sequence[Step] = ()) -> Plan:
     [1, 0, 1]
     """
     steps, left = list(steps), numbers_of("Q", lengths)
-    if not all(isinstance(step, (Slice, Filter, Take, FilterEach)) for step in steps):
-        raise TypeError("a step is a Slice, a Filter, a Take or a FilterEach")
+    for step in steps:
+        if not isinstance(step, (Slice, Filter, Take, FilterEach)):
+            found = type(step).__name__
+            raise TypeError(f"steps: expected Slice, Filter, Take or FilterEach, got {found}")
     cuts.bounds_of(left)
     each: List[List[Any]] = [[] for _ in left]
     for number, step in enumerate(steps):
         if isinstance(step, Take):
             if any(isinstance(late, FilterEach) for late in steps[number:]):
-                raise ValueError("after a take, a filter must be by one mask, found a FilterEach")
+                raise ValueError("expected a Filter after a Take, got a FilterEach")
             return _picks(each, left, number, steps[number:])
         own, left = _CUTS[type(step)](number, step, left)
         for asked, one in zip(each, own):
@@ -253,9 +267,9 @@ def plan(lengths: Sequence[int], steps: Sequence[Step] = ()) -> Plan:
 
 
 def _answered(asked: Plan, answers: Sequence[Any]) -> List[Tuple[int, Source]]:
-    """Return the rows of the parts that returned some, each with the part's number."""
+    """Return the rows of the parts that returned a column, each with the part's number."""
     if len(answers) != len(asked):
-        raise ValueError(f"expected an answer of each of {len(asked)} parts, found {len(answers)}")
+        raise ValueError(f"expected a column of each of {len(asked)} parts, got {len(answers)}")
     found = []
     for k, answer in enumerate(answers):
         if answer is None and not asked.len_of(k):
@@ -265,20 +279,20 @@ def _answered(asked: Plan, answers: Sequence[Any]) -> List[Tuple[int, Source]]:
         except TypeError as why:
             raise TypeError(f"part {k}: {why}") from None
         if len(source) != asked.len_of(k):
-            raise ValueError(f"part {k} returned {len(source)} rows, expected {asked.len_of(k)}")
+            raise ValueError(f"part {k}: expected {asked.len_of(k)} rows, got {len(source)}")
         found.append((k, source))
     if not found:
-        raise ValueError("no part returned rows, so the result has no type")
+        raise ValueError("expected a column of at least one part, got None of each")
     return found
 
 
 def put_together(plan: Plan, answers: Sequence[Any]) -> Column:
-    """Return the result of the steps, of what the parts returned.
+    """Return the result of the steps, given the rows that the parts returned.
 
     Args:
         plan: The plan of the steps.
-        answers: For each part a column, or any object with `__arrow_c_array__`. It may be `None`
-            if the part returns no row.
+        answers: A column of each part, or any object with `__arrow_c_array__`. It may be `None` if
+            the part returns no row.
 
     Raises:
         ValueError: A part returned other than the planned number of rows, or another type than the
@@ -298,7 +312,7 @@ def put_together(plan: Plan, answers: Sequence[Any]) -> Column:
     for k, other in found[1:]:
         said = difference(other.field, source.field)
         if said:
-            raise ValueError(f"part {k} returned {said[0]}, and part {first} {said[1]}")
+            raise ValueError(f"part {k}: expected {said[1]}, as part {first} has, got {said[0]}")
     plain = joined(source.field, [array for _, other in found for array in other.arrays])
     whole = column_of(source.field, plain)
     return whole if plan._order is None else select(whole, [plan._order.take()])

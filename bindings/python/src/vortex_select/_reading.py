@@ -24,7 +24,7 @@ def _cut(data: Optional[memoryview], start: int, size: int) -> bytes:
         return b""
     found = 0 if data is None else data.nbytes
     if data is None or not 0 <= start <= start + size <= found:
-        raise ValueError(f"a row leads outside of its buffer: {size} bytes at {start} of {found}")
+        raise ValueError(f"buffer: expected {size} bytes at {start}, got {found} in all")
     return bytes(data[start : start + size])
 
 
@@ -56,7 +56,7 @@ def width_of(form: str) -> int:
         return decimal_of(form)[2] // 8
     if form[:2] == "w:":
         return int(form[2:])
-    raise ValueError(f"values of format {form!r} have no fixed width here")
+    raise ValueError(f"expected a format of a fixed width, got {form!r}")
 
 
 def _decimals(
@@ -86,7 +86,7 @@ def _flat(tree: Tree, first: int, count: int) -> List[Any]:
         size = int(form[2:])
         values = _cut(data, first * size, count * size)
         return [values[k * size : k * size + size] for k in range(count)]
-    raise NotImplementedError(f"rows of format {form!r} can't be read")
+    raise NotImplementedError(f"expected a format whose rows can be read, got {form!r}")
 
 
 def _texts(tree: Tree, first: int, count: int, there: Sequence[bool]) -> Iterator[bytes]:
@@ -109,7 +109,7 @@ def _views(tree: Tree, first: int, count: int, there: Sequence[bool]) -> Iterato
         elif 0 <= which < len(blocks):
             yield _cut(blocks[which], offset, size)
         else:
-            raise ValueError(f"a view leads to buffer {which} of {len(blocks)}")
+            raise ValueError(f"view: expected a buffer below {len(blocks)}, got {which}")
 
 
 def _spans(tree: Tree, first: int, count: int) -> List[Tuple[int, int]]:
@@ -176,7 +176,7 @@ def _unions(tree: Tree, first: int, count: int) -> Iterator[Any]:
         offsets = _numbers(tree.buffers[1], "i", first, count)
     for which, offset in zip(_numbers(tree.buffers[0], "B", first, count), offsets):
         if which not in ids:
-            raise ValueError(f"type id {which} names no child")
+            raise ValueError(f"type id: expected one of {list(ids)}, got {which}")
         yield rows(tree.children[ids.index(which)], offset, 1)[0]
 
 
@@ -191,7 +191,7 @@ def _coded(
 def _opened(tree: Tree, at: int, count: int) -> Tuple[int, List[bool]]:
     """Return where `count` rows from row `at` on begin in the buffers, and which are valid."""
     if not 0 <= at <= at + count <= tree.length:
-        raise ValueError(f"rows {at} to {at + count} lead outside of {tree.length} rows")
+        raise ValueError(f"expected rows within {tree.length}, got rows {at} to {at + count}")
     first = tree.offset + at
     if tree.format[:2] == "+u" or not tree.buffers or tree.buffers[0] is None:
         return first, [True] * count

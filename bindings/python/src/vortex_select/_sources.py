@@ -4,7 +4,7 @@ from __future__ import annotations
 
 from typing import Any, List, NamedTuple, Sequence
 
-from ._arrays import Array, Field, Plain, array_of, array_over, borrowed, field_of
+from ._arrays import Array, Field, Plain, array_of, borrowed, field_of, with_children
 from ._joining import joined
 from .columns import Column, column_over
 
@@ -28,7 +28,7 @@ def source_of(column: Any) -> Source:
     if isinstance(column, Column):
         return Source(column._field(), column._chunks)
     if not hasattr(column, "__arrow_c_array__"):
-        raise TypeError(f"expected an object with __arrow_c_array__, found {type(column).__name__}")
+        raise TypeError(f"expected an object with __arrow_c_array__, got {type(column).__name__}")
     array = borrowed(column)
     return Source(field_of(array.node), [array])
 
@@ -42,18 +42,18 @@ def places_of(names: Sequence[str], columns: Sequence[str]) -> List[int]:
     """Return the place of each column among the names.
 
     Raises:
-        ValueError: A column is none of the names.
+        ValueError: A column isn't one of the names.
     """
     missing = [name for name in columns if name not in names]
     if missing:
-        raise ValueError(f"there is no column {missing[0]!r}")
+        raise ValueError(f"columns: expected some of {list(names)}, got {missing[0]!r}")
     return [names.index(name) for name in columns]
 
 
 def chosen_field(field: Field, columns: Sequence[str]) -> Field:
     """Return the type of a struct of these fields of a struct."""
     if field.format != "+s":
-        raise ValueError(f"a column of format {field.format!r} has no columns")
+        raise ValueError(f"columns: expected a column of structs, got {field.type()}")
     numbers = places_of([child.name for child in field.children], columns)
     return field._replace(children=tuple(field.children[k] for k in numbers))
 
@@ -63,15 +63,4 @@ def chosen(column: Any, columns: Sequence[str]) -> Column:
     source = source_of(column)
     field = chosen_field(source.field, columns)
     numbers = places_of([child.name for child in source.field.children], columns)
-    return column_over([_chosen_array(field, array, numbers) for array in source.arrays])
-
-
-def _chosen_array(field: Field, array: Array, numbers: Sequence[int]) -> Array:
-    """Return a struct of some children, which have the struct's own rows from their start on."""
-    node, children = array.node, array.split()
-    valid: Any = node.buffers[0]
-    if valid is not None and node.offset:
-        bits = int.from_bytes(valid, "little") >> node.offset & (1 << node.length) - 1
-        valid = bits.to_bytes((node.length + 7) // 8, "little")
-    rows = node.length, -1 if valid is not None else 0, 0
-    return array_over(field, rows, [valid], [children[k] for k in numbers])
+    return column_over([with_children(field, array, numbers) for array in source.arrays])

@@ -7,7 +7,7 @@ from typing import Any, List, Optional, Sequence, Tuple, Type, Union
 
 from . import _native
 from ._arrays import Array, Node, borrowed
-from ._buffers import Bits, PAST, bools_of, is_masked, letter_of, packed, whole
+from ._buffers import Bits, PAST, bools_of, integers_of, is_masked, letter_of, packed, whole
 
 CAUSES = ("BadRange", "BadMask", "NotBool", "InvalidIndices", "BadPieces", "OutOfBounds")
 _SLICE, _FILTER, _TAKE = range(3)
@@ -20,24 +20,62 @@ _FORMATS = {"C": 0, "S": 1, "I": 2, "L": 3, "c": 4, "s": 5, "i": 6, "l": 7, "e":
 Image = Tuple[int, int, int, int, int, int, Optional[Any], Optional[Any]]
 
 
-class BrokenStep(Exception):
-    """A step is invalid: `step` is its number, from 0, and `cause` one of `CAUSES`."""
+def counted(count: int, noun: str) -> str:
+    """Return a number and a noun, which has an s unless the number is 1."""
+    return f"{count} {noun}{'' if count == 1 else 's'}"
 
-    def __init__(self, step: int, cause: str, text: str = ""):
-        super().__init__(text or f"step {step}: {cause}")
-        self.step, self.cause = step, cause
+
+class BrokenStep(Exception):
+    """A step is invalid.
+
+    Attributes:
+        step: The step's number, from 0.
+        cause: One of `CAUSES`.
+        words: What is wrong.
+        found: The number that is wrong: the end of a slice, the length of a mask, or an index.
+            `None` if the cause has no number.
+        bound: The number that it should be, or should not pass: how many rows there are.
+
+    >>> from vortex_select import Take, column, select
+    >>> try:
+    ...     select(column([5, 6]), [Take([0, 9])])
+    ... except BrokenStep as why:
+    ...     print(why, why.found, why.bound)
+    step 0: OutOfBounds: index 9, but 2 rows 9 2
+    """
+
+    def __init__(
+        self,
+        step: int,
+        cause: str,
+        words: str = "",
+        found: Optional[int] = None,
+        bound: Optional[int] = None,
+    ):
+        super().__init__(f"step {step}: {cause}{': ' if words else ''}{words}")
+        self.step, self.cause, self.words = step, cause, words
+        self.found, self.bound = found, bound
+
+    def moved(self, steps: int) -> BrokenStep:
+        """Return the exception of a list in which so many steps come before these."""
+        return BrokenStep(self.step + steps, self.cause, self.words, self.found, self.bound)
 
     def __reduce__(self) -> Any:
-        return BrokenStep, (self.step, self.cause, self.args[0])
+        return BrokenStep, (self.step, self.cause, self.words, self.found, self.bound)
 
 
-def called(function: Any, *given: Any) -> Any:
+def called(steps: Sequence[Step], function: Any, *given: Any) -> Any:
     """Call a function of the native module, and raise its `StepError` as a `BrokenStep`."""
     try:
         return function(*given)
     except _native.StepError as why:
-        step, cause, text = why.args
-    raise BrokenStep(step, CAUSES[cause], text)
+        number, cause, text, found, bound = why.args
+    step = steps[number]
+    if isinstance(step, Slice):
+        raise step.invalid(number, bound)
+    if CAUSES[cause] in ("NotBool", "InvalidIndices"):
+        found = bound = None
+    raise BrokenStep(number, CAUSES[cause], text.split(": ", 2)[2], found, bound)
 
 
 def _format_of(node: Node) -> str:
@@ -64,28 +102,52 @@ def _remade(kind: Type[_Listed], parts: Tuple[Any, ...]) -> Any:
 
 
 class Slice:
-    """The rows from `start` up to `end`, `end` excluded."""
+    """Select the rows from `start` up to `end`, `end` excluded.
+
+    Args:
+        start: The first row.
+        end: The row after the last one. Neither counts from the end if it is negative.
+
+    >>> from vortex_select import column, select
+    >>> select(column([5, 6, 7]), [Slice(1, 3)]).to_pylist()
+    [6, 7]
+    """
 
     def __init__(self, start: int, end: int):
         self.start, self.end = start, end
+
+    def invalid(self, number: int, rows: int) -> BrokenStep:
+        """Return the exception of a slice that isn't within so many rows."""
+        start, end = whole(self.start), whole(self.end)
+        words = f"slice {start}..{end}"
+        if start < 0 or end < 0:
+            found, bound, words = min(start, end), 0, f"{words} has a negative bound"
+        elif end > rows:
+            found, bound, words = end, rows, f"{words}, but {counted(rows, 'row')}"
+        else:
+            found, bound, words = start, end, f"{words} starts after its end"
+        return BrokenStep(number, "BadRange", words, found, bound)
 
     def __repr__(self) -> str:
         return f"Slice({self.start}, {self.end})"
 
     def _image(self) -> Image:
-        """A bound that is negative or has more than 64 bits is past every row."""
+        """Return the step as the library takes it.
+
+        A bound that is negative or has more than 64 bits is past every row.
+        """
         start, end = (whole(place) for place in (self.start, self.end))
         start, end = (place if 0 <= place <= PAST else PAST for place in (start, end))
         return (_SLICE, start, end, 0, 0, 0, None, None)
 
 
 class _Listed:
-    """A step by a list, of Python or in memory."""
+    """A step that has a list, of Python or in memory."""
 
     _kind: int
 
     def _fill(self, values: Any, valid: Any, length: int, ptype: int = 0, offset: int = 0) -> None:
-        """The buffers are held by the step: bytes, or buffers of an Arrow column."""
+        """Set the buffers, which the step holds: bytes, or buffers of an Arrow column."""
         self._made = values, valid, length, ptype, offset
 
     def __len__(self) -> int:
@@ -118,42 +180,95 @@ class _Listed:
 
 
 class Filter(_Listed):
-    """The rows whose place in the mask is true.
+    """Select the rows whose place in the mask is true.
 
     Args:
-        mask: a list of bools and `None`, which counts as false; a buffer of bools; `Bits`; or an
-            Arrow column of bools.
+        mask: A list of bools and `None`, which counts as false; a buffer of bools; `Bits`; an
+            Arrow column of bools; or the name of a field of bools, if the column is of structs.
+
+    Raises:
+        TypeError: The mask is something else.
+
+    >>> from vortex_select import column, select
+    >>> select(column([5, 6, 7]), [Filter([True, False, True])]).to_pylist()
+    [5, 7]
+    >>> people = column([{"id": 5, "is_in": True}, None, {"id": 7, "is_in": False}])
+    >>> select(people, [Filter("is_in")]).to_pylist()
+    [{'id': 5, 'is_in': True}]
     """
 
     _kind = _FILTER
+    # The name of a field, if the mask isn't known yet.
+    name: Optional[str] = None
 
     def __init__(self, mask: Any):
-        if hasattr(mask, "__arrow_c_array__"):
+        if isinstance(mask, str):
+            self.name = mask
+        elif hasattr(mask, "__arrow_c_array__"):
             array = borrowed(mask)
             form = _format_of(array.node)
             if form != "b":
-                raise TypeError(f"a mask: expected a column of bools, got format {form!r}")
+                raise TypeError(f"mask: expected a column of bools, got format {form!r}")
             self._fill_from(array, 0)
         elif isinstance(mask, Bits):
             words, at = mask.placed()
             self._fill(words.tobytes(), b"", len(mask), 0, at)
         elif isinstance(mask, (list, tuple)):
-            if not set(map(type, mask)) <= {bool, type(None)}:
-                raise TypeError("a mask that is a list: expected bools and None alone")
+            for value in mask:
+                if type(value) not in (bool, type(None)):
+                    raise TypeError(f"mask: expected bools and None, got {value!r:.80}")
             self._fill(_native.pack(bytes(value is True for value in mask)), b"", len(mask))
         else:
             bools = bools_of(mask)
             if bools is None:
-                raise TypeError("a mask: expected bools, Bits, or a column of bools")
+                found = memoryview(mask).format
+                raise TypeError(
+                    f"mask: expected bools, Bits, or a column of bools, got format {found!r}"
+                )
             self._fill(packed(bools).tobytes(), b"", len(bools))
+
+    def __len__(self) -> int:
+        self._need_mask()
+        return super().__len__()
+
+    def __repr__(self) -> str:
+        return super().__repr__() if self.name is None else f"Filter({self.name!r})"
+
+    def _need_mask(self) -> None:
+        if self.name is not None:
+            raise TypeError(
+                f"expected a mask, got the name of a field, {self.name!r}: "
+                "only `select` over a column of structs finds the field"
+            )
+
+    def _image(self) -> Image:
+        self._need_mask()
+        return super()._image()
+
+    def __reduce__(self) -> Any:
+        return super().__reduce__() if self.name is None else (Filter, (self.name,))
+
+
+def filter_of_bits(bits: bytes, length: int) -> Filter:
+    """Return a filter by so many bits."""
+    made = Filter.__new__(Filter)
+    made._fill(bits, b"", length)
+    return made
 
 
 class Take(_Listed):
-    """The rows at the indices, and a null for each `None`.
+    """Select the rows at the indices, and a null for each `None`.
 
     Args:
-        indices: a list of ints and `None`, a buffer of native integers, or an Arrow column of
+        indices: A list of ints and `None`, a buffer of native integers, or an Arrow column of
             integers. A negative index is out of bounds.
+
+    Raises:
+        TypeError: The indices are something else.
+
+    >>> from vortex_select import column, select
+    >>> select(column([5, 6, 7]), [Take([2, None, 0])]).to_pylist()
+    [7, None, 5]
     """
 
     _kind = _TAKE
@@ -183,12 +298,13 @@ class Take(_Listed):
 
     def _from_list(self, indices: Any) -> None:
         values, valid = _listed(indices)
-        if isinstance(indices, str) or bool in map(type, values):
-            raise TypeError("indices: expected ints and None")
-        # A number above 64 bits is out of bounds, as the greatest number of 64 bits is.
-        numbers = [0 if value is None else whole(value) for value in values]
-        data = numbers_of("q", [max(-1, min(value, 2**63 - 1)) for value in numbers])
-        self._fill(data.tobytes(), valid, len(values), 7)
+        if isinstance(indices, str):
+            raise TypeError(f"indices: expected ints and None, got {indices!r:.80}")
+        for value in values:
+            if type(value) is bool:
+                raise TypeError(f"indices: expected ints and None, got {value!r}")
+        data = integers_of([0 if value is None else whole(value) for value in values])
+        self._fill(data.tobytes(), valid, len(values), _KINDS[8][data.typecode == "q"])
 
 
 Step = Union[Slice, Filter, Take]
@@ -198,7 +314,7 @@ def images_of(steps: Sequence[Step]) -> List[Image]:
     """Return the steps as the library takes them.
 
     Raises:
-        TypeError: one isn't a step.
+        TypeError: One isn't a step.
     """
     for step in steps:
         if not isinstance(step, (Slice, Filter, Take)):

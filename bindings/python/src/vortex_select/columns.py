@@ -5,7 +5,7 @@ from __future__ import annotations
 import html
 from array import array as numbers_of
 from typing import TYPE_CHECKING, Any, Dict, Iterable, Iterator, List, Optional, Sequence, Tuple
-from typing import Union
+from typing import Union, cast
 
 from . import _native, _numpy
 from ._arrays import (
@@ -22,6 +22,7 @@ from ._arrays import (
 from ._buffers import Bits, view_of, whole
 from ._building import built, guessed, lengths_of
 from ._joining import joined
+from ._named import filter_by_field, with_field
 from ._reading import rows
 from ._steps import Filter, Slice, Step, Take, called, images_of
 from ._types import Type, spelled, type_of
@@ -49,7 +50,7 @@ class Column:
     _chunks: List[Array]
 
     def __init__(self) -> None:
-        raise TypeError("columns are made by column, from_buffers, select or read_column")
+        raise TypeError("Column: use column, from_buffers, select or read_column")
 
     def __len__(self) -> int:
         return sum(map(len, self._chunks))
@@ -64,9 +65,13 @@ class Column:
     def __getitem__(self, key: Union[int, slice, str]) -> Any:
         """Return the value of a row, the column of a slice of rows, or a field of a struct.
 
+        Args:
+            key: The number of a row, negative from the end; a slice; or the name of a field.
+
         Raises:
-            IndexError: there is no such row.
-            KeyError: there is no such field.
+            IndexError: There is no such row.
+            KeyError: There is no such field.
+            ValueError: The row leads outside of the column's memory.
 
         >>> people = column([{"id": 5}, None, {"id": 7}])
         >>> people[0], people["id"][-1], people[::2].to_pylist()
@@ -93,7 +98,11 @@ class Column:
         return rows(Tree(chunk.node), at, 1)[0]
 
     def __eq__(self, other: object) -> Any:
-        """Return whether the other one is a column of the same type and equal rows."""
+        """Return whether the other object is a column of the same type and equal rows.
+
+        >>> column([1, None]) == column([1, None]), column([1]) == column([1], "int8")
+        (True, False)
+        """
         if not isinstance(other, Column):
             return NotImplemented
         if self.type != other.type or len(self) != len(other):
@@ -101,7 +110,7 @@ class Column:
         return all(one == two for one, two in zip(self, other))
 
     def _head(self) -> List[str]:
-        """Return the first rows as text, and none if one leads outside of the column's memory."""
+        """Return the first rows as text, or no row if one leads outside of the column's memory."""
         found: List[str] = []
         try:
             for chunk in self._chunks:
@@ -127,7 +136,11 @@ class Column:
 
     @property
     def type(self) -> str:
-        """The type of the rows, as `column` takes it."""
+        """The type of the rows, as `column` takes it.
+
+        >>> column([[1], []]).type
+        'list<int64>'
+        """
         return spelled(self._field().type())
 
     def to_pylist(self) -> List[Any]:
@@ -138,17 +151,37 @@ class Column:
         of a struct with one name, a dict has the last.
 
         Raises:
-            ValueError: a row leads outside of the column's memory.
+            ValueError: A row leads outside of the column's memory.
+
+        >>> column([{"id": 5}, None]).to_pylist()
+        [{'id': 5}, None]
         """
         trees = [Tree(chunk.node) for chunk in self._chunks]
         return [row for tree in trees for row in rows(tree, 0, tree.length)]
 
     def select(self, steps: Sequence[Step]) -> Column:
-        """Return the rows that the steps leave, as `select` does."""
+        """Return the rows that the steps select, as the function `select` does.
+
+        Args:
+            steps: Slices, filters and takes.
+
+        Raises:
+            BrokenStep: A step is invalid.
+
+        >>> column([5, 6, 7]).select([Slice(1, 3), Take([1, 0])]).to_pylist()
+        [7, 6]
+        """
         return select(self, steps)
 
     def filter(self, mask: Any) -> Column:
-        """Return the rows that a mask keeps: what `Filter` takes, or a column of bools.
+        """Return the rows whose place in a mask is true.
+
+        Args:
+            mask: What `Filter` takes.
+
+        Raises:
+            BrokenStep: The mask isn't as long as the column.
+            TypeError: The mask is something else.
 
         >>> column([1, 2, 3]).filter([True, False, True]).to_pylist()
         [1, 3]
@@ -156,11 +189,33 @@ class Column:
         return select(self, [Filter(mask)])
 
     def take(self, indices: Any) -> Column:
-        """Return the rows at indices, in their order: what `Take` takes. `None` gives a null."""
+        """Return the rows at the indices, and a null for each `None`.
+
+        Args:
+            indices: What `Take` takes.
+
+        Raises:
+            BrokenStep: An index is out of bounds.
+            TypeError: The indices are something else.
+
+        >>> column([5, 6, 7]).take([2, None]).to_pylist()
+        [7, None]
+        """
         return select(self, [Take(indices)])
 
     def slice(self, start: int, end: int) -> Column:
-        """Return the rows from `start` up to `end`, `end` excluded."""
+        """Return the rows from `start` up to `end`, `end` excluded.
+
+        Args:
+            start: The first row.
+            end: The row after the last one.
+
+        Raises:
+            BrokenStep: The slice isn't within the rows.
+
+        >>> column([5, 6, 7]).slice(1, 3).to_pylist()
+        [6, 7]
+        """
         return select(self, [Slice(start, end)])
 
     @property
@@ -169,21 +224,31 @@ class Column:
 
         Fields have the rows of the struct, also where the struct is null. Items are those of all
         lists, as Arrow stores them.
+
+        >>> [child.to_pylist() for child in column([[1], [2, 3]]).children]
+        [[1, 2, 3]]
         """
         parts = [chunk.split() for chunk in self._chunks]
         return [column_over(child) for child in zip(*parts)]
 
     @property
     def names(self) -> List[str]:
-        """The names of the children."""
+        """The names of the children.
+
+        >>> column([{"id": 5, "tags": []}]).names
+        ['id', 'tags']
+        """
         return [child.name for child in self._chunks[0].node.children]
 
     def field(self, key: Union[int, str]) -> Column:
-        """Return a child by its name or its place.
+        """Return a child.
+
+        Args:
+            key: The name of the child, or its number, negative from the end.
 
         Raises:
-            KeyError: no child has the name.
-            IndexError: there is no such child.
+            KeyError: No child has the name.
+            IndexError: There is no such child.
 
         >>> column([{"id": 5, "tags": ["a"]}]).field("tags").to_pylist()
         [['a']]
@@ -199,12 +264,20 @@ class Column:
 
     @property
     def null_count(self) -> int:
-        """How many rows are null. Rows of unions never are."""
+        """How many rows are null. Rows of unions never are.
+
+        >>> column([1, None, None]).null_count
+        2
+        """
         return sum(_numpy.null_count(chunk.node) for chunk in self._chunks)
 
     @property
     def nbytes(self) -> int:
-        """How many bytes the buffers have, those of children and dictionaries too."""
+        """How many bytes the buffers have, with those of children and dictionaries.
+
+        >>> column([1, 2], "int16").nbytes
+        4
+        """
         return sum(_numpy.bytes_of(chunk.node) for chunk in self._chunks)
 
     def to_numpy(self) -> Any:
@@ -213,36 +286,52 @@ class Column:
         Numbers without nulls are shared with the column, if it is one array, and read-only. Nulls
         give a masked array. Strings, decimals, lists and structs are objects.
 
+        Returns:
+            An array of one dimension.
+
         Raises:
-            ImportError: numpy isn't installed.
+            ImportError: The package numpy isn't installed.
         """
         return _numpy.to_numpy(self._chunks, self)
 
     def __array__(self, dtype: Any = None, copy: Optional[bool] = None) -> Any:
         """Return the rows for `numpy.asarray`.
 
+        Args:
+            dtype: The type of the result.
+            copy: Whether the values are always copied.
+
         Raises:
-            ValueError: a number is null. `to_numpy` returns a masked array.
+            ValueError: A number is null. `to_numpy` returns a masked array.
         """
         found = self.to_numpy()
         if self.null_count and found.dtype != object:
-            raise ValueError(f"expected no nulls, found {self.null_count}: use to_numpy")
+            raise ValueError(f"expected no nulls, got {self.null_count}: use to_numpy")
         return found.astype(dtype or found.dtype, copy=bool(copy))
 
     @staticmethod
     def from_pandas(series: Any) -> Column:
-        """Return a column of the values of a Series. What pandas takes as missing is null."""
-        import numpy
+        """Return a column of the values of a Series.
 
+        Args:
+            series: A `pandas.Series`. What pandas takes as missing becomes null.
+
+        Raises:
+            TypeError: The values have no type of Arrow.
+        """
+        numpy = _numpy.module("numpy")
         found, null = series.to_numpy(), series.isna().to_numpy()
         if found.dtype != object:
             return column(numpy.ma.MaskedArray(found, null))
         return column([None if is_null else row for row, is_null in zip(found, null)])
 
     def to_pandas(self) -> Any:
-        """Return the rows as a Series of pandas, of objects if a row is null."""
-        import pandas
+        """Return the rows as a Series of pandas, of objects if a row is null.
 
+        Raises:
+            ImportError: The package pandas isn't installed.
+        """
+        pandas = _numpy.module("pandas")
         is_plain = not self.null_count
         rows = self.to_numpy() if is_plain else self.to_pylist()
         return pandas.Series(rows, dtype=None if is_plain else object)
@@ -251,9 +340,14 @@ class Column:
         return field_of(self._chunks[0].node)
 
     def _single(self) -> Array:
-        """The only array."""
+        """Return the only array.
+
+        Raises:
+            ValueError: There are several.
+        """
         if len(self._chunks) > 1:
-            raise ValueError("a column of several arrays has no single one: use __arrow_c_stream__")
+            found = len(self._chunks)
+            raise ValueError(f"expected a column of one array, got {found}: use __arrow_c_stream__")
         return self._chunks[0]
 
     def __reduce__(self) -> Any:
@@ -287,52 +381,87 @@ def _unpickled(field: Field, plain: Plain) -> Column:
 
 
 def _of_batches(found: Tuple[Array, List[Array]]) -> Column:
-    """The column of what a stream gave: an array of no rows, and the batches."""
+    """Return the column of a stream, given an array without rows and the batches."""
     empty, batches = found
     return column_over(batches or [empty])
 
 
 def select(column: Any, steps: Sequence[Step] = ()) -> Column:
-    """Return the rows that the steps leave of a column.
+    """Return the rows that the steps select of a column.
 
     Args:
-        column: any object with `__arrow_c_array__` or `__arrow_c_stream__`. The steps go over all
+        column: Any object with `__arrow_c_array__` or `__arrow_c_stream__`. The steps apply to all
             rows of a stream, end to end.
-        steps: slices, filters and takes, each over the rows that those before it leave.
+        steps: Slices, filters and takes. Each applies to the rows that those before it select.
+
+    Returns:
+        A column of the same type. It shares dictionaries and the data buffers of views.
 
     Raises:
-        BrokenStep: a step is invalid; it has the step's number and the cause.
-        ValueError: the column is invalid at a selected row; the text names the buffer.
-        OverflowError: offsets of 32 bits would pass 2^31 - 1.
+        BrokenStep: A step is invalid. The exception has the step's number and the cause.
+        ValueError: The column is invalid at a selected row. The exception names the buffer.
+        OverflowError: Offsets of 32 bits would pass 2^31 - 1.
+        TypeError: The column has neither method, or a step isn't a step.
+        KeyError: No field has the name of a filter.
 
     >>> from vortex_select import Filter, Take, column
     >>> people = column([{"id": 5, "tags": ["a"]}, None, {"id": 7, "tags": []}])
     >>> select(people, [Filter([True, False, True]), Take([1, None, 0])]).to_pylist()
     [{'id': 7, 'tags': []}, None, {'id': 5, 'tags': ['a']}]
     """
-    images = images_of(list(steps))
+    steps = list(steps)
+    for k, step in enumerate(steps):
+        if isinstance(step, Filter) and step.name is not None:
+            return _select_by_field(_held(column), steps, k)
+    images = images_of(steps)
     if isinstance(column, Column) and len(column._chunks) > 1:
         chunks = column._chunks
-        return _of_batches(called(_native.select_chunks, chunks[0], chunks, images))
+        return _of_batches(called(steps, _native.select_chunks, chunks[0], chunks, images))
     if hasattr(column, "__arrow_c_array__"):
-        return column_over([called(_native.select, borrowed(column), images)])
+        return column_over([called(steps, _native.select, borrowed(column), images)])
     if hasattr(column, "__arrow_c_stream__"):
         capsule = column.__arrow_c_stream__()
-        return _of_batches(called(_native.select_stream, capsule, images))
+        return _of_batches(called(steps, _native.select_stream, capsule, images))
+    raise _not_arrow(column)
+
+
+def _not_arrow(column: Any) -> TypeError:
     found = type(column).__name__
-    raise TypeError(
+    return TypeError(
         f"expected an object with __arrow_c_array__ or __arrow_c_stream__, got {found}"
     )
 
 
+def _held(column: Any) -> Column:
+    """Return the column of an object, of which a stream is read."""
+    if isinstance(column, Column):
+        return column
+    if hasattr(column, "__arrow_c_array__"):
+        return column_over([borrowed(column)])
+    if hasattr(column, "__arrow_c_stream__"):
+        return _of_batches(_native.read_stream(column.__arrow_c_stream__()))
+    raise _not_arrow(column)
+
+
+def _select_by_field(column: Column, steps: List[Step], number: int) -> Column:
+    """Return the rows that steps select, of which the first filter by a field has this number."""
+    name = cast(str, cast(Filter, steps[number]).name)
+    field = column_over([with_field(chunk, name) for chunk in column._chunks])
+    mask = filter_by_field(select(field, steps[:number])._chunks)
+    return select(column, [*steps[:number], mask, *steps[number + 1 :]])
+
+
 def check(column: Any) -> None:
-    """Test a whole column: a `Column`, or any object with `__arrow_c_array__`.
+    """Test every row of a column.
 
     `select` tests the selected rows alone. The lengths of another producer's buffers can't be
-    tested: the Arrow interface doesn't tell them.
+    tested: the Arrow interface doesn't have them.
+
+    Args:
+        column: A `Column`, or any object with `__arrow_c_array__`.
 
     Raises:
-        ValueError: the column is invalid; the text names the buffer.
+        ValueError: The column is invalid. The exception names the buffer.
 
     >>> from vortex_select import column
     >>> check(column(["a", None]))
@@ -346,31 +475,35 @@ def column(values: Iterable[Any], type: Optional[str] = None) -> Column:
     """Return a column of the values.
 
     Args:
-        values: numbers, strings, bytes, lists, dicts, and `None` for nulls; or an array of numpy,
+        values: Numbers, strings, bytes, lists, dicts, and `None` for nulls; or an array of numpy,
             of which numbers, bools and times are copied at once.
-        type: such as `list<utf8>`; by default that of the first value that isn't `None`. Union
-            values go to the first child type that accepts them.
+        type: The type, such as `list<utf8>`. By default it is that of the first value that isn't
+            `None`. Union values go to the first child type that accepts them.
 
     Raises:
-        ValueError: a value doesn't fit the type.
-        TypeError: a value is of another kind, or gives no type.
+        OverflowError: A number is too large for the type. The exception has the row and the type.
+        TypeError: A value is of another kind than the type, or there is no type for it.
+        ValueError: A value doesn't fit the type for another reason, or the type isn't known.
 
     >>> column(["a", None], type="utf8").to_pylist()
     ['a', None]
     >>> column([[1], []]).type
     'list<int64>'
+    >>> column([5, 300], type="int8")
+    Traceback (most recent call last):
+    OverflowError: row 1: expected int8 from -128 to 127, got 300
     """
     if _numpy.is_array(values) and type is None:
         parts = _numpy.buffers_of(values)
         if parts is not None:
             return from_buffers(*parts, trusted=True)
-    values = values.tolist() if _numpy.is_array(values) else list(values)
-    of = guessed(values) if type is None else type_of(type)
-    return column_over([built(field_of_type(of), values)])
+    given: List[Any] = cast(Any, values).tolist() if _numpy.is_array(values) else list(values)
+    of = guessed(given) if type is None else type_of(type)
+    return column_over([built(field_of_type(of), given)])
 
 
 def _child_of(expected: Type, child: Any, what: str) -> Array:
-    """The array of a child, which must be a column of the type that is expected."""
+    """Return the array of a child, which must be a column of the type that is expected."""
     if not isinstance(child, Column):
         found = child.__class__.__name__
         raise TypeError(f"{what}: expected a Column, got {found}")
@@ -456,14 +589,19 @@ def from_buffers(
     leads outside of the other buffers.
 
     Args:
-        buffers: those of the Arrow format, in its order. For view types, the list of the lengths
+        type: The type, as `column` takes it.
+        length: The number of rows.
+        buffers: Those of the Arrow format, in its order. For view types, the list of the lengths
             of their data buffers is added.
-        children: the child columns, which keep their memory too.
-        offset: the first row in the buffers.
-        trusted: skip `check`, which reads every row. The lengths of buffers are tested anyway.
+        children: The child columns, which keep their memory too.
+        dictionary: The values of a dictionary type.
+        offset: The first row in the buffers.
+        trusted: Whether `check`, which reads every row, is skipped. The lengths of buffers are
+            tested anyway.
 
     Raises:
-        ValueError: a buffer is missing or too short, or the column isn't valid.
+        ValueError: A buffer is missing or too short, or the column isn't valid.
+        TypeError: A buffer has no bytes, or a child isn't a column.
 
     >>> from array import array
     >>> from_buffers("int32", 2, [None, array("i", [1, 2, 3])], offset=1).to_pylist()
@@ -472,12 +610,13 @@ def from_buffers(
     of, length, offset = type_of(type), whole(length), whole(offset)
     if not (0 <= length < 2**60 and 0 <= offset < 2**60):
         raise ValueError(f"expected a length and an offset from 0 on, got {length} and {offset}")
-    views = [None if data is None else view_of(data, "a buffer") for data in list(buffers)]
+    views = [None if data is None else view_of(data, "buffer") for data in list(buffers)]
     _with_fixed_places(of.format, views)
     field = field_of_type(of)
     arrays = _children_of(of, field, list(children))
     if (of.dictionary is None) != (dictionary is None):
-        raise ValueError("a dictionary: expected for a type dictionary<..>, and for no other")
+        expected, got = ("none", "one") if of.dictionary is None else ("one", "none")
+        raise ValueError(f"dictionary: expected {expected} for type {of}, got {got}")
     inner = None if of.dictionary is None else _child_of(of.dictionary, dictionary, "dictionary")
     if of.format in ("vu", "vz"):
         views.append(memoryview(lengths_of(b"" if data is None else data for data in views[2:])))

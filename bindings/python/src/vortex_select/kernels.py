@@ -1,4 +1,26 @@
-"""Kernels over flat lists: filters and takes of values and of bits, and what a mask tells."""
+"""Kernels over flat lists: filters and takes of values and of bits, and counts of masks.
+
+Values are bytes, or an array or memoryview of one dimension, whose items have 1, 2, 4, 8, 16 or 32
+bytes and hold no objects. Results are memoryviews of memory of their own. Their items are of the
+same type where `memoryview` has it, else bytes. A mask is one of these:
+
+- bytes (of format `B`): bit k % 8 of byte k // 8, the lowest first, is set where row k is selected,
+  and the bits past the rows are clear;
+- a buffer of bools (of format `?`), or a list or tuple of them: one for each row;
+- `Bits`: the first bit in a buffer, and the number of bits.
+
+A list of indices is a buffer of native integers of one to eight bytes, or an iterable of ints. A
+negative index is out of bounds.
+
+>>> from array import array
+>>> values = array("I", [10, 20, 30, 40])
+>>> filter(values, b"\\x0d").tolist()
+[10, 30, 40]
+>>> filter(values, [True, False, True, True]).tolist()
+[10, 30, 40]
+>>> take(values, [3, 0, 0]).tolist()
+[40, 10, 10]
+"""
 
 from __future__ import annotations
 
@@ -23,11 +45,22 @@ if TYPE_CHECKING:
 
     from ._buffers import Indices, Mask
 
+__all__ = [
+    "count_before",
+    "filter",
+    "filter_bits",
+    "filter_in_place",
+    "positions",
+    "rank",
+    "runs",
+    "take",
+    "take_bits",
+]
 _WIDTHS = (1, 2, 4, 8, 16, 32)
 
 
 class _Values:
-    """A view of values, the bytes of each, and the type of the result's items."""
+    """A view of values, the bytes of an item, and the type of the result's items."""
 
     def __init__(self, values: Any, width: Optional[int]):
         self.view = view_of(values, "values")
@@ -55,13 +88,16 @@ def filter(values: Buffer, mask: Mask, width: Optional[int] = None) -> memoryvie
     """Return the items of `values` at the set bits of `mask`, in order.
 
     Args:
-        values: a buffer of one dimension, of items of 1, 2, 4, 8, 16 or 32 bytes.
-        mask: bytes of bits, a list or buffer of bools, or `Bits`, as long as the values.
-        width: the bytes of an item, for values that are bytes.
+        values: A buffer of one dimension, of items of 1, 2, 4, 8, 16 or 32 bytes.
+        mask: Bytes of bits, a list or buffer of bools, or `Bits`, as long as the values.
+        width: The bytes of an item, for values that are bytes.
+
+    Returns:
+        A view of new memory.
 
     Raises:
-        ValueError: the mask isn't as long as the values.
-        TypeError: the values may hold objects, or the mask is something else.
+        ValueError: The mask isn't as long as the values.
+        TypeError: The values may hold objects, or the mask is something else.
 
     >>> bytes(filter(b"abcd", b"\\x05"))
     b'ac'
@@ -73,10 +109,21 @@ def filter(values: Buffer, mask: Mask, width: Optional[int] = None) -> memoryvie
 
 
 def filter_in_place(values: Buffer, mask: Mask, width: Optional[int] = None) -> int:
-    """Move the items at the set bits to the front of writable `values`, and return their number.
+    """Move the items at the set bits to the front of writable `values`.
 
-    The items behind them are then any of the values. Arguments and errors are those of `filter`;
-    values that can't be written are a `BufferError`.
+    Args:
+        values: A buffer as in `filter`, which can be written. The items behind those that are kept
+            are any of its items afterwards.
+        mask: As in `filter`.
+        width: As in `filter`.
+
+    Returns:
+        How many items are kept.
+
+    Raises:
+        BufferError: The values can't be written.
+        ValueError: The mask isn't as long as the values.
+        TypeError: The values may hold objects, or the mask is something else.
 
     >>> values = bytearray(b"abcd")
     >>> filter_in_place(values, b"\\x0a")
@@ -97,15 +144,25 @@ def take(
     """Return the items of `values` at the indices, in order, and zeros where `valid` is clear.
 
     Args:
-        values, width: as in `filter`.
-        indices: a buffer of native integers, or an iterable of ints.
-        valid: a mask as long as the indices; an index whose bit is clear is ignored.
+        values: As in `filter`.
+        indices: A buffer of native integers, or an iterable of ints.
+        valid: A mask as long as the indices. An index whose bit is clear is ignored.
+        width: As in `filter`.
+
+    Returns:
+        A view of new memory.
 
     Raises:
-        IndexError: an index is negative or not below the number of items; it names the first.
+        IndexError: An index is negative, or not below the number of items. The exception names the
+            first such index.
+        ValueError: The mask isn't as long as the indices.
+        TypeError: The values may hold objects, or the indices aren't integers.
 
     >>> bytes(take(b"abcd", [3, 3, 9], valid=b"\\x03"))
     b'dd\\x00'
+    >>> take(b"abcd", [3, 9])
+    Traceback (most recent call last):
+    IndexError: index 9 at place 1, but 4 items
     """
     of, (view, kind) = _Values(values, width), indices_of(indices)
     words = None if valid is None else words_of(valid, len(view))
@@ -118,8 +175,18 @@ def filter_bits(
     """Return the bits at the set bits of a mask, in order, as bytes, and their number.
 
     Args:
-        bits, mask: bytes of bits, bools, or `Bits`.
-        rows: how many bits each has, from `bits_at` and `mask_at` on.
+        bits: Bytes of bits, bools, or `Bits`.
+        mask: As `bits`.
+        rows: How many bits there are.
+        bits_at: The first bit of `bits`.
+        mask_at: The first bit of `mask`.
+
+    Returns:
+        The bytes, and how many bits of them count.
+
+    Raises:
+        ValueError: There are fewer bits.
+        TypeError: The bits or the mask are something else.
 
     >>> kept, count = filter_bits(b"\\xa0", b"\\x0e", 4, bits_at=4)
     >>> bytes(kept), count
@@ -136,8 +203,19 @@ def take_bits(
     """Return the bits at the indices, in order, as bytes, and clear bits where `valid` is clear.
 
     Args:
-        bits: bytes of bits, bools, or `Bits`, of which `count` from bit `at` on are taken from.
-        indices, valid: as in `take`.
+        bits: Bytes of bits, bools, or `Bits`.
+        count: How many bits there are.
+        indices: As in `take`.
+        valid: As in `take`.
+        at: The first bit of `bits`.
+
+    Returns:
+        New bytes, with a bit for each index.
+
+    Raises:
+        IndexError: An index is negative, or not below `count`.
+        ValueError: There are fewer bits.
+        TypeError: The bits or the indices are something else.
 
     >>> bytes(take_bits(b"\\xa0", 4, [1, 3, 0, 9], valid=b"\\x07", at=4))
     b'\\x03'
@@ -155,7 +233,14 @@ def _numbers(data: bytearray) -> array[int]:
 
 
 def positions(mask: Mask, rows: int) -> array[int]:
-    """Return the rows that a mask of `rows` rows selects, ascending.
+    """Return the rows that a mask selects, ascending.
+
+    Args:
+        mask: As in `filter`.
+        rows: How many rows the mask has.
+
+    Raises:
+        ValueError: The mask has another number of rows.
 
     >>> positions(b"\\x0a", 4).tolist()
     [1, 3]
@@ -164,7 +249,14 @@ def positions(mask: Mask, rows: int) -> array[int]:
 
 
 def runs(mask: Mask, rows: int) -> List[Tuple[int, int]]:
-    """Return the maximal runs of rows that a mask selects, each a start and an end.
+    """Return the longest runs of rows that a mask selects, each a start and an end.
+
+    Args:
+        mask: As in `filter`.
+        rows: How many rows the mask has.
+
+    Raises:
+        ValueError: The mask has another number of rows.
 
     >>> runs(b"\\x0d", 4)
     [(0, 1), (2, 4)]
@@ -176,8 +268,14 @@ def runs(mask: Mask, rows: int) -> List[Tuple[int, int]]:
 def rank(mask: Mask, rows: int, k: int) -> int:
     """Return the `k`-th row that a mask selects, from 0.
 
+    Args:
+        mask: As in `filter`.
+        rows: How many rows the mask has.
+        k: Which of the selected rows.
+
     Raises:
-        IndexError: the mask selects `k` rows or fewer.
+        IndexError: The mask selects `k` rows or fewer.
+        ValueError: The mask has another number of rows.
 
     >>> rank(b"\\x0a", 4, 1)
     3
@@ -188,8 +286,14 @@ def rank(mask: Mask, rows: int, k: int) -> int:
 def count_before(mask: Mask, rows: int, p: int) -> int:
     """Return how many rows before row `p` a mask selects.
 
+    Args:
+        mask: As in `filter`.
+        rows: How many rows the mask has.
+        p: The row, or the number of rows.
+
     Raises:
         IndexError: `p` is above the number of rows.
+        ValueError: The mask has another number of rows.
 
     >>> count_before(b"\\x0a", 4, 3)
     1

@@ -38,7 +38,7 @@ __all__ = [
 
 
 class DamagedPart(Exception):
-    """A part can't be read, or isn't what was said of it.
+    """A part can't be read, or is unlike its description.
 
     Attributes:
         part: The part's path, or its type.
@@ -66,7 +66,7 @@ class LostPart(Exception):
         self.number, self.tries = number, tries
 
     def __str__(self) -> str:
-        return f"part {self.number}: {self.tries} processes ended before they answered"
+        return f"part {self.number}: {self.tries} processes ended before they returned"
 
 
 def _is_npy(part: Any) -> bool:
@@ -166,7 +166,7 @@ _OF_A_PART = (OSError, EOFError, ValueError, TypeError, OverflowError, LookupErr
 def _work(task: Task) -> Done:
     part = _Opened(task)
     if task.rows is not None and part.rows != task.rows:
-        raise ValueError(f"it has {part.rows} rows, expected {task.rows}")
+        raise ValueError(f"expected {task.rows} rows, got {part.rows}")
     result = None if task.steps is None else _selected(part.column(), task.steps)
     return Done(part.rows, part.field, result)
 
@@ -178,7 +178,7 @@ def done(task: Task) -> Done:
     is killed may leave a file with a longer name.
 
     Raises:
-        DamagedPart: The part can't be read, or isn't what was said of it.
+        DamagedPart: The part can't be read, or is unlike its description.
     """
     try:
         found = _work(task)
@@ -187,7 +187,7 @@ def done(task: Task) -> Done:
     except _OF_A_PART as why:
         raise DamagedPart(name_of(task.part), f"{type(why).__name__}: {why}") from None
     except (BrokenStep, SyntaxError) as why:
-        raise DamagedPart(name_of(task.part), f"it isn't as was said: {why}") from None
+        raise DamagedPart(name_of(task.part), f"unlike its description: {why}") from None
     if task.path is None:
         return found
     write_column(task.path, found.result)
@@ -234,7 +234,7 @@ class Processes:
     def __init__(self, count: int, tries: int = 3):
         if count < 1 or tries < 1:
             found = f"{count} and {tries}"
-            raise ValueError(f"expected at least one process and one try, found {found}")
+            raise ValueError(f"expected at least one process and one try, got {found}")
         self.count, self.tries = count, tries
         self._context = multiprocessing.get_context("spawn")
         self._idle: List[Any] = []
@@ -339,8 +339,8 @@ def _need_alike(tasks: Dict[int, Task], found: Dict[int, Done]) -> None:
     for k, each in found.items():
         types = difference(each.field, found[first].field)
         if types:
-            other = f"part {name_of(tasks[first].part)} of {types[1]}"
-            why = f"it is a column of type {types[0]}, but {other}"
+            other = name_of(tasks[first].part)
+            why = f"expected type {types[1]}, as part {other} has, got {types[0]}"
             raise DamagedPart(name_of(tasks[k].part), why)
 
 
@@ -368,7 +368,7 @@ class _Selection(NamedTuple):
             return [each.rows for each in _all_done(self.backend, self.tasks).values()]
         if len(said) != len(self.tasks):
             count = len(self.tasks)
-            raise ValueError(f"expected a length of each of {count} parts, found {len(said)}")
+            raise ValueError(f"expected a length of each of {count} parts, got {len(said)}")
         return list(said)
 
     def plan(self, lengths: Sequence[int], is_verified: bool) -> Plan:
@@ -414,7 +414,7 @@ def _selection(
 ) -> _Selection:
     tasks = {k: Task(part, load, columns, trusted) for k, part in enumerate(parts)}
     if not tasks:
-        raise ValueError("there are no parts")
+        raise ValueError("expected at least one part, got none")
     return _Selection(backend, tasks, list(steps), trusted)
 
 

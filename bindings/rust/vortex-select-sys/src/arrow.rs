@@ -89,9 +89,9 @@ released!(ArrowSchema ArrowArray ArrowArrayStream);
 pub mod status {
     /// The call is done.
     pub const DONE: u64 = 0;
-    /// A node of the column has no meaning.
+    /// A node of the column isn't valid.
     pub const NO_MEANING: u64 = 1;
-    /// A pick is past the rows.
+    /// A selected row is past the rows.
     pub const BEYOND: u64 = 2;
     /// An output is too short.
     pub const ROOM: u64 = 3;
@@ -105,9 +105,9 @@ pub mod status {
     pub const LACKING: u64 = 7;
     /// A format isn't known.
     pub const FORMAT: u64 = 8;
-    /// A null is picked of a union.
+    /// A null is selected of a union.
     pub const NULL_PICK: u64 = 9;
-    /// A struct isn't what its format says, or is released.
+    /// A struct doesn't match its format, or is released.
     pub const SHAPE: u64 = 16;
     /// Columns are nested too deep.
     pub const DEPTH: u64 = 17;
@@ -123,7 +123,7 @@ pub mod kind {
     pub const FILTER: u64 = 1;
     /// Indices.
     pub const TAKE: u64 = 2;
-    /// Indices as arithmetic sequences.
+    /// Indices as strided ranges.
     pub const TAKE_PIECES: u64 = 3;
 }
 
@@ -149,19 +149,19 @@ pub struct Step {
     pub end: u64,
     /// The type of a take's indices.
     pub ptype: u64,
-    /// Where the bits, indices or pieces begin in their lists.
+    /// The first bit, index or range in its list.
     pub offset: u64,
-    /// How many bits, indices or pieces there are.
+    /// How many bits, indices or ranges there are.
     pub len: u64,
-    /// How many indices the pieces are said to have.
+    /// How many indices the ranges have together.
     pub declared: u64,
-    /// Bits of a filter, indices of a take, starts of pieces.
+    /// Bits of a filter, indices of a take, starts of ranges.
     pub values: Bytes,
-    /// A bit for each, clear at a null; no bytes if none is null.
+    /// A validity bit for each; no bytes if none is null.
     pub valid: Bytes,
-    /// How many indices each piece has.
+    /// How many indices each range has.
     pub lengths: Bytes,
-    /// How far apart the indices of each piece are.
+    /// How far apart the indices of each range are.
     pub multipliers: Bytes,
 }
 
@@ -169,9 +169,9 @@ pub struct Step {
 #[repr(C)]
 #[derive(Clone, Copy, Debug, Default)]
 pub struct PicksNeed {
-    /// How many places the picks have.
+    /// How many rows are selected.
     pub places: u64,
-    /// How many bytes of validity they have.
+    /// How many bytes of validity they need.
     pub valid: u64,
 }
 
@@ -183,7 +183,7 @@ pub struct Answer {
     pub status: u64,
     /// The node or the step that it is about.
     pub node_or_step: u64,
-    /// What the node lacks, or the rule that the step breaks.
+    /// What the node lacks, or why the step is invalid.
     pub what: u64,
 }
 
@@ -195,8 +195,14 @@ pub struct Fault {
     pub status: u64,
     /// The step's number.
     pub step: u64,
-    /// The rule that the step breaks, or what the step or the node lacks.
+    /// Why the step is invalid, or what the step or the node lacks.
     pub cause: u64,
+    /// Of an invalid or malformed step: the number that is wrong.
+    pub found: u64,
+    /// The number that it should be, or should not pass.
+    pub bound: u64,
+    /// 1 if `found` is the two's complement of a negative index.
+    pub is_negative: u64,
     /// The column by names from the top, and the buffer; a byte 0 ends it.
     pub place: [u8; 120],
     /// The fault in words; a byte 0 ends it.
@@ -210,6 +216,9 @@ impl Fault {
             status: 0,
             step: 0,
             cause: 0,
+            found: 0,
+            bound: 0,
+            is_negative: 0,
             place: [0; 120],
             text: [0; 240],
         }
@@ -217,7 +226,13 @@ impl Fault {
 }
 
 extern "C" {
-    /// Returns how much room the picks need that the steps leave of `len` rows.
+    /// Returns the version of the library.
+    pub fn vortex_arrow_library_version() -> u32;
+
+    /// Returns the version of the shim.
+    pub fn vortex_arrow_version() -> u32;
+
+    /// Returns how many places and bytes of validity `vortex_arrow_compose` writes.
     pub fn vortex_arrow_count(
         len: u64,
         steps: *const Step,
@@ -225,7 +240,7 @@ extern "C" {
         need: *mut PicksNeed,
     ) -> Answer;
 
-    /// Writes for each row that the steps leave its place among `len` rows.
+    /// Writes the row number of each row that the steps select of `len` rows.
     pub fn vortex_arrow_compose(
         len: u64,
         steps: *const Step,
@@ -235,6 +250,16 @@ extern "C" {
         valid: *mut u8,
         n_valid: usize,
     ) -> Answer;
+
+    /// Writes the numbers and the words of an answer of `vortex_arrow_count` or
+    /// `vortex_arrow_compose`, given the arguments of that call.
+    pub fn vortex_arrow_explain(
+        len: u64,
+        steps: *const Step,
+        n_steps: usize,
+        answer: Answer,
+        error: *mut Fault,
+    );
 
     /// Selects rows of an array.
     pub fn vortex_select_arrow(

@@ -11,6 +11,8 @@ compile_error!("the libraries are built for x86-64 alone, where `usize` has eigh
 
 #[cfg(feature = "arrow")]
 pub mod arrow;
+#[cfg(feature = "chunks")]
+pub mod chunks;
 pub mod kernels;
 #[cfg(any(feature = "rows", feature = "arrow"))]
 mod memory;

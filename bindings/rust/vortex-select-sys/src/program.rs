@@ -5,6 +5,9 @@ use crate::kernels::Answer;
 pub const TOO_SMALL: u64 = 16;
 
 extern "C" {
+    /// Returns the version of the library.
+    pub fn vortex_rows_version() -> u32;
+
     /// Runs the program. Each word ends with a byte 0; the text is written to `dst`.
     pub fn vortex_program(
         words: *const u8,

@@ -93,7 +93,7 @@ impl<'a> From<&'a Mask> for Bits<'a> {
 /// assert_eq!(kept, Mask::from_bools(&[true, false, true]));
 /// ```
 pub fn filter_bits(src: Bits, mask: Bits) -> Mask {
-    assert_eq!(src.len, mask.len, "a mask is as long as its bits");
+    assert_eq!(src.len, mask.len, "the mask must be as long as the bits");
     let (s, m) = (src.words, mask.words);
     // There is room for each row, so that the set bits needn't be counted first.
     let room = words_of(mask.len);
@@ -132,7 +132,8 @@ pub fn filter_bits(src: Bits, mask: Bits) -> Mask {
 /// let bits = Mask::from_bools(&[true, false, true]);
 /// let taken = take_bits(Bits::from(&bits), &[2, 1, 0, 0]);
 /// assert_eq!(taken, Ok(Mask::from_bools(&[true, false, true, true])));
-/// assert_eq!(take_bits(Bits::from(&bits), &[3]), Err(OutOfBounds { place: 0 }));
+/// let error = OutOfBounds { place: 0, index: 3, len: 3 };
+/// assert_eq!(take_bits(Bits::from(&bits), &[3]), Err(error));
 /// ```
 pub fn take_bits(src: Bits, indices: &[u64]) -> Result<Mask, OutOfBounds> {
     take_words(src, indices, &[])
@@ -176,7 +177,7 @@ pub fn take_bits_valid(src: Bits, indices: &[u64], there: &Mask) -> Result<Mask,
     assert_eq!(
         indices.len(),
         there.len(),
-        "a mask is as long as its indices"
+        "the mask must be as long as the indices"
     );
     take_words(src, indices, there.words())
 }
@@ -197,9 +198,7 @@ fn take_words(src: Bits, indices: &[u64], valid: &[u64]) -> Result<Mask, OutOfBo
     let (answer, words) = unsafe { crate::written(room, call) };
     match answer.status {
         DONE => Ok(Mask::of(words, k)),
-        INDEX => Err(OutOfBounds {
-            place: answer.value as usize,
-        }),
+        INDEX => Err(OutOfBounds::of(indices, answer.value as usize, src.len)),
         status => unreachable!("status {status} of a take"),
     }
 }

@@ -1,5 +1,6 @@
 //! Row selection by proved kernels: filters by masks and takes by indices, of values and of bits.
-//! With the feature `arrow` also of columns in Arrow's memory, see [`arrow`].
+//! With the feature `arrow` also of columns in Arrow's memory, see [`arrow`], and with `chunks` of
+//! stores that are read chunk by chunk, see `chunks`.
 //!
 //! ```
 //! use vortex_select::{filter, take, Mask};
@@ -12,6 +13,9 @@
 //!
 //! No safe function reads or writes memory outside of the slices that it is given. The declarations
 //! of the libraries are in the crate `vortex-select-sys`.
+//!
+//! Threads: the kernels keep no state, so any thread may call them. [`Mask`], [`Bits`] and
+//! [`OutOfBounds`] are `Send` and `Sync`.
 #![deny(unsafe_op_in_unsafe_fn)]
 #![warn(missing_docs)]
 
@@ -21,6 +25,8 @@ compile_error!("the library is built for x86-64 alone, where `usize` has eight b
 #[cfg(feature = "arrow")]
 pub mod arrow;
 mod bits;
+#[cfg(feature = "chunks")]
+pub mod chunks;
 mod mask;
 #[cfg(feature = "parts")]
 pub mod parts;
@@ -53,15 +59,39 @@ pub fn version() -> u32 {
 pub struct OutOfBounds {
     /// The place of the index in the list.
     pub place: usize,
+    /// The index.
+    pub index: u64,
+    /// How many items there are.
+    pub len: usize,
+}
+
+impl OutOfBounds {
+    fn of(indices: &[u64], place: usize, len: usize) -> Self {
+        OutOfBounds {
+            place,
+            index: indices[place],
+            len,
+        }
+    }
 }
 
 impl std::fmt::Display for OutOfBounds {
     fn fmt(&self, f: &mut std::fmt::Formatter<'_>) -> std::fmt::Result {
-        write!(f, "index {} of the list is out of bounds", self.place)
+        let OutOfBounds { place, index, len } = self;
+        let items = if *len == 1 { "item" } else { "items" };
+        write!(f, "index {index} at place {place}, but {len} {items}")
     }
 }
 
 impl std::error::Error for OutOfBounds {}
+
+/// All types may be sent to another thread and shared between threads.
+const _: () = {
+    const fn is_shared<T: Send + Sync>() {}
+    is_shared::<Mask>();
+    is_shared::<Bits<'static>>();
+    is_shared::<OutOfBounds>();
+};
 
 /// Returns how many words hold so many bits.
 fn words_of(bits: usize) -> usize {
@@ -120,7 +150,11 @@ pub fn filter<T: Record>(values: &[T], mask: &Mask) -> Vec<T> {
 /// assert_eq!(filter_by(&[7u8, 8, 9], bits), [8, 9]);
 /// ```
 pub fn filter_by<T: Record>(values: &[T], mask: Bits) -> Vec<T> {
-    assert_eq!(values.len(), mask.len(), "a mask is as long as its values");
+    assert_eq!(
+        values.len(),
+        mask.len(),
+        "the mask must be as long as the values"
+    );
     let count = mask.count();
     let call = |dst: &mut [_]| {
         let answer = record::filter(values, mask, dst);
@@ -162,7 +196,11 @@ pub fn filter_in_place<T: Record>(values: &mut Vec<T>, mask: &Mask) {
 /// assert_eq!(values, [7, 9]);
 /// ```
 pub fn filter_in_place_by<T: Record>(values: &mut Vec<T>, mask: Bits) {
-    assert_eq!(values.len(), mask.len(), "a mask is as long as its values");
+    assert_eq!(
+        values.len(),
+        mask.len(),
+        "the mask must be as long as the values"
+    );
     let answer = record::filter_in_place(values, mask);
     assert_eq!(answer.status, DONE);
     values.truncate(answer.value as usize);
@@ -174,7 +212,9 @@ pub fn filter_in_place_by<T: Record>(values: &mut Vec<T>, mask: Bits) {
 /// use vortex_select::{take, OutOfBounds};
 ///
 /// assert_eq!(take(&[7u16, 8, 9], &[2, 2, 0]), Ok(vec![9, 9, 7]));
-/// assert_eq!(take(&[7u16, 8, 9], &[2, 3]), Err(OutOfBounds { place: 1 }));
+/// let error = take(&[7u16, 8, 9], &[2, 3]).unwrap_err();
+/// assert_eq!(error, OutOfBounds { place: 1, index: 3, len: 3 });
+/// assert_eq!(error.to_string(), "index 3 at place 1, but 3 items");
 /// ```
 pub fn take<T: Record>(values: &[T], indices: &[u64]) -> Result<Vec<T>, OutOfBounds> {
     take_words(values, indices, &[])
@@ -202,7 +242,7 @@ pub fn take_valid<T: Record>(
     assert_eq!(
         indices.len(),
         there.len(),
-        "a mask is as long as its indices"
+        "the mask must be as long as the indices"
     );
     take_words(values, indices, there.words())
 }
@@ -221,7 +261,7 @@ fn take_words<T: Record>(
     let (answer, taken) = unsafe { written(count, call) };
     assert_eq!(answer.status, DONE);
     if taken.len() < count {
-        return Err(OutOfBounds { place: taken.len() });
+        return Err(OutOfBounds::of(indices, taken.len(), values.len()));
     }
     Ok(taken)
 }
@@ -245,6 +285,7 @@ fn in_blocks(
         let there = valid.next().unwrap_or(&[]);
         take(&wide[..block.len()], there).map_err(|fault| OutOfBounds {
             place: BLOCK * number + fault.place,
+            ..fault
         })?;
     }
     Ok(())
@@ -269,7 +310,8 @@ fn take_words_u32<T: Record>(
 /// use vortex_select::{take_u32, OutOfBounds};
 ///
 /// assert_eq!(take_u32(&[7u16, 8, 9], &[2, 2, 0]), Ok(vec![9, 9, 7]));
-/// assert_eq!(take_u32(&[7u16, 8, 9], &[2, 3]), Err(OutOfBounds { place: 1 }));
+/// let error = OutOfBounds { place: 1, index: 3, len: 3 };
+/// assert_eq!(take_u32(&[7u16, 8, 9], &[2, 3]), Err(error));
 /// ```
 pub fn take_u32<T: Record>(values: &[T], indices: &[u32]) -> Result<Vec<T>, OutOfBounds> {
     take_words_u32(values, indices, &[])
@@ -294,7 +336,7 @@ pub fn take_valid_u32<T: Record>(
     assert_eq!(
         indices.len(),
         there.len(),
-        "a mask is as long as its indices"
+        "the mask must be as long as the indices"
     );
     take_words_u32(values, indices, there.words())
 }
@@ -309,7 +351,8 @@ pub fn take_valid_u32<T: Record>(
 /// use vortex_select::{take_into, OutOfBounds};
 ///
 /// let mut taken = [1u16, 2];
-/// assert_eq!(take_into(&[7, 8, 9], &[2, 3], &mut taken), Err(OutOfBounds { place: 1 }));
+/// let error = OutOfBounds { place: 1, index: 3, len: 3 };
+/// assert_eq!(take_into(&[7, 8, 9], &[2, 3], &mut taken), Err(error));
 /// assert_eq!(taken, [1, 2]);
 /// assert_eq!(take_into(&[7, 8, 9], &[2, 0], &mut taken), Ok(()));
 /// assert_eq!(taken, [9, 7]);
@@ -319,15 +362,21 @@ pub fn take_into<T: Record>(
     indices: &[u64],
     dst: &mut [T],
 ) -> Result<(), OutOfBounds> {
-    assert_eq!(indices.len(), dst.len(), "a list is as long as its indices");
+    assert_eq!(
+        indices.len(),
+        dst.len(),
+        "dst must be as long as the indices"
+    );
     // SAFETY: a take writes values.
     let room = unsafe { record::unwritten(dst) };
     let answer = record::take(values, indices, &[], room);
     match answer.status {
         DONE => Ok(()),
-        INDEX => Err(OutOfBounds {
-            place: answer.value as usize,
-        }),
+        INDEX => Err(OutOfBounds::of(
+            indices,
+            answer.value as usize,
+            values.len(),
+        )),
         status => unreachable!("status {status} of a take"),
     }
 }

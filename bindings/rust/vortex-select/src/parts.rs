@@ -39,14 +39,14 @@ pub enum Error {
 impl fmt::Display for Error {
     fn fmt(&self, f: &mut fmt::Formatter<'_>) -> fmt::Result {
         match self {
-            Error::Lengths => f.write_str("expected a bit for each row of the parts, found others"),
-            Error::Range => f.write_str("expected a slice within the rows, found one that isn't"),
-            Error::Bounds => f.write_str("expected bounds that ascend from 0, found others"),
-            Error::TooMany => f.write_str("expected fewer than 2^64 rows, found more"),
+            Error::Lengths => f.write_str("expected a bit for each row of the parts, got others"),
+            Error::Range => f.write_str("expected a slice within the rows, got one that isn't"),
+            Error::Bounds => f.write_str("expected bounds that ascend from 0, got others"),
+            Error::TooMany => f.write_str("expected fewer than 2^64 rows, got more"),
             Error::OutOfBounds { place } => {
                 write!(
                     f,
-                    "pick {place}: expected a row of the parts, found one past them"
+                    "pick {place}: expected a row of the parts, got one past them"
                 )
             }
         }

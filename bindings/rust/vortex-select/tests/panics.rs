@@ -15,7 +15,7 @@ fn panics(words: &str, call: impl FnOnce()) {
 
 #[test]
 fn a_filter_takes_a_mask_of_its_values() {
-    let words = "a mask is as long as its values";
+    let words = "the mask must be as long as the values";
     for len in [0, 2, 4, 70] {
         let mask = Mask::from_bools(&vec![true; len]);
         let bits = Bits::from(&mask);
@@ -33,7 +33,7 @@ fn a_filter_of_bits_takes_a_mask_of_these_bits() {
     let src = Mask::from_bools(&[true; 3]);
     for len in [0, 2, 4, 70] {
         let mask = Mask::from_bools(&vec![true; len]);
-        panics("a mask is as long as its bits", || {
+        panics("the mask must be as long as the bits", || {
             drop(filter_bits(Bits::from(&src), Bits::from(&mask)))
         });
     }
@@ -41,7 +41,7 @@ fn a_filter_of_bits_takes_a_mask_of_these_bits() {
 
 #[test]
 fn a_take_with_nulls_has_a_mask_of_its_indices() {
-    let words = "a mask is as long as its indices";
+    let words = "the mask must be as long as the indices";
     let src = Mask::from_bools(&[true; 3]);
     for len in [0, 1, 3, 70] {
         let there = Mask::from_bools(&vec![true; len]);
@@ -57,7 +57,7 @@ fn a_take_with_nulls_has_a_mask_of_its_indices() {
 fn a_take_into_a_list_has_room_for_each_index() {
     for len in [0, 1, 3] {
         let mut dst = vec![5u8; len];
-        panics("a list is as long as its indices", || {
+        panics("dst must be as long as the indices", || {
             take_into(&[7u8, 8], &[0, 1], &mut dst).unwrap()
         });
         assert_eq!(dst, vec![5; len]);

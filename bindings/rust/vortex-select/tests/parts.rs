@@ -166,6 +166,6 @@ fn cuts_that_arent_valid_are_refused() {
     .map(|error| error.to_string());
     assert!(words
         .iter()
-        .all(|text| text.contains("expected ") && text.contains(", found ")));
+        .all(|text| text.contains("expected ") && text.contains(", got ")));
     assert!(words[4].starts_with("pick 3: "));
 }

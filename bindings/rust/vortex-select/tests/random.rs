@@ -75,12 +75,24 @@ fn plain_take<T: Copy>(
     let item = |(place, (index, there)): (usize, (&u64, &bool))| {
         let item = usize::try_from(*index).ok().and_then(|i| values.get(i));
         if *there {
-            item.copied().ok_or(OutOfBounds { place })
+            item.copied().ok_or(OutOfBounds {
+                place,
+                index: *index,
+                len: values.len(),
+            })
         } else {
             Ok(zero)
         }
     };
     indices.iter().zip(there).enumerate().map(item).collect()
+}
+
+/// The result of the indices of 64 bits, by those of 32 bits that stand for them.
+fn of_narrow<T>(plain: Result<T, OutOfBounds>, narrow: &[u32]) -> Result<T, OutOfBounds> {
+    plain.map_err(|fault| OutOfBounds {
+        index: u64::from(narrow[fault.place]),
+        ..fault
+    })
 }
 
 /// The same indices, where one past 32 bits is the greatest of them.
@@ -128,7 +140,7 @@ fn one_call<T: Record + PartialEq + Debug>(dice: &mut Dice, zero: T, of: fn(u64)
             let plain = plain_take(&values, &indices, &all, zero);
             assert_eq!(take(&values, &indices), plain);
             let narrow = narrowed(&indices);
-            assert_eq!(take_u32(&values, &narrow), plain);
+            assert_eq!(take_u32(&values, &narrow), of_narrow(plain, &narrow));
         }
         3 => {
             let len = dice.len();
@@ -138,6 +150,7 @@ fn one_call<T: Record + PartialEq + Debug>(dice: &mut Dice, zero: T, of: fn(u64)
             let plain = plain_take(&values, &indices, &there, zero);
             assert_eq!(take_valid(&values, &indices, &mask), plain);
             let narrow = narrowed(&indices);
+            let plain = of_narrow(plain, &narrow);
             assert_eq!(take_valid_u32(&values, &narrow, &mask), plain);
         }
         4 => {
@@ -195,7 +208,8 @@ fn one_call_of_bits(dice: &mut Dice) {
             let plain = plain_take(&src, &indices, &vec![true; picks], false);
             let plain = plain.map(|rows| Mask::from_bools(&rows));
             assert_eq!(take_bits(bits, &indices), plain);
-            assert_eq!(take_bits_u32(bits, &narrowed(&indices)), plain);
+            let narrow = narrowed(&indices);
+            assert_eq!(take_bits_u32(bits, &narrow), of_narrow(plain, &narrow));
         }
         _ => {
             let there = dice.bools(picks);

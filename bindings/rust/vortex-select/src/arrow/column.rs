@@ -26,7 +26,7 @@ fn test_released(schema: &ArrowSchema, array: &ArrowArray) -> Result<(), Error> 
         _ => "array",
     };
     Err(Error::Shape(format!(
-        "expected a column, found a released {released}"
+        "expected a column, got a released {released}"
     )))
 }
 
@@ -41,7 +41,7 @@ impl Column {
     /// Makes a column of two structs of another crate or another language. Both are moved, and are
     /// marked as released where they were.
     ///
-    /// Structs that are released already make a released column, which all calls refuse.
+    /// Structs that are released already make a released column, which all calls reject.
     ///
     /// # Safety
     /// - Both pointers lead to structs as Arrow's C Data Interface has them, and nothing else
@@ -116,7 +116,7 @@ impl Column {
             unsafe { sys::vortex_arrow_check_array(&self.schema.0, &mut self.array.0, &mut fault) };
         match status {
             sys::status::DONE => Ok(()),
-            _ => Err(Error::of_fault(&fault)),
+            _ => Err(Error::of_fault(&fault, &[])),
         }
     }
 
@@ -198,9 +198,7 @@ impl Column {
 /// Returns a copy of a schema.
 pub(super) fn copy_schema(schema: &ArrowSchema) -> Result<ArrowSchema, Error> {
     if schema.is_released() {
-        return Err(Error::Shape(
-            "expected a schema, found a released one".into(),
-        ));
+        return Err(Error::Shape("expected a schema, got a released one".into()));
     }
     let mut copy = ArrowSchema::empty();
     // SAFETY: the schema isn't released, and the copy is written alone.
@@ -208,7 +206,7 @@ pub(super) fn copy_schema(schema: &ArrowSchema) -> Result<ArrowSchema, Error> {
     Ok(copy)
 }
 
-/// Returns the rows that the steps leave of a column.
+/// Returns the rows that the steps select of a column.
 ///
 /// The column keeps its rows. It shares dictionaries, and what views lead to, with the result.
 pub fn select(column: &mut Column, steps: &[Step]) -> Result<Column, Error> {
@@ -217,7 +215,7 @@ pub fn select(column: &mut Column, steps: &[Step]) -> Result<Column, Error> {
     Ok(Column { schema, array })
 }
 
-/// Returns the rows that the steps leave of an array.
+/// Returns the rows that the steps select of an array.
 ///
 /// # Safety
 /// As for [`Column::from_raw`].
@@ -245,6 +243,6 @@ pub unsafe fn select_arrow(
     if status == sys::status::DONE {
         Ok((out_schema, out_array))
     } else {
-        Err(Error::of_fault(&fault))
+        Err(Error::of_fault(&fault, steps))
     }
 }

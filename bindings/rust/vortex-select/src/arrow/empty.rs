@@ -22,7 +22,7 @@ fn field_of(schema: Node<'_>) -> Field {
 fn empty_of(schema: Node<'_>, level: usize) -> Result<Column, Error> {
     if level > LEVELS {
         return Err(Error::Depth(format!(
-            "expected at most {LEVELS} levels, found more"
+            "expected at most {LEVELS} levels, got more"
         )));
     }
     let kind = Layout::of(schema.format())?.kind;
@@ -49,7 +49,7 @@ impl Column {
     /// Returns the column under another name and with other flags.
     pub fn described(self, name: &str, flags: i64) -> Result<Column, Error> {
         if name.contains('\0') {
-            return Err(Error::Shape("name: expected no byte 0, found one".into()));
+            return Err(Error::Shape("name: expected no byte 0, got one".into()));
         }
         let mut schema = renamed(self.schema, name);
         schema.0.flags = flags;

@@ -1,36 +1,60 @@
 //! Why a call fails.
+use super::steps::Step;
 use std::fmt;
 use vortex_select_sys::arrow::{status, Fault};
 
-/// The rule that a step breaks.
+/// Why a step is invalid.
 #[derive(Clone, Copy, Debug, PartialEq, Eq)]
 pub enum Cause {
-    /// A slice begins past its end, or ends past the rows.
+    /// A slice starts after its end, or ends after the rows.
     BadRange,
     /// A filter isn't as long as the rows.
     BadMask,
-    /// The numbers of a take aren't integers.
+    /// The indices of a take aren't integers.
     InvalidIndices,
     /// An index is negative, or not less than the number of rows.
     OutOfBounds,
-    /// Another one of `include/vortex_arrow.h`, which no step made here breaks.
+    /// Another one of `include/vortex_arrow.h`. No step of this crate has it.
     Other(u64),
 }
 
-/// Why a call fails. Strings name the column, what was expected and what was found.
+/// Why a call fails. Strings name the column or the step, what was expected and what was found.
+///
+/// ```
+/// use vortex_select::arrow::{select, Cause, Column, Error, Step};
+///
+/// let mut numbers = Column::numbers(&[Some(1), Some(2)]);
+/// let error = select(&mut numbers, &[Step::take(&[0, 9])]).unwrap_err();
+/// assert_eq!(error.to_string(), "step 0: OutOfBounds: index 9, but 2 rows");
+/// match error {
+///     Error::Broken { step, cause, found, bound, .. } => {
+///         assert_eq!((step, cause, found, bound), (0, Cause::OutOfBounds, 9, 2));
+///     }
+///     other => panic!("{other}"),
+/// }
+/// ```
 #[derive(Clone, Debug, PartialEq, Eq)]
 pub enum Error {
     /// A step is invalid.
     Broken {
         /// The step's number, from 0.
         step: usize,
-        /// The rule that it breaks.
+        /// Why it is invalid.
         cause: Cause,
+        /// The number that is wrong: the end of a slice, the length of a mask, or an index.
+        found: i128,
+        /// The number that it should be, or should not pass: how many rows there are. Of a slice
+        /// that starts after its end, `found` is its start and this is its end.
+        bound: u64,
+        /// The error in words.
+        text: String,
     },
-    /// The bits or numbers of a step are fewer than it names.
+    /// A step has fewer bits or numbers than it names.
     Lacking {
         /// The step's number, from 0.
         step: usize,
+        /// The error in words.
+        text: String,
     },
     /// The contents of the column aren't valid.
     NoMeaning(String),
@@ -38,22 +62,22 @@ pub enum Error {
     Overflow(String),
     /// The format of the column isn't known.
     Format(String),
-    /// A null is picked of a union, whose rows are never null.
+    /// A null is selected of a union, whose rows are never null.
     NullPick(String),
-    /// A struct isn't what its format says, or is released.
+    /// A struct doesn't match its format, or is released.
     Shape(String),
     /// Columns are nested too deep.
     Depth(String),
     /// The source stream failed.
     Source(String),
-    /// A pick is past the rows.
+    /// A selected row is past the rows.
     Beyond,
     /// An allocation failed.
     NoMemory,
 }
 
 impl Cause {
-    pub(super) fn of(cause: u64) -> Cause {
+    fn of(cause: u64) -> Cause {
         match cause {
             0 => Cause::BadRange,
             1 => Cause::BadMask,
@@ -62,31 +86,24 @@ impl Cause {
             other => Cause::Other(other),
         }
     }
+}
 
-    fn words(self) -> &'static str {
-        match self {
-            Cause::BadRange => "expected a slice within the rows, found one that isn't",
-            Cause::BadMask => "expected a mask as long as the rows, found another length",
-            Cause::InvalidIndices => "expected integers as indices, found floats",
-            Cause::OutOfBounds => "expected indices within the rows, found one out of bounds",
-            Cause::Other(_) => "expected a valid step, found an invalid one",
-        }
+/// Returns the number of a fault, which may be negative.
+fn found_in(fault: &Fault) -> i128 {
+    if fault.is_negative != 0 {
+        i128::from(fault.found as i64)
+    } else {
+        i128::from(fault.found)
     }
 }
 
 impl Error {
-    /// Returns the error of a status. `at` is the step, and `cause` the rule that it breaks.
-    pub(super) fn of(status: u64, at: u64, cause: u64, text: String) -> Error {
-        let step = at as usize;
+    /// Returns the error of a status that is about a column.
+    fn of(status: u64, text: String) -> Error {
         match status {
             status::BEYOND => Error::Beyond,
             status::OVERFLOW => Error::Overflow(text),
             status::NO_MEMORY => Error::NoMemory,
-            status::BROKEN => Error::Broken {
-                step,
-                cause: Cause::of(cause),
-            },
-            status::LACKING => Error::Lacking { step },
             status::FORMAT => Error::Format(text),
             status::NULL_PICK => Error::NullPick(text),
             status::SHAPE => Error::Shape(text),
@@ -96,42 +113,52 @@ impl Error {
         }
     }
 
-    /// Returns the error of a fault that a call told.
-    pub(super) fn of_fault(fault: &Fault) -> Error {
+    /// Returns the error of a fault that a call with these steps reported.
+    pub(super) fn of_fault(fault: &Fault, steps: &[Step]) -> Error {
         let text = fault.text.split(|byte| *byte == 0).next().unwrap_or(&[]);
         let text = String::from_utf8_lossy(text).into_owned();
-        Error::of(fault.status, fault.step, fault.cause, text)
+        let step = fault.step as usize;
+        match fault.status {
+            status::BROKEN => Error::Broken {
+                step,
+                cause: Cause::of(fault.cause),
+                found: found_in(fault),
+                bound: fault.bound,
+                text,
+            },
+            status::LACKING => {
+                let lack = steps.get(step).and_then(Step::lack);
+                let text = lack.map_or(text, |lack| format!("step {step}: {lack}"));
+                Error::Lacking { step, text }
+            }
+            status => Error::of(status, text),
+        }
     }
 
-    /// Returns the error of a call that tells a status alone.
+    /// Returns the error of a call that reports a status alone.
     pub(super) fn of_status(status: u64) -> Error {
         let text = match status {
-            status::SHAPE => {
-                "expected a struct as its format says, found another or a released one"
-            }
-            status::DEPTH => "expected at most 64 nested columns, found more",
-            _ => "expected a valid column, found another",
+            status::SHAPE => "expected what the format has, got another or a released struct",
+            status::DEPTH => "expected at most 64 levels of columns, got more",
+            _ => "expected a valid column, got another",
         };
-        Error::of(status, 0, 0, text.into())
+        Error::of(status, text.into())
     }
 }
 
 impl fmt::Display for Error {
     fn fmt(&self, f: &mut fmt::Formatter<'_>) -> fmt::Result {
         match self {
-            Error::Broken { step, cause } => write!(f, "step {step}: {}", cause.words()),
-            Error::Lacking { step } => write!(
-                f,
-                "step {step}: expected a bit or a number for each row that it names, found fewer"
-            ),
-            Error::NoMeaning(text)
+            Error::Broken { text, .. }
+            | Error::Lacking { text, .. }
+            | Error::NoMeaning(text)
             | Error::Overflow(text)
             | Error::Format(text)
             | Error::NullPick(text)
             | Error::Shape(text)
             | Error::Depth(text)
             | Error::Source(text) => f.write_str(text),
-            Error::Beyond => f.write_str("expected picks within the rows, found one past them"),
+            Error::Beyond => f.write_str("expected selected rows within the rows, got one past"),
             Error::NoMemory => f.write_str("out of memory"),
         }
     }

@@ -62,15 +62,13 @@ pub(super) trait Source<'a> {
 }
 
 fn too_long(name: &str) -> Error {
-    Error::Shape(format!(
-        "{name}: expected fewer than 2^63 bytes, found more"
-    ))
+    Error::Shape(format!("{name}: expected fewer than 2^63 bytes, got more"))
 }
 
 impl Layout {
     /// Parses a format.
     pub fn of(format: &str) -> Result<Layout, Error> {
-        let unknown = || Error::Format(format!("expected a format of Arrow, found {format:?}"));
+        let unknown = || Error::Format(format!("expected a format of Arrow, got {format:?}"));
         let kind = Kind::of(format).ok_or_else(unknown)?;
         let children = match kind {
             Kind::Struct => None,
@@ -93,7 +91,7 @@ impl Layout {
         let end = rows(len).and_then(|len| rows(offset)?.checked_add(len));
         end.filter(|end| *end < MOST_ROWS).ok_or_else(|| {
             Error::Shape(format!(
-                "length: expected rows from 0 up to 2^60, found {len} from row {offset} on"
+                "length: expected rows from 0 up to 2^60, got {len} from row {offset} on"
             ))
         })
     }
@@ -106,10 +104,10 @@ impl Layout {
         let width = self.kind.width();
         let last = ends.and_then(|ends| number(ends, end * width, width));
         let last =
-            last.ok_or_else(|| Error::Shape("offsets: expected a buffer, found null".into()))?;
+            last.ok_or_else(|| Error::Shape("offsets: expected a buffer, got null".into()))?;
         usize::try_from(last).map_err(|_| {
             Error::NoMeaning(format!(
-                "offsets: expected a last offset of 0 or more, found {last}"
+                "offsets: expected a last offset of 0 or more, got {last}"
             ))
         })
     }
@@ -160,7 +158,7 @@ impl Layout {
         }
         let more = if is_views { " or more" } else { "" };
         Err(Error::Shape(format!(
-            "buffers: expected {least}{more}, found {count}"
+            "buffers: expected {least}{more}, got {count}"
         )))
     }
 }
@@ -179,7 +177,7 @@ fn viewed<'a>(count: usize, source: &impl Source<'a>) -> Result<Buffers<'a>, Err
     let length = |k: usize| {
         let length = lengths.and_then(|lengths| number(lengths, 8 * k, 8));
         let length = length.ok_or_else(|| Error::Shape(format!("{NAME}: found null")))?;
-        let is_negative = |_| Error::Shape(format!("{NAME}: expected 0 or more, found {length}"));
+        let is_negative = |_| Error::Shape(format!("{NAME}: expected 0 or more, got {length}"));
         usize::try_from(length).map_err(is_negative)
     };
     let data = |k: usize| source.bytes(2 + k, "data", length(k)?);

@@ -9,6 +9,10 @@
 //! assert_eq!(picked.to_texts(), Some(vec![Some("cy"), None]));
 //! # Ok::<(), Error>(())
 //! ```
+//!
+//! Threads: all types of this module are `Send`, and all but [`Stream`] and [`ArrowArrayStream`] are
+//! `Sync`. So a column may be moved to another thread and read by several. A call that replaces the
+//! structs of a column takes it by `&mut`.
 mod building;
 mod column;
 mod empty;
@@ -34,3 +38,18 @@ pub use parts::{Buffer, Field};
 pub use picks::{picks, Picks};
 pub use steps::{Number, Step};
 pub use stream::{select_stream, Stream};
+
+/// All types may be sent to another thread, and all but streams may be shared.
+const _: () = {
+    const fn is_send<T: Send>() {}
+    const fn is_shared<T: Send + Sync>() {}
+    is_shared::<Column>();
+    is_shared::<Node<'static>>();
+    is_shared::<Step<'static>>();
+    is_shared::<Picks>();
+    is_shared::<Error>();
+    is_shared::<ArrowSchema>();
+    is_shared::<ArrowArray>();
+    is_send::<ArrowArrayStream>();
+    is_send::<Stream>();
+};

@@ -70,7 +70,7 @@ unsafe fn structs<'a, T>(list: *mut *mut T, count: i64) -> Vec<Option<&'a T>> {
 }
 
 fn released() -> Error {
-    Error::Shape("expected a column, found a released or missing struct".into())
+    Error::Shape("expected a column, got a released or missing struct".into())
 }
 
 impl<'a> Node<'a> {
@@ -206,7 +206,7 @@ impl<'a> Node<'a> {
         let (array, end) = (self.array()?, self.end()?);
         let count = usize::try_from(array.n_buffers).unwrap_or(usize::MAX);
         if array.buffers.is_null() && count > 0 {
-            return Err(Error::Shape("buffers: expected a list, found null".into()));
+            return Err(Error::Shape("buffers: expected a list, got null".into()));
         }
         let buffers: Buffers<'a> = self.layout()?.buffers(end, count, &Trusted(array))?;
         Ok(buffers)

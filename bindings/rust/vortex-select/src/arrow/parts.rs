@@ -53,7 +53,7 @@ impl Field {
     fn texts(self) -> Result<Texts, Error> {
         let name = CString::new(self.name).map_err(|error| {
             let place = error.nul_position();
-            Error::Shape(format!("name: expected no byte 0, found one at {place}"))
+            Error::Shape(format!("name: expected no byte 0, got one at {place}"))
         })?;
         let format = CString::new(self.format);
         if self
@@ -61,7 +61,7 @@ impl Field {
             .as_ref()
             .map_or(false, |bytes| metadata::size_within(bytes).is_none())
         {
-            let whole = "metadata: expected a count and as many pairs, found fewer bytes";
+            let whole = "metadata: expected a count and as many pairs, got fewer bytes";
             return Err(Error::Shape(whole.into()));
         }
         Ok(Texts {
@@ -85,13 +85,13 @@ impl<'a> Source<'a> for Tested<'a> {
             None if may_be_null => return Ok(None),
             None => {
                 return Err(Error::Shape(format!(
-                    "{name}: expected {len} bytes, found null"
+                    "{name}: expected {len} bytes, got null"
                 )))
             }
         };
         if size < len {
             return Err(Error::Shape(format!(
-                "{name}: expected {len} bytes, found {size}"
+                "{name}: expected {len} bytes, got {size}"
             )));
         }
         // SAFETY: the buffer has so many bytes, which stay readable for as long as it lives.
@@ -144,7 +144,7 @@ impl Rows {
         let end = Layout::end(bounded(len), bounded(offset))?;
         if null_count < -1 || null_count > bounded(len) {
             return Err(Error::Shape(format!(
-                "null count: expected -1 or up to {len}, found {null_count}"
+                "null count: expected -1 or up to {len}, got {null_count}"
             )));
         }
         Ok(Rows {
@@ -168,7 +168,7 @@ fn test_nulls(layout: &Layout, rows: Rows, validity: Option<&[u8]>) -> Result<()
     }
     let count = rows.null_count;
     Err(Error::Shape(format!(
-        "validity: expected a buffer for {count} nulls, found none"
+        "validity: expected a buffer for {count} nulls, got none"
     )))
 }
 
@@ -182,7 +182,7 @@ fn test_children(
     if let Some(count) = layout.children.filter(|count| *count != children.len()) {
         let found = children.len();
         return Err(Error::Shape(format!(
-            "children: expected {count}, found {found}"
+            "children: expected {count}, got {found}"
         )));
     }
     let needed = match layout.kind {
@@ -194,13 +194,13 @@ fn test_children(
     for (k, child) in children.iter().enumerate() {
         if child.is_released() {
             return Err(Error::Shape(format!(
-                "child {k}: expected a column, found a released one"
+                "child {k}: expected a column, got a released one"
             )));
         }
         if child.len() < needed {
             let (name, len) = (child.node().name(), child.len());
             return Err(Error::Shape(format!(
-                "child {k} {name:?}: expected at least {needed} rows, found {len}"
+                "child {k} {name:?}: expected at least {needed} rows, got {len}"
             )));
         }
     }
@@ -210,10 +210,10 @@ fn test_children(
 fn test_dictionary(layout: &Layout, dictionary: Option<&Column>) -> Result<(), Error> {
     match dictionary {
         Some(_) if !layout.is_integer => Err(Error::Shape(
-            "dictionary: expected one of integer codes alone, found one of another format".into(),
+            "dictionary: expected one of integer codes alone, got one of another format".into(),
         )),
         Some(values) if values.is_released() => Err(Error::Shape(
-            "dictionary: expected a column, found a released one".into(),
+            "dictionary: expected a column, got a released one".into(),
         )),
         _ => Ok(()),
     }

@@ -1,4 +1,6 @@
 //! Steps of a selection.
+use super::column::Column;
+use super::error::Error;
 use std::borrow::Cow;
 use std::mem::size_of_val;
 use vortex_select_sys::arrow::{kind, Bytes, Step as Image};
@@ -22,11 +24,11 @@ pub enum Number {
     I32,
     /// Signed, 64 bits.
     I64,
-    /// A float of 16 bits, which no index is.
+    /// A float of 16 bits. Indices of this type are invalid.
     F16,
-    /// A float of 32 bits, which no index is.
+    /// A float of 32 bits. Indices of this type are invalid.
     F32,
-    /// A float of 64 bits, which no index is.
+    /// A float of 64 bits. Indices of this type are invalid.
     F64,
 }
 
@@ -50,6 +52,23 @@ pub(super) fn packed(bools: impl ExactSizeIterator<Item = bool>) -> Vec<u8> {
         bits[k / 8] |= u8::from(is_set) << (k % 8);
     }
     bits
+}
+
+/// Returns the values and the validity of a column that has one of the formats of one letter.
+fn lists_of<'a>(
+    column: &'a Column,
+    formats: &str,
+    what: &str,
+) -> Result<(&'a [u8], Option<&'a [u8]>), Error> {
+    let node = column.node();
+    let format = node.format();
+    if format.len() != 1 || !formats.contains(format) || node.dictionary().is_some() {
+        return Err(Error::Format(format!(
+            "expected a column of {what}, got format {format:?}"
+        )));
+    }
+    let buffers = node.buffers()?;
+    Ok((buffers[1].unwrap_or(&[]), buffers[0]))
 }
 
 impl<'a> Step<'a> {
@@ -129,9 +148,79 @@ impl<'a> Step<'a> {
         }
     }
 
+    /// Returns the bounds of a slice, or `None` for another step.
+    #[cfg(feature = "chunks")]
+    pub(crate) fn bounds(&self) -> Option<(u64, u64)> {
+        (self.kind == kind::SLICE).then_some((self.start, self.end))
+    }
+
+    /// Selects the rows whose place in a column of bools is true. A null counts as false.
+    ///
+    /// ```
+    /// use vortex_select::arrow::{select, Column, Error, Step};
+    ///
+    /// let mask = Column::bools(&[Some(true), None, Some(true)]);
+    /// let mut rows = Column::numbers(&[Some(5), Some(6), Some(7)]);
+    /// let kept = select(&mut rows, &[Step::filter_by(&mask)?])?;
+    /// assert_eq!(kept.to_numbers(), Some(vec![Some(5), Some(7)]));
+    /// # Ok::<(), Error>(())
+    /// ```
+    pub fn filter_by(mask: &'a Column) -> Result<Self, Error> {
+        let (bits, valid) = lists_of(mask, "b", "bools")?;
+        let node = mask.node();
+        Ok(Step::filter_bits(bits, node.offset(), node.len(), valid))
+    }
+
+    /// Selects the rows at the indices in a column of integers, and a null for each null.
+    ///
+    /// ```
+    /// use vortex_select::arrow::{select, Column, Error, Step};
+    ///
+    /// let indices = Column::numbers(&[Some(2), None]);
+    /// let mut rows = Column::bools(&[None, None, Some(true)]);
+    /// let taken = select(&mut rows, &[Step::take_by(&indices)?])?;
+    /// assert_eq!(taken.to_bools(), Some(vec![Some(true), None]));
+    /// # Ok::<(), Error>(())
+    /// ```
+    pub fn take_by(indices: &'a Column) -> Result<Self, Error> {
+        let (bytes, valid) = lists_of(indices, "CSILcsil", "integers")?;
+        let node = indices.node();
+        let number = match node.format() {
+            "C" => Number::U8,
+            "S" => Number::U16,
+            "I" => Number::U32,
+            "L" => Number::U64,
+            "c" => Number::I8,
+            "s" => Number::I16,
+            "i" => Number::I32,
+            _ => Number::I64,
+        };
+        Ok(Step::take_numbers(
+            number,
+            bytes,
+            node.offset(),
+            node.len(),
+            valid,
+        ))
+    }
+
     /// Returns whether the step is a take that may leave nulls.
     pub(super) fn leaves_nulls(&self) -> bool {
         self.kind == kind::TAKE && self.valid.is_some()
+    }
+
+    /// Returns whether there is no validity although there are bits or numbers, or some before them.
+    fn lacks_validity(&self) -> bool {
+        let is_empty = self.valid.as_ref().map_or(false, |valid| valid.is_empty());
+        is_empty && (self.offset > 0 || self.len > 0)
+    }
+
+    /// Returns what the step lacks that its descriptor can't say.
+    pub(super) fn lack(&self) -> Option<String> {
+        let rows = self.offset.saturating_add(self.len);
+        let bytes = rows / 8 + usize::from(rows % 8 > 0);
+        let text = || format!("expected {bytes} bytes of validity, got 0");
+        self.lacks_validity().then(text)
     }
 
     /// Returns the descriptor of the step, which borrows its lists.
@@ -140,17 +229,18 @@ impl<'a> Step<'a> {
             data: list.as_ptr(),
             len: list.len(),
         };
-        // No bytes of validity mean that no row is null, so an empty list is replaced: by a byte
-        // that nothing reads where there are no rows, and else by a kind that doesn't exist.
-        let is_empty = self.valid.as_ref().map_or(false, |valid| valid.is_empty());
-        let is_lacking = is_empty && (self.offset > 0 || self.len > 0);
-        let valid: &[u8] = if is_empty {
-            &[0]
-        } else {
-            self.valid.as_deref().unwrap_or(&[])
+        // No bytes of validity mean that no row is null. So an empty list is replaced by a byte that
+        // nothing reads. If there are rows, an unknown kind has the library reject the step.
+        let valid: &[u8] = match self.valid.as_deref() {
+            Some([]) => &[0],
+            valid => valid.unwrap_or(&[]),
         };
         Image {
-            kind: if is_lacking { u64::MAX } else { self.kind },
+            kind: if self.lacks_validity() {
+                u64::MAX
+            } else {
+                self.kind
+            },
             start: self.start,
             end: self.end,
             ptype: self.number as u64,

@@ -122,30 +122,28 @@ fn test_alike(k: usize, wanted: Node<'_>, found: Node<'_>) -> Result<(), Error> 
         let pairs = paired(left, right).filter(|_| left.format() == right.format());
         pending.extend(pairs.ok_or_else(|| {
             Error::Shape(format!(
-                "chunk {k}: expected the type of the stream, {:?}, found {:?}",
+                "chunk {k}: expected the type of the stream, {:?}, got {:?}",
                 wanted.format(),
                 found.format()
             ))
         })?);
     }
     Err(Error::Depth(format!(
-        "chunk {k}: expected at most {MOST_NODES} nested columns, found more"
+        "chunk {k}: expected at most {MOST_NODES} nested columns, got more"
     )))
 }
 
 /// Returns the error of a stream that is released, or lacks a function.
 fn test_whole(stream: &sys::ArrowArrayStream) -> Result<(), Error> {
     if stream.release.is_none() {
-        return Err(Error::Shape(
-            "expected a stream, found a released one".into(),
-        ));
+        return Err(Error::Shape("expected a stream, got a released one".into()));
     }
     let has_both = stream.get_schema.is_some() && stream.get_next.is_some();
     if has_both && stream.get_last_error.is_some() {
         return Ok(());
     }
     Err(Error::Shape(
-        "expected a stream with all its functions, found a null pointer".into(),
+        "expected a stream with all its functions, got a null pointer".into(),
     ))
 }
 
@@ -250,7 +248,7 @@ impl Stream {
             Some(words) => unsafe { CStr::from_ptr(words) }
                 .to_string_lossy()
                 .into_owned(),
-            None => format!("the source stream failed with error {number}, and without words"),
+            None => format!("the source stream failed with error {number}, and gave no message"),
         };
         match number {
             EOVERFLOW => Error::Overflow(words),
@@ -259,10 +257,10 @@ impl Stream {
     }
 }
 
-/// Returns a stream of the rows that the steps leave of all batches of a stream, end to end.
+/// Returns a stream of the rows that the steps select of all batches of a stream, end to end.
 ///
-/// The source is read to its end. The result has a batch for each longest run of picks within one
-/// batch of the source.
+/// The source is read to its end. The result has a batch for each longest run of selected rows that
+/// are of one batch of the source.
 pub fn select_stream(source: &mut Stream, steps: &[Step]) -> Result<Stream, Error> {
     test_whole(&source.raw.0)?;
     let images: Vec<sys::Step> = steps.iter().map(Step::image).collect();
@@ -281,6 +279,6 @@ pub fn select_stream(source: &mut Stream, steps: &[Step]) -> Result<Stream, Erro
     };
     match status {
         sys::status::DONE => Ok(Stream { raw, schema: None }),
-        _ => Err(Error::of_fault(&fault)),
+        _ => Err(Error::of_fault(&fault, steps)),
     }
 }

@@ -31,16 +31,13 @@ fn viewed<'a>(view: &'a [u8], data: &[Option<&'a [u8]>]) -> Option<&'a [u8]> {
     bytes.get(at..at + len)
 }
 
-/// Returns the rows of a column of strings that are views, if each is UTF-8.
-pub(super) fn texts(node: Node<'_>) -> Option<Vec<Option<&str>>> {
-    let rows = Rows::of(node, &["vu"])?;
+/// Returns the rows of a column of views, of strings or of binary values.
+pub(super) fn values(node: Node<'_>) -> Option<Vec<Option<&[u8]>>> {
+    let rows = Rows::of(node, &["vu", "vz"])?;
     let views = rows.buffer(1);
     // The last buffer has the lengths of the data buffers.
     let (_, data) = rows.buffers_from(2).split_last()?;
-    rows.read(|k| {
-        let bytes = viewed(views.get(16 * k..16 * k + 16)?, data)?;
-        std::str::from_utf8(bytes).ok()
-    })
+    rows.read(|k| viewed(views.get(16 * k..16 * k + 16)?, data))
 }
 
 impl Column {
@@ -81,7 +78,7 @@ impl Column {
             let is_within = range.start <= range.end && range.end <= items.len();
             assert!(
                 is_within,
-                "expected a range within {} items, found {range:?}",
+                "expected a range within {} items, got {range:?}",
                 items.len()
             );
             offsets.extend(small(range.start));
@@ -100,7 +97,7 @@ impl Column {
     pub fn unions(rows: &[(usize, usize)], fields: Vec<(&str, Column)>) -> Self {
         assert!(
             fields.len() <= 128,
-            "expected at most 128 fields, found {}",
+            "expected at most 128 fields, got {}",
             fields.len()
         );
         let (mut ids, mut places) = (Vec::new(), Vec::new());
@@ -108,7 +105,7 @@ impl Column {
             let len = fields[*field].1.len();
             assert!(
                 *place < len,
-                "expected a row of {len} of field {field}, found {place}"
+                "expected a row of {len} of field {field}, got {place}"
             );
             ids.push(*field as u8);
             places.extend(small(*place));
@@ -122,16 +119,6 @@ impl Column {
             vec![Some(ids), Some(places)],
             named(fields),
         )
-    }
-
-    /// Returns the range of each row's items in the child, of a column of list views with numbers
-    /// of 32 bits. Returns `None` of another column, and if a number is negative.
-    pub fn to_ranges(&self) -> Option<Vec<Option<Range<usize>>>> {
-        let rows = Rows::of(self.node(), &["+vl"])?;
-        rows.read(|k| {
-            let start = rows.narrow(1, k)?;
-            Some(start..start + rows.narrow(2, k)?)
-        })
     }
 
     /// Returns the field of each row, by its number, and the place in it, of a dense union. Returns

@@ -165,10 +165,8 @@ fn rows_of_another_format_are_none() {
         (None, None, None)
     );
     let lists = Column::lists(&[Some(1)], texts);
-    assert_eq!(
-        (lists.to_numbers(), lists.to_ranges(), lists.to_texts()),
-        (None, None, None)
-    );
+    assert_eq!((lists.to_numbers(), lists.to_texts()), (None, None));
+    assert_eq!(lists.to_ranges(), Some(vec![Some(0..1)]));
 }
 
 #[test]
@@ -193,7 +191,7 @@ fn lists_may_leave_items_over() {
 }
 
 #[test]
-#[should_panic(expected = "expected 4 items, found 3")]
+#[should_panic(expected = "expected 4 items, got 3")]
 fn lists_have_no_more_items_than_there_are() {
     Column::lists(&[Some(2), Some(2)], Column::numbers(&[None; 3]));
 }
@@ -215,20 +213,20 @@ fn names_have_no_byte_0() {
 }
 
 #[test]
-#[should_panic(expected = "expected a range within 2 items, found 1..3")]
+#[should_panic(expected = "expected a range within 2 items, got 1..3")]
 fn ranges_end_within_the_items() {
     Column::list_views(&[Some(1..3)], Column::numbers(&[None; 2]));
 }
 
 #[test]
-#[should_panic(expected = "expected a range within 2 items, found 2..1")]
+#[should_panic(expected = "expected a range within 2 items, got 2..1")]
 #[allow(clippy::reversed_empty_ranges)]
 fn ranges_begin_before_their_end() {
     Column::list_views(&[Some(2..1)], Column::numbers(&[None; 2]));
 }
 
 #[test]
-#[should_panic(expected = "expected a row of 2 of field 0, found 2")]
+#[should_panic(expected = "expected a row of 2 of field 0, got 2")]
 fn rows_of_unions_are_within_their_field() {
     Column::unions(&[(0, 2)], vec![("a", Column::numbers(&[None; 2]))]);
 }

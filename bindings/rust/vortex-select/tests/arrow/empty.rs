@@ -85,7 +85,7 @@ fn a_column_is_described_anew() {
         (column.node().name(), column.node().flags()),
         ("".into(), 6)
     );
-    let wanted = Error::Shape("name: expected no byte 0, found one".into());
+    let wanted = Error::Shape("name: expected no byte 0, got one".into());
     assert_eq!(column.described("a\0b", 0).unwrap_err(), wanted);
 }
 

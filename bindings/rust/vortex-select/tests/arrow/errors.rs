@@ -1,70 +1,163 @@
 //! Errors: which one it is, and what it says.
 use vortex_select::arrow::{picks, select, Cause, Column, Error, Field, Number, Step};
 
-#[test]
-fn an_invalid_step_is_named() {
-    let mut numbers = Column::numbers(&[Some(1), Some(2)]);
-    for (step, cause) in [
-        (Step::slice(1, 3), Cause::BadRange),
-        (Step::slice(2, 1), Cause::BadRange),
-        (Step::filter(&[true]), Cause::BadMask),
-        (Step::filter(&[true; 3]), Cause::BadMask),
-        (Step::take(&[2]), Cause::OutOfBounds),
-        (Step::take(&[u64::MAX]), Cause::OutOfBounds),
+/// An invalid step over two rows, its cause, the two numbers, and the words.
+fn invalid_steps() -> Vec<(Step<'static>, Cause, i128, u64, &'static str)> {
+    let numbers = |number, bytes| Step::take_numbers(number, bytes, 0, 1, None);
+    vec![
         (
-            Step::take_numbers(Number::I8, &[0xff], 0, 1, None),
+            Step::slice(1, 3),
+            Cause::BadRange,
+            3,
+            2,
+            "BadRange: slice 1..3, but 2 rows",
+        ),
+        (
+            Step::slice(2, 1),
+            Cause::BadRange,
+            2,
+            1,
+            "BadRange: slice 2..1 starts after its end",
+        ),
+        (
+            Step::filter(&[true]),
+            Cause::BadMask,
+            1,
+            2,
+            "BadMask: mask of length 1, but 2 rows",
+        ),
+        (
+            Step::filter(&[true; 3]),
+            Cause::BadMask,
+            3,
+            2,
+            "BadMask: mask of length 3, but 2 rows",
+        ),
+        (
+            Step::take(&[2]),
             Cause::OutOfBounds,
+            2,
+            2,
+            "OutOfBounds: index 2, but 2 rows",
         ),
         (
-            Step::take_numbers(Number::F64, &[0; 8], 0, 1, None),
-            Cause::InvalidIndices,
+            Step::take(&[0, u64::MAX]),
+            Cause::OutOfBounds,
+            i128::from(u64::MAX),
+            2,
+            "OutOfBounds: index 18446744073709551615, but 2 rows",
         ),
         (
-            Step::take_numbers(Number::F16, &[0; 2], 0, 1, None),
-            Cause::InvalidIndices,
+            Step::take_or_null(&[None, Some(7)]),
+            Cause::OutOfBounds,
+            7,
+            2,
+            "OutOfBounds: index 7, but 2 rows",
         ),
-    ] {
-        let steps = [Step::slice(0, 2), step];
-        let error = select(&mut numbers, &steps).unwrap_err();
-        assert_eq!(error, Error::Broken { step: 1, cause });
-        assert_eq!(picks(2, &steps).unwrap_err(), error);
-        assert!(
-            error.to_string().starts_with("step 1: expected "),
-            "{error}"
-        );
-        assert!(error.to_string().contains(", found "), "{error}");
-    }
+        (
+            numbers(Number::I8, &[0xff]),
+            Cause::OutOfBounds,
+            -1,
+            2,
+            "OutOfBounds: index -1, but 2 rows",
+        ),
+        (
+            numbers(Number::F64, &[0; 8]),
+            Cause::InvalidIndices,
+            10,
+            0,
+            "InvalidIndices: expected integers as indices, got f64",
+        ),
+        (
+            numbers(Number::F16, &[0; 2]),
+            Cause::InvalidIndices,
+            8,
+            0,
+            "InvalidIndices: expected integers as indices, got f16",
+        ),
+    ]
 }
 
 #[test]
-fn lists_of_a_step_that_are_too_short_are_named() {
+fn an_invalid_step_is_reported_with_its_numbers() {
+    let mut rows = Column::numbers(&[Some(1), Some(2)]);
+    for (step, cause, found, bound, words) in invalid_steps() {
+        let steps = [Step::slice(0, 2), step];
+        let error = select(&mut rows, &steps).unwrap_err();
+        let text = format!("step 1: {words}");
+        assert_eq!(error.to_string(), text);
+        let wanted = Error::Broken {
+            step: 1,
+            cause,
+            found,
+            bound,
+            text,
+        };
+        assert_eq!(error, wanted);
+        assert_eq!(picks(2, &steps).unwrap_err(), error);
+    }
+}
+
+/// A malformed step over nine rows, and its error in words.
+fn malformed_steps() -> Vec<(Step<'static>, &'static str)> {
+    let filter = Step::filter_bits;
+    let take = Step::take_numbers;
+    let (u8, u16, u64) = (Number::U8, Number::U16, Number::U64);
+    vec![
+        (
+            filter(&[0xff], 0, 9, None),
+            "expected 2 bytes of values, got 1",
+        ),
+        (
+            filter(&[0xff; 2], 8, 9, None),
+            "expected 3 bytes of values, got 2",
+        ),
+        (
+            filter(&[0xff; 2], 0, 9, Some(&[0xff])),
+            "expected 2 bytes of validity, got 1",
+        ),
+        (
+            filter(&[0xff; 2], 0, 9, Some(&[])),
+            "expected 2 bytes of validity, got 0",
+        ),
+        (
+            take(u16, &[0; 3], 0, 2, None),
+            "expected 4 bytes of values, got 3",
+        ),
+        (
+            take(u16, &[0; 4], 1, 2, None),
+            "expected 6 bytes of values, got 4",
+        ),
+        (
+            take(u8, &[0; 9], 0, 9, Some(&[0xff])),
+            "expected 2 bytes of validity, got 1",
+        ),
+        (
+            take(u8, &[0; 2], 0, 2, Some(&[])),
+            "expected 1 bytes of validity, got 0",
+        ),
+        (
+            take(u8, &[0; 2], 1, 0, Some(&[])),
+            "expected 1 bytes of validity, got 0",
+        ),
+        (
+            take(u64, &[0; 8], usize::MAX, 2, None),
+            "expected an offset and a length below 2^63 together, got more",
+        ),
+    ]
+}
+
+#[test]
+fn a_malformed_step_is_reported_with_its_numbers() {
     let mut numbers = Column::numbers(&[Some(1); 9]);
-    let mut lacking = |step: Step| {
+    for (step, words) in malformed_steps() {
         let steps = [Step::slice(0, 9), step];
         let error = select(&mut numbers, &steps).unwrap_err();
-        assert_eq!(error, Error::Lacking { step: 1 });
+        let text = format!("step 1: {words}");
+        assert_eq!(error.to_string(), text);
+        assert_eq!(error, Error::Lacking { step: 1, text });
         assert_eq!(picks(9, &steps).unwrap_err(), error);
-        assert!(
-            error.to_string().starts_with("step 1: expected "),
-            "{error}"
-        );
-    };
-    lacking(Step::filter_bits(&[0xff], 0, 9, None));
-    lacking(Step::filter_bits(&[0xff; 2], 8, 9, None));
-    lacking(Step::filter_bits(&[0xff; 2], 0, 9, Some(&[0xff])));
-    lacking(Step::filter_bits(&[0xff; 2], 0, 9, Some(&[])));
-    lacking(Step::take_numbers(Number::U16, &[0; 3], 0, 2, None));
-    lacking(Step::take_numbers(Number::U16, &[0; 4], 1, 2, None));
-    lacking(Step::take_numbers(Number::U8, &[0; 9], 0, 9, Some(&[0xff])));
-    lacking(Step::take_numbers(Number::U8, &[0; 2], 0, 2, Some(&[])));
-    lacking(Step::take_numbers(Number::U8, &[0; 2], 1, 0, Some(&[])));
-    lacking(Step::take_numbers(
-        Number::U64,
-        &[0; 8],
-        usize::MAX,
-        2,
-        None,
-    ));
+    }
 }
 
 #[test]
@@ -150,6 +243,6 @@ fn picks_that_dont_fit_are_out_of_memory() {
     assert_eq!(Error::NoMemory.to_string(), "out of memory");
     assert_eq!(
         Error::Beyond.to_string(),
-        "expected picks within the rows, found one past them"
+        "expected selected rows within the rows, got one past"
     );
 }

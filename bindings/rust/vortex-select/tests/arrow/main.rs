@@ -13,3 +13,4 @@ mod release;
 mod steps;
 mod streams;
 mod threads;
+mod values;

@@ -36,7 +36,7 @@ fn buffers_end_where_the_last_offset_says() {
 fn a_negative_last_offset_is_an_error() {
     let column = with_offsets(&[0, 1, 2, -1]);
     assert_eq!(column.to_texts(), None);
-    let wanted = "offsets: expected a last offset of 0 or more, found -1";
+    let wanted = "offsets: expected a last offset of 0 or more, got -1";
     assert_eq!(
         column.node().buffers(),
         Err(Error::NoMeaning(wanted.into()))
@@ -80,7 +80,7 @@ fn null_pointers_are_no_buffers() {
         assert_eq!(column.node().buffers().is_ok(), is_there, "{k}");
     }
     let column = with_array(words(), |array| array.buffers = null_mut());
-    let wanted = Error::Shape("buffers: expected a list, found null".into());
+    let wanted = Error::Shape("buffers: expected a list, got null".into());
     assert_eq!(column.node().buffers(), Err(wanted));
     let column = with_array(Column::numbers(&[Some(5)]), |array| {
         // SAFETY: the array has two buffers.
@@ -219,7 +219,7 @@ fn a_list_of_buffers_that_is_null_is_refused() {
         let column = with_array(column, |array| array.buffers = std::ptr::null_mut());
         assert_eq!(
             column.node().buffers().unwrap_err().to_string(),
-            "buffers: expected a list, found null"
+            "buffers: expected a list, got null"
         );
     }
 }

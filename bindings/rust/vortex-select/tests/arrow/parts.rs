@@ -161,7 +161,7 @@ fn buffers_are_as_long_as_the_format_asks_for_and_none_is_shorter() {
                 let text = shape(made(format, &shorter, children()));
                 let len = parts[k].as_ref().unwrap().len();
                 let (name, short) = (names_of(format)[k], len - 1);
-                let wanted = format!("{name}: expected {len} bytes, found {short}");
+                let wanted = format!("{name}: expected {len} bytes, got {short}");
                 assert_eq!(text, wanted, "{format}");
             }
         }
@@ -200,7 +200,7 @@ fn there_are_as_many_buffers_as_the_format_has() {
     let two = vec![None, Some(vec![0; 80])];
     assert_eq!(
         shape(made("vu", &two, Vec::new())),
-        "buffers: expected 3 or more, found 2"
+        "buffers: expected 3 or more, got 2"
     );
 }
 
@@ -227,7 +227,7 @@ fn there_are_as_many_children_as_the_format_has() {
             continue;
         }
         let count = children().len();
-        let wanted = format!("children: expected {count}, found {}", count + 1);
+        let wanted = format!("children: expected {count}, got {}", count + 1);
         assert_eq!(shape(made(format, &parts, more)), wanted, "{format}");
         if count == 1 {
             assert!(made(format, &parts, Vec::new()).is_err(), "{format}");
@@ -243,7 +243,7 @@ fn children_have_the_rows_that_the_column_leads_to() {
             _ => continue,
         };
         let found = shape(made(format, &parts, items(needed - 1)));
-        let wanted = format!("expected at least {needed} rows, found {}", needed - 1);
+        let wanted = format!("expected at least {needed} rows, got {}", needed - 1);
         assert!(
             found.starts_with("child 0") && found.ends_with(&wanted),
             "{format}: {found}"
@@ -265,7 +265,7 @@ const WRONG: [&str; 41] = [
 fn formats_that_arrow_lacks_are_refused() {
     for format in WRONG {
         let found = Column::from_parts(field(format), 0, 0, 0, Vec::new(), Vec::new(), None);
-        let wanted = format!("expected a format of Arrow, found {format:?}");
+        let wanted = format!("expected a format of Arrow, got {format:?}");
         assert_eq!(found.unwrap_err(), Error::Format(wanted));
     }
     let found = Column::from_parts(field("l\0"), 0, 0, 0, Vec::new(), Vec::new(), None);
@@ -294,7 +294,7 @@ fn offsets_that_are_negative_are_refused() {
             &vec![None, Some(ends), Some(vec![0; 9])],
             Vec::new(),
         );
-        let wanted = "offsets: expected a last offset of 0 or more, found -1";
+        let wanted = "offsets: expected a last offset of 0 or more, got -1";
         assert_eq!(found.unwrap_err(), Error::NoMeaning(wanted.into()));
     }
     for (format, ends) in [
@@ -310,7 +310,7 @@ fn offsets_that_are_negative_are_refused() {
         &vec![None, Some(huge.clone()), Some(vec![0; 9])],
         Vec::new(),
     );
-    assert!(shape(found).ends_with("bytes, found 9"));
+    assert!(shape(found).ends_with("bytes, got 9"));
     assert!(made("+L", &vec![None, Some(huge)], items(9)).is_err());
 }
 
@@ -323,15 +323,15 @@ fn lengths_of_data_buffers_are_numbers_within_them() {
     assert!(views(Some(wide(&[7]))).is_ok());
     assert_eq!(
         shape(views(Some(wide(&[8])))),
-        "data: expected 8 bytes, found 7"
+        "data: expected 8 bytes, got 7"
     );
-    let negative = "lengths of data buffers: expected 0 or more, found -1";
+    let negative = "lengths of data buffers: expected 0 or more, got -1";
     assert_eq!(shape(views(Some(wide(&[-1])))), negative);
-    let short = "lengths of data buffers: expected 8 bytes, found 7";
+    let short = "lengths of data buffers: expected 8 bytes, got 7";
     assert_eq!(shape(views(Some(vec![0; 7]))), short);
     assert_eq!(
         shape(views(None)),
-        "lengths of data buffers: expected 8 bytes, found null"
+        "lengths of data buffers: expected 8 bytes, got null"
     );
 }
 
@@ -355,13 +355,13 @@ fn rows_are_fewer_than_memory_could_hold() {
     let values = vec![None, Some(vec![0; 8])];
     assert_eq!(
         shape(long("l", &values)),
-        "values: expected 9223372036854775800 bytes, found 8"
+        "values: expected 9223372036854775800 bytes, got 8"
     );
     for format in ["w:9", "tin", "w:999999999"] {
         let found = shape(long(format, &values));
-        assert_eq!(found, "values: expected fewer than 2^63 bytes, found more");
+        assert_eq!(found, "values: expected fewer than 2^63 bytes, got more");
     }
-    assert!(shape(long("u", &vec![None, Some(vec![0; 8]), None])).ends_with("bytes, found 8"));
+    assert!(shape(long("u", &vec![None, Some(vec![0; 8]), None])).ends_with("bytes, got 8"));
 }
 
 #[test]
@@ -389,15 +389,15 @@ fn nulls_are_counted_where_there_is_a_validity() {
             null_count
         );
     }
-    let lacking = "validity: expected a buffer for 1 nulls, found none";
+    let lacking = "validity: expected a buffer for 1 nulls, got none";
     assert_eq!(shape(counted(1, None)), lacking);
     assert_eq!(
         shape(counted(4, bits())),
-        "null count: expected -1 or up to 3, found 4"
+        "null count: expected -1 or up to 3, got 4"
     );
     assert_eq!(
         shape(counted(-2, bits())),
-        "null count: expected -1 or up to 3, found -2"
+        "null count: expected -1 or up to 3, got -2"
     );
     let union = boxed(&vec![Some(vec![0; 3])]);
     let union = Column::from_parts(field("+us:0"), 3, 1, 0, union, items(3), None);
@@ -417,7 +417,7 @@ fn fields_are_tested() {
     };
     assert_eq!(
         shape(named("a\0b", None)),
-        "name: expected no byte 0, found one at 1"
+        "name: expected no byte 0, got one at 1"
     );
     let whole = pairs(&[("key", "value"), ("", "")]);
     let mut longer = whole.clone();
@@ -435,7 +435,7 @@ fn fields_are_tested() {
             let text = shape(named("a", Some(whole[..len].to_vec())));
             assert_eq!(
                 text,
-                "metadata: expected a count and as many pairs, found fewer bytes"
+                "metadata: expected a count and as many pairs, got fewer bytes"
             );
         }
     }
@@ -480,13 +480,13 @@ fn released_children_are_refused() {
     let made = Column::from_parts(field("+s"), 0, 0, 0, vec![None], vec![released()], None);
     assert_eq!(
         shape(made),
-        "child 0: expected a column, found a released one"
+        "child 0: expected a column, got a released one"
     );
     let codes = boxed(&vec![None, Some(Vec::new())]);
     let made = Column::from_parts(field("c"), 0, 0, 0, codes, Vec::new(), Some(released()));
     assert_eq!(
         shape(made),
-        "dictionary: expected a column, found a released one"
+        "dictionary: expected a column, got a released one"
     );
 }
 
@@ -551,7 +551,7 @@ fn a_buffer_at_a_null_pointer_is_none() {
             None,
         )
     };
-    assert_eq!(shape(numbers(1)), "values: expected 8 bytes, found null");
+    assert_eq!(shape(numbers(1)), "values: expected 8 bytes, got null");
     assert_eq!(numbers(0).unwrap().node().buffers().unwrap(), [None, None]);
 }
 
@@ -613,7 +613,7 @@ fn a_null_buffer_that_may_change_stays_null() {
         let buffers: Vec<Option<Box<dyn Buffer>>> = vec![None, Some(Box::new(Null)), None];
         Column::from_parts(field("u"), len, 0, 0, buffers, Vec::new(), None)
     };
-    assert_eq!(shape(made(1)), "offsets: expected 8 bytes, found null");
+    assert_eq!(shape(made(1)), "offsets: expected 8 bytes, got null");
     let empty = made(0).unwrap();
     assert!(empty.node().buffers().unwrap().iter().all(Option::is_none));
 }

@@ -210,7 +210,7 @@ fn released_columns_are_refused() {
     assert_eq!((column.node().flags(), column.node().metadata()), (0, None));
     assert_eq!((column.node().len(), column.node().offset()), (0, 0));
     assert_eq!(column.node().null_count(), 0);
-    let wanted = Error::Shape("expected a schema, found a released one".into());
+    let wanted = Error::Shape("expected a schema, got a released one".into());
     assert_eq!(column.copy_schema().unwrap_err(), wanted);
     assert!(column.node().dictionary().is_none() && column.node().children().is_empty());
     assert_eq!((column.to_numbers(), column.to_texts()), (None, None));
@@ -218,7 +218,7 @@ fn released_columns_are_refused() {
     let (mut schema, mut array) = Column::numbers(&[Some(1)]).into_raw();
     // SAFETY: the array is a column's, and the schema is released.
     let mut half = unsafe { Column::from_raw(&mut ArrowSchema::empty(), &mut array) };
-    let found = |name: &str| Error::Shape(format!("expected a column, found a released {name}"));
+    let found = |name: &str| Error::Shape(format!("expected a column, got a released {name}"));
     assert_eq!(half.check().unwrap_err(), found("schema"));
     // SAFETY: the schema is a column's, and the array is released.
     let mut half = unsafe { Column::from_raw(&mut schema, &mut ArrowArray::empty()) };

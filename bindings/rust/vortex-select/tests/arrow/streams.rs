@@ -52,7 +52,7 @@ fn a_stream_is_handed_over() {
     // SAFETY: the stream is released.
     let mut released = unsafe { Stream::from_raw(&mut raw) };
     let is_refused = |error: Option<Error>| match error {
-        Some(Error::Shape(text)) => assert_eq!(text, "expected a stream, found a released one"),
+        Some(Error::Shape(text)) => assert_eq!(text, "expected a stream, got a released one"),
         other => panic!("{other:?}"),
     };
     assert!(released.is_released());
@@ -65,7 +65,7 @@ fn a_stream_is_handed_over() {
 #[test]
 fn chunks_have_the_type_of_the_stream() {
     let made = Stream::of(&numbers(&[]), vec![numbers(&[1]), Column::texts(&[None])]);
-    let wanted = "chunk 1: expected the type of the stream, \"l\", found \"u\"";
+    let wanted = "chunk 1: expected the type of the stream, \"l\", got \"u\"";
     assert_eq!(made.unwrap_err(), Error::Shape(wanted.into()));
     let nested = |inner| Column::structs(0, vec![("a", inner)]);
     let texts = nested(Column::texts(&[]));
@@ -115,10 +115,17 @@ fn rows_are_selected_of_all_batches() {
     assert_eq!(picked(&steps), [vec![Some(10), None], rows(&[14])]);
     assert_eq!(picked(&[Step::slice(0, 0)]), [rows(&[])]);
     let error = select_stream(&mut source(), &[Step::slice(0, 6)]).unwrap_err();
-    let cause = Cause::BadRange;
-    assert_eq!(error, Error::Broken { step: 0, cause });
+    let wanted = Error::Broken {
+        step: 0,
+        cause: Cause::BadRange,
+        found: 6,
+        bound: 5,
+        text: "step 0: BadRange: slice 0..6, but 5 rows".into(),
+    };
+    assert_eq!(error, wanted);
     let error = select_stream(&mut source(), &[Step::filter_bits(&[], 0, 5, None)]).unwrap_err();
-    assert_eq!(error, Error::Lacking { step: 0 });
+    let text = "step 0: expected 1 bytes of values, got 0".into();
+    assert_eq!(error, Error::Lacking { step: 0, text });
 }
 
 #[test]
@@ -215,7 +222,7 @@ fn faults_of_a_source_are_told() {
     let told = || Error::Source("the disk is gone".into());
     let untold = |n| {
         Error::Source(format!(
-            "the source stream failed with error {n}, and without words"
+            "the source stream failed with error {n}, and gave no message"
         ))
     };
     for (number, words, wanted) in [
