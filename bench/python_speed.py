@@ -7,7 +7,7 @@ import time
 
 import numpy
 
-import vortex_select
+from vortex_select import kernels
 
 ROWS = 1 << 24
 
@@ -34,20 +34,20 @@ def main():
         for density in 0.1, 0.5, 0.9:
             rows = dice.random(ROWS) < density
             mask = numpy.packbits(rows, bitorder="little").tobytes()
-            kept = numpy.frombuffer(vortex_select.filter(values, mask), kind)
+            kept = numpy.frombuffer(kernels.filter(values, mask), kind)
             assert (kept == numpy.compress(rows, values)).all()
             line(
                 f"`filter`, {kind.__name__}, {density}",
-                lambda: vortex_select.filter(values, mask),
+                lambda: kernels.filter(values, mask),
                 lambda: numpy.compress(rows, values),
             )
         indices = dice.integers(0, ROWS, ROWS).astype(numpy.uint64)
         signed = indices.astype(numpy.int64)
-        taken = numpy.frombuffer(vortex_select.take(values, indices), kind)
+        taken = numpy.frombuffer(kernels.take(values, indices), kind)
         assert (taken == numpy.take(values, signed)).all()
         line(
             f"`take`, {kind.__name__}",
-            lambda: vortex_select.take(values, indices),
+            lambda: kernels.take(values, indices),
             lambda: numpy.take(values, signed),
         )
 

@@ -1,7 +1,7 @@
 """The rows of `rows_of_documents` for the command `file`, worked out from the definitions alone.
 
 Prints the rows, each with what it must give below it; with `counts`, each family's heading and how
-many rows it has. docs/FORMAT.md has the blocks, docs/DEFINITIONS.md what a document means.
+many rows it has. docs/FORMAT.md has the blocks, docs/DOCUMENT.md what a document means.
 """
 
 import json
