@@ -45,16 +45,6 @@ impl<S: Source> KeptSource<S> {
     }
 }
 
-impl<S> KeptSource<S> {
-    // Keeps more bytes, unless some are missing already.
-    fn keep(&mut self, piece: &[u8]) {
-        let is_long = self.bytes.len().saturating_add(piece.len()) > DOCUMENT;
-        if !self.is_whole || is_long || self.bytes.extend_from_slice(piece).is_err() {
-            self.is_whole = false;
-        }
-    }
-}
-
 impl<K: Sink> KeptSink<K> {
     /// Makes a sink over another one, to which nothing was written yet.
     pub(crate) fn new(alloc: Global, sink: K) -> KeptSink<K> {
@@ -79,7 +69,10 @@ impl<S: Source> Source for KeptSource<S> {
         let Ok(n) = self.source.read(dst) else {
             return Err(Failed);
         };
-        self.keep(&dst[..n]);
+        let is_long = self.bytes.len().saturating_add(n) > DOCUMENT;
+        if !self.is_whole || is_long || self.bytes.extend_from_slice(&dst[..n]).is_err() {
+            self.is_whole = false;
+        }
         Ok(n)
     }
 }
