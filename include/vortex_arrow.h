@@ -11,14 +11,14 @@
  * Proved: at status VORTEX_ARROW_DONE a call of the library wrote what is said of it here. At every
  * other status it wrote nothing.
  *
- * Trusted: an array doesn't say how long its buffers are. The shim computes these lengths:
+ * Trusted: an array doesn't say how long its buffers are. The library computes these lengths:
  *
  * - of most buffers from `length`, `offset` and the format;
  * - of the bytes of strings from the last offset;
  * - of the data buffers of views from the last buffer, which lists their lengths.
  *
- * If a producer's buffer is shorter than that, the shim reads past its end. The shim is trusted
- * too for names, metadata, flags, dictionaries, the order of buffers, and what is freed and when.
+ * If a producer's buffer is shorter than that, the library reads past its end. The shim is trusted
+ * too for names, metadata, flags, dictionaries, the order of children, and what is freed and when.
  *
  * The caller must ensure the following, which nothing tests:
  *
@@ -36,7 +36,7 @@
  * Formats:
  *
  * - null (n), bools (b), integers and floats (c C s S i I l L e f g);
- * - binary of a fixed width (w:N), decimals (d:P,S and d:P,S,W);
+ * - binary of a fixed width (w:N, up to 2^31 - 1), decimals (d:P,S and d:P,S,W);
  * - dates, times, timestamps, durations and intervals (t..);
  * - strings and binary (u U z Z), and views of them (vu vz);
  * - structs (+s), lists (+l +L), lists of a fixed size (+w:N), list views (+vl +vL), maps (+m);

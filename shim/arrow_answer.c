@@ -26,21 +26,28 @@ static uint64_t space_of(const vortex_arrow_need *need, char slot)
     return bytes || slot == 'v' ? ALIGNED(bytes) : 64;
 }
 
-/* What the library writes for a node. The type ids of a union's children are in no buffer. */
-static const char *written_of(const vortex_arrow_node *node)
+/* What the library writes to the buffer with a number, from 1, or 0. After a union's buffers it
+ * writes the type ids of the children, which are in no buffer. */
+static char slot_at(const vortex_arrow_layout *layout, const vortex_arrow_node *node,
+    uint64_t number)
 {
-    return node->format == VORTEX_ARROW_SPARSE_UNION ? "ds"
-        : node->format == VORTEX_ARROW_DENSE_UNION ? "dos" : vortex_arrow_slots[node->format];
+    uint64_t ids = vortex_arrow_is_union(node) ? layout->buffers + 1 : layout->sizes;
+    return number == layout->valid ? 'v' : number == layout->offsets ? 'o'
+        : number == layout->values ? 'd' : number == ids ? 's' : 0;
 }
 
 /* How many bytes a node has in the answer, or more than PTRDIFF_MAX / 4. */
 static uint64_t bytes_of(const table *t, size_t node, const vortex_arrow_need *need)
 {
-    const char *slot = written_of(&t->nodes[node]);
-    uint64_t bytes = 0;
-    for (; *slot && !t->sources[node].is_kept && bytes <= PTRDIFF_MAX / 4; slot++) {
-        uint64_t space = need_of(need, *slot);
-        bytes = space > PTRDIFF_MAX / 4 ? space : bytes + space_of(need, *slot);
+    uint64_t bytes = 0, number = 1;
+    char slot;
+    if (t->sources[node].is_kept) {
+        return 0;
+    }
+    while ((slot = slot_at(&t->sources[node].layout, &t->nodes[node], number++)) != 0 &&
+        bytes <= PTRDIFF_MAX / 4) {
+        uint64_t space = need_of(need, slot);
+        bytes = space > PTRDIFF_MAX / 4 ? space : bytes + space_of(need, slot);
     }
     return bytes;
 }
@@ -80,23 +87,24 @@ static void keep_buffers(const struct ArrowArray *from, struct ArrowArray *to, i
 static void place_buffers(const table *t, size_t node, const vortex_arrow_need *need,
     vortex_arrow_room *room, struct ArrowArray *to, supply *s)
 {
-    const char *slot = written_of(&t->nodes[node]);
+    const vortex_arrow_layout *layout = &t->sources[node].layout;
     const struct ArrowArray *from = t->sources[node].array;
-    int64_t k;
+    int64_t k = 0;
+    char slot;
     to->buffers = s->buffers;
     to->n_buffers = from->n_buffers;
-    keep_buffers(from, to, (int64_t)strlen(slot));
-    for (k = 0; slot[k]; k++) {
-        vortex_arrow_room_bytes *bytes = room_of(room, slot[k]);
-        uint64_t space = space_of(need, slot[k]);
+    for (; (slot = slot_at(layout, &t->nodes[node], (uint64_t)k + 1)) != 0; k++) {
+        vortex_arrow_room_bytes *bytes = room_of(room, slot);
+        uint64_t space = space_of(need, slot);
         bytes->data = s->bytes;
-        bytes->len = need_of(need, slot[k]);
+        bytes->len = need_of(need, slot);
         memset(bytes->data + bytes->len, 0, space - bytes->len);
         if (k < from->n_buffers) {
             to->buffers[k] = space ? s->bytes : NULL;
         }
         s->bytes += space;
     }
+    keep_buffers(from, to, k);
     s->buffers += from->n_buffers;
 }
 

@@ -4,103 +4,56 @@
 #include <stdlib.h>
 #include <string.h>
 
-/* Rows are numbered below this. */
-#define MOST_ROWS ((uint64_t)1 << 60)
+/* The parts that don't fit a layout, by the library's numbers for them. */
+static const char *const misfits[] = {"", "length", "buffers", "children", "validity", "dictionary",
+    "length"};
+#define TOO_MANY_ROWS 6
 
-static vortex_arrow_bytes bytes_at(const void *buffer, uint64_t count, uint64_t width)
+static vortex_arrow_bytes bytes_at(const void *buffer, uint64_t len)
 {
     vortex_arrow_bytes bytes = {(const uint8_t *)buffer, 0};
-    /* No memory holds more bytes than that. The library then reports that they are too few. */
-    if (buffer && (!width || count <= INT64_MAX / width)) {
-        bytes.len = count * width;
-    }
+    bytes.len = buffer ? len : 0;
     return bytes;
 }
 
-/* Returns the last offset, or 0 where that is negative or missing. */
-static uint64_t last_of(vortex_arrow_bytes offsets, size_t width)
+/* The buffer with a number, from 1, which has so many bytes. */
+static vortex_arrow_bytes buffer_at(const struct ArrowArray *array, uint64_t number, uint64_t len)
 {
-    int32_t narrow = 0;
-    int64_t wide = 0;
-    if (offsets.len >= width && width == 4) {
-        memcpy(&narrow, offsets.data + offsets.len - 4, 4);
-        wide = narrow;
-    } else if (offsets.len >= width) {
-        memcpy(&wide, offsets.data + offsets.len - 8, 8);
-    }
-    return wide < 0 ? 0 : (uint64_t)wide;
+    return bytes_at(number ? array->buffers[number - 1] : NULL, len);
 }
 
-/* Sets a node's buffers. The shim is trusted for their lengths. */
-static void fill(vortex_arrow_node *node, const void **buffers)
+/* What the two structs say of themselves. */
+static vortex_arrow_shape shape_of(const struct ArrowSchema *schema, const struct ArrowArray *array)
 {
-    uint64_t end = node->offset + node->len, bits = end / 8 + (end % 8 != 0);
-    uint64_t format = node->format, offsets = end;
-    int is_text = format == VORTEX_ARROW_TEXT || format == VORTEX_ARROW_LARGE_TEXT;
-    size_t wide = vortex_arrow_offset_width(node);
-    size_t width = vortex_arrow_has_views(node) ? 16
-        : vortex_arrow_is_union(node) ? 1 : node->width;
-    const char *slot = vortex_arrow_slots[format];
-    if ((is_text || vortex_arrow_is_list(node)) && end) { /* no rows may have no offsets */
-        offsets = end + 1;
-    }
-    for (; *slot; slot++, buffers++) {
-        if (*slot == 'v') {
-            node->valid = bytes_at(*buffers, bits, 1);
-        } else if (*slot == 'o') {
-            node->offsets = bytes_at(*buffers, offsets, wide);
-        } else if (*slot == 's') {
-            node->sizes = bytes_at(*buffers, end, wide);
-        } else if (is_text) {
-            node->values = bytes_at(*buffers, last_of(node->offsets, wide), 1);
-        } else if (format == VORTEX_ARROW_BITS) {
-            node->values = bytes_at(*buffers, bits, 1);
-        } else {
-            node->values = bytes_at(*buffers, end, width);
-        }
-    }
+    vortex_arrow_shape shape;
+    shape.len = (uint64_t)array->length;
+    shape.offset = (uint64_t)array->offset;
+    shape.null_count = (uint64_t)array->null_count;
+    shape.buffers = (uint64_t)array->n_buffers;
+    shape.children = (uint64_t)array->n_children;
+    shape.schema_children = (uint64_t)schema->n_children;
+    shape.has_buffers = array->buffers != NULL;
+    shape.has_children = schema->children && array->children;
+    shape.has_first = array->buffers && array->n_buffers > 0 && array->buffers[0];
+    shape.has_dictionary = array->dictionary != NULL;
+    shape.schema_dictionary = schema->dictionary != NULL;
+    return shape;
 }
 
-static int has_buffers(const struct ArrowArray *array, const vortex_arrow_node *node)
+/* Sets a node's numbers and buffers. The lengths of data buffers of views are its sizes. */
+static void fill(vortex_arrow_node *node, const struct ArrowArray *array,
+    const vortex_arrow_layout *layout, const vortex_arrow_lengths *lengths)
 {
-    int64_t wanted = (int64_t)strlen(vortex_arrow_slots[node->format]);
-    int is_count = vortex_arrow_has_views(node) ? array->n_buffers >= 3
-        : array->n_buffers == wanted;
-    return is_count && array->n_buffers <= INT32_MAX && (!array->n_buffers || array->buffers);
-}
-
-static int has_children(const struct ArrowSchema *schema, const struct ArrowArray *array,
-    const vortex_arrow_node *node)
-{
-    int family = vortex_arrow_families[node->format];
-    if (schema->n_children < 0 || schema->n_children != array->n_children ||
-        (family >= 0 && family != schema->n_children) ||
-        (schema->n_children && (!schema->children || !array->children))) {
-        return 0;
-    }
-    return !vortex_arrow_is_union(node) ||
-        vortex_arrow_ids(schema->format, NULL) == schema->n_children;
-}
-
-/* Returns the part of the two structs that doesn't match the format, or null. */
-static const char *misfit(const struct ArrowSchema *schema, const struct ArrowArray *array,
-    const vortex_arrow_node *node)
-{
-    if (array->length < 0 || array->offset < 0 || array->offset > INT64_MAX - 1 - array->length) {
-        return "length";
-    }
-    if (!has_buffers(array, node)) {
-        return "buffers";
-    }
-    if (!has_children(schema, array, node)) {
-        return "children";
-    }
-    if (array->null_count > 0 && *vortex_arrow_slots[node->format] == 'v' && !array->buffers[0]) {
-        return "validity";
-    }
-    return !schema->dictionary != !array->dictionary ||
-            (schema->dictionary && !vortex_arrow_has_word("c C s S i I l L", schema->format))
-        ? "dictionary" : NULL;
+    node->format = layout->format;
+    node->width = layout->width;
+    node->len = (uint64_t)array->length;
+    node->offset = (uint64_t)array->offset;
+    node->children = lengths->children;
+    node->valid = buffer_at(array, layout->valid, lengths->valid);
+    node->offsets = buffer_at(array, layout->offsets, lengths->offsets);
+    node->values = buffer_at(array, layout->values, lengths->values + vortex_arrow_text_len(node));
+    node->sizes = buffer_at(array,
+        vortex_arrow_has_views(node) ? (uint64_t)array->n_buffers : layout->sizes, lengths->sizes);
 }
 
 static int has_room(table *t)
@@ -131,37 +84,18 @@ static uint64_t append(table *t, source from)
     return VORTEX_ARROW_DONE;
 }
 
-/* Whether lists end after the last row of their child. The library would allocate for them. */
-static int is_past(const vortex_arrow_node *list, const vortex_arrow_node *child)
-{
-    if (vortex_arrow_is_list(list)) {
-        return last_of(list->offsets, vortex_arrow_offset_width(list)) > child->len;
-    }
-    return list->format == VORTEX_ARROW_FIXED_LIST && list->width &&
-        list->offset + list->len > child->len / list->width;
-}
-
-/* Returns how long a data buffer of views is, or -1 where nothing says it. The array's last buffer
- * has the lengths, which needn't be aligned. */
-static int64_t data_length(const struct ArrowArray *array, int64_t k)
-{
-    const uint8_t *lengths = (const uint8_t *)array->buffers[array->n_buffers - 1];
-    int64_t length = -1;
-    if (lengths) {
-        memcpy(&length, lengths + 8 * k, 8);
-    }
-    return length;
-}
-
 /* Appends a node for each data buffer of views. */
 static uint64_t walk_data(table *t, struct ArrowArray *array, size_t parent)
 {
-    source from = {NULL, array, parent, 0, 0, 0};
-    int64_t k, count = array->n_buffers - 3;
+    source from;
+    size_t k, count = t->nodes[parent].children;
+    memset(&from, 0, sizeof from);
+    from.array = array;
+    from.parent = parent;
     for (k = 0; k < count; k++) {
-        int64_t length = data_length(array, k);
+        uint64_t length = vortex_arrow_data_length(&t->nodes[parent], k);
         vortex_arrow_node *node;
-        if (length < 0) {
+        if (length > INT64_MAX) {
             return vortex_arrow_fault_at(t, VORTEX_ARROW_SHAPE, parent, "buffers");
         }
         if (append(t, from)) {
@@ -170,7 +104,7 @@ static uint64_t walk_data(table *t, struct ArrowArray *array, size_t parent)
         node = &t->nodes[t->len - 1];
         node->format = VORTEX_ARROW_FIXED;
         node->width = 1;
-        node->values = bytes_at(array->buffers[k + 2], (uint64_t)length, 1);
+        node->values = bytes_at(array->buffers[k + 2], length);
         node->len = node->values.len; /* 0 where the buffer is null */
         t->sources[t->len - 1].end = t->len;
     }
@@ -192,6 +126,17 @@ static void count_in(table *t, const vortex_arrow_node *node, const source *from
 
 static uint64_t walk(table *t, source from);
 
+/* Child `k` of an array whose node is at `at`. */
+static source child_of(const source *from, size_t at, int64_t k)
+{
+    source child = *from;
+    child.schema = from->schema->children[k];
+    child.array = from->array->children[k];
+    child.parent = at;
+    child.level++;
+    return child;
+}
+
 /* Appends what is below a node. */
 static uint64_t walk_below(table *t, size_t at)
 {
@@ -203,10 +148,10 @@ static uint64_t walk_below(table *t, size_t at)
         return walk_data(t, array, at);
     }
     for (k = 0; k < array->n_children && !status; k++) {
-        source child = {from.schema->children[k], array->children[k], at, 0, from.level + 1, 0};
-        status = walk(t, child);
+        status = walk(t, child_of(&from, at, k));
     }
-    if (!status && array->n_children == 1 && is_past(&t->nodes[at], &t->nodes[at + 1])) {
+    if (!status && array->n_children == 1 &&
+        vortex_arrow_ends_past(&t->nodes[at], t->nodes[at + 1].len)) {
         int is_fixed = t->nodes[at].format == VORTEX_ARROW_FIXED_LIST;
         t->error->cause = VORTEX_ARROW_LACKS_ITEMS;
         return vortex_arrow_fault_at(t, VORTEX_ARROW_NO_MEANING, at,
@@ -235,26 +180,23 @@ static uint64_t read_node(table *t, size_t at)
 {
     const struct ArrowSchema *schema = t->sources[at].schema;
     const struct ArrowArray *array = t->sources[at].array;
-    vortex_arrow_node node;
-    const char *part;
-    memset(&node, 0, sizeof node);
-    if (!vortex_arrow_parse(schema->format, &node)) {
+    vortex_arrow_layout *layout = &t->sources[at].layout;
+    vortex_arrow_shape shape = shape_of(schema, array);
+    vortex_arrow_lengths lengths;
+    uint64_t misfit;
+    if (vortex_arrow_layout_of((const uint8_t *)schema->format, strlen(schema->format), layout)) {
         return vortex_arrow_fault_at(t, VORTEX_ARROW_FORMAT, at, schema->format);
     }
-    if ((part = misfit(schema, array, &node)) != NULL) {
-        return vortex_arrow_fault_at(t, VORTEX_ARROW_SHAPE, at, part);
-    }
-    node.len = (uint64_t)array->length;
-    node.offset = (uint64_t)array->offset;
-    if (node.len + node.offset >= MOST_ROWS) {
+    misfit = vortex_arrow_measure(layout, &shape, &lengths);
+    if (misfit == TOO_MANY_ROWS) {
         t->error->cause = VORTEX_ARROW_LACKS_ROWS;
-        return vortex_arrow_fault_at(t, VORTEX_ARROW_NO_MEANING, at, "length");
+        return vortex_arrow_fault_at(t, VORTEX_ARROW_NO_MEANING, at, misfits[misfit]);
     }
-    node.children = (uint64_t)(vortex_arrow_has_views(&node) ? array->n_buffers - 3
-        : array->n_children);
-    fill(&node, array->buffers);
-    t->nodes[at] = node;
-    count_in(t, &node, &t->sources[at]);
+    if (misfit) {
+        return vortex_arrow_fault_at(t, VORTEX_ARROW_SHAPE, at, misfits[misfit]);
+    }
+    fill(&t->nodes[at], array, layout, &lengths);
+    count_in(t, &t->nodes[at], &t->sources[at]);
     return VORTEX_ARROW_DONE;
 }
 
@@ -284,8 +226,10 @@ static int lay_ids(table *t)
     ids = t->ids = (uint8_t *)malloc(t->n_ids);
     for (k = 0; k < t->len && ids; k++) {
         if (vortex_arrow_is_union(&t->nodes[k])) {
-            t->nodes[k].sizes = bytes_at(ids, t->nodes[k].children, 1);
-            ids += vortex_arrow_ids(t->sources[k].schema->format, ids);
+            const char *text = t->sources[k].schema->format;
+            size_t count = t->nodes[k].children;
+            t->nodes[k].sizes = bytes_at(ids, count);
+            ids += vortex_arrow_type_ids((const uint8_t *)text, strlen(text), ids, count);
         }
     }
     return ids != NULL;
@@ -295,8 +239,14 @@ static int lay_ids(table *t)
 uint64_t vortex_arrow_walk(table *t, const struct ArrowSchema *schema, struct ArrowArray *array,
     int level)
 {
-    source from = {schema, array, VORTEX_NO_NODE, 0, level, 0};
-    uint64_t status = walk(t, from);
+    uint64_t status;
+    source from;
+    memset(&from, 0, sizeof from);
+    from.schema = schema;
+    from.array = array;
+    from.parent = VORTEX_NO_NODE;
+    from.level = level;
+    status = walk(t, from);
     if (!status && !lay_ids(t)) {
         status = vortex_arrow_fault(t->error, VORTEX_ARROW_NO_MEMORY, "");
     }

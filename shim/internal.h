@@ -49,6 +49,42 @@ typedef struct supply {
     uint64_t status;
 } supply;
 
+/* ---- The library's calls over formats, which src/formats.rt of vortex_arrow_c specifies ---- */
+
+/* How an array of a format is stored. A buffer is named by its number in Arrow's order, from 1; 0
+ * says that there is none. */
+typedef struct vortex_arrow_layout {
+    uint64_t format, width, buffers;
+    uint64_t valid, offsets, values, sizes;
+    uint64_t children; /* 2^64 - 1 where the schema says how many */
+    uint64_t is_map;
+    uint64_t codes; /* of a dictionary: 0 none, 1 without a sign, 2 with a sign */
+} vortex_arrow_layout;
+
+/* What the two structs of an array say of themselves; the flags are 0 for null pointers. */
+typedef struct vortex_arrow_shape {
+    uint64_t len, offset, null_count, buffers, children, schema_children;
+    uint64_t has_buffers, has_children, has_first, has_dictionary, schema_dictionary;
+} vortex_arrow_shape;
+
+/* How many children an array has, or data buffers of views, and how many bytes each buffer has. */
+typedef struct vortex_arrow_lengths {
+    uint64_t children, valid, offsets, values, sizes;
+} vortex_arrow_lengths;
+
+/* Returns DONE, or FORMAT for an unknown format. */
+uint64_t vortex_arrow_layout_of(const uint8_t *text, size_t n_text, vortex_arrow_layout *layout);
+/* Returns how many ids it wrote. */
+size_t vortex_arrow_type_ids(const uint8_t *text, size_t n_text, uint8_t *ids, size_t n_ids);
+/* Returns 0, or the number of what doesn't fit: 1 length, 2 buffers, 3 children, 4 validity,
+ * 5 dictionary, 6 rows. */
+uint64_t vortex_arrow_measure(const vortex_arrow_layout *layout, const vortex_arrow_shape *shape,
+    vortex_arrow_lengths *lengths);
+uint64_t vortex_arrow_text_len(const vortex_arrow_node *node);
+/* Returns 2^64 - 1 where no length says it. */
+uint64_t vortex_arrow_data_length(const vortex_arrow_node *node, size_t k);
+uint64_t vortex_arrow_ends_past(const vortex_arrow_node *list, uint64_t rows);
+
 /* Where a node comes from: an array, or a data buffer of its parent's views. */
 typedef struct source {
     const struct ArrowSchema *schema; /* null for a data buffer */
@@ -56,6 +92,7 @@ typedef struct source {
     size_t parent, end; /* `end` is the node after the last of its descendants */
     int level;
     int is_kept; /* the answer shares it, so nothing is written for it */
+    vortex_arrow_layout layout; /* of an array */
 } source;
 
 /* The nodes of a column. */
@@ -91,16 +128,10 @@ VORTEX_HIDDEN uint64_t vortex_arrow_take_rows(const struct ArrowSchema *schema,
     struct ArrowArray *array, const vortex_arrow_picks *p, struct ArrowArray *out,
     vortex_arrow_error *error);
 
-/* arrow_formats.c: the buffers of each format, in Arrow's order, by a letter each (validity,
- * offsets, data, sizes), and how many children it has, or -1. */
-extern VORTEX_HIDDEN const char *const vortex_arrow_slots[14];
-extern VORTEX_HIDDEN const int vortex_arrow_families[14];
-VORTEX_HIDDEN int64_t vortex_arrow_ids(const char *format, uint8_t *ids);
-VORTEX_HIDDEN int vortex_arrow_parse(const char *text, vortex_arrow_node *node);
+/* arrow_formats.c */
 VORTEX_HIDDEN int vortex_arrow_has_word(const char *words, const char *word);
 VORTEX_HIDDEN int vortex_arrow_has_views(const vortex_arrow_node *node);
 VORTEX_HIDDEN int vortex_arrow_is_union(const vortex_arrow_node *node);
-VORTEX_HIDDEN int vortex_arrow_is_list(const vortex_arrow_node *node);
 VORTEX_HIDDEN int vortex_arrow_is_list_view(const vortex_arrow_node *node);
 VORTEX_HIDDEN size_t vortex_arrow_offset_width(const vortex_arrow_node *node);
 

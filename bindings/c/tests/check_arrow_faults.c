@@ -155,7 +155,8 @@ static void formats(void)
 {
     static const char *const unknown[] = {"", "x", "+r", "ii", "+us:0,", "+us:,0", "+us:128",
         "+us:1,1", "+us:-1", "w:", "w:x", "d:1", "d:1,2,3", "d:1,2,64,", "ts", "tsx:", "txs:",
-        "+w:", "+w:1x", "c C", "+ud:0,0"};
+        "+w:", "+w:1x", "c C", "+ud:0,0", "w:-1", "w:2147483648", "w:99999999999999999999",
+        "+w:2147483648", "d:9,--1", "d:9,2,", "d:9,2,64,1", "+us:0,,1", "+us:00,0", "+ud:1,", "w:1 "};
     column c, child;
     size_t k;
     for (k = 0; k < sizeof unknown / sizeof unknown[0]; k++) {
@@ -172,6 +173,33 @@ static void formats(void)
     child.array.n_buffers = 1;
     child.schema.name = "u";
     expect_both(&c, VORTEX_ARROW_NO_MEANING, "s.u children", "a union without children");
+    child.schema.format = "+ud:";
+    child.array.n_buffers = 2;
+    expect_both(&c, VORTEX_ARROW_NO_MEANING, "s.u children", "a dense union without children");
+    child.schema.format = "+ud:3";
+    expect_both(&c, VORTEX_ARROW_SHAPE, "s.u children", "a type id without a child");
+}
+
+/* Widths up to 2^31 - 1, of no rows: values of such a width, and lists of as many items. */
+static void wide(void)
+{
+    static const char *const formats[] = {"w:2147483647", "w:0000000000002147483647"};
+    static const char *const lists[] = {"+w:2147483647", "+w:0000000000002147483647"};
+    column c, item;
+    size_t k;
+    for (k = 0; k < 2; k++) {
+        make(&c, formats[k], "c", 0, 2);
+        c.buffers[1] = words;
+        expect_both(&c, VORTEX_ARROW_DONE, "", "no values of 2^31 - 1 bytes");
+        make(&c, lists[k], "c", 0, 1);
+        make(&item, "n", "item", 0, 0);
+        add_child(&c, &item);
+        expect_both(&c, VORTEX_ARROW_DONE, "", "no lists of 2^31 - 1 items");
+        c.array.length = 1;
+        expect_both(&c, VORTEX_ARROW_NO_MEANING, "c length", "a list of too many items");
+        item.array.length = INT32_MAX - 1;
+        expect_both(&c, VORTEX_ARROW_NO_MEANING, "c length", "a list of an item too many");
+    }
 }
 
 /* ---- Lengths ---- */
@@ -608,6 +636,7 @@ int main(void)
     null_parts();
     counts();
     formats();
+    wide();
     many_rows();
     many_nulls();
     string_offsets();

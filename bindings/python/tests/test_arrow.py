@@ -447,6 +447,7 @@ class Hostile(unittest.TestCase):
             ("+L", [None, array("q", [0, 2**60 - 1])]),
             ("+L", [None, array("q", [0, 2**63 - 1])]),
             ("+w:999999999", [None]),
+            ("+w:2147483647", [None]),
             ("+w:3", [None]),
         ):
             made = arrow.made_array(1, 0, 0, buffers, [built(Type("c"), [1, 2])])
@@ -600,12 +601,20 @@ class Hostile(unittest.TestCase):
 
     def test_formats(self):
         pair = (("run_ends", Type("i")), ("values", Type("i")))
-        for form in ("+r", "x", "", "cc", "c ", "w:", "w:-1", "w:x", "w:9999999999", "d:", "d:1", "d:1,2,9",
-                     "tdx", "ts", "tsx:", "+w", "+w:x", "+x", "+u:", "+", "t", "d:1,2,128x"):
+        for form in ("+r", "x", "", "cc", "c ", "w:", "w:-1", "w:x", "w:9999999999", "w:2147483648", "+w:2147483648",
+                     "d:", "d:1", "d:1,2,9", "d:1,2,128x", "d:1,--2", "tdx", "ts", "tsx:", "+w", "+w:x", "+x", "+u:",
+                     "+", "t", "+us:1,1", "+us:128", "+us:1,", "+ud:,"):
             made = arrow.made_array(1, 0, 0, [None, b"a" * 64])
             self.assertIn("format", self.refused(Type(form), made))
         ends = [built(Type("i"), [1]), built(Type("i"), [1])]
         self.assertIn("+r", self.refused(Type("+r", pair), arrow.made_array(1, 0, 0, [], ends)))
+
+    def test_wide(self):
+        """Widths of up to 2^31 - 1: values and lists of no rows."""
+        for form in ("w:2147483647", "w:02147483647", "+w:2147483647"):
+            below = (("item", Type("n")),) if form[0] == "+" else ()
+            made = arrow.made_array(0, 0, 0, [None] if below else [None, b""], [built(Type("n"), []) for _ in below])
+            self.assertEqual(len(select(wrapped(Type(form, below), made), [Slice(0, 0)])), 0)
 
     def test_unknown(self):
         """Formats that the library may not know: the answer is right, or the format is named."""

@@ -351,7 +351,7 @@ class Hostile(Files):
             ("int32", one, (0, 0), "d:5", "unknown format"),
             ("int32", one, (0, 0), "d:5,2,96", "unknown format"),
             ("int32", one, (0, 0), "w:-1", "unknown format"),
-            ("int32", one, (0, 0), "w:1234567890", "unknown format"),
+            ("int32", one, (0, 0), "w:2147483648", "unknown format"),
             ("int32", one, (0, 0), "tsx:", "unknown format"),
             ("int32", one, (0, 0), "ts", "unknown format"),
             ("int32", one, (0, 0), "i\n", "unknown format"),

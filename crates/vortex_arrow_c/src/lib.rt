@@ -6,5 +6,6 @@
 
 mod answer;
 mod columns;
+mod formats;
 mod steps;
 mod version;

@@ -102,10 +102,10 @@ def layout_of(form: str) -> Layout:
     for bits, pattern in _FIXED.items():
         if re.fullmatch(pattern, form, re.DOTALL):
             return _fixed(bits)
-    if re.fullmatch("w:[0-9]{1,9}", form):
-        return _fixed(8 * int(form[2:]))
-    if re.fullmatch(r"\+w:[0-9]{1,9}", form):
-        return Layout((_VALID,), 1, int(form[3:]))
+    wide = re.fullmatch(r"(\+?)w:0*([0-9]{1,10})", form)
+    if wide and int(wide.group(2)) < 2**31:
+        count = int(wide.group(2))
+        return Layout((_VALID,), 1, count) if wide.group(1) else _fixed(8 * count)
     decimal = re.fullmatch("d:[0-9]{1,9},-?[0-9]{1,9}(?:,(32|64|128|256))?", form)
     if decimal:
         return _fixed(int(decimal.group(1) or 128))

@@ -36,10 +36,10 @@ pub(super) enum Slot {
     Views,
 }
 
-/// Returns the digits of a text as a number, if there are at most nine and nothing else.
+/// Returns the digits of a text as a number of at most 2^31 - 1, if there is nothing else.
 fn digits(text: &str) -> Option<usize> {
     let is_number = text.bytes().all(|byte| byte.is_ascii_digit());
-    text.parse().ok().filter(|_| is_number && text.len() < 10)
+    text.parse().ok().filter(|number| is_number && *number < 1 << 31)
 }
 
 /// Returns the bytes of a decimal: `precision,scale` or `precision,scale,bits`.

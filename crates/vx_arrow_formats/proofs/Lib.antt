@@ -1,0 +1,3 @@
+pub mod CommaFields
+pub mod Digits
+pub mod IdFields
