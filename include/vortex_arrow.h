@@ -220,6 +220,14 @@ typedef struct vortex_arrow_node {
     vortex_arrow_bytes sizes;   /* of list views: sizes; of unions: a type id a child */
 } vortex_arrow_node;
 
+/* What Arrow's structs have of a node beside that. */
+typedef struct vortex_arrow_extra {
+    uint64_t null_count; /* UINT64_MAX if it is -1 */
+    uint64_t codes;      /* 0 without a dictionary, 1 if its codes are unsigned, 2 if signed */
+    uint64_t values;     /* the length of the dictionary */
+    uint64_t map;        /* 1 of a map, else 0 */
+} vortex_arrow_extra;
+
 typedef struct vortex_arrow_room_bytes {
     uint8_t *data;
     size_t len;
@@ -248,8 +256,14 @@ enum {
     VORTEX_ARROW_LACKS_LENGTH = 8,   /* as many rows as its parent needs */
     VORTEX_ARROW_LACKS_SIZES = 9,    /* a size for each row, or a type id for each child */
     VORTEX_ARROW_LACKS_ID = 10,      /* the type id of a child in each row */
-    /* Of the shim alone: */
-    VORTEX_ARROW_LACKS_CODES = 16    /* dictionary codes from 0 to below the dictionary's length */
+    VORTEX_ARROW_LACKS_CODES = 16,   /* dictionary codes from 0 to below the dictionary's length */
+    /* Of vortex_arrow_check_strict alone: */
+    VORTEX_ARROW_LACKS_NULL_COUNT = 17, /* a null_count of -1, or of the nulls that there are */
+    VORTEX_ARROW_LACKS_MAP = 18,        /* map entries of two fields, no null entry, no null key */
+    VORTEX_ARROW_LACKS_VIEWS = 19,      /* string views with zeros after a short string and the
+                                         * first four bytes of a long one, also under a null */
+    VORTEX_ARROW_LACKS_LIST_VIEWS = 20, /* list views within the child, also under a null */
+    VORTEX_ARROW_LACKS_DENSE = 21       /* dense union offsets that don't descend within a child */
 };
 
 /* How many places, and how many bytes of validity, the rows need that steps select. */
@@ -285,6 +299,18 @@ vortex_arrow_answer vortex_arrow_compose(uint64_t len, const vortex_arrow_step *
 /* Tests every row of a table. The status is DONE if the table is a valid column. It is NO_MEANING
  * or FORMAT, with an invalid node, if it isn't. It may be NO_MEMORY in either case. */
 vortex_arrow_answer vortex_arrow_check(const vortex_arrow_node *nodes, size_t n_nodes);
+
+/* Tests the rules that Arrow's full validators add, of each node with its extra. The status is DONE
+ * if no node violates a rule. If one does, it is NO_MEANING, with the first such node and the first
+ * rule that it violates: LACKS_NULL_COUNT, LACKS_CODES, LACKS_MAP, LACKS_VIEWS, LACKS_LIST_VIEWS,
+ * LACKS_DENSE, in this order. A node that has no extra lacks a null count. */
+vortex_arrow_answer vortex_arrow_check_strict(const vortex_arrow_node *nodes, size_t n_nodes,
+    const vortex_arrow_extra *extras, size_t n_extras);
+
+/* Tests the dictionary codes of a node's rows that aren't null. The status is DONE if each is that
+ * of a value, and if there is no dictionary, and else NO_MEANING with LACKS_CODES. */
+vortex_arrow_answer vortex_arrow_check_codes(const vortex_arrow_node *node,
+    const vortex_arrow_extra *extra);
 
 /* Returns the sizes of a column's rows at these places, node by node. A place is a row number. It
  * is null if its bit of `valid` is clear, and if `valid` is empty, no place is null.
@@ -374,9 +400,10 @@ uint64_t vortex_select_arrow(const struct ArrowSchema *schema, struct ArrowArray
     struct ArrowArray *out_array, vortex_arrow_error *error);
 
 /* Tests every row of a column, of its children and of its dictionaries: shapes, offsets, views,
- * type ids, and the dictionary codes of rows that aren't null. Whether strings are UTF-8, and what
- * the format says of values such as dates and decimals, isn't tested. The lengths of buffers stay
- * trusted. The return value is the status, as above. */
+ * type ids, the dictionary codes of rows that aren't null, and the rules of
+ * vortex_arrow_check_strict. Whether strings are UTF-8, and what the format says of values such as
+ * dates and decimals, isn't tested. The lengths of buffers stay trusted. The return value is the
+ * status, as above. */
 uint64_t vortex_arrow_check_array(const struct ArrowSchema *schema, struct ArrowArray *array,
     vortex_arrow_error *error);
 

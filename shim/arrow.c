@@ -102,21 +102,31 @@ static uint64_t admit_dictionaries(const table *t)
 static uint64_t check_column(const table *outer, size_t node, const struct ArrowSchema *schema,
     struct ArrowArray *array, size_t *left, vortex_arrow_error *error);
 
-/* Checks the dictionary of a node, if it has one, and the codes that lead to its values. */
+/* Checks the dictionary of a node, if it has one. */
 static uint64_t check_dictionary(const table *t, size_t node)
 {
     const source *from = &t->sources[node];
-    uint64_t status = VORTEX_ARROW_DONE;
     if (!from->schema || !from->array->dictionary) {
-        return status;
+        return VORTEX_ARROW_DONE;
     }
-    status = check_column(t, node, from->schema->dictionary, from->array->dictionary, t->left,
+    return check_column(t, node, from->schema->dictionary, from->array->dictionary, t->left,
         t->error);
-    if (!status && !vortex_arrow_has_codes(from, &t->nodes[node])) {
-        vortex_arrow_answer answer = {VORTEX_ARROW_NO_MEANING, node, VORTEX_ARROW_LACKS_CODES};
-        status = vortex_arrow_fault_of_node(t, answer);
+}
+
+/* Tests the rules that Arrow's full validators add, once each dictionary has a length. */
+static uint64_t check_strict(const table *t)
+{
+    vortex_arrow_extra *extras = (vortex_arrow_extra *)calloc(t->len, sizeof *extras);
+    vortex_arrow_answer answer = {VORTEX_ARROW_NO_MEMORY, VORTEX_NO_NODE, 0};
+    size_t k;
+    for (k = 0; k < t->len && extras; k++) {
+        extras[k] = vortex_arrow_extra_of(&t->sources[k]);
     }
-    return status;
+    if (extras) {
+        answer = vortex_arrow_check_strict(t->nodes, t->len, extras, t->len);
+    }
+    free(extras);
+    return answer.status ? vortex_arrow_fault_of_node(t, answer) : answer.status;
 }
 
 static uint64_t check_table(const table *t)
@@ -127,7 +137,7 @@ static uint64_t check_table(const table *t)
     for (k = 0; k < t->len && !status; k++) {
         status = check_dictionary(t, k);
     }
-    return status;
+    return status ? status : check_strict(t);
 }
 
 /* Checks a column, which may be the dictionary of a node in an outer table. */

@@ -177,6 +177,7 @@ static vortex_arrow_node written_node(const vortex_arrow_node *from, const vorte
     node.valid.data = room->valid.data;
     node.valid.len = need->valid;
     node.values.data = room->values.data;
+    node.values.len = need->values;
     return node;
 }
 
@@ -188,14 +189,14 @@ static vortex_arrow_answer finish(const table *t, const vortex_arrow_need *needs
     size_t k;
     for (k = 0; k < t->len; k++) {
         vortex_arrow_node node = written_node(&t->nodes[k], &needs[k], &rooms[k]);
+        vortex_arrow_extra extra = vortex_arrow_extra_of(&t->sources[k]);
         if (t->sources[k].is_kept) {
             continue;
         }
         vortex_arrow_clear_nulls(&t->nodes[k], &needs[k], &rooms[k]);
-        if (!vortex_arrow_has_codes(&t->sources[k], &node)) {
-            answer.status = VORTEX_ARROW_NO_MEANING;
+        answer = vortex_arrow_check_codes(&node, &extra);
+        if (answer.status) {
             answer.node_or_step = k;
-            answer.what = VORTEX_ARROW_LACKS_CODES;
             break;
         }
     }

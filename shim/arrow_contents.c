@@ -1,5 +1,5 @@
-/* Goes over what buffers hold: clears what is under nulls, tests the codes of dictionaries, and
- * counts the items of lists. C99 and C++11. */
+/* Goes over what buffers hold: clears what is under nulls, and counts the items of lists. C99 and
+ * C++11. */
 #include "internal.h"
 
 #include <string.h>
@@ -119,56 +119,22 @@ void vortex_arrow_clear_nulls(const vortex_arrow_node *node, const vortex_arrow_
     }
 }
 
-/* ---- Codes ---- */
+/* ---- Extras ---- */
 
-/* Defines a function that returns the first of `len` codes that isn't below a bound, or `len`. */
-#define FIRST_PAST(name, type)                                                                     \
-    static uint64_t name(const uint8_t *codes, uint64_t k, uint64_t len, uint64_t bound)           \
-    {                                                                                              \
-        type code;                                                                                 \
-        for (; k < len; k++) {                                                                     \
-            memcpy(&code, codes + k * sizeof code, sizeof code);                                   \
-            if (code >= bound) {                                                                   \
-                break;                                                                             \
-            }                                                                                      \
-        }                                                                                          \
-        return k;                                                                                  \
-    }
-
-FIRST_PAST(first_past_1, uint8_t)
-FIRST_PAST(first_past_2, uint16_t)
-FIRST_PAST(first_past_4, uint32_t)
-FIRST_PAST(first_past_8, uint64_t)
-
-static uint64_t first_past(uint64_t width, const uint8_t *codes, uint64_t k, uint64_t len,
-    uint64_t bound)
+/* Returns what a node's image doesn't have. A data buffer of views has nothing beside it. */
+vortex_arrow_extra vortex_arrow_extra_of(const source *from)
 {
-    switch (width) {
-    case 1: return first_past_1(codes, k, len, bound);
-    case 2: return first_past_2(codes, k, len, bound);
-    case 4: return first_past_4(codes, k, len, bound);
-    default: return first_past_8(codes, k, len, bound);
+    vortex_arrow_extra extra = {UINT64_MAX, 0, 0, 0};
+    if (!from->schema) {
+        return extra;
     }
-}
-
-/* Whether each row of a node that isn't null has the code of a value of its dictionary, if it has a
- * dictionary. A negative code, read as an unsigned number, is at least half of their range. */
-int vortex_arrow_has_codes(const source *from, const vortex_arrow_node *node)
-{
-    uint64_t end = node->offset + node->len, bound, half, k;
-    if (!from->schema || !from->array->dictionary) {
-        return 1;
+    extra.null_count = (uint64_t)from->array->null_count; /* -1 is UINT64_MAX */
+    extra.map = !strcmp(from->schema->format, "+m");
+    if (from->array->dictionary) {
+        extra.codes = vortex_arrow_has_word("c s i l", from->schema->format) ? 2 : 1;
+        extra.values = (uint64_t)from->array->dictionary->length;
     }
-    bound = (uint64_t)from->array->dictionary->length;
-    half = (uint64_t)1 << (8 * node->width - 1);
-    if (vortex_arrow_has_word("c s i l", from->schema->format) && bound > half) {
-        bound = half;
-    }
-    k = first_past(node->width, node->values.data, node->offset, end, bound);
-    while (k < end && node->valid.len && !is_set(node->valid.data, k)) {
-        k = first_past(node->width, node->values.data, k + 1, end, bound);
-    }
-    return k >= end;
+    return extra;
 }
 
 /* ---- Lists ---- */

@@ -43,6 +43,13 @@ static const char *words_of_lack(const vortex_arrow_node *node, uint64_t lack)
     case VORTEX_ARROW_LACKS_SIZES: return "expected a size for each row, got fewer";
     case VORTEX_ARROW_LACKS_ID: return "expected the type id of a child, got another";
     case VORTEX_ARROW_LACKS_CODES: return "expected codes within the dictionary, got another";
+    case VORTEX_ARROW_LACKS_NULL_COUNT: return "expected -1 or the number of nulls, got another";
+    case VORTEX_ARROW_LACKS_MAP:
+        return "expected entries of two fields without null keys, got others";
+    case VORTEX_ARROW_LACKS_VIEWS:
+        return "expected zeros after a short string and the prefix of a long one, got others";
+    case VORTEX_ARROW_LACKS_LIST_VIEWS: return "expected views within the child, got one outside";
+    case VORTEX_ARROW_LACKS_DENSE: return "expected offsets that ascend in each child, got others";
     default: return "expected as many children as the format has, got others";
     }
 }
@@ -130,6 +137,11 @@ static const char *part_of(const vortex_arrow_node *node, uint64_t lack)
     case VORTEX_ARROW_LACKS_SIZES: return "sizes";
     case VORTEX_ARROW_LACKS_ID: return "type ids";
     case VORTEX_ARROW_LACKS_CODES: return "dictionary codes";
+    case VORTEX_ARROW_LACKS_NULL_COUNT: return "null count";
+    case VORTEX_ARROW_LACKS_MAP: return "entries";
+    case VORTEX_ARROW_LACKS_VIEWS: return "views";
+    case VORTEX_ARROW_LACKS_LIST_VIEWS: return "offsets";
+    case VORTEX_ARROW_LACKS_DENSE: return "offsets";
     default: return "";
     }
 }

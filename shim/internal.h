@@ -148,7 +148,7 @@ VORTEX_HIDDEN uint64_t vortex_arrow_answer_rows(const table *t, const vortex_arr
 VORTEX_HIDDEN size_t vortex_arrow_long_lists(const table *t, const vortex_arrow_picks *p);
 VORTEX_HIDDEN void vortex_arrow_clear_nulls(const vortex_arrow_node *node,
     const vortex_arrow_need *need, const vortex_arrow_room *room);
-VORTEX_HIDDEN int vortex_arrow_has_codes(const source *from, const vortex_arrow_node *node);
+VORTEX_HIDDEN vortex_arrow_extra vortex_arrow_extra_of(const source *from);
 
 /* arrow_arrays.c */
 VORTEX_HIDDEN int vortex_arrow_supply(supply *s, size_t parts, size_t arrays, uint64_t extra);

@@ -3,7 +3,7 @@
 #include "made_arrow.h"
 #include "vortex_select.h"
 
-static const uint8_t ones[] = {0xff, 0xff};
+static const uint8_t ones[] = {0xff, 0xff}, zeros[] = {0, 0};
 static const int32_t words[] = {0, 1, 2, 3, 4, 5, 6, 7};
 
 /* ---- Null pointers and counts ---- */
@@ -126,7 +126,7 @@ static void counts(void)
     c.array.buffers = c.buffers;
     c.array.null_count = 1;
     expect_both(&c, VORTEX_ARROW_SHAPE, "x validity", "nulls without validity");
-    c.buffers[0] = ones;
+    c.buffers[0] = zeros;
     expect_both(&c, VORTEX_ARROW_DONE, "", "nulls with validity");
     c.buffers[0] = NULL;
     c.array.null_count = 0;

@@ -145,7 +145,9 @@ static void check_round(uint64_t seed)
     long before = blocks, made, n;
     int has = 1;
     reseed(seed);
+    is_strict = 1;
     random_column(&schema, &array, 3);
+    is_strict = 0;
     made = blocks;
     for (n = 0; has; n++) {
         fail_at(n);

@@ -38,7 +38,7 @@ typedef struct column {
     const void *buffers[6];
 } column;
 
-/* A column of so many rows. Its buffers are set by the caller. */
+/* A column of so many rows, with an unknown null count. Its buffers are set by the caller. */
 static void make(column *c, const char *format, const char *name, int64_t length, int64_t n_buffers)
 {
     memset(c, 0, sizeof *c);
@@ -48,6 +48,7 @@ static void make(column *c, const char *format, const char *name, int64_t length
     c->schema.children = c->schemas;
     c->schema.release = release_schema_of;
     c->array.length = length;
+    c->array.null_count = -1;
     c->array.n_buffers = n_buffers;
     c->array.buffers = c->buffers;
     c->array.children = c->arrays;

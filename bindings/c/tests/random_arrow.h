@@ -176,10 +176,13 @@ static int is_valid(const struct ArrowArray *array, int64_t at)
     return !valid || is_set(valid, (size_t)at);
 }
 
+/* Whether columns obey vortex_arrow_check_strict: rows under nulls too, and dense unions ascend. */
+static int is_strict;
+
 /* Whether a row is in the array, and no null: any bytes may stand at another. */
 static int is_read(const struct ArrowArray *array, size_t k)
 {
-    return (int64_t)k >= array->offset && is_valid(array, (int64_t)k);
+    return (int64_t)k >= array->offset && (is_strict || is_valid(array, (int64_t)k));
 }
 
 static void put_number(void *numbers, size_t k, int64_t number, int is_wide)
@@ -359,7 +362,7 @@ static void union_rows(struct ArrowSchema *schema, struct ArrowArray *array, int
     size_t which = below(6), end, k;
     char format[20];
     uint8_t *rows;
-    int32_t *places = NULL;
+    int32_t *places = NULL, last[3] = {0, 0, 0};
     snprintf(format, sizeof format, "+u%c:%s", is_dense ? 'd' : 's', lists[which]);
     flat_schema(schema, format);
     start_array(array, 1 + is_dense, length);
@@ -379,7 +382,9 @@ static void union_rows(struct ArrowSchema *schema, struct ArrowArray *array, int
         size_t child = below(which / 2 + 1);
         rows[k] = ids[which][child];
         if (is_dense) {
-            places[k] = (int32_t)below((size_t)array->children[child]->length);
+            size_t left = (size_t)(array->children[child]->length - last[child]);
+            places[k] = last[child] + (int32_t)below(left);
+            last[child] = is_strict ? places[k] : 0;
         }
     }
 }

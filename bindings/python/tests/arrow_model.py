@@ -125,10 +125,12 @@ class Layout:
     """Lays rows out: with an offset, rows around them, garbage under nulls and, where no row reads
     another's numbers, around the rows, first offsets above 0, lists that are views into one
     another, and a validity that may be absent where no row is null.
+
+    If it is strict, views of strings and lists are valid under nulls too, as `check` asks for.
     """
 
-    def __init__(self, dice):
-        self.dice = dice
+    def __init__(self, dice, is_strict=False):
+        self.dice, self.is_strict = dice, is_strict
 
     def array(self, of, rows):
         dice = self.dice
@@ -145,7 +147,8 @@ class Layout:
         valid = packed(is_there + [dice.random() < 0.5 for _ in range(dice.randrange(9))])
         if all(is_there) and dice.random() < 0.7:
             valid = None
-        seen = [row is not None and before <= k < before + len(rows) for k, row in enumerate(every)]
+        inside = range(before, before + len(rows))
+        seen = [k in inside and (self.is_strict or row is not None) for k, row in enumerate(every)]
         buffers, children, inner = self.below(of, hidden, seen)
         count = nulls if valid is None else dice.choice([nulls, -1])
         return made_array(len(rows), count, before, [valid, *buffers], children, inner)

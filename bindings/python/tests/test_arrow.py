@@ -16,6 +16,7 @@ except ImportError:
 
 import producer as arrow
 from arrow_model import Layout, after, random_row, random_steps, random_type, wrapped
+from strict_model import damaged, is_strict
 from vortex_select import BrokenStep, Column, Filter, Slice, Take
 from vortex_select import check, column, from_buffers, select
 from vortex_select import _native, _steps
@@ -93,10 +94,12 @@ class Random(unittest.TestCase):
             dice = random.Random(seed)
             of = random_type(dice, dice.randrange(4))
             rows = [random_row(dice, of) for _ in range(dice.choice([0, 1, 8, dice.randrange(30)]))]
-            source = wrapped(of, Layout(dice).array(of, rows))
+            is_tested = seed % 2 == 0
+            source = wrapped(of, Layout(dice, is_strict=is_tested).array(of, rows))
             self.type = str(of)
             self.assertEqual(source.to_pylist(), rows, seed)
-            check(source)
+            if is_tested:
+                check(source)
             self.agrees(seed, source, rows, *random_steps(dice, len(rows)))
 
     def test_streams(self):
@@ -183,6 +186,68 @@ class Answers(unittest.TestCase):
         self.assertEqual(select(fine, [Take([1])]).to_pylist(), ["b"])
         with self.assertRaisesRegex(ValueError, "offsets"):
             check(fine)
+
+    def test_strict(self):
+        """Rules that selection doesn't need, by the text of the format."""
+        words, long = array("i", range(8)), viewed(b"0123456789abc", 0, 0)
+        entries = Type("+s", (("key", Type("i")), ("value", Type("i"))))
+        dense = Type("+ud:0,7", (("a", Type("i")), ("b", Type("i"))))
+
+        def flat(count, valid=None, length=3, offset=0):
+            return arrow.made_array(length, count, offset, [valid, words])
+
+        def maps(key_bits, entry_bits=None, offsets=(1, 2, 3)):
+            pairs = arrow.made_array(4, -1, 0, [entry_bits], [flat(-1, key_bits, 4), flat(-1, b"\0", 4)])
+            return arrow.made_array(2, -1, 0, [b"\1", array("i", offsets)], [pairs])
+
+        def view(data, valid=b"\3"):
+            return arrow.made_array(2, -1, 0, [valid, data + bytes(16), b"0123456789abc", array("q", [13])])
+
+        def union(offsets, offset=0):
+            rows = [b"\0\7\0\7", array("i", offsets)]
+            return arrow.made_array(4 - offset, 0, offset, rows, [flat(0, None, 8), flat(0, None, 8)])
+
+        for of, made, place in (
+            (Type("i"), flat(0), None), (Type("i"), flat(1, b"\5"), None), (Type("i"), flat(-1, b"\5"), None),
+            (Type("i"), flat(2, b"\5"), "null count"), (Type("i"), flat(0, b"\5"), "null count"),
+            (Type("i"), flat(1, b"\xdf", 3, 3), None), (Type("i"), flat(0, b"\xdf", 3, 3), "null count"),
+            (Type("i"), flat(0, b"\xdf", 2, 3), None), (Type("n"), arrow.made_array(2, 0, 0, []), "null count"),
+            (Type("+m", (("entries", entries),)), maps(b"\x06"), None),
+            (Type("+m", (("entries", entries),)), maps(b"\x04"), "entries"),
+            (Type("+m", (("entries", entries),)), maps(b"\x02"), "entries"),
+            (Type("+m", (("entries", entries),)), maps(None, b"\x0b"), "entries"),
+            (Type("+m", (("entries", entries),)), maps(None, b"\x06"), None),
+            (Type("vz"), view(long), None), (Type("vz"), view(long[:7] + b"4" + long[8:]), "views"),
+            (Type("vz"), view(long[:7] + b"4" + long[8:], b"\2"), "views"),
+            (Type("vz"), view(viewed(b"ab", 0, 0)[:15] + b"\1"), "views"),
+            (Type("vz"), view(b"\xff" * 16, b"\2"), "views"),
+            (dense, union([0, 0, 1, 1]), None), (dense, union([1, 0, 1, 0]), None),
+            (dense, union([1, 0, 0, 1]), "offsets"), (dense, union([0, 1, 0, 0]), "offsets"),
+            (dense, union([1, 1, 0, 1], 1), None),
+        ):
+            source = wrapped(of, made)
+            if place is None:
+                check(source)
+            else:
+                with self.assertRaisesRegex(ValueError, place + ": "):
+                    check(source)
+
+    def test_random_flaws(self):
+        """`check` finds what a second reading of the rules finds, and nothing else."""
+        found = 0
+        for seed in range(CALLS):
+            dice = random.Random(-(10**6) - seed)
+            of = random_type(dice, dice.randrange(4))
+            rows = [random_row(dice, of) for _ in range(dice.choice([1, 8, dice.randrange(30)]))]
+            made = damaged(dice, of, Layout(dice, is_strict=True).array(of, rows))
+            source, is_sound = wrapped(of, made), is_strict(of, made)
+            found += not is_sound
+            if is_sound:
+                check(source)
+            else:
+                with self.assertRaises(ValueError, msg=seed):
+                    check(source)
+        self.assertTrue(CALLS // 10 < found < CALLS - CALLS // 10, found)
 
     def test_overflow(self):
         source = column(["x" * 2**20])
@@ -508,7 +573,8 @@ class Hostile(unittest.TestCase):
                 self.assertEqual(select(source, [Take([1])]).to_pylist(), [[1, 2]])
                 hidden = arrow.made_array(2, 1, 0, [b"\2", *lists], [built(Type("c"), [1, 2])])
                 source = wrapped(of, hidden)
-                check(source)
+                with self.assertRaisesRegex(ValueError, "offsets: expected views within the child"):
+                    check(source)
                 self.assertEqual(select(source, []).to_pylist(), [None, [1, 2]])
 
     def test_kept(self):

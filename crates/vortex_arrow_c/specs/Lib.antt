@@ -1,3 +1,4 @@
 pub mod Answer
 pub mod Formats
 pub mod Steps
+pub mod Strict

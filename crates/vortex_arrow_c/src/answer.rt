@@ -1,10 +1,12 @@
 //! What each call answers.
 ghost use Rattle.std.specs.Prelude.{◌≡◌};
-ghost use Rattle.vortex_arrow_c.specs.Answer.{column_answer, lack_answer, lack_code, refusal_answer};
+ghost use Rattle.vortex_arrow_c.specs.Answer.{answer, column_answer, lack_answer, lack_code, refusal_answer};
 ghost use Rattle.vortex_arrow_c.specs.Steps.{cause_code, step_answer, step_lack_code};
+ghost use Rattle.vortex_arrow_c.specs.Strict.{flaw_answer, rule_code};
 
 use vx_arrow::Cause;
 use vx_arrow_columns::{Lack, Refusal};
+use vx_arrow_strict::{Flaw, Rule};
 
 /// The call was done.
 pub(crate) const DONE: u64 = 0;
@@ -35,6 +37,9 @@ pub(crate) const FORMAT: u64 = 8;
 
 /// A pick of a union is null.
 pub(crate) const NULL_PICK: u64 = 9;
+
+// What a node lacks that has other codes than those of its dictionary.
+const CODES: u64 = 16;
 
 /// A status, which is 0 where the call was done, and where and what the fault is.
 #[repr(C)]
@@ -90,6 +95,20 @@ fn cause_code_of(cause: Cause) -> u64
         Cause::InvalidIndices => 3,
         Cause::BadPieces => 4,
         Cause::OutOfBounds { .. } => 5,
+    }
+}
+
+// The number of the rule that a node breaks.
+fn rule_code_of(rule: Rule) -> u64
+    ensures { result ≡ rule_code rule }
+{
+    match rule {
+        Rule::Codes => CODES,
+        Rule::NullCount => 17,
+        Rule::Map => 18,
+        Rule::Views => 19,
+        Rule::ListViews => 20,
+        Rule::Dense => 21,
     }
 }
 
@@ -180,6 +199,31 @@ impl Answer {
             },
             vx_arrow::Refusal::Room(_) => Answer::plain(ROOM),
             vx_arrow::Refusal::NoMemory => Answer::plain(NO_MEMORY),
+        }
+    }
+
+    /// What a test of the rules of a strict table answers.
+    pub(crate) fn of_flaw(flaw: Option<Flaw>) -> Answer
+        ensures { result ≡ flaw_answer flaw }
+    {
+        match flaw {
+            None => Answer::done(),
+            Some(flaw) => Answer {
+                status: NO_MEANING,
+                node_or_step: flaw.node as u64,
+                what: rule_code_of(flaw.rule),
+            },
+        }
+    }
+
+    /// That the codes of a node are other than those of its dictionary.
+    pub(crate) fn without_codes() -> Answer
+        ensures { result ≡ answer 1 0 16 }
+    {
+        Answer {
+            status: NO_MEANING,
+            node_or_step: 0,
+            what: CODES,
         }
     }
 }

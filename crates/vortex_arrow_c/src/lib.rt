@@ -8,4 +8,5 @@ mod answer;
 mod columns;
 mod formats;
 mod steps;
+mod strict;
 mod version;

@@ -452,7 +452,7 @@ def _select_by_field(column: Column, steps: List[Step], number: int) -> Column:
 
 
 def check(column: Any) -> None:
-    """Test every row of a column.
+    """Test every row of a column: offsets, views, type ids, codes, map entries and null counts.
 
     `select` tests the selected rows alone. The lengths of another producer's buffers can't be
     tested: the Arrow interface doesn't have them.

@@ -105,7 +105,8 @@ impl Column {
         Ok(shared)
     }
 
-    /// Tests that the contents are valid: offsets, type ids, views, codes and lengths of children.
+    /// Tests that the contents are valid: offsets, type ids, views, codes, map entries, null counts
+    /// and lengths of children.
     ///
     /// The lengths of buffers aren't tested: an array doesn't have them.
     pub fn check(&mut self) -> Result<(), Error> {
