@@ -287,6 +287,20 @@ typedef struct vortex_arrow_answer {
 vortex_arrow_answer vortex_arrow_count(uint64_t len, const vortex_arrow_step *steps, size_t n_steps,
     vortex_arrow_picks_need *need);
 
+/* Why a step is invalid: its number, the cause, and the numbers that it is about. */
+typedef struct vortex_arrow_cause_answer {
+    uint64_t status, step, what;
+    uint64_t found;       /* the number that is wrong; of a negative index, its distance from 0 */
+    uint64_t bound;       /* the number that it should be, or should not pass */
+    uint64_t is_negative; /* 1 if `found` is of a negative index */
+} vortex_arrow_cause_answer;
+
+/* Returns the status of vortex_arrow_count, and the numbers of the first invalid step. By the cause
+ * they are as vortex_arrow_explain sets them, except that INVALID_INDICES has none. They are 0 at
+ * other statuses. */
+vortex_arrow_cause_answer vortex_arrow_cause(uint64_t len, const vortex_arrow_step *steps,
+    size_t n_steps);
+
 /* Writes the row number of each row that the steps select of `len` rows, and 0 for a null. If
  * vortex_arrow_count says that they need validity, it also writes a bit for each to `valid`, which
  * is clear for a null. Places and bits after these keep what they hold.
@@ -331,13 +345,27 @@ vortex_arrow_answer vortex_arrow_sizes(const vortex_arrow_node *nodes, size_t n_
     vortex_arrow_need *needs, size_t n_needs);
 
 /* Writes the rows at the places, node by node, without the nodes that are kept. What it leaves
- * under a null isn't specified: the source's bytes, or what the output buffer held.
+ * under a null isn't specified: the source's bytes, or what the output buffer held. Clear it with
+ * vortex_arrow_clear_nulls.
  *
  * - ROOM: there are not as many rooms as nodes, or one is smaller than vortex_arrow_sizes says.
  * - The statuses of vortex_arrow_sizes. */
 vortex_arrow_answer vortex_arrow_take(const vortex_arrow_node *nodes, size_t n_nodes,
     const uint64_t *places, size_t n_places, const uint8_t *valid, size_t n_valid,
     vortex_arrow_room *rooms, size_t n_rooms);
+
+/* Writes zeros under the nulls of a node that has so many rows in these lists:
+ *
+ * - FIXED and VIEWS: over the values of null rows. BITS: over their bits.
+ * - LIST_VIEW and LARGE_LIST_VIEW: over the offsets and the sizes of null rows.
+ * - In the last byte of validity, and of the values of BITS, over the bits past the rows.
+ *
+ * Other bytes keep their values. If `valid` is empty, no row is null. The return value is DONE. It
+ * is ROOM, and nothing is written, if there is no such format or a list has fewer bytes than the
+ * rows need. */
+uint64_t vortex_arrow_clear_nulls(uint64_t format, uint64_t width, uint64_t rows, uint8_t *valid,
+    size_t n_valid, uint8_t *offsets, size_t n_offsets, uint8_t *values, size_t n_values,
+    uint8_t *sizes, size_t n_sizes);
 
 /* The shim. */
 

@@ -181,6 +181,16 @@ static vortex_arrow_node written_node(const vortex_arrow_node *from, const vorte
     return node;
 }
 
+/* Has the library write zeros under the nulls of a node: what it left there is either the source's
+ * or what was in this memory before. Returns the status. */
+static uint64_t clear_nulls(const vortex_arrow_node *from, const vortex_arrow_need *need,
+    const vortex_arrow_room *room)
+{
+    return vortex_arrow_clear_nulls(from->format, from->width, need->len, room->valid.data,
+        room->valid.len, room->offsets.data, room->offsets.len, room->values.data,
+        room->values.len, room->sizes.data, room->sizes.len);
+}
+
 /* Clears what is under nulls, and tests the codes of dictionaries. */
 static vortex_arrow_answer finish(const table *t, const vortex_arrow_need *needs,
     const vortex_arrow_room *rooms)
@@ -193,8 +203,10 @@ static vortex_arrow_answer finish(const table *t, const vortex_arrow_need *needs
         if (t->sources[k].is_kept) {
             continue;
         }
-        vortex_arrow_clear_nulls(&t->nodes[k], &needs[k], &rooms[k]);
-        answer = vortex_arrow_check_codes(&node, &extra);
+        answer.status = clear_nulls(&t->nodes[k], &needs[k], &rooms[k]);
+        if (!answer.status) {
+            answer = vortex_arrow_check_codes(&node, &extra);
+        }
         if (answer.status) {
             answer.node_or_step = k;
             break;

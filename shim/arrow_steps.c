@@ -5,10 +5,9 @@
 #include <stdio.h>
 #include <string.h>
 
-/* What an error says of a step. `rows` is how many rows there are before the step. */
+/* What an error says of a step. */
 typedef struct report {
     const vortex_arrow_step *step;
-    uint64_t rows;
     vortex_arrow_error *error;
 } report;
 
@@ -24,83 +23,6 @@ static const uint8_t widths[] = {1, 2, 4, 8, 1, 2, 4, 8, 2, 4, 8};
 #define N_KINDS 4
 #define N_TYPES (sizeof types / sizeof *types)
 
-/* ---- Indices ---- */
-
-static int is_signed(uint64_t ptype)
-{
-    return ptype >= VORTEX_ARROW_I8 && ptype <= VORTEX_ARROW_I64;
-}
-
-/* Returns a number of so many bytes, sign-extended if it is signed. */
-static uint64_t number_at(const uint8_t *bytes, unsigned width, int with_sign)
-{
-    uint64_t number = with_sign && bytes[width - 1] >> 7 ? UINT64_MAX : 0;
-    unsigned k;
-    for (k = width; k > 0; k--) {
-        number = number << 8 | bytes[k - 1];
-    }
-    return number;
-}
-
-static int is_valid(const vortex_arrow_step *step, uint64_t k)
-{
-    return !step->valid.len || (step->valid.data[k / 8] >> k % 8 & 1);
-}
-
-/* Finds the first index of a take that is out of bounds. */
-static void find_index(const report *r)
-{
-    const vortex_arrow_step *step = r->step;
-    unsigned width = widths[step->ptype];
-    uint64_t k;
-    for (k = step->offset; k < step->offset + step->len; k++) {
-        uint64_t index = number_at(step->values.data + width * k, width, is_signed(step->ptype));
-        int is_negative = is_signed(step->ptype) && index >> 63;
-        if (is_valid(step, k) && (is_negative || index >= r->rows)) {
-            r->error->found = index;
-            r->error->is_negative = (uint64_t)is_negative;
-            return;
-        }
-    }
-}
-
-static uint64_t wide_at(const vortex_arrow_bytes *list, uint64_t k)
-{
-    return number_at(list->data + 8 * k, 8, 0);
-}
-
-/* Finds the first index of ranges that is out of bounds. The ranges are valid, so no index passes
- * 2^64 - 1. */
-static void find_range(const report *r)
-{
-    const vortex_arrow_step *step = r->step;
-    uint64_t k;
-    for (k = step->offset; k < step->offset + step->len; k++) {
-        uint64_t start = wide_at(&step->values, k), len = wide_at(&step->lengths, k);
-        uint64_t apart = wide_at(&step->multipliers, k), steps;
-        uint64_t left = start < r->rows ? r->rows - start : 0;
-        if (!len || (left && !apart)) {
-            continue;
-        }
-        steps = left ? (left - 1) / apart + 1 : 0;
-        if (steps < len) {
-            r->error->found = start + steps * apart;
-            return;
-        }
-    }
-}
-
-/* Returns how many indices ranges have together, at most UINT64_MAX. */
-static uint64_t indices_of(const vortex_arrow_step *step)
-{
-    uint64_t k, sum = 0;
-    for (k = step->offset; k < step->offset + step->len; k++) {
-        uint64_t len = wide_at(&step->lengths, k);
-        sum = len > UINT64_MAX - sum ? UINT64_MAX : sum + len;
-    }
-    return sum;
-}
-
 /* ---- Invalid steps ---- */
 
 static const char *rows_of(uint64_t rows) { return rows == 1 ? "row" : "rows"; }
@@ -111,13 +33,10 @@ static const char *rows_of(uint64_t rows) { return rows == 1 ? "row" : "rows"; }
 
 static void say_range(const report *r)
 {
-    uint64_t start = r->step->start, end = r->step->end;
-    int is_past = end > r->rows;
-    r->error->found = is_past ? end : start;
-    r->error->bound = is_past ? r->rows : end;
-    if (is_past) {
-        SAY(r, "slice %" PRIu64 "..%" PRIu64 ", but %" PRIu64 " %s", start, end, r->rows,
-            rows_of(r->rows));
+    uint64_t start = r->step->start, end = r->step->end, rows = r->error->bound;
+    if (rows < end) {
+        SAY(r, "slice %" PRIu64 "..%" PRIu64 ", but %" PRIu64 " %s", start, end, rows,
+            rows_of(rows));
     } else {
         SAY(r, "slice %" PRIu64 "..%" PRIu64 " starts after its end", start, end);
     }
@@ -125,38 +44,30 @@ static void say_range(const report *r)
 
 static void say_mask(const report *r)
 {
-    r->error->found = r->step->len;
-    r->error->bound = r->rows;
-    SAY(r, "mask of length %" PRIu64 ", but %" PRIu64 " %s", r->step->len, r->rows,
-        rows_of(r->rows));
+    SAY(r, "mask of length %" PRIu64 ", but %" PRIu64 " %s", r->error->found, r->error->bound,
+        rows_of(r->error->bound));
 }
 
 static void say_index(const report *r)
 {
-    r->error->bound = r->rows;
-    if (r->step->kind == VORTEX_ARROW_TAKE) {
-        find_index(r);
-    } else {
-        find_range(r);
-    }
+    uint64_t found = r->error->found, rows = r->error->bound;
     if (r->error->is_negative) {
-        SAY(r, "index -%" PRIu64, -r->error->found);
+        SAY(r, "index -%" PRIu64, found);
+        r->error->found = -found;
     } else {
-        SAY(r, "index %" PRIu64, r->error->found);
+        SAY(r, "index %" PRIu64, found);
     }
-    SAY(r, ", but %" PRIu64 " %s", r->rows, rows_of(r->rows));
+    SAY(r, ", but %" PRIu64 " %s", rows, rows_of(rows));
 }
 
 static void say_pieces(const report *r)
 {
-    uint64_t found = indices_of(r->step), declared = r->step->declared;
-    if (found == declared) {
+    if (r->error->found == r->error->bound) {
         SAY(r, "expected indices below 2^64, got a range with one past that");
         return;
     }
-    r->error->found = found;
-    r->error->bound = declared;
-    SAY(r, "ranges of %" PRIu64 " indices, but %" PRIu64 " declared", found, declared);
+    SAY(r, "ranges of %" PRIu64 " indices, but %" PRIu64 " declared", r->error->found,
+        r->error->bound);
 }
 
 static void say_cause(const report *r)
@@ -217,20 +128,23 @@ static void say_lack(const report *r)
 
 /* ---- The call ---- */
 
-/* Returns how many rows the steps leave of `len` rows. They are valid. */
-static uint64_t rows_after(uint64_t len, const vortex_arrow_step *steps, uint64_t n_steps)
+/* Sets the numbers of an invalid step, which the library finds. Returns 0 if the steps don't have
+ * that answer, or memory runs out. */
+static int set_numbers(uint64_t len, const vortex_arrow_step *steps, size_t n_steps,
+    vortex_arrow_error *error)
 {
-    vortex_arrow_picks_need need = {0, 0};
-    if (!n_steps || vortex_arrow_count(len, steps, (size_t)n_steps, &need).status) {
-        return len;
-    }
-    return need.places;
+    vortex_arrow_cause_answer found = vortex_arrow_cause(len, steps, n_steps);
+    error->found = found.found;
+    error->bound = found.bound;
+    error->is_negative = found.is_negative;
+    return found.status == VORTEX_ARROW_BROKEN && found.step == error->step &&
+        found.what == error->cause;
 }
 
 void vortex_arrow_explain(uint64_t len, const vortex_arrow_step *steps, size_t n_steps,
     vortex_arrow_answer answer, vortex_arrow_error *error)
 {
-    report r = {NULL, len, error};
+    report r = {NULL, error};
     uint64_t step = answer.node_or_step;
     int is_broken = answer.status == VORTEX_ARROW_BROKEN;
     memset(error, 0, sizeof *error);
@@ -247,7 +161,9 @@ void vortex_arrow_explain(uint64_t len, const vortex_arrow_step *steps, size_t n
         say_lack(&r);
         return;
     }
-    SAY(&r, "%s: ", answer.what < N_CAUSES ? causes[answer.what] : "Invalid");
-    r.rows = rows_after(len, steps, step);
-    say_cause(&r);
+    SAY(&r, "%s", answer.what < N_CAUSES ? causes[answer.what] : "Invalid");
+    if (set_numbers(len, steps, n_steps, error)) {
+        SAY(&r, ": ");
+        say_cause(&r);
+    }
 }

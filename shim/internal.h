@@ -146,8 +146,6 @@ VORTEX_HIDDEN uint64_t vortex_arrow_answer_rows(const table *t, const vortex_arr
 
 /* arrow_contents.c */
 VORTEX_HIDDEN size_t vortex_arrow_long_lists(const table *t, const vortex_arrow_picks *p);
-VORTEX_HIDDEN void vortex_arrow_clear_nulls(const vortex_arrow_node *node,
-    const vortex_arrow_need *need, const vortex_arrow_room *room);
 VORTEX_HIDDEN vortex_arrow_extra vortex_arrow_extra_of(const source *from);
 
 /* arrow_arrays.c */

@@ -1,4 +1,5 @@
 pub mod Answer
 pub mod Formats
+pub mod Causes
 pub mod Steps
 pub mod Strict

@@ -69,8 +69,8 @@ fn code_of(lack: Lack) -> u64
     }
 }
 
-// The number of what a step's image lacks.
-fn step_code_of(lack: vx_arrow::Lack) -> u64
+/// The number of what a step's image lacks.
+pub(crate) fn step_code_of(lack: vx_arrow::Lack) -> u64
     ensures { result ≡ step_lack_code lack }
 {
     match lack {
@@ -84,8 +84,8 @@ fn step_code_of(lack: vx_arrow::Lack) -> u64
     }
 }
 
-// The number of the rule that a step breaks.
-fn cause_code_of(cause: Cause) -> u64
+/// The number of the rule that a step breaks.
+pub(crate) fn cause_code_of(cause: Cause) -> u64
     ensures { result ≡ cause_code cause }
 {
     match cause {

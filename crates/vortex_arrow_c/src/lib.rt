@@ -5,8 +5,10 @@
 #![tactic(auto)]
 
 mod answer;
+mod causes;
 mod columns;
 mod formats;
 mod steps;
 mod strict;
 mod version;
+mod zeros;
