@@ -367,6 +367,16 @@ uint64_t vortex_arrow_clear_nulls(uint64_t format, uint64_t width, uint64_t rows
     size_t n_valid, uint8_t *offsets, size_t n_offsets, uint8_t *values, size_t n_values,
     uint8_t *sizes, size_t n_sizes);
 
+/* Writes the rows that a single step selects of a column of one node to its room, without a list of
+ * places. Returns 0, 1 if the call doesn't serve the column or the step, or NO_MEMORY. Unless it
+ * returns 0, nothing is written.
+ *
+ * It serves values of 1, 2, 4, 8, 16 or 32 bytes without nulls, and a slice, a filter or a take by
+ * integers without nulls. It doesn't serve an invalid step, a node that lacks values, or a room that
+ * is too small: vortex_arrow_count and vortex_arrow_take report these. */
+uint64_t vortex_arrow_select_flat(const vortex_arrow_node *nodes, size_t n_nodes,
+    const vortex_arrow_step *steps, size_t n_steps, vortex_arrow_room *room);
+
 /* The shim. */
 
 /* How many levels of columns there may be, and how many columns one call visits. Children and

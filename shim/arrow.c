@@ -211,6 +211,33 @@ static uint64_t answer_schema(const struct ArrowSchema *schema, const vortex_arr
     return status;
 }
 
+/* Makes an array of the rows that a single step selects of a column without children, a dictionary
+ * or nulls. Returns 0 if it isn't such a column, or if there is a fault, which the longer way
+ * reports. */
+static int select_flat(const struct ArrowSchema *schema, struct ArrowArray *array,
+    const vortex_arrow_step *steps, size_t n_steps, struct ArrowArray *out)
+{
+    vortex_arrow_error unread;
+    vortex_arrow_picks_need need = {0, 0};
+    size_t left = VORTEX_ARROW_NODES;
+    int is_done = 0;
+    table t;
+    if (n_steps != 1 || array->n_children || array->dictionary || array->n_buffers != 2) {
+        return 0;
+    }
+    memset(&t, 0, sizeof t);
+    memset(&unread, 0, sizeof unread);
+    t.error = &unread;
+    t.left = &left;
+    if (!vortex_arrow_walk(&t, schema, array, 1) && t.nodes[0].format == VORTEX_ARROW_FIXED &&
+        !t.nodes[0].valid.len &&
+        !count_picks((uint64_t)array->length, steps, n_steps, &need).status && !need.valid) {
+        is_done = vortex_arrow_answer_flat(&t, steps, need.places, out);
+    }
+    vortex_arrow_drop_table(&t);
+    return is_done;
+}
+
 uint64_t vortex_select_arrow(const struct ArrowSchema *schema, struct ArrowArray *array,
     const vortex_arrow_step *steps, size_t n_steps, struct ArrowSchema *out_schema,
     struct ArrowArray *out_array, vortex_arrow_error *error)
@@ -224,8 +251,17 @@ uint64_t vortex_select_arrow(const struct ArrowSchema *schema, struct ArrowArray
     if (out_schema) {
         out_schema->release = NULL;
     }
-    if (admit(schema, array, error) ||
-        vortex_arrow_pick((uint64_t)array->length, steps, n_steps, &p, error)) {
+    if (admit(schema, array, error)) {
+        return error->status;
+    }
+    if (select_flat(schema, array, steps, n_steps, out_array)) {
+        status = answer_schema(schema, steps, n_steps, out_schema, error);
+        if (status) {
+            out_array->release(out_array);
+        }
+        return status;
+    }
+    if (vortex_arrow_pick((uint64_t)array->length, steps, n_steps, &p, error)) {
         return error->status;
     }
     status = answer_schema(schema, steps, n_steps, out_schema, error);

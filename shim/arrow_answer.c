@@ -261,3 +261,28 @@ uint64_t vortex_arrow_answer_rows(const table *t, const vortex_arrow_picks *p,
     free(rooms);
     return answer.status ? vortex_arrow_fault_of_node(t, answer) : answer.status;
 }
+
+/* Makes an array of the `rows` rows that a step selects of a column of one node, without a list of
+ * places. Returns 0 if the library doesn't serve it. */
+int vortex_arrow_answer_flat(const table *t, const vortex_arrow_step *step, uint64_t rows,
+    struct ArrowArray *out)
+{
+    vortex_arrow_need need = {0, 0, 0, 0, 0};
+    vortex_arrow_room room;
+    supply s;
+    if (rows > PTRDIFF_MAX / 64 || t->nodes[0].width > 32) {
+        return 0;
+    }
+    need.len = rows;
+    need.values = rows * t->nodes[0].width;
+    memset(&room, 0, sizeof room);
+    if (!supply_answer(t, &need, &s)) {
+        return 0;
+    }
+    place(t, 0, &need, &room, out, &s);
+    if (s.status || vortex_arrow_select_flat(t->nodes, 1, step, 1, &room)) {
+        out->release(out);
+        return 0;
+    }
+    return 1;
+}

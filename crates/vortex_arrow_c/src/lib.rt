@@ -7,6 +7,7 @@
 mod answer;
 mod causes;
 mod columns;
+mod flat;
 mod formats;
 mod steps;
 mod strict;

@@ -1,13 +1,17 @@
 -- What a slice, or a take by numbers of which none is null, leaves alone.
-use Rattle.std.proofs.Common.{◌≡◌, ℕ, ◌-◌, ◌≤◌, ◌++◌, true, false, List, [], ◌∷◌, map, length, drop, get_or, Option, Some, None, ℤ, pos, negsuc, refl, sym, ap, ap₂, ◌∙◌, subst, arith}
-use Rattle.std.specs.List.{list_all}
+use Rattle.std.proofs.Common.{◌≡◌, ℕ, ◌+◌, ◌-◌, ◌≤◌, ◌++◌, Bool, true, false, List, [], ◌∷◌, map, length, drop, get_or, Option, Some, None, ℤ, pos, negsuc, refl, sym, ap, ap₂, ◌∙◌, subst, arith}
+use Rattle.std.specs.List.{items_where_true, list_all, range_with_len}
 use Rattle.std.specs.Cmp.{first_so, second_so}
-use Rattle.std.specs.Prelude.{slice_range}
-use Rattle.std.proofs.lemmas.Bool.{ltb-true}
+use Rattle.std.specs.Prelude.{IfSome, slice_range}
+use Rattle.std.proofs.lemmas.Bool.{eq-eqb, ltb-true}
 use Rattle.std.proofs.lemmas.Bool.Decides.{nat_tests}
 use Rattle.std.proofs.lemmas.List.{length-map}
 use Rattle.std.proofs.lemmas.List.FromFn.{get_or-map-range_with_len, length-map-range_with_len}
 use Rattle.std.proofs.lemmas.Simd.{map-map}
+use Rattle.vx_bits.specs.BitBuffer.{PlacedBits, bits_of}
+use Rattle.vx_bits.proofs.BitLists.{length_bits}
+use Rattle.vx_mask.specs.Positions.{positions}
+use Rattle.vx_model.proofs.Items.{map-items_where_true}
 use Rattle.vx_types.specs.PType.{number, width}
 use Rattle.vx_types.specs.declared.nullability.Nullability.TheVariants.{NonNullable}
 use Rattle.vx_take.specs.Picks.{at, item_at}
@@ -23,13 +27,14 @@ use Rattle.vx_model.specs.Numbers.{numbers_of}
 use Rattle.vx_model.specs.Valid.{non_nullable}
 use Rattle.vx_column.proofs.NumberLists.{numbers-present}
 use Rattle.vx_steps.specs.Compose.{takes_nullability}
-use Rattle.vx_steps.specs.Step.{slice_step, take_step}
+use Rattle.vx_steps.specs.Step.{StepValue, filter_step, slice_step, take_step}
 use Rattle.vx_steps.specs.Walk.{Walk, all_positions, apply, broken, unless_broken, walk, walk_picks}
 use Rattle.vx_steps.proofs.ComposedPicks.{all_positions-range, range-part}
 use Rattle.vx_steps.proofs.Walks.{length-all_positions}
 use Rattle.vx_arrow.specs.Known.{IsAlone, IsHeld, Leaves, are_positions, number_bytes, numbers_at, places_of}
 use Rattle.vx_arrow.specs.Answer.{HasNeed, IfPicks, walk_in}
-use Rattle.vx_arrow.specs.Image.{StepParts, numbers_in, record_at, step_in, step_parts, steps_in}
+use Rattle.vx_arrow.specs.Image.{StepParts, filter_by_bits, kind_in, numbers_in, record_at, step_by, step_in, step_parts, steps_in, valid_in}
+use Rattle.vx_arrow.specs.declared.image.StepKind.TheVariants.{Filter}
 use Rattle.vx_arrow.specs.Written.{ArePlaced, AreShown, need_of, place_of}
 use Rattle.vx_arrow.specs.declared.image.StepImage.{StepImage}
 use Rattle.vx_arrow.specs.declared.known.KnownPicks.{KnownPicks}
@@ -62,6 +67,34 @@ range_leaves n start end h k =
       bare = refl;
     }
 
+-- ---- a mask
+
+set_picked : (at : ℕ) (bits : List Bool) → positions at bits ≡ items_where_true bits (range_with_len at (length bits))
+set_picked at [] = refl
+set_picked at (true ∷ bits) = ap (λ l. at ∷ l) (set_picked (at + 1) bits)
+set_picked at (false ∷ bits) = set_picked (at + 1) bits
+
+pub mask_leaves : (n : ℕ) (b : PlacedBits) → length b.bits ≡ n → Leaves n (filter_step b.bits) (variants.Mask b)
+mask_leaves n b h =
+    record {
+      sound = h;
+      whole = rw (h, eq-eqb n n refl) refl;
+      picks = sym (map-items_where_true (λ (p : ℕ). Some p) b.bits (range_with_len 0 n))
+      ∙ ap (map Some) (ap (λ m. items_where_true b.bits (range_with_len 0 m)) (sym h) ∙ sym (set_picked 0 b.bits));
+      bare = refl;
+    }
+
+no_valid : (valid : List ℕ) (offset n : ℕ) → length valid ≡ 0 → valid_in valid offset n ≡ non_nullable
+no_valid [] offset n h = refl
+no_valid (v ∷ valid) offset n h = absurd (omega arith)
+
+pub filter_leaves : (n : ℕ) (s : StepParts) (b : PlacedBits) → kind_in s.kind ≡ Some Filter → length s.valid ≡ 0 → s.len ≡ n → b.bits ≡ bits_of s.values s.offset n → Leaves n (step_in s) (variants.Mask b)
+filter_leaves n s b kind none len is =
+    let means : step_in s ≡ filter_step b.bits =
+    ap (λ k. step_by k s) kind ∙ ap (filter_by_bits (bits_of s.values s.offset s.len)) (no_valid s.valid s.offset s.len none)
+    ∙ ap filter_step (ap (bits_of s.values s.offset) len ∙ sym is) in
+    subst (λ (step : StepValue). Leaves n step (variants.Mask b)) (sym means) (mask_leaves n b (ap length is ∙ length_bits s.values s.offset n))
+
 -- ---- numbers
 
 module _ (n : ℕ) (t : Numbers) (held : IsHeld t) (all : are_positions n t ≡ true) where
@@ -91,7 +124,10 @@ pub length-numbers_at : (t : Numbers) → length (numbers_at t) ≡ t.len
 length-numbers_at t =
     length-map (number_bytes t) (λ r. position_of (number t.ptype r)) ∙ length-number_bytes t
 
--- ---- either of them, alone
+-- ---- one of them, alone
+
+pub some_is : {X : Type 0} (o : Option X) (x : X) (P : X → Type 0) → o ≡ Some x → IfSome o P → P x
+some_is {X = X} o x P e h = subst (λ (q : Option X). IfSome q P) e h
 
 pub only_step : (images : List StepImage) (d : StepImage) → length images ≡ 1 → steps_in (map step_parts images) ≡ step_in (step_parts (get_or images 0 d)) ∷ []
 only_step [] d h = absurd (omega arith)

@@ -1,10 +1,10 @@
 -- Places and bits, written one after another.
-use Rattle.std.proofs.Common.{◌≡◌, ℕ, ◌+◌, ◌-◌, ◌*◌, ◌/◌, ◌%◌, ◌<◌, ◌≤◌, ◌≢◌, Bool, List, [], ◌∷◌, ◌++◌, length, get_or, take, drop, set, map, eqb, Option, None, refl, ap, subst, ◌∙◌, sym, inl, inr, arith, get_or-set_same, get_or-set_other, length-take-le, append_assoc, drop-cons, add-one}
+use Rattle.std.proofs.Common.{◌≡◌, ℕ, ◌+◌, ◌-◌, ◌*◌, ◌/◌, ◌%◌, ◌<◌, ◌≤◌, ◌≢◌, Bool, List, [], ◌∷◌, ◌++◌, length, get_or, take, drop, set, map, eqb, Option, None, refl, ap, ap₂, subst, ◌∙◌, sym, inl, inr, arith, get_or-set_same, get_or-set_other, length-take-le, append_assoc, drop-cons, add-one}
 use Rattle.std.specs.Prelude.{is_some}
 use Rattle.std.specs.Int.{bit_at}
 use Rattle.std.proofs.lemmas.Bool.{cases_eq, cases_lt}
 use Rattle.std.proofs.lemmas.Nat.Bits.{bit_at-zero}
-use Rattle.std.proofs.lemmas.List.{same_lists, length-map, get_or-map, map_push, take_more, set_at}
+use Rattle.std.proofs.lemmas.List.{same_lists, length-map, get_or-map, map_push, take_more, set_at, drop-drop, take-append-drop}
 use Rattle.vx_lemmas.proofs.Bits.{other_bits, set_bit}
 use Rattle.vx_bits.specs.BitBuffer.{bit_of}
 use Rattle.vx_bits.proofs.BitLists.{bit_in, length_bits}
@@ -94,3 +94,13 @@ next_placed picks = next_written place_of picks None
 pub same_items : (items : List ℕ) → map (λ (p : ℕ). p) items ≡ items
 same_items [] = refl
 same_items (x ∷ items) = ap (λ l. x ∷ l) (same_items items)
+
+-- ---- places behind those that are written
+
+pub same_further : (old new : List ℕ) (m n : ℕ) → m ≤ n → drop m new ≡ drop m old → drop n new ≡ drop n old
+same_further old new m n h e =
+    let at : m + (n - m) ≡ n = omega arith in
+    ap (λ k. drop k new) (sym at) ∙ sym (drop-drop (n - m) m new) ∙ ap (drop (n - m)) e ∙ drop-drop (n - m) m old ∙ ap (λ k. drop k old) at
+
+pub front_and_rest : (n : ℕ) (new old front : List ℕ) → take n new ≡ front → drop n new ≡ drop n old → new ≡ front ++ drop n old
+front_and_rest n new old front e f = sym (take-append-drop n new) ∙ ap₂ ◌++◌ e f

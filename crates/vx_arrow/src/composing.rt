@@ -72,7 +72,7 @@ pub fn count(alloc: Global, len: usize, steps: &[StepImage]) -> Result<Need, Ref
     ensures need { IfOk result (HasNeed len (map step_parts steps.now)) }
     ensures fault { IfErr result (IsRefusal len (map step_parts steps.now) (λ _. ⊥)) }
 {
-    if let Some(picks) = known_picks(steps, len) {
+    if let Some(picks) = known_picks(alloc, steps, len)? {
         return Ok(Need::of(picks.len(), Nullability::NonNullable));
     }
     let steps = read(alloc, steps)?;
@@ -104,7 +104,7 @@ pub fn compose(
     ensures kept_places { OnErr result (places.new ≡ places.old) }
     ensures kept_valid { OnErr result (valid.new ≡ valid.old) }
 {
-    if let Some(picks) = known_picks(steps, len) {
+    if let Some(picks) = known_picks(alloc, steps, len)? {
         let need = Need::of(picks.len(), Nullability::NonNullable);
         if !need.has_room(places.len(), valid.len()) {
             return Err(Refusal::Room(need));

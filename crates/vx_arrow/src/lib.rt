@@ -14,6 +14,7 @@ mod written;
 
 pub use composing::{compose, count};
 pub use image::StepImage;
+pub use known::{KnownPicks, Numbers, known_picks};
 pub use lacks::{Lack, Lacking};
 pub use need::Need;
 pub use refusal::Refusal;
