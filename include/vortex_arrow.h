@@ -345,8 +345,8 @@ vortex_arrow_answer vortex_arrow_sizes(const vortex_arrow_node *nodes, size_t n_
     vortex_arrow_need *needs, size_t n_needs);
 
 /* Writes the rows at the places, node by node, without the nodes that are kept. What it leaves
- * under a null isn't specified: the source's bytes, or what the output buffer held. Clear it with
- * vortex_arrow_clear_nulls.
+ * under a null isn't specified: the source's bytes, or what the output buffer held.
+ * vortex_arrow_clear_nulls clears it.
  *
  * - ROOM: there are not as many rooms as nodes, or one is smaller than vortex_arrow_sizes says.
  * - The statuses of vortex_arrow_sizes. */
@@ -461,6 +461,27 @@ uint64_t vortex_select_arrow_stream(struct ArrowArrayStream *source, const vorte
  * return value is DONE, SHAPE, DEPTH or NO_MEMORY. At SHAPE the array is released, or a child of it
  * is. */
 uint64_t vortex_arrow_share(struct ArrowArray *array, struct ArrowArray *out);
+
+/* Makes *out the rows of *array from `start` up to `end`, without a copy. *out shares the memory of
+ * *array and is released on its own, as in vortex_arrow_share. NOTE: this modifies the array. If
+ * it isn't reference-counted yet, it is replaced in place by an equivalent that is. The time
+ * doesn't depend on the number of rows.
+ *
+ * The schema of *out is that of the array. The offset of *out is the array's plus `start`, and its
+ * length is `end - start`. What is below it is the array's: children and dictionaries keep their
+ * offsets and lengths. Its null count is 0 if the array's is, all rows if the format is n, and else
+ * -1, which means that it isn't counted.
+ *
+ * The return value is the status, which *error has too; `error` may be null. It is that of
+ * vortex_select_arrow with this slice as its only step, except that no row is tested. A range
+ * past the rows is BROKEN, with the cause BAD_RANGE. At every status except DONE, *out is marked as
+ * released, and the array stays as it is.
+ *
+ * Contents aren't tested: rows, offsets, type ids and codes. Strings are read up to their last
+ * offset, which is another one in a slice. If the producer isn't trusted, call
+ * vortex_arrow_check_array before. */
+uint64_t vortex_arrow_slice(const struct ArrowSchema *schema, struct ArrowArray *array,
+    uint64_t start, uint64_t end, struct ArrowArray *out, vortex_arrow_error *error);
 
 /* Makes *out a copy of the schema. The return value is DONE, SHAPE, DEPTH or NO_MEMORY. Metadata
  * with a negative count or length is SHAPE. */

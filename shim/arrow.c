@@ -1,5 +1,7 @@
 /* Row selection over columns of Arrow's C Data Interface. Calls libvortex_arrow_c.a. C99 and
  * C++11. */
+#include "pages.h"
+
 #include "internal.h"
 
 #include <stdlib.h>
@@ -46,7 +48,9 @@ uint64_t vortex_arrow_pick(uint64_t len, const vortex_arrow_step *steps, size_t 
         return answer.status;
     }
     if (need.places < SIZE_MAX / 16) {
-        p->places = (uint64_t *)malloc(8 * need.places + need.valid + 8);
+        size_t size = 8 * need.places + need.valid + 8;
+        p->places = (uint64_t *)malloc(size);
+        vortex_advise_pages(p->places, size);
     }
     if (!p->places) {
         return vortex_arrow_fault(error, VORTEX_ARROW_NO_MEMORY, "");
@@ -81,7 +85,7 @@ int vortex_arrow_leaves_nulls(const vortex_arrow_step *steps, size_t n_steps)
 /* ---- Dictionaries ---- */
 
 /* Whether the dictionaries of a table can be shared with the answer. */
-static uint64_t admit_dictionaries(const table *t)
+uint64_t vortex_arrow_admit_dictionaries(const table *t)
 {
     size_t k;
     for (k = 0; k < t->len; k++) {
@@ -170,7 +174,7 @@ uint64_t vortex_arrow_take_rows(const struct ArrowSchema *schema, struct ArrowAr
     t.error = error;
     t.left = &left;
     status = vortex_arrow_walk(&t, schema, array, 1);
-    status = status ? status : admit_dictionaries(&t);
+    status = status ? status : vortex_arrow_admit_dictionaries(&t);
     status = status ? status : vortex_arrow_answer_rows(&t, p, out);
     vortex_arrow_drop_table(&t);
     return status;
@@ -187,7 +191,7 @@ uint64_t vortex_arrow_check_array(const struct ArrowSchema *schema, struct Arrow
 }
 
 /* Tests what is read of the two structs before the steps are composed. */
-static uint64_t admit(const struct ArrowSchema *schema, const struct ArrowArray *array,
+uint64_t vortex_arrow_admit(const struct ArrowSchema *schema, const struct ArrowArray *array,
     vortex_arrow_error *error)
 {
     if (!schema || !array || !schema->release || !array->release) {
@@ -251,7 +255,7 @@ uint64_t vortex_select_arrow(const struct ArrowSchema *schema, struct ArrowArray
     if (out_schema) {
         out_schema->release = NULL;
     }
-    if (admit(schema, array, error)) {
+    if (vortex_arrow_admit(schema, array, error)) {
         return error->status;
     }
     if (select_flat(schema, array, steps, n_steps, out_array)) {

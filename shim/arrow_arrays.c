@@ -1,5 +1,7 @@
 /* Arrays and schemas that the shim releases: who owns the memory, and what is shared. C99 and
  * C++11. */
+#include "pages.h"
+
 #include "internal.h"
 
 #include <stdlib.h>
@@ -61,6 +63,7 @@ int vortex_arrow_supply(supply *s, size_t parts, size_t arrays, uint64_t extra)
     if (!s->of) {
         return 0;
     }
+    vortex_advise_pages(s->of, fixed + extra);
     memset(s->of, 0, sizeof *s->of);
     s->parts = (part *)(s->of + 1);
     s->arrays = (struct ArrowArray *)(s->parts + parts);
@@ -243,6 +246,67 @@ uint64_t vortex_arrow_share(struct ArrowArray *array, struct ArrowArray *out)
         return VORTEX_ARROW_SHAPE;
     }
     return part_of(array) ? share_counted(array, out) : share_first(array, out);
+}
+
+/* ---- Slices ---- */
+
+/* Tests that a slice is within the rows. */
+static uint64_t admit_range(uint64_t rows, uint64_t start, uint64_t end, vortex_arrow_error *error)
+{
+    vortex_arrow_answer broken = {VORTEX_ARROW_BROKEN, 0, VORTEX_ARROW_BAD_RANGE};
+    vortex_arrow_step step;
+    if (start <= end && end <= rows) {
+        return VORTEX_ARROW_DONE;
+    }
+    memset(&step, 0, sizeof step);
+    step.kind = VORTEX_ARROW_SLICE;
+    step.start = start;
+    step.end = end;
+    vortex_arrow_explain(rows, &step, 1, broken, error);
+    return error->status;
+}
+
+/* Tests the structs of a column and of what is below it, as a selection does. */
+static uint64_t admit_structs(const struct ArrowSchema *schema, struct ArrowArray *array,
+    vortex_arrow_error *error)
+{
+    table t;
+    size_t left = VORTEX_ARROW_NODES;
+    uint64_t status;
+    memset(&t, 0, sizeof t);
+    t.error = error;
+    t.left = &left;
+    status = vortex_arrow_walk(&t, schema, array, 1);
+    status = status ? status : vortex_arrow_admit_dictionaries(&t);
+    vortex_arrow_drop_table(&t);
+    return status;
+}
+
+uint64_t vortex_arrow_slice(const struct ArrowSchema *schema, struct ArrowArray *array,
+    uint64_t start, uint64_t end, struct ArrowArray *out, vortex_arrow_error *error)
+{
+    vortex_arrow_error unread;
+    uint64_t status;
+    error = error ? error : &unread;
+    memset(error, 0, sizeof *error);
+    out->release = NULL;
+    if (vortex_arrow_admit(schema, array, error) ||
+        admit_range((uint64_t)array->length, start, end, error) ||
+        admit_structs(schema, array, error)) {
+        return error->status;
+    }
+    status = vortex_arrow_share(array, out);
+    if (status) {
+        return vortex_arrow_fault(error, status, "");
+    }
+    out->offset += (int64_t)start;
+    out->length = (int64_t)(end - start);
+    if (!strcmp(schema->format, "n")) {
+        out->null_count = out->length;
+    } else if (out->null_count) {
+        out->null_count = -1;
+    }
+    return VORTEX_ARROW_DONE;
 }
 
 /* ---- Schemas ---- */

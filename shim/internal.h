@@ -123,6 +123,9 @@ VORTEX_HIDDEN uint64_t vortex_arrow_fault_of_node(const table *t, vortex_arrow_a
 /* arrow.c */
 VORTEX_HIDDEN uint64_t vortex_arrow_pick(uint64_t len, const vortex_arrow_step *steps,
     size_t n_steps, vortex_arrow_picks *p, vortex_arrow_error *error);
+VORTEX_HIDDEN uint64_t vortex_arrow_admit(const struct ArrowSchema *schema,
+    const struct ArrowArray *array, vortex_arrow_error *error);
+VORTEX_HIDDEN uint64_t vortex_arrow_admit_dictionaries(const table *t);
 VORTEX_HIDDEN int vortex_arrow_leaves_nulls(const vortex_arrow_step *steps, size_t n_steps);
 VORTEX_HIDDEN uint64_t vortex_arrow_take_rows(const struct ArrowSchema *schema,
     struct ArrowArray *array, const vortex_arrow_picks *p, struct ArrowArray *out,

@@ -306,6 +306,29 @@ static int is_valid_column(const struct ArrowSchema *schema, struct ArrowArray *
     return !error.status;
 }
 
+/* Slices an array, and reads the slice if the array is valid. Strings of an invalid one may have an
+ * offset past their bytes, which may be the last one of a slice. */
+static void slice_from(input *in, const struct ArrowSchema *schema, struct ArrowArray *array,
+    int is_valid)
+{
+    uint64_t start = next(in) % 8, end = next(in) % 16;
+    struct ArrowArray out;
+    vortex_arrow_error error;
+    if (vortex_arrow_slice(schema, array, start, end, &out, &error)) {
+        if (out.release || !error.text[0]) {
+            abort();
+        }
+        return;
+    }
+    if (is_valid) {
+        seen = seen + touch(schema, &out, ALL);
+        if (vortex_arrow_check_array(schema, &out, &error) == VORTEX_ARROW_NO_MEANING) {
+            abort();
+        }
+    }
+    out.release(&out);
+}
+
 int LLVMFuzzerTestOneInput(const uint8_t *data, size_t len);
 
 int LLVMFuzzerTestOneInput(const uint8_t *data, size_t len)
@@ -315,11 +338,14 @@ int LLVMFuzzerTestOneInput(const uint8_t *data, size_t len)
     struct ArrowArray array;
     vortex_arrow_step steps[3];
     size_t k, n_steps = next(&in) % 4;
+    int is_valid;
     for (k = 0; k < n_steps; k++) {
         step_of(&in, &steps[k]);
     }
     column(&in, &schema, &array, 1);
-    select_from(&in, &schema, &array, steps, n_steps, is_valid_column(&schema, &array) ? ALL : OWN);
+    is_valid = is_valid_column(&schema, &array);
+    slice_from(&in, &schema, &array, is_valid);
+    select_from(&in, &schema, &array, steps, n_steps, is_valid ? ALL : OWN);
     if (array.release) {
         array.release(&array);
     }

@@ -190,6 +190,59 @@ static void share_round(uint64_t seed)
     expect(blocks == before, "nothing is left", seed);
 }
 
+static void slice_round(uint64_t seed)
+{
+    struct ArrowSchema schema;
+    struct ArrowArray array, out;
+    void (*first)(struct ArrowArray *);
+    vortex_arrow_error error;
+    uint64_t status = VORTEX_ARROW_NO_MEMORY;
+    long before = blocks, made, n;
+    int has, calls;
+    reseed(seed);
+    random_column(&schema, &array, 3);
+    for (calls = 0; calls < 2; calls++) { /* the second time it is counted already */
+        uint64_t end = (uint64_t)array.length;
+        first = array.release;
+        made = blocks;
+        for (n = 0, has = 1; has; n++) {
+            fail_at(n);
+            status = vortex_arrow_slice(&schema, &array, end / 2, end, &out, &error);
+            has = has_failed();
+            expect(!has || (status == VORTEX_ARROW_NO_MEMORY && !out.release &&
+                !strcmp(error.text, "out of memory") && array.release == first &&
+                blocks == made), "slice without memory", seed);
+        }
+        expect(status == VORTEX_ARROW_DONE && out.release, "slice", seed);
+        out.release(&out);
+    }
+    array.release(&array);
+    schema.release(&schema);
+    expect(blocks == before, "nothing is left", seed);
+}
+
+/* Each is a slice of the one before, which is then released. Nothing in between is kept. */
+static void slice_chain(uint64_t seed)
+{
+    struct ArrowSchema schema;
+    struct ArrowArray array, out;
+    long before = blocks, first = 0;
+    int link, ok = 1;
+    reseed(seed);
+    random_rows(&schema, &array, 3, 20);
+    for (link = 0; link < 10000 && ok; link++) {
+        uint64_t start = link % 1000 == 0, end = (uint64_t)array.length;
+        ok = !vortex_arrow_slice(&schema, &array, start, end, &out, NULL);
+        array.release(&array);
+        array = out;
+        first = link ? first : blocks;
+    }
+    expect(ok && array.length == 10 && blocks == first, "slices of slices keep no links", seed);
+    array.release(&array);
+    schema.release(&schema);
+    expect(blocks == before, "nothing is left", seed);
+}
+
 static void copy_round(uint64_t seed)
 {
     struct ArrowSchema schema, out;
@@ -324,7 +377,11 @@ int main(void)
         select_round(seed);
         check_round(seed);
         share_round(seed);
+        slice_round(seed);
         copy_round(seed);
+    }
+    for (seed = 1; seed <= 20; seed++) {
+        slice_chain(seed);
     }
     stream_round();
     expect(live_columns() == 0, "all released", 0);

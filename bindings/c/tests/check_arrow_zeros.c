@@ -1,5 +1,5 @@
-/* Clears what is under nulls in lists of each format, and compares each byte with what it should be.
- * Prints `c: N passed, M failed`. */
+/* Clears what is under nulls in lists of each format, and compares each byte with what it should
+ * be. Prints `c: N passed, M failed`. */
 #include <stdlib.h>
 #include <string.h>
 

@@ -2,8 +2,9 @@
 
 import datetime
 import unittest
+from array import array as numbers_of
 
-from vortex_select import Column, Slice, column, from_buffers, select
+from vortex_select import BrokenStep, Column, Slice, column, from_buffers, select
 from vortex_select.columns import column_over
 
 try:
@@ -49,6 +50,61 @@ class Sequences(unittest.TestCase):
                         cut = slice(start, end, step)
                         self.assertEqual(of[cut].to_pylist(), PEOPLE[cut], cut)
                         self.assertEqual(of[cut].type, of.type)
+
+    def test_slices_share_the_memory(self):
+        of = column(["a", None, "ccc", "dd"])
+        cut = of[1:4]
+        again = cut.slice(1, 3)
+        for made in (cut, again):
+            self.assertEqual(made._chunks[0].node.places[:2], of._chunks[0].node.places[:2])
+        self.assertEqual([made._chunks[0].node.offset for made in (cut, again)], [1, 2])
+        del of, cut, made
+        self.assertEqual(again.to_pylist(), ["ccc", "dd"])
+
+    def test_slices_are_those_of_select(self):
+        codes = numbers_of("b", [0, 1, 1, 0])
+        columns = [
+            column(PEOPLE),
+            in_two(PEOPLE),
+            column([None] * 4, "null"),
+            column([True, None, False, True]),
+            column(["a", None, "a text of more bytes", ""], "utf8_view"),
+            column([[1], None, [2, 3], []]),
+            column([[1], None, [2, 3], []], "list_view<int8>"),
+            column([5, "a", "b", 7], "dense_union<id: int64, name: utf8>"),
+            from_buffers("dictionary<int8, utf8>", 4, [None, codes], dictionary=column(["x", "y"])),
+        ]
+        for of in columns:
+            for start in range(len(of) + 1):
+                for end in range(start, len(of) + 1):
+                    wanted = select(of, [Slice(start, end)])
+                    self.assertEqual(of.slice(start, end), wanted)
+                    self.assertEqual(select(of.slice(start, end)), wanted)
+
+    def test_slices_past_the_rows(self):
+        rows = [
+            (1, 5, "step 0: BadRange: slice 1..5, but 4 rows", 5, 4),
+            (3, 2, "step 0: BadRange: slice 3..2 starts after its end", 3, 2),
+            (-1, 2, "step 0: BadRange: slice -1..2 has a negative bound", -1, 0),
+            (0, 2**70, f"step 0: BadRange: slice 0..{2**70}, but 4 rows", 2**70, 4),
+        ]
+        for of in (column([1, 2, 3, 4]), in_two([1, 2, 3, 4])):
+            for start, end, text, found, bound in rows:
+                for call in (of.slice, lambda *cut: select(of, [Slice(*cut)])):
+                    with self.assertRaises(BrokenStep) as why:
+                        call(start, end)
+                    told = why.exception
+                    self.assertEqual((str(told), told.found, told.bound), (text, found, bound))
+        for cut in ((1.5, 2), ("1", 2), (None, 2)):
+            with self.assertRaises(TypeError):
+                column([1, 2]).slice(*cut)
+
+    def test_a_slice_of_strings_ends_within_their_bytes(self):
+        offsets = b"\0\0\0\0\t\0\0\0\3\0\0\0"
+        of = from_buffers("utf8", 2, [None, offsets, bytes(3)], trusted=True)
+        with self.assertRaisesRegex(ValueError, "offsets: expected a last one within the data"):
+            of.slice(0, 1)
+        self.assertEqual(len(of[1:]), 1)
 
     def test_equal(self):
         rows = [1, None, 3]

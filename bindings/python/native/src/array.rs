@@ -105,6 +105,12 @@ impl Array {
         gil::without(py, || column.check()).map_err(raised)
     }
 
+    /// Returns the rows from `start` up to `end`, in the same memory.
+    fn slice(&self, start: u64, end: u64) -> PyResult<Array> {
+        let sliced = self.of.lock().slice(start, end);
+        Array::new(sliced.map_err(raised)?)
+    }
+
     /// Returns the children: those of a struct have the struct's own rows.
     fn split(&self) -> PyResult<Vec<Array>> {
         let children = self.shared()?.into_children();

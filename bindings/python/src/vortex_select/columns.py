@@ -65,6 +65,8 @@ class Column:
     def __getitem__(self, key: Union[int, slice, str]) -> Any:
         """Return the value of a row, the column of a slice of rows, or a field of a struct.
 
+        A slice of step 1 shares the column's memory, as the method `slice` does.
+
         Args:
             key: The number of a row, negative from the end; a slice; or the name of a field.
 
@@ -204,7 +206,10 @@ class Column:
         return select(self, [Take(indices)])
 
     def slice(self, start: int, end: int) -> Column:
-        """Return the rows from `start` up to `end`, `end` excluded.
+        """Return the rows from `start` up to `end`, `end` excluded, without a copy.
+
+        The slice keeps the memory of the column. The time doesn't depend on the number of rows, and
+        no row is tested. `select` with a `Slice` copies the rows.
 
         Args:
             start: The first row.
@@ -212,11 +217,22 @@ class Column:
 
         Raises:
             BrokenStep: The slice isn't within the rows.
+            ValueError: The column isn't valid: a struct of another producer, or strings that would
+                lead past their bytes.
 
         >>> column([5, 6, 7]).slice(1, 3).to_pylist()
         [6, 7]
         """
-        return select(self, [Slice(start, end)])
+        start, end, count = whole(start), whole(end), len(self)
+        if not 0 <= start <= end <= count:
+            raise Slice(start, end).invalid(0, count)
+        found: List[Array] = []
+        for chunk in self._chunks:
+            first, last = max(start, 0), min(end, len(chunk))
+            if first < last:
+                found.append(chunk.slice(first, last))
+            start, end = start - len(chunk), end - len(chunk)
+        return column_over(found or [self._chunks[0].slice(0, 0)])
 
     @property
     def children(self) -> List[Column]:

@@ -291,6 +291,16 @@ extern "C" {
     /// Makes `out` an array of the same rows in the same memory.
     pub fn vortex_arrow_share(array: *mut ArrowArray, out: *mut ArrowArray) -> u64;
 
+    /// Makes `out` an array of the rows from `start` up to `end`, in the same memory.
+    pub fn vortex_arrow_slice(
+        schema: *const ArrowSchema,
+        array: *mut ArrowArray,
+        start: u64,
+        end: u64,
+        out: *mut ArrowArray,
+        error: *mut Fault,
+    ) -> u64;
+
     /// Makes `out` a copy of the schema.
     pub fn vortex_arrow_copy_schema(schema: *const ArrowSchema, out: *mut ArrowSchema) -> u64;
 }

@@ -18,6 +18,39 @@ const NONE: Block = Block {
     place: null_mut(),
 };
 
+/// Blocks of so many bytes, 4 MiB, or more are large.
+const LARGE: usize = 4 << 20;
+
+// The flag of Linux's `madvise` that asks for huge pages.
+#[cfg(target_os = "linux")]
+const MADV_HUGEPAGE: i32 = 14;
+
+#[cfg(target_os = "linux")]
+extern "C" {
+    fn madvise(place: *mut u8, size: usize, advice: i32) -> i32;
+}
+
+/// Asks Linux for huge pages under a large block, as `shim/pages.h` does. An error is ignored, since
+/// the block serves without them.
+#[cfg(target_os = "linux")]
+fn advise_pages(place: *mut u8, size: usize) {
+    const PAGE: usize = 4096;
+    let head = (PAGE - place as usize % PAGE) % PAGE;
+    if !place.is_null() && size >= LARGE {
+        // SAFETY: the range is within the block. The advice changes no byte of it.
+        unsafe {
+            madvise(
+                place.wrapping_add(head),
+                (size - head) / PAGE * PAGE,
+                MADV_HUGEPAGE,
+            )
+        };
+    }
+}
+
+#[cfg(not(target_os = "linux"))]
+fn advise_pages(_place: *mut u8, _size: usize) {}
+
 fn layout(size: usize) -> Option<Layout> {
     Layout::from_size_align(size.checked_add(HEAD)?, HEAD).ok()
 }
@@ -55,11 +88,15 @@ unsafe fn whole_of(place: *mut u8) -> (*mut u8, Option<Layout>) {
 // linker reports it. The libraries call the functions by these types.
 #[no_mangle]
 unsafe extern "C" fn rattle_alloc(size: usize, _align: usize) -> Block {
-    match layout(size) {
-        // SAFETY: the layout has a head's bytes, so it isn't empty.
-        Some(layout) => unsafe { block_of(alloc(layout), size) },
-        None => NONE,
-    }
+    let layout = match layout(size) {
+        Some(layout) => layout,
+        None => return NONE,
+    };
+    // SAFETY: the layout has a head's bytes, so it isn't empty.
+    let whole = unsafe { alloc(layout) };
+    advise_pages(whole, layout.size());
+    // SAFETY: the memory is null, or has the layout's bytes.
+    unsafe { block_of(whole, size) }
 }
 
 #[no_mangle]
@@ -81,10 +118,17 @@ unsafe extern "C" fn rattle_realloc(
 ) -> Block {
     // SAFETY: the library grows a block that it was given and has not freed.
     let (whole, taken) = unsafe { whole_of(place) };
-    match (taken, layout(size)) {
-        // SAFETY: the memory was allocated by the old layout; the new one has the same alignment
-        // and isn't empty.
-        (Some(old), Some(new)) => unsafe { block_of(realloc(whole, old, new.size()), size) },
-        _ => NONE,
+    let (old, new) = match (taken, layout(size)) {
+        (Some(old), Some(new)) => (old, new),
+        _ => return NONE,
+    };
+    // SAFETY: the memory was allocated by the old layout; the new one has the same alignment and
+    // isn't empty.
+    let grown = unsafe { realloc(whole, old, new.size()) };
+    // A block keeps the advice when it grows on. To advise it each time costs more than it saves.
+    if old.size() < LARGE {
+        advise_pages(grown, new.size());
     }
+    // SAFETY: the memory is null, or has the new layout's bytes.
+    unsafe { block_of(grown, size) }
 }

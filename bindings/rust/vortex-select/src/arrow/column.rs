@@ -105,6 +105,51 @@ impl Column {
         Ok(shared)
     }
 
+    /// Returns the rows from `start` up to `end`, in the same memory. It is released on its own,
+    /// and the time doesn't depend on the number of rows.
+    ///
+    /// No row is tested. Strings whose offsets then lead past their bytes are
+    /// [`Error::NoMeaning`]: see [`Column::check`].
+    ///
+    /// ```
+    /// use vortex_select::arrow::{Column, Error};
+    ///
+    /// let mut names = Column::texts(&[Some("ann"), None, Some("bo")]);
+    /// let last = names.slice(1, 3)?;
+    /// drop(names);
+    /// assert_eq!(last.to_texts(), Some(vec![None, Some("bo")]));
+    /// # Ok::<(), Error>(())
+    /// ```
+    pub fn slice(&mut self, start: u64, end: u64) -> Result<Column, Error> {
+        test_released(&self.schema, &self.array)?;
+        let mut sliced = Column {
+            schema: self.copy_schema()?,
+            array: ArrowArray::empty(),
+        };
+        let mut fault = sys::Fault::none();
+        // SAFETY: both structs are those of a column, and nothing else reads them meanwhile.
+        let status = unsafe {
+            sys::vortex_arrow_slice(
+                &self.schema.0,
+                &mut self.array.0,
+                start,
+                end,
+                &mut sliced.array.0,
+                &mut fault,
+            )
+        };
+        if status != sys::status::DONE {
+            return Err(Error::of_fault(&fault, &[]));
+        }
+        // The slice is within the rows, so that its end is a row's number.
+        if !self.node().ends_within(end as usize) {
+            return Err(Error::NoMeaning(
+                "offsets: expected a last one within the data, got a higher one".into(),
+            ));
+        }
+        Ok(sliced)
+    }
+
     /// Tests that the contents are valid: offsets, type ids, views, codes, map entries, null counts
     /// and lengths of children.
     ///

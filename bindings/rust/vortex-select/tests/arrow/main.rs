@@ -10,6 +10,7 @@ mod nodes;
 mod parts;
 mod raw;
 mod release;
+mod slices;
 mod steps;
 mod streams;
 mod threads;
