@@ -216,30 +216,32 @@ static uint64_t answer_schema(const struct ArrowSchema *schema, const vortex_arr
 }
 
 /* Makes an array of the rows that a single step selects of a column without children, a dictionary
- * or nulls. Returns 0 if it isn't such a column, or if there is a fault, which the longer way
- * reports. */
-static int select_flat(const struct ArrowSchema *schema, struct ArrowArray *array,
+ * or nulls. Returns DONE, NO_MEMORY, or VORTEX_NOT_FLAT: it isn't such a column, or there is a fault,
+ * which the longer way reports. */
+static uint64_t select_flat(const struct ArrowSchema *schema, struct ArrowArray *array,
     const vortex_arrow_step *steps, size_t n_steps, struct ArrowArray *out)
 {
     vortex_arrow_error unread;
     vortex_arrow_picks_need need = {0, 0};
     size_t left = VORTEX_ARROW_NODES;
-    int is_done = 0;
+    uint64_t status;
     table t;
     if (n_steps != 1 || array->n_children || array->dictionary || array->n_buffers != 2) {
-        return 0;
+        return VORTEX_NOT_FLAT;
     }
     memset(&t, 0, sizeof t);
     memset(&unread, 0, sizeof unread);
     t.error = &unread;
     t.left = &left;
-    if (!vortex_arrow_walk(&t, schema, array, 1) && t.nodes[0].format == VORTEX_ARROW_FIXED &&
-        !t.nodes[0].valid.len &&
-        !count_picks((uint64_t)array->length, steps, n_steps, &need).status && !need.valid) {
-        is_done = vortex_arrow_answer_flat(&t, steps, need.places, out);
+    status = vortex_arrow_walk(&t, schema, array, 1);
+    if (!status && (t.nodes[0].format != VORTEX_ARROW_FIXED || t.nodes[0].valid.len)) {
+        status = VORTEX_NOT_FLAT;
     }
+    status = status ? status
+        : count_picks((uint64_t)array->length, steps, n_steps, &need).status;
+    status = status || need.valid ? status : vortex_arrow_answer_flat(&t, steps, need.places, out);
     vortex_arrow_drop_table(&t);
-    return is_done;
+    return status == VORTEX_ARROW_NO_MEMORY || (!status && !need.valid) ? status : VORTEX_NOT_FLAT;
 }
 
 uint64_t vortex_select_arrow(const struct ArrowSchema *schema, struct ArrowArray *array,
@@ -258,7 +260,11 @@ uint64_t vortex_select_arrow(const struct ArrowSchema *schema, struct ArrowArray
     if (vortex_arrow_admit(schema, array, error)) {
         return error->status;
     }
-    if (select_flat(schema, array, steps, n_steps, out_array)) {
+    status = select_flat(schema, array, steps, n_steps, out_array);
+    if (status == VORTEX_ARROW_NO_MEMORY) {
+        return vortex_arrow_fault(error, status, "");
+    }
+    if (!status) {
         status = answer_schema(schema, steps, n_steps, out_schema, error);
         if (status) {
             out_array->release(out_array);

@@ -263,26 +263,27 @@ uint64_t vortex_arrow_answer_rows(const table *t, const vortex_arrow_picks *p,
 }
 
 /* Makes an array of the `rows` rows that a step selects of a column of one node, without a list of
- * places. Returns 0 if the library doesn't serve it. */
-int vortex_arrow_answer_flat(const table *t, const vortex_arrow_step *step, uint64_t rows,
+ * places. Returns DONE, NO_MEMORY, or VORTEX_NOT_FLAT if the library doesn't serve it. */
+uint64_t vortex_arrow_answer_flat(const table *t, const vortex_arrow_step *step, uint64_t rows,
     struct ArrowArray *out)
 {
     vortex_arrow_need need = {0, 0, 0, 0, 0};
     vortex_arrow_room room;
+    uint64_t status;
     supply s;
     if (rows > PTRDIFF_MAX / 64 || t->nodes[0].width > 32) {
-        return 0;
+        return VORTEX_NOT_FLAT;
     }
     need.len = rows;
     need.values = rows * t->nodes[0].width;
     memset(&room, 0, sizeof room);
     if (!supply_answer(t, &need, &s)) {
-        return 0;
+        return VORTEX_ARROW_NO_MEMORY;
     }
     place(t, 0, &need, &room, out, &s);
-    if (s.status || vortex_arrow_select_flat(t->nodes, 1, step, 1, &room)) {
+    status = s.status ? s.status : vortex_arrow_select_flat(t->nodes, 1, step, 1, &room);
+    if (status) {
         out->release(out);
-        return 0;
     }
-    return 1;
+    return status == VORTEX_ARROW_NO_MEMORY || !status ? status : VORTEX_NOT_FLAT;
 }

@@ -146,7 +146,8 @@ VORTEX_HIDDEN void vortex_arrow_drop_table(table *t);
 /* arrow_answer.c */
 VORTEX_HIDDEN uint64_t vortex_arrow_answer_rows(const table *t, const vortex_arrow_picks *p,
     struct ArrowArray *out);
-VORTEX_HIDDEN int vortex_arrow_answer_flat(const table *t, const vortex_arrow_step *step,
+#define VORTEX_NOT_FLAT ((uint64_t)1)
+VORTEX_HIDDEN uint64_t vortex_arrow_answer_flat(const table *t, const vortex_arrow_step *step,
     uint64_t rows, struct ArrowArray *out);
 
 /* arrow_contents.c */

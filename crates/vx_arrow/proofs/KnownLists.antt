@@ -80,7 +80,7 @@ mask_leaves n b h =
       sound = h;
       whole = rw (h, eq-eqb n n refl) refl;
       picks = sym (map-items_where_true (λ (p : ℕ). Some p) b.bits (range_with_len 0 n))
-      ∙ ap (map Some) (ap (λ m. items_where_true b.bits (range_with_len 0 m)) (sym h) ∙ sym (set_picked 0 b.bits));
+          ∙ ap (map Some) (ap (λ m. items_where_true b.bits (range_with_len 0 m)) (sym h) ∙ sym (set_picked 0 b.bits));
       bare = refl;
     }
 

@@ -12,10 +12,9 @@ ghost use Rattle.vx_mask.specs.Positions.{positions, set_of};
 ghost use Rattle.vx_arrow.specs.Answer.{AreMeant};
 ghost use Rattle.vx_arrow.specs.Image.{filter_lack, kind_in, ptype_in, step_in, step_lack, step_parts, typed_lack};
 
-use crate::copies::records_at;
+use crate::copies::{bits_in, records_at};
 use crate::image::{StepImage, StepKind, kind_of, ptype_of};
 use crate::lacks::first_lack;
-use crate::copies::bits_in;
 use std::alloc::Global;
 use vx_bits::{BitBuffer, NoMemory};
 use vx_positions::{is_position, position};

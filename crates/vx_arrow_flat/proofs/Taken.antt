@@ -136,6 +136,7 @@ module _ (p : Part) (v : HasValues p) (places : List ℕ) (low : (k : ℕ) → k
         only : (k : ℕ) (d f : Part) (r : Picking) → k < length (p ∷ []) → IsTaken (get_or (p ∷ []) k d) (get_or (written (p ∷ []) q (room ∷ [])) k f) (get_or (pickings (p ∷ []) (q ∷ [])) k r)
         only zero d f r h = taken
         only (suc k) d f r h = absurd (omega arith)
+
         reads : (k : ℕ) (d : Part) (r : Picking) → k < length (p ∷ []) → IsRead (get_or (p ∷ []) k d) (get_or (pickings (p ∷ []) (q ∷ [])) k r) (drop (k + 1) (p ∷ []))
         reads zero d r h = subst (IsRead p q) (sym (drop_first p [])) read
         reads (suc k) d r h = absurd (omega arith)

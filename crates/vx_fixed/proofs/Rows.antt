@@ -54,7 +54,7 @@ row_put w src from places old out n p count there put =
     let many : length (places ++ p ∷ []) * w ≡ n * w + w = ap (λ k. k * w) (length-append places (p ∷ []) ∙ ap (λ k. k + 1) (sym count)) ∙ one_more n w in
     record {
       written = ap₂ (λ (a b : List ℕ). a ++ (new ++ b)) front back ∙ sym (append_assoc rows new (drop (n * w + w) old))
-      ∙ ap₂ (λ (l : List ℕ) (k : ℕ). l ++ drop k old) (sym (rows_more w src from places p)) (sym many);
+          ∙ ap₂ (λ (l : List ℕ) (k : ℕ). l ++ drop k old) (sym (rows_more w src from places p)) (sym many);
       whole = ap length (rows_more w src from places p) ∙ length-append rows new ∙ ap₂ ◌+◌ long (length_of_cut src ((from + p) * w) w there) ∙ sym many;
     }
 
@@ -87,7 +87,7 @@ range_put w src from places old out n start count len there put =
     let more : rows_at w src from (places ++ range_with_len start count) ≡ rows ++ new = rows_both w src from places (range_with_len start count) ∙ ap (λ l. rows ++ l) (range_rows w src from start count) in
     record {
       written = ap₂ (λ (a b : List ℕ). a ++ (new ++ b)) front back ∙ sym (append_assoc rows new (drop (n * w + count * w) old))
-      ∙ ap₂ (λ (l : List ℕ) (k : ℕ). l ++ drop k old) (sym more) (sym many);
+          ∙ ap₂ (λ (l : List ℕ) (k : ℕ). l ++ drop k old) (sym more) (sym many);
       whole = ap length more ∙ length-append rows new ∙ ap₂ ◌+◌ long (length_of_cut src ((from + start) * w) (count * w) there) ∙ sym many;
     }
 

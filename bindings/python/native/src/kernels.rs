@@ -419,6 +419,15 @@ pub fn count_before(words: &PyAny, rows: usize, p: u64) -> PyResult<u64> {
     done(answer)
 }
 
+/// Returns a bit for each of eight bytes, set if the byte isn't 0, the first one lowest.
+fn eight_bits(bytes: [u8; 8]) -> u8 {
+    const LOW: u64 = 0x7f7f_7f7f_7f7f_7f7f;
+    let word = u64::from_le_bytes(bytes);
+    // Adding 0x7f to the low bits of a byte sets its highest bit, unless all of them are clear.
+    let ones = (((word & LOW) + LOW) | word) >> 7 & 0x0101_0101_0101_0101;
+    (ones.wrapping_mul(0x0102_0408_1020_4080) >> 56) as u8
+}
+
 /// Packs bools of a byte each into bits, the lowest bit of each byte first.
 #[pyfunction]
 pub fn pack<'p>(py: Python<'p>, bools: &PyAny) -> PyResult<&'p PyBytes> {
@@ -426,10 +435,18 @@ pub fn pack<'p>(py: Python<'p>, bools: &PyAny) -> PyResult<&'p PyBytes> {
     let (place, len) = (list.place::<u8>(), list.len());
     PyBytes::new_with(py, len.div_ceil(8), |bits: &mut [u8]| {
         for (k, byte) in bits.iter_mut().enumerate() {
+            let mut eight = [0; 8];
             let count = 8.min(len - 8 * k);
-            // SAFETY: the list has these bytes; each is read once.
-            let bit = |j: usize| unsafe { place.add(8 * k + j).read() } != 0;
-            *byte = (0..count).fold(0, |found, j| found | u8::from(bit(j)) << j);
+            if count == 8 {
+                // SAFETY: the list has these eight bytes; each is read once.
+                eight = unsafe { place.add(8 * k).cast::<[u8; 8]>().read() };
+            } else {
+                for (j, found) in eight.iter_mut().enumerate().take(count) {
+                    // SAFETY: the list has this byte.
+                    *found = unsafe { place.add(8 * k + j).read() };
+                }
+            }
+            *byte = eight_bits(eight);
         }
         Ok(())
     })

@@ -2,6 +2,8 @@
 
 from __future__ import annotations
 
+import contextlib
+import mmap
 import operator
 import re
 import struct
@@ -22,6 +24,9 @@ if TYPE_CHECKING:
 # A number above every bound: no list has so many items, and no bytes have so many bits.
 PAST = 2**64 - 1
 
+# From so many bytes on, huge pages save time.
+_LARGE = 1 << 22
+
 # The parts of a buffer's format: a name, or a shape, a byte order, a count and a type.
 _PART = re.compile(
     r":[^:]*:|T\{|\}|"
@@ -34,6 +39,23 @@ _SIZES["Zg"] = 2 * _SIZES["g"]
 def whole(value: Any) -> int:
     """Return the value as a plain `int`. A subclass could override its comparisons."""
     return int.__pos__(operator.index(value))
+
+
+def kept(view: memoryview) -> Any:
+    """Return the bytes of a list of numbers in memory that nobody else can write to.
+
+    Bytes and buffers of columns are borrowed. A large copy is in huge pages, if Linux has them.
+    """
+    if view.readonly and type(view.obj) in (bytes, _native.Buffer):
+        return view
+    advice = getattr(mmap, "MADV_HUGEPAGE", None)
+    if view.nbytes < _LARGE or advice is None or not view.c_contiguous:
+        return view.tobytes()
+    block = mmap.mmap(-1, view.nbytes, flags=mmap.MAP_PRIVATE | mmap.MAP_ANONYMOUS)
+    with contextlib.suppress(OSError):
+        block.madvise(advice)
+    memoryview(block).cast(view.format)[:] = view
+    return block
 
 
 def number(value: Any, what: str) -> int:

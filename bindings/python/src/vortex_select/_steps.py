@@ -7,7 +7,7 @@ from typing import Any, List, Optional, Sequence, Tuple, Type, Union
 
 from . import _native
 from ._arrays import Array, Node, borrowed
-from ._buffers import Bits, PAST, bools_of, integers_of, is_masked, letter_of, packed, whole
+from ._buffers import Bits, PAST, bools_of, integers_of, is_masked, kept, letter_of, packed, whole
 
 CAUSES = ("BadRange", "BadMask", "NotBool", "InvalidIndices", "BadPieces", "OutOfBounds")
 _SLICE, _FILTER, _TAKE = range(3)
@@ -288,7 +288,7 @@ class Take(_Listed):
         if view.ndim != 1 or not kind or kind not in "bBhHiIlLqQnN":
             raise TypeError(f"indices: expected native integers, got format {view.format!r}")
         ptype = _KINDS[view.itemsize][kind in "bhilqn"]
-        self._fill(view.tobytes(), b"", len(view), ptype)
+        self._fill(kept(view), b"", len(view), ptype)
 
     def _from_column(self, array: Array) -> None:
         form = _format_of(array.node)

@@ -255,7 +255,7 @@ fn children_have_the_rows_that_the_column_leads_to() {
 /// Formats that Arrow doesn't have.
 #[rustfmt::skip]
 const WRONG: [&str; 41] = [
-    "", "x", "ll", "+", "+r", "+x", "w:", "w:-1", "w:+1", "w:1000000000", "w:1 ", "d:", "d:9",
+    "", "x", "ll", "+", "+r", "+x", "w:", "w:-1", "w:+1", "w:2147483648", "w:1 ", "d:", "d:9",
     "d:9,", "d:,2", "d:9,2,", "d:9,2,100", "d:9,2,64,1", "d:9,--2", "ts", "tss", "tsx:", "td",
     "tdd", "ti", "+w:", "+w:x", "+us", "+us:128", "+us:1,1", "+us:1,", "+us:,1", "+us:1,,2",
     "+ud:x", "+ud:-1", "+ud:+1", "+ud: 1", "vx", "u ", "n ", "b1",

@@ -30,7 +30,7 @@ fn wide(numbers: &[i32]) -> Vec<u8> {
 /// Columns of six rows, one of each family of formats.
 fn columns() -> Vec<(&'static str, Column)> {
     let ids = || buffer(vec![0u8, 1, 1, 0, 1, 0]);
-    let places = buffer(wide(&[0, 5, 4, 1, 0, 2]));
+    let places = buffer(wide(&[0, 0, 4, 1, 5, 2]));
     let children = || vec![numbers(), texts()];
     let parts = |format, buffers, children, dictionary| {
         Column::from_parts(field(format), 6, 0, 0, buffers, children, dictionary).unwrap()

@@ -51,7 +51,7 @@ loop-k-preserved g c =
     let room : next * w + w ≤ length c.args.out.now = omega (arith, one_more next w, times_mono (next + 1) (c.args.kept + count_ones c.args.word) w (omega (arith, v.count, v.ones)), c.requires.room) in
     record {
       putting = subst (λ (out : List ℕ). IsPutting w c.args.src.now c.args.from c.args.out.now out c.args.kept (next + 1) (positions c.args.base (word_bits c.args.word 64)) (positions c.args.base (word_bits (bit_and left (left - 1)) 64))) (sym c.put_block.ensures)
-      (putting_more w c.args.src.now c.args.from c.args.out.now c.loop-k.out c.args.kept next place _ _ _ v.putting (lowest_position c.args.base left some fits) there room);
+          (putting_more w c.args.src.now c.args.from c.args.out.now c.loop-k.out c.args.kept next place _ _ _ v.putting (lowest_position c.args.base left some fits) there room);
       count = omega (arith, v.count);
       ones = omega (arith, one_less 64 left some fits, v.ones);
     }

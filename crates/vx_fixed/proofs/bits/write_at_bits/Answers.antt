@@ -38,6 +38,6 @@ loop-w-preserved g c =
     let all : before ++ own ≡ set_of (take (64 * (w + 1)) bits) = word_pushed bits before (before ++ own) w word low e refl refl in
     record {
       put = subst (λ (l : List ℕ). ArePut g.row.W c.args.src.now c.args.from l c.args.out.now c.put_picked-kept.new.out) all
-      (c.put_picked-kept.ensures.put c.args.out.now before (sym v.count) v.put);
+          (c.put_picked-kept.ensures.put c.args.out.now before (sym v.count) v.put);
       count = omega (arith, c.put_picked-kept.ensures.count, v.count, ap length (sym all), length-append before own, length-positions (64 * w) (word_bits word 64), true_count_of-word_bits word 64 (omega arith));
     }
