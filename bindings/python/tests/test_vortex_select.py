@@ -459,7 +459,7 @@ class Names(unittest.TestCase):
         path = pathlib.Path(__file__).parent.parent / "examples" / "people.py"
         with contextlib.redirect_stdout(io.StringIO()) as printed:
             exec(path.read_text(), {})
-        wanted = "['ann', 'ed']\nstep 0: OutOfBounds: index 9, but 2 rows\n"
+        wanted = "['ann', None]\nstep 0: OutOfBounds: index 9, but 2 rows\n"
         self.assertEqual(printed.getvalue(), wanted)
 
 
