@@ -17,6 +17,7 @@ mod selecting;
 mod squares;
 mod steps;
 mod tables;
+mod thirds;
 
 use std::test::Fail;
 
@@ -30,5 +31,6 @@ fn main(rt: HostRuntime) -> Result<(), Fail> {
     selecting::print_rows(&rt, rt.alloc())?;
     names::print_names(&rt, rt.alloc())?;
     chunks::print_squares(&rt, rt.alloc())?;
-    tables::print_pages(&rt, rt.alloc())
+    tables::print_pages(&rt, rt.alloc())?;
+    thirds::print_thirds(&rt, rt.alloc())
 }

@@ -95,6 +95,9 @@ pub use Rattle.vx_reading.specs.BoolRows
 pub use Rattle.vx_select.specs.Chunks
 pub use Rattle.vx_select.specs.Laws as SelectLaws
 pub use Rattle.vx_select.specs.Select
+pub use Rattle.vx_shorthand.specs.Every
+pub use Rattle.vx_shorthand.specs.Faults as ShortFaults
+pub use Rattle.vx_shorthand.specs.Named
 pub use Rattle.vx_steps.specs.Answer
 pub use Rattle.vx_steps.specs.Cause
 pub use Rattle.vx_steps.specs.Check

@@ -3,3 +3,4 @@ pub use vx_build::{
     NativePType, RecordWidth, bools, constant, filter, indices, lists, mask, nullable_numbers,
     nullable_texts, numbers, records, slice, structs, take, texts, validity,
 };
+pub use vx_shorthand::{filter_by, take_every};

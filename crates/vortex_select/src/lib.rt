@@ -163,6 +163,8 @@ pub use vx_select::select_chunked;
 pub use vx_select::select_fused;
 pub use vx_select::selections_alike;
 pub use vx_shared::Shared;
+pub use vx_shorthand::field;
+pub use vx_shorthand::text_of_row;
 pub use vx_steps::FAULT_ROOM;
 pub use vx_steps::fault_line;
 pub use vx_table::PageError;

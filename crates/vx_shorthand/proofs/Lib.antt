@@ -1,0 +1,4 @@
+pub mod Bools
+pub mod Names
+pub mod Ramps
+pub mod Rows
