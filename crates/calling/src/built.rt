@@ -1,9 +1,10 @@
-//! Columns from lists: of bools, of strings, of numbers of which some are null, and of one number.
+//! Columns from lists: of bools, of strings, of numbers of which some are null, of floats, and of one
+//! number.
 
 use crate::printing::print_column;
 use std::alloc::Global;
 use std::test::Fail;
-use vortex_select::build::{bools, constant, nullable_texts, records, validity};
+use vortex_select::build::{bools, constant, nullable_texts, numbers, records, validity};
 use vortex_select::{Array, PType, PrimitiveArray};
 
 /// Three numbers, of which the second is null.
@@ -22,5 +23,6 @@ pub(crate) fn print_built(rt: &impl Print, alloc: Global) -> Result<(), Fail> {
         &nullable_texts(alloc, &[Some("Ann"), None, Some("")])?,
     )?;
     print_column(rt, alloc, &constant(alloc, 7_u16, 2)?)?;
+    print_column(rt, alloc, &numbers(alloc, &[1.5_f64, -2.5])?)?;
     print_column(rt, alloc, &numbers_but_one(alloc)?)
 }

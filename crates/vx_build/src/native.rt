@@ -1,13 +1,14 @@
-//! Rust's integers as numbers of a column.
+//! Rust's integers and floats as numbers of a column.
 ghost use Rattle.std.specs.Prelude.{◌≡◌, ◌≤◌};
 ghost use Rattle.vx_bits.specs.Records.{records_of, width_of};
 ghost use Rattle.vx_types.specs.PType.{number, width};
 
+use std::num::{f32_to_bits_with_nan, f64_to_bits_with_nan};
 use vx_bits::{Buffer, Records};
 use vx_types::PType;
 
-/// An integer type of Rust and the primitive type of its values, each of `W` bytes: Vortex's
-/// `NativePType`.
+/// An integer or float type of Rust and the primitive type of its values, each of `W` bytes:
+/// Vortex's `NativePType`.
 pub trait NativePType<const W: usize>: Copy {
     ghost use Rattle.std.specs.Prelude.{ℕ, ℤ, List};
     ghost use Rattle.vx_types.specs.declared.ptype.PType.{PType};
@@ -15,7 +16,7 @@ pub trait NativePType<const W: usize>: Copy {
     // the primitive type
     ghost ptype: { PType };
 
-    // the integer that a value is
+    // the integer that a value is; of a float, the integer that its bits are
     ghost integer: { Self → ℤ };
 
     // the bytes of a value, the lowest first
@@ -207,6 +208,50 @@ impl NativePType<8> for usize {
 
     fn to_record(self) -> [u8; 8] {
         self.to_le_bytes()
+    }
+}
+
+// Every NaN is the quiet one whose sign is clear.
+impl NativePType<4> for f32 {
+    ghost use Rattle.std.specs.Prelude.{pos, to_bits};
+    ghost use Rattle.std.specs.Float.{binary32};
+    ghost use Rattle.std.specs.Int.{to_le_bytes, w32};
+    ghost use Rattle.vx_types.specs.declared.ptype.PType.TheVariants.{F32};
+
+    ghost ptype = { F32 };
+
+    ghost integer = { λ x. pos (to_bits binary32 x) };
+
+    ghost record_of = { λ x. to_le_bytes w32 (to_bits binary32 x) };
+
+    fn ptype() -> PType {
+        PType::F32
+    }
+
+    fn to_record(self) -> [u8; 4] {
+        f32_to_bits_with_nan(self).to_le_bytes()
+    }
+}
+
+// Every NaN is the quiet one whose sign is clear.
+impl NativePType<8> for f64 {
+    ghost use Rattle.std.specs.Prelude.{pos, to_bits};
+    ghost use Rattle.std.specs.Float.{binary64};
+    ghost use Rattle.std.specs.Int.{to_le_bytes, w64};
+    ghost use Rattle.vx_types.specs.declared.ptype.PType.TheVariants.{F64};
+
+    ghost ptype = { F64 };
+
+    ghost integer = { λ x. pos (to_bits binary64 x) };
+
+    ghost record_of = { λ x. to_le_bytes w64 (to_bits binary64 x) };
+
+    fn ptype() -> PType {
+        PType::F64
+    }
+
+    fn to_record(self) -> [u8; 8] {
+        f64_to_bits_with_nan(self).to_le_bytes()
     }
 }
 
