@@ -7,6 +7,11 @@ static int is_set(const uint8_t *bits, uint64_t k) { return bits[k / 8] >> k % 8
 
 /* ---- Extras ---- */
 
+static int is_signed(const char *format)
+{
+    return *format && !format[1] && strchr("csil", *format) != NULL;
+}
+
 /* Returns what a node's image doesn't have. A data buffer of views has nothing beside it. */
 vortex_arrow_extra vortex_arrow_extra_of(const source *from)
 {
@@ -17,7 +22,7 @@ vortex_arrow_extra vortex_arrow_extra_of(const source *from)
     extra.null_count = (uint64_t)from->array->null_count; /* -1 is UINT64_MAX */
     extra.map = !strcmp(from->schema->format, "+m");
     if (from->array->dictionary) {
-        extra.codes = vortex_arrow_has_word("c s i l", from->schema->format) ? 2 : 1;
+        extra.codes = is_signed(from->schema->format) ? 2 : 1;
         extra.values = (uint64_t)from->array->dictionary->length;
     }
     return extra;

@@ -1,22 +1,6 @@
 /* Tests of formats. C99 and C++11. */
 #include "internal.h"
 
-#include <string.h>
-
-/* Whether `words`, which spaces separate, has this word. */
-int vortex_arrow_has_word(const char *words, const char *word)
-{
-    size_t len = strlen(word);
-    const char *at = words;
-    while (len && !strchr(word, ' ') && (at = strstr(at, word)) != NULL) {
-        if ((at == words || at[-1] == ' ') && (at[len] == 0 || at[len] == ' ')) {
-            return 1;
-        }
-        at++;
-    }
-    return 0;
-}
-
 int vortex_arrow_has_views(const vortex_arrow_node *node)
 {
     return node->format == VORTEX_ARROW_VIEWS;

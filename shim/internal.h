@@ -132,7 +132,6 @@ VORTEX_HIDDEN uint64_t vortex_arrow_take_rows(const struct ArrowSchema *schema,
     vortex_arrow_error *error);
 
 /* arrow_formats.c */
-VORTEX_HIDDEN int vortex_arrow_has_word(const char *words, const char *word);
 VORTEX_HIDDEN int vortex_arrow_has_views(const vortex_arrow_node *node);
 VORTEX_HIDDEN int vortex_arrow_is_union(const vortex_arrow_node *node);
 VORTEX_HIDDEN int vortex_arrow_is_list_view(const vortex_arrow_node *node);

@@ -37,7 +37,13 @@ C_KINDS = {
     "threads": ["clang", "-O1", "-fsanitize=thread"],
 }
 SLOW = "deep_columns", "too_many_columns"  # tests of Rust
-C_TESTS = [(f"check_arrow_{name}",) for name in ("faults", "contents", "dictionaries", "shared", "streams")]
+C_TESTS = [
+    (f"check_arrow_{name}",)
+    for name in (
+        "faults", "contents", "dictionaries", "flat", "formats", "pages", "shared", "slices", "steps", "streams",
+        "strict", "zeros",
+    )
+]
 
 
 class Ended(Exception):

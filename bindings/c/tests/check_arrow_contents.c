@@ -171,13 +171,16 @@ static void thrice(column *c, uint64_t row, const uint8_t *valid, const char *pl
 
 static void long_lists(void)
 {
-    static const uint8_t none[] = {0}, others[] = {0x05};
+    static const uint8_t none[] = {0}, others[] = {0x05}, all[] = {0x07};
     column list, item;
     make_long(&list, &item);
     thrice(&list, 0, NULL, NULL);
     thrice(&list, 1, NULL, "l");
     thrice(&list, 2, NULL, NULL);
     thrice(&list, 1, none, NULL);
+    thrice(&list, 1, others, "l");
+    list.buffers[0] = all;
+    thrice(&list, 1, NULL, "l");
     list.buffers[0] = others;
     list.array.null_count = 1;
     thrice(&list, 1, NULL, NULL);

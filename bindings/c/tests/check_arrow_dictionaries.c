@@ -252,6 +252,27 @@ static void unshared(void)
     expect_check(&codes, VORTEX_ARROW_SHAPE, "kind dictionary", "codes that aren't integers");
 }
 
+/* Nor can a struct, of which the second child has such a dictionary. */
+static void unshared_child(void)
+{
+    static const uint8_t zeros[1];
+    vortex_arrow_error error;
+    column top, numbers_before, codes, values;
+    make(&top, "+s", "top", 1, 1);
+    make(&numbers_before, "C", "id", 1, 2);
+    make(&codes, "C", "kind", 1, 2);
+    numbers_before.buffers[1] = codes.buffers[1] = zeros;
+    make_numbers(&values);
+    set_dictionary(&codes, &values);
+    add_child(&top, &numbers_before);
+    add_child(&top, &codes);
+    expect(!selected(&top, NULL, 0, &error), "a dictionary", 0);
+    values.array.length = -5;
+    expect(selected(&top, NULL, 0, &error) == VORTEX_ARROW_SHAPE, "a negative length", 1);
+    expect(!strcmp(error.place, "top.kind dictionary"), "its place", 1);
+    top.array.release(&top.array);
+}
+
 /* The child of a list view is checked, and its dictionary too. */
 static void below_views(void)
 {
@@ -364,6 +385,7 @@ int main(void)
     shapes();
     first_of_two();
     unshared();
+    unshared_child();
     below_views();
     shared_children(0);
     shared_children(1);
