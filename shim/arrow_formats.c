@@ -16,9 +16,3 @@ int vortex_arrow_is_list_view(const vortex_arrow_node *node)
 {
     return node->format == VORTEX_ARROW_LIST_VIEW || node->format == VORTEX_ARROW_LARGE_LIST_VIEW;
 }
-
-/* How many bytes an offset of list views has. */
-size_t vortex_arrow_offset_width(const vortex_arrow_node *node)
-{
-    return node->format == VORTEX_ARROW_LARGE_LIST_VIEW ? 8 : 4;
-}

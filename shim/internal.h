@@ -135,7 +135,6 @@ VORTEX_HIDDEN uint64_t vortex_arrow_take_rows(const struct ArrowSchema *schema,
 VORTEX_HIDDEN int vortex_arrow_has_views(const vortex_arrow_node *node);
 VORTEX_HIDDEN int vortex_arrow_is_union(const vortex_arrow_node *node);
 VORTEX_HIDDEN int vortex_arrow_is_list_view(const vortex_arrow_node *node);
-VORTEX_HIDDEN size_t vortex_arrow_offset_width(const vortex_arrow_node *node);
 
 /* arrow_table.c */
 VORTEX_HIDDEN uint64_t vortex_arrow_walk(table *t, const struct ArrowSchema *schema,

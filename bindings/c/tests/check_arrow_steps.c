@@ -111,6 +111,8 @@ static const row rows[] = {
         "step 1: expected 8 bytes of values, got 4"},
     {TAKE(10, 1, 1, f64, 0), LACKING, 3, 8, 16, 0,
         "step 1: expected 16 bytes of values, got 8"},
+    {RANGES(3, 3, starts, lengths, apart), LACKING, 3, 16, 24, 0,
+        "step 1: expected 24 bytes of values, got 16"},
     {FILTER(0, 16, 2, 1), LACKING, 4, 1, 2, 0, "step 1: expected 2 bytes of validity, got 1"},
     {RANGES(2, 2, starts, u64, f64), LACKING, 6, 8, 16, 0,
         "step 1: expected 16 bytes of multipliers, got 8"},
