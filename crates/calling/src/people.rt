@@ -15,10 +15,10 @@ fn tags(alloc: Global) -> Result<Array, Fail> {
 
 /// Four people.
 fn people(alloc: Global) -> Result<Array, Fail> {
-    let ids = numbers(alloc, &[7_u64, 8, 9, 10])?.into_ref(alloc)?;
-    let names = texts(alloc, &["Ann", "Bo", "Cy", "Dee"])?.into_ref(alloc)?;
-    let tags = tags(alloc)?.into_ref(alloc)?;
-    Ok(structs(alloc, &[("id", ids), ("name", names), ("tags", tags)], 4)?)
+    let ids = numbers(alloc, &[7_u64, 8, 9, 10])?;
+    let names = texts(alloc, &["Ann", "Bo", "Cy", "Dee"])?;
+    let fields = vec![in alloc; ("id", ids), ("name", names), ("tags", tags(alloc)?)]?;
+    Ok(structs(alloc, fields)?)
 }
 
 /// The fields of row `i`.

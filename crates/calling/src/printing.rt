@@ -6,10 +6,7 @@ use vortex_select::{Array, Call, Cause, Row, row_at, text_of};
 
 /// The type of a column, and a line for each row.
 pub(crate) fn print_column(rt: &impl Print, alloc: Global, column: &Array) -> Result<(), Fail> {
-    match std::str::from_utf8(&text_of(alloc, column)?) {
-        Ok(text) => Ok(print!(rt; "{text}")?),
-        Err(_) => Err("no text".into()),
-    }
+    Ok(print!(rt; "{}", text_of(alloc, column)?)?)
 }
 
 /// The numbers of a column of integer type, from row to row.

@@ -8,9 +8,10 @@ use vortex_select::{Array, Policy, ReadLayout, SelectError, field, select, text_
 
 /// Six people, of whom four are in.
 fn people(alloc: Global) -> Result<Array, Fail> {
-    let names = texts(alloc, &["ann", "bo", "cy", "dee", "ed", "flo"])?.into_ref(alloc)?;
-    let is_in = bools(alloc, &[true, false, true, true, true, false])?.into_ref(alloc)?;
-    Ok(structs(alloc, &[("name", names), ("is_in", is_in)], 6)?)
+    let names = texts(alloc, &["ann", "bo", "cy", "dee", "ed", "flo"])?;
+    let is_in = bools(alloc, &[true, false, true, true, true, false])?;
+    let fields = vec![in alloc; ("name", names), ("is_in", is_in)]?;
+    Ok(structs(alloc, fields)?)
 }
 
 /// Every third of the rows whose bool `is_in` is true.
@@ -29,10 +30,7 @@ fn thirds(alloc: Global, people: &Array) -> Result<Array, Fail> {
 /// Prints each row as the program does.
 fn print_shown(rt: &impl Print, alloc: Global, column: &Array) -> Result<(), Fail> {
     for i in 0..column.len() {
-        match std::str::from_utf8(&text_of_row(alloc, column, i)?) {
-            Ok(text) => println!(rt; "{text}")?,
-            Err(_) => return Err("no text".into()),
-        }
+        println!(rt; "{}", text_of_row(alloc, column, i)?)?;
     }
     Ok(())
 }

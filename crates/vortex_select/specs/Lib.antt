@@ -5,6 +5,8 @@ pub use Rattle.vx_bits.specs.Results
 pub use Rattle.vx_bits.specs.WordReader
 pub use Rattle.vx_bits.specs.Words
 pub use Rattle.vx_build.specs.Faults as BuildFaults
+pub use Rattle.vx_build.specs.Fields as FirstField
+pub use Rattle.vx_build.specs.Half
 pub use Rattle.vx_build.specs.Positions as NamedPositions
 pub use Rattle.vx_build.specs.Rows as BuiltRows
 pub use Rattle.vx_chunked.specs.Asked

@@ -2,6 +2,7 @@
 #![tactic(auto)]
 
 mod bits;
+mod half;
 mod native;
 mod nested;
 mod primitive;
@@ -9,8 +10,9 @@ mod step;
 mod text;
 
 pub use bits::{bools, mask, validity};
+pub use half::F16;
 pub use native::{NativePType, RecordWidth};
-pub use nested::{lists, structs};
+pub use nested::{lists, structs, structs_with_len};
 pub use primitive::{constant, nullable_numbers, numbers, records};
 pub use step::{filter, indices, slice, take};
 pub use text::{nullable_texts, texts};

@@ -12,6 +12,7 @@ ghost use Rattle.vx_model.specs.Numbers.{integers_of};
 ghost use Rattle.vx_model.specs.Struct.{fields_row, struct_of};
 ghost use Rattle.vx_model.specs.VarBin.{are_integers};
 ghost use Rattle.vx_build.specs.Faults.{lengths_fault, offsets_fault};
+ghost use Rattle.vx_build.specs.Fields.{first_len};
 
 use crate::primitive::records;
 use std::alloc::Global;
@@ -150,10 +151,15 @@ fn are_long(fields: &[(&str, ArrayRef)], len: usize) -> bool
     true
 }
 
-/// The column of `len` structs of these fields, each a name and a column, none of them null.
+/// The column of `len` structs of these fields, each a name and a shared column, none of them null:
+/// for no field, and for columns that others share. [`structs`] takes columns as they are.
 ///
 /// `WrongLength` exactly where a column hasn't `len` rows. Otherwise it fails only with `NoMemory`.
-pub fn structs(alloc: Global, fields: &[(&str, ArrayRef)], len: usize) -> Result<Array, ColumnError>
+pub fn structs_with_len(
+    alloc: Global,
+    fields: &[(&str, ArrayRef)],
+    len: usize,
+) -> Result<Array, ColumnError>
     ensures dtype { IfOk result (λ c. c.dtype ≡ record {
       kind = struct_of (record {
         names = map (λ f. f.0.now) fields.now;
@@ -173,4 +179,70 @@ pub fn structs(alloc: Global, fields: &[(&str, ArrayRef)], len: usize) -> Result
     let columns = in_memory(columns_in(alloc, fields))?;
     let structs = StructArray::try_new_with_dtype(columns, types, len, Validity::NonNullable)?;
     Ok(structs.into_array())
+}
+
+// How many rows the first column has.
+fn first_len(fields: &[(&str, Array)]) -> usize
+    ensures { result ≡ first_len (map (λ f. f.1) fields.now) }
+{
+    match fields {
+        [] => 0,
+        [field, ..] => field.1.len(),
+    }
+}
+
+// Whether each column has `len` rows.
+fn are_alike(fields: &[(&str, Array)], len: usize) -> bool
+    ensures { result ≡ are_long len (map (λ f. f.1) fields.now) }
+{
+    for field in fields {
+        if field.1.len() != len {
+            return false;
+        }
+    }
+    true
+}
+
+// The fields, each column behind a counted pointer. Fails only with `NoMemory`.
+fn shared<'a>(
+    alloc: Global,
+    fields: Vec<(&'a str, Array)>,
+) -> Result<Vec<(&'a str, ArrayRef)>, NoMemory>
+    ensures names { IfOk result
+        (λ v. map (λ f. f.0.now) v.items ≡ map (λ f. f.0.now) fields.entry.items) }
+    ensures columns { IfOk result
+        (λ v. map (λ f. f.1) v.items ≡ map (λ f. f.1) fields.entry.items) }
+{
+    let mut shared = Vec::with_capacity(alloc, fields.len())?;
+    for (name, column) in fields {
+        shared.push((name, column.into_ref(alloc)?))?;
+    }
+    Ok(shared)
+}
+
+/// The column of structs of these fields, each a name and a column, none of them null. It has as
+/// many rows as the first column.
+///
+/// `WrongLength` exactly where another column has another number of rows. Otherwise it fails only
+/// with `NoMemory`.
+pub fn structs(alloc: Global, fields: Vec<(&str, Array)>) -> Result<Array, ColumnError>
+    ensures dtype { IfOk result (λ c. c.dtype ≡ record {
+      kind = struct_of (record {
+        names = map (λ f. f.0.now) fields.entry.items;
+        types = types_in (map (λ f. f.1) fields.entry.items);
+      });
+      nullability = NonNullable;
+    }) }
+    ensures rows { IfOk result (λ c. c.rows ≡ map fields_row (rows_across
+        (map (λ f. f.1) fields.entry.items) (first_len (map (λ f. f.1) fields.entry.items)))) }
+    ensures refusal { FailsBy result (lengths_fault
+        (first_len (map (λ f. f.1) fields.entry.items)) (map (λ f. f.1) fields.entry.items))
+        ColumnError.NoMemory }
+{
+    let len = first_len(fields.as_slice());
+    if !are_alike(fields.as_slice(), len) {
+        return Err(ColumnError::WrongLength);
+    }
+    let fields = in_memory(shared(alloc, fields))?;
+    structs_with_len(alloc, fields.as_slice(), len)
 }

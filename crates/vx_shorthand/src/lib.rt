@@ -1,5 +1,5 @@
 //! Short forms for callers: a filter by a column, a take of every n-th row, a field by its name, and
-//! a row as text.
+//! columns and rows as text.
 #![tactic(auto)]
 
 mod named;
@@ -7,5 +7,5 @@ mod shown;
 mod steps;
 
 pub use named::field;
-pub use shown::text_of_row;
+pub use shown::{text_of, text_of_row};
 pub use steps::{filter_by, take_every};

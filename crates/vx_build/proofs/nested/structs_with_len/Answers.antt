@@ -6,7 +6,7 @@ use Rattle.vx_model.specs.Columns.{are_long, rows_across, types_in}
 use Rattle.vx_model.specs.Struct.{StructParts, fields_row, struct_column}
 use Rattle.vx_model.proofs.ShownRows.{shown_rows-all}
 use Rattle.vx_build.proofs.Parts.{struct_sound}
-use Rattle.vx_build.proofs.nested.structs.Goals as goal
+use Rattle.vx_build.proofs.nested.structs_with_len.Goals as goal
 use Rattle.vx_bits.proofs.Results.{made, no_refusal}
 use Rattle.std.proofs.lemmas.Result.{IfOk-at_ok}
 
