@@ -121,6 +121,71 @@ fn list_view_layout(size: Offsets) -> Layout
     }
 }
 
+// Views of strings.
+fn text_view_layout() -> Layout
+    ensures { result ≡ layout_of_kind Kind.TextView }
+{
+    Layout {
+        format: 9,
+        buffers: 3,
+        ..values_layout(0, 0)
+    }
+}
+
+// Structs.
+fn struct_layout() -> Layout
+    ensures { result ≡ layout_of_kind Kind.Struct }
+{
+    Layout {
+        format: 5,
+        buffers: 1,
+        valid: 1,
+        children: u64::MAX,
+        ..BARE
+    }
+}
+
+// Lists of a fixed size.
+fn fixed_list_layout(width: u64) -> Layout
+    ensures { result ≡ layout_of_kind (Kind.FixedList width) }
+{
+    Layout {
+        format: 8,
+        width,
+        buffers: 1,
+        valid: 1,
+        children: 1,
+        ..BARE
+    }
+}
+
+// Sparse unions.
+fn sparse_union_layout(children: u64) -> Layout
+    ensures { result ≡ layout_of_kind (Kind.SparseUnion children) }
+{
+    Layout {
+        format: 12,
+        buffers: 1,
+        values: 1,
+        children,
+        ..BARE
+    }
+}
+
+// Dense unions.
+fn dense_union_layout(children: u64) -> Layout
+    ensures { result ≡ layout_of_kind (Kind.DenseUnion children) }
+{
+    Layout {
+        format: 13,
+        buffers: 2,
+        values: 1,
+        offsets: 2,
+        children,
+        ..BARE
+    }
+}
+
 impl Kind {
     /// How an array of the kind is stored.
     pub fn layout(self) -> Layout
@@ -136,50 +201,14 @@ impl Kind {
             Kind::Signed(width) => values_layout(width, 2),
             Kind::Fixed(width) => values_layout(width, 0),
             Kind::Text(size) => text_layout(size),
-            Kind::TextView => Layout {
-                format: 9,
-                buffers: 3,
-                ..values_layout(0, 0)
-            },
-            Kind::Struct => Layout {
-                format: 5,
-                buffers: 1,
-                valid: 1,
-                children: u64::MAX,
-                ..BARE
-            },
+            Kind::TextView => text_view_layout(),
+            Kind::Struct => struct_layout(),
             Kind::Map => list_layout(Offsets::Short, 1),
             Kind::List(size) => list_layout(size, 0),
-            Kind::FixedList(width) => {
-                Layout {
-                    format: 8,
-                    width,
-                    buffers: 1,
-                    valid: 1,
-                    children: 1,
-                    ..BARE
-                }
-            }
+            Kind::FixedList(width) => fixed_list_layout(width),
             Kind::ListView(size) => list_view_layout(size),
-            Kind::SparseUnion(children) => {
-                Layout {
-                    format: 12,
-                    buffers: 1,
-                    values: 1,
-                    children,
-                    ..BARE
-                }
-            }
-            Kind::DenseUnion(children) => {
-                Layout {
-                    format: 13,
-                    buffers: 2,
-                    values: 1,
-                    offsets: 2,
-                    children,
-                    ..BARE
-                }
-            }
+            Kind::SparseUnion(children) => sparse_union_layout(children),
+            Kind::DenseUnion(children) => dense_union_layout(children),
         }
     }
 }
